@@ -1,10 +1,10 @@
-"""Packets for sctp_socket_script, whose checksum is the sum of a packet's bytes, and what one costs its socket a: the processor time and
+"""Packets for run_socket_script, whose checksum is the sum of a packet's bytes, and what one costs its socket a: the processor time and
 the instructions of the call, and the bytes that are on the heap behind it and weren't before. For `attack` and `fuzz`."""
 import os, re, struct, subprocess, sys, tempfile
 
 TOP = os.path.dirname(os.path.dirname(os.path.abspath(__file__)))
 RT = os.environ.get("RT", "rt")
-PROGRAM = f"{TOP}/crates/sctp_socket_script/out/sctp_socket_script"
+PROGRAM = f"{TOP}/crates/run_socket_script/out/run_socket_script"
 HEADER = 12
 SMALL, LARGE = 1500, 65532
 # Counts what is on the heap, and tells it beside the processor time at each line that is printed.
@@ -120,7 +120,7 @@ OPEN = "connect a\ngive a 0 b\ngive b 0 a\ngive a 1 b\ngive b 1 a\n"
 
 
 def build():
-    ran = subprocess.run([RT, "run"], cwd=f"{TOP}/crates/sctp_socket_script", stdin=subprocess.DEVNULL, capture_output=True, text=True)
+    ran = subprocess.run([RT, "run"], cwd=f"{TOP}/crates/run_socket_script", stdin=subprocess.DEVNULL, capture_output=True, text=True)
     if ran.returncode or not os.path.exists(PROGRAM):
         sys.exit(ran.stdout + ran.stderr)
 

@@ -1,2 +1,2 @@
-pub mod HearLemmas
+pub mod ReceiveLemmas
 pub mod PlaceLemmas

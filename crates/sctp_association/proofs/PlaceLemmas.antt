@@ -1,4 +1,4 @@
--- Chunks that are heard where they lie: which chunk an item carries.
+-- Chunks that are received where they lie: which chunk an item carries.
 use Rattle.std.proofs.Common.{◌≡◌, ◌⊎◌, inl, inr, ℕ, ◌+◌, ◌<◌, ◌==◌, ◌||◌, Bool, true, false, length, refl, sym, ap, ◌∙◌, arith}
 use Rattle.std.proofs.lemmas.Bool.Decides.{nat_tests}
 use Rattle.sctp_wire.specs.Fields.{be16, be32}
@@ -10,8 +10,8 @@ use Rattle.sctp_packet.specs.Written.{is_known_chunk, data_value, idata_value}
 use Rattle.sctp_packet.specs.Grammar.{IsChunk}
 use Rattle.sctp_packet.specs.Views.{viewed_data, viewed_idata}
 use Rattle.sctp_packet.proofs.OneChunkLemmas.{one_chunk}
-use Rattle.sctp_table.specs.Association.{Tcb}
-use Rattle.sctp_table.specs.Input.{misused}
+use Rattle.spec_endpoint.specs.Association.{Tcb}
+use Rattle.spec_endpoint.specs.Input.{misuse}
 use Rattle.sctp_association.specs.Kinds.{carries_data, carrying}
 use Rattle.sctp_closing.specs.MisuseView.{data_misused}
 
@@ -64,6 +64,6 @@ carries_none i (unknown_chunk typ flags value) short long h = neither_by typ (ty
 
 -- ---- a fragment
 
-pub misused_as : (is_interleaved : Bool) (t : Tcb) (v : DataView) → data_misused t.capabilities.message_interleaving is_interleaved ≡ misused t.capabilities (carrying is_interleaved v)
+pub misused_as : (is_interleaved : Bool) (t : Tcb) (v : DataView) → data_misused t.capabilities.message_interleaving is_interleaved ≡ misuse t.capabilities (carrying is_interleaved v)
 misused_as true t v = refl
 misused_as false t v = refl

@@ -14,11 +14,11 @@ use Rattle.sctp_state.specs.declared.api.errors.HandoverError.TheVariants as han
 use Rattle.sctp_state.specs.declared.api.errors.RestoreError.{RestoreError}
 use Rattle.sctp_state.specs.declared.api.errors.RestoreError.TheVariants as restores
 use Rattle.sctp_state.specs.declared.api.handover.SocketHandoverState.{SocketHandoverState}
-use Rattle.sctp_table.specs.Association.{State, Endpoint}
-use Rattle.sctp_table.specs.Input.{refusal}
+use Rattle.spec_endpoint.specs.Association.{State, Endpoint}
+use Rattle.spec_endpoint.specs.Input.{refusal}
 use Rattle.sctp_endpoint.specs.declared.transmission_control_block.Association as given_association
 use Rattle.sctp_endpoint.specs.Views.{ContextValue, context_of}
-use Rattle.sctp_table.specs.Shown.{Association}
+use Rattle.spec_endpoint.specs.Shown.{Association}
 
 pub record SocketValue (R C : Type 0) : Type 0 where
   pub has_failed : Bool
@@ -37,8 +37,8 @@ association_of a = record {
 -- the end that a socket is
 abbrev pub endpoint : {R C : Type 0} → (R → Stream) → (C → List ℕ → ℕ) → SocketValue R C → Endpoint (List ℕ)
 endpoint stream_of word_of s = record {
-  standing = record { state = s.state; context = context_of word_of s.context };
-  words = stream_of s.rng;
+  endpoint_state = record { state = s.state; context = context_of word_of s.context };
+  random = stream_of s.rng;
 }
 
 -- ---- how a changing call ends

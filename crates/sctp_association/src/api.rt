@@ -10,7 +10,7 @@ use sctp_state::{
 
 /// An end of an SCTP association, which makes no system call. Packets, moments and messages are handed in; events, among
 /// them packets to send, are taken out. A changing call that finds too little memory answers `Memory`, and the socket has
-/// failed: from then on changing calls answer `Failed` and change nothing, and what was told before can still be taken.
+/// failed: from then on changing calls answer `Failed` and change nothing, and what was emitted before can still be taken.
 ///
 /// Write what drives a socket over `S: DcSctpSocket`: it is proved in seconds, over one concrete `Socket` in minutes.
 pub trait DcSctpSocket {

@@ -11,19 +11,17 @@ ghost use Rattle.sctp_packet.specs.View.{AreLeft, viewed_packet};
 ghost use Rattle.sctp_chunk.specs.declared.data.DataView.{DataView};
 ghost use Rattle.sctp_closing.specs.MisuseView.{misuse_text};
 ghost use Rattle.sctp_association.specs.Kinds.{carries_data, carrying};
-ghost use Rattle.sctp_table.specs.Association.{where_open};
-ghost use Rattle.sctp_table.specs.Opening.{on_cookie_ack};
-ghost use Rattle.sctp_table.specs.Packets.{complain};
-ghost use Rattle.sctp_table.specs.Hearing.{Hears};
-ghost use Rattle.sctp_endpoint.specs.Views.{context_of, endpoint_of, heard_of, opened_of, phase_of, standing_of, state_of, tcb_of};
-ghost use Rattle.sctp_table.specs.Input as table;
+ghost use Rattle.spec_endpoint.specs.Association.{where_open};
+ghost use Rattle.spec_endpoint.specs.Opening.{on_cookie_ack};
+ghost use Rattle.spec_endpoint.specs.Packets.{complain};
+ghost use Rattle.spec_endpoint.specs.Receiving.{Receives};
+ghost use Rattle.sctp_endpoint.specs.Views.{context_of, endpoint_of, received_of, opened_of, phase_of, endpoint_state_of, state_of, tcb_of};
+ghost use Rattle.spec_endpoint.specs.Input as table;
 
 use rand_core::Rng;
 use sctp_closing::aborts::{handle_abort, handle_error, handle_misuse};
 use sctp_closing::misuse::{Misuse, data_misused, handle_unknown, is_passed_over, violation};
-use sctp_closing::shutdown::{
-    handle_shutdown_ack, handle_shutdown_chunk, handle_shutdown_complete,
-};
+use sctp_closing::shutdown::{handle_shutdown, handle_shutdown_ack, handle_shutdown_complete};
 use sctp_endpoint::{Context, Phase, State, TransmissionControlBlock};
 use sctp_handshake::cookie_echo::{handle_cookie_ack, handle_cookie_echo};
 use sctp_handshake::opening::{handle_init, handle_init_ack};
@@ -40,18 +38,18 @@ use std::alloc::{AllocError, Global};
 
 /// A packet came.
 pub(crate) fn count_packet<C: Checksum>(context: &mut Context<C>)
-    ensures { context_of C.word_of context.new ≡ table.counted (context_of C.word_of context.old) }
+    ensures { context_of C.word_of context.new ≡ table.count_packet (context_of C.word_of context.old) }
 {
     context.rx_packets_count = context.rx_packets_count.saturating_add(1);
 }
 
 /// At the end of a packet an acknowledgement goes out, where one is due, and what else may be sent.
-fn handle_packet_end<C: Checksum>(
+fn maybe_send_sack<C: Checksum>(
     context: &mut Context<C>,
     phase: &Phase,
     tcb: &mut TransmissionControlBlock,
 ) -> Result<(), AllocError>
-    ensures { OnOk result (opened_of C.word_of phase.now tcb.new context.new ≡ table.ended (phase_of phase.now) (tcb_of tcb.old) (context_of C.word_of context.old)) }
+    ensures { OnOk result (opened_of C.word_of phase.now tcb.new context.new ≡ table.end_packet (phase_of phase.now) (tcb_of tcb.old) (context_of C.word_of context.old)) }
 {
     tcb.data_tracker.observe_packet_end(context.clock);
     if !tcb.data_tracker.should_send_ack(context.clock, false) {
@@ -92,8 +90,8 @@ fn handle_heartbeat<C: Checksum>(
     context: &mut Context<C>,
     parameters: Vec<Parameter>,
 ) -> Result<(), AllocError>
-    ensures { OnOk result (standing_of C.word_of state.now context.new
-        ≡ where_open (table.on_heartbeat (map parameter_tree parameters.items)) (standing_of C.word_of state.now context.old)) }
+    ensures { OnOk result (endpoint_state_of C.word_of state.now context.new
+        ≡ where_open (table.on_heartbeat (map parameter_tree parameters.items)) (endpoint_state_of C.word_of state.now context.old)) }
 {
     match state {
         State::Closed => Ok(()),
@@ -109,7 +107,7 @@ fn handle_acked_cookie<C: Checksum>(
     state: &mut State,
     context: &mut Context<C>,
 ) -> Result<(), AllocError>
-    ensures { OnOk result (standing_of C.word_of state.new context.new ≡ where_open on_cookie_ack (standing_of C.word_of state.old context.old)) }
+    ensures { OnOk result (endpoint_state_of C.word_of state.new context.new ≡ where_open on_cookie_ack (endpoint_state_of C.word_of state.old context.old)) }
 {
     match state {
         State::Closed => Ok(()),
@@ -118,7 +116,7 @@ fn handle_acked_cookie<C: Checksum>(
     }
 }
 
-/// What a chunk does, of a packet under this tag. DATA and I-DATA are heard where they lie.
+/// What a chunk does, of a packet under this tag. DATA and I-DATA are received where they lie.
 fn dispatch<R: Rng, C: Checksum>(
     state: &mut State,
     context: &mut Context<C>,
@@ -154,7 +152,7 @@ fn dispatch<R: Rng, C: Checksum>(
         ),
         Chunk::HeartbeatRequest(c) => handle_heartbeat(state, context, c.parameters),
         Chunk::HeartbeatAck(c) => handle_heartbeat_ack(context, &c.parameters),
-        Chunk::Shutdown(_) => handle_shutdown_chunk(state, context),
+        Chunk::Shutdown(_) => handle_shutdown(state, context),
         Chunk::ShutdownAck(_) => handle_shutdown_ack(state, context, tag),
         Chunk::ShutdownComplete(_) => handle_shutdown_complete(state, context),
         Chunk::ReConfig(c) => handle_reconfig(state, context, c.parameters),
@@ -173,7 +171,7 @@ fn goes_on(chunk: &Chunk) -> bool
 }
 
 /// One chunk. The answer is whether the next one is looked at.
-fn hear<R: Rng, C: Checksum>(
+fn receive<R: Rng, C: Checksum>(
     state: &mut State,
     context: &mut Context<C>,
     rng: &mut R,
@@ -181,8 +179,8 @@ fn hear<R: Rng, C: Checksum>(
     chunk: Chunk,
 ) -> Result<bool, AllocError>
     requires { carries_data (chunk_tree chunk) ≡ false }
-    ensures { IfOk result (λ goes_on. heard_of R.stream C.word_of state.new context.new rng.new goes_on
-        ≡ table.hear tag (chunk_tree chunk) (endpoint_of R.stream C.word_of state.old context.old rng.old)) }
+    ensures { IfOk result (λ goes_on. received_of R.stream C.word_of state.new context.new rng.new goes_on
+        ≡ table.receive tag (chunk_tree chunk) (endpoint_of R.stream C.word_of state.old context.old rng.old)) }
 {
     if let Some(misuse) = violation(state, &chunk) {
         drop(chunk);
@@ -208,14 +206,14 @@ fn data_violation(state: &State, is_interleaved: bool) -> Option<Misuse>
 }
 
 /// A fragment where it lies, in DATA or in I-DATA. The answer is whether the next chunk is looked at.
-fn hear_data<C: Checksum>(
+fn receive_data<C: Checksum>(
     state: &mut State,
     context: &mut Context<C>,
     is_interleaved: bool,
     fragment: DataView<'_>,
 ) -> Result<bool, AllocError>
-    ensures { (tag : ℕ) (words : Stream) → IfOk result (λ goes_on. record { end = record { standing = standing_of C.word_of state.new context.new; words = words }; goes_on = goes_on }
-        ≡ table.hear tag (carrying is_interleaved fragment.entry) (record { standing = standing_of C.word_of state.old context.old; words = words })) }
+    ensures { (tag : ℕ) (words : Stream) → IfOk result (λ goes_on. record { end = record { endpoint_state = endpoint_state_of C.word_of state.new context.new; random = words }; goes_on = goes_on }
+        ≡ table.receive tag (carrying is_interleaved fragment.entry) (record { endpoint_state = endpoint_state_of C.word_of state.old context.old; random = words })) }
 {
     if let Some(misuse) = data_violation(state, is_interleaved) {
         handle_misuse(state, context, misuse)?;
@@ -235,28 +233,28 @@ fn built(alloc: Global, raw: RawChunk<'_>) -> Result<Chunk, AllocError>
     }
 }
 
-/// One chunk where it lies. DATA is heard there, and others are built. The answer is whether the next one is looked at.
-fn hear_in_place<R: Rng, C: Checksum>(
+/// One chunk where it lies. DATA is received there, and others are built. The answer is whether the next one is looked at.
+fn receive_in_place<R: Rng, C: Checksum>(
     state: &mut State,
     context: &mut Context<C>,
     rng: &mut R,
     tag: u32,
     raw: RawChunk<'_>,
 ) -> Result<bool, AllocError>
-    ensures { (t : ChunkTree) → IsChunk (raw_chunk raw.entry) t → IfOk result (λ goes_on. heard_of R.stream C.word_of state.new context.new rng.new goes_on
-        ≡ table.hear tag t (endpoint_of R.stream C.word_of state.old context.old rng.old)) }
+    ensures { (t : ChunkTree) → IsChunk (raw_chunk raw.entry) t → IfOk result (λ goes_on. received_of R.stream C.word_of state.new context.new rng.new goes_on
+        ≡ table.receive tag t (endpoint_of R.stream C.word_of state.old context.old rng.old)) }
 {
     match raw.data_view() {
-        Some(fragment) => hear_data(state, context, raw.typ == IDataChunk::TYPE, fragment),
+        Some(fragment) => receive_data(state, context, raw.typ == IDataChunk::TYPE, fragment),
         None => {
             let chunk = built(context.alloc, raw)?;
-            hear(state, context, rng, tag, chunk)
+            receive(state, context, rng, tag, chunk)
         }
     }
 }
 
 /// One chunk after the other.
-fn hear_all<R: Rng, C: Checksum>(
+fn receive_all<R: Rng, C: Checksum>(
     state: &mut State,
     context: &mut Context<C>,
     rng: &mut R,
@@ -264,10 +262,10 @@ fn hear_all<R: Rng, C: Checksum>(
     mut view: PacketView<'_>,
 ) -> Result<(), AllocError>
     ensures { (chunks : List ChunkTree) → AreLeft view.entry chunks → OnOk result (endpoint_of R.stream C.word_of state.new context.new rng.new
-        ≡ table.hear_all tag chunks (endpoint_of R.stream C.word_of state.old context.old rng.old)) }
+        ≡ table.receive_all tag chunks (endpoint_of R.stream C.word_of state.old context.old rng.old)) }
 {
     while let Some(raw) = view.next_chunk() {
-        if !hear_in_place(state, context, rng, tag, raw)? {
+        if !receive_in_place(state, context, rng, tag, raw)? {
             return Ok(());
         }
     }
@@ -279,7 +277,7 @@ fn repeat_if<C: Checksum>(
     context: &mut Context<C>,
     has_data: bool,
 ) -> Result<(), AllocError>
-    ensures { OnOk result (standing_of C.word_of state.new context.new ≡ table.repeats_if has_data (standing_of C.word_of state.old context.old)) }
+    ensures { OnOk result (endpoint_state_of C.word_of state.new context.new ≡ table.repeats_if has_data (endpoint_state_of C.word_of state.old context.old)) }
 {
     if !has_data {
         return Ok(());
@@ -292,12 +290,12 @@ fn repeat_if<C: Checksum>(
 }
 
 fn end_packet<C: Checksum>(state: &mut State, context: &mut Context<C>) -> Result<(), AllocError>
-    ensures { OnOk result (standing_of C.word_of state.new context.new ≡ where_open table.ended (standing_of C.word_of state.old context.old)) }
+    ensures { OnOk result (endpoint_state_of C.word_of state.new context.new ≡ where_open table.end_packet (endpoint_state_of C.word_of state.old context.old)) }
 {
     match state {
         State::Closed => Ok(()),
         State::CookieWait(_) => Ok(()),
-        State::Open(phase, tcb) => handle_packet_end(context, phase, tcb),
+        State::Open(phase, tcb) => maybe_send_sack(context, phase, tcb),
     }
 }
 
@@ -311,10 +309,10 @@ fn handle_chunks<R: Rng, C: Checksum>(
     view: PacketView<'_>,
 ) -> Result<(), AllocError>
     ensures { (chunks : List ChunkTree) → AreLeft view.entry chunks → has_data ≡ table.has_data chunks
-        → OnOk result (endpoint_of R.stream C.word_of state.new context.new rng.new ≡ table.handled tag chunks (endpoint_of R.stream C.word_of state.old context.old rng.old)) }
+        → OnOk result (endpoint_of R.stream C.word_of state.new context.new rng.new ≡ table.handle_chunks tag chunks (endpoint_of R.stream C.word_of state.old context.old rng.old)) }
 {
     repeat_if(state, context, has_data)?;
-    hear_all(state, context, rng, tag, view)?;
+    receive_all(state, context, rng, tag, view)?;
     end_packet(state, context)
 }
 
@@ -343,7 +341,7 @@ pub(crate) fn handle_packet<R: Rng, C: Checksum>(
 /// Bytes that are no packet.
 fn refuse_bytes<C: Checksum>(context: &mut Context<C>) -> Result<(), AllocError>
     ensures { OnOk result (context_of C.word_of context.new
-        ≡ complain ErrorKind.ParseFailed (codes "Failed to parse SCTP packet") (table.counted (context_of C.word_of context.old))) }
+        ≡ complain ErrorKind.ParseFailed (codes "Failed to parse SCTP packet") (table.count_packet (context_of C.word_of context.old))) }
 {
     count_packet(context);
     context.complain(ErrorKind::ParseFailed, "Failed to parse SCTP packet")
@@ -356,7 +354,7 @@ pub(crate) fn handle_input<R: Rng, C: Checksum>(
     rng: &mut R,
     bytes: &[u8],
 ) -> Result<(), AllocError>
-    ensures { OnOk result (Hears (C.word_of context.old.checksum) bytes.now (endpoint_of R.stream C.word_of state.old context.old rng.old)
+    ensures { OnOk result (Receives (C.word_of context.old.checksum) bytes.now (endpoint_of R.stream C.word_of state.old context.old rng.old)
         (endpoint_of R.stream C.word_of state.new context.new rng.new)) }
 {
     let word = packet_word(context, bytes);

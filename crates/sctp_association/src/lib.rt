@@ -9,6 +9,7 @@ mod input;
 mod socket;
 
 pub use api::DcSctpSocket;
+pub use proof_endpoint as laws;
 pub use sctp_endpoint::{
     Association, Context, CookieEchoedState, CookieWaitState, Identity, OutgoingPacket, Phase,
     ResetRequests, State, TransmissionControlBlock,
@@ -28,6 +29,5 @@ pub use sctp_state::{
     HandoverReadiness, Metrics, Options, ResetStreamsError, RestoreError, SctpImplementation,
     SendError, SendOptions, SocketEvent, SocketHandoverState, SocketState,
 };
-pub use sctp_table_laws as laws;
 pub use sctp_wire::Checksum;
 pub use socket::Socket;

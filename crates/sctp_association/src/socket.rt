@@ -2,23 +2,23 @@
 
 ghost use Rattle.std.specs.Prelude.{◌≡◌, ◌<◌, ◌^◌, ◌↔◌, false, true, Err, length, map, option_map, drop, slice_get, IfOk, IfErr, OnOk};
 ghost use Rattle.sctp_serial.specs.Messages.{message_of};
-ghost use Rattle.sctp_send_queue.specs.Queue.{amount_of, stream};
+ghost use Rattle.sctp_tx_queue.specs.Queue.{amount_of, stream};
 ghost use Rattle.sctp_state.specs.Events.{event_of, first_of, given_up_of, numbers_of};
 ghost use Rattle.sctp_state.specs.Handover.{handover_state_of};
 ghost use Rattle.sctp_state.specs.Options.{IsValid, options_of, send_options_of};
-ghost use Rattle.sctp_table.specs.Association.{fresh, in_context};
-ghost use Rattle.sctp_table.specs.Input.{my_tag, on_standing};
+ghost use Rattle.spec_endpoint.specs.Association.{fresh, in_context};
+ghost use Rattle.spec_endpoint.specs.Input.{my_tag, on_endpoint_state};
 ghost use Rattle.sctp_calls.specs.Metrics.{metrics_in, metrics_of};
 ghost use Rattle.sctp_association.specs.Socket.{Ends, Worked, association_of, batch_ending, ending_of, endpoint, handover_ending, readiness_in, refusal_in, refusals_in, reset_refusal_in, resetting_ending, restore_ending, restore_refusal_in, sending_ending};
-ghost use Rattle.sctp_table.specs.Hearing.{Hears, Judges};
-ghost use Rattle.sctp_table.specs.Shown.{association_in, is_at_rest};
-ghost use Rattle.sctp_table.specs.Wire.{writing};
-ghost use Rattle.sctp_table.specs.Calls as calls;
-ghost use Rattle.sctp_table.specs.Closing as closing;
-ghost use Rattle.sctp_table.specs.Handover as handover;
-ghost use Rattle.sctp_table.specs.Opening as opening;
-ghost use Rattle.sctp_table.specs.Resets as resets;
-ghost use Rattle.sctp_table.specs.Time as time;
+ghost use Rattle.spec_endpoint.specs.Receiving.{Receives, Judges};
+ghost use Rattle.spec_endpoint.specs.Shown.{association_in, is_at_rest};
+ghost use Rattle.spec_endpoint.specs.Wire.{writing};
+ghost use Rattle.spec_endpoint.specs.Calls as calls;
+ghost use Rattle.spec_endpoint.specs.Shutdown as closing;
+ghost use Rattle.spec_endpoint.specs.Handover as handover;
+ghost use Rattle.spec_endpoint.specs.Opening as opening;
+ghost use Rattle.spec_endpoint.specs.StreamReset as resets;
+ghost use Rattle.spec_endpoint.specs.Timers as time;
 
 use crate::api::DcSctpSocket;
 use crate::input::handle_input;
@@ -29,9 +29,9 @@ use sctp_calls::calls::{
 };
 use sctp_calls::handover::{get_handover_readiness, hand_over, restore};
 use sctp_calls::metrics::metrics_in;
-use sctp_closing::shutdown::{handle_close, handle_shutdown};
+use sctp_closing::shutdown::{do_shutdown, handle_close};
 use sctp_endpoint::{Association, Context, State};
-use sctp_handshake::opening::connect;
+use sctp_handshake::opening::do_connect;
 use sctp_receiving::messages::{get_next_message, keeps_items, ready_count, ready_message};
 use sctp_receiving::{judge, my_verification_tag};
 use sctp_serial::{Message, SocketTime, StreamId};
@@ -113,9 +113,9 @@ impl<R: Rng, C: Checksum> Socket<R, C> {
 
     /// Takes the record of the message that was given up first.
     pub fn next_given_up(&mut self) -> Option<GivenUp>
-        ensures first { option_map given_up_of result ≡ first_of self.old.context.told.gone }
+        ensures first { option_map given_up_of result ≡ first_of self.old.context.emitted.given_up }
         ensures rest { let c = self.old.context in
-            self.new ≡ record self.old { context = record c { told = record c.told { gone = drop 1 c.told.gone } } } }
+            self.new ≡ record self.old { context = record c { emitted = record c.emitted { given_up = drop 1 c.emitted.given_up } } } }
     {
         self.context.events.next_given_up()
     }
@@ -159,16 +159,16 @@ impl<R: Rng, C: Checksum> Socket<R, C> {
 
 impl<R: Rng, C: Checksum> DcSctpSocket for Socket<R, C> {
     fn poll_event(&mut self) -> Option<SocketEvent>
-        ensures first { option_map event_of result ≡ first_of self.old.context.told.events }
+        ensures first { option_map event_of result ≡ first_of self.old.context.emitted.events }
         ensures rest { let c = self.old.context in
-            self.new ≡ record self.old { context = record c { told = record c.told { events = drop 1 c.told.events } } } }
+            self.new ≡ record self.old { context = record c { emitted = record c.emitted { events = drop 1 c.emitted.events } } } }
     {
         self.context.events.next_event()
     }
 
     fn get_next_message(&mut self) -> Option<Message>
         ensures message { option_map message_of result ≡ first_of (calls.ready_in self.old.state) }
-        ensures rest { endpoint R.stream C.word_of self.new ≡ on_standing calls.take_message (endpoint R.stream C.word_of self.old) }
+        ensures rest { endpoint R.stream C.word_of self.new ≡ on_endpoint_state calls.take_message (endpoint R.stream C.word_of self.old) }
         ensures failure { self.new.has_failed ≡ self.old.has_failed }
     {
         get_next_message(&mut self.state)
@@ -176,7 +176,7 @@ impl<R: Rng, C: Checksum> DcSctpSocket for Socket<R, C> {
 
     fn handle_input(&mut self, bytes: &[u8]) -> Result<(), CallError>
         ensures ends { Ends (ending_of result) self.old self.new }
-        ensures ok { OnOk result (Hears (C.word_of self.old.context.checksum) bytes.now (endpoint R.stream C.word_of self.old) (endpoint R.stream C.word_of self.new)) }
+        ensures ok { OnOk result (Receives (C.word_of self.old.context.checksum) bytes.now (endpoint R.stream C.word_of self.old) (endpoint R.stream C.word_of self.new)) }
     {
         if self.has_failed {
             return Err(CallError::Failed);
@@ -190,7 +190,7 @@ impl<R: Rng, C: Checksum> DcSctpSocket for Socket<R, C> {
 
     fn advance_time(&mut self, now: SocketTime) -> Result<(), CallError>
         ensures ends { Ends (ending_of result) self.old self.new }
-        ensures ok { OnOk result (endpoint R.stream C.word_of self.new ≡ on_standing (time.advance now) (endpoint R.stream C.word_of self.old)) }
+        ensures ok { OnOk result (endpoint R.stream C.word_of self.new ≡ on_endpoint_state (time.advance now) (endpoint R.stream C.word_of self.old)) }
     {
         if self.has_failed {
             return Err(CallError::Failed);
@@ -203,7 +203,7 @@ impl<R: Rng, C: Checksum> DcSctpSocket for Socket<R, C> {
     }
 
     fn poll_timeout(&self) -> SocketTime
-        ensures { result ≡ time.poll_timeout (endpoint R.stream C.word_of self.now).standing }
+        ensures { result ≡ time.poll_timeout (endpoint R.stream C.word_of self.now).endpoint_state }
     {
         poll_timeout(&self.context, &self.state)
     }
@@ -215,7 +215,7 @@ impl<R: Rng, C: Checksum> DcSctpSocket for Socket<R, C> {
         if self.has_failed {
             return Err(CallError::Failed);
         }
-        if connect(&mut self.state, &mut self.context, &mut self.rng).is_err() {
+        if do_connect(&mut self.state, &mut self.context, &mut self.rng).is_err() {
             self.has_failed = true;
             return Err(CallError::Memory);
         }
@@ -224,7 +224,7 @@ impl<R: Rng, C: Checksum> DcSctpSocket for Socket<R, C> {
 
     fn close(&mut self) -> Result<(), CallError>
         ensures ends { Ends (ending_of result) self.old self.new }
-        ensures ok { OnOk result (endpoint R.stream C.word_of self.new ≡ on_standing closing.close (endpoint R.stream C.word_of self.old)) }
+        ensures ok { OnOk result (endpoint R.stream C.word_of self.new ≡ on_endpoint_state closing.close (endpoint R.stream C.word_of self.old)) }
     {
         if self.has_failed {
             return Err(CallError::Failed);
@@ -238,12 +238,12 @@ impl<R: Rng, C: Checksum> DcSctpSocket for Socket<R, C> {
 
     fn shutdown(&mut self) -> Result<(), CallError>
         ensures ends { Ends (ending_of result) self.old self.new }
-        ensures ok { OnOk result (endpoint R.stream C.word_of self.new ≡ on_standing closing.shutdown (endpoint R.stream C.word_of self.old)) }
+        ensures ok { OnOk result (endpoint R.stream C.word_of self.new ≡ on_endpoint_state closing.shutdown (endpoint R.stream C.word_of self.old)) }
     {
         if self.has_failed {
             return Err(CallError::Failed);
         }
-        if handle_shutdown(&mut self.state, &mut self.context).is_err() {
+        if do_shutdown(&mut self.state, &mut self.context).is_err() {
             self.has_failed = true;
             return Err(CallError::Memory);
         }
@@ -252,9 +252,9 @@ impl<R: Rng, C: Checksum> DcSctpSocket for Socket<R, C> {
 
     fn send(&mut self, message: Message, options: &SendOptions) -> Result<(), SendError>
         ensures ends { Ends (sending_ending result) self.old self.new }
-        ensures answer { sending_ending result ≡ Worked → refusal_in result ≡ calls.refusal_of (message_of message) (endpoint R.stream C.word_of self.old).standing }
+        ensures answer { sending_ending result ≡ Worked → refusal_in result ≡ calls.refusal_of (message_of message) (endpoint R.stream C.word_of self.old).endpoint_state }
         ensures sent { sending_ending result ≡ Worked
-            → endpoint R.stream C.word_of self.new ≡ on_standing (calls.send (message_of message) (send_options_of options.now)) (endpoint R.stream C.word_of self.old) }
+            → endpoint R.stream C.word_of self.new ≡ on_endpoint_state (calls.send (message_of message) (send_options_of options.now)) (endpoint R.stream C.word_of self.old) }
     {
         if self.has_failed {
             return Err(SendError::Failed);
@@ -271,11 +271,11 @@ impl<R: Rng, C: Checksum> DcSctpSocket for Socket<R, C> {
 
     fn send_many(&mut self, messages: Vec<Message>, options: &SendOptions) -> Result<(), BatchFault>
         ensures ends { Ends (batch_ending result) self.old self.new }
-        ensures answer { batch_ending result ≡ Worked → refusals_in result ≡ (let s = (endpoint R.stream C.word_of self.old).standing in
+        ensures answer { batch_ending result ≡ Worked → refusals_in result ≡ (let s = (endpoint R.stream C.word_of self.old).endpoint_state in
             calls.refusals 0 (map message_of messages.items) (send_options_of options.now) (calls.shown_state s.state) s.context) }
         ensures refused { (e : BatchSendError) → result ≡ Err (BatchFault.Refused e) → 0 < length e.0.items }
         ensures sent { batch_ending result ≡ Worked → endpoint R.stream C.word_of self.new
-            ≡ on_standing (calls.send_many (map message_of messages.items) (send_options_of options.now)) (endpoint R.stream C.word_of self.old) }
+            ≡ on_endpoint_state (calls.send_many (map message_of messages.items) (send_options_of options.now)) (endpoint R.stream C.word_of self.old) }
     {
         if self.has_failed {
             return Err(BatchFault::Failed);
@@ -294,7 +294,7 @@ impl<R: Rng, C: Checksum> DcSctpSocket for Socket<R, C> {
         ensures ends { Ends (resetting_ending result) self.old self.new }
         ensures answer { resetting_ending result ≡ Worked → reset_refusal_in result ≡ resets.reset_refusal self.old.state }
         ensures reset { resetting_ending result ≡ Worked
-            → endpoint R.stream C.word_of self.new ≡ on_standing (resets.reset_streams (numbers_of streams.now)) (endpoint R.stream C.word_of self.old) }
+            → endpoint R.stream C.word_of self.new ≡ on_endpoint_state (resets.reset_streams (numbers_of streams.now)) (endpoint R.stream C.word_of self.old) }
     {
         if self.has_failed {
             return Err(ResetStreamsError::Failed);
@@ -311,7 +311,7 @@ impl<R: Rng, C: Checksum> DcSctpSocket for Socket<R, C> {
 
     fn set_stream_priority(&mut self, id: StreamId, priority: u16) -> Result<(), CallError>
         ensures ends { Ends (ending_of result) self.old self.new }
-        ensures ok { OnOk result (endpoint R.stream C.word_of self.new ≡ on_standing (in_context (calls.set_priority id.0 priority)) (endpoint R.stream C.word_of self.old)) }
+        ensures ok { OnOk result (endpoint R.stream C.word_of self.new ≡ on_endpoint_state (in_context (calls.set_priority id.0 priority)) (endpoint R.stream C.word_of self.old)) }
     {
         if self.has_failed {
             return Err(CallError::Failed);
@@ -335,7 +335,7 @@ impl<R: Rng, C: Checksum> DcSctpSocket for Socket<R, C> {
         bytes: usize,
     ) -> Result<(), CallError>
         ensures ends { Ends (ending_of result) self.old self.new }
-        ensures ok { OnOk result (endpoint R.stream C.word_of self.new ≡ on_standing (in_context (calls.set_low_threshold id.0 bytes)) (endpoint R.stream C.word_of self.old)) }
+        ensures ok { OnOk result (endpoint R.stream C.word_of self.new ≡ on_endpoint_state (in_context (calls.set_low_threshold id.0 bytes)) (endpoint R.stream C.word_of self.old)) }
     {
         if self.has_failed {
             return Err(CallError::Failed);
@@ -361,7 +361,7 @@ impl<R: Rng, C: Checksum> DcSctpSocket for Socket<R, C> {
 
     fn set_max_message_size(&mut self, bytes: usize)
         requires { bytes < 2 ^ 32 }
-        ensures ok { endpoint R.stream C.word_of self.new ≡ on_standing (in_context (calls.set_max_message_size bytes)) (endpoint R.stream C.word_of self.old) }
+        ensures ok { endpoint R.stream C.word_of self.new ≡ on_endpoint_state (in_context (calls.set_max_message_size bytes)) (endpoint R.stream C.word_of self.old) }
         ensures failure { self.new.has_failed ≡ self.old.has_failed }
     {
         set_max_message_size(&mut self.context, bytes);
@@ -392,17 +392,17 @@ impl<R: Rng, C: Checksum> DcSctpSocket for Socket<R, C> {
     }
 
     fn get_handover_readiness(&self) -> HandoverReadiness
-        ensures { result.0 ≡ handover.readiness (endpoint R.stream C.word_of self.now).standing }
+        ensures { result.0 ≡ handover.readiness (endpoint R.stream C.word_of self.now).endpoint_state }
     {
         get_handover_readiness(&self.context, &self.state)
     }
 
     fn get_handover_state_and_close(&mut self) -> Result<SocketHandoverState, HandoverError>
         ensures ends { Ends (handover_ending result) self.old self.new }
-        ensures answer { handover_ending result ≡ Worked → readiness_in result ≡ handover.readiness (endpoint R.stream C.word_of self.old).standing }
+        ensures answer { handover_ending result ≡ Worked → readiness_in result ≡ handover.readiness (endpoint R.stream C.word_of self.old).endpoint_state }
         ensures refused { (r : HandoverReadiness) → result ≡ Err (HandoverError.NotReady r) → 0 < r.0 }
-        ensures record { IfOk result (λ h. handover_state_of h ≡ handover.handed_over (endpoint R.stream C.word_of self.old).standing) }
-        ensures left { handover_ending result ≡ Worked → endpoint R.stream C.word_of self.new ≡ on_standing handover.hand_over (endpoint R.stream C.word_of self.old) }
+        ensures record { IfOk result (λ h. handover_state_of h ≡ handover.handed_over (endpoint R.stream C.word_of self.old).endpoint_state) }
+        ensures left { handover_ending result ≡ Worked → endpoint R.stream C.word_of self.new ≡ on_endpoint_state handover.hand_over (endpoint R.stream C.word_of self.old) }
     {
         if self.has_failed {
             return Err(HandoverError::Failed);
@@ -424,7 +424,7 @@ impl<R: Rng, C: Checksum> DcSctpSocket for Socket<R, C> {
         ensures ends { Ends (restore_ending result) self.old self.new }
         ensures answer { restore_ending result ≡ Worked → restore_refusal_in result ≡ handover.refusal_in self.old.state (handover_state_of state.now) }
         ensures restored { restore_ending result ≡ Worked
-            → endpoint R.stream C.word_of self.new ≡ on_standing (handover.restore (handover_state_of state.now)) (endpoint R.stream C.word_of self.old) }
+            → endpoint R.stream C.word_of self.new ≡ on_endpoint_state (handover.restore (handover_state_of state.now)) (endpoint R.stream C.word_of self.old) }
     {
         if self.has_failed {
             return Err(RestoreError::Failed);

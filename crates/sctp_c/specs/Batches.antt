@@ -5,9 +5,9 @@ use Rattle.sctp_c_records.specs.Records.{given_send_options}
 use Rattle.sctp_c_records.specs.declared.message.OutgoingRecord.{OutgoingRecord}
 use Rattle.sctp_c_records.specs.declared.message.SendRecord.{SendRecord}
 use Rattle.sctp_c_calls.specs.Outgoing.{given_message}
-use Rattle.sctp_table.specs.Calls as table
+use Rattle.spec_endpoint.specs.Calls as table
 use Rattle.sctp_c.specs.Calls.{CSocket, end_of}
 
 -- by place
-abbrev pub refused : List OutgoingRecord → SendRecord → CSocket → List (ℕ × SendError)
-refused messages options s = table.refusals 0 (map given_message messages) (given_send_options options) (table.shown_state s.state) (end_of s).standing.context
+abbrev pub refusals : List OutgoingRecord → SendRecord → CSocket → List (ℕ × SendError)
+refusals messages options s = table.refusals 0 (map given_message messages) (given_send_options options) (table.shown_state s.state) (end_of s).endpoint_state.context

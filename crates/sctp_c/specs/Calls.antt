@@ -10,7 +10,7 @@ use Rattle.sctp_c_calls.specs.Handing.{record_of, record_or}
 use Rattle.sctp_c_records.specs.Checksums.{word_by}
 use Rattle.sctp_c_records.specs.declared.checksum.PacketChecksum.{PacketChecksum}
 use Rattle.sctp_state.specs.Handover.{HandoverState}
-use Rattle.sctp_table.specs.Association.{Endpoint as End}
+use Rattle.spec_endpoint.specs.Association.{Endpoint as End}
 use Rattle.sctp_c.specs.declared.endpoint.Endpoint.{Endpoint}
 
 abbrev pub CSocket : Type 0
@@ -25,7 +25,7 @@ end_of s = endpoint stream word_by s
 
 -- the record that the next call hands out
 abbrev pub record_at : Endpoint → HandoverState
-record_at e = record_or (record_of e.handed_over) (end_of e.socket).standing
+record_at e = record_or (record_of e.handed_over) (end_of e.socket).endpoint_state
 
 -- A handle with a socket makes the call on it. One without answers 3, and stays so.
 abbrev pub Answers : (call : Endpoint → ℕ → Endpoint → Type 0) → (old : Option Endpoint) → ℕ → (new : Option Endpoint) → Type 0

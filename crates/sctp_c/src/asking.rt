@@ -5,10 +5,10 @@ ghost use Rattle.sctp_c.specs.Calls.{Answers, OnSocket, Tells, end_of};
 ghost use Rattle.sctp_c_calls.specs.Answers.{IsAmong, OnAnswer, state_number};
 ghost use Rattle.sctp_c_calls.specs.Counted.{shown_metrics};
 ghost use Rattle.sctp_calls.specs.Metrics.{metrics_in};
-ghost use Rattle.sctp_send_queue.specs.Queue as queue;
-ghost use Rattle.sctp_table.specs.Calls as table;
-ghost use Rattle.sctp_table.specs.Handover as handover;
-ghost use Rattle.sctp_table.specs.Time as time;
+ghost use Rattle.sctp_tx_queue.specs.Queue as queue;
+ghost use Rattle.spec_endpoint.specs.Calls as table;
+ghost use Rattle.spec_endpoint.specs.Handover as handover;
+ghost use Rattle.spec_endpoint.specs.Timers as time;
 
 use crate::handle::Handle;
 use crate::stream::stream_of;
@@ -27,8 +27,8 @@ pub extern "C" fn sctp_answer_text(answer: u32, buffer: &mut [u8]) -> usize {
 /// The moment by which the time is to be told next, in nanoseconds; the greatest number where no timer runs.
 #[unsafe(no_mangle)]
 pub extern "C" fn sctp_poll_timeout(socket: &mut Handle, nanos: &mut u64) -> u32
-    ensures due { Tells (λ s. time.poll_timeout (end_of s).standing < 2 ^ 64 → nanos.new ≡ time.poll_timeout (end_of s).standing) socket.old.held result socket.new.held }
-    ensures never { Tells (λ s. 2 ^ 64 ≤ time.poll_timeout (end_of s).standing → nanos.new ≡ 2 ^ 64 - 1) socket.old.held result socket.new.held }
+    ensures due { Tells (λ s. time.poll_timeout (end_of s).endpoint_state < 2 ^ 64 → nanos.new ≡ time.poll_timeout (end_of s).endpoint_state) socket.old.held result socket.new.held }
+    ensures never { Tells (λ s. 2 ^ 64 ≤ time.poll_timeout (end_of s).endpoint_state → nanos.new ≡ 2 ^ 64 - 1) socket.old.held result socket.new.held }
 {
     match socket.as_mut() {
         None => NO_SOCKET,
@@ -94,7 +94,7 @@ pub extern "C" fn sctp_get_metrics(socket: &mut Handle, metrics: &mut MetricsRec
 /// What stands in the way of a handover, a bit each.
 #[unsafe(no_mangle)]
 pub extern "C" fn sctp_handover_readiness(socket: &mut Handle, readiness: &mut u32) -> u32
-    ensures { Tells (λ s. readiness.new ≡ handover.readiness (end_of s).standing) socket.old.held result socket.new.held }
+    ensures { Tells (λ s. readiness.new ≡ handover.readiness (end_of s).endpoint_state) socket.old.held result socket.new.held }
 {
     match socket.as_mut() {
         None => NO_SOCKET,

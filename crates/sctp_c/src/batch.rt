@@ -1,13 +1,13 @@
 //! Several messages at once.
 
 ghost use Rattle.std.specs.Prelude.{◌≡◌, ◌<◌, ◌≤◌, true, false, [], ◌∷◌, length, map, replicate, take};
-ghost use Rattle.sctp_c.specs.Batches.{refused};
+ghost use Rattle.sctp_c.specs.Batches.{refusals};
 ghost use Rattle.sctp_c.specs.Calls.{Answers, OnSocket, end_of};
-ghost use Rattle.sctp_c_calls.specs.Answers.{Ended, IsAmong, OnSettled, batch_number, noted};
+ghost use Rattle.sctp_c_calls.specs.Answers.{Ended, IsAmong, OnSettled, batch_number, mark_refused};
 ghost use Rattle.sctp_c_calls.specs.Outgoing.{given_message, have_streams};
 ghost use Rattle.sctp_c_records.specs.Records.{IsKnown, given_send_options};
-ghost use Rattle.sctp_table.specs.Calls as table;
-ghost use Rattle.sctp_table.specs.Input.{on_standing};
+ghost use Rattle.spec_endpoint.specs.Calls as table;
+ghost use Rattle.spec_endpoint.specs.Input.{on_endpoint_state};
 
 use crate::handle::Handle;
 use sctp_c_calls as calls;
@@ -29,11 +29,11 @@ pub extern "C" fn sctp_send_many(
     ensures streams { IsKnown options.now → length messages.now ≤ length answers.old → have_streams messages.now ≡ false → (result ≡ 6) × (socket.new.held ≡ socket.old.held) }
     ensures answers { IsKnown options.now → length messages.now ≤ length answers.old → have_streams messages.now ≡ true → Answers (λ e n f. IsAmong (0 ∷ 1 ∷ 2 ∷ 17 ∷ 18 ∷ []) n) socket.old.held result socket.new.held }
     ensures ends { IsKnown options.now → length messages.now ≤ length answers.old → have_streams messages.now ≡ true → Answers (OnSocket (λ s n t. Ended n s t)) socket.old.held result socket.new.held }
-    ensures answer { IsKnown options.now → length messages.now ≤ length answers.old → have_streams messages.now ≡ true → Answers (OnSocket (λ s n t. OnSettled n (n ≡ batch_number (refused messages.now options.now s)))) socket.old.held result socket.new.held }
+    ensures answer { IsKnown options.now → length messages.now ≤ length answers.old → have_streams messages.now ≡ true → Answers (OnSocket (λ s n t. OnSettled n (n ≡ batch_number (refusals messages.now options.now s)))) socket.old.held result socket.new.held }
     ensures each { IsKnown options.now → length messages.now ≤ length answers.old → have_streams messages.now ≡ true → Answers (OnSocket (λ s n t. OnSettled n (take (length messages.now) answers.new
-        ≡ noted (refused messages.now options.now s) (replicate (length messages.now) 0)))) socket.old.held result socket.new.held }
+        ≡ mark_refused (refusals messages.now options.now s) (replicate (length messages.now) 0)))) socket.old.held result socket.new.held }
     ensures sent { IsKnown options.now → length messages.now ≤ length answers.old → have_streams messages.now ≡ true → Answers (OnSocket (λ s n t. OnSettled n (end_of t
-        ≡ on_standing (table.send_many (map given_message messages.now) (given_send_options options.now)) (end_of s)))) socket.old.held result socket.new.held }
+        ≡ on_endpoint_state (table.send_many (map given_message messages.now) (given_send_options options.now)) (end_of s)))) socket.old.held result socket.new.held }
 {
     if !options.is_known() {
         return INVALID_ARGUMENT;

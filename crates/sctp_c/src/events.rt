@@ -27,7 +27,7 @@ pub extern "C" fn sctp_poll_event(
     ensures nothing { Answers (λ e n f. OnAnswer 8 n (waiting e.event e.socket ≡ [])) socket.old.held result socket.new.held }
     ensures needed { Answers (λ e n f. OnAnswer 9 n (Needs head.new (length buffer.old) (waiting e.event e.socket))) socket.old.held result socket.new.held }
     ensures record { Answers (λ e n f. f.handed_over ≡ e.handed_over) socket.old.held result socket.new.held }
-    ensures rest { Answers (λ e n f. f.socket ≡ with_events e.socket f.socket.context.told.events) socket.old.held result socket.new.held }
+    ensures rest { Answers (λ e n f. f.socket ≡ with_events e.socket f.socket.context.emitted.events) socket.old.held result socket.new.held }
 {
     match socket.as_mut() {
         None => NO_SOCKET,
@@ -52,7 +52,7 @@ pub extern "C" fn sctp_borrow_event(
     ensures nothing { Answers (λ e n f. OnAnswer 8 n (waiting e.event e.socket ≡ [])) socket.old.held result socket.new.held }
     ensures let_go { Answers (λ e n f. OnAnswer 8 n (f.lent.items ≡ [])) socket.old.held result socket.new.held }
     ensures record { Answers (λ e n f. f.handed_over ≡ e.handed_over) socket.old.held result socket.new.held }
-    ensures rest { Answers (λ e n f. f.socket ≡ with_events e.socket f.socket.context.told.events) socket.old.held result socket.new.held }
+    ensures rest { Answers (λ e n f. f.socket ≡ with_events e.socket f.socket.context.emitted.events) socket.old.held result socket.new.held }
 {
     match socket.as_mut() {
         None => NO_SOCKET,

@@ -32,12 +32,12 @@ pub extern "C" fn sctp_handover(
     ensures stays { Answers (λ e n f. OnAnswer 9 n (record_of f.handed_over ≡ Some (record_at e))) socket.old.held result socket.new.held }
     ensures no_room { Answers (λ e n f. OnAnswer 17 n (record_of f.handed_over ≡ Some (record_at e))) socket.old.held result socket.new.held }
     ensures none { Answers (λ e n f. OnOthers 9 n (OnOthers 17 n (f.handed_over ≡ None))) socket.old.held result socket.new.held }
-    ensures ready { Answers (λ e n f. IsTaken n (in_the_way (record_of e.handed_over) (end_of e.socket).standing ≡ 0)) socket.old.held result socket.new.held }
+    ensures ready { Answers (λ e n f. IsTaken n (in_the_way (record_of e.handed_over) (end_of e.socket).endpoint_state ≡ 0)) socket.old.held result socket.new.held }
     ensures left { Answers (λ e n f. IsTaken n (end_of f.socket ≡ left_by (record_of e.handed_over) (end_of e.socket))) socket.old.held result socket.new.held }
     ensures failure { Answers (λ e n f. IsTaken n (f.socket.has_failed ≡ e.socket.has_failed)) socket.old.held result socket.new.held }
     ensures memory { Answers (λ e n f. OnAnswer 1 n (Ends (ending_at n) e.socket f.socket)) socket.old.held result socket.new.held }
     ensures failed { Answers (λ e n f. OnAnswer 2 n (Ends (ending_at n) e.socket f.socket)) socket.old.held result socket.new.held }
-    ensures not_ready { Answers (λ e n f. OnAnswer 16 n (0 < in_the_way (record_of e.handed_over) (end_of e.socket).standing)) socket.old.held result socket.new.held }
+    ensures not_ready { Answers (λ e n f. OnAnswer 16 n (0 < in_the_way (record_of e.handed_over) (end_of e.socket).endpoint_state)) socket.old.held result socket.new.held }
     ensures unchanged { Answers (λ e n f. OnAnswer 16 n (end_of f.socket ≡ end_of e.socket)) socket.old.held result socket.new.held }
     ensures event { Answers (λ e n f. f.event ≡ e.event) socket.old.held result socket.new.held }
 {

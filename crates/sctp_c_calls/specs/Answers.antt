@@ -82,9 +82,9 @@ batch_number [] = 0
 batch_number (r ∷ rs) = 18
 
 -- the answer of each message, where these are refused
-abbrev pub noted : List (ℕ × SendError) → List ℕ → List ℕ
-noted [] answers = answers
-noted (r ∷ rs) answers = noted rs (set answers r.0 (refusal_number (Some r.1)))
+abbrev pub mark_refused : List (ℕ × SendError) → List ℕ → List ℕ
+mark_refused [] answers = answers
+mark_refused (r ∷ rs) answers = mark_refused rs (set answers r.0 (refusal_number (Some r.1)))
 
 abbrev pub state_number : SocketState → ℕ
 state_number shown.Closed = 0

@@ -9,9 +9,9 @@ use Rattle.sctp_state.specs.Handover.{HandoverState, handover_state_of}
 use Rattle.sctp_state.specs.declared.api.errors.HandoverError.{HandoverError}
 use Rattle.sctp_state.specs.declared.api.errors.HandoverError.TheVariants.{Failed, Memory, NotReady}
 use Rattle.sctp_state.specs.declared.api.handover.SocketHandoverState.{SocketHandoverState}
-use Rattle.sctp_table.specs.Association.{Endpoint, Standing}
-use Rattle.sctp_table.specs.Handover.{hand_over, handed_over, readiness, refusal_in, restore}
-use Rattle.sctp_table.specs.Input.{on_standing}
+use Rattle.spec_endpoint.specs.Association.{Endpoint, EndpointState}
+use Rattle.spec_endpoint.specs.Handover.{hand_over, handed_over, readiness, refusal_in, restore}
+use Rattle.spec_endpoint.specs.Input.{on_endpoint_state}
 
 -- ---- out
 
@@ -19,18 +19,18 @@ abbrev pub record_of : Option SocketHandoverState → Option HandoverState
 record_of = option_map handover_state_of
 
 -- the record that is kept, or else that of the socket
-abbrev pub record_or : {P : Type 0} → Option HandoverState → Standing P → HandoverState
+abbrev pub record_or : {P : Type 0} → Option HandoverState → EndpointState P → HandoverState
 record_or None s = handed_over s
 record_or (Some h) s = h
 
 -- what stands in the way of the socket's
-abbrev pub in_the_way : {P : Type 0} → Option HandoverState → Standing P → ℕ
+abbrev pub in_the_way : {P : Type 0} → Option HandoverState → EndpointState P → ℕ
 in_the_way None s = readiness s
 in_the_way (Some h) s = 0
 
 -- the end whose record was taken; it was before, where one is kept
 abbrev pub left_by : {P : Type 0} → Option HandoverState → Endpoint P → Endpoint P
-left_by None e = on_standing hand_over e
+left_by None e = on_endpoint_state hand_over e
 left_by (Some h) e = e
 
 abbrev pub OnNotReady : HandoverError → Type 0 → Type 0
@@ -52,7 +52,7 @@ Holds buffer bytes = take (length bytes) buffer ≡ bytes
 abbrev pub Restores : {R C : Type 0} → (R → Stream) → (C → List ℕ → ℕ) → HandoverState → (before : SocketValue R C) → ℕ → (after : SocketValue R C) → Type 0
 Restores stream_of word_of h before n after = by_test (n == 17) (after ≡ before) (Ends (ending_at n) before after
     × (OnSettled n (n ≡ restore_number (refusal_in before.state h))
-    × OnSettled n (endpoint stream_of word_of after ≡ on_standing (restore h) (endpoint stream_of word_of before))))
+    × OnSettled n (endpoint stream_of word_of after ≡ on_endpoint_state (restore h) (endpoint stream_of word_of before))))
 
 -- what the bytes are written of; no two records are written alike
 abbrev pub IsRecord : List ℕ → HandoverState → Type 0

@@ -1,4 +1,4 @@
--- What was told and isn't handed out, and what C sees of it.
+-- What was emitted and isn't handed out, and what C sees of it.
 use Rattle.std.specs.Prelude.{◌≡◌, ◌<◌, ℕ, Option, Some, None, List, [], ◌∷◌, option_map, length, take}
 use Rattle.sctp_serial.specs.Messages.{Message}
 use Rattle.sctp_state.specs.declared.api.SocketEvent.{SocketEvent}
@@ -14,10 +14,10 @@ waiting_first (Some event) events = event ∷ events
 
 -- the event that is kept, and those of the socket
 abbrev pub waiting : {R C : Type 0} → Option SocketEvent → SocketValue R C → List (Event (List ℕ))
-waiting kept s = waiting_first (option_map event_of kept) s.context.told.events
+waiting kept s = waiting_first (option_map event_of kept) s.context.emitted.events
 
 abbrev pub with_events : {R C : Type 0} → SocketValue R C → List (Event (List ℕ)) → SocketValue R C
-with_events s events = let c = s.context in record s { context = record c { told = record c.told { events = events } } }
+with_events s events = let c = s.context in record s { context = record c { emitted = record c.emitted { events = events } } }
 
 -- the first event was handed out: its record, and its bytes at the front of the buffer
 abbrev pub Shows : EventRecord → (buffer : List ℕ) → List (Event (List ℕ)) → Type 0

@@ -5,10 +5,10 @@ ghost use Rattle.sctp_association.specs.Socket.{endpoint};
 ghost use Rattle.sctp_c_calls.specs.Answers.{state_number};
 ghost use Rattle.sctp_c_calls.specs.Counted.{shown_metrics};
 ghost use Rattle.sctp_calls.specs.Metrics.{metrics_in};
-ghost use Rattle.sctp_send_queue.specs.Queue.{amount_of, stream};
-ghost use Rattle.sctp_table.specs.Calls as calls;
-ghost use Rattle.sctp_table.specs.Handover as handover;
-ghost use Rattle.sctp_table.specs.Time as time;
+ghost use Rattle.sctp_tx_queue.specs.Queue.{amount_of, stream};
+ghost use Rattle.spec_endpoint.specs.Calls as calls;
+ghost use Rattle.spec_endpoint.specs.Handover as handover;
+ghost use Rattle.spec_endpoint.specs.Timers as time;
 
 use rand_core::Rng;
 use sctp_association::{Checksum, DcSctpSocket, Socket, SocketState, StreamId};
@@ -16,8 +16,8 @@ use sctp_c_records::MetricsRecord;
 
 /// The moment by which the time is to be told next, in nanoseconds; the greatest number where none so early is.
 pub fn nanos_until<R: Rng, C: Checksum>(socket: &Socket<R, C>) -> u64
-    ensures due { time.poll_timeout (endpoint R.stream C.word_of socket.now).standing < 2 ^ 64 → result ≡ time.poll_timeout (endpoint R.stream C.word_of socket.now).standing }
-    ensures never { 2 ^ 64 ≤ time.poll_timeout (endpoint R.stream C.word_of socket.now).standing → result ≡ 2 ^ 64 - 1 }
+    ensures due { time.poll_timeout (endpoint R.stream C.word_of socket.now).endpoint_state < 2 ^ 64 → result ≡ time.poll_timeout (endpoint R.stream C.word_of socket.now).endpoint_state }
+    ensures never { 2 ^ 64 ≤ time.poll_timeout (endpoint R.stream C.word_of socket.now).endpoint_state → result ≡ 2 ^ 64 - 1 }
 {
     socket.poll_timeout().as_nanos().min(u64::MAX as u128) as u64
 }
@@ -59,7 +59,7 @@ pub fn metrics<R: Rng, C: Checksum>(socket: &Socket<R, C>) -> Option<MetricsReco
 
 /// What stands in the way of a handover, a bit each.
 pub fn handover_readiness<R: Rng, C: Checksum>(socket: &Socket<R, C>) -> u32
-    ensures { result ≡ handover.readiness (endpoint R.stream C.word_of socket.now).standing }
+    ensures { result ≡ handover.readiness (endpoint R.stream C.word_of socket.now).endpoint_state }
 {
     socket.get_handover_readiness().0
 }

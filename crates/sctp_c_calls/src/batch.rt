@@ -2,12 +2,12 @@
 
 ghost use Rattle.std.specs.Prelude.{◌≡◌, ◌<◌, ◌≤◌, ◌^◌, true, [], ◌∷◌, length, map, replicate, take, IfOk};
 ghost use Rattle.sctp_association.specs.Socket.{endpoint};
-ghost use Rattle.sctp_c_calls.specs.Answers.{Ended, IsAmong, OnSettled, batch_number, noted};
+ghost use Rattle.sctp_c_calls.specs.Answers.{Ended, IsAmong, OnSettled, batch_number, mark_refused};
 ghost use Rattle.sctp_c_calls.specs.Outgoing.{given_message, has_stream, have_streams};
 ghost use Rattle.sctp_c_records.specs.Records.{given_send_options};
 ghost use Rattle.sctp_serial.specs.Messages.{message_of};
-ghost use Rattle.sctp_table.specs.Calls as calls;
-ghost use Rattle.sctp_table.specs.Input.{on_standing};
+ghost use Rattle.spec_endpoint.specs.Calls as calls;
+ghost use Rattle.spec_endpoint.specs.Input.{on_endpoint_state};
 
 use crate::outcome::refusal_number;
 use rand_core::Rng;
@@ -46,7 +46,7 @@ fn all_copied(alloc: Global, messages: &[OutgoingRecord<'_>]) -> Result<Vec<Mess
 
 /// Writes at its place why a message wasn't accepted.
 fn note(answers: &mut Vec<u32>, refusals: &[(usize, SendError)])
-    ensures noted { answers.new.items ≡ noted refusals.now answers.old.items }
+    ensures noted { answers.new.items ≡ mark_refused refusals.now answers.old.items }
     ensures len { length answers.new.items ≡ length answers.old.items }
 {
     for refused in refusals {
@@ -60,7 +60,7 @@ fn note(answers: &mut Vec<u32>, refusals: &[(usize, SendError)])
 /// Writes each message's answer.
 fn tell(answers: &mut [u32], mut own: Vec<u32>, refusals: &[(usize, SendError)])
     requires { length own.items ≤ length answers.old }
-    ensures { take (length own.items) answers.new ≡ noted refusals.now own.items }
+    ensures { take (length own.items) answers.new ≡ mark_refused refusals.now own.items }
 {
     note(&mut own, refusals);
     let (front, _) = answers.split_at_mut(own.len());
@@ -80,13 +80,13 @@ pub fn send_many<R: Rng, C: Checksum>(
     requires room { length messages.now ≤ length answers.old }
     ensures answers { IsAmong (0 ∷ 1 ∷ 2 ∷ 17 ∷ 18 ∷ []) result }
     ensures ends { Ended result socket.old socket.new }
-    ensures answer { OnSettled result (let s = (endpoint R.stream C.word_of socket.old).standing in
+    ensures answer { OnSettled result (let s = (endpoint R.stream C.word_of socket.old).endpoint_state in
         result ≡ batch_number (calls.refusals 0 (map given_message messages.now) (given_send_options options.now) (calls.shown_state s.state) s.context)) }
-    ensures each { OnSettled result (let s = (endpoint R.stream C.word_of socket.old).standing in
+    ensures each { OnSettled result (let s = (endpoint R.stream C.word_of socket.old).endpoint_state in
         take (length messages.now) answers.new
-        ≡ noted (calls.refusals 0 (map given_message messages.now) (given_send_options options.now) (calls.shown_state s.state) s.context) (replicate (length messages.now) 0)) }
+        ≡ mark_refused (calls.refusals 0 (map given_message messages.now) (given_send_options options.now) (calls.shown_state s.state) s.context) (replicate (length messages.now) 0)) }
     ensures sent { OnSettled result (endpoint R.stream C.word_of socket.new
-        ≡ on_standing (calls.send_many (map given_message messages.now) (given_send_options options.now)) (endpoint R.stream C.word_of socket.old)) }
+        ≡ on_endpoint_state (calls.send_many (map given_message messages.now) (given_send_options options.now)) (endpoint R.stream C.word_of socket.old)) }
 {
     let Ok(own) = Vec::from_elem(alloc, OK, messages.len()) else {
         return NO_ROOM;

@@ -3,11 +3,11 @@
 ghost use Rattle.std.specs.Prelude.{◌≡◌, [], ◌∷◌};
 ghost use Rattle.sctp_association.specs.Socket.{Ends, endpoint};
 ghost use Rattle.sctp_c_calls.specs.Answers.{IsAmong, OnAnswer, ending_at};
-ghost use Rattle.sctp_table.specs.Closing as closing;
-ghost use Rattle.sctp_table.specs.Hearing.{Hears};
-ghost use Rattle.sctp_table.specs.Input.{on_standing};
-ghost use Rattle.sctp_table.specs.Opening as opening;
-ghost use Rattle.sctp_table.specs.Time as time;
+ghost use Rattle.spec_endpoint.specs.Shutdown as closing;
+ghost use Rattle.spec_endpoint.specs.Receiving.{Receives};
+ghost use Rattle.spec_endpoint.specs.Input.{on_endpoint_state};
+ghost use Rattle.spec_endpoint.specs.Opening as opening;
+ghost use Rattle.spec_endpoint.specs.Timers as time;
 
 use crate::outcome::call_number;
 use rand_core::Rng;
@@ -27,7 +27,7 @@ pub fn connect<R: Rng, C: Checksum>(socket: &mut Socket<R, C>) -> u32
 pub fn shutdown<R: Rng, C: Checksum>(socket: &mut Socket<R, C>) -> u32
     ensures answers { IsAmong (0 ∷ 1 ∷ 2 ∷ []) result }
     ensures ends { Ends (ending_at result) socket.old socket.new }
-    ensures ok { OnAnswer 0 result (endpoint R.stream C.word_of socket.new ≡ on_standing closing.shutdown (endpoint R.stream C.word_of socket.old)) }
+    ensures ok { OnAnswer 0 result (endpoint R.stream C.word_of socket.new ≡ on_endpoint_state closing.shutdown (endpoint R.stream C.word_of socket.old)) }
 {
     call_number(socket.shutdown())
 }
@@ -36,7 +36,7 @@ pub fn shutdown<R: Rng, C: Checksum>(socket: &mut Socket<R, C>) -> u32
 pub fn close<R: Rng, C: Checksum>(socket: &mut Socket<R, C>) -> u32
     ensures answers { IsAmong (0 ∷ 1 ∷ 2 ∷ []) result }
     ensures ends { Ends (ending_at result) socket.old socket.new }
-    ensures ok { OnAnswer 0 result (endpoint R.stream C.word_of socket.new ≡ on_standing closing.close (endpoint R.stream C.word_of socket.old)) }
+    ensures ok { OnAnswer 0 result (endpoint R.stream C.word_of socket.new ≡ on_endpoint_state closing.close (endpoint R.stream C.word_of socket.old)) }
 {
     call_number(socket.close())
 }
@@ -45,7 +45,7 @@ pub fn close<R: Rng, C: Checksum>(socket: &mut Socket<R, C>) -> u32
 pub fn handle_input<R: Rng, C: Checksum>(socket: &mut Socket<R, C>, bytes: &[u8]) -> u32
     ensures answers { IsAmong (0 ∷ 1 ∷ 2 ∷ []) result }
     ensures ends { Ends (ending_at result) socket.old socket.new }
-    ensures ok { OnAnswer 0 result (Hears (C.word_of socket.old.context.checksum) bytes.now (endpoint R.stream C.word_of socket.old) (endpoint R.stream C.word_of socket.new)) }
+    ensures ok { OnAnswer 0 result (Receives (C.word_of socket.old.context.checksum) bytes.now (endpoint R.stream C.word_of socket.old) (endpoint R.stream C.word_of socket.new)) }
 {
     call_number(socket.handle_input(bytes))
 }
@@ -54,7 +54,7 @@ pub fn handle_input<R: Rng, C: Checksum>(socket: &mut Socket<R, C>, bytes: &[u8]
 pub fn advance_time<R: Rng, C: Checksum>(socket: &mut Socket<R, C>, nanos: u64) -> u32
     ensures answers { IsAmong (0 ∷ 1 ∷ 2 ∷ []) result }
     ensures ends { Ends (ending_at result) socket.old socket.new }
-    ensures ok { OnAnswer 0 result (endpoint R.stream C.word_of socket.new ≡ on_standing (time.advance nanos) (endpoint R.stream C.word_of socket.old)) }
+    ensures ok { OnAnswer 0 result (endpoint R.stream C.word_of socket.new ≡ on_endpoint_state (time.advance nanos) (endpoint R.stream C.word_of socket.old)) }
 {
     call_number(socket.advance_time(moment(nanos)))
 }

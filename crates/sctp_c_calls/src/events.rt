@@ -19,7 +19,7 @@ fn take_first<R: Rng, C: Checksum>(
     ensures first { option_map event_of result ≡ first_of (waiting kept.old socket.old) }
     ensures waits { waiting kept.new socket.new ≡ drop 1 (waiting kept.old socket.old) }
     ensures none { kept.new ≡ None }
-    ensures rest { socket.new ≡ with_events socket.old socket.new.context.told.events }
+    ensures rest { socket.new ≡ with_events socket.old socket.new.context.emitted.events }
 {
     match kept.take() {
         Some(told) => Some(told),
@@ -41,7 +41,7 @@ pub fn poll_event<R: Rng, C: Checksum>(
     ensures stays { OnOthers 0 result (waiting kept.new socket.new ≡ waiting kept.old socket.old) }
     ensures nothing { OnAnswer 8 result (waiting kept.old socket.old ≡ []) }
     ensures needed { OnAnswer 9 result (Needs head.new (length buffer.old) (waiting kept.old socket.old)) }
-    ensures rest { socket.new ≡ with_events socket.old socket.new.context.told.events }
+    ensures rest { socket.new ≡ with_events socket.old socket.new.context.emitted.events }
 {
     match take_first(socket, kept) {
         None => NOTHING,
@@ -77,7 +77,7 @@ pub fn borrow_event<R: Rng, C: Checksum>(
     ensures stays { OnOthers 0 result (waiting kept.new socket.new ≡ waiting kept.old socket.old) }
     ensures nothing { OnAnswer 8 result (waiting kept.old socket.old ≡ []) }
     ensures let_go { OnAnswer 8 result (lent.new.items ≡ []) }
-    ensures rest { socket.new ≡ with_events socket.old socket.new.context.told.events }
+    ensures rest { socket.new ≡ with_events socket.old socket.new.context.emitted.events }
 {
     match take_first(socket, kept) {
         None => {

@@ -25,12 +25,12 @@ fn take_record<R: Rng, C: Checksum>(
     socket: &mut Socket<R, C>,
     kept: &mut Option<SocketHandoverState>,
 ) -> Result<SocketHandoverState, HandoverError>
-    ensures record { IfOk result (λ h. handover_state_of h ≡ record_or (record_of kept.old) (endpoint R.stream C.word_of socket.old).standing) }
-    ensures ready { OnOk result (in_the_way (record_of kept.old) (endpoint R.stream C.word_of socket.old).standing ≡ 0) }
+    ensures record { IfOk result (λ h. handover_state_of h ≡ record_or (record_of kept.old) (endpoint R.stream C.word_of socket.old).endpoint_state) }
+    ensures ready { OnOk result (in_the_way (record_of kept.old) (endpoint R.stream C.word_of socket.old).endpoint_state ≡ 0) }
     ensures left { OnOk result (endpoint R.stream C.word_of socket.new ≡ left_by (record_of kept.old) (endpoint R.stream C.word_of socket.old)) }
     ensures failure { OnOk result (socket.new.has_failed ≡ socket.old.has_failed) }
     ensures none { kept.new ≡ None }
-    ensures not_ready { IfErr result (λ e. OnNotReady e (0 < in_the_way (record_of kept.old) (endpoint R.stream C.word_of socket.old).standing)) }
+    ensures not_ready { IfErr result (λ e. OnNotReady e (0 < in_the_way (record_of kept.old) (endpoint R.stream C.word_of socket.old).endpoint_state)) }
     ensures unchanged { IfErr result (λ e. OnNotReady e (endpoint R.stream C.word_of socket.new ≡ endpoint R.stream C.word_of socket.old)) }
     ensures ends { IfErr result (λ e. Ends (handover_ending (Err e)) socket.old socket.new) }
 {
@@ -65,20 +65,20 @@ pub fn hand_over<R: Rng, C: Checksum>(
     buffer: &mut [u8],
 ) -> u32
     ensures answers { IsAmong (0 ∷ 1 ∷ 2 ∷ 9 ∷ 16 ∷ 17 ∷ []) result }
-    ensures written { OnAnswer 0 result (Holds buffer.new (record_bytes (record_or (record_of kept.old) (endpoint R.stream C.word_of socket.old).standing))) }
-    ensures fits { OnAnswer 0 result (RecordFits (record_or (record_of kept.old) (endpoint R.stream C.word_of socket.old).standing)) }
-    ensures size { OnAnswer 0 result (needed.new ≡ length (record_bytes (record_or (record_of kept.old) (endpoint R.stream C.word_of socket.old).standing))) }
-    ensures needed { OnAnswer 9 result (needed.new ≡ length (record_bytes (record_or (record_of kept.old) (endpoint R.stream C.word_of socket.old).standing))) }
+    ensures written { OnAnswer 0 result (Holds buffer.new (record_bytes (record_or (record_of kept.old) (endpoint R.stream C.word_of socket.old).endpoint_state))) }
+    ensures fits { OnAnswer 0 result (RecordFits (record_or (record_of kept.old) (endpoint R.stream C.word_of socket.old).endpoint_state)) }
+    ensures size { OnAnswer 0 result (needed.new ≡ length (record_bytes (record_or (record_of kept.old) (endpoint R.stream C.word_of socket.old).endpoint_state))) }
+    ensures needed { OnAnswer 9 result (needed.new ≡ length (record_bytes (record_or (record_of kept.old) (endpoint R.stream C.word_of socket.old).endpoint_state))) }
     ensures short { OnAnswer 9 result (length buffer.old < needed.new) }
-    ensures stays { OnAnswer 9 result (record_of kept.new ≡ Some (record_or (record_of kept.old) (endpoint R.stream C.word_of socket.old).standing)) }
-    ensures no_room { OnAnswer 17 result (record_of kept.new ≡ Some (record_or (record_of kept.old) (endpoint R.stream C.word_of socket.old).standing)) }
+    ensures stays { OnAnswer 9 result (record_of kept.new ≡ Some (record_or (record_of kept.old) (endpoint R.stream C.word_of socket.old).endpoint_state)) }
+    ensures no_room { OnAnswer 17 result (record_of kept.new ≡ Some (record_or (record_of kept.old) (endpoint R.stream C.word_of socket.old).endpoint_state)) }
     ensures none { OnOthers 9 result (OnOthers 17 result (kept.new ≡ None)) }
-    ensures ready { IsTaken result (in_the_way (record_of kept.old) (endpoint R.stream C.word_of socket.old).standing ≡ 0) }
+    ensures ready { IsTaken result (in_the_way (record_of kept.old) (endpoint R.stream C.word_of socket.old).endpoint_state ≡ 0) }
     ensures left { IsTaken result (endpoint R.stream C.word_of socket.new ≡ left_by (record_of kept.old) (endpoint R.stream C.word_of socket.old)) }
     ensures failure { IsTaken result (socket.new.has_failed ≡ socket.old.has_failed) }
     ensures memory { OnAnswer 1 result (Ends (ending_at result) socket.old socket.new) }
     ensures failed { OnAnswer 2 result (Ends (ending_at result) socket.old socket.new) }
-    ensures not_ready { OnAnswer 16 result (0 < in_the_way (record_of kept.old) (endpoint R.stream C.word_of socket.old).standing) }
+    ensures not_ready { OnAnswer 16 result (0 < in_the_way (record_of kept.old) (endpoint R.stream C.word_of socket.old).endpoint_state) }
     ensures unchanged { OnAnswer 16 result (endpoint R.stream C.word_of socket.new ≡ endpoint R.stream C.word_of socket.old) }
 {
     match take_record(socket, kept) {

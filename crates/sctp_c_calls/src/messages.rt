@@ -7,8 +7,8 @@ ghost use Rattle.sctp_c_calls.specs.Waiting.{HasAll, HasMessage, NeedsMore, mess
 ghost use Rattle.sctp_c_records.specs.Shown.{Copied};
 ghost use Rattle.sctp_serial.specs.Messages.{message_of};
 ghost use Rattle.sctp_c_records.specs.Records.{given_send_options};
-ghost use Rattle.sctp_table.specs.Calls as calls;
-ghost use Rattle.sctp_table.specs.Input.{on_standing};
+ghost use Rattle.spec_endpoint.specs.Calls as calls;
+ghost use Rattle.spec_endpoint.specs.Input.{on_endpoint_state};
 
 use crate::outcome::refusal_number;
 use rand_core::Rng;
@@ -45,7 +45,7 @@ pub fn next_message<R: Rng, C: Checksum>(
 ) -> u32
     ensures answers { IsAmong (0 ∷ 8 ∷ 9 ∷ []) result }
     ensures message { OnAnswer 0 result (HasMessage head.new buffer.new (calls.ready_in socket.old.state)) }
-    ensures taken { OnAnswer 0 result (endpoint R.stream C.word_of socket.new ≡ on_standing calls.take_message (endpoint R.stream C.word_of socket.old)) }
+    ensures taken { OnAnswer 0 result (endpoint R.stream C.word_of socket.new ≡ on_endpoint_state calls.take_message (endpoint R.stream C.word_of socket.old)) }
     ensures failure { socket.new.has_failed ≡ socket.old.has_failed }
     ensures stays { OnOthers 0 result (socket.new ≡ socket.old) }
     ensures nothing { OnAnswer 8 result (calls.ready_in socket.old.state ≡ []) }
@@ -71,7 +71,7 @@ pub fn borrow_message<R: Rng, C: Checksum>(
 ) -> u32
     ensures answers { IsAmong (0 ∷ 8 ∷ []) result }
     ensures message { OnAnswer 0 result (HasAll head.new lent.new.items (calls.ready_in socket.old.state)) }
-    ensures taken { endpoint R.stream C.word_of socket.new ≡ on_standing calls.take_message (endpoint R.stream C.word_of socket.old) }
+    ensures taken { endpoint R.stream C.word_of socket.new ≡ on_endpoint_state calls.take_message (endpoint R.stream C.word_of socket.old) }
     ensures failure { socket.new.has_failed ≡ socket.old.has_failed }
     ensures nothing { OnAnswer 8 result (calls.ready_in socket.old.state ≡ []) }
     ensures let_go { OnAnswer 8 result (lent.new.items ≡ []) }
@@ -101,9 +101,9 @@ pub fn send<R: Rng, C: Checksum>(
     requires { options.now.max_retransmissions < 2 ^ 16 }
     ensures answers { IsAmong (0 ∷ 1 ∷ 2 ∷ 10 ∷ 11 ∷ 12 ∷ 13 ∷ 17 ∷ []) result }
     ensures ends { Ended result socket.old socket.new }
-    ensures answer { OnSettled result (result ≡ refusal_number (calls.refusal_of (record { stream = stream; ppid = ppid; payload = payload.now }) (endpoint R.stream C.word_of socket.old).standing)) }
+    ensures answer { OnSettled result (result ≡ refusal_number (calls.refusal_of (record { stream = stream; ppid = ppid; payload = payload.now }) (endpoint R.stream C.word_of socket.old).endpoint_state)) }
     ensures sent { OnSettled result (endpoint R.stream C.word_of socket.new
-        ≡ on_standing (calls.send (record { stream = stream; ppid = ppid; payload = payload.now }) (given_send_options options.now)) (endpoint R.stream C.word_of socket.old)) }
+        ≡ on_endpoint_state (calls.send (record { stream = stream; ppid = ppid; payload = payload.now }) (given_send_options options.now)) (endpoint R.stream C.word_of socket.old)) }
 {
     let Ok(payload) = Vec::from_slice(alloc, payload) else {
         return NO_ROOM;

@@ -6,9 +6,9 @@ use Rattle.sctp_state.specs.declared.api.SctpImplementation.{SctpImplementation}
 use Rattle.sctp_state.specs.declared.api.Metrics as given
 use Rattle.sctp_capabilities.specs.Capabilities.{zero_checksum_enabled}
 use Rattle.sctp_state.specs.Rtt.{srtt}
-use Rattle.sctp_outstanding.specs.Items.{flight_items}
-use Rattle.sctp_send_queue.specs.Queue.{total_of}
-use Rattle.sctp_table.specs.Association.{Tcb, State, Closed, CookieWait, Open}
+use Rattle.sctp_tx_outstanding.specs.Items.{flight_items}
+use Rattle.sctp_tx_queue.specs.Queue.{total_of}
+use Rattle.spec_endpoint.specs.Association.{Tcb, State, Closed, CookieWait, Open}
 use Rattle.sctp_endpoint.specs.Views.{ContextValue}
 
 pub record Metrics : Type 0 where

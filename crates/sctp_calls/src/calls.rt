@@ -2,11 +2,11 @@
 
 ghost use Rattle.std.specs.Prelude.{◌≡◌, ◌<◌, ◌^◌, false, None, length, map, IfOk, OnOk};
 ghost use Rattle.sctp_serial.specs.Messages.{message_of};
-ghost use Rattle.sctp_send_queue.specs.Queue.{total_of};
-ghost use Rattle.sctp_state.specs.Events.{tell_all};
+ghost use Rattle.sctp_tx_queue.specs.Queue.{total_of};
+ghost use Rattle.sctp_state.specs.Events.{emit_events};
 ghost use Rattle.sctp_state.specs.Options.{send_options_of};
-ghost use Rattle.sctp_endpoint.specs.Views.{context_of, phase_of, standing_of, state_of};
-ghost use Rattle.sctp_table.specs.Calls as table;
+ghost use Rattle.sctp_endpoint.specs.Views.{context_of, phase_of, endpoint_state_of, state_of};
+ghost use Rattle.spec_endpoint.specs.Calls as table;
 
 use sctp_endpoint::sending::send_waiting;
 use sctp_endpoint::{Context, Phase, State};
@@ -54,7 +54,7 @@ fn refuse<C: Checksum>(
     refusal: &SendError,
     lifecycle_id: Option<LifecycleId>,
 ) -> Result<(), AllocError>
-    ensures { OnOk result (context_of C.word_of context.new ≡ table.refused refusal.now lifecycle_id (context_of C.word_of context.old)) }
+    ensures { OnOk result (context_of C.word_of context.new ≡ table.refuse refusal.now lifecycle_id (context_of C.word_of context.old)) }
 {
     if let Some(id) = lifecycle_id {
         context.tell(SocketEvent::OnLifecycleEnd(id))?;
@@ -64,7 +64,7 @@ fn refuse<C: Checksum>(
 
 fn complain_of<C: Checksum>(context: &mut Context<C>, refusal: &SendError) -> Result<(), AllocError>
     ensures { let c = context_of C.word_of context.old in
-        OnOk result (context_of C.word_of context.new ≡ record c { told = tell_all (table.refusal_events refusal.now) c.told }) }
+        OnOk result (context_of C.word_of context.new ≡ record c { emitted = emit_events (table.refusal_events refusal.now) c.emitted }) }
 {
     match refusal {
         SendError::EmptyPayload => context.complain(
@@ -98,7 +98,7 @@ fn accept<C: Checksum>(
     requires small { length message.payload.items < 2 ^ 32 }
     requires room { total_of context.old.queue.streams.entries < 2 ^ 32 }
     ensures { OnOk result (context_of C.word_of context.new
-        ≡ table.accepted (message_of message) (send_options_of options.now) (context_of C.word_of context.old)) }
+        ≡ table.accept (message_of message) (send_options_of options.now) (context_of C.word_of context.old)) }
 {
     context.send_queue.add(context.clock, message, options)?;
     context.tx_messages_count = context.tx_messages_count.saturating_add(1);
@@ -191,9 +191,9 @@ pub fn send<C: Checksum>(
     message: Message,
     options: &SendOptions,
 ) -> Result<Option<SendError>, AllocError>
-    ensures answer { IfOk result (λ refusal. refusal ≡ table.refusal_of (message_of message) (standing_of C.word_of state.old context.old)) }
-    ensures sent { OnOk result (standing_of C.word_of state.new context.new
-        ≡ table.send (message_of message) (send_options_of options.now) (standing_of C.word_of state.old context.old)) }
+    ensures answer { IfOk result (λ refusal. refusal ≡ table.refusal_of (message_of message) (endpoint_state_of C.word_of state.old context.old)) }
+    ensures sent { OnOk result (endpoint_state_of C.word_of state.new context.new
+        ≡ table.send (message_of message) (send_options_of options.now) (endpoint_state_of C.word_of state.old context.old)) }
 {
     let shown = socket_state(state);
     let refusal = offer(context, shown, message, options)?;
@@ -232,8 +232,8 @@ pub fn send_many<C: Checksum>(
 ) -> Result<Vec<(usize, SendError)>, AllocError>
     ensures refusals { IfOk result (λ refusals. refusals.items ≡ table.refusals 0 (map message_of messages.items) (send_options_of options.now)
         (table.shown_state (state_of state.old)) (context_of C.word_of context.old)) }
-    ensures sent { OnOk result (standing_of C.word_of state.new context.new
-        ≡ table.send_many (map message_of messages.items) (send_options_of options.now) (standing_of C.word_of state.old context.old)) }
+    ensures sent { OnOk result (endpoint_state_of C.word_of state.new context.new
+        ≡ table.send_many (map message_of messages.items) (send_options_of options.now) (endpoint_state_of C.word_of state.old context.old)) }
 {
     let shown = socket_state(state);
     let refusals = offer_all(context, shown, messages, options)?;

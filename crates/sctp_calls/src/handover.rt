@@ -6,10 +6,10 @@ ghost use Rattle.sctp_capabilities.specs.Capabilities.{capabilities_of};
 ghost use Rattle.sctp_state.specs.Events.{OnClosed};
 ghost use Rattle.sctp_state.specs.Handover.{handover_state_of};
 ghost use Rattle.sctp_state.specs.Validity.{is_valid_state};
-ghost use Rattle.sctp_table.specs.Association.{Closed};
-ghost use Rattle.sctp_table.specs.Packets.{say};
-ghost use Rattle.sctp_endpoint.specs.Views.{context_of, phase_of, standing_of, state_of, tcb_of};
-ghost use Rattle.sctp_table.specs.Handover as table;
+ghost use Rattle.spec_endpoint.specs.Association.{Closed};
+ghost use Rattle.spec_endpoint.specs.Packets.{say};
+ghost use Rattle.sctp_endpoint.specs.Views.{context_of, phase_of, endpoint_state_of, state_of, tcb_of};
+ghost use Rattle.spec_endpoint.specs.Handover as table;
 
 use sctp_capabilities::Capabilities;
 use sctp_endpoint::{Context, Identity, Phase, State, TransmissionControlBlock};
@@ -49,7 +49,7 @@ fn phase_readiness<C: Checksum>(
 
 /// What stands in the way of a handover.
 pub fn get_handover_readiness<C: Checksum>(context: &Context<C>, state: &State) -> HandoverReadiness
-    ensures { result.0 ≡ table.readiness (standing_of C.word_of state.now context.now) }
+    ensures { result.0 ≡ table.readiness (endpoint_state_of C.word_of state.now context.now) }
 {
     match state {
         State::Closed => HandoverReadiness::READY,
@@ -132,7 +132,7 @@ fn tcb_from<C: Checksum>(
 
 /// The association is gone from here; its heartbeat timers run on.
 fn leave<C: Checksum>(state: &mut State, context: &mut Context<C>) -> Result<(), AllocError>
-    ensures { OnOk result (standing_of C.word_of state.new context.new ≡ record { state = Closed; context = say OnClosed (context_of C.word_of context.old) }) }
+    ensures { OnOk result (endpoint_state_of C.word_of state.new context.new ≡ record { state = Closed; context = say OnClosed (context_of C.word_of context.old) }) }
 {
     context.tell(SocketEvent::OnClosed())?;
     state.enter(State::Closed);
@@ -144,8 +144,8 @@ pub fn hand_over<C: Checksum>(
     state: &mut State,
     context: &mut Context<C>,
 ) -> Result<SocketHandoverState, AllocError>
-    ensures written { IfOk result (λ h. handover_state_of h ≡ table.handed_over (standing_of C.word_of state.old context.old)) }
-    ensures left { OnOk result (standing_of C.word_of state.new context.new ≡ table.leave (standing_of C.word_of state.old context.old)) }
+    ensures written { IfOk result (λ h. handover_state_of h ≡ table.handed_over (endpoint_state_of C.word_of state.old context.old)) }
+    ensures left { OnOk result (endpoint_state_of C.word_of state.new context.new ≡ table.leave (endpoint_state_of C.word_of state.old context.old)) }
 {
     match state {
         State::Closed => Ok(SocketHandoverState::empty(context.alloc)),
@@ -166,7 +166,7 @@ fn take_up<C: Checksum>(
 ) -> Result<(), AllocError>
     requires connected { handed_over.now.socket_state ≡ HandoverSocketState.Connected }
     requires valid { IsTrue (is_valid_state (handover_state_of handed_over.now)) }
-    ensures { OnOk result (standing_of C.word_of state.new context.new ≡ table.take_up (handover_state_of handed_over.now) (context_of C.word_of context.old)) }
+    ensures { OnOk result (endpoint_state_of C.word_of state.new context.new ≡ table.take_up (handover_state_of handed_over.now) (context_of C.word_of context.old)) }
 {
     context
         .send_queue
@@ -188,8 +188,8 @@ fn restore_closed<C: Checksum>(
     handed_over: &SocketHandoverState,
 ) -> Result<(), AllocError>
     requires valid { IsTrue (is_valid_state (handover_state_of handed_over.now)) }
-    ensures { OnOk result (standing_of C.word_of state.new context.new
-        ≡ table.taken_as handed_over.now.socket_state (handover_state_of handed_over.now) (standing_of C.word_of state.old context.old)) }
+    ensures { OnOk result (endpoint_state_of C.word_of state.new context.new
+        ≡ table.taken_as handed_over.now.socket_state (handover_state_of handed_over.now) (endpoint_state_of C.word_of state.old context.old)) }
 {
     match handed_over.socket_state {
         HandoverSocketState::Closed => Ok(()),
@@ -204,8 +204,8 @@ pub fn restore<C: Checksum>(
     handed_over: &SocketHandoverState,
 ) -> Result<Option<RestoreError>, AllocError>
     ensures answer { IfOk result (λ refusal. refusal ≡ table.refusal_in (state_of state.old) (handover_state_of handed_over.now)) }
-    ensures restored { OnOk result (standing_of C.word_of state.new context.new
-        ≡ table.restore (handover_state_of handed_over.now) (standing_of C.word_of state.old context.old)) }
+    ensures restored { OnOk result (endpoint_state_of C.word_of state.new context.new
+        ≡ table.restore (handover_state_of handed_over.now) (endpoint_state_of C.word_of state.old context.old)) }
 {
     match state {
         State::Closed => {

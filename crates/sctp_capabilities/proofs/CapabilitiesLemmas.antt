@@ -9,7 +9,7 @@ use Rattle.sctp_wire.specs.Fields.{be32}
 use Rattle.sctp_wire.specs.Serialize.{IsEncodable, inner_items, padded_item}
 use Rattle.sctp_wire.specs.Parameter.{ParameterTree, supported_extensions, forward_tsn_supported, zero_checksum_acceptable, parameter_item, parameter_value, parameter_is_whole}
 use Rattle.sctp_state.specs.Options.{Options}
-use Rattle.sctp_capabilities.specs.Capabilities.{Capabilities, announced, i_data, re_config, forward_tsn, i_forward_tsn, where_enabled, extensions_in, method_in, is_forward_tsn_supported, has_type, same_method, negotiated, agreed, exchanged, told_with, told_by_init, told_by_init_ack}
+use Rattle.sctp_capabilities.specs.Capabilities.{Capabilities, announce, i_data, re_config, forward_tsn, i_forward_tsn, where_enabled, extensions_in, method_in, is_forward_tsn_supported, has_type, same_method, negotiate, agreed, exchange, announced_with, announced_by_init, announced_by_init_ack}
 
 pub list_any_map : {X Y : Type 0} (p : Y → Bool) (f : X → Y) (xs : List X) → list_any p (map f xs) ≡ list_any (λ x. p (f x)) xs
 list_any_map p f [] = refl
@@ -26,17 +26,17 @@ list_by p i h method =
     where_enabled p (forward_tsn_supported ∷ [])
     ++ (where_enabled h (zero_checksum_acceptable method ∷ []) ++ supported_extensions (types_by p i) ∷ [])
 
-extensions_in-list_by : (p i h : Bool) (method : ℕ) → extensions_in (list_by p i h method) ≡ types_by p i
-extensions_in-list_by true i true method = refl
-extensions_in-list_by true i false method = refl
-extensions_in-list_by false i true method = refl
-extensions_in-list_by false i false method = refl
+extensions_in_list_by : (p i h : Bool) (method : ℕ) → extensions_in (list_by p i h method) ≡ types_by p i
+extensions_in_list_by true i true method = refl
+extensions_in_list_by true i false method = refl
+extensions_in_list_by false i true method = refl
+extensions_in_list_by false i false method = refl
 
-method_in-list_by : (p i : Bool) (method : ℕ) → method_in (list_by p i (not (method == 0)) method) ≡ method
-method_in-list_by true i zero = refl
-method_in-list_by true i (suc n) = rw (eqb-suc-zero n) refl
-method_in-list_by false i zero = refl
-method_in-list_by false i (suc n) = rw (eqb-suc-zero n) refl
+method_in_list_by : (p i : Bool) (method : ℕ) → method_in (list_by p i (not (method == 0)) method) ≡ method
+method_in_list_by true i zero = refl
+method_in_list_by true i (suc n) = rw (eqb-suc-zero n) refl
+method_in_list_by false i zero = refl
+method_in_list_by false i (suc n) = rw (eqb-suc-zero n) refl
 
 tells_forward_tsn : (p i h : Bool) (method : ℕ) → (list_any is_forward_tsn_supported (list_by p i h method) || has_type forward_tsn (types_by p i)) ≡ p
 tells_forward_tsn true i true method = refl
@@ -56,7 +56,7 @@ has_re_config : (p i : Bool) → has_type re_config (types_by p i) ≡ true
 has_re_config p i = refl
 
 -- an end tells its options, with the method that it announces
-pub told_with-options : (method : ℕ) (o : Options) → told_with method o ≡ record {
+pub told_with_options : (method : ℕ) (o : Options) → announced_with method o ≡ record {
   partial_reliability = o.enable_partial_reliability;
   message_interleaving = o.enable_message_interleaving;
   reconfig = true;
@@ -64,15 +64,15 @@ pub told_with-options : (method : ℕ) (o : Options) → told_with method o ≡ 
   incoming = o.announced_maximum_outgoing_streams;
   outgoing = o.announced_maximum_incoming_streams;
 }
-told_with-options method o =
+told_with_options method o =
     let p = o.enable_partial_reliability in
     let i = o.enable_message_interleaving in
     let h = not (method == 0) in
-    let types = extensions_in-list_by p i h method in
+    let types = extensions_in_list_by p i h method in
     let forward = ap (λ (ts : List ℕ). list_any is_forward_tsn_supported (list_by p i h method) || has_type forward_tsn ts) types ∙ tells_forward_tsn p i h method in
     let interleaving = ap (has_type i_data) types ∙ has_i_data p i in
     let reset = ap (has_type re_config) types ∙ has_re_config p i in
-    let known = method_in-list_by p i method in
+    let known = method_in_list_by p i method in
     λ j. record {
       partial_reliability = forward j;
       message_interleaving = interleaving j;
@@ -89,16 +89,16 @@ same_again : (a b : ℕ) → same_method a (same_method b a) ≡ same_method a b
 same_again a b = grind (arith, nat_tests)
 
 -- the end that takes an INIT
-pub negotiated-told_by_init : (own peer : Options) → negotiated own (told_by_init peer) ≡ agreed own peer
-negotiated-told_by_init own peer = ap (negotiated own) (told_with-options peer.zero_checksum_method peer)
+pub negotiated_told_by_init : (own peer : Options) → negotiate own (announced_by_init peer) ≡ agreed own peer
+negotiated_told_by_init own peer = ap (negotiate own) (told_with_options peer.zero_checksum_method peer)
 
 -- the end that takes the INIT ACK which answers its INIT
-pub negotiated-told_by_init_ack : (own peer : Options) → negotiated own (told_by_init_ack peer own) ≡ agreed own peer
-negotiated-told_by_init_ack own peer =
-    let answer = ap (λ (k : Capabilities). k.zero_checksum_method) (negotiated-told_by_init peer own) in
+pub negotiated_told_by_init_ack : (own peer : Options) → negotiate own (announced_by_init_ack peer own) ≡ agreed own peer
+negotiated_told_by_init_ack own peer =
+    let answer = ap (λ (k : Capabilities). k.zero_checksum_method) (negotiated_told_by_init peer own) in
     let again = same_again own.zero_checksum_method peer.zero_checksum_method in
-    ap (λ (method : ℕ). negotiated own (told_with method peer)) answer
-    ∙ ap (negotiated own) (told_with-options (agreed peer own).zero_checksum_method peer)
+    ap (λ (method : ℕ). negotiate own (announced_with method peer)) answer
+    ∙ ap (negotiate own) (told_with_options (agreed peer own).zero_checksum_method peer)
     ∙ ap (λ (method : ℕ). record (agreed own peer) { zero_checksum_method = method }) again
 
 -- both ends do the same, with the stream counts exchanged
@@ -108,17 +108,17 @@ and_comm true false = refl
 and_comm false true = refl
 and_comm false false = refl
 
-same_method-comm : (a b : ℕ) → same_method a b ≡ same_method b a
-same_method-comm a b = grind (arith, nat_tests)
+same_method_comm : (a b : ℕ) → same_method a b ≡ same_method b a
+same_method_comm a b = grind (arith, nat_tests)
 
 min_comm : (a b : ℕ) → min a b ≡ min b a
 min_comm a b = omega arith
 
-pub agreed-exchanged : (own peer : Options) → agreed peer own ≡ exchanged (agreed own peer)
-agreed-exchanged own peer =
+pub agreed_exchanged : (own peer : Options) → agreed peer own ≡ exchange (agreed own peer)
+agreed_exchanged own peer =
     let partial = and_comm peer.enable_partial_reliability own.enable_partial_reliability in
     let interleaving = and_comm peer.enable_message_interleaving own.enable_message_interleaving in
-    let method = same_method-comm peer.zero_checksum_method own.zero_checksum_method in
+    let method = same_method_comm peer.zero_checksum_method own.zero_checksum_method in
     let incoming = min_comm peer.announced_maximum_incoming_streams own.announced_maximum_outgoing_streams in
     let outgoing = min_comm peer.announced_maximum_outgoing_streams own.announced_maximum_incoming_streams in
     λ j. record {
@@ -153,8 +153,8 @@ unfolding parameter_value
 behind_forward_tsn true ps rest = All-cons IsWritable forward_tsn_supported ps (omega arith, refl) rest
 behind_forward_tsn false ps rest = rest
 
-pub announced-writable : (o : Options) (method : ℕ) → All IsWritable (announced o method)
-announced-writable o method =
+pub announced_writable : (o : Options) (method : ℕ) → All IsWritable (announce o method)
+announced_writable o method =
     let p = o.enable_partial_reliability in
     let i = o.enable_message_interleaving in
     behind_forward_tsn p _ (behind_method (not (method == 0)) method _
@@ -172,5 +172,5 @@ size_by false true false method = omega arith
 size_by false false true method = omega arith
 size_by false false false method = omega arith
 
-pub announced-size : (o : Options) (method : ℕ) → length (inner_items (map parameter_item (announced o method))) ≤ 20
-announced-size o method = size_by o.enable_partial_reliability o.enable_message_interleaving (not (method == 0)) method
+pub announced_size : (o : Options) (method : ℕ) → length (inner_items (map parameter_item (announce o method))) ≤ 20
+announced_size o method = size_by o.enable_partial_reliability o.enable_message_interleaving (not (method == 0)) method

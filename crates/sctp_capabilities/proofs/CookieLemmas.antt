@@ -68,8 +68,8 @@ four_cells : (flags rest : List ℕ) (c : Cookie) → length flags ≡ 4 → Coo
 four_cells (p ∷ i ∷ r ∷ z ∷ []) rest c four fits ep ei er = fields_in c p i r z fits ep ei er
 four_cells flags rest c four fits ep ei er = absurd (omega arith)
 
-pub cookie_from-spelled : (bytes rest : List ℕ) (c : Cookie) → bytes ≡ magic ++ rest → SpellsCookie rest c → cookie_from bytes ≡ c
-cookie_from-spelled bytes rest c e s =
+pub cookie_from_spelled : (bytes rest : List ℕ) (c : Cookie) → bytes ≡ magic ++ rest → SpellsCookie rest c → cookie_from bytes ≡ c
+cookie_from_spelled bytes rest c e s =
     let k = s.spells in
     rw (e, s.spelled, k.spelled) (four_cells k.flags rest c k.four s.fits k.partial_reliability k.message_interleaving k.reconfig)
 
@@ -109,14 +109,14 @@ begins_with_magic bytes rest e = rw e refl
 pub accepted_cookie : (bytes rest : List ℕ) (c : Cookie) → length bytes ≡ 48 → bytes ≡ magic ++ rest → SpellsCookie rest c
     → has_tags c ≡ true → read_cookie bytes ≡ Ok c
 accepted_cookie bytes rest c size e s both =
-    let same = cookie_from-spelled bytes rest c e s in
+    let same = cookie_from_spelled bytes rest c e s in
     accepted bytes size (begins_with_magic bytes rest e) (ap has_tags same ∙ both) ∙ ap Ok same
 
 -- ---- what was written
 
-is_set-flag_byte : (b : Bool) → b ≡ is_set (flag_byte b)
-is_set-flag_byte true = refl
-is_set-flag_byte false = refl
+is_set_flag_byte : (b : Bool) → b ≡ is_set (flag_byte b)
+is_set_flag_byte true = refl
+is_set_flag_byte false = refl
 
 capabilities_spelled : (k : Capabilities) → CapabilitiesFit k → SpellsCapabilities (capability_bytes k) k
 unfolding capability_bytes
@@ -124,21 +124,21 @@ capabilities_spelled k fits = record {
   flags = flag_byte k.partial_reliability ∷ flag_byte k.message_interleaving ∷ flag_byte k.reconfig ∷ 0 ∷ [];
   spelled = refl;
   four = refl;
-  partial_reliability = is_set-flag_byte k.partial_reliability;
-  message_interleaving = is_set-flag_byte k.message_interleaving;
-  reconfig = is_set-flag_byte k.reconfig;
+  partial_reliability = is_set_flag_byte k.partial_reliability;
+  message_interleaving = is_set_flag_byte k.message_interleaving;
+  reconfig = is_set_flag_byte k.reconfig;
   fits = fits;
 }
 
-pub length-cookie_bytes : (c : Cookie) → length (cookie_bytes c) ≡ 48
+pub length_cookie_bytes : (c : Cookie) → length (cookie_bytes c) ≡ 48
 unfolding cookie_bytes capability_bytes be64 be32 be16
-length-cookie_bytes c = refl
+length_cookie_bytes c = refl
 
 -- A cookie that was made with two tags is read back: whoever sends its bytes brings it.
-pub read_cookie-bytes : (c : Cookie) → CookieFits c → has_tags c ≡ true → read_cookie (cookie_bytes c) ≡ Ok c
+pub read_cookie_bytes : (c : Cookie) → CookieFits c → has_tags c ≡ true → read_cookie (cookie_bytes c) ≡ Ok c
 unfolding cookie_bytes
-read_cookie-bytes c fits both =
-    accepted_cookie (cookie_bytes c) (drop 8 (cookie_bytes c)) c (length-cookie_bytes c) refl
+read_cookie_bytes c fits both =
+    accepted_cookie (cookie_bytes c) (drop 8 (cookie_bytes c)) c (length_cookie_bytes c) refl
     (record {
       capabilities = capability_bytes c.peer_capabilities;
       spelled = refl;
@@ -148,11 +148,11 @@ read_cookie-bytes c fits both =
     both
 
 -- two cookies with the same bytes are the same
-pub cookie_bytes-same : (c d : Cookie) → CookieFits c → CookieFits d → has_tags c ≡ true → has_tags d ≡ true
+pub cookie_bytes_same : (c d : Cookie) → CookieFits c → CookieFits d → has_tags c ≡ true → has_tags d ≡ true
     → cookie_bytes c ≡ cookie_bytes d → c ≡ d
-cookie_bytes-same c d fits_c fits_d tags_c tags_d e =
-    let one = read_cookie-bytes c fits_c tags_c in
-    let other = read_cookie-bytes d fits_d tags_d in
+cookie_bytes_same c d fits_c fits_d tags_c tags_d e =
+    let one = read_cookie_bytes c fits_c tags_c in
+    let other = read_cookie_bytes d fits_d tags_d in
     let joined : Ok c ≡ Ok d = sym one ∙ ap read_cookie e ∙ other in
     cc
 
@@ -160,7 +160,7 @@ cookie_bytes-same c d fits_c fits_d tags_c tags_d e =
 pub not_written : (bytes : List ℕ) (e : StateCookieError) → read_cookie bytes ≡ Err e
     → (c : Cookie) → CookieFits c → has_tags c ≡ true → bytes ≡ cookie_bytes c → ⊥
 not_written bytes e refused c fits both same =
-    let good = read_cookie-bytes c fits both in
+    let good = read_cookie_bytes c fits both in
     let joined = sym (ap read_cookie same ∙ good) ∙ refused in
     cc
 
@@ -168,11 +168,11 @@ not_written bytes e refused c fits both same =
 pub as_written : (bytes : List ℕ) (d : Cookie) → read_cookie bytes ≡ Ok d
     → (c : Cookie) → CookieFits c → has_tags c ≡ true → bytes ≡ cookie_bytes c → d ≡ c
 as_written bytes d said c fits both same =
-    let good = read_cookie-bytes c fits both in
+    let good = read_cookie_bytes c fits both in
     let joined = sym said ∙ (ap read_cookie same ∙ good) in
     cc
 
 -- the parameter that holds a cookie can be written
-pub cookie_bytes-writable : (c : Cookie) → IsEncodable (parameter_item (state_cookie (cookie_bytes c)))
+pub cookie_bytes_writable : (c : Cookie) → IsEncodable (parameter_item (state_cookie (cookie_bytes c)))
 unfolding parameter_value
-cookie_bytes-writable c = omega (arith, length-cookie_bytes c)
+cookie_bytes_writable c = omega (arith, length_cookie_bytes c)

@@ -4,7 +4,7 @@ use Rattle.std.specs.Prelude.{codes}
 use Rattle.sctp_wire.specs.Fields.{be16, be32, be64}
 use Rattle.sctp_wire.specs.Parameter.{ParameterTree, state_cookie, supported_extensions, forward_tsn_supported, zero_checksum_acceptable}
 use Rattle.sctp_state.specs.Options.{Options, defaults}
-use Rattle.sctp_capabilities.specs.Capabilities.{Capabilities, agreed, announced, negotiated, nothing, told_by, told_by_init, told_by_init_ack}
+use Rattle.sctp_capabilities.specs.Capabilities.{Capabilities, agreed, announce, negotiate, nothing, announced_by, announced_by_init, announced_by_init_ack}
 use Rattle.sctp_capabilities.specs.Cookie.{Cookie, capability_bytes, cookie_bytes, cookie_from, read_cookie}
 use Rattle.sctp_state.specs.Errors.{is_exhausted, no_errors, one_error}
 use Rattle.sctp_capabilities.specs.declared.state_cookie.StateCookieError.TheVariants.{InvalidSize, InvalidMagic, InvalidVerificationTag}
@@ -73,13 +73,13 @@ no_peer_tag = refl
 -- ---- capabilities
 
 -- what a browser announces
-by_default : announced defaults 0 ≡ forward_tsn_supported ∷ supported_extensions (130 ∷ 192 ∷ []) ∷ []
+by_default : announce defaults 0 ≡ forward_tsn_supported ∷ supported_extensions (130 ∷ 192 ∷ []) ∷ []
 by_default = refl
 
 abbrev all : Options
 all = record defaults { enable_message_interleaving = true; zero_checksum_method = 1; announced_maximum_incoming_streams = 10; announced_maximum_outgoing_streams = 20 }
 
-all_announced : announced all 1 ≡ forward_tsn_supported ∷ zero_checksum_acceptable 1 ∷ supported_extensions (130 ∷ 192 ∷ 64 ∷ 194 ∷ []) ∷ []
+all_announced : announce all 1 ≡ forward_tsn_supported ∷ zero_checksum_acceptable 1 ∷ supported_extensions (130 ∷ 192 ∷ 64 ∷ 194 ∷ []) ∷ []
 all_announced = refl
 
 abbrev unreliable : Options
@@ -95,18 +95,18 @@ agreed_by_both : agreed unreliable all ≡ record {
 }
 agreed_by_both = refl
 
-by_init : negotiated unreliable (told_by_init all) ≡ agreed unreliable all
+by_init : negotiate unreliable (announced_by_init all) ≡ agreed unreliable all
 by_init = refl
 
-by_init_ack : negotiated all (told_by_init_ack unreliable all) ≡ agreed all unreliable
+by_init_ack : negotiate all (announced_by_init_ack unreliable all) ≡ agreed all unreliable
 by_init_ack = refl
 
 -- the first parameter of a type counts, and a parameter of its own tells as much as a chunk type
-first_counts : told_by 7 8 (state_cookie [] ∷ supported_extensions (192 ∷ []) ∷ zero_checksum_acceptable 2 ∷ supported_extensions (64 ∷ []) ∷ zero_checksum_acceptable 1 ∷ [])
+first_counts : announced_by 7 8 (state_cookie [] ∷ supported_extensions (192 ∷ []) ∷ zero_checksum_acceptable 2 ∷ supported_extensions (64 ∷ []) ∷ zero_checksum_acceptable 1 ∷ [])
     ≡ record nothing { partial_reliability = true; zero_checksum_method = 2; incoming = 7; outgoing = 8 }
 first_counts = refl
 
-own_parameter : told_by 0 0 (forward_tsn_supported ∷ []) ≡ record nothing { partial_reliability = true }
+own_parameter : announced_by 0 0 (forward_tsn_supported ∷ []) ≡ record nothing { partial_reliability = true }
 own_parameter = refl
 
 -- ---- errors with the limit 1

@@ -63,8 +63,8 @@ extensions o =
 
 -- The parameters of an INIT or INIT ACK, but for the cookie, with this method of checking. An INIT has the end's own
 -- method, an INIT ACK the negotiated one.
-abbrev pub announced : Options → (zero_checksum_method : ℕ) → List ParameterTree
-announced o method =
+abbrev pub announce : Options → (zero_checksum_method : ℕ) → List ParameterTree
+announce o method =
     where_enabled o.enable_partial_reliability (forward_tsn_supported ∷ [])
     ++ (where_enabled (not (method == 0)) (zero_checksum_acceptable method ∷ [])
     ++ supported_extensions (extensions o) ∷ [])
@@ -91,8 +91,8 @@ abbrev pub has_type : ℕ → List ℕ → Bool
 has_type type chunk_types = list_any (λ t. t == type) chunk_types
 
 -- What the sender of these parameters can do. What goes out from it comes in here.
-abbrev pub told_by : (outbound inbound : ℕ) → List ParameterTree → Capabilities
-told_by outbound inbound ps =
+abbrev pub announced_by : (outbound inbound : ℕ) → List ParameterTree → Capabilities
+announced_by outbound inbound ps =
     let types = extensions_in ps in
     record {
       partial_reliability = list_any is_forward_tsn_supported ps || has_type forward_tsn types;
@@ -109,8 +109,8 @@ abbrev pub same_method : ℕ → ℕ → ℕ
 same_method own other = if own == other then own else 0
 
 -- what an end with these options does with a peer that can do this
-abbrev pub negotiated : Options → Capabilities → Capabilities
-negotiated o peer = record {
+abbrev pub negotiate : Options → Capabilities → Capabilities
+negotiate o peer = record {
   partial_reliability = o.enable_partial_reliability && peer.partial_reliability;
   message_interleaving = o.enable_message_interleaving && peer.message_interleaving;
   reconfig = peer.reconfig;
@@ -131,17 +131,17 @@ agreed own other = record {
 }
 
 -- the other end's view: what goes out there comes in here
-abbrev pub exchanged : Capabilities → Capabilities
-exchanged k = record k { incoming = k.outgoing; outgoing = k.incoming }
+abbrev pub exchange : Capabilities → Capabilities
+exchange k = record k { incoming = k.outgoing; outgoing = k.incoming }
 
-abbrev pub told_with : ℕ → Options → Capabilities
-told_with method o =
-    told_by o.announced_maximum_outgoing_streams o.announced_maximum_incoming_streams (announced o method)
+abbrev pub announced_with : ℕ → Options → Capabilities
+announced_with method o =
+    announced_by o.announced_maximum_outgoing_streams o.announced_maximum_incoming_streams (announce o method)
 
 -- what an INIT tells
-abbrev pub told_by_init : Options → Capabilities
-told_by_init o = told_with o.zero_checksum_method o
+abbrev pub announced_by_init : Options → Capabilities
+announced_by_init o = announced_with o.zero_checksum_method o
 
 -- what an INIT ACK tells that answers an INIT of the other end
-abbrev pub told_by_init_ack : (own other : Options) → Capabilities
-told_by_init_ack own other = told_with (negotiated own (told_by_init other)).zero_checksum_method own
+abbrev pub announced_by_init_ack : (own other : Options) → Capabilities
+announced_by_init_ack own other = announced_with (negotiate own (announced_by_init other)).zero_checksum_method own

@@ -89,15 +89,15 @@ abbrev pub has_tags : Cookie → Bool
 has_tags c = not (c.peer_tag == 0) && not (c.my_tag == 0)
 
 -- a cookie is refused by the first of three tests that it doesn't pass
-abbrev pub tested : (is_of_size has_magic has_both_tags : Bool) → Cookie → Result Cookie StateCookieError
-tested false has_magic has_both_tags c = Err InvalidSize
-tested true false has_both_tags c = Err InvalidMagic
-tested true true false c = Err InvalidVerificationTag
-tested true true true c = Ok c
+abbrev pub check_cookie : (is_of_size has_magic has_both_tags : Bool) → Cookie → Result Cookie StateCookieError
+check_cookie false has_magic has_both_tags c = Err InvalidSize
+check_cookie true false has_both_tags c = Err InvalidMagic
+check_cookie true true false c = Err InvalidVerificationTag
+check_cookie true true true c = Ok c
 
 unfoldable pub read_cookie : List ℕ → Result Cookie StateCookieError
 read_cookie bytes =
-    tested (length bytes == 48) (starts_with nat_eq bytes magic) (has_tags (cookie_from bytes)) (cookie_from bytes)
+    check_cookie (length bytes == 48) (starts_with nat_eq bytes magic) (has_tags (cookie_from bytes)) (cookie_from bytes)
 
 abbrev pub refusal_text : StateCookieError → List ℕ
 refusal_text InvalidSize = codes "Invalid state cookie size"

@@ -4,7 +4,7 @@ ghost use Rattle.std.specs.Prelude.{◌≡◌, ◌||◌, map, IfOk};
 ghost use Rattle.std.specs.List.{list_any};
 ghost use Rattle.sctp_parameter.specs.ParameterViews.{parameter_tree};
 ghost use Rattle.sctp_state.specs.Options.{Options as Settings, options_of};
-ghost use Rattle.sctp_capabilities.specs.Capabilities.{Capabilities as Value, capabilities_of, nothing, zero_checksum_enabled, extensions, announced, extensions_in, method_in, is_forward_tsn_supported, has_type, forward_tsn, told_by, told_by_init, told_by_init_ack, negotiated, agreed};
+ghost use Rattle.sctp_capabilities.specs.Capabilities.{Capabilities as Value, capabilities_of, nothing, zero_checksum_enabled, extensions, announce, extensions_in, method_in, is_forward_tsn_supported, has_type, forward_tsn, announced_by, announced_by_init, announced_by_init_ack, negotiate, agreed};
 
 use sctp_parameter::{
     ForwardTsnSupportedParameter, Parameter, SupportedExtensionsParameter,
@@ -69,7 +69,7 @@ impl Capabilities {
         parameters: &[Parameter],
     ) -> Capabilities
         ensures { capabilities_of result
-            ≡ told_by nbr_outbound_streams nbr_inbound_streams (map parameter_tree parameters.now) }
+            ≡ announced_by nbr_outbound_streams nbr_inbound_streams (map parameter_tree parameters.now) }
     {
         let chunk_types = supported_chunk_types(parameters);
         Capabilities {
@@ -86,10 +86,10 @@ impl Capabilities {
     /// the same, and the smaller stream counts. From the parameters of an INIT, or of the INIT ACK that answers it,
     /// both ends come to the same, with the stream counts exchanged.
     pub fn negotiate(&self, options: &Options) -> Capabilities
-        ensures negotiated { capabilities_of result ≡ negotiated (options_of options.now) (capabilities_of self.now) }
-        ensures by_init { (peer : Settings) → capabilities_of self.now ≡ told_by_init peer
+        ensures negotiated { capabilities_of result ≡ negotiate (options_of options.now) (capabilities_of self.now) }
+        ensures by_init { (peer : Settings) → capabilities_of self.now ≡ announced_by_init peer
             → capabilities_of result ≡ agreed (options_of options.now) peer }
-        ensures by_init_ack { (peer : Settings) → capabilities_of self.now ≡ told_by_init_ack peer (options_of options.now)
+        ensures by_init_ack { (peer : Settings) → capabilities_of self.now ≡ announced_by_init_ack peer (options_of options.now)
             → capabilities_of result ≡ agreed (options_of options.now) peer }
     {
         let own_method = options.zero_checksum_alternate_error_detection_method;
@@ -126,7 +126,7 @@ pub fn announced_parameters(
     options: &Options,
     method: ZeroChecksumAlternateErrorDetectionMethod,
 ) -> Result<Vec<Parameter>, AllocError>
-    ensures { IfOk result (λ list. map parameter_tree list.items ≡ announced (options_of options.now) method.0) }
+    ensures { IfOk result (λ list. map parameter_tree list.items ≡ announce (options_of options.now) method.0) }
 {
     let mut parameters = Vec::new(alloc);
     if options.enable_partial_reliability {

@@ -4,7 +4,7 @@ use Rattle.std.specs.Int.{w16, w32, from_be_bytes}
 use Rattle.std.proofs.lemmas.Nat.{from_be_bytes-to_be_bytes_2, from_be_bytes-to_be_bytes_4}
 use Rattle.std.proofs.lemmas.List.{length-append}
 use Rattle.sctp_wire.specs.Fields.{be16, be32, length_be16, length_be32}
-use Rattle.sctp_wire.proofs.TilesLemmas.{cut_same}
+use Rattle.sctp_wire.proofs.ParsesAllLemmas.{cut_same}
 
 pub same16 : (m n : ℕ) → m < 2 ^ 16 → n < 2 ^ 16 → be16 m ≡ be16 n → m ≡ n
 unfolding be16

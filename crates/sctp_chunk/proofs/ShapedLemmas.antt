@@ -11,9 +11,9 @@ use Rattle.sctp_wire.specs.Fields.{be16, be32, length_be16, length_be32}
 use Rattle.sctp_wire.specs.Item.{Item, Tiles}
 use Rattle.sctp_wire.specs.Parameter.{ParameterTree, IsParameter}
 use Rattle.sctp_wire.specs.Cause.{CauseTree, IsCause}
-use Rattle.sctp_wire.proofs.FieldLemmas.{IsBytes-take}
+use Rattle.sctp_wire.proofs.FieldLemmas.{IsBytes_take}
 use Rattle.sctp_wire.proofs.ItemLemmas.{IsBytes}
-use Rattle.sctp_wire.proofs.PresentLemmas.{IsBytes-drop, number16, number32, entries_in, by_type}
+use Rattle.sctp_wire.proofs.PresentLemmas.{IsBytes_drop, number16, number32, entries_in, by_type}
 use Rattle.sctp_chunk.specs.declared.sack.GapAckBlock.{GapAckBlock}
 use Rattle.sctp_chunk.specs.declared.forward_tsn.SkippedStream.{SkippedStream}
 use Rattle.sctp_chunk.specs.declared.forward_tsn.SkippedStream.TheVariants as skips
@@ -36,16 +36,16 @@ unfolding data_value
 data_says i fits kind long =
     let a = number32 i.value fits (omega (arith, long)) in
     let first : List ℕ = drop 4 i.value in
-    let some_first : IsBytes first = IsBytes-drop 4 i.value fits in
+    let some_first : IsBytes first = IsBytes_drop 4 i.value fits in
     let len_first : length first ≡ length i.value - 4 = length-drop 4 i.value in
     let b = number16 first some_first (omega (arith, long, len_first)) in
     let second : List ℕ = drop 2 first in
-    let some_second : IsBytes second = IsBytes-drop 2 first some_first in
+    let some_second : IsBytes second = IsBytes_drop 2 first some_first in
     let len_second : length second ≡ length first - 2 = length-drop 2 first in
     let c = number16 second some_second (omega (arith, long, len_first, len_second)) in
     let third : List ℕ = drop 2 second in
     let len_third : length third ≡ length second - 2 = length-drop 2 second in
-    let d = number32 third (IsBytes-drop 2 second some_second) (omega (arith, long, len_first, len_second, len_third)) in (
+    let d = number32 third (IsBytes_drop 2 second some_second) (omega (arith, long, len_first, len_second, len_third)) in (
       data_chunk a.0 (flag i.second 8) (record {
         stream_id = b.0;
         is_unordered = flag i.second 4;
@@ -71,20 +71,20 @@ idata_says : (i : Item) → IsBytes i.value → i.first ≡ 64 → 16 ≤ length
 idata_says i fits kind long =
     let a = number32 i.value fits (omega (arith, long)) in
     let first : List ℕ = drop 4 i.value in
-    let some_first : IsBytes first = IsBytes-drop 4 i.value fits in
+    let some_first : IsBytes first = IsBytes_drop 4 i.value fits in
     let len_first : length first ≡ length i.value - 4 = length-drop 4 i.value in
     let b = number16 first some_first (omega (arith, long, len_first)) in
     let second : List ℕ = drop 2 first in
-    let some_second : IsBytes second = IsBytes-drop 2 first some_first in
+    let some_second : IsBytes second = IsBytes_drop 2 first some_first in
     let len_second : length second ≡ length first - 2 = length-drop 2 first in
     let c = number16 second some_second (omega (arith, long, len_first, len_second)) in
     let third : List ℕ = drop 2 second in
-    let some_third : IsBytes third = IsBytes-drop 2 second some_second in
+    let some_third : IsBytes third = IsBytes_drop 2 second some_second in
     let len_third : length third ≡ length second - 2 = length-drop 2 second in
     let d = number32 third some_third (omega (arith, long, len_first, len_second, len_third)) in
     let fourth : List ℕ = drop 4 third in
     let len_fourth : length fourth ≡ length third - 4 = length-drop 4 third in
-    let e = number32 fourth (IsBytes-drop 4 third some_third) (omega (arith, long, len_first, len_second, len_third, len_fourth)) in
+    let e = number32 fourth (IsBytes_drop 4 third some_third) (omega (arith, long, len_first, len_second, len_third, len_fourth)) in
     let payload : List ℕ = drop 4 fourth in
     let begins : Bool = flag i.second 2 in
     let fsn : ℕ = if begins then 0 else e.0 in
@@ -130,10 +130,10 @@ unfolding init_fields
 init_says value fits shape =
     let long : 16 ≤ length value = shape.0 in
     let a = number32 value fits (omega (arith, long)) in
-    let b = number32 (drop 4 value) (IsBytes-drop 4 value fits) (omega (arith, long, length-drop 4 value)) in
-    let c = number16 (drop 8 value) (IsBytes-drop 8 value fits) (omega (arith, long, length-drop 8 value)) in
-    let d = number16 (drop 10 value) (IsBytes-drop 10 value fits) (omega (arith, long, length-drop 10 value)) in
-    let e = number32 (drop 12 value) (IsBytes-drop 12 value fits) (omega (arith, long, length-drop 12 value)) in
+    let b = number32 (drop 4 value) (IsBytes_drop 4 value fits) (omega (arith, long, length-drop 4 value)) in
+    let c = number16 (drop 8 value) (IsBytes_drop 8 value fits) (omega (arith, long, length-drop 8 value)) in
+    let d = number16 (drop 10 value) (IsBytes_drop 10 value fits) (omega (arith, long, length-drop 10 value)) in
+    let e = number32 (drop 12 value) (IsBytes_drop 12 value fits) (omega (arith, long, length-drop 12 value)) in
     let at_e : drop 12 value ≡ be32 e.0 ++ drop 16 value = e.2 ∙ ap (λ (x : List ℕ). be32 e.0 ++ x) (drop-drop 4 12 value) in
     let at_d : drop 10 value ≡ be16 d.0 ++ (be32 e.0 ++ drop 16 value) = d.2 ∙ ap (λ (x : List ℕ). be16 d.0 ++ x) (drop-drop 2 10 value ∙ at_e) in
     let at_c : drop 8 value ≡ be16 c.0 ++ (be16 d.0 ++ (be32 e.0 ++ drop 16 value)) = c.2 ∙ ap (λ (x : List ℕ). be16 c.0 ++ x) (drop-drop 2 8 value ∙ at_d) in
@@ -160,7 +160,7 @@ block_in : (bytes : List ℕ) → IsBytes bytes → 4 ≤ length bytes → (b : 
 unfolding block_bytes be16
 block_in bytes fits long =
     let a = number16 bytes fits (omega (arith, long)) in
-    let b = number16 (drop 2 bytes) (IsBytes-drop 2 bytes fits) (omega (arith, long, length-drop 2 bytes)) in
+    let b = number16 (drop 2 bytes) (IsBytes_drop 2 bytes fits) (omega (arith, long, length-drop 2 bytes)) in
     (record { start = a.0; end = b.0 }, (a.1, b.1), a.2 ∙ ap (λ (x : List ℕ). be16 a.0 ++ x) (b.2 ∙ ap (λ (x : List ℕ). be16 b.0 ++ x) (drop-drop 2 2 bytes)))
 
 tsn_in : (bytes : List ℕ) → IsBytes bytes → 4 ≤ length bytes → (t : Tsn) × FitsTsn t × (bytes ≡ tsn_bytes t ++ drop 4 bytes)
@@ -170,11 +170,11 @@ sack_says : (i : Item) → IsBytes i.value → i.first ≡ 3 → IsCounted i.val
 sack_says i fits kind counted long =
     let value : List ℕ = i.value in
     let a = number32 value fits (omega (arith, long)) in
-    let b = number32 (drop 4 value) (IsBytes-drop 4 value fits) (omega (arith, long, length-drop 4 value)) in
-    let c = number16 (drop 8 value) (IsBytes-drop 8 value fits) (omega (arith, long, length-drop 8 value)) in
-    let d = number16 (drop 10 value) (IsBytes-drop 10 value fits) (omega (arith, long, length-drop 10 value)) in
+    let b = number32 (drop 4 value) (IsBytes_drop 4 value fits) (omega (arith, long, length-drop 4 value)) in
+    let c = number16 (drop 8 value) (IsBytes_drop 8 value fits) (omega (arith, long, length-drop 8 value)) in
+    let d = number16 (drop 10 value) (IsBytes_drop 10 value fits) (omega (arith, long, length-drop 10 value)) in
     let rest : List ℕ = drop 12 value in
-    let some_rest : IsBytes rest = IsBytes-drop 12 value fits in
+    let some_rest : IsBytes rest = IsBytes_drop 12 value fits in
     let at_d : drop 10 value ≡ be16 d.0 ++ rest = d.2 ∙ ap (λ (x : List ℕ). be16 d.0 ++ x) (drop-drop 2 10 value) in
     let at_c : drop 8 value ≡ be16 c.0 ++ (be16 d.0 ++ rest) = c.2 ∙ ap (λ (x : List ℕ). be16 c.0 ++ x) (drop-drop 2 8 value ∙ at_d) in
     let at_b : drop 4 value ≡ be32 b.0 ++ (be16 c.0 ++ (be16 d.0 ++ rest)) = b.2 ∙ ap (λ (x : List ℕ). be32 b.0 ++ x) (drop-drop 4 4 value ∙ at_c) in
@@ -187,8 +187,8 @@ sack_says i fits kind counted long =
     let back : List ℕ = drop (4 * c.0) rest in
     let len_front : length front ≡ 4 * c.0 = length-take-le (4 * c.0) rest (omega (arith, len)) in
     let len_back : length back ≡ 4 * d.0 = omega (arith, len, length-drop (4 * c.0) rest) in
-    let blocks = entries_in block_bytes FitsBlock 4 block_in c.0 front (IsBytes-take (4 * c.0) rest some_rest) (omega (arith, len_front)) in
-    let tsns = entries_in tsn_bytes FitsTsn 4 tsn_in d.0 back (IsBytes-drop (4 * c.0) rest some_rest) (omega (arith, len_back)) in
+    let blocks = entries_in block_bytes FitsBlock 4 block_in c.0 front (IsBytes_take (4 * c.0) rest some_rest) (omega (arith, len_front)) in
+    let tsns = entries_in tsn_bytes FitsTsn 4 tsn_in d.0 back (IsBytes_drop (4 * c.0) rest some_rest) (omega (arith, len_back)) in
     let many : length blocks.0 ≡ c.0 = counted_entries block_bytes length_block_bytes blocks.0 front c.0 blocks.2 len_front in
     let others : length tsns.0 ≡ d.0 = counted_entries tsn_bytes (λ t. length_be32 t.0) tsns.0 back d.0 tsns.2 len_back in (
       sack_chunk (record { cumulative_tsn_ack = a.0; a_rwnd = b.0; gap_ack_blocks = blocks.0; duplicate_tsns = tsns.0 }),
@@ -218,11 +218,11 @@ ssn_skips_in zero bytes fits len = ([], refl, tt, nil_from_length bytes (omega (
 ssn_skips_in (suc n) bytes fits len =
     let a = number16 bytes fits (omega (arith, len)) in
     let first : List ℕ = drop 2 bytes in
-    let some_first : IsBytes first = IsBytes-drop 2 bytes fits in
+    let some_first : IsBytes first = IsBytes_drop 2 bytes fits in
     let len_first : length first ≡ length bytes - 2 = length-drop 2 bytes in
     let b = number16 first some_first (omega (arith, len, len_first)) in
     let second : List ℕ = drop 2 first in
-    let more = ssn_skips_in n second (IsBytes-drop 2 first some_first) (omega (arith, len, len_first, length-drop 2 first)) in
+    let more = ssn_skips_in n second (IsBytes_drop 2 first some_first) (omega (arith, len, len_first, length-drop 2 first)) in
     let skip : SkippedStream = skips.ForwardTsn (record { 0 = a.0 }) (record { 0 = b.0 }) in (
       skip ∷ more.0,
       more.1,
@@ -240,15 +240,15 @@ mid_skips_in zero bytes fits len = ([], tt, nil_from_length bytes (omega (arith,
 mid_skips_in (suc n) bytes fits len =
     let a = number16 bytes fits (omega (arith, len)) in
     let first : List ℕ = drop 2 bytes in
-    let some_first : IsBytes first = IsBytes-drop 2 bytes fits in
+    let some_first : IsBytes first = IsBytes_drop 2 bytes fits in
     let len_first : length first ≡ length bytes - 2 = length-drop 2 bytes in
     let b = number16 first some_first (omega (arith, len, len_first)) in
     let second : List ℕ = drop 2 first in
-    let some_second : IsBytes second = IsBytes-drop 2 first some_first in
+    let some_second : IsBytes second = IsBytes_drop 2 first some_first in
     let len_second : length second ≡ length first - 2 = length-drop 2 first in
     let c = number32 second some_second (omega (arith, len, len_first, len_second)) in
     let third : List ℕ = drop 4 second in
-    let more = mid_skips_in n third (IsBytes-drop 4 second some_second) (omega (arith, len, len_first, len_second, length-drop 4 second)) in
+    let more = mid_skips_in n third (IsBytes_drop 4 second some_second) (omega (arith, len, len_first, len_second, length-drop 4 second)) in
     let key = key_of (flag b.0 1) a.0 in
     let skip : SkippedStream = skips.IForwardTsn key.0 (record { 0 = c.0 }) in
     let front : List ℕ = be16 a.0 ++ (be16 b.0 ++ be32 c.0) in (
@@ -269,7 +269,7 @@ forward_says i fits kind shape =
     let a = number32 i.value fits shape.0 in
     let rest : List ℕ = drop 4 i.value in
     let len : length rest ≡ length i.value - 4 = length-drop 4 i.value in
-    let skipped = ssn_skips_in (length rest / 4) rest (IsBytes-drop 4 i.value fits) (omega (arith, len, shape.0, shape.1)) in (
+    let skipped = ssn_skips_in (length rest / 4) rest (IsBytes_drop 4 i.value fits) (omega (arith, len, shape.0, shape.1)) in (
       forward_tsn_chunk a.0 skipped.0,
       record {
         kind = kind;
@@ -286,7 +286,7 @@ i_forward_says i fits kind shape =
     let a = number32 i.value fits shape.0 in
     let rest : List ℕ = drop 4 i.value in
     let len : length rest ≡ length i.value - 4 = length-drop 4 i.value in
-    let skipped = mid_skips_in (length rest / 8) rest (IsBytes-drop 4 i.value fits) (omega (arith, len, shape.0, shape.1)) in (
+    let skipped = mid_skips_in (length rest / 8) rest (IsBytes_drop 4 i.value fits) (omega (arith, len, shape.0, shape.1)) in (
       i_forward_tsn_chunk a.0 skipped.0,
       record {
         kind = kind;

@@ -53,15 +53,15 @@ pub three_fields : (bytes : List ℕ) (a b m : ℕ) (r1 r2 r3 : List ℕ) → by
     → bytes ≡ (be16 a ++ (be16 b ++ be32 m)) ++ r3
 three_fields bytes a b m r1 r2 r3 e1 e2 e3 = rw (e1, e2, e3) (simp append_assoc)
 
-pub Each-push : {X : Type 0} (P : X → Type 0) (xs : List X) (x : X) → Each P xs → P x → Each P (xs ++ x ∷ [])
-Each-push P [] x h p = (p, tt)
-Each-push P (y ∷ xs) x h p = (h.0, Each-push P xs x h.1 p)
+pub Each_push : {X : Type 0} (P : X → Type 0) (xs : List X) (x : X) → Each P xs → P x → Each P (xs ++ x ∷ [])
+Each_push P [] x h p = (p, tt)
+Each_push P (y ∷ xs) x h p = (h.0, Each_push P xs x h.1 p)
 
 pub behind_part : (bytes front rest part after : List ℕ) → bytes ≡ front ++ rest → rest ≡ part ++ after → bytes ≡ (front ++ part) ++ after
 behind_part bytes front rest part after e f = rw (e, f) (sym (append_assoc front part after))
 
 -- one more entry at the end
-pub SaysSkips-push : (front part : List ℕ) (ss : List SkippedStream) (s : SkippedStream) → SaysSkips front ss → SaysSkip part s → SaysSkips (front ++ part) (ss ++ s ∷ [])
-SaysSkips-push front part [] s h p = (part, [], ap (λ (x : List ℕ). x ++ part) h ∙ sym (append-nil part), p, refl)
-SaysSkips-push front part (t ∷ ss) s h p =
-    (h.0, h.1 ++ part, ap (λ (x : List ℕ). x ++ part) h.2 ∙ append_assoc h.0 h.1 part, h.3, SaysSkips-push h.1 part ss s h.4 p)
+pub SaysSkips_push : (front part : List ℕ) (ss : List SkippedStream) (s : SkippedStream) → SaysSkips front ss → SaysSkip part s → SaysSkips (front ++ part) (ss ++ s ∷ [])
+SaysSkips_push front part [] s h p = (part, [], ap (λ (x : List ℕ). x ++ part) h ∙ sym (append-nil part), p, refl)
+SaysSkips_push front part (t ∷ ss) s h p =
+    (h.0, h.1 ++ part, ap (λ (x : List ℕ). x ++ part) h.2 ∙ append_assoc h.0 h.1 part, h.3, SaysSkips_push h.1 part ss s h.4 p)

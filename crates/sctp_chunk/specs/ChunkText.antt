@@ -2,7 +2,7 @@
 use Rattle.std.specs.Prelude.{ℕ, Bool, if◌then◌else◌, ◌||◌, List, [], ◌∷◌, ◌++◌, length, map, codes}
 use Rattle.std.specs.Fmt.{decimal}
 use Rattle.sctp_serial.specs.declared.types.tsn.Tsn.{Tsn}
-use Rattle.sctp_wire.specs.Show.{field, shown, bytes_text, joined}
+use Rattle.sctp_wire.specs.Show.{field, shown, bytes_text, join_texts}
 use Rattle.sctp_chunk.specs.declared.sack.GapAckBlock.{GapAckBlock}
 use Rattle.sctp_chunk.specs.declared.forward_tsn.SkippedStream.{SkippedStream}
 use Rattle.sctp_chunk.specs.declared.forward_tsn.SkippedStream.TheVariants as skips
@@ -51,7 +51,7 @@ chunk_text (idata_chunk tsn immediate f) = shown (codes "I-DATA") (field (codes 
 chunk_text (init_chunk t) = init_text (codes "INIT") t
 chunk_text (init_ack_chunk t) = init_text (codes "INIT ACK") t
 chunk_text (sack_chunk s) = shown (codes "SACK") (field (codes "cumulative_tsn_ack") (decimal s.cumulative_tsn_ack) ∷ field (codes "a_rwnd") (decimal s.a_rwnd)
-    ∷ field (codes "gap_ack_blocks") (joined (map block_text s.gap_ack_blocks)) ∷ field (codes "duplicate_tsns") (joined (map tsn_text s.duplicate_tsns)) ∷ [])
+    ∷ field (codes "gap_ack_blocks") (join_texts (map block_text s.gap_ack_blocks)) ∷ field (codes "duplicate_tsns") (join_texts (map tsn_text s.duplicate_tsns)) ∷ [])
 chunk_text (heartbeat_request_chunk ps) = shown (codes "HEARTBEAT") (field (codes "parameters") (decimal (length ps)) ∷ [])
 chunk_text (heartbeat_ack_chunk ps) = shown (codes "HEARTBEAT ACK") (field (codes "parameters") (decimal (length ps)) ∷ [])
 chunk_text (abort_chunk reflected causes) = shown (codes "ABORT") (field (codes "error_causes") (decimal (length causes)) ∷ []) ++ reflected_text reflected
@@ -63,8 +63,8 @@ chunk_text cookie_ack_chunk = codes "COOKIE ACK"
 chunk_text (shutdown_complete_chunk reflected) = codes "SHUTDOWN COMPLETE" ++ reflected_text reflected
 chunk_text (re_config_chunk ps) = shown (codes "RE-CONFIG") (field (codes "parameters") (decimal (length ps)) ∷ [])
 chunk_text (forward_tsn_chunk tsn skipped) = shown (codes "FORWARD-TSN") (field (codes "new_cumulative_tsn") (decimal tsn)
-    ∷ field (codes "skipped_streams") (joined (map skip_text skipped)) ∷ [])
+    ∷ field (codes "skipped_streams") (join_texts (map skip_text skipped)) ∷ [])
 chunk_text (i_forward_tsn_chunk tsn skipped) = shown (codes "I-FORWARD-TSN") (field (codes "new_cumulative_tsn") (decimal tsn)
-    ∷ field (codes "skipped_streams") (joined (map skip_text skipped)) ∷ [])
+    ∷ field (codes "skipped_streams") (join_texts (map skip_text skipped)) ∷ [])
 chunk_text (unknown_chunk typ flags value) = shown (codes "UNKNOWN CHUNK") (field (codes "typ") (decimal typ) ∷ field (codes "flags") (decimal flags)
     ∷ field (codes "value") (bytes_text value) ∷ [])

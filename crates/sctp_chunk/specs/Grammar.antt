@@ -6,7 +6,7 @@ use Rattle.sctp_wire.specs.declared.error.ChunkParseError.{ChunkParseError}
 use Rattle.sctp_wire.specs.declared.error.ChunkParseError.TheVariants.{InvalidLength, InvalidType, Memory}
 use Rattle.sctp_wire.specs.Fields.{be16, be32}
 use Rattle.sctp_wire.specs.Item.{Item, Tiles}
-use Rattle.sctp_wire.specs.Refusal.{BreaksAs}
+use Rattle.sctp_wire.specs.Refusal.{FailsToParseAs}
 use Rattle.sctp_wire.specs.Parameter.{ParameterTree, IsParameter, RefusesParameter}
 use Rattle.sctp_wire.specs.Cause.{CauseTree, IsCause, RefusesCause}
 use Rattle.sctp_chunk.specs.declared.sack.GapAckBlock.{GapAckBlock}
@@ -231,8 +231,8 @@ IsFaulty (at_least n) value fault = (fault ≡ InvalidLength) × (length value <
 IsFaulty (in_steps n width) value fault = (fault ≡ InvalidLength) × ((length value < n) ⊎ ((length value - n) % width ≢ 0))
 IsFaulty by_counts value fault = (fault ≡ InvalidLength) × (IsCounted value → ⊥)
 IsFaulty (parameters_behind n) value fault =
-    ((fault ≡ InvalidLength) × (length value < n)) ⊎ ((n ≤ length value) × BreaksAs IsParameter RefusesParameter (drop n value) fault)
-IsFaulty of_causes value fault = BreaksAs IsCause RefusesCause value fault
+    ((fault ≡ InvalidLength) × (length value < n)) ⊎ ((n ≤ length value) × FailsToParseAs IsParameter RefusesParameter (drop n value) fault)
+IsFaulty of_causes value fault = FailsToParseAs IsCause RefusesCause value fault
 
 -- the values that a shape allows: those without a fault
 abbrev pub HasChunkShape : ValueShape → List ℕ → Type 0

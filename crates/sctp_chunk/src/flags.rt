@@ -2,7 +2,7 @@
 
 ghost use Rattle.std.specs.Prelude.{◌≡◌, ◌||◌, if◌then◌else◌, [], Some, codes};
 ghost use Rattle.std.specs.Prelude.{map};
-ghost use Rattle.sctp_wire.specs.Show.{joined};
+ghost use Rattle.sctp_wire.specs.Show.{join_texts};
 ghost use Rattle.sctp_chunk.specs.ChunkText.{letter, fragment_flags_text, tsn_text};
 
 use sctp_serial::Tsn;
@@ -50,9 +50,9 @@ fn letter(is_set: bool, text: &'static str) -> &'static str
 #[derive(Clone, Copy)]
 pub struct JoinedTsns<'a>(pub &'a [Tsn]);
 
-#[tactic(auto, unfolding(sctp_wire::specs::Show::joined))]
+#[tactic(auto, unfolding(sctp_wire::specs::Show::join_texts))]
 impl fmt::Display for JoinedTsns<'_> {
-    ghost output = { λ list. Some (joined (map tsn_text list.0.now)) };
+    ghost output = { λ list. Some (join_texts (map tsn_text list.0.now)) };
 
     fn fmt<W: fmt::Write>(&self, f: &mut fmt::Formatter<W>) -> fmt::Result {
         let Some((first, others)) = self.0.split_first() else {

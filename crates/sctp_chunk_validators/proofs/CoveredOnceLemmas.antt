@@ -7,18 +7,18 @@ use Rattle.std.proofs.lemmas.List.Elements.{All-from_recursion}
 use Rattle.sctp_chunk.specs.declared.sack.GapAckBlock.{GapAckBlock}
 use Rattle.sctp_chunk.specs.Covered.{is_covered, AreRuns, SameOffsets, IsMaximalRun}
 
-pub is_covered-below : (low n : ℕ) (bs : List GapAckBlock) → AreRuns low bs → n < low → is_covered bs n ≡ false
-is_covered-below low n [] r h = refl
-is_covered-below low n (b ∷ bs) r h = grind (arith, nat_tests, is_covered-below (b.end + 2) n bs r.2 (omega arith))
+pub is_covered_below : (low n : ℕ) (bs : List GapAckBlock) → AreRuns low bs → n < low → is_covered bs n ≡ false
+is_covered_below low n [] r h = refl
+is_covered_below low n (b ∷ bs) r h = grind (arith, nat_tests, is_covered_below (b.end + 2) n bs r.2 (omega arith))
 
 before_first : (low n : ℕ) (b : GapAckBlock) (bs : List GapAckBlock) → AreRuns low (b ∷ bs) → n < b.start → is_covered (b ∷ bs) n ≡ false
-before_first low n b bs r h = grind (arith, nat_tests, is_covered-below (b.end + 2) n bs r.2 (omega arith))
+before_first low n b bs r h = grind (arith, nat_tests, is_covered_below (b.end + 2) n bs r.2 (omega arith))
 
 at_first : (low : ℕ) (b : GapAckBlock) (bs : List GapAckBlock) → AreRuns low (b ∷ bs) → is_covered (b ∷ bs) b.start ≡ true
 at_first low b bs r = grind (arith, nat_tests)
 
 past_last : (low : ℕ) (b : GapAckBlock) (bs : List GapAckBlock) → AreRuns low (b ∷ bs) → is_covered (b ∷ bs) (b.end + 1) ≡ false
-past_last low b bs r = grind (arith, nat_tests, is_covered-below (b.end + 2) (b.end + 1) bs r.2 (omega arith))
+past_last low b bs r = grind (arith, nat_tests, is_covered_below (b.end + 2) (b.end + 1) bs r.2 (omega arith))
 
 within : (n : ℕ) (b : GapAckBlock) (bs : List GapAckBlock) → b.start ≤ n → n ≤ b.end → is_covered (b ∷ bs) n ≡ true
 within n b bs h k = grind (arith, nat_tests)
@@ -92,40 +92,40 @@ abbrev past : ℕ → GapAckBlock → Bool
 past e b = ltb e b.start
 
 -- What starts at e or before covers nothing above e, where e + 1 is not covered.
-is_covered-past : (e n : ℕ) (bs : List GapAckBlock) → is_covered bs (e + 1) ≡ false → is_covered (filter (past e) bs) n ≡ (ltb e n && is_covered bs n)
-is_covered-past e n [] gap = grind (arith, nat_tests)
-is_covered-past e n (b ∷ bs) gap =
+is_covered_past : (e n : ℕ) (bs : List GapAckBlock) → is_covered bs (e + 1) ≡ false → is_covered (filter (past e) bs) n ≡ (ltb e n && is_covered bs n)
+is_covered_past e n [] gap = grind (arith, nat_tests)
+is_covered_past e n (b ∷ bs) gap =
     let rest_gap : is_covered bs (e + 1) ≡ false = grind (arith, nat_tests) in
-    let rest = is_covered-past e n bs rest_gap in
+    let rest = is_covered_past e n bs rest_gap in
     elim (cases_lt e b.start) [
       | inl above ↦ rw (lt-ltb e b.start above) (grind (arith, nat_tests, rest))
       | inr here ↦ rw (le-ltb e b.start here) (grind (arith, nat_tests, rest))
     ]
 
-length-filter_within : (e : ℕ) (bs : List GapAckBlock) → length (filter (past e) bs) ≤ length bs
-length-filter_within e [] = omega arith
-length-filter_within e (b ∷ bs) =
+length_filter_within : (e : ℕ) (bs : List GapAckBlock) → length (filter (past e) bs) ≤ length bs
+length_filter_within e [] = omega arith
+length_filter_within e (b ∷ bs) =
     elim (cases_lt e b.start) [
-      | inl above ↦ rw (lt-ltb e b.start above) (omega (arith, length-filter_within e bs))
-      | inr here ↦ rw (le-ltb e b.start here) (omega (arith, length-filter_within e bs))
+      | inl above ↦ rw (lt-ltb e b.start above) (omega (arith, length_filter_within e bs))
+      | inr here ↦ rw (le-ltb e b.start here) (omega (arith, length_filter_within e bs))
     ]
 
 -- one that covers m is left out
-length-filter_fewer : (e m : ℕ) (bs : List GapAckBlock) → m ≤ e → is_covered bs m ≡ true → length (filter (past e) bs) < length bs
-length-filter_fewer e m [] h c = absurd (both_ways _ refl c)
-length-filter_fewer e m (b ∷ bs) h c =
+length_filter_fewer : (e m : ℕ) (bs : List GapAckBlock) → m ≤ e → is_covered bs m ≡ true → length (filter (past e) bs) < length bs
+length_filter_fewer e m [] h c = absurd (both_ways _ refl c)
+length_filter_fewer e m (b ∷ bs) h c =
     elim (cases_lt e b.start) [
       | inl above ↦
           let behind : is_covered bs m ≡ true = grind (arith, nat_tests) in
-          rw (lt-ltb e b.start above) (omega (arith, length-filter_fewer e m bs h behind))
-      | inr here ↦ rw (le-ltb e b.start here) (omega (arith, length-filter_within e bs))
+          rw (lt-ltb e b.start above) (omega (arith, length_filter_fewer e m bs h behind))
+      | inr here ↦ rw (le-ltb e b.start here) (omega (arith, length_filter_within e bs))
     ]
 
 behind_first : (low n : ℕ) (b : GapAckBlock) (bs : List GapAckBlock) → AreRuns low (b ∷ bs) → is_covered bs n ≡ (ltb b.end n && is_covered (b ∷ bs) n)
 behind_first low n b bs r =
     elim (cases_lt b.end n) [
       | inl past ↦ rw (lt-ltb b.end n past) (sym (later n b bs past))
-      | inr here ↦ rw (le-ltb b.end n here) (is_covered-below (b.end + 2) n bs r.2 (omega arith))
+      | inr here ↦ rw (le-ltb b.end n here) (is_covered_below (b.end + 2) n bs r.2 (omega arith))
     ]
 
 shortest_from : (low : ℕ) (runs others : List GapAckBlock) → AreRuns low runs → SameOffsets runs others → length runs ≤ length others
@@ -133,9 +133,9 @@ shortest_from low [] others r same = omega arith
 shortest_from low (b ∷ bs) others r same =
     let gap = sym (same (b.end + 1)) ∙ past_last low b bs r in
     let rest : SameOffsets bs (filter (past b.end) others) =
-    λ n. behind_first low n b bs r ∙ (ap (λ x. ltb b.end n && x) (same n) ∙ sym (is_covered-past b.end n others gap)) in
+    λ n. behind_first low n b bs r ∙ (ap (λ x. ltb b.end n && x) (same n) ∙ sym (is_covered_past b.end n others gap)) in
     let behind = shortest_from (b.end + 2) bs (filter (past b.end) others) r.2 rest in
-    let fewer = length-filter_fewer b.end b.start others r.1 (sym (same b.start) ∙ at_first low b bs r) in
+    let fewer = length_filter_fewer b.end b.start others r.1 (sym (same b.start) ∙ at_first low b bs r) in
     omega arith
 
 -- no list of blocks over the same offsets is shorter than the runs

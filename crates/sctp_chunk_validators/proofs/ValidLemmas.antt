@@ -5,7 +5,7 @@ use Rattle.std.proofs.lemmas.Bool.{cases_lt, both_ways}
 use Rattle.std.proofs.lemmas.List.Elements.{All-head, All-tail}
 use Rattle.sctp_chunk.specs.declared.sack.GapAckBlock.{GapAckBlock}
 use Rattle.sctp_chunk.specs.Covered.{AreRuns, AreValid, IsMaximalRun}
-use Rattle.sctp_chunk_validators.proofs.CoveredOnceLemmas.{is_covered-below, runs_are_maximal}
+use Rattle.sctp_chunk_validators.proofs.CoveredOnceLemmas.{is_covered_below, runs_are_maximal}
 
 abbrev StartsBelow : GapAckBlock → GapAckBlock → Type 0
 StartsBelow block later = block.start < later.start
@@ -26,7 +26,7 @@ pub valid_from_runs : (bs : List GapAckBlock) → AreRuns 2 bs → AreRuns 0 bs 
 valid_from_runs bs r z = record {
   runs = runs_are_maximal bs bs z (λ n. refl);
   ascending = runs_ascend 2 bs r;
-  from_two = λ n h. is_covered-below 2 n bs r h;
+  from_two = λ n h. is_covered_below 2 n bs r h;
 }
 
 pub runs_lower : (low high : ℕ) (bs : List GapAckBlock) → low ≤ high → AreRuns high bs → AreRuns low bs

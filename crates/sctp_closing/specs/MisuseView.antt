@@ -1,6 +1,6 @@
 -- What is told of chunks that aren't taken.
 use Rattle.std.specs.Prelude.{ℕ, List, Bool, true, false, not, Option}
-use Rattle.sctp_table.specs.Input.{unless, interleaving_text, no_interleaving_text, no_partial_text}
+use Rattle.spec_endpoint.specs.Input.{unless, interleaving_text, no_interleaving_text, no_partial_text}
 use Rattle.sctp_closing.specs.declared.misuse.Misuse.{Misuse}
 use Rattle.sctp_closing.specs.declared.misuse.Misuse.TheVariants as misuses
 

@@ -3,12 +3,12 @@
 ghost use Rattle.std.specs.Prelude.{◌≡◌, map, IfOk, OnOk, string_bytes};
 ghost use Rattle.sctp_error_cause.specs.CauseViews.{cause_tree};
 ghost use Rattle.sctp_state.specs.Events.{OnAborted};
-ghost use Rattle.sctp_table.specs.Association.{where_open};
-ghost use Rattle.sctp_table.specs.Packets.{complain};
-ghost use Rattle.sctp_endpoint.specs.Views.{context_of, standing_of, tcb_of};
+ghost use Rattle.spec_endpoint.specs.Association.{where_open};
+ghost use Rattle.spec_endpoint.specs.Packets.{complain};
+ghost use Rattle.sctp_endpoint.specs.Views.{context_of, endpoint_state_of, tcb_of};
 ghost use Rattle.sctp_closing.specs.MisuseView.{misuse_text};
-ghost use Rattle.sctp_table.specs.Closing as closing;
-ghost use Rattle.sctp_table.specs.Input as table;
+ghost use Rattle.spec_endpoint.specs.Shutdown as closing;
+ghost use Rattle.spec_endpoint.specs.Input as table;
 
 use crate::misuse::Misuse;
 use sctp_endpoint::{Context, State, TransmissionControlBlock};
@@ -61,7 +61,7 @@ fn abort_by_violation<C: Checksum>(
     misuse: Misuse,
 ) -> Result<(), AllocError>
     ensures { OnOk result (context_of C.word_of context.new
-        ≡ (closing.violated (misuse_text misuse) (tcb_of tcb.now) (context_of C.word_of context.old)).context) }
+        ≡ (closing.violate (misuse_text misuse) (tcb_of tcb.now) (context_of C.word_of context.old)).context) }
 {
     let information = String::from_str(context.alloc, misuse.text())?;
     let cause = ErrorCause::ProtocolViolation(ProtocolViolationErrorCause { information });
@@ -75,7 +75,7 @@ pub fn handle_abort<C: Checksum>(
     context: &mut Context<C>,
     causes: &[ErrorCause],
 ) -> Result<(), AllocError>
-    ensures { OnOk result (standing_of C.word_of state.new context.new ≡ where_open (closing.on_abort (map cause_tree causes.now)) (standing_of C.word_of state.old context.old)) }
+    ensures { OnOk result (endpoint_state_of C.word_of state.new context.new ≡ where_open (closing.on_abort (map cause_tree causes.now)) (endpoint_state_of C.word_of state.old context.old)) }
 {
     match state {
         State::Closed => Ok(()),
@@ -94,7 +94,7 @@ pub fn handle_error<C: Checksum>(
     context: &mut Context<C>,
     causes: &[ErrorCause],
 ) -> Result<(), AllocError>
-    ensures { OnOk result (standing_of C.word_of state.now context.new ≡ where_open (closing.on_error (map cause_tree causes.now)) (standing_of C.word_of state.now context.old)) }
+    ensures { OnOk result (endpoint_state_of C.word_of state.now context.new ≡ where_open (closing.on_error (map cause_tree causes.now)) (endpoint_state_of C.word_of state.now context.old)) }
 {
     match state {
         State::Closed => Ok(()),
@@ -109,7 +109,7 @@ pub fn handle_misuse<C: Checksum>(
     context: &mut Context<C>,
     misuse: Misuse,
 ) -> Result<(), AllocError>
-    ensures { OnOk result (standing_of C.word_of state.new context.new ≡ table.breaks (misuse_text misuse) (standing_of C.word_of state.old context.old)) }
+    ensures { OnOk result (endpoint_state_of C.word_of state.new context.new ≡ table.breaks (misuse_text misuse) (endpoint_state_of C.word_of state.old context.old)) }
 {
     match state {
         State::Closed => Ok(()),

@@ -7,10 +7,10 @@ ghost use Rattle.sctp_control_chunk.specs.Views.{unknown_tree};
 ghost use Rattle.sctp_wire.specs.Item.{item_bytes};
 ghost use Rattle.sctp_packet.specs.Written.{chunk_item};
 ghost use Rattle.sctp_capabilities.specs.Capabilities.{capabilities_of};
-ghost use Rattle.sctp_endpoint.specs.Views.{context_of, standing_of, state_of, tcb_of};
+ghost use Rattle.sctp_endpoint.specs.Views.{context_of, endpoint_state_of, state_of, tcb_of};
 ghost use Rattle.sctp_closing.specs.MisuseView.{data_misused, misuse_text};
-ghost use Rattle.sctp_table.specs.Packets.{emit_chunk};
-ghost use Rattle.sctp_table.specs.Input as table;
+ghost use Rattle.spec_endpoint.specs.Packets.{emit_chunk};
+ghost use Rattle.spec_endpoint.specs.Input as table;
 
 use sctp_capabilities::Capabilities;
 use sctp_endpoint::{Context, State, TransmissionControlBlock};
@@ -79,7 +79,7 @@ pub fn data_misused(is_negotiated: bool, is_interleaved: bool) -> Option<Misuse>
 
 /// How a chunk breaks what was negotiated, if it does.
 pub fn misused(capabilities: &Capabilities, chunk: &Chunk) -> Option<Misuse>
-    ensures { option_map misuse_text result ≡ table.misused (capabilities_of capabilities.now) (chunk_tree chunk.now) }
+    ensures { option_map misuse_text result ≡ table.misuse (capabilities_of capabilities.now) (chunk_tree chunk.now) }
 {
     let is_interleaved = capabilities.message_interleaving;
     let is_partial = capabilities.partial_reliability;
@@ -141,7 +141,7 @@ fn echo_unknown<C: Checksum>(
     chunk: &UnknownChunk,
 ) -> Result<(), AllocError>
     ensures { let u = chunk.now in OnOk result (context_of C.word_of context.new
-        ≡ emit_chunk (table.echoed context.old.options.mtu u.typ u.flags u.value.items) (tcb_of tcb.now) (context_of C.word_of context.old)) }
+        ≡ emit_chunk (table.echo_unknown context.old.options.mtu u.typ u.flags u.value.items) (tcb_of tcb.now) (context_of C.word_of context.old)) }
 {
     let most = (context.options.mtu / 4 * 4).saturating_sub(20);
     let chunk = first_bytes(context.alloc, chunk, most)?;
@@ -154,7 +154,7 @@ fn complain_of_unknown<C: Checksum>(
     context: &mut Context<C>,
     chunk: &UnknownChunk,
 ) -> Result<(), AllocError>
-    ensures { let u = chunk.now in OnOk result (context_of C.word_of context.new ≡ table.complained u.typ u.flags u.value.items (context_of C.word_of context.old)) }
+    ensures { let u = chunk.now in OnOk result (context_of C.word_of context.new ≡ table.complain_of_unknown u.typ u.flags u.value.items (context_of C.word_of context.old)) }
 {
     let text = unknown_text(context.alloc, chunk)?;
     context.tell(SocketEvent::OnError(ErrorKind::ParseFailed, text))
@@ -173,8 +173,8 @@ pub fn handle_unknown<C: Checksum>(
     context: &mut Context<C>,
     chunk: &UnknownChunk,
 ) -> Result<(), AllocError>
-    ensures { let u = chunk.now in OnOk result (standing_of C.word_of state.now context.new
-        ≡ table.on_unknown u.typ u.flags u.value.items (standing_of C.word_of state.now context.old)) }
+    ensures { let u = chunk.now in OnOk result (endpoint_state_of C.word_of state.now context.new
+        ≡ table.on_unknown u.typ u.flags u.value.items (endpoint_state_of C.word_of state.now context.old)) }
 {
     if !is_reported(chunk.typ) {
         return Ok(());

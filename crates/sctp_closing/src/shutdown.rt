@@ -1,10 +1,10 @@
 //! How an association ends (RFC 9260 sections 9.1, 9.2).
 
 ghost use Rattle.std.specs.Prelude.{◌≡◌, false, OnOk};
-ghost use Rattle.sctp_table.specs.Association.{where_open};
+ghost use Rattle.spec_endpoint.specs.Association.{where_open};
 ghost use Rattle.sctp_state.specs.Events.{OnClosed};
-ghost use Rattle.sctp_endpoint.specs.Views.{context_of, onward_of, phase_of, standing_of, tcb_of};
-ghost use Rattle.sctp_table.specs.Closing as table;
+ghost use Rattle.sctp_endpoint.specs.Views.{context_of, onward_of, phase_of, endpoint_state_of, tcb_of};
+ghost use Rattle.spec_endpoint.specs.Shutdown as table;
 
 use sctp_endpoint::{Context, OutgoingPacket, Phase, State, TransmissionControlBlock};
 use sctp_packet::{Chunk, ShutdownCompleteChunk};
@@ -18,7 +18,7 @@ fn begin_shutdown<C: Checksum>(
     phase: &mut Phase,
     tcb: &TransmissionControlBlock,
 ) -> Result<(), AllocError>
-    ensures { OnOk result (onward_of C.word_of phase.new context.new ≡ table.shut (phase_of phase.old) (tcb_of tcb.now) (context_of C.word_of context.old)) }
+    ensures { OnOk result (onward_of C.word_of phase.new context.new ≡ table.shut_down (phase_of phase.old) (tcb_of tcb.now) (context_of C.word_of context.old)) }
 {
     match phase {
         Phase::CookieEchoed(_) => {
@@ -83,7 +83,7 @@ fn complete_shutdown<C: Checksum>(
     context: &mut Context<C>,
     tcb: &TransmissionControlBlock,
 ) -> Result<(), AllocError>
-    ensures { OnOk result (context_of C.word_of context.new ≡ (table.completed (tcb_of tcb.now) (context_of C.word_of context.old)).context) }
+    ensures { OnOk result (context_of C.word_of context.new ≡ (table.complete_shutdown (tcb_of tcb.now) (context_of C.word_of context.old)).context) }
 {
     context.emit_chunk(
         tcb,
@@ -99,7 +99,7 @@ pub fn handle_close<C: Checksum>(
     state: &mut State,
     context: &mut Context<C>,
 ) -> Result<(), AllocError>
-    ensures { OnOk result (standing_of C.word_of state.new context.new ≡ table.close (standing_of C.word_of state.old context.old)) }
+    ensures { OnOk result (endpoint_state_of C.word_of state.new context.new ≡ table.close (endpoint_state_of C.word_of state.old context.old)) }
 {
     match state {
         State::Closed => Ok(()),
@@ -117,11 +117,11 @@ pub fn handle_close<C: Checksum>(
 }
 
 /// The association is shut down: what is queued and sent is delivered first (RFC 9260 section 9.2).
-pub fn handle_shutdown<C: Checksum>(
+pub fn do_shutdown<C: Checksum>(
     state: &mut State,
     context: &mut Context<C>,
 ) -> Result<(), AllocError>
-    ensures { OnOk result (standing_of C.word_of state.new context.new ≡ table.shutdown (standing_of C.word_of state.old context.old)) }
+    ensures { OnOk result (endpoint_state_of C.word_of state.new context.new ≡ table.shutdown (endpoint_state_of C.word_of state.old context.old)) }
 {
     match state {
         State::Closed => Ok(()),
@@ -135,11 +135,11 @@ pub fn handle_shutdown<C: Checksum>(
 }
 
 /// SHUTDOWN.
-pub fn handle_shutdown_chunk<C: Checksum>(
+pub fn handle_shutdown<C: Checksum>(
     state: &mut State,
     context: &mut Context<C>,
 ) -> Result<(), AllocError>
-    ensures { OnOk result (standing_of C.word_of state.new context.new ≡ where_open table.on_shutdown (standing_of C.word_of state.old context.old)) }
+    ensures { OnOk result (endpoint_state_of C.word_of state.new context.new ≡ where_open table.on_shutdown (endpoint_state_of C.word_of state.old context.old)) }
 {
     match state {
         State::Closed => Ok(()),
@@ -154,7 +154,7 @@ pub fn handle_shutdown_ack<C: Checksum>(
     context: &mut Context<C>,
     tag: u32,
 ) -> Result<(), AllocError>
-    ensures { OnOk result (standing_of C.word_of state.new context.new ≡ table.on_shutdown_ack tag (standing_of C.word_of state.old context.old)) }
+    ensures { OnOk result (endpoint_state_of C.word_of state.new context.new ≡ table.on_shutdown_ack tag (endpoint_state_of C.word_of state.old context.old)) }
 {
     match state {
         State::Closed => answer_out_of_the_blue(context, tag),
@@ -178,7 +178,7 @@ pub fn handle_shutdown_complete<C: Checksum>(
     state: &mut State,
     context: &mut Context<C>,
 ) -> Result<(), AllocError>
-    ensures { OnOk result (standing_of C.word_of state.new context.new ≡ where_open table.on_shutdown_complete (standing_of C.word_of state.old context.old)) }
+    ensures { OnOk result (endpoint_state_of C.word_of state.new context.new ≡ where_open table.on_shutdown_complete (endpoint_state_of C.word_of state.old context.old)) }
 {
     match state {
         State::Closed => Ok(()),

@@ -24,17 +24,17 @@ scaled zero (suc (suc b)) la lb = absurd (omega arith)
 scaled (suc zero) (suc (suc b)) la lb = absurd (omega arith)
 
 -- a step of a sum is the sum of the steps
-pub take_bit-xor : (a b : ℕ) → take_bit (bit_xor a b) ≡ bit_xor (take_bit a) (take_bit b)
+pub take_bit_xor : (a b : ℕ) → take_bit (bit_xor a b) ≡ bit_xor (take_bit a) (take_bit b)
 unfolding take_bit
-take_bit-xor a b =
+take_bit_xor a b =
     ap₂ (λ (x y : ℕ). bit_xor x (y * polynomial)) (xor_shr a b 1) (xor_mod a b 1)
     ∙ ap (bit_xor (bit_xor (a / 2) (b / 2))) (scaled (a % 2) (b % 2) (omega arith) (omega arith))
     ∙ xor_turned (a / 2) (b / 2) (a % 2 * polynomial) (b % 2 * polynomial)
 
-pub take_bits-xor : (count a b : ℕ) → take_bits count (bit_xor a b) ≡ bit_xor (take_bits count a) (take_bits count b)
+pub take_bits_xor : (count a b : ℕ) → take_bits count (bit_xor a b) ≡ bit_xor (take_bits count a) (take_bits count b)
 unfolding take_bits
-take_bits-xor zero a b = refl
-take_bits-xor (suc count) a b = ap (take_bits count) (take_bit-xor a b) ∙ take_bits-xor count (take_bit a) (take_bit b)
+take_bits_xor zero a b = refl
+take_bits_xor (suc count) a b = ap (take_bits count) (take_bit_xor a b) ∙ take_bits_xor count (take_bit a) (take_bit b)
 
 take_bit_even : (a : ℕ) → take_bit (a * 2) ≡ a
 unfolding take_bit
@@ -72,7 +72,7 @@ take_byte_parted word byte fits =
     let none : byte / 2 ^ 8 ≡ 0 = omega arith in
     let high : added / 2 ^ 8 ≡ word / 2 ^ 8 = xor_shr word byte 8 ∙ ap (bit_xor (word / 2 ^ 8)) none ∙ xor_zero_r (word / 2 ^ 8) in
     ap (take_bits 8) (parted added)
-    ∙ take_bits-xor 8 (added % 2 ^ 8) (added / 2 ^ 8 * 2 ^ 8)
+    ∙ take_bits_xor 8 (added % 2 ^ 8) (added / 2 ^ 8 * 2 ^ 8)
     ∙ ap₂ (λ (x y : ℕ). bit_xor (take_bits 8 x) y) (sym (and_mask added 8)) (take_bits_high 8 (added / 2 ^ 8) ∙ high)
 
 -- the entry of so many zeros behind a byte

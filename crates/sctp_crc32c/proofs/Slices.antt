@@ -6,12 +6,12 @@ use Rattle.std.specs.Int.{w32, to_le_bytes}
 use Rattle.std.specs.Int.Bits.{xor_zero_l, xor_zero_r}
 use lib.Bits.{xor_assoc}
 use Rattle.sctp_crc32c.specs.Crc32c.{take_bit, take_bits, take_byte, take_zeros, remainder}
-use Rattle.sctp_crc32c.proofs.Division.{xor_turned, parted, take_bits-xor, take_bits_high}
+use Rattle.sctp_crc32c.proofs.Division.{xor_turned, parted, take_bits_xor, take_bits_high}
 
-pub take_zeros-xor : (count a b : ℕ) → take_zeros count (bit_xor a b) ≡ bit_xor (take_zeros count a) (take_zeros count b)
+pub take_zeros_xor : (count a b : ℕ) → take_zeros count (bit_xor a b) ≡ bit_xor (take_zeros count a) (take_zeros count b)
 unfolding take_zeros
-take_zeros-xor zero a b = refl
-take_zeros-xor (suc count) a b = ap (take_zeros count) (take_bits-xor 8 a b) ∙ take_zeros-xor count (take_bits 8 a) (take_bits 8 b)
+take_zeros_xor zero a b = refl
+take_zeros_xor (suc count) a b = ap (take_zeros count) (take_bits_xor 8 a b) ∙ take_zeros_xor count (take_bits 8 a) (take_bits 8 b)
 
 -- the bytes as one number, the first the lowest
 abbrev number_of : List ℕ → ℕ
@@ -26,14 +26,14 @@ remainder_whole (byte ∷ bytes) word =
     let high : take_bits 8 (number_of bytes * 2 ^ 8) ≡ number_of bytes = take_bits_high 8 (number_of bytes) in
     let step : take_bits 8 (bit_xor word (bit_xor byte (number_of bytes * 2 ^ 8))) ≡ bit_xor (take_byte word byte) (number_of bytes) =
     ap (take_bits 8) (sym (xor_assoc word byte (number_of bytes * 2 ^ 8)))
-    ∙ (take_bits-xor 8 (bit_xor word byte) (number_of bytes * 2 ^ 8) ∙ ap (bit_xor (take_byte word byte)) high) in
+    ∙ (take_bits_xor 8 (bit_xor word byte) (number_of bytes * 2 ^ 8) ∙ ap (bit_xor (take_byte word byte)) high) in
     remainder_whole bytes (take_byte word byte) ∙ sym (ap (take_zeros (length bytes)) step)
 
 -- a word's part and the bytes' part
 pub remainder_split : (bytes : List ℕ) (word : ℕ) → remainder word bytes ≡ bit_xor (take_zeros (length bytes) word) (remainder 0 bytes)
 remainder_split bytes word =
     remainder_whole bytes word
-    ∙ (take_zeros-xor (length bytes) word (number_of bytes)
+    ∙ (take_zeros_xor (length bytes) word (number_of bytes)
     ∙ ap (bit_xor (take_zeros (length bytes) word)) (sym (remainder_whole bytes 0 ∙ ap (take_zeros (length bytes)) (xor_zero_l (number_of bytes)))))
 
 -- a byte's part and the part of those behind it

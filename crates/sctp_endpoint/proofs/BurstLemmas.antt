@@ -2,7 +2,7 @@
 use Rattle.std.proofs.Common.{◌≡◌, ℕ, suc, ◌+◌, ◌-◌, ◌<◌, arith, Bool, true, false, refl, ap, ◌∙◌, sym}
 use Rattle.std.specs.Prelude.{◌==◌}
 use Rattle.std.proofs.lemmas.Bool.Decides.{nat_tests}
-use Rattle.sctp_table.specs.Sending.{Filling, Turned, turned, go_on, burst}
+use Rattle.spec_endpoint.specs.Sending.{Filling, Turned, next_packet, go_on, burst}
 
 goes_on : {P : Type 0} (rest : Filling P → Filling P) (t : Turned P) → t.is_more ≡ true → go_on rest t ≡ rest t.filling
 goes_on rest t more = rw more refl
@@ -11,18 +11,18 @@ stops : {P : Type 0} (rest : Filling P → Filling P) (t : Turned P) → t.is_mo
 stops rest t none = rw none refl
 
 -- after packet k of n, which another may follow
-pub burst_on : {P : Type 0} (n k : ℕ) (is_first is_alone more : Bool) (x y : Filling P) → k < n → y ≡ (turned is_first is_alone x).filling
-    → more ≡ (turned is_first is_alone x).is_more → more ≡ true → burst (n - k) is_first is_alone x ≡ burst (n - (k + 1)) false is_alone y
+pub burst_on : {P : Type 0} (n k : ℕ) (is_first is_alone more : Bool) (x y : Filling P) → k < n → y ≡ (next_packet is_first is_alone x).filling
+    → more ≡ (next_packet is_first is_alone x).is_more → more ≡ true → burst (n - k) is_first is_alone x ≡ burst (n - (k + 1)) false is_alone y
 burst_on n k is_first is_alone more x y lt e said is =
     let left : n - k ≡ suc (n - (k + 1)) = omega (arith, lt) in
-    rw left (goes_on (burst (n - (k + 1)) false is_alone) (turned is_first is_alone x) (sym said ∙ is) ∙ ap (burst (n - (k + 1)) false is_alone) (sym e))
+    rw left (goes_on (burst (n - (k + 1)) false is_alone) (next_packet is_first is_alone x) (sym said ∙ is) ∙ ap (burst (n - (k + 1)) false is_alone) (sym e))
 
 -- after the last one
-pub burst_off : {P : Type 0} (n k : ℕ) (is_first is_alone more : Bool) (x y : Filling P) → k < n → y ≡ (turned is_first is_alone x).filling
-    → more ≡ (turned is_first is_alone x).is_more → more ≡ false → y ≡ burst (n - k) is_first is_alone x
+pub burst_off : {P : Type 0} (n k : ℕ) (is_first is_alone more : Bool) (x y : Filling P) → k < n → y ≡ (next_packet is_first is_alone x).filling
+    → more ≡ (next_packet is_first is_alone x).is_more → more ≡ false → y ≡ burst (n - k) is_first is_alone x
 burst_off n k is_first is_alone more x y lt e said is =
     let left : n - k ≡ suc (n - (k + 1)) = omega (arith, lt) in
-    rw left (e ∙ sym (stops (burst (n - (k + 1)) false is_alone) (turned is_first is_alone x) (sym said ∙ is)))
+    rw left (e ∙ sym (stops (burst (n - (k + 1)) false is_alone) (next_packet is_first is_alone x) (sym said ∙ is)))
 
 pub not_first : (k : ℕ) → (k + 1 == 0) ≡ false
 not_first k = grind (arith, nat_tests)

@@ -14,10 +14,10 @@ use Rattle.sctp_wire.specs.Fields.{be16, be32}
 use Rattle.sctp_control_chunk.specs.declared.chunk.Chunk.{Chunk}
 use Rattle.sctp_packet.specs.ChunkView.{chunk_tree}
 use Rattle.sctp_packet.specs.Packet.{HeaderTree, header_bytes, unsummed_bytes, packet_bytes}
-use Rattle.sctp_packet.specs.Builder.{BuilderTree, Holds, so_far, built}
+use Rattle.sctp_packet.specs.Builder.{BuilderTree, Holds, so_far, build}
 use Rattle.sctp_packet.proofs.BuilderLemmas.{built_is_packet}
-use Rattle.sctp_table.specs.Packets.{is_some_chunk}
-use Rattle.sctp_table.specs.Wire.{word_at, word_in, written}
+use Rattle.spec_endpoint.specs.Packets.{is_some_chunk}
+use Rattle.spec_endpoint.specs.Wire.{word_at, word_in, written_bytes}
 use Rattle.sctp_endpoint.specs.PacketView.{IsWritable}
 
 false_not_true : false ≡ true → ⊥
@@ -52,8 +52,8 @@ within size capped room e small = elim (cases_lt room size) [
   | inr fits ↦ rw (le-leb capped room (omega (arith, e, fits)), le-leb size room fits) refl
 ]
 
-pub All-last : (cs : List ChunkTree) (c : ChunkTree) → All IsWritable cs → IsWritable c → All IsWritable (cs ++ c ∷ [])
-All-last cs c all w = All-append IsWritable cs (c ∷ []) all (All-cons IsWritable c [] w (All-nil IsWritable))
+pub All_last : (cs : List ChunkTree) (c : ChunkTree) → All IsWritable cs → IsWritable c → All IsWritable (cs ++ c ∷ [])
+All_last cs c all w = All-append IsWritable cs (c ∷ []) all (All-cons IsWritable c [] w (All-nil IsWritable))
 
 -- ---- writing the first of those that are left
 
@@ -128,13 +128,13 @@ word_is word_of h c cs =
     ap (word_at word_of) (so_far_some h (chunks_bytes (c ∷ cs)) (some_bytes c cs)) ∙ ap (λ (x : List ℕ). word_of x % 2 ^ 32) (whole_again h (chunks_bytes (c ∷ cs)))
 
 field_is : (word_of : List ℕ → ℕ) (h : HeaderTree) (summed : Bool) (word : ℕ) (c : ChunkTree) (cs : List ChunkTree) → word ≡ word_in word_of h (c ∷ cs)
-    → packet_bytes h (cond summed word 0) (c ∷ cs) ≡ written word_of h summed (c ∷ cs)
+    → packet_bytes h (cond summed word 0) (c ∷ cs) ≡ written_bytes word_of h summed (c ∷ cs)
 field_is word_of h true word c cs e = ap (λ (w : ℕ). packet_bytes h w (c ∷ cs)) e
 field_is word_of h false word c cs e = refl
 
 pub made_written : (word_of : List ℕ → ℕ) (h : HeaderTree) (limit : ℕ) (summed : Bool) (chunks : List ChunkTree) (b : BuilderTree) (word : ℕ) (made : List ℕ)
     → is_some_chunk chunks ≡ true → Holds b chunks → record b { body = [] } ≡ record { header = h; limit = limit; writes_checksum = summed; body = [] }
-    → word ≡ word_at word_of (so_far b.header b.body) → made ≡ built b.writes_checksum b.header word b.body → made ≡ written word_of h summed chunks
+    → word ≡ word_at word_of (so_far b.header b.body) → made ≡ build b.writes_checksum b.header word b.body → made ≡ written_bytes word_of h summed chunks
 made_written word_of h limit summed [] b word made some holds same w m = absurd (false_not_true some)
 made_written word_of h limit summed (c ∷ cs) b word made some holds same w m =
     let header : b.header ≡ h = ap (λ (x : BuilderTree). x.header) same in
@@ -142,7 +142,7 @@ made_written word_of h limit summed (c ∷ cs) b word made some holds same w m =
     let field : word ≡ word_in word_of h (c ∷ cs) =
     w ∙ ap (λ (x : List ℕ). word_at word_of (so_far b.header x)) holds
     ∙ ap (λ (k : HeaderTree). word_at word_of (so_far k (chunks_bytes (c ∷ cs)))) header ∙ word_is word_of h c cs in
-    m ∙ ap (λ (x : List ℕ). built b.writes_checksum b.header word x) holds
-    ∙ ap (λ (k : HeaderTree). built b.writes_checksum k word (chunks_bytes (c ∷ cs))) header
-    ∙ ap (λ (k : Bool). built k h word (chunks_bytes (c ∷ cs))) sums
+    m ∙ ap (λ (x : List ℕ). build b.writes_checksum b.header word x) holds
+    ∙ ap (λ (k : HeaderTree). build b.writes_checksum k word (chunks_bytes (c ∷ cs))) header
+    ∙ ap (λ (k : Bool). build k h word (chunks_bytes (c ∷ cs))) sums
     ∙ built_is_packet summed h word c cs ∙ field_is word_of h summed word c cs field

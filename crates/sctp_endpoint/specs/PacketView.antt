@@ -5,7 +5,7 @@ use Rattle.sctp_packet.specs.Chunk.{ChunkTree}
 use Rattle.sctp_packet.specs.ChunkView.{chunk_tree}
 use Rattle.sctp_packet.specs.Written.{chunk_item, chunk_is_whole, chunks_bytes}
 use Rattle.sctp_endpoint.specs.declared.outgoing_packet.OutgoingPacket.TheInside.{Inside}
-use Rattle.sctp_table.specs.Packets.{Packet}
+use Rattle.spec_endpoint.specs.Packets.{Packet}
 
 abbrev pub chunks_of : Inside → List ChunkTree
 chunks_of p = map chunk_tree p.chunks.items

@@ -4,12 +4,12 @@ ghost use Rattle.std.specs.Prelude.{◌≡◌, OnOk, Some};
 ghost use Rattle.sctp_packet.specs.ChunkView.{chunk_tree};
 ghost use Rattle.sctp_state.specs.Events.{OnError, OnAborted, event_of};
 ghost use Rattle.sctp_state.specs.Options.{IsValid, options_of};
-ghost use Rattle.sctp_table.specs.Association.{context};
-ghost use Rattle.sctp_table.specs.Packets.{complain, emit, emit_chunk, emptied, say};
+ghost use Rattle.spec_endpoint.specs.Association.{context};
+ghost use Rattle.spec_endpoint.specs.Packets.{complain, emit, emit_chunk, empty_packet, say};
 ghost use Rattle.sctp_endpoint.specs.Views.{context_of, tcb_of};
-ghost use Rattle.sctp_table.specs.Wire.{writing};
-ghost use Rattle.sctp_table.specs.Closing as closing;
-ghost use Rattle.sctp_table.specs.Heartbeats as heartbeats;
+ghost use Rattle.spec_endpoint.specs.Wire.{writing};
+ghost use Rattle.spec_endpoint.specs.Shutdown as closing;
+ghost use Rattle.spec_endpoint.specs.Heartbeats as heartbeats;
 
 use crate::outgoing_packet::OutgoingPacket;
 use crate::transmission_control_block::TransmissionControlBlock;
@@ -63,7 +63,7 @@ impl<C: Checksum> Model for Context<C> {
       heartbeats = record { interval = c.heartbeat_interval; timeout = c.heartbeat_timeout; counter = c.heartbeat_counter };
       counts = record { rx_packets = c.rx_packets_count; tx_packets = c.tx_packets_count; tx_messages = c.tx_messages_count };
       peer = c.peer_implementation;
-      told = c.events;
+      emitted = c.events;
       checksum = c.checksum;
     } };
 
@@ -115,7 +115,7 @@ impl<C: Checksum> Context<C> {
     /// A packet goes out, where something was put into it; then it is empty again.
     pub fn emit(&mut self, packet: &mut OutgoingPacket) -> Result<(), AllocError>
         ensures context { OnOk result (context_of C.word_of self.new ≡ emit packet.old (context_of C.word_of self.old)) }
-        ensures packet { OnOk result (packet.new ≡ emptied packet.old) }
+        ensures packet { OnOk result (packet.new ≡ empty_packet packet.old) }
     {
         if packet.is_empty() {
             return Ok(());
@@ -191,7 +191,7 @@ impl<C: Checksum> Context<C> {
     /// No heartbeat is sent any more, and no answer waited for.
     pub fn stop_heartbeats(&mut self)
         ensures { let c = context_of C.word_of self.old in
-            context_of C.word_of self.new ≡ record c { heartbeats = heartbeats.silenced c.heartbeats } }
+            context_of C.word_of self.new ≡ record c { heartbeats = heartbeats.silence c.heartbeats } }
     {
         self.heartbeat_interval.stop();
         self.heartbeat_timeout.stop();

@@ -4,10 +4,10 @@ ghost use Rattle.std.specs.Prelude.{◌≡◌, false, [], ◌∷◌, codes, IfOk
 ghost use Rattle.sctp_wire.specs.Cause.{user_initiated_abort};
 ghost use Rattle.sctp_error_cause.specs.CauseViews.{cause_tree};
 ghost use Rattle.sctp_packet.specs.Chunk.{abort_chunk};
-ghost use Rattle.sctp_table.specs.Packets.{emit_chunk};
+ghost use Rattle.spec_endpoint.specs.Packets.{emit_chunk};
 ghost use Rattle.sctp_state.specs.Events.{OnAborted, OnClosed};
 ghost use Rattle.sctp_endpoint.specs.Views.{context_of, onward_of, phase_of, tcb_of};
-ghost use Rattle.sctp_table.specs.Closing as table;
+ghost use Rattle.spec_endpoint.specs.Shutdown as table;
 
 use crate::context::Context;
 use crate::state::Phase;

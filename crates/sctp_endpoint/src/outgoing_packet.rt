@@ -5,9 +5,9 @@ ghost use Rattle.sctp_wire.specs.Serialize.{IsEncodable};
 ghost use Rattle.sctp_packet.specs.ChunkView.{chunk_tree};
 ghost use Rattle.sctp_packet.specs.Written.{chunk_bytes, chunk_is_whole, chunk_item, chunks_bytes};
 ghost use Rattle.sctp_packet.specs.Builder.{Holds};
-ghost use Rattle.sctp_table.specs.Packets.{add, added_if, emptied, fits, has_chunks, packet_to, room};
+ghost use Rattle.spec_endpoint.specs.Packets.{add, added_if, empty_packet, fits, has_chunks, packet_to, room};
 ghost use Rattle.sctp_endpoint.specs.PacketView.{IsWritable};
-ghost use Rattle.sctp_table.specs.Wire.{word_at, written};
+ghost use Rattle.spec_endpoint.specs.Wire.{word_at, written_bytes};
 
 use sctp_packet::{COMMON_HEADER_SIZE, Chunk, SctpPacketBuilder};
 use sctp_wire::{Checksum, SerializableTlv};
@@ -28,7 +28,7 @@ pub struct OutgoingPacket {
 }
 
 impl Model for OutgoingPacket {
-    ghost use Rattle.sctp_table.specs.Packets.{Packet};
+    ghost use Rattle.spec_endpoint.specs.Packets.{Packet};
     ghost use Rattle.sctp_endpoint.specs.PacketView.{IsPacket, packet_of};
 
     ghost Value = { Packet };
@@ -120,13 +120,13 @@ impl OutgoingPacket {
         checksum: &C,
     ) -> Result<Vec<u8>, AllocError>
         requires { has_chunks self.old ≡ true }
-        ensures packet { IfOk result (λ bytes. bytes.items ≡ written (C.word_of checksum.now) (record {
+        ensures packet { IfOk result (λ bytes. bytes.items ≡ written_bytes (C.word_of checksum.now) (record {
           source_port = source_port;
           destination_port = destination_port;
           verification_tag = self.old.tag;
         }) self.old.is_summed self.old.chunks) }
         ensures short { IfOk result (λ bytes. length bytes.items ≤ self.old.limit) }
-        ensures ok { OnOk result (self.new ≡ emptied self.old) }
+        ensures ok { OnOk result (self.new ≡ empty_packet self.old) }
         ensures err { OnErr result (self.new ≡ self.old) }
     {
         let size = COMMON_HEADER_SIZE + self.body_size;

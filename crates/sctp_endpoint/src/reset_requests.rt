@@ -8,9 +8,9 @@ ghost use Rattle.sctp_state.specs.Events.{numbers_of};
 ghost use Rattle.sctp_state.specs.Options.{options_of};
 ghost use Rattle.sctp_state.specs.Timers.{is_due, next_expiry};
 ghost use Rattle.sctp_state.specs.Handover.{handover_state_of};
-ghost use Rattle.sctp_table.specs.Handover.{request_readiness, requests_restored};
+ghost use Rattle.spec_endpoint.specs.Handover.{request_readiness, requests_restored};
 ghost use Rattle.sctp_endpoint.specs.RequestViews.{outcome_of};
-ghost use Rattle.sctp_table.specs.Requests as table;
+ghost use Rattle.spec_endpoint.specs.Requests as table;
 
 use sctp_packet::{Chunk, ReConfigChunk};
 use sctp_parameter::{
@@ -36,7 +36,7 @@ pub struct ResetRequest {
 
 impl Model for ResetRequest {
     ghost use Rattle.sctp_state.specs.Events.{numbers_of};
-    ghost use Rattle.sctp_table.specs.Requests.{Request};
+    ghost use Rattle.spec_endpoint.specs.Requests.{Request};
 
     ghost Value = { Request };
 
@@ -86,7 +86,7 @@ pub struct ResetRequests {
 
 impl Model for ResetRequests {
     ghost use Rattle.sctp_parameter.specs.ParameterViews.{result_number};
-    ghost use Rattle.sctp_table.specs.Requests.{Requests};
+    ghost use Rattle.spec_endpoint.specs.Requests.{Requests};
 
     ghost Value = { Requests };
 
@@ -173,7 +173,7 @@ impl ResetRequests {
 
     /// A request for these streams begins.
     pub fn start(&mut self, now: SocketTime, rto: Duration, last_tsn: Tsn, streams: Vec<StreamId>)
-        ensures { self.new ≡ table.started now (as_nanos rto) last_tsn.0 (numbers_of streams.items) self.old }
+        ensures { self.new ≡ table.start_request now (as_nanos rto) last_tsn.0 (numbers_of streams.items) self.old }
     {
         self.current = Some(ResetRequest {
             number: self.next,
@@ -187,7 +187,7 @@ impl ResetRequests {
     }
 
     fn end(&mut self)
-        ensures { self.new ≡ table.ended self.old }
+        ensures { self.new ≡ table.end_request self.old }
     {
         self.current = None;
         self.reconfig_timer.stop();
@@ -241,7 +241,7 @@ impl ResetRequests {
         response: &ReconfigurationResponseParameter,
     ) -> ResetOutcome
         ensures outcome { let r = response.now in outcome_of result ≡ table.outcome r.response_seq_nbr (result_number r.result) self.old.current }
-        ensures requests { let r = response.now in self.new ≡ table.answered now (as_nanos rto) r.response_seq_nbr (result_number r.result) self.old }
+        ensures requests { let r = response.now in self.new ≡ table.answer_request now (as_nanos rto) r.response_seq_nbr (result_number r.result) self.old }
     {
         let Some(request) = self.current.take() else {
             return ResetOutcome::Unsettled;
@@ -256,7 +256,7 @@ impl ResetRequests {
     /// Whether the timer has expired.
     pub fn expire(&mut self, now: SocketTime) -> bool
         ensures answer { result ≡ is_due now self.old.timer }
-        ensures after { self.new ≡ table.expired now self.old }
+        ensures after { self.new ≡ table.expire_request now self.old }
     {
         self.reconfig_timer.expire(now)
     }
@@ -264,7 +264,7 @@ impl ResetRequests {
     /// The own request is to be sent again, and waits as at first. The answer is whether it was not answered at all.
     pub fn wake(&mut self) -> bool
         ensures answer { result ≡ table.is_unanswered self.old.current }
-        ensures after { self.new ≡ table.woken self.old }
+        ensures after { self.new ≡ table.wake_request self.old }
     {
         let Some(request) = &mut self.current else {
             return false;
@@ -310,7 +310,7 @@ impl ResetRequests {
 
     /// The peer's request with this number is processed now.
     pub fn process(&mut self, number: u32, answer: ReconfigurationResponseResult)
-        ensures { self.new ≡ table.processed number (result_number answer) self.old }
+        ensures { self.new ≡ table.process_request number (result_number answer) self.old }
     {
         self.last = number;
         self.result = answer;

@@ -1,12 +1,12 @@
 //! What goes into packets (RFC 9260 section 6.1).
 
 ghost use Rattle.std.specs.Prelude.{◌≡◌, ◌*◌, true, map, OnOk, IfOk, ◌<◌, false};
-ghost use Rattle.sctp_outstanding.specs.Views.{chunk_of};
+ghost use Rattle.sctp_tx_outstanding.specs.Views.{chunk_of};
 ghost use Rattle.sctp_state.specs.Events.{numbers_of};
-ghost use Rattle.sctp_table.specs.Packets.{add_all};
-ghost use Rattle.sctp_table.specs.Sending.{burst_with, carrying, data_chunks, filled_as, forward_if, most_streams, request_of, request_started, send_buffered, send_cookie, send_lost, send_with, turned, with_ack, with_data, with_forward, with_request, send_in};
-ghost use Rattle.sctp_endpoint.specs.Views.{context_of, filling_of, sent_of, tcb_of, standing_of};
-ghost use Rattle.sctp_table.specs.Association.{where_open};
+ghost use Rattle.spec_endpoint.specs.Packets.{add_all};
+ghost use Rattle.spec_endpoint.specs.Sending.{burst_with, carrying, data_chunks, filled_as, forward_if, most_streams, request_of, request_started, send_buffered, send_cookie, send_lost, send_with, next_packet, with_ack, with_data, with_forward, with_request, send_in};
+ghost use Rattle.sctp_endpoint.specs.Views.{context_of, filling_of, sent_of, tcb_of, endpoint_state_of};
+ghost use Rattle.spec_endpoint.specs.Association.{where_open};
 
 use crate::context::Context;
 use crate::outgoing_packet::OutgoingPacket;
@@ -190,8 +190,8 @@ impl<C: Checksum> Context<C> {
         is_alone: bool,
     ) -> Result<bool, AllocError>
         ensures filling { OnOk result (filling_of C.word_of packet.new tcb.new self.new
-            ≡ (turned is_first is_alone (filling_of C.word_of packet.old tcb.old self.old)).filling) }
-        ensures more { IfOk result (λ more. more ≡ (turned is_first is_alone (filling_of C.word_of packet.old tcb.old self.old)).is_more) }
+            ≡ (next_packet is_first is_alone (filling_of C.word_of packet.old tcb.old self.old)).filling) }
+        ensures more { IfOk result (λ more. more ≡ (next_packet is_first is_alone (filling_of C.word_of packet.old tcb.old self.old)).is_more) }
     {
         self.fill(packet, tcb, is_first)?;
         if packet.is_empty() {
@@ -319,7 +319,7 @@ pub fn send_waiting<C: Checksum>(
     state: &mut State,
     context: &mut Context<C>,
 ) -> Result<(), AllocError>
-    ensures { OnOk result (standing_of C.word_of state.new context.new ≡ where_open send_in (standing_of C.word_of state.old context.old)) }
+    ensures { OnOk result (endpoint_state_of C.word_of state.new context.new ≡ where_open send_in (endpoint_state_of C.word_of state.old context.old)) }
 {
     match state {
         State::Closed => Ok(()),

@@ -3,9 +3,9 @@
 ghost use Rattle.std.specs.Prelude.{◌≡◌};
 ghost use Rattle.std.specs.Borrow.{LendsIf, sem};
 ghost use Rattle.std.specs.Option.{option_map};
-ghost use Rattle.sctp_table.specs.Association.{block_in};
+ghost use Rattle.spec_endpoint.specs.Association.{block_in};
 ghost use Rattle.sctp_endpoint.specs.Lending.{with_block};
-ghost use Rattle.sctp_table.specs.Sending.{is_alone};
+ghost use Rattle.spec_endpoint.specs.Sending.{is_alone};
 ghost use Rattle.sctp_endpoint.specs.Views.{phase_of, state_of, tcb_of};
 ghost use Rattle.sctp_endpoint.specs.contracts.state.State as states;
 ghost use Rattle.sctp_endpoint.specs.contracts.transmission_control_block.TransmissionControlBlock as blocks;

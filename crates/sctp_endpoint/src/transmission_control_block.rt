@@ -3,16 +3,16 @@
 ghost use Rattle.std.specs.Prelude.{◌≡◌, None, OnOk, IsTrue};
 ghost use Rattle.sctp_state.specs.Options.{IsValid, options_of};
 ghost use Rattle.sctp_capabilities.specs.Capabilities.{capabilities_of};
-ghost use Rattle.sctp_table.specs.Association.{tcb};
-ghost use Rattle.sctp_table.specs.Packets.{new_packet};
-ghost use Rattle.sctp_table.specs.Sending.{data_chunk_of, add_request, request_started};
+ghost use Rattle.spec_endpoint.specs.Association.{tcb};
+ghost use Rattle.spec_endpoint.specs.Packets.{new_packet};
+ghost use Rattle.spec_endpoint.specs.Sending.{data_chunk_of, add_request, request_started};
 ghost use Rattle.sctp_endpoint.specs.Views.{identity_of, tcb_of};
 ghost use Rattle.sctp_packet.specs.Views.{fragment_tree};
 ghost use Rattle.sctp_packet.specs.ChunkView.{chunk_tree};
 ghost use Rattle.sctp_state.specs.Events.{numbers_of};
 ghost use Rattle.sctp_state.specs.Handover.{handover_state_of};
 ghost use Rattle.sctp_state.specs.Validity.{is_valid_state};
-ghost use Rattle.sctp_table.specs.Handover as handover;
+ghost use Rattle.spec_endpoint.specs.Handover as handover;
 
 use crate::outgoing_packet::OutgoingPacket;
 use crate::reset_requests::ResetRequests;

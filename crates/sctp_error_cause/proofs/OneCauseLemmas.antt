@@ -64,8 +64,8 @@ known typ value text =
     (cond (typ == 12) (user_initiated_abort text)
     (cond (typ == 13) (protocol_violation text) cookie_received_while_shutting_down))))
 
-abbrev told : ℕ → List ℕ → List ℕ → CauseTree
-told typ value text = cond (is_known_cause typ) (known typ value text) (unknown_cause typ value)
+abbrev emitted : ℕ → List ℕ → List ℕ → CauseTree
+emitted typ value text = cond (is_known_cause typ) (known typ value text) (unknown_cause typ value)
 
 abbrev text_in : CauseTree → List ℕ
 text_in (user_initiated_abort reason) = reason
@@ -76,20 +76,20 @@ text_in (no_user_data missing) = []
 text_in cookie_received_while_shutting_down = []
 text_in (unknown_cause typ value) = []
 
-at_type : (typ k : ℕ) (value text : List ℕ) (t : CauseTree) → typ ≡ k → told k value text ≡ t → told typ value text ≡ t
-at_type typ k value text t e h = ap (λ (n : ℕ). told n value text) e ∙ h
+at_type : (typ k : ℕ) (value text : List ℕ) (t : CauseTree) → typ ≡ k → emitted k value text ≡ t → emitted typ value text ≡ t
+at_type typ k value text t e h = ap (λ (n : ℕ). emitted n value text) e ∙ h
 
-cause_told : (typ : ℕ) (value : List ℕ) (t : CauseTree) → SaysCause typ value t → told typ value (text_in t) ≡ t
+cause_emitted : (typ : ℕ) (value : List ℕ) (t : CauseTree) → SaysCause typ value t → emitted typ value (text_in t) ≡ t
 unfolding cause_value
-cause_told typ value (missing_mandatory_parameter types) s =
+cause_emitted typ value (missing_mandatory_parameter types) s =
     at_type typ 2 value [] _ s.typed (ap missing_mandatory_parameter (ap numbers_of (ap (drop 4) s.valued ∙ behind_word (length types) _) ∙ numbers_back types s.fits.1))
-cause_told typ value (unrecognized_chunk chunk) s = at_type typ 6 value [] _ s.typed (ap unrecognized_chunk s.valued)
-cause_told typ value (no_user_data missing) s =
+cause_emitted typ value (unrecognized_chunk chunk) s = at_type typ 6 value [] _ s.typed (ap unrecognized_chunk s.valued)
+cause_emitted typ value (no_user_data missing) s =
     at_type typ 9 value [] _ s.typed (ap (λ (n : ℕ). no_user_data (tsn n)) (ap word (s.valued ∙ sym (append-nil (be32 missing.0))) ∙ word_back missing.0 [] s.fits))
-cause_told typ value cookie_received_while_shutting_down s = at_type typ 10 value [] _ s.typed refl
-cause_told typ value (user_initiated_abort reason) s = at_type typ 12 value reason _ s.typed refl
-cause_told typ value (protocol_violation information) s = at_type typ 13 value information _ s.typed refl
-cause_told typ value (unknown_cause kept bytes) s =
+cause_emitted typ value cookie_received_while_shutting_down s = at_type typ 10 value [] _ s.typed refl
+cause_emitted typ value (user_initiated_abort reason) s = at_type typ 12 value reason _ s.typed refl
+cause_emitted typ value (protocol_violation information) s = at_type typ 13 value information _ s.typed refl
+cause_emitted typ value (unknown_cause kept bytes) s =
     at_type typ kept value [] _ s.typed (ap (λ (b : Bool). cond b (known kept value []) (unknown_cause kept value)) s.of_its_variant ∙ ap (unknown_cause kept) s.valued)
 
 -- a cause of the types 12 and 13 has a text
@@ -104,21 +104,21 @@ has_text typ value (unknown_cause kept bytes) (inl k) s = absurd (clash (subst (
 has_text typ value (unknown_cause kept bytes) (inr k) s = absurd (clash (subst (λ (n : ℕ). is_known_cause n ≡ false) (sym s.typed ∙ k) s.of_its_variant))
 
 -- of other types the text does not matter
-no_text : (typ : ℕ) (value x y : List ℕ) → (typ == 12) ≡ false → (typ == 13) ≡ false → told typ value x ≡ told typ value y
+no_text : (typ : ℕ) (value x y : List ℕ) → (typ == 12) ≡ false → (typ == 13) ≡ false → emitted typ value x ≡ emitted typ value y
 no_text typ value x y p q = rw (p, q) refl
 
-same_told : (typ : ℕ) (value : List ℕ) (t u : CauseTree) → SaysCause typ value t → SaysCause typ value u → (a b : Bool) → (typ == 12) ≡ a → (typ == 13) ≡ b
-    → told typ value (text_in t) ≡ told typ value (text_in u)
-same_told typ value t u s r true b p q =
+same_emitted : (typ : ℕ) (value : List ℕ) (t u : CauseTree) → SaysCause typ value t → SaysCause typ value u → (a b : Bool) → (typ == 12) ≡ a → (typ == 13) ≡ b
+    → emitted typ value (text_in t) ≡ emitted typ value (text_in u)
+same_emitted typ value t u s r true b p q =
     let k = inl (eqb-true typ 12 p) in
-    ap (told typ value) (one_text_lem value (text_in t) (text_in u) (has_text typ value t k s) (has_text typ value u k r))
-same_told typ value t u s r false true p q =
+    ap (emitted typ value) (one_text_lem value (text_in t) (text_in u) (has_text typ value t k s) (has_text typ value u k r))
+same_emitted typ value t u s r false true p q =
     let k = inr (eqb-true typ 13 q) in
-    ap (told typ value) (one_text_lem value (text_in t) (text_in u) (has_text typ value t k s) (has_text typ value u k r))
-same_told typ value t u s r false false p q = no_text typ value (text_in t) (text_in u) p q
+    ap (emitted typ value) (one_text_lem value (text_in t) (text_in u) (has_text typ value t k s) (has_text typ value u k r))
+same_emitted typ value t u s r false false p q = no_text typ value (text_in t) (text_in u) p q
 
 pub one_cause_lem : (i : Item) (t u : CauseTree) → IsCause i t → IsCause i u → t ≡ u
 one_cause_lem i t u s r =
-    sym (cause_told (type_of i) i.value t s)
-    ∙ same_told (type_of i) i.value t u s r (type_of i == 12) (type_of i == 13) refl refl
-    ∙ cause_told (type_of i) i.value u r
+    sym (cause_emitted (type_of i) i.value t s)
+    ∙ same_emitted (type_of i) i.value t u s r (type_of i == 12) (type_of i == 13) refl refl
+    ∙ cause_emitted (type_of i) i.value u r

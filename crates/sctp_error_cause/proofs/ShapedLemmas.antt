@@ -7,7 +7,7 @@ use Rattle.sctp_wire.specs.Fields.{be16, be32, length_be32}
 use Rattle.sctp_wire.specs.Shape.{HasShape}
 use Rattle.sctp_wire.specs.Cause.{CauseTree, missing_mandatory_parameter, unrecognized_chunk, no_user_data, cookie_received_while_shutting_down, user_initiated_abort, protocol_violation, unknown_cause, SaysCause, cause_value, cause_shape, is_known_cause}
 use Rattle.sctp_wire.proofs.ItemLemmas.{IsBytes}
-use Rattle.sctp_wire.proofs.PresentLemmas.{IsBytes-drop, number16, number32, entries_in, text_in, by_type}
+use Rattle.sctp_wire.proofs.PresentLemmas.{IsBytes_drop, number16, number32, entries_in, text_in, by_type}
 use Rattle.sctp_wire.proofs.WordLemmas.{tsn}
 use Rattle.sctp_wire.proofs.FieldLemmas.{be32_same}
 use Rattle.sctp_error_cause.proofs.CauseLemmas.{all_counted, count_fits}
@@ -26,7 +26,7 @@ missing_says value fits shape =
     let count = number32 value fits long in
     let same = be32_same count.0 shape.0 entries shape.1 count.1 shape.2 (sym count.2 ∙ shape.3) in
     let len : length entries ≡ 2 * count.0 = omega (arith, ap length same.1, shape.4, same.0) in
-    let types = types_in count.0 entries (IsBytes-drop 4 value fits) (omega (arith, len)) in (
+    let types = types_in count.0 entries (IsBytes_drop 4 value fits) (omega (arith, len)) in (
       missing_mandatory_parameter types.0,
       record {
         typed = refl;

@@ -5,7 +5,7 @@ ghost use Rattle.std.specs.Prelude.{◌≡◌, ◌≢◌, ◌<◌, ◌^◌, ◌+
 ghost use Rattle.std.specs.List.{flat_map};
 ghost use Rattle.sctp_wire.specs.declared.error.ChunkParseError.{ChunkParseError};
 ghost use Rattle.sctp_wire.specs.Item.{Item, Tiles};
-ghost use Rattle.sctp_wire.specs.Refusal.{BreaksAs};
+ghost use Rattle.sctp_wire.specs.Refusal.{FailsToParseAs};
 ghost use Rattle.sctp_wire.specs.Serialize.{IsEncodable, inner_items, padded_item};
 ghost use Rattle.sctp_wire.specs.Cause.{CauseTree, CauseFits, IsCause, RefusesCause, cause_item};
 ghost use Rattle.sctp_wire.specs.ReadBack.{CauseReadsBack, IsText};
@@ -69,7 +69,7 @@ pub fn one_cause()
 pub fn one_list_of_causes()
     ensures values { (bytes : List ℕ) (ts us : List CauseTree) → Tiles IsCause bytes ts [] → Tiles IsCause bytes us [] → ts ≡ us }
     ensures never_both { (bytes : List ℕ) (ts : List CauseTree) (fault : ChunkParseError) → Tiles IsCause bytes ts []
-        → BreaksAs IsCause RefusesCause bytes fault → fault ≢ ChunkParseError.Memory → ⊥ }
-    ensures fault { (bytes : List ℕ) (fault other : ChunkParseError) → BreaksAs IsCause RefusesCause bytes fault
-        → BreaksAs IsCause RefusesCause bytes other → fault ≢ ChunkParseError.Memory → other ≢ ChunkParseError.Memory → fault ≡ other }
+        → FailsToParseAs IsCause RefusesCause bytes fault → fault ≢ ChunkParseError.Memory → ⊥ }
+    ensures fault { (bytes : List ℕ) (fault other : ChunkParseError) → FailsToParseAs IsCause RefusesCause bytes fault
+        → FailsToParseAs IsCause RefusesCause bytes other → fault ≢ ChunkParseError.Memory → other ≢ ChunkParseError.Memory → fault ≡ other }
 {}

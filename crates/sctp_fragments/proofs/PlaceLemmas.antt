@@ -9,7 +9,7 @@ use Rattle.sctp_fragments.specs.declared.interval.Interval.{Interval}
 use Rattle.sctp_fragments.specs.Runs.{end_of, last_of, IsBelow, is_next, joins_left, joins_right}
 use Rattle.sctp_fragments.specs.Held.{Held, rank_of, goes_on, bytes_of, payload_of}
 use Rattle.sctp_fragments.specs.Intervals.{run_of, lists_of, starts_upto, EndsFrom}
-use Rattle.sctp_fragments.proofs.RunLemmas.{end_of-append}
+use Rattle.sctp_fragments.proofs.RunLemmas.{end_of_append}
 
 pub last_read : {E : Type 0} (e d : E) (es : List E) → get_or (e ∷ es) (length es) d ≡ last_of e es
 last_read e d [] = refl
@@ -20,11 +20,11 @@ last_at {E = E} xs e d es n h read is =
     let m : n ≡ length es = omega (arith, h, ap length is) in
     read ∙ (ap (λ (t : List E). get_or t n d) is ∙ (ap (λ (k : ℕ). get_or (e ∷ es) k d) m ∙ last_read e d es))
 
-pub told_less : (r : Bool) (a b : ℕ) → r ≡ true → r ≡ ltb a b → a < b
-told_less r a b h k = grind (arith, nat_tests)
+pub emitted_less : (r : Bool) (a b : ℕ) → r ≡ true → r ≡ ltb a b → a < b
+emitted_less r a b h k = grind (arith, nat_tests)
 
-pub told_not_less : (r : Bool) (a b : ℕ) → r ≡ false → r ≡ ltb a b → b ≤ a
-told_not_less r a b h k = grind (arith, nat_tests)
+pub emitted_not_less : (r : Bool) (a b : ℕ) → r ≡ false → r ≡ ltb a b → b ≤ a
+emitted_not_less r a b h k = grind (arith, nat_tests)
 
 pub record IsCons {E : Type 0} (xs : List E) : Type 0 where
   pub head : E
@@ -57,15 +57,15 @@ module _ {K : Type 0} (f : Entry K → Held) where
   last_held (e ∷ es) d h hs n long read is =
       ap f (last_at (e ∷ es) e d es n long read refl) ∙ (sym (last_mapped e es) ∙ ap (λ (t : List Held). last_of (get_or t 0 h) (drop 1 t)) is)
 
-  pub lists_of-append : (xs ys : List (Interval K)) → lists_of f (xs ++ ys) ≡ lists_of f xs ++ lists_of f ys
-  lists_of-append [] ys = refl
-  lists_of-append (x ∷ xs) ys = ap (λ (t : List (List Held)). run_of f x ∷ t) (lists_of-append xs ys)
+  pub lists_of_append : (xs ys : List (Interval K)) → lists_of f (xs ++ ys) ≡ lists_of f xs ++ lists_of f ys
+  lists_of_append [] ys = refl
+  lists_of_append (x ∷ xs) ys = ap (λ (t : List (List Held)). run_of f x ∷ t) (lists_of_append xs ys)
 
   pub below_more : (n p : ℕ) (xs : List (Interval K)) (i : Interval K) (e : Held) → p < length xs → i ≡ get_or xs p i → 0 < length (run_of f i)
       → ((d : Held) (ds : List Held) → run_of f i ≡ d ∷ ds → e ≡ last_of d ds) → rank_of e < n → IsBelow rank_of n (end_of None (lists_of f (take (p + 1) xs)))
   below_more n p xs i e h read some last less =
       let c = cons (run_of f i) some in
-      rw (take_more xs p i h) (rw (← read) (rw (lists_of-append (take p xs) (i ∷ [])) (rw (end_of-append {E = Held} rank_of goes_on None (lists_of f (take p xs)) (run_of f i ∷ []))
+      rw (take_more xs p i h) (rw (← read) (rw (lists_of_append (take p xs) (i ∷ [])) (rw (end_of_append {E = Held} rank_of goes_on None (lists_of f (take p xs)) (run_of f i ∷ []))
       (rw c.is (subst (λ (x : Held). rank_of x < n) (last c.head c.tail c.is) less)))))
 
   -- the bytes from an entry on
@@ -116,7 +116,7 @@ module _ {K : Type 0} (f : Entry K → Held) where
   remove_at (p ∷ ps) qs i = ap (λ (t : List (Interval K)). p ∷ t) (remove_at ps qs i)
 
   pub lists_set : (xs ps qs : List (Interval K)) (i j : Interval K) (n : ℕ) → xs ≡ ps ++ i ∷ qs → length ps ≡ n → lists_of f (set xs n j) ≡ lists_of f ps ++ run_of f j ∷ lists_of f qs
-  lists_set xs ps qs i j n is at = rw is (rw (← at) (rw (set_at ps qs i j) (lists_of-append ps (j ∷ qs))))
+  lists_set xs ps qs i j n is at = rw is (rw (← at) (rw (set_at ps qs i j) (lists_of_append ps (j ∷ qs))))
 
   pub read_at : (xs ps qs : List (Interval K)) (i d : Interval K) (n : ℕ) → xs ≡ ps ++ i ∷ qs → length ps ≡ n → d ≡ get_or xs n d → d ≡ i
   read_at xs ps qs i d n is at read = read ∙ (ap (λ (t : List (Interval K)). get_or t n d) is ∙ (ap (λ (k : ℕ). get_or (ps ++ i ∷ qs) k d) (sym at) ∙ get_at ps qs i d))
@@ -149,35 +149,35 @@ on_err (Ok x) P p = tt
 on_err (Err e) P p = p
 
 module _ {K : Type 0} (f : Entry K → Held) where
-  pub joins_left-read : (xs : List (Interval K)) (p : ℕ) (i : Interval K) (e x : Held) (r : Bool) → 0 < p → p ≤ length xs → i ≡ get_or xs (p - 1) i → 0 < length (run_of f i)
+  pub joins_left_read : (xs : List (Interval K)) (p : ℕ) (i : Interval K) (e x : Held) (r : Bool) → 0 < p → p ≤ length xs → i ≡ get_or xs (p - 1) i → 0 < length (run_of f i)
       → ((d : Held) (ds : List Held) → run_of f i ≡ d ∷ ds → e ≡ last_of d ds) → r ≡ is_next rank_of goes_on e x → r ≡ joins_left rank_of goes_on (end_of None (lists_of f (take p xs))) x
-  joins_left-read xs zero i e x r h k read some last is = absurd (omega arith)
-  joins_left-read xs (suc p) i e x r h k read some last is =
+  joins_left_read xs zero i e x r h k read some last is = absurd (omega arith)
+  joins_left_read xs (suc p) i e x r h k read some last is =
       let c = cons (run_of f i) some in
       let up : suc p ≡ p + 1 = omega arith in
       let down : suc p - 1 ≡ p = omega arith in
       let here : i ≡ get_or xs p i = read ∙ ap (λ (k : ℕ). get_or xs k i) down in
-      rw up (rw (take_more xs p i k) (rw (← here) (rw (lists_of-append f (take p xs) (i ∷ [])) (rw (end_of-append {E = Held} rank_of goes_on None (lists_of f (take p xs)) (run_of f i ∷ []))
+      rw up (rw (take_more xs p i k) (rw (← here) (rw (lists_of_append f (take p xs) (i ∷ [])) (rw (end_of_append {E = Held} rank_of goes_on None (lists_of f (take p xs)) (run_of f i ∷ []))
       (rw c.is (is ∙ ap (λ (d : Held). is_next rank_of goes_on d x) (last c.head c.tail c.is)))))))
 
-  pub joins_right-read : (xs : List (Interval K)) (p : ℕ) (i : Interval K) (e x : Held) (r : Bool) → p < length xs → i ≡ get_or xs p i → 0 < length (run_of f i)
+  pub joins_right_read : (xs : List (Interval K)) (p : ℕ) (i : Interval K) (e x : Held) (r : Bool) → p < length xs → i ≡ get_or xs p i → 0 < length (run_of f i)
       → ((d : Held) (ds : List Held) → run_of f i ≡ d ∷ ds → e ≡ d) → r ≡ is_next rank_of goes_on x e → r ≡ joins_right rank_of goes_on x (lists_of f (drop p xs))
-  joins_right-read xs p i e x r k read some first is =
+  joins_right_read xs p i e x r k read some first is =
       let c = cons (run_of f i) some in
       rw (drop-cons xs p i k) (rw (← read) (rw c.is (is ∙ ap (λ (d : Held). is_next rank_of goes_on x d) (first c.head c.tail c.is))))
 
-  pub ends_from-read : (xs : List (Interval K)) (p n : ℕ) (i : Interval K) (e : Held) → p < length xs → i ≡ get_or xs p i → 0 < length (run_of f i)
+  pub ends_from_read : (xs : List (Interval K)) (p n : ℕ) (i : Interval K) (e : Held) → p < length xs → i ≡ get_or xs p i → 0 < length (run_of f i)
       → ((d : Held) (ds : List Held) → run_of f i ≡ d ∷ ds → e ≡ last_of d ds) → n ≤ rank_of e → EndsFrom n (lists_of f (drop p xs))
-  ends_from-read xs p n i e k read some last most =
+  ends_from_read xs p n i e k read some last most =
       let c = cons (run_of f i) some in
       rw (drop-cons xs p i k) (rw (← read) (rw c.is (subst (λ (x : Held). n ≤ rank_of x) (last c.head c.tail c.is) most)))
 
-  pub starts_upto-read : (xs : List (Interval K)) (p n : ℕ) (i : Interval K) (e : Held) (r : Bool) → p < length xs → i ≡ get_or xs p i → 0 < length (run_of f i)
+  pub starts_upto_read : (xs : List (Interval K)) (p n : ℕ) (i : Interval K) (e : Held) (r : Bool) → p < length xs → i ≡ get_or xs p i → 0 < length (run_of f i)
       → ((d : Held) (ds : List Held) → run_of f i ≡ d ∷ ds → e ≡ d) → r ≡ ltb n (rank_of e) → not r ≡ starts_upto n (lists_of f (drop p xs))
-  starts_upto-read xs p n i e r k read some first is =
+  starts_upto_read xs p n i e r k read some first is =
       let c = cons (run_of f i) some in
       rw (drop-cons xs p i k) (rw (← read) (rw c.is (ap not is ∙ ap (λ (d : Held). not (ltb n (rank_of d))) (first c.head c.tail c.is))))
 
-pub length-payload : (hs : List Held) → length (payload_of hs) ≡ bytes_of hs
-length-payload [] = refl
-length-payload (h ∷ hs) = length-append h.fragment.payload (payload_of hs) ∙ ap (λ (t : ℕ). length h.fragment.payload + t) (length-payload hs)
+pub length_payload : (hs : List Held) → length (payload_of hs) ≡ bytes_of hs
+length_payload [] = refl
+length_payload (h ∷ hs) = length-append h.fragment.payload (payload_of hs) ∙ ap (λ (t : ℕ). length h.fragment.payload + t) (length_payload hs)

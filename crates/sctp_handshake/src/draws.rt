@@ -1,7 +1,7 @@
 //! What the words of the generator stand for.
 
 ghost use Rattle.std.specs.Prelude.{◌≡◌};
-ghost use Rattle.sctp_table.specs.Opening as table;
+ghost use Rattle.spec_endpoint.specs.Opening as table;
 
 use sctp_serial::Tsn;
 

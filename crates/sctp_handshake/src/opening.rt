@@ -6,9 +6,9 @@ ghost use Rattle.sctp_wire.specs.Cause.{missing_mandatory_parameter};
 ghost use Rattle.sctp_parameter.specs.ParameterViews.{parameter_tree};
 ghost use Rattle.sctp_packet.specs.Chunk.{abort_chunk};
 ghost use Rattle.sctp_control_chunk.specs.Views.{init_ack_tree, init_tree};
-ghost use Rattle.sctp_table.specs.Packets.{add, emit, packet_to, rounded};
-ghost use Rattle.sctp_endpoint.specs.Views.{context_of, endpoint_of, identity_of, opened_endpoint_of, phase_of, standing_of, tcb_of};
-ghost use Rattle.sctp_table.specs.Opening as table;
+ghost use Rattle.spec_endpoint.specs.Packets.{add, emit, packet_to, round_up};
+ghost use Rattle.sctp_endpoint.specs.Views.{context_of, endpoint_of, identity_of, opened_endpoint_of, phase_of, endpoint_state_of, tcb_of};
+ghost use Rattle.spec_endpoint.specs.Opening as table;
 
 use crate::draws::{tag_from, tsn_from};
 use rand_core::Rng;
@@ -31,7 +31,7 @@ use std::alloc::AllocError;
 const STATE_COOKIE: u16 = 7;
 
 /// A closed end draws its first TSN and its tag, and an INIT goes out.
-pub fn connect<R: Rng, C: Checksum>(
+pub fn do_connect<R: Rng, C: Checksum>(
     state: &mut State,
     context: &mut Context<C>,
     rng: &mut R,
@@ -56,7 +56,7 @@ fn wait<C: Checksum>(
     tag: u32,
     initial_tsn: Tsn,
 ) -> Result<(), AllocError>
-    ensures { OnOk result (standing_of C.word_of state.new context.new ≡ table.waiting tag initial_tsn.0 (context_of C.word_of context.old)) }
+    ensures { OnOk result (endpoint_state_of C.word_of state.new context.new ≡ table.waiting tag initial_tsn.0 (context_of C.word_of context.old)) }
 {
     let t1_init = t1_init(context);
     context.send_init(tag, initial_tsn)?;
@@ -173,7 +173,7 @@ fn take_init_ack<R: Rng, C: Checksum>(
     init_ack: &InitAckChunk,
 ) -> Result<(), AllocError>
     ensures { OnOk result (endpoint_of R.stream C.word_of state.new context.new rng.new
-        ≡ table.echoed (init_ack_tree init_ack.now) (table.cookie_in (map parameter_tree init_ack.now.parameters.items)) own.0 own.1.0
+        ≡ table.echo_cookie (init_ack_tree init_ack.now) (table.cookie_in (map parameter_tree init_ack.now.parameters.items)) own.0 own.1.0
         (endpoint_of R.stream C.word_of state.old context.old rng.old)) }
 {
     let Some(cookie) = cookie_in(&init_ack.parameters) else {
@@ -195,7 +195,7 @@ fn end_without_cookie<C: Checksum>(
     context: &mut Context<C>,
     peer_tag: u32,
 ) -> Result<(), AllocError>
-    ensures { OnOk result (standing_of C.word_of state.new context.new ≡ table.without_cookie peer_tag (context_of C.word_of context.old)) }
+    ensures { OnOk result (endpoint_state_of C.word_of state.new context.new ≡ table.without_cookie peer_tag (context_of C.word_of context.old)) }
 {
     send_missing_cookie(context, peer_tag)?;
     context.tell_aborted(
@@ -214,7 +214,7 @@ fn echo<C: Checksum>(
     init_ack: &InitAckChunk,
     cookie: &[u8],
 ) -> Result<(), AllocError>
-    ensures { OnOk result (standing_of C.word_of state.new context.new
+    ensures { OnOk result (endpoint_state_of C.word_of state.new context.new
         ≡ table.echo (init_ack_tree init_ack.now) cookie.now (identity_of identity) (context_of C.word_of context.old)) }
 {
     let capabilities = agreed_by(
@@ -250,7 +250,7 @@ fn send_missing_cookie<C: Checksum>(
     peer_tag: u32,
 ) -> Result<(), AllocError>
     ensures { OnOk result (context_of C.word_of context.new
-        ≡ emit (add (abort_chunk false (missing_mandatory_parameter (7 ∷ []) ∷ [])) (packet_to peer_tag (rounded context.old.options.mtu))) (context_of C.word_of context.old)) }
+        ≡ emit (add (abort_chunk false (missing_mandatory_parameter (7 ∷ []) ∷ [])) (packet_to peer_tag (round_up context.old.options.mtu))) (context_of C.word_of context.old)) }
 {
     let mut missing_parameter_types = Vec::new(context.alloc);
     missing_parameter_types.push(STATE_COOKIE)?;

@@ -38,6 +38,6 @@ Tiles R bytes (x ∷ xs) rest = (i : Item) × (after : List ℕ) × Takes bytes 
 pub record Breaks {X : Type 0} (R : Item → X → Type 0) (bytes : List ℕ) : Type 0 where
   pub front : List X
   pub rest : List ℕ
-  pub tiles : Tiles R bytes front rest
+  pub parses : Tiles R bytes front rest
   pub some : 0 < length rest
   pub stuck : (i : Item) (after : List ℕ) (x : X) → Takes rest i after → R i x → ⊥

@@ -1,8 +1,8 @@
 -- What comes to a side comes to the world.
 use Rattle.std.proofs.Common.{◌≡◌, ℕ, List, sym, ap, subst}
 use Rattle.rand_core.specs.Stream.{Stream}
-use Rattle.sctp_network_table.specs.Judge.{End, A, B}
-use Rattle.sctp_network_table.specs.World.{ComesTo, Comes}
+use Rattle.spec_world.specs.Observations.{End, A, B}
+use Rattle.spec_world.specs.World.{ComesTo, Comes}
 use Rattle.sctp_network_side.specs.SideView.{side_in}
 use Rattle.sctp_network.specs.WorldView.{WorldValue, world_of}
 

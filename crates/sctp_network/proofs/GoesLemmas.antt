@@ -4,15 +4,15 @@ use Rattle.std.specs.Prelude.{slice_get}
 use Rattle.rand_core.specs.Stream.{Stream}
 use Rattle.sctp_serial.specs.Messages.{Message}
 use Rattle.sctp_state.specs.Options.{SendOptions, defaults}
-use Rattle.sctp_table_laws.specs.FirstRun.{IsSmall}
+use Rattle.proof_endpoint.specs.FirstRun.{IsSmall}
 use Rattle.sctp_network.specs.declared.world.WorldError.{WorldError}
 use Rattle.sctp_network.specs.declared.world.WorldError.TheVariants as errors
-use Rattle.sctp_network_table.specs.Judge.{A, B, Connect, Send}
-use Rattle.sctp_network_table.specs.World.{Action, CallOf, Give, World, Happens, Runs, Lacks, RunsUpToLack, fresh_world}
-use Rattle.sctp_network_table.specs.FirstRun.{opening, crossing, acknowledging, first_run, CameBy, LeadsFirstRun, ContinuesFirstRun}
-use Rattle.sctp_network_table.proofs.RunLemmas.{Runs-append}
-use Rattle.sctp_network_table.proofs.FirstRunLemmas.{it_opens, first, second, third, fourth, opened, to_first, to_second, to_third, to_fourth, to_opened}
-use Rattle.sctp_network_table.proofs.CrossingLemmas.{it_crosses, comes_to_rest, packets_sent, packet, sent_world, taken_world, to_sent, to_taken}
+use Rattle.spec_world.specs.Observations.{A, B, Connect, Send}
+use Rattle.spec_world.specs.World.{Action, CallOf, Give, World, Happens, Runs, Lacks, RunsUpToLack, fresh_world}
+use Rattle.spec_world.specs.FirstRun.{opening, crossing, acknowledging, first_run, CameBy, LeadsFirstRun, ContinuesFirstRun}
+use Rattle.spec_world.proofs.RunLemmas.{Runs_append}
+use Rattle.spec_world.proofs.FirstRunLemmas.{it_opens, first, second, third, fourth, opened, to_first, to_second, to_third, to_fourth, to_opened}
+use Rattle.spec_world.proofs.CrossingLemmas.{it_crosses, comes_to_rest, packets_sent, packet, sent_world, taken_world, to_sent, to_taken}
 
 -- each event finds its packet, whatever came of those before
 abbrev Goes : List Action → World → Type 0
@@ -65,7 +65,7 @@ only_memory actions w v errors.NoSuchPacket lacks c =
     subst (Goes (first_run c.message c.options)) (sym fresh.is) (goes_all fresh.a fresh.b fresh.word_of c.message c.options c.small) in
     absurd (never_lacks (c.before ++ l.before) l.action (l.rest ++ c.rest) c.came.origin v
     (subst (λ (all : List Action). Goes all c.came.origin) whole goes)
-    (Runs-append c.before l.before c.came.origin w v c.came.runs l.runs) l.lacks)
+    (Runs_append c.before l.before c.came.origin w v c.came.runs l.runs) l.lacks)
 
 pub leads_on : (actions : List Action) (w v : World) → Runs actions w v → LeadsFirstRun actions w v
 leads_on actions w v runs = record {
@@ -75,4 +75,4 @@ leads_on actions w v runs = record {
 }
   where
     along : (before : List Action) (came : CameBy before w) (all : List Action) → before ++ actions ≡ all → Runs all came.origin v
-    along before came all is = subst (λ (z : List Action). Runs z came.origin v) is (Runs-append before actions came.origin w v came.runs runs)
+    along before came all is = subst (λ (z : List Action). Runs z came.origin v) is (Runs_append before actions came.origin w v came.runs runs)

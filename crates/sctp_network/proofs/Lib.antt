@@ -1,4 +1,4 @@
 pub mod ComingLemmas
 pub mod GoesLemmas
-pub mod LedLemmas
+pub mod ReachableLemmas
 pub mod PairedLemmas

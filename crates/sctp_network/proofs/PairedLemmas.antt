@@ -3,15 +3,15 @@ use Rattle.std.proofs.Common.{◌≡◌, ◌⊎◌, inl, inr, ℕ, Bool, true, f
 use Rattle.std.specs.Prelude.{All, Result, Ok, Err, OnOk, IfErr}
 use Rattle.std.proofs.lemmas.List.Elements.{All-append}
 use Rattle.sctp_packet.specs.Grammar.{Each}
-use Rattle.sctp_table_laws.specs.ReadBack.{AreBytes}
+use Rattle.proof_endpoint.specs.ReadBack.{AreBytes}
 use Rattle.sctp_network.specs.declared.world.WorldError.{WorldError}
 use Rattle.sctp_network.specs.declared.world.WorldError.TheVariants as errors
-use Rattle.sctp_network_table.specs.World.{World, Action}
-use Rattle.sctp_network_table.proofs.RunLemmas.{Runs-append}
-use Rattle.sctp_network_laws.specs.Courses.{ActionFits, IsInBytes}
-use Rattle.sctp_network_draws.specs.Alike.{ArePaired, first_new, second_new}
-use Rattle.sctp_network_draws.specs.Pairs.{Both, BothUpToLack}
-use Rattle.sctp_network.proofs.LedLemmas.{in_bytes_after, front_fits}
+use Rattle.spec_world.specs.World.{World, Action}
+use Rattle.spec_world.proofs.RunLemmas.{Runs_append}
+use Rattle.proof_world.specs.Traces.{ActionFits, IsInBytes}
+use Rattle.proof_world_draws.specs.Alike.{ArePaired, first_new, second_new}
+use Rattle.proof_world_draws.specs.Pairs.{Both, BothUpToLack}
+use Rattle.sctp_network.proofs.ReachableLemmas.{in_bytes_after, front_fits}
 
 -- new packets of a world are bytes
 pub record SentBytes (w x : World) : Type 0 where
@@ -28,8 +28,8 @@ module _ (w v x y : World) (s : SentBytes w x) (t : SentBytes v y) where
     a = p.a;
     b = p.b;
     word_of = p.word_of;
-    words_a = p.words_a;
-    words_b = p.words_b;
+    random_a = p.random_a;
+    random_b = p.random_b;
     others_a = p.others_a;
     others_b = p.others_b;
     valid_a = p.valid_a;
@@ -38,8 +38,8 @@ module _ (w v x y : World) (s : SentBytes w x) (t : SentBytes v y) where
     fits_b = p.fits_b;
     actions = p.actions ++ actions;
     fit = All-append ActionFits p.actions actions p.fit fit;
-    first = Runs-append p.actions actions (first_new p) w x p.first both.first;
-    second = Runs-append p.actions actions (second_new p) v y p.second both.second;
+    first = Runs_append p.actions actions (first_new p) w x p.first both.first;
+    second = Runs_append p.actions actions (second_new p) v y p.second both.second;
     first_bytes = in_bytes_after actions w x s.a s.b both.first s.sent_a s.sent_b s.bytes_a s.bytes_b p.first_bytes;
     second_bytes = in_bytes_after actions v y t.a t.b both.second t.sent_a t.sent_b t.bytes_a t.bytes_b p.second_bytes;
   }

@@ -1,8 +1,8 @@
 -- What the program's value of a world says.
 use Rattle.std.specs.Prelude.{ℕ, Bool, List}
 use Rattle.rand_core.specs.Stream.{Stream}
-use Rattle.sctp_network_table.specs.Judge.{Entry}
-use Rattle.sctp_network_table.specs.World.{World}
+use Rattle.spec_world.specs.Observations.{Entry}
+use Rattle.spec_world.specs.World.{World}
 use Rattle.sctp_network_side.specs.SideView.{SideValue, side_in}
 
 -- a world as the program has it

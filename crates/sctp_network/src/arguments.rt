@@ -2,19 +2,19 @@
 
 ghost use Rattle.std.specs.Prelude.{map, All};
 ghost use Rattle.sctp_packet.specs.Grammar.{Each};
-ghost use Rattle.sctp_table_laws.specs.Sound.{ArgumentFits};
-ghost use Rattle.sctp_network_table.specs.World.{step_of};
+ghost use Rattle.proof_endpoint.specs.Sound.{ArgumentFits};
+ghost use Rattle.spec_world.specs.World.{step_of};
 ghost use Rattle.sctp_network_side.specs.SideView.{action_of, call_tree};
 ghost use Rattle.sctp_network.specs.WorldView.{world_of};
-ghost use Rattle.sctp_network_laws.specs.Courses.{ActionFits};
-ghost use Rattle.sctp_network_laws.specs.Readable as readable;
-ghost use Rattle.sctp_network_laws.specs.Readable.{GivesBytes};
+ghost use Rattle.proof_world.specs.Traces.{ActionFits};
+ghost use Rattle.proof_world.specs.Readable as readable;
+ghost use Rattle.proof_world.specs.Readable.{GivesBytes};
 
 use crate::world::{Call, End, Event, World};
-use rand_core::Rng;
-use sctp_table_laws::arguments::{
+use proof_endpoint::arguments::{
     a_message_fits, a_stream_fits, bytes_fit, messages_fit, streams_fit,
 };
+use rand_core::Rng;
 use sctp_wire::Checksum;
 
 /// What a call hands in fits.

@@ -4,13 +4,13 @@ ghost use Rattle.std.specs.Prelude.{◌≡◌, List, ℕ, true, false, Some, Non
 ghost use Rattle.sctp_packet.specs.Grammar.{Each};
 ghost use Rattle.sctp_state.specs.Options.{IsValid, options_of};
 ghost use Rattle.sctp_network.specs.declared.world.WorldError.TheVariants.{Memory as no_memory};
-ghost use Rattle.sctp_table_laws.specs.ReadBack.{AreBytes};
-ghost use Rattle.sctp_network_table.specs.World.{Comes, Happens, Runs, Lacks, RunsUpToLack, RunsUpToWant, AreShort, fresh_world, side_of, is_at_rest, Told, clock};
-ghost use Rattle.sctp_network_table.specs.FirstRun.{LeadsFirstRun, ContinuesFirstRun};
-ghost use Rattle.sctp_network_table.specs.Judge.{Given};
-ghost use Rattle.sctp_network_laws.specs.Agreed.{Agrees, DrawsNoTagTwice};
-ghost use Rattle.sctp_network_laws.specs.Composed.{Composes};
-ghost use Rattle.sctp_network_laws.specs.Courses.{IsLed};
+ghost use Rattle.proof_endpoint.specs.ReadBack.{AreBytes};
+ghost use Rattle.spec_world.specs.World.{Comes, Happens, Runs, Lacks, RunsUpToLack, RunsUpToWant, AreShort, fresh_world, side_of, is_at_rest, TakesBytes, clock};
+ghost use Rattle.spec_world.specs.FirstRun.{LeadsFirstRun, ContinuesFirstRun};
+ghost use Rattle.spec_world.specs.Observations.{Given};
+ghost use Rattle.proof_world.specs.Agreed.{Agrees, DrawsNoTagTwice};
+ghost use Rattle.proof_world.specs.Composed.{Composes};
+ghost use Rattle.proof_world.specs.Traces.{IsReachable};
 ghost use Rattle.sctp_network_side.specs.SideView.{action_of, end_tree, entry_tree, side_in};
 ghost use Rattle.sctp_network.specs.WorldView.{world_of};
 
@@ -18,11 +18,11 @@ mod pair;
 
 use crate::arguments::{an_event_fits, events_fit};
 pub use pair::run_pair;
+use proof_endpoint::arguments::options_fit;
 use rand_core::Rng;
 use sctp_network_side::side::Side;
 pub use sctp_network_side::{Answer, Call, End, Entry, Event};
 use sctp_state::{CallError, Options};
-use sctp_table_laws::arguments::options_fit;
 use sctp_wire::Checksum;
 use std::alloc::{AllocError, Global};
 use std::marker::Model;
@@ -92,7 +92,7 @@ impl<R: Rng + Drop, C: Checksum + Drop> World<R, C> {
             ≡ fresh_world (options_of options_a.now) (options_of options_b.now) (R.stream rng_a) (R.stream rng_b) (C.word_of checksum_a) (C.word_of checksum_b)) }
         ensures works { IfOk result (λ w. w.has_failed ≡ false) }
         ensures short { IfOk result (λ w. AreShort (options_of options_a.now).mtu (options_of options_b.now).mtu (world_of R.stream C.word_of w)) }
-        ensures leads { IfOk result (λ w. IsLed (world_of R.stream C.word_of w)) }
+        ensures leads { IfOk result (λ w. IsReachable (world_of R.stream C.word_of w)) }
         ensures memory { IfErr result (λ e. e ≡ CallError.Memory) }
     {
         options_fit(options_a);
@@ -311,9 +311,9 @@ pub fn step<R: Rng, C: Checksum>(world: &mut World<R, C>, event: &Event) -> Resu
         → AreShort mtu_a mtu_b (world_of R.stream C.word_of world.new)) }
     ensures first_run { OnOk result (LeadsFirstRun (action_of event.now ∷ []) (world_of R.stream C.word_of world.old) (world_of R.stream C.word_of world.new)) }
     ensures nothing_lacks { IfErr result (λ e. ContinuesFirstRun (action_of event.now ∷ []) (world_of R.stream C.word_of world.old) → e ≡ WorldError.Memory) }
-    ensures leads { world.new.has_failed ≡ false → IsLed (world_of R.stream C.word_of world.old) → IsLed (world_of R.stream C.word_of world.new) }
-    ensures composes { (l : IsLed (world_of R.stream C.word_of world.new)) → Composes (world_of R.stream C.word_of world.new) l }
-    ensures agrees { (l : IsLed (world_of R.stream C.word_of world.new)) → DrawsNoTagTwice l → Agrees (world_of R.stream C.word_of world.new).log }
+    ensures leads { world.new.has_failed ≡ false → IsReachable (world_of R.stream C.word_of world.old) → IsReachable (world_of R.stream C.word_of world.new) }
+    ensures composes { (l : IsReachable (world_of R.stream C.word_of world.new)) → Composes (world_of R.stream C.word_of world.new) l }
+    ensures agrees { (l : IsReachable (world_of R.stream C.word_of world.new)) → DrawsNoTagTwice l → Agrees (world_of R.stream C.word_of world.new).log }
 {
     let a = world.sent(End::A);
     let b = world.sent(End::B);
@@ -339,9 +339,9 @@ pub fn run<R: Rng, C: Checksum>(world: &mut World<R, C>, events: &[Event]) -> Re
         → AreShort mtu_a mtu_b (world_of R.stream C.word_of world.new)) }
     ensures first_run { OnOk result (LeadsFirstRun (map action_of events.now) (world_of R.stream C.word_of world.old) (world_of R.stream C.word_of world.new)) }
     ensures nothing_lacks { IfErr result (λ e. ContinuesFirstRun (map action_of events.now) (world_of R.stream C.word_of world.old) → e ≡ WorldError.Memory) }
-    ensures leads { world.new.has_failed ≡ false → IsLed (world_of R.stream C.word_of world.old) → IsLed (world_of R.stream C.word_of world.new) }
-    ensures composes { (l : IsLed (world_of R.stream C.word_of world.new)) → Composes (world_of R.stream C.word_of world.new) l }
-    ensures agrees { (l : IsLed (world_of R.stream C.word_of world.new)) → DrawsNoTagTwice l → Agrees (world_of R.stream C.word_of world.new).log }
+    ensures leads { world.new.has_failed ≡ false → IsReachable (world_of R.stream C.word_of world.old) → IsReachable (world_of R.stream C.word_of world.new) }
+    ensures composes { (l : IsReachable (world_of R.stream C.word_of world.new)) → Composes (world_of R.stream C.word_of world.new) l }
+    ensures agrees { (l : IsReachable (world_of R.stream C.word_of world.new)) → DrawsNoTagTwice l → Agrees (world_of R.stream C.word_of world.new).log }
 {
     let a = world.sent(End::A);
     let b = world.sent(End::B);
@@ -362,7 +362,7 @@ fn give<R: Rng, C: Checksum>(
     log: &mut Vec<Entry>,
 ) -> Result<(), WorldError>
     ensures ok { OnOk result ((bytes : List ℕ) × (slice_get from.now.packets number ≡ Some bytes)
-        × Told (end_tree end) (Given (end_tree end) (clock (side_in R.stream C.word_of to.old).socket) number) bytes (side_in R.stream C.word_of to.old) (side_in R.stream C.word_of to.new) (map entry_tree log.old.items) (map entry_tree log.new.items)) }
+        × TakesBytes (end_tree end) (Given (end_tree end) (clock (side_in R.stream C.word_of to.old).socket) number) bytes (side_in R.stream C.word_of to.old) (side_in R.stream C.word_of to.new) (map entry_tree log.old.items) (map entry_tree log.new.items)) }
     ensures lacks { IfErr result (λ e. e ≡ WorldError.NoSuchPacket → slice_get from.now.packets number ≡ None) }
     ensures missing { slice_get from.now.packets number ≡ None → result ≡ Err WorldError.NoSuchPacket }
     ensures side { IfErr result (λ e. e ≡ WorldError.NoSuchPacket → to.new ≡ to.old) }

@@ -6,13 +6,13 @@ use Rattle.sctp_state.specs.declared.api.handover.SocketHandoverState.{SocketHan
 use Rattle.sctp_state.specs.declared.api.errors.HandoverError.{HandoverError}
 use Rattle.sctp_state.specs.declared.api.errors.HandoverError.TheVariants as handovers
 use Rattle.sctp_state.specs.Handover.{HandoverState}
-use Rattle.sctp_table.specs.Association.{Endpoint}
-use Rattle.sctp_table.specs.Handover.{handed_over}
+use Rattle.spec_endpoint.specs.Association.{Endpoint}
+use Rattle.spec_endpoint.specs.Handover.{handed_over}
 use Rattle.sctp_association.specs.Socket.{Worked, handover_ending, readiness_in}
-use Rattle.sctp_network_table.specs.Judge.{HandedOver, NotReady}
-use Rattle.sctp_network_table.specs.World.{handed_by}
+use Rattle.spec_world.specs.Observations.{HandedOver, NotReady}
+use Rattle.spec_world.specs.World.{handed_by}
 
-pub is_handed : (n : ℕ) (s : Endpoint (List ℕ)) (h : HandoverState) → 0 ≡ n → h ≡ handed_over s.standing → HandedOver h ≡ handed_by n s
+pub is_handed : (n : ℕ) (s : Endpoint (List ℕ)) (h : HandoverState) → 0 ≡ n → h ≡ handed_over s.endpoint_state → HandedOver h ≡ handed_by n s
 is_handed n s h none is = ap HandedOver is ∙ ap (λ (k : ℕ). handed_by k s) none
 
 not_ready : (r : ℕ) (s : Endpoint (List ℕ)) → 0 < r → NotReady r ≡ handed_by r s

@@ -1,4 +1,4 @@
 pub mod PacketLemmas
-pub mod ToldLemmas
+pub mod EmittedLemmas
 pub mod SideLemmas
 pub mod HandingLemmas

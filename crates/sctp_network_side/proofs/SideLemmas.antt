@@ -1,23 +1,23 @@
 -- What an end makes of bytes, and what the log has of it.
 use Rattle.std.proofs.Common.{◌≡◌, ℕ, Bool, true, false, Option, None, Some, List, [], ◌∷◌, ◌++◌, length, refl, sym, ap, subst, ◌∙◌}
 use Rattle.rand_core.specs.Stream.{Stream}
-use Rattle.sctp_table.specs.Calls.{ready_in}
+use Rattle.spec_endpoint.specs.Calls.{ready_in}
 use Rattle.sctp_association.specs.Socket.{SocketValue, endpoint}
-use Rattle.sctp_table.specs.Shown.{Association, association_in}
-use Rattle.sctp_table.specs.Hearing.{Hears, Judges}
-use Rattle.sctp_network_table.specs.Judge.{End, Entry, Foreign}
-use Rattle.sctp_network_table.specs.World.{Told, ComesTo, IsJudged, settled, news, clock}
-use Rattle.sctp_network_table.specs.World as comes
+use Rattle.spec_endpoint.specs.Shown.{Association, association_in}
+use Rattle.spec_endpoint.specs.Receiving.{Receives, Judges}
+use Rattle.spec_world.specs.Observations.{End, Entry, Foreign}
+use Rattle.spec_world.specs.World.{TakesBytes, ComesTo, IsJudged, take_emitted, news, clock}
+use Rattle.spec_world.specs.World as comes
 use Rattle.sctp_network_side.specs.SideView.{SideValue, side_in}
 
-told_there : {R C : Type 0} (stream : R → Stream) (word_of : C → List ℕ → ℕ) (v new : SideValue R C) (x : End) (first : Entry) (bytes : List ℕ) (s : SocketValue R C)
+emitted_there : {R C : Type 0} (stream : R → Stream) (word_of : C → List ℕ → ℕ) (v new : SideValue R C) (x : End) (first : Entry) (bytes : List ℕ) (s : SocketValue R C)
     (log longer : List Entry) (ready : ℕ) (held : Option Association)
-    → Hears (word_of v.socket.context.checksum) bytes (endpoint stream word_of v.socket) (endpoint stream word_of s)
+    → Receives (word_of v.socket.context.checksum) bytes (endpoint stream word_of v.socket) (endpoint stream word_of s)
     → held ≡ association_in v.socket.state → ready ≡ length (ready_in v.socket.state)
-    → side_in stream word_of new ≡ settled (side_in stream word_of (record v { socket = s })) (endpoint stream word_of s)
+    → side_in stream word_of new ≡ take_emitted (side_in stream word_of (record v { socket = s })) (endpoint stream word_of s)
     → longer ≡ log ++ first ∷ news x (length v.packets) ready held (endpoint stream word_of s)
-    → Told x first bytes (side_in stream word_of v) (side_in stream word_of new) log longer
-told_there stream word_of v new x first bytes s log longer ready held hears a r side logged = record {
+    → TakesBytes x first bytes (side_in stream word_of v) (side_in stream word_of new) log longer
+emitted_there stream word_of v new x first bytes s log longer ready held hears a r side logged = record {
   after = endpoint stream word_of s;
   takes = hears;
   side = side;
@@ -26,16 +26,16 @@ told_there stream word_of v new x first bytes s log longer ready held hears a r 
       ∙ ap (λ (h : Option Association). log ++ first ∷ news x (length v.packets) (length (ready_in v.socket.state)) h (endpoint stream word_of s)) a;
 }
 
-pub told_as : {R C : Type 0} (stream : R → Stream) (word_of : C → List ℕ → ℕ) (v now new : SideValue R C) → v ≡ now → (x : End) (first : Entry) (bytes : List ℕ) (s : SocketValue R C)
+pub emitted_as : {R C : Type 0} (stream : R → Stream) (word_of : C → List ℕ → ℕ) (v now new : SideValue R C) → v ≡ now → (x : End) (first : Entry) (bytes : List ℕ) (s : SocketValue R C)
     (log longer : List Entry) (ready : ℕ) (held : Option Association)
-    → Hears (word_of v.socket.context.checksum) bytes (endpoint stream word_of v.socket) (endpoint stream word_of s)
+    → Receives (word_of v.socket.context.checksum) bytes (endpoint stream word_of v.socket) (endpoint stream word_of s)
     → held ≡ association_in now.socket.state → ready ≡ length (ready_in now.socket.state)
-    → side_in stream word_of new ≡ settled (side_in stream word_of (record v { socket = s })) (endpoint stream word_of s)
+    → side_in stream word_of new ≡ take_emitted (side_in stream word_of (record v { socket = s })) (endpoint stream word_of s)
     → longer ≡ log ++ first ∷ news x (length v.packets) ready held (endpoint stream word_of s)
-    → Told x first bytes (side_in stream word_of now) (side_in stream word_of new) log longer
-told_as stream word_of v now new is x first bytes s log longer ready held hears a r side logged =
-    subst (λ (w : SideValue _ _). Told x first bytes (side_in stream word_of w) (side_in stream word_of new) log longer) is
-    (told_there stream word_of v new x first bytes s log longer ready held hears
+    → TakesBytes x first bytes (side_in stream word_of now) (side_in stream word_of new) log longer
+emitted_as stream word_of v now new is x first bytes s log longer ready held hears a r side logged =
+    subst (λ (w : SideValue _ _). TakesBytes x first bytes (side_in stream word_of w) (side_in stream word_of new) log longer) is
+    (emitted_there stream word_of v new x first bytes s log longer ready held hears
     (a ∙ ap (λ (w : SideValue _ _). association_in w.socket.state) (sym is)) (r ∙ ap (λ (w : SideValue _ _). length (ready_in w.socket.state)) (sym is)) side logged)
 
 -- ---- bytes from elsewhere
@@ -49,11 +49,11 @@ judged_as stream word_of v now is bytes answer refused j answers =
 
 pub came : {R C : Type 0} (stream : R → Stream) (word_of : C → List ℕ → ℕ) (v now new : SideValue R C) → v ≡ now → (x : End) (bytes : List ℕ) (log longer : List Entry) (answer : Bool)
     → Judges (word_of v.socket.context.checksum) bytes v.socket.context.options v.socket.state answer → answer ≡ true
-    → Told x (Foreign x (clock (side_in stream word_of now).socket) (Some bytes)) bytes
+    → TakesBytes x (Foreign x (clock (side_in stream word_of now).socket) (Some bytes)) bytes
     (side_in stream word_of now) (side_in stream word_of new) log longer
     → ComesTo x bytes (side_in stream word_of now) (side_in stream word_of new) log longer
 came stream word_of v now new is x bytes log longer answer j refused t =
-    comes.told t (judged_as stream word_of v now is bytes answer true j refused)
+    comes.taken_in t (judged_as stream word_of v now is bytes answer true j refused)
 
 pub passed : {R C : Type 0} (stream : R → Stream) (word_of : C → List ℕ → ℕ) (v now : SideValue R C) → v ≡ now → (x : End) (bytes : List ℕ) (log longer : List Entry) (answer : Bool)
     → Judges (word_of v.socket.context.checksum) bytes v.socket.context.options v.socket.state answer → answer ≡ false

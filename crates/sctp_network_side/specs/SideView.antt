@@ -17,8 +17,8 @@ use Rattle.sctp_network_side.specs.declared.log.Event as given_event
 use Rattle.sctp_network_side.specs.declared.log.Event.TheVariants as events
 use Rattle.sctp_network_side.specs.declared.log.Entry as given_entry
 use Rattle.sctp_network_side.specs.declared.log.Entry.TheVariants as entries
-use Rattle.sctp_network_table.specs.Judge.{End, A, B, Call, Connect, Shutdown, Close, Send, SendMany, Receive, Reset, SetPriority, SetMaxMessageSize, SetLowThreshold, HandOver, Answer, Done, Sent, SentMany, Received, AskedReset, HandedOver, NotReady, Entry, Called, Given, Foreign, Timed, Associated, Emitted, Happened, GaveUp, BecameReady}
-use Rattle.sctp_network_table.specs.World.{Action, CallOf, Give, GiveForeign, TellTime, Side}
+use Rattle.spec_world.specs.Observations.{End, A, B, Call, Connect, Shutdown, Close, Send, SendMany, Receive, Reset, SetPriority, SetMaxMessageSize, SetLowThreshold, HandOver, Answer, Done, Sent, SentMany, Received, AskedReset, HandedOver, NotReady, Entry, Called, Given, Foreign, Timed, Associated, Emitted, Happened, GaveUp, BecameReady}
+use Rattle.spec_world.specs.World.{Action, CallOf, Give, GiveForeign, AdvanceTime, Side}
 
 abbrev pub end_tree : given_end.End → End
 end_tree ends.A = A
@@ -50,7 +50,7 @@ abbrev pub action_of : given_event.Event → Action
 action_of (events.Call end call) = CallOf (end_tree end) (call_tree call)
 action_of (events.Give packet end) = Give packet (end_tree end)
 action_of (events.Foreign end bytes) = GiveForeign (end_tree end) bytes.items
-action_of (events.Time end now) = TellTime (end_tree end) now
+action_of (events.Time end now) = AdvanceTime (end_tree end) now
 
 abbrev pub entry_tree : given_entry.Entry → Entry
 entry_tree (entries.Call end clock call answer) = Called (end_tree end) clock (call_tree call) (answer_tree answer)
@@ -69,10 +69,10 @@ ready_entry x (Some m) = BecameReady x m ∷ []
 
 -- a socket all of whose events, or records of messages given up, are taken
 abbrev pub without_events : {R C : Type 0} → SocketValue R C → SocketValue R C
-without_events s = record s { context = record s.context { told = record s.context.told { events = [] } } }
+without_events s = record s { context = record s.context { emitted = record s.context.emitted { events = [] } } }
 
 abbrev pub without_records : {R C : Type 0} → SocketValue R C → SocketValue R C
-without_records s = record s { context = record s.context { told = record s.context.told { gone = [] } } }
+without_records s = record s { context = record s.context { emitted = record s.context.emitted { given_up = [] } } }
 
 -- a side as the program has it
 pub record SideValue (R C : Type 0) : Type 0 where

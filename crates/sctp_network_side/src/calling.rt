@@ -5,8 +5,8 @@ ghost use Rattle.sctp_serial.specs.Messages.{message_of};
 ghost use Rattle.sctp_state.specs.Events.{numbers_of};
 ghost use Rattle.sctp_state.specs.Options.{send_options_of};
 ghost use Rattle.sctp_association.specs.Socket.{endpoint};
-ghost use Rattle.sctp_network_table.specs.Judge.{HandOver, Reset, Send, SendMany};
-ghost use Rattle.sctp_network_table.specs.World.{after_call, answer_to};
+ghost use Rattle.spec_world.specs.Observations.{HandOver, Reset, Send, SendMany};
+ghost use Rattle.spec_world.specs.World.{after_call, answer_to};
 ghost use Rattle.sctp_network_side.specs.SideView.{answer_tree, call_tree};
 
 use crate::log::{Answer, Call, copies_of, copy_of};

@@ -2,7 +2,7 @@
 
 ghost use Rattle.std.specs.Prelude.{◌≡◌, ◌++◌, ℕ, [], ◌∷◌, map, IfOk, OnOk, Some};
 ghost use Rattle.sctp_serial.specs.Messages.{message_of};
-ghost use Rattle.sctp_network_table.specs.Judge.{end_name};
+ghost use Rattle.spec_world.specs.Observations.{end_name};
 ghost use Rattle.sctp_network_side.specs.SideView.{call_tree, end_tree};
 
 use sctp_association::Association;

@@ -5,22 +5,22 @@ ghost use Rattle.sctp_packet.specs.Grammar.{Each};
 ghost use Rattle.sctp_serial.specs.Messages.{message_of};
 ghost use Rattle.sctp_state.specs.Events.{event_of, given_up_of};
 ghost use Rattle.sctp_state.specs.Options.{IsValid, options_of};
-ghost use Rattle.sctp_table.specs.Calls.{ready_in};
-ghost use Rattle.sctp_table.specs.Shown.{association_in};
-ghost use Rattle.sctp_table_laws.specs.ReadBack.{AreBytes};
+ghost use Rattle.spec_endpoint.specs.Calls.{ready_in};
+ghost use Rattle.spec_endpoint.specs.Shown.{association_in};
+ghost use Rattle.proof_endpoint.specs.ReadBack.{AreBytes};
 ghost use Rattle.sctp_association.specs.Socket.{association_of, endpoint};
-ghost use Rattle.sctp_network_table.specs.Judge.{Given, Foreign, GaveUp, same_association};
-ghost use Rattle.sctp_network_table.specs.World as table;
-ghost use Rattle.sctp_network_table.specs.World.{fresh_side, associated_if, Told, settled, news, packets_in, told_entries, gone_entries, ready_entries, after_call, after_time, clock, call_entry};
+ghost use Rattle.spec_world.specs.Observations.{Given, Foreign, GaveUp, same_association};
+ghost use Rattle.spec_world.specs.World as table;
+ghost use Rattle.spec_world.specs.World.{fresh_side, associated_if, TakesBytes, take_emitted, news, packets_in, emitted_entries, given_up_entries, ready_entries, after_call, after_time, clock, call_entry};
 ghost use Rattle.sctp_network_side.specs.SideView.{call_tree, end_tree, entry_tree, ready_entry, side_in, without_events, without_records};
 
 use crate::calling::make_call;
 use crate::log::{Call, End, Entry, copy_of, copy_of_call};
+use proof_endpoint::arguments::bytes_fit;
 use rand_core::Rng;
 use sctp_association::{Association, DcSctpSocket, Socket};
 use sctp_serial::SocketTime;
 use sctp_state::{CallError, GivenUp, Options, SocketEvent};
-use sctp_table_laws::arguments::bytes_fit;
 use sctp_wire::Checksum;
 use std::alloc::{AllocError, Global};
 use std::marker::Model;
@@ -112,7 +112,7 @@ impl<R: Rng, C: Checksum> Side<R, C> {
         log: &mut Vec<Entry>,
     ) -> Result<(), AllocError>
         ensures side { OnOk result (side_in R.stream C.word_of self.new
-            ≡ settled (side_in R.stream C.word_of self.old) (endpoint R.stream C.word_of self.old.socket)) }
+            ≡ take_emitted (side_in R.stream C.word_of self.old) (endpoint R.stream C.word_of self.old.socket)) }
         ensures log { OnOk result (map entry_tree log.new.items ≡ map entry_tree log.old.items
             ++ entry_tree first ∷ news (end_tree end) (length self.old.packets) before.ready (option_map association_of before.association)
             (endpoint R.stream C.word_of self.old.socket)) }
@@ -136,7 +136,7 @@ impl<R: Rng, C: Checksum> Side<R, C> {
         log: &mut Vec<Entry>,
     ) -> Result<(), CallError>
         ensures side { OnOk result (side_in R.stream C.word_of self.new
-            ≡ settled (side_in R.stream C.word_of self.old) (after_call (call_tree call.now) (endpoint R.stream C.word_of self.old.socket))) }
+            ≡ take_emitted (side_in R.stream C.word_of self.old) (after_call (call_tree call.now) (endpoint R.stream C.word_of self.old.socket))) }
         ensures log { OnOk result (map entry_tree log.new.items ≡ map entry_tree log.old.items
             ++ call_entry (end_tree end) (call_tree call.now) (endpoint R.stream C.word_of self.old.socket)
             ∷ table.news_of (end_tree end) (side_in R.stream C.word_of self.old)
@@ -165,7 +165,7 @@ impl<R: Rng, C: Checksum> Side<R, C> {
         log: &mut Vec<Entry>,
     ) -> Result<(), CallError>
         ensures side { OnOk result (side_in R.stream C.word_of self.new
-            ≡ settled (side_in R.stream C.word_of self.old) (after_time now (endpoint R.stream C.word_of self.old.socket))) }
+            ≡ take_emitted (side_in R.stream C.word_of self.old) (after_time now (endpoint R.stream C.word_of self.old.socket))) }
         ensures log { OnOk result (map entry_tree log.new.items ≡ map entry_tree log.old.items
             ++ table.time_entry (end_tree end) now (endpoint R.stream C.word_of self.old.socket)
             ∷ table.news_of (end_tree end) (side_in R.stream C.word_of self.old) (after_time now (endpoint R.stream C.word_of self.old.socket))) }
@@ -185,7 +185,7 @@ impl<R: Rng, C: Checksum> Side<R, C> {
         bytes: &[u8],
         log: &mut Vec<Entry>,
     ) -> Result<(), CallError>
-        ensures { OnOk result (Told (end_tree end) (entry_tree first) bytes.now
+        ensures { OnOk result (TakesBytes (end_tree end) (entry_tree first) bytes.now
             (side_in R.stream C.word_of self.old) (side_in R.stream C.word_of self.new) (map entry_tree log.old.items) (map entry_tree log.new.items)) }
     {
         let before = self.before();
@@ -202,7 +202,7 @@ impl<R: Rng, C: Checksum> Side<R, C> {
         bytes: &[u8],
         log: &mut Vec<Entry>,
     ) -> Result<(), CallError>
-        ensures { OnOk result (let old = side_in R.stream C.word_of self.old in Told (end_tree end) (Given (end_tree end) (clock old.socket) packet) bytes.now
+        ensures { OnOk result (let old = side_in R.stream C.word_of self.old in TakesBytes (end_tree end) (Given (end_tree end) (clock old.socket) packet) bytes.now
             old (side_in R.stream C.word_of self.new) (map entry_tree log.old.items) (map entry_tree log.new.items)) }
     {
         let first = Entry::Give(end, self.socket.clock(), packet);
@@ -218,7 +218,7 @@ impl<R: Rng, C: Checksum> Side<R, C> {
         log: &mut Vec<Entry>,
     ) -> Result<(), CallError>
         ensures { OnOk result (let old = side_in R.stream C.word_of self.old in
-            Told (end_tree end) (Foreign (end_tree end) (clock old.socket) (Some bytes.now)) bytes.now
+            TakesBytes (end_tree end) (Foreign (end_tree end) (clock old.socket) (Some bytes.now)) bytes.now
             old (side_in R.stream C.word_of self.new) (map entry_tree log.old.items) (map entry_tree log.new.items)) }
     {
         let copy = Vec::from_slice(alloc, bytes)?;
@@ -303,7 +303,7 @@ fn take_event(
     ensures packets { OnOk result (map (λ bytes. bytes.items) packets.new.items
         ≡ map (λ bytes. bytes.items) packets.old.items ++ packets_in (event_of event ∷ [])) }
     ensures log { OnOk result (map entry_tree log.new.items
-        ≡ map entry_tree log.old.items ++ told_entries (end_tree end) (length packets.old.items) (event_of event ∷ [])) }
+        ≡ map entry_tree log.old.items ++ emitted_entries (end_tree end) (length packets.old.items) (event_of event ∷ [])) }
 {
     match event {
         SocketEvent::SendPacket(bytes) => {
@@ -324,9 +324,9 @@ fn take_told<R: Rng, C: Checksum>(
 ) -> Result<(), AllocError>
     ensures socket { OnOk result (socket.new ≡ without_events socket.old) }
     ensures packets { OnOk result (map (λ bytes. bytes.items) packets.new.items
-        ≡ map (λ bytes. bytes.items) packets.old.items ++ packets_in socket.old.context.told.events) }
+        ≡ map (λ bytes. bytes.items) packets.old.items ++ packets_in socket.old.context.emitted.events) }
     ensures log { OnOk result (map entry_tree log.new.items
-        ≡ map entry_tree log.old.items ++ told_entries (end_tree end) (length packets.old.items) socket.old.context.told.events) }
+        ≡ map entry_tree log.old.items ++ emitted_entries (end_tree end) (length packets.old.items) socket.old.context.emitted.events) }
 {
     while let Some(event) = socket.poll_event() {
         take_event(event, packets, end, log)?;
@@ -342,7 +342,7 @@ fn take_given_up<R: Rng, C: Checksum>(
 ) -> Result<(), AllocError>
     ensures socket { OnOk result (socket.new ≡ without_records socket.old) }
     ensures log { OnOk result (map entry_tree log.new.items
-        ≡ map entry_tree log.old.items ++ gone_entries (end_tree end) socket.old.context.told.gone) }
+        ≡ map entry_tree log.old.items ++ given_up_entries (end_tree end) socket.old.context.emitted.given_up) }
 {
     while let Some(given_up) = socket.next_given_up() {
         log_given_up(given_up, end, log)?;

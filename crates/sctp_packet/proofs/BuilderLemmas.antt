@@ -11,7 +11,7 @@ use Rattle.sctp_chunk.specs.Chunk.{ChunkTree}
 use Rattle.sctp_chunk.specs.Written.{chunk_item, chunk_bytes, chunks_bytes}
 use Rattle.sctp_packet.specs.Packet.{HeaderTree, header_bytes, unsummed_bytes, joined_bytes, packet_bytes}
 use Rattle.sctp_packet.proofs.PacketLemmas.{length_joined}
-use Rattle.sctp_packet.specs.Builder.{BuilderTree, HasPacket, built}
+use Rattle.sctp_packet.specs.Builder.{BuilderTree, HasPacket, build}
 
 pub header_written : (h : HeaderTree) (o w1 w2 w3 : List ℕ) → w1 ≡ o ++ be16 h.source_port → w2 ≡ w1 ++ be16 h.destination_port → w3 ≡ w2 ++ be32 h.verification_tag
     → w3 ++ be32 0 ≡ o ++ unsummed_bytes h []
@@ -81,16 +81,16 @@ pub no_body : (h : HeaderTree) (limit : ℕ) (bytes : List ℕ) → HasPacket h 
 no_body h limit [] has none = refl
 no_body h limit (b ∷ bytes) has none = absurd (none (omega arith))
 
-chunks_bytes-push : (chunks : List ChunkTree) (t : ChunkTree) → chunks_bytes (chunks ++ t ∷ []) ≡ chunks_bytes chunks ++ chunk_bytes t
+chunks_bytes_push : (chunks : List ChunkTree) (t : ChunkTree) → chunks_bytes (chunks ++ t ∷ []) ≡ chunks_bytes chunks ++ chunk_bytes t
 unfolding chunks_bytes
-chunks_bytes-push [] t = flat_map-cons chunk_bytes t [] ∙ append-nil (chunk_bytes t)
-chunks_bytes-push (c ∷ chunks) t =
-    flat_map-cons chunk_bytes c (chunks ++ t ∷ []) ∙ ap (λ (x : List ℕ). chunk_bytes c ++ x) (chunks_bytes-push chunks t)
+chunks_bytes_push [] t = flat_map-cons chunk_bytes t [] ∙ append-nil (chunk_bytes t)
+chunks_bytes_push (c ∷ chunks) t =
+    flat_map-cons chunk_bytes c (chunks ++ t ∷ []) ∙ ap (λ (x : List ℕ). chunk_bytes c ++ x) (chunks_bytes_push chunks t)
     ∙ sym (append_assoc (chunk_bytes c) (chunks_bytes chunks) (chunk_bytes t)) ∙ ap (λ (x : List ℕ). x ++ chunk_bytes t) (sym (flat_map-cons chunk_bytes c chunks))
 
 -- one more chunk is held
 pub holds_more : (old new : List ℕ) (chunks : List ChunkTree) (t : ChunkTree) → old ≡ chunks_bytes chunks → new ≡ old ++ chunk_bytes t → new ≡ chunks_bytes (chunks ++ t ∷ [])
-holds_more old new chunks t e f = f ∙ ap (λ (x : List ℕ). x ++ chunk_bytes t) e ∙ sym (chunks_bytes-push chunks t)
+holds_more old new chunks t e f = f ∙ ap (λ (x : List ℕ). x ++ chunk_bytes t) e ∙ sym (chunks_bytes_push chunks t)
 
 -- ---- handed out
 
@@ -113,12 +113,12 @@ zero_at : (h : HeaderTree) (body : List ℕ) → unsummed_bytes h body ≡ joine
 unfolding unsummed_bytes be32
 zero_at h body = refl
 
-built_some : (summed : Bool) (h : HeaderTree) (word : ℕ) (body : List ℕ) → 0 < length body → built summed h word body ≡ joined_bytes h (cond summed word 0) body
+built_some : (summed : Bool) (h : HeaderTree) (word : ℕ) (body : List ℕ) → 0 < length body → build summed h word body ≡ joined_bytes h (cond summed word 0) body
 built_some summed h word [] some = absurd (omega arith)
 built_some summed h word (b ∷ body) some = refl
 
 pub built_summed : (h : HeaderTree) (limit : ℕ) (bytes new : List ℕ) (word : ℕ) (summed : Bool) → HasPacket h limit bytes → 0 < length bytes → summed ≡ true
-    → new ≡ take 8 bytes ++ (be32 word ++ drop 12 bytes) → new ≡ built summed h word (drop 12 bytes)
+    → new ≡ take 8 bytes ++ (be32 word ++ drop 12 bytes) → new ≡ build summed h word (drop 12 bytes)
 built_summed h limit bytes new word summed has some on e =
     let whole = has.packet some in
     let more : 0 < length (drop 12 bytes) = omega (arith, has.more_than_header some, ap length whole, length_unsummed h (drop 12 bytes)) in
@@ -126,14 +126,14 @@ built_summed h limit bytes new word summed has some on e =
     (summed_at h word (drop 12 bytes) ∙ ap (joined_bytes h word) (sym (drop_front h (drop 12 bytes))))
     ∙ sym (built_some summed h word (drop 12 bytes) more ∙ ap (λ (b : Bool). joined_bytes h (cond b word 0) (drop 12 bytes)) on)
 
-pub built_plain : (h : HeaderTree) (limit : ℕ) (bytes : List ℕ) (word : ℕ) (summed : Bool) → HasPacket h limit bytes → 0 < length bytes → summed ≡ false → bytes ≡ built summed h word (drop 12 bytes)
+pub built_plain : (h : HeaderTree) (limit : ℕ) (bytes : List ℕ) (word : ℕ) (summed : Bool) → HasPacket h limit bytes → 0 < length bytes → summed ≡ false → bytes ≡ build summed h word (drop 12 bytes)
 built_plain h limit bytes word summed has some off =
     let whole = has.packet some in
     let more : 0 < length (drop 12 bytes) = omega (arith, has.more_than_header some, ap length whole, length_unsummed h (drop 12 bytes)) in
     whole ∙ zero_at h (drop 12 bytes) ∙ sym (built_some summed h word (drop 12 bytes) more ∙ ap (λ (b : Bool). joined_bytes h (cond b word 0) (drop 12 bytes)) off)
 
-pub built_none : (h : HeaderTree) (bytes : List ℕ) (word : ℕ) (summed : Bool) → bytes ≡ [] → bytes ≡ built summed h word (drop 12 bytes)
-built_none h bytes word summed none = none ∙ ap (λ (b : List ℕ). built summed h word (drop 12 b)) (sym none)
+pub built_none : (h : HeaderTree) (bytes : List ℕ) (word : ℕ) (summed : Bool) → bytes ≡ [] → bytes ≡ build summed h word (drop 12 bytes)
+built_none h bytes word summed none = none ∙ ap (λ (b : List ℕ). build summed h word (drop 12 b)) (sym none)
 
 pub not_empty : (n : ℕ) (xs : List ℕ) → false ≡ (n == 0) → n ≡ length xs → xs ≡ [] → ⊥
 not_empty n xs e len none = let zero_is : (n == 0) ≡ true = ap (λ (k : ℕ). k == 0) (len ∙ ap length none) in cc
@@ -149,7 +149,7 @@ pub no_bytes : (n : ℕ) (xs ys : List ℕ) → true ≡ (n == 0) → n ≡ leng
 no_bytes n xs [] e len same = refl
 no_bytes n xs (y ∷ ys) e len same = let zero_is : n ≡ 0 = eqb-true n 0 (sym e) in absurd (omega (arith, zero_is, len, ap length same))
 
-pub built_off : (h : HeaderTree) (limit : ℕ) (bytes : List ℕ) (word : ℕ) (summed : Bool) → HasPacket h limit bytes → summed ≡ false → bytes ≡ built summed h word (drop 12 bytes)
+pub built_off : (h : HeaderTree) (limit : ℕ) (bytes : List ℕ) (word : ℕ) (summed : Bool) → HasPacket h limit bytes → summed ≡ false → bytes ≡ build summed h word (drop 12 bytes)
 built_off h limit [] word summed has off = built_none h [] word summed refl
 built_off h limit (b ∷ bytes) word summed has off = built_plain h limit (b ∷ bytes) word summed has (omega arith) off
 
@@ -158,11 +158,11 @@ pub written_whole : (n : ℕ) (new rest xs : List ℕ) (word : ℕ) → n ≡ le
 written_whole n new rest xs word len long e =
     take_at new rest n (omega (arith, len, long, ap length e, length-append (take 8 xs) (be32 word ++ drop 12 xs), length-append (be32 word) (drop 12 xs), length_be32 word, length-take 8 xs, length-drop 12 xs))
 
-length_built : (summed : Bool) (h : HeaderTree) (word : ℕ) (body : List ℕ) → 0 < length body → length (built summed h word body) ≡ 12 + length body
+length_built : (summed : Bool) (h : HeaderTree) (word : ℕ) (body : List ℕ) → 0 < length body → length (build summed h word body) ≡ 12 + length body
 length_built summed h word body some = ap length (built_some summed h word body some) ∙ length_joined h (cond summed word 0) body
 
 -- what is handed out is within the limit
-pub built_short : (h : HeaderTree) (limit : ℕ) (bytes new : List ℕ) (word : ℕ) (summed : Bool) → HasPacket h limit bytes → new ≡ built summed h word (drop 12 bytes) → length new ≤ limit
+pub built_short : (h : HeaderTree) (limit : ℕ) (bytes new : List ℕ) (word : ℕ) (summed : Bool) → HasPacket h limit bytes → new ≡ build summed h word (drop 12 bytes) → length new ≤ limit
 built_short h limit [] new word summed has e = omega (arith, ap length e)
 built_short h limit (b ∷ bytes) new word summed has e =
     let all : List ℕ = b ∷ bytes in
@@ -171,7 +171,7 @@ built_short h limit (b ∷ bytes) new word summed has e =
     omega (arith, ap length e, length_built summed h word (drop 12 all) more, has.fits some, has.more_than_header some, length-drop 12 all)
 
 pub built_is_packet : (summed : Bool) (h : HeaderTree) (word : ℕ) (t : ChunkTree) (chunks : List ChunkTree)
-    → built summed h word (chunks_bytes (t ∷ chunks)) ≡ packet_bytes h (cond summed word 0) (t ∷ chunks)
+    → build summed h word (chunks_bytes (t ∷ chunks)) ≡ packet_bytes h (cond summed word 0) (t ∷ chunks)
 unfolding chunks_bytes packet_bytes
 built_is_packet summed h word t chunks =
     built_some summed h word (chunks_bytes (t ∷ chunks))

@@ -29,12 +29,12 @@ use Rattle.sctp_packet.proofs.LawLemmas.{one_packet_lem, packet_of}
 -- ---- what was read
 
 -- what each item tells of its value holds of all
-each_tells : {X : Type 0} (R : Item → X → Type 0) (Fits P : X → Type 0) → ((i : Item) (x : X) → R i x → Fits x → P x)
+each_emits : {X : Type 0} (R : Item → X → Type 0) (Fits P : X → Type 0) → ((i : Item) (x : X) → R i x → Fits x → P x)
     → (bytes : List ℕ) (xs : List X) → Tiles R bytes xs [] → All Fits xs → All P xs
-each_tells R Fits P tells bytes [] tiles fit = All-nil P
-each_tells R Fits P tells bytes (x ∷ xs) tiles fit =
+each_emits R Fits P tells bytes [] tiles fit = All-nil P
+each_emits R Fits P tells bytes (x ∷ xs) tiles fit =
     All-cons P x xs (tells tiles.0 x tiles.3 (fit 0 x (omega arith)))
-    (each_tells R Fits P tells tiles.1 xs tiles.4 (λ k d less. fit (suc k) d (omega arith)))
+    (each_emits R Fits P tells tiles.1 xs tiles.4 (λ k d less. fit (suc k) d (omega arith)))
 
 parameter_reads_back : (i : Item) (t : ParameterTree) → IsParameter i t → IsEncodable (parameter_item t) → ParameterReadsBack t
 parameter_reads_back i t says fits = record { encodable = fits; fits = says.fits; whole = says.whole; of_its_variant = says.of_its_variant }
@@ -66,12 +66,12 @@ cause_reads_back i t says fits = record { encodable = fits; fits = says.fits; te
 parameters_read_back : (bytes : List ℕ) (ts : List ParameterTree) → Tiles IsParameter bytes ts [] → 4 + length (inner_items (map parameter_item ts)) < 2 ^ 16
     → All ParameterReadsBack ts
 parameters_read_back bytes ts tiles fit =
-    each_tells IsParameter (λ t. IsEncodable (parameter_item t)) ParameterReadsBack parameter_reads_back bytes ts tiles (each_fits parameter_item ts fit)
+    each_emits IsParameter (λ t. IsEncodable (parameter_item t)) ParameterReadsBack parameter_reads_back bytes ts tiles (each_fits parameter_item ts fit)
 
 causes_read_back : (bytes : List ℕ) (ts : List CauseTree) → Tiles IsCause bytes ts [] → 4 + length (inner_items (map cause_item ts)) < 2 ^ 16
     → All CauseReadsBack ts
 causes_read_back bytes ts tiles fit =
-    each_tells IsCause (λ t. IsEncodable (cause_item t)) CauseReadsBack cause_reads_back bytes ts tiles (each_fits cause_item ts fit)
+    each_emits IsCause (λ t. IsEncodable (cause_item t)) CauseReadsBack cause_reads_back bytes ts tiles (each_fits cause_item ts fit)
 
 -- ---- parts that agree
 
@@ -158,7 +158,7 @@ canonical_is_packet : (bytes : List ℕ) (p : PacketTree) → IsPacket bytes p �
 unfolding packet_bytes
 canonical_is_packet bytes p is short =
     let few : length (chunks_bytes p.chunks) ≤ 65535 = omega (arith, short, length_joined p.header 0 (chunks_bytes p.chunks)) in
-    let reads = each_tells IsChunk (λ t. IsEncodable (chunk_item t)) ChunkReadsBack chunk_reads_back is.body p.chunks is.chunks (chunks_fit p.chunks few) in
+    let reads = each_emits IsChunk (λ t. IsEncodable (chunk_item t)) ChunkReadsBack chunk_reads_back is.body p.chunks is.chunks (chunks_fit p.chunks few) in
     record {
       body = chunks_bytes p.chunks;
       joined = refl;

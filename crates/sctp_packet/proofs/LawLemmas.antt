@@ -6,8 +6,8 @@ use Rattle.sctp_wire.specs.Item.{Item, Tiles}
 use Rattle.sctp_wire.specs.declared.checksum.Policy.{Policy}
 use Rattle.sctp_wire.specs.declared.error.ChunkParseError.{ChunkParseError}
 use Rattle.sctp_wire.specs.declared.error.ChunkParseError.TheVariants as chunk_faults
-use Rattle.sctp_wire.proofs.TilesLemmas.{cut_same, one_tiling, whole_not_broken}
-use Rattle.sctp_wire.proofs.RefusalLemmas.{BreaksAs-Breaks, one_break}
+use Rattle.sctp_wire.proofs.ParsesAllLemmas.{cut_same, one_tiling, whole_not_broken}
+use Rattle.sctp_wire.proofs.RefusalLemmas.{BreaksAs_Breaks, one_break}
 use Rattle.sctp_packet.specs.declared.packet.PacketParseError.{PacketParseError}
 use Rattle.sctp_packet.specs.declared.packet.PacketParseError.TheVariants as faults
 use Rattle.sctp_packet.specs.declared.packet.SctpPacket.{SctpPacket}
@@ -79,7 +79,7 @@ never_both_lem policy word bytes faults.InvalidChecksum p m r a =
     clash (lets_through policy word p.checksum) a.sum (ap (lets_through policy word) (sym (field_of bytes p a.packet)) ∙ r.1)
 never_both_lem policy word bytes (faults.Chunk f) p m r a =
     whole_not_broken IsChunk (drop 12 bytes) p.chunks (subst (λ (x : List ℕ). Tiles IsChunk x p.chunks []) (sym (body_of bytes p a.packet)) a.packet.chunks)
-    (BreaksAs-Breaks IsChunk RefusesChunk stands chunk_fault (drop 12 bytes) f r.2 r.3)
+    (BreaksAs_Breaks IsChunk RefusesChunk stands chunk_fault (drop 12 bytes) f r.2 r.3)
 never_both_lem policy word bytes faults.Memory p m r a = m refl
 
 pub one_reason_lem : (policy : Policy) (word : ℕ) (bytes : List ℕ) (e f : PacketParseError) → IsFault e → IsFault f → Refuses policy word bytes e → Refuses policy word bytes f → e ≡ f

@@ -14,7 +14,7 @@ use Rattle.sctp_wire.specs.Fields.{be16, be32, length_be16, length_be32}
 use Rattle.sctp_wire.specs.Item.{Item, Tiles}
 use Rattle.sctp_wire.specs.Parameter.{ParameterTree, IsParameter}
 use Rattle.sctp_wire.specs.Cause.{CauseTree, IsCause}
-use Rattle.sctp_wire.proofs.TilesLemmas.{cut_same, one_tiling}
+use Rattle.sctp_wire.proofs.ParsesAllLemmas.{cut_same, one_tiling}
 use Rattle.sctp_wire.proofs.SerializeLemmas.{length_entries}
 use Rattle.sctp_parameter.proofs.OneParameterLemmas.{one_parameter_lem}
 use Rattle.sctp_error_cause.proofs.OneCauseLemmas.{one_cause_lem}
@@ -40,9 +40,9 @@ one_entries {E} f width P some each one (x ∷ xs) (y ∷ ys) h k e =
     let parts = cut_same (f x) (flat_map f xs) (f y) (flat_map f ys) (each x h.0 ∙ sym (each y k.0)) (sym (flat_map-cons f x xs) ∙ e ∙ flat_map-cons f y ys) in
     ap (λ (z : E). z ∷ xs) (one x y h.0 k.0 parts.0) ∙ ap (λ (zs : List E). y ∷ zs) (one_entries f width P some each one xs ys h.1 k.1 parts.1)
 
-pub Each-from : {X : Type 0} (P : X → Type 0) (xs : List X) → All P xs → Each P xs
-Each-from P [] h = tt
-Each-from P (x ∷ xs) h = (h 0 x (omega arith), Each-from P xs (λ k d less. h (suc k) d (omega arith)))
+pub Each_from : {X : Type 0} (P : X → Type 0) (xs : List X) → All P xs → Each P xs
+Each_from P [] h = tt
+Each_from P (x ∷ xs) h = (h 0 x (omega arith), Each_from P xs (λ k d less. h (suc k) d (omega arith)))
 
 both : {X : Type 0} (P Q : X → Type 0) (xs : List X) → Each P xs → Each Q xs → Each (λ x. P x × Q x) xs
 both P Q [] h k = tt
@@ -233,8 +233,8 @@ one_sack s t fs ft e =
     let len : length (flat_map block_bytes s.gap_ack_blocks) ≡ length (flat_map block_bytes t.gap_ack_blocks) =
     length_entries block_bytes 4 length_block_bytes s.gap_ack_blocks ∙ ap (λ (n : ℕ). n * 4) c.0 ∙ sym (length_entries block_bytes 4 length_block_bytes t.gap_ack_blocks) in
     let parts = cut_same _ _ _ _ len d.1 in
-    let blocks = one_entries block_bytes 4 FitsBlock (omega arith) (λ x h. length_block_bytes x) one_block s.gap_ack_blocks t.gap_ack_blocks (Each-from FitsBlock s.gap_ack_blocks fs.blocks) (Each-from FitsBlock t.gap_ack_blocks ft.blocks) parts.0 in
-    let tsns = one_entries tsn_bytes 4 FitsTsn (omega arith) (λ x h. length_be32 x.0) one_tsn s.duplicate_tsns t.duplicate_tsns (Each-from FitsTsn s.duplicate_tsns fs.duplicates) (Each-from FitsTsn t.duplicate_tsns ft.duplicates) parts.1 in
+    let blocks = one_entries block_bytes 4 FitsBlock (omega arith) (λ x h. length_block_bytes x) one_block s.gap_ack_blocks t.gap_ack_blocks (Each_from FitsBlock s.gap_ack_blocks fs.blocks) (Each_from FitsBlock t.gap_ack_blocks ft.blocks) parts.0 in
+    let tsns = one_entries tsn_bytes 4 FitsTsn (omega arith) (λ x h. length_be32 x.0) one_tsn s.duplicate_tsns t.duplicate_tsns (Each_from FitsTsn s.duplicate_tsns fs.duplicates) (Each_from FitsTsn t.duplicate_tsns ft.duplicates) parts.1 in
     same_sack s.cumulative_tsn_ack s.a_rwnd s.gap_ack_blocks s.duplicate_tsns t.cumulative_tsn_ack t.a_rwnd t.gap_ack_blocks t.duplicate_tsns a.0 b.0 blocks tsns
 
 same_forward : (t u : ℕ) (xs ys : List SkippedStream) → t ≡ u → xs ≡ ys → forward_tsn_chunk t xs ≡ forward_tsn_chunk u ys

@@ -14,8 +14,8 @@ use Rattle.sctp_wire.specs.Cause.{CauseTree, IsCause, cause_item}
 use Rattle.sctp_wire.specs.ReadBack.{ParameterReadsBack, CauseReadsBack}
 use Rattle.sctp_parameter.proofs.LawLemmas.{parameter_written}
 use Rattle.sctp_error_cause.proofs.LawLemmas.{cause_written}
-use Rattle.sctp_wire.proofs.ReadBackLemmas.{tiles_padded, tiles_inner}
-use Rattle.sctp_wire.proofs.RefusalLemmas.{Tiles-map}
+use Rattle.sctp_wire.proofs.ReadBackLemmas.{parses_all_padded, parses_all_inner}
+use Rattle.sctp_wire.proofs.RefusalLemmas.{ParsesAll_map}
 use Rattle.sctp_chunk.specs.declared.forward_tsn.SkippedStream.{SkippedStream}
 use Rattle.sctp_chunk.specs.declared.forward_tsn.SkippedStream.TheVariants as skips
 use Rattle.sctp_chunk.specs.Chunk.{ChunkTree, FragmentTree, data_chunk, init_chunk, init_ack_chunk, sack_chunk, heartbeat_request_chunk, heartbeat_ack_chunk, abort_chunk, shutdown_chunk, shutdown_ack_chunk, error_chunk, cookie_echo_chunk, cookie_ack_chunk, shutdown_complete_chunk, idata_chunk, re_config_chunk, forward_tsn_chunk, i_forward_tsn_chunk, unknown_chunk}
@@ -88,10 +88,10 @@ unfolding chunk_value idata_value
 idata_says t i f = rw (← kept) refl
 
 parameters_tile : (ps : List ParameterTree) → All ParameterReadsBack ps → Tiles IsParameter (inner_items (map parameter_item ps)) ps []
-parameters_tile ps h = tiles_inner IsParameter parameter_item ParameterReadsBack parameter_written ps h
+parameters_tile ps h = parses_all_inner IsParameter parameter_item ParameterReadsBack parameter_written ps h
 
 causes_tile : (cs : List CauseTree) → All CauseReadsBack cs → Tiles IsCause (inner_items (map cause_item cs)) cs []
-causes_tile cs h = tiles_inner IsCause cause_item CauseReadsBack cause_written cs h
+causes_tile cs h = parses_all_inner IsCause cause_item CauseReadsBack cause_written cs h
 
 i_forward_says : (tsn : ℕ) (ss : List SkippedStream) → list_all is_mid_skip ss ≡ true
     → (entries : List ℕ) × (chunk_value (i_forward_tsn_chunk tsn ss) ≡ be32 tsn ++ entries) × SaysSkips entries ss
@@ -141,6 +141,6 @@ chunk_carried (unknown_chunk typ flags value) h = record { kind = refl; of_its_t
 pub chunks_tile : (chunks : List ChunkTree) → All ChunkReadsBack chunks → Tiles IsChunk (chunks_bytes chunks) (map carried chunks) []
 unfolding chunks_bytes chunk_bytes
 chunks_tile chunks h =
-    let tiles = tiles_padded (λ i t. IsChunk i (carried t)) chunk_item ChunkReadsBack (λ t reads. (reads.encodable, chunk_carried t reads)) chunks [] h in
+    let tiles = parses_all_padded (λ i t. IsChunk i (carried t)) chunk_item ChunkReadsBack (λ t reads. (reads.encodable, chunk_carried t reads)) chunks [] h in
     subst (λ (b : List ℕ). Tiles IsChunk b (map carried chunks) []) (append-nil _)
-    (Tiles-map (λ i t. IsChunk i (carried t)) IsChunk carried (λ i t means. means) _ chunks [] tiles)
+    (ParsesAll_map (λ i t. IsChunk i (carried t)) IsChunk carried (λ i t means. means) _ chunks [] tiles)

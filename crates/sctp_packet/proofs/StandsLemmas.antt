@@ -4,15 +4,15 @@ use Rattle.std.specs.List.{flat_map, list_all}
 use Rattle.std.proofs.lemmas.List.{length-append, drop_at}
 use Rattle.sctp_wire.specs.Fields.{be16, be32, length_be32}
 use Rattle.sctp_wire.specs.Item.{Item, Tiles}
-use Rattle.sctp_wire.specs.Refusal.{BreaksAs}
+use Rattle.sctp_wire.specs.Refusal.{FailsToParseAs}
 use Rattle.sctp_wire.specs.Parameter.{ParameterTree, IsParameter, RefusesParameter, parameter_shape, HasNoResult}
 use Rattle.sctp_wire.specs.Serialize.{type_of}
 use Rattle.sctp_wire.specs.Cause.{CauseTree, IsCause, RefusesCause, cause_shape}
 use Rattle.sctp_wire.specs.declared.error.ChunkParseError.{ChunkParseError}
 use Rattle.sctp_wire.specs.declared.error.ChunkParseError.TheVariants.{Memory}
-use Rattle.sctp_wire.proofs.TilesLemmas.{whole_not_broken}
+use Rattle.sctp_wire.proofs.ParsesAllLemmas.{whole_not_broken}
 use Rattle.sctp_wire.proofs.SerializeLemmas.{length_entries}
-use Rattle.sctp_wire.proofs.RefusalLemmas.{BreaksAs-Breaks, one_break, one_fault_as}
+use Rattle.sctp_wire.proofs.RefusalLemmas.{BreaksAs_Breaks, one_break, one_fault_as}
 use Rattle.sctp_parameter.proofs.LawLemmas.{parameter_stands}
 use Rattle.sctp_error_cause.proofs.LawLemmas.{cause_stands}
 use Rattle.sctp_chunk.specs.declared.forward_tsn.SkippedStream.{SkippedStream}
@@ -28,11 +28,11 @@ parameter_fault i = one_fault_as parameter_shape HasNoResult (type_of i) (type_o
 cause_fault : (i : Item) (fault other : ChunkParseError) → RefusesCause i fault → RefusesCause i other → fault ≢ Memory → other ≢ Memory → fault ≡ other
 cause_fault i = one_fault_as cause_shape (λ _ _. ⊥) (type_of i) (type_of i) i.value
 
-whole_parameters : (bytes : List ℕ) (ps : List ParameterTree) (fault : ChunkParseError) → Tiles IsParameter bytes ps [] → BreaksAs IsParameter RefusesParameter bytes fault → fault ≢ Memory → ⊥
-whole_parameters bytes ps fault t b memory = whole_not_broken IsParameter bytes ps t (BreaksAs-Breaks IsParameter RefusesParameter parameter_stands parameter_fault bytes fault b memory)
+whole_parameters : (bytes : List ℕ) (ps : List ParameterTree) (fault : ChunkParseError) → Tiles IsParameter bytes ps [] → FailsToParseAs IsParameter RefusesParameter bytes fault → fault ≢ Memory → ⊥
+whole_parameters bytes ps fault t b memory = whole_not_broken IsParameter bytes ps t (BreaksAs_Breaks IsParameter RefusesParameter parameter_stands parameter_fault bytes fault b memory)
 
-whole_causes : (bytes : List ℕ) (cs : List CauseTree) (fault : ChunkParseError) → Tiles IsCause bytes cs [] → BreaksAs IsCause RefusesCause bytes fault → fault ≢ Memory → ⊥
-whole_causes bytes cs fault t b memory = whole_not_broken IsCause bytes cs t (BreaksAs-Breaks IsCause RefusesCause cause_stands cause_fault bytes fault b memory)
+whole_causes : (bytes : List ℕ) (cs : List CauseTree) (fault : ChunkParseError) → Tiles IsCause bytes cs [] → FailsToParseAs IsCause RefusesCause bytes fault → fault ≢ Memory → ⊥
+whole_causes bytes cs fault t b memory = whole_not_broken IsCause bytes cs t (BreaksAs_Breaks IsCause RefusesCause cause_stands cause_fault bytes fault b memory)
 
 -- ---- one fault
 

@@ -5,7 +5,7 @@ use Rattle.sctp_wire.specs.Item.{Item, Takes, TakesNone, Tiles}
 use Rattle.sctp_wire.specs.declared.checksum.Policy.{Policy}
 use Rattle.sctp_wire.specs.declared.error.ChunkParseError.{ChunkParseError}
 use Rattle.sctp_wire.specs.declared.error.ChunkParseError.TheVariants as chunk_faults
-use Rattle.sctp_wire.proofs.TilesLemmas.{one_item_lem, takes_four, one_tiling}
+use Rattle.sctp_wire.proofs.ParsesAllLemmas.{one_item_lem, takes_four, one_tiling}
 use Rattle.sctp_chunk.specs.Chunk.{ChunkTree}
 use Rattle.sctp_chunk.specs.Grammar.{IsChunk, RefusesChunk}
 use Rattle.sctp_packet.specs.declared.packet.PacketParseError.{PacketParseError}

@@ -24,9 +24,9 @@ so_far h [] = []
 so_far h (b ∷ body) = unsummed_bytes h (b ∷ body)
 
 -- the packet, with the word in its field where the checksum is on; no bytes where nothing was added
-abbrev pub built : Bool → HeaderTree → ℕ → List ℕ → List ℕ
-built summed h word [] = []
-built summed h word (b ∷ body) = joined_bytes h (if summed then word else 0) (b ∷ body)
+abbrev pub build : Bool → HeaderTree → ℕ → List ℕ → List ℕ
+build summed h word [] = []
+build summed h word (b ∷ body) = joined_bytes h (if summed then word else 0) (b ∷ body)
 
 -- the bytes are none, or a packet so far with something in it, up to the limit
 pub record HasPacket (h : HeaderTree) (limit : ℕ) (bytes : List ℕ) : Type 0 where

@@ -3,7 +3,7 @@ use Rattle.std.specs.Prelude.{◌≡◌, ◌≢◌, ℕ, ◌<◌, ◌≤◌, ◌
 use Rattle.std.specs.Int.{w32, from_be_bytes}
 use Rattle.sctp_wire.specs.Fields.{be16, be32}
 use Rattle.sctp_wire.specs.Item.{Tiles}
-use Rattle.sctp_wire.specs.Refusal.{BreaksAs}
+use Rattle.sctp_wire.specs.Refusal.{FailsToParseAs}
 use Rattle.sctp_wire.specs.Checksum.{accepts, with_zero_field}
 use Rattle.sctp_wire.specs.declared.checksum.Policy.{Policy}
 use Rattle.sctp_wire.specs.declared.error.ChunkParseError.TheVariants as chunk_faults
@@ -70,7 +70,7 @@ Refuses policy word bytes TooShort = length bytes < 12
 Refuses policy word bytes TooLong = 65535 < length bytes
 Refuses policy word bytes InvalidChecksum = IsSized bytes × (lets_through policy word (checksum_field bytes) ≡ false)
 Refuses policy word bytes (Chunk fault) =
-    IsSized bytes × (lets_through policy word (checksum_field bytes) ≡ true) × BreaksAs IsChunk RefusesChunk (drop 12 bytes) fault × (fault ≢ chunk_faults.Memory)
+    IsSized bytes × (lets_through policy word (checksum_field bytes) ≡ true) × FailsToParseAs IsChunk RefusesChunk (drop 12 bytes) fault × (fault ≢ chunk_faults.Memory)
 Refuses policy word bytes Memory = Unit {0}
 
 -- the fault is no want of memory

@@ -9,7 +9,7 @@ ghost use Rattle.sctp_chunk.specs.Written.{chunk_item, chunk_bytes, chunk_is_who
 ghost use Rattle.sctp_control_chunk.specs.ChunkView.{chunk_tree};
 ghost use Rattle.sctp_packet.specs.Packet.{HeaderTree, header_bytes, unsummed_bytes, joined_bytes};
 ghost use Rattle.sctp_packet.specs.PacketView.{header_tree};
-ghost use Rattle.sctp_packet.specs.Builder.{BuilderTree, Holds, remaining, so_far, built};
+ghost use Rattle.sctp_packet.specs.Builder.{BuilderTree, Holds, remaining, so_far, build};
 
 use crate::packet::{COMMON_HEADER_SIZE, CommonHeader};
 use sctp_control_chunk::Chunk;
@@ -147,7 +147,7 @@ impl SctpPacketBuilder {
     /// The packet, with `word` in the checksum's field where the checksum is on; no bytes where nothing was added.
     /// The builder is empty again.
     pub fn build(&mut self, word: u32) -> Vec<u8>
-        ensures packet { result.items ≡ built self.old.writes_checksum self.old.header word self.old.body }
+        ensures packet { result.items ≡ build self.old.writes_checksum self.old.header word self.old.body }
         ensures short { length result.items ≤ self.old.limit }
         ensures empty { self.new ≡ record self.old { body = [] } }
     {

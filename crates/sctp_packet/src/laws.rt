@@ -11,7 +11,7 @@ ghost use Rattle.sctp_chunk.specs.Grammar.{IsChunk, RefusesChunk, carried};
 ghost use Rattle.sctp_packet.specs.ReadBack.{ChunkReadsBack};
 ghost use Rattle.sctp_packet.specs.Packet.{HeaderTree, PacketTree, IsPacket, FitsHeader, Accepts, Refuses, IsFault, lets_through, packet_bytes, canonical};
 ghost use Rattle.sctp_chunk.specs.Written.{chunks_bytes};
-ghost use Rattle.sctp_packet.specs.Builder.{BuilderTree, Holds, built};
+ghost use Rattle.sctp_packet.specs.Builder.{BuilderTree, Holds, build};
 ghost use Rattle.sctp_packet.specs.PacketView.{packet_tree};
 ghost use Rattle.sctp_packet.specs.View.{ViewTree, Views, AreLeft, viewed_packet};
 
@@ -90,14 +90,14 @@ pub fn same_packets()
 /// What `build` hands out is the packet of the chunks that the builder holds.
 pub fn built_packet()
     ensures { (summed : Bool) (header : HeaderTree) (word : ℕ) (first : ChunkTree) (others : List ChunkTree)
-        → built summed header word (chunks_bytes (first ∷ others)) ≡ packet_bytes header (if summed then word else 0) (first ∷ others) }
+        → build summed header word (chunks_bytes (first ∷ others)) ≡ packet_bytes header (if summed then word else 0) (first ∷ others) }
 {}
 
 /// So what a builder hands out for the chunks that it holds is read back as these.
 pub fn built_reads_back()
     ensures { (policy : Policy) (word sum : ℕ) (builder : BuilderTree) (first : ChunkTree) (others : List ChunkTree) (bytes : List ℕ)
         (answer : Result SctpPacket PacketParseError)
-        → Holds builder (first ∷ others) → bytes ≡ built builder.writes_checksum builder.header sum builder.body
+        → Holds builder (first ∷ others) → bytes ≡ build builder.writes_checksum builder.header sum builder.body
         → FitsHeader builder.header → sum < 2 ^ 32 → All ChunkReadsBack (first ∷ others) → length bytes ≤ 65535
         → lets_through policy word (if builder.writes_checksum then sum else 0) ≡ true
         → IfOk answer (λ p. Accepts policy word bytes (packet_tree p)) → IfErr answer (Refuses policy word bytes)

@@ -2,7 +2,7 @@
 
 ghost use Rattle.std.specs.Prelude.{◌≡◌, ◌≢◌, List, [], ◌∷◌, map, IfOk, IfErr, OnOk, IfSome, IfNone, MatchOption};
 ghost use Rattle.sctp_wire.specs.Item.{Takes, Tiles};
-ghost use Rattle.sctp_wire.specs.Refusal.{BreaksAs};
+ghost use Rattle.sctp_wire.specs.Refusal.{FailsToParseAs};
 ghost use Rattle.sctp_chunk.specs.Chunk.{ChunkTree};
 ghost use Rattle.sctp_chunk.specs.Grammar.{IsChunk, RefusesChunk};
 ghost use Rattle.sctp_chunk.specs.Views.{raw_chunk};
@@ -110,7 +110,7 @@ impl<'a> PacketView<'a> {
 /// Whether the bytes are chunks.
 fn check_chunks(bytes: &[u8]) -> Result<(), ChunkParseError>
     ensures ok { OnOk result ((chunks : List ChunkTree) × Tiles IsChunk bytes.now chunks []) }
-    ensures refused { IfErr result (BreaksAs IsChunk RefusesChunk bytes.now) }
+    ensures refused { IfErr result (FailsToParseAs IsChunk RefusesChunk bytes.now) }
     ensures never_memory { IfErr result (λ fault. fault ≢ ChunkParseError.Memory) }
 {
     check_items::<Chunk>(bytes)

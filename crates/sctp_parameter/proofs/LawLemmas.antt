@@ -9,7 +9,7 @@ use Rattle.sctp_wire.specs.Shape.{Shape, any_length, HasShape}
 use Rattle.sctp_wire.specs.Parameter.{ParameterTree, heartbeat_info, state_cookie, outgoing_reset_request, incoming_reset_request, ssn_tsn_reset_request, reset_response, add_outgoing_streams_request, add_incoming_streams_request, supported_extensions, forward_tsn_supported, zero_checksum_acceptable, unknown_parameter, IsParameter, SaysParameter, parameter_item, parameter_type, parameter_value, parameter_shape, HasNoResult, RefusesParameter, is_known_parameter}
 use Rattle.sctp_wire.specs.ReadBack.{ParameterReadsBack}
 use Rattle.sctp_wire.proofs.FieldLemmas.{be32_same}
-use Rattle.sctp_wire.proofs.TilesLemmas.{cut_same}
+use Rattle.sctp_wire.proofs.ParsesAllLemmas.{cut_same}
 use Rattle.sctp_wire.proofs.ReadBackLemmas.{type_of_typed}
 use Rattle.sctp_parameter.proofs.ParameterLemmas.{length_outgoing, length_incoming, length_response, length_zero_checksum}
 use Rattle.sctp_wire.proofs.WordLemmas.{neither, clash}

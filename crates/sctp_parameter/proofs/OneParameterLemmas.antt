@@ -52,8 +52,8 @@ known typ value =
     (cond (typ == 0x8001) (zero_checksum_acceptable (word value))
     (cond (typ == 0x8008) (supported_extensions value) forward_tsn_supported)))))))))
 
-abbrev told : ℕ → List ℕ → ParameterTree
-told typ value = cond (is_known_parameter typ) (known typ value) (unknown_parameter typ value)
+abbrev emitted : ℕ → List ℕ → ParameterTree
+emitted typ value = cond (is_known_parameter typ) (known typ value) (unknown_parameter typ value)
 
 same_outgoing : (a b c d : ℕ) (t u : Tsn) (x y : List StreamId) → a ≡ c → b ≡ d → t ≡ u → x ≡ y → outgoing_reset_request a b t x ≡ outgoing_reset_request c d u y
 same_outgoing a b c d t u x y p q r s = cc
@@ -61,14 +61,14 @@ same_outgoing a b c d t u x y p q r s = cc
 same_response : (a b c d : ℕ) (t u v w : Option Tsn) → a ≡ c → b ≡ d → t ≡ u → v ≡ w → reset_response a b t v ≡ reset_response c d u w
 same_response a b c d t u v w p q r s = cc
 
-at_type : (typ k : ℕ) (value : List ℕ) (t : ParameterTree) → typ ≡ k → told k value ≡ t → told typ value ≡ t
-at_type typ k value t e h = ap (λ (n : ℕ). told n value) e ∙ h
+at_type : (typ k : ℕ) (value : List ℕ) (t : ParameterTree) → typ ≡ k → emitted k value ≡ t → emitted typ value ≡ t
+at_type typ k value t e h = ap (λ (n : ℕ). emitted n value) e ∙ h
 
-pub parameter_told : (typ : ℕ) (value : List ℕ) (t : ParameterTree) → SaysParameter typ value t → told typ value ≡ t
+pub parameter_emitted : (typ : ℕ) (value : List ℕ) (t : ParameterTree) → SaysParameter typ value t → emitted typ value ≡ t
 unfolding parameter_value
-parameter_told typ value (heartbeat_info info) s = at_type typ 1 value _ s.typed (ap heartbeat_info s.valued)
-parameter_told typ value (state_cookie cookie) s = at_type typ 7 value _ s.typed (ap state_cookie s.valued)
-parameter_told typ value (outgoing_reset_request request response last streams) s =
+parameter_emitted typ value (heartbeat_info info) s = at_type typ 1 value _ s.typed (ap heartbeat_info s.valued)
+parameter_emitted typ value (state_cookie cookie) s = at_type typ 7 value _ s.typed (ap state_cookie s.valued)
+parameter_emitted typ value (outgoing_reset_request request response last streams) s =
     let first : drop 4 value ≡ be32 response ++ (be32 last.0 ++ flat_map stream_bytes streams) = ap (drop 4) s.valued ∙ behind_word request _ in
     let second : drop 4 (drop 4 value) ≡ be32 last.0 ++ flat_map stream_bytes streams = ap (drop 4) first ∙ behind_word response _ in
     let third : drop 4 (drop 4 (drop 4 value)) ≡ flat_map stream_bytes streams = ap (drop 4) second ∙ behind_word last.0 _ in
@@ -77,22 +77,22 @@ parameter_told typ value (outgoing_reset_request request response last streams) 
     (ap word first ∙ word_back response _ s.fits.1)
     (ap tsn (ap word second ∙ word_back last.0 _ s.fits.2))
     (ap streams_of third ∙ streams_back streams s.fits.3))
-parameter_told typ value (incoming_reset_request request streams) s =
+parameter_emitted typ value (incoming_reset_request request streams) s =
     let first : word value ≡ request = ap word s.valued ∙ word_back request _ s.fits.0 in
     let second : streams_of (drop 4 value) ≡ streams = ap streams_of (ap (drop 4) s.valued ∙ behind_word request _) ∙ streams_back streams s.fits.1 in
     at_type typ 14 value _ s.typed (ap (λ (n : ℕ). incoming_reset_request n (streams_of (drop 4 value))) first ∙ ap (incoming_reset_request request) second)
-parameter_told typ value (ssn_tsn_reset_request kept bytes) s =
+parameter_emitted typ value (ssn_tsn_reset_request kept bytes) s =
     at_type typ 15 value _ (s.typed ∙ s.of_its_variant) (ap (ssn_tsn_reset_request 15) s.valued ∙ ap (λ (n : ℕ). ssn_tsn_reset_request n bytes) (sym s.of_its_variant))
-parameter_told typ value (reset_response response result None None) s =
+parameter_emitted typ value (reset_response response result None None) s =
     let len : length value ≡ 8 = ap length s.valued ∙ length_response response result None None in
     let second : drop 4 value ≡ be32 result ++ [] = ap (drop 4) s.valued ∙ behind_word response _ in
     at_type typ 16 value _ s.typed (ap (λ (n : ℕ). cond (n == 8) (short_response value) (long_response value)) len
     ∙ same_response _ _ _ _ _ _ _ _
     (ap word s.valued ∙ word_back response _ s.fits.0)
     (ap word second ∙ word_back result _ s.fits.1) refl refl)
-parameter_told typ value (reset_response response result None (Some receiver)) s = absurd (clash (sym s.whole))
-parameter_told typ value (reset_response response result (Some sender) None) s = absurd (clash (sym s.whole))
-parameter_told typ value (reset_response response result (Some sender) (Some receiver)) s =
+parameter_emitted typ value (reset_response response result None (Some receiver)) s = absurd (clash (sym s.whole))
+parameter_emitted typ value (reset_response response result (Some sender) None) s = absurd (clash (sym s.whole))
+parameter_emitted typ value (reset_response response result (Some sender) (Some receiver)) s =
     let len : length value ≡ 16 = omega (arith, ap length s.valued, length_response response result (Some sender) (Some receiver), length_be32 sender.0, length_be32 receiver.0) in
     let first : drop 4 value ≡ be32 result ++ (be32 sender.0 ++ be32 receiver.0) = ap (drop 4) s.valued ∙ behind_word response _ in
     let second : drop 4 (drop 4 value) ≡ be32 sender.0 ++ be32 receiver.0 = ap (drop 4) first ∙ behind_word result _ in
@@ -103,16 +103,16 @@ parameter_told typ value (reset_response response result (Some sender) (Some rec
     (ap word first ∙ word_back result _ s.fits.1)
     (ap (λ (n : ℕ). Some (tsn n)) (ap word second ∙ word_back sender.0 _ s.fits.2))
     (ap (λ (n : ℕ). Some (tsn n)) (ap word third ∙ word_back receiver.0 [] s.fits.3)))
-parameter_told typ value (add_outgoing_streams_request kept bytes) s =
+parameter_emitted typ value (add_outgoing_streams_request kept bytes) s =
     at_type typ 17 value _ (s.typed ∙ s.of_its_variant) (ap (add_outgoing_streams_request 17) s.valued ∙ ap (λ (n : ℕ). add_outgoing_streams_request n bytes) (sym s.of_its_variant))
-parameter_told typ value (add_incoming_streams_request kept bytes) s =
+parameter_emitted typ value (add_incoming_streams_request kept bytes) s =
     at_type typ 18 value _ (s.typed ∙ s.of_its_variant) (ap (add_incoming_streams_request 18) s.valued ∙ ap (λ (n : ℕ). add_incoming_streams_request n bytes) (sym s.of_its_variant))
-parameter_told typ value (supported_extensions chunk_types) s = at_type typ 0x8008 value _ s.typed (ap supported_extensions s.valued)
-parameter_told typ value forward_tsn_supported s = at_type typ 0xC000 value _ s.typed refl
-parameter_told typ value (zero_checksum_acceptable method) s =
+parameter_emitted typ value (supported_extensions chunk_types) s = at_type typ 0x8008 value _ s.typed (ap supported_extensions s.valued)
+parameter_emitted typ value forward_tsn_supported s = at_type typ 0xC000 value _ s.typed refl
+parameter_emitted typ value (zero_checksum_acceptable method) s =
     at_type typ 0x8001 value _ s.typed (ap zero_checksum_acceptable (ap word (s.valued ∙ sym (append-nil (be32 method))) ∙ word_back method [] s.fits))
-parameter_told typ value (unknown_parameter kept bytes) s =
+parameter_emitted typ value (unknown_parameter kept bytes) s =
     at_type typ kept value _ s.typed (ap (λ (b : Bool). cond b (known kept value) (unknown_parameter kept value)) s.of_its_variant ∙ ap (unknown_parameter kept) s.valued)
 
 pub one_parameter_lem : (i : Item) (t u : ParameterTree) → IsParameter i t → IsParameter i u → t ≡ u
-one_parameter_lem i t u s r = sym (parameter_told (type_of i) i.value t s) ∙ parameter_told (type_of i) i.value u r
+one_parameter_lem i t u s r = sym (parameter_emitted (type_of i) i.value t s) ∙ parameter_emitted (type_of i) i.value u r

@@ -9,7 +9,7 @@ use Rattle.sctp_wire.specs.Fields.{be16, be32}
 use Rattle.sctp_wire.specs.Shape.{HasShape}
 use Rattle.sctp_wire.specs.Parameter.{ParameterTree, heartbeat_info, state_cookie, outgoing_reset_request, incoming_reset_request, ssn_tsn_reset_request, reset_response, add_outgoing_streams_request, add_incoming_streams_request, supported_extensions, forward_tsn_supported, zero_checksum_acceptable, unknown_parameter, SaysParameter, parameter_value, parameter_shape, stream_bytes, HasNoResult, is_known_parameter}
 use Rattle.sctp_wire.proofs.ItemLemmas.{IsBytes}
-use Rattle.sctp_wire.proofs.PresentLemmas.{IsBytes-drop, number16, number32, entries_in, by_type}
+use Rattle.sctp_wire.proofs.PresentLemmas.{IsBytes_drop, number16, number32, entries_in, by_type}
 use Rattle.sctp_wire.proofs.WordLemmas.{tsn}
 use Rattle.sctp_parameter.specs.declared.reset.ReconfigurationResponseResult.{ReconfigurationResponseResult}
 use Rattle.sctp_parameter.specs.declared.reset.ReconfigurationResponseResult.TheVariants as results
@@ -31,16 +31,16 @@ unfolding parameter_value
 outgoing_says value fits long even =
     let a = number32 value fits (omega (arith, long)) in
     let first : List ℕ = drop 4 value in
-    let some_first : IsBytes first = IsBytes-drop 4 value fits in
+    let some_first : IsBytes first = IsBytes_drop 4 value fits in
     let len_first : length first ≡ length value - 4 = length-drop 4 value in
     let b = number32 first some_first (omega (arith, long, len_first)) in
     let second : List ℕ = drop 4 first in
-    let some_second : IsBytes second = IsBytes-drop 4 first some_first in
+    let some_second : IsBytes second = IsBytes_drop 4 first some_first in
     let len_second : length second ≡ length first - 4 = length-drop 4 first in
     let c = number32 second some_second (omega (arith, long, len_first, len_second)) in
     let third : List ℕ = drop 4 second in
     let len_third : length third ≡ length second - 4 = length-drop 4 second in
-    let ids = streams_in third (IsBytes-drop 4 second some_second) (omega (arith, long, even, len_first, len_second, len_third)) in (
+    let ids = streams_in third (IsBytes_drop 4 second some_second) (omega (arith, long, even, len_first, len_second, len_third)) in (
       outgoing_reset_request a.0 b.0 (tsn c.0) ids.0,
       record {
         typed = refl;
@@ -57,7 +57,7 @@ incoming_says value fits long even =
     let a = number32 value fits long in
     let first : List ℕ = drop 4 value in
     let len_first : length first ≡ length value - 4 = length-drop 4 value in
-    let ids = streams_in first (IsBytes-drop 4 value fits) (omega (arith, long, even, len_first)) in (
+    let ids = streams_in first (IsBytes_drop 4 value fits) (omega (arith, long, even, len_first)) in (
       incoming_reset_request a.0 ids.0,
       record { typed = refl; valued = a.2 ∙ ap (λ (x : List ℕ). be32 a.0 ++ x) ids.2; whole = refl; of_its_variant = tt; fits = (a.1, ids.1) },
     )
@@ -91,7 +91,7 @@ short_response_says value fits len speaks =
     let a = number32 value fits (omega (arith, len)) in
     let first : List ℕ = drop 4 value in
     let len_first : length first ≡ length value - 4 = length-drop 4 value in
-    let b = number32 first (IsBytes-drop 4 value fits) (omega (arith, len, len_first)) in
+    let b = number32 first (IsBytes_drop 4 value fits) (omega (arith, len, len_first)) in
     let second : List ℕ = drop 4 first in
     let len_second : length second ≡ length first - 4 = length-drop 4 first in
     let all : value ≡ be32 a.0 ++ (be32 b.0 ++ second) = a.2 ∙ ap (λ (x : List ℕ). be32 a.0 ++ x) b.2 in
@@ -111,16 +111,16 @@ unfolding parameter_value
 long_response_says value fits len speaks =
     let a = number32 value fits (omega (arith, len)) in
     let first : List ℕ = drop 4 value in
-    let some_first : IsBytes first = IsBytes-drop 4 value fits in
+    let some_first : IsBytes first = IsBytes_drop 4 value fits in
     let len_first : length first ≡ length value - 4 = length-drop 4 value in
     let b = number32 first some_first (omega (arith, len, len_first)) in
     let second : List ℕ = drop 4 first in
-    let some_second : IsBytes second = IsBytes-drop 4 first some_first in
+    let some_second : IsBytes second = IsBytes_drop 4 first some_first in
     let len_second : length second ≡ length first - 4 = length-drop 4 first in
     let c = number32 second some_second (omega (arith, len, len_first, len_second)) in
     let third : List ℕ = drop 4 second in
     let len_third : length third ≡ length second - 4 = length-drop 4 second in
-    let d = number32 third (IsBytes-drop 4 second some_second) (omega (arith, len, len_first, len_second, len_third)) in
+    let d = number32 third (IsBytes_drop 4 second some_second) (omega (arith, len, len_first, len_second, len_third)) in
     let fourth : List ℕ = drop 4 third in
     let empty : fourth ≡ [] = nil_from_length fourth (omega (arith, len, len_first, len_second, len_third, length-drop 4 third)) in
     let tsns : second ≡ be32 c.0 ++ be32 d.0 =

@@ -5,7 +5,7 @@ ghost use Rattle.std.specs.Prelude.{◌≡◌, ◌≢◌, ◌<◌, ◌^◌, ◌+
 ghost use Rattle.std.specs.List.{flat_map};
 ghost use Rattle.sctp_wire.specs.declared.error.ChunkParseError.{ChunkParseError};
 ghost use Rattle.sctp_wire.specs.Item.{Item, Tiles};
-ghost use Rattle.sctp_wire.specs.Refusal.{BreaksAs};
+ghost use Rattle.sctp_wire.specs.Refusal.{FailsToParseAs};
 ghost use Rattle.sctp_wire.specs.Serialize.{inner_items, padded_item};
 ghost use Rattle.sctp_wire.specs.Parameter.{ParameterTree, ParameterFits, IsParameter, RefusesParameter, parameter_item};
 ghost use Rattle.sctp_wire.specs.ReadBack.{ParameterReadsBack};
@@ -87,7 +87,7 @@ pub fn one_parameter()
 pub fn one_list_of_parameters()
     ensures values { (bytes : List ℕ) (ts us : List ParameterTree) → Tiles IsParameter bytes ts [] → Tiles IsParameter bytes us [] → ts ≡ us }
     ensures never_both { (bytes : List ℕ) (ts : List ParameterTree) (fault : ChunkParseError) → Tiles IsParameter bytes ts []
-        → BreaksAs IsParameter RefusesParameter bytes fault → fault ≢ ChunkParseError.Memory → ⊥ }
-    ensures fault { (bytes : List ℕ) (fault other : ChunkParseError) → BreaksAs IsParameter RefusesParameter bytes fault
-        → BreaksAs IsParameter RefusesParameter bytes other → fault ≢ ChunkParseError.Memory → other ≢ ChunkParseError.Memory → fault ≡ other }
+        → FailsToParseAs IsParameter RefusesParameter bytes fault → fault ≢ ChunkParseError.Memory → ⊥ }
+    ensures fault { (bytes : List ℕ) (fault other : ChunkParseError) → FailsToParseAs IsParameter RefusesParameter bytes fault
+        → FailsToParseAs IsParameter RefusesParameter bytes other → fault ≢ ChunkParseError.Memory → other ≢ ChunkParseError.Memory → fault ≡ other }
 {}

@@ -11,11 +11,11 @@ use Rattle.sctp_packet.specs.declared.packet.PacketParseError.TheVariants as fau
 use Rattle.sctp_packet.specs.Chunk.{ChunkTree}
 use Rattle.sctp_packet.specs.Written.{chunk_item, chunk_value, chunk_bytes, chunks_bytes, sack_value}
 use Rattle.sctp_packet.specs.Packet.{HeaderTree, PacketTree, IsPacket, Accepts, Refuses, header_bytes, unsummed_bytes, packet_bytes}
-use Rattle.sctp_packet.specs.Builder.{BuilderTree, so_far, built}
+use Rattle.sctp_packet.specs.Builder.{BuilderTree, so_far, build}
 use Rattle.sctp_packet.proofs.PacketLemmas.{length_joined}
 use Rattle.sctp_packet.proofs.BuilderLemmas.{built_is_packet}
 use Rattle.sctp_probe.specs.ByteSums.{byte_sum}
-use Rattle.sctp_probe.specs.Probe.{default_policy, packet_word, Probes, answer_of, refusal_of, reply_chunk, summed_packet, turned, reply_bytes}
+use Rattle.sctp_probe.specs.Probe.{default_policy, packet_word, Probes, answer_of, refusal_of, reply_chunk, summed_packet, turn_header, reply_bytes}
 
 -- a packet has its header
 packet_long : (bytes : List ℕ) (p : PacketTree) → IsPacket bytes p → 12 ≤ length bytes
@@ -77,7 +77,7 @@ unfolding unsummed_bytes header_bytes be16 be32
 word_unsummed h body = refl
 
 reply_built : (h : HeaderTree) (tsn : ℕ) (body unsummed bytes : List ℕ) (word : ℕ) → body ≡ chunk_bytes (reply_chunk tsn) → unsummed ≡ so_far h body
-    → (12 ≤ length unsummed → word ≡ packet_word unsummed) → bytes ≡ built true h word body → bytes ≡ summed_packet h (reply_chunk tsn ∷ [])
+    → (12 ≤ length unsummed → word ≡ packet_word unsummed) → bytes ≡ build true h word body → bytes ≡ summed_packet h (reply_chunk tsn ∷ [])
 reply_built h tsn body unsummed bytes word held far summed made =
     let t : ChunkTree = reply_chunk tsn in
     let all : body ≡ chunks_bytes (t ∷ []) = held ∙ sym (one_chunk t) in
@@ -86,7 +86,7 @@ reply_built h tsn body unsummed bytes word held far summed made =
     let w : word ≡ byte_sum (unsummed_bytes h (chunks_bytes (t ∷ []))) =
     summed (subst (λ (x : List ℕ). 12 ≤ length x) (sym whole) (length_unsummed h (chunks_bytes (t ∷ []))))
     ∙ ap packet_word whole ∙ word_unsummed h (chunks_bytes (t ∷ [])) in
-    made ∙ ap (λ (x : List ℕ). built true h word x) all ∙ built_is_packet true h word t []
+    made ∙ ap (λ (x : List ℕ). build true h word x) all ∙ built_is_packet true h word t []
     ∙ ap (λ (n : ℕ). packet_bytes h n (t ∷ [])) w
 
 abbrev pub builder : HeaderTree → ℕ → List ℕ → BuilderTree
@@ -94,12 +94,12 @@ builder h limit body = record { header = h; limit = limit; writes_checksum = tru
 
 -- the packet of a builder to which the reply's chunk was added
 pub reply_made : (h : HeaderTree) (limit tsn : ℕ) (start held : BuilderTree) (t : ChunkTree) (unsummed bytes : List ℕ) (word : ℕ)
-    → start ≡ builder (turned h) limit [] → t ≡ reply_chunk tsn → held ≡ record start { body = start.body ++ chunk_bytes t } → unsummed ≡ so_far held.header held.body
-    → (12 ≤ length unsummed → word ≡ packet_word unsummed) → bytes ≡ built held.writes_checksum held.header word held.body → bytes ≡ reply_bytes h tsn
+    → start ≡ builder (turn_header h) limit [] → t ≡ reply_chunk tsn → held ≡ record start { body = start.body ++ chunk_bytes t } → unsummed ≡ so_far held.header held.body
+    → (12 ≤ length unsummed → word ≡ packet_word unsummed) → bytes ≡ build held.writes_checksum held.header word held.body → bytes ≡ reply_bytes h tsn
 reply_made h limit tsn start held t unsummed bytes word s is e far summed made =
     let body : held.body ≡ chunk_bytes (reply_chunk tsn) =
     ap (λ (b : BuilderTree). b.body) e ∙ ap (λ (b : BuilderTree). b.body ++ chunk_bytes t) s ∙ ap chunk_bytes is in
-    let header : held.header ≡ turned h = ap (λ (b : BuilderTree). b.header) e ∙ ap (λ (b : BuilderTree). b.header) s in
+    let header : held.header ≡ turn_header h = ap (λ (b : BuilderTree). b.header) e ∙ ap (λ (b : BuilderTree). b.header) s in
     let on : held.writes_checksum ≡ true = ap (λ (b : BuilderTree). b.writes_checksum) e ∙ ap (λ (b : BuilderTree). b.writes_checksum) s in
-    reply_built (turned h) tsn held.body unsummed bytes word body (far ∙ ap (λ (x : HeaderTree). so_far x held.body) header) summed
-    (made ∙ ap (λ (w : Bool). built w held.header word held.body) on ∙ ap (λ (x : HeaderTree). built true x word held.body) header)
+    reply_built (turn_header h) tsn held.body unsummed bytes word body (far ∙ ap (λ (x : HeaderTree). so_far x held.body) header) summed
+    (made ∙ ap (λ (w : Bool). build w held.header word held.body) on ∙ ap (λ (x : HeaderTree). build true x word held.body) header)

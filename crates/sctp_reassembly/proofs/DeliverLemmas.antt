@@ -6,7 +6,7 @@ use Rattle.std.proofs.lemmas.Bool.Decides.{nat_tests}
 use Rattle.sctp_serial.specs.Messages.{Message}
 use Rattle.sctp_fragments.specs.Runs.{is_held, with_item}
 use Rattle.sctp_fragments.specs.Held.{Held, rank_of, NonePass, NoneComplete, NoneInTurn, without_first_of, left_by, intervals_of, is_in_turn, is_complete, IsTaken, IsPlaced, message_of_run}
-use Rattle.sctp_reassembly.specs.Delivery.{OrderedDelivery, OrderedStream, deliver, deliver_within, at_rest, preceded_by, delivering, ordered_arrival, completed, ready_bytes}
+use Rattle.sctp_reassembly.specs.Delivery.{OrderedDelivery, OrderedStream, deliver, deliver_within, at_rest, preceded_by, delivering, ordered_arrival, complete_messages, ready_bytes}
 use Rattle.std.proofs.lemmas.List.Sums.{sum_by_push}
 use Rattle.sctp_reassembly.proofs.FindLemmas.{found, without_found, not_found, taken_left}
 
@@ -57,13 +57,13 @@ deliver_step n hs new r is left intervals =
 
 -- ---- unordered messages
 
-NonePass-front : (test : List Held → Bool) (xs ys : List (List Held)) → NonePass test (xs ++ ys) → NonePass test xs
-NonePass-front test [] ys h = tt
-NonePass-front test (x ∷ xs) ys h = (h.0, NonePass-front test xs ys h.1)
+NonePass_front : (test : List Held → Bool) (xs ys : List (List Held)) → NonePass test (xs ++ ys) → NonePass test xs
+NonePass_front test [] ys h = tt
+NonePass_front test (x ∷ xs) ys h = (h.0, NonePass_front test xs ys h.1)
 
-NonePass-with : (test : List Held → Bool) (xs ys : List (List Held)) (r : List Held) → NonePass test (xs ++ ys) → test r ≡ false → NonePass test (xs ++ r ∷ ys)
-NonePass-with test [] ys r h k = (k, h)
-NonePass-with test (x ∷ xs) ys r h k = (h.0, NonePass-with test xs ys r h.1 k)
+NonePass_with : (test : List Held → Bool) (xs ys : List (List Held)) (r : List Held) → NonePass test (xs ++ ys) → test r ≡ false → NonePass test (xs ++ r ∷ ys)
+NonePass_with test [] ys r h k = (k, h)
+NonePass_with test (x ∷ xs) ys r h k = (h.0, NonePass_with test xs ys r h.1 k)
 
 same_rest : {X : Type 0} (ps qs ps' qs' : List X) (x y : X) → ps ++ x ∷ qs ≡ ps' ++ y ∷ qs' → length ps ≡ length ps' → ps ++ qs ≡ ps' ++ qs'
 same_rest [] qs [] qs' x y h k = cc
@@ -73,7 +73,7 @@ same_rest (p ∷ ps) qs (p' ∷ ps') qs' x y h k = let t = same_rest ps qs ps' q
 
 module _ (old mid : List Held) (x : Held) (place : ℕ) (none : NoneComplete (intervals_of old)) (p : IsPlaced old mid x place) where
   pub none_incomplete : ((front back : List (List Held)) (r : List Held) → intervals_of mid ≡ front ++ r ∷ back → length front ≡ place → is_complete r ≡ false) → NoneComplete (intervals_of mid)
-  none_incomplete incomplete = rw p.runs (NonePass-with is_complete p.front p.back p.run (p.others is_complete none) (incomplete p.front p.back p.run p.runs p.at))
+  none_incomplete incomplete = rw p.runs (NonePass_with is_complete p.front p.back p.run (p.others is_complete none) (incomplete p.front p.back p.run p.runs p.at))
 
   none_around : (run new : List Held) (t : IsTaken mid run new place) → NoneComplete (t.front ++ t.back)
   none_around run new t = subst NoneComplete (same_rest p.front p.back t.front t.back p.run run (sym p.runs ∙ t.runs) (p.at ∙ sym t.at)) (p.others is_complete none)
@@ -82,18 +82,18 @@ module _ (old mid : List Held) (x : Held) (place : ℕ) (none : NoneComplete (in
   none_taken run new t = rw t.left (none_around run new t)
 
   pub left_taken : (run new : List Held) → IsTaken mid run new place → new ≡ left_by is_complete mid
-  left_taken run new t = taken_left is_complete mid run new t.front t.back t.runs (NonePass-front is_complete t.front t.back (none_around run new t)) t.complete t.rest
+  left_taken run new t = taken_left is_complete mid run new t.front t.back t.runs (NonePass_front is_complete t.front t.back (none_around run new t)) t.complete t.rest
 
-  pub found_taken : (run new : List Held) → IsTaken mid run new place → completed mid ≡ message_of_run run ∷ []
+  pub found_taken : (run new : List Held) → IsTaken mid run new place → complete_messages mid ≡ message_of_run run ∷ []
   found_taken run new t =
       ap (λ (o : Option (List Held)). option_to_list (option_map message_of_run o))
-      (ap (find is_complete) t.runs ∙ found is_complete t.front t.back run (NonePass-front is_complete t.front t.back (none_around run new t)) t.complete)
+      (ap (find is_complete) t.runs ∙ found is_complete t.front t.back run (NonePass_front is_complete t.front t.back (none_around run new t)) t.complete)
 
 -- nothing is in turn where nothing was, and the interval that took the fragment is not
 pub none_turned : (old mid : List Held) (x : Held) (place n : ℕ) → IsPlaced old mid x place → ((front back : List (List Held)) (r : List Held) → intervals_of mid ≡ front ++ r ∷ back → length front ≡ place → false ≡ is_in_turn n r)
     → NoneInTurn n (intervals_of old) → NoneInTurn n (intervals_of mid)
 none_turned old mid x place n p told none =
-    subst (NoneInTurn n) (sym p.runs) (NonePass-with (is_in_turn n) p.front p.back p.run (p.others (is_in_turn n) none) (sym (told p.front p.back p.run p.runs p.at)))
+    subst (NoneInTurn n) (sym p.runs) (NonePass_with (is_in_turn n) p.front p.back p.run (p.others (is_in_turn n) none) (sym (told p.front p.back p.run p.runs p.at)))
 
 -- a fragment comes by which nothing is in turn
 pub arrives_settled : (x : Held) (s : OrderedStream) (hs : List Held) → nat_lt x.number s.next ≡ false → hs ≡ with_item rank_of x s.held → NoneInTurn s.next (intervals_of hs) → ordered_arrival x s ≡ at_rest s.next hs
@@ -129,7 +129,7 @@ whole_leaves x s n hs none turn same kept =
     made : state (n + 1) hs ≡ state (suc s.next) []
     made = ap (λ (k : ℕ). state k hs) next ∙ ap (state (suc s.next)) (kept ∙ no_items s.held none)
 
-pub none_completed : (hs : List Held) → NoneComplete (intervals_of hs) → completed hs ≡ []
+pub none_completed : (hs : List Held) → NoneComplete (intervals_of hs) → complete_messages hs ≡ []
 none_completed hs none = ap (λ (o : Option (List Held)). option_to_list (option_map message_of_run o)) (not_found is_complete (intervals_of hs) none)
 
 -- an unordered fragment whose key is held

@@ -12,26 +12,26 @@ use Rattle.std.proofs.lemmas.List.Sums.{sum_by-cons}
 use Rattle.std.proofs.lemmas.Map.Entries.{sum_by-set_value, sum_by-insert_entry}
 
 module _ {S : Type 0} (weight : S → ℕ) where
-  pub sum-written : (id : ℕ) (es : List (ℕ × S)) (v w : S) → Some v ≡ lookup (is_at (nat_cmp id)) es → sum_by weight (values_of (set_value (is_at (nat_cmp id)) es w)) + weight v ≡ sum_by weight (values_of es) + weight w
-  sum-written id es v w at = sum_by-set_value weight (is_at (nat_cmp id)) es v w (sym at)
+  pub sum_written : (id : ℕ) (es : List (ℕ × S)) (v w : S) → Some v ≡ lookup (is_at (nat_cmp id)) es → sum_by weight (values_of (set_value (is_at (nat_cmp id)) es w)) + weight v ≡ sum_by weight (values_of es) + weight w
+  sum_written id es v w at = sum_by-set_value weight (is_at (nat_cmp id)) es v w (sym at)
 
-  pub sum-at_least : (id : ℕ) (es : List (ℕ × S)) (v fresh : S) → weight fresh ≡ 0 → Some v ≡ lookup (is_at (nat_cmp id)) es → weight v ≤ sum_by weight (values_of es)
-  sum-at_least id es v fresh zero at = omega (arith, sum-written id es v fresh at, zero)
+  pub sum_at_least : (id : ℕ) (es : List (ℕ × S)) (v fresh : S) → weight fresh ≡ 0 → Some v ≡ lookup (is_at (nat_cmp id)) es → weight v ≤ sum_by weight (values_of es)
+  sum_at_least id es v fresh zero at = omega (arith, sum_written id es v fresh at, zero)
 
-  pub sum-opened : (id : ℕ) (es : List (ℕ × S)) (fresh : S) → weight fresh ≡ 0 → IsStrictlySortedBy nat_cmp (keys_of es) → None ≡ lookup (is_at (nat_cmp id)) es → sum_by weight (values_of (insert_entry nat_cmp es id fresh)) ≡ sum_by weight (values_of es)
-  sum-opened id es fresh zero sorted none =
+  pub sum_opened : (id : ℕ) (es : List (ℕ × S)) (fresh : S) → weight fresh ≡ 0 → IsStrictlySortedBy nat_cmp (keys_of es) → None ≡ lookup (is_at (nat_cmp id)) es → sum_by weight (values_of (insert_entry nat_cmp es id fresh)) ≡ sum_by weight (values_of es)
+  sum_opened id es fresh zero sorted none =
       let sums = sum_by-insert_entry weight nat_cmp_total es id fresh sorted in
       let gone : unwrap_or (option_map weight (lookup (is_at (nat_cmp id)) es)) 0 ≡ 0 = ap (λ o. unwrap_or (option_map weight o) 0) (sym none) in
       omega (arith, sums, gone, zero)
 
-pub none-from : {X : Type 0} (o : Option X) → is_some o ≡ false → None ≡ o
-none-from None h = refl
-none-from (Some x) h = absurd (cc)
+pub none_from : {X : Type 0} (o : Option X) → is_some o ≡ false → None ≡ o
+none_from None h = refl
+none_from (Some x) h = absurd (cc)
 
 module _ {S : Type 0} (weight : S → ℕ) where
-  pub sum-kept : (test : ℕ × S → Bool) (es : List (ℕ × S)) → sum_by weight (values_of (filter test es)) ≤ sum_by weight (values_of es)
-  sum-kept test [] = omega arith
-  sum-kept test (e ∷ es) = go (test e) (sum-kept test es)
+  pub sum_kept : (test : ℕ × S → Bool) (es : List (ℕ × S)) → sum_by weight (values_of (filter test es)) ≤ sum_by weight (values_of es)
+  sum_kept test [] = omega arith
+  sum_kept test (e ∷ es) = go (test e) (sum_kept test es)
     where
       go : (b : Bool) → sum_by weight (values_of (filter test es)) ≤ sum_by weight (values_of es) → sum_by weight (values_of (cond b (e ∷ filter test es) (filter test es))) ≤ sum_by weight (values_of (e ∷ es))
       go true ih =
@@ -41,24 +41,24 @@ module _ {S : Type 0} (weight : S → ℕ) where
           let goal : sum_by weight (values_of (filter test es)) ≤ sum_by weight (values_of (e ∷ es)) = omega (arith, ih, sum_by-cons weight e.1 (values_of es)) in
           goal
 
-  pub sum-mapped : (g : S → S) → ((s : S) → weight (g s) ≤ weight s) → (es : List (ℕ × S)) → sum_by weight (values_of (map (λ e. (e.0, g e.1)) es)) ≤ sum_by weight (values_of es)
-  sum-mapped g less [] = omega arith
-  sum-mapped g less (e ∷ es) =
+  pub sum_mapped : (g : S → S) → ((s : S) → weight (g s) ≤ weight s) → (es : List (ℕ × S)) → sum_by weight (values_of (map (λ e. (e.0, g e.1)) es)) ≤ sum_by weight (values_of es)
+  sum_mapped g less [] = omega arith
+  sum_mapped g less (e ∷ es) =
       let s : sum_by weight (values_of (map (λ e. (e.0, g e.1)) (e ∷ es))) ≡ weight (g e.1) + sum_by weight (values_of (map (λ e. (e.0, g e.1)) es)) = sum_by-cons weight (g e.1) (values_of (map (λ e. (e.0, g e.1)) es)) in
       let t : sum_by weight (values_of (e ∷ es)) ≡ weight e.1 + sum_by weight (values_of es) = sum_by-cons weight e.1 (values_of es) in
-      omega (arith, s, t, less e.1, sum-mapped g less es)
+      omega (arith, s, t, less e.1, sum_mapped g less es)
 
-pub from_rank-bytes : (n : ℕ) (hs : List Held) → bytes_of (from_rank rank_of n hs) ≤ bytes_of hs
-from_rank-bytes n [] = omega arith
-from_rank-bytes n (h ∷ hs) = go (nat_lt (rank_of h) n) (from_rank-bytes n hs)
+pub from_rank_bytes : (n : ℕ) (hs : List Held) → bytes_of (from_rank rank_of n hs) ≤ bytes_of hs
+from_rank_bytes n [] = omega arith
+from_rank_bytes n (h ∷ hs) = go (nat_lt (rank_of h) n) (from_rank_bytes n hs)
   where
     go : (b : Bool) → bytes_of (from_rank rank_of n hs) ≤ bytes_of hs → bytes_of (cond b (from_rank rank_of n hs) (h ∷ from_rank rank_of n hs)) ≤ length h.fragment.payload + bytes_of hs
     go true ih = omega (arith, ih)
     go false ih = omega (arith, ih)
 
 -- a write of what an operation makes of the stream that is there
-pub written-is : {S : Type 0} (id : ℕ) (es old new : List (ℕ × S)) (v w fresh : S) (op : S → S) → new ≡ set_value (is_at (nat_cmp id)) es w → es ≡ old → Some v ≡ lookup (is_at (nat_cmp id)) es → w ≡ op v
+pub written_is : {S : Type 0} (id : ℕ) (es old new : List (ℕ × S)) (v w fresh : S) (op : S → S) → new ≡ set_value (is_at (nat_cmp id)) es w → es ≡ old → Some v ≡ lookup (is_at (nat_cmp id)) es → w ≡ op v
     → new ≡ set_value (is_at (nat_cmp id)) old (op (unwrap_or (lookup (is_at (nat_cmp id)) old) fresh))
-written-is {S = S} id es old new v w fresh op made same at is =
+written_is {S = S} id es old new v w fresh op made same at is =
     let there : v ≡ unwrap_or (lookup (is_at (nat_cmp id)) old) fresh = ap (λ (o : Option S). unwrap_or o fresh) at ∙ ap (λ (t : List (ℕ × S)). unwrap_or (lookup (is_at (nat_cmp id)) t) fresh) same in
     made ∙ (ap (λ (t : S). set_value (is_at (nat_cmp id)) es t) (is ∙ ap op there) ∙ ap (λ (t : List (ℕ × S)). set_value (is_at (nat_cmp id)) t (op (unwrap_or (lookup (is_at (nat_cmp id)) old) fresh))) same)

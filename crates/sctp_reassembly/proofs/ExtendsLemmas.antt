@@ -2,7 +2,7 @@
 use Rattle.std.proofs.Common.{◌≡◌, ℕ, ◌-◌, ◌<◌, ◌≤◌, ◌^◌, List, [], ◌++◌, length, ap, sym, ◌∙◌, arith, append_assoc, append-nil, length-append}
 use Rattle.sctp_serial.specs.Messages.{Message}
 use Rattle.sctp_reassembly.specs.Delivery.{Extends}
-use Rattle.sctp_reassembly.specs.ReassemblyQueue.{Reassembly, counted, IsCounted}
+use Rattle.sctp_reassembly.specs.ReassemblyQueue.{Reassembly, count_ready, IsCounted}
 
 pub extends_same : (old new : List Message) → new ≡ old → Extends old new
 extends_same old new same = record { more = []; made = same ∙ sym (append-nil old) }
@@ -21,10 +21,10 @@ extends_both a b c p q = record { more = p.more ++ q.more; made = q.made ∙ (ap
 pub extends_length : (a b : List Message) → Extends a b → length a ≤ length b
 extends_length a b e = omega (arith, ap length e.made, length-append a e.more)
 
-pub counted_none : (n l : ℕ) → n < 2 ^ 64 → n ≡ counted n (l - l)
+pub counted_none : (n l : ℕ) → n < 2 ^ 64 → n ≡ count_ready n (l - l)
 counted_none n l small = omega (arith, small)
 
-counted_twice : (n m k a b c : ℕ) → a ≤ b → b ≤ c → m ≡ counted n (b - a) → k ≡ counted m (c - b) → k ≡ counted n (c - a)
+counted_twice : (n m k a b c : ℕ) → a ≤ b → b ≤ c → m ≡ count_ready n (b - a) → k ≡ count_ready m (c - b) → k ≡ count_ready n (c - a)
 counted_twice n m k a b c up more first then = omega (arith, up, more, first, then)
 
 pub counted_both : (p q r : Reassembly) → Extends p.ready q.ready → Extends q.ready r.ready → IsCounted p q → IsCounted q r → IsCounted p r

@@ -3,7 +3,7 @@ use Rattle.std.proofs.Common.{◌≡◌, Bool, true, false, cond, Some, None, Li
 use Rattle.std.specs.List.{find}
 use Rattle.sctp_fragments.specs.Runs.{flat}
 use Rattle.sctp_fragments.specs.Held.{Held, rank_of, goes_on, NonePass, without_first_of, left_by, intervals_of}
-use Rattle.sctp_fragments.proofs.RunLemmas.{flat-append, flat-runs_of}
+use Rattle.sctp_fragments.proofs.RunLemmas.{flat_append, flat_runs_of}
 
 module _ (test : List Held → Bool) where
   pub found : (front back : List (List Held)) (run : List Held) → NonePass test front → test run ≡ true → find test (front ++ run ∷ back) ≡ Some run
@@ -24,11 +24,11 @@ module _ (test : List Held → Bool) where
 
   -- nothing passes: nothing goes
   pub left_none : (hs : List Held) → NonePass test (intervals_of hs) → left_by test hs ≡ hs
-  left_none hs none = ap flat (without_none (intervals_of hs) none) ∙ flat-runs_of rank_of goes_on hs
+  left_none hs none = ap flat (without_none (intervals_of hs) none) ∙ flat_runs_of rank_of goes_on hs
 
   pub taken_left : (old run new : List Held) (front back : List (List Held)) → intervals_of old ≡ front ++ run ∷ back → NonePass test front → test run ≡ true → new ≡ flat front ++ flat back → new ≡ left_by test old
   taken_left old run new front back runs none pass rest =
-      rest ∙ (sym (flat-append rank_of goes_on front back) ∙ ap flat (sym (without_found front back run none pass) ∙ ap (without_first_of test) (sym runs)))
+      rest ∙ (sym (flat_append rank_of goes_on front back) ∙ ap flat (sym (without_found front back run none pass) ∙ ap (without_first_of test) (sym runs)))
 
   pub taken_intervals : (old run new : List Held) (front back : List (List Held)) → intervals_of old ≡ front ++ run ∷ back → NonePass test front → test run ≡ true → intervals_of new ≡ front ++ back → intervals_of new ≡ without_first_of test (intervals_of old)
   taken_intervals old run new front back runs none pass rest = rest ∙ (sym (without_found front back run none pass) ∙ ap (without_first_of test) (sym runs))
@@ -42,4 +42,4 @@ module _ (test : List Held → Bool) where
       go false none ih = ap (λ (t : List (List Held)). r ∷ t) (ih none)
 
   pub left_unfound : (hs : List Held) → find test (intervals_of hs) ≡ None → left_by test hs ≡ hs
-  left_unfound hs none = ap flat (without_unfound (intervals_of hs) none) ∙ flat-runs_of rank_of goes_on hs
+  left_unfound hs none = ap flat (without_unfound (intervals_of hs) none) ∙ flat_runs_of rank_of goes_on hs

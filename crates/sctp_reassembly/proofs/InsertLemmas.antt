@@ -8,28 +8,28 @@ use Rattle.sctp_fragments.specs.declared.interval.Interval.{Interval}
 use Rattle.sctp_fragments.specs.Runs.{flat, end_of, last_of, is_held, IsBelow, LeadsTo, is_next, joins_left, joins_right, AreRuns}
 use Rattle.sctp_fragments.specs.Held.{Held, rank_of, goes_on, NonePass}
 use Rattle.sctp_fragments.specs.Intervals.{IsInserted, run_of, lists_of}
-use Rattle.sctp_fragments.proofs.RunLemmas.{end_of-append, flat-append, alone, at_left, at_right, joining}
-use Rattle.sctp_fragments.proofs.PlaceLemmas.{cons, some_run, lists_of-append}
+use Rattle.sctp_fragments.proofs.RunLemmas.{end_of_append, flat_append, alone, at_left, at_right, joining}
+use Rattle.sctp_fragments.proofs.PlaceLemmas.{cons, some_run, lists_of_append}
 
 flat_last : {E : Type 0} (ps : List (List E)) (r : List E) → flat (ps ++ r ∷ []) ≡ flat ps ++ r
 flat_last [] r = append-nil r
 flat_last (p ∷ ps) r = ap (λ t. p ++ t) (flat_last ps r) ∙ sym (append_assoc p (flat ps) r)
 
 module _ (test : List Held → Bool) where
-  NonePass-append : (xs ys : List (List Held)) → NonePass test xs → NonePass test ys → NonePass test (xs ++ ys)
-  NonePass-append [] ys h k = k
-  NonePass-append (x ∷ xs) ys h k = (h.0, NonePass-append xs ys h.1 k)
+  NonePass_append : (xs ys : List (List Held)) → NonePass test xs → NonePass test ys → NonePass test (xs ++ ys)
+  NonePass_append [] ys h k = k
+  NonePass_append (x ∷ xs) ys h k = (h.0, NonePass_append xs ys h.1 k)
 
-  pub NonePass-front : (xs ys : List (List Held)) → NonePass test (xs ++ ys) → NonePass test xs
-  NonePass-front [] ys h = tt
-  NonePass-front (x ∷ xs) ys h = (h.0, NonePass-front xs ys h.1)
+  pub NonePass_front : (xs ys : List (List Held)) → NonePass test (xs ++ ys) → NonePass test xs
+  NonePass_front [] ys h = tt
+  NonePass_front (x ∷ xs) ys h = (h.0, NonePass_front xs ys h.1)
 
-  pub NonePass-back : (xs ys : List (List Held)) → NonePass test (xs ++ ys) → NonePass test ys
-  NonePass-back [] ys h = h
-  NonePass-back (x ∷ xs) ys h = NonePass-back xs ys h.1
+  pub NonePass_back : (xs ys : List (List Held)) → NonePass test (xs ++ ys) → NonePass test ys
+  NonePass_back [] ys h = h
+  NonePass_back (x ∷ xs) ys h = NonePass_back xs ys h.1
 
-  NonePass-without : (xs ys : List (List Held)) (r : List Held) → NonePass test (xs ++ r ∷ ys) → NonePass test (xs ++ ys)
-  NonePass-without xs ys r h = NonePass-append xs ys (NonePass-front xs (r ∷ ys) h) (NonePass-back xs (r ∷ ys) h).1
+  NonePass_without : (xs ys : List (List Held)) (r : List Held) → NonePass test (xs ++ r ∷ ys) → NonePass test (xs ++ ys)
+  NonePass_without xs ys r h = NonePass_append xs ys (NonePass_front xs (r ∷ ys) h) (NonePass_back xs (r ∷ ys) h).1
 
 held_in : (xs ys : List Held) (x : Held) → is_held rank_of (rank_of x) (xs ++ x ∷ ys) ≡ true
 held_in [] ys x = grind (arith, nat_tests)
@@ -45,7 +45,7 @@ inserts_alone ps qs x h below leads left right = record {
   runs = refl;
   at = refl;
   among = held_in [] [] x;
-  together = flat-append rank_of goes_on ps ((x ∷ []) ∷ qs);
+  together = flat_append rank_of goes_on ps ((x ∷ []) ∷ qs);
   others = λ test n. n;
 }
 
@@ -60,9 +60,9 @@ inserts_left ps qs d x ds h leads left right = record {
   at = refl;
   among = held_in (d ∷ ds) [] x;
   together =
-      flat-append rank_of goes_on ps (((d ∷ ds) ++ x ∷ []) ∷ qs) ∙ (ap (λ (t : List Held). flat ps ++ t) (append_assoc (d ∷ ds) (x ∷ []) (flat qs))
+      flat_append rank_of goes_on ps (((d ∷ ds) ++ x ∷ []) ∷ qs) ∙ (ap (λ (t : List Held). flat ps ++ t) (append_assoc (d ∷ ds) (x ∷ []) (flat qs))
       ∙ (sym (append_assoc (flat ps) (d ∷ ds) (x ∷ flat qs)) ∙ ap (λ (t : List Held). t ++ x ∷ flat qs) (sym (flat_last ps (d ∷ ds)))));
-  others = λ test n. NonePass-without test ps qs (d ∷ ds) (subst (NonePass test) (append_assoc ps ((d ∷ ds) ∷ []) qs) n);
+  others = λ test n. NonePass_without test ps qs (d ∷ ds) (subst (NonePass test) (append_assoc ps ((d ∷ ds) ∷ []) qs) n);
 }
 
 pub inserts_right : (ps qs : List (List Held)) (f x : Held) (fs : List Held) → AreRuns rank_of goes_on None (ps ++ (f ∷ fs) ∷ qs) → IsBelow rank_of (rank_of x) (end_of None ps)
@@ -75,8 +75,8 @@ inserts_right ps qs f x fs h below left right = record {
   runs = refl;
   at = refl;
   among = held_in [] (f ∷ fs) x;
-  together = flat-append rank_of goes_on ps ((x ∷ (f ∷ fs)) ∷ qs);
-  others = λ test n. NonePass-without test ps qs (f ∷ fs) n;
+  together = flat_append rank_of goes_on ps ((x ∷ (f ∷ fs)) ∷ qs);
+  others = λ test n. NonePass_without test ps qs (f ∷ fs) n;
 }
 
 pub inserts_both : (ps qs : List (List Held)) (d f x : Held) (ds fs : List Held) → AreRuns rank_of goes_on None (ps ++ (d ∷ ds) ∷ ((f ∷ fs) ∷ qs))
@@ -90,9 +90,9 @@ inserts_both ps qs d f x ds fs h left right = record {
   at = refl;
   among = held_in (d ∷ ds) (f ∷ fs) x;
   together =
-      flat-append rank_of goes_on ps (((d ∷ ds) ++ x ∷ (f ∷ fs)) ∷ qs) ∙ (ap (λ (t : List Held). flat ps ++ t) (append_assoc (d ∷ ds) (x ∷ (f ∷ fs)) (flat qs))
+      flat_append rank_of goes_on ps (((d ∷ ds) ++ x ∷ (f ∷ fs)) ∷ qs) ∙ (ap (λ (t : List Held). flat ps ++ t) (append_assoc (d ∷ ds) (x ∷ (f ∷ fs)) (flat qs))
       ∙ (sym (append_assoc (flat ps) (d ∷ ds) (x ∷ ((f ∷ fs) ++ flat qs))) ∙ ap (λ (t : List Held). t ++ x ∷ ((f ∷ fs) ++ flat qs)) (sym (flat_last ps (d ∷ ds)))));
-  others = λ test n. NonePass-without test ps qs (f ∷ fs) (NonePass-without test ps ((f ∷ fs) ∷ qs) (d ∷ ds) (subst (NonePass test) (append_assoc ps ((d ∷ ds) ∷ []) ((f ∷ fs) ∷ qs)) n));
+  others = λ test n. NonePass_without test ps qs (f ∷ fs) (NonePass_without test ps ((f ∷ fs) ∷ qs) (d ∷ ds) (subst (NonePass test) (append_assoc ps ((d ∷ ds) ∷ []) ((f ∷ fs) ∷ qs)) n));
 }
 
 -- a vector in two parts, and what is at the border
@@ -114,24 +114,24 @@ split_at (x ∷ xs) (suc k) h =
     let s = split_at xs k (omega arith) in
     record { before = x ∷ s.before; here = s.here; after = s.after; is = ap (λ t. x ∷ t) s.is; at = ap suc s.at; front = ap (λ t. x ∷ t) s.front; back = s.back; upto = ap (λ t. x ∷ t) s.upto; from = s.from }
 
-pub length-lists_of : {K : Type 0} (f : Entry K → Held) (xs : List (Interval K)) → length (lists_of f xs) ≡ length xs
-length-lists_of f [] = refl
-length-lists_of f (x ∷ xs) = ap suc (length-lists_of f xs)
+pub length_lists_of : {K : Type 0} (f : Entry K → Held) (xs : List (Interval K)) → length (lists_of f xs) ≡ length xs
+length_lists_of f [] = refl
+length_lists_of f (x ∷ xs) = ap suc (length_lists_of f xs)
 
 module _ {K : Type 0} (f : Entry K → Held) where
   abbrev Puts : List (Interval K) → List (Interval K) → ℕ → Held → ℕ → Type 0
   Puts xs new p x at = IsInserted (lists_of f (take p xs)) (lists_of f (drop p xs)) (lists_of f new) x at
 
   pub in_two : (xs : List (Interval K)) (p : ℕ) → lists_of f xs ≡ lists_of f (take p xs) ++ lists_of f (drop p xs)
-  in_two xs p = ap (lists_of f) (sym (take-append-drop p xs)) ∙ lists_of-append f (take p xs) (drop p xs)
+  in_two xs p = ap (lists_of f) (sym (take-append-drop p xs)) ∙ lists_of_append f (take p xs) (drop p xs)
 
   pub puts_alone : (xs new : List (Interval K)) (i : Interval K) (x : Held) (p : ℕ) → p ≤ length xs → AreRuns rank_of goes_on None (lists_of f xs)
       → IsBelow rank_of (rank_of x) (end_of None (lists_of f (take p xs))) → LeadsTo rank_of (rank_of x) (lists_of f (drop p xs))
       → joins_left rank_of goes_on (end_of None (lists_of f (take p xs))) x ≡ false → joins_right rank_of goes_on x (lists_of f (drop p xs)) ≡ false
       → new ≡ insert xs p i → run_of f i ≡ x ∷ [] → Puts xs new p x p
   puts_alone xs new i x p k h below leads left right made single =
-      let lists : lists_of f new ≡ lists_of f (take p xs) ++ (x ∷ []) ∷ lists_of f (drop p xs) = ap (lists_of f) made ∙ (lists_of-append f (take p xs) (i ∷ drop p xs) ∙ ap (λ (t : List Held). lists_of f (take p xs) ++ t ∷ lists_of f (drop p xs)) single) in
-      let at : length (lists_of f (take p xs)) ≡ p = length-lists_of f (take p xs) ∙ omega (arith, length-take p xs) in
+      let lists : lists_of f new ≡ lists_of f (take p xs) ++ (x ∷ []) ∷ lists_of f (drop p xs) = ap (lists_of f) made ∙ (lists_of_append f (take p xs) (i ∷ drop p xs) ∙ ap (λ (t : List Held). lists_of f (take p xs) ++ t ∷ lists_of f (drop p xs)) single) in
+      let at : length (lists_of f (take p xs)) ≡ p = length_lists_of f (take p xs) ∙ omega (arith, length-take p xs) in
       let all = inserts_alone (lists_of f (take p xs)) (lists_of f (drop p xs)) x (subst (AreRuns rank_of goes_on None) (in_two xs p) h) below leads left right in
       subst (λ (n : ℕ). Puts xs new p x n) at (subst (λ (t : List (List Held)). IsInserted (lists_of f (take p xs)) (lists_of f (drop p xs)) t x (length (lists_of f (take p xs)))) (sym lists) all)
 
@@ -140,10 +140,10 @@ module _ {K : Type 0} (f : Entry K → Held) where
 
   -- the lists of a vector whose middle is known
   lists_mid : (ps qs : List (Interval K)) (i : Interval K) (d : Held) (ds : List Held) → run_of f i ≡ d ∷ ds → lists_of f (ps ++ i ∷ qs) ≡ lists_of f ps ++ (d ∷ ds) ∷ lists_of f qs
-  lists_mid ps qs i d ds is = lists_of-append f ps (i ∷ qs) ∙ ap (λ (t : List Held). lists_of f ps ++ t ∷ lists_of f qs) is
+  lists_mid ps qs i d ds is = lists_of_append f ps (i ∷ qs) ∙ ap (λ (t : List Held). lists_of f ps ++ t ∷ lists_of f qs) is
 
   left_is : (ps : List (List Held)) (d x : Held) (ds : List Held) (b : Bool) → joins_left rank_of goes_on (end_of None (ps ++ (d ∷ ds) ∷ [])) x ≡ b → is_next rank_of goes_on (last_of d ds) x ≡ b
-  left_is ps d x ds b h = rw (end_of-append {E = Held} rank_of goes_on None ps ((d ∷ ds) ∷ [])) at h
+  left_is ps d x ds b h = rw (end_of_append {E = Held} rank_of goes_on None ps ((d ∷ ds) ∷ [])) at h
 
   pub puts_left : (xs new : List (Interval K)) (x : Held) (p k : ℕ) → p ≡ suc k → p ≤ length xs → AreRuns rank_of goes_on None (lists_of f xs) → LeadsTo rank_of (rank_of x) (lists_of f (drop p xs))
       → joins_left rank_of goes_on (end_of None (lists_of f (take p xs))) x ≡ true → joins_right rank_of goes_on x (lists_of f (drop p xs)) ≡ false
@@ -158,7 +158,7 @@ module _ {K : Type 0} (f : Entry K → Held) where
       let all = inserts_left (lists_of f s.before) (lists_of f s.after) c.head x c.tail (subst (AreRuns rank_of goes_on None) whole runs) (subst (LeadsTo rank_of (rank_of x)) back leads)
       (left_is (lists_of f s.before) c.head x c.tail true (subst (λ (t : List (List Held)). joins_left rank_of goes_on (end_of None t) x ≡ true) front left))
       (subst (λ (t : List (List Held)). joins_right rank_of goes_on x t ≡ false) back right) in
-      put_back xs new x p k _ _ _ _ front back lists (length-lists_of f s.before ∙ s.at) all
+      put_back xs new x p k _ _ _ _ front back lists (length_lists_of f s.before ∙ s.at) all
 
   pub puts_right : (xs new : List (Interval K)) (x : Held) (p : ℕ) → p < length xs → AreRuns rank_of goes_on None (lists_of f xs) → IsBelow rank_of (rank_of x) (end_of None (lists_of f (take p xs)))
       → joins_left rank_of goes_on (end_of None (lists_of f (take p xs))) x ≡ false → joins_right rank_of goes_on x (lists_of f (drop p xs)) ≡ true
@@ -174,7 +174,7 @@ module _ {K : Type 0} (f : Entry K → Held) where
       (subst (λ (t : List (List Held)). IsBelow rank_of (rank_of x) (end_of None t)) front below)
       (subst (λ (t : List (List Held)). joins_left rank_of goes_on (end_of None t) x ≡ false) front left)
       (subst (λ (t : List (List Held)). joins_right rank_of goes_on x t ≡ true) back right) in
-      put_back xs new x p p _ _ _ _ front back lists (length-lists_of f s.before ∙ s.at) all
+      put_back xs new x p p _ _ _ _ front back lists (length_lists_of f s.before ∙ s.at) all
 
   pub puts_both : (xs new : List (Interval K)) (x : Held) (p k : ℕ) → p ≡ suc k → p < length xs → AreRuns rank_of goes_on None (lists_of f xs)
       → joins_left rank_of goes_on (end_of None (lists_of f (take p xs))) x ≡ true → joins_right rank_of goes_on x (lists_of f (drop p xs)) ≡ true
@@ -195,4 +195,4 @@ module _ {K : Type 0} (f : Entry K → Held) where
       let all = inserts_both (lists_of f s.before) (lists_of f t.after) c.head e.head x c.tail e.tail (subst (AreRuns rank_of goes_on None) whole runs)
       (left_is (lists_of f s.before) c.head x c.tail true (subst (λ (z : List (List Held)). joins_left rank_of goes_on (end_of None z) x ≡ true) front left))
       (subst (λ (z : List (List Held)). joins_right rank_of goes_on x z ≡ true) back right) in
-      put_back xs new x p k _ _ _ _ front back lists (length-lists_of f s.before ∙ s.at) all
+      put_back xs new x p k _ _ _ _ front back lists (length_lists_of f s.before ∙ s.at) all

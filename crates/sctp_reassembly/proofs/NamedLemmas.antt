@@ -5,7 +5,7 @@ use Rattle.std.specs.Ordering.{nat_cmp}
 use Rattle.std.specs.BTreeSet.{BTreeSet, Updates, contains}
 use Rattle.std.proofs.lemmas.List.{drop_more}
 use Rattle.sctp_serial.specs.declared.api.StreamId.{StreamId}
-use Rattle.sctp_reassembly.proofs.ForgetLemmas.{at-equal}
+use Rattle.sctp_reassembly.proofs.ForgetLemmas.{at_equal}
 
 abbrev any : ℕ → List StreamId → Bool
 any k ids = list_any (λ i. i.0 == k) ids
@@ -20,9 +20,9 @@ swap true false r = refl
 swap false true r = refl
 swap false false r = refl
 
-pub comes-one : (ids : List StreamId) (i : ℕ) (d : StreamId) (set new : BTreeSet ℕ) → i < length ids → Updates nat_cmp set new (get_or ids i d).0 true
+pub comes_one : (ids : List StreamId) (i : ℕ) (d : StreamId) (set new : BTreeSet ℕ) → i < length ids → Updates nat_cmp set new (get_or ids i d).0 true
     → ComesTo set (drop i ids) ids → ComesTo new (drop (i + 1) ids) ids
-comes-one ids i d set new l put h k =
-    ap (λ b. b || any k (drop (i + 1) ids)) (put.0 k ∙ ap (λ b. cond b true (contains nat_cmp set k)) (at-equal (get_or ids i d).0 k))
+comes_one ids i d set new l put h k =
+    ap (λ b. b || any k (drop (i + 1) ids)) (put.0 k ∙ ap (λ b. cond b true (contains nat_cmp set k)) (at_equal (get_or ids i d).0 k))
     ∙ (swap ((get_or ids i d).0 == k) (contains nat_cmp set k) (any k (drop (i + 1) ids))
     ∙ (ap (λ left. contains nat_cmp set k || any k left) (sym (drop_more ids i d l)) ∙ h k))

@@ -19,9 +19,9 @@ use Rattle.sctp_state.specs.declared.api.handover.HandoverUnorderedStream.{Hando
 use Rattle.sctp_fragments.specs.Runs.{from_rank}
 use Rattle.sctp_fragments.specs.Held.{Held, rank_of}
 use Rattle.sctp_reassembly.specs.Delivery.{UnorderedStream, fresh_unordered, held_from}
-use Rattle.sctp_reassembly.specs.Streams.{Entries, stream_at, opened, written, changed, is_named, forgotten}
+use Rattle.sctp_reassembly.specs.Streams.{Entries, stream_at, open_stream, write_stream, change_stream, is_named, forget}
 use Rattle.sctp_reassembly.specs.ReassemblyHandover.{unordered_records}
-use Rattle.sctp_reassembly.specs.Notes.{Notes, note_cmp, is_noted, HasNote, AreNoted, OthersAreNoted, KeepsOthers, NoneBelow, forwarded}
+use Rattle.sctp_reassembly.specs.Notes.{Notes, note_cmp, is_noted, HasNote, AreNoted, OthersAreNoted, KeepsOthers, NoneBelow, forward}
 
 -- ---- the order of notes
 
@@ -43,17 +43,17 @@ same_note a c = grind (arith, nat_tests)
 equal : (a b : ℕ) → (a == b) ≡ true → a ≡ b
 equal a b h = grind (arith, nat_tests)
 
-equal-at : (a b : ℕ) → is_at (nat_cmp a) b ≡ true → b ≡ a
-equal-at a b h = grind (arith, nat_tests)
+equal_at : (a b : ℕ) → is_at (nat_cmp a) b ≡ true → b ≡ a
+equal_at a b h = grind (arith, nat_tests)
 
 at_itself : (k : ℕ) → is_at (nat_cmp k) k ≡ true
 at_itself k = grind (arith, nat_tests)
 
-apart-at : (q id : ℕ) → (q == id) ≡ false → is_at (nat_cmp q) id ≡ false
-apart-at q id h = grind (arith, nat_tests)
+apart_at : (q id : ℕ) → (q == id) ≡ false → is_at (nat_cmp q) id ≡ false
+apart_at q id h = grind (arith, nat_tests)
 
-equal-from : (a b : ℕ) → nat_cmp a b ≡ Equal → b ≡ a
-equal-from a b h = grind (arith, nat_tests)
+equal_from : (a b : ℕ) → nat_cmp a b ≡ Equal → b ≡ a
+equal_from a b h = grind (arith, nat_tests)
 
 -- a note that goes out, and one that comes in
 pub out_others : (rank id : ℕ) (old new : Notes) → ((note : ℕ × ℕ) → is_noted new note ≡ cond (is_at (note_cmp (rank, id)) note) false (is_noted old note)) → KeepsOthers id old new
@@ -95,20 +95,20 @@ renewed id old less new es out more made others q = go (q == id) refl
 module _ {S : Type 0} (fresh : S) (q id : ℕ) (other : (q == id) ≡ false) where
   -- past an entry of the one
   past : (e : ℕ × S) (v : S) (o : Option S) → e.0 ≡ id → unwrap_or (cond (is_at (nat_cmp q) e.0) (Some v) o) fresh ≡ unwrap_or o fresh
-  past e v o is = ap (λ b. unwrap_or (cond b (Some v) o) fresh) (ap (is_at (nat_cmp q)) is ∙ apart-at q id other)
+  past e v o is = ap (λ b. unwrap_or (cond b (Some v) o) fresh) (ap (is_at (nat_cmp q)) is ∙ apart_at q id other)
 
   before : (b : Bool) (v : S) (o p : Option S) → unwrap_or o fresh ≡ unwrap_or p fresh → unwrap_or (cond b (Some v) o) fresh ≡ unwrap_or (cond b (Some v) p) fresh
   before true v o p h = refl
   before false v o p h = h
 
-  other_written : (s : S) (es : Entries S) → stream_at fresh q (written id s es) ≡ stream_at fresh q es
+  other_written : (s : S) (es : Entries S) → stream_at fresh q (write_stream id s es) ≡ stream_at fresh q es
   other_written s [] = refl
   other_written s (e ∷ es) = go (is_at (nat_cmp id) e.0) refl (other_written s es)
     where
-      go : (b : Bool) → is_at (nat_cmp id) e.0 ≡ b → stream_at fresh q (written id s es) ≡ stream_at fresh q es
-          → stream_at fresh q (cond b ((e.0, s) ∷ es) (e ∷ written id s es)) ≡ stream_at fresh q (e ∷ es)
-      go true h ih = past e s (lookup (is_at (nat_cmp q)) es) (equal-at id e.0 h) ∙ sym (past e e.1 (lookup (is_at (nat_cmp q)) es) (equal-at id e.0 h))
-      go false h ih = before (is_at (nat_cmp q) e.0) e.1 (lookup (is_at (nat_cmp q)) (written id s es)) (lookup (is_at (nat_cmp q)) es) ih
+      go : (b : Bool) → is_at (nat_cmp id) e.0 ≡ b → stream_at fresh q (write_stream id s es) ≡ stream_at fresh q es
+          → stream_at fresh q (cond b ((e.0, s) ∷ es) (e ∷ write_stream id s es)) ≡ stream_at fresh q (e ∷ es)
+      go true h ih = past e s (lookup (is_at (nat_cmp q)) es) (equal_at id e.0 h) ∙ sym (past e e.1 (lookup (is_at (nat_cmp q)) es) (equal_at id e.0 h))
+      go false h ih = before (is_at (nat_cmp q) e.0) e.1 (lookup (is_at (nat_cmp q)) (write_stream id s es)) (lookup (is_at (nat_cmp q)) es) ih
 
   other_inserted : (s : S) (es : Entries S) → stream_at fresh q (insert_entry nat_cmp es id s) ≡ stream_at fresh q es
   other_inserted s [] = past (id, s) s None refl
@@ -117,24 +117,24 @@ module _ {S : Type 0} (fresh : S) (q id : ℕ) (other : (q == id) ≡ false) whe
       go : (o : Ordering) → nat_cmp id e.0 ≡ o → stream_at fresh q (insert_entry nat_cmp es id s) ≡ stream_at fresh q es
           → stream_at fresh q (match_ordering o ((id, s) ∷ e ∷ es) ((e.0, s) ∷ es) (e ∷ insert_entry nat_cmp es id s)) ≡ stream_at fresh q (e ∷ es)
       go Less h ih = past (id, s) s (lookup (is_at (nat_cmp q)) (e ∷ es)) refl
-      go Equal h ih = past e s (lookup (is_at (nat_cmp q)) es) (equal-from id e.0 h) ∙ sym (past e e.1 (lookup (is_at (nat_cmp q)) es) (equal-from id e.0 h))
+      go Equal h ih = past e s (lookup (is_at (nat_cmp q)) es) (equal_from id e.0 h) ∙ sym (past e e.1 (lookup (is_at (nat_cmp q)) es) (equal_from id e.0 h))
       go Greater h ih = before (is_at (nat_cmp q) e.0) e.1 (lookup (is_at (nat_cmp q)) (insert_entry nat_cmp es id s)) (lookup (is_at (nat_cmp q)) es) ih
 
-  other_opened : (es : Entries S) → stream_at fresh q (opened fresh id es) ≡ stream_at fresh q es
+  other_opened : (es : Entries S) → stream_at fresh q (open_stream fresh id es) ≡ stream_at fresh q es
   other_opened es = go (is_some (lookup (is_at (nat_cmp id)) es))
     where
       go : (b : Bool) → stream_at fresh q (cond b es (insert_entry nat_cmp es id fresh)) ≡ stream_at fresh q es
       go true = refl
       go false = other_inserted fresh es
 
-pub written_others : (id : ℕ) (s : UnorderedStream) (notes : Notes) (es new : Entries UnorderedStream) → new ≡ written id s es → AreNoted notes es → OthersAreNoted id notes new
+pub written_others : (id : ℕ) (s : UnorderedStream) (notes : Notes) (es new : Entries UnorderedStream) → new ≡ write_stream id s es → AreNoted notes es → OthersAreNoted id notes new
 written_others id s notes es new made all q other =
     subst (λ (t : UnorderedStream). HasNote notes q t.held) (sym (ap (stream_at fresh_unordered q) made ∙ other_written fresh_unordered q id other s es)) (all q)
 
-pub changed_others : (id : ℕ) (s : UnorderedStream) (notes : Notes) (es new : Entries UnorderedStream) → new ≡ changed fresh_unordered id s es → AreNoted notes es → OthersAreNoted id notes new
+pub changed_others : (id : ℕ) (s : UnorderedStream) (notes : Notes) (es new : Entries UnorderedStream) → new ≡ change_stream fresh_unordered id s es → AreNoted notes es → OthersAreNoted id notes new
 changed_others id s notes es new made all q other =
     subst (λ (t : UnorderedStream). HasNote notes q t.held)
-    (sym (ap (stream_at fresh_unordered q) made ∙ (other_written fresh_unordered q id other s (opened fresh_unordered id es) ∙ other_opened fresh_unordered q id other es)))
+    (sym (ap (stream_at fresh_unordered q) made ∙ (other_written fresh_unordered q id other s (open_stream fresh_unordered id es) ∙ other_opened fresh_unordered q id other es)))
     (all q)
 
 -- ---- a forward point
@@ -148,17 +148,17 @@ again n (h ∷ hs) = go (nat_lt (rank_of h) n) refl (again n hs)
     go true t ih = ih
     go false t ih = ap (λ b. cond b (from_rank rank_of n (from_rank rank_of n hs)) (h ∷ from_rank rank_of n (from_rank rank_of n hs))) t ∙ ap (λ ks. h ∷ ks) ih
 
-same_forwarded : (n : ℕ) (test : ℕ → Bool) (w : UnorderedStream) (es : Entries UnorderedStream) → ((v : UnorderedStream) → lookup test es ≡ Some v → held_from n w ≡ held_from n v) → forwarded n (set_value test es w) ≡ forwarded n es
+same_forwarded : (n : ℕ) (test : ℕ → Bool) (w : UnorderedStream) (es : Entries UnorderedStream) → ((v : UnorderedStream) → lookup test es ≡ Some v → held_from n w ≡ held_from n v) → forward n (set_value test es w) ≡ forward n es
 same_forwarded n test w [] h = refl
 same_forwarded n test w (e ∷ es) h = go (test e.0) refl (same_forwarded n test w es)
   where
-    go : (b : Bool) → test e.0 ≡ b → (((v : UnorderedStream) → lookup test es ≡ Some v → held_from n w ≡ held_from n v) → forwarded n (set_value test es w) ≡ forwarded n es) → forwarded n (cond b ((e.0, w) ∷ es) (e ∷ set_value test es w)) ≡ (e.0, held_from n e.1) ∷ forwarded n es
-    go true t ih = ap (λ (s : UnorderedStream). (e.0, s) ∷ forwarded n es) (h e.1 (ap (λ b. cond b (Some e.1) (lookup test es)) t))
+    go : (b : Bool) → test e.0 ≡ b → (((v : UnorderedStream) → lookup test es ≡ Some v → held_from n w ≡ held_from n v) → forward n (set_value test es w) ≡ forward n es) → forward n (cond b ((e.0, w) ∷ es) (e ∷ set_value test es w)) ≡ (e.0, held_from n e.1) ∷ forward n es
+    go true t ih = ap (λ (s : UnorderedStream). (e.0, s) ∷ forward n es) (h e.1 (ap (λ b. cond b (Some e.1) (lookup test es)) t))
     go false t ih = ap (λ (ds : Entries UnorderedStream). (e.0, held_from n e.1) ∷ ds) (ih (λ v l. h v (ap (λ b. cond b (Some e.1) (lookup test es)) t ∙ l)))
 
-pub forwarded_one : (n id : ℕ) (es new : Entries UnorderedStream) → new ≡ written id (held_from n (stream_at fresh_unordered id es)) es → forwarded n new ≡ forwarded n es
+pub forwarded_one : (n id : ℕ) (es new : Entries UnorderedStream) → new ≡ write_stream id (held_from n (stream_at fresh_unordered id es)) es → forward n new ≡ forward n es
 forwarded_one n id es new made =
-    ap (forwarded n) made
+    ap (forward n) made
     ∙ same_forwarded n (is_at (nat_cmp id)) (held_from n (stream_at fresh_unordered id es)) es
     (λ v l. ap (λ (o : Option UnorderedStream). held_from n (held_from n (unwrap_or o fresh_unordered))) l ∙ ap (λ (hs : List Held). record v { held = hs }) (again n v.held))
 
@@ -170,7 +170,7 @@ none_held n notes id hs none has =
     ]
 
 keeps_all : (n : ℕ) (es : Entries UnorderedStream) → IsStrictlySortedBy nat_cmp (keys_of es)
-    → ((id : ℕ) → from_rank rank_of n (stream_at fresh_unordered id es).held ≡ (stream_at fresh_unordered id es).held) → es ≡ forwarded n es
+    → ((id : ℕ) → from_rank rank_of n (stream_at fresh_unordered id es).held ≡ (stream_at fresh_unordered id es).held) → es ≡ forward n es
 keeps_all n [] sorted h = refl
 keeps_all n (e ∷ es) sorted h =
     ap (λ (hs : List Held). (e.0, record e.1 { held = hs }) ∷ es) (sym head) ∙ ap (λ (ds : Entries UnorderedStream). (e.0, held_from n e.1) ∷ ds) (keeps_all n es (sorted_tail nat_cmp e.0 (keys_of es) sorted) tail)
@@ -191,7 +191,7 @@ keeps_all n (e ∷ es) sorted h =
             subst (λ (s : UnorderedStream). from_rank rank_of n s.held ≡ s.held) (sym none) refl
         go false t = subst (λ (s : UnorderedStream). from_rank rank_of n s.held ≡ s.held) (ap (λ b. unwrap_or (cond b (Some e.1) (lookup (is_at (nat_cmp id)) es)) fresh_unordered) t) (h id)
 
-pub none_left : (n : ℕ) (notes : Notes) (es : Entries UnorderedStream) → IsStrictlySortedBy nat_cmp (keys_of es) → NoneBelow n notes → AreNoted notes es → es ≡ forwarded n es
+pub none_left : (n : ℕ) (notes : Notes) (es : Entries UnorderedStream) → IsStrictlySortedBy nat_cmp (keys_of es) → NoneBelow n notes → AreNoted notes es → es ≡ forward n es
 none_left n notes es sorted none all = keeps_all n es sorted (λ id. none_held n notes id (stream_at fresh_unordered id es).held none (all id))
 
 -- a stream that isn't there stays so
@@ -229,19 +229,19 @@ not_named ids i n d l h = turn (get_or ids i d).0 n (named_one ids i n d l (righ
     right false b h = h
 
 pub forgets : (ids : List StreamId) (old new : Notes) (es left : Entries UnorderedStream) → ((note : ℕ × ℕ) → is_named ids note.1 ≡ false → is_noted old note ≡ true → is_noted new note ≡ true)
-    → left ≡ forgotten ids es → AreNoted old es → AreNoted new left
+    → left ≡ forget ids es → AreNoted old es → AreNoted new left
 forgets ids old new es left kept made all id = subst (λ (t : Entries UnorderedStream). HasNote new id (stream_at fresh_unordered id t).held) (sym made) (go (is_named ids id) refl)
   where
-    found : lookup (is_at (nat_cmp id)) (forgotten ids es) ≡ cond (not (is_named ids id)) (lookup (is_at (nat_cmp id)) es) None
-    found = lookup-filter-keys (is_at (nat_cmp id)) (λ k. not (is_named ids k)) (not (is_named ids id)) (λ k t. ap (λ k. not (is_named ids k)) (equal-at id k t)) es
+    found : lookup (is_at (nat_cmp id)) (forget ids es) ≡ cond (not (is_named ids id)) (lookup (is_at (nat_cmp id)) es) None
+    found = lookup-filter-keys (is_at (nat_cmp id)) (λ k. not (is_named ids k)) (not (is_named ids id)) (λ k t. ap (λ k. not (is_named ids k)) (equal_at id k t)) es
 
-    go : (b : Bool) → is_named ids id ≡ b → HasNote new id (stream_at fresh_unordered id (forgotten ids es)).held
+    go : (b : Bool) → is_named ids id ≡ b → HasNote new id (stream_at fresh_unordered id (forget ids es)).held
     go true h =
-        let none : stream_at fresh_unordered id (forgotten ids es) ≡ fresh_unordered = ap (λ (o : Option UnorderedStream). unwrap_or o fresh_unordered) (found ∙ ap (λ b. cond (not b) (lookup (is_at (nat_cmp id)) es) None) h) in
+        let none : stream_at fresh_unordered id (forget ids es) ≡ fresh_unordered = ap (λ (o : Option UnorderedStream). unwrap_or o fresh_unordered) (found ∙ ap (λ b. cond (not b) (lookup (is_at (nat_cmp id)) es) None) h) in
         inl (ap (λ (s : UnorderedStream). s.held) none)
     go false h =
-        let same : stream_at fresh_unordered id (forgotten ids es) ≡ stream_at fresh_unordered id es = ap (λ (o : Option UnorderedStream). unwrap_or o fresh_unordered) (found ∙ ap (λ b. cond (not b) (lookup (is_at (nat_cmp id)) es) None) h) in
-        still old new id (stream_at fresh_unordered id (forgotten ids es)).held (λ note is there. kept note (ap (is_named ids) is ∙ h) there) (subst (λ (s : UnorderedStream). HasNote old id s.held) (sym same) (all id))
+        let same : stream_at fresh_unordered id (forget ids es) ≡ stream_at fresh_unordered id es = ap (λ (o : Option UnorderedStream). unwrap_or o fresh_unordered) (found ∙ ap (λ b. cond (not b) (lookup (is_at (nat_cmp id)) es) None) h) in
+        still old new id (stream_at fresh_unordered id (forget ids es)).held (λ note is there. kept note (ap (is_named ids) is ∙ h) there) (subst (λ (s : UnorderedStream). HasNote old id s.held) (sym same) (all id))
 
 -- ---- all notes are made anew
 

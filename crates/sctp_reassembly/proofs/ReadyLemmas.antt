@@ -8,10 +8,10 @@ use Rattle.sctp_serial.specs.Messages.{Message}
 use Rattle.sctp_fragments.specs.Key.{pair_rank}
 use Rattle.sctp_fragments.specs.Runs.{flat, last_of, with_item, from_rank, end_of, AreRuns}
 use Rattle.sctp_fragments.specs.Held.{Held, rank_of, goes_on, begins, ends, intervals_of, is_complete, is_in_turn, without_first_of, left_by, message_of_run}
-use Rattle.sctp_reassembly.specs.Delivery.{OrderedStream, UnorderedStream, OrderedDelivery, at_rest, delivering, deliver_within, deliver, ordered_arrival, ordered_forward, completed, settled, unordered_arrival}
+use Rattle.sctp_reassembly.specs.Delivery.{OrderedStream, UnorderedStream, OrderedDelivery, at_rest, delivering, deliver_within, deliver, ordered_arrival, ordered_forward, complete_messages, deliver_complete, unordered_arrival}
 use Rattle.sctp_reassembly.specs.Settled.{AreInOrder}
 use Rattle.sctp_reassembly.specs.Ready.{held_at, AreHeld, IsWhole, AreParted, AreReady, AreReadyInTurn, IsIn}
-use Rattle.sctp_fragments.proofs.RunLemmas.{AreRuns-back, flat-append, flat-runs_of}
+use Rattle.sctp_fragments.proofs.RunLemmas.{AreRuns_back, flat_append, flat_runs_of}
 use Rattle.sctp_reassembly.proofs.DeliverLemmas.{found_passes}
 use Rattle.sctp_reassembly.proofs.FindLemmas.{left_unfound}
 use Rattle.sctp_reassembly.proofs.HeldLemmas.{RisesFrom, rises, parted, parted_twice, inside}
@@ -28,16 +28,16 @@ whole_at before [] rs h k = absurd h
 whole_at before (e ∷ es) rs h k = let b = both (begins e) (ends (last_of e es)) k in (b.0, (b.1, h.1.0))
 
 pub whole_interval : (hs r : List Held) (front back : List (List Held)) → AreInOrder hs → intervals_of hs ≡ front ++ r ∷ back → is_complete r ≡ true → IsWhole r
-whole_interval hs r front back h is k = whole_at (end_of None front) r back (AreRuns-back rank_of goes_on None front (r ∷ back) (subst (AreRuns rank_of goes_on None) is h)) k
+whole_interval hs r front back h is k = whole_at (end_of None front) r back (AreRuns_back rank_of goes_on None front (r ∷ back) (subst (AreRuns rank_of goes_on None) is h)) k
 
 pub split_around : (hs r : List Held) (front back : List (List Held)) → intervals_of hs ≡ front ++ r ∷ back → hs ≡ flat front ++ (r ++ flat back)
-split_around hs r front back is = sym (flat-runs_of rank_of goes_on hs) ∙ (ap flat is ∙ flat-append rank_of goes_on front (r ∷ back))
+split_around hs r front back is = sym (flat_runs_of rank_of goes_on hs) ∙ (ap flat is ∙ flat_append rank_of goes_on front (r ∷ back))
 
 -- fragments that are there, from a beginning to an end, are side by side
 pub is_in : (hs r : List Held) → AreInOrder hs → IsWhole r → AreHeld hs r → IsIn r hs
 is_in hs [] h k held = absurd k
 is_in hs (e ∷ es) h k held =
-    let up = subst (RisesFrom rank_of goes_on 0) (flat-runs_of rank_of goes_on hs) (rises rank_of goes_on (intervals_of hs) h) in
+    let up = subst (RisesFrom rank_of goes_on 0) (flat_runs_of rank_of goes_on hs) (rises rank_of goes_on (intervals_of hs) h) in
     let i = inside rank_of goes_on 0 e es hs up k.1.1 held in
     record { front = i.front; back = i.back; split = i.split }
 
@@ -73,8 +73,8 @@ module _ (test : List Held → Bool) where
   taken_out hs r h is =
       let f = found_at (intervals_of hs) r is in
       let split : hs ≡ flat f.front ++ (r ++ flat f.back) = split_around hs r f.front f.back f.is in
-      let left : left_by test hs ≡ flat f.front ++ flat f.back = ap flat f.left ∙ flat-append rank_of goes_on f.front f.back in
-      let up = subst (RisesFrom rank_of goes_on 0) (flat-runs_of rank_of goes_on hs ∙ split) (rises rank_of goes_on (intervals_of hs) h) in
+      let left : left_by test hs ≡ flat f.front ++ flat f.back = ap flat f.left ∙ flat_append rank_of goes_on f.front f.back in
+      let up = subst (RisesFrom rank_of goes_on 0) (flat_runs_of rank_of goes_on hs ∙ split) (rises rank_of goes_on (intervals_of hs) h) in
       record {
         parts = λ n. subst (λ (t : List Held). ((held_at n (left_by test hs) ≡ held_at n t) × (held_at n r ≡ None)) ⊎ ((held_at n (left_by test hs) ≡ None) × (held_at n r ≡ held_at n t))) (sym split)
             (subst (λ (t : List Held). ((held_at n t ≡ held_at n (flat f.front ++ (r ++ flat f.back))) × (held_at n r ≡ None)) ⊎ ((held_at n t ≡ None) × (held_at n r ≡ held_at n (flat f.front ++ (r ++ flat f.back))))) (sym left)
@@ -125,7 +125,7 @@ pub ready_forward : (n : ℕ) (s : OrderedStream) → AreInOrder s.held → AreR
 ready_forward n s h =
     ready_within (length (intervals_of (from_rank rank_of (pair_rank (suc n) 0) s.held))) (max (suc n) s.next) (from_rank rank_of (pair_rank (suc n) 0) s.held) (from_order (pair_rank (suc n) 0) s.held h)
 
-ready_complete : (hs : List Held) → AreInOrder hs → AreReady hs (left_by is_complete hs) (completed hs)
+ready_complete : (hs : List Held) → AreInOrder hs → AreReady hs (left_by is_complete hs) (complete_messages hs)
 ready_complete hs h = go (find is_complete (intervals_of hs)) refl
   where
     go : (o : Option (List Held)) → find is_complete (intervals_of hs) ≡ o → AreReady hs (left_by is_complete hs) (option_to_list (option_map message_of_run o))
@@ -142,6 +142,6 @@ ready_complete hs h = go (find is_complete (intervals_of hs)) refl
 pub ready_unordered : (x : Held) (s : UnorderedStream) → AreInOrder s.held → nat_lt x.number s.passed ≡ false → AreReady (with_item rank_of x s.held) (unordered_arrival x s).stream.held (unordered_arrival x s).messages
 ready_unordered x s h late = go (nat_lt x.number s.passed) late
   where
-    go : (b : Bool) → b ≡ false → (let d = cond b (record { stream = record s { near = max origin x.number }; messages = [] }) (settled (record s { near = max origin x.number; held = with_item rank_of x s.held })) in AreReady (with_item rank_of x s.held) d.stream.held d.messages)
+    go : (b : Bool) → b ≡ false → (let d = cond b (record { stream = record s { near = max origin x.number }; messages = [] }) (deliver_complete (record s { near = max origin x.number; held = with_item rank_of x s.held })) in AreReady (with_item rank_of x s.held) d.stream.held d.messages)
     go true wrong = absurd (cc)
     go false _ = ready_complete (with_item rank_of x s.held) (came_in x s.held h).order

@@ -39,9 +39,9 @@ module _ {R S : Type 0} (id : R → ℕ) (state : R → S) where
   abbrev entries : List R → List (ℕ × S)
   entries rs = map (λ r. (id r, state r)) rs
 
-  entries-append : (xs ys : List R) → entries (xs ++ ys) ≡ entries xs ++ entries ys
-  entries-append [] ys = refl
-  entries-append (x ∷ xs) ys = ap (λ (t : List (ℕ × S)). (id x, state x) ∷ t) (entries-append xs ys)
+  entries_append : (xs ys : List R) → entries (xs ++ ys) ≡ entries xs ++ entries ys
+  entries_append [] ys = refl
+  entries_append (x ∷ xs) ys = ap (λ (t : List (ℕ × S)). (id x, state x) ∷ t) (entries_append xs ys)
 
   -- the ids before one are below it
   below_at : (least : ℕ) (rs : List R) (i : ℕ) (d : R) → rises_from least (map id rs) ≡ true → i < length rs → KeysBelow (id (get_or rs i d)) (entries (take i rs)) × (least ≤ id (get_or rs i d))
@@ -58,7 +58,7 @@ module _ {R S : Type 0} (id : R → ℕ) (state : R → S) where
   read_more rs i d v old new rises k is before made =
       let r = get_or rs i d in
       made ∙ (ap (λ (t : List (ℕ × S)). insert_entry nat_cmp t (id r) v) before ∙ (insert_last (entries (take i rs)) (id r) v (below_at 0 rs i d rises k).0
-      ∙ (ap (λ (s : S). entries (take i rs) ++ (id r, s) ∷ []) is ∙ (sym (entries-append (take i rs) (r ∷ [])) ∙ ap entries (sym (take_more rs i d k))))))
+      ∙ (ap (λ (s : S). entries (take i rs) ++ (id r, s) ∷ []) is ∙ (sym (entries_append (take i rs) (r ∷ [])) ∙ ap entries (sym (take_more rs i d k))))))
 
   pub weightless : (weight : S → ℕ) → ((r : R) → weight (state r) ≡ 0) → (rs : List R) → sum_by weight (values_of (entries rs)) ≡ 0
   weightless weight none [] = refl

@@ -6,14 +6,14 @@ use Rattle.sctp_fragments.specs.Runs.{is_next, is_held, put_in, with_item, last_
 use Rattle.sctp_fragments.specs.Held.{Held, rank_of, goes_on, intervals_of, is_complete, NoneComplete, without_first_of, left_by}
 use Rattle.sctp_fragments.specs.Intervals.{IsInserted}
 use Rattle.sctp_reassembly.specs.Settled.{AreInOrder}
-use Rattle.sctp_fragments.proofs.RunLemmas.{AreRuns-front, end_of-append, runs_of-flat, flat-runs_of, is_held-within, with_item-between}
+use Rattle.sctp_fragments.proofs.RunLemmas.{AreRuns_front, end_of_append, runs_of_flat, flat_runs_of, is_held_within, with_item_between}
 use Rattle.sctp_reassembly.proofs.InsertLemmas.{inserts_alone, inserts_left, inserts_right, inserts_both}
 use Rattle.sctp_reassembly.proofs.FindLemmas.{without_none}
 use Rattle.sctp_reassembly.proofs.SettledRunsLemmas.{left_intervals, without_one}
 
-not_held-back : (n : ℕ) (xs ys : List Held) → is_held rank_of n (xs ++ ys) ≡ false → is_held rank_of n ys ≡ false
-not_held-back n [] ys h = h
-not_held-back n (x ∷ xs) ys h = not_held-back n xs ys (second (rank_of x == n) (is_held rank_of n (xs ++ ys)) h)
+not_held_back : (n : ℕ) (xs ys : List Held) → is_held rank_of n (xs ++ ys) ≡ false → is_held rank_of n ys ≡ false
+not_held_back n [] ys h = h
+not_held_back n (x ∷ xs) ys h = not_held_back n xs ys (second (rank_of x == n) (is_held rank_of n (xs ++ ys)) h)
   where
     second : (a b : Bool) → (a || b) ≡ false → b ≡ false
     second true b h = absurd (cc)
@@ -35,10 +35,10 @@ split_for before x ((e ∷ es) ∷ rs) h below absent =
       | inl less ↦ record { ps = []; qs = (e ∷ es) ∷ rs; is = refl; below = below; leads = less }
       | inr from ↦ elim (cases_lt (rank_of (last_of e es)) (rank_of x)) [
         | inl past ↦
-            let s = split_for (Some (last_of e es)) x rs h.1.1 past (not_held-back (rank_of x) (e ∷ es) (flat rs) absent) in
+            let s = split_for (Some (last_of e es)) x rs h.1.1 past (not_held_back (rank_of x) (e ∷ es) (flat rs) absent) in
             record { ps = (e ∷ es) ∷ s.ps; qs = s.qs; is = ap (λ (t : List (List Held)). (e ∷ es) ∷ t) s.is; below = s.below; leads = s.leads }
         | inr upto ↦
-            let there = is_held-within rank_of goes_on (rank_of x) [] rs e es before h below from upto in
+            let there = is_held_within rank_of goes_on (rank_of x) [] rs e es before h below from upto in
             absurd (cc)
       ]
     ]
@@ -85,14 +85,14 @@ module _ (x : Held) where
       ]
 
   left_is : (ps : List (List Held)) (d : Held) (ds : List Held) → joins_left rank_of goes_on (end_of None (ps ++ (d ∷ ds) ∷ [])) x ≡ is_next rank_of goes_on (last_of d ds) x
-  left_is ps d ds = ap (λ (t : Option Held). joins_left rank_of goes_on t x) (end_of-append {E = Held} rank_of goes_on None ps ((d ∷ ds) ∷ []))
+  left_is ps d ds = ap (λ (t : Option Held). joins_left rank_of goes_on t x) (end_of_append {E = Held} rank_of goes_on None ps ((d ∷ ds) ∷ []))
 
   puts : (ps qs : List (List Held)) → AreRuns rank_of goes_on None (ps ++ qs) → IsBelow rank_of (rank_of x) (end_of None ps) → LeadsTo rank_of (rank_of x) qs → Put ps qs x
   puts [] qs h below leads = put_right [] qs h below leads refl
   puts (p ∷ ps) qs h below leads =
       elim (cases_Bool (joins_left rank_of goes_on (end_of None (p ∷ ps)) x)) [
         | inl t ↦
-            let s = snoc None p ps (AreRuns-front rank_of goes_on None (p ∷ ps) qs h) in
+            let s = snoc None p ps (AreRuns_front rank_of goes_on None (p ∷ ps) qs h) in
             let left = sym (left_is s.front s.head s.tail) ∙ (ap (λ (r : List (List Held)). joins_left rank_of goes_on (end_of None r) x) (sym s.is) ∙ t) in
             subst (λ (r : List (List Held)). Put r qs x) (sym s.is) (put_left s.front qs s.head s.tail (subst (λ (r : List (List Held)). AreRuns rank_of goes_on None (r ++ qs)) s.is h) leads left)
         | inr n ↦ put_right (p ∷ ps) qs h below leads n
@@ -114,12 +114,12 @@ module _ (x : Held) where
       elim (cases_Bool (is_held rank_of (rank_of x) old)) [
         | inl t ↦ same old h (ap (λ (b : Bool). cond b old (put_in rank_of x old)) t)
         | inr absent ↦
-            let whole = flat-runs_of rank_of goes_on old in
+            let whole = flat_runs_of rank_of goes_on old in
             let s = split_for None x (intervals_of old) h tt (ap (is_held rank_of (rank_of x)) whole ∙ absent) in
             let two = subst (AreRuns rank_of goes_on None) s.is h in
             let p = puts s.ps s.qs two s.below s.leads in
-            let is : with_item rank_of x old ≡ flat p.new = ap (with_item rank_of x) (sym whole ∙ ap flat s.is) ∙ (with_item-between rank_of goes_on x s.ps s.qs None two s.below s.leads ∙ sym p.put.together) in
-            let runs : intervals_of (with_item rank_of x old) ≡ p.new = ap intervals_of is ∙ runs_of-flat rank_of goes_on None p.new p.put.kept in
+            let is : with_item rank_of x old ≡ flat p.new = ap (with_item rank_of x) (sym whole ∙ ap flat s.is) ∙ (with_item_between rank_of goes_on x s.ps s.qs None two s.below s.leads ∙ sym p.put.together) in
+            let runs : intervals_of (with_item rank_of x old) ≡ p.new = ap intervals_of is ∙ runs_of_flat rank_of goes_on None p.new p.put.kept in
             let order : AreInOrder (with_item rank_of x old) = subst (AreRuns rank_of goes_on None) (sym runs) p.put.kept in
             record {
               order = order;

@@ -14,7 +14,7 @@ use Rattle.sctp_state.specs.declared.api.handover.HandoverOrderedStream.{Handove
 use Rattle.sctp_state.specs.declared.api.handover.HandoverUnorderedStream.{HandoverUnorderedStream}
 use Rattle.sctp_state.specs.Handover.{Receive}
 use Rattle.sctp_reassembly.specs.Delivery.{fresh_unordered}
-use Rattle.sctp_reassembly.specs.ReassemblyHandover.{ordered_entries, unordered_entries, restored}
+use Rattle.sctp_reassembly.specs.ReassemblyHandover.{ordered_entries, unordered_entries, restore}
 use Rattle.sctp_reassembly.specs.Settled.{IsSettledInOrder, IsSettled, AreSettled}
 use Rattle.sctp_reassembly.proofs.SettledStreamsLemmas.{settled_none, settled_add, settled_point, settled_reset}
 
@@ -78,5 +78,5 @@ restored_unordered : (ss : List HandoverUnorderedStream) → All IsSettled (valu
 restored_unordered [] = All-nil IsSettled
 restored_unordered (s ∷ ss) = All-cons IsSettled fresh_unordered (values_of (unordered_entries ss)) (record { order = tt; none = tt }) (restored_unordered ss)
 
-pub settled_restored : (rx : Receive) (r : Reassembly) → AreSettled (restored rx r).streams
+pub settled_restored : (rx : Receive) (r : Reassembly) → AreSettled (restore rx r).streams
 settled_restored rx r = record { ordered = restored_ordered rx.ordered_streams; unordered = restored_unordered rx.unordered_streams }

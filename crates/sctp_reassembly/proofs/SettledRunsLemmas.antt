@@ -3,10 +3,10 @@ use Rattle.std.proofs.Common.{◌≡◌, ℕ, suc, ◌≤◌, Bool, true, false,
 use Rattle.std.specs.Prelude.{◌&&◌, ◌==◌, not}
 use Rattle.std.specs.List.{find}
 use Rattle.std.proofs.lemmas.Bool.{lt-ltb, cases_lt, cases_Bool}
-use Rattle.sctp_fragments.specs.Runs.{is_next, from_rank, last_of, attached, flat, AreRuns}
+use Rattle.sctp_fragments.specs.Runs.{is_next, from_rank, last_of, attach, flat, AreRuns}
 use Rattle.sctp_fragments.specs.Held.{Held, rank_of, goes_on, intervals_of, NonePass, NoneComplete, without_first_of, left_by}
 use Rattle.sctp_reassembly.specs.Settled.{AreInOrder}
-use Rattle.sctp_fragments.proofs.RunLemmas.{AreRuns-without, runs_of-flat, flat-runs_of, from_rank-runs}
+use Rattle.sctp_fragments.proofs.RunLemmas.{AreRuns_without, runs_of_flat, flat_runs_of, from_rank_runs}
 use Rattle.sctp_reassembly.proofs.FindLemmas.{without_none}
 
 -- ---- without the first interval that passes a test
@@ -18,11 +18,11 @@ module _ (test : List Held → Bool) where
   without_runs before ((e ∷ es) ∷ rs) h = go (without_runs (Some (last_of e es)) rs h.1.1) (test (e ∷ es))
     where
       go : AreRuns rank_of goes_on (Some (last_of e es)) (without_first_of test rs) → (b : Bool) → AreRuns rank_of goes_on before (cond b rs ((e ∷ es) ∷ without_first_of test rs))
-      go rest true = AreRuns-without rank_of goes_on before [] rs (e ∷ es) h
+      go rest true = AreRuns_without rank_of goes_on before [] rs (e ∷ es) h
       go rest false = (h.0, (h.1.0, rest))
 
   pub left_intervals : (hs : List Held) → AreInOrder hs → intervals_of (left_by test hs) ≡ without_first_of test (intervals_of hs)
-  left_intervals hs h = runs_of-flat rank_of goes_on None (without_first_of test (intervals_of hs)) (without_runs None (intervals_of hs) h)
+  left_intervals hs h = runs_of_flat rank_of goes_on None (without_first_of test (intervals_of hs)) (without_runs None (intervals_of hs) h)
 
   pub left_order : (hs : List Held) → AreInOrder hs → AreInOrder (left_by test hs)
   left_order hs h = subst (AreRuns rank_of goes_on None) (sym (left_intervals hs h)) (without_runs None (intervals_of hs) h)
@@ -55,10 +55,10 @@ NoEmpty [] = Unit {0}
 NoEmpty ([] ∷ rs) = ⊥
 NoEmpty ((e ∷ es) ∷ rs) = NoEmpty rs
 
-no_empty-attached : (x : Held) (rs : List (List Held)) → NoEmpty rs → NoEmpty (attached rank_of goes_on x rs)
-no_empty-attached x [] h = tt
-no_empty-attached x ([] ∷ rs) h = absurd h
-no_empty-attached x ((e ∷ es) ∷ rs) h =
+no_empty_attached : (x : Held) (rs : List (List Held)) → NoEmpty rs → NoEmpty (attach rank_of goes_on x rs)
+no_empty_attached x [] h = tt
+no_empty_attached x ([] ∷ rs) h = absurd h
+no_empty_attached x ((e ∷ es) ∷ rs) h =
     elim (cases_Bool (is_next rank_of goes_on x e)) [
       | inl t ↦ rw t h
       | inr f ↦ rw f h
@@ -66,9 +66,9 @@ no_empty-attached x ((e ∷ es) ∷ rs) h =
 
 no_empty : (hs : List Held) → NoEmpty (intervals_of hs)
 no_empty [] = tt
-no_empty (h ∷ hs) = no_empty-attached h (intervals_of hs) (no_empty hs)
+no_empty (h ∷ hs) = no_empty_attached h (intervals_of hs) (no_empty hs)
 
-tail_runs : (e : Held) (rs : List (List Held)) → NoEmpty rs → AreRuns rank_of goes_on None (attached rank_of goes_on e rs) → AreRuns rank_of goes_on None rs
+tail_runs : (e : Held) (rs : List (List Held)) → NoEmpty rs → AreRuns rank_of goes_on None (attach rank_of goes_on e rs) → AreRuns rank_of goes_on None rs
 tail_runs e [] some h = tt
 tail_runs e ([] ∷ rs) some h = absurd some
 tail_runs e ((f ∷ fs) ∷ rs) some h =
@@ -83,7 +83,7 @@ not_begun true true false d h = refl
 not_begun true false c d h = absurd (cc)
 not_begun false b c d h = absurd (cc)
 
-tail_none : (e : Held) (rs : List (List Held)) → NoEmpty rs → NoneComplete (attached rank_of goes_on e rs) → NoneComplete rs
+tail_none : (e : Held) (rs : List (List Held)) → NoEmpty rs → NoneComplete (attach rank_of goes_on e rs) → NoneComplete rs
 tail_none e [] some h = tt
 tail_none e ([] ∷ rs) some h = absurd some
 tail_none e ((f ∷ fs) ∷ rs) some h =
@@ -93,14 +93,14 @@ tail_none e ((f ∷ fs) ∷ rs) some h =
     ]
 
 from_kept : (n : ℕ) (e : Held) (es : List Held) → AreInOrder (e ∷ es) → n ≤ rank_of e → from_rank rank_of n (e ∷ es) ≡ e ∷ es
-from_kept n e es h least = go (intervals_of (e ∷ es)) (flat-runs_of rank_of goes_on (e ∷ es)) h
+from_kept n e es h least = go (intervals_of (e ∷ es)) (flat_runs_of rank_of goes_on (e ∷ es)) h
   where
     go : (rs : List (List Held)) → flat rs ≡ e ∷ es → AreRuns rank_of goes_on None rs → from_rank rank_of n (e ∷ es) ≡ e ∷ es
     go [] is h = absurd (cc)
     go ([] ∷ rs) is h = absurd h
     go ((d ∷ ds) ∷ rs) is h =
         let first : e ≡ d = cc in
-        subst (λ (t : List Held). from_rank rank_of n t ≡ t) is (from_rank-runs rank_of goes_on n d ds rs h (subst (λ (t : Held). n ≤ rank_of t) first least))
+        subst (λ (t : List Held). from_rank rank_of n t ≡ t) is (from_rank_runs rank_of goes_on n d ds rs h (subst (λ (t : Held). n ≤ rank_of t) first least))
 
 pub from_order : (n : ℕ) (hs : List Held) → AreInOrder hs → AreInOrder (from_rank rank_of n hs)
 from_order n [] h = tt

@@ -16,8 +16,8 @@ use Rattle.sctp_chunk.specs.declared.forward_tsn.SkippedStream.TheVariants.{Forw
 use Rattle.sctp_fragments.specs.Runs.{with_item, from_rank}
 use Rattle.sctp_fragments.specs.Key.{pair_rank}
 use Rattle.sctp_fragments.specs.Held.{Held, rank_of, intervals_of, is_complete, is_in_turn, left_by}
-use Rattle.sctp_reassembly.specs.Delivery.{OrderedStream, UnorderedStream, OrderedDelivery, UnorderedDelivery, fresh_ordered, fresh_unordered, at_rest, delivering, deliver, deliver_within, ordered_arrival, ordered_forward, settled, unordered_arrival, unordered_forward, unordered_forward_tsn, held_from}
-use Rattle.sctp_reassembly.specs.Streams.{Entries, Streams, stream_at, opened, changed, is_named, no_streams, is_far, held_as, ordered_number, unordered_number, with_ordered, with_unordered, unchanged, add_ordered, add_unordered, add_in_order, add, skip_ordered, skip_unordered, skip_of, skip, skip_each, by_stream, dropped_to, forward, reset}
+use Rattle.sctp_reassembly.specs.Delivery.{OrderedStream, UnorderedStream, OrderedDelivery, UnorderedDelivery, fresh_ordered, fresh_unordered, at_rest, delivering, deliver, deliver_within, ordered_arrival, ordered_forward, deliver_complete, unordered_arrival, unordered_forward, unordered_forward_tsn, held_from}
+use Rattle.sctp_reassembly.specs.Streams.{Entries, Streams, stream_at, open_stream, change_stream, is_named, no_streams, is_far, held_as, ordered_number, unordered_number, with_ordered, with_unordered, unchanged, add_ordered, add_unordered, add_in_order, add, skip_ordered, skip_unordered, skip_of, skip, skip_each, by_stream, dropped_to, forward, reset}
 use Rattle.sctp_reassembly.specs.Settled.{AreInOrder, IsSettledInOrder, IsSettled, AreSettled}
 use Rattle.sctp_reassembly.proofs.DeliverLemmas.{length_found}
 use Rattle.sctp_reassembly.proofs.SettledRunsLemmas.{left_intervals, left_order, find_none, none_empty, from_order, from_none}
@@ -56,7 +56,7 @@ settled_forward n s h = settled_deliver (max (suc n) s.next) (from_rank rank_of 
 settled_unordered : (x : Held) (s : UnorderedStream) → IsSettled s → IsSettled (unordered_arrival x s).stream
 settled_unordered x s h = go (nat_lt x.number s.passed)
   where
-    go : (b : Bool) → IsSettled (cond b (record { stream = record s { near = max origin x.number }; messages = [] }) (settled (record s { near = max origin x.number; held = with_item rank_of x s.held }))).stream
+    go : (b : Bool) → IsSettled (cond b (record { stream = record s { near = max origin x.number }; messages = [] }) (deliver_complete (record s { near = max origin x.number; held = with_item rank_of x s.held }))).stream
     go true = record { order = h.order; none = h.none }
     go false =
         let came = came_in x s.held h.order in
@@ -79,15 +79,15 @@ module _ {S : Type 0} (P : S → Type 0) (fresh : S) (at_first : P fresh) where
       go rest true = All-head P e.1 (values_of es) h
       go rest false = rest
 
-  all_opened : (id : ℕ) (es : Entries S) → All P (values_of es) → All P (values_of (opened fresh id es))
+  all_opened : (id : ℕ) (es : Entries S) → All P (values_of es) → All P (values_of (open_stream fresh id es))
   all_opened id es h = go (is_some (lookup (is_at (nat_cmp id)) es))
     where
       go : (b : Bool) → All P (values_of (cond b es (insert_entry nat_cmp es id fresh)))
       go true = h
       go false = All-values-insert_entry nat_cmp id fresh P es h at_first
 
-  all_changed : (id : ℕ) (s : S) (es : Entries S) → All P (values_of es) → P s → All P (values_of (changed fresh id s es))
-  all_changed id s es h k = All-values-set_value (is_at (nat_cmp id)) P (opened fresh id es) s (all_opened id es h) k
+  all_changed : (id : ℕ) (s : S) (es : Entries S) → All P (values_of es) → P s → All P (values_of (change_stream fresh id s es))
+  all_changed id s es h k = All-values-set_value (is_at (nat_cmp id)) P (open_stream fresh id es) s (all_opened id es h) k
 
 module _ {S : Type 0} (P : S → Type 0) where
   all_kept : (test : ℕ × S → Bool) (es : Entries S) → All P (values_of es) → All P (values_of (filter test es))
@@ -123,7 +123,7 @@ module _ (ss : Streams) (h : AreSettled ss) where
   ordered_so : (id : ℕ) (d : OrderedDelivery) → IsSettledInOrder d.stream → AreSettled (with_ordered id d ss).streams
   ordered_so id d k = record { ordered = all_changed IsSettledInOrder fresh_ordered first_ordered id d.stream ss.ordered h.ordered k; unordered = h.unordered }
 
-  unordered_so : (id : ℕ) (s : UnorderedStream) → IsSettled s → AreSettled (record ss { unordered = changed fresh_unordered id s ss.unordered })
+  unordered_so : (id : ℕ) (s : UnorderedStream) → IsSettled s → AreSettled (record ss { unordered = change_stream fresh_unordered id s ss.unordered })
   unordered_so id s k = record { ordered = h.ordered; unordered = all_changed IsSettled fresh_unordered first_unordered id s ss.unordered h.unordered k }
 
   settled_ordered : (id : ℕ) (x : Held) → AreSettled (add_ordered id x ss).streams
@@ -169,7 +169,7 @@ module _ (ss : Streams) (h : AreSettled ss) where
       s : UnorderedStream
       s = unordered_forward n (stream_at fresh_unordered id ss.unordered)
 
-      go : (b : Bool) → AreSettled (cond b (unchanged ss) (record { streams = record ss { unordered = changed fresh_unordered id s ss.unordered }; messages = [] })).streams
+      go : (b : Bool) → AreSettled (cond b (unchanged ss) (record { streams = record ss { unordered = change_stream fresh_unordered id s ss.unordered }; messages = [] })).streams
       go true = h
       go false = unordered_so id s (settled_past n (stream_at fresh_unordered id ss.unordered) (at_unordered id))
 

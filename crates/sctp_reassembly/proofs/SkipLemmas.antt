@@ -6,7 +6,7 @@ use Rattle.sctp_fragments.specs.Held.{Held}
 use Rattle.sctp_reassembly.specs.Delivery.{OrderedStream, UnorderedStream, fresh_ordered, fresh_unordered, ordered_arrival, unordered_arrival, ordered_forward, unordered_forward}
 use Rattle.sctp_serial.specs.Unwrapped.{words, nearest}
 use Rattle.sctp_chunk.specs.Chunk.{FragmentTree}
-use Rattle.sctp_reassembly.specs.Streams.{Entries, Streams, Outcome, add, add_in_order, held_as, place_of, unchanged, numbered, is_far, stream_at, changed, with_ordered, with_unordered, add_ordered, add_unordered, skip_ordered, skip_unordered, skip, skip_each}
+use Rattle.sctp_reassembly.specs.Streams.{Entries, Streams, Outcome, add, add_in_order, held_as, place_of, unchanged, number_if_any, is_far, stream_at, change_stream, with_ordered, with_unordered, add_ordered, add_unordered, skip_ordered, skip_unordered, skip, skip_each}
 
 -- what is numbered
 far : (b : Bool) (n : ℕ) → cond b None (Some n) ≡ None → b ≡ true
@@ -21,34 +21,34 @@ same : (b : Bool) (n m : ℕ) → cond b None (Some n) ≡ Some m → n ≡ m
 same true n m h = absurd (cc)
 same false n m h = cc
 
-pub far-from : (n : ℕ) → numbered n ≡ None → is_far n ≡ true
-far-from n h = far (is_far n) n h
+pub far_from : (n : ℕ) → number_if_any n ≡ None → is_far n ≡ true
+far_from n h = far (is_far n) n h
 
-pub near-from : (n m : ℕ) → numbered n ≡ Some m → is_far n ≡ false
-near-from n m h = near (is_far n) n m h
+pub near_from : (n m : ℕ) → number_if_any n ≡ Some m → is_far n ≡ false
+near_from n m h = near (is_far n) n m h
 
-pub same-from : (n m : ℕ) → numbered n ≡ Some m → n ≡ m
-same-from n m h = same (is_far n) n m h
+pub same_from : (n m : ℕ) → number_if_any n ≡ Some m → n ≡ m
+same_from n m h = same (is_far n) n m h
 
-pub add_far : (id : ℕ) (h : Held) (ss : Streams) → numbered h.number ≡ None → add_ordered id h ss ≡ unchanged ss
-add_far id h ss none = ap (λ (b : Bool). cond b (unchanged ss) (with_ordered id (ordered_arrival h (stream_at fresh_ordered id ss.ordered)) ss)) (far-from h.number none)
+pub add_far : (id : ℕ) (h : Held) (ss : Streams) → number_if_any h.number ≡ None → add_ordered id h ss ≡ unchanged ss
+add_far id h ss none = ap (λ (b : Bool). cond b (unchanged ss) (with_ordered id (ordered_arrival h (stream_at fresh_ordered id ss.ordered)) ss)) (far_from h.number none)
 
-pub add_near : (id m : ℕ) (h : Held) (ss : Streams) → numbered h.number ≡ Some m → add_ordered id h ss ≡ with_ordered id (ordered_arrival h (stream_at fresh_ordered id ss.ordered)) ss
-add_near id m h ss some = ap (λ (b : Bool). cond b (unchanged ss) (with_ordered id (ordered_arrival h (stream_at fresh_ordered id ss.ordered)) ss)) (near-from h.number m some)
+pub add_near : (id m : ℕ) (h : Held) (ss : Streams) → number_if_any h.number ≡ Some m → add_ordered id h ss ≡ with_ordered id (ordered_arrival h (stream_at fresh_ordered id ss.ordered)) ss
+add_near id m h ss some = ap (λ (b : Bool). cond b (unchanged ss) (with_ordered id (ordered_arrival h (stream_at fresh_ordered id ss.ordered)) ss)) (near_from h.number m some)
 
-pub add_far_unordered : (id : ℕ) (h : Held) (ss : Streams) → numbered h.number ≡ None → add_unordered id h ss ≡ unchanged ss
-add_far_unordered id h ss none = ap (λ (b : Bool). cond b (unchanged ss) (with_unordered id (unordered_arrival h (stream_at fresh_unordered id ss.unordered)) ss)) (far-from h.number none)
+pub add_far_unordered : (id : ℕ) (h : Held) (ss : Streams) → number_if_any h.number ≡ None → add_unordered id h ss ≡ unchanged ss
+add_far_unordered id h ss none = ap (λ (b : Bool). cond b (unchanged ss) (with_unordered id (unordered_arrival h (stream_at fresh_unordered id ss.unordered)) ss)) (far_from h.number none)
 
-pub add_near_unordered : (id m : ℕ) (h : Held) (ss : Streams) → numbered h.number ≡ Some m → add_unordered id h ss ≡ with_unordered id (unordered_arrival h (stream_at fresh_unordered id ss.unordered)) ss
-add_near_unordered id m h ss some = ap (λ (b : Bool). cond b (unchanged ss) (with_unordered id (unordered_arrival h (stream_at fresh_unordered id ss.unordered)) ss)) (near-from h.number m some)
+pub add_near_unordered : (id m : ℕ) (h : Held) (ss : Streams) → number_if_any h.number ≡ Some m → add_unordered id h ss ≡ with_unordered id (unordered_arrival h (stream_at fresh_unordered id ss.unordered)) ss
+add_near_unordered id m h ss some = ap (λ (b : Bool). cond b (unchanged ss) (with_unordered id (unordered_arrival h (stream_at fresh_unordered id ss.unordered)) ss)) (near_from h.number m some)
 
-pub skip_far : (id n : ℕ) (ss : Streams) → numbered n ≡ None → skip_ordered id n ss ≡ unchanged ss
-skip_far id n ss none = ap (λ (b : Bool). cond b (unchanged ss) (with_ordered id (ordered_forward n (stream_at fresh_ordered id ss.ordered)) ss)) (far-from n none)
+pub skip_far : (id n : ℕ) (ss : Streams) → number_if_any n ≡ None → skip_ordered id n ss ≡ unchanged ss
+skip_far id n ss none = ap (λ (b : Bool). cond b (unchanged ss) (with_ordered id (ordered_forward n (stream_at fresh_ordered id ss.ordered)) ss)) (far_from n none)
 
-pub skip_near : (id n m : ℕ) (ss : Streams) → numbered n ≡ Some m → skip_ordered id n ss ≡ with_ordered id (ordered_forward m (stream_at fresh_ordered id ss.ordered)) ss
+pub skip_near : (id n m : ℕ) (ss : Streams) → number_if_any n ≡ Some m → skip_ordered id n ss ≡ with_ordered id (ordered_forward m (stream_at fresh_ordered id ss.ordered)) ss
 skip_near id n m ss some =
-    ap (λ (b : Bool). cond b (unchanged ss) (with_ordered id (ordered_forward n (stream_at fresh_ordered id ss.ordered)) ss)) (near-from n m some)
-    ∙ ap (λ (k : ℕ). with_ordered id (ordered_forward k (stream_at fresh_ordered id ss.ordered)) ss) (same-from n m some)
+    ap (λ (b : Bool). cond b (unchanged ss) (with_ordered id (ordered_forward n (stream_at fresh_ordered id ss.ordered)) ss)) (near_from n m some)
+    ∙ ap (λ (k : ℕ). with_ordered id (ordered_forward k (stream_at fresh_ordered id ss.ordered)) ss) (same_from n m some)
 
 -- what is left to do after one more entry
 module _ (e : SkippedStream) (es : List SkippedStream) (i : ℕ) (h : i < length es) (read : e ≡ get_or es i e) where
@@ -74,31 +74,31 @@ mixed o u = record { is_interleaved = true; ordered = o; unordered = u }
 abbrev plain : Entries OrderedStream → Entries UnorderedStream → Streams
 plain o u = record { is_interleaved = false; ordered = o; unordered = u }
 
-pub skipped_plain : (id n m : ℕ) (o new : Entries OrderedStream) (u : Entries UnorderedStream) → numbered n ≡ Some m → new ≡ changed fresh_ordered id (ordered_forward m (stream_at fresh_ordered id o)).stream o → plain new u ≡ (skip_ordered id n (plain o u)).streams
+pub skipped_plain : (id n m : ℕ) (o new : Entries OrderedStream) (u : Entries UnorderedStream) → number_if_any n ≡ Some m → new ≡ change_stream fresh_ordered id (ordered_forward m (stream_at fresh_ordered id o)).stream o → plain new u ≡ (skip_ordered id n (plain o u)).streams
 skipped_plain id n m o new u some made = ap (λ (t : Entries OrderedStream). plain t u) made ∙ sym (ap (λ (t : Outcome). t.streams) (skip_near id n m (plain o u) some))
 
-pub skipped_mixed : (id n m : ℕ) (o new : Entries OrderedStream) (u : Entries UnorderedStream) → numbered n ≡ Some m → new ≡ changed fresh_ordered id (ordered_forward m (stream_at fresh_ordered id o)).stream o → mixed new u ≡ (skip_ordered id n (mixed o u)).streams
+pub skipped_mixed : (id n m : ℕ) (o new : Entries OrderedStream) (u : Entries UnorderedStream) → number_if_any n ≡ Some m → new ≡ change_stream fresh_ordered id (ordered_forward m (stream_at fresh_ordered id o)).stream o → mixed new u ≡ (skip_ordered id n (mixed o u)).streams
 skipped_mixed id n m o new u some made = ap (λ (t : Entries OrderedStream). mixed t u) made ∙ sym (ap (λ (t : Outcome). t.streams) (skip_near id n m (mixed o u) some))
 
-pub skipped_unordered : (id n m : ℕ) (o : Entries OrderedStream) (u new : Entries UnorderedStream) → numbered n ≡ Some m → new ≡ changed fresh_unordered id (unordered_forward m (stream_at fresh_unordered id u)) u → mixed o new ≡ (skip_unordered id n (mixed o u)).streams
+pub skipped_unordered : (id n m : ℕ) (o : Entries OrderedStream) (u new : Entries UnorderedStream) → number_if_any n ≡ Some m → new ≡ change_stream fresh_unordered id (unordered_forward m (stream_at fresh_unordered id u)) u → mixed o new ≡ (skip_unordered id n (mixed o u)).streams
 skipped_unordered id n m o u new some made =
-    ap (λ (t : Entries UnorderedStream). mixed o t) (made ∙ ap (λ (k : ℕ). changed fresh_unordered id (unordered_forward k (stream_at fresh_unordered id u)) u) (sym (same-from n m some)))
-    ∙ sym (ap (λ (b : Bool). (cond b (unchanged (mixed o u)) (record { streams = mixed o (changed fresh_unordered id (unordered_forward n (stream_at fresh_unordered id u)) u); messages = [] })).streams) (near-from n m some))
+    ap (λ (t : Entries UnorderedStream). mixed o t) (made ∙ ap (λ (k : ℕ). change_stream fresh_unordered id (unordered_forward k (stream_at fresh_unordered id u)) u) (sym (same_from n m some)))
+    ∙ sym (ap (λ (b : Bool). (cond b (unchanged (mixed o u)) (record { streams = mixed o (change_stream fresh_unordered id (unordered_forward n (stream_at fresh_unordered id u)) u); messages = [] })).streams) (near_from n m some))
 
-pub comes_unordered : (o : Entries OrderedStream) (u : Entries UnorderedStream) (tsn id n index : ℕ) (f : FragmentTree) → f.is_unordered ≡ true → f.stream_id ≡ id → numbered (nearest words 0 (stream_at fresh_unordered id u).near f.mid) ≡ Some n → index ≡ place_of true tsn f
+pub comes_unordered : (o : Entries OrderedStream) (u : Entries UnorderedStream) (tsn id n index : ℕ) (f : FragmentTree) → f.is_unordered ≡ true → f.stream_id ≡ id → number_if_any (nearest words 0 (stream_at fresh_unordered id u).near f.mid) ≡ Some n → index ≡ place_of true tsn f
     → add tsn f (mixed o u) ≡ with_unordered id (unordered_arrival (record { number = n; index = index; fragment = f }) (stream_at fresh_unordered id u)) (mixed o u)
 comes_unordered o u tsn id n index f kind stream some place =
     ap (λ (b : Bool). add_in_order b tsn f (mixed o u)) kind
     ∙ (ap (λ (i : ℕ). add_unordered i (held_as true (nearest words 0 (stream_at fresh_unordered i u).near f.mid) tsn f) (mixed o u)) stream
     ∙ (add_near_unordered id n (held_as true (nearest words 0 (stream_at fresh_unordered id u).near f.mid) tsn f) (mixed o u) some
-    ∙ (ap (λ (k : ℕ). with_unordered id (unordered_arrival (record { number = k; index = place_of true tsn f; fragment = f }) (stream_at fresh_unordered id u)) (mixed o u)) (same-from _ n some)
+    ∙ (ap (λ (k : ℕ). with_unordered id (unordered_arrival (record { number = k; index = place_of true tsn f; fragment = f }) (stream_at fresh_unordered id u)) (mixed o u)) (same_from _ n some)
     ∙ ap (λ (k : ℕ). with_unordered id (unordered_arrival (record { number = n; index = k; fragment = f }) (stream_at fresh_unordered id u)) (mixed o u)) (sym place))))
 
-pub comes_ordered : (o : Entries OrderedStream) (u : Entries UnorderedStream) (tsn id n index : ℕ) (f : FragmentTree) → f.is_unordered ≡ false → f.stream_id ≡ id → numbered (nearest words 0 (stream_at fresh_ordered id o).next f.mid) ≡ Some n → index ≡ place_of true tsn f
+pub comes_ordered : (o : Entries OrderedStream) (u : Entries UnorderedStream) (tsn id n index : ℕ) (f : FragmentTree) → f.is_unordered ≡ false → f.stream_id ≡ id → number_if_any (nearest words 0 (stream_at fresh_ordered id o).next f.mid) ≡ Some n → index ≡ place_of true tsn f
     → add tsn f (mixed o u) ≡ with_ordered id (ordered_arrival (record { number = n; index = index; fragment = f }) (stream_at fresh_ordered id o)) (mixed o u)
 comes_ordered o u tsn id n index f kind stream some place =
     ap (λ (b : Bool). add_in_order b tsn f (mixed o u)) kind
     ∙ (ap (λ (i : ℕ). add_ordered i (held_as true (nearest words 0 (stream_at fresh_ordered i o).next f.mid) tsn f) (mixed o u)) stream
     ∙ (add_near id n (held_as true (nearest words 0 (stream_at fresh_ordered id o).next f.mid) tsn f) (mixed o u) some
-    ∙ (ap (λ (k : ℕ). with_ordered id (ordered_arrival (record { number = k; index = place_of true tsn f; fragment = f }) (stream_at fresh_ordered id o)) (mixed o u)) (same-from _ n some)
+    ∙ (ap (λ (k : ℕ). with_ordered id (ordered_arrival (record { number = k; index = place_of true tsn f; fragment = f }) (stream_at fresh_ordered id o)) (mixed o u)) (same_from _ n some)
     ∙ ap (λ (k : ℕ). with_ordered id (ordered_arrival (record { number = n; index = k; fragment = f }) (stream_at fresh_ordered id o)) (mixed o u)) (sym place))))

@@ -43,5 +43,5 @@ abbrev pub NoneBelow : ℕ → Notes → Type 0
 NoneBelow rank notes = (note : ℕ × ℕ) → is_noted notes note ≡ true → rank ≤ note.0
 
 -- what a point before the rank leaves of all streams
-abbrev pub forwarded : ℕ → Entries UnorderedStream → Entries UnorderedStream
-forwarded rank es = map (λ e. (e.0, held_from rank e.1)) es
+abbrev pub forward : ℕ → Entries UnorderedStream → Entries UnorderedStream
+forward rank es = map (λ e. (e.0, held_from rank e.1)) es

@@ -53,8 +53,8 @@ streams_written ss rx = record rx {
   unordered_streams = unordered_records ss.unordered;
 }
 
-abbrev pub written : Reassembly → Receive → Receive
-written r rx = record (streams_written r.streams rx) { last_completed_deferred_reset_req_sn = 0 }
+abbrev pub write_handover : Reassembly → Receive → Receive
+write_handover r rx = record (streams_written r.streams rx) { last_completed_deferred_reset_req_sn = 0 }
 
 -- ---- what is read: nothing is held, and no MID is named; numbers count on from the first one that is written so
 
@@ -74,5 +74,5 @@ unordered_entries ss = map unordered_restored ss
 abbrev pub streams_restored : Receive → Streams → Streams
 streams_restored rx ss = record ss { ordered = ordered_entries rx.ordered_streams; unordered = unordered_entries rx.unordered_streams }
 
-abbrev pub restored : Receive → Reassembly → Reassembly
-restored rx r = record r { streams = streams_restored rx r.streams }
+abbrev pub restore : Receive → Reassembly → Reassembly
+restore rx r = record r { streams = streams_restored rx r.streams }

@@ -88,22 +88,22 @@ came tsn r = record r { first = Some (unwrap_or r.first tsn); near = max origin 
 -- ---- the calls
 
 -- a count that stops at the greatest number of its type
-abbrev pub counted : ℕ → ℕ → ℕ
-counted n m = min (n + m) (2 ^ 64 - 1)
+abbrev pub count_ready : ℕ → ℕ → ℕ
+count_ready n m = min (n + m) (2 ^ 64 - 1)
 
 -- each message that became ready since is counted
 abbrev pub IsCounted : Reassembly → Reassembly → Type 0
-IsCounted old new = new.ready_count ≡ counted old.ready_count (length new.ready - length old.ready)
+IsCounted old new = new.ready_count ≡ count_ready old.ready_count (length new.ready - length old.ready)
 
 -- messages became ready
-abbrev pub made : Outcome → Reassembly → Reassembly
-made o r = record r { streams = o.streams; ready = r.ready ++ o.messages; ready_count = counted r.ready_count (length o.messages) }
+abbrev pub apply_outcome : Outcome → Reassembly → Reassembly
+apply_outcome o r = record r { streams = o.streams; ready = r.ready ++ o.messages; ready_count = count_ready r.ready_count (length o.messages) }
 
 abbrev pub add_now : ℕ → FragmentTree → Reassembly → Reassembly
-add_now n f r = made (streams.add n f r.streams) r
+add_now n f r = apply_outcome (streams.add n f r.streams) r
 
 abbrev pub forward_now : ℕ → List SkippedStream → Reassembly → Reassembly
-forward_now n es r = made (streams.forward n es r.streams) r
+forward_now n es r = apply_outcome (streams.forward n es r.streams) r
 
 -- while a reset is deferred, a fragment above its last TSN waits if it is on one of its streams
 abbrev pub fragment_waits : ℕ → ℕ → Option Deferred → Bool

@@ -24,23 +24,23 @@ abbrev pub stream_at : {S : Type 0} → S → ℕ → Entries S → S
 stream_at fresh id es = unwrap_or (lookup (is_at (nat_cmp id)) es) fresh
 
 -- with the stream among the others
-abbrev pub opened : {S : Type 0} → S → ℕ → Entries S → Entries S
-opened fresh id es = if is_some (lookup (is_at (nat_cmp id)) es) then es else insert_entry nat_cmp es id fresh
+abbrev pub open_stream : {S : Type 0} → S → ℕ → Entries S → Entries S
+open_stream fresh id es = if is_some (lookup (is_at (nat_cmp id)) es) then es else insert_entry nat_cmp es id fresh
 
 -- with this in place of the stream, where it is there
-abbrev pub written : {S : Type 0} → ℕ → S → Entries S → Entries S
-written id s es = set_value (is_at (nat_cmp id)) es s
+abbrev pub write_stream : {S : Type 0} → ℕ → S → Entries S → Entries S
+write_stream id s es = set_value (is_at (nat_cmp id)) es s
 
 -- with this as the stream
-abbrev pub changed : {S : Type 0} → S → ℕ → S → Entries S → Entries S
-changed fresh id s es = written id s (opened fresh id es)
+abbrev pub change_stream : {S : Type 0} → S → ℕ → S → Entries S → Entries S
+change_stream fresh id s es = write_stream id s (open_stream fresh id es)
 
 -- whether a stream is named; where no stream is named, each is
 abbrev pub is_named : List StreamId → ℕ → Bool
 is_named ids id = (length ids == 0) || list_any (λ i. i.0 == id) ids
 
-abbrev pub forgotten : {S : Type 0} → List StreamId → Entries S → Entries S
-forgotten ids es = filter (λ e. not (is_named ids e.0)) es
+abbrev pub forget : {S : Type 0} → List StreamId → Entries S → Entries S
+forget ids es = filter (λ e. not (is_named ids e.0)) es
 
 -- ---- all streams of an association
 
@@ -75,8 +75,8 @@ limit = origin + 2 ^ 62
 abbrev pub is_far : ℕ → Bool
 is_far n = nat_le limit n
 
-abbrev pub numbered : ℕ → Option ℕ
-numbered n = if is_far n then None else Some n
+abbrev pub number_if_any : ℕ → Option ℕ
+number_if_any n = if is_far n then None else Some n
 
 -- a fragment's place in its message: its TSN, or with interleaving its FSN, which a beginning reads as 0
 abbrev pub place_of : Bool → ℕ → FragmentTree → ℕ
@@ -94,10 +94,10 @@ abbrev pub unordered_number : Bool → FragmentTree → UnorderedStream → ℕ
 unordered_number is_interleaved f s = if is_interleaved then nearest words 0 s.near f.mid else origin
 
 abbrev pub with_ordered : ℕ → OrderedDelivery → Streams → Outcome
-with_ordered id d ss = record { streams = record ss { ordered = changed fresh_ordered id d.stream ss.ordered }; messages = d.messages }
+with_ordered id d ss = record { streams = record ss { ordered = change_stream fresh_ordered id d.stream ss.ordered }; messages = d.messages }
 
 abbrev pub with_unordered : ℕ → UnorderedDelivery → Streams → Outcome
-with_unordered id d ss = record { streams = record ss { unordered = changed fresh_unordered id d.stream ss.unordered }; messages = d.messages }
+with_unordered id d ss = record { streams = record ss { unordered = change_stream fresh_unordered id d.stream ss.unordered }; messages = d.messages }
 
 abbrev pub unchanged : Streams → Outcome
 unchanged ss = record { streams = ss; messages = [] }
@@ -128,7 +128,7 @@ skip_ordered id n ss = if is_far n then unchanged ss else with_ordered id (order
 abbrev pub skip_unordered : ℕ → ℕ → Streams → Outcome
 skip_unordered id n ss =
     if is_far n then unchanged ss
-    else record { streams = record ss { unordered = changed fresh_unordered id (unordered_forward n (stream_at fresh_unordered id ss.unordered)) ss.unordered }; messages = [] }
+    else record { streams = record ss { unordered = change_stream fresh_unordered id (unordered_forward n (stream_at fresh_unordered id ss.unordered)) ss.unordered }; messages = [] }
 
 -- an entry names a stream and a number. One of the other kind of chunk says nothing
 abbrev pub skip_of : Bool → SkippedStream → Streams → Outcome
@@ -185,4 +185,4 @@ entries_in named ids es = filter (λ e. is_part named ids (skipped_id e)) es
 
 -- a reset forgets the streams: what is held of them belongs to messages that were given up
 abbrev pub reset : List StreamId → Streams → Streams
-reset ids ss = record ss { ordered = forgotten ids ss.ordered; unordered = forgotten ids ss.unordered }
+reset ids ss = record ss { ordered = forget ids ss.ordered; unordered = forget ids ss.unordered }

@@ -3,7 +3,7 @@
 ghost use Rattle.std.specs.Prelude.{◌≡◌, ◌==◌, ◌+◌, ◌<◌, ◌≤◌, ◌^◌, ◌++◌, ℕ, [], true, false, length, map, OnOk, IfOk, IfSome, IfNone};
 ghost use Rattle.sctp_fragments.specs.Key.{pair_rank};
 ghost use Rattle.sctp_reassembly.specs.Delivery.{fresh_unordered, held_from};
-ghost use Rattle.sctp_reassembly.specs.Notes.{is_noted, HasNote, AreNoted, OthersAreNoted, KeepsOthers, NoneBelow, forwarded};
+ghost use Rattle.sctp_reassembly.specs.Notes.{is_noted, HasNote, AreNoted, OthersAreNoted, KeepsOthers, NoneBelow, forward};
 ghost use Rattle.sctp_reassembly.specs.ReassemblyHandover.{unordered_is_held, unordered_records, unordered_entries};
 ghost use Rattle.sctp_reassembly.specs.Streams.{unordered_bytes, is_named, stream_at};
 ghost use Rattle.sctp_state.specs.Validity.{rises_from, unordered_ids};
@@ -132,11 +132,11 @@ fn forward_noted(
     notes: &mut BTreeSet<(u128, u16)>,
     first: TraditionalKey,
 ) -> bool
-    ensures same { forwarded (pair_rank first.number first.index) streams.new ≡ forwarded (pair_rank first.number first.index) streams.old }
+    ensures same { forward (pair_rank first.number first.index) streams.new ≡ forward (pair_rank first.number first.index) streams.old }
     ensures bytes { unordered_bytes streams.new ≤ unordered_bytes streams.old }
     ensures before { result ≡ true → is_noted ≡ true }
     ensures noted { AreNoted notes.old.keys streams.old → result ≡ true → AreNoted notes.new.keys streams.new }
-    ensures done { AreNoted notes.old.keys streams.old → result ≡ true → streams.new ≡ forwarded (pair_rank first.number first.index) streams.old }
+    ensures done { AreNoted notes.old.keys streams.old → result ≡ true → streams.new ≡ forward (pair_rank first.number first.index) streams.old }
 {
     if !is_noted {
         return false;
@@ -173,9 +173,9 @@ fn take_notes(
 }
 
 impl NotedStreams {
-    ghost use Rattle.sctp_fragments.specs.Intervals.{held};
+    ghost use Rattle.sctp_fragments.specs.Intervals.{held_at};
     ghost use Rattle.sctp_reassembly.specs.Delivery.{unordered_arrival, ready_bytes, Extends};
-    ghost use Rattle.sctp_reassembly.specs.Streams.{changed, forgotten};
+    ghost use Rattle.sctp_reassembly.specs.Streams.{change_stream, forget};
 
     /// No streams. Takes no memory.
     pub fn new(alloc: Global) -> NotedStreams
@@ -238,8 +238,8 @@ impl NotedStreams {
     ) -> Result<(), AllocError>
         requires room { unordered_bytes self.old + ready_bytes ready.old + length fragment.payload.items < 2 ^ 64 }
         requires small { key.number < 2 ^ 63 }
-        ensures ok { OnOk result (self.new ≡ changed fresh_unordered id.0 (unordered_arrival (held key.number key.index fragment) (stream_at fresh_unordered id.0 self.old)).stream self.old) }
-        ensures ready { OnOk result (ready.new ≡ ready.old ++ (unordered_arrival (held key.number key.index fragment) (stream_at fresh_unordered id.0 self.old)).messages) }
+        ensures ok { OnOk result (self.new ≡ change_stream fresh_unordered id.0 (unordered_arrival (held_at key.number key.index fragment) (stream_at fresh_unordered id.0 self.old)).stream self.old) }
+        ensures ready { OnOk result (ready.new ≡ ready.old ++ (unordered_arrival (held_at key.number key.index fragment) (stream_at fresh_unordered id.0 self.old)).messages) }
         ensures kept { Extends ready.old ready.new }
         ensures bytes { unordered_bytes self.new + ready_bytes ready.new ≤ unordered_bytes self.old + ready_bytes ready.old + length fragment.payload.items }
     {
@@ -253,7 +253,7 @@ impl NotedStreams {
 
     /// Forgets the streams that are named, or all where none is.
     pub fn forget(&mut self, ids: &[StreamId])
-        ensures value { self.new ≡ forgotten ids.now self.old }
+        ensures value { self.new ≡ forget ids.now self.old }
         ensures bytes { unordered_bytes self.new ≤ unordered_bytes self.old }
     {
         take_notes(&self.streams, &mut self.notes, ids);

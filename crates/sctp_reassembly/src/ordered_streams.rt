@@ -39,9 +39,9 @@ impl<K: ReassemblyKey> Model for OrderedStreams<K> {
 }
 
 impl<K: ReassemblyKey> OrderedStreams<K> {
-    ghost use Rattle.sctp_fragments.specs.Intervals.{held};
+    ghost use Rattle.sctp_fragments.specs.Intervals.{held_at};
     ghost use Rattle.sctp_reassembly.specs.Delivery.{fresh_ordered, ordered_arrival, ordered_forward, ready_bytes, Extends};
-    ghost use Rattle.sctp_reassembly.specs.Streams.{ordered_bytes, stream_at, opened, written, changed, forgotten};
+    ghost use Rattle.sctp_reassembly.specs.Streams.{ordered_bytes, stream_at, open_stream, write_stream, change_stream, forget};
 
     /// No streams. Takes no memory.
     pub fn new(alloc: Global) -> OrderedStreams<K>
@@ -108,7 +108,7 @@ impl<K: ReassemblyKey> OrderedStreams<K> {
 
     // Makes the stream where there is none. Without memory nothing changes.
     fn open(&mut self, id: StreamId) -> Result<(), AllocError>
-        ensures ok { OnOk result (self.new ≡ opened fresh_ordered id.0 self.old) }
+        ensures ok { OnOk result (self.new ≡ open_stream fresh_ordered id.0 self.old) }
         ensures there { OnOk result (IsSome (lookup (is_at (nat_cmp id.0)) self.new)) }
         ensures stream { OnOk result (stream_at fresh_ordered id.0 self.new ≡ stream_at fresh_ordered id.0 self.old) }
         ensures bytes { ordered_bytes self.new ≡ ordered_bytes self.old }
@@ -133,8 +133,8 @@ impl<K: ReassemblyKey> OrderedStreams<K> {
     ) -> Result<(), AllocError>
         requires there { IsSome (lookup (is_at (nat_cmp id.0)) self.old) }
         requires room { ordered_bytes self.old + ready_bytes ready.old + length fragment.payload.items < 2 ^ 64 }
-        ensures ok { OnOk result (self.new ≡ written id.0 (ordered_arrival (held (K.number key) (K.index key) fragment) (stream_at fresh_ordered id.0 self.old)).stream self.old) }
-        ensures ready { OnOk result (ready.new ≡ ready.old ++ (ordered_arrival (held (K.number key) (K.index key) fragment) (stream_at fresh_ordered id.0 self.old)).messages) }
+        ensures ok { OnOk result (self.new ≡ write_stream id.0 (ordered_arrival (held_at (K.number key) (K.index key) fragment) (stream_at fresh_ordered id.0 self.old)).stream self.old) }
+        ensures ready { OnOk result (ready.new ≡ ready.old ++ (ordered_arrival (held_at (K.number key) (K.index key) fragment) (stream_at fresh_ordered id.0 self.old)).messages) }
         ensures kept { Extends ready.old ready.new }
         ensures bytes { ordered_bytes self.new + ready_bytes ready.new ≤ ordered_bytes self.old + ready_bytes ready.old + length fragment.payload.items }
     {
@@ -157,8 +157,8 @@ impl<K: ReassemblyKey> OrderedStreams<K> {
         ready: &mut ReadyMessages,
     ) -> Result<(), AllocError>
         requires { ordered_bytes self.old + ready_bytes ready.old + length fragment.payload.items < 2 ^ 64 }
-        ensures ok { OnOk result (self.new ≡ changed fresh_ordered id.0 (ordered_arrival (held (K.number key) (K.index key) fragment) (stream_at fresh_ordered id.0 self.old)).stream self.old) }
-        ensures ready { OnOk result (ready.new ≡ ready.old ++ (ordered_arrival (held (K.number key) (K.index key) fragment) (stream_at fresh_ordered id.0 self.old)).messages) }
+        ensures ok { OnOk result (self.new ≡ change_stream fresh_ordered id.0 (ordered_arrival (held_at (K.number key) (K.index key) fragment) (stream_at fresh_ordered id.0 self.old)).stream self.old) }
+        ensures ready { OnOk result (ready.new ≡ ready.old ++ (ordered_arrival (held_at (K.number key) (K.index key) fragment) (stream_at fresh_ordered id.0 self.old)).messages) }
         ensures kept { Extends ready.old ready.new }
         ensures bytes { ordered_bytes self.new + ready_bytes ready.new ≤ ordered_bytes self.old + ready_bytes ready.old + length fragment.payload.items }
     {
@@ -176,7 +176,7 @@ impl<K: ReassemblyKey> OrderedStreams<K> {
     ) -> Result<(), AllocError>
         requires there { IsSome (lookup (is_at (nat_cmp id.0)) self.old) }
         requires room { ordered_bytes self.old + ready_bytes ready.old < 2 ^ 64 }
-        ensures ok { (n : ℕ) → K.number first ≡ suc n → K.index first ≡ 0 → OnOk result (self.new ≡ written id.0 (ordered_forward n (stream_at fresh_ordered id.0 self.old)).stream self.old) }
+        ensures ok { (n : ℕ) → K.number first ≡ suc n → K.index first ≡ 0 → OnOk result (self.new ≡ write_stream id.0 (ordered_forward n (stream_at fresh_ordered id.0 self.old)).stream self.old) }
         ensures ready { (n : ℕ) → K.number first ≡ suc n → K.index first ≡ 0 → OnOk result (ready.new ≡ ready.old ++ (ordered_forward n (stream_at fresh_ordered id.0 self.old)).messages) }
         ensures kept { Extends ready.old ready.new }
         ensures bytes { ordered_bytes self.new + ready_bytes ready.new ≤ ordered_bytes self.old + ready_bytes ready.old }
@@ -199,7 +199,7 @@ impl<K: ReassemblyKey> OrderedStreams<K> {
         ready: &mut ReadyMessages,
     ) -> Result<(), AllocError>
         requires { ordered_bytes self.old + ready_bytes ready.old < 2 ^ 64 }
-        ensures ok { (n : ℕ) → K.number first ≡ suc n → K.index first ≡ 0 → OnOk result (self.new ≡ changed fresh_ordered id.0 (ordered_forward n (stream_at fresh_ordered id.0 self.old)).stream self.old) }
+        ensures ok { (n : ℕ) → K.number first ≡ suc n → K.index first ≡ 0 → OnOk result (self.new ≡ change_stream fresh_ordered id.0 (ordered_forward n (stream_at fresh_ordered id.0 self.old)).stream self.old) }
         ensures ready { (n : ℕ) → K.number first ≡ suc n → K.index first ≡ 0 → OnOk result (ready.new ≡ ready.old ++ (ordered_forward n (stream_at fresh_ordered id.0 self.old)).messages) }
         ensures kept { Extends ready.old ready.new }
         ensures bytes { ordered_bytes self.new + ready_bytes ready.new ≤ ordered_bytes self.old + ready_bytes ready.old }
@@ -210,7 +210,7 @@ impl<K: ReassemblyKey> OrderedStreams<K> {
 
     /// Forgets the streams that are named, or all where none is.
     pub fn forget(&mut self, ids: &[StreamId])
-        ensures value { self.new ≡ forgotten ids.now self.old }
+        ensures value { self.new ≡ forget ids.now self.old }
         ensures bytes { ordered_bytes self.new ≤ ordered_bytes self.old }
     {
         if ids.is_empty() {

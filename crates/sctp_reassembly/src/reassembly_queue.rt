@@ -8,7 +8,7 @@ ghost use Rattle.sctp_chunk.specs.Views.{fragment_tree};
 ghost use Rattle.sctp_state.specs.Handover.{handover_state_of, receive_of};
 ghost use Rattle.sctp_state.specs.Validity.{is_valid_reception};
 ghost use Rattle.sctp_reassembly.specs.Delivery.{Extends};
-ghost use Rattle.sctp_reassembly.specs.ReassemblyHandover.{readiness, written, restored};
+ghost use Rattle.sctp_reassembly.specs.ReassemblyHandover.{readiness, write_handover, restore};
 
 mod deferred;
 mod form;
@@ -58,7 +58,7 @@ impl Model for ReassemblyQueue {
 }
 
 impl ReassemblyQueue {
-    ghost use Rattle.sctp_reassembly.specs.ReassemblyQueue.{reassembly, queued_bytes, watermark, number_of, came, add_now, forward_now, fragment_waits, point_waits, waits, wait_with, resetting, waiting_in, waiting_bytes, waiting_number, counted, IsCounted, add, forward, defer, apply, apply_each, reset};
+    ghost use Rattle.sctp_reassembly.specs.ReassemblyQueue.{reassembly, queued_bytes, watermark, number_of, came, add_now, forward_now, fragment_waits, point_waits, waits, wait_with, resetting, waiting_in, waiting_bytes, waiting_number, count_ready, IsCounted, add, forward, defer, apply, apply_each, reset};
     ghost use Rattle.sctp_reassembly.specs.Streams.{entries_in};
     ghost use Rattle.sctp_reassembly.specs.WaitingViews.{waiting_of};
 
@@ -160,7 +160,7 @@ impl ReassemblyQueue {
     // Counts the messages that became ready since there were so many.
     fn count_from(&mut self, before: usize)
         requires { before ≤ length self.old.ready }
-        ensures { self.new ≡ record self.old { ready_count = counted self.old.ready_count (length self.old.ready - before) } }
+        ensures { self.new ≡ record self.old { ready_count = count_ready self.old.ready_count (length self.old.ready - before) } }
     {
         let more = self.ready.len() - before;
         self.ready_count = self.ready_count.saturating_add(more);
@@ -403,7 +403,7 @@ impl ReassemblyQueue {
     /// Writes the streams, and the numbers of the next ordered messages. Messages that are ready stay here. Without memory
     /// nothing is written.
     pub fn add_to_handover_state(&self, state: &mut SocketHandoverState) -> Result<(), AllocError>
-        ensures ok { OnOk result (let old = handover_state_of state.old in handover_state_of state.new ≡ record old { rx = written self.now old.rx }) }
+        ensures ok { OnOk result (let old = handover_state_of state.old in handover_state_of state.new ≡ record old { rx = write_handover self.now old.rx }) }
         ensures valid { OnOk result (is_valid_reception self.now.streams.is_interleaved (receive_of state.new.rx) ≡ true) }
         ensures err { OnErr result (handover_state_of state.new ≡ handover_state_of state.old) }
     {
@@ -416,7 +416,7 @@ impl ReassemblyQueue {
     /// changes.
     pub fn restore_from_state(&mut self, state: &SocketHandoverState) -> Result<(), AllocError>
         requires { is_valid_reception self.old.streams.is_interleaved (receive_of state.now.rx) ≡ true }
-        ensures ok { OnOk result (self.new ≡ restored (receive_of state.now.rx) self.old) }
+        ensures ok { OnOk result (self.new ≡ restore (receive_of state.now.rx) self.old) }
         ensures err { OnErr result (self.new ≡ self.old) }
     {
         self.streams.restore_from_state(state)

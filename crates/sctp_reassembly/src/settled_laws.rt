@@ -8,7 +8,7 @@ ghost use Rattle.sctp_chunk.specs.Chunk.{FragmentTree};
 ghost use Rattle.sctp_state.specs.Handover.{Receive};
 ghost use Rattle.sctp_reassembly.specs.Streams as streams;
 ghost use Rattle.sctp_reassembly.specs.Streams.{Streams, no_streams, skip, dropped_to};
-ghost use Rattle.sctp_reassembly.specs.ReassemblyHandover.{restored, streams_restored};
+ghost use Rattle.sctp_reassembly.specs.ReassemblyHandover.{restore, streams_restored};
 ghost use Rattle.sctp_reassembly.specs.ReassemblyQueue.{Reassembly, reassembly, add, forward, reset};
 ghost use Rattle.sctp_reassembly.specs.Settled.{AreSettled};
 
@@ -34,7 +34,7 @@ pub fn resets_leave_queues_settled()
 
 /// Nor in a queue with the streams of a handover record.
 pub fn restored_queues_are_settled()
-    ensures { (rx : Receive) (r : Reassembly) → AreSettled (restored rx r).streams }
+    ensures { (rx : Receive) (r : Reassembly) → AreSettled (restore rx r).streams }
 {}
 
 /// The same of the streams alone, in either form, after each of their calls.

@@ -32,8 +32,8 @@ impl<K: ReassemblyKey> Model for UnorderedStream<K> {
 
 ghost use Rattle.sctp_fragments.specs.Runs.{with_item};
 ghost use Rattle.sctp_fragments.specs.Held.{rank_of, bytes_of, intervals_of, is_complete, left_by, NoneComplete};
-ghost use Rattle.sctp_fragments.specs.Intervals.{held};
-ghost use Rattle.sctp_reassembly.specs.Delivery.{completed, ready_bytes, Extends};
+ghost use Rattle.sctp_fragments.specs.Intervals.{held_at};
+ghost use Rattle.sctp_reassembly.specs.Delivery.{complete_messages, ready_bytes, Extends};
 
 // Adds a fragment, and makes the message ready that it completes.
 #[tactic(auto, using(crate::proofs::ExtendsLemmas::extends_none))]
@@ -46,8 +46,8 @@ fn take_in<K: ReassemblyKey>(
 ) -> Result<(), AllocError>
     requires room { bytes_of list.old + ready_bytes ready.old + length fragment.payload.items < 2 ^ 64 }
     requires settled { NoneComplete (intervals_of list.old) }
-    ensures held { OnOk result (list.new ≡ left_by is_complete (with_item rank_of (held (K.number key) (K.index key) fragment) list.old)) }
-    ensures ready { OnOk result (ready.new ≡ ready.old ++ completed (with_item rank_of (held (K.number key) (K.index key) fragment) list.old)) }
+    ensures held { OnOk result (list.new ≡ left_by is_complete (with_item rank_of (held_at (K.number key) (K.index key) fragment) list.old)) }
+    ensures ready { OnOk result (ready.new ≡ ready.old ++ complete_messages (with_item rank_of (held_at (K.number key) (K.index key) fragment) list.old)) }
     ensures settled { NoneComplete (intervals_of list.new) }
     ensures kept { Extends ready.old ready.new }
     ensures bytes { bytes_of list.new + ready_bytes ready.new ≤ bytes_of list.old + ready_bytes ready.old + length fragment.payload.items }
@@ -124,8 +124,8 @@ impl<K: ReassemblyKey> UnorderedStream<K> {
     ) -> Result<(), AllocError>
         requires room { bytes_of self.old.held + ready_bytes ready.old + length fragment.payload.items < 2 ^ 64 }
         requires small { K.number key < 2 ^ 63 }
-        ensures ok { OnOk result (self.new ≡ (unordered_arrival (held (K.number key) (K.index key) fragment) self.old).stream) }
-        ensures ready { OnOk result (ready.new ≡ ready.old ++ (unordered_arrival (held (K.number key) (K.index key) fragment) self.old).messages) }
+        ensures ok { OnOk result (self.new ≡ (unordered_arrival (held_at (K.number key) (K.index key) fragment) self.old).stream) }
+        ensures ready { OnOk result (ready.new ≡ ready.old ++ (unordered_arrival (held_at (K.number key) (K.index key) fragment) self.old).messages) }
         ensures kept { Extends ready.old ready.new }
         ensures bytes { bytes_of self.new.held + ready_bytes ready.new ≤ bytes_of self.old.held + ready_bytes ready.old + length fragment.payload.items }
     {

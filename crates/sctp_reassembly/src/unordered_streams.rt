@@ -40,13 +40,13 @@ impl<K: ReassemblyKey> Model for UnorderedStreams<K> {
 }
 
 impl<K: ReassemblyKey> UnorderedStreams<K> {
-    ghost use Rattle.sctp_fragments.specs.Intervals.{held};
+    ghost use Rattle.sctp_fragments.specs.Intervals.{held_at};
     ghost use Rattle.sctp_reassembly.specs.Delivery.{fresh_unordered, unordered_arrival, unordered_forward, held_from, ready_bytes, Extends};
     ghost use Rattle.sctp_fragments.specs.Key.{rank_at};
     ghost use Rattle.std.specs.List.Sorted.{IsStrictlySortedBy};
     ghost use Rattle.std.specs.Map.{keys_of};
     ghost use Rattle.sctp_reassembly.specs.Notes.{BeginsFrom};
-    ghost use Rattle.sctp_reassembly.specs.Streams.{unordered_bytes, stream_at, opened, written, changed, forgotten};
+    ghost use Rattle.sctp_reassembly.specs.Streams.{unordered_bytes, stream_at, open_stream, write_stream, change_stream, forget};
 
     /// No streams. Takes no memory.
     pub fn new(alloc: Global) -> UnorderedStreams<K>
@@ -128,7 +128,7 @@ impl<K: ReassemblyKey> UnorderedStreams<K> {
 
     // Makes the stream where there is none. Without memory nothing changes.
     fn open(&mut self, id: StreamId) -> Result<(), AllocError>
-        ensures ok { OnOk result (self.new ≡ opened fresh_unordered id.0 self.old) }
+        ensures ok { OnOk result (self.new ≡ open_stream fresh_unordered id.0 self.old) }
         ensures there { OnOk result (IsSome (lookup (is_at (nat_cmp id.0)) self.new)) }
         ensures stream { OnOk result (stream_at fresh_unordered id.0 self.new ≡ stream_at fresh_unordered id.0 self.old) }
         ensures bytes { unordered_bytes self.new ≡ unordered_bytes self.old }
@@ -154,8 +154,8 @@ impl<K: ReassemblyKey> UnorderedStreams<K> {
         requires there { IsSome (lookup (is_at (nat_cmp id.0)) self.old) }
         requires room { unordered_bytes self.old + ready_bytes ready.old + length fragment.payload.items < 2 ^ 64 }
         requires small { K.number key < 2 ^ 63 }
-        ensures ok { OnOk result (self.new ≡ written id.0 (unordered_arrival (held (K.number key) (K.index key) fragment) (stream_at fresh_unordered id.0 self.old)).stream self.old) }
-        ensures ready { OnOk result (ready.new ≡ ready.old ++ (unordered_arrival (held (K.number key) (K.index key) fragment) (stream_at fresh_unordered id.0 self.old)).messages) }
+        ensures ok { OnOk result (self.new ≡ write_stream id.0 (unordered_arrival (held_at (K.number key) (K.index key) fragment) (stream_at fresh_unordered id.0 self.old)).stream self.old) }
+        ensures ready { OnOk result (ready.new ≡ ready.old ++ (unordered_arrival (held_at (K.number key) (K.index key) fragment) (stream_at fresh_unordered id.0 self.old)).messages) }
         ensures kept { Extends ready.old ready.new }
         ensures bytes { unordered_bytes self.new + ready_bytes ready.new ≤ unordered_bytes self.old + ready_bytes ready.old + length fragment.payload.items }
     {
@@ -179,8 +179,8 @@ impl<K: ReassemblyKey> UnorderedStreams<K> {
     ) -> Result<(), AllocError>
         requires room { unordered_bytes self.old + ready_bytes ready.old + length fragment.payload.items < 2 ^ 64 }
         requires small { K.number key < 2 ^ 63 }
-        ensures ok { OnOk result (self.new ≡ changed fresh_unordered id.0 (unordered_arrival (held (K.number key) (K.index key) fragment) (stream_at fresh_unordered id.0 self.old)).stream self.old) }
-        ensures ready { OnOk result (ready.new ≡ ready.old ++ (unordered_arrival (held (K.number key) (K.index key) fragment) (stream_at fresh_unordered id.0 self.old)).messages) }
+        ensures ok { OnOk result (self.new ≡ change_stream fresh_unordered id.0 (unordered_arrival (held_at (K.number key) (K.index key) fragment) (stream_at fresh_unordered id.0 self.old)).stream self.old) }
+        ensures ready { OnOk result (ready.new ≡ ready.old ++ (unordered_arrival (held_at (K.number key) (K.index key) fragment) (stream_at fresh_unordered id.0 self.old)).messages) }
         ensures kept { Extends ready.old ready.new }
         ensures bytes { unordered_bytes self.new + ready_bytes ready.new ≤ unordered_bytes self.old + ready_bytes ready.old + length fragment.payload.items }
     {
@@ -193,7 +193,7 @@ impl<K: ReassemblyKey> UnorderedStreams<K> {
         requires there { IsSome (lookup (is_at (nat_cmp id.0)) self.old) }
         requires some { 0 < K.number first }
         requires small { K.number first < 2 ^ 63 }
-        ensures value { (n : ℕ) → K.number first ≡ suc n → K.index first ≡ 0 → self.new ≡ written id.0 (unordered_forward n (stream_at fresh_unordered id.0 self.old)) self.old }
+        ensures value { (n : ℕ) → K.number first ≡ suc n → K.index first ≡ 0 → self.new ≡ write_stream id.0 (unordered_forward n (stream_at fresh_unordered id.0 self.old)) self.old }
         ensures bytes { unordered_bytes self.new ≤ unordered_bytes self.old }
     {
         let Some(stream) = self.streams.get_mut(&id.0) else {
@@ -208,7 +208,7 @@ impl<K: ReassemblyKey> UnorderedStreams<K> {
     pub fn forward(&mut self, id: StreamId, first: K) -> Result<(), AllocError>
         requires some { 0 < K.number first }
         requires small { K.number first < 2 ^ 63 }
-        ensures ok { (n : ℕ) → K.number first ≡ suc n → K.index first ≡ 0 → OnOk result (self.new ≡ changed fresh_unordered id.0 (unordered_forward n (stream_at fresh_unordered id.0 self.old)) self.old) }
+        ensures ok { (n : ℕ) → K.number first ≡ suc n → K.index first ≡ 0 → OnOk result (self.new ≡ change_stream fresh_unordered id.0 (unordered_forward n (stream_at fresh_unordered id.0 self.old)) self.old) }
         ensures bytes { unordered_bytes self.new ≤ unordered_bytes self.old }
     {
         self.open(id)?;
@@ -218,7 +218,7 @@ impl<K: ReassemblyKey> UnorderedStreams<K> {
 
     /// Forgets the streams that are named, or all where none is.
     pub fn forget(&mut self, ids: &[StreamId])
-        ensures value { self.new ≡ forgotten ids.now self.old }
+        ensures value { self.new ≡ forget ids.now self.old }
         ensures bytes { unordered_bytes self.new ≤ unordered_bytes self.old }
     {
         if ids.is_empty() {
@@ -231,7 +231,7 @@ impl<K: ReassemblyKey> UnorderedStreams<K> {
 
     /// Drops the fragments of a stream before the key.
     pub fn forward_to(&mut self, id: StreamId, first: K)
-        ensures value { self.new ≡ written id.0 (held_from (rank_at K.number K.index first) (stream_at fresh_unordered id.0 self.old)) self.old }
+        ensures value { self.new ≡ write_stream id.0 (held_from (rank_at K.number K.index first) (stream_at fresh_unordered id.0 self.old)) self.old }
         ensures bytes { unordered_bytes self.new ≤ unordered_bytes self.old }
     {
         let Some(stream) = self.streams.get_mut(&id.0) else {

@@ -5,10 +5,10 @@ use Rattle.sctp_wire.specs.declared.checksum.Policy.{Policy}
 use Rattle.sctp_packet.specs.declared.packet.PacketParseError.{PacketParseError}
 use Rattle.sctp_packet.specs.Packet.{PacketTree, Accepts, Refuses, IsFault}
 use Rattle.sctp_state.specs.Options.{Options}
-use Rattle.sctp_table.specs.Association.{State}
-use Rattle.sctp_table.specs.Input.{refusal}
-use Rattle.sctp_table.specs.Hearing.{Judges, taken, refused, unread, policy_of}
-use Rattle.sctp_table.specs.Wire.{word_at}
+use Rattle.spec_endpoint.specs.Association.{State}
+use Rattle.spec_endpoint.specs.Input.{refusal}
+use Rattle.spec_endpoint.specs.Receiving.{Judges, taken, refused, unread, policy_of}
+use Rattle.spec_endpoint.specs.Wire.{word_at}
 
 -- by the reason that was found, or none
 pub judged_as : (word_of : List ℕ → ℕ) (policy : Policy) (word : ℕ) (bytes : List ℕ) (p : PacketTree) (o : Options) (s : State) (reason : Option (List ℕ)) (is_refused : Bool)

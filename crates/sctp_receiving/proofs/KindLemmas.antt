@@ -5,10 +5,10 @@ use Rattle.sctp_wire.proofs.WordLemmas.{clash}
 use Rattle.sctp_packet.specs.Chunk.{ChunkTree, data_chunk, init_chunk, init_ack_chunk, sack_chunk, heartbeat_request_chunk, heartbeat_ack_chunk, abort_chunk, shutdown_chunk, shutdown_ack_chunk, error_chunk, cookie_echo_chunk, cookie_ack_chunk, shutdown_complete_chunk, idata_chunk, re_config_chunk, forward_tsn_chunk, i_forward_tsn_chunk, unknown_chunk}
 use Rattle.sctp_packet.specs.Written.{chunk_type, is_known_chunk, flag}
 use Rattle.sctp_packet.specs.Grammar.{IsChunk}
-use Rattle.sctp_table.specs.Association.{State}
+use Rattle.spec_endpoint.specs.Association.{State}
 use Rattle.sctp_receiving.specs.declared.validation.Outline.{Outline}
 use Rattle.sctp_receiving.specs.Outlines.{outline_of, outlined_by, outlined_refusal}
-use Rattle.sctp_table.specs.Input.{refusal, refusal_by, abort_flag, complete_flag, has_shutdown_ack, begins_with_cookie, is_single_init, has_data}
+use Rattle.spec_endpoint.specs.Input.{refusal, refusal_by, abort_flag, complete_flag, has_shutdown_ack, begins_with_cookie, is_single_init, has_data}
 use Rattle.sctp_receiving.specs.Kinds.{FirstIs, NoneIs}
 
 -- an unknown chunk has no known type

@@ -3,7 +3,7 @@ use Rattle.std.proofs.Common.{◌≡◌, ℕ, Bool, Option, None, Some, List, re
 use Rattle.std.specs.Prelude.{MatchOption, is_some, option_map}
 use Rattle.sctp_packet.specs.Chunk.{ChunkTree}
 use Rattle.sctp_packet.specs.Written.{flag}
-use Rattle.sctp_table.specs.Input.{abort_flag, complete_flag, has_shutdown_ack, begins_with_cookie, is_single_init, has_data}
+use Rattle.spec_endpoint.specs.Input.{abort_flag, complete_flag, has_shutdown_ack, begins_with_cookie, is_single_init, has_data}
 use Rattle.sctp_receiving.specs.declared.validation.Outline.{Outline}
 use Rattle.sctp_receiving.specs.Outlines.{outline_of}
 use Rattle.sctp_receiving.specs.Kinds.{FirstIs, NoneIs}

@@ -1,8 +1,8 @@
 -- What of a packet's chunks says whether it is taken.
 use Rattle.std.specs.Prelude.{ℕ, Bool, true, false, Option, Some, None, List, [], ◌==◌}
 use Rattle.sctp_packet.specs.Chunk.{ChunkTree}
-use Rattle.sctp_table.specs.Association.{State}
-use Rattle.sctp_table.specs.Input.{my_tag, abort_flag, complete_flag, has_shutdown_ack, begins_with_cookie, is_single_init, has_data, refusal_by, plain_refusal}
+use Rattle.spec_endpoint.specs.Association.{State}
+use Rattle.spec_endpoint.specs.Input.{my_tag, abort_flag, complete_flag, has_shutdown_ack, begins_with_cookie, is_single_init, has_data, refusal_by, plain_refusal}
 use Rattle.sctp_receiving.specs.declared.validation.Outline.{Outline}
 
 abbrev pub outline_of : List ChunkTree → Outline

@@ -1,6 +1,6 @@
 -- What is told of packets that aren't taken.
 use Rattle.std.specs.Prelude.{ℕ, List, codes}
-use Rattle.sctp_table.specs.Input.{wrong_tag_text}
+use Rattle.spec_endpoint.specs.Input.{wrong_tag_text}
 use Rattle.sctp_receiving.specs.declared.validation.Refusal.{Refusal}
 use Rattle.sctp_receiving.specs.declared.validation.Refusal.TheVariants as refusals
 

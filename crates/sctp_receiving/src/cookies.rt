@@ -1,11 +1,11 @@
 //! What becomes of an echoed cookie, the control block that it stands for, and the queue of an association that begins.
 
 ghost use Rattle.std.specs.Prelude.{◌≡◌, ◌==◌, OnOk};
-ghost use Rattle.sctp_capabilities.specs.Capabilities.{capabilities_of, negotiated};
+ghost use Rattle.sctp_capabilities.specs.Capabilities.{capabilities_of, negotiate};
 ghost use Rattle.sctp_capabilities.specs.Cookie.{cookie_of};
 ghost use Rattle.sctp_endpoint.specs.Views.{context_of, identity_of, state_of, tcb_of};
 ghost use Rattle.sctp_receiving.specs.VerdictView.{verdict_of};
-ghost use Rattle.sctp_table.specs.Opening as table;
+ghost use Rattle.spec_endpoint.specs.Opening as table;
 
 use sctp_capabilities::{Capabilities, StateCookie};
 use sctp_endpoint::{Context, Identity, State, TransmissionControlBlock};
@@ -31,7 +31,7 @@ pub enum Verdict {
 
 /// The verdict where there is a control block, by three comparisons.
 fn compared(tag: u32, identity: Identity, cookie: &StateCookie) -> Verdict
-    ensures { verdict_of result ≡ table.compared tag (identity_of identity) (cookie_of cookie.now) }
+    ensures { verdict_of result ≡ table.compare_tags tag (identity_of identity) (cookie_of cookie.now) }
 {
     let is_other_tag = tag != identity.my_verification_tag;
     let is_other_peer = cookie.peer_tag != identity.peer_verification_tag;
@@ -68,7 +68,7 @@ fn new_if_own(tag: u32, cookie: &StateCookie) -> Verdict
 
 /// The verdict on a cookie in a packet under this tag.
 pub fn judged(tag: u32, cookie: &StateCookie, state: &State) -> Verdict
-    ensures { verdict_of result ≡ table.judged tag (cookie_of cookie.now) (state_of state.now) }
+    ensures { verdict_of result ≡ table.resolve_cookie tag (cookie_of cookie.now) (state_of state.now) }
 {
     match state {
         State::Closed => new_if_own(tag, cookie),
@@ -104,7 +104,7 @@ pub fn tcb_by<C: Checksum>(
 
 /// What both ends do, by the own options and the cookie.
 pub fn agreed<C: Checksum>(context: &Context<C>, cookie: &StateCookie) -> Capabilities
-    ensures { capabilities_of result ≡ negotiated context.now.options (cookie_of cookie.now).peer_capabilities }
+    ensures { capabilities_of result ≡ negotiate context.now.options (cookie_of cookie.now).peer_capabilities }
 {
     cookie.peer_capabilities.negotiate(&context.options)
 }

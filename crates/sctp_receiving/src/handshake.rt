@@ -8,10 +8,10 @@ ghost use Rattle.sctp_parameter.specs.ParameterViews.{parameter_tree};
 ghost use Rattle.sctp_packet.specs.Chunk.{init_ack_chunk};
 ghost use Rattle.sctp_packet.specs.ChunkView.{chunk_tree};
 ghost use Rattle.sctp_control_chunk.specs.Views.{init_tree};
-ghost use Rattle.sctp_capabilities.specs.Capabilities.{capabilities_of, negotiated, told_by};
+ghost use Rattle.sctp_capabilities.specs.Capabilities.{capabilities_of, negotiate, announced_by};
 ghost use Rattle.sctp_capabilities.specs.Cookie.{cookie_of};
 ghost use Rattle.sctp_state.specs.Options.{IsValid, options_of};
-ghost use Rattle.sctp_table.specs.Opening.{agreed_by, answer, cookie_for, cookie_in, init_ack_of, maker, t1_cookie, t1_init};
+ghost use Rattle.spec_endpoint.specs.Opening.{agreed_by, answer, cookie_for, cookie_in, init_ack_of, maker, t1_cookie, t1_init};
 ghost use Rattle.sctp_endpoint.specs.Views.{context_of};
 
 use sctp_capabilities::{Capabilities, StateCookie, announced_parameters};
@@ -32,7 +32,7 @@ pub fn agreed_by(
     parameters: &[Parameter],
 ) -> Capabilities
     ensures { capabilities_of result
-        ≡ negotiated (options_of options.now) (told_by nbr_outbound_streams nbr_inbound_streams (map parameter_tree parameters.now)) }
+        ≡ negotiate (options_of options.now) (announced_by nbr_outbound_streams nbr_inbound_streams (map parameter_tree parameters.now)) }
 {
     Capabilities::from_parameters(nbr_outbound_streams, nbr_inbound_streams, parameters).negotiate(
         options,

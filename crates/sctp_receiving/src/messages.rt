@@ -4,7 +4,7 @@ ghost use Rattle.std.specs.Prelude.{◌≡◌, length, option_map, slice_get};
 ghost use Rattle.sctp_serial.specs.Messages.{message_of};
 ghost use Rattle.sctp_state.specs.Events.{first_of};
 ghost use Rattle.sctp_endpoint.specs.Views.{state_of};
-ghost use Rattle.sctp_table.specs.Calls as table;
+ghost use Rattle.spec_endpoint.specs.Calls as table;
 
 use sctp_endpoint::State;
 use sctp_serial::Message;

@@ -2,10 +2,10 @@
 
 ghost use Rattle.std.specs.Prelude.{◌≡◌, OnOk};
 ghost use Rattle.sctp_parameter.specs.ParameterViews.{result_number};
-ghost use Rattle.sctp_table.specs.Requests.{is_final};
+ghost use Rattle.spec_endpoint.specs.Requests.{is_final};
 ghost use Rattle.sctp_endpoint.specs.RequestViews.{outcome_of};
 ghost use Rattle.sctp_endpoint.specs.Views.{context_of, tcb_of};
-ghost use Rattle.sctp_table.specs.Resets as table;
+ghost use Rattle.spec_endpoint.specs.StreamReset as table;
 
 use sctp_endpoint::reset_requests::ResetOutcome;
 use sctp_endpoint::{Context, TransmissionControlBlock};

@@ -2,7 +2,7 @@ pub use Rattle.sctp_tracker.specs.Seen
 pub use Rattle.sctp_tracker.specs.SeenSteps
 pub use Rattle.sctp_tracker.specs.Tracker
 pub use Rattle.sctp_tracker.specs.Sack
-pub use Rattle.sctp_tracker.specs.Told
+pub use Rattle.sctp_tracker.specs.Reported
 pub use Rattle.sctp_tracker.specs.TrackerHandover
 pub use Rattle.sctp_fragments.specs.Runs
 pub use Rattle.sctp_fragments.specs.Key

@@ -1,4 +1,4 @@
-//! Tests of `sctp_rx` that are no script of `sctp_receiver_script`: want of memory, and keys through their bound.
+//! Tests of `sctp_rx` that are no script of `run_receiver_script`: want of memory, and keys through their bound.
 #![tactic(auto)]
 
 #[cfg(test)]

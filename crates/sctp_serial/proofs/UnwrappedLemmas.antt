@@ -20,8 +20,8 @@ wraps_once space x d small =
     ]
 
 -- what is d steps on is d ahead
-pub difference-ahead : (space first n d : ℕ) → d < space → serial_difference space (wire space first (n + d)) (wire space first n) ≡ d
-difference-ahead space first n d small =
+pub difference_ahead : (space first n d : ℕ) → d < space → serial_difference space (wire space first (n + d)) (wire space first n) ≡ d
+difference_ahead space first n d small =
     let below : (first + n) % space < space = mod_below (first + n) space (omega (arith, small)) in
     let same : first + (n + d) ≡ first + n + d = omega arith in
     elim (wraps_once space (first + n) d small) [
@@ -34,8 +34,8 @@ difference-ahead space first n d small =
     ]
 
 -- and what it began at is the rest of the circle ahead
-pub difference-behind : (space first n d : ℕ) → 0 < d → d < space → serial_difference space (wire space first n) (wire space first (n + d)) ≡ space - d
-difference-behind space first n d some small =
+pub difference_behind : (space first n d : ℕ) → 0 < d → d < space → serial_difference space (wire space first n) (wire space first (n + d)) ≡ space - d
+difference_behind space first n d some small =
     let below : (first + n) % space < space = mod_below (first + n) space (omega (arith, small)) in
     let same : first + (n + d) ≡ first + n + d = omega arith in
     let rest : space - d < space = omega (arith, some, small) in
@@ -49,38 +49,38 @@ difference-behind space first n d some small =
     ]
 
 -- a number less than half the space away, or exactly half below, is told from how it is written
-pub nearest-ahead : (space first near d : ℕ) → d < space / 2 → nearest space first near (wire space first (near + d)) ≡ near + d
-nearest-ahead space first near d close =
+pub nearest_ahead : (space first near d : ℕ) → d < space / 2 → nearest space first near (wire space first (near + d)) ≡ near + d
+nearest_ahead space first near d close =
     let here : stepped space near d ≡ near + d = rw (lt-ltb d (space / 2) close) refl in
-    ap (stepped space near) (difference-ahead space first near d (omega (arith, close))) ∙ here
+    ap (stepped space near) (difference_ahead space first near d (omega (arith, close))) ∙ here
 
-pub nearest-behind : (space first n d : ℕ) → space ≤ n + d → 0 < d → d ≤ space / 2 → nearest space first (n + d) (wire space first n) ≡ n
-nearest-behind space first n d room some close =
+pub nearest_behind : (space first n d : ℕ) → space ≤ n + d → 0 < d → d ≤ space / 2 → nearest space first (n + d) (wire space first n) ≡ n
+nearest_behind space first n d room some close =
     let far : space / 2 ≤ space - d = omega (arith, close) in
     let here : stepped space (n + d) (space - d) ≡ n = rw (le-ltb (space - d) (space / 2) far) (omega (arith, close, room)) in
-    ap (stepped space (n + d)) (difference-behind space first n d some (omega (arith, some, close))) ∙ here
+    ap (stepped space (n + d)) (difference_behind space first n d some (omega (arith, some, close))) ∙ here
 
-pub nearest-wire : (space first near n : ℕ) → space ≤ near → n < near + space / 2 → near ≤ n + space / 2 → nearest space first near (wire space first n) ≡ n
-nearest-wire space first near n room above below =
+pub nearest_wire : (space first near n : ℕ) → space ≤ near → n < near + space / 2 → near ≤ n + space / 2 → nearest space first near (wire space first n) ≡ n
+nearest_wire space first near n room above below =
     elim (cases_lt n near) [
       | inl behind ↦
           let at : n + (near - n) ≡ near = omega (arith, behind) in
           let P : ℕ → Type 0 = λ m. nearest space first m (wire space first n) ≡ n in
-          subst P at (nearest-behind space first n (near - n) (omega (arith, at, room)) (omega (arith, behind)) (omega (arith, below)))
+          subst P at (nearest_behind space first n (near - n) (omega (arith, at, room)) (omega (arith, behind)) (omega (arith, below)))
       | inr onward ↦
           let at : near + (n - near) ≡ n = omega (arith, onward) in
           let P : ℕ → Type 0 = λ m. nearest space first near (wire space first m) ≡ m in
-          subst P at (nearest-ahead space first near (n - near) (omega (arith, above, onward)))
+          subst P at (nearest_ahead space first near (n - near) (omega (arith, above, onward)))
     ]
 
 -- so the number does not depend on the first one that was drawn
-pub nearest-shifted : (space first other near n : ℕ) → space ≤ near → n < near + space / 2 → near ≤ n + space / 2 → nearest space first near (wire space first n) ≡ nearest space other near (wire space other n)
-nearest-shifted space first other near n room above below =
-    nearest-wire space first near n room above below ∙ sym (nearest-wire space other near n room above below)
+pub nearest_shifted : (space first other near n : ℕ) → space ≤ near → n < near + space / 2 → near ≤ n + space / 2 → nearest space first near (wire space first n) ≡ nearest space other near (wire space other n)
+nearest_shifted space first other near n room above below =
+    nearest_wire space first near n room above below ∙ sym (nearest_wire space other near n room above below)
 
 -- the steps ahead lead there
-pub wire-ahead : (space first near w : ℕ) → w < space → wire space first (near + serial_difference space w (wire space first near)) ≡ w
-wire-ahead space first near w small =
+pub wire_ahead : (space first near w : ℕ) → w < space → wire space first (near + serial_difference space w (wire space first near)) ≡ w
+wire_ahead space first near w small =
     let r : ℕ = (first + near) % space in
     let below : r < space = mod_below (first + near) space (omega (arith, small)) in
     let ahead : (d : ℕ) → d < space → (r + d ≡ w) ⊎ (r + d ≡ w + space) → wire space first (near + d) ≡ w =
@@ -104,8 +104,8 @@ wire-ahead space first near w small =
     ]
 
 -- `nearest` gives what its name says
-pub IsNearest-stepped : (space first near w d : ℕ) → space % 2 ≡ 0 → d < space → space ≤ near → wire space first (near + d) ≡ w → IsNearest space first near w (stepped space near d)
-IsNearest-stepped space first near w d even less room lands =
+pub IsNearest_stepped : (space first near w d : ℕ) → space % 2 ≡ 0 → d < space → space ≤ near → wire space first (near + d) ≡ w → IsNearest space first near w (stepped space near d)
+IsNearest_stepped space first near w d even less room lands =
     elim (cases_lt d (space / 2)) [
       | inl close ↦
           let P : ℕ → Type 0 = λ n. IsNearest space first near w n in
@@ -120,31 +120,31 @@ IsNearest-stepped space first near w d even less room lands =
           subst P at (record { written = lower; not_above = omega (arith, less); not_below = omega (arith, even, far, room) })
     ]
 
-pub IsNearest-nearest : (space first near w : ℕ) → space % 2 ≡ 0 → w < space → space ≤ near → IsNearest space first near w (nearest space first near w)
-IsNearest-nearest space first near w even small room =
+pub IsNearest_nearest : (space first near w : ℕ) → space % 2 ≡ 0 → w < space → space ≤ near → IsNearest space first near w (nearest space first near w)
+IsNearest_nearest space first near w even small room =
     let ahead : ℕ = serial_difference space w (wire space first near) in
     let less : ahead < space = mod_below (w + space - wire space first near) space (omega (arith, small)) in
-    IsNearest-stepped space first near w ahead even less room (wire-ahead space first near w small)
+    IsNearest_stepped space first near w ahead even less room (wire_ahead space first near w small)
 
 -- from one base, offsets below half the space compare as integers
-pub difference-sum : (space base i j : ℕ) → i < space / 2 → j ≤ i → serial_difference space (serial_sum space base i) (serial_sum space base j) ≡ i - j
-difference-sum space base i j small le =
+pub difference_sum : (space base i j : ℕ) → i < space / 2 → j ≤ i → serial_difference space (serial_sum space base i) (serial_sum space base j) ≡ i - j
+difference_sum space base i j small le =
     let at : j + (i - j) ≡ i = omega (arith, le) in
     let P : ℕ → Type 0 = λ m. serial_difference space (serial_sum space base m) (serial_sum space base j) ≡ i - j in
-    subst P at (difference-ahead space base j (i - j) (omega (arith, small)))
+    subst P at (difference_ahead space base j (i - j) (omega (arith, small)))
 
-pub IsGreater-sum : (space base i j : ℕ) → i < space / 2 → j < i → IsGreater space (serial_sum space base i) (serial_sum space base j)
-IsGreater-sum space base i j small less =
-    let ahead = difference-sum space base i j small (omega (arith, less)) in
+pub IsGreater_sum : (space base i j : ℕ) → i < space / 2 → j < i → IsGreater space (serial_sum space base i) (serial_sum space base j)
+IsGreater_sum space base i j small less =
+    let ahead = difference_sum space base i j small (omega (arith, less)) in
     (omega (arith, ahead, less), omega (arith, ahead, small))
 
-pub lt_of_IsGreater-sum : (space base i j : ℕ) → i < space / 2 → j < space / 2 → IsGreater space (serial_sum space base i) (serial_sum space base j) → j < i
-lt_of_IsGreater-sum space base i j first second greater =
+pub lt_of_IsGreater_sum : (space base i j : ℕ) → i < space / 2 → j < space / 2 → IsGreater space (serial_sum space base i) (serial_sum space base j) → j < i
+lt_of_IsGreater_sum space base i j first second greater =
     elim (cases_lt i j) [
       | inl past ↦
           let at : i + (j - i) ≡ j = omega (arith, past) in
           let P : ℕ → Type 0 = λ m. serial_difference space (serial_sum space base i) (serial_sum space base m) ≡ space - (j - i) in
-          let rest : P j = subst P at (difference-behind space base i (j - i) (omega (arith, past)) (omega (arith, second))) in
+          let rest : P j = subst P at (difference_behind space base i (j - i) (omega (arith, past)) (omega (arith, second))) in
           omega (arith, rest, greater.1, second, past)
-      | inr le ↦ omega (arith, difference-sum space base i j first le, greater.0)
+      | inr le ↦ omega (arith, difference_sum space base i j first le, greater.0)
     ]

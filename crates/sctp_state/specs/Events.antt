@@ -57,26 +57,26 @@ pub record GivenUp : Type 0 where
 abbrev pub given_up_of : record_given.GivenUp → GivenUp
 given_up_of g = record { number = g.number.0; cause = g.cause }
 
--- ---- what was told and is not taken yet
+-- ---- what was emitted and is not taken yet
 
-pub record Told (P : Type 0) : Type 0 where
+pub record Emitted (P : Type 0) : Type 0 where
   pub events : List (Event P)
-  pub gone : List GivenUp
+  pub given_up : List GivenUp
 
-abbrev pub silent : {P : Type 0} → Told P
-silent = record { events = []; gone = [] }
+abbrev pub silent : {P : Type 0} → Emitted P
+silent = record { events = []; given_up = [] }
 
-abbrev pub tell : {P : Type 0} → Event P → Told P → Told P
-tell e t = record t { events = t.events ++ e ∷ [] }
+abbrev pub emit_event : {P : Type 0} → Event P → Emitted P → Emitted P
+emit_event e t = record t { events = t.events ++ e ∷ [] }
 
-abbrev pub tell_all : {P : Type 0} → List (Event P) → Told P → Told P
-tell_all es t = record t { events = t.events ++ es }
+abbrev pub emit_events : {P : Type 0} → List (Event P) → Emitted P → Emitted P
+emit_events es t = record t { events = t.events ++ es }
 
-abbrev pub tell_given_up : {P : Type 0} → GivenUp → Told P → Told P
-tell_given_up g t = record t { gone = t.gone ++ g ∷ [] }
+abbrev pub emit_record : {P : Type 0} → GivenUp → Emitted P → Emitted P
+emit_record g t = record t { given_up = t.given_up ++ g ∷ [] }
 
-abbrev pub give_up : {P : Type 0} → ℕ → GivenUpCause → Told P → Told P
-give_up n cause t = tell_given_up (record { number = n; cause = cause }) t
+abbrev pub give_up : {P : Type 0} → ℕ → GivenUpCause → Emitted P → Emitted P
+give_up n cause t = emit_record (record { number = n; cause = cause }) t
 
 -- the two events of a message with a lifecycle id that is dropped
 abbrev pub expiry : {P : Type 0} → Option ℕ → List (Event P)
@@ -88,15 +88,15 @@ abbrev pub first_of : {X : Type 0} → List X → Option X
 first_of [] = None
 first_of (x ∷ xs) = Some x
 
--- ---- what was told since a moment is taken back
+-- ---- what was emitted since a moment is taken back
 
-abbrev pub mark_of : {P : Type 0} → Told P → EventMark
-mark_of t = record { events = length t.events; given_up = length t.gone }
+abbrev pub mark_of : {P : Type 0} → Emitted P → EventMark
+mark_of t = record { events = length t.events; given_up = length t.given_up }
 
-abbrev pub rolled_back : {P : Type 0} → EventMark → Told P → Told P
-rolled_back m t = record { events = take m.events t.events; gone = take m.given_up t.gone }
+abbrev pub rolled_back : {P : Type 0} → EventMark → Emitted P → Emitted P
+rolled_back m t = record { events = take m.events t.events; given_up = take m.given_up t.given_up }
 
--- what was told stands, and more may stand behind it
-pub record Grown {P : Type 0} (old now : Told P) : Type 0 where
+-- what was emitted stands, and more may stand behind it
+pub record Grown {P : Type 0} (old now : Emitted P) : Type 0 where
   pub events : take (length old.events) now.events ≡ old.events
-  pub gone : take (length old.gone) now.gone ≡ old.gone
+  pub given_up : take (length old.given_up) now.given_up ≡ old.given_up

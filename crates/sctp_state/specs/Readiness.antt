@@ -30,12 +30,12 @@ abbrev pub names_among : ℕ → List Reason → List (List ℕ)
 names_among bits rs = map (λ (r : Reason). r.name) (filter (λ r. shares_bit bits r.bit) rs)
 
 -- names joined by commas
-abbrev pub joined : List (List ℕ) → List ℕ
-joined names = join_by (λ name. name) (codes ",") names
+abbrev pub join : List (List ℕ) → List ℕ
+join names = join_by (λ name. name) (codes ",") names
 
 -- the names of those reasons whose bit is set
 abbrev pub joined_names : ℕ → List Reason → List ℕ
-joined_names bits rs = joined (names_among bits rs)
+joined_names bits rs = join (names_among bits rs)
 
 abbrev pub readiness_text : ℕ → List ℕ
 readiness_text bits = joined_names bits reasons

@@ -8,11 +8,11 @@ pub record Watched : Type 0 where
 abbrev pub watched : ℕ → Watched
 watched low_threshold = record { amount = 0; low_threshold = low_threshold }
 
-abbrev pub raised : ℕ → Watched → Watched
-raised bytes w = record w { amount = w.amount + bytes }
+abbrev pub raise : ℕ → Watched → Watched
+raise bytes w = record w { amount = w.amount + bytes }
 
-abbrev pub lowered : ℕ → Watched → Watched
-lowered bytes w = record w { amount = w.amount - bytes }
+abbrev pub lower : ℕ → Watched → Watched
+lower bytes w = record w { amount = w.amount - bytes }
 
 abbrev pub set_low_threshold : ℕ → Watched → Watched
 set_low_threshold bytes w = record w { low_threshold = bytes }

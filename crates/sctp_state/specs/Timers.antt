@@ -57,17 +57,17 @@ next_expiry t = moment_of t.due
 abbrev pub longest : ℕ
 longest = 24 * 3600 * 1000 * ms
 
-abbrev pub doubled : BackoffAlgorithm → ℕ → ℕ → ℕ
-doubled Fixed duration k = duration
-doubled Exponential duration k = duration * 2 ^ min (k - 1) 31
+abbrev pub double : BackoffAlgorithm → ℕ → ℕ → ℕ
+double Fixed duration k = duration
+double Exponential duration k = duration * 2 ^ min (k - 1) 31
 
-abbrev pub capped : Option ℕ → ℕ → ℕ
-capped None span = span
-capped (Some most) span = min span most
+abbrev pub cap_at : Option ℕ → ℕ → ℕ
+cap_at None span = span
+cap_at (Some most) span = min span most
 
 -- how long until the next one
 abbrev pub backoff : Timer → ℕ → ℕ
-backoff t k = min (capped t.most (doubled t.backoff t.duration k)) longest
+backoff t k = min (cap_at t.most (double t.backoff t.duration k)) longest
 
 -- whether it is the last
 abbrev pub is_last : Option ℕ → ℕ → Bool
@@ -81,8 +81,8 @@ next_due t k (Some moment) = if is_last t.restarts k then None else Some (later 
 abbrev pub expired_at : ℕ → Timer → Timer
 expired_at k t = record t { expiries = k; due = next_due t k t.due }
 
-abbrev pub expired : Timer → Timer
-expired t = expired_at (more t.expiries) t
+abbrev pub expire_once : Timer → Timer
+expire_once t = expired_at (more t.expiries) t
 
 abbrev pub expire : ℕ → Timer → Timer
-expire now t = if is_due now t then expired t else t
+expire now t = if is_due now t then expire_once t else t

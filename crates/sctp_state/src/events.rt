@@ -40,15 +40,15 @@ pub struct Events {
 
 impl Model for Events {
     ghost use Rattle.std.specs.Prelude.{List, ℕ, map};
-    ghost use Rattle.sctp_state.specs.Events.{Told, event_of, given_up_of};
+    ghost use Rattle.sctp_state.specs.Events.{Emitted, event_of, given_up_of};
 
-    ghost Value = { Told (List ℕ) };
+    ghost Value = { Emitted (List ℕ) };
 
-    ghost view = { λ t. record { events = map event_of t.events.items; gone = map given_up_of t.given_up.items } };
+    ghost view = { λ t. record { events = map event_of t.events.items; given_up = map given_up_of t.given_up.items } };
 }
 
 impl Events {
-    ghost use Rattle.sctp_state.specs.Events.{silent, tell, tell_given_up, given_up_of, mark_of, rolled_back};
+    ghost use Rattle.sctp_state.specs.Events.{silent, emit_event, emit_record, given_up_of, mark_of, rolled_back};
 
     pub fn new(alloc: Global) -> Events
         ensures { result ≡ silent }
@@ -61,7 +61,7 @@ impl Events {
 
     /// Adds an event behind the others. Without memory for it nothing changes.
     pub fn add(&mut self, event: SocketEvent) -> Result<(), AllocError>
-        ensures ok { OnOk result (self.new ≡ tell (event_of event) self.old) }
+        ensures ok { OnOk result (self.new ≡ emit_event (event_of event) self.old) }
         ensures err { OnErr result (self.new ≡ self.old) }
     {
         self.events.push_back(event)?;
@@ -78,7 +78,7 @@ impl Events {
 
     /// Adds the record of a message given up. Without memory for it nothing changes.
     pub fn add_given_up(&mut self, given_up: GivenUp) -> Result<(), AllocError>
-        ensures ok { OnOk result (self.new ≡ tell_given_up (given_up_of given_up) self.old) }
+        ensures ok { OnOk result (self.new ≡ emit_record (given_up_of given_up) self.old) }
         ensures err { OnErr result (self.new ≡ self.old) }
     {
         self.given_up.push_back(given_up)?;
@@ -87,8 +87,8 @@ impl Events {
 
     /// Takes the first record out.
     pub fn next_given_up(&mut self) -> Option<GivenUp>
-        ensures first { option_map given_up_of result ≡ first_of self.old.gone }
-        ensures rest { self.new ≡ record self.old { gone = drop 1 self.old.gone } }
+        ensures first { option_map given_up_of result ≡ first_of self.old.given_up }
+        ensures rest { self.new ≡ record self.old { given_up = drop 1 self.old.given_up } }
     {
         self.given_up.pop_front()
     }

@@ -20,7 +20,7 @@ impl Model for ThresholdWatcher {
 }
 
 impl ThresholdWatcher {
-    ghost use Rattle.sctp_state.specs.Thresholds.{watched, raised, lowered, set_low_threshold, crosses};
+    ghost use Rattle.sctp_state.specs.Thresholds.{watched, raise, lower, set_low_threshold, crosses};
 
     /// No bytes, with this threshold.
     pub fn new(low_threshold: usize) -> ThresholdWatcher
@@ -57,7 +57,7 @@ impl ThresholdWatcher {
     /// Adds bytes. No threshold is crossed downwards.
     pub fn increase(&mut self, bytes: usize)
         requires { self.old.amount + bytes < 2 ^ 64 }
-        ensures { self.new ≡ raised bytes self.old }
+        ensures { self.new ≡ raise bytes self.old }
     {
         self.amount += bytes;
     }
@@ -65,7 +65,7 @@ impl ThresholdWatcher {
     /// Takes bytes off. The answer says whether the amount fell from above the threshold to at most it.
     pub fn decrease(&mut self, bytes: usize) -> bool
         requires { bytes ≤ self.old.amount }
-        ensures after { self.new ≡ lowered bytes self.old }
+        ensures after { self.new ≡ lower bytes self.old }
         ensures answer { result ≡ crosses self.old self.new }
     {
         let was_above = self.low_threshold < self.amount;
@@ -76,7 +76,7 @@ impl ThresholdWatcher {
     /// Whether the amount would fall from above the threshold to at most it, if these bytes were taken off.
     pub fn is_crossed_by(&self, bytes: usize) -> bool
         requires { bytes ≤ self.now.amount }
-        ensures { result ≡ crosses self.now (lowered bytes self.now) }
+        ensures { result ≡ crosses self.now (lower bytes self.now) }
     {
         self.low_threshold < self.amount && self.amount - bytes <= self.low_threshold
     }

@@ -44,7 +44,7 @@ impl Model for Timer {
 }
 
 impl Timer {
-    ghost use Rattle.sctp_state.specs.Timers.{timer, start, stop, expire, is_due, is_running, next_expiry, set_duration, doubled, capped, longest, is_last};
+    ghost use Rattle.sctp_state.specs.Timers.{timer, start, stop, expire, is_due, is_running, next_expiry, set_duration, double, cap_at, longest, is_last};
 
     /// A stopped timer. After more than `max_restarts` expiries it stops by itself, and no wait after an expiry is
     /// longer than `max_backoff_duration`.
@@ -145,7 +145,7 @@ impl Timer {
 
     // The nanoseconds from the expiry of this number to the next one, before they are bounded.
     fn doubled(backoff_algorithm: BackoffAlgorithm, duration: Duration, count: u64) -> u128
-        ensures value { result ≡ doubled backoff_algorithm (as_nanos duration) count }
+        ensures value { result ≡ double backoff_algorithm (as_nanos duration) count }
     {
         match backoff_algorithm {
             BackoffAlgorithm::Fixed => duration.as_nanos(),
@@ -161,7 +161,7 @@ impl Timer {
     }
 
     fn bounded(nanos: u128, max_backoff_duration: Option<Duration>) -> Duration
-        ensures { as_nanos result ≡ min (capped (option_map as_nanos max_backoff_duration) nanos) longest }
+        ensures { as_nanos result ≡ min (cap_at (option_map as_nanos max_backoff_duration) nanos) longest }
     {
         let capped = match max_backoff_duration {
             Some(most) => nanos.min(most.as_nanos()),

@@ -8,7 +8,7 @@ use Rattle.std.specs.List.{AllByRecursion, list_any}
 use Rattle.std.specs.List.Sorted.{IsStrictlySortedBy}
 use Rattle.std.specs.Map.{lookup, remove_entry, keys_of}
 use Rattle.std.specs.BTreeMap.{is_at, insert_entry}
-use Rattle.sctp_stream_scheduler.specs.Scheduler.{Times, Scheduler, best, IsAhead, IsNext, Indexes, finish_time, finish_now, is_time, is_active, left, entered, accept, accepted_at, set_bytes_remaining, turn_cmp, stream_in}
+use Rattle.sctp_stream_scheduler.specs.Scheduler.{Times, Scheduler, best, IsAhead, IsNext, Indexes, finish_time, finish_now, is_time, is_active, leave, enter, accept, accepted_at, set_bytes_remaining, turn_cmp, stream_in}
 
 above : (m k : ℕ) → nat_cmp m k ≡ Less → m < k
 above m k e = grind (arith, nat_tests)
@@ -289,11 +289,11 @@ pub leaves_once : (id bytes priority finish : ℕ) (s : Scheduler) (ts : Times) 
     → record s { times = ts; virtual_time = finish } ≡ set_bytes_remaining id bytes priority (accept id s)
 leaves_once id bytes priority finish s ts none there made absent =
     ap (λ t. record s { times = t; virtual_time = finish }) (sym (never_there id ts absent) ∙ ap (remove_entry (is_at (nat_cmp id))) made)
-    ∙ ap (λ o. left id (accepted_at id o s)) (sym there)
-    ∙ ap (λ b. cond b (left id (accept id s)) (cond (is_active id (accept id s)) (accept id s) (entered id (finish_now bytes priority (accept id s)) (accept id s)))) (sym (ap (λ b. b == 0) none))
+    ∙ ap (λ o. leave id (accepted_at id o s)) (sym there)
+    ∙ ap (λ b. cond b (leave id (accept id s)) (cond (is_active id (accept id s)) (accept id s) (enter id (finish_now bytes priority (accept id s)) (accept id s)))) (sym (ap (λ b. b == 0) none))
 
 -- the same of the scheduler: who had nothing to send, was told of, and leaves
-pub withdraws : (id bytes priority : ℕ) (s : Scheduler) → is_active id s ≡ false → left id (set_bytes_remaining id bytes priority s) ≡ s
+pub withdraws : (id bytes priority : ℕ) (s : Scheduler) → is_active id s ≡ false → leave id (set_bytes_remaining id bytes priority s) ≡ s
 withdraws id bytes priority s absent = go (bytes == 0)
   where
     none : (o : Option ℕ) → is_some o ≡ false → o ≡ None
@@ -303,9 +303,9 @@ withdraws id bytes priority s absent = go (bytes == 0)
     times : Times → Scheduler
     times ts = record s { times = ts }
 
-    gone : left id s ≡ s
+    gone : leave id s ≡ s
     gone = ap times (never_there id s.times (none (finish_time id s.times) absent))
 
-    go : (b : Bool) → left id (cond b (left id s) (cond (is_active id s) s (entered id (finish_now bytes priority s) s))) ≡ s
-    go true = ap (left id) gone ∙ gone
-    go false = ap (λ t. left id (cond t s (entered id (finish_now bytes priority s) s))) absent ∙ ap times (withdrawn id (finish_now bytes priority s) s.times (none (finish_time id s.times) absent))
+    go : (b : Bool) → leave id (cond b (leave id s) (cond (is_active id s) s (enter id (finish_now bytes priority s) s))) ≡ s
+    go true = ap (leave id) gone ∙ gone
+    go false = ap (λ t. leave id (cond t s (enter id (finish_now bytes priority s) s))) absent ∙ ap times (withdrawn id (finish_now bytes priority s) s.times (none (finish_time id s.times) absent))

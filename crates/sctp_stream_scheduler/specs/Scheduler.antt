@@ -40,21 +40,21 @@ finish_at time bytes priority s = min (time + cost bytes priority s) (2 ^ 128 - 
 abbrev pub finish_now : ℕ → ℕ → Scheduler → ℕ
 finish_now bytes priority s = finish_at s.virtual_time bytes priority s
 
-abbrev pub left : ℕ → Scheduler → Scheduler
-left id s = record s { times = remove_entry (is_at (nat_cmp id)) s.times }
+abbrev pub leave : ℕ → Scheduler → Scheduler
+leave id s = record s { times = remove_entry (is_at (nat_cmp id)) s.times }
 
-abbrev pub entered : ℕ → ℕ → Scheduler → Scheduler
-entered id finish s = record s { times = insert_entry nat_cmp s.times id finish }
+abbrev pub enter : ℕ → ℕ → Scheduler → Scheduler
+enter id finish s = record s { times = insert_entry nat_cmp s.times id finish }
 
 -- a stream has `bytes` to send now: without any it leaves, and one that is active keeps its finish time
 abbrev pub set_bytes_remaining : ℕ → ℕ → ℕ → Scheduler → Scheduler
 set_bytes_remaining id bytes priority s =
-    if bytes == 0 then left id s
-    else (if is_active id s then s else entered id (finish_now bytes priority s) s)
+    if bytes == 0 then leave id s
+    else (if is_active id s then s else enter id (finish_now bytes priority s) s)
 
 abbrev pub accepted_at : ℕ → Option ℕ → Scheduler → Scheduler
 accepted_at id None s = s
-accepted_at id (Some finish) s = record (left id s) { virtual_time = finish }
+accepted_at id (Some finish) s = record (leave id s) { virtual_time = finish }
 
 -- the stream sends: its finish time is the time now
 abbrev pub accept : ℕ → Scheduler → Scheduler

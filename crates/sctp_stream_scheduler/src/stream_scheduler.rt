@@ -35,7 +35,7 @@ impl Model for StreamScheduler {
 }
 
 impl StreamScheduler {
-    ghost use Rattle.sctp_stream_scheduler.specs.Scheduler.{scheduler, is_active, set_bytes_remaining, accept, peek, enable_message_interleaving, left, finish_at};
+    ghost use Rattle.sctp_stream_scheduler.specs.Scheduler.{scheduler, is_active, set_bytes_remaining, accept, peek, enable_message_interleaving, leave, finish_at};
 
     /// No stream has anything to send. `max_payload` is the largest payload of a fragment, in bytes.
     pub fn new(alloc: Global, max_payload: usize) -> StreamScheduler
@@ -131,7 +131,7 @@ impl StreamScheduler {
 
     /// The stream has nothing to send any more.
     pub fn leave(&mut self, id: StreamId)
-        ensures { self.new ≡ left id.0 self.old }
+        ensures { self.new ≡ leave id.0 self.old }
     {
         self.active.leave(id.0);
     }

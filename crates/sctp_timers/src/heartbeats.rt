@@ -6,7 +6,7 @@ ghost use Rattle.sctp_packet.specs.ChunkView.{chunk_tree};
 ghost use Rattle.sctp_parameter.specs.ParameterViews.{parameter_tree};
 ghost use Rattle.sctp_state.specs.Timers.{is_due};
 ghost use Rattle.sctp_endpoint.specs.Views.{context_of, tcb_of};
-ghost use Rattle.sctp_table.specs.Heartbeats as table;
+ghost use Rattle.spec_endpoint.specs.Heartbeats as table;
 
 use sctp_endpoint::{Context, TransmissionControlBlock};
 use sctp_packet::{Chunk, HeartbeatRequestChunk};
@@ -100,7 +100,7 @@ pub fn handle_heartbeat_ack<C: Checksum>(
 }
 
 fn take_heartbeat_info<C: Checksum>(context: &mut Context<C>, info: &[u8]) -> Result<(), AllocError>
-    ensures { OnOk result (context_of C.word_of context.new ≡ table.answered (Some info.now) (context_of C.word_of context.old)) }
+    ensures { OnOk result (context_of C.word_of context.new ≡ table.answer_heartbeat (Some info.now) (context_of C.word_of context.old)) }
 {
     if info.len() != 4 {
         return complain_of_heartbeat_info(context);

@@ -1,10 +1,10 @@
 //! Time: which timers a state looks at, and what their expiries lead to.
 
 ghost use Rattle.std.specs.Prelude.{◌≡◌, true, IfOk, OnOk};
-ghost use Rattle.sctp_endpoint.specs.Views.{context_of, left_of, phase_of, standing_after, standing_of, state_of, tcb_of, ticking_of, waited_of};
+ghost use Rattle.sctp_endpoint.specs.Views.{context_of, left_of, phase_of, endpoint_state_after, endpoint_state_of, state_of, tcb_of, ticking_of, waited_of};
 ghost use Rattle.sctp_state.specs.Timers.{expire};
-ghost use Rattle.sctp_table.specs.Closing.{send_shutdown, send_shutdown_ack};
-ghost use Rattle.sctp_table.specs.Time as table;
+ghost use Rattle.spec_endpoint.specs.Shutdown.{send_shutdown, send_shutdown_ack};
+ghost use Rattle.spec_endpoint.specs.Timers as table;
 
 use crate::heartbeats::{heartbeat_expiry, tick_heartbeat_interval, tick_heartbeat_timeout};
 use sctp_endpoint::{
@@ -76,12 +76,12 @@ fn tick_requests<C: Checksum>(
 }
 
 /// The timers of a control block, and those of heartbeats, one after the other. The answer is whether any expired.
-#[tactic(auto, unfolding(sctp_table::specs::Time::ticked))]
+#[tactic(auto, unfolding(spec_endpoint::specs::Timers::tick_timers))]
 fn tick_tcb<C: Checksum>(
     context: &mut Context<C>,
     tcb: &mut TransmissionControlBlock,
 ) -> Result<bool, AllocError>
-    ensures { IfOk result (λ any. ticking_of C.word_of tcb.new context.new any ≡ table.ticked (tcb_of tcb.old) (context_of C.word_of context.old)) }
+    ensures { IfOk result (λ any. ticking_of C.word_of tcb.new context.new any ≡ table.tick_timers (tcb_of tcb.old) (context_of C.word_of context.old)) }
 {
     let has_expired = tick_ack(context, tcb);
     let has_expired = tick_t3(context, tcb, has_expired)?;
@@ -95,7 +95,7 @@ fn end_if_exhausted<C: Checksum>(
     context: &mut Context<C>,
     tcb: &TransmissionControlBlock,
 ) -> Result<bool, AllocError>
-    ensures { IfOk result (λ ended. left_of C.word_of tcb.now context.new ended ≡ table.ended (tcb_of tcb.now) (context_of C.word_of context.old)) }
+    ensures { IfOk result (λ ended. left_of C.word_of tcb.now context.new ended ≡ table.end_association (tcb_of tcb.now) (context_of C.word_of context.old)) }
 {
     if context.tx_error_counter.is_exhausted() {
         context.abort_by_retransmissions(tcb)?;
@@ -138,7 +138,7 @@ fn tick_established<C: Checksum>(
     context: &mut Context<C>,
     tcb: &mut TransmissionControlBlock,
 ) -> Result<bool, AllocError>
-    ensures { IfOk result (λ ended. left_of C.word_of tcb.new context.new ended ≡ table.settled (table.ticked (tcb_of tcb.old) (context_of C.word_of context.old))) }
+    ensures { IfOk result (λ ended. left_of C.word_of tcb.new context.new ended ≡ table.settle_ticks (table.tick_timers (tcb_of tcb.old) (context_of C.word_of context.old))) }
 {
     let has_expired = tick_tcb(context, tcb)?;
     settle(context, tcb, has_expired)
@@ -189,7 +189,7 @@ fn tick_shutdown_sent<C: Checksum>(
 ) -> Result<bool, AllocError>
     ensures timer { OnOk result (t2_shutdown.new ≡ expire context.old.clock t2_shutdown.old) }
     ensures left { IfOk result (λ ended. left_of C.word_of tcb.new context.new ended
-        ≡ table.tick_t2 context.old.clock send_shutdown t2_shutdown.old (table.ticked (tcb_of tcb.old) (context_of C.word_of context.old))) }
+        ≡ table.tick_t2 context.old.clock send_shutdown t2_shutdown.old (table.tick_timers (tcb_of tcb.old) (context_of C.word_of context.old))) }
 {
     let now = context.clock;
     let has_expired = tick_tcb(context, tcb)?;
@@ -212,7 +212,7 @@ fn tick_shutdown_ack_sent<C: Checksum>(
 ) -> Result<bool, AllocError>
     ensures timer { OnOk result (t2_shutdown.new ≡ expire context.old.clock t2_shutdown.old) }
     ensures left { IfOk result (λ ended. left_of C.word_of tcb.new context.new ended
-        ≡ table.tick_t2 context.old.clock send_shutdown_ack t2_shutdown.old (table.ticked (tcb_of tcb.old) (context_of C.word_of context.old))) }
+        ≡ table.tick_t2 context.old.clock send_shutdown_ack t2_shutdown.old (table.tick_timers (tcb_of tcb.old) (context_of C.word_of context.old))) }
 {
     let now = context.clock;
     let has_expired = tick_tcb(context, tcb)?;
@@ -232,7 +232,7 @@ fn tick_open<C: Checksum>(
     phase: &mut Phase,
     tcb: &mut TransmissionControlBlock,
 ) -> Result<bool, AllocError>
-    ensures { IfOk result (λ ended. standing_after C.word_of phase.new tcb.new context.new ended
+    ensures { IfOk result (λ ended. endpoint_state_after C.word_of phase.new tcb.new context.new ended
         ≡ table.tick_open (phase_of phase.old) (tcb_of tcb.old) (context_of C.word_of context.old)) }
 {
     match phase {
@@ -272,7 +272,7 @@ fn handle_timeouts<C: Checksum>(
     state: &mut State,
     context: &mut Context<C>,
 ) -> Result<(), AllocError>
-    ensures { OnOk result (standing_of C.word_of state.new context.new ≡ table.tick_in (state_of state.old) (context_of C.word_of context.old)) }
+    ensures { OnOk result (endpoint_state_of C.word_of state.new context.new ≡ table.tick_in (state_of state.old) (context_of C.word_of context.old)) }
 {
     match state {
         State::Closed => Ok(()),
@@ -297,7 +297,7 @@ pub fn advance_time<C: Checksum>(
     context: &mut Context<C>,
     now: SocketTime,
 ) -> Result<(), AllocError>
-    ensures { OnOk result (standing_of C.word_of state.new context.new ≡ table.advance now (standing_of C.word_of state.old context.old)) }
+    ensures { OnOk result (endpoint_state_of C.word_of state.new context.new ≡ table.advance now (endpoint_state_of C.word_of state.old context.old)) }
 {
     if now < context.clock {
         return Ok(());
@@ -344,7 +344,7 @@ fn phase_expiry<C: Checksum>(
 
 /// The moment by which the time is to be told next, not before this one; the greatest one where no timer runs.
 pub fn poll_timeout<C: Checksum>(context: &Context<C>, state: &State) -> SocketTime
-    ensures { result ≡ table.poll_timeout (standing_of C.word_of state.now context.now) }
+    ensures { result ≡ table.poll_timeout (endpoint_state_of C.word_of state.now context.now) }
 {
     match state {
         State::Closed => SocketTime::infinite_future(),

@@ -10,8 +10,8 @@ use Rattle.sctp_wire.specs.Item.{padding}
 use Rattle.sctp_trace.specs.declared.rows.End.{End}
 use Rattle.sctp_trace.specs.declared.rows.End.TheVariants as ends
 use Rattle.sctp_trace.specs.Rows.{end_name}
-use Rattle.sctp_trace.specs.Bytes.{le16, le32, summed, with_crc32c}
-use Rattle.sctp_trace.specs.Capture.{padded, option_bytes, block, interface_body, interface, packet_numbers, packet_body}
+use Rattle.sctp_trace.specs.Bytes.{le16, le32, with_checksum, with_crc32c}
+use Rattle.sctp_trace.specs.Capture.{pad, option_bytes, block, interface_body, interface, packet_numbers, packet_body}
 
 pub length_le16 : (n : ℕ) → length (le16 n) ≡ 2
 unfolding le16
@@ -27,20 +27,20 @@ behind16 n rest = omega (arith, length-append (le16 n) rest, length_le16 n)
 behind32 : (n : ℕ) (rest : List ℕ) → length (le32 n ++ rest) ≡ 4 + length rest
 behind32 n rest = omega (arith, length-append (le32 n) rest, length_le32 n)
 
-pub length_padded : (bytes : List ℕ) → length (padded bytes) ≡ length bytes + padding (length bytes)
-unfolding padded
+pub length_padded : (bytes : List ℕ) → length (pad bytes) ≡ length bytes + padding (length bytes)
+unfolding pad
 length_padded bytes =
     omega (arith, length-append bytes (replicate (padding (length bytes)) 0), length-replicate {A = ℕ} (padding (length bytes)) 0)
 
 pub length_option : (code : ℕ) (value : List ℕ) → length (option_bytes code value) ≡ 4 + (length value + padding (length value))
 unfolding option_bytes
 length_option code value =
-    omega (arith, behind16 code (le16 (length value) ++ padded value), behind16 (length value) (padded value), length_padded value)
+    omega (arith, behind16 code (le16 (length value) ++ pad value), behind16 (length value) (pad value), length_padded value)
 
 -- a section's interface, in three parts
 parts : (end : End) → (1 ∷ 0 ∷ 0 ∷ 0 ∷ 40 ∷ 0 ∷ 0 ∷ 0 ∷ 248 ∷ 0 ∷ 0 ∷ 0 ∷ 0 ∷ 0 ∷ 0 ∷ 0 ∷ 2 ∷ 0 ∷ 1 ∷ 0 ∷ [])
     ++ (end_name end ++ (0 ∷ 0 ∷ 0 ∷ 9 ∷ 0 ∷ 1 ∷ 0 ∷ 9 ∷ 0 ∷ 0 ∷ 0 ∷ 0 ∷ 0 ∷ 0 ∷ 0 ∷ 40 ∷ 0 ∷ 0 ∷ 0 ∷ [])) ≡ interface end
-unfolding le16 le32 padded option_bytes block interface_body
+unfolding le16 le32 pad option_bytes block interface_body
 parts ends.A = refl
 parts ends.B = refl
 
@@ -69,9 +69,9 @@ length_packet_body interface nanoseconds packet comment =
     let told : List ℕ = option_bytes 1 comment ++ le32 0 in
     omega (
       arith,
-      length-append (packet_numbers interface nanoseconds (length packet)) (padded packet ++ told),
+      length-append (packet_numbers interface nanoseconds (length packet)) (pad packet ++ told),
       length_numbers interface nanoseconds (length packet),
-      length-append (padded packet) told,
+      length-append (pad packet) told,
       length-append (option_bytes 1 comment) (le32 0),
       length_padded packet,
       length_option 1 comment,
@@ -79,7 +79,7 @@ length_packet_body interface nanoseconds packet comment =
     )
 
 length_summed : (is_short : Bool) (bytes : List ℕ) → nat_lt (length bytes) 12 ≡ is_short
-    → length (if is_short then bytes else summed (take 8 bytes) (drop 12 bytes)) ≡ length bytes
+    → length (if is_short then bytes else with_checksum (take 8 bytes) (drop 12 bytes)) ≡ length bytes
 length_summed true bytes e = refl
 length_summed false bytes e =
     let word : ℕ = crc32c_word (with_zero_field (take 8 bytes) (drop 12 bytes)) in

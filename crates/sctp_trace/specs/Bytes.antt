@@ -12,9 +12,9 @@ unfoldable pub le32 : ℕ → List ℕ
 le32 n = to_le_bytes w32 n
 
 -- the packet with its CRC32c in the checksum's field (RFC 9260 section 3.1)
-abbrev pub summed : (before after : List ℕ) → List ℕ
-summed before after = before ++ (be32 (crc32c_word (with_zero_field before after)) ++ after)
+abbrev pub with_checksum : (before after : List ℕ) → List ℕ
+with_checksum before after = before ++ (be32 (crc32c_word (with_zero_field before after)) ++ after)
 
 -- bytes that have no whole common header stay as they are
 abbrev pub with_crc32c : List ℕ → List ℕ
-with_crc32c bytes = if nat_lt (length bytes) 12 then bytes else summed (take 8 bytes) (drop 12 bytes)
+with_crc32c bytes = if nat_lt (length bytes) 12 then bytes else with_checksum (take 8 bytes) (drop 12 bytes)

@@ -12,11 +12,11 @@ use Rattle.sctp_trace.specs.Arrows.{times_given}
 use Rattle.sctp_trace.specs.Bytes.{le16, le32, with_crc32c}
 
 -- zeros up to a multiple of four
-unfoldable pub padded : List ℕ → List ℕ
-padded bytes = bytes ++ replicate (padding (length bytes)) 0
+unfoldable pub pad : List ℕ → List ℕ
+pad bytes = bytes ++ replicate (padding (length bytes)) 0
 
 unfoldable pub option_bytes : (code : ℕ) → (value : List ℕ) → List ℕ
-option_bytes code value = le16 code ++ (le16 (length value) ++ padded value)
+option_bytes code value = le16 code ++ (le16 (length value) ++ pad value)
 
 -- the option that ends a list of options
 abbrev pub end_of_options : List ℕ
@@ -58,7 +58,7 @@ packet_numbers interface nanoseconds size = le32 interface ++ (le32 (nanoseconds
 -- these numbers, the packet, and a comment
 unfoldable pub packet_body : (interface nanoseconds : ℕ) → (packet comment : List ℕ) → List ℕ
 packet_body interface nanoseconds packet comment =
-    packet_numbers interface nanoseconds (length packet) ++ (padded packet ++ (option_bytes 1 comment ++ end_of_options))
+    packet_numbers interface nanoseconds (length packet) ++ (pad packet ++ (option_bytes 1 comment ++ end_of_options))
 
 -- how long the block of such a packet is, whatever its end and time
 abbrev pub IsPacketSize : (packet comment : List ℕ) → (size : ℕ) → Type 0

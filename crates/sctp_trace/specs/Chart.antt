@@ -17,7 +17,7 @@ use Rattle.sctp_trace.specs.declared.xml.Element.{Element}
 use Rattle.sctp_trace.specs.declared.xml.Element.TheViews.{out-Element}
 use Rattle.sctp_trace.specs.Rows.{other}
 use Rattle.sctp_trace.specs.Arrows.{arrows, crosses}
-use Rattle.sctp_trace.specs.Xml.{written}
+use Rattle.sctp_trace.specs.Xml.{xml_bytes}
 
 -- how far an end's lifeline stands from the left
 abbrev pub lifeline_at : End → ℕ
@@ -87,5 +87,5 @@ pub record IsPicture (rows : List Row) (root : Element) : Type 0 where
 -- the bytes are such an element, written
 pub record IsChart (rows : List Row) (bytes : List ℕ) : Type 0 where
   pub root : Element
-  pub whole : bytes ≡ written root
+  pub whole : bytes ≡ xml_bytes root
   pub drawn : IsPicture rows root

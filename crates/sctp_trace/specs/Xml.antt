@@ -39,11 +39,11 @@ escaped_code n =
     if n == 34 then codes "&quot;" else if n == 38 then codes "&amp;" else if n == 39 then codes "&apos;"
     else if n == 60 then codes "&lt;" else if n == 62 then codes "&gt;" else (plain n ∷ [])
 
-abbrev pub escaped : List ℕ → List ℕ
-escaped text = flat_map escaped_code text
+abbrev pub escape : List ℕ → List ℕ
+escape text = flat_map escaped_code text
 
 abbrev pub attribute_bytes : Attribute → List ℕ
-attribute_bytes a = codes " " ++ (key_name a.key ++ (codes "=\"" ++ (escaped (string_bytes a.value) ++ codes "\"")))
+attribute_bytes a = codes " " ++ (key_name a.key ++ (codes "=\"" ++ (escape (string_bytes a.value) ++ codes "\"")))
 
 abbrev pub opening : Tag → List Attribute → List ℕ
 opening tag attributes = codes "<" ++ (tag_name tag ++ (flat_map attribute_bytes attributes ++ codes ">"))
@@ -53,8 +53,8 @@ closing tag = codes "</" ++ (tag_name tag ++ codes ">\n")
 
 -- an element whose children are written
 abbrev pub element_step : Element-F (List ℕ) → List ℕ
-element_step e = opening e.tag e.attributes.items ++ (escaped (string_bytes e.text) ++ (flat_map (λ (child : List ℕ). child) e.children.items ++ closing e.tag))
+element_step e = opening e.tag e.attributes.items ++ (escape (string_bytes e.text) ++ (flat_map (λ (child : List ℕ). child) e.children.items ++ closing e.tag))
 
 -- an element: its attributes, its text, and its children
-abbrev pub written : Element → List ℕ
-written = fold-Element (List ℕ) element_step
+abbrev pub xml_bytes : Element → List ℕ
+xml_bytes = fold-Element (List ℕ) element_step

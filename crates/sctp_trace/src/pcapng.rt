@@ -2,7 +2,7 @@
 
 ghost use Rattle.std.specs.Prelude.{◌≡◌, ℕ, ◌+◌, ◌<◌, ◌≤◌, ◌^◌, ◌++◌, true, false, length, replicate, IfOk, IfErr, OnOk};
 ghost use Rattle.sctp_trace.specs.Bytes.{le16, le32, with_crc32c};
-ghost use Rattle.sctp_trace.specs.Capture.{padded, option_bytes, block, section_header, interface, interface_number, fate, packet_numbers, packet_body, packet_block, IsPacketSize, row_bytes, capture_bytes, is_too_long, has_long_packet};
+ghost use Rattle.sctp_trace.specs.Capture.{pad, option_bytes, block, section_header, interface, interface_number, fate, packet_numbers, packet_body, packet_block, IsPacketSize, row_bytes, capture_bytes, is_too_long, has_long_packet};
 ghost use Rattle.sctp_trace.specs.Followed.{IsFollowed};
 ghost use Rattle.sctp_trace.specs.declared.pcapng.CaptureError.TheVariants.{Memory as no_memory};
 
@@ -74,9 +74,9 @@ fn push_zeros(bytes: &mut Vec<u8>, count: usize) -> Result<(), AllocError>
     bytes.extend_from_slice(&[0, 0, 0][..count])
 }
 
-#[tactic(auto, unfolding(crate::specs::Capture::padded))]
+#[tactic(auto, unfolding(crate::specs::Capture::pad))]
 fn push_padded(bytes: &mut Vec<u8>, value: &[u8]) -> Result<(), AllocError>
-    ensures { OnOk result (bytes.new.items ≡ bytes.old.items ++ padded value.now) }
+    ensures { OnOk result (bytes.new.items ≡ bytes.old.items ++ pad value.now) }
 {
     bytes.extend_from_slice(value)?;
     push_zeros(bytes, padding_len(value.len()))

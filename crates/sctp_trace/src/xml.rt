@@ -3,7 +3,7 @@
 ghost use Rattle.std.specs.Prelude.{◌≡◌, ◌++◌, OnOk};
 ghost use Rattle.std.specs.List.{flat_map};
 ghost use Rattle.sctp_trace.specs.Ascii.{plain};
-ghost use Rattle.sctp_trace.specs.Xml.{tag_name, key_name, escaped_code, escaped, attribute_bytes, opening, closing, written};
+ghost use Rattle.sctp_trace.specs.Xml.{tag_name, key_name, escaped_code, escape, attribute_bytes, opening, closing, xml_bytes};
 
 use std::alloc::AllocError;
 
@@ -108,7 +108,7 @@ fn push_escaped_byte(output: &mut Vec<u8>, byte: u8) -> Result<(), AllocError>
 }
 
 fn push_escaped(output: &mut Vec<u8>, text: &[u8]) -> Result<(), AllocError>
-    ensures { OnOk result (output.new.items ≡ output.old.items ++ escaped text.now) }
+    ensures { OnOk result (output.new.items ≡ output.old.items ++ escape text.now) }
 {
     for byte in text {
         push_escaped_byte(output, *byte)?;
@@ -155,7 +155,7 @@ fn push_closing(output: &mut Vec<u8>, tag: Tag) -> Result<(), AllocError>
 /// Appends the element with all below it.
 #[cycle(write)]
 pub fn write(output: &mut Vec<u8>, element: &Element) -> Result<(), AllocError>
-    ensures { OnOk result (output.new.items ≡ output.old.items ++ written element.now) }
+    ensures { OnOk result (output.new.items ≡ output.old.items ++ xml_bytes element.now) }
 {
     push_opening(output, element.tag, &element.attributes)?;
     push_escaped(output, element.text.as_bytes())?;
@@ -166,7 +166,7 @@ pub fn write(output: &mut Vec<u8>, element: &Element) -> Result<(), AllocError>
 /// Appends the elements one after the other.
 #[cycle(write)]
 fn write_all(output: &mut Vec<u8>, elements: &Vec<Element>) -> Result<(), AllocError>
-    ensures { OnOk result (output.new.items ≡ output.old.items ++ flat_map written elements.now.items) }
+    ensures { OnOk result (output.new.items ≡ output.old.items ++ flat_map xml_bytes elements.now.items) }
 {
     for element in elements {
         write(output, element)?;

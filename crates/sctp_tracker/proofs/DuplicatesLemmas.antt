@@ -5,16 +5,16 @@ use Rattle.std.specs.List.{list_any}
 use Rattle.std.proofs.lemmas.Bool.{cases_lt, cases_eq, lt-ltb, le-ltb, eq-eqb, ne_eqb}
 use Rattle.std.proofs.lemmas.Bool.Decides.{nat_tests}
 use Rattle.sctp_tracker.specs.Tracker.{insert_number, with_duplicate}
-use Rattle.sctp_tracker.specs.Told.{Ascend}
+use Rattle.sctp_tracker.specs.Reported.{Ascend}
 
 abbrev pub holds : List ℕ → ℕ → Bool
 holds ns n = list_any (λ m. eqb n m) ns
 
-Ascend-insert : (least n : ℕ) (ns : List ℕ) → Ascend least ns → least ≤ n → Ascend least (insert_number n ns)
-Ascend-insert least n [] a h = (h, tt)
-Ascend-insert least n (m ∷ ms) a h =
+Ascend_insert : (least n : ℕ) (ns : List ℕ) → Ascend least ns → least ≤ n → Ascend least (insert_number n ns)
+Ascend_insert least n [] a h = (h, tt)
+Ascend_insert least n (m ∷ ms) a h =
     elim (cases_lt m n) [
-      | inl less ↦ rw (lt-ltb m n less) (a.0, Ascend-insert (suc m) n ms a.1 (omega (arith, less)))
+      | inl less ↦ rw (lt-ltb m n less) (a.0, Ascend_insert (suc m) n ms a.1 (omega (arith, less)))
       | inr more ↦
           elim (cases_eq n m) [
             | inl e ↦ rw (le-ltb m n more, eq-eqb n m e) a
@@ -22,27 +22,27 @@ Ascend-insert least n (m ∷ ms) a h =
           ]
     ]
 
-Ascend-with_duplicate : (n : ℕ) (ns : List ℕ) → Ascend 0 ns → Ascend 0 (with_duplicate n ns)
-Ascend-with_duplicate n ns a =
+Ascend_with_duplicate : (n : ℕ) (ns : List ℕ) → Ascend 0 ns → Ascend 0 (with_duplicate n ns)
+Ascend_with_duplicate n ns a =
     elim (cases_lt (length ns) 20) [
-      | inl few ↦ rw (lt-ltb (length ns) 20 few) (Ascend-insert 0 n ns a (omega arith))
+      | inl few ↦ rw (lt-ltb (length ns) 20 few) (Ascend_insert 0 n ns a (omega arith))
       | inr many ↦ rw (le-ltb (length ns) 20 many) a
     ]
 
 -- whether there was memory or not
-pub Ascend-kept : {T E : Type 0} (r : Result T E) (n : ℕ) (old new : List ℕ) → OnOk r (new ≡ with_duplicate n old) → OnErr r (new ≡ old) → Ascend 0 old → Ascend 0 new
-Ascend-kept (Ok x) n old new ok err a = subst (λ (ns : List ℕ). Ascend 0 ns) (sym ok) (Ascend-with_duplicate n old a)
-Ascend-kept (Err e) n old new ok err a = subst (λ (ns : List ℕ). Ascend 0 ns) (sym err) a
+pub Ascend_kept : {T E : Type 0} (r : Result T E) (n : ℕ) (old new : List ℕ) → OnOk r (new ≡ with_duplicate n old) → OnErr r (new ≡ old) → Ascend 0 old → Ascend 0 new
+Ascend_kept (Ok x) n old new ok err a = subst (λ (ns : List ℕ). Ascend 0 ns) (sym ok) (Ascend_with_duplicate n old a)
+Ascend_kept (Err e) n old new ok err a = subst (λ (ns : List ℕ). Ascend 0 ns) (sym err) a
 
 or_swap : (a b c : Bool) → (a || (b || c)) ≡ ((a || b) || c)
 or_swap true b c = refl
 or_swap false b c = refl
 
-holds-insert : (n k : ℕ) (ns : List ℕ) → holds (insert_number n ns) k ≡ (holds ns k || eqb k n)
-holds-insert n k [] = grind (arith, nat_tests)
-holds-insert n k (m ∷ ms) =
+holds_insert : (n k : ℕ) (ns : List ℕ) → holds (insert_number n ns) k ≡ (holds ns k || eqb k n)
+holds_insert n k [] = grind (arith, nat_tests)
+holds_insert n k (m ∷ ms) =
     elim (cases_lt m n) [
-      | inl less ↦ rw (lt-ltb m n less) (ap (λ v. eqb k m || v) (holds-insert n k ms) ∙ or_swap (eqb k m) (holds ms k) (eqb k n))
+      | inl less ↦ rw (lt-ltb m n less) (ap (λ v. eqb k m || v) (holds_insert n k ms) ∙ or_swap (eqb k m) (holds ms k) (eqb k n))
       | inr more ↦
           elim (cases_eq n m) [
             | inl e ↦ rw (le-ltb m n more, eq-eqb n m e) (again (holds ms k) e)
@@ -57,10 +57,10 @@ holds-insert n k (m ∷ ms) =
     first v = grind (arith, nat_tests)
 
 -- a number is told again where it was, or where it is the one that came again and there is room
-holds-with_duplicate : (n k : ℕ) (ns : List ℕ) → holds (with_duplicate n ns) k ≡ (holds ns k || (eqb k n && ltb (length ns) 20))
-holds-with_duplicate n k ns =
+holds_with_duplicate : (n k : ℕ) (ns : List ℕ) → holds (with_duplicate n ns) k ≡ (holds ns k || (eqb k n && ltb (length ns) 20))
+holds_with_duplicate n k ns =
     elim (cases_lt (length ns) 20) [
-      | inl few ↦ rw (lt-ltb (length ns) 20 few) (holds-insert n k ns ∙ ap (λ v. holds ns k || v) (with_true (eqb k n)))
+      | inl few ↦ rw (lt-ltb (length ns) 20 few) (holds_insert n k ns ∙ ap (λ v. holds ns k || v) (with_true (eqb k n)))
       | inr many ↦ rw (le-ltb (length ns) 20 many) (none (holds ns k) (eqb k n))
     ]
   where
@@ -74,9 +74,9 @@ holds-with_duplicate n k ns =
     none false false = refl
 
 -- the same where a number comes that was seen or not
-pub holds-observed : (n k : ℕ) (was : Bool) (ns : List ℕ) → holds (if was then with_duplicate n ns else ns) k ≡ (holds ns k || (eqb k n && (was && ltb (length ns) 20)))
-holds-observed n k true ns = holds-with_duplicate n k ns
-holds-observed n k false ns = none (holds ns k) (eqb k n)
+pub holds_observed : (n k : ℕ) (was : Bool) (ns : List ℕ) → holds (if was then with_duplicate n ns else ns) k ≡ (holds ns k || (eqb k n && (was && ltb (length ns) 20)))
+holds_observed n k true ns = holds_with_duplicate n k ns
+holds_observed n k false ns = none (holds ns k) (eqb k n)
   where
     none : (v w : Bool) → v ≡ (v || (w && false))
     none true w = refl

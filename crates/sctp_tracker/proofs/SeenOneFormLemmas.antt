@@ -2,18 +2,18 @@
 use Rattle.std.proofs.Common.{◌≡◌, ℕ, suc, ◌+◌, ◌-◌, ◌<◌, ◌≤◌, Bool, true, false, eqb, leb, ◌||◌, ◌&&◌, max, List, [], ◌∷◌, refl, sym, ap, ◌∙◌, subst, inl, inr, arith}
 use Rattle.std.proofs.lemmas.Bool.{cases_order, both_ways, cases_lt, cases_eq, eq-eqb, ne_eqb, lt-ltb, le-ltb, le-leb, lt-leb}
 use Rattle.std.proofs.lemmas.Bool.Decides.{nat_tests}
-use Rattle.sctp_tracker.specs.Seen.{Run, Seen, is_in, in_runs, AreRuns, contains, IsInRuns, joined, with_number, settle, add, up_to}
+use Rattle.sctp_tracker.specs.Seen.{Run, Seen, is_in, in_runs, AreRuns, contains, IsInRuns, join_run, with_number, settle, add, up_to}
 use Rattle.sctp_tracker.proofs.SeenEdits.{run}
-use Rattle.sctp_tracker.proofs.SeenRunsLemmas.{in_runs-below}
+use Rattle.sctp_tracker.proofs.SeenRunsLemmas.{in_runs_below}
 
 pub before_first : (p n : ℕ) (c : Run) (qs : List Run) → AreRuns p (c ∷ qs) → n < c.first → in_runs (c ∷ qs) n ≡ false
-before_first p n c qs r h = grind (arith, nat_tests, in_runs-below c.last n qs r.2 (omega arith))
+before_first p n c qs r h = grind (arith, nat_tests, in_runs_below c.last n qs r.2 (omega arith))
 
 at_first : (p : ℕ) (b : Run) (rs : List Run) → AreRuns p (b ∷ rs) → in_runs (b ∷ rs) b.first ≡ true
 at_first p b rs r = grind (arith, nat_tests)
 
 pub past_last : (p : ℕ) (b : Run) (rs : List Run) → AreRuns p (b ∷ rs) → in_runs (b ∷ rs) (b.last + 1) ≡ false
-past_last p b rs r = grind (arith, nat_tests, in_runs-below b.last (b.last + 1) rs r.2 (omega arith))
+past_last p b rs r = grind (arith, nat_tests, in_runs_below b.last (b.last + 1) rs r.2 (omega arith))
 
 pub within : (n : ℕ) (b : Run) (rs : List Run) → b.first ≤ n → n ≤ b.last → in_runs (b ∷ rs) n ≡ true
 within n b rs h k = grind (arith, nat_tests)
@@ -65,8 +65,8 @@ same_fronts : (s t : Seen) → IsInRuns s → IsInRuns t → ((n : ℕ) → cont
 same_fronts s t r q same =
     elim (cases_order s.front t.front) [
       | inl e ↦ e
-      | inr (inl less) ↦ absurd (both_ways _ (above_front s.front (s.front + 1) s.runs (omega arith) ∙ in_runs-below s.front (s.front + 1) s.runs r (omega arith)) (same (s.front + 1) ∙ up_to_front t.front (s.front + 1) t.runs (omega arith)))
-      | inr (inr more) ↦ absurd (both_ways _ (above_front t.front (t.front + 1) t.runs (omega arith) ∙ in_runs-below t.front (t.front + 1) t.runs q (omega arith)) (sym (same (t.front + 1)) ∙ up_to_front s.front (t.front + 1) s.runs (omega arith)))
+      | inr (inl less) ↦ absurd (both_ways _ (above_front s.front (s.front + 1) s.runs (omega arith) ∙ in_runs_below s.front (s.front + 1) s.runs r (omega arith)) (same (s.front + 1) ∙ up_to_front t.front (s.front + 1) t.runs (omega arith)))
+      | inr (inr more) ↦ absurd (both_ways _ (above_front t.front (t.front + 1) t.runs (omega arith) ∙ in_runs_below t.front (t.front + 1) t.runs q (omega arith)) (sym (same (t.front + 1)) ∙ up_to_front s.front (t.front + 1) s.runs (omega arith)))
     ]
 
 -- the front and the runs follow from the set
@@ -79,7 +79,7 @@ one_form s t r q same =
 
 -- ---- the sets that are computed
 
-joined_in : (p m : ℕ) (r : Run) (rs : List Run) → r.first ≤ r.last → AreRuns p rs → in_runs (joined r rs) m ≡ (is_in m r || in_runs rs m)
+joined_in : (p m : ℕ) (r : Run) (rs : List Run) → r.first ≤ r.last → AreRuns p rs → in_runs (join_run r rs) m ≡ (is_in m r || in_runs rs m)
 joined_in p m r [] h a = refl
 joined_in p m r (q ∷ qs) h a =
     let b = a.1 in
@@ -134,7 +134,7 @@ with_number_runs below n (r ∷ rs) a l h =
           ]
     ]
   where
-    before : n < r.first → AreRuns below (joined (record { first = n; last = n }) (r ∷ rs))
+    before : n < r.first → AreRuns below (join_run (record { first = n; last = n }) (r ∷ rs))
     before k =
         let b = a.1 in
         elim (cases_eq r.first (suc n)) [
@@ -142,7 +142,7 @@ with_number_runs below n (r ∷ rs) a l h =
           | inr d ↦ rw (ne_eqb r.first (suc n) d) (omega (arith, l), omega arith, (omega (arith, k, d), a.1, a.2))
         ]
 
-    longer : r.first ≤ n → n ≡ suc r.last → (qs : List Run) → AreRuns r.last qs → AreRuns below (joined (record { first = r.first; last = n }) qs)
+    longer : r.first ≤ n → n ≡ suc r.last → (qs : List Run) → AreRuns r.last qs → AreRuns below (join_run (record { first = r.first; last = n }) qs)
     longer g e [] b = (a.0, g, tt)
     longer g e (q ∷ qs) b =
         let c = b.0 in
@@ -155,23 +155,23 @@ with_number_runs below n (r ∷ rs) a l h =
     above : (y : Bool) (c d : ℕ) → c ≤ n → (n ≡ suc d → ⊥) → ((leb c n && leb n d) || y) ≡ false → (suc d < n) × (y ≡ false)
     above y c d g e h = grind (arith, nat_tests)
 
-contains-settle : (front m : ℕ) (rs : List Run) → contains (settle front rs) m ≡ (leb m front || in_runs rs m)
-contains-settle front m [] = refl
-contains-settle front m (r ∷ rs) =
+contains_settle : (front m : ℕ) (rs : List Run) → contains (settle front rs) m ≡ (leb m front || in_runs rs m)
+contains_settle front m [] = refl
+contains_settle front m (r ∷ rs) =
     elim (cases_lt (suc front) r.first) [
       | inl l ↦ rw (lt-leb r.first (suc front) l) refl
-      | inr g ↦ rw (le-leb r.first (suc front) g) (contains-settle (max front r.last) m rs ∙ both (in_runs rs m) r.first r.last g)
+      | inr g ↦ rw (le-leb r.first (suc front) g) (contains_settle (max front r.last) m rs ∙ both (in_runs rs m) r.first r.last g)
     ]
   where
     both : (y : Bool) (c d : ℕ) → c ≤ suc front → (leb m (max front d) || y) ≡ (leb m front || ((leb c m && leb m d) || y))
     both y c d h = grind (arith, nat_tests)
 
-IsInRuns-settle : (p front : ℕ) (rs : List Run) → AreRuns p rs → IsInRuns (settle front rs)
-IsInRuns-settle p front [] a = tt
-IsInRuns-settle p front (r ∷ rs) a =
+IsInRuns_settle : (p front : ℕ) (rs : List Run) → AreRuns p rs → IsInRuns (settle front rs)
+IsInRuns_settle p front [] a = tt
+IsInRuns_settle p front (r ∷ rs) a =
     elim (cases_lt (suc front) r.first) [
       | inl l ↦ rw (lt-leb r.first (suc front) l) (omega (arith, l), a.1, a.2)
-      | inr g ↦ rw (le-leb r.first (suc front) g) (IsInRuns-settle r.last (max front r.last) rs a.2)
+      | inr g ↦ rw (le-leb r.first (suc front) g) (IsInRuns_settle r.last (max front r.last) rs a.2)
     ]
 
 not_seen : (s : Seen) (n : ℕ) → contains s n ≡ false → (s.front < n) × (in_runs s.runs n ≡ false)
@@ -185,8 +185,8 @@ from_below p q [] l a = tt
 from_below p q (r ∷ rs) l a = let b = a.0 in (omega (arith, b, l), a.1, a.2)
 
 -- a set with one number more, by what it contains
-pub contains-add : (n m : ℕ) (s : Seen) → IsInRuns s → contains (add n s) m ≡ (eqb m n || contains s m)
-contains-add n m s i = go (contains s n) refl
+pub contains_add : (n m : ℕ) (s : Seen) → IsInRuns s → contains (add n s) m ≡ (eqb m n || contains s m)
+contains_add n m s i = go (contains s n) refl
   where
     again : (y : Bool) → (m ≡ n → y ≡ true) → y ≡ (eqb m n || y)
     again true h = elim (eqb m n) as (λ b. true ≡ (b || true)) [ true ↦ refl | false ↦ refl ]
@@ -201,36 +201,36 @@ contains-add n m s i = go (contains s n) refl
     swap false b c = refl
 
     go : (b : Bool) → contains s n ≡ b → contains (add n s) m ≡ (eqb m n || contains s m)
-    go true e = rw e (contains-settle s.front m s.runs ∙ again (contains s m) (λ h. ap (contains s) h ∙ e))
+    go true e = rw e (contains_settle s.front m s.runs ∙ again (contains s m) (λ h. ap (contains s) h ∙ e))
     go false e =
         rw e
-        (contains-settle s.front m (with_number n s.runs) ∙ (ap (λ z. leb m s.front || z) (with_number_in s.front n m s.runs i (not_seen s n e).1)
+        (contains_settle s.front m (with_number n s.runs) ∙ (ap (λ z. leb m s.front || z) (with_number_in s.front n m s.runs i (not_seen s n e).1)
         ∙ swap (leb m s.front) (eqb m n) (in_runs s.runs m)))
 
-pub IsInRuns-add : (n : ℕ) (s : Seen) → IsInRuns s → 0 < s.front → IsInRuns (add n s)
-IsInRuns-add n s i l = go (contains s n) refl
+pub IsInRuns_add : (n : ℕ) (s : Seen) → IsInRuns s → 0 < s.front → IsInRuns (add n s)
+IsInRuns_add n s i l = go (contains s n) refl
   where
     go : (b : Bool) → contains s n ≡ b → IsInRuns (add n s)
-    go true e = rw e (IsInRuns-settle s.front s.front s.runs i)
+    go true e = rw e (IsInRuns_settle s.front s.front s.runs i)
     go false e =
         let c : ℕ = s.front - 1 in
         let k : suc c ≡ s.front = omega (arith, l) in
         let a = not_seen s n e in
         let b = a.0 in
-        rw e (IsInRuns-settle c s.front (with_number n s.runs) (with_number_runs c n s.runs (from_below c s.front s.runs (omega (arith, k)) i) (omega (arith, k, b)) a.1))
+        rw e (IsInRuns_settle c s.front (with_number n s.runs) (with_number_runs c n s.runs (from_below c s.front s.runs (omega (arith, k)) i) (omega (arith, k, b)) a.1))
 
-pub contains-up_to : (n m : ℕ) (s : Seen) → contains (up_to n s) m ≡ (leb m n || contains s m)
-contains-up_to n m s = contains-settle (max n s.front) m s.runs ∙ either s.front (in_runs s.runs m)
+pub contains_up_to : (n m : ℕ) (s : Seen) → contains (up_to n s) m ≡ (leb m n || contains s m)
+contains_up_to n m s = contains_settle (max n s.front) m s.runs ∙ either s.front (in_runs s.runs m)
   where
     either : (c : ℕ) (y : Bool) → (leb m (max n c) || y) ≡ (leb m n || (leb m c || y))
     either c y = grind (arith, nat_tests)
 
-pub IsInRuns-up_to : (n : ℕ) (s : Seen) → IsInRuns s → IsInRuns (up_to n s)
-IsInRuns-up_to n s i = IsInRuns-settle s.front (max n s.front) s.runs i
+pub IsInRuns_up_to : (n : ℕ) (s : Seen) → IsInRuns s → IsInRuns (up_to n s)
+IsInRuns_up_to n s i = IsInRuns_settle s.front (max n s.front) s.runs i
 
 -- the one set with these numbers is the computed one
 pub is_add : (n : ℕ) (old new : Seen) → IsInRuns old → 0 < old.front → IsInRuns new → ((m : ℕ) → contains new m ≡ (eqb m n || contains old m)) → new ≡ add n old
-is_add n old new i l j same = one_form new (add n old) j (IsInRuns-add n old i l) (λ m. same m ∙ sym (contains-add n m old i))
+is_add n old new i l j same = one_form new (add n old) j (IsInRuns_add n old i l) (λ m. same m ∙ sym (contains_add n m old i))
 
 pub is_up_to : (n : ℕ) (old new : Seen) → IsInRuns old → IsInRuns new → ((m : ℕ) → contains new m ≡ (leb m n || contains old m)) → new ≡ up_to n old
-is_up_to n old new i j same = one_form new (up_to n old) j (IsInRuns-up_to n old i) (λ m. same m ∙ sym (contains-up_to n m old))
+is_up_to n old new i j same = one_form new (up_to n old) j (IsInRuns_up_to n old i) (λ m. same m ∙ sym (contains_up_to n m old))

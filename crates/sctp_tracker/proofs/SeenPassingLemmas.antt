@@ -3,22 +3,22 @@ use Rattle.std.proofs.Common.{◌≡◌, ℕ, ◌+◌, ◌<◌, ◌≤◌, Bool,
 use Rattle.std.proofs.lemmas.Bool.Decides.{nat_tests}
 use Rattle.sctp_tracker.specs.Seen.{Run, in_runs, AreRuns, last_above}
 use Rattle.sctp_tracker.specs.SeenSteps.{Passes}
-use Rattle.sctp_tracker.proofs.SeenRunsLemmas.{le-last_above}
+use Rattle.sctp_tracker.proofs.SeenRunsLemmas.{le_last_above}
 
-pub AreRuns-from : (p q : ℕ) (rs : List Run) → q ≤ p → AreRuns p rs → AreRuns q rs
-AreRuns-from p q [] h r = tt
-AreRuns-from p q (b ∷ rs) h r = (omega arith, r.1, r.2)
+pub AreRuns_from : (p q : ℕ) (rs : List Run) → q ≤ p → AreRuns p rs → AreRuns q rs
+AreRuns_from p q [] h r = tt
+AreRuns_from p q (b ∷ rs) h r = (omega arith, r.1, r.2)
 
-pub AreRuns-from_none : (c : ℕ) (rs : List Run) → AreRuns c rs → AreRuns 0 rs
-AreRuns-from_none c rs r = AreRuns-from c 0 rs (omega arith) r
+pub AreRuns_from_none : (c : ℕ) (rs : List Run) → AreRuns c rs → AreRuns 0 rs
+AreRuns_from_none c rs r = AreRuns_from c 0 rs (omega arith) r
 
 -- the end of the last run, wherever the runs are seen from
-pub last_above-max : (c : ℕ) (rs : List Run) → AreRuns c rs → last_above c rs ≡ max c (last_above 0 rs)
-last_above-max c [] r = omega arith
-last_above-max c (b ∷ rs) r = omega (arith, le-last_above b.last rs r.2)
+pub last_above_max : (c : ℕ) (rs : List Run) → AreRuns c rs → last_above c rs ≡ max c (last_above 0 rs)
+last_above_max c [] r = omega arith
+last_above_max c (b ∷ rs) r = omega (arith, le_last_above b.last rs r.2)
 
 pub within_last : (n c : ℕ) (rs : List Run) → AreRuns c rs → n ≤ c → last_above c rs ≡ max n (last_above c rs)
-within_last n c rs r h = omega (arith, le-last_above c rs r)
+within_last n c rs r h = omega (arith, le_last_above c rs r)
 
 -- the first run, and the others
 pub at_front : (rs : List Run) (b : Run) → 0 < length rs → b ≡ get_or rs 0 b → rs ≡ b ∷ drop 1 rs
@@ -37,9 +37,9 @@ either_way p n f l v h k = grind (arith, nat_tests)
 passes_one_of : (p : ℕ) (b : Run) (rs : List Run) → AreRuns 0 (b ∷ rs) → b.first ≤ p + 1 → PassesOne p (max p b.last) b (b ∷ rs) rs
 passes_one_of p b rs r joins = record {
   numbers = λ m. either_way p m b.first b.last (in_runs rs m) joins r.1;
-  runs = AreRuns-from_none b.last rs r.2;
-  last = omega (arith, last_above-max b.last rs r.2);
-  here = le-last_above b.last rs r.2;
+  runs = AreRuns_from_none b.last rs r.2;
+  last = omega (arith, last_above_max b.last rs r.2);
+  here = le_last_above b.last rs r.2;
 }
 
 pub passes_one : (p q : ℕ) (b : Run) (old new : List Run) → AreRuns 0 old → old ≡ b ∷ new → q ≡ max p b.last → b.first ≤ p + 1 → PassesOne p q b old new
@@ -69,8 +69,8 @@ pub passed_next : (p c q : ℕ) (old new : List Run) → Passes p old q new → 
 passed_next p c q old new w h n = w.numbers n ∙ one_more p c n (in_runs old n) h
 
 -- the greatest number
-pub last_above-passed : (p c q : ℕ) (old new : List Run) → AreRuns c old → Passes p old q new → c < p → last_above q new ≡ max p (last_above c old)
-last_above-passed p c q old new r w h = omega (arith, last_above-max c old r, last_above-max q new w.runs, w.last)
+pub last_above_passed : (p c q : ℕ) (old new : List Run) → AreRuns c old → Passes p old q new → c < p → last_above q new ≡ max p (last_above c old)
+last_above_passed p c q old new r w h = omega (arith, last_above_max c old r, last_above_max q new w.runs, w.last)
 
 -- where the front is past n already
 pub below_front : (c n : ℕ) (rs : List Run) → n ≤ c → (m : ℕ) → (leb m c || in_runs rs m) ≡ (leb m n || (leb m c || in_runs rs m))

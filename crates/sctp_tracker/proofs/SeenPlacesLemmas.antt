@@ -11,7 +11,7 @@ use Rattle.std.proofs.lemmas.Bool.{lt-ltb, le-ltb, ne_eqb, eq-eqb, lt-leb, le-le
 use Rattle.sctp_tracker.specs.Seen.{Run, in_runs, AreRuns, last_above}
 use Rattle.sctp_tracker.specs.SeenSteps.{Adds, read, run_of, runs_of, last_entry, run_at, is_held, first_with, last_with}
 use Rattle.sctp_tracker.proofs.SeenEdits.{run, grown_to, add_here, add_number}
-use Rattle.sctp_tracker.proofs.SeenRunsLemmas.{le-last_above, adds}
+use Rattle.sctp_tracker.proofs.SeenRunsLemmas.{le_last_above, adds}
 use Rattle.sctp_tracker.proofs.SeenOneFormLemmas.{before_first, past_last, within, later}
 
 abbrev pub Entry : Type 0
@@ -19,71 +19,71 @@ Entry = ℕ × ℕ
 
 -- ---- numbers as keys
 
-nat_cmp-less : (k a : ℕ) → k < a → nat_cmp k a ≡ Less
-nat_cmp-less k a h = rw (lt-ltb k a h) refl
+nat_cmp_less : (k a : ℕ) → k < a → nat_cmp k a ≡ Less
+nat_cmp_less k a h = rw (lt-ltb k a h) refl
 
-nat_cmp-same : (k a : ℕ) → k ≡ a → nat_cmp k a ≡ Equal
-nat_cmp-same k a e = rw (le-ltb k a (omega (arith, e)), eq-eqb k a e) refl
+nat_cmp_same : (k a : ℕ) → k ≡ a → nat_cmp k a ≡ Equal
+nat_cmp_same k a e = rw (le-ltb k a (omega (arith, e)), eq-eqb k a e) refl
 
-nat_cmp-more : (k a : ℕ) → a < k → nat_cmp k a ≡ Greater
-nat_cmp-more k a h = rw (le-ltb k a (omega (arith, h)), ne_eqb k a (omega (arith, h))) refl
+nat_cmp_more : (k a : ℕ) → a < k → nat_cmp k a ≡ Greater
+nat_cmp_more k a h = rw (le-ltb k a (omega (arith, h)), ne_eqb k a (omega (arith, h))) refl
 
-is_at-other : (k a : ℕ) → k ≢ a → is_at (nat_cmp k) a ≡ false
-is_at-other k a d =
+is_at_other : (k a : ℕ) → k ≢ a → is_at (nat_cmp k) a ≡ false
+is_at_other k a d =
     elim (cases_order k a) [
       | inl e ↦ absurd (d e)
-      | inr (inl less) ↦ ap is_eq (nat_cmp-less k a less)
-      | inr (inr more) ↦ ap is_eq (nat_cmp-more k a more)
+      | inr (inl less) ↦ ap is_eq (nat_cmp_less k a less)
+      | inr (inr more) ↦ ap is_eq (nat_cmp_more k a more)
     ]
 
 -- ---- what std's words do at the first entry
 
-insert-past : (k v : ℕ) (e : Entry) (es : List Entry) → e.0 < k → insert_entry nat_cmp (e ∷ es) k v ≡ e ∷ insert_entry nat_cmp es k v
-insert-past k v e es h = ap (λ (o : Ordering). match_ordering o ((k, v) ∷ e ∷ es) ((e.0, v) ∷ es) (e ∷ insert_entry nat_cmp es k v)) (nat_cmp-more k e.0 h)
+insert_past : (k v : ℕ) (e : Entry) (es : List Entry) → e.0 < k → insert_entry nat_cmp (e ∷ es) k v ≡ e ∷ insert_entry nat_cmp es k v
+insert_past k v e es h = ap (λ (o : Ordering). match_ordering o ((k, v) ∷ e ∷ es) ((e.0, v) ∷ es) (e ∷ insert_entry nat_cmp es k v)) (nat_cmp_more k e.0 h)
 
-insert-here : (k v : ℕ) (e : Entry) (es : List Entry) → k ≡ e.0 → insert_entry nat_cmp (e ∷ es) k v ≡ (e.0, v) ∷ es
-insert-here k v e es h = ap (λ (o : Ordering). match_ordering o ((k, v) ∷ e ∷ es) ((e.0, v) ∷ es) (e ∷ insert_entry nat_cmp es k v)) (nat_cmp-same k e.0 h)
+insert_here : (k v : ℕ) (e : Entry) (es : List Entry) → k ≡ e.0 → insert_entry nat_cmp (e ∷ es) k v ≡ (e.0, v) ∷ es
+insert_here k v e es h = ap (λ (o : Ordering). match_ordering o ((k, v) ∷ e ∷ es) ((e.0, v) ∷ es) (e ∷ insert_entry nat_cmp es k v)) (nat_cmp_same k e.0 h)
 
-insert-before : (k v : ℕ) (e : Entry) (es : List Entry) → k < e.0 → insert_entry nat_cmp (e ∷ es) k v ≡ (k, v) ∷ e ∷ es
-insert-before k v e es h = ap (λ (o : Ordering). match_ordering o ((k, v) ∷ e ∷ es) ((e.0, v) ∷ es) (e ∷ insert_entry nat_cmp es k v)) (nat_cmp-less k e.0 h)
+insert_before : (k v : ℕ) (e : Entry) (es : List Entry) → k < e.0 → insert_entry nat_cmp (e ∷ es) k v ≡ (k, v) ∷ e ∷ es
+insert_before k v e es h = ap (λ (o : Ordering). match_ordering o ((k, v) ∷ e ∷ es) ((e.0, v) ∷ es) (e ∷ insert_entry nat_cmp es k v)) (nat_cmp_less k e.0 h)
 
-remove-past : (k : ℕ) (e : Entry) (es : List Entry) → k ≢ e.0 → remove_entry (is_at (nat_cmp k)) (e ∷ es) ≡ e ∷ remove_entry (is_at (nat_cmp k)) es
-remove-past k e es d = ap (λ (v : Bool). cond v es (e ∷ remove_entry (is_at (nat_cmp k)) es)) (is_at-other k e.0 d)
+remove_past : (k : ℕ) (e : Entry) (es : List Entry) → k ≢ e.0 → remove_entry (is_at (nat_cmp k)) (e ∷ es) ≡ e ∷ remove_entry (is_at (nat_cmp k)) es
+remove_past k e es d = ap (λ (v : Bool). cond v es (e ∷ remove_entry (is_at (nat_cmp k)) es)) (is_at_other k e.0 d)
 
-remove-here : (k : ℕ) (e : Entry) (es : List Entry) → k ≡ e.0 → remove_entry (is_at (nat_cmp k)) (e ∷ es) ≡ es
-remove-here k e es h = ap (λ (o : Ordering). cond (is_eq o) es (e ∷ remove_entry (is_at (nat_cmp k)) es)) (nat_cmp-same k e.0 h)
+remove_here : (k : ℕ) (e : Entry) (es : List Entry) → k ≡ e.0 → remove_entry (is_at (nat_cmp k)) (e ∷ es) ≡ es
+remove_here k e es h = ap (λ (o : Ordering). cond (is_eq o) es (e ∷ remove_entry (is_at (nat_cmp k)) es)) (nat_cmp_same k e.0 h)
 
-lookup-past : (k : ℕ) (e : Entry) (es : List Entry) → k ≢ e.0 → lookup (is_at (nat_cmp k)) (e ∷ es) ≡ lookup (is_at (nat_cmp k)) es
-lookup-past k e es d = ap (λ (v : Bool). cond v (Some e.1) (lookup (is_at (nat_cmp k)) es)) (is_at-other k e.0 d)
+lookup_past : (k : ℕ) (e : Entry) (es : List Entry) → k ≢ e.0 → lookup (is_at (nat_cmp k)) (e ∷ es) ≡ lookup (is_at (nat_cmp k)) es
+lookup_past k e es d = ap (λ (v : Bool). cond v (Some e.1) (lookup (is_at (nat_cmp k)) es)) (is_at_other k e.0 d)
 
-lookup-here : (k : ℕ) (e : Entry) (es : List Entry) → k ≡ e.0 → lookup (is_at (nat_cmp k)) (e ∷ es) ≡ Some e.1
-lookup-here k e es h = ap (λ (o : Ordering). cond (is_eq o) (Some e.1) (lookup (is_at (nat_cmp k)) es)) (nat_cmp-same k e.0 h)
+lookup_here : (k : ℕ) (e : Entry) (es : List Entry) → k ≡ e.0 → lookup (is_at (nat_cmp k)) (e ∷ es) ≡ Some e.1
+lookup_here k e es h = ap (λ (o : Ordering). cond (is_eq o) (Some e.1) (lookup (is_at (nat_cmp k)) es)) (nat_cmp_same k e.0 h)
 
-lookup-above : (q k : ℕ) (es : List Entry) → AreRuns q (runs_of es) → k ≤ q + 1 → lookup (is_at (nat_cmp k)) es ≡ None
-lookup-above q k [] r h = refl
-lookup-above q k (e ∷ es) r h = lookup-past k e es (omega (arith, r.0, h)) ∙ lookup-above e.1 k es r.2 (omega (arith, r.0, r.1, h))
+lookup_above : (q k : ℕ) (es : List Entry) → AreRuns q (runs_of es) → k ≤ q + 1 → lookup (is_at (nat_cmp k)) es ≡ None
+lookup_above q k [] r h = refl
+lookup_above q k (e ∷ es) r h = lookup_past k e es (omega (arith, r.0, h)) ∙ lookup_above e.1 k es r.2 (omega (arith, r.0, r.1, h))
 
 abbrev begun : ℕ → List Entry → List Entry
 begun n es = entries_between nat_cmp Unbounded (Included n) es
 
-begun-past : (n : ℕ) (e : Entry) (es : List Entry) → e.0 ≤ n → begun n (e ∷ es) ≡ e ∷ begun n es
-begun-past n e es h =
+begun_past : (n : ℕ) (e : Entry) (es : List Entry) → e.0 ≤ n → begun n (e ∷ es) ≡ e ∷ begun n es
+begun_past n e es h =
     elim (cases_lt e.0 n) [
-      | inl less ↦ ap (λ (o : Ordering). cond (true && not (is_lt o)) (e ∷ begun n es) (begun n es)) (nat_cmp-more n e.0 less)
-      | inr more ↦ ap (λ (o : Ordering). cond (true && not (is_lt o)) (e ∷ begun n es) (begun n es)) (nat_cmp-same n e.0 (omega (arith, h, more)))
+      | inl less ↦ ap (λ (o : Ordering). cond (true && not (is_lt o)) (e ∷ begun n es) (begun n es)) (nat_cmp_more n e.0 less)
+      | inr more ↦ ap (λ (o : Ordering). cond (true && not (is_lt o)) (e ∷ begun n es) (begun n es)) (nat_cmp_same n e.0 (omega (arith, h, more)))
     ]
 
-begun-behind : (n : ℕ) (e : Entry) (es : List Entry) → n < e.0 → begun n (e ∷ es) ≡ begun n es
-begun-behind n e es h = ap (λ (o : Ordering). cond (true && not (is_lt o)) (e ∷ begun n es) (begun n es)) (nat_cmp-less n e.0 h)
+begun_behind : (n : ℕ) (e : Entry) (es : List Entry) → n < e.0 → begun n (e ∷ es) ≡ begun n es
+begun_behind n e es h = ap (λ (o : Ordering). cond (true && not (is_lt o)) (e ∷ begun n es) (begun n es)) (nat_cmp_less n e.0 h)
 
-begun-none : (q n : ℕ) (es : List Entry) → AreRuns q (runs_of es) → n ≤ q + 1 → begun n es ≡ []
-begun-none q n [] r h = refl
-begun-none q n (e ∷ es) r h = begun-behind n e es (omega (arith, r.0, h)) ∙ begun-none e.1 n es r.2 (omega (arith, r.0, r.1, h))
+begun_none : (q n : ℕ) (es : List Entry) → AreRuns q (runs_of es) → n ≤ q + 1 → begun n es ≡ []
+begun_none q n [] r h = refl
+begun_none q n (e ∷ es) r h = begun_behind n e es (omega (arith, r.0, h)) ∙ begun_none e.1 n es r.2 (omega (arith, r.0, r.1, h))
 
-pub last_entry-end : (t : List Entry) (e : Entry) → last_entry (t ++ e ∷ []) ≡ Some e
-last_entry-end [] e = refl
-last_entry-end (x ∷ []) e = refl
-last_entry-end (x ∷ y ∷ t) e = last_entry-end (y ∷ t) e
+pub last_entry_end : (t : List Entry) (e : Entry) → last_entry (t ++ e ∷ []) ≡ Some e
+last_entry_end [] e = refl
+last_entry_end (x ∷ []) e = refl
+last_entry_end (x ∷ y ∷ t) e = last_entry_end (y ∷ t) e
 
 -- ---- the run that is written
 
@@ -92,44 +92,44 @@ abbrev pub written : (n first last : ℕ) → List Entry → List Entry
 written n first last es =
     cond (ltb n last) (remove_entry (is_at (nat_cmp (n + 1))) (insert_entry nat_cmp es first last)) (insert_entry nat_cmp es first last)
 
-pub written-joined : (n first last : ℕ) (es : List Entry) → n < last → written n first last es ≡ remove_entry (is_at (nat_cmp (n + 1))) (insert_entry nat_cmp es first last)
-written-joined n first last es h = ap (λ (v : Bool). cond v (remove_entry (is_at (nat_cmp (n + 1))) (insert_entry nat_cmp es first last)) (insert_entry nat_cmp es first last)) (lt-ltb n last h)
+pub written_joined : (n first last : ℕ) (es : List Entry) → n < last → written n first last es ≡ remove_entry (is_at (nat_cmp (n + 1))) (insert_entry nat_cmp es first last)
+written_joined n first last es h = ap (λ (v : Bool). cond v (remove_entry (is_at (nat_cmp (n + 1))) (insert_entry nat_cmp es first last)) (insert_entry nat_cmp es first last)) (lt-ltb n last h)
 
-pub written-put : (n first last : ℕ) (es : List Entry) → last ≤ n → written n first last es ≡ insert_entry nat_cmp es first last
-written-put n first last es h = ap (λ (v : Bool). cond v (remove_entry (is_at (nat_cmp (n + 1))) (insert_entry nat_cmp es first last)) (insert_entry nat_cmp es first last)) (le-ltb n last h)
+pub written_put : (n first last : ℕ) (es : List Entry) → last ≤ n → written n first last es ≡ insert_entry nat_cmp es first last
+written_put n first last es h = ap (λ (v : Bool). cond v (remove_entry (is_at (nat_cmp (n + 1))) (insert_entry nat_cmp es first last)) (insert_entry nat_cmp es first last)) (le-ltb n last h)
 
-written-alone : (n first : ℕ) (es : List Entry) → written n first n es ≡ insert_entry nat_cmp es first n
-written-alone n first es = written-put n first n es (omega arith)
+written_alone : (n first : ℕ) (es : List Entry) → written n first n es ≡ insert_entry nat_cmp es first n
+written_alone n first es = written_put n first n es (omega arith)
 
-written-past : (n first last : ℕ) (e : Entry) (es : List Entry) → e.0 < first → e.0 < n → written n first last (e ∷ es) ≡ e ∷ written n first last es
-written-past n first last e es h k =
+written_past : (n first last : ℕ) (e : Entry) (es : List Entry) → e.0 < first → e.0 < n → written n first last (e ∷ es) ≡ e ∷ written n first last es
+written_past n first last e es h k =
     elim (cases_lt n last) [
       | inl longer ↦
-          written-joined n first last (e ∷ es) longer
-          ∙ (ap (λ z. remove_entry (is_at (nat_cmp (n + 1))) z) (insert-past first last e es h)
-          ∙ (remove-past (n + 1) e (insert_entry nat_cmp es first last) (omega (arith, k))
-          ∙ ap (λ z. e ∷ z) (sym (written-joined n first last es longer))))
-      | inr alone ↦ written-put n first last (e ∷ es) alone ∙ (insert-past first last e es h ∙ ap (λ z. e ∷ z) (sym (written-put n first last es alone)))
+          written_joined n first last (e ∷ es) longer
+          ∙ (ap (λ z. remove_entry (is_at (nat_cmp (n + 1))) z) (insert_past first last e es h)
+          ∙ (remove_past (n + 1) e (insert_entry nat_cmp es first last) (omega (arith, k))
+          ∙ ap (λ z. e ∷ z) (sym (written_joined n first last es longer))))
+      | inr alone ↦ written_put n first last (e ∷ es) alone ∙ (insert_past first last e es h ∙ ap (λ z. e ∷ z) (sym (written_put n first last es alone)))
     ]
 
 -- ---- the run that is found
 
 -- one that ends before n - 1 doesn't count
-held-past : (n : ℕ) (e : Entry) (fs : List Entry) → e.1 + 1 < n → is_held n (last_entry (e ∷ fs)) ≡ is_held n (last_entry fs)
-held-past n e [] h = lt-leb n e.1 (omega (arith, h))
-held-past n e (f ∷ fs) h = refl
+held_past : (n : ℕ) (e : Entry) (fs : List Entry) → e.1 + 1 < n → is_held n (last_entry (e ∷ fs)) ≡ is_held n (last_entry fs)
+held_past n e [] h = lt-leb n e.1 (omega (arith, h))
+held_past n e (f ∷ fs) h = refl
 
-first-past : (n : ℕ) (e : Entry) (fs : List Entry) → e.1 + 1 < n → first_with n (last_entry (e ∷ fs)) ≡ first_with n (last_entry fs)
-first-past n e [] h = ap (λ (v : Bool). cond v e.0 n) (ne_eqb n (suc e.1) (omega (arith, h)))
-first-past n e (f ∷ fs) h = refl
+first_past : (n : ℕ) (e : Entry) (fs : List Entry) → e.1 + 1 < n → first_with n (last_entry (e ∷ fs)) ≡ first_with n (last_entry fs)
+first_past n e [] h = ap (λ (v : Bool). cond v e.0 n) (ne_eqb n (suc e.1) (omega (arith, h)))
+first_past n e (f ∷ fs) h = refl
 
 -- the run begins above what lies below
-first-above : (low q n : ℕ) (es : List Entry) → AreRuns q (runs_of es) → low ≤ q → low < n → low < first_with n (run_at n es)
-first-above low q n [] r l h = h
-first-above low q n (e ∷ es) r l h =
+first_above : (low q n : ℕ) (es : List Entry) → AreRuns q (runs_of es) → low ≤ q → low < n → low < first_with n (run_at n es)
+first_above low q n [] r l h = h
+first_above low q n (e ∷ es) r l h =
     elim (cases_lt n e.0) [
-      | inl less ↦ subst (λ (z : List Entry). low < first_with n (last_entry z)) (sym (begun-behind n e es less)) (first-above low e.1 n es r.2 (omega (arith, l, r.0, r.1)) h)
-      | inr more ↦ subst (λ (z : List Entry). low < first_with n (last_entry z)) (sym (begun-past n e es more)) (either (begun n es) (first-above low e.1 n es r.2 (omega (arith, l, r.0, r.1)) h))
+      | inl less ↦ subst (λ (z : List Entry). low < first_with n (last_entry z)) (sym (begun_behind n e es less)) (first_above low e.1 n es r.2 (omega (arith, l, r.0, r.1)) h)
+      | inr more ↦ subst (λ (z : List Entry). low < first_with n (last_entry z)) (sym (begun_past n e es more)) (either (begun n es) (first_above low e.1 n es r.2 (omega (arith, l, r.0, r.1)) h))
     ]
   where
     either : (fs : List Entry) → low < first_with n (last_entry fs) → low < first_with n (last_entry (e ∷ fs))
@@ -151,37 +151,37 @@ finish : (n first last : ℕ) (es zs : List Entry) → first_with n (run_at n es
 finish n first last es zs f l w a =
     ap (λ x. runs_of (written n x (last_with n es) es)) f ∙ (ap (λ y. runs_of (written n first y es)) l ∙ (ap runs_of w ∙ a))
 
-add_here-before : (n : ℕ) (b : Run) (rs : List Run) → n + 1 < b.first → add_here n b rs ≡ run n n ∷ (b ∷ rs)
-add_here-before n b rs h = rw (lt-ltb (n + 1) b.first h)
+add_here_before : (n : ℕ) (b : Run) (rs : List Run) → n + 1 < b.first → add_here n b rs ≡ run n n ∷ (b ∷ rs)
+add_here_before n b rs h = rw (lt-ltb (n + 1) b.first h)
 
-add_here-first : (n : ℕ) (b : Run) (rs : List Run) → n + 1 ≡ b.first → add_here n b rs ≡ run n b.last ∷ rs
-add_here-first n b rs h = rw (le-ltb (n + 1) b.first (omega arith), eq-eqb (n + 1) b.first h)
+add_here_first : (n : ℕ) (b : Run) (rs : List Run) → n + 1 ≡ b.first → add_here n b rs ≡ run n b.last ∷ rs
+add_here_first n b rs h = rw (le-ltb (n + 1) b.first (omega arith), eq-eqb (n + 1) b.first h)
 
-add_here-after : (n : ℕ) (b : Run) (rs : List Run) → b.first ≤ n → b.last < n → add_here n b rs ≡ grown_to b.first n rs
-add_here-after n b rs h k = rw (le-ltb (n + 1) b.first (omega arith), ne_eqb (n + 1) b.first (omega arith), lt-leb n b.last k)
+add_here_after : (n : ℕ) (b : Run) (rs : List Run) → b.first ≤ n → b.last < n → add_here n b rs ≡ grown_to b.first n rs
+add_here_after n b rs h k = rw (le-ltb (n + 1) b.first (omega arith), ne_eqb (n + 1) b.first (omega arith), lt-leb n b.last k)
 
-grown_to-joins : (f n : ℕ) (c : Run) (qs : List Run) → c.first ≡ n + 1 → grown_to f n (c ∷ qs) ≡ run f c.last ∷ qs
-grown_to-joins f n c qs h = rw (eq-eqb c.first (n + 1) h)
+grown_to_joins : (f n : ℕ) (c : Run) (qs : List Run) → c.first ≡ n + 1 → grown_to f n (c ∷ qs) ≡ run f c.last ∷ qs
+grown_to_joins f n c qs h = rw (eq-eqb c.first (n + 1) h)
 
-grown_to-apart : (f n : ℕ) (c : Run) (qs : List Run) → c.first ≢ n + 1 → grown_to f n (c ∷ qs) ≡ run f n ∷ (c ∷ qs)
-grown_to-apart f n c qs h = rw (ne_eqb c.first (n + 1) h)
+grown_to_apart : (f n : ℕ) (c : Run) (qs : List Run) → c.first ≢ n + 1 → grown_to f n (c ∷ qs) ≡ run f n ∷ (c ∷ qs)
+grown_to_apart f n c qs h = rw (ne_eqb c.first (n + 1) h)
 
 -- behind a run that ends before n - 1
 put_past : (n : ℕ) (e : Entry) (es : List Entry) → AreRuns e.1 (runs_of es) → e.0 ≤ e.1 → e.1 + 1 < n → Put n es → Put n (e ∷ es)
 put_past n e es r o past p =
-    let split = begun-past n e es (omega (arith, o, past)) in
+    let split = begun_past n e es (omega (arith, o, past)) in
     let behind : in_runs (run_of e ∷ runs_of es) n ≡ in_runs (runs_of es) n = later n (run_of e) (runs_of es) (omega (arith, past)) in
     let f = first_with n (run_at n es) in
     let l = last_with n es in
-    let firsts = ap (λ z. first_with n (last_entry z)) split ∙ first-past n e (begun n es) past in
-    let lasts = ap (λ z. unwrap_or z n) (lookup-past (n + 1) e es (omega (arith, o, past))) in
+    let firsts = ap (λ z. first_with n (last_entry z)) split ∙ first_past n e (begun n es) past in
+    let lasts = ap (λ z. unwrap_or z n) (lookup_past (n + 1) e es (omega (arith, o, past))) in
     let here : add_number n (run_of e ∷ runs_of es) ≡ run_of e ∷ add_number n (runs_of es) = ap (λ (v : Bool). cond v (run_of e ∷ add_number n (runs_of es)) (add_here n (run_of e) (runs_of es))) (lt-ltb (e.1 + 1) n past) in
     record {
-      held = ap (λ z. is_held n (last_entry z)) split ∙ (held-past n e (begun n es) past ∙ (p.held ∙ sym behind));
+      held = ap (λ z. is_held n (last_entry z)) split ∙ (held_past n e (begun n es) past ∙ (p.held ∙ sym behind));
       added = λ h.
           ap (λ x. runs_of (written n x (last_with n (e ∷ es)) (e ∷ es))) firsts
           ∙ (ap (λ y. runs_of (written n f y (e ∷ es))) lasts
-          ∙ (ap runs_of (written-past n f l e es (first-above e.0 e.1 n es r o (omega (arith, o, past))) (omega (arith, o, past)))
+          ∙ (ap runs_of (written_past n f l e es (first_above e.0 e.1 n es r o (omega (arith, o, past))) (omega (arith, o, past)))
           ∙ (ap (λ z. run_of e ∷ z) (p.added (sym behind ∙ h)) ∙ sym here)));
     }
 
@@ -190,7 +190,7 @@ module _ (q n : ℕ) (e : Entry) (es : List Entry) (r : AreRuns q (runs_of (e �
   at_here = ap (λ (v : Bool). cond v (run_of e ∷ add_number n (runs_of es)) (add_here n (run_of e) (runs_of es))) (le-ltb (e.1 + 1) n here)
 
   none : begun n es ≡ []
-  none = begun-none e.1 n es r.2 here
+  none = begun_none e.1 n es r.2 here
 
   -- before the run
   put_before : n < e.0 → Put n (e ∷ es)
@@ -200,25 +200,25 @@ module _ (q n : ℕ) (e : Entry) (es : List Entry) (r : AreRuns q (runs_of (e �
   }
     where
       at : run_at n (e ∷ es) ≡ None
-      at = ap last_entry (begun-behind n e es before ∙ none)
+      at = ap last_entry (begun_behind n e es before ∙ none)
 
       alone : n + 1 < e.0 → runs_of (written n (first_with n (run_at n (e ∷ es))) (last_with n (e ∷ es)) (e ∷ es)) ≡ add_number n (runs_of (e ∷ es))
       alone apart =
-          let free = lookup-past (n + 1) e es (omega (arith, apart)) ∙ lookup-above e.1 (n + 1) es r.2 (omega (arith, before, r.1)) in
+          let free = lookup_past (n + 1) e es (omega (arith, apart)) ∙ lookup_above e.1 (n + 1) es r.2 (omega (arith, before, r.1)) in
           finish n n n (e ∷ es) ((n, n) ∷ e ∷ es) (ap (first_with n) at) (ap (λ z. unwrap_or z n) free)
-          (written-alone n n (e ∷ es) ∙ insert-before n n e es before) (sym (at_here ∙ add_here-before n (run_of e) (runs_of es) apart))
+          (written_alone n n (e ∷ es) ∙ insert_before n n e es before) (sym (at_here ∙ add_here_before n (run_of e) (runs_of es) apart))
 
       joined : n + 1 ≡ e.0 → runs_of (written n (first_with n (run_at n (e ∷ es))) (last_with n (e ∷ es)) (e ∷ es)) ≡ add_number n (runs_of (e ∷ es))
       joined touches =
-          finish n n e.1 (e ∷ es) ((n, e.1) ∷ es) (ap (first_with n) at) (ap (λ z. unwrap_or z n) (lookup-here (n + 1) e es touches))
-          (written-joined n n e.1 (e ∷ es) (omega (arith, before, r.1))
-          ∙ (ap (λ z. remove_entry (is_at (nat_cmp (n + 1))) z) (insert-before n e.1 e es before)
-          ∙ (remove-past (n + 1) (n, e.1) (e ∷ es) (omega arith) ∙ ap (λ z. (n, e.1) ∷ z) (remove-here (n + 1) e es touches))))
-          (sym (at_here ∙ add_here-first n (run_of e) (runs_of es) touches))
+          finish n n e.1 (e ∷ es) ((n, e.1) ∷ es) (ap (first_with n) at) (ap (λ z. unwrap_or z n) (lookup_here (n + 1) e es touches))
+          (written_joined n n e.1 (e ∷ es) (omega (arith, before, r.1))
+          ∙ (ap (λ z. remove_entry (is_at (nat_cmp (n + 1))) z) (insert_before n e.1 e es before)
+          ∙ (remove_past (n + 1) (n, e.1) (e ∷ es) (omega arith) ∙ ap (λ z. (n, e.1) ∷ z) (remove_here (n + 1) e es touches))))
+          (sym (at_here ∙ add_here_first n (run_of e) (runs_of es) touches))
 
   module _ (started : e.0 ≤ n) where
     at : run_at n (e ∷ es) ≡ Some e
-    at = ap last_entry (begun-past n e es started ∙ ap (λ z. e ∷ z) none)
+    at = ap last_entry (begun_past n e es started ∙ ap (λ z. e ∷ z) none)
 
     -- in the run
     put_within : n ≤ e.1 → Put n (e ∷ es)
@@ -235,7 +235,7 @@ module _ (q n : ℕ) (e : Entry) (es : List Entry) (r : AreRuns q (runs_of (e �
       first_is = ap (first_with n) at ∙ ap (λ (v : Bool). cond v e.0 n) (eq-eqb n (suc e.1) (omega (arith, ends, here)))
 
       grows : add_number n (runs_of (e ∷ es)) ≡ grown_to e.0 n (runs_of es)
-      grows = at_here ∙ add_here-after n (run_of e) (runs_of es) started ends
+      grows = at_here ∙ add_here_after n (run_of e) (runs_of es) started ends
 
       held_is : is_held n (run_at n (e ∷ es)) ≡ in_runs (runs_of (e ∷ es)) n
       held_is =
@@ -246,20 +246,20 @@ module _ (q n : ℕ) (e : Entry) (es : List Entry) (r : AreRuns q (runs_of (e �
       grown_alone : lookup (is_at (nat_cmp (n + 1))) es ≡ None → grown_to e.0 n (runs_of es) ≡ run e.0 n ∷ runs_of es
           → runs_of (written n (first_with n (run_at n (e ∷ es))) (last_with n (e ∷ es)) (e ∷ es)) ≡ add_number n (runs_of (e ∷ es))
       grown_alone free apart =
-          finish n e.0 n (e ∷ es) ((e.0, n) ∷ es) first_is (ap (λ z. unwrap_or z n) (lookup-past (n + 1) e es (omega (arith, started)) ∙ free))
-          (written-alone n e.0 (e ∷ es) ∙ insert-here e.0 n e es refl) (sym (grows ∙ apart))
+          finish n e.0 n (e ∷ es) ((e.0, n) ∷ es) first_is (ap (λ z. unwrap_or z n) (lookup_past (n + 1) e es (omega (arith, started)) ∙ free))
+          (written_alone n e.0 (e ∷ es) ∙ insert_here e.0 n e es refl) (sym (grows ∙ apart))
 
   -- one does
   grown_joined : (f : Entry) (fs : List Entry) → e.0 ≤ n → e.1 < n → es ≡ f ∷ fs → f.0 ≡ n + 1 → f.0 ≤ f.1
       → runs_of (written n (first_with n (run_at n (e ∷ es))) (last_with n (e ∷ es)) (e ∷ es)) ≡ add_number n (runs_of (e ∷ es))
   grown_joined f fs started ends split touches full =
-      let found : lookup (is_at (nat_cmp (n + 1))) es ≡ Some f.1 = ap (λ z. lookup (is_at (nat_cmp (n + 1))) z) split ∙ lookup-here (n + 1) f fs (sym touches) in
-      let taken : remove_entry (is_at (nat_cmp (n + 1))) es ≡ fs = ap (λ z. remove_entry (is_at (nat_cmp (n + 1))) z) split ∙ remove-here (n + 1) f fs (sym touches) in
-      let wide : grown_to e.0 n (runs_of es) ≡ run e.0 f.1 ∷ runs_of fs = ap (λ z. grown_to e.0 n (runs_of z)) split ∙ grown_to-joins e.0 n (run_of f) (runs_of fs) touches in
-      finish n e.0 f.1 (e ∷ es) ((e.0, f.1) ∷ fs) (first_is started ends) (ap (λ z. unwrap_or z n) (lookup-past (n + 1) e es (omega (arith, started)) ∙ found))
-      (written-joined n e.0 f.1 (e ∷ es) (omega (arith, touches, full))
-      ∙ (ap (λ z. remove_entry (is_at (nat_cmp (n + 1))) z) (insert-here e.0 f.1 e es refl)
-      ∙ (remove-past (n + 1) (e.0, f.1) es (omega (arith, started)) ∙ ap (λ z. (e.0, f.1) ∷ z) taken)))
+      let found : lookup (is_at (nat_cmp (n + 1))) es ≡ Some f.1 = ap (λ z. lookup (is_at (nat_cmp (n + 1))) z) split ∙ lookup_here (n + 1) f fs (sym touches) in
+      let taken : remove_entry (is_at (nat_cmp (n + 1))) es ≡ fs = ap (λ z. remove_entry (is_at (nat_cmp (n + 1))) z) split ∙ remove_here (n + 1) f fs (sym touches) in
+      let wide : grown_to e.0 n (runs_of es) ≡ run e.0 f.1 ∷ runs_of fs = ap (λ z. grown_to e.0 n (runs_of z)) split ∙ grown_to_joins e.0 n (run_of f) (runs_of fs) touches in
+      finish n e.0 f.1 (e ∷ es) ((e.0, f.1) ∷ fs) (first_is started ends) (ap (λ z. unwrap_or z n) (lookup_past (n + 1) e es (omega (arith, started)) ∙ found))
+      (written_joined n e.0 f.1 (e ∷ es) (omega (arith, touches, full))
+      ∙ (ap (λ z. remove_entry (is_at (nat_cmp (n + 1))) z) (insert_here e.0 f.1 e es refl)
+      ∙ (remove_past (n + 1) (e.0, f.1) es (omega (arith, started)) ∙ ap (λ z. (e.0, f.1) ∷ z) taken)))
       (sym (grows started ends ∙ wide))
 
 put_behind : (q n : ℕ) (e : Entry) (es : List Entry) → AreRuns q (runs_of (e ∷ es)) → n ≤ e.1 + 1 → e.0 ≤ n → e.1 < n → Put n (e ∷ es)
@@ -272,14 +272,14 @@ put_behind q n e (f ∷ fs) r here started ends =
           elim (cases_lt (n + 1) f.0) [
             | inl apart ↦
                 grown_alone q n e (f ∷ fs) r here started ends
-                (lookup-past (n + 1) f fs (omega (arith, apart)) ∙ lookup-above f.1 (n + 1) fs next.2 (omega (arith, apart, next.1)))
-                (grown_to-apart e.0 n (run_of f) (runs_of fs) (omega (arith, apart)))
+                (lookup_past (n + 1) f fs (omega (arith, apart)) ∙ lookup_above f.1 (n + 1) fs next.2 (omega (arith, apart, next.1)))
+                (grown_to_apart e.0 n (run_of f) (runs_of fs) (omega (arith, apart)))
             | inr touches ↦ grown_joined q n e (f ∷ fs) r here f fs started ends refl (omega (arith, touches, next.0, ends)) next.1
           ];
     }
 
 put : (q n : ℕ) (es : List Entry) → AreRuns q (runs_of es) → Put n es
-put q n [] r = record { held = refl; added = λ h. ap runs_of (written-alone n n []) }
+put q n [] r = record { held = refl; added = λ h. ap runs_of (written_alone n n []) }
 put q n (e ∷ es) r =
     elim (cases_lt (e.1 + 1) n) [
       | inl past ↦ put_past n e es r.2 r.1 past (put e.1 n es r.2)
@@ -305,7 +305,7 @@ up_to_last p n [] r h = absurd (cc)
 up_to_last p n (b ∷ rs) r h =
     elim (cases_lt b.last n) [
       | inl past ↦ up_to_last b.last n rs r.2 (sym (later n b rs past) ∙ h)
-      | inr here ↦ omega (arith, here, le-last_above b.last rs r.2)
+      | inr here ↦ omega (arith, here, le_last_above b.last rs r.2)
     ]
 
 pub adds_held : (n : ℕ) (es : List Entry) → AreRuns 0 (runs_of es) → is_held n (run_at n es) ≡ true → Adds n (runs_of es) false (runs_of es)
@@ -355,12 +355,12 @@ run_above p (suc k) (e ∷ es) d r l =
     let more = run_above e.1 k es d r.2 (omega arith) in
     (omega (arith, more.0, r.0, r.1), more.1)
 
-pub runs_of-read : (n : ℕ) (es : List Entry) → runs_of (take n (map read es)) ≡ take n (runs_of es)
-runs_of-read zero es = refl
-runs_of-read (suc n) [] = refl
-runs_of-read (suc n) (e ∷ es) = ap (λ z. run_of e ∷ z) (runs_of-read n es)
+pub runs_of_read : (n : ℕ) (es : List Entry) → runs_of (take n (map read es)) ≡ take n (runs_of es)
+runs_of_read zero es = refl
+runs_of_read (suc n) [] = refl
+runs_of_read (suc n) (e ∷ es) = ap (λ z. run_of e ∷ z) (runs_of_read n es)
 
-pub AreRuns-take : (p n : ℕ) (rs : List Run) → AreRuns p rs → AreRuns p (take n rs)
-AreRuns-take p zero rs r = tt
-AreRuns-take p (suc n) [] r = tt
-AreRuns-take p (suc n) (b ∷ rs) r = (r.0, r.1, AreRuns-take b.last n rs r.2)
+pub AreRuns_take : (p n : ℕ) (rs : List Run) → AreRuns p rs → AreRuns p (take n rs)
+AreRuns_take p zero rs r = tt
+AreRuns_take p (suc n) [] r = tt
+AreRuns_take p (suc n) (b ∷ rs) r = (r.0, r.1, AreRuns_take b.last n rs r.2)

@@ -8,7 +8,7 @@ use Rattle.sctp_chunk.specs.declared.sack.GapAckBlock.{GapAckBlock}
 use Rattle.sctp_chunk.specs.Covered as covered
 use Rattle.sctp_tracker.specs.Seen.{Run, Seen, in_runs, AreRuns, contains, IsInRuns}
 use Rattle.sctp_tracker.specs.Sack.{block, blocks_of, gap_ack_blocks}
-use Rattle.sctp_tracker.specs.Told.{is_above, IsMaximalRun, begins_run, runs_below, IsTold}
+use Rattle.sctp_tracker.specs.Reported.{is_above, IsMaximalRun, begins_run, runs_below, IsReported}
 use Rattle.sctp_tracker.proofs.SeenOneFormLemmas.{before_first, past_last, within, later, above_front}
 
 -- ---- how many runs begin
@@ -20,10 +20,10 @@ one_more : (s : Seen) (o k : ℕ) (begun : Bool) → begins_run s o ≡ begun �
 one_more s o k begun e f = rw (e, f) refl
 
 -- where none begins, none is counted
-runs_below-flat : (s : Seen) (low d : ℕ) → ((o : ℕ) → low ≤ o → o < low + d → begins_run s o ≡ false) → runs_below s (low + d) ≡ runs_below s low
-runs_below-flat s low zero none = same_count s (low + 0) low (omega arith)
-runs_below-flat s low (suc d) none =
-    let before = runs_below-flat s low d (λ o h k. none o h (omega (arith, k))) in
+runs_below_flat : (s : Seen) (low d : ℕ) → ((o : ℕ) → low ≤ o → o < low + d → begins_run s o ≡ false) → runs_below s (low + d) ≡ runs_below s low
+runs_below_flat s low zero none = same_count s (low + 0) low (omega arith)
+runs_below_flat s low (suc d) none =
+    let before = runs_below_flat s low d (λ o h k. none o h (omega (arith, k))) in
     let here = none (low + d) (omega arith) (omega arith) in
     same_count s (low + suc d) (suc (low + d)) (omega arith) ∙ (one_more s (low + d) (runs_below s low) false here before ∙ plus_zero (runs_below s low))
   where
@@ -37,16 +37,16 @@ step_rises s o = rises (runs_below s o) (begins_run s o)
     rises k true = omega arith
     rises k false = omega arith
 
-runs_below-rises : (s : Seen) (low d : ℕ) → runs_below s low ≤ runs_below s (low + d)
-runs_below-rises s low zero =
+runs_below_rises : (s : Seen) (low d : ℕ) → runs_below s low ≤ runs_below s (low + d)
+runs_below_rises s low zero =
     let same = same_count s (low + 0) low (omega arith) in
     equal_at_most (runs_below s low) (runs_below s (low + 0)) same
   where
     equal_at_most : (a b : ℕ) → b ≡ a → a ≤ b
     equal_at_most a b e = omega (arith, e)
-runs_below-rises s low (suc d) =
+runs_below_rises s low (suc d) =
     let same = same_count s (low + suc d) (suc (low + d)) (omega arith) in
-    passes (runs_below s low) (runs_below s (low + d)) (runs_below s (suc (low + d))) (runs_below s (low + suc d)) (runs_below-rises s low d) (step_rises s (low + d)) same
+    passes (runs_below s low) (runs_below s (low + d)) (runs_below s (suc (low + d))) (runs_below s (low + suc d)) (runs_below_rises s low d) (step_rises s (low + d)) same
   where
     passes : (a b c d : ℕ) → a ≤ b → b ≤ c → d ≡ c → a ≤ d
     passes a b c d h k e = omega (arith, h, k, e)
@@ -113,7 +113,7 @@ module _ (s : Seen) where
     count_before =
         let low : ℕ = q - s.front + 1 in
         let d : ℕ = r.first - s.front - low in
-        let none = runs_below-flat s low d (λ o h m. none_begins s o (is_before o (omega (arith, h, l.onward)) (omega (arith, m)))) in
+        let none = runs_below_flat s low d (λ o h m. none_begins s o (is_before o (omega (arith, h, l.onward)) (omega (arith, m)))) in
         same_count s (r.first - s.front) (low + d) (omega (arith, l.onward, l.runs.0)) ∙ (none ∙ l.count)
 
     count_here : runs_below s (r.first - s.front + 1) ≡ suc k
@@ -127,7 +127,7 @@ module _ (s : Seen) where
     count_behind =
         let low : ℕ = r.first - s.front + 1 in
         let d : ℕ = r.last - r.first in
-        let none = runs_below-flat s low d (λ o h m. goes_on s o (is_within (o - 1) (omega (arith, h, l.onward, l.runs.0)) (omega (arith, h, m, l.onward, l.runs.0, l.runs.1)))) in
+        let none = runs_below_flat s low d (λ o h m. goes_on s o (is_within (o - 1) (omega (arith, h, l.onward, l.runs.0)) (omega (arith, h, m, l.onward, l.runs.0, l.runs.1)))) in
         same_count s (r.last - s.front + 1) (low + d) (omega (arith, l.onward, l.runs.0, l.runs.1)) ∙ (none ∙ count_here)
 
     next : Next q k r rs
@@ -166,7 +166,7 @@ module _ (s : Seen) where
 
   -- ---- each block is told
 
-  told_from : (q k n : ℕ) (rs : List Run) → Left q k rs → k + n ≡ 20 → AllByRecursion (IsTold s) (blocks_of s.front (take n rs))
+  told_from : (q k n : ℕ) (rs : List Run) → Left q k rs → k + n ≡ 20 → AllByRecursion (IsReported s) (blocks_of s.front (take n rs))
   told_from q k zero rs l e = tt
   told_from q k (suc n) [] l e = tt
   told_from q k (suc n) (r ∷ rs) l e =
@@ -193,10 +193,10 @@ module _ (s : Seen) where
   behind : (x b : GapAckBlock) (bs : List GapAckBlock) → Contains bs b → Contains (x ∷ bs) b
   behind x b bs found = (suc found.0, omega (arith, found.1), found.2)
 
-  every_from : (q k n : ℕ) (rs : List Run) (b : GapAckBlock) → Left q k rs → k + n ≡ 20 → IsTold s b → q < s.front + b.start → Contains (blocks_of s.front (take n rs)) b
+  every_from : (q k n : ℕ) (rs : List Run) (b : GapAckBlock) → Left q k rs → k + n ≡ 20 → IsReported s b → q < s.front + b.start → Contains (blocks_of s.front (take n rs)) b
   every_from q k zero rs b l e t h =
       let low : ℕ = q - s.front + 1 in
-      let more = runs_below-rises s low (b.start - low) in
+      let more = runs_below_rises s low (b.start - low) in
       let same = same_count s (low + (b.start - low)) b.start (omega (arith, h, l.onward)) in
       absurd (omega (arith, l.count, t.early, more, same, e))
   every_from q k (suc n) [] b l e t h =
@@ -228,13 +228,13 @@ module _ (s : Seen) where
         none : runs_below s (s.front - s.front + 1) ≡ 0
         none = same_count s (s.front - s.front + 1) 1 (omega arith) ∙ one_more s 0 0 false (none_begins s 0 refl) refl
 
-    pub blocks_are_told : All (IsTold s) (gap_ack_blocks s)
-    blocks_are_told = All-from_recursion (IsTold s) (gap_ack_blocks s) (told_from s.front 0 20 s.runs all_left refl)
+    pub blocks_are_told : All (IsReported s) (gap_ack_blocks s)
+    blocks_are_told = All-from_recursion (IsReported s) (gap_ack_blocks s) (told_from s.front 0 20 s.runs all_left refl)
 
     pub blocks_stand_apart : covered.AreRuns 2 (gap_ack_blocks s)
     blocks_stand_apart = apart_from 2 s.front 20 s.runs (omega arith) i (omega arith)
 
-    pub told_are_blocks : (b : GapAckBlock) → IsTold s b → Contains (gap_ack_blocks s) b
+    pub told_are_blocks : (b : GapAckBlock) → IsReported s b → Contains (gap_ack_blocks s) b
     told_are_blocks b t = every_from s.front 0 20 s.runs b all_left refl t (some b.start (t.maximal.inside b.start (omega arith) t.maximal.full))
       where
         some : (o : ℕ) → is_above s o ≡ true → s.front < s.front + o

@@ -8,13 +8,13 @@ use Rattle.sctp_tracker.specs.Tracker.{Tracker, IsTracker, is_valid, window, bou
 use Rattle.sctp_tracker.specs.Sack.{blocks_of, gap_ack_blocks, is_covered}
 
 -- each run takes at least two numbers: its own and a missing one before it
-length-runs : (p : ℕ) (rs : List Run) → AreRuns p rs → p + 2 * length rs ≤ last_above p rs
-length-runs p [] r = omega arith
-length-runs p (b ∷ rs) r = omega (arith, length-runs b.last rs r.2)
+length_runs : (p : ℕ) (rs : List Run) → AreRuns p rs → p + 2 * length rs ≤ last_above p rs
+length_runs p [] r = omega arith
+length_runs p (b ∷ rs) r = omega (arith, length_runs b.last rs r.2)
 
 -- so the window bounds their count
 few_near : (s : Seen) → IsInRuns s → highest s ≤ s.front + window → length s.runs ≤ 50000
-few_near s r near = omega (arith, length-runs s.front s.runs r, near)
+few_near s r near = omega (arith, length_runs s.front s.runs r, near)
 
 pub few_runs : (t : Tracker) → IsTracker t → length t.seen.runs ≤ 50000
 few_runs t i = few_near t.seen i.runs i.near

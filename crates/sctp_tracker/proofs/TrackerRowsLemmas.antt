@@ -4,7 +4,7 @@ use Rattle.sctp_serial.specs.Unwrapped.{origin}
 use Rattle.sctp_serial.specs.declared.types.tsn.Tsn.{Tsn}
 use Rattle.sctp_chunk.specs.declared.sack.GapAckBlock.{GapAckBlock}
 use Rattle.sctp_state.specs.Options.{defaults}
-use Rattle.sctp_tracker.specs.Tracker.{DataTracker, tracker, number_of, is_valid, written, observe, moves_on, forward}
+use Rattle.sctp_tracker.specs.Tracker.{DataTracker, tracker, number_of, is_valid, wire_tsn, observe, moves_on, forward}
 use Rattle.sctp_tracker.specs.Sack.{sack}
 
 -- a tracker whose peer begins with this TSN
@@ -46,7 +46,7 @@ one_gap = refl
 moves : moves_on (number_of after_three 11) after_three.tracker ≡ true
 moves = refl
 
-moved : written after_three (forwarded 11 after_three).tracker.seen.front ≡ 12
+moved : wire_tsn after_three (forwarded 11 after_three).tracker.seen.front ≡ 12
 moved = refl
 
 moves_once : moves_on (number_of (forwarded 11 after_three) 11) (forwarded 11 after_three).tracker ≡ false

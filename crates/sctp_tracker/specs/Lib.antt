@@ -2,5 +2,5 @@ pub mod Seen
 pub mod SeenSteps
 pub mod Tracker
 pub mod Sack
-pub mod Told
+pub mod Reported
 pub mod TrackerHandover

@@ -6,7 +6,7 @@ use Rattle.sctp_serial.specs.Unwrapped.{words, wire}
 use Rattle.sctp_chunk.specs.declared.sack.GapAckBlock.{GapAckBlock}
 use Rattle.sctp_chunk.specs.Chunk.{SackTree}
 use Rattle.sctp_tracker.specs.Seen.{Run, Seen}
-use Rattle.sctp_tracker.specs.Tracker.{Tracker, DataTracker, written}
+use Rattle.sctp_tracker.specs.Tracker.{Tracker, DataTracker, wire_tsn}
 
 -- a run as offsets from the front
 abbrev pub block : ℕ → Run → GapAckBlock
@@ -31,15 +31,15 @@ tsns first ns = map (tsn first) ns
 
 abbrev pub sack : (a_rwnd : ℕ) → DataTracker → SackTree
 sack a_rwnd d = record {
-  cumulative_tsn_ack = written d d.tracker.seen.front;
+  cumulative_tsn_ack = wire_tsn d d.tracker.seen.front;
   a_rwnd = a_rwnd;
   gap_ack_blocks = gap_ack_blocks d.tracker.seen;
   duplicate_tsns = tsns d.first d.tracker.duplicates;
 }
 
 -- the duplicates are told once
-abbrev pub reported : Tracker → Tracker
-reported t = record t { duplicates = [] }
+abbrev pub report : Tracker → Tracker
+report t = record t { duplicates = [] }
 
 -- whether a block covers the offset
 abbrev pub is_covered : List GapAckBlock → ℕ → Bool

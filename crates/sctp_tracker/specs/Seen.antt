@@ -52,16 +52,16 @@ highest s = last_above s.front s.runs
 -- ---- computed. What the results are, `contains` and `IsInRuns` say
 
 -- a run in front of the others, one with the next where they touch
-abbrev pub joined : Run → List Run → List Run
-joined r [] = r ∷ []
-joined r (q ∷ qs) = if q.first == suc r.last then record { first = r.first; last = q.last } ∷ qs else r ∷ q ∷ qs
+abbrev pub join_run : Run → List Run → List Run
+join_run r [] = r ∷ []
+join_run r (q ∷ qs) = if q.first == suc r.last then record { first = r.first; last = q.last } ∷ qs else r ∷ q ∷ qs
 
 -- runs with a number that is in none of them
 abbrev pub with_number : ℕ → List Run → List Run
 with_number n [] = record { first = n; last = n } ∷ []
 with_number n (r ∷ rs) =
-    if nat_lt n r.first then joined (record { first = n; last = n }) (r ∷ rs) else
-    (if n == suc r.last then joined (record { first = r.first; last = n }) rs else r ∷ with_number n rs)
+    if nat_lt n r.first then join_run (record { first = n; last = n }) (r ∷ rs) else
+    (if n == suc r.last then join_run (record { first = r.first; last = n }) rs else r ∷ with_number n rs)
 
 -- a front that takes in what it touches
 abbrev pub settle : ℕ → List Run → Seen

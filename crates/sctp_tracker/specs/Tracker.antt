@@ -29,8 +29,8 @@ pub record DataTracker : Type 0 where
   pub first : ℕ
   pub tracker : Tracker
 
-abbrev pub written : DataTracker → ℕ → ℕ
-written d n = wire words d.first n
+abbrev pub wire_tsn : DataTracker → ℕ → ℕ
+wire_tsn d n = wire words d.first n
 
 -- what a TSN stands for: the number nearest to the cumulative TSN
 abbrev pub number_of : DataTracker → ℕ → ℕ
@@ -75,14 +75,14 @@ abbrev pub acking : AckState → Tracker → Tracker
 acking a t = record t { ack = a; delay = stop t.delay }
 
 -- one more packet is to be acknowledged, and the second one at once
-abbrev pub hastened : AckState → AckState
-hastened Idle = Becoming
-hastened Becoming = Becoming
-hastened Delayed = Immediate
-hastened Immediate = Immediate
+abbrev pub hasten : AckState → AckState
+hasten Idle = Becoming
+hasten Becoming = Becoming
+hasten Delayed = Immediate
+hasten Immediate = Immediate
 
 abbrev pub ack_after : (is_urgent : Bool) → AckState → AckState
-ack_after is_urgent a = if is_urgent then Immediate else hastened a
+ack_after is_urgent a = if is_urgent then Immediate else hasten a
 
 -- what is acknowledged at once: a duplicate, a gap that remains, the I bit (RFC 7053), the first DATA chunk
 abbrev pub is_urgent : (is_new has_gap is_immediate seen_packet : Bool) → Bool
@@ -159,12 +159,12 @@ forward n t = record t {
 -- ---- handed over
 
 -- the least number at or above `origin` that is written so
-abbrev pub placed : ℕ → ℕ → ℕ
-placed first tsn = origin + serial_difference words tsn first
+abbrev pub place : ℕ → ℕ → ℕ
+place first tsn = origin + serial_difference words tsn first
 
 -- a tracker that has seen each number up to this one
-abbrev pub restored : (front : ℕ) (seen_packet : Bool) → Tracker → Tracker
-restored front seen_packet t =
+abbrev pub restore_tracker : (front : ℕ) (seen_packet : Bool) → Tracker → Tracker
+restore_tracker front seen_packet t =
     record t { begin = front; seen = record { front = front; runs = [] }; seen_packet = seen_packet }
 
 -- ---- what is true of every tracker

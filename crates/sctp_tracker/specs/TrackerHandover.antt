@@ -4,7 +4,7 @@ use Rattle.sctp_serial.specs.Serial.{serial_sum}
 use Rattle.sctp_serial.specs.Unwrapped.{words}
 use Rattle.sctp_state.specs.Handover.{Receive}
 use Rattle.sctp_tracker.specs.Seen.{has_gap}
-use Rattle.sctp_tracker.specs.Tracker.{Tracker, DataTracker, written, placed, restored}
+use Rattle.sctp_tracker.specs.Tracker.{Tracker, DataTracker, wire_tsn, place, restore_tracker}
 
 -- the bit of runs that are pending
 abbrev pub readiness : Tracker → ℕ
@@ -14,13 +14,13 @@ readiness t = if has_gap t.seen then 8 else 0
 abbrev pub receive : DataTracker → Receive → Receive
 receive d r = record r {
   seen_packet = d.tracker.seen_packet;
-  last_cumulative_acked_tsn = written d d.tracker.seen.front;
-  last_assembled_tsn = written d d.tracker.seen.front;
+  last_cumulative_acked_tsn = wire_tsn d d.tracker.seen.front;
+  last_assembled_tsn = wire_tsn d d.tracker.seen.front;
 }
 
 -- the cumulative TSN that is read: the one behind it is at or above the peer's first one
 abbrev pub front_of : ℕ → Receive → ℕ
-front_of first r = placed first (serial_sum words r.last_cumulative_acked_tsn 1) - 1
+front_of first r = place first (serial_sum words r.last_cumulative_acked_tsn 1) - 1
 
 abbrev pub restore : Receive → DataTracker → DataTracker
-restore r d = record d { tracker = restored (front_of d.first r) r.seen_packet d.tracker }
+restore r d = record d { tracker = restore_tracker (front_of d.first r) r.seen_packet d.tracker }

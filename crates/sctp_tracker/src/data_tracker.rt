@@ -94,15 +94,15 @@ impl Model for DataTracker {
 }
 
 impl DataTracker {
-    ghost use Rattle.sctp_tracker.specs.Tracker.{tracker, update_rto, written, number_of, is_valid, has_seen, observe, moves_on, forward, acking, is_ack_due, take_ack, packet_end, ack_timeout, IsTracker};
-    ghost use Rattle.sctp_tracker.specs.Sack.{sack, reported, is_covered};
-    ghost use Rattle.sctp_tracker.specs.Told.{IsTold, is_duplicate, Ascend};
+    ghost use Rattle.sctp_tracker.specs.Tracker.{tracker, update_rto, wire_tsn, number_of, is_valid, has_seen, observe, moves_on, forward, acking, is_ack_due, take_ack, packet_end, ack_timeout, IsTracker};
+    ghost use Rattle.sctp_tracker.specs.Sack.{sack, report, is_covered};
+    ghost use Rattle.sctp_tracker.specs.Reported.{IsReported, is_duplicate, Ascend};
     ghost use Rattle.sctp_tracker.specs.TrackerHandover.{readiness, receive, restore};
 
     /// A tracker whose least TSN that was not seen is `peer_initial_tsn`.
     pub fn new(alloc: Global, peer_initial_tsn: Tsn, options: &Options) -> DataTracker
         ensures value { result ≡ record { first = peer_initial_tsn.0; tracker = tracker (options_of options.now) origin } }
-        ensures start { written result (result.tracker.seen.front + 1) ≡ peer_initial_tsn.0 }
+        ensures start { wire_tsn result (result.tracker.seen.front + 1) ≡ peer_initial_tsn.0 }
         ensures tracker { IsTracker result.tracker }
     {
         let begin = (1 << 32) - 1;
@@ -139,7 +139,7 @@ impl DataTracker {
 
     /// The cumulative TSN: each number up to it was seen, and the next one was not.
     pub fn last_cumulative_acked_tsn(&self) -> Tsn
-        ensures { result.0 ≡ written self.now self.now.tracker.seen.front }
+        ensures { result.0 ≡ wire_tsn self.now self.now.tracker.seen.front }
     {
         Tsn::wrapped(self.first, self.seen.front())
     }
@@ -210,13 +210,13 @@ impl DataTracker {
 
         // The blocks are the maximal runs of what was seen above the cumulative TSN, ascending, but those behind the first
         // twenty or with an end more than 65,535 above it; the duplicates came again (clause `again` of `observe`).
-        ensures maximal { IfOk result (λ c. All (IsTold self.old.tracker.seen) c.gap_ack_blocks.items) }
+        ensures maximal { IfOk result (λ c. All (IsReported self.old.tracker.seen) c.gap_ack_blocks.items) }
         ensures ascending { IfOk result (λ c. AreRuns 2 c.gap_ack_blocks.items) }
-        ensures every { IfOk result (λ c. (run : GapAckBlock) → IsTold self.old.tracker.seen run → Contains c.gap_ack_blocks.items run) }
+        ensures every { IfOk result (λ c. (run : GapAckBlock) → IsReported self.old.tracker.seen run → Contains c.gap_ack_blocks.items run) }
         ensures once { OnOk result (Ascend 0 self.old.tracker.duplicates) }
         ensures few { length self.old.tracker.duplicates ≤ 20 }
 
-        ensures value { OnOk result (self.new ≡ record self.old { tracker = reported self.old.tracker }) }
+        ensures value { OnOk result (self.new ≡ record self.old { tracker = report self.old.tracker }) }
         ensures tracker { IsTracker self.new.tracker }
         ensures err { OnErr result (self.new ≡ self.old) }
     {

@@ -3,11 +3,11 @@
 ghost use Rattle.std.specs.Prelude.{◌≡◌, [], ◌∷◌, OnOk};
 ghost use Rattle.sctp_wire.specs.Cause.{no_user_data};
 ghost use Rattle.sctp_packet.specs.Chunk.{error_chunk};
-ghost use Rattle.sctp_table.specs.Packets.{emit_chunk};
+ghost use Rattle.spec_endpoint.specs.Packets.{emit_chunk};
 ghost use Rattle.sctp_packet.specs.Views.{viewed_fragment};
-ghost use Rattle.sctp_table.specs.Data.{on_data};
-ghost use Rattle.sctp_endpoint.specs.Views.{context_of, standing_of, state_of, tcb_of};
-ghost use Rattle.sctp_table.specs.Data as table;
+ghost use Rattle.spec_endpoint.specs.Data.{on_data};
+ghost use Rattle.sctp_endpoint.specs.Views.{context_of, endpoint_state_of, state_of, tcb_of};
+ghost use Rattle.spec_endpoint.specs.Data as table;
 
 use sctp_endpoint::{Context, State, TransmissionControlBlock};
 use sctp_error_cause::{ErrorCause, NoUserDataErrorCause};
@@ -24,8 +24,8 @@ pub fn handle_data<C: Checksum>(
     context: &mut Context<C>,
     fragment: DataView<'_>,
 ) -> Result<(), AllocError>
-    ensures { OnOk result (standing_of C.word_of state.new context.new
-        ≡ on_data fragment.entry.tsn.0 fragment.entry.immediate_ack (viewed_fragment fragment.entry) (standing_of C.word_of state.old context.old)) }
+    ensures { OnOk result (endpoint_state_of C.word_of state.new context.new
+        ≡ on_data fragment.entry.tsn.0 fragment.entry.immediate_ack (viewed_fragment fragment.entry) (endpoint_state_of C.word_of state.old context.old)) }
 {
     if fragment.payload.is_empty() {
         return handle_no_data(state, context, fragment.tsn);

@@ -3,9 +3,9 @@
 ghost use Rattle.std.specs.Prelude.{◌≡◌, OnOk};
 ghost use Rattle.std.specs.Option.{option_map};
 ghost use Rattle.std.specs.Duration.{as_nanos};
-ghost use Rattle.sctp_table.specs.Acknowledging.{cleaned, heard, on_sack, on_sack_open, sampled};
+ghost use Rattle.spec_endpoint.specs.Sack.{clean_blocks, after_sack, on_sack, on_sack_open, sample_rtt};
 ghost use Rattle.sctp_tx.specs.Retransmission.{answer_of};
-ghost use Rattle.sctp_endpoint.specs.Views.{context_of, opened_of, phase_of, sack_of, standing_of, tcb_of};
+ghost use Rattle.sctp_endpoint.specs.Views.{context_of, opened_of, phase_of, sack_of, endpoint_state_of, tcb_of};
 
 use sctp_endpoint::{Context, Phase, State, TransmissionControlBlock};
 use sctp_packet::{SackChunk, clean_sack};
@@ -17,7 +17,7 @@ use std::time::Duration;
 
 /// The chunk with its blocks as the maximal runs of the offsets that they cover.
 fn cleaned(sack: SackChunk) -> SackChunk
-    ensures blocks { result.gap_ack_blocks.items ≡ cleaned sack.gap_ack_blocks.items }
+    ensures blocks { result.gap_ack_blocks.items ≡ clean_blocks sack.gap_ack_blocks.items }
     ensures kept { result ≡ record sack { gap_ack_blocks = result.gap_ack_blocks } }
 {
     clean_sack(sack)
@@ -25,7 +25,7 @@ fn cleaned(sack: SackChunk) -> SackChunk
 
 /// A round trip sets the retransmission timeout, which each part counts by.
 fn observe_rtt(tcb: &mut TransmissionControlBlock, rtt: Option<Duration>)
-    ensures { tcb_of tcb.new ≡ sampled (option_map as_nanos rtt) (tcb_of tcb.old) }
+    ensures { tcb_of tcb.new ≡ sample_rtt (option_map as_nanos rtt) (tcb_of tcb.old) }
 {
     let Some(rtt) = rtt else {
         return;
@@ -42,7 +42,7 @@ pub fn handle_sack<C: Checksum>(
     context: &mut Context<C>,
     sack: SackChunk,
 ) -> Result<(), AllocError>
-    ensures { OnOk result (standing_of C.word_of state.new context.new ≡ on_sack (sack_of sack) (standing_of C.word_of state.old context.old)) }
+    ensures { OnOk result (endpoint_state_of C.word_of state.new context.new ≡ on_sack (sack_of sack) (endpoint_state_of C.word_of state.old context.old)) }
 {
     match state {
         State::Closed => context.complain(ErrorKind::NotConnected, "No TCB"),
@@ -74,7 +74,7 @@ fn go_on_by<C: Checksum>(
     answer: HandleSackResult,
 ) -> Result<(), AllocError>
     ensures { OnOk result (opened_of C.word_of phase.new tcb.new context.new
-        ≡ heard (answer_of answer) (phase_of phase.old) (tcb_of tcb.old) (context_of C.word_of context.old)) }
+        ≡ after_sack (answer_of answer) (phase_of phase.old) (tcb_of tcb.old) (context_of C.word_of context.old)) }
 {
     let HandleSackResult::Valid {
         rtt,

@@ -4,9 +4,9 @@ ghost use Rattle.std.specs.Prelude.{◌≡◌, ◌++◌, ◌∷◌, [], false, N
 ghost use Rattle.sctp_wire.specs.Parameter.{reset_response};
 ghost use Rattle.sctp_parameter.specs.ParameterViews.{parameter_tree, result_number};
 ghost use Rattle.sctp_state.specs.Events.{numbers_of};
-ghost use Rattle.sctp_table.specs.Association.{where_open};
-ghost use Rattle.sctp_endpoint.specs.Views.{context_of, handled_of, handling_of, opened_of, phase_of, sent_of, standing_of, state_of, tcb_of};
-ghost use Rattle.sctp_table.specs.Resets as table;
+ghost use Rattle.spec_endpoint.specs.Association.{where_open};
+ghost use Rattle.sctp_endpoint.specs.Views.{context_of, handled_of, handling_of, opened_of, phase_of, sent_of, endpoint_state_of, state_of, tcb_of};
+ghost use Rattle.spec_endpoint.specs.StreamReset as table;
 
 use sctp_endpoint::sending::send_waiting;
 use sctp_endpoint::{Context, Phase, State, TransmissionControlBlock};
@@ -237,7 +237,7 @@ fn take_parameters<C: Checksum>(
     parameters: Vec<Parameter>,
 ) -> Result<(), AllocError>
     ensures { OnOk result (opened_of C.word_of phase.now tcb.new context.new
-        ≡ table.finished (phase_of phase.now) (table.handle_all (map parameter_tree parameters.items) false (handling_of C.word_of tcb.old context.old []))) }
+        ≡ table.finish_resets (phase_of phase.now) (table.handle_all (map parameter_tree parameters.items) false (handling_of C.word_of tcb.old context.old []))) }
 {
     let mut responses = Vec::new(context.alloc);
     let is_whole = handle_parameters(context, tcb, parameters, &mut responses)?;
@@ -277,7 +277,7 @@ fn take_reconfig<C: Checksum>(
 
 /// The reset of a stream is prepared: its messages of which nothing is sent are dropped.
 fn prepare_reset<C: Checksum>(context: &mut Context<C>, id: StreamId) -> Result<(), AllocError>
-    ensures { OnOk result (context_of C.word_of context.new ≡ table.prepared id.0 (context_of C.word_of context.old)) }
+    ensures { OnOk result (context_of C.word_of context.new ≡ table.prepare_stream id.0 (context_of C.word_of context.old)) }
 {
     context
         .send_queue
@@ -308,8 +308,8 @@ pub fn handle_reconfig<C: Checksum>(
     context: &mut Context<C>,
     parameters: Vec<Parameter>,
 ) -> Result<(), AllocError>
-    ensures { OnOk result (standing_of C.word_of state.new context.new
-        ≡ where_open (table.on_reconfig (map parameter_tree parameters.items)) (standing_of C.word_of state.old context.old)) }
+    ensures { OnOk result (endpoint_state_of C.word_of state.new context.new
+        ≡ where_open (table.on_reconfig (map parameter_tree parameters.items)) (endpoint_state_of C.word_of state.old context.old)) }
 {
     match state {
         State::Closed => Ok(()),
@@ -337,8 +337,8 @@ pub fn reset_streams<C: Checksum>(
     streams: &[StreamId],
 ) -> Result<Option<ResetStreamsError>, AllocError>
     ensures answer { IfOk result (λ refusal. refusal ≡ table.reset_refusal (state_of state.old)) }
-    ensures reset { OnOk result (standing_of C.word_of state.new context.new
-        ≡ table.reset_streams (numbers_of streams.now) (standing_of C.word_of state.old context.old)) }
+    ensures reset { OnOk result (endpoint_state_of C.word_of state.new context.new
+        ≡ table.reset_streams (numbers_of streams.now) (endpoint_state_of C.word_of state.old context.old)) }
 {
     let refusal = reset_refusal(state);
     if refusal.is_none() {

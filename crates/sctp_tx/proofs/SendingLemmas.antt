@@ -3,12 +3,12 @@ use Rattle.std.proofs.Common.{◌≡◌, ℕ, zero, suc, ◌+◌, ◌≤◌, ◌
 use Rattle.std.specs.Prelude.{unwrap_or, option_map, is_some, if◌then◌else◌}
 use Rattle.std.proofs.lemmas.List.{length-take}
 use Rattle.sctp_chunk.specs.Chunk.{FragmentTree}
-use Rattle.sctp_state.specs.Events.{Told}
-use Rattle.sctp_send_queue.specs.declared.send_queue.message.MessageNumbers.{MessageNumbers}
-use Rattle.sctp_send_queue.specs.Queue.{Queue, Queued, stream}
-use Rattle.sctp_send_queue.specs.Produced.{Produced, Turn, front_made, front_numbers, streams_without_stale, turn, idle, next_stream, produce_within, produce}
+use Rattle.sctp_state.specs.Events.{Emitted}
+use Rattle.sctp_tx_queue.specs.declared.send_queue.message.MessageNumbers.{MessageNumbers}
+use Rattle.sctp_tx_queue.specs.Queue.{Queue, Queued, stream}
+use Rattle.sctp_tx_queue.specs.Produced.{Produced, Turn, front_made, front_numbers, streams_without_stale, turn, idle, next_stream, produce_within, produce}
 use Rattle.sctp_tx.specs.Retransmission.{Sender}
-use Rattle.sctp_tx.specs.Sending.{Filling, filling, turned, fill}
+use Rattle.sctp_tx.specs.Sending.{Filling, filling, next_turn, fill}
 
 -- ---- fragments fit
 
@@ -24,44 +24,44 @@ module _ {P : Type 0} (now size : ℕ) where
   either_fits true t u f g = f
   either_fits false t u f g = g
 
-  turn_fits : (id : ℕ) (q : Queue) (told : Told P) → Fits size (turn now id size q told).made
+  turn_fits : (id : ℕ) (q : Queue) (told : Emitted P) → Fits size (turn now id size q told).made
   turn_fits id q told =
       let s = stream id (streams_without_stale now id q.streams) in
       front_fits id size (front_numbers s.messages s) s.messages
 
-  next_fits : (turns : ℕ) (q : Queue) (told : Told P) → ((r : Queue) (t : Told P) → Fits size (produce_within turns now size r t).made) → (next : Option ℕ)
+  next_fits : (turns : ℕ) (q : Queue) (told : Emitted P) → ((r : Queue) (t : Emitted P) → Fits size (produce_within turns now size r t).made) → (next : Option ℕ)
       → Fits size (unwrap_or (option_map (λ id.
       let t = turn now id size q told in
-      if is_some t.made then t else produce_within turns now size t.queue t.told) next) (idle q told)).made
+      if is_some t.made then t else produce_within turns now size t.queue t.emitted) next) (idle q told)).made
   next_fits turns q told others None = tt
   next_fits turns q told others (Some id) =
       let t = turn now id size q told in
-      either_fits (is_some t.made) t (produce_within turns now size t.queue t.told) (turn_fits id q told) (others t.queue t.told)
+      either_fits (is_some t.made) t (produce_within turns now size t.queue t.emitted) (turn_fits id q told) (others t.queue t.emitted)
 
-  within_fits : (turns : ℕ) (q : Queue) (told : Told P) → Fits size (produce_within turns now size q told).made
+  within_fits : (turns : ℕ) (q : Queue) (told : Emitted P) → Fits size (produce_within turns now size q told).made
   within_fits zero q told = tt
   within_fits (suc turns) q told = next_fits turns q told (within_fits turns) (next_stream q)
 
-  pub made_fits : (q : Queue) (told : Told P) (made : Option Produced) → made ≡ (produce now size q told).made → Fits size made
+  pub made_fits : (q : Queue) (told : Emitted P) (made : Option Produced) → made ≡ (produce now size q told).made → Fits size made
   made_fits q told made is = rw is (within_fits (length q.scheduler.times + 2) q told)
 
 -- ---- turns
 
-module _ {P : Type 0} (now turns left : ℕ) (s : Sender) (q : Queue) (told : Told P) (chunks : List (ℕ × FragmentTree)) (all : Filling P) where
+module _ {P : Type 0} (now turns left : ℕ) (s : Sender) (q : Queue) (told : Emitted P) (chunks : List (ℕ × FragmentTree)) (all : Filling P) where
   abbrev pub before : Filling P
   before = filling s q told chunks left
 
   -- the last turn
-  pub ended : left < turns → fill turns now before ≡ all → (turned now before).is_more ≡ false → (turned now before).filling ≡ all
+  pub ended : left < turns → fill turns now before ≡ all → (next_turn now before).is_more ≡ false → (next_turn now before).filling ≡ all
   ended enough is stop = ended_by turns enough is where
-    ended_by : (k : ℕ) → left < k → fill k now before ≡ all → (turned now before).filling ≡ all
+    ended_by : (k : ℕ) → left < k → fill k now before ≡ all → (next_turn now before).filling ≡ all
     ended_by zero enough is = absurd (omega (arith, enough))
     ended_by (suc k) enough is = rw stop at is
 
   -- a turn that isn't the last
-  pub goes_on : (t : Sender) (r : Queue) (later : Told P) (longer : List (ℕ × FragmentTree)) (rest : ℕ) → left < turns → fill turns now before ≡ all
-      → (turned now before).is_more ≡ true → t ≡ (turned now before).filling.sender → r ≡ (turned now before).filling.queue
-      → later ≡ (turned now before).filling.told → longer ≡ (turned now before).filling.chunks → rest ≡ (turned now before).filling.left → rest < left
+  pub goes_on : (t : Sender) (r : Queue) (later : Emitted P) (longer : List (ℕ × FragmentTree)) (rest : ℕ) → left < turns → fill turns now before ≡ all
+      → (next_turn now before).is_more ≡ true → t ≡ (next_turn now before).filling.sender → r ≡ (next_turn now before).filling.queue
+      → later ≡ (next_turn now before).filling.emitted → longer ≡ (next_turn now before).filling.chunks → rest ≡ (next_turn now before).filling.left → rest < left
       → (k : ℕ) × (rest < k) × (fill k now (filling t r later longer rest) ≡ all)
   goes_on t r later longer rest enough is more es eq et ec el less = goes_by turns enough is where
     goes_by : (k : ℕ) → left < k → fill k now before ≡ all → (j : ℕ) × (rest < j) × (fill j now (filling t r later longer rest) ≡ all)

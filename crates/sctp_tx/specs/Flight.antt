@@ -1,9 +1,9 @@
 -- What a packet holds, and adds to what is in flight (RFC 9260 section 6.1, rule B).
 use Rattle.std.specs.Prelude.{◌≡◌, ◌≤◌, ℕ, ◌+◌, max, List}
 use Rattle.sctp_chunk.specs.Chunk.{FragmentTree}
-use Rattle.sctp_outstanding.specs.Items.{flight_bytes}
+use Rattle.sctp_tx_outstanding.specs.Items.{flight_bytes}
 use Rattle.sctp_tx.specs.Retransmission.{Sender}
-use Rattle.sctp_tx.specs.Resent.{sizes, mixes}
+use Rattle.sctp_tx.specs.Resent.{sizes, is_interleaved}
 
 -- the bytes in flight are no more than before, or than the congestion window, which stays
 pub record StaysWithin (s after : Sender) : Type 0 where
@@ -17,4 +17,4 @@ pub record AddsAtMost (most : ℕ) (s after : Sender) : Type 0 where
 
 -- chunks with their headers and padding are within the room that was offered
 abbrev pub FitWithin : (most : ℕ) → Sender → List (ℕ × FragmentTree) → Type 0
-FitWithin most s chunks = sizes (mixes s) chunks ≤ most
+FitWithin most s chunks = sizes (is_interleaved s) chunks ≤ most

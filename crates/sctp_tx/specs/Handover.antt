@@ -3,8 +3,8 @@ use Rattle.std.specs.Prelude.{ℕ, ◌&&◌, ◌==◌, not, nat_lt, min, bit_or,
 use Rattle.sctp_state.specs.Numbers.{most_u32}
 use Rattle.sctp_state.specs.Handover.{Transmission}
 use Rattle.sctp_state.specs.Timers.{stop}
-use Rattle.sctp_outstanding.specs.Items.{Outstanding, waiting_items}
-use Rattle.sctp_outstanding.specs.Handover as items
+use Rattle.sctp_tx_outstanding.specs.Items.{Outstanding, waiting_items}
+use Rattle.sctp_tx_outstanding.specs.Handover as items
 use Rattle.sctp_tx.specs.declared.retransmission_queue.windows.Windows.{Windows}
 use Rattle.sctp_tx.specs.Retransmission.{Sender}
 
@@ -24,15 +24,15 @@ readiness is_strict s = bit_or (bit_or (items_bit is_strict s) (recovery_bit s))
 
 -- ---- what is written
 
-abbrev pub bounded : ℕ → ℕ
-bounded n = min n most_u32
+abbrev pub bound : ℕ → ℕ
+bound n = min n most_u32
 
 abbrev pub windows_written : Windows → Transmission → Transmission
 windows_written w tx = record tx {
-  cwnd = bounded w.cwnd;
-  rwnd = bounded w.rwnd;
-  ssthresh = bounded w.ssthresh;
-  partial_bytes_acked = bounded w.partial_bytes_acked;
+  cwnd = bound w.cwnd;
+  rwnd = bound w.rwnd;
+  ssthresh = bound w.ssthresh;
+  partial_bytes_acked = bound w.partial_bytes_acked;
 }
 
 abbrev pub handed_over : ℕ → Sender → Transmission → Transmission

@@ -1,13 +1,13 @@
 -- What a call of the sender leaves that ran out of memory before its end: the items took its first steps.
 use Rattle.std.specs.Prelude.{◌≡◌, ◌⊎◌, ℕ, not, true, false, List}
 use Rattle.sctp_chunk.specs.declared.sack.GapAckBlock.{GapAckBlock}
-use Rattle.sctp_state.specs.Events.{Told}
+use Rattle.sctp_state.specs.Events.{Emitted}
 use Rattle.sctp_state.specs.Timers.{expire}
-use Rattle.sctp_outstanding.specs.Interrupted.{Same, SomeNacked, SomeExpired, SomeHeard}
-use Rattle.sctp_outstanding.specs.Keeps.{Keeps}
-use Rattle.sctp_outstanding.specs.Resending.{SomeResent, empty_packet}
-use Rattle.sctp_send_queue.specs.Queue.{Queue}
-use Rattle.sctp_send_queue.specs.InOrder.{IsInOrder, IsNumbered, HasRests}
+use Rattle.sctp_tx_outstanding.specs.Interrupted.{Same, SomeNacked, SomeExpired, SomeReceived}
+use Rattle.sctp_tx_outstanding.specs.Keeps.{Keeps}
+use Rattle.sctp_tx_outstanding.specs.Resending.{SomeResent, empty_packet}
+use Rattle.sctp_tx_queue.specs.Queue.{Queue}
+use Rattle.sctp_tx_queue.specs.InOrder.{IsInOrder, IsNumbered, HasRests}
 use Rattle.sctp_tx.specs.Windows.{is_open, timed_out}
 use Rattle.sctp_tx.specs.Retransmission.{Sender}
 
@@ -16,17 +16,17 @@ abbrev pub ItemsAlone : Sender → Sender → Type 0
 ItemsAlone s after = after ≡ record s { outstanding = after.outstanding }
 
 -- of a SACK
-pub record PartlyHeard {P : Type 0} (n : ℕ) (blocks : List GapAckBlock) (s : Sender) (told : Told P) (after : Sender) (later : Told P) : Type 0 where
-  pub items : Same s.outstanding told after.outstanding later ⊎ SomeHeard n blocks (not (is_open n s.windows)) s.outstanding told after.outstanding later
+pub record PartlyReceived {P : Type 0} (n : ℕ) (blocks : List GapAckBlock) (s : Sender) (told : Emitted P) (after : Sender) (later : Emitted P) : Type 0 where
+  pub items : Same s.outstanding told after.outstanding later ⊎ SomeReceived n blocks (not (is_open n s.windows)) s.outstanding told after.outstanding later
   pub alone : ItemsAlone s after
 
 -- of a timeout: the windows are cut, and the timer's expiry is counted
-pub record PartlyTimedOut {P : Type 0} (now : ℕ) (s : Sender) (told : Told P) (after : Sender) (later : Told P) : Type 0 where
+pub record PartlyTimedOut {P : Type 0} (now : ℕ) (s : Sender) (told : Emitted P) (after : Sender) (later : Emitted P) : Type 0 where
   pub items : SomeNacked true false s.outstanding told after.outstanding later
   pub rest : after ≡ record s { outstanding = after.outstanding; windows = timed_out s.windows; t3 = expire now s.t3 }
 
 -- of the lifetimes that passed
-pub record PartlyExpired {P : Type 0} (now : ℕ) (s : Sender) (told : Told P) (after : Sender) (later : Told P) : Type 0 where
+pub record PartlyExpired {P : Type 0} (now : ℕ) (s : Sender) (told : Emitted P) (after : Sender) (later : Emitted P) : Type 0 where
   pub items : SomeExpired now s.outstanding told after.outstanding later
   pub alone : ItemsAlone s after
 

@@ -2,20 +2,20 @@
 use Rattle.std.specs.Prelude.{ℕ, ◌+◌, ◌-◌, nat_lt, min, Bool, true, false, List, length}
 use Rattle.std.specs.List.{sum_by}
 use Rattle.sctp_chunk.specs.Chunk.{FragmentTree}
-use Rattle.sctp_outstanding.specs.Item.{size_of}
-use Rattle.sctp_outstanding.specs.Items.{flight_bytes}
-use Rattle.sctp_outstanding.specs.Resending.{Resent, resend}
-use Rattle.sctp_tx.specs.Windows.{capped, taken, room, may_send}
+use Rattle.sctp_tx_outstanding.specs.Item.{size_of}
+use Rattle.sctp_tx_outstanding.specs.Items.{flight_bytes}
+use Rattle.sctp_tx_outstanding.specs.Resending.{Resent, resend}
+use Rattle.sctp_tx.specs.Windows.{cap, take_payload, room, may_send}
 use Rattle.sctp_tx.specs.Retransmission.{Sender, is_quiet, kept_running}
 
 abbrev pub sizes : (is_interleaved : Bool) → List (ℕ × FragmentTree) → ℕ
 sizes m chunks = sum_by (λ c. size_of m c.1) chunks
 
-abbrev pub mixes : Sender → Bool
-mixes s = s.outstanding.items.is_interleaved
+abbrev pub is_interleaved : Sender → Bool
+is_interleaved s = s.outstanding.items.is_interleaved
 
 abbrev pub flight : Sender → ℕ
-flight s = capped (flight_bytes s.outstanding.items)
+flight s = cap (flight_bytes s.outstanding.items)
 
 abbrev pub room_of : Sender → ℕ
 room_of s = room (is_quiet s.outstanding.items) (flight s) s.windows
@@ -26,19 +26,19 @@ may_send_new s = may_send (is_quiet s.outstanding.items) (flight s) s.windows
 -- ---- what is sent again
 
 abbrev pub counted_if : Bool → ℕ → ℕ
-counted_if true n = capped (n + 1)
+counted_if true n = cap (n + 1)
 counted_if false n = n
 
 -- the peer's window shrinks, and the packet and its bytes are counted
-abbrev pub recounted : (count bytes : ℕ) → Sender → Sender
-recounted count bytes s = record s {
-  windows = taken bytes s.windows;
+abbrev pub recount : (count bytes : ℕ) → Sender → Sender
+recount count bytes s = record s {
+  windows = take_payload bytes s.windows;
   rtx_packets = counted_if (nat_lt 0 count) s.rtx_packets;
-  rtx_bytes = capped (s.rtx_bytes + bytes);
+  rtx_bytes = cap (s.rtx_bytes + bytes);
 }
 
 abbrev pub recounted_by : List (ℕ × FragmentTree) → Sender → Sender
-recounted_by chunks s = recounted (length chunks) (capped (sizes (mixes s) chunks)) s
+recounted_by chunks s = recount (length chunks) (cap (sizes (is_interleaved s) chunks)) s
 
 abbrev pub resent_by : Sender → Resent → Sender
 resent_by s x = recounted_by x.chunks (record s { outstanding = x.outstanding })
@@ -58,9 +58,9 @@ abbrev pub timed_if : Bool → ℕ → Sender → Sender
 timed_if true now s = record s { t3 = kept_running (is_quiet s.outstanding.items) now s.t3 }
 timed_if false now s = s
 
-abbrev pub timed : ℕ → List (ℕ × FragmentTree) → Sender → Sender
-timed now chunks s = timed_if (nat_lt 0 (length chunks)) now s
+abbrev pub start_timer : ℕ → List (ℕ × FragmentTree) → Sender → Sender
+start_timer now chunks s = timed_if (nat_lt 0 (length chunks)) now s
 
 -- the packet that ignores the congestion window
 abbrev pub send_fast : ℕ → (most : ℕ) → Sender → Sender
-send_fast now most s = timed now (resent_fast most s).chunks (resent_by s (resent_fast most s))
+send_fast now most s = start_timer now (resent_fast most s).chunks (resent_by s (resent_fast most s))

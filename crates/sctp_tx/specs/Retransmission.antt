@@ -2,17 +2,17 @@
 use Rattle.std.specs.Prelude.{ℕ, ◌-◌, ◌==◌, ◌&&◌, ◌||◌, not, nat_lt, Bool, true, false, if◌then◌else◌, Option, None, option_map, List, length}
 use Rattle.std.specs.Duration.{as_nanos}
 use Rattle.sctp_chunk.specs.declared.sack.GapAckBlock.{GapAckBlock}
-use Rattle.sctp_state.specs.Events.{Told}
+use Rattle.sctp_state.specs.Events.{Emitted}
 use Rattle.sctp_state.specs.Options.{Options}
 use Rattle.sctp_state.specs.Timers.{Timer, timer, start, stop, is_running, expire}
 use Rattle.sctp_state.specs.declared.timer.BackoffAlgorithm.TheVariants.{Exponential}
-use Rattle.sctp_outstanding.specs.Items.{Outstanding, Items, no_items, next_number, flight_bytes, flight_payload, flight_items}
-use Rattle.sctp_outstanding.specs.Losses.{Step}
-use Rattle.sctp_outstanding.specs.Sack.{hear, acked_bytes, sample}
+use Rattle.sctp_tx_outstanding.specs.Items.{Outstanding, Items, no_items, next_number, flight_bytes, flight_payload, flight_items}
+use Rattle.sctp_tx_outstanding.specs.Losses.{Step}
+use Rattle.sctp_tx_outstanding.specs.Sack.{receive_sack, acked_bytes, sample}
 use Rattle.sctp_tx.specs.declared.retransmission_queue.windows.Windows.{Windows}
 use Rattle.sctp_tx.specs.declared.retransmission_queue.HandleSackResult as given
 use Rattle.sctp_tx.specs.declared.retransmission_queue.HandleSackResult.TheVariants as results
-use Rattle.sctp_tx.specs.Windows.{at_first, grown, recovering, timed_out, acknowledged, is_open, told, capped}
+use Rattle.sctp_tx.specs.Windows.{at_first, grow, recovering, timed_out, acknowledge, is_open, advertise, cap}
 
 pub record Sender : Type 0 where
   pub outstanding : Outstanding
@@ -39,16 +39,16 @@ abbrev pub kept_running : (is_quiet : Bool) → ℕ → Timer → Timer
 kept_running is_quiet now t = if is_running t || is_quiet then t else start now t
 
 -- the cumulative TSN moved
-abbrev pub restarted : (is_empty : Bool) → ℕ → Timer → Timer
-restarted is_empty now t = if is_empty then stop t else start now t
+abbrev pub restart_timer : (is_empty : Bool) → ℕ → Timer → Timer
+restart_timer is_empty now t = if is_empty then stop t else start now t
 
 abbrev pub after_sack : (moved : Bool) → Items → ℕ → Timer → Timer
-after_sack moved s now t = kept_running (is_quiet s) now (if moved then restarted (length s.kept == 0) now t else t)
+after_sack moved s now t = kept_running (is_quiet s) now (if moved then restart_timer (length s.kept == 0) now t else t)
 
 -- ---- a SACK
 
 abbrev pub grown_if : Bool → (before acked : ℕ) → Windows → Windows
-grown_if true before acked w = grown before acked w
+grown_if true before acked w = grow before acked w
 grown_if false before acked w = w
 
 abbrev pub recovering_if : Bool → (exit : ℕ) → Windows → Windows
@@ -58,32 +58,32 @@ recovering_if false exit w = w
 -- the peer's window, the growth where the cumulative TSN moved, and the cut after a loss; both outside fast recovery
 abbrev pub windows_after : (cumulative a_rwnd : ℕ) → (moved is_lossy : Bool) → (before acked payload exit : ℕ) → Windows → Windows
 windows_after n a_rwnd moved is_lossy before acked payload exit w =
-    recovering_if (is_lossy && is_open n w) exit (grown_if (moved && is_open n w) before acked (told a_rwnd payload (acknowledged n w)))
+    recovering_if (is_lossy && is_open n w) exit (grown_if (moved && is_open n w) before acked (advertise a_rwnd payload (acknowledge n w)))
 
 -- what the items say to it
-abbrev pub step_of : {P : Type 0} → (cumulative : ℕ) → List GapAckBlock → Sender → Told P → Step P
-step_of n blocks s told = hear n blocks (not (is_open n s.windows)) s.outstanding.items told
+abbrev pub step_of : {P : Type 0} → (cumulative : ℕ) → List GapAckBlock → Sender → Emitted P → Step P
+step_of n blocks s told = receive_sack n blocks (not (is_open n s.windows)) s.outstanding.items told
 
-abbrev pub heard_by : {P : Type 0} → ℕ → (cumulative a_rwnd : ℕ) → List GapAckBlock → Sender → Step P → Sender
-heard_by now n a_rwnd blocks s step = record s {
+abbrev pub handle_sack_by : {P : Type 0} → ℕ → (cumulative a_rwnd : ℕ) → List GapAckBlock → Sender → Step P → Sender
+handle_sack_by now n a_rwnd blocks s step = record s {
   outstanding = record s.outstanding { items = step.items };
-  windows = windows_after n a_rwnd (nat_lt s.outstanding.items.acked n) step.is_lossy (capped (flight_bytes s.outstanding.items))
-      (capped (acked_bytes n blocks s.outstanding.items)) (capped (flight_payload step.items)) (next_number step.items - 1) s.windows;
+  windows = windows_after n a_rwnd (nat_lt s.outstanding.items.acked n) step.is_lossy (cap (flight_bytes s.outstanding.items))
+      (cap (acked_bytes n blocks s.outstanding.items)) (cap (flight_payload step.items)) (next_number step.items - 1) s.windows;
   t3 = after_sack (nat_lt s.outstanding.items.acked n) step.items now s.t3;
 }
 
-abbrev pub heard : {P : Type 0} → ℕ → (cumulative a_rwnd : ℕ) → List GapAckBlock → Sender → Told P → Sender
-heard now n a_rwnd blocks s told = heard_by now n a_rwnd blocks s (step_of n blocks s told)
+abbrev pub handle_sack : {P : Type 0} → ℕ → (cumulative a_rwnd : ℕ) → List GapAckBlock → Sender → Emitted P → Sender
+handle_sack now n a_rwnd blocks s told = handle_sack_by now n a_rwnd blocks s (step_of n blocks s told)
 
 -- one that is not valid changes nothing
 
-abbrev pub sender_if : {P : Type 0} → (is_valid : Bool) → ℕ → (cumulative a_rwnd : ℕ) → List GapAckBlock → Sender → Told P → Sender
-sender_if true now n a_rwnd blocks s told = heard now n a_rwnd blocks s told
+abbrev pub sender_if : {P : Type 0} → (is_valid : Bool) → ℕ → (cumulative a_rwnd : ℕ) → List GapAckBlock → Sender → Emitted P → Sender
+sender_if true now n a_rwnd blocks s told = handle_sack now n a_rwnd blocks s told
 sender_if false now n a_rwnd blocks s told = s
 
-abbrev pub told_if : {P : Type 0} → (is_valid : Bool) → (cumulative : ℕ) → List GapAckBlock → Sender → Told P → Told P
-told_if true n blocks s told = (step_of n blocks s told).told
-told_if false n blocks s told = told
+abbrev pub emitted_if : {P : Type 0} → (is_valid : Bool) → (cumulative : ℕ) → List GapAckBlock → Sender → Emitted P → Emitted P
+emitted_if true n blocks s told = (step_of n blocks s told).emitted
+emitted_if false n blocks s told = told
 
 -- the answer: a round trip, and whether something was newly acknowledged
 pub data SackAnswer : Type 0 where

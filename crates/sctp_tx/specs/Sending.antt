@@ -2,29 +2,29 @@
 -- sections 6.1, 7.2).
 use Rattle.std.specs.Prelude.{ℕ, zero, suc, ◌-◌, ◌*◌, ◌/◌, ◌&&◌, nat_lt, min, Bool, true, false, if◌then◌else◌, Option, Some, None, List, [], ◌∷◌, ◌++◌}
 use Rattle.sctp_chunk.specs.Chunk.{FragmentTree}
-use Rattle.sctp_state.specs.Events.{Told}
-use Rattle.sctp_outstanding.specs.Item.{Item, header_size, size_of}
-use Rattle.sctp_outstanding.specs.Items.{Discard, next_number, written, first_sent, inserted}
-use Rattle.sctp_outstanding.specs.Resending.{Resent}
-use Rattle.sctp_send_queue.specs.Queue.{Queue}
-use Rattle.sctp_send_queue.specs.Produced.{Produced, Turn, produce}
-use Rattle.sctp_send_queue.specs.Settings.{Changed, discard}
-use Rattle.sctp_tx.specs.Windows.{capped, taken}
+use Rattle.sctp_state.specs.Events.{Emitted}
+use Rattle.sctp_tx_outstanding.specs.Item.{Item, header_size, size_of}
+use Rattle.sctp_tx_outstanding.specs.Items.{Discard, next_number, wire_tsn, first_sent, insert}
+use Rattle.sctp_tx_outstanding.specs.Resending.{Resent}
+use Rattle.sctp_tx_queue.specs.Queue.{Queue}
+use Rattle.sctp_tx_queue.specs.Produced.{Produced, Turn, produce}
+use Rattle.sctp_tx_queue.specs.Settings.{Changed, discard}
+use Rattle.sctp_tx.specs.Windows.{cap, take_payload}
 use Rattle.sctp_tx.specs.Retransmission.{Sender}
-use Rattle.sctp_tx.specs.Resent.{sizes, mixes, room_of, may_send_new, resent, resent_by, timed}
+use Rattle.sctp_tx.specs.Resent.{sizes, is_interleaved, room_of, may_send_new, resent, resent_by, start_timer}
 
 -- ---- new fragments
 
 pub record Filling (P : Type 0) : Type 0 where
   pub sender : Sender
   pub queue : Queue
-  pub told : Told P
+  pub emitted : Emitted P
   pub chunks : List (ℕ × FragmentTree)
   pub left : ℕ  -- of the packet
 
 -- the payload that the send queue is offered: chunks are padded to 4 bytes
-abbrev pub offered : (left : ℕ) → Sender → ℕ
-offered left s = min left (room_of s) / 4 * 4 - header_size (mixes s)
+abbrev pub offered_payload : (left : ℕ) → Sender → ℕ
+offered_payload left s = min left (room_of s) / 4 * 4 - header_size (is_interleaved s)
 
 abbrev pub item_of : ℕ → Produced → Item
 item_of now p = first_sent p.number p.fragment now p.limit p.expires p.lifecycle
@@ -32,20 +32,20 @@ item_of now p = first_sent p.number p.fragment now p.limit p.expires p.lifecycle
 -- a fragment takes the next TSN
 abbrev pub sent_new : ℕ → Produced → Sender → Sender
 sent_new now p s = record s {
-  outstanding = record s.outstanding { items = inserted (item_of now p) s.outstanding.items };
-  windows = taken (size_of (mixes s) p.fragment) s.windows;
+  outstanding = record s.outstanding { items = insert (item_of now p) s.outstanding.items };
+  windows = take_payload (size_of (is_interleaved s) p.fragment) s.windows;
 }
 
-abbrev pub appended : {P : Type 0} → ℕ → Option Produced → Filling P → Filling P
-appended now None x = x
-appended now (Some p) x = record x {
+abbrev pub append : {P : Type 0} → ℕ → Option Produced → Filling P → Filling P
+append now None x = x
+append now (Some p) x = record x {
   sender = sent_new now p x.sender;
-  chunks = x.chunks ++ (written x.sender.outstanding (next_number x.sender.outstanding.items), p.fragment) ∷ [];
-  left = x.left - size_of (mixes x.sender) p.fragment;
+  chunks = x.chunks ++ (wire_tsn x.sender.outstanding (next_number x.sender.outstanding.items), p.fragment) ∷ [];
+  left = x.left - size_of (is_interleaved x.sender) p.fragment;
 }
 
-abbrev pub filling : {P : Type 0} → Sender → Queue → Told P → List (ℕ × FragmentTree) → (left : ℕ) → Filling P
-filling s q told chunks left = record { sender = s; queue = q; told = told; chunks = chunks; left = left }
+abbrev pub filling : {P : Type 0} → Sender → Queue → Emitted P → List (ℕ × FragmentTree) → (left : ℕ) → Filling P
+filling s q told chunks left = record { sender = s; queue = q; emitted = told; chunks = chunks; left = left }
 
 pub record Turned (P : Type 0) : Type 0 where
   pub filling : Filling P
@@ -55,27 +55,27 @@ abbrev pub is_made : Option Produced → Bool
 is_made None = false
 is_made (Some p) = true
 
-abbrev pub asked : {P : Type 0} → ℕ → Turn P → Filling P → Turned P
-asked now t x = record { filling = appended now t.made (record x { queue = t.queue; told = t.told }); is_more = is_made t.made }
+abbrev pub ask_queue : {P : Type 0} → ℕ → Turn P → Filling P → Turned P
+ask_queue now t x = record { filling = append now t.made (record x { queue = t.queue; emitted = t.emitted }); is_more = is_made t.made }
 
 abbrev pub turned_if : {P : Type 0} → Bool → ℕ → Filling P → Turned P
-turned_if true now x = asked now (produce now (offered x.left x.sender) x.queue x.told) x
+turned_if true now x = ask_queue now (produce now (offered_payload x.left x.sender) x.queue x.emitted) x
 turned_if false now x = record { filling = x; is_more = false }
 
 -- one more fragment, where the windows let it go and the queue has one
-abbrev pub turned : {P : Type 0} → ℕ → Filling P → Turned P
-turned now x = turned_if (may_send_new x.sender && nat_lt 0 (offered x.left x.sender)) now x
+abbrev pub next_turn : {P : Type 0} → ℕ → Filling P → Turned P
+next_turn now x = turned_if (may_send_new x.sender && nat_lt 0 (offered_payload x.left x.sender)) now x
 
 -- each fragment takes a byte of the packet at least, so that as many turns as it has bytes are enough
 abbrev pub fill : {P : Type 0} → (turns : ℕ) → ℕ → Filling P → Filling P
 fill zero now x = x
-fill (suc turns) now x = let t = turned now x in if t.is_more then fill turns now t.filling else t.filling
+fill (suc turns) now x = let t = next_turn now x in if t.is_more then fill turns now t.filling else t.filling
 
 -- ---- the whole
 
-abbrev pub discard_all : {P : Type 0} → List Discard → Queue → Told P → Changed P
-discard_all [] q told = record { queue = q; told = told }
-discard_all (d ∷ ds) q told = let x = discard d.stream d.number q told in discard_all ds x.queue x.told
+abbrev pub discard_all : {P : Type 0} → List Discard → Queue → Emitted P → Changed P
+discard_all [] q told = record { queue = q; emitted = told }
+discard_all (d ∷ ds) q told = let x = discard d.stream d.number q told in discard_all ds x.queue x.emitted
 
 abbrev pub without_discards : Sender → Sender
 without_discards s = record s { outstanding = record s.outstanding { items = record s.outstanding.items { discards = [] } } }
@@ -84,18 +84,18 @@ abbrev pub filled_with : {P : Type 0} → (most : ℕ) → Sender → Resent →
 filled_with most s x left = record {
   sender = resent_by s x;
   queue = left.queue;
-  told = left.told;
+  emitted = left.emitted;
   chunks = x.chunks;
-  left = most - capped (sizes (mixes (resent_by s x)) x.chunks);
+  left = most - cap (sizes (is_interleaved (resent_by s x)) x.chunks);
 }
 
 abbrev pub timed_filling : {P : Type 0} → ℕ → Filling P → Filling P
-timed_filling now x = record x { sender = timed now x.chunks x.sender }
+timed_filling now x = record x { sender = start_timer now x.chunks x.sender }
 
-abbrev pub filled : {P : Type 0} → ℕ → Filling P → Filling P
-filled now x = timed_filling now (fill (suc x.left) now x)
+abbrev pub fill_all : {P : Type 0} → ℕ → Filling P → Filling P
+fill_all now x = timed_filling now (fill (suc x.left) now x)
 
 -- messages that were given up leave the queue first
-abbrev pub send : {P : Type 0} → ℕ → (most : ℕ) → Sender → Queue → Told P → Filling P
+abbrev pub send : {P : Type 0} → ℕ → (most : ℕ) → Sender → Queue → Emitted P → Filling P
 send now most s q told =
-    filled now (filled_with most (without_discards s) (resent most (without_discards s)) (discard_all s.outstanding.items.discards q told))
+    fill_all now (filled_with most (without_discards s) (resent most (without_discards s)) (discard_all s.outstanding.items.discards q told))

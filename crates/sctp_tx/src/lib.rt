@@ -4,5 +4,5 @@
 pub mod retransmission_queue;
 
 pub use retransmission_queue::{HandleSackResult, RetransmissionQueue};
-pub use sctp_outstanding::{AckInfo, Item, OutstandingData};
-pub use sctp_send_queue::{DataToSend, SendQueue};
+pub use sctp_tx_outstanding::{AckInfo, Item, OutstandingData};
+pub use sctp_tx_queue::{DataToSend, SendQueue};

@@ -4,32 +4,32 @@ ghost use Rattle.std.specs.Prelude.{◌≡◌, ◌-◌, ◌==◌, min, ◌^◌, 
 ghost use Rattle.std.specs.Duration.{as_nanos};
 ghost use Rattle.sctp_state.specs.Options.{options_of, IsValid};
 ghost use Rattle.sctp_state.specs.Timers.{is_due, next_expiry, set_duration};
-ghost use Rattle.sctp_outstanding.specs.Items.{number_of, written, next_number, flight_bytes, flight_payload, flight_items, fast_items, begin_reset};
-ghost use Rattle.sctp_outstanding.specs.Losses.{nack_all, expire_outstanding};
-ghost use Rattle.sctp_outstanding.specs.Forward.{is_forward_due};
+ghost use Rattle.sctp_tx_outstanding.specs.Items.{number_of, wire_tsn, next_number, flight_bytes, flight_payload, flight_items, fast_items, begin_reset};
+ghost use Rattle.sctp_tx_outstanding.specs.Losses.{nack_all, expire_outstanding};
+ghost use Rattle.sctp_tx_outstanding.specs.Forward.{is_forward_due};
 ghost use Rattle.sctp_control_chunk.specs.ChunkView.{chunk_tree};
-ghost use Rattle.sctp_tx.specs.ForwardPoints.{expired, forward_chunk};
-ghost use Rattle.sctp_outstanding.specs.Sack.{is_valid, acked_bytes};
-ghost use Rattle.sctp_tx.specs.Retransmission.{sender, heard, step_of, sender_if, told_if, answer_if, answer_of, windows_after, after_sack, kept_running, is_quiet, timed_out_sender};
-ghost use Rattle.sctp_tx.specs.Interrupted.{PartlyHeard, PartlyTimedOut, PartlyExpired, PartlyResentFast, PartlySent, PartlyTaken};
+ghost use Rattle.sctp_tx.specs.ForwardPoints.{expire, forward_chunk};
+ghost use Rattle.sctp_tx_outstanding.specs.Sack.{is_valid, acked_bytes};
+ghost use Rattle.sctp_tx.specs.Retransmission.{sender, handle_sack, step_of, sender_if, emitted_if, answer_if, answer_of, windows_after, after_sack, kept_running, is_quiet, timed_out_sender};
+ghost use Rattle.sctp_tx.specs.Interrupted.{PartlyReceived, PartlyTimedOut, PartlyExpired, PartlyResentFast, PartlySent, PartlyTaken};
 ghost use Rattle.sctp_tx.specs.Flight.{StaysWithin, AddsAtMost, FitWithin};
-ghost use Rattle.sctp_tx.specs.Windows.{capped};
-ghost use Rattle.sctp_send_queue.specs.Views.{produced_of};
-ghost use Rattle.sctp_outstanding.specs.Item.{size_of};
-ghost use Rattle.sctp_tx.specs.Resent.{sizes, mixes, recounted_by, resent, resent_by, resent_fast, send_fast, timed, may_send_new};
-ghost use Rattle.sctp_tx.specs.Sending.{send, fill, filling, turned, offered, sent_new, discard_all};
-ghost use Rattle.sctp_outstanding.specs.Views.{chunk_of};
+ghost use Rattle.sctp_tx.specs.Windows.{cap};
+ghost use Rattle.sctp_tx_queue.specs.Views.{produced_of};
+ghost use Rattle.sctp_tx_outstanding.specs.Item.{size_of};
+ghost use Rattle.sctp_tx.specs.Resent.{sizes, is_interleaved, recounted_by, resent, resent_by, resent_fast, send_fast, start_timer, may_send_new};
+ghost use Rattle.sctp_tx.specs.Sending.{send, fill, filling, next_turn, offered_payload, sent_new, discard_all};
+ghost use Rattle.sctp_tx_outstanding.specs.Views.{chunk_of};
 ghost use Rattle.sctp_chunk.specs.Views.{fragment_tree};
 
 mod handover;
 mod windows;
 
-use sctp_outstanding::item::{chunk_size, copy_of, header_size};
-use sctp_outstanding::{AckInfo, OutstandingData};
 use sctp_packet::{COMMON_HEADER_SIZE, Chunk, Data, SackChunk};
-use sctp_send_queue::{DataToSend, SendQueue};
 use sctp_serial::{SocketTime, Tsn};
 use sctp_state::{BackoffAlgorithm, Events, Options, Timer};
+use sctp_tx_outstanding::item::{chunk_size, copy_of, header_size};
+use sctp_tx_outstanding::{AckInfo, OutstandingData};
+use sctp_tx_queue::{DataToSend, SendQueue};
 use std::alloc::{AllocError, Global};
 use std::marker::Model;
 use std::time::Duration;
@@ -116,14 +116,14 @@ impl RetransmissionQueue {
 
     /// The TSN that the next fragment takes.
     pub fn next_tsn(&self) -> Tsn
-        ensures { result.0 ≡ written self.now.outstanding (next_number self.now.outstanding.items) }
+        ensures { result.0 ≡ wire_tsn self.now.outstanding (next_number self.now.outstanding.items) }
     {
         self.outstanding.next_tsn()
     }
 
     /// The last TSN that was given.
     pub fn last_assigned_tsn(&self) -> Tsn
-        ensures { result.0 ≡ written self.now.outstanding (next_number self.now.outstanding.items - 1) }
+        ensures { result.0 ≡ wire_tsn self.now.outstanding (next_number self.now.outstanding.items - 1) }
     {
         self.outstanding.highest_outstanding_tsn()
     }
@@ -195,11 +195,11 @@ impl RetransmissionQueue {
         ensures queue { let n = number_of self.old.outstanding sack.now.cumulative_tsn_ack.0 in let blocks = sack.now.gap_ack_blocks.items in
             OnOk result (self.new ≡ sender_if (is_valid n blocks self.old.outstanding.items) now n sack.now.a_rwnd blocks self.old events.old) }
         ensures told { let n = number_of self.old.outstanding sack.now.cumulative_tsn_ack.0 in let blocks = sack.now.gap_ack_blocks.items in
-            OnOk result (events.new ≡ told_if (is_valid n blocks self.old.outstanding.items) n blocks self.old events.old) }
+            OnOk result (events.new ≡ emitted_if (is_valid n blocks self.old.outstanding.items) n blocks self.old events.old) }
         ensures answer { let n = number_of self.old.outstanding sack.now.cumulative_tsn_ack.0 in let blocks = sack.now.gap_ack_blocks.items in
             IfOk result (λ answer. answer_of answer ≡ answer_if (is_valid n blocks self.old.outstanding.items) now n blocks self.old) }
         ensures err { let n = number_of self.old.outstanding sack.now.cumulative_tsn_ack.0 in let blocks = sack.now.gap_ack_blocks.items in
-            OnErr result (PartlyHeard n blocks self.old events.old self.new events.new) }
+            OnErr result (PartlyReceived n blocks self.old events.old self.new events.new) }
     {
         let tsn = sack.cumulative_tsn_ack;
         if !self.outstanding.is_sack_valid(tsn, &sack.gap_ack_blocks) {
@@ -222,13 +222,13 @@ impl RetransmissionQueue {
     ) -> Result<usize, AllocError>
         requires valid { IsTrue (is_valid (number_of self.old.outstanding sack.now.cumulative_tsn_ack.0) sack.now.gap_ack_blocks.items self.old.outstanding.items) }
         ensures queue { let n = number_of self.old.outstanding sack.now.cumulative_tsn_ack.0 in let blocks = sack.now.gap_ack_blocks.items in
-            OnOk result (self.new ≡ heard now n sack.now.a_rwnd blocks self.old events.old) }
+            OnOk result (self.new ≡ handle_sack now n sack.now.a_rwnd blocks self.old events.old) }
         ensures told { let n = number_of self.old.outstanding sack.now.cumulative_tsn_ack.0 in let blocks = sack.now.gap_ack_blocks.items in
-            OnOk result (events.new ≡ (step_of n blocks self.old events.old).told) }
+            OnOk result (events.new ≡ (step_of n blocks self.old events.old).emitted) }
         ensures acked { let n = number_of self.old.outstanding sack.now.cumulative_tsn_ack.0 in let blocks = sack.now.gap_ack_blocks.items in
-            IfOk result (λ acked. acked ≡ capped (acked_bytes n blocks self.old.outstanding.items)) }
+            IfOk result (λ acked. acked ≡ cap (acked_bytes n blocks self.old.outstanding.items)) }
         ensures err { let n = number_of self.old.outstanding sack.now.cumulative_tsn_ack.0 in let blocks = sack.now.gap_ack_blocks.items in
-            OnErr result (PartlyHeard n blocks self.old events.old self.new events.new) }
+            OnErr result (PartlyReceived n blocks self.old events.old self.new events.new) }
     {
         let number = self.outstanding.unwrapped(sack.cumulative_tsn_ack);
         let moved = self.outstanding.acked_number() < number;
@@ -249,7 +249,7 @@ impl RetransmissionQueue {
     fn follow(&mut self, number: u64, a_rwnd: u32, moved: bool, before: usize, info: AckInfo)
         ensures { self.new ≡ record self.old {
           windows = windows_after number a_rwnd moved info.has_packet_loss before info.bytes_acked
-              (capped (flight_payload self.old.outstanding.items)) (next_number self.old.outstanding.items - 1) self.old.windows;
+              (cap (flight_payload self.old.outstanding.items)) (next_number self.old.outstanding.items - 1) self.old.windows;
         } }
     {
         let is_open = self.windows.is_open_at(number);
@@ -297,7 +297,7 @@ impl RetransmissionQueue {
         ensures no { result ≡ Ok false → self.new ≡ self.old }
         ensures silent { result ≡ Ok false → events.new ≡ events.old }
         ensures yes { result ≡ Ok true → self.new ≡ timed_out_sender now (nack_all self.old.outstanding.items events.old).items self.old }
-        ensures told { result ≡ Ok true → events.new ≡ (nack_all self.old.outstanding.items events.old).told }
+        ensures told { result ≡ Ok true → events.new ≡ (nack_all self.old.outstanding.items events.old).emitted }
         ensures err { OnErr result (PartlyTimedOut now self.old events.old self.new events.new) }
     {
         if !self.t3_rtx.expire(now) {
@@ -324,8 +324,8 @@ impl RetransmissionQueue {
         now: SocketTime,
         events: &mut Events,
     ) -> Result<bool, AllocError>
-        ensures queue { OnOk result (self.new ≡ expired now self.old events.old) }
-        ensures told { OnOk result (events.new ≡ (expire_outstanding now self.old.outstanding.items events.old).told) }
+        ensures queue { OnOk result (self.new ≡ expire now self.old events.old) }
+        ensures told { OnOk result (events.new ≡ (expire_outstanding now self.old.outstanding.items events.old).emitted) }
         ensures due { IfOk result (λ due. due ≡ is_forward_due self.new.outstanding.items) }
         ensures err { OnErr result (PartlyExpired now self.old events.old self.new events.new) }
     {
@@ -398,7 +398,7 @@ impl RetransmissionQueue {
         requires small { max_bytes < 2 ^ 32 }
         ensures sender { OnOk result (self.new ≡ (send now max_bytes self.old queue.old events.old).sender) }
         ensures queue { OnOk result (queue.new ≡ (send now max_bytes self.old queue.old events.old).queue) }
-        ensures told { OnOk result (events.new ≡ (send now max_bytes self.old queue.old events.old).told) }
+        ensures told { OnOk result (events.new ≡ (send now max_bytes self.old queue.old events.old).emitted) }
         ensures chunks { IfOk result (λ chunks. map chunk_of chunks.items ≡ (send now max_bytes self.old queue.old events.old).chunks) }
         ensures fits { IfOk result (λ chunks. FitWithin max_bytes self.old (map chunk_of chunks.items)) }
         ensures flight { OnOk result (StaysWithin self.old self.new) }
@@ -423,7 +423,7 @@ impl RetransmissionQueue {
     fn resend(&mut self, max_bytes: usize) -> Result<(Vec<(Tsn, Data)>, usize), AllocError>
         ensures sender { OnOk result (self.new ≡ resent_by self.old (resent max_bytes self.old)) }
         ensures chunks { IfOk result (λ r. map chunk_of r.0.items ≡ (resent max_bytes self.old).chunks) }
-        ensures bytes { IfOk result (λ r. r.1 ≡ capped (sizes (mixes self.new) (resent max_bytes self.old).chunks)) }
+        ensures bytes { IfOk result (λ r. r.1 ≡ cap (sizes (is_interleaved self.new) (resent max_bytes self.old).chunks)) }
         ensures partly { PartlySent self.old self.new }
     {
         let flight = self.outstanding.unacked_packet_bytes();
@@ -446,7 +446,7 @@ impl RetransmissionQueue {
         requires small { left < 2 ^ 32 }
         ensures sender { OnOk result (self.new ≡ (fill (suc left) now (filling self.old queue.old events.old (map chunk_of chunks.old.items) left)).sender) }
         ensures queue { OnOk result (queue.new ≡ (fill (suc left) now (filling self.old queue.old events.old (map chunk_of chunks.old.items) left)).queue) }
-        ensures told { OnOk result (events.new ≡ (fill (suc left) now (filling self.old queue.old events.old (map chunk_of chunks.old.items) left)).told) }
+        ensures told { OnOk result (events.new ≡ (fill (suc left) now (filling self.old queue.old events.old (map chunk_of chunks.old.items) left)).emitted) }
         ensures chunks { OnOk result (map chunk_of chunks.new.items ≡ (fill (suc left) now (filling self.old queue.old events.old (map chunk_of chunks.old.items) left)).chunks) }
         ensures partly { PartlySent self.old self.new }
         ensures taken { PartlyTaken queue.old queue.new }
@@ -468,12 +468,12 @@ impl RetransmissionQueue {
         events: &mut Events,
     ) -> Result<Option<usize>, AllocError>
         requires small { left < 2 ^ 32 }
-        ensures sender { OnOk result (self.new ≡ (turned now (filling self.old queue.old events.old (map chunk_of chunks.old.items) left)).filling.sender) }
-        ensures queue { OnOk result (queue.new ≡ (turned now (filling self.old queue.old events.old (map chunk_of chunks.old.items) left)).filling.queue) }
-        ensures told { OnOk result (events.new ≡ (turned now (filling self.old queue.old events.old (map chunk_of chunks.old.items) left)).filling.told) }
-        ensures chunks { OnOk result (map chunk_of chunks.new.items ≡ (turned now (filling self.old queue.old events.old (map chunk_of chunks.old.items) left)).filling.chunks) }
-        ensures left { IfOk result (λ more. IfSome more (λ rest. rest ≡ (turned now (filling self.old queue.old events.old (map chunk_of chunks.old.items) left)).filling.left)) }
-        ensures more { IfOk result (λ more. is_some more ≡ (turned now (filling self.old queue.old events.old (map chunk_of chunks.old.items) left)).is_more) }
+        ensures sender { OnOk result (self.new ≡ (next_turn now (filling self.old queue.old events.old (map chunk_of chunks.old.items) left)).filling.sender) }
+        ensures queue { OnOk result (queue.new ≡ (next_turn now (filling self.old queue.old events.old (map chunk_of chunks.old.items) left)).filling.queue) }
+        ensures told { OnOk result (events.new ≡ (next_turn now (filling self.old queue.old events.old (map chunk_of chunks.old.items) left)).filling.emitted) }
+        ensures chunks { OnOk result (map chunk_of chunks.new.items ≡ (next_turn now (filling self.old queue.old events.old (map chunk_of chunks.old.items) left)).filling.chunks) }
+        ensures left { IfOk result (λ more. IfSome more (λ rest. rest ≡ (next_turn now (filling self.old queue.old events.old (map chunk_of chunks.old.items) left)).filling.left)) }
+        ensures more { IfOk result (λ more. is_some more ≡ (next_turn now (filling self.old queue.old events.old (map chunk_of chunks.old.items) left)).is_more) }
         ensures less { IfOk result (λ more. IfSome more (λ rest. rest < left)) }
         ensures partly { PartlySent self.old self.new }
         ensures taken { PartlyTaken queue.old queue.new }
@@ -491,7 +491,7 @@ impl RetransmissionQueue {
 
     // The largest payload that a packet with so much left can take: chunks are padded to 4 bytes.
     fn offered(&self, left: usize) -> usize
-        ensures size { result ≡ offered left self.now }
+        ensures size { result ≡ offered_payload left self.now }
         ensures small { result ≤ left }
     {
         let is_quiet = self.outstanding.unacked_items() == 0;
@@ -510,8 +510,8 @@ impl RetransmissionQueue {
         requires small { length fragment.data.payload.items < 2 ^ 32 }
         ensures sender { OnOk result (self.new ≡ sent_new now (produced_of fragment) self.old) }
         ensures chunks { OnOk result (map chunk_of chunks.new.items ≡ map chunk_of chunks.old.items
-            ++ (written self.old.outstanding (next_number self.old.outstanding.items), fragment_tree fragment.data) ∷ []) }
-        ensures size { IfOk result (λ size. size ≡ size_of (mixes self.old) (fragment_tree fragment.data)) }
+            ++ (wire_tsn self.old.outstanding (next_number self.old.outstanding.items), fragment_tree fragment.data) ∷ []) }
+        ensures size { IfOk result (λ size. size ≡ size_of (is_interleaved self.old) (fragment_tree fragment.data)) }
         ensures partly { PartlySent self.old self.new }
     {
         let size = chunk_size(&fragment.data, self.outstanding.is_interleaved());
@@ -531,7 +531,7 @@ impl RetransmissionQueue {
 
     // The timer runs once something was handed out.
     fn run_for(&mut self, now: SocketTime, chunks: &[(Tsn, Data)])
-        ensures { self.new ≡ timed now (map chunk_of chunks.now) self.old }
+        ensures { self.new ≡ start_timer now (map chunk_of chunks.now) self.old }
     {
         if !chunks.is_empty() {
             self.keep_running(now);
@@ -541,7 +541,7 @@ impl RetransmissionQueue {
     // These were sent again: the peer's window shrinks, and they are counted. The answer is their bytes.
     fn count_resent(&mut self, chunks: &[(Tsn, Data)]) -> usize
         ensures sender { self.new ≡ recounted_by (map chunk_of chunks.now) self.old }
-        ensures bytes { result ≡ capped (sizes (mixes self.old) (map chunk_of chunks.now)) }
+        ensures bytes { result ≡ cap (sizes (is_interleaved self.old) (map chunk_of chunks.now)) }
     {
         let bytes = sizes(chunks, self.outstanding.is_interleaved());
         self.windows.take(bytes);
@@ -561,7 +561,7 @@ fn discard_all(
 ) -> Result<(), AllocError>
     ensures items { OnOk result (outstanding.new ≡ record outstanding.old { items = record outstanding.old.items { discards = [] } }) }
     ensures queue { OnOk result (queue.new ≡ (discard_all outstanding.old.items.discards queue.old events.old).queue) }
-    ensures told { OnOk result (events.new ≡ (discard_all outstanding.old.items.discards queue.old events.old).told) }
+    ensures told { OnOk result (events.new ≡ (discard_all outstanding.old.items.discards queue.old events.old).emitted) }
     ensures rest { record outstanding.new { items = record outstanding.new.items { discards = [] } } ≡ record outstanding.old { items = record outstanding.old.items { discards = [] } } }
     ensures taken { PartlyTaken queue.old queue.new }
 {
@@ -573,7 +573,7 @@ fn discard_all(
 
 // The bytes of the chunks, with headers and padding; at most `usize::MAX`.
 fn sizes(chunks: &[(Tsn, Data)], is_interleaved: bool) -> usize
-    ensures { result ≡ capped (sizes is_interleaved (map chunk_of chunks.now)) }
+    ensures { result ≡ cap (sizes is_interleaved (map chunk_of chunks.now)) }
 {
     let mut bytes = 0usize;
     for chunk in chunks {

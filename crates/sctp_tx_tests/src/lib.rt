@@ -1,5 +1,5 @@
 //! Tests of the sender in want of memory, apart so that each crate is proved once. What it does with ample memory the script of
-//! `sctp_sender_script` says.
+//! `run_sender_script` says.
 #![tactic(auto)]
 
 #[cfg(test)]

@@ -3,10 +3,10 @@
 
 use crate::queue_steps::Step::*;
 use crate::queue_steps::{Heard, Step, at, holds};
-use sctp_send_queue::SendQueue;
 use sctp_serial::SocketTime;
 use sctp_state::api::handover::HandoverSocketState;
 use sctp_state::{Events, Options, SocketHandoverState};
+use sctp_tx_queue::SendQueue;
 use std::alloc::Global;
 use std::mem;
 

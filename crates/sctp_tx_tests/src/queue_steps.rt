@@ -1,8 +1,8 @@
 //! Calls on a send queue and what they are to answer, one after another.
 
-use sctp_send_queue::{DataToSend, SendQueue};
 use sctp_serial::{LifecycleId, Message, OutgoingMessageId, PpId, SocketTime, StreamId};
 use sctp_state::{Events, GivenUpCause, SendOptions, SocketEvent};
+use sctp_tx_queue::{DataToSend, SendQueue};
 use std::alloc::{AllocError, Global};
 use std::time::Duration;
 

@@ -17,8 +17,8 @@ use Rattle.sctp_item.proofs.ItemLemmas.{IsBytes}
 use Rattle.sctp_wire.proofs.FieldLemmas.{be16_front, be32_front}
 use Rattle.sctp_wire.proofs.TextLemmas.{none_behind, reads_on, reads_text}
 
-pub IsBytes-drop : (n : ℕ) (bytes : List ℕ) → IsBytes bytes → IsBytes (drop n bytes)
-IsBytes-drop n bytes h i = subst (λ (b : ℕ). b < 256) (sym (get_or-drop n bytes i 0)) (h (n + i))
+pub IsBytes_drop : (n : ℕ) (bytes : List ℕ) → IsBytes bytes → IsBytes (drop n bytes)
+IsBytes_drop n bytes h i = subst (λ (b : ℕ). b < 256) (sym (get_or-drop n bytes i 0)) (h (n + i))
 
 -- ---- numbers
 
@@ -51,7 +51,7 @@ pub entries_in : {E : Type 0} (f : E → List ℕ) (P : E → Type 0) (width : �
 entries_in f P width one zero bytes fits len = ([], All-nil P, nil_from_length bytes (omega (arith, len)))
 entries_in f P width one (suc n) bytes fits len =
     let first = one bytes fits (omega (arith, len)) in
-    let others = entries_in f P width one n (drop width bytes) (IsBytes-drop width bytes fits) (omega (arith, len, length-drop width bytes)) in (
+    let others = entries_in f P width one n (drop width bytes) (IsBytes_drop width bytes fits) (omega (arith, len, length-drop width bytes)) in (
       first.0 ∷ others.0,
       All-cons P first.0 others.0 first.1 others.1,
       first.2 ∙ ap (λ (x : List ℕ). f first.0 ++ x) others.2 ∙ sym (flat_map-cons f first.0 others.0),

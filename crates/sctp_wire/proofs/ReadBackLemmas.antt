@@ -5,9 +5,9 @@ use Rattle.std.specs.List.{flat_map}
 use Rattle.std.proofs.lemmas.List.{append-nil, length-replicate}
 use Rattle.std.proofs.lemmas.List.Concat.{flat_map-cons}
 use Rattle.sctp_item.specs.Item.{Item, item_bytes, padding, Takes, Tiles}
-use Rattle.sctp_wire.specs.Serialize.{IsEncodable, padded_item, inner_items, typed, type_of}
+use Rattle.sctp_wire.specs.Serialize.{IsEncodable, padded_item, inner_items, item_of_type, type_of}
 
-pub type_of_typed : (typ : ℕ) (value : List ℕ) → typ ≡ type_of (typed typ value)
+pub type_of_typed : (typ : ℕ) (value : List ℕ) → typ ≡ type_of (item_of_type typ value)
 type_of_typed typ value = omega arith
 
 pub takes_padded : (i : Item) (rest : List ℕ) → IsEncodable i → Takes (padded_item i ++ rest) i rest
@@ -35,11 +35,11 @@ takes_last i fits = record {
 later : {X : Type 0} (P : X → Type 0) (x : X) (xs : List X) → All P (x ∷ xs) → All P xs
 later P x xs h k d less = h (suc k) d (omega arith)
 
-pub tiles_padded : {X : Type 0} (R : Item → X → Type 0) (f : X → Item) (P : X → Type 0)
+pub parses_all_padded : {X : Type 0} (R : Item → X → Type 0) (f : X → Item) (P : X → Type 0)
     → ((x : X) → P x → IsEncodable (f x) × R (f x) x)
     → (xs : List X) (rest : List ℕ) → All P xs → Tiles R (flat_map (λ x. padded_item (f x)) xs ++ rest) xs rest
-tiles_padded R f P each [] rest h = refl
-tiles_padded R f P each (x ∷ xs) rest h =
+parses_all_padded R f P each [] rest h = refl
+parses_all_padded R f P each (x ∷ xs) rest h =
     let one = each x (h 0 x (omega arith)) in
     let behind : List ℕ = flat_map (λ y. padded_item (f y)) xs ++ rest in
     let split : flat_map (λ y. padded_item (f y)) (x ∷ xs) ++ rest ≡ padded_item (f x) ++ behind =
@@ -49,22 +49,22 @@ tiles_padded R f P each (x ∷ xs) rest h =
       behind,
       subst (λ (b : List ℕ). Takes b (f x) behind) (sym split) (takes_padded (f x) behind one.0),
       one.1,
-      tiles_padded R f P each xs rest (later P x xs h),
+      parses_all_padded R f P each xs rest (later P x xs h),
     )
 
-pub tiles_inner : {X : Type 0} (R : Item → X → Type 0) (f : X → Item) (P : X → Type 0)
+pub parses_all_inner : {X : Type 0} (R : Item → X → Type 0) (f : X → Item) (P : X → Type 0)
     → ((x : X) → P x → IsEncodable (f x) × R (f x) x)
     → (xs : List X) → All P xs → Tiles R (inner_items (map f xs)) xs []
 unfolding inner_items
-tiles_inner R f P each [] h = refl
-tiles_inner R f P each (x ∷ []) h =
+parses_all_inner R f P each [] h = refl
+parses_all_inner R f P each (x ∷ []) h =
     let one = each x (h 0 x (omega arith)) in
     (f x, [], takes_last (f x) one.0, one.1, refl)
-tiles_inner R f P each (x ∷ y ∷ xs) h =
+parses_all_inner R f P each (x ∷ y ∷ xs) h =
     let one = each x (h 0 x (omega arith)) in (
       f x,
       inner_items (map f (y ∷ xs)),
       takes_padded (f x) (inner_items (map f (y ∷ xs))) one.0,
       one.1,
-      tiles_inner R f P each (y ∷ xs) (later P x (y ∷ xs) h),
+      parses_all_inner R f P each (y ∷ xs) (later P x (y ∷ xs) h),
     )

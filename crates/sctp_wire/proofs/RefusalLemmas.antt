@@ -1,23 +1,23 @@
 -- Lists of items that stand for values, seen as what the values say.
 use Rattle.std.proofs.Common.{◌≡◌, ◌≢◌, inl, inr, ℕ, List, [], ◌∷◌, map, refl, sym, subst, ◌∙◌}
 use Rattle.sctp_item.specs.Item.{Item, Takes, Tiles, Breaks}
-use Rattle.sctp_wire.specs.Refusal.{IsStuck, BreaksAs}
+use Rattle.sctp_wire.specs.Refusal.{IsStuck, FailsToParseAs}
 use Rattle.sctp_wire.specs.Shape.{Shape, RefusesAs}
-use Rattle.sctp_wire.proofs.TilesLemmas.{one_item_lem}
+use Rattle.sctp_wire.proofs.ParsesAllLemmas.{one_item_lem}
 use Rattle.sctp_wire.specs.declared.error.ChunkParseError.{ChunkParseError}
 use Rattle.sctp_wire.specs.declared.error.ChunkParseError.TheVariants.{InvalidLength, InvalidType, InvalidPadding, InvalidValue, Memory}
 
-pub Tiles-map : {X Y : Type 0} (R : Item → X → Type 0) (S : Item → Y → Type 0) (f : X → Y) → ((i : Item) (x : X) → R i x → S i (f x))
+pub ParsesAll_map : {X Y : Type 0} (R : Item → X → Type 0) (S : Item → Y → Type 0) (f : X → Y) → ((i : Item) (x : X) → R i x → S i (f x))
     → (bytes : List ℕ) (xs : List X) (rest : List ℕ) → Tiles R bytes xs rest → Tiles S bytes (map f xs) rest
-Tiles-map R S f each bytes [] rest t = t
-Tiles-map R S f each bytes (x ∷ xs) rest t = (t.0, t.1, t.2, each t.0 x t.3, Tiles-map R S f each t.1 xs rest t.4)
+ParsesAll_map R S f each bytes [] rest t = t
+ParsesAll_map R S f each bytes (x ∷ xs) rest t = (t.0, t.1, t.2, each t.0 x t.3, ParsesAll_map R S f each t.1 xs rest t.4)
 
-pub BreaksAs-map : {X Y : Type 0} (R : Item → X → Type 0) (S : Item → Y → Type 0) (f : X → Y) → ((i : Item) (x : X) → R i x → S i (f x))
-    → (Refuses : Item → ChunkParseError → Type 0) (bytes : List ℕ) (fault : ChunkParseError) → BreaksAs R Refuses bytes fault → BreaksAs S Refuses bytes fault
-BreaksAs-map R S f each Refuses bytes fault b = record {
+pub BreaksAs_map : {X Y : Type 0} (R : Item → X → Type 0) (S : Item → Y → Type 0) (f : X → Y) → ((i : Item) (x : X) → R i x → S i (f x))
+    → (Refuses : Item → ChunkParseError → Type 0) (bytes : List ℕ) (fault : ChunkParseError) → FailsToParseAs R Refuses bytes fault → FailsToParseAs S Refuses bytes fault
+BreaksAs_map R S f each Refuses bytes fault b = record {
   front = map f b.front;
   rest = b.rest;
-  tiles = Tiles-map R S f each bytes b.front b.rest b.tiles;
+  parses = ParsesAll_map R S f each bytes b.front b.rest b.parses;
   some = b.some;
   stuck = b.stuck;
 }
@@ -34,11 +34,11 @@ module _ {X : Type 0} (R : Item → X → Type 0) (Refuses : Item → ChunkParse
       let same = one_item_lem bytes after refused.1 i refused.0 taken refused.2 in
       memory (stands refused.0 x fault (subst (λ (j : Item). R j x) same.0 means) refused.3)
 
-  pub BreaksAs-Breaks : (bytes : List ℕ) (fault : ChunkParseError) → BreaksAs R Refuses bytes fault → fault ≢ Memory → Breaks R bytes
-  BreaksAs-Breaks bytes fault b memory = record {
+  pub BreaksAs_Breaks : (bytes : List ℕ) (fault : ChunkParseError) → FailsToParseAs R Refuses bytes fault → fault ≢ Memory → Breaks R bytes
+  BreaksAs_Breaks bytes fault b memory = record {
     front = b.front;
     rest = b.rest;
-    tiles = b.tiles;
+    parses = b.parses;
     some = b.some;
     stuck = stuck_for_all b.rest fault b.stuck memory;
   }
@@ -65,9 +65,9 @@ module _ {X : Type 0} (R : Item → X → Type 0) (Refuses : Item → ChunkParse
       breaks_same s.1 fault other xs ys x_rest y_rest (subst (λ (b : List ℕ). Tiles R b xs x_rest) same.1 t.4) s.4 p q m n
 
   -- a list has one fault
-  pub one_break : (bytes : List ℕ) (fault other : ChunkParseError) → BreaksAs R Refuses bytes fault → BreaksAs R Refuses bytes other
+  pub one_break : (bytes : List ℕ) (fault other : ChunkParseError) → FailsToParseAs R Refuses bytes fault → FailsToParseAs R Refuses bytes other
       → fault ≢ Memory → other ≢ Memory → fault ≡ other
-  one_break bytes fault other b c m n = breaks_same bytes fault other b.front c.front b.rest c.rest b.tiles c.tiles b.stuck c.stuck m n
+  one_break bytes fault other b c m n = breaks_same bytes fault other b.front c.front b.rest c.rest b.parses c.parses b.stuck c.stuck m n
 
 -- A parameter or a cause has one fault.
 pub one_fault_as : (shape : ℕ → Shape) (Misspeaks : ℕ → List ℕ → Type 0) (asked typ : ℕ) (value : List ℕ) (fault other : ChunkParseError)

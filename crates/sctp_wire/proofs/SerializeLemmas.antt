@@ -31,24 +31,24 @@ unfolding be16
 item_written o w k n i e ke ne = rw (e, ke, ne) (append_assoc o ((i.first ∷ i.second ∷ []) ++ be16 (4 + length i.value)) i.value)
 
 -- one more item behind the others, and their padding between
-pub inner_items-more : (is : List Item) (i : Item)
+pub inner_items_more : (is : List Item) (i : Item)
     → inner_items (is ++ i ∷ []) ≡ inner_items is ++ (replicate (padding (length (inner_items is))) 0 ++ item_bytes i)
 unfolding inner_items padded_item
-inner_items-more [] i = refl
-inner_items-more (j ∷ []) i =
+inner_items_more [] i = refl
+inner_items_more (j ∷ []) i =
     let e : padding (length (item_bytes j)) ≡ padding (length j.value) = omega (arith, length_item_bytes j) in
     append_assoc (item_bytes j) (replicate (padding (length j.value)) 0) (item_bytes i) ∙ ap (λ (k : ℕ). item_bytes j ++ (replicate k 0 ++ item_bytes i)) (sym e)
-inner_items-more (j ∷ k ∷ is) i =
-    let more = inner_items-more (k ∷ is) i in
+inner_items_more (j ∷ k ∷ is) i =
+    let more = inner_items_more (k ∷ is) i in
     let len : padding (length (padded_item j ++ inner_items (k ∷ is))) ≡ padding (length (inner_items (k ∷ is))) = omega (arith, length-append (padded_item j) (inner_items (k ∷ is)), length_padded_item j) in
     ap (λ (x : List ℕ). padded_item j ++ x) more ∙ sym (append_assoc (padded_item j) (inner_items (k ∷ is)) _) ∙ ap (λ (p : ℕ). (padded_item j ++ inner_items (k ∷ is)) ++ (replicate p 0 ++ item_bytes i)) (sym len)
 
 -- its length
-pub length_inner_items-more : (is : List Item) (i : Item)
+pub length_inner_items_more : (is : List Item) (i : Item)
     → length (inner_items (is ++ i ∷ [])) ≡ length (inner_items is) + (padding (length (inner_items is)) + (4 + length i.value))
-length_inner_items-more is i = omega (
+length_inner_items_more is i = omega (
   arith,
-  ap length (inner_items-more is i),
+  ap length (inner_items_more is i),
   length-append (inner_items is) (replicate (padding (length (inner_items is))) 0 ++ item_bytes i),
   length-append (replicate (padding (length (inner_items is))) 0) (item_bytes i),
   length-replicate {A = ℕ} (padding (length (inner_items is))) 0,
@@ -59,7 +59,7 @@ length_inner_items-more is i = omega (
 pub size_more : (is : List Item) (i : Item) (size padded valued more : ℕ) → size ≡ min (length (inner_items is)) (2 ^ 64 - 1)
     → padded ≡ min (size + padding size) (2 ^ 64 - 1) → valued ≡ min (padded + min (length i.value) (2 ^ 64 - 1)) (2 ^ 64 - 1)
     → more ≡ min (valued + 4) (2 ^ 64 - 1) → more ≡ min (length (inner_items (is ++ i ∷ []))) (2 ^ 64 - 1)
-size_more is i size padded valued more a b c d = omega (arith, length_inner_items-more is i)
+size_more is i size padded valued more a b c d = omega (arith, length_inner_items_more is i)
 
 -- one more item read off the front of a list
 pub taken_more : {X : Type 0} (f : X → Item) (xs : List X) (i : ℕ) (x : X) → i < length xs → x ≡ get_or xs i x
@@ -70,10 +70,10 @@ taken_more f xs i x low e = map_more f xs i x low ∙ ap (λ y. map f (take i xs
 pub written_more : (o w z v : List ℕ) (is more : List Item) (i : Item) (padded : ℕ) → w ≡ o ++ inner_items is → padded ≡ padding (length (inner_items is))
     → z ≡ w ++ replicate padded 0 → v ≡ z ++ item_bytes i → more ≡ is ++ i ∷ [] → v ≡ o ++ inner_items more
 written_more o w z v is more i padded a b c d e =
-    rw (d, c, b, a, e, inner_items-more is i) (simp append_assoc)
+    rw (d, c, b, a, e, inner_items_more is i) (simp append_assoc)
 
 pub padding_more : (is more : List Item) (i : Item) → more ≡ is ++ i ∷ [] → padding (length i.value) ≡ padding (length (inner_items more))
-padding_more is more i e = rw e (omega (arith, length_inner_items-more is i))
+padding_more is more i e = rw e (omega (arith, length_inner_items_more is i))
 
 -- entries of one width
 pub length_entries : {E : Type 0} (f : E → List ℕ) (width : ℕ) → ((e : E) → length (f e) ≡ width) → (es : List E) → length (flat_map f es) ≡ length es * width
@@ -129,4 +129,4 @@ pub item_fits : {X : Type 0} (f : X → Item) (xs : List X) (i : ℕ) (x : X) �
 item_fits f xs i x low e =
     let more = taken_more f xs i x low e in
     let split : map f (take (i + 1) xs) ++ map f (drop (i + 1) xs) ≡ map f xs = sym (map-append f (take (i + 1) xs) (drop (i + 1) xs)) ∙ ap (map f) (take-append-drop (i + 1) xs) in
-    omega (arith, ap length (ap inner_items more), length_inner_items-more (map f (take i xs)) (f x), inner_front (map f (take (i + 1) xs)) (map f (drop (i + 1) xs)), ap length (ap inner_items split))
+    omega (arith, ap length (ap inner_items more), length_inner_items_more (map f (take i xs)) (f x), inner_front (map f (take (i + 1) xs)) (map f (drop (i + 1) xs)), ap length (ap inner_items split))

@@ -5,7 +5,7 @@ use Rattle.sctp_serial.specs.declared.types.tsn.Tsn.{Tsn}
 use Rattle.sctp_wire.specs.declared.error.ChunkParseError.{ChunkParseError}
 use Rattle.sctp_wire.specs.Fields.{be16, be32}
 use Rattle.sctp_item.specs.Item.{Item}
-use Rattle.sctp_wire.specs.Serialize.{typed, type_of}
+use Rattle.sctp_wire.specs.Serialize.{item_of_type, type_of}
 use Rattle.sctp_wire.specs.Shape.{Shape, any_length, exactly, counted, RefusesAs}
 use Rattle.sctp_wire.specs.Text.{IsTextOf}
 
@@ -85,7 +85,7 @@ IsCause i t = SaysCause (type_of i) i.value t
 
 -- the item that is written for the tree
 abbrev pub cause_item : CauseTree → Item
-cause_item t = typed (cause_type t) (cause_value t)
+cause_item t = item_of_type (cause_type t) (cause_value t)
 
 -- the lengths that each type allows
 abbrev pub cause_shape : ℕ → Shape

@@ -8,7 +8,7 @@ use Rattle.sctp_serial.specs.declared.types.tsn.Tsn.{Tsn}
 use Rattle.sctp_wire.specs.declared.error.ChunkParseError.{ChunkParseError}
 use Rattle.sctp_wire.specs.Fields.{be16, be32}
 use Rattle.sctp_item.specs.Item.{Item}
-use Rattle.sctp_wire.specs.Serialize.{typed, type_of}
+use Rattle.sctp_wire.specs.Serialize.{item_of_type, type_of}
 use Rattle.sctp_wire.specs.Shape.{Shape, any_length, exactly, either, in_steps, RefusesAs}
 
 -- what a parameter says
@@ -130,7 +130,7 @@ IsParameter i t = SaysParameter (type_of i) i.value t
 
 -- the item that is written for the tree
 abbrev pub parameter_item : ParameterTree → Item
-parameter_item t = typed (parameter_type t) (parameter_value t)
+parameter_item t = item_of_type (parameter_type t) (parameter_value t)
 
 -- the lengths that each type allows
 abbrev pub parameter_shape : ℕ → Shape

@@ -14,9 +14,9 @@ IsStuck Refuses bytes fault = ((fault ≡ InvalidLength) × TakesNone bytes)
     ⊎ ((i : Item) × (after : List ℕ) × Takes bytes i after × Refuses i fault)
 
 -- Behind a front of items that stand for values bytes are left, and they are stuck with this fault.
-pub record BreaksAs {X : Type 0} (R : Item → X → Type 0) (Refuses : Item → ChunkParseError → Type 0) (bytes : List ℕ) (fault : ChunkParseError) : Type 0 where
+pub record FailsToParseAs {X : Type 0} (R : Item → X → Type 0) (Refuses : Item → ChunkParseError → Type 0) (bytes : List ℕ) (fault : ChunkParseError) : Type 0 where
   pub front : List X
   pub rest : List ℕ
-  pub tiles : Tiles R bytes front rest
+  pub parses : Tiles R bytes front rest
   pub some : 0 < length rest
   pub stuck : IsStuck Refuses rest fault

@@ -21,8 +21,8 @@ inner_items (i ∷ []) = item_bytes i
 inner_items (i ∷ j ∷ is) = padded_item i ++ inner_items (j ∷ is)
 
 -- the item of a parameter or a cause: its two first bytes are one number, the type
-abbrev pub typed : ℕ → List ℕ → Item
-typed typ value = record { first = typ / 256; second = typ % 256; value = value }
+abbrev pub item_of_type : ℕ → List ℕ → Item
+item_of_type typ value = record { first = typ / 256; second = typ % 256; value = value }
 
 -- the type of a parameter or a cause
 abbrev pub type_of : Item → ℕ

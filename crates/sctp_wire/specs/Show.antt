@@ -28,6 +28,6 @@ bytes_text bytes = decimal (length bytes) ++ codes " bytes"
 abbrev pub behind_slashes : List (List ℕ) → List ℕ
 behind_slashes texts = flat_map (λ text. codes "/" ++ text) texts
 
-unfoldable pub joined : List (List ℕ) → List ℕ
-joined [] = []
-joined (text ∷ texts) = text ++ behind_slashes texts
+unfoldable pub join_texts : List (List ℕ) → List ℕ
+join_texts [] = []
+join_texts (text ∷ texts) = text ++ behind_slashes texts

@@ -4,7 +4,7 @@ ghost use Rattle.std.specs.Prelude.{◌≡◌, ◌≢◌, ◌⊎◌, ◌-◌, �
 ghost use Rattle.sctp_wire.specs.declared.error.ChunkParseError.{ChunkParseError};
 ghost use Rattle.sctp_item.specs.Item.{Item, Tiles};
 ghost use Rattle.sctp_wire.specs.Views.{raw_item};
-ghost use Rattle.sctp_wire.specs.Refusal.{BreaksAs, StandsForSome};
+ghost use Rattle.sctp_wire.specs.Refusal.{FailsToParseAs, StandsForSome};
 
 use crate::{ChunkParseError, RawItem};
 
@@ -27,7 +27,7 @@ pub trait CheckItem {
 /// says nothing.
 pub fn check_items<T: CheckItem>(bytes: &[u8]) -> Result<(), ChunkParseError>
     ensures ok { OnOk result ((trees : List T.Tree) × Tiles T.stands_for bytes.now trees []) }
-    ensures refused { IfErr result (BreaksAs T.stands_for T.refuses bytes.now) }
+    ensures refused { IfErr result (FailsToParseAs T.stands_for T.refuses bytes.now) }
     ensures never_memory { IfErr result (λ fault. fault ≢ ChunkParseError.Memory) }
 {
     let mut rest = bytes;

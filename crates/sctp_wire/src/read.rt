@@ -4,7 +4,7 @@ ghost use Rattle.std.specs.Prelude.{◌≡◌, ◌⊎◌, ℕ, List, [], IfOk, I
 ghost use Rattle.sctp_wire.specs.declared.error.ChunkParseError.{ChunkParseError};
 ghost use Rattle.sctp_item.specs.Item.{Item, Tiles};
 ghost use Rattle.sctp_wire.specs.Views.{raw_item};
-ghost use Rattle.sctp_wire.specs.Refusal.{BreaksAs};
+ghost use Rattle.sctp_wire.specs.Refusal.{FailsToParseAs};
 
 use crate::{ChunkParseError, RawItem};
 use std::alloc::Global;
@@ -25,7 +25,7 @@ pub trait FromItem: Sized + Drop {
 pub fn items_from_bytes<T: FromItem>(alloc: Global, bytes: &[u8]) -> Result<Vec<T>, ChunkParseError>
     ensures ok { IfOk result (λ values. Tiles T.stands_for bytes.now values.items []) }
     ensures refused { IfErr result (λ fault. (fault ≡ ChunkParseError.Memory)
-        ⊎ BreaksAs T.stands_for T.refuses bytes.now fault) }
+        ⊎ FailsToParseAs T.stands_for T.refuses bytes.now fault) }
 {
     let mut values = Vec::new(alloc);
     let mut rest = bytes;

@@ -2,7 +2,7 @@
 
 ghost use Rattle.std.specs.Prelude.{◌≡◌, ℕ, List, Some, map, refl};
 ghost use Rattle.std.specs.Fmt.{decimal};
-ghost use Rattle.sctp_wire.specs.Show.{joined};
+ghost use Rattle.sctp_wire.specs.Show.{join_texts};
 
 use sctp_serial::{StreamId, Tsn};
 use std::fmt;
@@ -42,9 +42,9 @@ impl Listed for Tsn {
 #[derive(Clone, Copy)]
 pub struct Joined<'a, T>(pub &'a [T]);
 
-#[tactic(auto, unfolding(crate::specs::Show::joined))]
+#[tactic(auto, unfolding(crate::specs::Show::join_texts))]
 impl<T: Listed> fmt::Display for Joined<'_, T> {
-    ghost output = { λ list. Some (joined (map T.text list.0.now)) };
+    ghost output = { λ list. Some (join_texts (map T.text list.0.now)) };
 
     fn fmt<W: fmt::Write>(&self, f: &mut fmt::Formatter<W>) -> fmt::Result {
         let Some((first, others)) = self.0.split_first() else {

@@ -2,7 +2,7 @@
 
 ghost use Rattle.std.specs.Prelude.{◌≡◌, ◌+◌, ◌^◌, ◌-◌, min, true, ◌++◌, IfOk, IfErr, Some, codes};
 ghost use Rattle.sctp_wire.specs.ParameterText.{unknown_text};
-ghost use Rattle.sctp_wire.specs.Serialize.{typed};
+ghost use Rattle.sctp_wire.specs.Serialize.{item_of_type};
 
 use crate::ChunkParseError;
 use crate::item::RawParameter;
@@ -37,7 +37,7 @@ impl UnknownParameter {
 }
 
 impl SerializableTlv for UnknownParameter {
-    ghost item_of = { λ p. typed p.typ p.value.items };
+    ghost item_of = { λ p. item_of_type p.typ p.value.items };
 
     ghost parts_agree = { λ p. true };
 

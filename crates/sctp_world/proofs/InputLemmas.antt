@@ -8,8 +8,8 @@ use Rattle.std.proofs.lemmas.List.Splits.{slice_split_none}
 use Rattle.sctp_world.specs.Commands.{lines_of, IsNoCommand}
 use Rattle.sctp_world.specs.Script.{RunsLine, RunsLines, RunsFront, StopsAt, refusal_text}
 use Rattle.sctp_world.specs.Lines.{IsOneLine, HasRun, HasRunSome, HasStopped}
-use Rattle.sctp_network_table.specs.World.{World}
-use Rattle.sctp_world.proofs.TurnLemmas.{RunsLines-push}
+use Rattle.spec_world.specs.World.{World}
+use Rattle.sctp_world.proofs.TurnLemmas.{RunsLines_push}
 
 -- how far the reader was read: `seen` came from it, `line` is left of that, and `turns` turns were made
 pub record IsReadTo (reader_old reader : Option (List ℕ)) (line : List ℕ) (count turns : ℕ) (w v : World) (old new : Option (List ℕ)) : Type 0 where
@@ -21,11 +21,11 @@ pub record IsReadTo (reader_old reader : Option (List ℕ)) (line : List ℕ) (c
   pub plain : IsOneLine line
   pub few : count ≤ 4096 * turns
 
-RunsLines-append : (xs ys : List (List ℕ)) (a b : List ℕ) (w v u : World) → RunsLines xs w v a → RunsLines ys v u b → RunsLines (xs ++ ys) w u (a ++ b)
-RunsLines-append [] ys a b w v u none more =
+RunsLines_append : (xs ys : List (List ℕ)) (a b : List ℕ) (w v u : World) → RunsLines xs w v a → RunsLines ys v u b → RunsLines (xs ++ ys) w u (a ++ b)
+RunsLines_append [] ys a b w v u none more =
     subst (λ (t : List ℕ). RunsLines ys w u (t ++ b)) (sym none.1) (subst (λ (x : World). RunsLines ys x u b) none.0 more)
-RunsLines-append (x ∷ xs) ys a b w v u runs more =
-    (runs.0, runs.1, runs.2 ++ b, runs.3, RunsLines-append xs ys runs.2 b runs.0 v u runs.4 more, ap (λ (t : List ℕ). t ++ b) runs.5 ∙ append_assoc runs.1 runs.2 b)
+RunsLines_append (x ∷ xs) ys a b w v u runs more =
+    (runs.0, runs.1, runs.2 ++ b, runs.3, RunsLines_append xs ys runs.2 b runs.0 v u runs.4 more, ap (λ (t : List ℕ). t ++ b) runs.5 ∙ append_assoc runs.1 runs.2 b)
 
 -- nothing was read
 pub read_nothing : (reader old : Option (List ℕ)) (line : List ℕ) (w v : World) → line ≡ [] → v ≡ w → IsReadTo reader reader line 0 0 w v old old
@@ -94,17 +94,17 @@ module _ (reader_old reader : Option (List ℕ)) (line : List ℕ) (count turns 
       ap lines_of (append_assoc read.seen piece more) ∙ read.ran.front (piece ++ more)
       ∙ ap (λ (x : List (List ℕ)). read.lines ++ x) (ap lines_of (sym (append_assoc line piece more)) ∙ begins more)
 
-  HasRun-more : (piece : List ℕ) (lines : List (List ℕ)) (rest : List ℕ) (u : World) (new : Option (List ℕ)) → HasRun (line ++ piece) lines rest v u mid new
+  HasRun_more : (piece : List ℕ) (lines : List (List ℕ)) (rest : List ℕ) (u : World) (new : Option (List ℕ)) → HasRun (line ++ piece) lines rest v u mid new
       → HasRun (read.seen ++ piece) (read.lines ++ lines) rest w u old new
-  HasRun-more piece lines rest u new run = record {
+  HasRun_more piece lines rest u new run = record {
     text = read.ran.text ++ run.text;
     front = λ more. more_front piece (λ (m : List ℕ). lines ++ lines_of (rest ++ m)) run.front more ∙ sym (append_assoc read.lines lines (lines_of (rest ++ more)));
-    runs = RunsLines-append read.lines lines read.ran.text run.text w v u read.ran.runs run.runs;
+    runs = RunsLines_append read.lines lines read.ran.text run.text w v u read.ran.runs run.runs;
     written = Appends-trans old mid new read.ran.text run.text read.ran.written run.written;
   }
 
-  HasStopped-more : (piece : List ℕ) (n : ℕ) (new : Option (List ℕ)) → HasStopped (line ++ piece) count n v mid new → HasStopped (read.seen ++ piece) 0 n w old new
-  HasStopped-more piece n new stop = record {
+  HasStopped_more : (piece : List ℕ) (n : ℕ) (new : Option (List ℕ)) → HasStopped (line ++ piece) count n v mid new → HasStopped (read.seen ++ piece) 0 n w old new
+  HasStopped_more piece n new stop = record {
     lines = read.lines ++ stop.lines;
     line = stop.line;
     rest = stop.rest;
@@ -114,7 +114,7 @@ module _ (reader_old reader : Option (List ℕ)) (line : List ℕ) (count turns 
         ∙ sym (append_assoc read.lines stop.lines (stop.line ∷ lines_of (stop.rest ++ more)));
     number = omega (arith, stop.number, read.number, length-append read.lines stop.lines);
     no_command = stop.no_command;
-    runs = RunsLines-append read.lines stop.lines read.ran.text stop.text w v stop.left read.ran.runs stop.runs;
+    runs = RunsLines_append read.lines stop.lines read.ran.text stop.text w v stop.left read.ran.runs stop.runs;
     written = subst (λ (t : List ℕ). Appends old new t) (sym (append_assoc read.ran.text stop.text (refusal_text n)))
         (Appends-trans old mid new read.ran.text (stop.text ++ refusal_text n) read.ran.written stop.written);
   }
@@ -129,7 +129,7 @@ module _ (reader_old reader : Option (List ℕ)) (line : List ℕ) (count turns 
     consumed = Consumes-trans reader_old reader reader_new read.seen piece read.consumed consumed;
     lines = read.lines ++ ran.0;
     number = omega (arith, ran.1, read.number, length-append read.lines ran.0);
-    ran = HasRun-more piece ran.0 rest u new ran.2;
+    ran = HasRun_more piece ran.0 rest u new ran.2;
     plain = plain;
     few = omega (arith, few, short, read.few);
   }
@@ -139,14 +139,14 @@ module _ (reader_old reader : Option (List ℕ)) (line : List ℕ) (count turns 
       → IfSome reader_old (λ input. (text : List ℕ) × RunsFront (lines_of input) w text × Appends old new text)
   silent_in_turn piece reader_new new consumed some =
       front_text reader_old reader_new (read.seen ++ piece) (read.lines ++ some.lines) some.rest w some.left old new
-      (Consumes-trans reader_old reader reader_new read.seen piece read.consumed consumed) (HasRun-more piece some.lines some.rest some.left new some.ran)
+      (Consumes-trans reader_old reader reader_new read.seen piece read.consumed consumed) (HasRun_more piece some.lines some.rest some.left new some.ran)
 
   -- a turn met a line that is no command
   pub stopped_in_turn : (piece : List ℕ) (reader_new new : Option (List ℕ)) (n : ℕ) → Consumes reader reader_new piece → HasStopped (line ++ piece) count n v mid new
       → IfSome reader_old (λ input. (text : List ℕ) × StopsAt (lines_of input) n w text × Appends old new (text ++ refusal_text n))
   stopped_in_turn piece reader_new new n consumed stop =
       stopped_text reader_old reader_new (read.seen ++ piece) n w old new
-      (Consumes-trans reader_old reader reader_new read.seen piece read.consumed consumed) (HasStopped-more piece n new stop)
+      (Consumes-trans reader_old reader reader_new read.seen piece read.consumed consumed) (HasStopped_more piece n new stop)
 
   -- ---- the last line, which the end of the input ends
 
@@ -165,7 +165,7 @@ module _ (reader_old reader : Option (List ℕ)) (line : List ℕ) (count turns 
     ended_at u new (Some xs) is printed = rw (whole xs is) (
       u,
       read.ran.text ++ printed.0,
-      RunsLines-push read.lines line read.ran.text printed.0 w v u read.ran.runs printed.1,
+      RunsLines_push read.lines line read.ran.text printed.0 w v u read.ran.runs printed.1,
       Appends-trans old mid new read.ran.text printed.0 read.ran.written printed.2,
     )
 

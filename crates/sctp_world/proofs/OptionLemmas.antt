@@ -2,8 +2,8 @@
 use Rattle.std.proofs.Common.{◌≡◌, ◌≢◌, ℕ, zero, suc, ◌<◌, ◌^◌, Bool, true, false, Option, Some, None, List, [], ◌∷◌, codes, IfNone, refl, sym, ap, subst, ◌∙◌, arith}
 use Rattle.sctp_serial.specs.Messages.{Message}
 use Rattle.sctp_state.specs.Options.{SendOptions}
-use Rattle.sctp_network_table.specs.Judge.{End, Connect, Shutdown, Close, Send, SendMany, Receive, Reset, SetPriority, SetMaxMessageSize, SetLowThreshold, HandOver}
-use Rattle.sctp_network_table.specs.World.{CallOf, Give, GiveForeign, TellTime}
+use Rattle.spec_world.specs.Observations.{End, Connect, Shutdown, Close, Send, SendMany, Receive, Reset, SetPriority, SetMaxMessageSize, SetLowThreshold, HandOver}
+use Rattle.spec_world.specs.World.{CallOf, Give, GiveForeign, AdvanceTime}
 use Rattle.sctp_world.specs.Commands.{IsFlag, IsNamed, IsHex, SpellsLimit, SpellsLife, SpellsOptions, SpellsSend, SpellsWords, Asked, probe_of, happens, passes, shown}
 
 module _ (name : List ℕ) (words rest other : List (List ℕ)) where
@@ -97,7 +97,7 @@ only_send words none (happens (CallOf x (SetLowThreshold stream bytes))) k = k
 only_send words none (happens (CallOf x HandOver)) k = k
 only_send words none (happens (Give packet x)) k = no_give words _ k.1
 only_send words none (happens (GiveForeign x bytes)) k = no_foreign words _ k.1
-only_send words none (happens (TellTime x now)) k = k
+only_send words none (happens (AdvanceTime x now)) k = k
 only_send words none (passes now) k = no_time words _ k.2
 only_send words none (shown x packet) k = no_show words _ k.1
 

@@ -9,7 +9,7 @@ use Rattle.std.proofs.lemmas.List.Splits.{slice_split_at}
 use Rattle.sctp_world.specs.Commands.{lines_of, IsNoCommand}
 use Rattle.sctp_world.specs.Script.{RunsLine, RunsLines, refusal_text}
 use Rattle.sctp_world.specs.Lines.{IsOneLine, HasRun, HasStopped}
-use Rattle.sctp_network_table.specs.World.{World}
+use Rattle.spec_world.specs.World.{World}
 
 -- where the run of a turn's bytes stands: `line` and `rest` are left of the bytes
 pub record IsRunTo (bytes : List ℕ) (before count : ℕ) (line rest : List ℕ) (w v : World) (old new : Option (List ℕ)) (limit : ℕ) : Type 0 where
@@ -31,16 +31,16 @@ begins_with_none bytes line rest before w old limit is plain fits = record {
 }
 
 -- one more line at the end of those that were run
-pub RunsLines-push : (lines : List (List ℕ)) (line text more : List ℕ) (w v u : World) → RunsLines lines w v text → RunsLine line v u more → RunsLines (lines ++ line ∷ []) w u (text ++ more)
-RunsLines-push [] line text more w v u none run =
+pub RunsLines_push : (lines : List (List ℕ)) (line text more : List ℕ) (w v u : World) → RunsLines lines w v text → RunsLine line v u more → RunsLines (lines ++ line ∷ []) w u (text ++ more)
+RunsLines_push [] line text more w v u none run =
     (u, more, [], subst (λ (x : World). RunsLine line x u more) none.0 run, (refl, refl), ap (λ (x : List ℕ). x ++ more) none.1 ∙ sym (append-nil more))
-RunsLines-push (l ∷ lines) line text more w v u runs run =
-    (runs.0, runs.1, runs.2 ++ more, runs.3, RunsLines-push lines line runs.2 more runs.0 v u runs.4 run, ap (λ (x : List ℕ). x ++ more) runs.5 ∙ append_assoc runs.1 runs.2 more)
+RunsLines_push (l ∷ lines) line text more w v u runs run =
+    (runs.0, runs.1, runs.2 ++ more, runs.3, RunsLines_push lines line runs.2 more runs.0 v u runs.4 run, ap (λ (x : List ℕ). x ++ more) runs.5 ∙ append_assoc runs.1 runs.2 more)
 
 -- the bytes of a line are read in two pieces, and a newline ends it
-lines_of-cut : (line end after more : List ℕ) → IsOneLine line → IsOneLine end
+lines_of_cut : (line end after more : List ℕ) → IsOneLine line → IsOneLine end
     → lines_of ((line ++ (end ++ (10 ∷ after))) ++ more) ≡ (line ++ end) ∷ lines_of (after ++ more)
-lines_of-cut line end after more plain first =
+lines_of_cut line end after more plain first =
     ap lines_of (append_assoc line (end ++ (10 ∷ after)) more ∙ ap (λ (x : List ℕ). line ++ x) (append_assoc end (10 ∷ after) more) ∙ sym (append_assoc line end (10 ∷ (after ++ more))))
     ∙ slice_split_at (λ b. b == 10) (line ++ end) 10 (after ++ more) (All-append (λ b. (b == 10) ≡ false) line end plain first) refl
 
@@ -50,7 +50,7 @@ module _ (bytes : List ℕ) (before count : ℕ) (line rest : List ℕ) (w v : W
   next_line : (more : List ℕ) → lines_of (bytes ++ more) ≡ run.lines ++ ((line ++ end) ∷ lines_of (after ++ more))
   next_line more =
       run.ran.front more
-      ∙ ap (λ (x : List (List ℕ)). run.lines ++ x) (ap (λ (r : List ℕ). lines_of ((line ++ r) ++ more)) cut ∙ lines_of-cut line end after more run.plain first)
+      ∙ ap (λ (x : List (List ℕ)). run.lines ++ x) (ap (λ (r : List ℕ). lines_of ((line ++ r) ++ more)) cut ∙ lines_of_cut line end after more run.plain first)
 
   -- the line was run
   pub one_more_line : (new : Option (List ℕ)) (taken next : List ℕ) (u : World) → taken ≡ line ++ end → next ≡ []
@@ -62,7 +62,7 @@ module _ (bytes : List ℕ) (before count : ℕ) (line rest : List ℕ) (w v : W
     ran = record {
       text = run.ran.text ++ printed.0;
       front = λ more. next_line more ∙ ap (λ (l : List ℕ). run.lines ++ (l ∷ lines_of (after ++ more))) (sym is_line) ∙ sym (append_assoc run.lines (taken ∷ []) (lines_of (after ++ more)));
-      runs = RunsLines-push run.lines taken run.ran.text printed.0 w v u run.ran.runs printed.1;
+      runs = RunsLines_push run.lines taken run.ran.text printed.0 w v u run.ran.runs printed.1;
       written = Appends-trans old mid new run.ran.text printed.0 run.ran.written printed.2;
     };
     plain = λ k d lt. absurd (omega arith);

@@ -1,7 +1,7 @@
 -- Words that begin with none of the commands' names.
 use Rattle.std.proofs.Common.{◌≡◌, ◌≢◌, ℕ, List, ◌∷◌, codes, sym, ◌∙◌}
-use Rattle.sctp_network_table.specs.Judge.{Connect, Shutdown, Close, Send, SendMany, Receive, Reset, SetPriority, SetMaxMessageSize, SetLowThreshold, HandOver}
-use Rattle.sctp_network_table.specs.World.{CallOf, Give, GiveForeign, TellTime}
+use Rattle.spec_world.specs.Observations.{Connect, Shutdown, Close, Send, SendMany, Receive, Reset, SetPriority, SetMaxMessageSize, SetLowThreshold, HandOver}
+use Rattle.spec_world.specs.World.{CallOf, Give, GiveForeign, AdvanceTime}
 use Rattle.sctp_world.specs.Commands.{SpellsWords, Asked, probe_of, happens, passes, shown}
 
 first : (a b : List ℕ) (more others : List (List ℕ)) → a ∷ more ≡ b ∷ others → a ≡ b
@@ -26,6 +26,6 @@ no_command words rest name e probe connect shutdown close reset foreign send rec
 no_command words rest name e probe connect shutdown close reset foreign send recv give time show (happens (CallOf x HandOver)) k = k
 no_command words rest name e probe connect shutdown close reset foreign send recv give time show (happens (Give packet x)) k = give (first _ _ _ _ (sym e ∙ k.1))
 no_command words rest name e probe connect shutdown close reset foreign send recv give time show (happens (GiveForeign x bytes)) k = foreign (first _ _ _ _ (sym e ∙ k.1))
-no_command words rest name e probe connect shutdown close reset foreign send recv give time show (happens (TellTime x now)) k = k
+no_command words rest name e probe connect shutdown close reset foreign send recv give time show (happens (AdvanceTime x now)) k = k
 no_command words rest name e probe connect shutdown close reset foreign send recv give time show (passes now) k = time (first _ _ _ _ (sym e ∙ k.2))
 no_command words rest name e probe connect shutdown close reset foreign send recv give time show (shown x packet) k = show (first _ _ _ _ (sym e ∙ k.1))

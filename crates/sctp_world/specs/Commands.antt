@@ -7,8 +7,8 @@ use Rattle.std.specs.Str.Parse.{digits_value}
 use Rattle.hex.specs.Hex.{decode_of}
 use Rattle.sctp_serial.specs.Messages.{Message}
 use Rattle.sctp_state.specs.Options.{SendOptions}
-use Rattle.sctp_network_table.specs.Judge.{End, Connect, Shutdown, Close, Send, SendMany, Receive, Reset, SetPriority, SetMaxMessageSize, SetLowThreshold, HandOver, end_name}
-use Rattle.sctp_network_table.specs.World.{Action, CallOf, Give, GiveForeign, TellTime, other}
+use Rattle.spec_world.specs.Observations.{End, Connect, Shutdown, Close, Send, SendMany, Receive, Reset, SetPriority, SetMaxMessageSize, SetLowThreshold, HandOver, end_name}
+use Rattle.spec_world.specs.World.{Action, CallOf, Give, GiveForeign, AdvanceTime, other}
 
 -- ---- lines and words
 
@@ -112,7 +112,7 @@ SpellsWords words (happens (CallOf x HandOver)) = ⊥
 SpellsWords words (happens (Give packet x)) =
     (number : List ℕ) × (words ≡ codes "give" ∷ end_name (other x) ∷ number ∷ end_name x ∷ []) × IsNumber number packet × (packet < 2 ^ 64)
 SpellsWords words (happens (GiveForeign x bytes)) = (hex : List ℕ) × (words ≡ codes "foreign" ∷ end_name x ∷ hex ∷ []) × IsHex hex bytes
-SpellsWords words (happens (TellTime x now)) = ⊥
+SpellsWords words (happens (AdvanceTime x now)) = ⊥
 SpellsWords words (passes now) =
     (number : List ℕ) × (milliseconds : ℕ) × (words ≡ codes "time" ∷ number ∷ []) × IsNumber number milliseconds × (milliseconds < 2 ^ 64)
     × (now ≡ nanoseconds milliseconds)

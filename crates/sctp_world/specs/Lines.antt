@@ -3,7 +3,7 @@ use Rattle.std.specs.Prelude.{◌≡◌, ℕ, ◌+◌, false, ◌==◌, List, �
 use Rattle.std.specs.Io.KnownBytes.{Appends}
 use Rattle.sctp_world.specs.Commands.{lines_of, IsNoCommand}
 use Rattle.sctp_world.specs.Script.{RunsLines, refusal_text}
-use Rattle.sctp_network_table.specs.World.{World}
+use Rattle.spec_world.specs.World.{World}
 
 -- no byte is a newline
 abbrev pub IsOneLine : List ℕ → Type 0

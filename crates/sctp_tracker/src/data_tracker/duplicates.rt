@@ -3,7 +3,7 @@
 ghost use Rattle.std.specs.Prelude.{◌≡◌, ◌≤◌, length, [], IfOk, OnOk, OnErr};
 ghost use Rattle.sctp_tracker.specs.Tracker.{with_duplicate};
 ghost use Rattle.sctp_tracker.specs.Sack.{tsns};
-ghost use Rattle.sctp_tracker.specs.Told.{Ascend};
+ghost use Rattle.sctp_tracker.specs.Reported.{Ascend};
 
 use sctp_serial::{SerialNumber, Tsn};
 use std::alloc::{AllocError, Global};
@@ -20,7 +20,7 @@ pub(crate) struct Duplicates {
 
 impl Model for Duplicates {
     ghost use Rattle.std.specs.Prelude.{ℕ, List, length, ◌≤◌};
-    ghost use Rattle.sctp_tracker.specs.Told.{Ascend};
+    ghost use Rattle.sctp_tracker.specs.Reported.{Ascend};
 
     ghost Value = { List ℕ };
 

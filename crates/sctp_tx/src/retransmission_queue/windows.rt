@@ -2,7 +2,7 @@
 
 ghost use Rattle.std.specs.Prelude.{◌≡◌, ◌+◌, nat_le, is_some};
 ghost use Rattle.sctp_state.specs.Options.{options_of, IsValid};
-ghost use Rattle.sctp_tx.specs.Windows.{at_first, grown, slow_start, avoidance, halved, recovering, timed_out, acknowledged, is_open, told, taken, room, may_send, capped};
+ghost use Rattle.sctp_tx.specs.Windows.{at_first, grow, slow_start, avoidance, halve, recovering, timed_out, acknowledge, is_open, advertise, take_payload, room, may_send, cap};
 
 use sctp_state::Options;
 
@@ -47,7 +47,7 @@ impl Windows {
 
     /// The cumulative TSN moved outside fast recovery: `before` bytes were unacknowledged, of which `acked` newly aren't.
     pub fn grow(&mut self, before: usize, acked: usize)
-        ensures { self.new ≡ grown before acked self.old }
+        ensures { self.new ≡ grow before acked self.old }
     {
         if self.cwnd <= self.ssthresh {
             self.start_slowly(before, acked);
@@ -76,7 +76,7 @@ impl Windows {
     }
 
     fn halved(&self) -> usize
-        ensures { result ≡ halved self.now }
+        ensures { result ≡ halve self.now }
     {
         (self.cwnd / 2).max(self.least_cwnd)
     }
@@ -100,7 +100,7 @@ impl Windows {
 
     /// All TSNs up to this one, unwrapped, are acknowledged.
     pub fn acknowledge(&mut self, cumulative: u64)
-        ensures { self.new ≡ acknowledged cumulative self.old }
+        ensures { self.new ≡ acknowledge cumulative self.old }
     {
         if self.is_open_at(cumulative) {
             self.fast_recovery_exit = None;
@@ -119,14 +119,14 @@ impl Windows {
 
     /// The peer told its window, while so much payload was unacknowledged.
     pub fn hear_window(&mut self, a_rwnd: u32, payload: usize)
-        ensures { self.new ≡ told a_rwnd payload self.old }
+        ensures { self.new ≡ advertise a_rwnd payload self.old }
     {
         self.rwnd = (a_rwnd as usize).saturating_sub(payload);
     }
 
     /// A chunk of this padded size goes out.
     pub fn take(&mut self, size: usize)
-        ensures { self.new ≡ taken size self.old }
+        ensures { self.new ≡ take_payload size self.old }
     {
         self.rwnd = self.rwnd.saturating_sub(size);
     }

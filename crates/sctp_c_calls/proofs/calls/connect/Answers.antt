@@ -1,6 +1,6 @@
 use Rattle.std.proofs.Common.{◌≡◌}
 use Rattle.sctp_association.specs.Socket.{endpoint}
-use Rattle.sctp_table.specs.Opening as opening
+use Rattle.spec_endpoint.specs.Opening as opening
 use Rattle.sctp_c_calls.proofs.OutcomeLemmas.{among, ends, done}
 use Rattle.sctp_c_calls.proofs.calls.connect.Goals as goal
 

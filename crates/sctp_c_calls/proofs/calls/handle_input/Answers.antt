@@ -1,5 +1,5 @@
 use Rattle.sctp_association.specs.Socket.{endpoint}
-use Rattle.sctp_table.specs.Hearing.{Hears}
+use Rattle.spec_endpoint.specs.Receiving.{Receives}
 use Rattle.sctp_c_calls.proofs.OutcomeLemmas.{among, ends, done}
 use Rattle.sctp_c_calls.proofs.calls.handle_input.Goals as goal
 
@@ -10,4 +10,4 @@ pub returns-clause-ends : goal.returns-clause-ends
 returns-clause-ends g c = rw c.call_number.ensures (ends c.handle_input.result c.args.socket.now c.handle_input.new.self c.handle_input.ensures.ends)
 
 pub returns-clause-ok : goal.returns-clause-ok
-returns-clause-ok g c = rw c.call_number.ensures (done (Hears (g.C.Checksum.word_of c.args.socket.now.context.checksum) c.args.bytes.now (endpoint g.R.Rng.stream g.C.Checksum.word_of c.args.socket.now) (endpoint g.R.Rng.stream g.C.Checksum.word_of c.handle_input.new.self)) c.handle_input.result c.handle_input.ensures.ok)
+returns-clause-ok g c = rw c.call_number.ensures (done (Receives (g.C.Checksum.word_of c.args.socket.now.context.checksum) c.args.bytes.now (endpoint g.R.Rng.stream g.C.Checksum.word_of c.args.socket.now) (endpoint g.R.Rng.stream g.C.Checksum.word_of c.handle_input.new.self)) c.handle_input.result c.handle_input.ensures.ok)

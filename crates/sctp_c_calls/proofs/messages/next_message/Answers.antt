@@ -1,4 +1,4 @@
-use Rattle.sctp_table.specs.Calls as calls
+use Rattle.spec_endpoint.specs.Calls as calls
 use Rattle.sctp_c_calls.proofs.ReadyLemmas.{nothing_ready}
 use Rattle.sctp_c_calls.proofs.messages.next_message.Goals as goal
 

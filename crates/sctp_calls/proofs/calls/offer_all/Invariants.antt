@@ -1,7 +1,7 @@
 use Rattle.std.proofs.Common.{◌≡◌, ◌++◌, map}
 use Rattle.sctp_serial.specs.Messages.{message_of}
 use Rattle.sctp_state.specs.Options.{send_options_of}
-use Rattle.sctp_table.specs.Calls.{offer_all, refusals}
+use Rattle.spec_endpoint.specs.Calls.{offer_all, refusals}
 use Rattle.sctp_endpoint.specs.Views.{context_of}
 use Rattle.sctp_calls.proofs.calls.offer_all.Given as goal
 

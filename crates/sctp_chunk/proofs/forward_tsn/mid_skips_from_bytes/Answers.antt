@@ -1,6 +1,6 @@
 use Rattle.std.proofs.Common.{◌++◌, [], ◌∷◌, length-append, arith}
 use Rattle.sctp_chunk.specs.Grammar.{FitsSkip}
-use Rattle.sctp_chunk.proofs.SkipLemmas.{SaysSkips-push, Each-push, behind_part}
+use Rattle.sctp_chunk.proofs.SkipLemmas.{SaysSkips_push, Each_push, behind_part}
 use Rattle.sctp_chunk.proofs.forward_tsn.mid_skips_from_bytes.Goals as goal
 
 pub loop-rest-preserved : goal.loop-rest-preserved
@@ -11,8 +11,8 @@ loop-rest-preserved c =
       joined = (
         old.0 ++ new.0,
         behind_part c.args.bytes.now old.0 c.loop-rest.rest.now new.0 c.in_ok-skip.after.now old.1 new.1,
-        SaysSkips-push old.0 new.0 c.loop-rest.skipped.items c.in_ok-skip.skip old.2 new.2,
+        SaysSkips_push old.0 new.0 c.loop-rest.skipped.items c.in_ok-skip.skip old.2 new.2,
       );
       count = omega (arith, c.loop-rest.invariant.count, c.in_ok-skip.ensures.len, length-append c.loop-rest.skipped.items (c.in_ok-skip.skip ∷ []));
-      fits = Each-push FitsSkip c.loop-rest.skipped.items c.in_ok-skip.skip c.loop-rest.invariant.fits c.in_ok-skip.ensures.fits;
+      fits = Each_push FitsSkip c.loop-rest.skipped.items c.in_ok-skip.skip c.loop-rest.invariant.fits c.in_ok-skip.ensures.fits;
     })

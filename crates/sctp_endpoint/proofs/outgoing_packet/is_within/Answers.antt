@@ -2,7 +2,7 @@ use Rattle.std.proofs.Common.{length, ap, ◌∙◌, min, ℕ, ◌-◌, ◌^◌}
 use Rattle.sctp_packet.specs.ChunkView.{chunk_tree}
 use Rattle.sctp_packet.specs.Written.{chunk_bytes}
 use Rattle.sctp_endpoint.proofs.OutgoingLemmas.{within}
-use Rattle.sctp_table.proofs.SizeLemmas.{size_of_chunk}
+use Rattle.spec_endpoint.proofs.SizeLemmas.{size_of_chunk}
 use Rattle.sctp_endpoint.proofs.outgoing_packet.is_within.Goals as goal
 
 pub returns : goal.returns

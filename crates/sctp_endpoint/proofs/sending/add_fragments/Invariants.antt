@@ -1,7 +1,7 @@
 use Rattle.std.proofs.Common.{◌≡◌, map}
-use Rattle.sctp_outstanding.specs.Views.{chunk_of}
-use Rattle.sctp_table.specs.Packets.{add_all}
-use Rattle.sctp_table.specs.Sending.{data_chunks}
+use Rattle.sctp_tx_outstanding.specs.Views.{chunk_of}
+use Rattle.spec_endpoint.specs.Packets.{add_all}
+use Rattle.spec_endpoint.specs.Sending.{data_chunks}
 use Rattle.sctp_endpoint.specs.Views.{tcb_of}
 use Rattle.sctp_endpoint.proofs.sending.add_fragments.Given as goal
 

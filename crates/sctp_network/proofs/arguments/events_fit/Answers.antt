@@ -1,8 +1,8 @@
 use Rattle.std.proofs.Common.{map}
-use Rattle.sctp_table_laws.proofs.ArgumentLemmas.{seen_more, seen_all}
+use Rattle.proof_endpoint.proofs.ArgumentLemmas.{seen_more, seen_all}
 use Rattle.sctp_network_side.specs.SideView.{action_of}
-use Rattle.sctp_network_laws.specs.Courses.{ActionFits}
-use Rattle.sctp_network.proofs.LedLemmas.{all_of_each, fits_readable}
+use Rattle.proof_world.specs.Traces.{ActionFits}
+use Rattle.sctp_network.proofs.ReachableLemmas.{all_of_each, fits_readable}
 use Rattle.sctp_network.proofs.arguments.events_fit.Goals as goal
 
 pub loop-event-init : goal.loop-event-init

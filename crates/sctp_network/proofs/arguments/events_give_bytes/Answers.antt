@@ -1,7 +1,7 @@
-use Rattle.sctp_table_laws.proofs.ArgumentLemmas.{seen_more, seen_all}
+use Rattle.proof_endpoint.proofs.ArgumentLemmas.{seen_more, seen_all}
 use Rattle.sctp_network_side.specs.SideView.{action_of}
 use Rattle.sctp_network.specs.WorldView.{world_of}
-use Rattle.sctp_network_laws.specs.Readable.{GivesBytes}
+use Rattle.proof_world.specs.Readable.{GivesBytes}
 use Rattle.sctp_network.proofs.arguments.events_give_bytes.Goals as goal
 
 pub loop-event-init : goal.loop-event-init

@@ -1,14 +1,14 @@
 use Rattle.std.proofs.Common.{map}
 use Rattle.std.proofs.lemmas.Result.{on_ok_weaker, IfErr-weaker}
-use Rattle.sctp_delivery.proofs.LawLemmas.{delivered, refused_none, delivered_then}
-use Rattle.sctp_network_table.specs.World.{World}
-use Rattle.sctp_network_table.proofs.MtuLemmas.{runs_short}
-use Rattle.sctp_network_laws.proofs.AgreedLemmas.{worlds_agree}
-use Rattle.sctp_network_laws.proofs.ComposedLemmas.{compose}
+use Rattle.proof_delivery.proofs.LawLemmas.{delivered, refused_none, delivered_then}
+use Rattle.spec_world.specs.World.{World}
+use Rattle.spec_world.proofs.MtuLemmas.{runs_short}
+use Rattle.proof_world.proofs.AgreedLemmas.{worlds_agree}
+use Rattle.proof_world.proofs.ComposedLemmas.{compose}
 use Rattle.sctp_network_side.specs.SideView.{action_of}
 use Rattle.sctp_network.specs.WorldView.{world_of}
 use Rattle.sctp_network.proofs.GoesLemmas.{leads_on, only_memory}
-use Rattle.sctp_network.proofs.LedLemmas.{led_by}
+use Rattle.sctp_network.proofs.ReachableLemmas.{reachable_by}
 use Rattle.sctp_network.proofs.world.run.Goals as goal
 
 pub returns-clause-short : goal.returns-clause-short
@@ -31,7 +31,7 @@ pub returns-clause-leads : goal.returns-clause-leads
 returns-clause-leads g c =
     let w : World = world_of g.R.Rng.stream g.C.Checksum.word_of c.args.world.now in
     let v : World = world_of g.R.Rng.stream g.C.Checksum.word_of c.proceed-answer.new.self in
-    led_by w v c.proceed-answer.new.self.has_failed c.sent-a.result c.sent-b.result c.sent-a.ensures c.sent-b.ensures c.sent_bytes.ensures.bytes c.sent_bytes-2.ensures.bytes c.proceed-answer.result (map action_of c.args.events.now)
+    reachable_by w v c.proceed-answer.new.self.has_failed c.sent-a.result c.sent-b.result c.sent-a.ensures c.sent-b.ensures c.sent_bytes.ensures.bytes c.sent_bytes-2.ensures.bytes c.proceed-answer.result (map action_of c.args.events.now)
     c.proceed-answer.ensures.ok c.proceed-answer.ensures.lacks c.proceed-answer.ensures.memory c.events_fit.ensures.fit
 
 pub returns-clause-composes : goal.returns-clause-composes

@@ -1,17 +1,17 @@
 use Rattle.std.proofs.Common.{[], ◌∷◌, ap}
 use Rattle.std.proofs.lemmas.Result.{on_ok_weaker, IfErr-weaker}
 use Rattle.std.proofs.lemmas.List.Elements.{All-nil, All-cons}
-use Rattle.sctp_delivery.proofs.LawLemmas.{delivered, refused_none, delivered_then}
-use Rattle.sctp_network_table.specs.World.{World}
-use Rattle.sctp_network_table.proofs.MtuLemmas.{happens_short}
-use Rattle.sctp_network_table.proofs.RunLemmas.{runs_one}
-use Rattle.sctp_network_laws.specs.Courses.{ActionFits}
-use Rattle.sctp_network_laws.proofs.AgreedLemmas.{worlds_agree}
-use Rattle.sctp_network_laws.proofs.ComposedLemmas.{compose}
+use Rattle.proof_delivery.proofs.LawLemmas.{delivered, refused_none, delivered_then}
+use Rattle.spec_world.specs.World.{World}
+use Rattle.spec_world.proofs.MtuLemmas.{happens_short}
+use Rattle.spec_world.proofs.RunLemmas.{runs_one}
+use Rattle.proof_world.specs.Traces.{ActionFits}
+use Rattle.proof_world.proofs.AgreedLemmas.{worlds_agree}
+use Rattle.proof_world.proofs.ComposedLemmas.{compose}
 use Rattle.sctp_network_side.specs.SideView.{action_of}
 use Rattle.sctp_network.specs.WorldView.{world_of}
 use Rattle.sctp_network.proofs.GoesLemmas.{leads_on, only_memory}
-use Rattle.sctp_network.proofs.LedLemmas.{led_by, lacks_then}
+use Rattle.sctp_network.proofs.ReachableLemmas.{reachable_by, lacks_then}
 use Rattle.sctp_network.proofs.world.step.Goals as goal
 
 pub returns-clause-short : goal.returns-clause-short
@@ -36,7 +36,7 @@ pub returns-clause-leads : goal.returns-clause-leads
 returns-clause-leads g c =
     let w : World = world_of g.R.Rng.stream g.C.Checksum.word_of c.args.world.now in
     let v : World = world_of g.R.Rng.stream g.C.Checksum.word_of c.happen-answer.new.self in
-    led_by w v c.happen-answer.new.self.has_failed c.sent-a.result c.sent-b.result c.sent-a.ensures c.sent-b.ensures c.sent_bytes.ensures.bytes c.sent_bytes-2.ensures.bytes
+    reachable_by w v c.happen-answer.new.self.has_failed c.sent-a.result c.sent-b.result c.sent-a.ensures c.sent-b.ensures c.sent_bytes.ensures.bytes c.sent_bytes-2.ensures.bytes
     c.happen-answer.result (action_of c.args.event.now ∷ [])
     (on_ok_weaker c.happen-answer.result (λ happens. runs_one (action_of c.args.event.now) w v happens) c.happen-answer.ensures.ok)
     (lacks_then c.happen-answer.result (action_of c.args.event.now) w v c.happen-answer.ensures.lacks

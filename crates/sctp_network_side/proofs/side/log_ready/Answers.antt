@@ -1,7 +1,7 @@
 use Rattle.std.proofs.Common.{arith}
-use Rattle.sctp_table.specs.Calls.{ready_in}
+use Rattle.spec_endpoint.specs.Calls.{ready_in}
 use Rattle.sctp_network_side.specs.SideView.{end_tree}
-use Rattle.sctp_network_side.proofs.ToldLemmas.{message_logged}
+use Rattle.sctp_network_side.proofs.EmittedLemmas.{message_logged}
 use Rattle.sctp_network_side.proofs.side.log_ready.Goals as goal
 
 pub loop-place-preserved : goal.loop-place-preserved

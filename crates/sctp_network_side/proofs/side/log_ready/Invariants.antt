@@ -1,6 +1,6 @@
 use Rattle.std.proofs.Common.{◌≡◌, ◌++◌, length, map}
-use Rattle.sctp_table.specs.Calls.{ready_in}
-use Rattle.sctp_network_table.specs.World.{ready_entries}
+use Rattle.spec_endpoint.specs.Calls.{ready_in}
+use Rattle.spec_world.specs.World.{ready_entries}
 use Rattle.sctp_network_side.specs.SideView.{end_tree, entry_tree}
 use Rattle.sctp_network_side.proofs.side.log_ready.Given as goal
 

@@ -1,16 +1,16 @@
 use Rattle.std.proofs.Common.{◌≡◌, ◌+◌, [], ◌∷◌, length, map, ap, ◌∙◌, arith}
 use Rattle.std.proofs.lemmas.List.{length-append, length-map}
 use Rattle.sctp_state.specs.Events.{event_of}
-use Rattle.sctp_network_table.specs.World.{packets_in}
+use Rattle.spec_world.specs.World.{packets_in}
 use Rattle.sctp_network_side.specs.SideView.{end_tree, without_events}
 use Rattle.sctp_association.specs.Socket.{SocketValue}
-use Rattle.sctp_network_side.proofs.ToldLemmas.{packets_taken, told_taken}
+use Rattle.sctp_network_side.proofs.EmittedLemmas.{packets_taken, emitted_taken}
 use Rattle.sctp_network_side.proofs.side.take_told.Goals as goal
 
 pub loop-event-preserved : goal.loop-event-preserved
 loop-event-preserved g c =
     let e = event_of c.in-Some.event in
-    let rest = ap (λ (v : SocketValue _ _). v.context.told.events) c.poll_event.ensures.rest in
+    let rest = ap (λ (v : SocketValue _ _). v.context.emitted.events) c.poll_event.ensures.rest in
     let count : length c.take_event.new.packets.items ≡ length c.loop-event.packets.items + length (packets_in (e ∷ [])) =
     omega (
       arith,
@@ -21,8 +21,8 @@ loop-event-preserved g c =
     ) in
     record {
       socket = ap without_events c.poll_event.ensures.rest ∙ c.loop-event.invariant.socket;
-      packets = packets_taken e c.loop-event.socket.context.told.events c.poll_event.new.self.context.told.events _ _ c.in-Some.ensures.first rest c.in_ok-take_event.ensures.packets
+      packets = packets_taken e c.loop-event.socket.context.emitted.events c.poll_event.new.self.context.emitted.events _ _ c.in-Some.ensures.first rest c.in_ok-take_event.ensures.packets
           ∙ c.loop-event.invariant.packets;
-      log = told_taken (end_tree c.args.end) (length c.loop-event.packets.items) (length c.take_event.new.packets.items) e c.loop-event.socket.context.told.events c.poll_event.new.self.context.told.events _ _
+      log = emitted_taken (end_tree c.args.end) (length c.loop-event.packets.items) (length c.take_event.new.packets.items) e c.loop-event.socket.context.emitted.events c.poll_event.new.self.context.emitted.events _ _
           c.in-Some.ensures.first rest count c.in_ok-take_event.ensures.log ∙ c.loop-event.invariant.log;
     }

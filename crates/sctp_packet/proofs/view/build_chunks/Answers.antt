@@ -2,7 +2,7 @@ use Rattle.std.proofs.Common.{[], List, ℕ, map, subst, arith}
 use Rattle.std.proofs.lemmas.List.{map-append}
 use Rattle.std.proofs.lemmas.Result.{err_from_is_err_and}
 use Rattle.sctp_wire.specs.Item.{Tiles}
-use Rattle.sctp_wire.proofs.TilesLemmas.{Tiles-push, takes_four}
+use Rattle.sctp_wire.proofs.ParsesAllLemmas.{ParsesAll_push, takes_four}
 use Rattle.sctp_chunk.specs.Grammar.{IsChunk}
 use Rattle.sctp_chunk.specs.Views.{raw_chunk}
 use Rattle.sctp_control_chunk.specs.ChunkView.{chunk_tree}
@@ -14,7 +14,7 @@ loop-raw-smaller c = omega (arith, takes_four c.loop-raw.view.rest (raw_chunk c.
 
 pub loop-raw-preserved : goal.loop-raw-preserved
 loop-raw-preserved c =
-    rw (c.in_ok-push.ensures.items, map-append) (Tiles-push IsChunk c.args.view.rest (map chunk_tree c.loop-raw.chunks.items) c.loop-raw.view.rest (raw_chunk c.in-Some.raw)
+    rw (c.in_ok-push.ensures.items, map-append) (ParsesAll_push IsChunk c.args.view.rest (map chunk_tree c.loop-raw.chunks.items) c.loop-raw.view.rest (raw_chunk c.in-Some.raw)
     (chunk_tree c.in_ok-try_from.field-0) c.next_chunk.new.self.rest c.loop-raw.invariant c.in-Some.ensures.taken c.in_ok-try_from.ensures.ok)
 
 pub returns-in_err-try_from-clause-refused : goal.returns-in_err-try_from-clause-refused

@@ -1,12 +1,12 @@
 use Rattle.std.proofs.Common.{◌≡◌, ◌≤◌}
 use Rattle.sctp_fragments.specs.Key.{pair_rank}
-use Rattle.sctp_reassembly.specs.Notes.{AreNoted, forwarded}
+use Rattle.sctp_reassembly.specs.Notes.{AreNoted, forward}
 use Rattle.sctp_reassembly.specs.Streams.{unordered_bytes}
 use Rattle.sctp_reassembly.proofs.noted_streams.forward_noted.Given as goal
 
 abbrev pub invariant-loop : goal.invariant-loop
 invariant-loop l = record {
-  same : forwarded (pair_rank l.first.number l.first.index) l.streams ≡ forwarded (pair_rank l.first.number l.first.index) l.fn.streams;
+  same : forward (pair_rank l.first.number l.first.index) l.streams ≡ forward (pair_rank l.first.number l.first.index) l.fn.streams;
   fewer : unordered_bytes l.streams ≤ unordered_bytes l.fn.streams;
   noted : AreNoted l.fn.notes.keys l.fn.streams → AreNoted l.notes.keys l.streams;
 }

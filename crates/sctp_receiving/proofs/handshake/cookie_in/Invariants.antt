@@ -1,6 +1,6 @@
 use Rattle.std.proofs.Common.{◌≡◌, map, drop}
 use Rattle.sctp_parameter.specs.ParameterViews.{parameter_tree}
-use Rattle.sctp_table.specs.Opening.{cookie_in}
+use Rattle.spec_endpoint.specs.Opening.{cookie_in}
 use Rattle.sctp_receiving.proofs.handshake.cookie_in.Given as goal
 
 abbrev pub invariant-loop-parameter : goal.invariant-loop-parameter

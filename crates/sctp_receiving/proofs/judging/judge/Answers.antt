@@ -2,7 +2,7 @@ use Rattle.std.proofs.Common.{rules, ap, ◌∙◌}
 use Rattle.std.specs.Prelude.{option_map}
 use Rattle.sctp_packet.specs.Packet.{HeaderTree}
 use Rattle.sctp_packet.specs.View.{viewed_packet}
-use Rattle.sctp_table.specs.Input.{refusal}
+use Rattle.spec_endpoint.specs.Input.{refusal}
 use Rattle.sctp_receiving.specs.RefusalView.{refusal_text}
 use Rattle.sctp_endpoint.specs.Views.{state_of}
 use Rattle.sctp_receiving.proofs.JudgeLemmas.{judged_as, not_judged, some_by}

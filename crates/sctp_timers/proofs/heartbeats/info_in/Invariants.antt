@@ -1,6 +1,6 @@
 use Rattle.std.proofs.Common.{◌≡◌, map, drop}
 use Rattle.sctp_parameter.specs.ParameterViews.{parameter_tree}
-use Rattle.sctp_table.specs.Heartbeats.{info_in}
+use Rattle.spec_endpoint.specs.Heartbeats.{info_in}
 use Rattle.sctp_timers.proofs.heartbeats.info_in.Given as goal
 
 abbrev pub invariant-loop-parameter : goal.invariant-loop-parameter

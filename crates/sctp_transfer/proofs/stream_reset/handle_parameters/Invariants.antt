@@ -1,6 +1,6 @@
 use Rattle.std.proofs.Common.{◌≡◌, false, map}
 use Rattle.sctp_parameter.specs.ParameterViews.{parameter_tree}
-use Rattle.sctp_table.specs.Resets.{handle_all}
+use Rattle.spec_endpoint.specs.StreamReset.{handle_all}
 use Rattle.sctp_endpoint.specs.Views.{handling_of}
 use Rattle.sctp_transfer.proofs.stream_reset.handle_parameters.Given as goal
 

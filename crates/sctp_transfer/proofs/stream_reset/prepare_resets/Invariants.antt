@@ -1,6 +1,6 @@
 use Rattle.std.proofs.Common.{◌≡◌, drop}
 use Rattle.sctp_state.specs.Events.{numbers_of}
-use Rattle.sctp_table.specs.Resets.{prepare_all}
+use Rattle.spec_endpoint.specs.StreamReset.{prepare_all}
 use Rattle.sctp_endpoint.specs.Views.{context_of}
 use Rattle.sctp_transfer.proofs.stream_reset.prepare_resets.Given as goal
 

@@ -2,7 +2,7 @@ use Rattle.std.proofs.Common.{◌≡◌, ◌∙◌, refl, sym, ap, subst, take, 
 use Rattle.std.proofs.lemmas.List.{append-nil}
 use Rattle.sctp_item.specs.Item.{padding}
 use Rattle.sctp_wire.specs.Serialize.{IsEncodable, inner_items}
-use Rattle.sctp_wire.proofs.SerializeLemmas.{written_more, padding_more, taken_more, length_item_bytes, length_inner_items-more}
+use Rattle.sctp_wire.proofs.SerializeLemmas.{written_more, padding_more, taken_more, length_item_bytes, length_inner_items_more}
 use Rattle.sctp_wire.proofs.serialize.parameters_serialize_to.Goals as goal
 
 pub loop-parameter-init : goal.loop-parameter-init
@@ -21,7 +21,7 @@ loop-parameter-preserved g c =
     record {
       wrote = written_more c.args.output.now.items _ _ _ before _ (f x) c.loop-parameter.padding c.loop-parameter.invariant.wrote c.loop-parameter.invariant.between
           c.in_ok-push_zeros.ensures.wrote c.in_ok-push_item.ensures.wrote more;
-      len = omega (arith, c.loop-parameter.invariant.len, c.loop-parameter.invariant.between, c.in_ok-push_zeros.ensures.room.len, c.in_ok-push_item.ensures.room.len, length_item_bytes (f x), ap length (ap inner_items more), length_inner_items-more before (f x));
+      len = omega (arith, c.loop-parameter.invariant.len, c.loop-parameter.invariant.between, c.in_ok-push_zeros.ensures.room.len, c.in_ok-push_item.ensures.room.len, length_item_bytes (f x), ap length (ap inner_items more), length_inner_items_more before (f x));
       capacity = omega (arith, c.loop-parameter.invariant.capacity, c.in_ok-push_zeros.ensures.room.capacity, c.in_ok-push_item.ensures.room.capacity);
       between = pad ∙ padding_more before _ (f x) more;
     }

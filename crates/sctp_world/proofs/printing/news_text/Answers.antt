@@ -2,7 +2,7 @@ use Rattle.std.proofs.Common.{List, ◌-◌, length, map, drop, sym, ap, ◌∙�
 use Rattle.std.specs.List.{flat_map}
 use Rattle.std.proofs.lemmas.List.{drop-map, length-drop, take_all}
 use Rattle.std.proofs.lemmas.Result.{IfOk-weaker}
-use Rattle.sctp_network_table.specs.Judge.{Entry}
+use Rattle.spec_world.specs.Observations.{Entry}
 use Rattle.sctp_world.specs.Printed.{entry_text}
 use Rattle.sctp_network_side.specs.SideView.{entry_tree}
 use Rattle.sctp_network.specs.WorldView.{world_of}

@@ -1,6 +1,6 @@
 use Rattle.std.proofs.Common.{subst}
 use Rattle.sctp_association.specs.Socket.{SocketValue}
-use Rattle.sctp_table.specs.Hearing.{Judges}
+use Rattle.spec_endpoint.specs.Receiving.{Judges}
 use Rattle.sctp_association.proofs.socket.Socket.refuses.Goals as goal
 
 pub returns-clause-judged : goal.returns-clause-judged

@@ -2,9 +2,9 @@ use Rattle.std.proofs.Common.{◌≡◌, ℕ, List, [], ◌∷◌, false, OnOk, 
 use Rattle.sctp_wire.specs.Cause.{CauseTree}
 use Rattle.sctp_packet.specs.Chunk.{abort_chunk}
 use Rattle.sctp_state.specs.Events.{OnClosed}
-use Rattle.sctp_table.specs.Association.{Context}
-use Rattle.sctp_table.specs.Closing.{over}
-use Rattle.sctp_table.specs.Packets.{emit_chunk}
+use Rattle.spec_endpoint.specs.Association.{Context}
+use Rattle.spec_endpoint.specs.Shutdown.{over}
+use Rattle.spec_endpoint.specs.Packets.{emit_chunk}
 use Rattle.sctp_endpoint.specs.Views.{context_of, tcb_of}
 use Rattle.sctp_endpoint.proofs.context.Context.abort_by_user.Goals as goal
 

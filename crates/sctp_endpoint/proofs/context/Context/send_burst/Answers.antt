@@ -1,5 +1,5 @@
 use Rattle.std.proofs.Common.{◌==◌, true, sym, ap, ◌∙◌, arith, ℕ}
-use Rattle.sctp_table.specs.Sending.{burst}
+use Rattle.spec_endpoint.specs.Sending.{burst}
 use Rattle.sctp_endpoint.specs.Views.{filling_of}
 use Rattle.sctp_endpoint.proofs.BurstLemmas.{burst_on, burst_off, not_first}
 use Rattle.sctp_endpoint.proofs.context.Context.send_burst.Goals as goal

@@ -4,8 +4,8 @@ use Rattle.sctp_packet.specs.Chunk.{ChunkTree}
 use Rattle.sctp_packet.specs.ChunkView.{chunk_tree}
 use Rattle.sctp_packet.specs.Written.{chunk_bytes, chunks_bytes}
 use Rattle.sctp_endpoint.specs.PacketView.{IsWritable}
-use Rattle.sctp_table.proofs.SizeLemmas.{size_of_chunk}
-use Rattle.sctp_endpoint.proofs.OutgoingLemmas.{sum_fits, counted_after, short_after, trees_last, length_last, All-last}
+use Rattle.spec_endpoint.proofs.SizeLemmas.{size_of_chunk}
+use Rattle.sctp_endpoint.proofs.OutgoingLemmas.{sum_fits, counted_after, short_after, trees_last, length_last, All_last}
 use Rattle.sctp_endpoint.proofs.outgoing_packet.OutgoingPacket.add.Goals as goal
 
 pub overflow_add-self : goal.overflow_add-self
@@ -34,6 +34,6 @@ invariant_of-self-then-fits c =
       small = c.self.invariant.small;
       short = short_after inside.body_size c.serialized_size-size.result (length (chunk_bytes item)) (length (chunks_bytes old)) inside.limit
           c.self.invariant.counted size room c.self.invariant.small c.self.invariant.short;
-      writable = All-same IsWritable _ _ trees (All-last old item c.self.invariant.writable
+      writable = All-same IsWritable _ _ trees (All_last old item c.self.invariant.writable
           (record { encodable = c.fits.ensures.encodable c.if-fits.true; whole = c.fits.ensures.whole c.if-fits.true }));
     }

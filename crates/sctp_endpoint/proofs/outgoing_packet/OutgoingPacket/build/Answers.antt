@@ -3,7 +3,7 @@ use Rattle.std.proofs.lemmas.List.Elements.{All-nil}
 use Rattle.sctp_packet.specs.Builder.{BuilderTree}
 use Rattle.sctp_packet.specs.ChunkView.{chunk_tree}
 use Rattle.sctp_endpoint.specs.PacketView.{IsWritable}
-use Rattle.sctp_table.specs.Wire.{word_at}
+use Rattle.spec_endpoint.specs.Wire.{word_at}
 use Rattle.sctp_endpoint.proofs.OutgoingLemmas.{no_chunks, made_written, some_short}
 use Rattle.sctp_endpoint.proofs.outgoing_packet.OutgoingPacket.build.Goals as goal
 

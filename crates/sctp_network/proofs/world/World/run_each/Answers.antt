@@ -1,8 +1,8 @@
 use Rattle.std.proofs.Common.{map, drop, ◌+◌}
 use Rattle.std.proofs.lemmas.Result.{err_from_is_err_and}
 use Rattle.sctp_network_side.specs.SideView.{action_of}
-use Rattle.sctp_network_table.proofs.RunLemmas.{stepped, wanting}
-use Rattle.sctp_network.proofs.LedLemmas.{next_event, there_then}
+use Rattle.spec_world.proofs.RunLemmas.{stepped, wanting}
+use Rattle.sctp_network.proofs.ReachableLemmas.{next_event, there_then}
 use Rattle.sctp_network.proofs.world.World.run_each.Goals as goal
 
 pub loop-event-preserved : goal.loop-event-preserved

@@ -1,5 +1,5 @@
 use Rattle.std.proofs.Common.{◌≡◌, false, List, ◌++◌, map, drop}
-use Rattle.sctp_network_table.specs.World.{Action, Runs}
+use Rattle.spec_world.specs.World.{Action, Runs}
 use Rattle.sctp_network_side.specs.SideView.{action_of}
 use Rattle.sctp_network.specs.WorldView.{world_of}
 use Rattle.sctp_network.proofs.world.World.run_each.Given as goal

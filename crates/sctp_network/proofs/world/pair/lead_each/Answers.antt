@@ -1,8 +1,8 @@
 use Rattle.std.proofs.Common.{map, drop, ◌+◌}
 use Rattle.std.proofs.lemmas.Result.{err_from_is_err_and}
 use Rattle.sctp_network_side.specs.SideView.{action_of}
-use Rattle.sctp_network_draws.proofs.PairLemmas.{both_on, both_ran_out}
-use Rattle.sctp_network.proofs.LedLemmas.{next_event}
+use Rattle.proof_world_draws.proofs.PairLemmas.{both_on, both_ran_out}
+use Rattle.sctp_network.proofs.ReachableLemmas.{next_event}
 use Rattle.sctp_network.proofs.world.pair.lead_each.Goals as goal
 
 pub loop-event-preserved : goal.loop-event-preserved

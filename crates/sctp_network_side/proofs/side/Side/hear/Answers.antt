@@ -1,14 +1,14 @@
 use Rattle.std.proofs.Common.{ℕ, map, ap, subst, ◌∙◌}
 use Rattle.std.proofs.lemmas.Result.{on_ok_weaker}
-use Rattle.sctp_network_table.specs.Judge.{Given}
-use Rattle.sctp_network_table.specs.World.{Told}
+use Rattle.spec_world.specs.Observations.{Given}
+use Rattle.spec_world.specs.World.{TakesBytes}
 use Rattle.sctp_network_side.specs.SideView.{SideValue, end_tree, entry_tree, side_in}
 use Rattle.sctp_network_side.proofs.side.Side.hear.Goals as goal
 
 pub returns : goal.returns
 returns g c =
     on_ok_weaker c.take.result (λ told.
-    subst (λ (now : ℕ). Told (end_tree c.args.end) (Given (end_tree c.args.end) now c.args.packet) c.args.bytes.now
+    subst (λ (now : ℕ). TakesBytes (end_tree c.args.end) (Given (end_tree c.args.end) now c.args.packet) c.args.bytes.now
     (side_in g.R.Rng.stream g.C.Checksum.word_of c.args.self.now) (side_in g.R.Rng.stream g.C.Checksum.word_of c.take.new.self)
     (map entry_tree c.args.log.now.items) (map entry_tree c.take.new.log.items))
     (c.clock.ensures ∙ ap (λ (side : SideValue _ _). side.socket.context.clock) c.self.view_is) told) c.take.ensures

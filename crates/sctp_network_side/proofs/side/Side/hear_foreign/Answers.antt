@@ -1,14 +1,14 @@
 use Rattle.std.proofs.Common.{ℕ, Some, List, map, ap, subst, ◌∙◌}
 use Rattle.std.proofs.lemmas.Result.{on_ok_weaker}
-use Rattle.sctp_network_table.specs.Judge.{Entry, Foreign}
-use Rattle.sctp_network_table.specs.World.{Told}
+use Rattle.spec_world.specs.Observations.{Entry, Foreign}
+use Rattle.spec_world.specs.World.{TakesBytes}
 use Rattle.sctp_network_side.specs.SideView.{SideValue, end_tree, entry_tree, side_in}
 use Rattle.sctp_network_side.proofs.side.Side.hear_foreign.Goals as goal
 
 pub returns : goal.returns
 returns g c =
     on_ok_weaker c.take.result (λ told.
-    subst (λ (first : Entry). Told (end_tree c.args.end) first c.args.bytes.now
+    subst (λ (first : Entry). TakesBytes (end_tree c.args.end) first c.args.bytes.now
     (side_in g.R.Rng.stream g.C.Checksum.word_of c.args.self.now) (side_in g.R.Rng.stream g.C.Checksum.word_of c.take.new.self)
     (map entry_tree c.args.log.now.items) (map entry_tree c.take.new.log.items))
     (ap (λ (now : ℕ). Foreign (end_tree c.args.end) now (Some c.in_ok-copy.copy.items))

@@ -1,5 +1,5 @@
 use Rattle.std.proofs.Common.{◌≡◌, ℕ, List, drop, sym, ap, subst, ◌∙◌, rules, arith}
-use Rattle.sctp_wire.specs.Refusal.{BreaksAs}
+use Rattle.sctp_wire.specs.Refusal.{FailsToParseAs}
 use Rattle.sctp_chunk.specs.Grammar.{IsChunk, RefusesChunk}
 use Rattle.sctp_packet.specs.Packet.{checksum_field, lets_through}
 use Rattle.sctp_packet.specs.PacketView.{header_tree}
@@ -19,7 +19,7 @@ returns-in-Err-clause-refused c =
     let body : drop 12 c.args.bytes.now ≡ c.in-Ok.body.now = ap (drop 12) c.in-Ok.ensures.ok ∙ body_at (header_tree h) h.checksum c.in-Ok.body.now in (
       record { low = c.in-Ok.ensures.long; high = omega arith },
       ap (lets_through c.args.policy.now c.args.word) field ∙ search rules,
-      subst (λ (b : List ℕ). BreaksAs IsChunk RefusesChunk b c.in-Err.fault) (sym body) c.in-Err.ensures.refused,
+      subst (λ (b : List ℕ). FailsToParseAs IsChunk RefusesChunk b c.in-Err.fault) (sym body) c.in-Err.ensures.refused,
       c.in-Err.ensures.never_memory,
     )
 

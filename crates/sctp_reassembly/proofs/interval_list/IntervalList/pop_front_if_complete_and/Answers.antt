@@ -1,7 +1,7 @@
 use Rattle.std.proofs.Common.{sym, arith}
 use Rattle.sctp_fragments.specs.Held.{is_in_turn, intervals_of}
 use Rattle.sctp_fragments.specs.Intervals.{held_of}
-use Rattle.sctp_reassembly.proofs.ListLemmas.{none_in_all, length-kept}
+use Rattle.sctp_reassembly.proofs.ListLemmas.{none_in_all, length_kept}
 use Rattle.sctp_reassembly.proofs.FindLemmas.{not_found, without_none, left_none}
 use Rattle.sctp_reassembly.proofs.PopLemmas.{popped, popped_intervals, popped_left}
 use Rattle.sctp_reassembly.proofs.interval_list.IntervalList.pop_front_if_complete_and.Goals as goal
@@ -26,7 +26,7 @@ returns-then-place-len-clause-value g c =
 
 pub pop_if_complete-requires : goal.pop_if_complete-requires
 pop_if_complete-requires g c =
-    let n = length-kept (held_of g.K.ReassemblyKey.number g.K.ReassemblyKey.index) c.self.inside.intervals.items c.args.self.now c.self.invariant.runs c.self.view_is in
+    let n = length_kept (held_of g.K.ReassemblyKey.number g.K.ReassemblyKey.index) c.self.inside.intervals.items c.args.self.now c.self.invariant.runs c.self.view_is in
     omega (arith, n, c.place_in_turn-place.ensures.bound)
 
 pub returns-clause-taken : goal.returns-clause-taken

@@ -1,27 +1,27 @@
 use Rattle.std.proofs.Common.{◌≡◌, ap, sym, ◌∙◌, arith, true, false, rules}
 use Rattle.sctp_fragments.specs.Held.{is_complete, bytes_of}
-use Rattle.sctp_reassembly.proofs.ListLemmas.{length-kept, takes, not_complete, read_same}
+use Rattle.sctp_reassembly.proofs.ListLemmas.{length_kept, takes, not_complete, read_same}
 use Rattle.sctp_fragments.specs.Intervals.{held_of, run_of}
 use Rattle.sctp_reassembly.proofs.interval_list.IntervalList.pop_if_complete.Goals as goal
 
 pub index-requires : goal.index-requires
-index-requires g c = let n = length-kept (held_of g.K.ReassemblyKey.number g.K.ReassemblyKey.index) c.self.inside.intervals.items c.args.self.now c.self.invariant.runs c.self.view_is in omega (arith, n, c.requires)
+index-requires g c = let n = length_kept (held_of g.K.ReassemblyKey.number g.K.ReassemblyKey.index) c.self.inside.intervals.items c.args.self.now c.self.invariant.runs c.self.view_is in omega (arith, n, c.requires)
 
 pub returns-then-not-is_complete-clause-incomplete : goal.returns-then-not-is_complete-clause-incomplete
 returns-then-not-is_complete-clause-incomplete g c =
-    let n = length-kept (held_of g.K.ReassemblyKey.number g.K.ReassemblyKey.index) c.self.inside.intervals.items c.args.self.now c.self.invariant.runs c.self.view_is in
+    let n = length_kept (held_of g.K.ReassemblyKey.number g.K.ReassemblyKey.index) c.self.inside.intervals.items c.args.self.now c.self.invariant.runs c.self.view_is in
     let told : c.is_complete.result ≡ false = search rules in
     not_complete (held_of g.K.ReassemblyKey.number g.K.ReassemblyKey.index) c.self.inside.intervals.items c.index.result.now c.args.self.now c.args.place c.self.view_is c.self.invariant.runs (omega (arith, n, c.requires)) c.index.ensures (sym c.is_complete.ensures ∙ told)
 
 pub unreachable-requires : goal.unreachable-requires
 unreachable-requires g c =
-    let n = length-kept (held_of g.K.ReassemblyKey.number g.K.ReassemblyKey.index) c.self.inside.intervals.items c.args.self.now c.self.invariant.runs c.self.view_is in
+    let n = length_kept (held_of g.K.ReassemblyKey.number g.K.ReassemblyKey.index) c.self.inside.intervals.items c.args.self.now c.self.invariant.runs c.self.view_is in
     let never : false ≡ true = c.in_default.ensures.variant.1 (omega (arith, n, c.requires)) in
     cc
 
 pub total_bytes-requires : goal.total_bytes-requires
 total_bytes-requires g c =
-    let n = length-kept (held_of g.K.ReassemblyKey.number g.K.ReassemblyKey.index) c.self.inside.intervals.items c.args.self.now c.self.invariant.runs c.self.view_is in
+    let n = length_kept (held_of g.K.ReassemblyKey.number g.K.ReassemblyKey.index) c.self.inside.intervals.items c.args.self.now c.self.invariant.runs c.self.view_is in
     let told : c.is_complete.result ≡ true = search rules in
     let read : c.index.result.now ≡ c.in-Some.interval = read_same c.self.inside.intervals.items c.args.place c.index.result.now c.in-Some.interval (omega (arith, n, c.requires)) c.index.ensures c.in-Some.ensures.value in
     let t = takes (held_of g.K.ReassemblyKey.number g.K.ReassemblyKey.index) c.self.inside.intervals.items c.remove.new.self.items c.in-Some.interval c.args.self.now c.args.place c.self.view_is c.self.invariant.runs (omega (arith, n, c.requires)) c.in-Some.ensures.value c.in-Some.ensures.items
@@ -30,7 +30,7 @@ total_bytes-requires g c =
 
 pub overflow_sub-self : goal.overflow_sub-self
 overflow_sub-self g c =
-    let n = length-kept (held_of g.K.ReassemblyKey.number g.K.ReassemblyKey.index) c.self.inside.intervals.items c.args.self.now c.self.invariant.runs c.self.view_is in
+    let n = length_kept (held_of g.K.ReassemblyKey.number g.K.ReassemblyKey.index) c.self.inside.intervals.items c.args.self.now c.self.invariant.runs c.self.view_is in
     let told : c.is_complete.result ≡ true = search rules in
     let read : c.index.result.now ≡ c.in-Some.interval = read_same c.self.inside.intervals.items c.args.place c.index.result.now c.in-Some.interval (omega (arith, n, c.requires)) c.index.ensures c.in-Some.ensures.value in
     let t = takes (held_of g.K.ReassemblyKey.number g.K.ReassemblyKey.index) c.self.inside.intervals.items c.remove.new.self.items c.in-Some.interval c.args.self.now c.args.place c.self.view_is c.self.invariant.runs (omega (arith, n, c.requires)) c.in-Some.ensures.value c.in-Some.ensures.items
@@ -39,7 +39,7 @@ overflow_sub-self g c =
 
 pub invariant_of-self : goal.invariant_of-self
 invariant_of-self g c =
-    let n = length-kept (held_of g.K.ReassemblyKey.number g.K.ReassemblyKey.index) c.self.inside.intervals.items c.args.self.now c.self.invariant.runs c.self.view_is in
+    let n = length_kept (held_of g.K.ReassemblyKey.number g.K.ReassemblyKey.index) c.self.inside.intervals.items c.args.self.now c.self.invariant.runs c.self.view_is in
     let told : c.is_complete.result ≡ true = search rules in
     let read : c.index.result.now ≡ c.in-Some.interval = read_same c.self.inside.intervals.items c.args.place c.index.result.now c.in-Some.interval (omega (arith, n, c.requires)) c.index.ensures c.in-Some.ensures.value in
     let t = takes (held_of g.K.ReassemblyKey.number g.K.ReassemblyKey.index) c.self.inside.intervals.items c.remove.new.self.items c.in-Some.interval c.args.self.now c.args.place c.self.view_is c.self.invariant.runs (omega (arith, n, c.requires)) c.in-Some.ensures.value c.in-Some.ensures.items
@@ -48,7 +48,7 @@ invariant_of-self g c =
 
 pub returns-clause-taken : goal.returns-clause-taken
 returns-clause-taken g c =
-    let n = length-kept (held_of g.K.ReassemblyKey.number g.K.ReassemblyKey.index) c.self.inside.intervals.items c.args.self.now c.self.invariant.runs c.self.view_is in
+    let n = length_kept (held_of g.K.ReassemblyKey.number g.K.ReassemblyKey.index) c.self.inside.intervals.items c.args.self.now c.self.invariant.runs c.self.view_is in
     let told : c.is_complete.result ≡ true = search rules in
     let read : c.index.result.now ≡ c.in-Some.interval = read_same c.self.inside.intervals.items c.args.place c.index.result.now c.in-Some.interval (omega (arith, n, c.requires)) c.index.ensures c.in-Some.ensures.value in
     let t = takes (held_of g.K.ReassemblyKey.number g.K.ReassemblyKey.index) c.self.inside.intervals.items c.remove.new.self.items c.in-Some.interval c.args.self.now c.args.place c.self.view_is c.self.invariant.runs (omega (arith, n, c.requires)) c.in-Some.ensures.value c.in-Some.ensures.items
@@ -57,7 +57,7 @@ returns-clause-taken g c =
 
 pub returns-clause-bytes : goal.returns-clause-bytes
 returns-clause-bytes g c =
-    let n = length-kept (held_of g.K.ReassemblyKey.number g.K.ReassemblyKey.index) c.self.inside.intervals.items c.args.self.now c.self.invariant.runs c.self.view_is in
+    let n = length_kept (held_of g.K.ReassemblyKey.number g.K.ReassemblyKey.index) c.self.inside.intervals.items c.args.self.now c.self.invariant.runs c.self.view_is in
     let told : c.is_complete.result ≡ true = search rules in
     let read : c.index.result.now ≡ c.in-Some.interval = read_same c.self.inside.intervals.items c.args.place c.index.result.now c.in-Some.interval (omega (arith, n, c.requires)) c.index.ensures c.in-Some.ensures.value in
     let t = takes (held_of g.K.ReassemblyKey.number g.K.ReassemblyKey.index) c.self.inside.intervals.items c.remove.new.self.items c.in-Some.interval c.args.self.now c.args.place c.self.view_is c.self.invariant.runs (omega (arith, n, c.requires)) c.in-Some.ensures.value c.in-Some.ensures.items

@@ -1,5 +1,5 @@
 use Rattle.std.proofs.Common.{ap, sym, ◌∙◌, refl, arith, None, List}
-use Rattle.sctp_reassembly.proofs.ListLemmas.{drops, drops_none, intervals-kept}
+use Rattle.sctp_reassembly.proofs.ListLemmas.{drops, drops_none, intervals_kept}
 use Rattle.sctp_fragments.specs.Runs.{from_rank, AreRuns}
 use Rattle.sctp_fragments.specs.declared.interval.Interval.{Interval}
 use Rattle.sctp_reassembly.proofs.FrontLemmas.{passes}
@@ -33,7 +33,7 @@ returns-clause-value g c =
     drops_none (held_of g.K.ReassemblyKey.number g.K.ReassemblyKey.index) (lists_of (held_of g.K.ReassemblyKey.number g.K.ReassemblyKey.index) c.loop-key.self-inside.intervals.items) (rank_at g.K.ReassemblyKey.number g.K.ReassemblyKey.index c.args.key) c.loop-key.invariant.kept.runs (sym below ∙ c.loop-key-test.false) ∙ c.loop-key.invariant.same
 
 pub returns-clause-others : goal.returns-clause-others
-returns-clause-others g c h = rw (intervals-kept (held_of g.K.ReassemblyKey.number g.K.ReassemblyKey.index) c.loop-key.self-inside.intervals.items _ c.loop-key.invariant.kept.runs refl) (c.loop-key.invariant.none h)
+returns-clause-others g c h = rw (intervals_kept (held_of g.K.ReassemblyKey.number g.K.ReassemblyKey.index) c.loop-key.self-inside.intervals.items _ c.loop-key.invariant.kept.runs refl) (c.loop-key.invariant.none h)
 
 pub overflow_sub-self : goal.overflow_sub-self
 overflow_sub-self g c = omega (arith, c.self.invariant.counted, c.drop_front-passed.ensures.bytes)
@@ -49,5 +49,5 @@ loop-key-init g c =
       kept = record { runs = subst (λ (t : List (Interval _)). AreRuns rank_of goes_on None (lists_of f t)) (sym left) p.runs; counted = omega (arith, c.self.invariant.counted, c.drop_front-passed.ensures.bytes) };
       same = ap (λ (t : List (Interval _)). from_rank rank_of n (entries_of f t)) left ∙ (p.same ∙ ap (from_rank rank_of n) c.self.view_is);
       fewer = omega (arith, c.drop_front-passed.ensures.bytes, ap bytes_of c.self.view_is);
-      none = λ h. subst (λ (t : List (Interval _)). NoneComplete (lists_of f t)) (sym left) (p.none (subst NoneComplete (intervals-kept f c.self.inside.intervals.items c.args.self.now c.self.invariant.runs c.self.view_is) h));
+      none = λ h. subst (λ (t : List (Interval _)). NoneComplete (lists_of f t)) (sym left) (p.none (subst NoneComplete (intervals_kept f c.self.inside.intervals.items c.args.self.now c.self.invariant.runs c.self.view_is) h));
     }

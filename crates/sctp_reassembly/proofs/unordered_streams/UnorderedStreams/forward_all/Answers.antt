@@ -4,14 +4,14 @@ use Rattle.sctp_fragments.specs.Key.{rank_at}
 use Rattle.sctp_fragments.specs.Held.{bytes_of}
 use Rattle.sctp_reassembly.specs.Delivery.{UnorderedStream, held_from}
 use Rattle.sctp_reassembly.specs.Streams.{unordered_bytes}
-use Rattle.sctp_reassembly.proofs.EntriesLemmas.{sum-mapped, from_rank-bytes}
+use Rattle.sctp_reassembly.proofs.EntriesLemmas.{sum_mapped, from_rank_bytes}
 use Rattle.sctp_reassembly.proofs.unordered_streams.UnorderedStreams.forward_all.Goals as goal
 
 pub bytes_in-self-inside-requires : goal.bytes_in-self-inside-requires
 bytes_in-self-inside-requires g c =
     let rank = rank_at g.K.ReassemblyKey.number g.K.ReassemblyKey.index c.args.first in
     let made = map_same_pairs _ (held_from rank) _ (λ k v b w f' t. search rules) c.self.inside.streams.entries c.retain.new.self.entries c.retain.ensures.filtered in
-    let less = sum-mapped (λ (s : UnorderedStream). bytes_of s.held) (held_from rank) (λ s. from_rank-bytes rank s.held) c.self.inside.streams.entries in
+    let less = sum_mapped (λ (s : UnorderedStream). bytes_of s.held) (held_from rank) (λ s. from_rank_bytes rank s.held) c.self.inside.streams.entries in
     omega (arith, ap unordered_bytes made, less, c.self.invariant, c.self.ranges)
 
 pub returns-clause-value : goal.returns-clause-value
@@ -23,5 +23,5 @@ pub returns-clause-bytes : goal.returns-clause-bytes
 returns-clause-bytes g c =
     let rank = rank_at g.K.ReassemblyKey.number g.K.ReassemblyKey.index c.args.first in
     let made = map_same_pairs _ (held_from rank) _ (λ k v b w f' t. search rules) c.self.inside.streams.entries c.retain.new.self.entries c.retain.ensures.filtered in
-    let less = sum-mapped (λ (s : UnorderedStream). bytes_of s.held) (held_from rank) (λ s. from_rank-bytes rank s.held) c.self.inside.streams.entries in
+    let less = sum_mapped (λ (s : UnorderedStream). bytes_of s.held) (held_from rank) (λ s. from_rank_bytes rank s.held) c.self.inside.streams.entries in
     omega (arith, ap unordered_bytes made, less, ap unordered_bytes c.self.view_is)

@@ -4,8 +4,8 @@ use Rattle.std.specs.BTreeMap.{is_at}
 use Rattle.sctp_fragments.specs.Key.{rank_at}
 use Rattle.sctp_fragments.specs.Held.{bytes_of}
 use Rattle.sctp_reassembly.specs.Delivery.{UnorderedStream, fresh_unordered, held_from}
-use Rattle.sctp_reassembly.specs.Streams.{unordered_bytes, stream_at, written}
-use Rattle.sctp_reassembly.proofs.EntriesLemmas.{sum-written, sum-at_least}
+use Rattle.sctp_reassembly.specs.Streams.{unordered_bytes, stream_at, write_stream}
+use Rattle.sctp_reassembly.proofs.EntriesLemmas.{sum_written, sum_at_least}
 use Rattle.sctp_reassembly.proofs.NoteLemmas.{not_written}
 use Rattle.sctp_reassembly.proofs.unordered_streams.UnorderedStreams.forward_to.Goals as goal
 
@@ -13,20 +13,20 @@ pub invariant_of-self-2 : goal.invariant_of-self-2
 invariant_of-self-2 g c =
     let entries = c.self.inside.streams.entries in
     let written = ap (λ m. unordered_bytes m) (c.get_mut.follows.holds c.forward_to.new.self).0 in
-    let sums = sum-written (λ (s : UnorderedStream). bytes_of s.held) c.args.id.0 entries c.in-Some.stream.now c.forward_to.new.self c.in-Some.ensures.value in
-    let least = sum-at_least (λ (s : UnorderedStream). bytes_of s.held) c.args.id.0 entries c.in-Some.stream.now fresh_unordered refl c.in-Some.ensures.value in
+    let sums = sum_written (λ (s : UnorderedStream). bytes_of s.held) c.args.id.0 entries c.in-Some.stream.now c.forward_to.new.self c.in-Some.ensures.value in
+    let least = sum_at_least (λ (s : UnorderedStream). bytes_of s.held) c.args.id.0 entries c.in-Some.stream.now fresh_unordered refl c.in-Some.ensures.value in
     omega (arith, written, sums, least, c.queued_bytes-before.ensures, c.queued_bytes.ensures, c.self.invariant)
 
 pub returns-clause-bytes : goal.returns-clause-bytes
 returns-clause-bytes g c =
     let entries = c.self.inside.streams.entries in
     let written = ap (λ m. unordered_bytes m) (c.get_mut.follows.holds c.forward_to.new.self).0 in
-    let sums = sum-written (λ (s : UnorderedStream). bytes_of s.held) c.args.id.0 entries c.in-Some.stream.now c.forward_to.new.self c.in-Some.ensures.value in
-    let least = sum-at_least (λ (s : UnorderedStream). bytes_of s.held) c.args.id.0 entries c.in-Some.stream.now fresh_unordered refl c.in-Some.ensures.value in
+    let sums = sum_written (λ (s : UnorderedStream). bytes_of s.held) c.args.id.0 entries c.in-Some.stream.now c.forward_to.new.self c.in-Some.ensures.value in
+    let least = sum_at_least (λ (s : UnorderedStream). bytes_of s.held) c.args.id.0 entries c.in-Some.stream.now fresh_unordered refl c.in-Some.ensures.value in
     omega (arith, written, sums, least, c.forward_to.ensures.bytes, ap unordered_bytes c.self.view_is)
 
 pub returns-in_default-clause-value : goal.returns-in_default-clause-value
 returns-in_default-clause-value g c =
     let left = held_from (rank_at g.K.ReassemblyKey.number g.K.ReassemblyKey.index c.args.first) (stream_at fresh_unordered c.args.id.0 c.args.self.now) in
     ap (λ m. m.entries) c.get_mut.follows.holds-at-none
-    ∙ (not_written (is_at (nat_cmp c.args.id.0)) left c.self.inside.streams.entries c.in_default.ensures.value ∙ ap (λ es. written c.args.id.0 left es) c.self.view_is)
+    ∙ (not_written (is_at (nat_cmp c.args.id.0)) left c.self.inside.streams.entries c.in_default.ensures.value ∙ ap (λ es. write_stream c.args.id.0 left es) c.self.view_is)

@@ -1,6 +1,6 @@
 use Rattle.std.proofs.Common.{ℕ, ◌≤◌, ◌∙◌, ap, arith}
 use Rattle.sctp_serial.specs.Unwrapped.{nearest}
-use Rattle.sctp_serial.proofs.UnwrappedLemmas.{nearest-wire}
+use Rattle.sctp_serial.proofs.UnwrappedLemmas.{nearest_wire}
 use Rattle.sctp_serial.proofs.types.laws.there_and_back.Goals as goal
 
 pub returns : goal.returns
@@ -10,4 +10,4 @@ returns g c =
     let room : space ≤ c.args.near = omega (arith, g.met.S.SerialNumber.space_fits.1, c.requires.from_origin) in
     c.unwrapped_near.ensures.value
     ∙ ap (nearest space first c.args.near) c.wrapped.ensures
-    ∙ nearest-wire space first c.args.near c.args.n room c.requires.not_above c.requires.not_below
+    ∙ nearest_wire space first c.args.near c.args.n room c.requires.not_above c.requires.not_below

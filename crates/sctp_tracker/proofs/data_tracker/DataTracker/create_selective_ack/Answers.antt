@@ -3,7 +3,7 @@ use Rattle.std.specs.List.{All, Contains}
 use Rattle.sctp_chunk.specs.declared.sack.GapAckBlock.{GapAckBlock}
 use Rattle.sctp_chunk.specs.Covered.{AreRuns}
 use Rattle.sctp_tracker.specs.Tracker.{DataTracker}
-use Rattle.sctp_tracker.specs.Told.{IsTold}
+use Rattle.sctp_tracker.specs.Reported.{IsReported}
 use Rattle.sctp_tracker.proofs.ToldLemmas.{blocks_are_told, blocks_stand_apart, told_are_blocks}
 use Rattle.sctp_tracker.proofs.TrackerLemmas.{covered_was_seen}
 use Rattle.sctp_tracker.proofs.data_tracker.DataTracker.create_selective_ack.Goals as goal
@@ -15,7 +15,7 @@ returns-clause-seen c = λ offset covered.
 
 pub returns-clause-maximal : goal.returns-clause-maximal
 returns-clause-maximal c =
-    let P : List GapAckBlock → Type 0 = λ bs. All (IsTold c.self.inside.seen) bs in
+    let P : List GapAckBlock → Type 0 = λ bs. All (IsReported c.self.inside.seen) bs in
     rw (← c.self.view_is) (subst P (sym c.in_ok-gap_ack_blocks.ensures) (blocks_are_told c.self.inside.seen c.self.invariant.runs))
 
 pub returns-clause-ascending : goal.returns-clause-ascending
@@ -24,6 +24,6 @@ returns-clause-ascending c = subst (λ (bs : List GapAckBlock). AreRuns 2 bs) (s
 pub returns-clause-every : goal.returns-clause-every
 returns-clause-every c = λ run told.
     let P : List GapAckBlock → Type 0 = λ bs. Contains bs run in
-    let Q : DataTracker → Type 0 = λ d. IsTold d.tracker.seen run in
-    let old : IsTold c.self.inside.seen run = subst Q (sym c.self.view_is) told in
+    let Q : DataTracker → Type 0 = λ d. IsReported d.tracker.seen run in
+    let old : IsReported c.self.inside.seen run = subst Q (sym c.self.view_is) told in
     subst P (sym c.in_ok-gap_ack_blocks.ensures) (told_are_blocks c.self.inside.seen c.self.invariant.runs run old)

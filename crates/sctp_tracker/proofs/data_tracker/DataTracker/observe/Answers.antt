@@ -2,8 +2,8 @@ use Rattle.std.proofs.Common.{◌≡◌, ℕ, ◌≤◌, Bool, true, false, eqb,
 use Rattle.std.proofs.lemmas.Bool.Decides.{nat_tests}
 use Rattle.sctp_tracker.specs.Seen.{Seen, contains}
 use Rattle.sctp_tracker.specs.Tracker.{DataTracker, Tracker, IsTracker, is_valid, has_seen, number_of, with_duplicate}
-use Rattle.sctp_tracker.specs.Told.{is_duplicate}
-use Rattle.sctp_tracker.proofs.DuplicatesLemmas.{holds, holds-observed}
+use Rattle.sctp_tracker.specs.Reported.{is_duplicate}
+use Rattle.sctp_tracker.proofs.DuplicatesLemmas.{holds, holds_observed}
 use Rattle.sctp_tracker.proofs.TrackerLemmas.{few_after}
 use Rattle.sctp_tracker.proofs.data_tracker.DataTracker.observe.Goals as goal
 use Rattle.sctp_tracker.proofs.data_tracker.DataTracker.observe.Goals.{then-not-is_new+in_ok-add, else-not-is_new}
@@ -39,7 +39,7 @@ returns-clause-again c = λ valid m.
           ap (λ x. x.duplicates) w.self-inside-is ∙ ap (λ (v : Bool). cond v (with_duplicate n ds) ds) (sym unseen)
     ] in
     let now : Bool = holds c.if-not-is_new.self-inside.duplicates m in
-    let told = ap (λ ns. holds ns m) kept ∙ holds-observed n m was ds in
+    let told = ap (λ ns. holds ns m) kept ∙ holds_observed n m was ds in
     let P : DataTracker → Type 0 = λ d. now ≡ (is_duplicate d.tracker m || (eqb m n && (has_seen d.tracker n && ltb (length d.tracker.duplicates) 20))) in
     let t : Tracker = c.args.self.now.tracker in
     let R : ℕ → Type 0 = λ k. now ≡ (is_duplicate t m || (eqb m k && (has_seen t k && ltb (length t.duplicates) 20))) in

@@ -3,7 +3,7 @@ use Rattle.std.specs.Map.{remove_entry}
 use Rattle.std.specs.Ordering.{nat_cmp}
 use Rattle.std.specs.BTreeMap.{is_at}
 use Rattle.sctp_tracker.specs.SeenSteps.{run_at, is_held, first_with}
-use Rattle.sctp_tracker.proofs.SeenPlacesLemmas.{adds_held, adds_written, written-joined, written-put}
+use Rattle.sctp_tracker.proofs.SeenPlacesLemmas.{adds_held, adds_written, written_joined, written_put}
 use Rattle.sctp_tracker.proofs.data_tracker.seen.add_to.Goals as goal
 
 pub returns-then-is_held-clause-ok : goal.returns-then-is_held-clause-ok
@@ -20,7 +20,7 @@ returns-then-number-last-clause-ok c =
     let l = c.last_with-last.result in
     let free : is_held n (run_at n es) ≡ false = ap (is_held n) (sym c.run_at-run.ensures) ∙ (sym c.is_held.ensures ∙ c.if-is_held.false) in
     let first = c.first_with.ensures ∙ ap (first_with n) c.run_at-run.ensures in
-    let new = c.remove.ensures.entries ∙ (ap (λ z. remove_entry (is_at (nat_cmp (n + 1))) z) c.in_ok-insert.ensures.entries ∙ sym (written-joined n f l es (omega arith))) in
+    let new = c.remove.ensures.entries ∙ (ap (λ z. remove_entry (is_at (nat_cmp (n + 1))) z) c.in_ok-insert.ensures.entries ∙ sym (written_joined n f l es (omega arith))) in
     adds_written n f l es c.remove.new.self.entries c.requires.runs free first c.last_with-last.ensures new
 
 pub returns-else-number-last-clause-ok : goal.returns-else-number-last-clause-ok
@@ -31,5 +31,5 @@ returns-else-number-last-clause-ok c =
     let l = c.last_with-last.result in
     let free : is_held n (run_at n es) ≡ false = ap (is_held n) (sym c.run_at-run.ensures) ∙ (sym c.is_held.ensures ∙ c.if-is_held.false) in
     let first = c.first_with.ensures ∙ ap (first_with n) c.run_at-run.ensures in
-    let new = c.in_ok-insert.ensures.entries ∙ sym (written-put n f l es (omega arith)) in
+    let new = c.in_ok-insert.ensures.entries ∙ sym (written_put n f l es (omega arith)) in
     adds_written n f l es c.insert.new.self.entries c.requires.runs free first c.last_with-last.ensures new

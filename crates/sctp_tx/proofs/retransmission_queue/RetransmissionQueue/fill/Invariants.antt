@@ -1,5 +1,5 @@
 use Rattle.std.proofs.Common.{◌≡◌, ℕ, suc, ◌<◌, ◌^◌, map}
-use Rattle.sctp_outstanding.specs.Views.{chunk_of}
+use Rattle.sctp_tx_outstanding.specs.Views.{chunk_of}
 use Rattle.sctp_tx.specs.Interrupted.{PartlySent, PartlyTaken}
 use Rattle.sctp_tx.specs.Sending.{fill, filling}
 use Rattle.sctp_tx.proofs.retransmission_queue.RetransmissionQueue.fill.Given as goal

@@ -1,6 +1,6 @@
 use Rattle.std.proofs.Common.{arith}
 use Rattle.sctp_tracker.proofs.SeenRunsLemmas.{next_is_new, front_is_seen, added_to}
-use Rattle.sctp_tracker.proofs.SeenPassingLemmas.{AreRuns-from_none, last_above-max, within_last, last_above-passed, passed_next}
+use Rattle.sctp_tracker.proofs.SeenPassingLemmas.{AreRuns_from_none, last_above_max, within_last, last_above_passed, passed_next}
 use Rattle.sctp_tracker.specs.SeenSteps.{runs_of}
 use Rattle.sctp_tracker.proofs.SeenEdits.{seen_of}
 use Rattle.sctp_tracker.proofs.SeenOneFormLemmas.{is_add}
@@ -10,24 +10,24 @@ pub returns-then-number-self-clause-highest : goal.returns-then-number-self-clau
 returns-then-number-self-clause-highest c = rw (← c.self.view_is) (within_last c.args.number c.self.inside.front (runs_of c.self.inside.runs.entries) c.self.invariant.runs (omega arith))
 
 pub pass-self-inside-requires-clause-runs : goal.pass-self-inside-requires-clause-runs
-pass-self-inside-requires-clause-runs c = AreRuns-from_none c.self.inside.front (runs_of c.self.inside.runs.entries) c.self.invariant.runs
+pass-self-inside-requires-clause-runs c = AreRuns_from_none c.self.inside.front (runs_of c.self.inside.runs.entries) c.self.invariant.runs
 
 pub pass-self-inside-requires-clause-small : goal.pass-self-inside-requires-clause-small
-pass-self-inside-requires-clause-small c = omega (arith, last_above-max c.self.inside.front (runs_of c.self.inside.runs.entries) c.self.invariant.runs)
+pass-self-inside-requires-clause-small c = omega (arith, last_above_max c.self.inside.front (runs_of c.self.inside.runs.entries) c.self.invariant.runs)
 
 pub invariant_of-self : goal.invariant_of-self
 invariant_of-self c =
-    record { runs = c.pass-self-inside.ensures.runs; some = omega (arith, c.pass-self-inside.ensures.onward); small = omega (arith, last_above-passed c.args.number c.self.inside.front c.pass-self-inside.result (runs_of c.self.inside.runs.entries) (runs_of c.pass-self-inside.new.runs.entries) c.self.invariant.runs c.pass-self-inside.ensures (omega arith)) }
+    record { runs = c.pass-self-inside.ensures.runs; some = omega (arith, c.pass-self-inside.ensures.onward); small = omega (arith, last_above_passed c.args.number c.self.inside.front c.pass-self-inside.result (runs_of c.self.inside.runs.entries) (runs_of c.pass-self-inside.new.runs.entries) c.self.invariant.runs c.pass-self-inside.ensures (omega arith)) }
 
 pub returns-then-number-self-2-clause-answer : goal.returns-then-number-self-2-clause-answer
 returns-then-number-self-2-clause-answer c = rw (← c.self.view_is) (next_is_new c.self.inside.front c.args.number (runs_of c.self.inside.runs.entries) c.self.invariant.runs (omega arith))
 
 pub returns-then-number-self-2-clause-highest : goal.returns-then-number-self-2-clause-highest
 returns-then-number-self-2-clause-highest c =
-    rw (← c.self.view_is) (last_above-passed c.args.number c.self.inside.front c.pass-self-inside.result (runs_of c.self.inside.runs.entries) (runs_of c.pass-self-inside.new.runs.entries) c.self.invariant.runs c.pass-self-inside.ensures (omega arith))
+    rw (← c.self.view_is) (last_above_passed c.args.number c.self.inside.front c.pass-self-inside.result (runs_of c.self.inside.runs.entries) (runs_of c.pass-self-inside.new.runs.entries) c.self.invariant.runs c.pass-self-inside.ensures (omega arith))
 
 pub add_to-requires-clause-runs : goal.add_to-requires-clause-runs
-add_to-requires-clause-runs c = AreRuns-from_none c.self.inside.front (runs_of c.self.inside.runs.entries) c.self.invariant.runs
+add_to-requires-clause-runs c = AreRuns_from_none c.self.inside.front (runs_of c.self.inside.runs.entries) c.self.invariant.runs
 
 pub returns-then-number-self-clause-value : goal.returns-then-number-self-clause-value
 returns-then-number-self-clause-value c = rw (← c.self.view_is) (is_add c.args.number (seen_of c.self.inside.front (runs_of c.self.inside.runs.entries)) (seen_of c.self.inside.front (runs_of c.self.inside.runs.entries)) c.self.invariant.runs c.self.invariant.some c.self.invariant.runs (front_is_seen c.self.inside.front c.args.number (runs_of c.self.inside.runs.entries) (omega arith)))

@@ -1,0 +1,47 @@
+-- Along a trace: the messages that an end accepted, each with the options of its sending, by their places.
+use Rattle.std.specs.Prelude.{Bool, true, false, Option, Some, None, List, [], ◌∷◌, ◌++◌}
+use Rattle.sctp_serial.specs.Messages.{Message}
+use Rattle.sctp_state.specs.declared.api.SocketState.{SocketState}
+use Rattle.sctp_state.specs.declared.api.errors.SendError.{SendError}
+use Rattle.sctp_state.specs.Options.{SendOptions}
+use Rattle.spec_endpoint.specs.Association.{Context}
+use Rattle.spec_endpoint.specs.Calls.{shown_state, refusal, offer}
+use Rattle.spec_endpoint.specs.Laws.{Call, Send, SendMany}
+use Rattle.proof_endpoint.specs.Mapped.{Carried}
+use Rattle.proof_pair.specs.Trace.{Side, Pair, EndAction, Calls, goes, state_of}
+
+pub record Offer : Type 0 where
+  pub message : Message
+  pub options : SendOptions
+
+-- ---- one turn
+
+abbrev pub unless_refused : (refusal : Option SendError) → Message → SendOptions → List Offer
+unless_refused None m o = record { message = m; options = o } ∷ []
+unless_refused (Some e) m o = []
+
+-- of several, one after the other
+abbrev pub accepted_of : List Message → SendOptions → SocketState → Context Carried → List Offer
+accepted_of [] o shown c = []
+accepted_of (m ∷ ms) o shown c = unless_refused (refusal m shown c) m o ++ accepted_of ms o shown (offer m o shown c)
+
+abbrev pub accepted_by : Call → Side → List Offer
+accepted_by (Send m o) x = accepted_of (m ∷ []) o (shown_state (state_of x)) x.end.endpoint_state.context
+accepted_by (SendMany ms o) x = accepted_of ms o (shown_state (state_of x)) x.end.endpoint_state.context
+accepted_by call x = []
+
+abbrev pub accepted_in : EndAction → Side → List Offer
+accepted_in (Calls call) x = accepted_by call x
+accepted_in turn x = []
+
+-- true is end a: what end x accepts at a turn of this end
+abbrev pub accepted_at : (x acts : Bool) → EndAction → Pair → List Offer
+accepted_at true true turn w = accepted_in turn w.a
+accepted_at false false turn w = accepted_in turn w.b
+accepted_at x acts turn w = []
+
+-- ---- traces
+
+abbrev pub accepted : (x : Bool) → List (Bool × EndAction) → Pair → List Offer
+accepted x [] w = []
+accepted x (e ∷ es) w = accepted_at x e.0 e.1 w ++ accepted x es (goes e.0 e.1 w)

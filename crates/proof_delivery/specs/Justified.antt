@@ -1,0 +1,164 @@
+-- Along a trace: why an end gave messages up. A record is justified where its message was accepted, and either outlived its
+-- lifetime, or was sent again as often as it may be, or is made as the end is asked to reset its stream.
+use Rattle.std.specs.Prelude.{◌≡◌, ℕ, ◌^◌, ◌≤◌, ◌<◌, Bool, true, false, Option, Some, None, unwrap_or, List, [], ◌∷◌, ◌++◌, length, map, slice_get, ◌==◌}
+use Rattle.std.specs.List.{AllByRecursion, list_any}
+use Rattle.rand_core.specs.Stream.{Stream}
+use Rattle.sctp_packet.specs.Packet.{PacketTree}
+use Rattle.sctp_serial.specs.Messages.{Message}
+use Rattle.sctp_serial.specs.Time.{later}
+use Rattle.sctp_state.specs.Options.{Options, plainly}
+use Rattle.sctp_state.specs.Events.{GivenUp}
+use Rattle.sctp_state.specs.declared.api.GivenUpCause.{GivenUpCause}
+use Rattle.sctp_state.specs.declared.api.GivenUpCause.TheVariants.{Lifetime, Retransmissions, Reset}
+use Rattle.sctp_state.specs.declared.api.errors.ResetStreamsError.{ResetStreamsError}
+use Rattle.spec_endpoint.specs.Association.{Endpoint}
+use Rattle.spec_endpoint.specs.Input.{refusal}
+use Rattle.spec_endpoint.specs.StreamReset.{reset_refusal}
+use Rattle.spec_endpoint.specs.Laws.{Send, ResetStreams, Advance, Restore, Packet, called}
+use Rattle.proof_endpoint.specs.Mapped.{Carried}
+use Rattle.proof_pair.specs.Trace.{Side, Pair, emitted_packets, EndAction, Calls, Gives, Refuses, as_received, goes, run, side_of, FollowsTheRules, HasNotEnded, start, state_of}
+use Rattle.proof_pair.specs.Opens.{at_first, one_connects}
+use Rattle.proof_delivery.specs.Accepted.{Offer, accepted_at, accepted}
+
+-- ---- acceptance
+
+abbrev pub clock : Side → ℕ
+clock x = x.end.endpoint_state.context.now
+
+-- an accepted message, and the clock of its end then
+pub record Acceptance : Type 0 where
+  pub offer : Offer
+  pub at : ℕ
+
+abbrev pub accepted_then : ℕ → Offer → Acceptance
+accepted_then now o = record { offer = o; at = now }
+
+abbrev pub acceptances : (x : Bool) → List (Bool × EndAction) → Pair → List Acceptance
+acceptances x [] w = []
+acceptances x (e ∷ es) w = map (accepted_then (clock (side_of x w))) (accepted_at x e.0 e.1 w) ++ acceptances x es (goes e.0 e.1 w)
+
+-- ---- records
+
+-- those that wait to be taken
+abbrev pub records_of : Endpoint Carried → List GivenUp
+records_of e = e.endpoint_state.context.emitted.given_up
+
+abbrev pub records_given : Option Carried → (checksum : ℕ) → Side → List GivenUp
+records_given None checksum x = []
+records_given (Some p) checksum x = records_of (called (Packet (as_received p checksum)) x.end)
+
+abbrev pub records_if : (refusal : Option (List ℕ)) → PacketTree → Side → List GivenUp
+records_if None p x = []
+records_if (Some text) p x = records_of (called (Packet p) x.end)
+
+-- what one end gives up at its turn, beside the other
+abbrev pub records_by : EndAction → (x y : Side) → List GivenUp
+records_by (Calls call) x y = records_of (called call x.end)
+records_by (Gives which checksum) x y = records_given (slice_get (emitted_packets y) which) checksum x
+records_by (Refuses p) x y = records_if (refusal p.header.verification_tag p.chunks (state_of x)) p x
+
+-- true is end a: what end x gives up at a turn of this end
+abbrev pub records_at : (x acts : Bool) → EndAction → Pair → List GivenUp
+records_at true true turn w = records_by turn w.a w.b
+records_at false false turn w = records_by turn w.b w.a
+records_at x acts turn w = []
+
+-- the streams that are reset, unless the end refuses
+abbrev pub reset_unless : Option ResetStreamsError → (streams : List ℕ) → List ℕ
+reset_unless None streams = streams
+reset_unless (Some e) streams = []
+
+-- the streams that an end is asked to reset at its turn, and does
+abbrev pub reset_by : EndAction → Side → List ℕ
+reset_by (Calls (ResetStreams streams)) x = reset_unless (reset_refusal (state_of x)) streams
+reset_by turn x = []
+
+-- true is end a: those of end x at a turn of this end
+abbrev pub reset_at : (x acts : Bool) → EndAction → Pair → List ℕ
+reset_at true true turn w = reset_by turn w.a
+reset_at false false turn w = reset_by turn w.b
+reset_at x acts turn w = []
+
+-- a record, the clock of its end then, and the streams that are reset at that turn
+pub record Forgone : Type 0 where
+  pub given_up : GivenUp
+  pub at : ℕ
+  pub resets : List ℕ
+
+abbrev pub forgone_then : (now : ℕ) → (resets : List ℕ) → GivenUp → Forgone
+forgone_then now resets g = record { given_up = g; at = now; resets = resets }
+
+-- all of an end, in order
+abbrev pub forgone : (x : Bool) → List (Bool × EndAction) → Pair → List Forgone
+forgone x [] w = []
+forgone x (e ∷ es) w = map (forgone_then (clock (side_of x (goes e.0 e.1 w))) (reset_at x e.0 e.1 w)) (records_at x e.0 e.1 w) ++ forgone x es (goes e.0 e.1 w)
+
+-- ---- justified records
+
+-- how often a fragment may be sent again
+abbrev pub limit_of : Offer → ℕ
+limit_of o = unwrap_or o.options.max_retransmissions 65535
+
+-- it has a lifetime, which is over
+pub record HasExpired (now : ℕ) (a : Acceptance) : Type 0 where
+  pub lifetime : ℕ
+  pub given : a.offer.options.lifetime ≡ Some lifetime
+  pub over : later a.at lifetime ≤ now
+
+-- its stream is among these
+abbrev pub is_of_one : (streams : List ℕ) → Acceptance → Bool
+is_of_one streams a = list_any (λ id. id == a.offer.message.stream) streams
+
+abbrev pub IsRight : GivenUpCause → (now : ℕ) → (resets : List ℕ) → Acceptance → Type 0
+IsRight Lifetime now resets a = HasExpired now a
+IsRight (Retransmissions count) now resets a = limit_of a.offer ≤ count
+IsRight Reset now resets a = is_of_one resets a ≡ true
+
+-- of one of these messages, by its place
+pub record IsJustified (accepted : List Acceptance) (f : Forgone) : Type 0 where
+  pub acceptance : Acceptance
+  pub there : slice_get accepted f.given_up.number ≡ Some acceptance
+  pub right : IsRight f.given_up.cause f.at f.resets acceptance
+
+-- ---- the laws
+
+abbrev pub restores : EndAction → Bool
+restores (Calls (Restore h)) = true
+restores turn = false
+
+-- no handover is taken up
+abbrev pub RestoresNone : List (Bool × EndAction) → Type 0
+RestoresNone turns = list_any (λ (e : Bool × EndAction). restores e.1) turns ≡ false
+
+-- Along each trace in which no handover is taken up: all records of an end so far are justified, of the messages that it accepted
+-- so far, where these are fewer than 2^32.
+abbrev pub RecordsAreJustified : Type 0
+RecordsAreJustified =
+    (a b : Options) (words_a words_b : Stream) (turns : List (Bool × EndAction)) → RestoresNone turns → (x : Bool)
+    → length (accepted x turns (start a b words_a words_b)) < 2 ^ 32
+    → AllByRecursion (IsJustified (acceptances x turns (start a b words_a words_b))) (forgone x turns (start a b words_a words_b))
+
+-- acceptances are those of the accepted messages, one by one
+abbrev pub AcceptancesAreAccepted : Type 0
+AcceptancesAreAccepted = (x : Bool) (turns : List (Bool × EndAction)) (w : Pair) → map (λ (a : Acceptance). a.offer) (acceptances x turns w) ≡ accepted x turns w
+
+-- ---- such a trace, computed: of two messages that are lost, one may not be sent again, and the other one's lifetime is over
+
+abbrev pub text : (byte : ℕ) → Message
+text byte = record { stream = 1; ppid = 53; payload = byte ∷ [] }
+
+abbrev pub ten_seconds : ℕ
+ten_seconds = 10 ^ 10
+
+abbrev pub two_are_lost : List (Bool × EndAction)
+two_are_lost =
+    one_connects
+    ++ ((true, Calls (Send (text 97) (record plainly { max_retransmissions = Some 0 }))) ∷ (true, Calls (Send (text 98) (record plainly { lifetime = Some 0 })))
+    ∷ (true, Calls (Advance ten_seconds)) ∷ [])
+
+pub record TwoAreGivenUp : Type 0 where
+  pub follows : FollowsTheRules two_are_lost at_first
+  pub restores_none : RestoresNone two_are_lost
+  pub not_ended : HasNotEnded (run two_are_lost at_first)
+  pub gives_up : forgone true two_are_lost at_first
+      ≡ forgone_then ten_seconds [] (record { number = 0; cause = Retransmissions 0 }) ∷ forgone_then ten_seconds [] (record { number = 1; cause = Lifetime }) ∷ []

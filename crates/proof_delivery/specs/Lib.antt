@@ -1,0 +1,11 @@
+pub mod Accepted
+pub mod Windows
+pub mod GivenUp
+pub mod Delivery
+pub mod Justified
+pub mod Skipping
+pub mod Ending
+pub mod Asks
+pub mod Answered
+pub mod StreamEpochs
+pub mod Resetting

@@ -1,0 +1,72 @@
+//! Draws: an end whose tags, ties and first TSNs are others does the same under these names, and tells the same packets under them.
+#![tactic(auto)]
+
+ghost use Rattle.proof_draws.specs.Laws.{AnswersAreNamed, BurstsAreNamed, CallsAreNamed, ConnectIsNamed, DataIsNamed, EchoesAreNamed, EndingsAreNamed, ForwardPointsAreNamed, MomentsAreNamed, NewBlocksAreNamed, PacketsAreNamed, RefusalsAreNamed, SacksAreNamed, VerdictsAreNamed};
+ghost use Rattle.proof_draws.specs.NamedCalls.{EachCallIsNamed, EachRefusalIsNamed};
+ghost use Rattle.proof_draws.specs.NamedCookies.{CookiesAreNamed};
+ghost use Rattle.proof_draws.specs.Renamed.{PairsAreRenamed};
+
+/// What is drawn has other names, and the INIT is written under them.
+pub fn what_is_drawn_is_named()
+    ensures connects { ConnectIsNamed }
+{}
+
+/// Tags and ties are told apart by any names that tell them apart.
+pub fn tags_are_told_apart()
+    ensures refusals { RefusalsAreNamed }
+    ensures verdicts { VerdictsAreNamed }
+{}
+
+/// TSNs that come stand for the same numbers.
+pub fn numbers_stand_for_the_same()
+    ensures fragments { DataIsNamed }
+    ensures forward { ForwardPointsAreNamed }
+    ensures sacks { SacksAreNamed }
+{}
+
+/// Bursts of packets hold the same chunks, written under the names.
+pub fn bursts_are_named()
+    ensures bursts { BurstsAreNamed }
+{}
+
+/// Cookies are made, echoed and taken back under other names.
+pub fn associations_are_named()
+    ensures answers { AnswersAreNamed }
+    ensures echoes { EchoesAreNamed }
+    ensures blocks { NewBlocksAreNamed }
+{}
+
+/// Whatever two ends drew, where no tag was drawn twice there are names for all numbers that take the tags of one run to those of
+/// the other; and cookies can be written under any names.
+pub fn tags_can_be_renamed()
+    ensures pairs { PairsAreRenamed }
+    ensures cookies { CookiesAreNamed }
+{}
+
+/// Associations end, and packets, as under the first names.
+pub fn endings_are_named()
+    ensures endings { EndingsAreNamed }
+{}
+
+/// Time passes as under the first names.
+pub fn moments_are_named()
+    ensures moments { MomentsAreNamed }
+{}
+
+/// What is sent and taken is sent and taken as under the first names.
+pub fn calls_are_named()
+    ensures calls { CallsAreNamed }
+{}
+
+/// A packet that opens no association is received, chunk by chunk, as under the first names.
+pub fn packets_are_named()
+    ensures packets { PacketsAreNamed }
+{}
+
+/// Each call of an end under other names leaves it as the same call leaves the first one, under these names, and tells the same packets
+/// under them. Asked for are the words that are drawn, and of a packet what opens an association in it; of other calls nothing, but that
+/// no record is taken up. A packet that one of the two refuses the other one refuses too.
+pub fn each_call_is_named()
+    ensures calls { EachCallIsNamed }
+    ensures refusals { EachRefusalIsNamed }
+{}

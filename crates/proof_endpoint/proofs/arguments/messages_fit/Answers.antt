@@ -1,0 +1,15 @@
+use Rattle.sctp_serial.specs.Messages.{message_of}
+use Rattle.proof_endpoint.specs.Sound.{FitsMessage}
+use Rattle.proof_endpoint.proofs.ArgumentLemmas.{seen_more, seen_all}
+use Rattle.proof_endpoint.proofs.arguments.messages_fit.Goals as goal
+
+pub loop-message-init : goal.loop-message-init
+loop-message-init c = tt
+
+pub loop-message-preserved : goal.loop-message-preserved
+loop-message-preserved c =
+    seen_more FitsMessage message_of c.args.messages.now c.loop-message.message-index c.message-item.result c.loop-message-test.true c.message-item.is
+    c.loop-message.invariant c.a_message_fits.ensures.fits
+
+pub returns : goal.returns
+returns c = record { fit = seen_all FitsMessage message_of c.args.messages.now c.loop-message.message-index c.loop-message-test.false c.loop-message.invariant }

@@ -1,0 +1,15 @@
+use Rattle.std.proofs.Common.{ℕ, ◌<◌, ◌^◌}
+use Rattle.sctp_serial.specs.declared.api.StreamId.{StreamId}
+use Rattle.proof_endpoint.proofs.ArgumentLemmas.{seen_at, seen_all}
+use Rattle.proof_endpoint.proofs.arguments.streams_fit.Goals as goal
+
+pub loop-stream-init : goal.loop-stream-init
+loop-stream-init c = tt
+
+pub loop-stream-preserved : goal.loop-stream-preserved
+loop-stream-preserved c =
+    seen_at (λ (id : ℕ). id < 2 ^ 16) (λ (id : StreamId). id.0) c.args.streams.now c.loop-stream.stream-index _ c.loop-stream-test.true c.loop-stream.invariant
+    c.a_stream_fits.ensures.fits
+
+pub returns : goal.returns
+returns c = record { fit = seen_all (λ (id : ℕ). id < 2 ^ 16) (λ (id : StreamId). id.0) c.args.streams.now c.loop-stream.stream-index c.loop-stream-test.false c.loop-stream.invariant }

@@ -1,0 +1,7 @@
+pub mod Mapped
+pub mod ReceivedBack
+pub mod FirstRun
+pub mod Sound
+pub mod ReadBack
+pub mod Lifecycles
+pub mod HandoverRoundTrip

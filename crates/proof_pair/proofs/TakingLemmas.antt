@@ -1,0 +1,114 @@
+-- Data and forward points: refused ones change nothing, new ones are added, and points reach reassembly.
+use Rattle.std.proofs.Common.{◌≡◌, ℕ, ◌==◌, ◌||◌, ◌&&◌, not, Bool, true, false, Option, None, List, length, refl, ap, ◌∙◌}
+use Rattle.sctp_chunk.specs.declared.forward_tsn.SkippedStream.{SkippedStream}
+use Rattle.sctp_packet.specs.Chunk.{FragmentTree}
+use Rattle.sctp_rx.specs.Tracker.{number_of, is_valid, has_seen, moves_on}
+use Rattle.sctp_rx.specs.ReassemblyQueue.{Reassembly, add, forward}
+use Rattle.spec_endpoint.specs.Association.{Tcb, Phase, Open, Context, EndpointState, Endpoint}
+use Rattle.spec_endpoint.specs.Data.{is_full, added_unless, take_fragment, taken_if, on_data_if, on_data, skipped_if, forward_to, forwarded_if, forwarded_in}
+use Rattle.spec_endpoint.specs.Input.{misuse, received_if, receive}
+use Rattle.proof_pair.specs.Taking.{opened, fragment_chunk, point_chunk, IsTaken, IsPassed, RefusedDataChangesNothing, NewDataIsAdded, InvalidPointsChangeNothing, PointsReachReassembly}
+
+-- ---- by tests
+
+none_taken : (b v : Bool) → (b || not v) ≡ true → (not b && v) ≡ false
+none_taken true v e = refl
+none_taken false true e = cc
+none_taken false false e = refl
+
+some_taken : (b v : Bool) → (b || not v) ≡ false → (not b && v) ≡ true
+some_taken true v e = cc
+some_taken false true e = refl
+some_taken false false e = cc
+
+new_by : (b : Bool) (tsn : ℕ) (f : FragmentTree) (r : Reassembly) → not b ≡ true → added_unless b tsn f r ≡ add tsn f r
+new_by true tsn f r e = cc
+new_by false tsn f r e = refl
+
+seen_by : (b : Bool) (tsn : ℕ) (f : FragmentTree) (r : Reassembly) → not b ≡ false → added_unless b tsn f r ≡ r
+seen_by true tsn f r e = refl
+seen_by false tsn f r e = cc
+
+moved_by : (b : Bool) (tsn : ℕ) (skipped : List SkippedStream) (r : Reassembly) → b ≡ true → skipped_if b tsn skipped r ≡ forward tsn skipped r
+moved_by true tsn skipped r e = refl
+moved_by false tsn skipped r e = cc
+
+kept_by : (b : Bool) (tsn : ℕ) (skipped : List SkippedStream) (r : Reassembly) → b ≡ false → skipped_if b tsn skipped r ≡ r
+kept_by true tsn skipped r e = cc
+kept_by false tsn skipped r e = refl
+
+module _ {P : Type 0} (tsn : ℕ) (is_immediate : Bool) (f : FragmentTree) (phase : Phase) (t : Tcb) (c : Context P) where
+  abbrev endpoint_state : EndpointState P
+  endpoint_state = record { state = Open phase t; context = c }
+
+  refused_by : (a : Bool) → (a || (is_full t.reassembly || not (is_valid t.tracker.tracker (number_of t.tracker tsn)))) ≡ true
+      → (on_data_if a tsn is_immediate f endpoint_state).state ≡ Open phase t
+  refused_by true e = refl
+  refused_by false e =
+      ap (λ (b : Bool). Open phase (taken_if b tsn is_immediate f t))
+      (none_taken (is_full t.reassembly) (is_valid t.tracker.tracker (number_of t.tracker tsn)) e)
+
+  taken_by : (a : Bool) → (a || (is_full t.reassembly || not (is_valid t.tracker.tracker (number_of t.tracker tsn)))) ≡ false
+      → (on_data_if a tsn is_immediate f endpoint_state).state ≡ Open phase (take_fragment tsn is_immediate f t)
+  taken_by true e = cc
+  taken_by false e =
+      ap (λ (b : Bool). Open phase (taken_if b tsn is_immediate f t))
+      (some_taken (is_full t.reassembly) (is_valid t.tracker.tracker (number_of t.tracker tsn)) e)
+
+  is_taken : IsTaken tsn is_immediate f t (take_fragment tsn is_immediate f t)
+  is_taken = record {
+    observes = refl;
+    adds = λ e. new_by (has_seen t.tracker.tracker (number_of t.tracker tsn)) tsn f t.reassembly e;
+    keeps = λ e. seen_by (has_seen t.tracker.tracker (number_of t.tracker tsn)) tsn f t.reassembly e;
+  }
+
+module _ {P : Type 0} (tag tsn : ℕ) (is_immediate : Bool) (f : FragmentTree) (phase : Phase) (t : Tcb) (e : Endpoint P) where
+  -- the row of both kinds
+  data_row : (is_interleaved : Bool) → misuse t.capabilities (fragment_chunk is_interleaved tsn is_immediate f) ≡ None
+      → (receive tag (fragment_chunk is_interleaved tsn is_immediate f) (opened phase t e)).end.endpoint_state.state
+      ≡ (on_data tsn is_immediate f (record { state = Open phase t; context = e.endpoint_state.context })).state
+  data_row true right = ap (λ (v : Option (List ℕ)). (received_if v tag (fragment_chunk true tsn is_immediate f) (opened phase t e)).end.endpoint_state.state) right
+  data_row false right = ap (λ (v : Option (List ℕ)). (received_if v tag (fragment_chunk false tsn is_immediate f) (opened phase t e)).end.endpoint_state.state) right
+
+module _ {P : Type 0} (tag tsn : ℕ) (skipped : List SkippedStream) (phase : Phase) (t : Tcb) (e : Endpoint P) where
+  point_row : (is_interleaved : Bool) → misuse t.capabilities (point_chunk is_interleaved tsn skipped) ≡ None
+      → (receive tag (point_chunk is_interleaved tsn skipped) (opened phase t e)).end.endpoint_state.state ≡ forwarded_in (Open phase t) tsn skipped
+  point_row true right = ap (λ (v : Option (List ℕ)). (received_if v tag (point_chunk true tsn skipped) (opened phase t e)).end.endpoint_state.state) right
+  point_row false right = ap (λ (v : Option (List ℕ)). (received_if v tag (point_chunk false tsn skipped) (opened phase t e)).end.endpoint_state.state) right
+
+  is_passed : IsPassed tsn skipped t (forward_to tsn skipped t)
+  is_passed = record {
+    observes = refl;
+    forwards = λ h. moved_by (moves_on (number_of t.tracker tsn) t.tracker.tracker) tsn skipped t.reassembly h;
+    keeps = λ h. kept_by (moves_on (number_of t.tracker tsn) t.tracker.tracker) tsn skipped t.reassembly h;
+  }
+
+-- ---- the laws
+
+pub refused_data : RefusedDataChangesNothing
+refused_data is_interleaved tag tsn is_immediate f phase t e right refused =
+    data_row tag tsn is_immediate f phase t e is_interleaved right
+    ∙ refused_by tsn is_immediate f phase t e.endpoint_state.context (length f.payload == 0) refused
+
+pub new_data : NewDataIsAdded
+new_data is_interleaved tag tsn is_immediate f phase t e right fine = (
+  record {
+    tcb = take_fragment tsn is_immediate f t;
+    is = data_row tag tsn is_immediate f phase t e is_interleaved right
+        ∙ taken_by tsn is_immediate f phase t e.endpoint_state.context (length f.payload == 0) fine;
+  },
+  is_taken tsn is_immediate f phase t e.endpoint_state.context,
+)
+
+pub invalid_points : InvalidPointsChangeNothing
+invalid_points is_interleaved tag tsn skipped phase t e right invalid =
+    point_row tag tsn skipped phase t e is_interleaved right ∙ ap (λ (b : Bool). Open phase (forwarded_if b tsn skipped t)) invalid
+
+pub points_reach : PointsReachReassembly
+points_reach is_interleaved tag tsn skipped phase t e right valid = (
+  record {
+    tcb = forward_to tsn skipped t;
+    is = point_row tag tsn skipped phase t e is_interleaved right ∙ ap (λ (b : Bool). Open phase (forwarded_if b tsn skipped t)) valid;
+  },
+  is_passed tag tsn skipped phase t e,
+)

@@ -1,0 +1,5 @@
+use Rattle.proof_pair.proofs.TraceLemmas.{ends_consistent}
+use Rattle.proof_pair.proofs.ends_are_consistent.Goals as goal
+
+pub returns : goal.returns
+returns c = record { joined = ends_consistent }

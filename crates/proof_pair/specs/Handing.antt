@@ -1,0 +1,91 @@
+-- Along a trace: the messages that became ready at an end, and those that its calls handed out.
+use Rattle.std.specs.Prelude.{◌≡◌, ℕ, Bool, true, false, Some, List, [], ◌∷◌, ◌++◌, length, take, drop}
+use Rattle.rand_core.specs.Stream.{Stream}
+use Rattle.sctp_serial.specs.Messages.{Message}
+use Rattle.sctp_state.specs.Options.{Options, plainly}
+use Rattle.sctp_rx.specs.Delivery.{Extends}
+use Rattle.spec_endpoint.specs.Shown.{Association, association_in}
+use Rattle.spec_endpoint.specs.Calls.{ready_in}
+use Rattle.spec_endpoint.specs.Laws.{Send, TakeMessage}
+use Rattle.proof_pair.specs.Trace.{Side, Pair, EndAction, Calls, Gives, goes, run, side_of, FollowsTheRules, HasNotEnded, AreGiven, start, state_of}
+use Rattle.proof_pair.specs.Opens.{at_first, one_connects}
+
+abbrev pub ready_at : Side → List Message
+ready_at x = ready_in (state_of x)
+
+-- ---- one turn
+
+-- a call for a message hands out the first that is ready
+abbrev pub handed_by : EndAction → Side → List Message
+handed_by (Calls TakeMessage) x = take 1 (ready_at x)
+handed_by turn x = []
+
+-- true is end a: what end x hands out at a turn of this end
+abbrev pub handed_at : (x acts : Bool) → EndAction → Pair → List Message
+handed_at true true turn w = handed_by turn w.a
+handed_at false false turn w = handed_by turn w.b
+handed_at x acts turn w = []
+
+-- what is ready behind the messages that were ready before
+abbrev pub new_behind : (before after : List Message) → List Message
+new_behind before after = drop (length before) after
+
+-- ---- traces
+
+abbrev pub handed_messages : (x : Bool) → List (Bool × EndAction) → Pair → List Message
+handed_messages x [] w = []
+handed_messages x (e ∷ es) w = handed_at x e.0 e.1 w ++ handed_messages x es (goes e.0 e.1 w)
+
+abbrev pub readied_messages : (x : Bool) → List (Bool × EndAction) → Pair → List Message
+readied_messages x [] w = []
+readied_messages x (e ∷ es) w = new_behind (ready_at (side_of x w)) (ready_at (side_of x (goes e.0 e.1 w))) ++ readied_messages x es (goes e.0 e.1 w)
+
+-- ---- the laws
+
+-- of one end: what became ready was handed out, or is ready still, in this order
+abbrev pub AreHandedInOrder : (x : Bool) → List (Bool × EndAction) → Pair → Type 0
+AreHandedInOrder x turns w = readied_messages x turns w ≡ handed_messages x turns w ++ ready_at (side_of x (run turns w))
+
+-- Along each trace that follows the rules, until an association first ends.
+abbrev pub MessagesAreHandedInOrder : Type 0
+MessagesAreHandedInOrder =
+    (a b : Options) (words_a words_b : Stream) (turns : List (Bool × EndAction)) → AreGiven a → AreGiven b
+    → FollowsTheRules turns (start a b words_a words_b) → HasNotEnded (run turns (start a b words_a words_b)) → (x : Bool)
+    → AreHandedInOrder x turns (start a b words_a words_b)
+
+abbrev pub HandedIsAPrefix : Type 0
+HandedIsAPrefix =
+    (a b : Options) (words_a words_b : Stream) (turns : List (Bool × EndAction)) → AreGiven a → AreGiven b
+    → FollowsTheRules turns (start a b words_a words_b) → HasNotEnded (run turns (start a b words_a words_b)) → (x : Bool)
+    → Extends (handed_messages x turns (start a b words_a words_b)) (readied_messages x turns (start a b words_a words_b))
+
+-- as turns follow, of any trace
+abbrev pub ReadiedGrows : Type 0
+ReadiedGrows = (x : Bool) (turns more : List (Bool × EndAction)) (w : Pair) → Extends (readied_messages x turns w) (readied_messages x (turns ++ more) w)
+
+abbrev pub HandedGrows : Type 0
+HandedGrows = (x : Bool) (turns more : List (Bool × EndAction)) (w : Pair) → Extends (handed_messages x turns w) (handed_messages x (turns ++ more) w)
+
+-- and an association that an end holds, it holds from then on: no other takes its place
+abbrev pub AssociationsStand : Type 0
+AssociationsStand =
+    (a b : Options) (words_a words_b : Stream) (turns more : List (Bool × EndAction)) → AreGiven a → AreGiven b
+    → FollowsTheRules (turns ++ more) (start a b words_a words_b) → HasNotEnded (run (turns ++ more) (start a b words_a words_b)) → (x : Bool) (p : Association)
+    → association_in (state_of (side_of x (run turns (start a b words_a words_b)))) ≡ Some p
+    → association_in (state_of (side_of x (run (turns ++ more) (start a b words_a words_b)))) ≡ Some p
+
+-- ---- such a trace, computed: two messages come, and one is handed out
+
+abbrev pub text : (byte : ℕ) → Message
+text byte = record { stream = 1; ppid = 53; payload = byte ∷ [] }
+
+abbrev pub two_come : List (Bool × EndAction)
+two_come =
+    one_connects
+    ++ ((true, Calls (Send (text 97) plainly)) ∷ (true, Calls (Send (text 98) plainly)) ∷ (false, Gives 2 0) ∷ (false, Gives 3 0) ∷ (false, Calls TakeMessage) ∷ [])
+
+pub record OneIsHandedOut : Type 0 where
+  pub follows : FollowsTheRules two_come at_first
+  pub not_ended : HasNotEnded (run two_come at_first)
+  pub hands : handed_messages false two_come at_first ≡ text 97 ∷ []
+  pub readies : readied_messages false two_come at_first ≡ text 97 ∷ text 98 ∷ []

@@ -1,0 +1,154 @@
+-- Two ends, all that they ever told, and how they go on: any calls, any packets of the other end, again and in any order, any
+-- moments, any foreign bytes that are refused.
+use Rattle.std.specs.Prelude.{◌≡◌, ℕ, ◌==◌, ◌||◌, ◌^◌, ◌<◌, Bool, true, false, Option, Some, None, List, [], ◌∷◌, ◌++◌, map, slice_get, ⊤, ◌⊎◌}
+use Rattle.rand_core.specs.Stream.{Stream}
+use Rattle.sctp_packet.specs.Grammar.{carried}
+use Rattle.sctp_packet.specs.Packet.{PacketTree}
+use Rattle.sctp_state.specs.Options.{Options, IsValid}
+use Rattle.sctp_capabilities.specs.Capabilities.{agreed, exchange}
+use Rattle.sctp_state.specs.Events.{Event, SendPacket, OnConnected, silent}
+use Rattle.spec_endpoint.specs.Association.{Identity, Tcb, Phase, State, Open, Packing, Endpoint, fresh}
+use Rattle.spec_endpoint.specs.Input.{refusal}
+use Rattle.spec_endpoint.specs.Laws.{Call, Connect, Shutdown, Restore, Packet, called, endings}
+use Rattle.proof_endpoint.specs.Mapped.{Carried}
+
+-- ---- an end, and what it told
+
+pub record Side : Type 0 where
+  pub end : Endpoint Carried
+  pub emitted : List (Event Carried)  -- so far; what was emitted is taken after each turn
+  pub is_asked : Bool  -- an INIT was given to it
+
+pub record Pair : Type 0 where
+  pub a : Side
+  pub b : Side
+
+abbrev pub as_carried : Packing Carried
+as_carried = record { write = λ header is_summed chunks. record { header = header; is_summed = is_summed; chunks = chunks }; word_of = λ bytes. 0 }
+
+abbrev pub new_side : Options → Stream → Side
+new_side o words = record { end = fresh o as_carried words; emitted = []; is_asked = false }
+
+-- all packets that it ever emitted
+abbrev pub packets_in : List (Event Carried) → List Carried
+packets_in [] = []
+packets_in (SendPacket p ∷ es) = p ∷ packets_in es
+packets_in (e ∷ es) = packets_in es
+
+abbrev pub emitted_packets : Side → List Carried
+emitted_packets x = packets_in x.emitted
+
+-- it was told that it is connected
+abbrev pub has_connected : {P : Type 0} → List (Event P) → Bool
+has_connected [] = false
+has_connected (OnConnected ∷ es) = true
+has_connected (e ∷ es) = has_connected es
+
+-- ---- turns
+
+pub data EndAction : Type 0 where
+  Calls : Call → EndAction  -- any call but for packets that can be read; moments and bytes that are no packet too
+  Gives : (which checksum : ℕ) → EndAction  -- the packet with this number of all that the other end emitted
+  Refuses : PacketTree → EndAction  -- foreign bytes: a packet that the end refuses; else nothing happens
+
+-- what was emitted is taken
+abbrev pub took : Endpoint Carried → Side → Side
+took e x = record x {
+  end = record e { endpoint_state = record e.endpoint_state { context = record e.endpoint_state.context { emitted = silent } } };
+  emitted = x.emitted ++ e.endpoint_state.context.emitted.events;
+}
+
+-- as it is received: fields that a kind of chunk doesn't write are zero
+abbrev pub as_received : Carried → (checksum : ℕ) → PacketTree
+as_received p checksum = record { header = p.header; checksum = checksum; chunks = map carried p.chunks }
+
+-- an INIT goes under tag 0
+abbrev pub give : Option Carried → (checksum : ℕ) → Side → Side
+give None checksum x = x
+give (Some p) checksum x = record (took (called (Packet (as_received p checksum)) x.end) x) { is_asked = x.is_asked || (p.header.verification_tag == 0) }
+
+abbrev pub foreign_if : (refusal : Option (List ℕ)) → PacketTree → Side → Side
+foreign_if None p x = x
+foreign_if (Some text) p x = took (called (Packet p) x.end) x
+
+-- of one end, beside the other
+abbrev pub act : EndAction → (x y : Side) → Side
+act (Calls call) x y = took (called call x.end) x
+act (Gives which checksum) x y = give (slice_get (emitted_packets y) which) checksum x
+act (Refuses p) x y = foreign_if (refusal p.header.verification_tag p.chunks x.end.endpoint_state.state) p x
+
+-- true is end a
+abbrev pub goes : Bool → EndAction → Pair → Pair
+goes true turn w = record w { a = act turn w.a w.b }
+goes false turn w = record w { b = act turn w.b w.a }
+
+abbrev pub run : List (Bool × EndAction) → Pair → Pair
+run [] w = w
+run (e ∷ es) w = run es (goes e.0 e.1 w)
+
+-- ---- the rules
+
+-- Before it was told that it is connected, an end is asked neither for a shutdown, nor to connect once an INIT was given to
+-- it. No record of a handover is taken up.
+abbrev pub MayCall : Call → Side → Type 0
+MayCall Connect x = (has_connected x.emitted ≡ true) ⊎ (x.is_asked ≡ false)
+MayCall Shutdown x = has_connected x.emitted ≡ true
+MayCall (Restore h) x = ⊥
+MayCall (Packet p) x = ⊥
+MayCall call x = ⊤
+
+abbrev pub MayAct : EndAction → Side → Type 0
+MayAct (Calls call) x = MayCall call x
+MayAct turn x = ⊤
+
+abbrev pub side_of : Bool → Pair → Side
+side_of true w = w.a
+side_of false w = w.b
+
+abbrev pub FollowsTheRules : List (Bool × EndAction) → Pair → Type 0
+FollowsTheRules [] w = ⊤
+FollowsTheRules (e ∷ es) w = MayAct e.1 (side_of e.0 w) × FollowsTheRules es (goes e.0 e.1 w)
+
+-- no association has ended so far, at either end
+pub record HasNotEnded (w : Pair) : Type 0 where
+  pub a : endings w.a.emitted ≡ 0
+  pub b : endings w.b.emitted ≡ 0
+
+-- ---- what two ends start with
+
+-- options that a socket can be made with: they are valid, and these numbers fit their types
+pub record AreGiven (o : Options) : Type 0 where
+  pub valid : IsValid o
+  pub incoming : o.announced_maximum_incoming_streams < 2 ^ 16
+  pub outgoing : o.announced_maximum_outgoing_streams < 2 ^ 16
+  pub method : o.zero_checksum_method < 2 ^ 32
+
+abbrev pub start : (a b : Options) → (words_a words_b : Stream) → Pair
+start a b words_a words_b = record { a = new_side a words_a; b = new_side b words_b }
+
+-- ---- the law
+
+abbrev pub state_of : Side → State
+state_of x = x.end.endpoint_state.state
+
+-- tags and first TSNs are exchanged
+pub record AreMirrored (i j : Identity) : Type 0 where
+  pub tag : i.my_tag ≡ j.peer_tag
+  pub first : i.my_first ≡ j.peer_first
+  pub peer_tag : i.peer_tag ≡ j.my_tag
+  pub peer_first : i.peer_first ≡ j.my_first
+
+-- What each end's association can do is what was negotiated of the two option sets; and where both hold one, they hold it
+-- mirrored, in the stream counts too.
+pub record AreConsistent (a b : Options) (w : Pair) : Type 0 where
+  pub a_negotiated : (phase : Phase) (t : Tcb) → state_of w.a ≡ Open phase t → t.capabilities ≡ agreed a b
+  pub b_negotiated : (phase : Phase) (t : Tcb) → state_of w.b ≡ Open phase t → t.capabilities ≡ agreed b a
+  pub mirrored : (phase next : Phase) (t u : Tcb) → state_of w.a ≡ Open phase t → state_of w.b ≡ Open next u → AreMirrored t.identity u.identity
+  pub counts : agreed b a ≡ exchange (agreed a b)
+
+-- Along each trace that follows the rules, until an association first ends.
+abbrev pub EndsAreConsistent : Type 0
+EndsAreConsistent =
+    (a b : Options) (words_a words_b : Stream) (turns : List (Bool × EndAction)) → AreGiven a → AreGiven b
+    → FollowsTheRules turns (start a b words_a words_b) → HasNotEnded (run turns (start a b words_a words_b))
+    → AreConsistent a b (run turns (start a b words_a words_b))

@@ -1,0 +1,5 @@
+use Rattle.proof_protocol.proofs.EpochLawsLemmas.{nothing_waits}
+use Rattle.proof_protocol.proofs.resets.nothing_waits_for_a_reset.Goals as goal
+
+pub returns : goal.returns
+returns c = record { waits = λ message mixed x r k sent ahead. nothing_waits message mixed x k r sent ahead }

@@ -1,0 +1,16 @@
+use Rattle.proof_protocol.proofs.ClaimsLemmas.{claimed}
+use Rattle.proof_protocol.proofs.GrowsLemmas.{one}
+use Rattle.proof_protocol.proofs.KeepsLemmas.{at_start, keeps}
+use Rattle.proof_protocol.proofs.transfer.keeps.Goals as goal
+
+pub returns-clause-first : goal.returns-clause-first
+returns-clause-first c = at_start
+
+pub returns-clause-step : goal.returns-clause-step
+returns-clause-step c message mixed x e k a = keeps message mixed x k e a
+
+pub returns-clause-claims : goal.returns-clause-claims
+returns-clause-claims c = claimed
+
+pub returns-clause-grows : goal.returns-clause-grows
+returns-clause-grows c = one

@@ -1,0 +1,14 @@
+pub mod State
+pub mod Rules
+pub mod Points
+pub mod Claims
+pub mod Reassembly
+pub mod Invariant
+pub mod Lifted
+pub mod Sending
+pub mod Joints
+pub mod Windows
+pub mod Resets
+pub mod Written
+pub mod Based
+pub mod Runs

@@ -1,0 +1,13 @@
+use Rattle.sctp_tx_queue.specs.Resets.{requested_streams}
+use Rattle.proof_tx_refines.proofs.ResetLemmas.{commits_row, requests_row}
+use Rattle.proof_tx_refines.proofs.PrepareLemmas.{prepares_row}
+use Rattle.proof_tx_refines.proofs.RecordedLemmas.{prepares_lead}
+use Rattle.proof_tx_refines.proofs.streams_are_reset.Goals as goal
+
+pub returns : goal.returns
+returns c = record {
+  prepared = λ message lifecycle mixed x q s k sh id told. prepares_row message lifecycle mixed x q s.outstanding.items k sh id told;
+  recorded = λ message lifecycle mixed x q s k sh id told. prepares_lead message lifecycle mixed x q s.outstanding.items k sh id told;
+  requested = λ message lifecycle mixed x q s k sh most. requests_row message lifecycle mixed s.outstanding.items (requested_streams most q) x q sh;
+  committed = λ message lifecycle mixed x q s k sh ids. commits_row message lifecycle mixed s.outstanding.items ids x q sh;
+}

@@ -1,0 +1,9 @@
+pub mod Led
+pub mod Points
+pub mod Records
+pub mod Rows
+pub mod Refinement
+pub mod Pauses
+pub mod Line
+pub mod Following
+pub mod Asked

@@ -1,0 +1,238 @@
+-- Each operation of a sender's values is a run of the rules. `message` and `lifecycle` are any functions that tell what was
+-- accepted so far.
+use Rattle.std.specs.Duration.{as_nanos}
+use Rattle.std.specs.Prelude.{option_map, unwrap_or, ◌≡◌, ℕ, ◌+◌, ◌^◌, ◌<◌, ◌≤◌, ◌||◌, not, Bool, true, false, Option, Some, None, List, [], ◌∷◌, ◌++◌, length, replicate, slice_get}
+use Rattle.sctp_serial.specs.Unwrapped.{origin, words, wire}
+use Rattle.sctp_serial.specs.declared.api.Message as given
+use Rattle.sctp_packet.specs.Chunk.{FragmentTree}
+use Rattle.sctp_chunk.specs.declared.sack.GapAckBlock.{GapAckBlock}
+use Rattle.sctp_state.specs.Events.{Emitted, give_up}
+use Rattle.sctp_state.specs.Options.{Options}
+use Rattle.sctp_state.specs.declared.api.GivenUpCause.{GivenUpCause}
+use Rattle.sctp_state.specs.declared.api.options.SendOptions.{SendOptions}
+use Rattle.sctp_tx_queue.specs.Queue.{Queued, Queue, queue, add, expiry_of, is_empty}
+use Rattle.sctp_tx_queue.specs.Views.{queued_of}
+use Rattle.sctp_tx_queue.specs.Produced.{Produced, produce}
+use Rattle.sctp_tx_queue.specs.Settings.{set_mode, set_priority, set_low_threshold}
+use Rattle.sctp_tx_queue.specs.Resets.{request_resets, commit_resets}
+use Rattle.sctp_tx_queue.specs.Restarted.{reset}
+use Rattle.sctp_tx_outstanding.specs.Item.{Item, is_abandoned}
+use Rattle.sctp_tx_outstanding.specs.Items.{Items, no_items, insert}
+use Rattle.sctp_tx_outstanding.specs.Losses.{abandon_message, first_step, nack_below, nack_all, expire_below, expire_outstanding}
+use Rattle.sctp_tx_outstanding.specs.Sack.{is_valid, leaving}
+use Rattle.sctp_tx_outstanding.specs.Forward.{is_forward_due}
+use Rattle.sctp_tx.specs.Retransmission.{Sender, handle_sack, step_of, timed_out_sender}
+use Rattle.sctp_tx.specs.ForwardPoints.{expire, most_of}
+use Rattle.sctp_tx.specs.Resent.{resent_fast, send_fast}
+use Rattle.sctp_tx.specs.Sending.{item_of, discard_all, without_discards, send}
+use Rattle.proof_protocol.specs.State as rules
+use Rattle.proof_protocol.specs.State.{Message, Transfer, IsAmong, new_sender, start, has, fragment, count, stream_of, ordered_of}
+use Rattle.proof_protocol.specs.Rules.{Event, accept, leave, IsAllowed, Happens, after, run}
+use Rattle.proof_protocol.specs.Resets.{restarts}
+use Rattle.proof_protocol.specs.Claims.{AtRest}
+use Rattle.proof_protocol.specs.Invariant.{Invariant}
+use Rattle.proof_protocol.specs.Joints.{reports_of}
+use Rattle.proof_tx_refines.specs.Refinement.{SenderRefines, tree_of}
+use Rattle.proof_tx_refines.specs.Led.{recorded_places, Leads, LeadsTo, delivered_ids, ids_at}
+use Rattle.proof_tx_refines.specs.Points.{IsSendable}
+
+-- of each state that the rules lead to, and values that show it
+abbrev pub InEachState : ((ℕ → Message) → (ℕ → Option ℕ) → Bool → Transfer → Queue → Sender → Type 0) → Type 0
+InEachState P = (message : ℕ → Message) (lifecycle : ℕ → Option ℕ) (is_interleaved : Bool) (x : Transfer) (q : Queue) (s : Sender)
+    → Invariant message is_interleaved x → SenderRefines message lifecycle is_interleaved x q s.outstanding.items → P message lifecycle is_interleaved x q s
+
+-- what the receiver does, and what is under way, is not shown
+abbrev pub OthersAreNotShown : Type 0
+OthersAreNotShown = (message : ℕ → Message) (lifecycle : ℕ → Option ℕ) (is_interleaved : Bool) (x y : Transfer) (q : Queue) (s : Items)
+    → y.sender ≡ x.sender → y.acknowledged ≡ x.acknowledged → SenderRefines message lifecycle is_interleaved x q s → SenderRefines message lifecycle is_interleaved y q s
+
+-- ---- before anything is sent
+
+-- so many messages were accepted
+abbrev pub waiting : ℕ → Transfer
+waiting n = record start { sender = record new_sender { accepted = n } }
+
+abbrev pub NewShow : Type 0
+NewShow = (message : ℕ → Message) (lifecycle : ℕ → Option ℕ) (o : Options) → SenderRefines message lifecycle false start (queue o) (no_items false false)
+
+-- an association begins, in either mode
+abbrev pub BeginningsShow : Type 0
+BeginningsShow = (message : ℕ → Message) (lifecycle : ℕ → Option ℕ) (is_interleaved is_partial : Bool) (n : ℕ) (q : Queue)
+    → SenderRefines message lifecycle false (waiting n) q (no_items false false) → SenderRefines message lifecycle is_interleaved (waiting n) (set_mode is_interleaved q) (no_items is_partial is_interleaved)
+
+abbrev pub ResetsShow : Type 0
+ResetsShow = (message : ℕ → Message) (lifecycle : ℕ → Option ℕ) (is_interleaved : Bool) (n : ℕ) (q : Queue) (s : Items)
+    → SenderRefines message lifecycle is_interleaved (waiting n) q s → SenderRefines message lifecycle is_interleaved (waiting n) (reset q) s
+
+-- ---- acceptance
+
+-- the message of place p as it is queued
+abbrev pub offered_entry : (ℕ → Message) → (ℕ → Option ℕ) → (p : ℕ) → (expires : Option ℕ) → (limit : ℕ) → Queued
+offered_entry message lifecycle p expires limit = record {
+  number = p;
+  ppid = (message p).protocol_id;
+  payload = (message p).payload;
+  is_unordered = not (ordered_of message p);
+  expires = expires;
+  limit = limit;
+  lifecycle = lifecycle p;
+  offset = 0;
+  numbers = None;
+  fsn = 0;
+}
+
+-- what the rules know of a message that is offered
+abbrev pub message_of : given.Message → SendOptions → Message
+message_of m options = record { stream = m.stream_id.0; ordered = not options.unordered; protocol_id = m.ppid.0; payload = m.payload.items }
+
+-- so it is queued
+abbrev pub OffersAreQueued : Type 0
+OffersAreQueued = (message : ℕ → Message) (lifecycle : ℕ → Option ℕ) (p now : ℕ) (m : given.Message) (options : SendOptions)
+    → message p ≡ message_of m options → lifecycle p ≡ options.lifecycle_id
+    → queued_of p now m options ≡ offered_entry message lifecycle p (expiry_of now (option_map as_nanos options.lifetime)) (unwrap_or options.max_retransmissions 65535)
+
+abbrev pub Accepts : Type 0
+Accepts = InEachState (λ message lifecycle is_interleaved x q s.
+    (expires : Option ℕ) (limit : ℕ) → 0 < length (message x.sender.accepted).payload → x.sender.accepted + 1 < 2 ^ 32
+    → SenderRefines message lifecycle is_interleaved (after message is_interleaved x accept)
+    (add (stream_of message x.sender.accepted) (offered_entry message lifecycle x.sender.accepted expires limit) q) s.outstanding.items)
+
+abbrev pub SettingsShow : Type 0
+SettingsShow = InEachState (λ message lifecycle is_interleaved x q s.
+    (id n : ℕ) (told : Emitted (List ℕ))
+    → SenderRefines message lifecycle is_interleaved x (set_priority id n q) s.outstanding.items × SenderRefines message lifecycle is_interleaved x (set_low_threshold id n q told).queue s.outstanding.items)
+
+-- ---- resets of streams
+
+-- a stream that goes into a request sends nothing meanwhile
+abbrev pub RequestsShow : Type 0
+RequestsShow = InEachState (λ message lifecycle is_interleaved x q s. (most : ℕ) → SenderRefines message lifecycle is_interleaved x (request_resets most q) s.outstanding.items)
+
+-- the numbers of these streams begin again
+abbrev pub restart : List ℕ → Transfer → Transfer
+restart [] x = x
+restart (id ∷ ids) x = restart ids (record x { sender = restarts x.sender id })
+
+-- the answer has come
+abbrev pub CommitsShow : Type 0
+CommitsShow = InEachState (λ message lifecycle is_interleaved x q s. (ids : List ℕ) → SenderRefines message lifecycle is_interleaved (restart ids x) (commit_resets ids q) s.outstanding.items)
+
+-- ---- new fragments
+
+abbrev pub with_made : ℕ → Option Produced → Items → Items
+with_made now None s = s
+with_made now (Some p) s = insert (item_of now p) s
+
+-- nothing waits to be discarded
+abbrev pub Produces : Type 0
+Produces = InEachState (λ message lifecycle is_interleaved x q s.
+    (now size : ℕ) (told : Emitted (List ℕ)) → s.outstanding.items.discards ≡ [] → 0 < size
+    → LeadsTo message lifecycle is_interleaved x told (produce now size q told).queue (with_made now (produce now size q told).made s.outstanding.items) (produce now size q told).emitted)
+
+-- ---- a SACK
+
+-- n more fragments leave
+abbrev pub leave_places : ℕ → Transfer → Transfer
+leave_places n x = record x { acknowledged = x.acknowledged + n; reports = x.reports ++ reports_of x.sender x.acknowledged n }
+
+-- n fragments leave, up to c, with the reports of the rules; then messages are given up that lost a fragment
+pub record ReceivesSack {P : Type 0} (message : ℕ → Message) (lifecycle : ℕ → Option ℕ) (is_interleaved : Bool) (x : Transfer) (q : Queue) (n c : ℕ) (told : Emitted P) (s : Items) (later : Emitted P) : Type 0 where
+  pub may : Happens message is_interleaved x (replicate n (leave c))
+  pub leaves : run message is_interleaved x (replicate n (leave c)) ≡ leave_places n x
+  pub upto : (leave_places n x).acknowledged ≡ c
+  pub reported : delivered_ids later.events ≡ delivered_ids told.events ++ ids_at lifecycle (reports_of x.sender x.acknowledged n)
+  pub losses : LeadsTo message lifecycle is_interleaved (leave_places n x) told q s later
+
+-- its cumulative point is that of a SACK of the rules
+abbrev pub SacksAreReceived : Type 0
+SacksAreReceived = InEachState (λ message lifecycle is_interleaved x q s.
+    (now cumulative c a_rwnd : ℕ) (blocks : List GapAckBlock) (told : Emitted (List ℕ))
+    → is_valid cumulative blocks s.outstanding.items ≡ true → cumulative + 1 ≡ origin + c → IsAmong c x.sacks
+    → ReceivesSack message lifecycle is_interleaved x q (leaving cumulative s.outstanding.items) c told (handle_sack now cumulative a_rwnd blocks s told).outstanding.items (step_of cumulative blocks s told).emitted)
+
+-- ---- giving up
+
+-- all that is kept of a message
+abbrev pub GivesUp : Type 0
+GivesUp = InEachState (λ message lifecycle is_interleaved x q s.
+    (p k : ℕ) (i : Item) (cause : GivenUpCause) (told : Emitted (List ℕ)) → slice_get s.outstanding.items.kept k ≡ Some i → i.number ≡ p → is_abandoned i ≡ false
+    → LeadsTo message lifecycle is_interleaved x told q (abandon_message p s.outstanding.items) (give_up p cause told))
+
+-- what is left of it in the queue
+abbrev pub DiscardsShow : Type 0
+DiscardsShow = InEachState (λ message lifecycle is_interleaved x q s.
+    (told : Emitted (List ℕ))
+    → SenderRefines message lifecycle is_interleaved x (discard_all s.outstanding.items.discards q told).queue (without_discards s).outstanding.items
+    × (recorded_places (discard_all s.outstanding.items.discards q told).emitted ≡ recorded_places told))
+
+-- missing reports and losses, and lifetimes, of the first n items
+abbrev pub Loses : Type 0
+Loses = InEachState (λ message lifecycle is_interleaved x q s.
+    (at_once fast : Bool) (n : ℕ) (told : Emitted (List ℕ))
+    → LeadsTo message lifecycle is_interleaved x told q (nack_below at_once fast n (first_step s.outstanding.items told)).items (nack_below at_once fast n (first_step s.outstanding.items told)).emitted)
+
+abbrev pub Expires : Type 0
+Expires = InEachState (λ message lifecycle is_interleaved x q s.
+    (now n : ℕ) (told : Emitted (List ℕ))
+    → LeadsTo message lifecycle is_interleaved x told q (expire_below now n (first_step s.outstanding.items told)).items (expire_below now n (first_step s.outstanding.items told)).emitted)
+
+-- a whole timeout, and the test before a forward point
+abbrev pub TimesOut : Type 0
+TimesOut = InEachState (λ message lifecycle is_interleaved x q s.
+    (now : ℕ) (told : Emitted (List ℕ))
+    → LeadsTo message lifecycle is_interleaved x told q (timed_out_sender now (nack_all s.outstanding.items told).items s).outstanding.items (nack_all s.outstanding.items told).emitted)
+
+abbrev pub LifetimesEnd : Type 0
+LifetimesEnd = InEachState (λ message lifecycle is_interleaved x q s.
+    (now : ℕ) (told : Emitted (List ℕ))
+    → LeadsTo message lifecycle is_interleaved x told q (expire now s told).outstanding.items (expire_outstanding now s.outstanding.items told).emitted)
+
+-- the rules give up what they name, and nothing else
+abbrev pub RecordsAreExact : Type 0
+RecordsAreExact = (message : ℕ → Message) (is_interleaved : Bool) (x y : Transfer) (places : List ℕ)
+    → Leads message is_interleaved x y places → (p : ℕ) → y.sender.given_up p ≡ (has p places || x.sender.given_up p)
+
+-- ---- forward points
+
+-- one that is due, in a packet with room for an entry
+abbrev pub PointsAreDue : Type 0
+PointsAreDue = InEachState (λ message lifecycle is_interleaved x q s. is_forward_due s.outstanding.items ≡ true → 16 ≤ most_of s → IsSendable message is_interleaved x s)
+
+-- ---- packets
+
+-- a chunk carries a fragment that may come: it is numbered, and no placeholder. `first` is the first TSN
+pub record Carries (message : ℕ → Message) (first : ℕ) (o : rules.Sender) (chunk : ℕ × FragmentTree) : Type 0 where
+  pub at : ℕ
+  pub below : at < count o
+  pub real : (fragment o at).placeholder ≡ false
+  pub tsn : chunk.0 ≡ wire words first (origin + at)
+  pub tree : chunk.1 ≡ tree_of message o (fragment o at)
+
+-- each of these carries a fragment that is kept: those below `least` were acknowledged
+abbrev pub AllCarry : (ℕ → Message) → (first least : ℕ) → rules.Sender → List (ℕ × FragmentTree) → Type 0
+AllCarry message first least o [] = Unit {0}
+AllCarry message first least o (c ∷ cs) = ((carries : Carries message first o c) × (least ≤ carries.at)) × AllCarry message first least o cs
+
+-- a chunk carries its fragment after each rule too, whichever it is
+abbrev pub CarryingStays : Type 0
+CarryingStays = (message : ℕ → Message) (is_interleaved : Bool) (first : ℕ) (x : Transfer) (e : Event) (chunk : ℕ × FragmentTree)
+    → Invariant message is_interleaved x → IsAllowed message is_interleaved x e → Carries message first x.sender chunk → Carries message first (after message is_interleaved x e).sender chunk
+
+pub record Sends {P : Type 0} (message : ℕ → Message) (lifecycle : ℕ → Option ℕ) (is_interleaved : Bool) (x : Transfer) (now most : ℕ) (s : Sender) (q : Queue) (told : Emitted P) : Type 0 where
+  pub leads : LeadsTo message lifecycle is_interleaved x told (send now most s q told).queue (send now most s q told).sender.outstanding.items (send now most s q told).emitted
+  pub carried : AllCarry message s.outstanding.first x.acknowledged leads.after.sender (send now most s q told).chunks
+
+-- a whole packet: discards, what is sent again, and new fragments
+abbrev pub PacketsAreSent : Type 0
+PacketsAreSent = InEachState (λ message lifecycle is_interleaved x q s. (now most : ℕ) (told : Emitted (List ℕ)) → Sends message lifecycle is_interleaved x now most s q told)
+
+-- the packet that ignores the congestion window
+abbrev pub FastPacketsAreSent : Type 0
+FastPacketsAreSent = InEachState (λ message lifecycle is_interleaved x q s.
+    (now most : ℕ) → SenderRefines message lifecycle is_interleaved x q (send_fast now most s).outstanding.items × AllCarry message s.outstanding.first x.acknowledged x.sender (resent_fast most s).chunks)
+
+-- ---- rest
+
+-- with nothing queued and no item kept the rules are at rest
+abbrev pub RestIsRest : Type 0
+RestIsRest = InEachState (λ message lifecycle is_interleaved x q s. is_empty q ≡ true → s.outstanding.items.kept ≡ [] → AtRest x)

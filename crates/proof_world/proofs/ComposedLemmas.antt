@@ -1,0 +1,312 @@
+-- A world that a new one was led to is led on by each run, and composes.
+use Rattle.std.proofs.Common.{◌≡◌, ◌⊎◌, inl, inr, ◌^◌, ◌<◌, ℕ, true, false, List, [], ◌∷◌, ◌++◌, length, refl, sym, ap, subst, ◌∙◌, append-nil, append_assoc, arith}
+use Rattle.std.specs.Prelude.{slice_index, All}
+use Rattle.std.specs.List.{list_any}
+use Rattle.std.proofs.lemmas.List.Elements.{All-nil, All-cons, All-head, All-tail, All-append}
+use Rattle.std.proofs.lemmas.Bool.{false_from_ne_true}
+use Rattle.sctp_serial.specs.Messages.{Message}
+use Rattle.sctp_rx.specs.Delivery as orders
+use Rattle.proof_pair.proofs.TraceLemmas.{ends_consistent}
+use Rattle.proof_delivery.specs.Answered.{none_asked}
+use Rattle.proof_delivery.specs.Windows.{no_stamps}
+use Rattle.proof_delivery.specs.Delivery as courses
+use Rattle.proof_delivery.specs.Delivery.{AllAreDone, MessagesAreDelivered, NoResetIsRefused}
+use Rattle.proof_delivery.specs.Ending as courses_then
+use Rattle.proof_delivery.specs.Ending.{MessagesAreDeliveredThen}
+use Rattle.proof_delivery.specs.StreamEpochs.{failed_in}
+use Rattle.spec_world.specs.Observations.{End, A, B, Connect, Shutdown, Entry, Called, BecameReady, ready, handed_out}
+use Rattle.spec_world.specs.World.{World, Action, Runs, other, is_at_rest}
+use Rattle.spec_world.proofs.RunLemmas.{Runs_append}
+use Rattle.proof_world.specs.Traces.{ActionFits, IsInBytes, IsReachable, origin, is_a, end_of}
+use Rattle.proof_world.specs.Consistent.{asks, was_asked, Stands, MayFollow, FollowsTheRules, AreConsistent}
+use Rattle.proof_world.specs.Delivered.{AlongRun, sets_more, offers, emitted_events, given_up_places, ready_places, IsInItsEpoch, Delivers, IsInBounds}
+use Rattle.proof_world.specs.Composed.{WorldsCompose}
+use Rattle.proof_world.proofs.SidesLemmas.{any_more}
+use Rattle.proof_world.proofs.StandingLemmas.{times_more, stands_front}
+use Rattle.proof_world.proofs.WorldLemmas.{Extends, extends_same, in_bytes_before}
+use Rattle.proof_world.proofs.RunsLemmas.{runs_extends}
+use Rattle.proof_world.proofs.ConsistentLemmas.{are_consistent}
+use Rattle.proof_world.proofs.UpToEndLemmas.{IsOver, UpToEnd, up_to_end}
+use Rattle.proof_world.proofs.PrefixLemmas.{one_is_longer}
+use Rattle.proof_tx_refines.specs.Records.{are_distinct}
+use Rattle.proof_world.proofs.PointsLemmas.{IsDeliveredAt}
+use Rattle.proof_world.proofs.LastingLemmas.{first_pair, r, IsKept, trace_delivers, delivered_front, epochs_front, none_failed, none_failed_front, once, rests, prefix, step, prefix_then, none_ready_then, delivered_beside, none_failed_beside, delivered_own, none_failed_own, ends_delivering, b_parted, stands_first, behind_first, logged_first}
+use Rattle.proof_world.proofs.JustifiedLemmas.{worlds_justified}
+use Rattle.proof_protocol.proofs.ToolsLemmas.{not_both}
+
+pub reachable_on : (w v : World) (actions : List Action) → IsReachable w → All ActionFits actions → Runs actions w v → IsInBytes v → IsReachable v
+reachable_on w v actions l fit r small = record {
+  a = l.a;
+  b = l.b;
+  random_a = l.random_a;
+  random_b = l.random_b;
+  word_of_a = l.word_of_a;
+  word_of_b = l.word_of_b;
+  valid_a = l.valid_a;
+  valid_b = l.valid_b;
+  fits_a = l.fits_a;
+  fits_b = l.fits_b;
+  actions = l.actions ++ actions;
+  fit = All-append ActionFits l.actions actions l.fit fit;
+  runs = Runs_append l.actions actions _ w v l.runs r;
+  bytes = small;
+}
+
+one : {X : Type 0} (P : X → Type 0) (x : X) → P x → All P (x ∷ [])
+one P x h = All-cons P x [] h (All-nil P)
+
+-- ---- worlds on the way
+
+-- an earlier world, by the first actions
+abbrev reachable_before : (w u : World) (l : IsReachable w) (front : List Action) → All ActionFits front → Runs front (origin l) u → Extends u w → IsReachable u
+reachable_before w u l front fit r e = record {
+  a = l.a;
+  b = l.b;
+  random_a = l.random_a;
+  random_b = l.random_b;
+  word_of_a = l.word_of_a;
+  word_of_b = l.word_of_b;
+  valid_a = l.valid_a;
+  valid_b = l.valid_b;
+  fits_a = l.fits_a;
+  fits_b = l.fits_b;
+  actions = front;
+  fit = fit;
+  runs = r;
+  bytes = in_bytes_before u w e l.bytes;
+}
+
+-- which kept the rules, where the later one does
+rules_before : (u v : World) → Extends u v → FollowsTheRules v → FollowsTheRules u
+rules_before u v e rules before entry behind is stands =
+    may_before entry
+    (rules before entry (behind ++ e.more) (e.logged ∙ (ap (λ (l : List Entry). l ++ e.more) is ∙ append_assoc before (entry ∷ behind) e.more)) stands)
+  where
+    not_asked : (x : End) → was_asked x v before ≡ false → was_asked x u before ≡ false
+    not_asked A h =
+        false_from_ne_true (was_asked A u before)
+        (λ t. not_both
+        (subst (λ (ps : List (List ℕ)). list_any (asks A ps) before ≡ true) (sym e.b) (any_more A u.b.packets e.sent_b before t)) h)
+    not_asked B h =
+        false_from_ne_true (was_asked B u before)
+        (λ t. not_both
+        (subst (λ (ps : List (List ℕ)). list_any (asks B ps) before ≡ true) (sym e.a) (any_more B u.a.packets e.sent_a before t)) h)
+
+    may_before : (entry : Entry) → MayFollow v before entry → MayFollow u before entry
+    may_before (Called x clock Shutdown answer) h = h
+    may_before (Called x clock Connect answer) (inl h) = inl h
+    may_before (Called x clock Connect answer) (inr h) = inr (not_asked x h)
+    may_before entry h = tt
+
+-- at each world along a run
+along_reachable : (P : World → Type 0) (from : World) (done actions : List Action) (z v : World) → Runs done from z → (r : Runs actions z v) → All ActionFits done → All ActionFits actions
+    → ((front : List Action) (y : World) → All ActionFits front → Runs front from y → Extends y v → P y) → AlongRun P actions z v r
+along_reachable P from done [] z v before r fit_done fit f = f done z fit_done before (subst (Extends z) (sym r) (extends_same z))
+along_reachable P from done (action ∷ actions) z v before r fit_done fit f = (
+  f done z fit_done before (runs_extends (action ∷ actions) z v r),
+  along_reachable P from (done ++ action ∷ []) actions r.0 v (Runs_append done (action ∷ []) from z r.0 before (r.0, r.1, refl)) r.2
+      (All-append ActionFits done (action ∷ []) fit_done (one ActionFits action (All-head ActionFits action actions fit))) (All-tail ActionFits action actions fit) f,
+)
+
+same_or_other : (x y : End) → (x ≡ y) ⊎ (x ≡ other y)
+same_or_other A A = inl refl
+same_or_other B B = inl refl
+same_or_other A B = inr refl
+same_or_other B A = inr refl
+
+-- ---- until an association is over
+
+module _ (w : World) (l : IsReachable w) (rules : FollowsTheRules w) where
+  up : UpToEnd l.actions (origin l) w l.runs
+  up = up_to_end l.actions (origin l) w l.fit l.runs (λ x. refl)
+
+  abbrev u : World
+  u = up.world
+
+  abbrev reachable : IsReachable u
+  reachable = reachable_before w u l up.front up.fit up.before up.later
+
+  u_rules : FollowsTheRules u
+  u_rules = rules_before u w up.later rules
+
+  abbrev Over : Type 0
+  Over = IsOver l.actions (origin l) w l.runs up.front u up.before
+
+  -- each beginning that stands is one of that world, or ends in the event behind it
+  at_early : (P : List Entry → Type 0) (o : Over) → ((early late : List Entry) → u.log ≡ early ++ late → P early)
+      → ((more late : List Entry) → o.next.log ≡ (u.log ++ more) ++ late → Stands (u.log ++ more) → P (u.log ++ more))
+      → (early late : List Entry) → w.log ≡ early ++ late → Stands early → P early
+  at_early P o before within early late is stands =
+      elim (one_is_longer early late u.log up.later.more (sym is ∙ up.later.logged)) [
+        | inl m ↦ before early m.between m.made
+        | inr m ↦ beyond m.between m.made
+      ]
+    where
+      beyond : (more : List Entry) → early ≡ u.log ++ more → P early
+      beyond more made =
+          elim (one_is_longer early late o.next.log o.later.more (sym is ∙ o.later.logged)) [
+            | inl m ↦
+                subst P (sym made)
+                (within more m.between (m.made ∙ ap (λ (l : List Entry). l ++ m.between) made) (subst Stands made stands))
+            | inr m ↦ absurd (o.ends (stands_front o.next.log m.between early m.made stands))
+          ]
+
+  pub handed_then : (x : End) (early late : List Entry) → w.log ≡ early ++ late → Stands early → orders.Extends (handed_out x early) (ready x early)
+  handed_then x early late is stands =
+      elim up.over [
+        | inl same ↦ prefix u reachable u_rules up.stands x early late (ap (λ (z : World). z.log) (sym same) ∙ is)
+        | inr o ↦
+            at_early (λ (log : List Entry). orders.Extends (handed_out x log) (ready x log)) o (prefix u reachable u_rules up.stands x)
+            (λ more behind e st. prefix_then u reachable u_rules up.stands o.action o.next w o.fits o.happens o.ends o.later rules more behind e st x)
+            early late is stands
+      ]
+
+  -- ---- what is delivered
+
+  module _ (k : IsInBounds l.actions (origin l) w l.runs) where
+    kept : IsKept u reachable u_rules up.stands
+    kept = record {
+      windows = up.windows no_stamps k.windows;
+      answered = up.requests none_asked k.resets.answered;
+      few_resets = λ x. k.resets.few x u.log up.later.more up.later.logged up.stands;
+      few = λ x. k.few x u.log up.later.more up.later.logged up.stands;
+      limits = up.none_such sets_more k.limits;
+    }
+
+    abbrev Given : End → Type 0
+    Given x = courses.Delivers (is_a x) (r u reachable u_rules up.stands).trace (first_pair u reachable u_rules up.stands)
+
+    -- a message that becomes ready last
+    abbrev LastIsInItsEpoch : (x : End) → Given x → List Entry → Type 0
+    LastIsInItsEpoch x from log =
+        (before : List Entry) (m : Message) → log ≡ before ++ BecameReady (other x) m ∷ [] → IsInItsEpoch x before m.stream (slice_index from.places (length (ready (other x) before)))
+
+    epochs_before : (x : End) (from : Given x) (early late : List Entry) → u.log ≡ early ++ late → LastIsInItsEpoch x from early
+    epochs_before x from early late e before m is =
+        epochs_front u reachable u_rules up.stands x from before late m
+        (e ∙ (ap (λ (l : List Entry). l ++ late) is ∙ append_assoc before (BecameReady (other x) m ∷ []) late))
+
+    epochs_then : (o : Over) (x : End) (from : Given x) (early late : List Entry) → w.log ≡ early ++ late → Stands early → LastIsInItsEpoch x from early
+    epochs_then o x from =
+        at_early (LastIsInItsEpoch x from) o (epochs_before x from)
+        (λ more behind e st before m is.
+        let there = none_ready_then u reachable u_rules up.stands o.action o.next w o.fits o.happens o.ends o.later rules more behind e st (other x) m before is in
+        epochs_front u reachable u_rules up.stands x from before there.0 m there.1)
+
+    -- it ends no association
+    stands_ready : (x : End) (early : List Entry) (m : Message) → Stands early → Stands (early ++ BecameReady x m ∷ [])
+    stands_ready x early m st y = let sum = times_more y early (BecameReady x m ∷ []) in let before = st y in omega (arith, sum, before)
+
+    given : (x : End) (from : Given x) → ((early late : List Entry) → w.log ≡ early ++ late → Stands early → IsDeliveredAt x from.places early)
+        → ((early late : List Entry) → w.log ≡ early ++ late → Stands early → LastIsInItsEpoch x from early)
+        → Delivers x l.actions (origin l) w l.runs
+    given x from each in_epochs = record {
+      places = from.places;
+      fits = λ early late e st. (each early late e st).fits;
+      epochs = λ early late m e st.
+          in_epochs (early ++ BecameReady (other x) m ∷ []) late (e ∙ sym (append_assoc early (BecameReady (other x) m ∷ []) late)) (stands_ready (other x) early m st) early m refl;
+      skipped = λ early late e st. (each early late e st).skipped;
+      reports = λ early late e st. (each early late e st).reports;
+      once = up.along_run (λ z. are_distinct (given_up_places x z.log) ≡ true) (once u reachable u_rules up.stands x from);
+      rest =
+          up.along_run (λ z. is_at_rest x z ≡ true → AllAreDone (offers x z.log) (given_up_places x z.log) (ready_places x z.log from.places))
+          (rests u reachable u_rules up.stands x from);
+    }
+
+    abbrev whole_front : (x : End) (from : Given x) → IsDeliveredAt x from.places u.log
+    whole_front x from = delivered_front u reachable u_rules up.stands x from u.log [] (sym (append-nil u.log))
+
+    few_then : (o : Over) → length (offers (end_of o.action) (u.log ++ (b_parted u reachable u_rules up.stands o.action o.next w o.fits o.happens o.ends o.later rules).first ∷ [])) < 2 ^ 32
+    few_then o =
+        let first : Entry = (b_parted u reachable u_rules up.stands o.action o.next w o.fits o.happens o.ends o.later rules).first in
+        let behind : List Entry = behind_first u reachable u_rules up.stands o.action o.next w o.fits o.happens o.ends o.later rules in
+        k.few (end_of o.action) (u.log ++ first ∷ []) (behind ++ o.later.more)
+        (o.later.logged
+        ∙ (ap (λ (l : List Entry). l ++ o.later.more) (logged_first u reachable u_rules up.stands o.action o.next w o.fits o.happens o.ends o.later rules)
+        ∙ append_assoc (u.log ++ first ∷ []) behind o.later.more))
+        (stands_first u reachable u_rules up.stands o.action o.next w o.fits o.happens o.ends o.later rules)
+
+    ends_then : MessagesAreDeliveredThen → (o : Over) → courses_then.DeliversThen (is_a (end_of o.action)) (r u reachable u_rules up.stands).trace
+        (step u reachable u_rules up.stands o.action o.next w o.fits o.happens o.ends o.later rules).turn (first_pair u reachable u_rules up.stands)
+    ends_then then o =
+        ends_delivering u reachable u_rules up.stands o.action o.next w o.fits o.happens o.ends o.later rules then kept
+        (o.timely no_stamps k.windows) (o.none_such sets_more k.limits) (few_then o)
+
+    -- by the end whose event it is
+    by_own : MessagesAreDeliveredThen → (o : Over) → Delivers (end_of o.action) l.actions (origin l) w l.runs
+    by_own then o =
+        let from = ends_then then o in
+        given (end_of o.action) from.delivers
+        (at_early (IsDeliveredAt (end_of o.action) from.delivers.places) o (delivered_front u reachable u_rules up.stands (end_of o.action) from.delivers)
+        (λ more behind e st.
+        delivered_own u reachable u_rules up.stands o.action o.next w o.fits o.happens o.ends o.later rules more behind e st from (whole_front (end_of o.action) from.delivers)))
+        (epochs_then o (end_of o.action) from.delivers)
+
+    by_other : MessagesAreDelivered → (o : Over) → Delivers (other (end_of o.action)) l.actions (origin l) w l.runs
+    by_other law o =
+        let from : Given (other (end_of o.action)) = trace_delivers u reachable u_rules up.stands law kept (other (end_of o.action)) in
+        given (other (end_of o.action)) from
+        (at_early (IsDeliveredAt (other (end_of o.action)) from.places) o (delivered_front u reachable u_rules up.stands (other (end_of o.action)) from)
+        (λ more behind e st.
+        delivered_beside u reachable u_rules up.stands o.action o.next w o.fits o.happens o.ends o.later rules more behind e st from.places (whole_front (other (end_of o.action)) from)))
+        (epochs_then o (other (end_of o.action)) from)
+
+    pub delivers_then : MessagesAreDelivered → MessagesAreDeliveredThen → (x : End) → Delivers x l.actions (origin l) w l.runs
+    delivers_then law then x =
+        elim up.over [
+          | inl same ↦
+              let from : Given x = trace_delivers u reachable u_rules up.stands law kept x in
+              given x from (λ early late e st. delivered_front u reachable u_rules up.stands x from early late (ap (λ (z : World). z.log) (sym same) ∙ e))
+              (λ early late e st. epochs_before x from early late (ap (λ (z : World). z.log) (sym same) ∙ e))
+          | inr o ↦
+              elim (same_or_other x (end_of o.action)) [
+                | inl own ↦ subst (λ (y : End). Delivers y l.actions (origin l) w l.runs) (sym own) (by_own then o)
+                | inr beside ↦ subst (λ (y : End). Delivers y l.actions (origin l) w l.runs) (sym beside) (by_other law o)
+              ]
+        ]
+
+    -- ---- what is emitted as failed
+
+    abbrev NoneFails : End → List Entry → Type 0
+    NoneFails x log = failed_in (emitted_events x log) ≡ false
+
+    none_fails_so_far : NoResetIsRefused → (x : End) → NoneFails x u.log
+    none_fails_so_far refuses x = none_failed u reachable u_rules up.stands refuses kept x
+
+    none_fails_before : NoResetIsRefused → (x : End) (early late : List Entry) → u.log ≡ early ++ late → NoneFails x early
+    none_fails_before refuses x early late e = none_failed_front u reachable u_rules up.stands x (none_fails_so_far refuses x) early late e
+
+    own_fails_none : NoResetIsRefused → MessagesAreDeliveredThen → (o : Over) (early late : List Entry) → w.log ≡ early ++ late → Stands early → NoneFails (end_of o.action) early
+    own_fails_none refuses then o =
+        at_early (NoneFails (end_of o.action)) o (none_fails_before refuses (end_of o.action))
+        (λ more behind e st.
+        none_failed_own u reachable u_rules up.stands o.action o.next w o.fits o.happens o.ends o.later rules more behind e st (ends_then then o))
+
+    other_fails_none : NoResetIsRefused → (o : Over) (early late : List Entry) → w.log ≡ early ++ late → Stands early → NoneFails (other (end_of o.action)) early
+    other_fails_none refuses o =
+        at_early (NoneFails (other (end_of o.action))) o (none_fails_before refuses (other (end_of o.action)))
+        (λ more behind e st.
+        none_failed_beside u reachable u_rules up.stands o.action o.next w o.fits o.happens o.ends o.later rules more behind e st (none_fails_so_far refuses (other (end_of o.action))))
+
+    pub none_fails : NoResetIsRefused → MessagesAreDeliveredThen → (x : End) (early late : List Entry) → w.log ≡ early ++ late → Stands early → NoneFails x early
+    none_fails refuses then x early late is stands =
+        elim up.over [
+          | inl same ↦ none_fails_before refuses x early late (ap (λ (z : World). z.log) (sym same) ∙ is)
+          | inr o ↦
+              elim (same_or_other x (end_of o.action)) [
+                | inl own ↦ subst (λ (y : End). NoneFails y early) (sym own) (own_fails_none refuses then o early late is stands)
+                | inr beside ↦ subst (λ (y : End). NoneFails y early) (sym beside) (other_fails_none refuses o early late is stands)
+              ]
+        ]
+
+pub compose : MessagesAreDelivered → NoResetIsRefused → MessagesAreDeliveredThen → WorldsCompose
+compose law refuses then w l = record {
+  consistent = λ rules.
+      along_reachable (λ z. Stands z.log → AreConsistent l.a l.b z) (origin l) [] l.actions (origin l) w refl l.runs (All-nil ActionFits) l.fit
+      (λ front y fit before later stands.
+      are_consistent ends_consistent y (reachable_before w y l front fit before later) (record { follows = rules_before y w later rules; stands = stands }));
+  handed = λ rules. handed_then w l rules;
+  delivers = λ rules k. delivers_then w l rules k law then;
+  none_refused = λ rules k. none_fails w l rules k refuses then;
+  justified = worlds_justified l.a l.b l.random_a l.random_b l.word_of_a l.word_of_b l.actions w l.fits_a l.fits_b l.fit l.runs l.bytes;
+}

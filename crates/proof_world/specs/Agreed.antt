@@ -1,0 +1,32 @@
+-- What an end that is told of a connection knows of the other one: claim and associations are read off the log.
+use Rattle.std.specs.Prelude.{◌≡◌, Bool, Some, List, ◌∷◌, ◌++◌}
+use Rattle.sctp_state.specs.Events.{OnConnected}
+use Rattle.spec_endpoint.specs.Shown.{Association}
+use Rattle.proof_pair.specs.Trace.{EndAction, start}
+use Rattle.proof_pair.specs.Agreement.{no_histories, histories_along, NoneTwice}
+use Rattle.spec_world.specs.Observations.{End, mirrored, held, Entry, Happened}
+use Rattle.spec_world.specs.World.{World, other}
+use Rattle.proof_world.specs.Traces.{IsReachable, AreActionsOf}
+
+-- The end holds an association, and the other end holds or has held the mirrored one: at a beginning of this log.
+pub record IsAgreed (x : End) (log : List Entry) : Type 0 where
+  pub association : Association
+  pub holds : held x log ≡ Some association
+  pub early : List Entry
+  pub late : List Entry
+  pub split : log ≡ early ++ late
+  pub other_held : held (other x) early ≡ Some (mirrored association)
+
+-- At each OnConnected, by what stands before it. An end holds an association from its entry to the next one.
+abbrev pub Agrees : List Entry → Type 0
+Agrees log = (x : End) (before behind : List Entry) → log ≡ before ++ Happened x OnConnected ∷ behind → IsAgreed x before
+
+-- no verification tag is drawn twice, by either end
+abbrev pub DrawsNoTagTwice : {w : World} → IsReachable w → Type 0
+DrawsNoTagTwice l =
+    (turns : List (Bool × EndAction)) → AreActionsOf l.word_of_a l.word_of_b l.actions turns (start l.a l.b l.random_a l.random_b)
+    → NoneTwice (histories_along turns (start l.a l.b l.random_a l.random_b) no_histories)
+
+-- Of each world that a new one was led to, whatever rules the run follows, and behind the end of an association too.
+abbrev pub WorldsAgree : Type 0
+WorldsAgree = (w : World) (l : IsReachable w) → DrawsNoTagTwice l → Agrees w.log

@@ -1,0 +1,25 @@
+-- What holds of each world that a new one was led to, until an end first tells that an association is over.
+use Rattle.std.specs.Prelude.{◌≡◌, ◌^◌, ◌<◌, false, List, ◌++◌, length}
+use Rattle.sctp_rx.specs.Delivery.{Extends}
+use Rattle.proof_delivery.specs.StreamEpochs.{failed_in}
+use Rattle.spec_world.specs.Observations.{End, Entry, ready, handed_out}
+use Rattle.spec_world.specs.World.{World}
+use Rattle.proof_world.specs.Traces.{IsReachable, origin}
+use Rattle.proof_world.specs.Consistent.{Stands, FollowsTheRules, AreConsistent}
+use Rattle.proof_world.specs.Delivered.{AlongRun, offers, emitted_events, Delivers, IsInBounds}
+use Rattle.proof_world.specs.Justified.{AreJustified}
+
+-- Where the rules are followed until then, both ends are joined between events; what was handed out is a prefix of what became
+-- ready, at each point of the log; and as long as the bounds are kept, what became ready fits what was accepted, each message in its
+-- epoch, what was skipped was given up, what was reported is ready, at rest nothing is left, and no end tells that a reset failed.
+-- Records of messages given up are justified, behind that too.
+pub record Composes (w : World) (l : IsReachable w) : Type 0 where
+  pub consistent : FollowsTheRules w → AlongRun (λ u. Stands u.log → AreConsistent l.a l.b u) l.actions (origin l) w l.runs
+  pub handed : FollowsTheRules w → (x : End) (early late : List Entry) → w.log ≡ early ++ late → Stands early → Extends (handed_out x early) (ready x early)
+  pub delivers : FollowsTheRules w → IsInBounds l.actions (origin l) w l.runs → (x : End) → Delivers x l.actions (origin l) w l.runs
+  pub none_refused : FollowsTheRules w → IsInBounds l.actions (origin l) w l.runs → (x : End) (early late : List Entry) → w.log ≡ early ++ late → Stands early
+      → failed_in (emitted_events x early) ≡ false
+  pub justified : (x : End) → length (offers x w.log) < 2 ^ 32 → AreJustified x w.log
+
+abbrev pub WorldsCompose : Type 0
+WorldsCompose = (w : World) (l : IsReachable w) → Composes w l

@@ -1,0 +1,206 @@
+-- Messages that become ready at an end of a world are those that the other end accepted, and what became of the others: premises
+-- and claim are read off the log, the actions and the values that the sockets hold between them.
+use Rattle.std.specs.Prelude.{◌≡◌, ℕ, ◌-◌, ◌^◌, ◌<◌, ◌≤◌, Bool, true, false, Some, None, List, [], ◌∷◌, ◌++◌, length, map, take, replicate, slice_get, slice_index, nat_le, ⊤}
+use Rattle.std.specs.List.{flat_map}
+use Rattle.sctp_serial.specs.Messages.{Message}
+use Rattle.sctp_state.specs.Events.{Event, GivenUp}
+use Rattle.proof_protocol.specs.State.{has}
+use Rattle.proof_tx_refines.specs.Led.{delivered_by}
+use Rattle.proof_tx_refines.specs.Records.{are_distinct}
+use Rattle.proof_delivery.specs.Accepted.{Offer}
+use Rattle.proof_delivery.specs.Answered.{Asked, none_asked, asked_by, IsAnswered, performed_in}
+use Rattle.proof_delivery.specs.Justified.{reset_unless}
+use Rattle.proof_delivery.specs.StreamEpochs.{StreamEpoch, all_open, shut_streams, reopen, performed_of, epochs_of, resets_emitted}
+use Rattle.proof_delivery.specs.Windows.{numbered_count, IsWithin, Stamp, Stamps, no_stamps, IsYoung}
+use Rattle.proof_delivery.specs.Delivery.{Fits, SkippedAreGivenUp, IsReady, AllAreDone}
+use Rattle.spec_world.specs.Observations.{End, A, B, same_end, none_unless, all_unless, Call, Send, SendMany, Reset, SetMaxMessageSize, Answer, Sent, SentMany, AskedReset, unrefused, Entry, Called, Given, Foreign, Timed, Happened, BecameReady, accepted, ready, given_up}
+use Rattle.spec_world.specs.World.{Side, World, Action, CallOf, Give, GiveForeign, AdvanceTime, Runs, other, is_at_rest}
+use Rattle.proof_world.specs.Consistent.{Stands}
+
+-- ---- what was accepted, with the options of its sending
+
+abbrev pub offers_in : Call → Answer → List Offer
+offers_in (Send m options) (Sent None) = record { message = m; options = options } ∷ []
+offers_in (SendMany ms options) (SentMany refused) = map (λ (m : Message). record { message = m; options = options }) (unrefused 0 ms refused)
+offers_in call answer = []
+
+abbrev pub offers_by : End → Entry → List Offer
+offers_by x (Called y clock call answer) = all_unless (same_end x y) (offers_in call answer)
+offers_by x entry = []
+
+abbrev pub offers : End → List Entry → List Offer
+offers x log = flat_map (offers_by x) log
+
+-- ---- what an end told, but for packets
+
+abbrev pub happened_by : End → Entry → List (Event (List ℕ))
+happened_by x (Happened y event) = none_unless (same_end x y) event
+happened_by x entry = []
+
+abbrev pub emitted_events : End → List Entry → List (Event (List ℕ))
+emitted_events x log = flat_map (happened_by x) log
+
+-- ---- the epochs of its streams
+
+-- the streams that a call resets: its answer is Ok
+abbrev pub reset_in : Call → Answer → List ℕ
+reset_in (Reset streams) (AskedReset refused) = reset_unless refused streams
+reset_in call answer = []
+
+abbrev pub reset_by : End → Entry → List ℕ
+reset_by x (Called y clock call answer) = all_unless (same_end x y) (reset_in call answer)
+reset_by x entry = []
+
+-- such a call shuts those that are open, and they are open again once the end tells that they were reset
+abbrev pub epochs_after : End → Entry → (ℕ → StreamEpoch) → ℕ → StreamEpoch
+epochs_after x entry f = reopen (performed_of (happened_by x entry)) (shut_streams (reset_by x entry) f)
+
+-- the epoch of each message that was accepted, in their order
+abbrev pub offer_epochs : End → List Entry → (ℕ → StreamEpoch) → List ℕ
+offer_epochs x [] f = []
+offer_epochs x (entry ∷ log) f = epochs_of (offers_by x entry) f ++ offer_epochs x log (epochs_after x entry f)
+
+-- ---- what became of them, as the end that accepted them tells
+
+-- the places of those that it gave up
+abbrev pub given_up_places : End → List Entry → List ℕ
+given_up_places x log = map (λ (g : GivenUp). g.number) (given_up x log)
+
+abbrev pub reported_by : End → Entry → List ℕ
+reported_by x (Happened y event) = all_unless (same_end x y) (delivered_by event)
+reported_by x entry = []
+
+-- the lifecycle ids of those that it told as delivered
+abbrev pub reported : End → List Entry → List ℕ
+reported x log = flat_map (reported_by x) log
+
+-- ---- windows along a run
+
+abbrev pub SideIsWithin : Side → Type 0
+SideIsWithin side = IsWithin side.socket.endpoint_state.state side.socket.endpoint_state.context.queue
+
+pub record AreWithin (w : World) : Type 0 where
+  pub a : SideIsWithin w.a
+  pub b : SideIsWithin w.b
+
+-- how many fragments each end has numbered
+abbrev pub stamp : World → Stamp
+stamp w = record { a = numbered_count w.a.socket.endpoint_state.state; b = numbered_count w.b.socket.endpoint_state.state }
+
+-- those of all packets: as many as both ends had numbered before the event that emitted it
+abbrev pub stamp_packets : (before after : Side) → Stamp → List Stamp → List Stamp
+stamp_packets x y s stamps = stamps ++ replicate (length y.packets - length x.packets) s
+
+abbrev pub stamps_after : (w u : World) → Stamps → Stamps
+stamps_after w u s = record { of_a = stamp_packets w.a u.a (stamp w) s.of_a; of_b = stamp_packets w.b u.b (stamp w) s.of_b }
+
+-- no packet is given once an end has numbered 2^30 fragments since
+abbrev pub IsTimely : Action → (now : Stamp) → Stamps → Type 0
+IsTimely (Give packet A) now s = (old : Stamp) → slice_get s.of_b packet ≡ Some old → IsYoung now old
+IsTimely (Give packet B) now s = (old : Stamp) → slice_get s.of_a packet ≡ Some old → IsYoung now old
+IsTimely (CallOf x call) now s = ⊤
+IsTimely (GiveForeign x bytes) now s = ⊤
+IsTimely (AdvanceTime x time) now s = ⊤
+
+-- at each world that stands
+abbrev pub KeepsWindows : (actions : List Action) (w v : World) → Runs actions w v → Stamps → Type 0
+KeepsWindows [] w v r s = Stands w.log → AreWithin w
+KeepsWindows (action ∷ actions) w v r s =
+    (Stands w.log → AreWithin w × IsTimely action (stamp w) s) × KeepsWindows actions r.0 v r.2 (stamps_after w r.0 s)
+
+-- no such action from a world that stands
+abbrev pub KeepsFrom : (Action → Bool) → (actions : List Action) (w v : World) → Runs actions w v → Type 0
+KeepsFrom is_such [] w v r = ⊤
+KeepsFrom is_such (action ∷ actions) w v r = (Stands w.log → is_such action ≡ false) × KeepsFrom is_such actions r.0 v r.2
+
+abbrev pub asks_more : Call → Bool
+asks_more (SetMaxMessageSize bytes) = nat_le (2 ^ 32) bytes
+asks_more call = false
+
+-- a limit of messages' sizes that doesn't fit 32 bits
+abbrev pub sets_more : Action → Bool
+sets_more (CallOf x call) = asks_more call
+sets_more action = false
+
+-- ---- requests to reset streams, along a run
+
+-- how many fragments each end had numbered before the event that started the request which waits
+abbrev pub asked_after : (w u : World) → Asked → Asked
+asked_after w u k = record {
+  a = asked_by w.a.socket.endpoint_state.state u.a.socket.endpoint_state.state k.a;
+  b = asked_by w.b.socket.endpoint_state.state u.b.socket.endpoint_state.state k.b;
+}
+
+pub record AreAnswered (w : World) (k : Asked) : Type 0 where
+  pub a : IsAnswered w.a.socket.endpoint_state.state k.a
+  pub b : IsAnswered w.b.socket.endpoint_state.state k.b
+
+-- at each world that stands
+abbrev pub KeepsRequests : (actions : List Action) (w v : World) → Runs actions w v → Asked → Type 0
+KeepsRequests [] w v r k = Stands w.log → AreAnswered w k
+KeepsRequests (action ∷ actions) w v r k = (Stands w.log → AreAnswered w k) × KeepsRequests actions r.0 v r.2 (asked_after w r.0 k)
+
+-- none waits too long, and not too many are told as performed
+pub record KeepsResets (actions : List Action) (w v : World) (runs : Runs actions w v) : Type 0 where
+  pub answered : KeepsRequests actions w v runs none_asked
+  pub few : (x : End) (early late : List Entry) → v.log ≡ early ++ late → Stands early → performed_in (emitted_events x early) < 2 ^ 32 - 1
+
+-- ---- each message becomes ready in its epoch
+
+-- the first entry of an event
+abbrev pub begins_event : Entry → Bool
+begins_event (Called x clock call answer) = true
+begins_event (Given x clock packet) = true
+begins_event (Foreign x clock bytes) = true
+begins_event (Timed x clock now) = true
+begins_event entry = false
+
+-- Of a message on this stream, which end x accepted at this place, and which becomes ready next behind this log: its epoch lies between
+-- the resets of the stream that the other end told before this event, as before any other so far, and those that it told up to here.
+pub record IsInItsEpoch (x : End) (log : List Entry) (stream place : ℕ) : Type 0 where
+  pub epoch : ℕ
+  pub its_own : slice_get (offer_epochs x log all_open) place ≡ Some epoch
+  pub least : (before behind : List Entry) (first : Entry) → log ≡ before ++ first ∷ behind → begins_event first ≡ true
+      → resets_emitted stream (emitted_events (other x) before) ≤ epoch
+  pub most : epoch ≤ resets_emitted stream (emitted_events (other x) log)
+
+-- ---- the law
+
+-- at each world of a run, between its events
+abbrev pub AlongRun : (World → Type 0) → (actions : List Action) (w v : World) → Runs actions w v → Type 0
+AlongRun P [] w v r = P w
+AlongRun P (action ∷ actions) w v r = P w × AlongRun P actions r.0 v r.2
+
+-- of the places of what becomes ready, those of what is ready so far
+abbrev pub ready_places : End → List Entry → (places : List ℕ) → List ℕ
+ready_places x log places = take (length (ready (other x) log)) places
+
+-- Of what end x accepted: one list of places serves all along the log, until an end first tells that an association is over. At each
+-- point its beginning fits; each message becomes ready in its epoch; an ordered message that isn't ready, while a later one of its
+-- stream is, was given up; and each id that x told as delivered is that of a ready message. Between events, no two records of x name
+-- the same message; and where nothing is queued at x and no item kept, each message is ready or was given up.
+pub record Delivers (x : End) (actions : List Action) (w v : World) (runs : Runs actions w v) : Type 0 where
+  pub places : List ℕ
+  pub fits : (early late : List Entry) → v.log ≡ early ++ late → Stands early → Fits (offers x early) (ready (other x) early) (ready_places x early places)
+  pub epochs : (early late : List Entry) (m : Message) → v.log ≡ early ++ BecameReady (other x) m ∷ late → Stands early
+      → IsInItsEpoch x early m.stream (slice_index places (length (ready (other x) early)))
+  pub skipped : (early late : List Entry) → v.log ≡ early ++ late → Stands early → SkippedAreGivenUp (offers x early) (given_up_places x early) (ready_places x early places)
+  pub reports : (early late : List Entry) → v.log ≡ early ++ late → Stands early → (id : ℕ) → has id (reported x early) ≡ true
+      → IsReady (offers x early) (ready_places x early places) id
+  pub once : AlongRun (λ u. Stands u.log → are_distinct (given_up_places x u.log) ≡ true) actions w v runs
+  pub rest : AlongRun (λ u. Stands u.log → is_at_rest x u ≡ true → AllAreDone (offers x u.log) (given_up_places x u.log) (ready_places x u.log places)) actions w v runs
+
+-- what a run has to keep until then
+pub record IsInBounds (actions : List Action) (w v : World) (runs : Runs actions w v) : Type 0 where
+  pub windows : KeepsWindows actions w v runs no_stamps
+  pub resets : KeepsResets actions w v runs
+  pub few : (x : End) (early late : List Entry) → v.log ≡ early ++ late → Stands early → length (offers x early) < 2 ^ 32
+  pub limits : KeepsFrom sets_more actions w v runs
+
+-- the messages of the offers are those accepted
+abbrev pub OffersAreAccepted : Type 0
+OffersAreAccepted = (x : End) (log : List Entry) → accepted x log ≡ map (λ (o : Offer). o.message) (offers x log)
+
+-- each of them has an epoch
+abbrev pub OffersHaveEpochs : Type 0
+OffersHaveEpochs = (x : End) (log : List Entry) → length (offer_epochs x log all_open) ≡ length (offers x log)

@@ -1,0 +1,72 @@
+-- Two ends whose packets can all be read back, as the chunks that were put together.
+use Rattle.std.specs.Prelude.{◌≡◌, ℕ, true, IfSome, List, [], slice_get, All}
+use Rattle.rand_core.specs.Stream.{Stream}
+use Rattle.sctp_wire.specs.declared.checksum.Policy.{Policy}
+use Rattle.sctp_packet.specs.Grammar.{Each}
+use Rattle.sctp_packet.specs.Packet.{PacketTree, Accepts, lets_through}
+use Rattle.sctp_state.specs.Options.{Options}
+use Rattle.spec_endpoint.specs.Wire.{writing, field_of}
+use Rattle.proof_endpoint.specs.Mapped.{Carried, as_written}
+use Rattle.proof_endpoint.specs.ReceivedBack.{as_received}
+use Rattle.proof_endpoint.specs.Sound.{OptionsFit, IsSound, ArgumentFits}
+use Rattle.proof_endpoint.specs.ReadBack.{ReadsBack, AreBytes}
+use Rattle.spec_world.specs.World.{Side, World, Action, CallOf, Give, GiveForeign, AdvanceTime, Happens, Runs, fresh_world, side_of, other, step_of}
+
+-- ---- packets
+
+-- A list of chunks, each of which can be read back, and its bytes. Every reader whose policy lets the checksum through accepts
+-- them as this list, its chunks as they are carried; and as nothing else.
+pub record CanBeReadBack (word_of : List ℕ → ℕ) (bytes : List ℕ) : Type 0 where
+  pub packet : Carried
+  pub spelled : bytes ≡ as_written word_of packet
+  pub reads_back : ReadsBack 65535 packet
+  pub read : (policy : Policy) (word : ℕ) → lets_through policy word (field_of word_of packet.header packet.is_summed packet.chunks) ≡ true
+      → Accepts policy word bytes (as_received word_of packet)
+  pub alone : (policy : Policy) (word : ℕ) (p : PacketTree) → Accepts policy word bytes p → p ≡ as_received word_of packet
+
+-- ---- a world
+
+-- an end that is sound, of whose tellings none is left, and whose packets can be read back
+pub record IsReadableSide (word_of : List ℕ → ℕ) (side : Side) : Type 0 where
+  pub own : side.socket.endpoint_state.context.pack ≡ writing word_of
+  pub sound : IsSound side.socket
+  pub taken : side.socket.endpoint_state.context.emitted.events ≡ []
+  pub packets : All (CanBeReadBack word_of) side.packets
+
+pub record IsReadable (word_of_a word_of_b : List ℕ → ℕ) (w : World) : Type 0 where
+  pub a : IsReadableSide word_of_a w.a
+  pub b : IsReadableSide word_of_b w.b
+
+-- ---- what happens
+
+-- Only what a call hands in has to fit: packets of the other end do, and bytes from elsewhere are told where they are refused.
+abbrev pub ActionFits : Action → Type 0
+ActionFits (CallOf x call) = ArgumentFits (step_of call)
+ActionFits (Give packet x) = Unit {0}
+ActionFits (GiveForeign x bytes) = Unit {0}
+ActionFits (AdvanceTime x now) = Unit {0}
+
+-- A packet that is given is bytes, as all that a program has are.
+abbrev pub GivesBytes : World → Action → Type 0
+GivesBytes w (CallOf x call) = Unit {0}
+GivesBytes w (Give packet x) = IfSome (slice_get (side_of (other x) w).packets packet) AreBytes
+GivesBytes w (GiveForeign x bytes) = Unit {0}
+GivesBytes w (AdvanceTime x now) = Unit {0}
+
+-- ---- the laws
+
+abbrev pub NewWorldsAreReadable : Type 0
+NewWorldsAreReadable =
+    (options_a options_b : Options) (words_a words_b : Stream) (word_of_a word_of_b : List ℕ → ℕ) → OptionsFit options_a → OptionsFit options_b
+    → IsReadable word_of_a word_of_b (fresh_world options_a options_b words_a words_b word_of_a word_of_b)
+
+abbrev pub EachActionKeepsWorldsReadable : Type 0
+EachActionKeepsWorldsReadable =
+    (word_of_a word_of_b : List ℕ → ℕ) (action : Action) (w v : World) → Happens action w v → ActionFits action → GivesBytes w action
+    → IsReadable word_of_a word_of_b w → IsReadable word_of_a word_of_b v
+
+-- packets stay where they are, so those that were given are bytes where they are at the end
+abbrev pub RunsKeepWorldsReadable : Type 0
+RunsKeepWorldsReadable =
+    (word_of_a word_of_b : List ℕ → ℕ) (actions : List Action) (w v : World) → Runs actions w v → Each ActionFits actions → Each (GivesBytes v) actions
+    → IsReadable word_of_a word_of_b w → IsReadable word_of_a word_of_b v

@@ -1,0 +1,71 @@
+//! A send queue and a sender that others take up.
+
+use crate::Answer;
+use crate::bench::sender as fresh;
+use crate::line::Line;
+use sctp_serial::SocketTime;
+use sctp_state::api::handover::HandoverSocketState;
+use sctp_state::{Options, SocketHandoverState};
+use sctp_tx::RetransmissionQueue;
+use sctp_tx_queue::SendQueue;
+use std::alloc::{AllocError, Global};
+use std::mem;
+
+fn write(
+    queue: &SendQueue,
+    sender: &RetransmissionQueue,
+    now: SocketTime,
+    state: &mut SocketHandoverState,
+) -> Result<(), AllocError> {
+    state.socket_state = HandoverSocketState::Connected;
+    state.my_verification_tag = 1;
+    state.peer_verification_tag = 1;
+    queue.add_to_handover_state(now, state)?;
+    sender.add_to_handover_state(now, state)
+}
+
+fn take_up(
+    queue: &mut SendQueue,
+    sender: &mut RetransmissionQueue,
+    now: SocketTime,
+    state: &SocketHandoverState,
+) -> Result<Answer, AllocError> {
+    if !state.is_valid() {
+        return Ok(Answer::Refused);
+    }
+    if let HandoverSocketState::Closed = state.socket_state {
+        return Ok(Answer::Refused);
+    }
+    queue.restore_from_state(now, state)?;
+    sender.restore_from_state(now, state)?;
+    Ok(Answer::Done)
+}
+
+fn pass_on(
+    alloc: Global,
+    queue: &mut SendQueue,
+    sender: &mut RetransmissionQueue,
+    now: SocketTime,
+    state: &mut SocketHandoverState,
+) -> Result<Answer, AllocError> {
+    write(queue, sender, now, state)?;
+    drop(mem::replace(queue, SendQueue::new(alloc, &Options::default())));
+    drop(mem::replace(sender, fresh(alloc)));
+    take_up(queue, sender, now, state)
+}
+
+/// `hand-over MOMENT`: another queue and another sender take these ones' record up, and the commands go on with them.
+pub fn answer(
+    alloc: Global,
+    queue: &mut SendQueue,
+    sender: &mut RetransmissionQueue,
+    line: &Line<'_>,
+) -> Result<Answer, AllocError> {
+    if line.verb != "hand-over" {
+        return Ok(Answer::Unknown);
+    }
+    let mut state = SocketHandoverState::empty(alloc);
+    let answer = pass_on(alloc, queue, sender, line.moment(0), &mut state);
+    drop(state);
+    answer
+}

@@ -1,8 +1,0 @@
-use Rattle.sctp_course.proofs.OpensLemmas.{one_opens, both_open}
-use Rattle.sctp_course.proofs.courses_open.Goals as goal
-
-pub returns-clause-one : goal.returns-clause-one
-returns-clause-one c = one_opens
-
-pub returns-clause-both : goal.returns-clause-both
-returns-clause-both c = both_open

@@ -1,5 +1,0 @@
-use Rattle.sctp_delivery.proofs.SkippingLemmas.{one_skipped}
-use Rattle.sctp_delivery.proofs.a_message_is_skipped.Goals as goal
-
-pub returns : goal.returns
-returns c = one_skipped

@@ -1,5 +1,0 @@
-use Rattle.sctp_draws.proofs.TimeLemmas.{advance_named}
-use Rattle.sctp_draws.proofs.moments_are_named.Goals as goal
-
-pub returns : goal.returns
-returns c = record { moments = λ now n are pack s k. advance_named n are pack now s k }

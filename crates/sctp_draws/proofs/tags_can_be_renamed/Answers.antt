@@ -1,6 +1,0 @@
-use Rattle.sctp_draws.proofs.RenamedLemmas.{renames}
-use Rattle.sctp_draws.proofs.CookieLemmas.{cookies_named}
-use Rattle.sctp_draws.proofs.tags_can_be_renamed.Goals as goal
-
-pub returns : goal.returns
-returns c = record { pairs = renames; cookies = cookies_named }

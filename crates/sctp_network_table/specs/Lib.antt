@@ -1,3 +1,0 @@
-pub mod Judge
-pub mod World
-pub mod FirstRun

@@ -1,6 +1,0 @@
-use Rattle.std.proofs.Common.{take}
-use Rattle.sctp_outstanding.specs.Messages.{Finds}
-use Rattle.sctp_outstanding.proofs.kept.list_all.Given as goal
-
-abbrev pub invariant-loop-place : goal.invariant-loop-place
-invariant-loop-place l = Finds l.messages (take l.place l.items.items)

@@ -1,9 +1,0 @@
-use Rattle.std.proofs.Common.{◌≡◌}
-use Rattle.sctp_outstanding.specs.Losses.{first_step, expire_below}
-use Rattle.sctp_outstanding.proofs.outstanding_data.OutstandingData.expire_outstanding_chunks.Given as goal
-
-abbrev pub invariant-loop-place : goal.invariant-loop-place
-invariant-loop-place l = record {
-  items : l.self ≡ record l.initial.self { items = (expire_below l.now l.place (first_step l.initial.self.items l.initial.events)).items };
-  told : l.events ≡ (expire_below l.now l.place (first_step l.initial.self.items l.initial.events)).told;
-}

@@ -1,6 +1,0 @@
-use Rattle.sctp_rules.specs.Reassembly.{KeyOf, next_of, key_of, below_of}
-use Rattle.sctp_rules.proofs.ReceiverRowLemmas.{key_laws, late_chunk}
-use Rattle.sctp_rules.proofs.receiver.late_chunk.Goals as goal
-
-pub returns : goal.returns
-returns c = record { leads = λ message mixed x q t k s within unseen late settled. late_chunk (KeyOf mixed) (next_of mixed) message mixed x k (key_of mixed message x.sender) (below_of mixed) (key_laws message mixed x k) q s t within unseen late settled }

@@ -1,5 +1,0 @@
-use Rattle.sctp_rules.proofs.LiftedLemmas.{wire_chunk_row}
-use Rattle.sctp_rules.proofs.receiver.wire_chunk_comes.Goals as goal
-
-pub returns : goal.returns
-returns c = record { leads = wire_chunk_row }

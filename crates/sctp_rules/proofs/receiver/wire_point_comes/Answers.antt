@@ -1,5 +1,0 @@
-use Rattle.sctp_rules.proofs.LiftedLemmas.{wire_point_row}
-use Rattle.sctp_rules.proofs.receiver.wire_point_comes.Goals as goal
-
-pub returns : goal.returns
-returns c = record { leads = wire_point_row }

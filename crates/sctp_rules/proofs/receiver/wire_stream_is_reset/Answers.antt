@@ -1,5 +1,0 @@
-use Rattle.sctp_rules.proofs.WireResetLemmas.{wire_reset_row}
-use Rattle.sctp_rules.proofs.receiver.wire_stream_is_reset.Goals as goal
-
-pub returns : goal.returns
-returns c = record { leads = wire_reset_row }

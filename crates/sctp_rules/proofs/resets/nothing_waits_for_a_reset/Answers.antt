@@ -1,5 +1,0 @@
-use Rattle.sctp_rules.proofs.EpochLawsLemmas.{nothing_waits}
-use Rattle.sctp_rules.proofs.resets.nothing_waits_for_a_reset.Goals as goal
-
-pub returns : goal.returns
-returns c = record { waits = λ message mixed x r k sent ahead. nothing_waits message mixed x k r sent ahead }

@@ -1,8 +1,0 @@
-use Rattle.sctp_rules.proofs.ShowsLemmas.{leave_all}
-use Rattle.sctp_rules.proofs.sender.sack_comes.Goals as goal
-
-pub returns-clause-may : goal.returns-clause-may
-returns-clause-may c message mixed x n point sent within = (leave_all message mixed n point x sent within).0
-
-pub returns-clause-leads : goal.returns-clause-leads
-returns-clause-leads c message mixed x n point sent within = (leave_all message mixed n point x sent within).1

@@ -1,5 +1,0 @@
-use Rattle.sctp_rules.proofs.SenderRowLemmas.{sent_given_up}
-use Rattle.sctp_rules.proofs.sender.sent_is_given_up.Goals as goal
-
-pub returns : goal.returns
-returns c = record { sends = λ message mixed x queue p k q within live gone. sent_given_up message mixed x k queue q p within live gone }

@@ -1,5 +1,0 @@
-use Rattle.sctp_rules.proofs.SenderRowLemmas.{unsent_dropped}
-use Rattle.sctp_rules.proofs.sender.unsent_is_given_up.Goals as goal
-
-pub returns : goal.returns
-returns c = record { sends = λ message mixed x queue p w k q here waits. unsent_dropped message mixed x k queue q p w here waits }

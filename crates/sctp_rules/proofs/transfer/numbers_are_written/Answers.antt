@@ -1,6 +1,0 @@
-use Rattle.sctp_rules.specs.State.{start}
-use Rattle.sctp_rules.proofs.WrittenLemmas.{own_along, own_at_start}
-use Rattle.sctp_rules.proofs.transfer.numbers_are_written.Goals as goal
-
-pub returns : goal.returns
-returns c = record { along = λ message mixed events happens. own_along message mixed events start happens own_at_start }

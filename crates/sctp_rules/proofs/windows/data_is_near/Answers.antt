@@ -1,5 +1,0 @@
-use Rattle.sctp_rules.proofs.WindowsLemmas.{data_window}
-use Rattle.sctp_rules.proofs.windows.data_is_near.Goals as goal
-
-pub returns : goal.returns
-returns c = record { near = λ message mixed x f t n k w front below kept timely. data_window message mixed x k w f t n front below kept timely }

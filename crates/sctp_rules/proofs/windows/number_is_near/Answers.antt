@@ -1,5 +1,0 @@
-use Rattle.sctp_rules.proofs.WindowsLemmas.{number_window}
-use Rattle.sctp_rules.proofs.windows.number_is_near.Goals as goal
-
-pub returns : goal.returns
-returns c = record { near = λ message mixed x t k w kept within ordered. number_window message mixed x k w t kept within ordered }

@@ -1,5 +1,0 @@
-use Rattle.sctp_rx_rules.proofs.RowLemmas.{first_receives}
-use Rattle.sctp_rx_rules.proofs.new_values_are_the_start.Goals as goal
-
-pub returns : goal.returns
-returns c = record { receives = λ message mixed shift options max_size. first_receives message mixed shift options max_size }

@@ -1,5 +1,0 @@
-use Rattle.sctp_rx_rules.proofs.RowLemmas.{sender_goes}
-use Rattle.sctp_rx_rules.proofs.sender_goes_on.Goals as goal
-
-pub returns : goal.returns
-returns c = record { receives = λ message mixed base shift x e handed t r kept may same shown. sender_goes message mixed shift base x handed t r shown e kept may same }

@@ -1,7 +1,0 @@
-use Rattle.std.proofs.Common.{◌≡◌, ◌++◌}
-use Rattle.std.specs.Prelude.{map}
-use Rattle.sctp_send_queue.specs.Resets.{ready}
-use Rattle.sctp_send_queue.proofs.send_queue.streams.ready_streams.Given as goal
-
-abbrev pub invariant-loop-id : goal.invariant-loop-id
-invariant-loop-id l = map (λ id. id.0) l.ids.items ++ ready l.id-iterator ≡ ready l.streams.entries

@@ -1,8 +1,0 @@
-use Rattle.sctp_table_laws.proofs.SoundHeardLemmas.{accepted_fit, emitted_fit}
-use Rattle.sctp_table_laws.proofs.arguments_fit.Goals as goal
-
-pub returns-clause-accepted : goal.returns-clause-accepted
-returns-clause-accepted c = accepted_fit
-
-pub returns-clause-emitted : goal.returns-clause-emitted
-returns-clause-emitted c = emitted_fit

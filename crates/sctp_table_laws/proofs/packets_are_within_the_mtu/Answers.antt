@@ -1,8 +1,0 @@
-use Rattle.sctp_table_laws.proofs.LawsLemmas.{stays_within, sends_at_most}
-use Rattle.sctp_table_laws.proofs.packets_are_within_the_mtu.Goals as goal
-
-pub returns-clause-chunks : goal.returns-clause-chunks
-returns-clause-chunks c = stays_within
-
-pub returns-clause-bytes : goal.returns-clause-bytes
-returns-clause-bytes c = sends_at_most

@@ -1,7 +1,0 @@
-pub mod Mapped
-pub mod HeardBack
-pub mod FirstRun
-pub mod Sound
-pub mod ReadBack
-pub mod Lifecycles
-pub mod HandoverRoundTrip

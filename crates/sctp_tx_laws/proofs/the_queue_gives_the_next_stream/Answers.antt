@@ -1,5 +1,0 @@
-use Rattle.sctp_tx_laws.proofs.ScheduledLemmas.{by_scheduler, idle_where_none}
-use Rattle.sctp_tx_laws.proofs.the_queue_gives_the_next_stream.Goals as goal
-
-pub returns : goal.returns
-returns c = record { next = λ now size q told. by_scheduler now size q told; waits = λ now size q told none. idle_where_none now size q told none }

@@ -1,0 +1,68 @@
+-- A record brings the items back.
+use Rattle.std.proofs.Common.{◌≡◌, ℕ, suc, ◌+◌, ◌-◌, ◌%◌, ◌<◌, cond, Option, Some, None, List, [], ◌∷◌, length, refl, ap, ◌∙◌, arith}
+use Rattle.std.specs.Prelude.{option_map, unwrap_or}
+use Rattle.sctp_serial.specs.Serial.{serial_difference}
+use Rattle.sctp_serial.specs.Unwrapped.{origin, words, wire}
+use Rattle.sctp_state.specs.Handover.{Transmission}
+use Rattle.sctp_state.specs.HandoverTimes.{ms_from, moment_from, lifecycle_from}
+use Rattle.sctp_tx_outstanding.specs.declared.item.ItemState.{ItemState}
+use Rattle.sctp_tx_outstanding.specs.declared.item.ItemState.TheVariants.{InFlight, Missing, Queued, QueuedFast, Acked, GivenUp}
+use Rattle.sctp_tx_outstanding.specs.Item.{Item, slow, waits, has_nack, has_ack, is_given_up}
+use Rattle.sctp_tx_outstanding.specs.Items.{Outstanding}
+use Rattle.sctp_tx_outstanding.specs.Handover.{item_record, item_from, items_from, item_records, reports_in, handed_over, restore}
+use Rattle.sctp_tx_outstanding.specs.Again.{moment_again, lifecycle_again, item_again, items_again, ComesBack}
+
+expires_is : (now : ℕ) (o : Option ℕ) → option_map (moment_from now) (option_map (ms_from now) o) ≡ option_map (moment_again now) o
+expires_is now None = refl
+expires_is now (Some t) = refl
+
+lifecycle_is : (o : Option ℕ) → lifecycle_from (unwrap_or o 0) ≡ lifecycle_again o
+lifecycle_is None = refl
+lifecycle_is (Some id) = refl
+
+state_is : (s : ItemState) → cond (has_ack s) Acked (cond (is_given_up s) GivenUp (cond (waits s) Queued (cond (has_nack s) Missing InFlight))) ≡ slow s
+state_is InFlight = refl
+state_is Missing = refl
+state_is Queued = refl
+state_is QueuedFast = refl
+state_is Acked = refl
+state_is GivenUp = refl
+
+item_is : (now : ℕ) (i : Item) → item_from now (item_record now i) ≡ item_again now i
+item_is now i =
+    ap (λ x. with x (lifecycle_from (unwrap_or i.lifecycle 0)) (cond (has_ack i.state) Acked (cond (is_given_up i.state) GivenUp (cond (waits i.state) Queued (cond (has_nack i.state) Missing InFlight))))) (expires_is now i.expires)
+    ∙ ap (λ x. with (option_map (moment_again now) i.expires) x (cond (has_ack i.state) Acked (cond (is_given_up i.state) GivenUp (cond (waits i.state) Queued (cond (has_nack i.state) Missing InFlight))))) (lifecycle_is i.lifecycle)
+    ∙ ap (λ x. with (option_map (moment_again now) i.expires) (lifecycle_again i.lifecycle) x) (state_is i.state)
+  where
+    with : Option ℕ → Option ℕ → ItemState → Item
+    with expires lifecycle state = record (item_again now i) { expires = expires; lifecycle = lifecycle; state = state; reports = reports_in state }
+
+items_are : (now : ℕ) (is : List Item) → items_from now (item_records now is) ≡ items_again now is
+items_are now [] = refl
+items_are now (i ∷ is) = ap (λ x. x ∷ items_from now (item_records now is)) (item_is now i) ∙ ap (λ xs. item_again now i ∷ xs) (items_are now is)
+
+count_is : (now : ℕ) (is : List Item) → length (items_from now (item_records now is)) ≡ length is
+count_is now [] = refl
+count_is now (i ∷ is) = ap suc (count_is now is)
+
+tsn_is : (first other n : ℕ) → first ≡ other → first < words
+    → wire words other (origin - 1 + serial_difference words ((wire words first n + 1) % words) other) ≡ wire words first n
+tsn_is first other n same small = omega (arith, same, small)
+
+next_is : (first other n m count more : ℕ) → first ≡ other → more ≡ count → wire words other m ≡ wire words first n
+    → wire words other (m + 1 + more) ≡ wire words first (n + 1 + count)
+next_is first other n m count more same as_many tsn = omega (arith, same, as_many, tsn)
+
+least_is : (first other n : ℕ) → origin - 1 + serial_difference words ((wire words first n + 1) % words) other + 1 < origin + words
+least_is first other n = omega arith
+
+pub comes_back : (now : ℕ) (tx : Transmission) (d other : Outstanding) → d.first ≡ other.first → d.first < words → ComesBack d (restore now (handed_over now d tx) other) now
+comes_back now tx d other same small =
+    let n = d.items.acked in
+    let m : ℕ = origin - 1 + serial_difference words ((wire words d.first n + 1) % words) other.first in
+    record {
+      items = items_are now d.items.kept;
+      cumulative = tsn_is d.first other.first n same small;
+      next = next_is d.first other.first n m (length d.items.kept) _ same (count_is now d.items.kept) (tsn_is d.first other.first n same small);
+      least = least_is d.first other.first n;
+    }

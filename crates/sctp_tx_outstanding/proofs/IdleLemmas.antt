@@ -1,0 +1,108 @@
+-- Items that don't wait to be sent again have no turn.
+use Rattle.std.proofs.Common.{◌≡◌, ℕ, zero, suc, ◌+◌, ◌-◌, ◌<◌, ◌≤◌, Bool, true, false, cond, Option, Some, None, List, [], ◌∷◌, refl, ap, sym, subst, ◌∙◌, arith}
+use Rattle.std.specs.Prelude.{◌&&◌, nat_le, nat_lt, slice_get}
+use Rattle.std.specs.List.{All}
+use Rattle.std.proofs.lemmas.Bool.Decides.{nat_tests}
+use Rattle.std.proofs.lemmas.List.Elements.{All-head, All-tail, All-cons, All-nil}
+use Rattle.sctp_tx_outstanding.specs.declared.item.ItemState.{ItemState}
+use Rattle.sctp_tx_outstanding.specs.declared.item.ItemState.TheVariants.{InFlight, Missing, Queued, QueuedFast, Acked, GivenUp}
+use Rattle.sctp_tx_outstanding.specs.declared.outstanding_data.Turn.TheVariants.{Send, PassOver, Leave}
+use Rattle.sctp_tx_outstanding.specs.Item.{Item, waits, waits_fast, should_be_retransmitted, chunk_size}
+use Rattle.sctp_tx_outstanding.specs.Resending.{Resent, size_in, allowance, IsFull, turn_of, take_item, step_at, resent_below}
+use Rattle.sctp_tx_outstanding.specs.Waiting.{waits_at, NoneWaits}
+
+idle : (k : ℕ) (is : List Item) (i : Item) → waits_at k is ≡ false → slice_get is k ≡ Some i → waits i.state ≡ false
+idle k [] i h e = absurd (cc)
+idle zero (j ∷ is) i h e =
+    let same : j ≡ i = cc in
+    subst (λ (x : Item). waits x.state ≡ false) same h
+idle (suc k) (j ∷ is) i h e = idle k is i h e
+
+not_fast : (s : ItemState) → waits s ≡ false → waits_fast s ≡ false
+not_fast InFlight h = refl
+not_fast Missing h = refl
+not_fast Queued h = refl
+not_fast QueuedFast h = absurd (cc)
+not_fast Acked h = refl
+not_fast GivenUp h = refl
+
+idle_turn : (fast : Bool) (k : ℕ) (x : Resent) (i : Item) → waits i.state ≡ false → take_item (turn_of fast (Some i) x) k x ≡ x
+idle_turn true k x i h = ap (λ b. take_item (cond b (cond (nat_le (size_in x i) x.room) Send PassOver) Leave) k x) (not_fast i.state h)
+idle_turn false k x i h = ap (λ b. take_item (cond (b && nat_le (size_in x i) (allowance x)) Send Leave) k x) h
+
+idle_step : (fast : Bool) (k : ℕ) (x : Resent) → waits_at k x.outstanding.items.kept ≡ false → step_at fast k x ≡ x
+idle_step fast k x h = at-item (slice_get x.outstanding.items.kept k) refl where
+  at-item : (o : Option Item) → slice_get x.outstanding.items.kept k ≡ o → take_item (turn_of fast o x) k x ≡ x
+  at-item None e = refl
+  at-item (Some i) e = idle_turn fast k x i (idle k x.outstanding.items.kept i h e)
+
+pub none_less : (from to less : ℕ) (is : List Item) → less ≤ to → NoneWaits from to is → NoneWaits from less is
+none_less from to less is le h = λ k above below. h k above (omega (arith, below, le))
+
+idle_more : (fast : Bool) (x : Resent) (more p n : ℕ) → n ≡ more + p → NoneWaits p n (resent_below fast p x).outstanding.items.kept → resent_below fast n x ≡ resent_below fast p x
+idle_more fast x zero p n e h =
+    let same : n ≡ p = omega (arith, e) in
+    ap (λ k. resent_below fast k x) same
+idle_more fast x (suc more) p n e h =
+    let is_next : n ≡ suc (more + p) = omega (arith, e) in
+    let is = (resent_below fast p x).outstanding.items.kept in
+    let ih = idle_more fast x more p (more + p) refl (none_less p n (more + p) is (omega (arith, e)) h) in
+    ap (λ k. resent_below fast k x) is_next ∙ ap (λ (y : Resent). step_at fast (more + p) y) ih ∙ idle_step fast (more + p) (resent_below fast p x) (h (more + p) (omega arith) (omega (arith, e)))
+
+-- up to the next item that waits nothing changes
+pub idle_on : (fast : Bool) (x : Resent) (p n : ℕ) → p ≤ n → NoneWaits p n (resent_below fast p x).outstanding.items.kept → resent_below fast n x ≡ resent_below fast p x
+idle_on fast x p n le h = idle_more fast x (n - p) p n (omega (arith, le)) h
+
+pub idle_at : (fast : Bool) (x now : Resent) (p n : ℕ) → now ≡ resent_below fast p x → p ≤ n → NoneWaits p n now.outstanding.items.kept → now ≡ resent_below fast n x
+idle_at fast x now p n e le h =
+    e ∙ sym (idle_on fast x p n le (subst (λ (y : Resent). NoneWaits p n y.outstanding.items.kept) e h))
+
+-- ---- a packet into which no item that waits fits
+
+abbrev IsTooLong : Resent → Item → Type 0
+IsTooLong x i = should_be_retransmitted i ≡ true → allowance x < size_in x i
+
+too_long : (x : Resent) (k : ℕ) (is : List Item) (i : Item) → All (IsTooLong x) is → slice_get is k ≡ Some i → IsTooLong x i
+too_long x k [] i h e = absurd (cc)
+too_long x zero (j ∷ is) i h e =
+    let same : j ≡ i = cc in
+    subst (λ (y : Item). IsTooLong x y) same (All-head (IsTooLong x) j is h)
+too_long x (suc k) (j ∷ is) i h e = too_long x k is i (All-tail (IsTooLong x) j is h) e
+
+stays_out : (b : Bool) (allowed size : ℕ) → (b ≡ true → allowed < size) → (b && nat_le size allowed) ≡ false
+stays_out true allowed size h = let less : allowed < size = h refl in grind (arith, nat_tests, less)
+stays_out false allowed size h = refl
+
+full_step : (k : ℕ) (x : Resent) → IsFull x → step_at false k x ≡ x
+full_step k x h = at-item (slice_get x.outstanding.items.kept k) refl where
+  at-item : (o : Option Item) → slice_get x.outstanding.items.kept k ≡ o → take_item (turn_of false o x) k x ≡ x
+  at-item None e = refl
+  at-item (Some i) e = ap (λ b. take_item (cond b Send Leave) k x) (stays_out (should_be_retransmitted i) (allowance x) (size_in x i) (too_long x k x.outstanding.items.kept i h e))
+
+full_more : (x : Resent) (more p n : ℕ) → n ≡ more + p → IsFull (resent_below false p x) → resent_below false n x ≡ resent_below false p x
+full_more x zero p n e h =
+    let same : n ≡ p = omega (arith, e) in
+    ap (λ k. resent_below false k x) same
+full_more x (suc more) p n e h =
+    let is_next : n ≡ suc (more + p) = omega (arith, e) in
+    ap (λ k. resent_below false k x) is_next ∙ ap (λ (y : Resent). step_at false (more + p) y) (full_more x more p (more + p) refl h) ∙ full_step (more + p) (resent_below false p x) h
+
+full_on : (x now : Resent) (p n : ℕ) → now ≡ resent_below false p x → p ≤ n → IsFull now → now ≡ resent_below false n x
+full_on x now p n e le h = e ∙ sym (full_more x (n - p) p n (omega (arith, le)) (subst (λ (y : Resent). IsFull y) e h))
+
+pub full_at : (fast : Bool) (x now : Resent) (p n : ℕ) → fast ≡ false → now ≡ resent_below fast p x → p ≤ n → IsFull now → now ≡ resent_below fast n x
+full_at true x now p n f e le h = absurd (cc)
+full_at false x now p n f e le h = full_on x now p n e le h
+
+full_all : (x : Resent) (m : Bool) (size : ℕ) (is : List Item) → m ≡ x.outstanding.items.is_interleaved → allowance x < size → All (λ i. should_be_retransmitted i ≡ true → size ≤ chunk_size m i) is → All (IsTooLong x) is
+full_all x m size [] e less h = All-nil (IsTooLong x)
+full_all x m size (i ∷ is) e less h =
+    let here = All-head (λ j. should_be_retransmitted j ≡ true → size ≤ chunk_size m j) i is h in
+    All-cons (IsTooLong x) i is (λ t. omega (arith, less, here t, ap (λ b. chunk_size b i) e)) (full_all x m size is e less (All-tail (λ j. should_be_retransmitted j ≡ true → size ≤ chunk_size m j) i is h))
+
+pub less_than : (a b size : ℕ) → a ≡ b → nat_lt a size ≡ true → b < size
+less_than a b size e h = grind (arith, nat_tests, e, h)
+
+-- what is known of the least one is enough
+pub is_full_lem : (x : Resent) (size : ℕ) → allowance x < size → All (λ i. should_be_retransmitted i ≡ true → size ≤ chunk_size x.outstanding.items.is_interleaved i) x.outstanding.items.kept → IsFull x
+is_full_lem x size less h = full_all x x.outstanding.items.is_interleaved size x.outstanding.items.kept refl less h

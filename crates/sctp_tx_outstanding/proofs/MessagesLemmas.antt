@@ -1,0 +1,328 @@
+-- The items of each message, as items come, change and leave.
+use Rattle.std.proofs.Common.{◌≡◌, ℕ, zero, suc, ◌+◌, ◌-◌, ◌*◌, ◌^◌, ◌<◌, ◌≤◌, ◌==◌, Bool, true, false, cond, List, [], ◌∷◌, ◌++◌, Option, Some, length, take, drop, slice_index_or, refl, ap, sym, subst, ◌∙◌, inl, inr, arith}
+use Rattle.std.specs.Prelude.{◌&&◌, map}
+use Rattle.std.proofs.lemmas.Bool.{cases_lt}
+use Rattle.std.proofs.lemmas.Bool.Decides.{nat_tests}
+use Rattle.sctp_chunk.specs.Chunk.{FragmentTree}
+use Rattle.sctp_tx_outstanding.specs.declared.kept.Change.{Change}
+use Rattle.sctp_tx_outstanding.specs.declared.kept.Change.TheVariants as changes
+use Rattle.sctp_tx_outstanding.specs.Item.{Item, is_of, abandon}
+use Rattle.sctp_tx_outstanding.specs.Change.{apply_change}
+use Rattle.sctp_tx_outstanding.specs.Items.{change_at, lay_down, is_of_at, later_of, later_at, without_payload}
+use Rattle.sctp_tx_outstanding.specs.Waiting.{by_number, is_listed}
+use Rattle.sctp_tx_outstanding.specs.Messages.{NoneIsOf, is_of_as, key_of, AreKeys, Finds}
+use Rattle.sctp_tx_outstanding.specs.declared.messages.Messages.{Messages}
+use Rattle.sctp_tx_outstanding.proofs.LaidLemmas.{laid}
+use Rattle.sctp_tx_outstanding.proofs.WaitingLemmas.{as_from, as_below, as_at, as_never, as_next, as_alike, as_turned, here, ahead, behind, further, not_same, not_below, is_same_lem, equal}
+
+-- ---- keys
+
+same_message : (m j n l : ℕ) → n < 2 ^ 32 → l < 2 ^ 32 → key_of m n ≡ key_of j l → m ≡ j
+same_message m j n l a b e = omega (arith, a, b, e)
+
+same_number : (m j n l : ℕ) → n < 2 ^ 32 → l < 2 ^ 32 → key_of m n ≡ key_of j l → n ≡ l
+same_number m j n l a b e = omega (arith, a, b, e)
+
+both_same : (a b c : Bool) → (a ≡ true → b ≡ true) → (a ≡ true → c ≡ true) → (b ≡ true → c ≡ true → a ≡ true) → a ≡ (b && c)
+both_same true b c p q r = sym (ap (λ x. x && c) (p refl) ∙ q refl)
+both_same false true true p q r = r refl refl
+both_same false true false p q r = refl
+both_same false false c p q r = refl
+
+same_key : (m j n l : ℕ) → n < 2 ^ 32 → l < 2 ^ 32 → (key_of m n == key_of j l) ≡ ((m == j) && (n == l))
+same_key m j n l a b =
+    both_same (key_of m n == key_of j l) (m == j) (n == l) (λ t. is_same_lem j m (same_message m j n l a b (equal (key_of j l) (key_of m n) t))) (λ t. is_same_lem l n (same_number m j n l a b (equal (key_of j l) (key_of m n) t)))
+    (λ p q. is_same_lem (key_of j l) (key_of m n) (joined (equal j m p) (equal l n q)))
+  where
+    joined : m ≡ j → n ≡ l → key_of m n ≡ key_of j l
+    joined p q = omega (arith, p, q)
+
+-- ---- one comes
+
+of_end : (message p : ℕ) (is : List Item) → length is ≡ p → (k : ℕ) → is_of_at message k is ≡ cond (k == p) false (is_of_at message k is)
+of_end message p [] e k = nowhere (k == p)
+  where
+    nowhere : (c : Bool) → false ≡ cond c false false
+    nowhere true = refl
+    nowhere false = refl
+of_end message zero (i ∷ is) e k = absurd (omega (arith, e))
+of_end message (suc p) (i ∷ is) e zero = ahead p false (is_of message i)
+of_end message (suc p) (i ∷ is) e (suc k) = further k p false (is_of_at message k is) (is_of_at message k is) (of_end message p is (omega (arith, e)) k)
+
+of_more : (message p : ℕ) (is : List Item) (i : Item) → length is ≡ p → (k : ℕ) → is_of_at message k (is ++ i ∷ []) ≡ cond (k == p) (is_of message i) (is_of_at message k is)
+of_more message zero [] i e zero = here (is_of message i) (is_of message i) false refl
+of_more message zero [] i e (suc k) = behind k (is_of message i) false
+of_more message (suc p) [] i e k = absurd (omega (arith, e))
+of_more message zero (x ∷ is) i e k = absurd (omega (arith, e))
+of_more message (suc p) (x ∷ is) i e zero = ahead p (is_of message i) (is_of message x)
+of_more message (suc p) (x ∷ is) i e (suc k) = further k p (is_of message i) (is_of_at message k is) (is_of_at message k (is ++ i ∷ [])) (of_more message p is i (omega (arith, e)) k)
+
+came : (a b w x y : Bool) → w ≡ a → x ≡ y → y ≡ cond b false y → cond (a && b) true x ≡ cond b w y
+came true true w x y e f h = sym e
+came true false w x y e f h = f
+came false true w x y e f h = f ∙ (h ∙ sym e)
+came false false w x y e f h = f
+
+turn_round : (m j : ℕ) → (j == m) ≡ (m == j)
+turn_round m j = elim (cases_lt m j) [
+  | inl less ↦ not_same m j less ∙ sym (not_below j m less)
+  | inr le ↦ elim (cases_lt j m) [
+    | inl more ↦ not_below m j more ∙ sym (not_same j m more)
+    | inr ge ↦ is_same_lem m j (omega (arith, le, ge)) ∙ sym (is_same_lem j m (omega (arith, le, ge)))
+  ]
+]
+
+pub taken : (keys news : List ℕ) (first number : ℕ) (is : List Item) (i : Item) (place message : ℕ) → length is ≡ place → number ≡ first + place → number < 2 ^ 32 → i.number ≡ message
+    → ((key : ℕ) → is_listed news key ≡ cond (key == key_of message number) true (is_listed keys key)) → AreKeys keys first is → AreKeys news first (is ++ i ∷ [])
+taken keys news first number is i place message e at small of put known = λ m n few.
+    put (key_of m n) ∙ (ap (λ b. cond b true (is_listed keys (key_of m n))) (same_key m message n number few small)
+    ∙ (came (m == message) (n == number) (is_of m i) (is_listed keys (key_of m n)) (is_of_as first m n is) (ap (λ j. j == m) of ∙ turn_round m message) (known m n few)
+    (as_turned first place false (λ k. is_of_at m k is) (λ k. is_of_at m k is) (of_end m place is e) n ∙ ap (λ l. cond (n == l) false (is_of_as first m n is)) (sym at))
+    ∙ (ap (λ l. cond (n == l) (is_of m i) (is_of_as first m n is)) at
+    ∙ sym (as_turned first place (is_of m i) (λ k. is_of_at m k is) (λ k. is_of_at m k (is ++ i ∷ [])) (of_more m place is i e) n))))
+
+-- ---- the first one leaves
+
+out : (a b w : Bool) → b ≡ true → w ≡ a → cond (a && b) false w ≡ false
+out true true w h e = refl
+out false true w h e = e
+out a false w h e = cc
+
+stays : (a b w : Bool) → b ≡ false → cond (a && b) false w ≡ w
+stays true true w h = cc
+stays false true w h = refl
+stays true false w h = refl
+stays false false w h = refl
+
+pub left : (keys news : List ℕ) (first next : ℕ) (i : Item) (is : List Item) (message : ℕ) → next ≡ first + 1 → first < 2 ^ 32 → i.number ≡ message
+    → ((key : ℕ) → is_listed news key ≡ cond (key == key_of message first) false (is_listed keys key)) → AreKeys keys first (i ∷ is) → AreKeys news next is
+left keys news first next i is message e small of put known = λ m n few.
+    put (key_of m n) ∙ (ap (λ b. cond b false (is_listed keys (key_of m n))) (same_key m message n first few small)
+    ∙ (leaves m n few ∙ ap (λ l. is_of_as l m n is) (sym e)))
+  where
+    at-first : (m n : ℕ) → n < 2 ^ 32 → n ≡ first → is_listed keys (key_of m n) ≡ (m == message)
+    at-first m n few same =
+        let there : n ≡ first + 0 = omega (arith, same) in
+        known m n few ∙ (ap (λ l. by_number first (λ k. is_of_at m k (i ∷ is)) l) there ∙ (as_at first (λ k. is_of_at m k (i ∷ is)) 0 ∙ (ap (λ j. j == m) of ∙ turn_round m message)))
+
+    leaves : (m n : ℕ) → n < 2 ^ 32 → cond ((m == message) && (n == first)) false (is_listed keys (key_of m n)) ≡ is_of_as (first + 1) m n is
+    leaves m n few = elim (cases_lt first n) [
+      | inl more ↦ stays (m == message) (n == first) (is_listed keys (key_of m n)) (not_same first n more) ∙ (known m n few ∙ sym (as_next first (λ k. is_of_at m k (i ∷ is)) n more))
+      | inr le ↦ none m n few le ∙ sym (as_below (first + 1) (λ k. is_of_at m k is) n (omega (arith, le)))
+    ] where
+      none : (m n : ℕ) → n < 2 ^ 32 → n ≤ first → cond ((m == message) && (n == first)) false (is_listed keys (key_of m n)) ≡ false
+      none m n few le = elim (cases_lt n first) [
+        | inl less ↦ stays (m == message) (n == first) (is_listed keys (key_of m n)) (not_below first n less) ∙ (known m n few ∙ as_below first (λ k. is_of_at m k (i ∷ is)) n less)
+        | inr ge ↦
+            let same : n ≡ first = omega (arith, le, ge) in
+            out (m == message) (n == first) (is_listed keys (key_of m n)) (is_same_lem first n same) (at-first m n few same)
+      ]
+
+-- ---- none is kept
+
+of_none : (message k : ℕ) → is_of_at message k [] ≡ false
+of_none message k = refl
+
+pub none_kept : (keys : List ℕ) (first : ℕ) → keys ≡ [] → AreKeys keys first []
+none_kept keys first e = λ m n few. ap (λ ks. is_listed ks (key_of m n)) e ∙ sym (as_never first (λ k. is_of_at m k []) (λ k. refl) n)
+
+-- ---- items change
+
+same_id : (x : Change) (i : Item) → (apply_change x i).number ≡ i.number
+same_id changes.Ack i = refl
+same_id changes.Uncover i = refl
+same_id (changes.Nack at_once fast) i = refl
+same_id changes.Retransmit i = refl
+same_id changes.MissFast i = refl
+same_id changes.Abandon i = refl
+
+of_changed : (message : ℕ) (x : Change) (p : ℕ) (is : List Item) (k : ℕ) → is_of_at message k (change_at p (apply_change x) is) ≡ is_of_at message k is
+of_changed message x p [] k = refl
+of_changed message x zero (i ∷ is) zero = ap (λ n. n == message) (same_id x i)
+of_changed message x zero (i ∷ is) (suc k) = refl
+of_changed message x (suc p) (i ∷ is) zero = refl
+of_changed message x (suc p) (i ∷ is) (suc k) = of_changed message x p is k
+
+pub finds_changed : (f : Messages) (x : Change) (p : ℕ) (is : List Item) → Finds f is → Finds f (change_at p (apply_change x) is)
+finds_changed f x p is known = λ yes m n few. known yes m n few ∙ sym (as_alike f.first (λ k. is_of_at m k is) (λ k. is_of_at m k (change_at p (apply_change x) is)) (of_changed m x p is) n)
+
+laid_id : (b : Bool) (i : Item) → (cond b (abandon i) i).number ≡ i.number
+laid_id true i = refl
+laid_id false i = refl
+
+of_laid : (message number : ℕ) (is : List Item) (k : ℕ) → is_of_at message k (map (lay_down number) is) ≡ is_of_at message k is
+of_laid message number [] k = refl
+of_laid message number (i ∷ is) zero = ap (λ n. n == message) (laid_id (is_of number i) i)
+of_laid message number (i ∷ is) (suc k) = of_laid message number is k
+
+pub finds_laid : (f : Messages) (number : ℕ) (is : List Item) → Finds f is → Finds f (map (lay_down number) is)
+finds_laid f number is known = λ yes m n few. known yes m n few ∙ sym (as_alike f.first (λ k. is_of_at m k is) (λ k. is_of_at m k (map (lay_down number) is)) (of_laid m number is) n)
+
+-- ---- one more is known, and the first one leaves
+
+pub finds_next : (old new : Messages) (is : List Item) (k : ℕ) (i : Item) → k < length is → i ≡ slice_index_or is k i
+    → ((js : List Item) (j : Item) → length js ≡ k → j.number ≡ i.number → Finds old js → Finds new (js ++ j ∷ [])) → Finds old (take k is) → Finds new (take (k + 1) is)
+finds_next old new is k i h at adds known = subst (λ (xs : List Item). Finds new xs) (sym (ap (λ n. take n is) plus-one ∙ one-more is k h at)) (adds (take k is) i (all is k (omega (arith, h))) refl known)
+  where
+    plus-one : k + 1 ≡ suc k
+    plus-one = omega arith
+
+    all : (is : List Item) (k : ℕ) → k ≤ length is → length (take k is) ≡ k
+    all is zero h = refl
+    all [] (suc k) h = absurd (omega (arith, h))
+    all (x ∷ is) (suc k) h = ap (λ n. suc n) (all is k (omega (arith, h)))
+
+    one-more : (is : List Item) (k : ℕ) → k < length is → i ≡ slice_index_or is k i → take (suc k) is ≡ take k is ++ i ∷ []
+    one-more [] k h at = absurd (omega (arith, h))
+    one-more (x ∷ is) zero h at = ap (λ y. y ∷ []) (sym at)
+    one-more (x ∷ is) (suc k) h at = ap (λ ys. x ∷ ys) (one-more is k (omega (arith, h)) at)
+
+take_all : (is : List Item) (k : ℕ) → length is ≤ k → take k is ≡ is
+take_all [] zero h = refl
+take_all [] (suc k) h = refl
+take_all (x ∷ is) zero h = absurd (omega (arith, h))
+take_all (x ∷ is) (suc k) h = ap (λ ys. x ∷ ys) (take_all is k (omega (arith, h)))
+
+pub finds_past : (f : Messages) (is : List Item) (k : ℕ) → length is ≤ k → Finds f (take k is) → Finds f (take (k + 1) is)
+finds_past f is k h known = subst (λ (xs : List Item). Finds f xs) (take_all is k h ∙ sym (take_all is (k + 1) (omega (arith, h)))) known
+
+pub finds_all : (f : Messages) (is : List Item) (k : ℕ) → length is ≤ k → Finds f (take k is) → Finds f is
+finds_all f is k h known = subst (λ (xs : List Item). Finds f xs) (take_all is k h) known
+
+pub finds_empty : (f : Messages) (is : List Item) → length is ≤ 0 → Finds f is → Finds f (drop 1 is)
+finds_empty f [] h known = known
+finds_empty f (x ∷ is) h known = absurd (omega (arith, h))
+
+pub finds_left : (old new : Messages) (is : List Item) (i : Item) → 0 < length is → i ≡ slice_index_or is 0 i → ((j : Item) (js : List Item) → j.number ≡ i.number → Finds old (j ∷ js) → Finds new js) → Finds old is → Finds new (drop 1 is)
+finds_left old new [] i h at leaves known = absurd (omega (arith, h))
+finds_left old new (x ∷ is) i h at leaves known = leaves x is (ap (λ (y : Item). y.number) (sym at)) known
+
+-- ---- from one of a message to the next
+
+pub none_of : (keys : List ℕ) (first message from to : ℕ) (is : List Item) → AreKeys keys first is → first + to ≤ 2 ^ 32
+    → ((key : ℕ) → key_of message (first + from) ≤ key → key < key_of message (first + to) → is_listed keys key ≡ false) → NoneIsOf message from to is
+none_of keys first message from to is known few none = λ k above below.
+    sym (as_at first (λ j. is_of_at message j is) k) ∙ (sym (known message (first + k) (omega (arith, below, few))) ∙ none (key_of message (first + k)) (omega (arith, above)) (omega (arith, below)))
+
+pub none_here : (message place : ℕ) (is : List Item) → NoneIsOf message place place is
+none_here message place is = λ k above below. absurd (omega (arith, above, below))
+
+none_less : (message from to less : ℕ) (is : List Item) → less ≤ to → NoneIsOf message from to is → NoneIsOf message from less is
+none_less message from to less is le h = λ k above below. h k above (omega (arith, below, le))
+
+-- ---- a message is laid down
+
+yes : (b : Bool) (i j : Item) → b ≡ true → i ≡ cond b i j
+yes true i j h = refl
+yes false i j h = cc
+
+no : (b : Bool) (i j : Item) → b ≡ false → j ≡ cond b i j
+no true i j h = cc
+no false i j h = refl
+
+pub laid_of : (number k : ℕ) (is : List Item) → is_of_at number k is ≡ true → change_at k (λ i. abandon i) is ≡ change_at k (lay_down number) is
+laid_of number k [] h = refl
+laid_of number zero (i ∷ is) h = ap (λ j. j ∷ is) (yes (is_of number i) (abandon i) i h)
+laid_of number (suc k) (i ∷ is) h = ap (λ js. i ∷ js) (laid_of number k is h)
+
+pub laid_not : (number k : ℕ) (is : List Item) → is_of_at number k is ≡ false → is ≡ change_at k (lay_down number) is
+laid_not number k [] h = refl
+laid_not number zero (i ∷ is) h = ap (λ j. j ∷ is) (no (is_of number i) (abandon i) i h)
+laid_not number (suc k) (i ∷ is) h = ap (λ js. i ∷ js) (laid_not number k is h)
+
+laid_one : (number k : ℕ) (is : List Item) → change_at k (lay_down number) (laid k number is) ≡ laid (suc k) number is
+laid_one number zero [] = refl
+laid_one number zero (i ∷ is) = refl
+laid_one number (suc k) [] = refl
+laid_one number (suc k) (i ∷ is) = ap (λ js. lay_down number i ∷ js) (laid_one number k is)
+
+laid_past : (number k : ℕ) (is : List Item) → is_of_at number k is ≡ false → laid (suc k) number is ≡ laid k number is
+laid_past number zero [] h = refl
+laid_past number zero (i ∷ is) h = ap (λ j. j ∷ is) (sym (no (is_of number i) (abandon i) i h))
+laid_past number (suc k) [] h = refl
+laid_past number (suc k) (i ∷ is) h = ap (λ js. lay_down number i ∷ js) (laid_past number k is h)
+
+laid_more : (number more p n : ℕ) (is : List Item) → n ≡ more + p → NoneIsOf number p n is → laid n number is ≡ laid p number is
+laid_more number zero p n is e h =
+    let same : n ≡ p = omega (arith, e) in
+    ap (λ k. laid k number is) same
+laid_more number (suc more) p n is e h =
+    let is_next : n ≡ suc (more + p) = omega (arith, e) in
+    ap (λ k. laid k number is) is_next ∙ (laid_past number (more + p) is (h (more + p) (omega arith) (omega (arith, e))) ∙ laid_more number more p (more + p) is refl (none_less number p n (more + p) is (omega (arith, e)) h))
+
+-- up to the next one of the message nothing changes
+pub laid_on : (number p n : ℕ) (is now : List Item) → now ≡ laid p number is → p ≤ n → NoneIsOf number p n is → now ≡ laid n number is
+laid_on number p n is now e le h = e ∙ sym (laid_more number (n - p) p n is (omega (arith, le)) h)
+
+pub laid_next : (number k : ℕ) (is now after : List Item) → now ≡ laid k number is → after ≡ change_at k (lay_down number) now → after ≡ laid (k + 1) number is
+laid_next number k is now after e step =
+    let one : suc k ≡ k + 1 = omega arith in
+    step ∙ (ap (λ js. change_at k (lay_down number) js) e ∙ (laid_one number k is ∙ ap (λ n. laid n number is) one))
+
+pub laid_done : (number p n : ℕ) (is now : List Item) → now ≡ laid p number is → length is ≤ n → p ≤ length is → NoneIsOf number p n is → now ≡ map (lay_down number) is
+laid_done number p n is now e le within h =
+    laid_on number p (length is) is now e within (none_less number p n (length is) is le h) ∙ all is
+  where
+    all : (is : List Item) → laid (length is) number is ≡ map (lay_down number) is
+    all [] = refl
+    all (i ∷ is) = ap (λ js. lay_down number i ∷ js) (all is)
+
+-- ---- its last fragment
+
+pub later_here : (number k : ℕ) (found : Option FragmentTree) (is : List Item) (i : Item) → k < length is → i ≡ slice_index_or is k i → later_at number k found is ≡ cond (is_of number i) (Some (without_payload i.fragment)) found
+later_here number k found [] i h at = absurd (omega (arith, h))
+later_here number zero found (x ∷ is) i h at = ap (λ (y : Item). cond (is_of number y) (Some (without_payload y.fragment)) found) (sym at)
+later_here number (suc k) found (x ∷ is) i h at = later_here number k found is i (omega (arith, h)) at
+
+pub found_at : (number k : ℕ) (found : Option FragmentTree) (is : List Item) (i : Item) → k < length is → i ≡ slice_index_or is k i → is_of number i ≡ true → Some (without_payload i.fragment) ≡ later_at number k found is
+found_at number k found is i h at t = sym (later_here number k found is i h at ∙ ap (λ b. cond b (Some (without_payload i.fragment)) found) t)
+
+pub found_not : (number k : ℕ) (found : Option FragmentTree) (is : List Item) (i : Item) → k < length is → i ≡ slice_index_or is k i → is_of number i ≡ false → found ≡ later_at number k found is
+found_not number k found is i h at t = sym (later_here number k found is i h at ∙ ap (λ b. cond b (Some (without_payload i.fragment)) found) t)
+
+pub later_beyond : (number k : ℕ) (found : Option FragmentTree) (is : List Item) → length is ≤ k → later_at number k found is ≡ found
+later_beyond number k found [] h = refl
+later_beyond number zero found (x ∷ is) h = absurd (omega (arith, h))
+later_beyond number (suc k) found (x ∷ is) h = later_beyond number k found is (omega (arith, h))
+
+pub later_next : (number k : ℕ) (found : Option FragmentTree) (is : List Item) → later_of number (later_at number k found is) (drop (suc k) is) ≡ later_of number found (drop k is)
+later_next number k found [] = gone k
+  where
+    gone : (k : ℕ) → later_of number found (drop (suc k) []) ≡ later_of number found (drop k [])
+    gone zero = refl
+    gone (suc k) = refl
+later_next number zero found (i ∷ is) = refl
+later_next number (suc k) found (i ∷ is) = later_next number k found is
+
+later_past : (number k : ℕ) (found : Option FragmentTree) (is : List Item) → is_of_at number k is ≡ false → later_of number found (drop (suc k) is) ≡ later_of number found (drop k is)
+later_past number zero found [] h = refl
+later_past number (suc k) found [] h = refl
+later_past number zero found (i ∷ is) h = ap (λ b. later_of number (cond b (Some (without_payload i.fragment)) found) is) (sym h)
+later_past number (suc k) found (i ∷ is) h = later_past number k found is h
+
+later_more : (number more p n : ℕ) (found : Option FragmentTree) (is : List Item) → n ≡ more + p → NoneIsOf number p n is → later_of number found (drop n is) ≡ later_of number found (drop p is)
+later_more number zero p n found is e h =
+    let same : n ≡ p = omega (arith, e) in
+    ap (λ k. later_of number found (drop k is)) same
+later_more number (suc more) p n found is e h =
+    let is_next : n ≡ suc (more + p) = omega (arith, e) in
+    ap (λ k. later_of number found (drop k is)) is_next
+    ∙ (later_past number (more + p) found is (h (more + p) (omega arith) (omega (arith, e))) ∙ later_more number more p (more + p) found is refl (none_less number p n (more + p) is (omega (arith, e)) h))
+
+pub later_on : (number p n : ℕ) (found : Option FragmentTree) (is : List Item) → p ≤ n → NoneIsOf number p n is → later_of number found (drop n is) ≡ later_of number found (drop p is)
+later_on number p n found is le h = later_more number (n - p) p n found is (omega (arith, le)) h
+
+pub later_step : (number p n : ℕ) (found next whole : Option FragmentTree) (is : List Item) → p ≤ n → NoneIsOf number p n is → next ≡ later_at number n found is → later_of number found (drop p is) ≡ whole
+    → later_of number next (drop (n + 1) is) ≡ whole
+later_step number p n found next whole is le h e before =
+    let one : n + 1 ≡ suc n = omega arith in
+    ap (λ k. later_of number next (drop k is)) one ∙ (ap (λ f. later_of number f (drop (suc n) is)) e ∙ (later_next number n found is ∙ (later_on number p n found is le h ∙ before)))
+
+pub later_done : (number p n : ℕ) (found : Option FragmentTree) (is : List Item) → p ≤ n → length is ≤ n → NoneIsOf number p n is → found ≡ later_of number found (drop p is)
+later_done number p n found is le all h = sym (ap (λ (xs : List Item). later_of number found xs) (past is n all)) ∙ later_on number p n found is le h
+  where
+    past : (is : List Item) (n : ℕ) → length is ≤ n → drop n is ≡ []
+    past [] zero h = refl
+    past [] (suc n) h = refl
+    past (i ∷ is) zero h = absurd (omega (arith, h))
+    past (i ∷ is) (suc n) h = past is n (omega (arith, h))

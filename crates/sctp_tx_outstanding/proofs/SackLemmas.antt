@@ -1,0 +1,97 @@
+-- A walk through items and blocks.
+use Rattle.std.proofs.Common.{◌≡◌, ℕ, zero, suc, ◌+◌, ◌<◌, ◌≤◌, Bool, true, false, cond, List, [], ◌∷◌, length, drop, slice_index_or, min, refl, ap, sym, subst, ◌∙◌, arith}
+use Rattle.std.specs.Prelude.{nat_le, slice_get}
+use Rattle.std.proofs.Math.Seq.{drop-cons}
+use Rattle.std.proofs.lemmas.Bool.Decides.{nat_tests}
+use Rattle.sctp_chunk.specs.declared.sack.GapAckBlock.{GapAckBlock}
+use Rattle.sctp_chunk.specs.Covered.{is_covered, AreRuns}
+use Rattle.sctp_tx_outstanding.specs.Item.{Item}
+use Rattle.sctp_tx_outstanding.specs.Items.{Kept, change_at}
+use Rattle.sctp_tx_outstanding.specs.Sack.{ack_or_nack, is_new_at, new_bytes_at, newly_of, bytes_of}
+use Rattle.sctp_tx_outstanding.specs.Passes.{IsCursor, IsWalk, settle_from, acked_from, below_from}
+
+-- ---- blocks
+
+pub none_below : (lowest offset : ℕ) (bs : List GapAckBlock) → AreRuns lowest bs → offset < lowest → is_covered bs offset ≡ false
+none_below lowest offset [] h less = refl
+none_below lowest offset (b ∷ bs) h less =
+    let ih = none_below (b.end + 2) offset bs h.2 (omega (arith, h.0, h.1, less)) in
+    let low : b.start ≤ b.end = h.1 in
+    let first : lowest ≤ b.start = h.0 in
+    grind (arith, nat_tests, ih)
+
+pub covered_first : (lowest offset : ℕ) (b : GapAckBlock) (bs : List GapAckBlock) → AreRuns lowest (b ∷ bs) → offset ≤ b.end → nat_le b.start offset ≡ is_covered (b ∷ bs) offset
+covered_first lowest offset b bs h less =
+    let rest = none_below (b.end + 2) offset bs h.2 (omega (arith, less)) in
+    grind (arith, nat_tests, rest)
+
+pub covered_at : (bs : List GapAckBlock) (at offset : ℕ) (d : GapAckBlock) → IsCursor bs offset at → at < length bs → offset ≤ (slice_index_or bs at d).end
+    → nat_le (slice_index_or bs at d).start offset ≡ is_covered bs offset
+covered_at bs at offset d h less ends =
+    let e : drop at bs ≡ slice_index_or bs at d ∷ drop (suc at) bs = drop-cons bs at d less in
+    let runs = subst (λ cs. AreRuns h.lowest cs) e h.runs in
+    covered_first h.lowest offset (slice_index_or bs at d) (drop (suc at) bs) runs ends ∙ ap (λ cs. is_covered cs offset) (sym e) ∙ h.same offset (omega arith)
+
+-- ---- items
+
+pub settle_next : (bs : List GapAckBlock) (k offset : ℕ) (is : List Item) → settle_from bs (suc k) (suc offset) (change_at k (ack_or_nack (is_covered bs offset)) is) ≡ settle_from bs k offset is
+settle_next bs zero offset [] = refl
+settle_next bs zero offset (i ∷ is) = refl
+settle_next bs (suc k) offset [] = refl
+settle_next bs (suc k) offset (i ∷ is) = ap (λ js. i ∷ js) (settle_next bs k offset is)
+
+pub acked_next : (bs : List GapAckBlock) (m : Bool) (f : Item → Item) (k offset : ℕ) (is : List Item)
+    → bytes_of (is_covered bs offset) m (slice_get is k) + acked_from bs m (suc k) (suc offset) (change_at k f is) ≡ acked_from bs m k offset is
+acked_next bs m f zero offset [] = refl
+acked_next bs m f zero offset (i ∷ is) = refl
+acked_next bs m f (suc k) offset [] = refl
+acked_next bs m f (suc k) offset (i ∷ is) = acked_next bs m f k offset is
+
+pub below_next : (bs : List GapAckBlock) (f : Item → Item) (k offset place most : ℕ) (is : List Item) → k < length is
+    → below_from bs (suc k) (suc offset) (suc place) (cond (newly_of (is_covered bs offset) (slice_get is k)) place most) (change_at k f is) ≡ below_from bs k offset place most is
+below_next bs f zero offset place most [] h = absurd (omega (arith, h))
+below_next bs f zero offset place most (i ∷ is) h = refl
+below_next bs f (suc k) offset place most [] h = absurd (omega (arith, h))
+below_next bs f (suc k) offset place most (i ∷ is) h = below_next bs f k offset place most is (omega (arith, h))
+
+-- ---- a cursor goes on
+
+cursor_on : (bs : List GapAckBlock) (offset from : ℕ) → IsCursor bs offset from → IsCursor bs (offset + 1) from
+cursor_on bs offset from h = record { within = h.within; same = λ o le. h.same o (omega (arith, le)); lowest = h.lowest; runs = h.runs }
+
+pub walk_on : (b : Bool) (bs : List GapAckBlock) (offset from : ℕ) → IsWalk b bs offset from → IsWalk b bs (offset + 1) from
+walk_on true bs offset from h = cursor_on bs offset from h
+walk_on false bs offset from h = tt
+
+-- ---- one item more
+
+up : (k : ℕ) → k + 1 ≡ suc k
+up k = omega arith
+
+pub settle_step : (bs : List GapAckBlock) (k : ℕ) (is js : List Item) → js ≡ change_at k (ack_or_nack (is_covered bs (k + 1))) is → settle_from bs (k + 1) (k + 1 + 1) js ≡ settle_from bs k (k + 1) is
+settle_step bs k is js e =
+    ap (λ xs. settle_from bs (k + 1) (k + 1 + 1) xs) e
+    ∙ ap (λ n. settle_from bs n (k + 1 + 1) (change_at k (ack_or_nack (is_covered bs (k + 1))) is)) (up k)
+    ∙ ap (λ n. settle_from bs (suc k) n (change_at k (ack_or_nack (is_covered bs (k + 1))) is)) (up (k + 1)) ∙ settle_next bs k (k + 1) is
+
+pub acked_step : (bs : List GapAckBlock) (m : Bool) (f : Item → Item) (k : ℕ) (is js : List Item) → js ≡ change_at k f is
+    → new_bytes_at bs m k is + acked_from bs m (k + 1) (k + 1 + 1) js ≡ acked_from bs m k (k + 1) is
+acked_step bs m f k is js e =
+    ap (λ xs. new_bytes_at bs m k is + acked_from bs m (k + 1) (k + 1 + 1) xs) e
+    ∙ ap (λ n. new_bytes_at bs m k is + acked_from bs m n (k + 1 + 1) (change_at k f is)) (up k)
+    ∙ ap (λ n. new_bytes_at bs m k is + acked_from bs m (suc k) n (change_at k f is)) (up (k + 1)) ∙ acked_next bs m f k (k + 1) is
+
+pub below_step : (bs : List GapAckBlock) (f : Item → Item) (k most next : ℕ) (is js : List Item) → k < length is → js ≡ change_at k f is → next ≡ cond (is_new_at bs k is) k most
+    → below_from bs (k + 1) (k + 1 + 1) (k + 1) next js ≡ below_from bs k (k + 1) k most is
+below_step bs f k most next is js h e is_next =
+    ap (λ n. below_from bs (k + 1) (k + 1 + 1) (k + 1) n js) is_next
+    ∙ ap (λ xs. below_from bs (k + 1) (k + 1 + 1) (k + 1) (cond (is_new_at bs k is) k most) xs) e
+    ∙ ap (λ n. below_from bs n (k + 1 + 1) (k + 1) (cond (is_new_at bs k is) k most) (change_at k f is)) (up k)
+    ∙ ap (λ n. below_from bs (suc k) n (k + 1) (cond (is_new_at bs k is) k most) (change_at k f is)) (up (k + 1))
+    ∙ ap (λ n. below_from bs (suc k) (suc (k + 1)) n (cond (is_new_at bs k is) k most) (change_at k f is)) (up k) ∙ below_next bs f k (k + 1) k most is h
+
+pub summed : (bytes more rest next whole most : ℕ) → next ≡ min (bytes + more) most → min (bytes + (more + rest)) most ≡ whole → min (next + rest) most ≡ whole
+summed bytes more rest next whole most a b = omega (arith, a, b)
+
+pub kept_as : (k : Kept) (m : Bool) (is : List Item) → k.is_interleaved ≡ m → k.items ≡ is → k ≡ record { is_interleaved = m; items = is }
+kept_as k m is a b = λ i. record { is_interleaved = a i; items = b i }

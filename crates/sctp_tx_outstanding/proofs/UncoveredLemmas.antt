@@ -1,0 +1,149 @@
+-- Missing reports pass over the items that blocks cover.
+use Rattle.std.proofs.Common.{◌≡◌, ℕ, zero, suc, ◌+◌, ◌-◌, ◌<◌, ◌≤◌, ◌||◌, ◌&&◌, Bool, true, false, cond, List, [], ◌∷◌, ◌++◌, refl, ap, sym, subst, ◌∙◌, arith, IsTrue}
+use Rattle.std.specs.Prelude.{Option, Some, None, unwrap_or, option_map, slice_get}
+use Rattle.sctp_chunk.specs.Chunk.{FragmentTree}
+use Rattle.sctp_chunk.specs.declared.sack.GapAckBlock.{GapAckBlock}
+use Rattle.sctp_chunk.specs.Covered.{is_covered, AreRuns}
+use Rattle.sctp_state.specs.Events.{Emitted}
+use Rattle.sctp_state.specs.declared.api.GivenUpCause.TheVariants.{Retransmissions}
+use Rattle.sctp_tx_outstanding.specs.declared.kept.Change.TheVariants as changes
+use Rattle.sctp_tx_outstanding.specs.Item.{Item, is_in_flight, ack, nack, is_lost, is_used_up}
+use Rattle.sctp_tx_outstanding.specs.Items.{Items, Outstanding, change_at, last_of}
+use Rattle.sctp_tx_outstanding.specs.Losses.{Step, first_step, placeholder, placeholders, given_up, gives_up, loses, change_items, nack_item, nack_at, nack_below}
+use Rattle.sctp_tx_outstanding.specs.Passes.{IsCursor, IsWalk, AreCovered}
+use Rattle.sctp_tx_outstanding.specs.Heard.{Rests, Rest}
+use Rattle.sctp_tx_outstanding.proofs.ReceivedLemmas.{still, state_of_lem, nack_still, rest_changed, rest_laid, cursor_later, cursor_begin}
+use Rattle.sctp_tx_outstanding.proofs.LossesLemmas.{or_false}
+
+-- ---- blocks
+
+pub walk_begin : (b : Bool) (bs : List GapAckBlock) → (IsTrue b → AreRuns 0 bs) → IsWalk b bs 1 0
+walk_begin true bs h = cursor_begin bs 1 (h refl)
+walk_begin false bs h = tt
+
+pub walk_past : (b : Bool) (bs : List GapAckBlock) (o p from : ℕ) → o ≤ p → IsWalk b bs o from → IsWalk b bs p from
+walk_past true bs o p from le h = cursor_later bs o p from le h
+walk_past false bs o p from le h = tt
+
+pub covered_less : (bs : List GapAckBlock) (place count next : ℕ) → count ≤ next → AreCovered bs place next → AreCovered bs place count
+covered_less bs place count next le h = λ p from less. h p from (omega (arith, le, less))
+
+pub none_covered : (bs : List GapAckBlock) (place count : ℕ) → count ≤ place → AreCovered bs place count
+none_covered bs place count le = λ p from less. absurd (omega (arith, le, from, less))
+
+-- ---- what isn't in flight is passed over
+
+abbrev Stays : Option Item → Type 0
+Stays None = Unit {0}
+Stays (Some i) = is_in_flight i.state ≡ false
+
+stays_at : (bs : List GapAckBlock) (k offset next : ℕ) (is : List Item) → next ≡ k + offset → Rest bs offset is → is_covered bs next ≡ true → Stays (slice_get is k)
+stays_at bs zero offset next [] e h c = tt
+stays_at bs (suc k) offset next [] e h c = tt
+stays_at bs zero offset next (i ∷ is) e h c =
+    let at : next ≡ offset = omega (arith, e) in
+    let here : is_covered bs offset ≡ true = subst (λ n. is_covered bs n ≡ true) at c in
+    still i.state (state_of_lem (ack i) i (subst (λ b. Rests b i) here h.0))
+stays_at bs (suc k) offset next (i ∷ is) e h c = stays_at bs k (suc offset) next is (omega (arith, e)) h.1 c
+
+stays_same : (fast : Bool) (k : ℕ) (is : List Item) → Stays (slice_get is k) → change_at k (nack false fast) is ≡ is
+stays_same fast zero [] h = refl
+stays_same fast (suc k) [] h = refl
+stays_same fast zero (i ∷ is) h = ap (λ (j : Item). j ∷ is) (nack_still false fast i h)
+stays_same fast (suc k) (i ∷ is) h = ap (λ js. i ∷ js) (stays_same fast k is h)
+
+module _ {P : Type 0} (fast : Bool) where
+  pass_item : (k : ℕ) (x : Step P) (i : Item) → is_in_flight i.state ≡ false → change_at k (nack false fast) x.items.kept ≡ x.items.kept → nack_item false fast k i x ≡ x
+  pass_item k x i h same =
+      let no : gives_up x.items.is_partial false i ≡ false = ap (λ b. (b && is_lost false i) && (x.items.is_partial && is_used_up i)) h in
+      let quiet : (x.is_lossy || loses false i) ≡ x.is_lossy = ap (λ b. x.is_lossy || (b && is_lost false i)) h ∙ sym (or_false x.is_lossy) in
+      ap (λ b. cond b (given_up i.number (Retransmissions (i.sent - 1)) x) (record x { items = change_items k (nack false fast) x.items; is_lossy = x.is_lossy || loses false i })) no
+      ∙ (λ j. record { items = record x.items { kept = same j }; emitted = x.emitted; is_lossy = quiet j })
+
+  pass_option : (k : ℕ) (x : Step P) (o : Option Item) → Stays o → change_at k (nack false fast) x.items.kept ≡ x.items.kept
+      → unwrap_or (option_map (λ i. nack_item false fast k i x) o) x ≡ x
+  pass_option k x None h same = refl
+  pass_option k x (Some i) h same = pass_item k x i h same
+
+  pass_at : (bs : List GapAckBlock) (k : ℕ) (x : Step P) → Rest bs 1 x.items.kept → is_covered bs (k + 1) ≡ true → nack_at false fast k x ≡ x
+  pass_at bs k x h c =
+      let s = stays_at bs k 1 (k + 1) x.items.kept refl h c in
+      pass_option k x (slice_get x.items.kept k) s (stays_same fast k x.items.kept s)
+
+  pass_more : (bs : List GapAckBlock) (x : Step P) (more place next : ℕ) → next ≡ more + place → Rest bs 1 (nack_below false fast place x).items.kept → AreCovered bs place next
+      → nack_below false fast next x ≡ nack_below false fast place x
+  pass_more bs x zero place next e h c =
+      let same : next ≡ place = omega (arith, e) in
+      ap (λ n. nack_below false fast n x) same
+  pass_more bs x (suc more) place next e h c =
+      let is_next : next ≡ suc (more + place) = omega (arith, e) in
+      let ih = pass_more bs x more place (more + place) refl h (λ p le less. c p le (omega (arith, e, less))) in
+      let here : is_covered bs (more + place + 1) ≡ true = c (more + place) (omega arith) (omega (arith, e)) in
+      ap (λ n. nack_below false fast n x) is_next ∙ ap (λ (y : Step P). nack_at false fast (more + place) y) ih ∙ pass_at bs (more + place) (nack_below false fast place x) h here
+
+  pub passed : (bs : List GapAckBlock) (x : Step P) (place next : ℕ) → place ≤ next → Rest bs 1 (nack_below false fast place x).items.kept → AreCovered bs place next
+      → nack_below false fast next x ≡ nack_below false fast place x
+  passed bs x place next le h c = pass_more bs x (next - place) place next (omega (arith, le)) h c
+
+-- ---- reports leave the items as the blocks say
+
+rest_behind : (bs : List GapAckBlock) (offset : ℕ) (is js : List Item) → ((o : ℕ) → Rest bs o js) → Rest bs offset is → Rest bs offset (is ++ js)
+rest_behind bs offset [] js behind h = behind offset
+rest_behind bs offset (i ∷ is) js behind h = (h.0, rest_behind bs (suc offset) is js behind h.1)
+
+rests_placed : (c : Bool) (number : ℕ) (f : FragmentTree) → Rests c (placeholder number f)
+rests_placed true number f = refl
+rests_placed false number f = refl
+
+rest_one : (bs : List GapAckBlock) (offset : ℕ) (b : Bool) (i : Item) → ((c : Bool) → Rests c i) → Rest bs offset (cond b [] (i ∷ []))
+rest_one bs offset true i h = tt
+rest_one bs offset false i h = (h (is_covered bs offset), tt)
+
+rest_placed : (bs : List GapAckBlock) (number offset : ℕ) (o : Option FragmentTree) → Rest bs offset (placeholders number o)
+rest_placed bs number offset None = tt
+rest_placed bs number offset (Some f) = rest_one bs offset f.is_end (placeholder number f) (λ c. rests_placed c number f)
+
+module _ {P : Type 0} (fast : Bool) (bs : List GapAckBlock) where
+  rest_cond : (b : Bool) (y z : Step P) → Rest bs 1 y.items.kept → Rest bs 1 z.items.kept → Rest bs 1 (cond b y z).items.kept
+  rest_cond true y z h k = h
+  rest_cond false y z h k = k
+
+  rest_item : (k : ℕ) (x : Step P) (i : Item) → Rest bs 1 x.items.kept → Rest bs 1 (nack_item false fast k i x).items.kept
+  rest_item k x i h =
+      let more = placeholders i.number (last_of i.number x.items.kept) in
+      rest_cond (gives_up x.items.is_partial false i) (given_up i.number (Retransmissions (i.sent - 1)) x)
+      (record x { items = change_items k (nack false fast) x.items; is_lossy = x.is_lossy || loses false i })
+      (rest_laid bs 1 i.number (x.items.kept ++ more) (rest_behind bs 1 x.items.kept more (λ o. rest_placed bs i.number o (last_of i.number x.items.kept)) h))
+      (rest_changed bs (changes.Nack false fast) 1 k x.items.kept refl h)
+
+  rest_option : (k : ℕ) (x : Step P) (o : Option Item) → Rest bs 1 x.items.kept → Rest bs 1 (unwrap_or (option_map (λ i. nack_item false fast k i x) o) x).items.kept
+  rest_option k x None h = h
+  rest_option k x (Some i) h = rest_item k x i h
+
+  pub rest_at : (k : ℕ) (x : Step P) → Rest bs 1 x.items.kept → Rest bs 1 (nack_at false fast k x).items.kept
+  rest_at k x h = rest_option k x (slice_get x.items.kept k) h
+
+  -- one report more
+  pub rest_next : (k : ℕ) (x : Step P) → Rest bs 1 (nack_below false fast k x).items.kept → Rest bs 1 (nack_below false fast (k + 1) x).items.kept
+  rest_next k x h =
+      let one : suc k ≡ k + 1 = omega arith in
+      subst (λ n. Rest bs 1 (nack_below false fast n x).items.kept) one (rest_at k (nack_below false fast k x) h)
+
+-- ---- the walk goes on behind covered items
+
+module _ {P : Type 0} (fast : Bool) (bs : List GapAckBlock) (s : Items) (told : Emitted P) (place next : ℕ) (le : place ≤ next)
+    (rest : Rest bs 1 (nack_below false fast place (first_step s told)).items.kept) (covered : AreCovered bs place next) where
+  same : nack_below false fast next (first_step s told) ≡ nack_below false fast place (first_step s told)
+  same = passed fast bs (first_step s told) place next le rest covered
+
+  pub passed_items : (d now : Outstanding) → now ≡ record d { items = (nack_below false fast place (first_step s told)).items } → now ≡ record d { items = (nack_below false fast next (first_step s told)).items }
+  passed_items d now is_now = is_now ∙ ap (λ (y : Step P). record d { items = y.items }) (sym same)
+
+  pub passed_emitted : (now : Emitted P) → now ≡ (nack_below false fast place (first_step s told)).emitted → now ≡ (nack_below false fast next (first_step s told)).emitted
+  passed_emitted now is_now = is_now ∙ ap (λ (y : Step P). y.emitted) (sym same)
+
+  pub passed_lossy : (now : Bool) → now ≡ (nack_below false fast place (first_step s told)).is_lossy → now ≡ (nack_below false fast next (first_step s told)).is_lossy
+  passed_lossy now is_now = is_now ∙ ap (λ (y : Step P). y.is_lossy) (sym same)
+
+  pub passed_rest : Rest bs 1 (nack_below false fast (next + 1) (first_step s told)).items.kept
+  passed_rest = rest_next fast bs next (first_step s told) (subst (λ (y : Step P). Rest bs 1 y.items.kept) (sym same) rest)

@@ -1,0 +1,19 @@
+use Rattle.std.proofs.Common.{ap, ◌∙◌, rules}
+use Rattle.sctp_tx_outstanding.specs.Change.{apply_change}
+use Rattle.sctp_tx_outstanding.specs.Totals.{parts}
+use Rattle.sctp_tx_outstanding.proofs.TotalsLemmas.{change_beyond, change_set, exchanges_beyond, exchanges_at}
+use Rattle.sctp_tx_outstanding.proofs.kept.change_item.Goals as goal
+
+pub returns-in_default-clause-items : goal.returns-in_default-clause-items
+returns-in_default-clause-items c = change_beyond c.args.place (apply_change c.args.change) c.args.items.now.items (search rules)
+
+pub returns-in_default-clause-parts : goal.returns-in_default-clause-parts
+returns-in_default-clause-parts c = exchanges_beyond c.args.is_interleaved c.args.place c.args.change c.args.items.now.items c.nothing.result c.nothing-in_default.result (search rules) c.nothing.ensures c.nothing-in_default.ensures
+
+pub returns-clause-items : goal.returns-clause-items
+returns-clause-items c = change_set c.args.place (apply_change c.args.change) c.args.items.now.items c.in-Some.item.now c.apply.new.item (search rules) c.in-Some.ensures.value c.apply.ensures
+
+pub returns-clause-parts : goal.returns-clause-parts
+returns-clause-parts c =
+    exchanges_at c.args.is_interleaved c.args.place c.args.change c.args.items.now.items c.in-Some.item.now c.of-old.result c.of-new.result (search rules) c.in-Some.ensures.value c.of-old.ensures
+    (c.of-new.ensures ∙ ap (λ i. parts c.args.is_interleaved i) c.apply.ensures)

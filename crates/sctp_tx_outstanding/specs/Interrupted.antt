@@ -1,0 +1,28 @@
+-- What a call leaves that ran out of memory before its end: its first steps are done, and nothing else.
+use Rattle.std.specs.Prelude.{◌≡◌, ℕ, not, Bool, false, List}
+use Rattle.sctp_state.specs.Events.{Emitted}
+use Rattle.sctp_tx_outstanding.specs.Items.{Outstanding}
+use Rattle.sctp_chunk.specs.declared.sack.GapAckBlock.{GapAckBlock}
+use Rattle.sctp_tx_outstanding.specs.Sack.{receive_sack_first}
+use Rattle.sctp_tx_outstanding.specs.Losses.{Step, first_step, nack_below, expire_below}
+
+-- the items and what was emitted are those of a step
+pub record Stands {P : Type 0} (first : Outstanding) (x : Step P) (after : Outstanding) (later : Emitted P) : Type 0 where
+  pub items : after ≡ record first { items = x.items }
+  pub events : later ≡ x.emitted
+
+abbrev pub SomeNacked : {P : Type 0} → (at_once fast : Bool) → Outstanding → Emitted P → Outstanding → Emitted P → Type 0
+SomeNacked at_once fast d told after later = (count : ℕ) × Stands d (nack_below at_once fast count (first_step d.items told)) after later
+
+abbrev pub SomeExpired : {P : Type 0} → ℕ → Outstanding → Emitted P → Outstanding → Emitted P → Type 0
+SomeExpired now d told after later = (count : ℕ) × Stands d (expire_below now count (first_step d.items told)) after later
+
+-- all is as it was
+pub record Same {P : Type 0} (first : Outstanding) (told : Emitted P) (after : Outstanding) (later : Emitted P) : Type 0 where
+  pub items : after ≡ first
+  pub events : later ≡ told
+
+-- a SACK is taken, but not all of the missing reports
+abbrev pub SomeReceived : {P : Type 0} → ℕ → List GapAckBlock → (is_in_fast_recovery : Bool) → Outstanding → Emitted P → Outstanding → Emitted P → Type 0
+SomeReceived number blocks is_in_fast_recovery d told after later =
+    (count : ℕ) × Stands d (nack_below false (not is_in_fast_recovery) count (receive_sack_first number blocks d.items told)) after later

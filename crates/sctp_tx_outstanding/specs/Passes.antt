@@ -1,0 +1,38 @@
+-- How far a walk through items and blocks has come. Each says that what is done and what is left give the whole.
+use Rattle.std.specs.Prelude.{◌≡◌, ℕ, zero, suc, ◌+◌, ◌<◌, ◌≤◌, Bool, true, false, List, [], ◌∷◌, drop, length}
+use Rattle.sctp_chunk.specs.declared.sack.GapAckBlock.{GapAckBlock}
+use Rattle.sctp_chunk.specs.Covered.{is_covered, AreRuns}
+use Rattle.sctp_tx_outstanding.specs.Item.{Item}
+use Rattle.sctp_tx_outstanding.specs.Sack.{settle, newly_acked, below_highest}
+
+-- the blocks before `from` end before the offset, so that the others tell what is covered from there on
+pub record IsCursor (blocks : List GapAckBlock) (offset from : ℕ) : Type 0 where
+  pub within : from ≤ length blocks
+  pub same : (o : ℕ) → offset ≤ o → is_covered (drop from blocks) o ≡ is_covered blocks o
+  pub lowest : ℕ
+  pub runs : AreRuns lowest (drop from blocks)
+
+-- blocks that aren't runs are searched whole
+abbrev pub IsWalk : (is_in_runs : Bool) → List GapAckBlock → (offset from : ℕ) → Type 0
+IsWalk true blocks offset from = IsCursor blocks offset from
+IsWalk false blocks offset from = Unit {0}
+
+-- blocks cover the items from one place up to another
+abbrev pub AreCovered : List GapAckBlock → (place next : ℕ) → Type 0
+AreCovered blocks place next = (p : ℕ) → place ≤ p → p < next → is_covered blocks (p + 1) ≡ true
+
+-- the first k items are settled, and the rest is to be
+abbrev pub settle_from : List GapAckBlock → (k offset : ℕ) → List Item → List Item
+settle_from blocks zero offset is = settle blocks offset is
+settle_from blocks (suc k) offset [] = []
+settle_from blocks (suc k) offset (i ∷ is) = i ∷ settle_from blocks k offset is
+
+abbrev pub acked_from : List GapAckBlock → Bool → (k offset : ℕ) → List Item → ℕ
+acked_from blocks m zero offset is = newly_acked blocks m offset is
+acked_from blocks m (suc k) offset [] = 0
+acked_from blocks m (suc k) offset (i ∷ is) = acked_from blocks m k offset is
+
+abbrev pub below_from : List GapAckBlock → (k offset place most : ℕ) → List Item → ℕ
+below_from blocks zero offset place most is = below_highest blocks offset place most is
+below_from blocks (suc k) offset place most [] = most
+below_from blocks (suc k) offset place most (i ∷ is) = below_from blocks k offset place most is

@@ -1,0 +1,78 @@
+-- Records of messages that are given up. In one association a message has one at most, and an item is given up exactly where
+-- its message has one.
+use Rattle.std.specs.Prelude.{◌≡◌, ◌≤◌, ℕ, ◌-◌, ◌==◌, ◌&&◌, ◌||◌, not, Bool, true, false, Some, List, [], ◌∷◌, ◌++◌, slice_get}
+use Rattle.std.specs.List.{AllByRecursion}
+use Rattle.sctp_chunk.specs.declared.sack.GapAckBlock.{GapAckBlock}
+use Rattle.sctp_state.specs.Events.{GivenUp, Emitted, give_up}
+use Rattle.sctp_state.specs.declared.api.GivenUpCause.TheVariants.{Lifetime, Retransmissions}
+use Rattle.sctp_tx_outstanding.specs.Item.{Item, is_abandoned, has_expired}
+use Rattle.sctp_tx_outstanding.specs.Items.{Items, no_items, insert}
+use Rattle.sctp_tx_outstanding.specs.Losses.{Step, gives_up, expires, nack_at, nack_below, expire_at, expire_below}
+use Rattle.sctp_tx_outstanding.specs.Resending.{Resent, resent_below}
+use Rattle.sctp_tx_outstanding.specs.Sack.{receive_sack}
+
+-- one of the records is of this message
+abbrev pub is_recorded : (number : ℕ) → List GivenUp → Bool
+is_recorded number [] = false
+is_recorded number (g ∷ gs) = (g.number == number) || is_recorded number gs
+
+-- no two are of the same message
+abbrev pub are_distinct : List GivenUp → Bool
+are_distinct [] = true
+are_distinct (g ∷ gs) = not (is_recorded g.number gs) && are_distinct gs
+
+-- the item is given up exactly where its message has a record
+abbrev pub IsRecorded : List GivenUp → Item → Type 0
+IsRecorded gs i = is_abandoned i ≡ is_recorded i.number gs
+
+-- of all records of an association, those that were taken and those that were not
+pub record RecordedOnce (taken : List GivenUp) (s : Items) (gone : List GivenUp) : Type 0 where
+  pub once : are_distinct (taken ++ gone) ≡ true
+  pub exact : AllByRecursion (IsRecorded (taken ++ gone)) s.kept
+
+-- ---- from a new association on each call keeps it
+
+abbrev pub NewIsRecordedOnce : Type 0
+NewIsRecordedOnce = (is_partial is_interleaved : Bool) → RecordedOnce [] (no_items is_partial is_interleaved) []
+
+-- a fragment of a message that was not given up takes the next TSN
+abbrev pub NewItemsRecordOnce : Type 0
+NewItemsRecordOnce = (taken gone : List GivenUp) (i : Item) (s : Items) → is_abandoned i ≡ false → is_recorded i.number (taken ++ gone) ≡ false → RecordedOnce taken s gone → RecordedOnce taken (insert i s) gone
+
+-- missing reports and timeouts, also where memory ran out in between
+abbrev pub LossesRecordOnce : Type 0
+LossesRecordOnce = (taken : List GivenUp) (at_once fast : Bool) (count : ℕ) (x : Step (List ℕ)) → RecordedOnce taken x.items x.emitted.given_up → RecordedOnce taken (nack_below at_once fast count x).items (nack_below at_once fast count x).emitted.given_up
+
+abbrev pub LifetimesRecordOnce : Type 0
+LifetimesRecordOnce = (taken : List GivenUp) (now count : ℕ) (x : Step (List ℕ)) → RecordedOnce taken x.items x.emitted.given_up → RecordedOnce taken (expire_below now count x).items (expire_below now count x).emitted.given_up
+
+abbrev pub SacksRecordOnce : Type 0
+SacksRecordOnce =
+    (taken : List GivenUp) (cumulative : ℕ) (blocks : List GapAckBlock) (is_in_fast_recovery : Bool) (s : Items) (told : Emitted (List ℕ)) → RecordedOnce taken s told.given_up
+    → RecordedOnce taken (receive_sack cumulative blocks is_in_fast_recovery s told).items (receive_sack cumulative blocks is_in_fast_recovery s told).emitted.given_up
+
+abbrev pub ResendingRecordsOnce : Type 0
+ResendingRecordsOnce = (taken gone : List GivenUp) (fast : Bool) (count : ℕ) (x : Resent) → RecordedOnce taken x.outstanding.items gone → RecordedOnce taken (resent_below fast count x).outstanding.items gone
+
+abbrev pub TakingRecordsOnce : Type 0
+TakingRecordsOnce = (taken gone : List GivenUp) (g : GivenUp) (s : Items) → RecordedOnce taken s (g ∷ gone) → RecordedOnce (taken ++ g ∷ []) s gone
+
+-- ---- where a record is made, and what it says
+
+-- of the item at a place, which is lost: its count is how often the item was sent again, and no less than its limit
+pub record RecordsCount (at_once fast : Bool) (k : ℕ) (i : Item) (x : Step (List ℕ)) : Type 0 where
+  pub made : gives_up x.items.is_partial at_once i ≡ true → (nack_at at_once fast k x).emitted ≡ give_up i.number (Retransmissions (i.sent - 1)) x.emitted
+  pub used_up : gives_up x.items.is_partial at_once i ≡ true → i.limit ≤ i.sent - 1
+  pub else : gives_up x.items.is_partial at_once i ≡ false → (nack_at at_once fast k x).emitted ≡ x.emitted
+
+abbrev pub CountsAreRecorded : Type 0
+CountsAreRecorded = (at_once fast : Bool) (k : ℕ) (i : Item) (x : Step (List ℕ)) → slice_get x.items.kept k ≡ Some i → RecordsCount at_once fast k i x
+
+-- of one that is missing or lost, once its message expired
+pub record RecordsLifetime (now k : ℕ) (i : Item) (x : Step (List ℕ)) : Type 0 where
+  pub made : (x.items.is_partial && expires now i) ≡ true → (expire_at now k x).emitted ≡ give_up i.number Lifetime x.emitted
+  pub passed : (x.items.is_partial && expires now i) ≡ true → has_expired now i ≡ true
+  pub else : (x.items.is_partial && expires now i) ≡ false → (expire_at now k x).emitted ≡ x.emitted
+
+abbrev pub LifetimesAreRecorded : Type 0
+LifetimesAreRecorded = (now k : ℕ) (i : Item) (x : Step (List ℕ)) → slice_get x.items.kept k ≡ Some i → RecordsLifetime now k i x

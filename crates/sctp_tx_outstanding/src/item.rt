@@ -1,0 +1,458 @@
+//! A fragment that has its TSN.
+
+ghost use Rattle.std.specs.Prelude.{◌≡◌, ℕ, ◌-◌, ◌<◌, ◌≤◌, ◌^◌, ◌&&◌, Bool, length, min, max, false, true, None, IfOk};
+ghost use Rattle.std.specs.Duration.{as_nanos};
+ghost use Rattle.sctp_chunk.specs.Views.{fragment_tree};
+ghost use Rattle.sctp_tx_outstanding.specs.Item.{is_in_flight, waits, waits_fast, has_nack, has_ack, is_given_up, is_due, header_size, size_of, chunk_size, acked, uncovered, nack_state, resent, slow};
+
+mod handover;
+
+use sctp_chunk::Data;
+use sctp_serial::{LifecycleId, OutgoingMessageId, SocketTime};
+use std::alloc::{AllocError, Global};
+use std::marker::Model;
+use std::time::Duration;
+
+/// How often an item can be sent: counts stop there.
+const MOST_SENDINGS: u32 = 65_536;
+
+/// What is known of a fragment that was sent.
+#[derive(Clone, Copy, Debug, PartialEq, Eq)]
+pub enum ItemState {
+    /// It was sent, and nothing was received of it.
+    InFlight,
+    /// The peer reported later ones, and not this one.
+    Missing,
+    /// It is lost, and is to be sent again.
+    Queued,
+    /// It is to be sent again, by the packet that ignores the congestion window.
+    QueuedFast,
+    /// A gap ack block of the last SACK covers it.
+    Acked,
+    /// Its message was given up, for good.
+    GivenUp,
+}
+
+impl ItemState {
+    fn flies(self) -> bool
+        ensures { result ≡ is_in_flight self }
+    {
+        match self {
+            ItemState::InFlight => true,
+            ItemState::Missing => true,
+            _ => false,
+        }
+    }
+
+    fn waits(self) -> bool
+        ensures { result ≡ waits self }
+    {
+        match self {
+            ItemState::Queued => true,
+            ItemState::QueuedFast => true,
+            _ => false,
+        }
+    }
+
+    fn waits_fast(self) -> bool
+        ensures { result ≡ waits_fast self }
+    {
+        match self {
+            ItemState::QueuedFast => true,
+            _ => false,
+        }
+    }
+
+    fn lacks(self) -> bool
+        ensures { result ≡ has_nack self }
+    {
+        match self {
+            ItemState::Missing => true,
+            ItemState::Queued => true,
+            ItemState::QueuedFast => true,
+            _ => false,
+        }
+    }
+
+    fn has_ack(self) -> bool
+        ensures { result ≡ has_ack self }
+    {
+        match self {
+            ItemState::Acked => true,
+            _ => false,
+        }
+    }
+
+    fn is_gone(self) -> bool
+        ensures { result ≡ is_given_up self }
+    {
+        match self {
+            ItemState::GivenUp => true,
+            _ => false,
+        }
+    }
+
+    fn acked(self) -> ItemState
+        ensures { result ≡ acked self }
+    {
+        match self {
+            ItemState::GivenUp => ItemState::GivenUp,
+            _ => ItemState::Acked,
+        }
+    }
+
+    fn uncovered(self) -> ItemState
+        ensures { result ≡ uncovered self }
+    {
+        match self {
+            ItemState::Acked => ItemState::InFlight,
+            _ => self,
+        }
+    }
+
+    fn nacked(is_lost: bool, fast: bool) -> ItemState
+        ensures { result ≡ nack_state is_lost fast }
+    {
+        if !is_lost {
+            return ItemState::Missing;
+        }
+        if fast {
+            ItemState::QueuedFast
+        } else {
+            ItemState::Queued
+        }
+    }
+
+    fn resent(self) -> ItemState
+        ensures { result ≡ resent self }
+    {
+        match self {
+            ItemState::Queued => ItemState::InFlight,
+            ItemState::QueuedFast => ItemState::InFlight,
+            _ => self,
+        }
+    }
+
+    fn slowed(self) -> ItemState
+        ensures { result ≡ slow self }
+    {
+        match self {
+            ItemState::QueuedFast => ItemState::Queued,
+            _ => self,
+        }
+    }
+}
+
+fn is_due(expires_at: Option<SocketTime>, now: SocketTime) -> bool
+    ensures { result ≡ is_due now expires_at }
+{
+    match expires_at {
+        Some(moment) => moment <= now,
+        None => false,
+    }
+}
+
+/// A fragment that has its TSN, until the peer's cumulative TSN passes it.
+#[derive(Drop)]
+pub struct Item {
+    message_id: OutgoingMessageId,
+    data: Data,
+    expires_at: Option<SocketTime>,
+    max_retransmissions: u16,
+    lifecycle_id: Option<LifecycleId>,
+    state: ItemState,
+    sendings: u32,
+    reports: u32,
+    sent_at: SocketTime,
+}
+
+impl Model for Item {
+    ghost use Rattle.std.specs.Prelude.{◌<◌, ◌≤◌, ◌^◌, length};
+    ghost use Rattle.sctp_chunk.specs.Views.{fragment_tree};
+    ghost use Rattle.sctp_tx_outstanding.specs.Item.{Item};
+
+    ghost Value = { Item };
+
+    ghost view = { λ i. record { number = i.message_id.0; fragment = fragment_tree i.data; expires = i.expires_at; limit = i.max_retransmissions; lifecycle = i.lifecycle_id; state = i.state; sent = i.sendings; reports = i.reports; sent_at = i.sent_at } };
+
+    ghost invariant = { λ i. (length i.data.payload.items < 2 ^ 32) × ((i.sendings ≤ 65536) × (i.reports ≤ 2)) };
+}
+
+impl Item {
+    ghost use Rattle.std.specs.Prelude.{Option};
+    ghost use Rattle.sctp_tx_outstanding.specs.Item.{is_outstanding, should_be_retransmitted, is_fast, is_nacked, is_acked, is_abandoned, is_open, has_been_retransmitted, has_expired, may_expire, is_used_up, is_of, ack, uncover, is_lost, nack, mark_as_retransmitted, miss_fast, abandon, rtt_from};
+
+    /// A fragment that is sent now for the first time.
+    pub fn new(
+        message_id: OutgoingMessageId,
+        fragment: Data,
+        now: SocketTime,
+        max_retransmissions: u16,
+        expires_at: Option<SocketTime>,
+        lifecycle_id: Option<LifecycleId>,
+    ) -> Item
+        requires small { length fragment.payload.items < 2 ^ 32 }
+        ensures { result ≡ record {
+          number = message_id.0;
+          fragment = fragment_tree fragment;
+          expires = expires_at;
+          limit = max_retransmissions;
+          lifecycle = lifecycle_id;
+          state = ItemState.InFlight;
+          sent = 1;
+          reports = 0;
+          sent_at = now;
+        } }
+    {
+        Item {
+            message_id,
+            data: fragment,
+            expires_at,
+            max_retransmissions,
+            lifecycle_id,
+            state: ItemState::InFlight,
+            sendings: 1,
+            reports: 0,
+            sent_at: now,
+        }
+    }
+
+    /// An end of a message that is given up. It is never sent.
+    pub fn placeholder(message_id: OutgoingMessageId, fragment: Data) -> Item
+        requires small { length fragment.payload.items < 2 ^ 32 }
+        ensures { result ≡ record {
+          number = message_id.0;
+          fragment = fragment_tree fragment;
+          expires = None;
+          limit = 0;
+          lifecycle = None;
+          state = ItemState.GivenUp;
+          sent = 0;
+          reports = 0;
+          sent_at = 0;
+        } }
+    {
+        Item {
+            message_id,
+            data: fragment,
+            expires_at: None,
+            max_retransmissions: 0,
+            lifecycle_id: None,
+            state: ItemState::GivenUp,
+            sendings: 0,
+            reports: 0,
+            sent_at: SocketTime::zero(),
+        }
+    }
+
+    /// Whether it is in flight or missing.
+    pub fn is_outstanding(&self) -> bool
+        ensures { result ≡ is_outstanding self.now }
+    {
+        self.state.flies()
+    }
+
+    /// Whether a block of the last SACK covers it.
+    pub fn is_acked(&self) -> bool
+        ensures { result ≡ is_acked self.now }
+    {
+        self.state.has_ack()
+    }
+
+    /// Whether it was reported missing, or is lost.
+    pub fn is_nacked(&self) -> bool
+        ensures { result ≡ is_nacked self.now }
+    {
+        self.state.lacks()
+    }
+
+    /// Whether its message was given up.
+    pub fn is_abandoned(&self) -> bool
+        ensures { result ≡ is_abandoned self.now }
+    {
+        self.state.is_gone()
+    }
+
+    /// Whether it is to be sent again.
+    pub fn should_be_retransmitted(&self) -> bool
+        ensures { result ≡ should_be_retransmitted self.now }
+    {
+        self.state.waits()
+    }
+
+    /// Whether it is to be sent again by the packet that ignores the congestion window.
+    pub fn is_fast(&self) -> bool
+        ensures { result ≡ is_fast self.now }
+    {
+        self.state.waits_fast()
+    }
+
+    /// Whether it was sent more than once.
+    pub fn has_been_retransmitted(&self) -> bool
+        ensures { result ≡ has_been_retransmitted self.now }
+    {
+        self.sendings > 1
+    }
+
+    /// Whether its message isn't worth sending any more.
+    pub fn has_expired(&self, now: SocketTime) -> bool
+        ensures { result ≡ has_expired now self.now }
+    {
+        is_due(self.expires_at, now)
+    }
+
+    /// Whether it is missing or lost, and has a lifetime.
+    pub fn may_expire(&self) -> bool
+        ensures { result ≡ may_expire self.now }
+    {
+        self.state.lacks() && self.expires_at.is_some()
+    }
+
+    /// Whether it was sent again as often as it may be.
+    pub fn is_used_up(&self) -> bool
+        ensures { result ≡ is_used_up self.now }
+    {
+        u32::from(self.max_retransmissions) <= self.sendings.saturating_sub(1)
+    }
+
+    /// How often it was handed out to be sent; the count stops at 65,536.
+    pub fn sendings(&self) -> u32
+        ensures count { result ≡ self.now.sent }
+        ensures small { result ≤ 65536 }
+    {
+        self.sendings
+    }
+
+    /// The number of its message.
+    pub fn message_id(&self) -> OutgoingMessageId
+        ensures { result.0 ≡ self.now.number }
+    {
+        self.message_id
+    }
+
+    /// The fragment.
+    pub fn data(&self) -> &Data
+        ensures { fragment_tree result.now ≡ self.now.fragment }
+    {
+        &self.data
+    }
+
+    /// The name of its message, where it is the end of one that has a name.
+    pub fn lifecycle_id(&self) -> Option<LifecycleId>
+        ensures { result ≡ self.now.lifecycle }
+    {
+        self.lifecycle_id
+    }
+
+    /// The bytes of its payload.
+    pub fn payload_size(&self) -> usize
+        ensures size { result ≡ length self.now.fragment.payload }
+        ensures small { result < 2 ^ 32 }
+    {
+        self.data.payload.len()
+    }
+
+    /// The bytes of its DATA or I-DATA chunk, with the header and the padding.
+    pub fn chunk_size(&self, is_interleaved: bool) -> usize
+        ensures size { result ≡ chunk_size is_interleaved self.now }
+        ensures small { result < 2 ^ 33 }
+    {
+        chunk_size(&self.data, is_interleaved)
+    }
+
+    /// The peer has it, as a block of a SACK says. What was given up stays so.
+    pub fn ack(&mut self)
+        ensures { self.new ≡ ack self.old }
+    {
+        if !self.state.is_gone() {
+            self.reports = 0;
+        }
+        self.state = self.state.acked();
+    }
+
+    /// No block of the last SACK covers it: what was acknowledged is in flight again.
+    pub fn uncover(&mut self)
+        ensures { self.new ≡ uncover self.old }
+    {
+        self.state = self.state.uncovered();
+    }
+
+    /// Whether it is lost by one more report, or at once.
+    pub fn is_lost(&self, at_once: bool) -> bool
+        ensures { result ≡ is_lost at_once self.now }
+    {
+        at_once || self.reports >= 2
+    }
+
+    /// It is missing, by a report of the peer or, `at_once`, by a timeout. By the third report it is lost, and is to be
+    /// sent again, or `fast`. What is not in flight or missing stays as it is.
+    pub fn nack(&mut self, at_once: bool, fast: bool)
+        ensures { self.new ≡ nack at_once fast self.old }
+    {
+        if !self.state.flies() {
+            return;
+        }
+        let is_lost = at_once || self.reports >= 2;
+        self.state = ItemState::nacked(is_lost, fast);
+        self.reports = if is_lost { 0 } else { self.reports + 1 };
+    }
+
+    /// It is handed out to be sent once more.
+    pub fn mark_as_retransmitted(&mut self)
+        ensures { self.new ≡ mark_as_retransmitted self.old }
+    {
+        self.state = self.state.resent();
+        self.sendings = MOST_SENDINGS.min(self.sendings + 1);
+    }
+
+    /// The fast packet had no room for it.
+    pub fn miss_fast(&mut self)
+        ensures { self.new ≡ miss_fast self.old }
+    {
+        self.state = self.state.slowed();
+    }
+
+    /// Its message is given up, for good.
+    pub fn abandon(&mut self)
+        ensures { self.new ≡ abandon self.old }
+    {
+        self.state = ItemState::GivenUp;
+    }
+
+    /// The time since it was first sent.
+    pub fn get_rtt_from(&self, now: SocketTime) -> Duration
+        ensures { as_nanos result ≡ rtt_from now self.now }
+    {
+        now - self.sent_at
+    }
+}
+
+/// The bytes of the header of a DATA or an I-DATA chunk, with the chunk's own.
+pub fn header_size(is_interleaved: bool) -> usize
+    ensures { result ≡ header_size is_interleaved }
+{
+    if is_interleaved { 20 } else { 16 }
+}
+
+/// The bytes of the fragment's DATA or I-DATA chunk, with the header and the padding.
+pub fn chunk_size(fragment: &Data, is_interleaved: bool) -> usize
+    ensures { result ≡ size_of is_interleaved (fragment_tree fragment.now) }
+{
+    (header_size(is_interleaved) + fragment.payload.len() + 3) / 4 * 4
+}
+
+/// The fragment once more.
+pub fn copy_of(alloc: Global, fragment: &Data) -> Result<Data, AllocError>
+    ensures { IfOk result (λ f. fragment_tree f ≡ fragment_tree fragment.now) }
+{
+    Ok(Data {
+        stream_key: fragment.stream_key,
+        ssn: fragment.ssn,
+        mid: fragment.mid,
+        fsn: fragment.fsn,
+        ppid: fragment.ppid,
+        payload: Vec::from_slice(alloc, &fragment.payload)?,
+        is_beginning: fragment.is_beginning,
+        is_end: fragment.is_end,
+    })
+}

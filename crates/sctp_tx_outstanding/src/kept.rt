@@ -1,0 +1,617 @@
+//! The kept items, with their totals.
+
+ghost use Rattle.std.specs.Prelude.{◌≡◌, ◌==◌, ◌+◌, ℕ, Some, map, min, option_map, slice_get, not, nat_lt, sum_by, ◌<◌, ◌≤◌, ◌^◌, ◌∷◌, ◌++◌, [], length, drop, take, OnOk, OnErr, IfSome, IfNone};
+ghost use Rattle.sctp_tx_outstanding.specs.Change.{apply_change};
+ghost use Rattle.sctp_tx_outstanding.specs.Items.{change_at, lay_down, is_of_at, last_of, later_of, later_at, without_payload, packet_part, payload_part, flight_part, queued_part, fast_part, expiring_part};
+ghost use Rattle.sctp_tx_outstanding.specs.Totals.{AreTotals, Exchanges};
+ghost use Rattle.sctp_tx_outstanding.specs.Losses.{placeholder};
+ghost use Rattle.sctp_tx_outstanding.specs.Views.{last_tree};
+ghost use Rattle.sctp_tx_outstanding.specs.Heard.{Rest, RestBelow, RestFrom};
+ghost use Rattle.sctp_tx_outstanding.specs.Sack.{reports};
+ghost use Rattle.sctp_tx_outstanding.specs.Messages.{Finds};
+ghost use Rattle.sctp_tx_outstanding.specs.Waiting.{HasSize, Lists, NoneWaits};
+ghost use Rattle.sctp_state.specs.Events.{emit_events, Grown};
+
+mod handover;
+
+use crate::heard::{Heard, alike, reach};
+use crate::item::{Item, header_size};
+use crate::messages::Messages;
+use crate::sack::highest_end;
+use crate::telling::tell_left;
+use crate::totals::Totals;
+use crate::waiting::Waiting;
+use sctp_chunk::{Data, GapAckBlock, are_runs};
+use sctp_serial::{Fsn, Mid, OutgoingMessageId, PpId, Ssn, StreamKey};
+use sctp_state::Events;
+use std::alloc::{AllocError, Global};
+use std::collections::VecDeque;
+use std::marker::Model;
+
+/// What may happen to a kept item.
+#[derive(Clone, Copy)]
+pub enum Change {
+    Ack,
+    Uncover,
+    Nack(bool, bool),
+    Retransmit,
+    MissFast,
+    Abandon,
+}
+
+impl Change {
+    ghost use Rattle.sctp_tx_outstanding.specs.Change.{is_of_sack};
+
+    /// Whether a SACK makes it, by what its blocks cover or not.
+    pub fn is_of_sack(self) -> bool
+        ensures { result ≡ is_of_sack self }
+    {
+        matches!(self, Change::Ack | Change::Uncover)
+    }
+}
+
+/// What a fragment says, without its payload.
+#[derive(Clone, Copy)]
+pub struct LastFragment {
+    pub stream_key: StreamKey,
+    pub ssn: Ssn,
+    pub mid: Mid,
+    pub fsn: Fsn,
+    pub ppid: PpId,
+    pub is_beginning: bool,
+    pub is_end: bool,
+}
+
+impl LastFragment {
+    fn of(item: &Item) -> LastFragment
+        ensures { last_tree result ≡ without_payload item.now.fragment }
+    {
+        let fragment = item.data();
+        LastFragment {
+            stream_key: fragment.stream_key,
+            ssn: fragment.ssn,
+            mid: fragment.mid,
+            fsn: fragment.fsn,
+            ppid: fragment.ppid,
+            is_beginning: fragment.is_beginning,
+            is_end: fragment.is_end,
+        }
+    }
+}
+
+// The fragment at the place, where it is one of the message, or else the one found before.
+fn later_at(
+    items: &VecDeque<Item>,
+    place: usize,
+    message_id: OutgoingMessageId,
+    found: Option<LastFragment>,
+) -> Option<LastFragment>
+    ensures { option_map last_tree result ≡ later_at message_id.0 place (option_map last_tree found) items.now.items }
+{
+    let Some(item) = items.get(place) else {
+        return found;
+    };
+    if item.message_id().0 == message_id.0 {
+        return Some(LastFragment::of(item));
+    }
+    found
+}
+
+// The last fragment of a message.
+fn find_last(
+    items: &VecDeque<Item>,
+    messages: &Messages,
+    message_id: OutgoingMessageId,
+) -> Option<LastFragment>
+    requires { Finds messages.now items.now.items }
+    ensures { option_map last_tree result ≡ last_of message_id.0 items.now.items }
+{
+    let count = items.len();
+    let mut last = None;
+    let mut place = 0;
+    while place < count {
+        let next = messages.next(message_id, place);
+        if count <= next {
+            return last;
+        }
+        last = later_at(items, next, message_id, last);
+        place = next + 1;
+    }
+    last
+}
+
+// The item at the place is one of those that are known.
+fn list_at(items: &VecDeque<Item>, messages: &mut Messages, place: usize)
+    requires { Finds messages.old (take place items.now.items) }
+    ensures { Finds messages.new (take (place + 1) items.now.items) }
+{
+    let Some(item) = items.get(place) else {
+        return;
+    };
+    messages.add(item.message_id(), place);
+}
+
+// Makes known which items are of which message, if there is memory for that.
+fn list_all(items: &VecDeque<Item>, messages: &mut Messages)
+    requires { Finds messages.old items.now.items }
+    ensures { Finds messages.new items.now.items }
+{
+    if messages.is_known {
+        return;
+    }
+    messages.begin();
+    for place in 0..items.len() {
+        list_at(items, messages, place);
+    }
+}
+
+// Tells what is to be told as the first items leave.
+fn tell_first(items: &VecDeque<Item>, count: usize, events: &mut Events) -> Result<(), AllocError>
+    ensures ok { OnOk result (events.new ≡ emit_events (reports (take count items.now.items)) events.old) }
+    ensures err { OnErr result (Grown events.old events.new) }
+{
+    let mut left = count;
+    for item in items.iter() {
+        if left == 0 {
+            return Ok(());
+        }
+        tell_left(events, item)?;
+        left -= 1;
+    }
+    Ok(())
+}
+
+fn apply(item: &mut Item, change: Change)
+    ensures { item.new ≡ apply_change change item.old }
+{
+    match change {
+        Change::Ack => item.ack(),
+        Change::Uncover => item.uncover(),
+        Change::Nack(at_once, fast) => item.nack(at_once, fast),
+        Change::Retransmit => item.mark_as_retransmitted(),
+        Change::MissFast => item.miss_fast(),
+        Change::Abandon => item.abandon(),
+    }
+}
+
+// Changes the item at the place. The answer is what it added to the totals, and what it adds then.
+fn change_item(
+    items: &mut VecDeque<Item>,
+    is_interleaved: bool,
+    place: usize,
+    change: Change,
+) -> (Totals, Totals)
+    ensures items { items.new.items ≡ change_at place (apply_change change) items.old.items }
+    ensures parts { Exchanges is_interleaved place change items.old.items result.0 result.1 }
+{
+    let Some(item) = items.get_mut(place) else {
+        return (Totals::nothing(), Totals::nothing());
+    };
+    let old = Totals::of(item, is_interleaved);
+    apply(item, change);
+    let new = Totals::of(item, is_interleaved);
+    (old, new)
+}
+
+// The bytes of the payload of the item at the place.
+fn payload_at(items: &VecDeque<Item>, place: usize) -> usize
+    ensures { HasSize place result items.now.items }
+{
+    match items.get(place) {
+        Some(item) => item.payload_size(),
+        None => 0,
+    }
+}
+
+// Changes the item at the place, if there is one.
+fn change_one(
+    items: &mut VecDeque<Item>,
+    totals: &mut Totals,
+    waiting: &mut Waiting,
+    is_interleaved: bool,
+    place: usize,
+    change: Change,
+)
+    requires totals { AreTotals is_interleaved items.old.items totals.old }
+    requires waiting { Lists waiting.old items.old.items }
+    ensures items { items.new.items ≡ change_at place (apply_change change) items.old.items }
+    ensures totals { AreTotals is_interleaved items.new.items totals.new }
+    ensures waiting { Lists waiting.new items.new.items }
+{
+    let _count = items.len();
+    let (old, new) = change_item(items, is_interleaved, place, change);
+    *totals = totals.exchanged(old, new);
+    if old.queued == new.queued {
+        return;
+    }
+    let size = payload_at(items, place);
+    waiting.follow(place, size, old.queued > 0, new.queued > 0);
+}
+
+// Adds an item behind the others. Without memory nothing changes.
+fn push_item(
+    items: &mut VecDeque<Item>,
+    totals: &mut Totals,
+    waiting: &mut Waiting,
+    is_interleaved: bool,
+    item: Item,
+) -> Result<(), AllocError>
+    requires totals { AreTotals is_interleaved items.old.items totals.old }
+    requires waiting { Lists waiting.old items.old.items }
+    ensures ok { OnOk result (items.new.items ≡ items.old.items ++ item ∷ []) }
+    ensures totals { AreTotals is_interleaved items.new.items totals.new }
+    ensures waiting { Lists waiting.new items.new.items }
+    ensures err { OnErr result (items.new.items ≡ items.old.items) }
+{
+    let size = item.payload_size();
+    let part = Totals::of(&item, is_interleaved);
+    let waits = item.should_be_retransmitted();
+    let place = items.len();
+    items.push_back(item)?;
+    waiting.follow(place, size, false, waits);
+    let _count = items.len();
+    *totals = totals.exchanged(Totals::nothing(), part);
+    Ok(())
+}
+
+// The first item is about to leave.
+fn leave_first(items: &VecDeque<Item>, messages: &mut Messages)
+    requires { Finds messages.old items.now.items }
+    ensures { Finds messages.new (drop 1 items.now.items) }
+{
+    let Some(item) = items.get(0) else {
+        return;
+    };
+    messages.leave(item.message_id());
+}
+
+// Takes the first item out.
+fn pop_item(
+    items: &mut VecDeque<Item>,
+    totals: &mut Totals,
+    waiting: &mut Waiting,
+    is_interleaved: bool,
+) -> Option<Item>
+    requires totals { AreTotals is_interleaved items.old.items totals.old }
+    requires waiting { Lists waiting.old items.old.items }
+    ensures first { IfSome result (λ i. items.old.items ≡ i ∷ items.new.items) }
+    ensures none { IfNone result (items.old.items ≡ []) }
+    ensures rest { items.new.items ≡ drop 1 items.old.items }
+    ensures totals { AreTotals is_interleaved items.new.items totals.new }
+    ensures waiting { Lists waiting.new items.new.items }
+{
+    let item = items.pop_front()?;
+    waiting.pass(item.should_be_retransmitted());
+    let part = Totals::of(&item, is_interleaved);
+    let _count = items.len();
+    *totals = totals.exchanged(part, Totals::nothing());
+    Some(item)
+}
+
+// Gives up the item at the place, where it is one of the message.
+fn abandon_at(
+    items: &mut VecDeque<Item>,
+    totals: &mut Totals,
+    waiting: &mut Waiting,
+    is_interleaved: bool,
+    place: usize,
+    message_id: OutgoingMessageId,
+)
+    requires totals { AreTotals is_interleaved items.old.items totals.old }
+    requires waiting { Lists waiting.old items.old.items }
+    ensures items { items.new.items ≡ change_at place (lay_down message_id.0) items.old.items }
+    ensures totals { AreTotals is_interleaved items.new.items totals.new }
+    ensures waiting { Lists waiting.new items.new.items }
+{
+    if !is_of(items, place, message_id) {
+        return;
+    }
+    change_one(
+        items,
+        totals,
+        waiting,
+        is_interleaved,
+        place,
+        Change::Abandon,
+    );
+}
+
+// Gives up all items of a message.
+fn abandon_all(
+    items: &mut VecDeque<Item>,
+    totals: &mut Totals,
+    waiting: &mut Waiting,
+    messages: &Messages,
+    is_interleaved: bool,
+    message_id: OutgoingMessageId,
+)
+    requires totals { AreTotals is_interleaved items.old.items totals.old }
+    requires waiting { Lists waiting.old items.old.items }
+    requires messages { Finds messages.now items.old.items }
+    ensures items { items.new.items ≡ map (lay_down message_id.0) items.old.items }
+    ensures totals { AreTotals is_interleaved items.new.items totals.new }
+    ensures waiting { Lists waiting.new items.new.items }
+{
+    let count = items.len();
+    let mut place = 0;
+    while place < count {
+        let next = messages.next(message_id, place);
+        if count <= next {
+            return;
+        }
+        abandon_at(items, totals, waiting, is_interleaved, next, message_id);
+        place = next + 1;
+    }
+}
+
+// Whether the item at the place is a fragment of the message.
+fn is_of(items: &VecDeque<Item>, place: usize, message_id: OutgoingMessageId) -> bool
+    ensures { result ≡ is_of_at message_id.0 place items.now.items }
+{
+    match items.get(place) {
+        Some(item) => item.message_id().0 == message_id.0,
+        None => false,
+    }
+}
+
+/// The kept items, with the running totals over them.
+#[derive(Drop)]
+pub struct Kept {
+    is_interleaved: bool,
+    items: VecDeque<Item>,
+    totals: Totals,
+    heard: Heard,
+    waiting: Waiting,
+    messages: Messages,
+}
+
+impl Model for Kept {
+    ghost use Rattle.sctp_tx_outstanding.specs.Items.{Kept};
+    ghost use Rattle.sctp_tx_outstanding.specs.Totals.{AreTotals};
+    ghost use Rattle.sctp_tx_outstanding.specs.Heard.{Knows};
+    ghost use Rattle.sctp_tx_outstanding.specs.Waiting.{Lists};
+    ghost use Rattle.sctp_tx_outstanding.specs.Messages.{Finds};
+
+    ghost Value = { Kept };
+
+    ghost view = { λ k. record { is_interleaved = k.is_interleaved; items = k.items.items } };
+
+    ghost invariant = { λ k. AreTotals k.is_interleaved k.items.items k.totals × (Knows k.heard k.items.items × (Lists k.waiting k.items.items × Finds k.messages k.items.items)) };
+}
+
+impl Kept {
+    ghost use Rattle.std.specs.Prelude.{Bool, false, true};
+    ghost use Rattle.std.specs.List.{All};
+    ghost use Rattle.sctp_tx_outstanding.specs.Item.{chunk_size, should_be_retransmitted};
+
+    /// No items. Takes no memory.
+    pub fn new(alloc: Global, is_interleaved: bool) -> Kept
+        ensures { result ≡ record { is_interleaved = is_interleaved; items = [] } }
+    {
+        Kept {
+            is_interleaved,
+            items: VecDeque::new(alloc),
+            totals: Totals::nothing(),
+            heard: Heard::new(alloc),
+            waiting: Waiting::new(alloc),
+            messages: Messages::new(alloc),
+        }
+    }
+
+    pub fn is_interleaved(&self) -> bool
+        ensures { result ≡ self.now.is_interleaved }
+    {
+        self.is_interleaved
+    }
+
+    pub fn len(&self) -> usize
+        ensures { result ≡ length self.now.items }
+    {
+        self.items.len()
+    }
+
+    /// The item at the place.
+    pub fn get(&self, place: usize) -> Option<&Item>
+        ensures { option_map (λ i. i.now) result ≡ slice_get self.now.items place }
+    {
+        self.items.get(place)
+    }
+
+    /// The bytes of the chunks in flight or missing, with their headers and padding.
+    pub fn flight_bytes(&self) -> u128
+        ensures { result ≡ sum_by (packet_part self.now.is_interleaved) self.now.items }
+    {
+        self.totals.packet_bytes
+    }
+
+    /// The bytes of their payloads.
+    pub fn flight_payload(&self) -> u128
+        ensures { result ≡ sum_by payload_part self.now.items }
+    {
+        self.totals.payload_bytes
+    }
+
+    /// How many items are in flight or missing.
+    pub fn flights(&self) -> usize
+        ensures { result ≡ sum_by flight_part self.now.items }
+    {
+        self.totals.flights
+    }
+
+    /// Whether an item is to be sent again.
+    pub fn has_queued(&self) -> bool
+        ensures { result ≡ nat_lt 0 (sum_by queued_part self.now.items) }
+    {
+        self.totals.queued > 0
+    }
+
+    /// Whether an item is to be sent again by the packet that ignores the congestion window.
+    pub fn has_fast(&self) -> bool
+        ensures { result ≡ nat_lt 0 (sum_by fast_part self.now.items) }
+    {
+        self.totals.fast > 0
+    }
+
+    /// The place from this one on up to which no item waits to be sent again.
+    pub fn next_waiting(&self, place: usize) -> usize
+        ensures onward { place ≤ result }
+        ensures none { NoneWaits place result self.now.items }
+    {
+        self.waiting.next(place)
+    }
+
+    /// No item that waits to be sent again has a chunk of fewer bytes.
+    pub fn least_waiting(&self) -> usize
+        ensures { All (λ i. should_be_retransmitted i ≡ true → result ≤ chunk_size self.now.is_interleaved i) self.now.items }
+    {
+        header_size(self.is_interleaved) + self.waiting.least.min(1 << 32)
+    }
+
+    /// How many of the first items are already as these blocks say.
+    pub fn front_as_in(&self, blocks: &[GapAckBlock]) -> usize
+        ensures { RestBelow blocks.now result 1 self.now.items }
+    {
+        if !self.heard.is_known {
+            return 0;
+        }
+        if !are_runs(0, blocks) {
+            return 0;
+        }
+        alike(&self.heard.runs, self.heard.offset, blocks)
+    }
+
+    /// Behind how many of the first items all are already as these blocks say.
+    pub fn back_as_in(&self, blocks: &[GapAckBlock]) -> usize
+        ensures rest { RestFrom blocks.now result (result + 1) self.now.items }
+        ensures within { result ≤ length self.now.items }
+    {
+        let len = self.items.len();
+        if !self.heard.is_known {
+            return len;
+        }
+        let end = reach(&self.heard.runs, self.heard.offset, blocks);
+        if end < len { end } else { len }
+    }
+
+    /// The items are as these blocks say.
+    pub fn remember(&mut self, blocks: &[GapAckBlock])
+        requires { Rest blocks.now 1 self.old.items }
+        ensures { self.new ≡ self.old }
+    {
+        let is_within = highest_end(blocks) as usize <= self.items.len();
+        self.heard.hear(blocks, is_within);
+    }
+
+    /// Whether an item that is missing or lost has a lifetime.
+    pub fn has_expiring(&self) -> bool
+        ensures { result ≡ nat_lt 0 (sum_by expiring_part self.now.items) }
+    {
+        self.totals.expiring > 0
+    }
+
+    /// Changes the item at the place, if there is one.
+    pub fn change(&mut self, place: usize, how: Change)
+        ensures { self.new ≡ record self.old { items = change_at place (apply_change how) self.old.items } }
+    {
+        change_one(
+            &mut self.items,
+            &mut self.totals,
+            &mut self.waiting,
+            self.is_interleaved,
+            place,
+            how,
+        );
+        self.heard.see(how);
+        self.waiting.count(self.totals.queued);
+    }
+
+    /// Adds an item behind the others. Without memory nothing changes.
+    pub fn push(&mut self, item: Item) -> Result<(), AllocError>
+        ensures ok { OnOk result (self.new ≡ record self.old { items = self.old.items ++ item ∷ [] }) }
+        ensures err { OnErr result (self.new ≡ self.old) }
+    {
+        let acked = item.is_acked();
+        let message_id = item.message_id();
+        let place = self.items.len();
+        push_item(
+            &mut self.items,
+            &mut self.totals,
+            &mut self.waiting,
+            self.is_interleaved,
+            item,
+        )?;
+        self.heard.take(acked);
+        self.messages.add(message_id, place);
+        Ok(())
+    }
+
+    /// Takes the first item out.
+    pub fn pop(&mut self) -> Option<Item>
+        ensures first { IfSome result (λ i. self.old.items ≡ i ∷ self.new.items) }
+        ensures none { IfNone result (self.old.items ≡ []) }
+        ensures rest { self.new ≡ record self.old { items = drop 1 self.old.items } }
+    {
+        self.heard.pass();
+        leave_first(&self.items, &mut self.messages);
+        pop_item(
+            &mut self.items,
+            &mut self.totals,
+            &mut self.waiting,
+            self.is_interleaved,
+        )
+    }
+
+    /// Tells what is to be told as the first items leave.
+    pub fn tell_leaving(&self, count: usize, events: &mut Events) -> Result<(), AllocError>
+        ensures ok { OnOk result (events.new ≡ emit_events (reports (take count self.now.items)) events.old) }
+        ensures err { OnErr result (Grown events.old events.new) }
+    {
+        tell_first(&self.items, count, events)
+    }
+
+    /// The last kept fragment of a message.
+    pub fn last_of(&self, message_id: OutgoingMessageId) -> Option<LastFragment>
+        ensures { option_map last_tree result ≡ last_of message_id.0 self.now.items }
+    {
+        find_last(&self.items, &self.messages, message_id)
+    }
+
+    /// Looks up which items are of which message, so that none of another is looked at.
+    pub(crate) fn find_messages(&mut self)
+        ensures { self.new ≡ self.old }
+    {
+        list_all(&self.items, &mut self.messages);
+        self.messages.hold(self.items.len());
+    }
+
+    /// Gives up all items of a message.
+    pub fn abandon(&mut self, message_id: OutgoingMessageId)
+        ensures { self.new ≡ record self.old { items = map (lay_down message_id.0) self.old.items } }
+    {
+        abandon_all(
+            &mut self.items,
+            &mut self.totals,
+            &mut self.waiting,
+            &self.messages,
+            self.is_interleaved,
+            message_id,
+        );
+    }
+}
+
+/// The end of a message whose own end was not sent.
+pub fn placeholder(alloc: Global, message_id: OutgoingMessageId, last: LastFragment) -> Item
+    ensures { result ≡ placeholder message_id.0 (last_tree last) }
+{
+    let fragment = Data {
+        stream_key: last.stream_key,
+        ssn: last.ssn,
+        mid: last.mid,
+        fsn: last.fsn + 1,
+        ppid: last.ppid,
+        payload: Vec::new(alloc),
+        is_beginning: false,
+        is_end: true,
+    };
+    Item::placeholder(message_id, fragment)
+}

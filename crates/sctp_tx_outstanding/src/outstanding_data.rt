@@ -1,0 +1,720 @@
+//! The fragments that have their TSN and are not acknowledged for good.
+
+ghost use Rattle.std.specs.Prelude.{if◌then◌else◌, ◌≡◌, ◌⊎◌, ℕ, ◌+◌, ◌-◌, ◌*◌, ◌<◌, ◌≤◌, ◌^◌, ◌∷◌, ◌++◌, ◌&&◌, [], not, nat_lt, min, length, map, slice_get, option_map, filter, take, true, ◌||◌, drop, ◌==◌, Option, Some, None, false, IsTrue, IfOk, OnOk, OnErr};
+ghost use Rattle.std.specs.Duration.{as_nanos};
+ghost use Rattle.sctp_chunk.specs.Views.{fragment_tree, forward_tsn_tree, i_forward_tsn_tree};
+ghost use Rattle.sctp_chunk.specs.Chunk.{forward_tsn_chunk, i_forward_tsn_chunk};
+ghost use Rattle.sctp_tx_outstanding.specs.Entries.{ssn_skip, mid_skip};
+ghost use Rattle.sctp_serial.specs.Unwrapped.{origin};
+ghost use Rattle.sctp_state.specs.Events.{give_up, emit_events};
+ghost use Rattle.sctp_tx_outstanding.specs.Views.{discard_of, point_of};
+ghost use Rattle.sctp_tx_outstanding.specs.Losses.{loss_of};
+ghost use Rattle.sctp_tx_outstanding.specs.Items.{first_sent, insert, begin_reset, begun_at};
+ghost use Rattle.sctp_tx_outstanding.specs.Heard.{Rest};
+ghost use Rattle.sctp_tx_outstanding.specs.Interrupted.{Same, SomeNacked, SomeExpired, SomeReceived};
+ghost use Rattle.sctp_tx_outstanding.specs.Forward.{is_forward_due, entry_at, stops, passes_of, forward_point};
+ghost use Rattle.std.specs.List.{list_any};
+ghost use Rattle.sctp_tx_outstanding.specs.Sack.{sample, sample_at, is_in_range, is_valid, staying, leaving, left_bytes, reports, receive_sack, acked_bytes, highest_end};
+ghost use Rattle.sctp_state.specs.Events.{first_of};
+
+mod handover;
+mod resending;
+
+use crate::item::Item;
+use crate::kept::{Change, Kept, placeholder};
+use crate::sack::{AckInfo, highest_end, pass_covered, settle_all, take_out};
+use crate::skips::{SkipEntry, chunk_size_with, mid_skips, put_if, ssn_skips};
+use sctp_chunk::{Data, ForwardTsnChunk, GapAckBlock, IForwardTsnChunk, are_runs};
+use sctp_serial::{LifecycleId, OutgoingMessageId, SerialNumber, SocketTime, StreamId, Tsn};
+use sctp_state::{Events, GivenUp, GivenUpCause};
+use std::alloc::{AllocError, Global};
+use std::collections::VecDeque;
+use std::marker::Model;
+use std::mem;
+use std::time::Duration;
+
+/// A message of which the send queue is to drop what is left.
+#[derive(Clone, Copy, Debug, PartialEq, Eq)]
+pub struct Discarded {
+    pub stream_id: StreamId,
+    pub message_id: OutgoingMessageId,
+}
+
+/// The fragments that have their TSN, until the peer's cumulative TSN passes them (RFC 9260 section 6.3.2). Their numbers
+/// never wrap: a TSN stands for the number nearest to the peer's cumulative TSN.
+#[derive(Drop)]
+pub struct OutstandingData {
+    alloc: Global,
+    // how `origin` is written
+    first: Tsn,
+    acked: u64,
+    kept: Kept,
+    breakpoints: VecDeque<u128>,
+    discards: VecDeque<Discarded>,
+    is_partial: bool,
+}
+
+impl Model for OutstandingData {
+    ghost use Rattle.std.specs.Prelude.{◌+◌, ◌<◌, ◌≤◌, ◌^◌, map};
+    ghost use Rattle.sctp_serial.specs.Unwrapped.{origin};
+    ghost use Rattle.sctp_tx_outstanding.specs.Items.{Outstanding};
+    ghost use Rattle.sctp_tx_outstanding.specs.Views.{discard_of};
+
+    ghost Value = { Outstanding };
+
+    ghost view = { λ d. record { first = d.first.0; items = record { acked = d.acked; kept = d.kept.items; breaks = d.breakpoints.items; discards = map discard_of d.discards.items; is_partial = d.is_partial; is_interleaved = d.kept.is_interleaved } } };
+
+    ghost invariant = { λ d. (origin ≤ d.acked + 1) × (d.acked < 2 ^ 63) };
+}
+
+// What a missing report or a timeout finds of an item.
+#[derive(Clone, Copy)]
+struct Loss {
+    is_lost: bool,
+    gives_up: bool,
+    message_id: OutgoingMessageId,
+    resendings: u32,
+}
+
+impl OutstandingData {
+    ghost use Rattle.sctp_tx_outstanding.specs.Items.{no_items, next_number, wire_tsn, number_of, flight_bytes, flight_payload, flight_items, waiting_items, fast_items, expiring_items};
+    ghost use Rattle.sctp_tx_outstanding.specs.Losses.{close_message, abandon_message, first_step, nack_at, nack_below, nack_all, expired_at, expire_at, expire_outstanding};
+
+    /// Nothing is outstanding, and the next TSN is `initial_tsn`. Takes no memory. Without partial reliability no message
+    /// is given up.
+    pub fn new(
+        alloc: Global,
+        initial_tsn: Tsn,
+        partial_reliability: bool,
+        message_interleaving: bool,
+    ) -> OutstandingData
+        ensures { result ≡ record { first = initial_tsn.0; items = no_items partial_reliability message_interleaving } }
+    {
+        OutstandingData {
+            alloc,
+            first: initial_tsn,
+            acked: (1 << 32) - 1,
+            kept: Kept::new(alloc, message_interleaving),
+            breakpoints: VecDeque::new(alloc),
+            discards: VecDeque::new(alloc),
+            is_partial: partial_reliability,
+        }
+    }
+
+    /// Whether no item is kept.
+    pub fn is_empty(&self) -> bool
+        ensures { result ≡ (length self.now.items.kept == 0) }
+    {
+        self.kept.len() == 0
+    }
+
+    /// Whether messages are interleaved: fragments go in I-DATA chunks.
+    pub fn is_interleaved(&self) -> bool
+        ensures { result ≡ self.now.items.is_interleaved }
+    {
+        self.kept.is_interleaved()
+    }
+
+    /// How many items are in flight or missing.
+    pub fn unacked_items(&self) -> usize
+        ensures { result ≡ flight_items self.now.items }
+    {
+        self.kept.flights()
+    }
+
+    /// The bytes of the payloads in flight or missing, at most `usize::MAX`.
+    pub fn unacked_payload_bytes(&self) -> usize
+        ensures { result ≡ min (flight_payload self.now.items) (2 ^ 64 - 1) }
+    {
+        self.kept.flight_payload().min(usize::MAX as u128) as usize
+    }
+
+    /// The bytes of the chunks in flight or missing, with headers and padding, at most `usize::MAX`.
+    pub fn unacked_packet_bytes(&self) -> usize
+        ensures { result ≡ min (flight_bytes self.now.items) (2 ^ 64 - 1) }
+    {
+        self.kept.flight_bytes().min(usize::MAX as u128) as usize
+    }
+
+    /// Whether an item is to be sent again.
+    pub fn has_data_to_be_retransmitted(&self) -> bool
+        ensures { result ≡ nat_lt 0 (waiting_items self.now.items) }
+    {
+        self.kept.has_queued()
+    }
+
+    /// Whether an item is to be sent again by the packet that ignores the congestion window.
+    pub fn has_data_to_be_fast_retransmitted(&self) -> bool
+        ensures { result ≡ nat_lt 0 (fast_items self.now.items) }
+    {
+        self.kept.has_fast()
+    }
+
+    /// The peer's cumulative TSN: all up to it left.
+    pub fn last_cumulative_acked_tsn(&self) -> Tsn
+        ensures { result.0 ≡ wire_tsn self.now self.now.items.acked }
+    {
+        Tsn::wrapped(self.first, self.acked)
+    }
+
+    /// The number of the peer's cumulative TSN.
+    pub fn acked_number(&self) -> u64
+        ensures { result ≡ self.now.items.acked }
+    {
+        self.acked
+    }
+
+    /// The number that the next fragment takes.
+    pub fn next_number(&self) -> u128
+        ensures { result ≡ next_number self.now.items }
+    {
+        self.acked as u128 + 1 + self.kept.len() as u128
+    }
+
+    /// The TSN that the next fragment takes.
+    pub fn next_tsn(&self) -> Tsn
+        ensures { result.0 ≡ wire_tsn self.now (next_number self.now.items) }
+    {
+        self.tsn_at(self.kept.len())
+    }
+
+    /// The last TSN that was given.
+    pub fn highest_outstanding_tsn(&self) -> Tsn
+        ensures { result.0 ≡ wire_tsn self.now (next_number self.now.items - 1) }
+    {
+        if self.kept.len() == 0 {
+            return self.last_cumulative_acked_tsn();
+        }
+        self.tsn_at(self.kept.len() - 1)
+    }
+
+    // The TSN of the item at a place.
+    fn tsn_at(&self, place: usize) -> Tsn
+        ensures { result.0 ≡ wire_tsn self.now (self.now.items.acked + 1 + place) }
+    {
+        let past = (place as u64 % (1 << 32)) as u32;
+        Tsn::wrapped(self.first, self.acked + 1) + past
+    }
+
+    /// Takes a fragment that is sent now for the first time, and gives its TSN. Without memory nothing changes.
+    pub fn insert(
+        &mut self,
+        message_id: OutgoingMessageId,
+        fragment: Data,
+        now: SocketTime,
+        max_retransmissions: u16,
+        expires_at: Option<SocketTime>,
+        lifecycle_id: Option<LifecycleId>,
+    ) -> Result<Tsn, AllocError>
+        requires small { length fragment.payload.items < 2 ^ 32 }
+        ensures ok { OnOk result (self.new ≡ record self.old { items = insert (first_sent message_id.0 (fragment_tree fragment) now max_retransmissions expires_at lifecycle_id) self.old.items }) }
+        ensures tsn { IfOk result (λ tsn. tsn.0 ≡ wire_tsn self.old (next_number self.old.items)) }
+        ensures err { OnErr result (self.new ≡ self.old) }
+    {
+        let tsn = self.next_tsn();
+        let item = Item::new(
+            message_id,
+            fragment,
+            now,
+            max_retransmissions,
+            expires_at,
+            lifecycle_id,
+        );
+        self.kept.push(item)?;
+        Ok(tsn)
+    }
+
+    /// Whether there are messages of which the send queue is to drop what is left.
+    pub fn has_unsent_messages_to_discard(&self) -> bool
+        ensures { result ≡ not (length self.now.items.discards == 0) }
+    {
+        !self.discards.is_empty()
+    }
+
+    /// Takes out all messages of which the send queue is to drop what is left, in order.
+    pub fn get_unsent_messages_to_discard(&mut self) -> VecDeque<Discarded>
+        ensures all { map discard_of result.items ≡ self.old.items.discards }
+        ensures rest { self.new ≡ record self.old { items = record self.old.items { discards = [] } } }
+    {
+        mem::replace(&mut self.discards, VecDeque::new(self.alloc))
+    }
+
+    /// Takes out the next message of which the send queue is to drop what is left.
+    pub fn get_unsent_message_to_discard(&mut self) -> Option<Discarded>
+        ensures first { option_map discard_of result ≡ first_of self.old.items.discards }
+        ensures rest { self.new ≡ record self.old { items = record self.old.items { discards = drop 1 self.old.items.discards } } }
+    {
+        self.discards.pop_front()
+    }
+
+    /// A reset of streams begins: no forward point crosses the next TSN.
+    pub fn begin_reset_streams(&mut self) -> Result<(), AllocError>
+        ensures ok { OnOk result (self.new ≡ record self.old { items = begin_reset self.old.items }) }
+        ensures err { OnErr result (self.new ≡ self.old) }
+    {
+        let number = self.next_number();
+        self.breakpoints.push_back(number)?;
+        Ok(())
+    }
+
+    // A message whose end was not sent gets one. Without memory nothing changes.
+    fn close(&mut self, message_id: OutgoingMessageId) -> Result<(), AllocError>
+        ensures ok { OnOk result (self.new ≡ record self.old { items = close_message message_id.0 self.old.items }) }
+        ensures err { OnErr result (self.new ≡ self.old) }
+    {
+        let Some(last) = self.kept.last_of(message_id) else {
+            return Ok(());
+        };
+        if last.is_end {
+            return Ok(());
+        }
+        let stream_id = last.stream_key.id();
+        self.discards.push_back(Discarded {
+            stream_id,
+            message_id,
+        })?;
+        let end = placeholder(self.alloc, message_id, last);
+        if self.kept.push(end).is_err() {
+            self.discards.pop_back();
+            return Err(AllocError);
+        }
+        Ok(())
+    }
+
+    // Gives up all that is kept of a message, with a record. Without memory nothing changes.
+    fn give_up(
+        &mut self,
+        message_id: OutgoingMessageId,
+        cause: GivenUpCause,
+        events: &mut Events,
+    ) -> Result<(), AllocError>
+        ensures ok { OnOk result (self.new ≡ record self.old { items = abandon_message message_id.0 self.old.items }) }
+        ensures told { OnOk result (events.new ≡ give_up message_id.0 cause events.old) }
+        ensures err { OnErr result (self.new ≡ self.old) }
+        ensures silent { OnErr result (events.new ≡ events.old) }
+    {
+        let mark = events.mark();
+        let number = message_id;
+        events.add_given_up(GivenUp { number, cause })?;
+        self.kept.find_messages();
+        if self.close(message_id).is_err() {
+            events.roll_back(mark);
+            return Err(AllocError);
+        }
+        self.kept.abandon(message_id);
+        Ok(())
+    }
+
+    // What a missing report, or a timeout, finds of the item at the place.
+    fn loss_at(&self, place: usize, at_once: bool) -> Option<Loss>
+        ensures { result ≡ option_map (loss_of self.now.items.is_partial at_once) (slice_get self.now.items.kept place) }
+    {
+        let item = self.kept.get(place)?;
+        let is_lost = item.is_outstanding() && item.is_lost(at_once);
+        let may_give_up = self.is_partial && item.is_used_up();
+        Some(Loss {
+            is_lost,
+            gives_up: is_lost && may_give_up,
+            message_id: item.message_id(),
+            resendings: item.sendings().saturating_sub(1),
+        })
+    }
+
+    // The item at the place is missing. Says whether it is lost. Without memory nothing changes.
+    fn nack_item(
+        &mut self,
+        place: usize,
+        at_once: bool,
+        fast: bool,
+        events: &mut Events,
+    ) -> Result<bool, AllocError>
+        ensures items { OnOk result (self.new ≡ record self.old { items = (nack_at at_once fast place (first_step self.old.items events.old)).items }) }
+        ensures told { OnOk result (events.new ≡ (nack_at at_once fast place (first_step self.old.items events.old)).emitted) }
+        ensures lossy { IfOk result (λ is_lossy. is_lossy ≡ (nack_at at_once fast place (first_step self.old.items events.old)).is_lossy) }
+        ensures err { OnErr result (self.new ≡ self.old) }
+        ensures silent { OnErr result (events.new ≡ events.old) }
+    {
+        let Some(loss) = self.loss_at(place, at_once) else {
+            return Ok(false);
+        };
+        if loss.gives_up {
+            let cause = GivenUpCause::Retransmissions(loss.resendings);
+            self.give_up(loss.message_id, cause, events)?;
+            return Ok(true);
+        }
+        self.kept.change(place, Change::Nack(at_once, fast));
+        Ok(loss.is_lost)
+    }
+
+    // The items at the places below `count` are missing, in ascending order. Says whether one is lost.
+    fn nack_below(
+        &mut self,
+        count: usize,
+        at_once: bool,
+        fast: bool,
+        events: &mut Events,
+    ) -> Result<bool, AllocError>
+        ensures items { OnOk result (self.new ≡ record self.old { items = (nack_below at_once fast count (first_step self.old.items events.old)).items }) }
+        ensures told { OnOk result (events.new ≡ (nack_below at_once fast count (first_step self.old.items events.old)).emitted) }
+        ensures lossy { IfOk result (λ is_lossy. is_lossy ≡ (nack_below at_once fast count (first_step self.old.items events.old)).is_lossy) }
+        ensures err { OnErr result (SomeNacked at_once fast self.old events.old self.new events.new) }
+    {
+        let mut is_lossy = false;
+        for place in 0..count {
+            let is_lost = self.nack_item(place, at_once, fast, events)?;
+            is_lossy |= is_lost;
+        }
+        Ok(is_lossy)
+    }
+
+    // The same of a SACK, by whose blocks the items stand: those that a block covers are passed over.
+    fn nack_uncovered(
+        &mut self,
+        count: usize,
+        blocks: &[GapAckBlock],
+        fast: bool,
+        events: &mut Events,
+    ) -> Result<bool, AllocError>
+        requires { Rest blocks.now 1 self.old.items.kept }
+        ensures items { OnOk result (self.new ≡ record self.old { items = (nack_below false fast count (first_step self.old.items events.old)).items }) }
+        ensures told { OnOk result (events.new ≡ (nack_below false fast count (first_step self.old.items events.old)).emitted) }
+        ensures lossy { IfOk result (λ is_lossy. is_lossy ≡ (nack_below false fast count (first_step self.old.items events.old)).is_lossy) }
+        ensures err { OnErr result (SomeNacked false fast self.old events.old self.new events.new) }
+    {
+        let is_in_runs = are_runs(0, blocks);
+        let mut is_lossy = false;
+        let mut from = 0;
+        let mut place = 0;
+        while place < count {
+            let (block, next) = pass_covered(blocks, is_in_runs, from, place);
+            if count <= next {
+                return Ok(is_lossy);
+            }
+            let is_lost = self.nack_item(next, false, fast, events)?;
+            is_lossy |= is_lost;
+            from = block;
+            place = next + 1;
+        }
+        Ok(is_lossy)
+    }
+
+    /// A timeout: each item in flight or missing is lost, in ascending order. It is to be sent again, or, with partial
+    /// reliability and where it was sent again as often as it may be, its message is given up, with a record. Without
+    /// memory this is done for some of the first items alone.
+    pub fn nack_all(&mut self, events: &mut Events) -> Result<(), AllocError>
+        ensures items { OnOk result (self.new ≡ record self.old { items = (nack_all self.old.items events.old).items }) }
+        ensures told { OnOk result (events.new ≡ (nack_all self.old.items events.old).emitted) }
+        ensures err { OnErr result (SomeNacked true false self.old events.old self.new events.new) }
+    {
+        let count = self.kept.len();
+        self.nack_below(count, true, false, events)?;
+        Ok(())
+    }
+
+    // Whether a lifetime can end: with partial reliability, where an item that is missing or lost has one.
+    fn may_expire(&self) -> bool
+        ensures { result ≡ (self.now.items.is_partial && nat_lt 0 (expiring_items self.now.items)) }
+    {
+        self.is_partial && self.kept.has_expiring()
+    }
+
+    // Whether the item at the place is missing or lost, and its message expired and may be given up.
+    fn expired_at(&self, place: usize, now: SocketTime) -> Option<OutgoingMessageId>
+        ensures { option_map (λ id. id.0) result ≡ expired_at now place self.now.items }
+    {
+        let item = self.kept.get(place)?;
+        if self.is_partial && item.is_nacked() && item.has_expired(now) {
+            return Some(item.message_id());
+        }
+        None
+    }
+
+    // Gives the message of the item at the place up if it expired. Without memory nothing changes.
+    fn expire_item(
+        &mut self,
+        place: usize,
+        now: SocketTime,
+        events: &mut Events,
+    ) -> Result<(), AllocError>
+        ensures items { OnOk result (self.new ≡ record self.old { items = (expire_at now place (first_step self.old.items events.old)).items }) }
+        ensures told { OnOk result (events.new ≡ (expire_at now place (first_step self.old.items events.old)).emitted) }
+        ensures err { OnErr result (self.new ≡ self.old) }
+        ensures silent { OnErr result (events.new ≡ events.old) }
+    {
+        if let Some(message_id) = self.expired_at(place, now) {
+            self.give_up(message_id, GivenUpCause::Lifetime, events)?;
+        }
+        Ok(())
+    }
+
+    /// With partial reliability, gives up each message that expired and has an item that is missing or lost, with a
+    /// record. Without memory this is done for some of the first items alone.
+    pub fn expire_outstanding_chunks(
+        &mut self,
+        now: SocketTime,
+        events: &mut Events,
+    ) -> Result<(), AllocError>
+        ensures items { OnOk result (self.new ≡ record self.old { items = (expire_outstanding now self.old.items events.old).items }) }
+        ensures told { OnOk result (events.new ≡ (expire_outstanding now self.old.items events.old).emitted) }
+        ensures err { OnErr result (SomeExpired now self.old events.old self.new events.new) }
+    {
+        if !self.may_expire() {
+            return Ok(());
+        }
+        for place in 0..self.kept.len() {
+            self.expire_item(place, now, events)?;
+        }
+        Ok(())
+    }
+
+    /// Whether the first item is given up, so that a forward point is due.
+    pub fn should_send_forward_tsn(&self) -> bool
+        ensures { result ≡ is_forward_due self.now.items }
+    {
+        match self.kept.get(0) {
+            Some(item) => self.is_partial && item.is_abandoned(),
+            None => false,
+        }
+    }
+
+    // The time since the item at the place was sent, where it was sent once.
+    fn rtt_at(&self, place: usize, now: SocketTime) -> Option<Duration>
+        ensures { option_map as_nanos result ≡ sample_at now place self.now.items }
+    {
+        let item = self.kept.get(place)?;
+        if item.sendings() == 1 {
+            return Some(item.get_rtt_from(now));
+        }
+        None
+    }
+
+    /// The number that the TSN stands for: the nearest to the peer's cumulative TSN.
+    pub fn unwrapped(&self, tsn: Tsn) -> u64
+        ensures value { result ≡ number_of self.now tsn.0 }
+        ensures bound { result < 2 ^ 63 + 2 ^ 33 }
+    {
+        let ahead = tsn.steps_from(Tsn::wrapped(self.first, self.acked));
+        if ahead < Tsn::SPACE / 2 {
+            self.acked + ahead
+        } else {
+            self.acked + ahead - Tsn::SPACE
+        }
+    }
+
+    /// Whether a SACK may be taken: its cumulative TSN lies from the own one to the highest TSN that was given, and no
+    /// block reaches above that.
+    pub fn is_sack_valid(&self, cumulative_tsn: Tsn, blocks: &[GapAckBlock]) -> bool
+        ensures { result ≡ is_valid (number_of self.now cumulative_tsn.0) blocks.now self.now.items }
+    {
+        let number = self.unwrapped(cumulative_tsn);
+        let highest = number as u128 + highest_end(blocks) as u128;
+        self.acked <= number && highest < self.next_number() && number < (1 << 32) + (1 << 62)
+    }
+
+    // The items up to the number leave, and are told. The answer is how many bytes are newly acknowledged by that.
+    fn leave(&mut self, number: u64, events: &mut Events) -> Result<usize, AllocError>
+        requires onward { self.old.items.acked ≤ number }
+        requires small { number < 2 ^ 63 }
+        ensures items { OnOk result (self.new ≡ record self.old { items = staying number self.old.items }) }
+        ensures told { OnOk result (events.new ≡ emit_events (reports (take (leaving number self.old.items) self.old.items.kept)) events.old) }
+        ensures bytes { IfOk result (λ bytes. bytes ≡ min (left_bytes number self.old.items) (2 ^ 64 - 1)) }
+        ensures err { OnErr result (self.new ≡ self.old) }
+        ensures silent { OnErr result (events.new ≡ events.old) }
+    {
+        let count = (number - self.acked) as usize;
+        let mark = events.mark();
+        if self.kept.tell_leaving(count, events).is_err() {
+            events.roll_back(mark);
+            return Err(AllocError);
+        }
+        let bytes = take_out(&mut self.kept, count);
+        self.acked = number;
+        forget_passed(&mut self.breakpoints, number);
+        Ok(bytes)
+    }
+
+    /// Takes a SACK, with blocks of any kind: items up to its cumulative TSN leave, in order, and it is told of each message
+    /// whose end leaves whether it was delivered; those in blocks are acknowledged, and those that no block covers any more
+    /// are in flight again; each that is in flight or missing below the highest one newly acknowledged by a block is
+    /// reported missing, and is lost by the third report. Without memory nothing changes, or only some of the first of these
+    /// reports are done.
+    pub fn handle_sack(
+        &mut self,
+        cumulative_tsn: Tsn,
+        blocks: &[GapAckBlock],
+        is_in_fast_recovery: bool,
+        events: &mut Events,
+    ) -> Result<AckInfo, AllocError>
+        requires valid { IsTrue (is_in_range (number_of self.old cumulative_tsn.0) self.old.items) }
+        ensures items { let n = number_of self.old cumulative_tsn.0 in OnOk result (self.new ≡ record self.old { items = (receive_sack n blocks.now is_in_fast_recovery self.old.items events.old).items }) }
+        ensures told { let n = number_of self.old cumulative_tsn.0 in OnOk result (events.new ≡ (receive_sack n blocks.now is_in_fast_recovery self.old.items events.old).emitted) }
+        ensures lossy { let n = number_of self.old cumulative_tsn.0 in IfOk result (λ info. info.has_packet_loss ≡ (receive_sack n blocks.now is_in_fast_recovery self.old.items events.old).is_lossy) }
+        ensures bytes { let n = number_of self.old cumulative_tsn.0 in IfOk result (λ info. info.bytes_acked ≡ min (acked_bytes n blocks.now self.old.items) (2 ^ 64 - 1)) }
+        ensures err { OnErr result (Same self.old events.old self.new events.new ⊎ SomeReceived (number_of self.old cumulative_tsn.0) blocks.now is_in_fast_recovery self.old events.old self.new events.new) }
+    {
+        let number = self.unwrapped(cumulative_tsn);
+        let left = self.leave(number, events)?;
+        let covered = settle_all(&mut self.kept, blocks);
+        let fast = !is_in_fast_recovery;
+        let is_lossy = self.nack_uncovered(covered.below, blocks, fast, events)?;
+        Ok(AckInfo {
+            bytes_acked: left.saturating_add(covered.bytes),
+            has_packet_loss: is_lossy,
+        })
+    }
+
+    // What the item at the place says of its stream.
+    fn entry_at(&self, place: usize) -> Option<SkipEntry>
+        ensures { result ≡ entry_at self.now.items place }
+    {
+        let item = self.kept.get(place)?;
+        let fragment = item.data();
+        if !self.kept.is_interleaved() && fragment.stream_key.is_unordered() {
+            return None;
+        }
+        Some(SkipEntry {
+            stream_id: fragment.stream_key.id(),
+            is_unordered: fragment.stream_key.is_unordered(),
+            number: if self.kept.is_interleaved() {
+                fragment.mid.0
+            } else {
+                u32::from(fragment.ssn.0)
+            },
+        })
+    }
+
+    // Whether a breakpoint stands before the item at the place, and another item before that.
+    fn stops_at(&self, place: usize) -> bool
+        ensures { result ≡ stops place self.now.items }
+    {
+        let number = self.acked as u128 + 1 + place as u128;
+        place > 0 && has_breakpoint(&self.breakpoints, number)
+    }
+
+    // Whether a forward point passes the item at the place too.
+    fn passes(&self, place: usize, entries: &[SkipEntry], max_size: usize) -> bool
+        ensures { result ≡ passes_of max_size self.now.items (record { count = place; entries = entries.now }) (slice_get self.now.items.kept place) }
+    {
+        let Some(item) = self.kept.get(place) else {
+            return false;
+        };
+        if !item.is_abandoned() || self.stops_at(place) {
+            return false;
+        }
+        let entry = self.entry_at(place);
+        chunk_size_with(self.kept.is_interleaved(), entry, entries) <= max_size as u128
+    }
+
+    // The entries of a forward point, and how many items it passes.
+    fn forward_point(&self, max_size: usize) -> Result<ForwardPoint, AllocError>
+        ensures { IfOk result (λ p. point_of p ≡ forward_point max_size self.now.items) }
+    {
+        let mut entries = Vec::new(self.alloc);
+        for place in 0..self.kept.len() {
+            if !self.passes(place, &entries, max_size) {
+                return Ok(ForwardPoint {
+                    count: place,
+                    entries,
+                });
+            }
+            put_if(&mut entries, self.entry_at(place))?;
+        }
+        Ok(ForwardPoint {
+            count: self.kept.len(),
+            entries,
+        })
+    }
+
+    /// A FORWARD-TSN over the given-up items from the cumulative TSN on, up to a hole, to a breakpoint of a reset, or to an
+    /// entry that would make the chunk longer than `max_size` bytes. It names the streams of ordered messages that it
+    /// touches, ascending, each with its last message's number. For messages that are not interleaved.
+    pub fn create_forward_tsn(&self, max_size: usize) -> Result<ForwardTsnChunk, AllocError>
+        requires { self.now.items.is_interleaved ≡ false }
+        ensures { let point = forward_point max_size self.now.items in IfOk result (λ c. forward_tsn_tree c ≡ forward_tsn_chunk (wire_tsn self.now (self.now.items.acked + point.count)) (map ssn_skip point.entries)) }
+    {
+        let point = self.forward_point(max_size)?;
+        Ok(ForwardTsnChunk {
+            new_cumulative_tsn: self.tsn_behind(point.count),
+            skipped_streams: ssn_skips(self.alloc, &point.entries)?,
+        })
+    }
+
+    /// The same as an I-FORWARD-TSN, for interleaved messages: it names streams with their ordered and their unordered
+    /// messages.
+    pub fn create_iforward_tsn(&self, max_size: usize) -> Result<IForwardTsnChunk, AllocError>
+        requires { self.now.items.is_interleaved ≡ true }
+        ensures { let point = forward_point max_size self.now.items in IfOk result (λ c. i_forward_tsn_tree c ≡ i_forward_tsn_chunk (wire_tsn self.now (self.now.items.acked + point.count)) (map mid_skip point.entries)) }
+    {
+        let point = self.forward_point(max_size)?;
+        Ok(IForwardTsnChunk {
+            new_cumulative_tsn: self.tsn_behind(point.count),
+            skipped_streams: mid_skips(self.alloc, &point.entries)?,
+        })
+    }
+
+    // The TSN so many items behind the cumulative one.
+    fn tsn_behind(&self, count: usize) -> Tsn
+        ensures { result.0 ≡ wire_tsn self.now (self.now.items.acked + count) }
+    {
+        let past = (count as u64 % (1 << 32)) as u32;
+        Tsn::wrapped(self.first, self.acked) + past
+    }
+
+    /// The round trip time that an acknowledgement of this TSN tells now: the time since its item was sent, where it is
+    /// kept and was sent once.
+    pub fn measure_rtt(&self, now: SocketTime, tsn: Tsn) -> Option<Duration>
+        ensures { option_map as_nanos result ≡ sample now (number_of self.now tsn.0) self.now.items }
+    {
+        let number = self.unwrapped(tsn);
+        if number <= self.acked {
+            return None;
+        }
+        self.rtt_at((number - self.acked - 1) as usize, now)
+    }
+
+    /// Begins behind this TSN, as a socket does that is restored. For data of which nothing is outstanding.
+    pub fn reset_sequence_numbers(&mut self, last_cumulative_tsn: Tsn)
+        requires { self.old.items.kept ≡ [] }
+        ensures { self.new ≡ record self.old { items = begun_at self.old.first last_cumulative_tsn.0 self.old.items } }
+    {
+        let next = last_cumulative_tsn + 1;
+        self.acked = (1 << 32) - 1 + next.steps_from(self.first);
+    }
+}
+
+// What becomes of an item that waits.
+#[derive(Clone, Copy)]
+enum Turn {
+    Send,
+    PassOver,
+    Leave,
+}
+
+// A packet that is being filled.
+#[derive(Drop)]
+struct Filling {
+    chunks: Vec<(Tsn, Data)>,
+    room: usize,
+    window: usize,
+}
+
+// How far a forward point goes.
+#[derive(Drop)]
+struct ForwardPoint {
+    count: usize,
+    entries: Vec<SkipEntry>,
+}
+
+fn has_breakpoint(breakpoints: &VecDeque<u128>, number: u128) -> bool
+    ensures { result ≡ list_any (λ b. b == number) breakpoints.now.items }
+{
+    breakpoints.contains(&number)
+}
+
+// Leaves the breakpoints above the number.
+fn forget_passed(breakpoints: &mut VecDeque<u128>, number: u64)
+    ensures { breakpoints.new.items ≡ filter (λ b. nat_lt number b) breakpoints.old.items }
+{
+    let number = number as u128;
+    breakpoints.retain(|breakpoint| number < *breakpoint);
+}

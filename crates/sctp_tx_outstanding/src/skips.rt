@@ -1,0 +1,141 @@
+//! Entries of forward points.
+
+ghost use Rattle.std.specs.Prelude.{◌≡◌, ℕ, ◌+◌, ◌<◌, ◌≤◌, not, nat_lt, length, map, IfOk, OnOk, OnErr, ◌&&◌};
+ghost use Rattle.std.specs.List.{list_any};
+ghost use Rattle.sctp_tx_outstanding.specs.Forward.{is_before, is_same, is_alike, is_alike_at, name_stream, entries_before, size_with, with_entry};
+ghost use Rattle.sctp_tx_outstanding.specs.Entries.{ssn_skip, mid_skip};
+
+use sctp_chunk::SkippedStream;
+use sctp_serial::{Mid, Ssn, StreamId, StreamKey};
+use std::alloc::{AllocError, Global};
+
+/// The number of the last message of a stream, among its ordered or its unordered ones, that a forward point touches.
+#[derive(Clone, Copy, Debug)]
+pub struct SkipEntry {
+    pub stream_id: StreamId,
+    pub is_unordered: bool,
+    /// The MID, where messages are interleaved, or the SSN.
+    pub number: u32,
+}
+
+impl SkipEntry {
+    /// It as FORWARD-TSN has it.
+    pub fn ssn_skip(&self) -> SkippedStream
+        ensures { result ≡ ssn_skip self.now }
+    {
+        SkippedStream::ForwardTsn(self.stream_id, Ssn((self.number % 65_536) as u16))
+    }
+
+    /// It as I-FORWARD-TSN has it.
+    pub fn mid_skip(&self) -> SkippedStream
+        ensures { result ≡ mid_skip self.now }
+    {
+        SkippedStream::IForwardTsn(
+            StreamKey::new(self.is_unordered, self.stream_id),
+            Mid(self.number),
+        )
+    }
+
+    fn is_before(&self, other: &SkipEntry) -> bool
+        ensures { result ≡ is_before self.now other.now }
+    {
+        self.stream_id.0 < other.stream_id.0
+            || (self.stream_id.0 == other.stream_id.0 && !self.is_unordered && other.is_unordered)
+    }
+
+    fn is_alike(&self, other: &SkipEntry) -> bool
+        ensures { result ≡ is_alike self.now other.now }
+    {
+        self.stream_id.0 == other.stream_id.0 && is_same(self.is_unordered, other.is_unordered)
+    }
+}
+
+fn is_same(first: bool, second: bool) -> bool
+    ensures { result ≡ is_same first second }
+{
+    if first { second } else { !second }
+}
+
+/// Whether an entry of the same stream and order is among these.
+pub fn is_named(entries: &[SkipEntry], entry: SkipEntry) -> bool
+    ensures { result ≡ list_any (is_alike entry) entries.now }
+{
+    entries.iter().any(|other| entry.is_alike(other))
+}
+
+// How many entries stand before the place of this one.
+fn place_of(entries: &[SkipEntry], entry: SkipEntry) -> usize
+    ensures place { result ≡ entries_before entry entries.now }
+    ensures within { result ≤ length entries.now }
+{
+    let mut place = 0;
+    while place < entries.len() && entries[place].is_before(&entry) {
+        place += 1;
+    }
+    place
+}
+
+// Whether the entry at the place is of this one's stream and order.
+fn is_alike_at(entries: &[SkipEntry], place: usize, entry: SkipEntry) -> bool
+    ensures { result ≡ is_alike_at entry place entries.now }
+{
+    if place >= entries.len() {
+        return false;
+    }
+    entry.is_alike(&entries[place])
+}
+
+/// Puts the entry at its place, or in the place of the one of its stream and order. Without memory nothing changes.
+pub fn put(entries: &mut Vec<SkipEntry>, entry: SkipEntry) -> Result<(), AllocError>
+    ensures ok { OnOk result (entries.new.items ≡ name_stream entry entries.old.items) }
+    ensures err { OnErr result (entries.new.items ≡ entries.old.items) }
+{
+    let place = place_of(entries, entry);
+    if !is_alike_at(entries, place, entry) {
+        entries.insert(place, entry)?;
+        return Ok(());
+    }
+    if place < entries.len() {
+        entries[place] = entry;
+    }
+    Ok(())
+}
+
+pub fn ssn_skips(alloc: Global, entries: &[SkipEntry]) -> Result<Vec<SkippedStream>, AllocError>
+    ensures { IfOk result (λ skips. skips.items ≡ map ssn_skip entries.now) }
+{
+    entries.iter().map(|entry| entry.ssn_skip()).collect(alloc)
+}
+
+pub fn mid_skips(alloc: Global, entries: &[SkipEntry]) -> Result<Vec<SkippedStream>, AllocError>
+    ensures { IfOk result (λ skips. skips.items ≡ map mid_skip entries.now) }
+{
+    entries.iter().map(|entry| entry.mid_skip()).collect(alloc)
+}
+
+/// Puts the entry, if there is one, at its place. Without memory nothing changes.
+pub fn put_if(entries: &mut Vec<SkipEntry>, entry: Option<SkipEntry>) -> Result<(), AllocError>
+    ensures ok { OnOk result (entries.new.items ≡ with_entry entry entries.old.items) }
+    ensures err { OnErr result (entries.new.items ≡ entries.old.items) }
+{
+    if let Some(entry) = entry {
+        put(entries, entry)?;
+    }
+    Ok(())
+}
+
+/// The bytes of a forward chunk with these entries and one more, if it isn't named.
+pub fn chunk_size_with(
+    is_interleaved: bool,
+    entry: Option<SkipEntry>,
+    entries: &[SkipEntry],
+) -> u128
+    ensures { result ≡ size_with is_interleaved entry entries.now }
+{
+    let entry_size = if is_interleaved { 8 } else { 4 };
+    let more = match entry {
+        Some(entry) if !is_named(entries, entry) => 1,
+        _ => 0,
+    };
+    8 + entry_size * (entries.len() as u128 + more)
+}

@@ -1,0 +1,87 @@
+//! Running totals over the kept items.
+
+ghost use Rattle.std.specs.Prelude.{◌≡◌, ◌^◌, ◌-◌, ◌+◌, min};
+ghost use Rattle.sctp_tx_outstanding.specs.Items.{when};
+ghost use Rattle.sctp_tx_outstanding.specs.Totals.{parts, exchange, nothing};
+
+use crate::item::Item;
+
+/// Sums over the items: of those in flight or missing the bytes of their chunks, of their payloads, and how many they are;
+/// how many are to be sent again, in all and by the fast packet, and how many are missing or lost and have a lifetime.
+#[derive(Clone, Copy)]
+pub struct Totals {
+    pub packet_bytes: u128,
+    pub payload_bytes: u128,
+    pub flights: usize,
+    pub queued: usize,
+    pub fast: usize,
+    pub expiring: usize,
+}
+
+fn bytes_if(condition: bool, bytes: usize) -> u128
+    ensures { result ≡ when condition bytes }
+{
+    if condition { bytes as u128 } else { 0 }
+}
+
+fn one_if(condition: bool) -> usize
+    ensures { result ≡ when condition 1 }
+{
+    if condition { 1 } else { 0 }
+}
+
+impl Totals {
+    pub fn nothing() -> Totals
+        ensures { result ≡ nothing }
+    {
+        Totals {
+            packet_bytes: 0,
+            payload_bytes: 0,
+            flights: 0,
+            queued: 0,
+            fast: 0,
+            expiring: 0,
+        }
+    }
+
+    /// What one item adds.
+    pub fn of(item: &Item, is_interleaved: bool) -> Totals
+        ensures { result ≡ parts is_interleaved item.now }
+    {
+        let flies = item.is_outstanding();
+        Totals {
+            packet_bytes: bytes_if(flies, item.chunk_size(is_interleaved)),
+            payload_bytes: bytes_if(flies, item.payload_size()),
+            flights: one_if(flies),
+            queued: one_if(item.should_be_retransmitted()),
+            fast: one_if(item.is_fast()),
+            expiring: one_if(item.may_expire()),
+        }
+    }
+
+    /// The totals with one part in place of another.
+    pub fn exchanged(self, old: Totals, new: Totals) -> Totals
+        ensures { result ≡ exchange old new self }
+    {
+        Totals {
+            packet_bytes: bytes(self.packet_bytes, old.packet_bytes, new.packet_bytes),
+            payload_bytes: bytes(self.payload_bytes, old.payload_bytes, new.payload_bytes),
+            flights: count(self.flights, old.flights, new.flights),
+            queued: count(self.queued, old.queued, new.queued),
+            fast: count(self.fast, old.fast, new.fast),
+            expiring: count(self.expiring, old.expiring, new.expiring),
+        }
+    }
+}
+
+fn bytes(total: u128, old: u128, new: u128) -> u128
+    ensures { result ≡ min (total - old + new) (2 ^ 128 - 1) }
+{
+    total.saturating_sub(old).saturating_add(new)
+}
+
+fn count(total: usize, old: usize, new: usize) -> usize
+    ensures { result ≡ min (total - old + new) (2 ^ 64 - 1) }
+{
+    total.saturating_sub(old).saturating_add(new)
+}

@@ -1,0 +1,30 @@
+-- What was emitted stands, whatever is emitted behind it.
+use Rattle.std.proofs.Common.{◌≡◌, ℕ, Bool, true, false, cond, List, [], ◌∷◌, Option, sym, subst}
+use Rattle.sctp_state.specs.declared.api.GivenUpCause.{GivenUpCause}
+use Rattle.sctp_state.specs.declared.api.GivenUpCause.TheVariants.{Reset}
+use Rattle.sctp_state.specs.Events.{Event, Emitted, Grown, emit_events, give_up, expiry}
+use Rattle.sctp_state.proofs.EventLemmas.{grown_same, grown_through, grown_emitted, grown_given_up}
+use Rattle.sctp_tx_queue.specs.Queue.{Queued}
+use Rattle.sctp_tx_queue.specs.Resets.{emitted_waiting, is_partly}
+
+pub grown_after : {P : Type 0} (es : List (Event P)) (t u v : Emitted P) → u ≡ emit_events es t → Grown u v → Grown t v
+grown_after es t u v e g = grown_through t u v (subst (λ x. Grown t x) (sym e) (grown_emitted es t)) g
+
+pub grown_after_record : {P : Type 0} (n : ℕ) (cause : GivenUpCause) (t u v : Emitted P) → u ≡ give_up n cause t → Grown u v → Grown t v
+grown_after_record n cause t u v e g = grown_through t u v (subst (λ x. Grown t x) (sym e) (grown_given_up n cause t)) g
+
+pub grown_dropped : {P : Type 0} (n : ℕ) (cause : GivenUpCause) (lifecycle : Option ℕ) (t : Emitted P) → Grown t (emit_events (expiry lifecycle) (give_up n cause t))
+grown_dropped n cause lifecycle t =
+    let gone = give_up n cause t in
+    grown_through t gone (emit_events (expiry lifecycle) gone) (grown_given_up n cause t) (grown_emitted (expiry lifecycle) gone)
+
+pub grown_waiting : {P : Type 0} (ms : List Queued) (t : Emitted P) → Grown t (emitted_waiting ms t)
+grown_waiting [] t = grown_same t
+grown_waiting {P} (m ∷ rest) t = grown_through t (next (is_partly m)) (emitted_waiting rest (next (is_partly m))) (step (is_partly m)) (grown_waiting rest (next (is_partly m)))
+  where
+    next : Bool → Emitted P
+    next b = cond b t (emit_events (expiry m.lifecycle) (give_up m.number Reset t))
+
+    step : (b : Bool) → Grown t (next b)
+    step true = grown_same t
+    step false = grown_dropped m.number Reset m.lifecycle t

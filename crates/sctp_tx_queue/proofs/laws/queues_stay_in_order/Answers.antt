@@ -1,0 +1,13 @@
+use Rattle.sctp_tx_queue.proofs.InOrderLemmas.{new_in_order, added_in_order, produced_in_order, threshold_in_order, priority_in_order, mode_in_order, discarded_in_order, prepared_in_order, steps_in_order, reset_in_order, reset_unsent}
+use Rattle.sctp_tx_queue.proofs.laws.queues_stay_in_order.Goals as goal
+
+pub returns : goal.returns
+returns c = record {
+  new = new_in_order;
+  added = added_in_order;
+  produced = λ now size q told some h. produced_in_order now size q told some h;
+  settings = record { threshold = λ id bytes q told h. threshold_in_order id bytes q told h; priority = priority_in_order; mode = mode_in_order };
+  discarded = λ id message q told h. discarded_in_order id message q told h;
+  resets = record { prepared = λ id q told h. prepared_in_order id q told h; steps = steps_in_order };
+  restarted = record { order = reset_in_order; unsent = reset_unsent };
+}

@@ -1,0 +1,12 @@
+use Rattle.std.proofs.Common.{List, ap, sym, ◌∙◌}
+use Rattle.std.specs.Prelude.{map}
+use Rattle.sctp_serial.specs.declared.api.StreamId.{StreamId}
+use Rattle.sctp_tx_queue.specs.Resets.{ready}
+use Rattle.sctp_tx_queue.proofs.ReadyLemmas.{none_ready}
+use Rattle.sctp_tx_queue.proofs.send_queue.streams.Streams.ready.Goals as goal
+
+pub returns-then-self-eq0 : goal.returns-then-self-eq0
+returns-then-self-eq0 c =
+    ap (λ (ids : List StreamId). map (λ id. id.0) ids) c.new.ensures.items
+    ∙ sym (none_ready c.self.inside.streams.entries (sym c.self.invariant.ready ∙ c.if-self-eq0.true))
+    ∙ ap (λ ss. ready ss.entries) c.self.view_is

@@ -1,0 +1,49 @@
+-- A new association: what waits is sent from its beginning, under numbers that begin again.
+use Rattle.std.specs.Prelude.{◌≡◌, ℕ, None, List, [], ◌∷◌, map, take}
+use Rattle.std.specs.Map.{keys_of}
+use Rattle.sctp_serial.specs.Unwrapped.{origin}
+use Rattle.sctp_tx_queue.specs.declared.send_queue.stream.PauseState.TheVariants.{NotPaused}
+use Rattle.sctp_tx_queue.specs.Queue.{Queued, Stream, Streams, Queue, stream, put_stream, hears}
+use Rattle.sctp_tx_queue.specs.Settings.{begun_without}
+
+abbrev pub whole : Queued → Queued
+whole m = record m { offset = 0; numbers = None; fsn = 0 }
+
+-- no message but the first of its stream is partly sent
+abbrev pub whole_front : List Queued → List Queued
+whole_front [] = []
+whole_front (m ∷ rest) = whole m ∷ rest
+
+abbrev pub restart : Stream → Stream
+restart s = record s { messages = whole_front s.messages; pause = NotPaused; next_ssn = origin; next_ordered_mid = origin; next_unordered_mid = origin }
+
+abbrev pub restarted_one : ℕ → Queue → Queue
+restarted_one id q =
+    let ss : Streams = put_stream id (restart (stream id q.streams)) q.streams in
+    record q { streams = ss; scheduler = hears id (stream id ss) q.scheduler; begun = begun_without id q.begun }
+
+abbrev pub each_restarted : List ℕ → Queue → Queue
+each_restarted [] q = q
+each_restarted (id ∷ ids) q = each_restarted ids (restarted_one id q)
+
+-- no message is begun
+abbrev pub unbegun : Queue → Queue
+unbegun q = record q { begun = None }
+
+-- all streams, ascending by id. Messages keep their numbers in the order of acceptance
+abbrev pub reset : Queue → Queue
+reset q = unbegun (each_restarted (keys_of q.streams.entries) q)
+
+-- what is left without memory: the first of the streams restarted, or none of them, and the others not
+abbrev pub SomeRestarted : Queue → Queue → Type 0
+SomeRestarted q after = (count : ℕ) × (after ≡ each_restarted (take count (keys_of q.streams.entries)) q)
+
+-- ---- numbers of messages
+
+abbrev pub numbers_on : (id : ℕ) → Queue → List ℕ
+numbers_on id q = map (λ m. m.number) (stream id q.streams).messages
+
+-- they are never set back: each message has the one that it was accepted with, and the next one is as it was
+pub record NumbersGoOn (q after : Queue) : Type 0 where
+  pub next : after.next_number ≡ q.next_number
+  pub waiting : (id : ℕ) → numbers_on id after ≡ numbers_on id q

@@ -1,0 +1,599 @@
+//! Messages that wait to be sent.
+
+ghost use Rattle.std.specs.Prelude.{◌≡◌, ℕ, ◌<◌, ◌^◌, ◌==◌, [], length, not, is_some, None, Some, IsSome, IfOk, OnOk, OnErr, option_map, map, take};
+ghost use Rattle.std.specs.List.{list_any};
+ghost use Rattle.std.specs.List.Sorted.{IsStrictlySortedBy};
+ghost use Rattle.std.specs.Map.{lookup, keys_of, values_of};
+ghost use Rattle.std.specs.Ordering.{nat_cmp};
+ghost use Rattle.std.specs.BTreeMap.{is_at};
+ghost use Rattle.sctp_state.specs.Options.{options_of};
+ghost use Rattle.sctp_state.specs.Events.{Grown, expiry, emit_events};
+ghost use Rattle.sctp_stream_scheduler.specs.Scheduler.{set_bytes_remaining};
+ghost use Rattle.sctp_tx_queue.specs.declared.send_queue.stream.ResetStep.TheVariants.{Requested, Performed, Refused};
+ghost use Rattle.sctp_tx_queue.specs.Queue.{amount_of, total_of, stream, open_stream, queue, add, is_empty};
+ghost use Rattle.sctp_tx_queue.specs.Produced.{begun_by, turn, turn_from, produce, next_stream};
+ghost use Rattle.sctp_tx_queue.specs.Settings.{set_low_threshold, set_priority, set_mode, discard, begun_without};
+ghost use Rattle.sctp_tx_queue.specs.Resets.{prepare_reset, emitted_waiting, is_ready, requested_streams, request_resets, commit_resets, roll_back_resets, step_stream, each_stepped};
+ghost use Rattle.sctp_tx_queue.specs.Begun.{Begins, GoesOn};
+ghost use Rattle.sctp_tx_queue.specs.Interrupted.{Same, Freed, Stopped, Interrupted, SomeStepped};
+ghost use Rattle.sctp_state.specs.Handover.{handover_state_of};
+ghost use Rattle.sctp_tx_queue.specs.Handover.{write_handover};
+ghost use Rattle.sctp_tx_queue.specs.Readiness.{readiness};
+ghost use Rattle.sctp_tx_queue.specs.Restarted.{reset, restarted_one, each_restarted, SomeRestarted, NumbersGoOn};
+ghost use Rattle.sctp_tx_queue.specs.Views.{produced_of, queued_of};
+
+pub mod message;
+mod restoring;
+mod sending;
+pub mod stream;
+pub mod streams;
+mod telling;
+
+use crate::data_to_send::DataToSend;
+use message::QueuedMessage;
+use sctp_serial::{LifecycleId, Message, OutgoingMessageId, SocketTime, StreamId};
+use sctp_state::{
+    Events, HandoverReadiness, Options, SendOptions, SocketEvent, SocketHandoverState,
+};
+use sctp_stream_scheduler::StreamScheduler;
+use std::alloc::{AllocError, Global};
+use std::marker::Model;
+use stream::ResetStep;
+use streams::Streams;
+use telling::{tell_expired, tell_if};
+
+/// The messages of all streams that wait or are partly sent, and which of them goes next.
+#[derive(Drop)]
+pub struct SendQueue {
+    alloc: Global,
+    streams: Streams,
+    scheduler: StreamScheduler,
+    next_message_id: OutgoingMessageId,
+    // without interleaving, the stream whose message is partly sent
+    begun: Option<StreamId>,
+}
+
+impl Model for SendQueue {
+    ghost use Rattle.std.specs.Prelude.{option_map};
+    ghost use Rattle.sctp_tx_queue.specs.Queue.{Queue};
+
+    ghost Value = { Queue };
+
+    ghost view = { λ q. record { streams = q.streams; scheduler = q.scheduler; next_number = q.next_message_id.0; begun = option_map (λ id. id.0) q.begun } };
+}
+
+// Tells that a message was dropped, and what its stream has to send then. Without memory nothing changes.
+fn leave_line(
+    scheduler: &mut StreamScheduler,
+    events: &mut Events,
+    id: StreamId,
+    bytes: usize,
+    priority: u16,
+    lifecycle_id: Option<LifecycleId>,
+) -> Result<(), AllocError>
+    ensures ok { OnOk result (scheduler.new ≡ set_bytes_remaining id.0 bytes priority scheduler.old) }
+    ensures told { OnOk result (events.new ≡ emit_events (expiry lifecycle_id) events.old) }
+    ensures err { OnErr result (scheduler.new ≡ scheduler.old) }
+    ensures silent { OnErr result (events.new ≡ events.old) }
+{
+    let mark = events.mark();
+    if tell_expired(events, lifecycle_id).is_err() {
+        events.roll_back(mark);
+        return Err(AllocError);
+    }
+    if scheduler.set_bytes_remaining(id, bytes, priority).is_err() {
+        events.roll_back(mark);
+        return Err(AllocError);
+    }
+    Ok(())
+}
+
+fn begun_by(id: StreamId, is_interleaved: bool, made: &Option<DataToSend>) -> Option<StreamId>
+    ensures { option_map (λ id. id.0) result ≡ begun_by id.0 is_interleaved (option_map produced_of made.now) }
+{
+    match made {
+        Some(made) if !made.data.is_end && !is_interleaved => Some(id),
+        _ => None,
+    }
+}
+
+impl SendQueue {
+    /// An empty queue without interleaving.
+    pub fn new(alloc: Global, options: &Options) -> SendQueue
+        ensures { result ≡ queue (options_of options.now) }
+    {
+        SendQueue {
+            alloc,
+            streams: Streams::new(alloc, options),
+            scheduler: StreamScheduler::new(alloc, options.mtu.saturating_sub(32)),
+            next_message_id: OutgoingMessageId(0),
+            begun: None,
+        }
+    }
+
+    /// The bytes of a stream that are not sent.
+    pub fn buffered_amount(&self, id: StreamId) -> usize
+        ensures { result ≡ amount_of (stream id.0 self.now.streams) }
+    {
+        self.streams.amount(id)
+    }
+
+    /// The bytes of all streams that are not sent.
+    pub fn total_buffered_amount(&self) -> usize
+        ensures { result ≡ total_of self.now.streams.entries }
+    {
+        self.streams.total()
+    }
+
+    /// Whether no message waits or is partly sent.
+    pub fn is_empty(&self) -> bool
+        ensures { result ≡ is_empty self.now }
+    {
+        self.streams.is_empty()
+    }
+
+    /// Accepts a message, and answers its number. Fewer than 2^32 bytes may wait before it: so there are at most 2^32
+    /// messages, and no sum of their bytes overflows, also once a new association makes them whole again.
+    pub fn add(
+        &mut self,
+        now: SocketTime,
+        message: Message,
+        options: &SendOptions,
+    ) -> Result<OutgoingMessageId, AllocError>
+        requires some { 0 < length message.payload.items }
+        requires small { length message.payload.items < 2 ^ 32 }
+        requires room { total_of self.old.streams.entries < 2 ^ 32 }
+        ensures ok { OnOk result (self.new ≡ add message.stream_id.0 (queued_of self.old.next_number now message options.now) self.old) }
+        ensures number { IfOk result (λ id. id.0 ≡ self.old.next_number) }
+        ensures err { OnErr result (self.new ≡ self.old) }
+    {
+        let id = message.stream_id;
+        let message_id = self.next_message_id;
+        let message = QueuedMessage::new(message_id, now, message, options);
+        let bytes = self.streams.sendable_with(id, &message);
+        if bytes == 0 {
+            self.streams.push(self.alloc, id, message)?;
+            self.scheduler.leave(id);
+            self.next_message_id += 1;
+            return Ok(message_id);
+        }
+        if self.scheduler.is_active(id) {
+            self.streams.push(self.alloc, id, message)?;
+            self.next_message_id += 1;
+            return Ok(message_id);
+        }
+        let priority = self.streams.priority(id);
+        self.scheduler.set_bytes_remaining(id, bytes, priority)?;
+        let Err(_) = self.streams.push(self.alloc, id, message) else {
+            self.next_message_id += 1;
+            return Ok(message_id);
+        };
+        self.scheduler.leave(id);
+        Err(AllocError)
+    }
+
+    // The stream that is next: one whose message was begun, unless messages are interleaved.
+    fn next_stream(&self) -> Option<StreamId>
+        ensures { option_map (λ id. id.0) result ≡ next_stream self.now }
+    {
+        if self.begun.is_some() {
+            return self.begun;
+        }
+        self.scheduler.peek()
+    }
+
+    // Drops the messages at the front of a stream that expired before they were begun. Without memory nothing changes.
+    fn drop_stale(
+        &mut self,
+        now: SocketTime,
+        id: StreamId,
+        events: &mut Events,
+    ) -> Result<(), AllocError>
+        ensures ok { OnOk result (Freed now id.0 self.old events.old self.new events.new) }
+        ensures err { OnErr result (Same self.old events.old self.new events.new) }
+    {
+        if !self.streams.is_stale(id, now) {
+            return Ok(());
+        }
+        let mark = events.mark();
+        if self.streams.tell_stale(id, now, events).is_err() {
+            events.roll_back(mark);
+            return Err(AllocError);
+        }
+        self.streams.drop_stale(id, now);
+        Ok(())
+    }
+
+    // The next fragment of a stream. Without memory nothing changes.
+    fn send_front(
+        &mut self,
+        id: StreamId,
+        size: usize,
+        events: &mut Events,
+    ) -> Result<Option<DataToSend>, AllocError>
+        ensures queue { OnOk result (self.new ≡ (turn_from id.0 size self.old.streams self.old events.old).queue) }
+        ensures told { OnOk result (events.new ≡ (turn_from id.0 size self.old.streams self.old events.old).emitted) }
+        ensures made { IfOk result (λ found. option_map produced_of found ≡ (turn_from id.0 size self.old.streams self.old events.old).made) }
+        ensures err { OnErr result (Same self.old events.old self.new events.new) }
+    {
+        let is_interleaved = self.scheduler.is_interleaved();
+        let made = self
+            .streams
+            .send_front(self.alloc, id, size, &mut self.scheduler, events)?;
+        self.begun = begun_by(id, is_interleaved, &made);
+        Ok(made)
+    }
+
+    // Asks one stream for a fragment.
+    fn turn(
+        &mut self,
+        now: SocketTime,
+        id: StreamId,
+        size: usize,
+        events: &mut Events,
+    ) -> Result<Option<DataToSend>, AllocError>
+        ensures queue { OnOk result (self.new ≡ (turn now id.0 size self.old events.old).queue) }
+        ensures told { OnOk result (events.new ≡ (turn now id.0 size self.old events.old).emitted) }
+        ensures made { IfOk result (λ found. option_map produced_of found ≡ (turn now id.0 size self.old events.old).made) }
+        ensures err { OnErr result (Stopped now id.0 self.old events.old self.new events.new) }
+    {
+        self.drop_stale(now, id, events)?;
+        self.send_front(id, size, events)
+    }
+
+    // Asks streams until one gives a fragment, or none is left.
+    fn ask(
+        &mut self,
+        now: SocketTime,
+        size: usize,
+        events: &mut Events,
+    ) -> Result<Option<DataToSend>, AllocError>
+        requires { 0 < size }
+        ensures queue { OnOk result (self.new ≡ (produce now size self.old events.old).queue) }
+        ensures told { OnOk result (events.new ≡ (produce now size self.old events.old).emitted) }
+        ensures made { IfOk result (λ found. option_map produced_of found ≡ (produce now size self.old events.old).made) }
+        ensures err { OnErr result (Interrupted now size self.old events.old self.new events.new) }
+    {
+        let mut turns = self.scheduler.active_count() + 2;
+        while turns > 0 {
+            let Some(id) = self.next_stream() else {
+                return Ok(None);
+            };
+            let made = self.turn(now, id, size, events)?;
+            if let Some(made) = made {
+                return Ok(Some(made));
+            }
+            turns -= 1;
+        }
+        Ok(None)
+    }
+
+    /// The next fragment, with a payload of at most `max_payload` bytes, in the scheduler's order. Messages that expired
+    /// before they were begun are dropped on the way: each is given up, and ends its lifecycle. Then events tell what
+    /// amounts fell to their thresholds, and that the message was handed out whole. `None` says that no stream has
+    /// anything to send.
+    pub fn produce(
+        &mut self,
+        now: SocketTime,
+        max_payload: usize,
+        events: &mut Events,
+    ) -> Result<Option<DataToSend>, AllocError>
+        requires { 0 < max_payload }
+        ensures queue { OnOk result (self.new ≡ (produce now max_payload self.old events.old).queue) }
+        ensures told { OnOk result (events.new ≡ (produce now max_payload self.old events.old).emitted) }
+        ensures made { IfOk result (λ found. option_map produced_of found ≡ (produce now max_payload self.old events.old).made) }
+        ensures idle { IfOk result (λ found. found ≡ None → self.new.scheduler.times ≡ []) }
+        ensures begins { IfOk result (λ found. Begins self.old.scheduler.is_interleaved (option_map produced_of found) self.new) }
+        ensures goes_on { IfOk result (λ found. GoesOn self.old (option_map produced_of found)) }
+        ensures err { OnErr result (Interrupted now max_payload self.old events.old self.new events.new) }
+    {
+        let made = self.ask(now, max_payload, events)?;
+        Ok(made)
+    }
+
+    /// Whether a stream has anything to send.
+    pub fn has_data_to_send(&self) -> bool
+        ensures { result ≡ not (length self.now.scheduler.times == 0) }
+    {
+        self.scheduler.active_count() > 0
+    }
+
+    /// The amount at which a stream is low.
+    pub fn buffered_amount_low_threshold(&self, id: StreamId) -> usize
+        ensures { result ≡ (stream id.0 self.now.streams).threshold }
+    {
+        self.streams.low_threshold(id)
+    }
+
+    /// Sets the amount at which a stream is low. Where its amount was above the old one and is at most the new one, an
+    /// event says so.
+    pub fn set_buffered_amount_low_threshold(
+        &mut self,
+        id: StreamId,
+        bytes: usize,
+        events: &mut Events,
+    ) -> Result<(), AllocError>
+        ensures queue { OnOk result (self.new ≡ (set_low_threshold id.0 bytes self.old events.old).queue) }
+        ensures told { OnOk result (events.new ≡ (set_low_threshold id.0 bytes self.old events.old).emitted) }
+        ensures err { OnErr result (Same self.old events.old self.new events.new) }
+    {
+        let mark = events.mark();
+        let is_low = self.streams.is_low_at(id, bytes);
+        if tell_if(events, is_low, SocketEvent::OnBufferedAmountLow(id)).is_err() {
+            events.roll_back(mark);
+            return Err(AllocError);
+        }
+        if self.streams.open(self.alloc, id).is_err() {
+            events.roll_back(mark);
+            return Err(AllocError);
+        }
+        self.streams.set_low_threshold(id, bytes);
+        Ok(())
+    }
+
+    /// The priority of a stream, by which it is weighed with interleaving.
+    pub fn get_priority(&self, id: StreamId) -> u16
+        ensures { result ≡ (stream id.0 self.now.streams).priority }
+    {
+        self.streams.priority(id)
+    }
+
+    /// Sets the priority of a stream, for its later fragments.
+    pub fn set_priority(&mut self, id: StreamId, priority: u16) -> Result<(), AllocError>
+        ensures ok { OnOk result (self.new ≡ set_priority id.0 priority self.old) }
+        ensures err { OnErr result (self.new ≡ self.old) }
+    {
+        self.streams.open(self.alloc, id)?;
+        self.streams.set_priority(id, priority);
+        Ok(())
+    }
+
+    /// Whether messages are interleaved (RFC 8260).
+    pub fn is_interleaved(&self) -> bool
+        ensures { result ≡ self.now.scheduler.is_interleaved }
+    {
+        self.scheduler.is_interleaved()
+    }
+
+    /// Sets whether messages are interleaved (RFC 8260). To be called before the first fragment of an association.
+    pub fn enable_message_interleaving(&mut self, is_interleaved: bool)
+        ensures { self.new ≡ set_mode is_interleaved self.old }
+    {
+        self.scheduler.enable_message_interleaving(is_interleaved);
+    }
+
+    /// Drops what is left of a message that was given up, where it is the first of its stream, as a partly sent message
+    /// is. Its lifecycle ends.
+    pub fn discard(
+        &mut self,
+        id: StreamId,
+        message_id: OutgoingMessageId,
+        events: &mut Events,
+    ) -> Result<(), AllocError>
+        ensures queue { OnOk result (self.new ≡ (discard id.0 message_id.0 self.old events.old).queue) }
+        ensures told { OnOk result (events.new ≡ (discard id.0 message_id.0 self.old events.old).emitted) }
+        ensures err { OnErr result (Same self.old events.old self.new events.new) }
+    {
+        let Some(discarded) = self.streams.front_discarded(id, message_id) else {
+            self.streams.discard(id, message_id);
+            return Ok(());
+        };
+        let bytes = self.streams.sendable_without(id, message_id);
+        let priority = self.streams.priority_without(id, message_id);
+        let lifecycle_id = discarded.lifecycle_id;
+        leave_line(
+            &mut self.scheduler,
+            events,
+            id,
+            bytes,
+            priority,
+            lifecycle_id,
+        )?;
+        self.streams.discard(id, message_id);
+        self.begun = begun_without(id, self.begun);
+        Ok(())
+    }
+
+    /// Prepares the reset of a stream: its messages of which nothing is sent are given up, and their lifecycles end.
+    /// The stream can be reset once its partly sent message has ended, and sends no other one until the reset is
+    /// answered.
+    pub fn prepare_reset_stream(
+        &mut self,
+        id: StreamId,
+        events: &mut Events,
+    ) -> Result<(), AllocError>
+        ensures queue { OnOk result (self.new ≡ (prepare_reset id.0 self.old events.old).queue) }
+        ensures told { OnOk result (events.new ≡ (prepare_reset id.0 self.old events.old).emitted) }
+        ensures err { OnErr result (Same self.old events.old self.new events.new) }
+    {
+        let mark = events.mark();
+        let bytes = self.streams.sendable_prepared(id);
+        match self.tell_and_open(id, bytes, events) {
+            Ok(()) => {
+                self.streams.prepare_reset(id);
+                Ok(())
+            }
+            Err(_) => {
+                events.roll_back(mark);
+                Err(AllocError)
+            }
+        }
+    }
+
+    // Takes the memory for a stream that is to be reset, and tells of the messages that it drops.
+    fn tell_and_open(
+        &mut self,
+        id: StreamId,
+        bytes: usize,
+        events: &mut Events,
+    ) -> Result<(), AllocError>
+        requires there { 0 < bytes → IsSome (lookup (is_at (nat_cmp id.0)) self.old.streams.entries) }
+        ensures ok { OnOk result (self.new ≡ (let p : ℕ = (stream id.0 self.old.streams).priority in record self.old { streams = open_stream id.0 self.old.streams; scheduler = set_bytes_remaining id.0 bytes p self.old.scheduler })) }
+        ensures open { OnOk result (IsSome (lookup (is_at (nat_cmp id.0)) self.new.streams.entries)) }
+        ensures stream { OnOk result (stream id.0 self.new.streams ≡ stream id.0 self.old.streams) }
+        ensures told { OnOk result (events.new ≡ emitted_waiting (stream id.0 self.old.streams).messages events.old) }
+        ensures err { OnErr result (self.new ≡ self.old) }
+        ensures grown { OnErr result (Grown events.old events.new) }
+    {
+        self.streams.tell_waiting(id, events)?;
+        let priority = self.streams.priority(id);
+        self.streams.open(self.alloc, id)?;
+        if bytes == 0 {
+            self.scheduler.leave(id);
+            return Ok(());
+        }
+        self.scheduler.set_bytes_remaining(id, bytes, priority)?;
+        Ok(())
+    }
+
+    /// What stands in the way of a handover: messages, where `is_strict` says that none may be handed over, and streams
+    /// whose reset waits or is to be answered.
+    pub fn get_handover_readiness(&self, is_strict: bool) -> HandoverReadiness
+        ensures { result.0 ≡ readiness is_strict self.now }
+    {
+        let has_messages = is_strict && !self.streams.is_empty();
+        (HandoverReadiness::SEND_QUEUE_NOT_EMPTY & has_messages)
+            | (HandoverReadiness::PENDING_STREAM_RESET & self.streams.has_waiting())
+    }
+
+    /// Writes the streams, the messages and the count of accepted messages into the record of a socket that is handed
+    /// over now. Without memory the record stays as it was.
+    pub fn add_to_handover_state(
+        &self,
+        now: SocketTime,
+        state: &mut SocketHandoverState,
+    ) -> Result<(), AllocError>
+        ensures ok { OnOk result (let old = handover_state_of state.old in handover_state_of state.new ≡ record old { tx = write_handover now self.now old.tx }) }
+        ensures ordered { IsStrictlySortedBy nat_cmp (keys_of self.now.streams.entries) }
+        ensures err { OnErr result (state.new ≡ state.old) }
+    {
+        let streams = self.streams.handed_over(self.alloc)?;
+        let messages = self.streams.messages_handed_over(self.alloc, now)?;
+        state.tx.next_outgoing_message_id = u64::from(self.next_message_id.0);
+        state.tx.streams = streams;
+        state.tx.queued_messages = messages;
+        Ok(())
+    }
+
+    /// A new association begins: the message that is partly sent is whole again, each stream is open, and its numbers
+    /// begin again. Numbers of messages go on. Without memory this is done for some of the first streams alone, or for
+    /// none.
+    pub fn reset(&mut self) -> Result<(), AllocError>
+        ensures ok { OnOk result (self.new ≡ reset self.old) }
+        ensures numbers { NumbersGoOn self.old self.new }
+        ensures err { OnErr result (SomeRestarted self.old self.new) }
+    {
+        let ids = self.streams.ids(self.alloc)?;
+        self.restart_all(&ids)?;
+        self.begun = None;
+        Ok(())
+    }
+
+    fn restart_all(&mut self, ids: &[StreamId]) -> Result<(), AllocError>
+        ensures ok { OnOk result (self.new ≡ each_restarted (map (λ id. id.0) ids.now) self.old) }
+        ensures err { OnErr result ((count : ℕ) × (self.new ≡ each_restarted (take count (map (λ id. id.0) ids.now)) self.old)) }
+    {
+        for id in ids {
+            self.restart_one(*id)?;
+        }
+        Ok(())
+    }
+
+    // A new association begins for a stream. Without memory nothing changes.
+    fn restart_one(&mut self, id: StreamId) -> Result<(), AllocError>
+        ensures ok { OnOk result (self.new ≡ restarted_one id.0 self.old) }
+        ensures err { OnErr result (self.new ≡ self.old) }
+    {
+        let bytes = self.streams.sendable_restarted(id);
+        let priority = self.streams.priority_restarted(id);
+        self.scheduler.set_bytes_remaining(id, bytes, priority)?;
+        self.streams.restart(id);
+        self.begun = begun_without(id, self.begun);
+        Ok(())
+    }
+
+    /// Whether a stream can be reset, and is in no request.
+    pub fn has_streams_ready_to_be_reset(&self) -> bool
+        ensures { result ≡ list_any is_ready (values_of self.now.streams.entries) }
+    {
+        self.streams.has_ready()
+    }
+
+    /// The first streams that can be reset and are in no request, by ascending id and at most `most`: they are in one
+    /// from then on.
+    pub fn get_streams_ready_to_reset(&mut self, most: usize) -> Result<Vec<StreamId>, AllocError>
+        ensures streams { IfOk result (λ ids. map (λ id. id.0) ids.items ≡ requested_streams most self.old) }
+        ensures queue { OnOk result (self.new ≡ request_resets most self.old) }
+        ensures err { OnErr result (self.new ≡ self.old) }
+    {
+        let mut ids = self.streams.ready(self.alloc)?;
+        ids.truncate(most);
+        self.request(&ids);
+        Ok(ids)
+    }
+
+    /// The peer performed the reset of these streams: they send again, with numbers that begin again. Without memory
+    /// this is done for some of the first of them alone.
+    pub fn commit_reset_streams(&mut self, ids: &[StreamId]) -> Result<(), AllocError>
+        ensures ok { OnOk result (self.new ≡ commit_resets (map (λ id. id.0) ids.now) self.old) }
+        ensures err { OnErr result (SomeStepped Performed (map (λ id. id.0) ids.now) self.old self.new) }
+    {
+        self.take_steps(ids, ResetStep::Performed)
+    }
+
+    /// The peer refused the reset of these streams: they send again. Without memory this is done for some of the first
+    /// of them alone.
+    pub fn rollback_reset_streams(&mut self, ids: &[StreamId]) -> Result<(), AllocError>
+        ensures ok { OnOk result (self.new ≡ roll_back_resets (map (λ id. id.0) ids.now) self.old) }
+        ensures err { OnErr result (SomeStepped Refused (map (λ id. id.0) ids.now) self.old self.new) }
+    {
+        self.take_steps(ids, ResetStep::Refused)
+    }
+
+    // Takes a step of a stream's reset. Without memory nothing changes.
+    fn take_step(&mut self, id: StreamId, step: ResetStep) -> Result<(), AllocError>
+        ensures ok { OnOk result (self.new ≡ step_stream step id.0 self.old) }
+        ensures err { OnErr result (self.new ≡ self.old) }
+    {
+        let bytes = self.streams.sendable_stepped(id, step);
+        let priority = self.streams.priority_stepped(id, step);
+        self.scheduler.set_bytes_remaining(id, bytes, priority)?;
+        self.streams.take_step(id, step);
+        Ok(())
+    }
+
+    fn take_steps(&mut self, ids: &[StreamId], step: ResetStep) -> Result<(), AllocError>
+        ensures ok { OnOk result (self.new ≡ each_stepped step (map (λ id. id.0) ids.now) self.old) }
+        ensures err { OnErr result (SomeStepped step (map (λ id. id.0) ids.now) self.old self.new) }
+    {
+        for id in ids {
+            self.take_step(*id, step)?;
+        }
+        Ok(())
+    }
+
+    // A stream goes into a request, which takes no memory: it has nothing to send from then on.
+    fn request_one(&mut self, id: StreamId)
+        ensures { self.new ≡ step_stream Requested id.0 self.old }
+    {
+        self.scheduler.leave(id);
+        self.streams.take_step(id, ResetStep::Requested);
+    }
+
+    fn request(&mut self, ids: &[StreamId])
+        ensures { self.new ≡ each_stepped Requested (map (λ id. id.0) ids.now) self.old }
+    {
+        for id in ids {
+            self.request_one(*id);
+        }
+    }
+}
+
+fn begun_without(id: StreamId, begun: Option<StreamId>) -> Option<StreamId>
+    ensures { option_map (λ id. id.0) result ≡ begun_without id.0 (option_map (λ id. id.0) begun) }
+{
+    match begun {
+        Some(begun) if begun.0 != id.0 => Some(begun),
+        _ => None,
+    }
+}

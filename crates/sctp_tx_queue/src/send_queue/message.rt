@@ -1,0 +1,374 @@
+//! A message that waits or is partly sent, and its fragments.
+
+ghost use Rattle.std.specs.Prelude.{◌≡◌, ◌+◌, ◌-◌, ◌<◌, ◌≤◌, ◌^◌, length, IfOk, IsTrue, None, option_map, min, take, drop, if◌then◌else◌};
+ghost use Rattle.std.specs.Duration.{as_nanos};
+ghost use Rattle.sctp_chunk.specs.Written.{key_stream};
+ghost use Rattle.sctp_chunk.specs.Views.{is_unordered_key, fragment_tree};
+ghost use Rattle.sctp_tx_queue.specs.Queue.{left_bytes, expiry_of};
+ghost use Rattle.sctp_tx_queue.specs.Produced.{is_stale, is_due, ends, piece, made_of, move_past};
+ghost use Rattle.sctp_tx_queue.specs.Resets.{is_partly};
+ghost use Rattle.sctp_tx_queue.specs.Whole.{is_whole};
+ghost use Rattle.sctp_serial.specs.Unwrapped.{words, halves, wire};
+ghost use Rattle.sctp_state.specs.Handover.{stream_message_of};
+ghost use Rattle.sctp_tx_queue.specs.Handover.{queued_message};
+ghost use Rattle.sctp_tx_queue.specs.Restored.{numbers_from, message_from};
+ghost use Rattle.sctp_tx_queue.specs.Restarted.{whole};
+ghost use Rattle.sctp_tx_queue.specs.Views.{produced_of, queued_of};
+
+use crate::data_to_send::DataToSend;
+use sctp_chunk::Data;
+use sctp_serial::{
+    Fsn, LifecycleId, Message, Mid, OutgoingMessageId, PpId, SerialNumber, SocketTime, Ssn,
+    StreamId, StreamKey,
+};
+use sctp_state::SendOptions;
+use sctp_state::api::handover::HandoverStreamMessage;
+use sctp_state::api::handover::times::{expires_in, expiry_from, lifecycle_from, lifecycle_number};
+use std::alloc::{AllocError, Global};
+use std::marker::Model;
+use std::time::Duration;
+
+/// What a message takes with its first fragment, counted without wrapping: its number among the ordered messages of its
+/// stream, and that among the messages of its stream and kind, which is used with interleaving.
+#[derive(Clone, Copy, Debug, PartialEq, Eq)]
+pub struct MessageNumbers {
+    pub ssn: u64,
+    pub mid: u64,
+}
+
+/// A message of the send queue.
+#[derive(Drop)]
+pub struct QueuedMessage {
+    message_id: OutgoingMessageId,
+    ppid: PpId,
+    payload: Vec<u8>,
+    is_unordered: bool,
+    expires_at: Option<SocketTime>,
+    max_retransmissions: u16,
+    lifecycle_id: Option<LifecycleId>,
+    // how much of the payload was sent
+    offset: usize,
+    numbers: Option<MessageNumbers>,
+    next_fsn: Fsn,
+}
+
+impl Model for QueuedMessage {
+    ghost use Rattle.std.specs.Prelude.{◌<◌, ◌^◌, length};
+    ghost use Rattle.sctp_tx_queue.specs.Queue.{Queued};
+
+    ghost Value = { Queued };
+
+    ghost view = { λ m. record { number = m.message_id.0; ppid = m.ppid.0; payload = m.payload.items; is_unordered = m.is_unordered; expires = m.expires_at; limit = m.max_retransmissions; lifecycle = m.lifecycle_id; offset = m.offset; numbers = m.numbers; fsn = m.next_fsn.0 } };
+
+    ghost invariant = { λ m. (m.offset < length m.payload.items) × (length m.payload.items < 2 ^ 32) };
+}
+
+fn expiry(now: SocketTime, lifetime: Option<Duration>) -> Option<SocketTime>
+    ensures { result ≡ expiry_of now (option_map as_nanos lifetime) }
+{
+    match lifetime {
+        Some(span) => Some(now + span + Duration::from_millis(1)),
+        None => None,
+    }
+}
+
+fn is_due(expires_at: Option<SocketTime>, now: SocketTime) -> bool
+    ensures { result ≡ is_due now expires_at }
+{
+    match expires_at {
+        Some(moment) => moment <= now,
+        None => false,
+    }
+}
+
+fn stream_key(is_unordered: bool, id: StreamId) -> StreamKey
+    ensures stream { key_stream result ≡ id.0 }
+    ensures kind { is_unordered_key result ≡ is_unordered }
+{
+    StreamKey::new(is_unordered, id)
+}
+
+fn mid_of(numbers: Option<MessageNumbers>) -> Option<u32>
+    ensures { result ≡ option_map (λ n. wire words 0 n.mid) numbers }
+{
+    match numbers {
+        Some(numbers) => Some(Mid::wrapped(Mid(0), numbers.mid).0),
+        None => None,
+    }
+}
+
+fn ssn_of(is_unordered: bool, numbers: Option<MessageNumbers>) -> Option<u16>
+    ensures { result ≡ (if is_unordered then None else option_map (λ n. wire halves 0 n.ssn) numbers) }
+{
+    if is_unordered {
+        return None;
+    }
+    match numbers {
+        Some(numbers) => Some(Ssn::wrapped(Ssn(0), numbers.ssn).0),
+        None => None,
+    }
+}
+
+fn numbers_from(mid: Option<u32>, ssn: Option<u16>) -> Option<MessageNumbers>
+    ensures { result ≡ numbers_from mid ssn }
+{
+    match mid {
+        Some(mid) => Some(MessageNumbers {
+            ssn: (1 << 32) + ssn.unwrap_or(0) as u64,
+            mid: (1 << 32) + mid as u64,
+        }),
+        None => None,
+    }
+}
+
+impl QueuedMessage {
+    /// The message of a record, in the socket that takes it up now.
+    pub fn restored(
+        alloc: Global,
+        now: SocketTime,
+        message: &HandoverStreamMessage,
+    ) -> Result<QueuedMessage, AllocError>
+        requires left { message.now.remaining_offset < length message.now.payload.items }
+        requires small { length message.now.payload.items < 2 ^ 32 }
+        requires number { message.now.message_id < 2 ^ 32 }
+        ensures { IfOk result (λ m. m ≡ message_from now (stream_message_of message.now)) }
+    {
+        Ok(QueuedMessage {
+            message_id: OutgoingMessageId(message.message_id as u32),
+            ppid: PpId(message.ppid),
+            payload: Vec::from_slice(alloc, &message.payload)?,
+            is_unordered: message.unordered,
+            expires_at: expiry_from(now, message.expires_in_ms),
+            max_retransmissions: message.max_retransmissions,
+            lifecycle_id: lifecycle_from(message.lifecycle_id),
+            offset: message.remaining_offset,
+            numbers: numbers_from(message.mid, message.ssn),
+            next_fsn: Fsn(message.fsn),
+        })
+    }
+
+    /// It, on a stream, in the record of a socket that is handed over now.
+    pub fn handed_over(
+        &self,
+        alloc: Global,
+        now: SocketTime,
+        id: StreamId,
+    ) -> Result<HandoverStreamMessage, AllocError>
+        ensures { IfOk result (λ m. stream_message_of m ≡ queued_message now id.0 self.now) }
+    {
+        Ok(HandoverStreamMessage {
+            stream_id: id.0,
+            ppid: self.ppid.0,
+            payload: Vec::from_slice(alloc, &self.payload)?,
+            expires_in_ms: expires_in(now, self.expires_at),
+            max_retransmissions: self.max_retransmissions,
+            unordered: self.is_unordered,
+            lifecycle_id: lifecycle_number(self.lifecycle_id),
+            message_id: u64::from(self.message_id.0),
+            remaining_offset: self.offset,
+            mid: mid_of(self.numbers),
+            ssn: ssn_of(self.is_unordered, self.numbers),
+            fsn: self.next_fsn.0,
+        })
+    }
+
+    /// A message that is accepted now. It expires a millisecond after its lifetime.
+    pub fn new(
+        message_id: OutgoingMessageId,
+        now: SocketTime,
+        message: Message,
+        options: &SendOptions,
+    ) -> QueuedMessage
+        requires some { 0 < length message.payload.items }
+        requires small { length message.payload.items < 2 ^ 32 }
+        ensures { result ≡ queued_of message_id.0 now message options.now }
+    {
+        QueuedMessage {
+            message_id,
+            ppid: message.ppid,
+            payload: message.payload,
+            is_unordered: options.unordered,
+            expires_at: expiry(now, options.lifetime),
+            max_retransmissions: options.max_retransmissions.unwrap_or(u16::MAX),
+            lifecycle_id: options.lifecycle_id,
+            offset: 0,
+            numbers: None,
+            next_fsn: Fsn(0),
+        }
+    }
+
+    pub fn message_id(&self) -> OutgoingMessageId
+        ensures { result.0 ≡ self.now.number }
+    {
+        self.message_id
+    }
+
+    pub fn lifecycle_id(&self) -> Option<LifecycleId>
+        ensures { result ≡ self.now.lifecycle }
+    {
+        self.lifecycle_id
+    }
+
+    pub fn is_unordered(&self) -> bool
+        ensures { result ≡ self.now.is_unordered }
+    {
+        self.is_unordered
+    }
+
+    pub fn numbers(&self) -> Option<MessageNumbers>
+        ensures { result ≡ self.now.numbers }
+    {
+        self.numbers
+    }
+
+    /// Whether it expired before a fragment of it was sent.
+    pub fn is_stale(&self, now: SocketTime) -> bool
+        ensures { result ≡ is_stale now self.now }
+    {
+        self.numbers.is_none() && is_due(self.expires_at, now)
+    }
+
+    /// Whether a fragment of it was sent.
+    pub fn is_partly_sent(&self) -> bool
+        ensures { result ≡ is_partly self.now }
+    {
+        0 < self.offset
+    }
+
+    /// The bytes that are not sent.
+    pub fn left(&self) -> usize
+        ensures value { result ≡ left_bytes self.now }
+        ensures more { 0 < result }
+        ensures small { result < 2 ^ 32 }
+        ensures whole { length self.now.payload < 2 ^ 32 }
+    {
+        self.payload.len() - self.offset
+    }
+
+    /// The bytes that are sent.
+    pub fn sent(&self) -> usize
+        ensures whole { left_bytes self.now + result ≡ length self.now.payload }
+        ensures small { result < 2 ^ 32 }
+    {
+        self.offset
+    }
+
+    /// It is sent from its beginning again.
+    pub fn make_whole(&mut self)
+        ensures { self.new ≡ whole self.old }
+    {
+        self.offset = 0;
+        self.numbers = None;
+        self.next_fsn = Fsn(0);
+    }
+
+    // The next fragment, of at most `size` bytes, under these numbers.
+    fn piece(
+        &self,
+        alloc: Global,
+        id: StreamId,
+        numbers: MessageNumbers,
+        size: usize,
+    ) -> Result<Data, AllocError>
+        ensures { IfOk result (λ made. fragment_tree made ≡ piece id.0 size numbers self.now) }
+    {
+        let left = self.payload.len() - self.offset;
+        let end = self.offset + left.min(size);
+        Ok(Data {
+            stream_key: stream_key(self.is_unordered, id),
+            ssn: Ssn::wrapped(Ssn(0), numbers.ssn),
+            mid: Mid::wrapped(Mid(0), numbers.mid),
+            fsn: self.next_fsn,
+            ppid: self.ppid,
+            payload: Vec::from_slice(alloc, &self.payload[self.offset..end])?,
+            is_beginning: self.offset == 0,
+            is_end: left <= size,
+        })
+    }
+
+    // The lifecycle ends with the last fragment alone.
+    fn lifecycle_ended(&self, size: usize) -> Option<LifecycleId>
+        ensures { result ≡ (if ends size self.now then self.now.lifecycle else None) }
+    {
+        if self.left() <= size {
+            self.lifecycle_id
+        } else {
+            None
+        }
+    }
+
+    /// The next fragment, of at most `size` bytes, under these numbers.
+    pub fn fragment(
+        &self,
+        alloc: Global,
+        id: StreamId,
+        numbers: MessageNumbers,
+        size: usize,
+    ) -> Result<DataToSend, AllocError>
+        ensures { IfOk result (λ made. produced_of made ≡ made_of id.0 size numbers self.now) }
+    {
+        Ok(DataToSend {
+            message_id: self.message_id,
+            data: self.piece(alloc, id, numbers, size)?,
+            max_retransmissions: self.max_retransmissions,
+            expires_at: self.expires_at,
+            lifecycle_id: self.lifecycle_ended(size),
+        })
+    }
+
+    /// Whether a fragment of this size is all of it.
+    pub fn is_whole(&self, size: usize) -> bool
+        ensures { result ≡ is_whole size self.now }
+    {
+        self.offset == 0 && self.left() <= size
+    }
+
+    // Its payload, of which a fragment of this size is all.
+    fn into_payload(self, _size: usize) -> Vec<u8>
+        requires { IsTrue (is_whole _size self) }
+        ensures { result.items ≡ take _size (drop self.offset self.payload) }
+    {
+        self.payload
+    }
+
+    /// The fragment that is all of it, with its payload and not a copy.
+    pub fn into_fragment(self, id: StreamId, numbers: MessageNumbers, size: usize) -> DataToSend
+        requires { IsTrue (is_whole size self) }
+        ensures { produced_of result ≡ made_of id.0 size numbers self }
+    {
+        let message_id = self.message_id;
+        let max_retransmissions = self.max_retransmissions;
+        let expires_at = self.expires_at;
+        let lifecycle_id = self.lifecycle_ended(size);
+        let key = stream_key(self.is_unordered, id);
+        let (fsn, ppid) = (self.next_fsn, self.ppid);
+        let is_beginning = self.offset == 0;
+        let is_end = self.left() <= size;
+        DataToSend {
+            message_id,
+            data: Data {
+                stream_key: key,
+                ssn: Ssn::wrapped(Ssn(0), numbers.ssn),
+                mid: Mid::wrapped(Mid(0), numbers.mid),
+                fsn,
+                ppid,
+                payload: self.into_payload(size),
+                is_beginning,
+                is_end,
+            },
+            max_retransmissions,
+            expires_at,
+            lifecycle_id,
+        }
+    }
+
+    /// That fragment was sent, and it was not the end.
+    pub fn move_on(&mut self, numbers: MessageNumbers, size: usize)
+        requires { size < left_bytes self.old }
+        ensures { self.new ≡ move_past size numbers self.old }
+    {
+        self.offset += size;
+        self.numbers = Some(numbers);
+        self.next_fsn += 1;
+    }
+}

@@ -1,0 +1,166 @@
+//! What a stream sends in its turn.
+
+ghost use Rattle.std.specs.Prelude.{◌≡◌, ◌≤◌, IsTrue, IfOk, OnOk, OnErr, option_map};
+ghost use Rattle.sctp_state.specs.Events.{Grown, emit_events};
+ghost use Rattle.sctp_state.specs.Thresholds.{crosses};
+ghost use Rattle.sctp_stream_scheduler.specs.Scheduler.{accept, set_bytes_remaining};
+ghost use Rattle.sctp_tx_queue.specs.Queue.{amount_of, sendable, watched_amount};
+ghost use Rattle.sctp_tx_queue.specs.Produced.{advance, in_line, next_fragment, production, emitted_made};
+ghost use Rattle.sctp_tx_queue.specs.Whole.{is_front_whole};
+ghost use Rattle.sctp_tx_queue.specs.Views.{produced_of};
+
+use crate::data_to_send::DataToSend;
+use crate::send_queue::stream::Stream;
+use crate::send_queue::streams::Lows;
+use crate::send_queue::telling::tell_production;
+use sctp_serial::{LifecycleId, StreamId};
+use sctp_state::Events;
+use sctp_stream_scheduler::StreamScheduler;
+use std::alloc::{AllocError, Global};
+
+// What a stream has to send after a fragment, and which amounts are low then.
+#[derive(Clone, Copy)]
+struct Next {
+    bytes: usize,
+    priority: u16,
+    lows: Lows,
+}
+
+fn next_after(stream: &Stream, size: usize, is_total_low: bool) -> Next
+    ensures bytes { result.bytes ≡ sendable (advance size stream.now) }
+    ensures priority { result.priority ≡ stream.now.priority }
+    ensures low { result.lows.is_low ≡ crosses (watched_amount stream.now) (watched_amount (advance size stream.now)) }
+    ensures total { result.lows.is_total_low ≡ is_total_low }
+{
+    Next {
+        bytes: stream.sendable_after(size),
+        priority: stream.priority(),
+        lows: Lows {
+            is_low: stream.is_low_after(size),
+            is_total_low,
+        },
+    }
+}
+
+// Tells of a fragment, and puts its stream in line for the next one.
+fn tell_and_queue(
+    scheduler: &mut StreamScheduler,
+    events: &mut Events,
+    id: StreamId,
+    next: Next,
+    lifecycle_id: Option<LifecycleId>,
+) -> Result<(), AllocError>
+    ensures ok { OnOk result (scheduler.new ≡ set_bytes_remaining id.0 next.bytes next.priority (accept id.0 scheduler.old)) }
+    ensures told { OnOk result (events.new ≡ emit_events (production id.0 next.lows.is_low next.lows.is_total_low lifecycle_id) events.old) }
+    ensures err { OnErr result (scheduler.new ≡ scheduler.old) }
+    ensures grown { OnErr result (Grown events.old events.new) }
+{
+    tell_production(events, id, next.lows, lifecycle_id)?;
+    scheduler.take_turn(id, next.bytes, next.priority)
+}
+
+// The same. Without memory nothing changes.
+fn go_in_line(
+    scheduler: &mut StreamScheduler,
+    events: &mut Events,
+    id: StreamId,
+    next: Next,
+    lifecycle_id: Option<LifecycleId>,
+) -> Result<(), AllocError>
+    ensures ok { OnOk result (scheduler.new ≡ set_bytes_remaining id.0 next.bytes next.priority (accept id.0 scheduler.old)) }
+    ensures told { OnOk result (events.new ≡ emit_events (production id.0 next.lows.is_low next.lows.is_total_low lifecycle_id) events.old) }
+    ensures err { OnErr result (scheduler.new ≡ scheduler.old) }
+    ensures silent { OnErr result (events.new ≡ events.old) }
+{
+    let mark = events.mark();
+    let done = tell_and_queue(scheduler, events, id, next, lifecycle_id);
+    if done.is_err() {
+        events.roll_back(mark);
+    }
+    done
+}
+
+// The next fragment of a stream is a whole message, which leaves with its payload.
+fn send_whole(
+    id: StreamId,
+    size: usize,
+    is_total_low: bool,
+    stream: &mut Stream,
+    scheduler: &mut StreamScheduler,
+    events: &mut Events,
+) -> Result<Option<DataToSend>, AllocError>
+    requires { IsTrue (is_front_whole size stream.old.messages) }
+    ensures stream { OnOk result (stream.new ≡ advance size stream.old) }
+    ensures line { OnOk result (scheduler.new ≡ in_line id.0 (sendable (advance size stream.old)) stream.old.priority (next_fragment id.0 size stream.old) scheduler.old) }
+    ensures told { OnOk result (events.new ≡ emitted_made id.0 (crosses (watched_amount stream.old) (watched_amount (advance size stream.old))) is_total_low (next_fragment id.0 size stream.old) events.old) }
+    ensures made { IfOk result (λ found. option_map produced_of found ≡ next_fragment id.0 size stream.old) }
+    ensures less { OnOk result (amount_of stream.new ≤ amount_of stream.old) }
+    ensures err { OnErr result (stream.new ≡ stream.old) }
+    ensures kept { OnErr result (scheduler.new ≡ scheduler.old) }
+    ensures silent { OnErr result (events.new ≡ events.old) }
+{
+    let next = next_after(stream, size, is_total_low);
+    go_in_line(scheduler, events, id, next, stream.front_lifecycle())?;
+    Ok(stream.take_whole(id, size))
+}
+
+// The next fragment of a stream is a part of a message, whose payload is copied, or there is none.
+fn send_part(
+    alloc: Global,
+    id: StreamId,
+    size: usize,
+    is_total_low: bool,
+    stream: &mut Stream,
+    scheduler: &mut StreamScheduler,
+    events: &mut Events,
+) -> Result<Option<DataToSend>, AllocError>
+    ensures stream { OnOk result (stream.new ≡ advance size stream.old) }
+    ensures line { OnOk result (scheduler.new ≡ in_line id.0 (sendable (advance size stream.old)) stream.old.priority (next_fragment id.0 size stream.old) scheduler.old) }
+    ensures told { OnOk result (events.new ≡ emitted_made id.0 (crosses (watched_amount stream.old) (watched_amount (advance size stream.old))) is_total_low (next_fragment id.0 size stream.old) events.old) }
+    ensures made { IfOk result (λ found. option_map produced_of found ≡ next_fragment id.0 size stream.old) }
+    ensures less { OnOk result (amount_of stream.new ≤ amount_of stream.old) }
+    ensures err { OnErr result (stream.new ≡ stream.old) }
+    ensures kept { OnErr result (scheduler.new ≡ scheduler.old) }
+    ensures silent { OnErr result (events.new ≡ events.old) }
+{
+    match stream.fragment(alloc, id, size)? {
+        Some(made) => {
+            let next = next_after(stream, size, is_total_low);
+            go_in_line(scheduler, events, id, next, made.lifecycle_id)?;
+            stream.advance(size);
+            Ok(Some(made))
+        }
+        None => {
+            scheduler.leave(id);
+            stream.advance(size);
+            Ok(None)
+        }
+    }
+}
+
+/// A stream sends its next fragment, which is told, and goes in line for the one after it; one that has none leaves.
+/// Without memory nothing changes.
+pub(crate) fn send_from(
+    alloc: Global,
+    id: StreamId,
+    size: usize,
+    is_total_low: bool,
+    stream: &mut Stream,
+    scheduler: &mut StreamScheduler,
+    events: &mut Events,
+) -> Result<Option<DataToSend>, AllocError>
+    ensures stream { OnOk result (stream.new ≡ advance size stream.old) }
+    ensures line { OnOk result (scheduler.new ≡ in_line id.0 (sendable (advance size stream.old)) stream.old.priority (next_fragment id.0 size stream.old) scheduler.old) }
+    ensures told { OnOk result (events.new ≡ emitted_made id.0 (crosses (watched_amount stream.old) (watched_amount (advance size stream.old))) is_total_low (next_fragment id.0 size stream.old) events.old) }
+    ensures made { IfOk result (λ found. option_map produced_of found ≡ next_fragment id.0 size stream.old) }
+    ensures less { OnOk result (amount_of stream.new ≤ amount_of stream.old) }
+    ensures err { OnErr result (stream.new ≡ stream.old) }
+    ensures kept { OnErr result (scheduler.new ≡ scheduler.old) }
+    ensures silent { OnErr result (events.new ≡ events.old) }
+{
+    if stream.is_next_whole(size) {
+        send_whole(id, size, is_total_low, stream, scheduler, events)
+    } else {
+        send_part(alloc, id, size, is_total_low, stream, scheduler, events)
+    }
+}

@@ -1,0 +1,702 @@
+//! The streams that were named, and what is left on all of them.
+
+ghost use Rattle.std.specs.Prelude.{◌≡◌, ◌+◌, ◌<◌, ◌≤◌, ◌^◌, ◌==◌, [], None, Some, IsTrue, IsSome, IfOk, OnOk, OnErr, option_map, map};
+ghost use Rattle.std.specs.Map.{lookup, keys_of, values_of};
+ghost use Rattle.std.specs.List.{list_all, list_any};
+ghost use Rattle.std.specs.List.Sorted.{IsStrictlySortedBy};
+ghost use Rattle.std.specs.Ordering.{nat_cmp};
+ghost use Rattle.std.specs.BTreeMap.{is_at};
+ghost use Rattle.sctp_state.specs.Events.{Grown};
+ghost use Rattle.sctp_state.specs.Options.{options_of};
+ghost use Rattle.sctp_state.specs.Thresholds.{crosses};
+ghost use Rattle.sctp_tx_queue.specs.Queue.{amount_of, total_of, watched_amount, watched_total, no_streams, stream, open_stream, put_stream, push, sendable, has_nothing};
+ghost use Rattle.sctp_tx_queue.specs.Produced.{is_front_stale, drop_expired, streams_without_stale, streams_after, advance, next_fragment, emitted_of, in_line};
+ghost use Rattle.sctp_tx_queue.specs.Settings.{with_threshold, with_priority, streams_discarded, front_discarded};
+ghost use Rattle.sctp_tx_queue.specs.Resets.{is_ready, after_step, ready, prepare_stream, emitted_waiting};
+ghost use Rattle.sctp_state.specs.Handover.{stream_message_of};
+ghost use Rattle.sctp_tx_queue.specs.Handover.{outgoing_streams, queued_messages};
+ghost use Rattle.sctp_tx_queue.specs.Readiness.{is_waiting};
+ghost use Rattle.sctp_tx_queue.specs.Bounded.{one};
+ghost use Rattle.sctp_tx_queue.specs.Restarted.{restart};
+ghost use Rattle.sctp_state.specs.Validity.{are_valid_messages, queued_bytes, outgoing_ids, rises_from};
+ghost use Rattle.sctp_state.specs.Handover.{transmission_of};
+ghost use Rattle.sctp_tx_queue.specs.Restored.{entries_from, streams_from};
+ghost use Rattle.sctp_tx_queue.specs.Views.{produced_of};
+
+use crate::data_to_send::DataToSend;
+use crate::send_queue::message::QueuedMessage;
+use crate::send_queue::sending::send_from;
+use crate::send_queue::stream::{Discarded, ResetStep, Stream};
+use sctp_serial::{OutgoingMessageId, SocketTime, StreamId};
+use sctp_state::api::handover::{
+    HandoverOutgoingStream, HandoverStreamMessage, HandoverTransmission,
+};
+use sctp_state::{Events, Options, ThresholdWatcher};
+use sctp_stream_scheduler::StreamScheduler;
+use std::alloc::{AllocError, Global};
+use std::collections::BTreeMap;
+use std::marker::Model;
+
+/// Which amounts fall to their thresholds.
+#[derive(Clone, Copy)]
+pub struct Lows {
+    pub is_low: bool,
+    pub is_total_low: bool,
+}
+
+/// The streams by id. `total` counts the bytes on all of them that are not sent, `ready_count` the streams that can be
+/// reset and are in no request.
+#[derive(Drop)]
+pub struct Streams {
+    streams: BTreeMap<u16, Stream>,
+    total: ThresholdWatcher,
+    ready_count: usize,
+    default_threshold: usize,
+    default_priority: u16,
+}
+
+impl Model for Streams {
+    ghost use Rattle.sctp_tx_queue.specs.Queue.{Streams};
+    ghost use Rattle.sctp_tx_queue.specs.Bounded.{IsCounted};
+
+    ghost Value = { Streams };
+
+    ghost view = { λ s. record { entries = s.streams.entries; total_threshold = s.total.low_threshold; default_threshold = s.default_threshold; default_priority = s.default_priority } };
+
+    ghost invariant = { λ s. IsCounted s.total.amount s.ready_count s.streams.entries };
+}
+
+impl Streams {
+    /// No streams.
+    pub fn new(alloc: Global, options: &Options) -> Streams
+        ensures { result ≡ no_streams (options_of options.now) }
+    {
+        Streams {
+            streams: BTreeMap::new(alloc),
+            total: ThresholdWatcher::new(options.total_buffered_amount_low_threshold),
+            ready_count: 0,
+            default_threshold: options.default_stream_buffered_amount_low_threshold,
+            default_priority: options.default_stream_priority,
+        }
+    }
+
+    /// The streams and messages of a record in the socket that takes it up now, with the defaults of these.
+    pub fn restored(
+        &self,
+        alloc: Global,
+        now: SocketTime,
+        tx: &HandoverTransmission,
+    ) -> Result<Streams, AllocError>
+        requires rises { IsTrue (rises_from 0 (outgoing_ids tx.now.streams.items)) }
+        requires valid { IsTrue (are_valid_messages tx.now.streams.items (2 ^ 32) (map stream_message_of tx.now.queued_messages.items)) }
+        requires small { queued_bytes (map stream_message_of tx.now.queued_messages.items) < 2 ^ 32 }
+        ensures { IfOk result (λ ss. ss ≡ streams_from now (transmission_of tx.now) self.now) }
+    {
+        let mut streams = self.without_messages(alloc, &tx.streams)?;
+        restore_messages(&mut streams, alloc, now, &tx.streams, &tx.queued_messages)?;
+        Ok(streams)
+    }
+
+    // The streams of a record without messages.
+    fn without_messages(
+        &self,
+        alloc: Global,
+        records: &[HandoverOutgoingStream],
+    ) -> Result<Streams, AllocError>
+        requires { IsTrue (rises_from 0 (outgoing_ids records.now)) }
+        ensures { IfOk result (λ ss. ss ≡ record self.now { entries = entries_from 0 self.now.default_threshold [] records.now }) }
+    {
+        let streams = restored_streams(alloc, self.default_threshold, records)?;
+        Ok(Streams {
+            streams,
+            total: ThresholdWatcher::new(self.total.low_threshold()),
+            ready_count: 0,
+            default_threshold: self.default_threshold,
+            default_priority: self.default_priority,
+        })
+    }
+
+    pub fn total(&self) -> usize
+        ensures { result ≡ total_of self.now.entries }
+    {
+        self.total.amount()
+    }
+
+    pub fn amount(&self, id: StreamId) -> usize
+        ensures { result ≡ amount_of (stream id.0 self.now) }
+    {
+        match self.streams.get(&id.0) {
+            Some(stream) => stream.amount(),
+            None => 0,
+        }
+    }
+
+    pub fn is_empty(&self) -> bool
+        ensures { result ≡ list_all has_nothing (values_of self.now.entries) }
+    {
+        self.total.amount() == 0
+    }
+
+    pub fn priority(&self, id: StreamId) -> u16
+        ensures { result ≡ (stream id.0 self.now).priority }
+    {
+        match self.streams.get(&id.0) {
+            Some(stream) => stream.priority(),
+            None => self.default_priority,
+        }
+    }
+
+    pub fn sendable(&self, id: StreamId) -> usize
+        ensures { result ≡ sendable (stream id.0 self.now) }
+    {
+        match self.streams.get(&id.0) {
+            Some(stream) => stream.sendable(),
+            None => 0,
+        }
+    }
+
+    /// Makes the stream where there is none. Without memory nothing changes.
+    pub fn open(&mut self, alloc: Global, id: StreamId) -> Result<(), AllocError>
+        ensures ok { OnOk result (self.new ≡ open_stream id.0 self.old) }
+        ensures there { OnOk result (IsSome (lookup (is_at (nat_cmp id.0)) self.new.entries)) }
+        ensures stream { OnOk result (stream id.0 self.new ≡ stream id.0 self.old) }
+        ensures total { total_of self.new.entries ≡ total_of self.old.entries }
+        ensures err { OnErr result (self.new ≡ self.old) }
+    {
+        if self.streams.contains_key(&id.0) {
+            return Ok(());
+        }
+        let stream = Stream::new(alloc, self.default_priority, self.default_threshold);
+        self.streams.insert(id.0, stream)?;
+        Ok(())
+    }
+
+    /// Adds a message behind the others of its stream, which is made where there is none. Without memory nothing changes.
+    pub fn push(
+        &mut self,
+        alloc: Global,
+        id: StreamId,
+        message: QueuedMessage,
+    ) -> Result<(), AllocError>
+        requires { total_of self.old.entries < 2 ^ 32 }
+        ensures ok { OnOk result (self.new ≡ put_stream id.0 (push message (stream id.0 self.old)) (open_stream id.0 self.old)) }
+        ensures err { OnErr result (self.new ≡ self.old) }
+    {
+        if self.streams.contains_key(&id.0) {
+            return self.push_behind(id, message);
+        }
+        self.push_first(alloc, id, message)
+    }
+
+    // Adds a message to a stream that is there.
+    fn push_behind(&mut self, id: StreamId, message: QueuedMessage) -> Result<(), AllocError>
+        requires there { IsSome (lookup (is_at (nat_cmp id.0)) self.old.entries) }
+        requires room { total_of self.old.entries < 2 ^ 32 }
+        ensures ok { OnOk result (self.new ≡ put_stream id.0 (push message (stream id.0 self.old)) self.old) }
+        ensures err { OnErr result (self.new ≡ self.old) }
+    {
+        let Some(stream) = self.streams.get_mut(&id.0) else {
+            return Err(AllocError);
+        };
+        let bytes = message.left();
+        stream.push(message)?;
+        self.total.increase(bytes);
+        Ok(())
+    }
+
+    // Makes a stream with a message.
+    fn push_first(
+        &mut self,
+        alloc: Global,
+        id: StreamId,
+        message: QueuedMessage,
+    ) -> Result<(), AllocError>
+        requires absent { None ≡ lookup (is_at (nat_cmp id.0)) self.old.entries }
+        requires room { total_of self.old.entries < 2 ^ 32 }
+        ensures ok { OnOk result (self.new ≡ put_stream id.0 (push message (stream id.0 self.old)) (open_stream id.0 self.old)) }
+        ensures err { OnErr result (self.new ≡ self.old) }
+    {
+        let bytes = message.left();
+        let mut stream = Stream::new(alloc, self.default_priority, self.default_threshold);
+        stream.push(message)?;
+        self.streams.insert(id.0, stream)?;
+        self.total.increase(bytes);
+        Ok(())
+    }
+
+    /// The bytes that a stream has to send once a message was added.
+    pub fn sendable_with(&self, id: StreamId, message: &QueuedMessage) -> usize
+        ensures { result ≡ sendable (push message.now (stream id.0 self.now)) }
+    {
+        match self.streams.get(&id.0) {
+            Some(stream) => stream.sendable_with(message),
+            None => message.left(),
+        }
+    }
+
+    /// Whether the message at the front of a stream expired before it was begun.
+    pub fn is_stale(&self, id: StreamId, now: SocketTime) -> bool
+        ensures { result ≡ is_front_stale now (stream id.0 self.now).messages }
+    {
+        match self.streams.get(&id.0) {
+            Some(stream) => stream.is_stale(now),
+            None => false,
+        }
+    }
+
+    /// Tells of the messages at the front of a stream that expired before they were begun.
+    pub fn tell_stale(
+        &self,
+        id: StreamId,
+        now: SocketTime,
+        events: &mut Events,
+    ) -> Result<(), AllocError>
+        ensures ok { OnOk result (events.new ≡ drop_expired now (stream id.0 self.now).messages events.old) }
+        ensures err { OnErr result (Grown events.old events.new) }
+    {
+        match self.streams.get(&id.0) {
+            Some(stream) => stream.tell_stale(now, events),
+            None => Ok(()),
+        }
+    }
+
+    /// Drops these messages.
+    pub fn drop_stale(&mut self, id: StreamId, now: SocketTime)
+        ensures { self.new ≡ streams_without_stale now id.0 self.old }
+    {
+        let Some(stream) = self.streams.get_mut(&id.0) else {
+            return;
+        };
+        let before = stream.amount();
+        stream.drop_stale(now);
+        self.total.decrease(before - stream.amount());
+    }
+
+    /// The next fragment of a stream, of at most `size` bytes. The stream goes on by `advance`.
+    pub fn fragment(
+        &self,
+        alloc: Global,
+        id: StreamId,
+        size: usize,
+    ) -> Result<Option<DataToSend>, AllocError>
+        ensures { IfOk result (λ found. option_map produced_of found ≡ next_fragment id.0 size (stream id.0 self.now)) }
+    {
+        match self.streams.get(&id.0) {
+            Some(stream) => stream.fragment(alloc, id, size),
+            None => Ok(None),
+        }
+    }
+
+    /// Which amounts fall to their thresholds by the next fragment.
+    pub fn lows_after(&self, id: StreamId, size: usize) -> Lows
+        ensures stream { result.is_low ≡ crosses (watched_amount (stream id.0 self.now)) (watched_amount (advance size (stream id.0 self.now))) }
+        ensures total { result.is_total_low ≡ crosses (watched_total self.now) (watched_total (streams_after id.0 size self.now)) }
+    {
+        match self.streams.get(&id.0) {
+            Some(stream) => {
+                let bytes = stream.fragment_size(size);
+                Lows {
+                    is_low: stream.is_low_after(size),
+                    is_total_low: self.total.is_crossed_by(bytes),
+                }
+            }
+            None => Lows {
+                is_low: false,
+                is_total_low: false,
+            },
+        }
+    }
+
+    /// The bytes that a stream has to send after its next fragment.
+    pub fn sendable_after(&self, id: StreamId, size: usize) -> usize
+        ensures { result ≡ sendable (stream id.0 (streams_after id.0 size self.now)) }
+    {
+        match self.streams.get(&id.0) {
+            Some(stream) => stream.sendable_after(size),
+            None => 0,
+        }
+    }
+
+    /// A stream's priority, which no fragment changes.
+    pub fn priority_after(&self, id: StreamId, _size: usize) -> u16
+        ensures { result ≡ (stream id.0 (streams_after id.0 _size self.now)).priority }
+    {
+        self.priority(id)
+    }
+
+    /// The next fragment of a stream is sent.
+    pub fn advance(&mut self, id: StreamId, size: usize)
+        ensures { self.new ≡ streams_after id.0 size self.old }
+    {
+        let _count = self.streams.len();
+        let Some(stream) = self.streams.get_mut(&id.0) else {
+            return;
+        };
+        let before = stream.amount();
+        let was_ready = stream.is_ready();
+        stream.advance(size);
+        self.total.decrease(before - stream.amount());
+        self.ready_count = ready_count_after(self.ready_count, was_ready, stream.is_ready());
+    }
+
+    /// A stream sends its next fragment, of at most `size` bytes: it is told, and the stream goes in line for the one after
+    /// it; one that has none leaves. Without memory nothing changes.
+    pub fn send_front(
+        &mut self,
+        alloc: Global,
+        id: StreamId,
+        size: usize,
+        scheduler: &mut StreamScheduler,
+        events: &mut Events,
+    ) -> Result<Option<DataToSend>, AllocError>
+        ensures streams { OnOk result (self.new ≡ streams_after id.0 size self.old) }
+        ensures line { OnOk result (scheduler.new ≡ in_line id.0 (sendable (stream id.0 (streams_after id.0 size self.old))) (stream id.0 (streams_after id.0 size self.old)).priority (next_fragment id.0 size (stream id.0 self.old)) scheduler.old) }
+        ensures told { OnOk result (events.new ≡ emitted_of id.0 size self.old events.old) }
+        ensures made { IfOk result (λ found. option_map produced_of found ≡ next_fragment id.0 size (stream id.0 self.old)) }
+        ensures err { OnErr result (self.new ≡ self.old) }
+        ensures kept { OnErr result (scheduler.new ≡ scheduler.old) }
+        ensures silent { OnErr result (events.new ≡ events.old) }
+    {
+        let _count = self.streams.len();
+        let Some(stream) = self.streams.get_mut(&id.0) else {
+            scheduler.leave(id);
+            return Ok(None);
+        };
+        let before = stream.amount();
+        let was_ready = stream.is_ready();
+        let is_total_low = self.total.is_crossed_by(stream.fragment_size(size));
+        let made = send_from(alloc, id, size, is_total_low, stream, scheduler, events)?;
+        self.total.decrease(before - stream.amount());
+        self.ready_count = ready_count_after(self.ready_count, was_ready, stream.is_ready());
+        Ok(made)
+    }
+
+    pub fn low_threshold(&self, id: StreamId) -> usize
+        ensures { result ≡ (stream id.0 self.now).threshold }
+    {
+        match self.streams.get(&id.0) {
+            Some(stream) => stream.low_threshold(),
+            None => self.default_threshold,
+        }
+    }
+
+    /// Whether a stream's amount is above its threshold and would be at most this one.
+    pub fn is_low_at(&self, id: StreamId, bytes: usize) -> bool
+        ensures { result ≡ crosses (watched_amount (stream id.0 self.now)) (watched_amount (with_threshold bytes (stream id.0 self.now))) }
+    {
+        match self.streams.get(&id.0) {
+            Some(stream) => stream.is_low_at(bytes),
+            None => false,
+        }
+    }
+
+    /// Sets a stream's threshold.
+    pub fn set_low_threshold(&mut self, id: StreamId, bytes: usize)
+        ensures { self.new ≡ put_stream id.0 (with_threshold bytes (stream id.0 self.old)) self.old }
+    {
+        let Some(stream) = self.streams.get_mut(&id.0) else {
+            return;
+        };
+        stream.set_low_threshold(bytes);
+    }
+
+    pub fn set_priority(&mut self, id: StreamId, priority: u16)
+        ensures { self.new ≡ put_stream id.0 (with_priority priority (stream id.0 self.old)) self.old }
+    {
+        let Some(stream) = self.streams.get_mut(&id.0) else {
+            return;
+        };
+        stream.set_priority(priority);
+    }
+
+    /// The lifecycle id of the message at the front of a stream, if it is this one.
+    pub fn front_discarded(&self, id: StreamId, message_id: OutgoingMessageId) -> Option<Discarded>
+        ensures { option_map (λ d. d.lifecycle_id) result ≡ front_discarded message_id.0 (stream id.0 self.now).messages }
+    {
+        match self.streams.get(&id.0) {
+            Some(stream) => stream.front_discarded(message_id),
+            None => None,
+        }
+    }
+
+    /// A stream's priority, which no message changes.
+    pub fn priority_without(&self, id: StreamId, _message_id: OutgoingMessageId) -> u16
+        ensures { result ≡ (stream id.0 (streams_discarded id.0 _message_id.0 self.now)).priority }
+    {
+        self.priority(id)
+    }
+
+    /// The bytes that a stream has to send without that message.
+    pub fn sendable_without(&self, id: StreamId, message_id: OutgoingMessageId) -> usize
+        ensures { result ≡ sendable (stream id.0 (streams_discarded id.0 message_id.0 self.now)) }
+    {
+        match self.streams.get(&id.0) {
+            Some(stream) => stream.sendable_without(message_id),
+            None => 0,
+        }
+    }
+
+    /// Drops the message at the front of a stream, if it is this one.
+    pub fn discard(&mut self, id: StreamId, message_id: OutgoingMessageId)
+        ensures { self.new ≡ streams_discarded id.0 message_id.0 self.old }
+    {
+        let _count = self.streams.len();
+        let Some(stream) = self.streams.get_mut(&id.0) else {
+            return;
+        };
+        let before = stream.amount();
+        let was_ready = stream.is_ready();
+        stream.discard(message_id);
+        self.total.decrease(before - stream.amount());
+        self.ready_count = ready_count_after(self.ready_count, was_ready, stream.is_ready());
+    }
+
+    /// Tells of the messages of a stream of which nothing is sent that they are given up.
+    pub fn tell_waiting(&self, id: StreamId, events: &mut Events) -> Result<(), AllocError>
+        ensures ok { OnOk result (events.new ≡ emitted_waiting (stream id.0 self.now).messages events.old) }
+        ensures err { OnErr result (Grown events.old events.new) }
+    {
+        match self.streams.get(&id.0) {
+            Some(stream) => stream.tell_waiting(events),
+            None => Ok(()),
+        }
+    }
+
+    /// The bytes that a stream has to send once it is to be reset. Where there is no such stream there are none.
+    pub fn sendable_prepared(&self, id: StreamId) -> usize
+        ensures value { result ≡ sendable (prepare_stream (stream id.0 self.now)) }
+        ensures there { 0 < result → IsSome (lookup (is_at (nat_cmp id.0)) self.now.entries) }
+    {
+        match self.streams.get(&id.0) {
+            Some(stream) => stream.sendable_prepared(),
+            None => 0,
+        }
+    }
+
+    /// Drops the messages of a stream of which nothing is sent.
+    pub fn prepare_reset(&mut self, id: StreamId)
+        ensures { self.new ≡ put_stream id.0 (prepare_stream (stream id.0 self.old)) self.old }
+    {
+        let _count = self.streams.len();
+        let Some(stream) = self.streams.get_mut(&id.0) else {
+            return;
+        };
+        let before = stream.amount();
+        let was_ready = stream.is_ready();
+        stream.prepare_reset();
+        self.total.decrease(before - stream.amount());
+        self.ready_count = ready_count_after(self.ready_count, was_ready, stream.is_ready());
+    }
+
+    /// The bytes that a stream has to send after a step of its reset.
+    pub fn sendable_stepped(&self, id: StreamId, step: ResetStep) -> usize
+        ensures { result ≡ sendable (stream id.0 (put_stream id.0 (after_step step (stream id.0 self.now)) self.now)) }
+    {
+        match self.streams.get(&id.0) {
+            Some(stream) => stream.sendable_stepped(step),
+            None => 0,
+        }
+    }
+
+    /// A stream's priority, which no step of its reset changes.
+    pub fn priority_stepped(&self, id: StreamId, _step: ResetStep) -> u16
+        ensures { result ≡ (stream id.0 (put_stream id.0 (after_step _step (stream id.0 self.now)) self.now)).priority }
+    {
+        self.priority(id)
+    }
+
+    /// Takes a step of a stream's reset.
+    pub fn take_step(&mut self, id: StreamId, step: ResetStep)
+        ensures { self.new ≡ put_stream id.0 (after_step step (stream id.0 self.old)) self.old }
+    {
+        let _count = self.streams.len();
+        let Some(stream) = self.streams.get_mut(&id.0) else {
+            return;
+        };
+        let was_ready = stream.is_ready();
+        stream.take_step(step);
+        self.ready_count = ready_count_after(self.ready_count, was_ready, stream.is_ready());
+    }
+
+    /// The bytes that a stream has to send once a new association begins.
+    pub fn sendable_restarted(&self, id: StreamId) -> usize
+        ensures { result ≡ sendable (stream id.0 (put_stream id.0 (restart (stream id.0 self.now)) self.now)) }
+    {
+        match self.streams.get(&id.0) {
+            Some(stream) => stream.sendable_restarted(),
+            None => 0,
+        }
+    }
+
+    /// A stream's priority, which a new association doesn't change.
+    pub fn priority_restarted(&self, id: StreamId) -> u16
+        ensures { result ≡ (stream id.0 (put_stream id.0 (restart (stream id.0 self.now)) self.now)).priority }
+    {
+        self.priority(id)
+    }
+
+    /// A new association begins for a stream.
+    pub fn restart(&mut self, id: StreamId)
+        ensures { self.new ≡ put_stream id.0 (restart (stream id.0 self.old)) self.old }
+    {
+        let _count = self.streams.len();
+        let Some(stream) = self.streams.get_mut(&id.0) else {
+            return;
+        };
+        let before = stream.amount();
+        let was_ready = stream.is_ready();
+        stream.restart();
+        self.total.increase(stream.amount() - before);
+        self.ready_count = ready_count_after(self.ready_count, was_ready, stream.is_ready());
+    }
+
+    /// The streams in the record of a socket that is handed over.
+    pub fn handed_over(&self, alloc: Global) -> Result<Vec<HandoverOutgoingStream>, AllocError>
+        ensures records { IfOk result (λ records. records.items ≡ outgoing_streams self.now.entries) }
+        ensures ordered { IsStrictlySortedBy nat_cmp (keys_of self.now.entries) }
+    {
+        outgoing_streams(alloc, &self.streams)
+    }
+
+    /// The messages of all streams in that record.
+    pub fn messages_handed_over(
+        &self,
+        alloc: Global,
+        now: SocketTime,
+    ) -> Result<Vec<HandoverStreamMessage>, AllocError>
+        ensures { IfOk result (λ records. map stream_message_of records.items ≡ queued_messages now self.now.entries) }
+    {
+        queued_messages(alloc, now, &self.streams)
+    }
+
+    /// All streams, by ascending id.
+    pub fn ids(&self, alloc: Global) -> Result<Vec<StreamId>, AllocError>
+        ensures { IfOk result (λ ids. map (λ id. id.0) ids.items ≡ keys_of self.now.entries) }
+    {
+        stream_ids(alloc, &self.streams)
+    }
+
+    /// The streams that can be reset and are in no request, by ascending id.
+    pub fn ready(&self, alloc: Global) -> Result<Vec<StreamId>, AllocError>
+        ensures { IfOk result (λ ids. map (λ id. id.0) ids.items ≡ ready self.now.entries) }
+    {
+        if self.ready_count == 0 {
+            return Ok(Vec::new(alloc));
+        }
+        ready_streams(alloc, &self.streams)
+    }
+
+    /// Whether a reset of a stream waits, or is to be answered.
+    pub fn has_waiting(&self) -> bool
+        ensures { result ≡ list_any is_waiting (values_of self.now.entries) }
+    {
+        self.streams.values().any(|stream| stream.is_waiting())
+    }
+
+    pub fn has_ready(&self) -> bool
+        ensures { result ≡ list_any is_ready (values_of self.now.entries) }
+    {
+        self.ready_count > 0
+    }
+}
+
+// How many streams are ready after a change of one of them.
+fn ready_count_after(count: usize, was_ready: bool, is_ready: bool) -> usize
+    requires least { one was_ready ≤ count }
+    requires most { count < 2 ^ 63 }
+    ensures { result + one was_ready ≡ count + one is_ready }
+{
+    count + usize::from(is_ready) - usize::from(was_ready)
+}
+
+fn ready_streams(
+    alloc: Global,
+    streams: &BTreeMap<u16, Stream>,
+) -> Result<Vec<StreamId>, AllocError>
+    ensures { IfOk result (λ ids. map (λ id. id.0) ids.items ≡ ready streams.now.entries) }
+{
+    let mut ids = Vec::new(alloc);
+    for (id, stream) in streams {
+        if stream.is_ready() {
+            ids.push(StreamId(*id))?;
+        }
+    }
+    Ok(ids)
+}
+
+fn stream_ids(alloc: Global, streams: &BTreeMap<u16, Stream>) -> Result<Vec<StreamId>, AllocError>
+    ensures { IfOk result (λ ids. map (λ id. id.0) ids.items ≡ keys_of streams.now.entries) }
+{
+    let mut ids = Vec::new(alloc);
+    for (id, _) in streams {
+        ids.push(StreamId(*id))?;
+    }
+    Ok(ids)
+}
+
+fn outgoing_streams(
+    alloc: Global,
+    streams: &BTreeMap<u16, Stream>,
+) -> Result<Vec<HandoverOutgoingStream>, AllocError>
+    ensures records { IfOk result (λ records. records.items ≡ outgoing_streams streams.now.entries) }
+    ensures ordered { IsStrictlySortedBy nat_cmp (keys_of streams.now.entries) }
+{
+    let _count = streams.len();
+    let mut records = Vec::new(alloc);
+    for (id, stream) in streams {
+        records.push(stream.handed_over(StreamId(*id)))?;
+    }
+    Ok(records)
+}
+
+fn queued_messages(
+    alloc: Global,
+    now: SocketTime,
+    streams: &BTreeMap<u16, Stream>,
+) -> Result<Vec<HandoverStreamMessage>, AllocError>
+    ensures { IfOk result (λ records. map stream_message_of records.items ≡ queued_messages now streams.now.entries) }
+{
+    let mut records = Vec::new(alloc);
+    for (id, stream) in streams {
+        stream.hand_messages_over(alloc, now, StreamId(*id), &mut records)?;
+    }
+    Ok(records)
+}
+
+// The streams of a record without messages.
+fn restored_streams(
+    alloc: Global,
+    low_threshold: usize,
+    records: &[HandoverOutgoingStream],
+) -> Result<BTreeMap<u16, Stream>, AllocError>
+    requires { IsTrue (rises_from 0 (outgoing_ids records.now)) }
+    ensures { IfOk result (λ streams. streams.entries ≡ entries_from 0 low_threshold [] records.now) }
+{
+    let mut streams = BTreeMap::new(alloc);
+    for stream in records {
+        let restored = Stream::restored(alloc, low_threshold, stream);
+        streams.insert(stream.id, restored)?;
+    }
+    Ok(streams)
+}
+
+// Adds the messages of a record to its streams, which are there without messages.
+fn restore_messages(
+    streams: &mut Streams,
+    alloc: Global,
+    now: SocketTime,
+    records: &[HandoverOutgoingStream],
+    messages: &[HandoverStreamMessage],
+) -> Result<(), AllocError>
+    requires empty { streams.old.entries ≡ entries_from 0 streams.old.default_threshold [] records.now }
+    requires rises { IsTrue (rises_from 0 (outgoing_ids records.now)) }
+    requires valid { IsTrue (are_valid_messages records.now (2 ^ 32) (map stream_message_of messages.now)) }
+    requires small { queued_bytes (map stream_message_of messages.now) < 2 ^ 32 }
+    ensures { OnOk result (streams.new ≡ record streams.old { entries = entries_from now streams.old.default_threshold (map stream_message_of messages.now) records.now }) }
+{
+    for message in messages {
+        let restored = QueuedMessage::restored(alloc, now, message)?;
+        streams.push(alloc, StreamId(message.stream_id), restored)?;
+    }
+    Ok(())
+}

@@ -1,9 +1,0 @@
-use Rattle.sctp_tx_rules.proofs.AcceptLemmas.{offer_row, accept_row, with_settings}
-use Rattle.sctp_tx_rules.proofs.messages_are_accepted.Goals as goal
-
-pub returns : goal.returns
-returns c = record {
-  offered = offer_row;
-  accepted = λ message lifecycle mixed x q s k sh expires limit some few. accept_row message lifecycle mixed x q s.outstanding.items sh k expires limit some few;
-  settings = λ message lifecycle mixed x q s k sh id n told. with_settings message lifecycle mixed x q s.outstanding.items sh id n told;
-}

@@ -1,5 +1,0 @@
-use Rattle.sctp_tx_rules.proofs.RestLemmas.{rest_row}
-use Rattle.sctp_tx_rules.proofs.rest_is_rest.Goals as goal
-
-pub returns : goal.returns
-returns c = λ message lifecycle mixed x q s k sh empty none. rest_row message lifecycle mixed x q s.outstanding.items k sh empty none

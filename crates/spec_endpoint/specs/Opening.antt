@@ -1,0 +1,333 @@
+-- How an association is opened (RFC 9260 section 5). These rows alone draw words and look at tags.
+use Rattle.std.specs.Prelude.{ℕ, ◌+◌, ◌-◌, ◌%◌, ◌^◌, ◌==◌, ◌||◌, not, nat_eq, nat_lt, min, Bool, true, false, Option, Some, None, Result, Ok, Err, List, [], ◌∷◌, ◌++◌, length, codes}
+use Rattle.std.specs.List.{starts_with}
+use Rattle.rand_core.specs.Stream.{next_u32, next_u64}
+use Rattle.sctp_wire.specs.Parameter.{ParameterTree, state_cookie}
+use Rattle.sctp_wire.specs.Cause.{missing_mandatory_parameter, cookie_received_while_shutting_down}
+use Rattle.sctp_packet.specs.Chunk.{InitTree, init_chunk, init_ack_chunk, abort_chunk, error_chunk, cookie_ack_chunk, shutdown_ack_chunk}
+use Rattle.sctp_state.specs.declared.api.SctpImplementation.{SctpImplementation}
+use Rattle.sctp_state.specs.declared.api.SctpImplementation.TheVariants as implementations
+use Rattle.sctp_state.specs.declared.api.ErrorKind.TheVariants.{ParseFailed, ProtocolViolation, WrongSequence}
+use Rattle.sctp_capabilities.specs.declared.state_cookie.StateCookieError.{StateCookieError}
+use Rattle.sctp_state.specs.declared.timer.BackoffAlgorithm.TheVariants.{Exponential}
+use Rattle.sctp_state.specs.Options.{Options}
+use Rattle.sctp_state.specs.Timers.{Timer, timer, start}
+use Rattle.sctp_state.specs.Events.{OnConnected, OnConnectionRestarted, OnAborted}
+use Rattle.sctp_capabilities.specs.Capabilities.{Capabilities, announce, announced_by, negotiate, zero_checksum_enabled}
+use Rattle.sctp_capabilities.specs.Cookie.{Cookie, magic, cookie_bytes, read_cookie, refusal_text}
+use Rattle.sctp_tx_queue.specs.Queue.{Queue}
+use Rattle.sctp_tx_queue.specs.Restarted.{reset}
+use Rattle.sctp_tx_queue.specs.Settings.{set_mode}
+use Rattle.sctp_tx_outstanding.specs.Items.{next_number}
+use Rattle.sctp_tx_outstanding.specs.Items as items
+use Rattle.spec_endpoint.specs.Association.{Identity, Tcb, tcb, Phase, CookieEchoed, Established, ShutdownPending, ShutdownSent, ShutdownReceived, ShutdownAckSent, State, Closed, CookieWait, Open, Context, EndpointState, Endpoint, open_as, with_context}
+use Rattle.spec_endpoint.specs.Heartbeats.{beating}
+use Rattle.spec_endpoint.specs.Packets.{add, packet_to, new_packet, round_up, say, complain, emit}
+use Rattle.spec_endpoint.specs.Sending.{Sent, open_with, send_with, send_buffered, send_cookie}
+use Rattle.spec_endpoint.specs.Shutdown.{close_with, send_shutdown_ack}
+
+-- ---- draws: a TSN but the last, a tag but 0 and the last
+
+abbrev pub tsn_from : ℕ → ℕ
+tsn_from word = word % (2 ^ 32 - 1)
+
+abbrev pub tag_from : ℕ → ℕ
+tag_from word = 1 + word % (2 ^ 32 - 2)
+
+-- the next word, and the end that has drawn it
+abbrev pub word : {P : Type 0} → Endpoint P → ℕ
+word s = (next_u32 s.random).0
+
+abbrev pub drew_word : {P : Type 0} → Endpoint P → Endpoint P
+drew_word s = record s { random = (next_u32 s.random).1 }
+
+abbrev pub long_word : {P : Type 0} → Endpoint P → ℕ
+long_word s = (next_u64 s.random).0
+
+abbrev pub drew_long_word : {P : Type 0} → Endpoint P → Endpoint P
+drew_long_word s = record s { random = (next_u64 s.random).1 }
+
+-- with this standing
+abbrev pub stands : {P : Type 0} → EndpointState P → Endpoint P → Endpoint P
+stands s e = record e { endpoint_state = s }
+
+-- ---- INIT
+
+abbrev pub init_of : Options → (tag first : ℕ) → List ParameterTree → InitTree
+init_of o tag first parameters = record {
+  initiate_tag = tag;
+  a_rwnd = o.max_receiver_window_buffer_size;
+  nbr_outbound_streams = o.announced_maximum_outgoing_streams;
+  nbr_inbound_streams = o.announced_maximum_incoming_streams;
+  initial_tsn = first;
+  parameters = parameters;
+}
+
+-- an INIT goes out under tag 0
+abbrev pub send_init : {P : Type 0} → (tag first : ℕ) → Context P → Context P
+send_init tag first c =
+    emit (add (init_chunk (init_of c.options tag first (announce c.options c.options.zero_checksum_method))) (packet_to 0 c.options.mtu)) c
+
+abbrev pub t1_init : {P : Type 0} → Context P → Timer
+t1_init c = start c.now (timer c.options.t1_init_timeout Exponential c.options.max_init_retransmits None)
+
+abbrev pub waiting : {P : Type 0} → (tag first : ℕ) → Context P → EndpointState P
+waiting tag first c = record { state = CookieWait tag first (t1_init c); context = send_init tag first c }
+
+-- `connect` on a closed end: the first TSN is drawn, then the tag
+abbrev pub open_association : {P : Type 0} → Endpoint P → Endpoint P
+open_association s = stands (waiting (tag_from (word (drew_word s))) (tsn_from (word s)) s.endpoint_state.context) (drew_word (drew_word s))
+
+abbrev pub connect_in : {P : Type 0} → State → Endpoint P → Endpoint P
+connect_in Closed s = open_association s
+connect_in (CookieWait tag first t1) s = s
+connect_in (Open phase t) s = s
+
+abbrev pub connect : {P : Type 0} → Endpoint P → Endpoint P
+connect s = connect_in s.endpoint_state.state s
+
+-- ---- an INIT is answered: all that the end has to keep of it goes along in the cookie
+
+abbrev pub cookie_for : InitTree → (tag first tie : ℕ) → Cookie
+cookie_for i tag first tie = record {
+  peer_tag = i.initiate_tag;
+  my_tag = tag;
+  peer_initial_tsn = i.initial_tsn;
+  my_initial_tsn = first;
+  a_rwnd = i.a_rwnd;
+  tie_tag = tie;
+  peer_capabilities = announced_by i.nbr_outbound_streams i.nbr_inbound_streams i.parameters;
+}
+
+abbrev pub agreed_by : Options → InitTree → Capabilities
+agreed_by o i = negotiate o (announced_by i.nbr_outbound_streams i.nbr_inbound_streams i.parameters)
+
+abbrev pub init_ack_of : Options → InitTree → (tag first tie : ℕ) → InitTree
+init_ack_of o i tag first tie = init_of o tag first (announce o (agreed_by o i).zero_checksum_method
+    ++ state_cookie (cookie_bytes (cookie_for i tag first tie)) ∷ [])
+
+abbrev pub answer : {P : Type 0} → InitTree → (tag first tie : ℕ) → Context P → Context P
+answer i tag first tie c =
+    emit (add (init_ack_chunk (init_ack_of c.options i tag first tie))
+    (record (packet_to i.initiate_tag c.options.mtu) { is_summed = not (zero_checksum_enabled (agreed_by c.options i)) })) c
+
+abbrev pub answers : {P : Type 0} → InitTree → (tag first tie : ℕ) → Endpoint P → Endpoint P
+answers i tag first tie s = stands (with_context s.endpoint_state (answer i tag first tie s.endpoint_state.context)) s
+
+-- with a tag and a first TSN that are not kept
+abbrev pub answers_new : {P : Type 0} → InitTree → Endpoint P → Endpoint P
+answers_new i s = answers i (tag_from (word (drew_word s))) (tsn_from (word s)) 0 (drew_word (drew_word s))
+
+-- the first TSN of an association that would take this one's place
+abbrev pub next_first : Tcb → ℕ
+next_first t = (items.wire_tsn t.sender.outstanding (next_number t.sender.outstanding.items) + 1000000) % 2 ^ 32
+
+-- a peer that may have restarted: with a new tag
+abbrev pub answers_again : {P : Type 0} → InitTree → Tcb → Endpoint P → Endpoint P
+answers_again i t s = answers i (tag_from (word s)) (next_first t) t.identity.tie (drew_word s)
+
+abbrev pub on_init_open : {P : Type 0} → Phase → InitTree → Tcb → Endpoint P → Endpoint P
+on_init_open (CookieEchoed t1 cookie) i t s = answers i t.identity.my_tag t.identity.my_first 0 s
+on_init_open Established i t s = answers_again i t s
+on_init_open ShutdownPending i t s = answers_again i t s
+on_init_open (ShutdownSent t2) i t s = answers_again i t s
+on_init_open ShutdownReceived i t s = answers_again i t s
+on_init_open (ShutdownAckSent t2) i t s = stands (with_context s.endpoint_state (send_shutdown_ack t s.endpoint_state.context)) s
+
+abbrev pub on_init_in : {P : Type 0} → State → InitTree → Endpoint P → Endpoint P
+on_init_in Closed i s = answers_new i s
+on_init_in (CookieWait tag first t1) i s = answers i tag first 0 s
+on_init_in (Open phase t) i s = on_init_open phase i t s
+
+abbrev pub on_init : {P : Type 0} → InitTree → Endpoint P → Endpoint P
+on_init i s = on_init_in s.endpoint_state.state i s
+
+-- ---- INIT ACK
+
+abbrev pub cookie_in : List ParameterTree → Option (List ℕ)
+cookie_in [] = None
+cookie_in (state_cookie cookie ∷ parameters) = Some cookie
+cookie_in (parameter ∷ parameters) = cookie_in parameters
+
+-- who made a cookie
+abbrev pub maker_by : (is_long is_cc is_rs is_usr : Bool) → SctpImplementation
+maker_by false is_cc is_rs is_usr = implementations.Unknown
+maker_by true true is_rs is_usr = implementations.DcsctpCc
+maker_by true false true is_usr = implementations.DcsctpRs
+maker_by true false false true = implementations.UsrSctp
+maker_by true false false false = implementations.Unknown
+
+abbrev pub maker : List ℕ → SctpImplementation
+maker cookie = maker_by (nat_lt 8 (length cookie)) (starts_with nat_eq cookie (codes "dcSCTP00")) (starts_with nat_eq cookie magic)
+    (starts_with nat_eq cookie (codes "KAME-BSD"))
+
+-- none came: the mandatory parameter of type 7
+abbrev pub without_cookie : {P : Type 0} → (tag : ℕ) → Context P → EndpointState P
+without_cookie tag c =
+    close_with (OnAborted ProtocolViolation (codes "InitAck chunk doesn't contain a cookie"))
+    (emit (add (abort_chunk false (missing_mandatory_parameter (7 ∷ []) ∷ [])) (packet_to tag (round_up c.options.mtu))) c)
+
+abbrev pub queue_anew : (is_interleaved : Bool) → Queue → Queue
+queue_anew is_interleaved q = set_mode is_interleaved (reset q)
+
+abbrev pub t1_cookie : {P : Type 0} → Context P → Timer
+t1_cookie c = start c.now (timer c.options.t1_cookie_timeout Exponential c.options.max_init_retransmits None)
+
+-- the peer is named, and its cookie echoed
+abbrev pub echo : {P : Type 0} → InitTree → List ℕ → Identity → Context P → EndpointState P
+echo i cookie me c =
+    open_with (CookieEchoed (t1_cookie c) cookie) (send_cookie cookie (tcb c.options me i.a_rwnd (agreed_by c.options i))
+    (record c { peer = maker cookie; queue = queue_anew (agreed_by c.options i).message_interleaving c.queue }))
+
+abbrev pub names : InitTree → (tag first tie : ℕ) → Identity
+names i tag first tie = record { my_tag = tag; my_first = first; peer_tag = i.initiate_tag; peer_first = i.initial_tsn; tie = tie }
+
+abbrev pub echo_cookie : {P : Type 0} → InitTree → Option (List ℕ) → (tag first : ℕ) → Endpoint P → Endpoint P
+echo_cookie i None tag first s = stands (without_cookie i.initiate_tag s.endpoint_state.context) s
+echo_cookie i (Some cookie) tag first s = stands (echo i cookie (names i tag first (long_word s)) s.endpoint_state.context) (drew_long_word s)
+
+abbrev pub on_init_ack_in : {P : Type 0} → State → InitTree → Endpoint P → Endpoint P
+on_init_ack_in Closed i s = s
+on_init_ack_in (CookieWait tag first t1) i s = echo_cookie i (cookie_in i.parameters) tag first s
+on_init_ack_in (Open phase t) i s = s
+
+abbrev pub on_init_ack : {P : Type 0} → InitTree → Endpoint P → Endpoint P
+on_init_ack i s = on_init_ack_in s.endpoint_state.state i s
+
+-- ---- COOKIE ACK
+
+-- the user is told, and heartbeats begin
+abbrev pub connected_context : {P : Type 0} → Context P → Context P
+connected_context c = record (say OnConnected c) { heartbeats = beating c.now c.heartbeats }
+
+abbrev pub establish : {P : Type 0} → Tcb → Context P → EndpointState P
+establish t c = open_with Established (send_buffered false t (connected_context c))
+
+abbrev pub on_cookie_ack : {P : Type 0} → Phase → Tcb → Context P → EndpointState P
+on_cookie_ack (CookieEchoed t1 cookie) t c = establish t c
+on_cookie_ack Established t c = open_as Established t c
+on_cookie_ack ShutdownPending t c = open_as ShutdownPending t c
+on_cookie_ack (ShutdownSent t2) t c = open_as (ShutdownSent t2) t c
+on_cookie_ack ShutdownReceived t c = open_as ShutdownReceived t c
+on_cookie_ack (ShutdownAckSent t2) t c = open_as (ShutdownAckSent t2) t c
+
+-- ---- COOKIE ECHO
+
+-- what becomes of an echoed cookie (RFC 9260 section 5.2.4)
+pub data CookieResolution : Type 0 where
+  EstablishNew : CookieResolution
+  RestartDetected : CookieResolution  -- establish anew, and say so
+  SimultaneousInit : CookieResolution  -- establish anew
+  MaintainExisting : CookieResolution
+  Discard : CookieResolution
+  InvalidTag : CookieResolution
+
+-- By three comparisons: the packet's tag isn't the own one, the cookie's peer tag isn't the peer's, the ties are equal.
+abbrev pub by_tags : (other_tag other_peer same_tie no_tie : Bool) → CookieResolution
+by_tags true true true no_tie = RestartDetected
+by_tags true true false no_tie = InvalidTag
+by_tags false true same_tie no_tie = SimultaneousInit
+by_tags true false same_tie true = Discard
+by_tags true false same_tie false = InvalidTag
+by_tags false false same_tie no_tie = MaintainExisting
+
+abbrev pub new_if : (is_own : Bool) → CookieResolution
+new_if true = EstablishNew
+new_if false = InvalidTag
+
+abbrev pub compare_tags : (tag : ℕ) → Identity → Cookie → CookieResolution
+compare_tags tag i k = by_tags (not (tag == i.my_tag)) (not (k.peer_tag == i.peer_tag)) (k.tie_tag == i.tie) (k.tie_tag == 0)
+
+abbrev pub resolve_cookie : (tag : ℕ) → Cookie → State → CookieResolution
+resolve_cookie tag k Closed = new_if (tag == k.my_tag)
+resolve_cookie tag k (CookieWait my_tag first t1) = new_if (tag == k.my_tag)
+resolve_cookie tag k (Open phase t) = compare_tags tag t.identity k
+
+-- with data behind it
+abbrev pub cookie_ack : {P : Type 0} → (peer_tag : ℕ) → Tcb → Context P → Sent P
+cookie_ack peer_tag t c =
+    send_with false (add cookie_ack_chunk
+    (record (packet_to peer_tag c.options.mtu) { is_summed = not (zero_checksum_enabled t.capabilities) })) t c
+
+abbrev pub identity_of : Cookie → (tie : ℕ) → Identity
+identity_of k tie = record {
+  my_tag = k.my_tag;
+  my_first = k.my_initial_tsn;
+  peer_tag = k.peer_tag;
+  peer_first = k.peer_initial_tsn;
+  tie = tie;
+}
+
+abbrev pub queue_if : (resets : Bool) → Queue → Queue
+queue_if true q = reset q
+queue_if false q = q
+
+abbrev pub other_mode : Bool → Bool → Bool
+other_mode true b = not b
+other_mode false b = b
+
+-- the queue is reset where the association is another one, or the mode
+abbrev pub queue_for : (resets is_interleaved : Bool) → Queue → Queue
+queue_for resets is_interleaved q = set_mode is_interleaved (queue_if (resets || other_mode is_interleaved q.scheduler.is_interleaved) q)
+
+-- the peer's window counts at most as much as may be queued
+abbrev pub tcb_by : Options → Cookie → (tie : ℕ) → Tcb
+tcb_by o k tie = tcb o (identity_of k tie) (min k.a_rwnd o.max_send_buffer_size) (negotiate o k.peer_capabilities)
+
+abbrev pub anew : {P : Type 0} → (resets : Bool) → Cookie → (tie : ℕ) → Context P → EndpointState P
+anew resets k tie c =
+    open_with Established (cookie_ack k.peer_tag (tcb_by c.options k tie)
+    (connected_context (record c { queue = queue_for resets (negotiate c.options k.peer_capabilities).message_interleaving c.queue })))
+
+abbrev pub establishes : {P : Type 0} → (resets : Bool) → Cookie → Context P → Endpoint P → Endpoint P
+establishes resets k c s = stands (anew resets k (long_word s) c) (drew_long_word s)
+
+abbrev pub keep_association : {P : Type 0} → Cookie → Phase → Tcb → Context P → EndpointState P
+keep_association k (CookieEchoed t1 cookie) t c = open_with Established (cookie_ack k.peer_tag t (connected_context c))
+keep_association k Established t c = open_with Established (cookie_ack k.peer_tag t c)
+keep_association k ShutdownPending t c = open_with ShutdownPending (cookie_ack k.peer_tag t c)
+keep_association k (ShutdownSent t2) t c = open_with (ShutdownSent t2) (cookie_ack k.peer_tag t c)
+keep_association k ShutdownReceived t c = open_with ShutdownReceived (cookie_ack k.peer_tag t c)
+keep_association k (ShutdownAckSent t2) t c = open_with (ShutdownAckSent t2) (cookie_ack k.peer_tag t c)
+
+abbrev pub keep : {P : Type 0} → Cookie → EndpointState P → EndpointState P
+keep k s = elim s.state [ Closed ↦ s | CookieWait tag first t1 ↦ s | Open phase t ↦ keep_association k phase t s.context ]
+
+-- a restart comes too late
+abbrev pub too_late : {P : Type 0} → Tcb → Context P → Context P
+too_late t c =
+    complain WrongSequence (codes "Received COOKIE-ECHO while shutting down")
+    (emit (add (error_chunk (cookie_received_while_shutting_down ∷ [])) (add shutdown_ack_chunk (new_packet c.options t))) c)
+
+abbrev pub restarts : {P : Type 0} → Cookie → Endpoint P → Endpoint P
+restarts k s = establishes true k (say OnConnectionRestarted s.endpoint_state.context) s
+
+abbrev pub restarts_in : {P : Type 0} → Phase → Tcb → Cookie → Endpoint P → Endpoint P
+restarts_in (CookieEchoed t1 cookie) t k s = restarts k s
+restarts_in Established t k s = restarts k s
+restarts_in ShutdownPending t k s = restarts k s
+restarts_in (ShutdownSent t2) t k s = restarts k s
+restarts_in ShutdownReceived t k s = restarts k s
+restarts_in (ShutdownAckSent t2) t k s = stands (with_context s.endpoint_state (too_late t s.endpoint_state.context)) s
+
+abbrev pub restart : {P : Type 0} → Cookie → Endpoint P → Endpoint P
+restart k s = elim s.endpoint_state.state [ Closed ↦ s | CookieWait tag first t1 ↦ s | Open phase t ↦ restarts_in phase t k s ]
+
+abbrev pub complains : {P : Type 0} → List ℕ → Endpoint P → Endpoint P
+complains text s = stands (with_context s.endpoint_state (complain ParseFailed text s.endpoint_state.context)) s
+
+abbrev pub on_verdict : {P : Type 0} → CookieResolution → Cookie → Endpoint P → Endpoint P
+on_verdict EstablishNew k s = establishes false k s.endpoint_state.context s
+on_verdict RestartDetected k s = restart k s
+on_verdict SimultaneousInit k s = establishes true k s.endpoint_state.context s
+on_verdict MaintainExisting k s = stands (keep k s.endpoint_state) s
+on_verdict Discard k s = s
+on_verdict InvalidTag k s = complains (codes "Received CookieEcho with invalid verification tag") s
+
+abbrev pub on_read_cookie : {P : Type 0} → (tag : ℕ) → Result Cookie StateCookieError → Endpoint P → Endpoint P
+on_read_cookie tag (Ok k) s = on_verdict (resolve_cookie tag k s.endpoint_state.state) k s
+on_read_cookie tag (Err fault) s = complains (refusal_text fault) s
+
+-- COOKIE ECHO, in a packet under this tag
+abbrev pub on_cookie_echo : {P : Type 0} → (tag : ℕ) → List ℕ → Endpoint P → Endpoint P
+on_cookie_echo tag cookie s = on_read_cookie tag (read_cookie cookie) s

@@ -1,0 +1,82 @@
+-- SACK (RFC 9260 sections 3.3.4, 6.2.1).
+use Rattle.std.specs.Prelude.{ℕ, ◌+◌, nat_lt, nat_le, min, max, Bool, true, false, if◌then◌else◌, Option, Some, None, List, [], ◌∷◌, codes}
+use Rattle.sctp_chunk.specs.declared.sack.GapAckBlock.{GapAckBlock}
+use Rattle.sctp_packet.specs.Chunk.{SackTree}
+use Rattle.sctp_state.specs.declared.api.ErrorKind.TheVariants.{NotConnected}
+use Rattle.sctp_state.specs.Errors.{ErrorCounter, no_errors}
+use Rattle.sctp_state.specs.Rtt.{Rtt, rto, observe_rto}
+use Rattle.sctp_state.specs.Timers.{set_duration}
+use Rattle.sctp_tx_outstanding.specs.Items.{number_of}
+use Rattle.sctp_tx_outstanding.specs.Sack.{is_valid}
+use Rattle.sctp_rx.specs.Tracker.{update_rto}
+use Rattle.sctp_tx.specs.Retransmission.{SackAnswer, Invalid, Valid, sender_if, emitted_if, answer_if}
+use Rattle.spec_endpoint.specs.Association.{Tcb, Phase, State, Closed, CookieWait, Open, Context, EndpointState, open_as}
+use Rattle.spec_endpoint.specs.Packets.{complain}
+use Rattle.spec_endpoint.specs.Sending.{Sent, is_alone, open_with, send_buffered, send_lost}
+use Rattle.spec_endpoint.specs.Shutdown.{Onward, go_on}
+
+-- ---- blocks, as the maximal runs of the offsets that they cover
+
+abbrev pub merge_block : GapAckBlock → List GapAckBlock → List GapAckBlock
+merge_block b [] = b ∷ []
+merge_block b (r ∷ rs) =
+    if nat_lt (b.end + 1) r.start then b ∷ (r ∷ rs)
+    else (if nat_lt (r.end + 1) b.start then r ∷ merge_block b rs else merge_block (record { start = min b.start r.start; end = max b.end r.end }) rs)
+
+abbrev pub clean_blocks : List GapAckBlock → List GapAckBlock
+clean_blocks [] = []
+clean_blocks (b ∷ bs) = if nat_le b.start b.end then merge_block b (clean_blocks bs) else clean_blocks bs
+
+-- ---- what was received
+
+-- a round trip sets the retransmission timeout, which each part counts by
+abbrev pub timed_by : Rtt → Tcb → Tcb
+timed_by r t = record t {
+  rtt = r;
+  sender = record t.sender { t3 = set_duration (rto r) t.sender.t3 };
+  tracker = record t.tracker { tracker = update_rto (rto r) t.tracker.tracker };
+}
+
+abbrev pub sample_rtt : Option ℕ → Tcb → Tcb
+sample_rtt None t = t
+sample_rtt (Some sample) t = timed_by (observe_rto sample t.rtt) t
+
+abbrev pub answered_if : (is_progress : Bool) → ErrorCounter → ErrorCounter
+answered_if true e = no_errors e.limit
+answered_if false e = e
+
+-- the packet of what was lost, and what else may be sent
+abbrev pub send_after : {P : Type 0} → (is_alone : Bool) → Tcb → Context P → Sent P
+send_after is_alone t c = let x = send_lost t c in send_buffered is_alone x.tcb x.context
+
+abbrev pub goes_on : {P : Type 0} → Tcb → Onward P → EndpointState P
+goes_on t o = open_with o.phase (send_after (is_alone o.phase) t o.context)
+
+abbrev pub clear_errors_if : {P : Type 0} → (is_progress : Bool) → Context P → Context P
+clear_errors_if is_progress c = record c { errors = answered_if is_progress c.errors }
+
+abbrev pub after_sack : {P : Type 0} → SackAnswer → Phase → Tcb → Context P → EndpointState P
+after_sack Invalid phase t c = open_as phase t c
+after_sack (Valid rtt is_progress) phase t c = goes_on (sample_rtt rtt t) (go_on phase (sample_rtt rtt t) (clear_errors_if is_progress c))
+
+-- with blocks that are maximal runs
+abbrev pub on_clean_sack : {P : Type 0} → (cumulative a_rwnd : ℕ) → List GapAckBlock → Phase → Tcb → Context P → EndpointState P
+on_clean_sack n a_rwnd blocks phase t c =
+    after_sack (answer_if (is_valid n blocks t.sender.outstanding.items) c.now n blocks t.sender) phase
+    (record t { sender = sender_if (is_valid n blocks t.sender.outstanding.items) c.now n a_rwnd blocks t.sender c.emitted })
+    (record c { emitted = emitted_if (is_valid n blocks t.sender.outstanding.items) n blocks t.sender c.emitted })
+
+abbrev pub on_sack_open : {P : Type 0} → SackTree → Phase → Tcb → Context P → EndpointState P
+on_sack_open k phase t c =
+    on_clean_sack (number_of t.sender.outstanding k.cumulative_tsn_ack) k.a_rwnd (clean_blocks k.gap_ack_blocks) phase t c
+
+abbrev pub no_block : {P : Type 0} → Context P → Context P
+no_block c = complain NotConnected (codes "No TCB") c
+
+abbrev pub on_sack_in : {P : Type 0} → State → SackTree → Context P → EndpointState P
+on_sack_in Closed k c = record { state = Closed; context = no_block c }
+on_sack_in (CookieWait tag first t1) k c = record { state = CookieWait tag first t1; context = no_block c }
+on_sack_in (Open phase t) k c = on_sack_open k phase t c
+
+abbrev pub on_sack : {P : Type 0} → SackTree → EndpointState P → EndpointState P
+on_sack k s = on_sack_in s.state k s.context

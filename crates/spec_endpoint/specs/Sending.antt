@@ -1,0 +1,254 @@
+-- What goes into packets: in the first of a burst an acknowledgement, a forward point and a request to reset streams where
+-- they are due, and in each as much data as the windows let go (RFC 9260 section 6.1).
+use Rattle.std.specs.Prelude.{ℕ, zero, suc, ◌-◌, ◌*◌, ◌/◌, ◌||◌, not, nat_lt, nat_le, ◌==◌, min, Bool, true, false, Option, Some, None, is_some, List, [], ◌∷◌, length, map}
+use Rattle.sctp_serial.specs.Time.{later}
+use Rattle.sctp_packet.specs.Chunk.{ChunkTree, FragmentTree, data_chunk, idata_chunk, sack_chunk, cookie_echo_chunk}
+use Rattle.sctp_state.specs.Numbers.{ms}
+use Rattle.sctp_state.specs.Options.{Options}
+use Rattle.sctp_state.specs.Rtt.{rto, srtt}
+use Rattle.sctp_tx_outstanding.specs.Items.{fast_items, begin_reset, next_number}
+use Rattle.sctp_tx_outstanding.specs.Items as items
+use Rattle.sctp_tx_outstanding.specs.Forward.{is_forward_due}
+use Rattle.sctp_tx_outstanding.specs.Losses.{expire_outstanding}
+use Rattle.sctp_rx.specs.Tracker.{is_ack_due, take_ack}
+use Rattle.sctp_rx.specs.ReassemblyQueue.{Reassembly, watermark, queued_bytes}
+use Rattle.sctp_rx.specs.Sack.{sack, report}
+use Rattle.sctp_tx_queue.specs.Queue.{Queue}
+use Rattle.sctp_tx_queue.specs.Resets.{requested_streams, request_resets}
+use Rattle.sctp_tx.specs.Retransmission.{Sender}
+use Rattle.sctp_tx.specs.Resent.{may_send_new, resent_fast, send_fast}
+use Rattle.sctp_tx.specs.ForwardPoints.{expire, forward_chunk}
+use Rattle.sctp_tx.specs.Sending as fragments
+use Rattle.sctp_tx.specs.Sending.{send}
+use Rattle.spec_endpoint.specs.Association.{Tcb, Phase, CookieEchoed, Established, ShutdownPending, ShutdownSent, ShutdownReceived, ShutdownAckSent, Context, EndpointState, open_as}
+use Rattle.spec_endpoint.specs.Requests.{Request, request_chunk, start_request}
+use Rattle.spec_endpoint.specs.Heartbeats.{beating_if}
+use Rattle.spec_endpoint.specs.Packets.{Packet, empty_packet, room, fits, add, add_all, has_chunks, round_up, packet_to, new_packet, emit}
+
+-- a packet being filled, and what filling it changes
+pub record Filling (P : Type 0) : Type 0 where
+  pub packet : Packet
+  pub tcb : Tcb
+  pub context : Context P
+
+-- ---- acknowledgements (RFC 9260 section 6.2)
+
+abbrev pub has_data : Queue → Bool
+has_data q = not (length q.scheduler.times == 0)
+
+-- how many bytes more may come
+abbrev pub window : Reassembly → ℕ
+window r = watermark r - queued_bytes r
+
+abbrev pub selective_ack : Tcb → ChunkTree
+selective_ack t = sack_chunk (sack (window t.reassembly) t.tracker)
+
+-- an acknowledgement that is due counts as sent; a delayed one is due where data may go along
+abbrev pub ask_for_sack : (also_if_delayed : Bool) → Tcb → Tcb
+ask_for_sack also_if_delayed t = record t { tracker = record t.tracker { tracker = take_ack also_if_delayed t.tracker.tracker } }
+
+abbrev pub count_sack_sent : Tcb → Tcb
+count_sack_sent t = record t { tracker = record t.tracker { tracker = report t.tracker.tracker } }
+
+abbrev pub ack_if : {P : Type 0} → Bool → Filling P → Filling P
+ack_if true x = record x { packet = add (selective_ack x.tcb) x.packet; tcb = count_sack_sent x.tcb }
+ack_if false x = x
+
+abbrev pub goes_along : {P : Type 0} → Filling P → Bool
+goes_along x = has_data x.context.queue || may_send_new x.tcb.sender
+
+abbrev pub with_ack : {P : Type 0} → Filling P → Filling P
+with_ack x = ack_if (is_ack_due (goes_along x) x.tcb.tracker.tracker.ack) (record x { tcb = ask_for_sack (goes_along x) x.tcb })
+
+-- ---- forward points (RFC 3758 section 3.5)
+
+-- not sooner again than after a round trip, of which at most 200 ms count
+abbrev pub forward_later : {P : Type 0} → Tcb → Context P → Context P
+forward_later t c = record c { forward_from = later c.now (min (200 * ms) (srtt t.rtt)) }
+
+abbrev pub forward_added_if : {P : Type 0} → (fits : Bool) → Filling P → Filling P
+forward_added_if true x = record x { packet = add (forward_chunk x.tcb.sender) x.packet; context = forward_later x.tcb x.context }
+forward_added_if false x = x
+
+abbrev pub forward_if : {P : Type 0} → (is_due : Bool) → Filling P → Filling P
+forward_if true x = forward_added_if (fits x.packet (forward_chunk x.tcb.sender)) x
+forward_if false x = x
+
+-- a test for a forward point first gives up what has expired
+abbrev pub test_forward_point : {P : Type 0} → Filling P → Filling P
+test_forward_point x = record x {
+  tcb = record x.tcb { sender = expire x.context.now x.tcb.sender x.context.emitted };
+  context = record x.context { emitted = (expire_outstanding x.context.now x.tcb.sender.outstanding.items x.context.emitted).emitted };
+}
+
+abbrev pub forward_tested : {P : Type 0} → Filling P → Filling P
+forward_tested x = forward_if (is_forward_due x.tcb.sender.outstanding.items) x
+
+abbrev pub tested_if : {P : Type 0} → (is_time : Bool) → Filling P → Filling P
+tested_if true x = forward_tested (test_forward_point x)
+tested_if false x = x
+
+abbrev pub with_forward : {P : Type 0} → Filling P → Filling P
+with_forward x = tested_if (nat_le x.context.forward_from x.context.now) x
+
+-- ---- requests to reset streams (RFC 6525 section 5.1.2)
+
+-- how many streams a request has room for: it takes 20 bytes and 2 a stream, in whole words of 4
+abbrev pub most_streams : Packet → ℕ
+most_streams p = (room p / 4 * 4 - 20) / 2
+
+-- the current request goes along
+abbrev pub add_request : Option Request → Packet → Packet
+add_request None p = p
+add_request (Some r) p = add (request_chunk r) p
+
+abbrev pub last_assigned : Sender → ℕ
+last_assigned s = items.wire_tsn s.outstanding (next_number s.outstanding.items - 1)
+
+-- a reset begins: no forward point crosses the next TSN
+abbrev pub begin_burst : Sender → Sender
+begin_burst s = record s { outstanding = record s.outstanding { items = begin_reset s.outstanding.items } }
+
+abbrev pub request_started : (now : ℕ) → List ℕ → Tcb → Tcb
+request_started now streams t = record t {
+  sender = begin_burst t.sender;
+  requests = start_request now (rto t.rtt) (last_assigned (begin_burst t.sender)) streams t.requests;
+}
+
+abbrev pub carrying : {P : Type 0} → Tcb → Filling P → Filling P
+carrying t x = record x { packet = add_request t.requests.current x.packet; tcb = t }
+
+abbrev pub request_of : {P : Type 0} → List ℕ → Filling P → Filling P
+request_of [] x = x
+request_of (id ∷ ids) x = carrying (request_started x.context.now (id ∷ ids) x.tcb) x
+
+-- so many of the streams that are ready are in the request, the others stay ready for another one
+abbrev pub request_at_most : {P : Type 0} → (most : ℕ) → Filling P → Filling P
+request_at_most most x =
+    request_of (requested_streams most x.context.queue) (record x { context = record x.context { queue = request_resets most x.context.queue } })
+
+-- one request at a time
+abbrev pub request_if : {P : Type 0} → (has_current : Bool) → Filling P → Filling P
+request_if true x = x
+request_if false x = request_at_most (most_streams x.packet) x
+
+abbrev pub with_request : {P : Type 0} → Filling P → Filling P
+with_request x = request_if (is_some x.tcb.requests.current) x
+
+-- ---- data
+
+abbrev pub data_chunk_of : (is_interleaved is_immediate : Bool) → ℕ × FragmentTree → ChunkTree
+data_chunk_of true is_immediate c = idata_chunk c.0 is_immediate c.1
+data_chunk_of false is_immediate c = data_chunk c.0 is_immediate c.1
+
+abbrev pub data_chunks : Tcb → (is_immediate : Bool) → List (ℕ × FragmentTree) → List ChunkTree
+data_chunks t is_immediate chunks = map (data_chunk_of t.capabilities.message_interleaving is_immediate) chunks
+
+-- with a small window the peer is asked to acknowledge at once (RFC 7053)
+abbrev pub is_small : Options → Sender → Bool
+is_small o s = nat_lt s.windows.cwnd (o.immediate_sack_under_cwnd_mtus * o.mtu)
+
+-- data asks the peer as well: the next heartbeat is an interval away
+abbrev pub fill_packet : {P : Type 0} → fragments.Filling P → Filling P → Filling P
+fill_packet f x = record {
+  packet = add_all (data_chunks x.tcb (is_small x.context.options f.sender) f.chunks) x.packet;
+  tcb = record x.tcb { sender = f.sender };
+  context = record x.context {
+    queue = f.queue;
+    emitted = f.emitted;
+    heartbeats = beating_if (not (length f.chunks == 0)) x.context.now x.context.heartbeats;
+  };
+}
+
+abbrev pub with_data : {P : Type 0} → Filling P → Filling P
+with_data x = fill_packet (send x.context.now (room x.packet) x.tcb.sender x.context.queue x.context.emitted) x
+
+abbrev pub filled_as : {P : Type 0} → (is_first : Bool) → Filling P → Filling P
+filled_as true x = with_data (with_request (with_forward (with_ack x)))
+filled_as false x = with_data x
+
+-- ---- bursts
+
+-- the packet goes out, and the next one is begun
+abbrev pub emit_packet : {P : Type 0} → Filling P → Filling P
+emit_packet x = record x { packet = empty_packet x.packet; context = emit x.packet x.context }
+
+pub record Turned (P : Type 0) : Type 0 where
+  pub filling : Filling P
+  pub is_more : Bool
+
+abbrev pub turned_if : {P : Type 0} → (has_chunks is_alone : Bool) → Filling P → Turned P
+turned_if true is_alone x = record { filling = emit_packet x; is_more = not is_alone }
+turned_if false is_alone x = record { filling = x; is_more = false }
+
+abbrev pub next_packet : {P : Type 0} → (is_first is_alone : Bool) → Filling P → Turned P
+next_packet is_first is_alone x = let y = filled_as is_first x in turned_if (has_chunks y.packet) is_alone y
+
+abbrev pub go_on : {P : Type 0} → (Filling P → Filling P) → Turned P → Filling P
+go_on rest t = elim t.is_more [ true ↦ rest t.filling | false ↦ t.filling ]
+
+-- the packets of a burst, the first of which may hold chunks already. Before the COOKIE ACK there is one (RFC 9260
+-- section 5.1)
+abbrev pub burst : {P : Type 0} → (most : ℕ) → (is_first is_alone : Bool) → Filling P → Filling P
+burst zero is_first is_alone x = x
+burst (suc most) is_first is_alone x = go_on (burst most false is_alone) (next_packet is_first is_alone x)
+
+abbrev pub is_alone : Phase → Bool
+is_alone (CookieEchoed t1 cookie) = true
+is_alone Established = false
+is_alone ShutdownPending = false
+is_alone (ShutdownSent t2) = false
+is_alone ShutdownReceived = false
+is_alone (ShutdownAckSent t2) = false
+
+abbrev pub burst_with : {P : Type 0} → (is_alone : Bool) → Packet → Tcb → Context P → Filling P
+burst_with is_alone p t c = burst c.options.max_burst true is_alone (record { packet = p; tcb = t; context = c })
+
+-- what a sending leaves
+pub record Sent (P : Type 0) : Type 0 where
+  pub tcb : Tcb
+  pub context : Context P
+
+abbrev pub send_lost_data : {P : Type 0} → Tcb → Context P → Sent P
+send_lost_data t c = record { tcb = t; context = c }
+
+abbrev pub sent_by : {P : Type 0} → Filling P → Sent P
+sent_by x = send_lost_data x.tcb x.context
+
+abbrev pub open_with : {P : Type 0} → Phase → Sent P → EndpointState P
+open_with phase x = open_as phase x.tcb x.context
+
+-- what may be sent goes out, behind the chunks of this packet
+abbrev pub send_with : {P : Type 0} → (is_alone : Bool) → Packet → Tcb → Context P → Sent P
+send_with is_alone p t c = sent_by (burst_with is_alone p t c)
+
+abbrev pub send_buffered : {P : Type 0} → (is_alone : Bool) → Tcb → Context P → Sent P
+send_buffered is_alone t c = send_with is_alone (new_packet c.options t) t c
+
+-- the same in a phase
+abbrev pub send_in : {P : Type 0} → Phase → Tcb → Context P → EndpointState P
+send_in phase t c = open_with phase (send_buffered (is_alone phase) t c)
+
+-- ---- the cookie, with data where both fit
+
+abbrev pub cookie_if : {P : Type 0} → (fits : Bool) → List ℕ → Tcb → Context P → Sent P
+cookie_if true cookie t c = send_with true (add (cookie_echo_chunk cookie) (packet_to t.identity.peer_tag c.options.mtu)) t c
+cookie_if false cookie t c = send_lost_data t c
+
+abbrev pub send_cookie : {P : Type 0} → List ℕ → Tcb → Context P → Sent P
+send_cookie cookie t c = cookie_if (fits (packet_to t.identity.peer_tag c.options.mtu) (cookie_echo_chunk cookie)) cookie t c
+
+-- ---- the packet that a third missing report sends at once, whatever the window says (RFC 9260 section 7.2.4)
+
+abbrev pub fast_most : Options → ℕ
+fast_most o = round_up o.mtu - 12
+
+abbrev pub fast_packet : Options → Tcb → Packet
+fast_packet o t = add_all (data_chunks t false (resent_fast (fast_most o) t.sender).chunks) (new_packet o t)
+
+abbrev pub fast_if : {P : Type 0} → (has_fast : Bool) → Tcb → Context P → Sent P
+fast_if true t c = send_lost_data (record t { sender = send_fast c.now (fast_most c.options) t.sender }) (emit (fast_packet c.options t) c)
+fast_if false t c = send_lost_data t c
+
+abbrev pub send_lost : {P : Type 0} → Tcb → Context P → Sent P
+send_lost t c = fast_if (nat_lt 0 (fast_items t.sender.outstanding.items)) t c

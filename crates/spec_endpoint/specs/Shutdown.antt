@@ -1,0 +1,164 @@
+-- How an association ends: shutdown, close, aborts (RFC 9260 sections 9.1, 9.2), and errors that the peer reports.
+use Rattle.std.specs.Prelude.{ℕ, Bool, true, false, None, List, [], ◌∷◌, ◌++◌, codes}
+use Rattle.sctp_wire.specs.Cause.{CauseTree, user_initiated_abort, protocol_violation}
+use Rattle.sctp_wire.specs.CauseText.{cause_text}
+use Rattle.sctp_packet.specs.Chunk.{abort_chunk, shutdown_chunk, shutdown_ack_chunk, shutdown_complete_chunk}
+use Rattle.sctp_state.specs.declared.api.ErrorKind.TheVariants.{TooManyRetries, PeerReported, ProtocolViolation}
+use Rattle.sctp_state.specs.declared.timer.BackoffAlgorithm.TheVariants.{Exponential}
+use Rattle.sctp_state.specs.Timers.{Timer, timer, start, set_duration}
+use Rattle.sctp_state.specs.Rtt.{rto}
+use Rattle.sctp_state.specs.Events.{Event, OnClosed, OnAborted}
+use Rattle.sctp_rx.specs.Tracker.{wire_tsn}
+use Rattle.sctp_tx.specs.Retransmission.{is_quiet}
+use Rattle.spec_endpoint.specs.Association.{Tcb, Phase, CookieEchoed, Established, ShutdownPending, ShutdownSent, ShutdownReceived, ShutdownAckSent, State, Closed, CookieWait, Open, Context, EndpointState, open_as}
+use Rattle.spec_endpoint.specs.Heartbeats.{silence}
+use Rattle.spec_endpoint.specs.Packets.{add, packet_to, say, complain, emit, emit_chunk}
+
+-- the event that says so; no heartbeats are sent any more
+abbrev pub over : {P : Type 0} → Event P → Context P → Context P
+over e c = record (say e c) { heartbeats = silence c.heartbeats }
+
+-- no control block any more
+abbrev pub close_with : {P : Type 0} → Event P → Context P → EndpointState P
+close_with e c = record { state = Closed; context = over e c }
+
+-- ---- shutdown
+
+abbrev pub t2_shutdown : {P : Type 0} → Tcb → Context P → Timer
+t2_shutdown t c = start c.now (timer (rto t.rtt) Exponential c.options.max_retransmissions None)
+
+abbrev pub send_shutdown : {P : Type 0} → Tcb → Context P → Context P
+send_shutdown t c = emit_chunk (shutdown_chunk (wire_tsn t.tracker t.tracker.tracker.seen.front)) t c
+
+abbrev pub send_shutdown_ack : {P : Type 0} → Tcb → Context P → Context P
+send_shutdown_ack t c = emit_chunk shutdown_ack_chunk t c
+
+-- a phase that may be another one
+pub record Onward (P : Type 0) : Type 0 where
+  pub phase : Phase
+  pub context : Context P
+
+abbrev pub onward : {P : Type 0} → Phase → Context P → Onward P
+onward phase c = record { phase = phase; context = c }
+
+abbrev pub pending : {P : Type 0} → (is_quiet : Bool) → Tcb → Context P → Onward P
+pending true t c = onward (ShutdownSent (t2_shutdown t c)) (send_shutdown t c)
+pending false t c = onward ShutdownPending c
+
+abbrev pub received : {P : Type 0} → (is_quiet : Bool) → Tcb → Context P → Onward P
+received true t c = onward (ShutdownAckSent (t2_shutdown t c)) (send_shutdown_ack t c)
+received false t c = onward ShutdownReceived c
+
+-- where nothing is unacknowledged, a shutdown that waited for that goes on
+abbrev pub go_on : {P : Type 0} → Phase → Tcb → Context P → Onward P
+go_on (CookieEchoed t1 cookie) t c = onward (CookieEchoed t1 cookie) c
+go_on Established t c = onward Established c
+go_on ShutdownPending t c = pending (is_quiet t.sender.outstanding.items) t c
+go_on (ShutdownSent t2) t c = onward (ShutdownSent t2) c
+go_on ShutdownReceived t c = received (is_quiet t.sender.outstanding.items) t c
+go_on (ShutdownAckSent t2) t c = onward (ShutdownAckSent t2) c
+
+-- the call
+
+abbrev pub shut_down : {P : Type 0} → Phase → Tcb → Context P → Onward P
+shut_down (CookieEchoed t1 cookie) t c = go_on ShutdownPending t c
+shut_down Established t c = go_on ShutdownPending t c
+shut_down ShutdownPending t c = onward ShutdownPending c
+shut_down (ShutdownSent t2) t c = onward (ShutdownSent t2) c
+shut_down ShutdownReceived t c = onward ShutdownReceived c
+shut_down (ShutdownAckSent t2) t c = onward (ShutdownAckSent t2) c
+
+abbrev pub open_onward : {P : Type 0} → Tcb → Onward P → EndpointState P
+open_onward t o = open_as o.phase t o.context
+
+abbrev pub shutdown_in : {P : Type 0} → State → Context P → EndpointState P
+shutdown_in Closed c = record { state = Closed; context = c }
+shutdown_in (CookieWait tag first t1) c = close_with OnClosed c
+shutdown_in (Open phase t) c = open_onward t (shut_down phase t c)
+
+abbrev pub shutdown : {P : Type 0} → EndpointState P → EndpointState P
+shutdown s = shutdown_in s.state s.context
+
+-- SHUTDOWN
+abbrev pub shut_by_peer : {P : Type 0} → Phase → Tcb → Context P → Onward P
+shut_by_peer (CookieEchoed t1 cookie) t c = onward (CookieEchoed t1 cookie) c
+shut_by_peer Established t c = go_on ShutdownReceived t c
+shut_by_peer ShutdownPending t c = go_on ShutdownReceived t c
+shut_by_peer (ShutdownSent t2) t c = onward (ShutdownAckSent (t2_shutdown t c)) (send_shutdown_ack t c)
+shut_by_peer ShutdownReceived t c = onward ShutdownReceived c
+shut_by_peer (ShutdownAckSent t2) t c = onward (ShutdownAckSent (start c.now (set_duration (rto t.rtt) t2))) (send_shutdown_ack t c)
+
+abbrev pub on_shutdown : {P : Type 0} → Phase → Tcb → Context P → EndpointState P
+on_shutdown phase t c = open_onward t (shut_by_peer phase t c)
+
+-- SHUTDOWN ACK, in a packet under this tag: one that no shutdown asked for is answered under the same tag
+-- (RFC 9260 section 8.5.1)
+abbrev pub complete_shutdown : {P : Type 0} → Tcb → Context P → EndpointState P
+complete_shutdown t c = close_with OnClosed (emit_chunk (shutdown_complete_chunk false) t c)
+
+abbrev pub out_of_the_blue : {P : Type 0} → (tag : ℕ) → Context P → Context P
+out_of_the_blue tag c = emit (add (shutdown_complete_chunk true) (packet_to tag c.options.mtu)) c
+
+abbrev pub on_shutdown_ack_open : {P : Type 0} → (tag : ℕ) → Phase → Tcb → Context P → EndpointState P
+on_shutdown_ack_open tag (CookieEchoed t1 cookie) t c = open_as (CookieEchoed t1 cookie) t (out_of_the_blue tag c)
+on_shutdown_ack_open tag Established t c = open_as Established t (out_of_the_blue tag c)
+on_shutdown_ack_open tag ShutdownPending t c = open_as ShutdownPending t (out_of_the_blue tag c)
+on_shutdown_ack_open tag (ShutdownSent t2) t c = complete_shutdown t c
+on_shutdown_ack_open tag ShutdownReceived t c = open_as ShutdownReceived t (out_of_the_blue tag c)
+on_shutdown_ack_open tag (ShutdownAckSent t2) t c = complete_shutdown t c
+
+abbrev pub on_shutdown_ack_in : {P : Type 0} → (tag : ℕ) → State → Context P → EndpointState P
+on_shutdown_ack_in tag Closed c = record { state = Closed; context = out_of_the_blue tag c }
+on_shutdown_ack_in tag (CookieWait my_tag first t1) c = record { state = CookieWait my_tag first t1; context = out_of_the_blue tag c }
+on_shutdown_ack_in tag (Open phase t) c = on_shutdown_ack_open tag phase t c
+
+abbrev pub on_shutdown_ack : {P : Type 0} → (tag : ℕ) → EndpointState P → EndpointState P
+on_shutdown_ack tag s = on_shutdown_ack_in tag s.state s.context
+
+-- SHUTDOWN COMPLETE
+abbrev pub on_shutdown_complete : {P : Type 0} → Phase → Tcb → Context P → EndpointState P
+on_shutdown_complete (CookieEchoed t1 cookie) t c = open_as (CookieEchoed t1 cookie) t c
+on_shutdown_complete Established t c = open_as Established t c
+on_shutdown_complete ShutdownPending t c = open_as ShutdownPending t c
+on_shutdown_complete (ShutdownSent t2) t c = open_as (ShutdownSent t2) t c
+on_shutdown_complete ShutdownReceived t c = open_as ShutdownReceived t c
+on_shutdown_complete (ShutdownAckSent t2) t c = close_with OnClosed c
+
+-- ---- aborts
+
+abbrev pub abort : {P : Type 0} → CauseTree → Event P → Tcb → Context P → EndpointState P
+abort cause e t c = close_with e (emit_chunk (abort_chunk false (cause ∷ [])) t c)
+
+abbrev pub close_in : {P : Type 0} → State → Context P → EndpointState P
+close_in Closed c = record { state = Closed; context = c }
+close_in (CookieWait tag first t1) c = close_with OnClosed c
+close_in (Open phase t) c = abort (user_initiated_abort (codes "Close called")) OnClosed t c
+
+-- the call
+abbrev pub close : {P : Type 0} → EndpointState P → EndpointState P
+close s = close_in s.state s.context
+
+abbrev pub too_many : {P : Type 0} → Tcb → Context P → EndpointState P
+too_many t c =
+    abort (user_initiated_abort (codes "Too many retransmissions")) (OnAborted TooManyRetries (codes "Too many retransmissions")) t c
+
+-- what was negotiated forbids a chunk
+abbrev pub violate : {P : Type 0} → List ℕ → Tcb → Context P → EndpointState P
+violate reason t c = abort (protocol_violation reason) (OnAborted ProtocolViolation reason) t c
+
+-- ---- ABORT and ERROR, with a control block
+
+-- each behind a comma
+abbrev pub behind_commas : List CauseTree → List ℕ
+behind_commas [] = []
+behind_commas (cause ∷ causes) = codes "," ++ (cause_text cause ++ behind_commas causes)
+
+abbrev pub causes_text : List CauseTree → List ℕ
+causes_text [] = []
+causes_text (cause ∷ causes) = cause_text cause ++ behind_commas causes
+
+abbrev pub on_abort : {P : Type 0} → List CauseTree → Phase → Tcb → Context P → EndpointState P
+on_abort causes phase t c = close_with (OnAborted PeerReported (causes_text causes)) c
+
+abbrev pub on_error : {P : Type 0} → List CauseTree → Phase → Tcb → Context P → EndpointState P
+on_error causes phase t c = open_as phase t (complain PeerReported (causes_text causes) c)

@@ -1,0 +1,3 @@
+pub mod Observations
+pub mod World
+pub mod FirstRun
