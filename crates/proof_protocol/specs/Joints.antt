@@ -15,7 +15,7 @@ pub record Leads (Key : Type 0) (succ : Key → Key) (message : ℕ → Message)
   pub seen_is : (t : ℕ) → (run message is_interleaved x (e ∷ es)).receiver.seen t ≡ (after message is_interleaved x e).receiver.seen t
   pub rest_stays : run message is_interleaved x (e ∷ es) ≡ record x { receiver = (run message is_interleaved x (e ∷ es)).receiver }
 
--- the same in either mode, and what the queue shows of x
+-- the same in either mode, and what the queue refines of x
 module _ (message : ℕ → Message) (is_interleaved : Bool) (x : Transfer) where
   abbrev pub Refines : Queue (KeyOf is_interleaved) (next_of is_interleaved) → Type 0
   Refines q = Sees (KeyOf is_interleaved) (next_of is_interleaved) message is_interleaved x.sender x.receiver (key_of is_interleaved message x.sender) q

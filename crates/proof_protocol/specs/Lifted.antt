@@ -1,5 +1,5 @@
 -- A reassembly queue whose numbers count from the last reset of their stream, as they are on the wire, and the queue with the numbers of
--- the rules that it stands for. `base` tells, by kind and stream, the number of the rules that is 0 on the wire now.
+-- the rules that it stands for. `base` says, by kind and stream, the number of the rules that is 0 on the wire now.
 use Rattle.std.specs.Prelude.{◌≡◌, ℕ, ◌+◌, ◌-◌, ◌==◌, ◌||◌, nat_le, Bool, true, false, cond, Option, Some, None, map}
 use Rattle.proof_protocol.specs.State.{Message, Entry, ForwardPoint, Sender, IsAmong, fragment, place_of, ordered_of, stream_of}
 use Rattle.proof_protocol.specs.Reassembly.{Chunk, chunk_with, Queue, KeyOf, next_of}

@@ -1,4 +1,4 @@
--- The rules of a transfer, for DATA (`mixed` false) and for I-DATA (`mixed` true). A loss is a packet that never comes;
+-- The rules of a transfer, for DATA (`is_interleaved` false) and for I-DATA (`is_interleaved` true). A loss is a packet that never comes;
 -- what was sent once may come at any time, and again. The messages are a function of the place: no rule changes one.
 use Rattle.std.specs.Prelude.{◌≡◌, ℕ, suc, ◌<◌, ◌≤◌, ◌==◌, ◌&&◌, ◌||◌, not, nat_lt, nat_le, max, Bool, true, false, cond, ◌⊎◌, List, [], ◌∷◌, ◌++◌}
 use Rattle.proof_protocol.specs.State.{Message, Fragment, Entry, ForwardPoint, Sender, Receiver, Transfer, fragment, place_of, count, put, IsAmong, gather, parts, is_empty, stream_of, ordered_of}

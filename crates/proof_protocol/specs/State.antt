@@ -50,7 +50,7 @@ pub record Receiver : Type 0 where
   pub held : ℕ → Bool  -- by fragment: it waits in the reassembly queue
   pub next : ℕ → ℕ  -- by stream: the number of the ordered message that becomes ready next
   pub passed_below : ℕ → ℕ  -- by stream: unordered messages below were named by a forward point or reset away
-  pub places : List ℕ  -- of the ready messages. No packet tells them
+  pub places : List ℕ  -- of the ready messages. No packet carries them
   pub ready : List ReadyMessage
 
 pub record Transfer : Type 0 where

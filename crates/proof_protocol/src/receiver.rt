@@ -1,7 +1,7 @@
 //! What a receiver does is a sequence of the rules. A receiver knows no place of a message: it has a set of seen TSNs, a
 //! map from keys to chunks, numbers by stream and a list of ready messages. The key of a chunk is its TSN, or with
 //! interleaving its kind, stream, MID and FSN; both modes stand in each law. Each law says of the events that it names
-//! that they may happen, that the invariant is kept, that the queue shows the state they lead to, that nothing is left
+//! that they may happen, that the invariant is kept, that the queue refines the state they lead to, that nothing is left
 //! to make ready, and that nothing of the sender or of the packets changes.
 
 ghost use Rattle.std.specs.Prelude.{◌≡◌, ◌<◌, Bool, List, [], ◌∷◌, map, true, false, ℕ};
@@ -95,7 +95,7 @@ pub fn sack_is_made()
         IsAllowed message is_interleaved x (send_sack c) }
 {}
 
-/// While the sender goes on, the queue shows the state still, and a fragment is carried by the same chunk under the same
+/// While the sender goes on, the queue refines the state still, and a fragment is carried by the same chunk under the same
 /// key: so what was sent may come at any time. Nor is it shown that a stream's numbers on the wire begin again (`restarted`).
 pub fn sender_goes_on()
     ensures shows { (message : ℕ → Message) (is_interleaved : Bool) (x : Transfer) (e : Event) (q : Queue (KeyOf is_interleaved) (next_of is_interleaved)) →

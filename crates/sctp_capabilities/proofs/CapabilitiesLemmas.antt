@@ -15,7 +15,7 @@ pub list_any_map : {X Y : Type 0} (p : Y → Bool) (f : X → Y) (xs : List X) �
 list_any_map p f [] = refl
 list_any_map p f (x ∷ xs) = ap (λ (b : Bool). p (f x) || b) (list_any_map p f xs)
 
--- ---- what announced parameters tell
+-- ---- what announced parameters say
 
 -- the chunk types and the parameters, by what is enabled
 abbrev types_by : (partial_reliability interleaving : Bool) → List ℕ
@@ -55,7 +55,7 @@ has_i_data false false = refl
 has_re_config : (p i : Bool) → has_type re_config (types_by p i) ≡ true
 has_re_config p i = refl
 
--- an end tells its options, with the method that it announces
+-- an end announces its options, with the method that it announces
 pub told_with_options : (method : ℕ) (o : Options) → announced_with method o ≡ record {
   partial_reliability = o.enable_partial_reliability;
   message_interleaving = o.enable_message_interleaving;

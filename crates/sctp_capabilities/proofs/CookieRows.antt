@@ -53,7 +53,7 @@ said_with_another_byte : read_cookie (codes "dcSCTPr0" ++ (tags ++ behind 77)) �
 unfolding read_cookie cookie_from
 said_with_another_byte = refl
 
--- too short, and of another magic: the size is told
+-- too short, and of another magic: the size is reported
 short : read_cookie (0 ∷ take 46 (drop 1 bytes)) ≡ Err InvalidSize
 unfolding read_cookie cookie_from
 short = refl
@@ -101,7 +101,7 @@ by_init = refl
 by_init_ack : negotiate all (announced_by_init_ack unreliable all) ≡ agreed all unreliable
 by_init_ack = refl
 
--- the first parameter of a type counts, and a parameter of its own tells as much as a chunk type
+-- the first parameter of a type counts, and a parameter of its own says as much as a chunk type
 first_counts : announced_by 7 8 (state_cookie [] ∷ supported_extensions (192 ∷ []) ∷ zero_checksum_acceptable 2 ∷ supported_extensions (64 ∷ []) ∷ zero_checksum_acceptable 1 ∷ [])
     ≡ record nothing { partial_reliability = true; zero_checksum_method = 2; incoming = 7; outgoing = 8 }
 first_counts = refl

@@ -1,4 +1,4 @@
--- What an association can do: what an end announces, what its parameters tell the other end, and what both agree on.
+-- What an association can do: what an end announces, what its parameters say to the other end, and what both agree on.
 use Rattle.std.specs.Prelude.{ℕ, ◌==◌, ◌&&◌, ◌||◌, not, min, Bool, true, false, if◌then◌else◌, List, [], ◌∷◌, ◌++◌}
 use Rattle.std.specs.List.{list_any}
 use Rattle.sctp_wire.specs.Parameter.{ParameterTree, supported_extensions, forward_tsn_supported, zero_checksum_acceptable}
@@ -69,7 +69,7 @@ announce o method =
     ++ (where_enabled (not (method == 0)) (zero_checksum_acceptable method ∷ [])
     ++ supported_extensions (extensions o) ∷ [])
 
--- ---- told
+-- ---- announced
 
 -- the chunk types of the first parameter that names some
 abbrev pub extensions_in : List ParameterTree → List ℕ
@@ -138,10 +138,10 @@ abbrev pub announced_with : ℕ → Options → Capabilities
 announced_with method o =
     announced_by o.announced_maximum_outgoing_streams o.announced_maximum_incoming_streams (announce o method)
 
--- what an INIT tells
+-- what an INIT announces
 abbrev pub announced_by_init : Options → Capabilities
 announced_by_init o = announced_with o.zero_checksum_method o
 
--- what an INIT ACK tells that answers an INIT of the other end
+-- what an INIT ACK announces that answers an INIT of the other end
 abbrev pub announced_by_init_ack : (own other : Options) → Capabilities
 announced_by_init_ack own other = announced_with (negotiate own (announced_by_init other)).zero_checksum_method own

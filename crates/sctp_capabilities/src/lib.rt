@@ -1,4 +1,4 @@
-//! What both ends of an association can do, told by parameters and negotiated, and the state cookie that carries it.
+//! What both ends of an association can do, announced by parameters and negotiated, and the state cookie that carries it.
 #![tactic(auto)]
 
 mod capabilities;

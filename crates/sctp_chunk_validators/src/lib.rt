@@ -1,4 +1,4 @@
-//! The blocks of a SACK, put into one form and judged.
+//! The blocks of a SACK, put into one form and validated.
 #![tactic(auto)]
 
 mod chunk_validators;

@@ -1,4 +1,4 @@
-//! Items: what chunks, parameters and causes are read from, and tile.
+//! Items: what chunks, parameters and causes are parsed from, all bytes of them.
 #![tactic(auto)]
 
 mod item;

@@ -1,4 +1,4 @@
--- What becomes ready, told of the map of fragments, with no word on intervals.
+-- What becomes ready, stated over the map of fragments, with no word on intervals.
 use Rattle.std.specs.Prelude.{◌≡◌, ℕ, suc, ◌+◌, ◌==◌, ◌⊎◌, true, Option, None, Some, List, [], ◌∷◌, ◌++◌, length, map}
 use Rattle.std.specs.List.{find, All}
 use Rattle.sctp_serial.specs.Messages.{Message}

@@ -1,4 +1,4 @@
-//! What becomes ready, told of the map of fragments: it is made of fragments that were held, and are held no more.
+//! What becomes ready, stated over the map of fragments: it is made of fragments that were held, and are held no more.
 
 ghost use Rattle.std.specs.Prelude.{◌≡◌, ℕ, suc, max, nat_lt, false, true, List, ◌∷◌, ◌++◌};
 ghost use Rattle.sctp_fragments.specs.Key.{pair_rank};

@@ -1,4 +1,4 @@
--- What is told stays at the front, and what was emitted since a moment can be taken back.
+-- What is emitted stays at the front, and what was emitted since a moment can be taken back.
 use Rattle.std.proofs.Common.{◌≡◌, ℕ, ◌≤◌, List, [], ◌∷◌, ◌++◌, length, take, ap, sym, ◌∙◌, arith, subst, take_all, take-take, length-take}
 use Rattle.std.proofs.lemmas.List.{take-append-le}
 use Rattle.sctp_state.specs.declared.api.GivenUpCause.{GivenUpCause}

@@ -1,4 +1,4 @@
--- What a socket tells its user, in order: events in one list, records of messages given up in another. The packets of
+-- What a socket emits to its user, in order: events in one list, records of messages given up in another. The packets of
 -- events are of a type P: bytes to the user, trees to the rules of the association.
 use Rattle.std.specs.Prelude.{◌≡◌, ℕ, Option, Some, None, List, [], ◌∷◌, ◌++◌, map, length, take, string_bytes}
 use Rattle.sctp_state.specs.declared.api.ErrorKind.{ErrorKind}

@@ -130,7 +130,7 @@ defaults = record {
 
 -- ---- which options a socket can be made with
 
--- sizes fit what a packet, or a field of 32 bits, can tell
+-- sizes fit what a packet, or a field of 32 bits, can hold
 pub record HasValidSizes (o : Options) : Type 0 where
   pub mtu_least : 256 ≤ o.mtu
   pub mtu_most : o.mtu ≤ 65535

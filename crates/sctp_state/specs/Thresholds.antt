@@ -1,4 +1,4 @@
--- An amount of bytes, and the amount at which its owner wants to hear that it is low.
+-- An amount of bytes, and the amount at which its owner wants an event that it is low.
 use Rattle.std.specs.Prelude.{ℕ, ◌+◌, ◌-◌, Bool, ◌&&◌, nat_lt, nat_le}
 
 pub record Watched : Type 0 where

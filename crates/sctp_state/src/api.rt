@@ -1,4 +1,4 @@
-//! What users of a socket set, see and are told.
+//! What users of a socket set and see, and what it emits to them.
 
 mod errors;
 pub mod handover;
@@ -29,7 +29,7 @@ pub enum SctpImplementation {
     Other,
 }
 
-/// The kind of an error that an event tells.
+/// The kind of the error of an event.
 #[derive(Clone, Copy, Debug, PartialEq, Eq)]
 pub enum ErrorKind {
     /// No error. No event has it.
@@ -52,7 +52,7 @@ pub enum ErrorKind {
     UnsupportedOperation,
 }
 
-/// What a socket tells its user.
+/// What a socket emits to its user.
 #[derive(Debug, Drop)]
 pub enum SocketEvent {
     /// A packet to be sent to the peer.

@@ -56,7 +56,7 @@ holds_insert n k (m ∷ ms) =
     first : (v : Bool) → (eqb k n || (eqb k m || v)) ≡ ((eqb k m || v) || eqb k n)
     first v = grind (arith, nat_tests)
 
--- a number is told again where it was, or where it is the one that came again and there is room
+-- a number is reported again where it was, or where it is the one that came again and there is room
 holds_with_duplicate : (n k : ℕ) (ns : List ℕ) → holds (with_duplicate n ns) k ≡ (holds ns k || (eqb k n && ltb (length ns) 20))
 holds_with_duplicate n k ns =
     elim (cases_lt (length ns) 20) [

@@ -164,7 +164,7 @@ module _ (s : Seen) where
               | inr (inr more) ↦ absurd (both_ways _ is_behind (m.inside (r.last - s.front + 1) (omega (arith, high)) (omega (arith, more))))
             ]
 
-  -- ---- each block is told
+  -- ---- each block is reported
 
   told_from : (q k n : ℕ) (rs : List Run) → Left q k rs → k + n ≡ 20 → AllByRecursion (IsReported s) (blocks_of s.front (take n rs))
   told_from q k zero rs l e = tt
@@ -188,7 +188,7 @@ module _ (s : Seen) where
         | inr near ↦ rw (le-leb (r.last - s.front) 65535 near) (omega (arith, h, l, a.0), omega (arith, a.1), apart_from (r.last - s.front + 2) r.last n rs (omega (arith, h, a.0, a.1)) a.2 (omega arith))
       ]
 
-  -- ---- each run that is told is a block
+  -- ---- each run that is reported is a block
 
   behind : (x b : GapAckBlock) (bs : List GapAckBlock) → Contains bs b → Contains (x ∷ bs) b
   behind x b bs found = (suc found.0, omega (arith, found.1), found.2)

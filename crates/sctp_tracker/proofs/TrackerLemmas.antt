@@ -1,4 +1,4 @@
--- What is true of every tracker, and of what it tells.
+-- What is true of every tracker, and of what it reports.
 use Rattle.std.proofs.Common.{◌≡◌, inl, inr, ℕ, zero, suc, ◌+◌, ◌-◌, ◌*◌, ◌≤◌, Bool, true, false, leb, ◌||◌, ◌&&◌, List, [], ◌∷◌, length, take, max, refl, subst, arith}
 use Rattle.std.specs.Prelude.{nat_lt}
 use Rattle.std.proofs.lemmas.Bool.{cases_lt, le-leb, lt-leb}

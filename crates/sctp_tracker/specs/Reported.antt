@@ -1,4 +1,4 @@
--- What a SACK tells, by the set of numbers alone (RFC 9260 section 3.3.4): no word here is on how a set is kept.
+-- What a SACK reports, by the set of numbers alone (RFC 9260 section 3.3.4): no word here is on how a set is kept.
 use Rattle.std.specs.Prelude.{◌≡◌, ℕ, zero, suc, ◌+◌, ◌-◌, ◌<◌, ◌≤◌, ◌==◌, ◌&&◌, not, nat_lt, Bool, true, false, if◌then◌else◌, List, [], ◌∷◌}
 use Rattle.std.specs.List.{list_any}
 use Rattle.sctp_chunk.specs.declared.sack.GapAckBlock.{GapAckBlock}
@@ -27,7 +27,7 @@ abbrev pub runs_below : Seen → ℕ → ℕ
 runs_below s zero = 0
 runs_below s (suc offset) = runs_below s offset + (if begins_run s offset then 1 else 0)
 
--- a maximal run that a SACK tells: one of the first twenty, with an end of 16 bits
+-- a maximal run that a SACK reports: one of the first twenty, with an end of 16 bits
 pub record IsReported (s : Seen) (run : GapAckBlock) : Type 0 where
   pub maximal : IsMaximalRun s run
   pub early : runs_below s run.start < 20

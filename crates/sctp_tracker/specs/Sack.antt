@@ -37,7 +37,7 @@ sack a_rwnd d = record {
   duplicate_tsns = tsns d.first d.tracker.duplicates;
 }
 
--- the duplicates are told once
+-- the duplicates are reported once
 abbrev pub report : Tracker → Tracker
 report t = record t { duplicates = [] }
 

@@ -203,7 +203,7 @@ impl DataTracker {
     }
 
     /// A SACK of what was seen: the cumulative TSN, the first twenty runs above it but those that end more than 65,535
-    /// above it, and the duplicates that came since the last SACK, which are told once. `a_rwnd` is the window in bytes.
+    /// above it, and the duplicates that came since the last SACK, which are reported once. `a_rwnd` is the window in bytes.
     pub fn create_selective_ack(&mut self, a_rwnd: u32) -> Result<SackChunk, AllocError>
         ensures chunk { IfOk result (λ c. sack_chunk_tree c ≡ sack_chunk (sack a_rwnd self.old)) }
         ensures seen { IfOk result (λ c. (offset : ℕ) → IsTrue (is_covered c.gap_ack_blocks.items offset) → IsTrue (has_seen self.old.tracker (self.old.tracker.seen.front + offset))) }

@@ -5,7 +5,7 @@ ghost use Rattle.sctp_tracker.specs.Seen.{Seen, contains, IsInRuns};
 ghost use Rattle.sctp_tracker.specs.Tracker.{Tracker, IsTracker, has_seen};
 ghost use Rattle.sctp_tracker.specs.Sack.{gap_ack_blocks};
 
-/// Two sets in runs that have the same numbers are equal. So two trackers that have seen the same numbers tell the same
+/// Two sets in runs that have the same numbers are equal. So two trackers that have seen the same numbers report the same
 /// blocks in a SACK.
 pub fn a_set_has_one_form()
     ensures form { (s t : Seen) → IsInRuns s → IsInRuns t → ((n : ℕ) → contains s n ≡ contains t n) → s ≡ t }

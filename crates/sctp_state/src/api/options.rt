@@ -48,9 +48,9 @@ pub struct Options {
     pub max_send_buffer_size: usize,
     /// A stream that holds as much takes no further message.
     pub per_stream_send_queue_limit: usize,
-    /// An event tells when the queued amount of all streams falls to this.
+    /// An event is emitted when the queued amount of all streams falls to this.
     pub total_buffered_amount_low_threshold: usize,
-    /// An event tells when the queued amount of a stream falls to this, where none is set for the stream.
+    /// An event is emitted when the queued amount of a stream falls to this, where none is set for the stream.
     pub default_stream_buffered_amount_low_threshold: usize,
     /// A round trip time above this isn't taken as a sample.
     pub rtt_max: Duration,

@@ -9,7 +9,7 @@ use sctp_serial::{SerialNumber, Tsn};
 use std::alloc::{AllocError, Global};
 use std::marker::Model;
 
-/// A SACK tells at most as many.
+/// A SACK reports at most as many.
 const MAX_DUPLICATES: usize = 20;
 
 /// At most twenty numbers, ascending, each once.

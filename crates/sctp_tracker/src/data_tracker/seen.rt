@@ -10,7 +10,7 @@ use std::alloc::{AllocError, Global};
 use std::collections::BTreeMap;
 use std::marker::Model;
 
-/// A SACK tells at most as many runs.
+/// A SACK reports at most as many runs.
 const MAX_BLOCKS: usize = 20;
 
 /// Every number up to a front, and the maximal runs above it: from the first number of each to its last.
@@ -60,7 +60,7 @@ impl Seen {
         !self.runs.is_empty()
     }
 
-    /// The runs as a SACK tells them, by their offsets from the front: the first twenty but those that end more than
+    /// The runs as a SACK reports them, by their offsets from the front: the first twenty but those that end more than
     /// 65,535 above it.
     pub fn gap_ack_blocks(&self, alloc: Global) -> Result<Vec<GapAckBlock>, AllocError>
         ensures { IfOk result (λ blocks. blocks.items ≡ gap_ack_blocks self.now) }
