@@ -21,7 +21,7 @@ use Rattle.proof_rx_refines.proofs.RestLemmas.{AreSent, no_run}
 use Rattle.proof_rx_refines.proofs.ArrivalLemmas.{rest_of}
 
 module _ (message : ℕ → Message) (is_interleaved : Bool) (base : Bool → ℕ → ℕ) (shift : ℕ) (x : Transfer) (k : Invariant message is_interleaved x) where
-  -- what a queue that shows the receiver holds was sent
+  -- what a queue that refines the receiver holds was sent
   pub sent_of : (q : Queue (KeyOf is_interleaved) (next_of is_interleaved)) → Refines message is_interleaved x (lift base is_interleaved q) → AreSent message is_interleaved base x.sender q
   sent_of q s κ w e =
       let f = s.held (up_key base is_interleaved κ) (up_chunk base is_interleaved w) (lift_at base is_interleaved q κ ∙ ap (up_some base is_interleaved) e) in

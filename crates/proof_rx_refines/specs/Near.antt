@@ -58,7 +58,7 @@ AreNearNext x f = (e : Entry) → IsAmong e f.entries → e.ordered ≡ true →
 
 -- ---- near
 
--- a queue that was told the TSN w of fragment `shift` first reads TSNs near the fragment `last`. When that came, all
+-- a queue that was given the TSN w of fragment `shift` first reads TSNs near the fragment `last`. When that came, all
 -- fragments that were seen, and itself, were below `upto`, which was at most 2^30 further on
 pub record IsNearLast (first shift : ℕ) (x : Transfer) (near w : ℕ) : Type 0 where
   pub written : w ≡ wire words first (origin + shift)

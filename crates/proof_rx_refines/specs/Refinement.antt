@@ -14,7 +14,7 @@ use Rattle.proof_protocol.specs.Lifted.{lift}
 use Rattle.proof_rx_refines.specs.View.{IsSeenAs, held_on, view_of, was_seen}
 
 -- the tracker has seen what the receiver of the rules has, and the reassembly, where the first messages that became ready
--- were handed out, is a queue that shows it, once the numbers are added that were before the last reset of each stream. Nothing that is complete and in turn is held, and nothing at all before a
+-- were handed out, is a queue that refines it, once the numbers are added that were before the last reset of each stream. Nothing that is complete and in turn is held, and nothing at all before a
 -- first TSN came
 pub record ReceiverRefines (message : ℕ → Message) (is_interleaved : Bool) (base : Bool → ℕ → ℕ) (shift : ℕ) (x : Transfer) (handed : List messages.Message) (t : Tracker) (r : Reassembly) : Type 0 where
   pub queue : Queue (KeyOf is_interleaved) (next_of is_interleaved)

@@ -43,7 +43,7 @@ view_of handed r = view_with r.streams (handed ++ r.ready)
 
 -- ---- a fragment that is held is a chunk under a key
 
--- the chunk with this protocol id. A beginning alone tells its message's: I-DATA has none in what follows
+-- the chunk with this protocol id. A beginning alone has its message's: I-DATA has none in what follows
 abbrev pub chunk_of_held : ℕ → Held → Chunk
 chunk_of_held id h = record {
   ordered = not h.fragment.is_unordered;

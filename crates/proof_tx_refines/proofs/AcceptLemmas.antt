@@ -1,4 +1,4 @@
--- Acceptance, settings of streams, and what a queue shows before anything is sent.
+-- Acceptance, settings of streams, and what a queue refines before anything is sent.
 use Rattle.std.proofs.Common.{◌≡◌, ◌≢◌, ℕ, zero, suc, ◌+◌, ◌%◌, ◌^◌, ◌<◌, Bool, true, false, cond, inl, inr, Option, Some, None, List, length, refl, sym, ap, ◌∙◌, subst, arith}
 use Rattle.std.specs.Prelude.{not, option_map, unwrap_or, is_some, ◌==◌}
 use Rattle.std.specs.Map.{lookup}

@@ -56,7 +56,7 @@ module _ {P : Type 0} (message : ℕ → Message) (lifecycle : ℕ → Option �
       go None = refl
       go (Some l) = refl
 
-  -- whatever was told before
+  -- whatever was emitted before
   same_after : (discard id number q (silent {P = List ℕ})).queue ≡ after
   same_after = go (front_discarded number s0.messages)
     where

@@ -26,7 +26,7 @@ use Rattle.proof_tx_refines.proofs.ResetLemmas.{off}
 use Rattle.proof_tx_refines.proofs.PauseRowLemmas.{turn_pauses}
 use Rattle.proof_tx_refines.proofs.LineLemmas.{AfterSetBytes, after_set_bytes, sent, peek_active}
 
--- ---- what the scheduler hears
+-- ---- what the scheduler is given
 
 sendable_flows : (s : Stream) → (sendable s == 0) ≡ false → is_stopped s.pause ≡ false
 sendable_flows s h = go (is_stopped s.pause) refl

@@ -27,7 +27,7 @@ use Rattle.proof_tx_refines.proofs.ItemsLemmas.{kept_drop, kept_settled}
 use Rattle.proof_tx_refines.proofs.LedLemmas.{leads_none}
 use Rattle.proof_tx_refines.proofs.LossLemmas.{losses}
 
--- ---- losses tell no event
+-- ---- losses emit no event
 
 module _ {P : Type 0} (at_once fast : Bool) where
   item_quiet : (k : ℕ) (i : Item) (y : Step P) → (nack_item at_once fast k i y).emitted.events ≡ y.emitted.events

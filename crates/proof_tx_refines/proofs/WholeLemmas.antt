@@ -1,4 +1,4 @@
--- Whole operations, whatever the packets are that are told: a SACK, a timeout, and lifetimes that end. And what isn't shown.
+-- Whole operations, whatever the packets are that are emitted: a SACK, a timeout, and lifetimes that end. And what isn't shown.
 use Rattle.std.proofs.Common.{◌≡◌, ℕ, ◌+◌, not, Bool, true, false, Option, List, length, sym, subst}
 use Rattle.sctp_serial.specs.Unwrapped.{origin}
 use Rattle.sctp_chunk.specs.declared.sack.GapAckBlock.{GapAckBlock}

@@ -109,7 +109,7 @@ PreparingFollows = InEachFollowed (λ message lifecycle is_interleaved x q s. (i
 
 -- ---- a request, and its answer
 
--- what is numbered next is the count of the fragments: so a request tells the last one before it
+-- what is numbered next is the count of the fragments: so a request names the last one before it
 abbrev pub NextIsCounted : Type 0
 NextIsCounted = InEachState (λ message lifecycle is_interleaved x q s. next_number s.outstanding.items ≡ origin + count x.sender)
 

@@ -46,7 +46,7 @@ abbrev pub given_ups : List Event → List ℕ
 given_ups [] = []
 given_ups (e ∷ es) = given_up_by e ++ given_ups es
 
--- the messages of which a record tells that they were given up
+-- the messages of which a record says that they were given up
 abbrev pub recorded_places : {P : Type 0} → Emitted P → List ℕ
 recorded_places told = map (λ g. g.number) told.given_up
 
@@ -59,7 +59,7 @@ pub record Leads (message : ℕ → Message) (is_interleaved : Bool) (x y : Tran
   pub given_up : given_ups events ≡ places
   pub rest_stays : y ≡ record x { sender = y.sender }
 
--- such rules lead from x to a state that the values show, and each message given up meanwhile is told by one record
+-- such rules lead from x to a state that the values refine, and each message given up meanwhile has one record
 pub record LeadsTo {P : Type 0} (message : ℕ → Message) (lifecycle : ℕ → Option ℕ) (is_interleaved : Bool) (x : Transfer) (told : Emitted P) (q : Queue) (s : Items) (later : Emitted P) : Type 0 where
   pub after : Transfer
   pub places : List ℕ
@@ -88,7 +88,7 @@ delivered_by (events.OnLifecycleMessageExpired id) = []
 delivered_by (events.OnLifecycleMessageDelivered id) = id ∷ []
 delivered_by (events.OnLifecycleEnd id) = []
 
--- the lifecycle ids that are told as delivered
+-- the lifecycle ids that are emitted as delivered
 abbrev pub delivered_ids : {P : Type 0} → List (events.Event P) → List ℕ
 delivered_ids [] = []
 delivered_ids (e ∷ es) = delivered_by e ++ delivered_ids es

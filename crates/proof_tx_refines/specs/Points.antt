@@ -23,7 +23,7 @@ abbrev pub chunk_of : (is_interleaved : Bool) → (first : ℕ) → ForwardPoint
 chunk_of true first f = i_forward_tsn_chunk (wire words first (origin + f.upto - 1)) (map mid_skip (map (skip_of true) f.entries))
 chunk_of false first f = forward_tsn_chunk (wire words first (origin + f.upto - 1)) (map ssn_skip (map (skip_of false) f.entries))
 
--- the point that the sender tells may be sent, by the rules
+-- the point that the sender names may be sent, by the rules
 pub record IsSendable (message : ℕ → Message) (is_interleaved : Bool) (x : Transfer) (s : Sender) : Type 0 where
   pub point : ForwardPoint
   pub allowed : IsAllowed message is_interleaved x (send_forward point)

@@ -1,4 +1,4 @@
--- Each operation of a sender's values is a run of the rules. `message` and `lifecycle` are any functions that tell what was
+-- Each operation of a sender's values is a run of the rules. `message` and `lifecycle` are any functions that say what was
 -- accepted so far.
 use Rattle.std.specs.Duration.{as_nanos}
 use Rattle.std.specs.Prelude.{option_map, unwrap_or, ◌≡◌, ℕ, ◌+◌, ◌^◌, ◌<◌, ◌≤◌, ◌||◌, not, Bool, true, false, Option, Some, None, List, [], ◌∷◌, ◌++◌, length, replicate, slice_get}

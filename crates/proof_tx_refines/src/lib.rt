@@ -114,7 +114,7 @@ pub fn fragments_are_numbered()
     ensures { Produces }
 {}
 
-/// A valid SACK whose cumulative TSN the peer sent lets the fragments below leave, one by one. What is told as delivered are
+/// A valid SACK whose cumulative TSN the peer sent lets the fragments below leave, one by one. What is emitted as delivered are
 /// the lifecycle ids of what the rules report. Blocks, missing reports, windows and timers change nothing else, but that
 /// a message may be given up of which a fragment is lost.
 pub fn sacks_are_received()

@@ -292,7 +292,7 @@ leaves_once id bytes priority finish s ts none there made absent =
     ∙ ap (λ o. leave id (accepted_at id o s)) (sym there)
     ∙ ap (λ b. cond b (leave id (accept id s)) (cond (is_active id (accept id s)) (accept id s) (enter id (finish_now bytes priority (accept id s)) (accept id s)))) (sym (ap (λ b. b == 0) none))
 
--- the same of the scheduler: who had nothing to send, was told of, and leaves
+-- the same of the scheduler: who had nothing to send, got bytes, and leaves
 pub withdraws : (id bytes priority : ℕ) (s : Scheduler) → is_active id s ≡ false → leave id (set_bytes_remaining id bytes priority s) ≡ s
 withdraws id bytes priority s absent = go (bytes == 0)
   where

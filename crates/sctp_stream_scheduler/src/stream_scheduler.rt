@@ -84,7 +84,7 @@ impl StreamScheduler {
         self.active.finish_time(id.0).is_some()
     }
 
-    /// Tells how many bytes of its next message a stream has to send. With none it leaves. A stream that had none gets
+    /// Sets how many bytes of its next message a stream has to send. With none it leaves. A stream that had none gets
     /// its finish time: the virtual time and 1, or with interleaving the bytes of its next fragment times 65,536 by its
     /// priority. One that has a finish time keeps it. Without memory nothing changes.
     pub fn set_bytes_remaining(
@@ -119,7 +119,7 @@ impl StreamScheduler {
         }
     }
 
-    /// The stream sends: the virtual time becomes its finish time, and it has none until its bytes are told anew.
+    /// The stream sends: the virtual time becomes its finish time, and it has none until its bytes are set anew.
     pub fn accept(&mut self, id: StreamId)
         requires { IsTrue (is_active id.0 self.old) }
         ensures { self.new ≡ accept id.0 self.old }

@@ -184,8 +184,8 @@ impl RetransmissionQueue {
     }
 
     /// Any SACK: one whose cumulative TSN or blocks lie out of range is `Invalid`, and changes nothing. What it acknowledges
-    /// for good leaves, and is told; the windows and t3-rtx follow (RFC 9260 sections 6.2.1, 6.3.2 and 7.2). Without memory
-    /// the items may have heard a part of it, and nothing else changes.
+    /// for good leaves, with its events; the windows and t3-rtx follow (RFC 9260 sections 6.2.1, 6.3.2 and 7.2). Without memory
+    /// the items may have received a part of it, and nothing else changes.
     pub fn handle_sack(
         &mut self,
         now: SocketTime,
@@ -245,7 +245,7 @@ impl RetransmissionQueue {
         Ok(info.bytes_acked)
     }
 
-    // The windows follow what the items heard; `before` bytes were unacknowledged.
+    // The windows follow what the items received; `before` bytes were unacknowledged.
     fn follow(&mut self, number: u64, a_rwnd: u32, moved: bool, before: usize, info: AckInfo)
         ensures { self.new ≡ record self.old {
           windows = windows_after number a_rwnd moved info.has_packet_loss before info.bytes_acked
@@ -387,7 +387,7 @@ impl RetransmissionQueue {
     /// wait to be sent again, ascending, then new fragments. Before that, what is left of messages that were given up
     /// leaves the send queue. Without memory none is handed out: each item is kept at its place, and what left the queue may
     /// stand behind them as sent; the windows, but for what the peer's has left, and t3-rtx are as they were; the queue is in
-    /// order as before. Events may tell of some of it.
+    /// order as before. Events of some of it may be emitted.
     pub fn get_chunks_to_send(
         &mut self,
         now: SocketTime,

@@ -1,4 +1,4 @@
--- What is told as items leave.
+-- What is emitted as items leave.
 use Rattle.std.proofs.Common.{◌≡◌, ℕ, suc, ◌-◌, ◌<◌, ◌++◌, List, ◌∷◌, take, ap, sym, subst, ◌∙◌, append_assoc, arith}
 use Rattle.sctp_state.specs.Events.{Event, Emitted, Grown, emit_events}
 use Rattle.sctp_state.proofs.EventLemmas.{grown_through, grown_emitted}

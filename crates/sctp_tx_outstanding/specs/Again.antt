@@ -1,5 +1,5 @@
 -- What the items are once they were written into a record and the record is taken up, at the same moment: all that is not
--- told in full is read anew.
+-- written in full is read anew.
 use Rattle.std.specs.Prelude.{◌≡◌, ℕ, ◌+◌, ◌-◌, ◌%◌, ◌^◌, ◌<◌, min, Option, Some, None, option_map, List, map}
 use Rattle.sctp_serial.specs.Unwrapped.{origin, words}
 use Rattle.sctp_state.specs.Handover.{Transmission}

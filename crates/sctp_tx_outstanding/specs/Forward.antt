@@ -80,7 +80,7 @@ abbrev pub walk : (most : ℕ) → Items → ForwardPoint → List Item → Forw
 walk most s f [] = f
 walk most s f (i ∷ is) = if passes most s f i then walk most s (pass_item s f i) is else f
 
--- the forward point that may be told in a chunk of this size
+-- the forward point that fits a chunk of this size
 abbrev pub forward_point : (most : ℕ) → Items → ForwardPoint
 forward_point most s = walk most s (record { count = 0; entries = [] }) s.kept
 

@@ -5,7 +5,7 @@ use Rattle.sctp_chunk.specs.Covered.{is_covered, AreRuns}
 use Rattle.sctp_tx_outstanding.specs.Item.{Item}
 use Rattle.sctp_tx_outstanding.specs.Sack.{settle, newly_acked, below_highest}
 
--- the blocks before `from` end before the offset, so that the others tell what is covered from there on
+-- the blocks before `from` end before the offset, so that the others say what is covered from there on
 pub record IsCursor (blocks : List GapAckBlock) (offset from : ℕ) : Type 0 where
   pub within : from ≤ length blocks
   pub same : (o : ℕ) → offset ≤ o → is_covered (drop from blocks) o ≡ is_covered blocks o

@@ -1,4 +1,4 @@
--- What a forward point tells: given-up items alone, without a hole, and of each stream touched the number of its last message
+-- What a forward point says: given-up items alone, without a hole, and of each stream touched the number of its last message
 -- among them (RFC 3758 section 3.5, RFC 8260 section 2.3).
 use Rattle.std.specs.Prelude.{◌≡◌, ℕ, ◌<◌, ◌≤◌, Bool, true, false, if◌then◌else◌, Option, Some, None, List, [], ◌∷◌, length, take, slice_get}
 use Rattle.std.specs.List.{list_all}

@@ -12,7 +12,7 @@ use crate::sack::{highest_end, skip_blocks};
 use sctp_chunk::{GapAckBlock, are_runs};
 use std::alloc::Global;
 
-/// The blocks of the last SACK, if they are known, are runs and tell what the items are: they are then looked at again only
+/// The blocks of the last SACK, if they are known, are runs and say what the items are: they are then looked at again only
 /// where the next ones differ.
 #[derive(Drop)]
 pub struct Heard {

@@ -145,7 +145,7 @@ fn list_all(items: &VecDeque<Item>, messages: &mut Messages)
     }
 }
 
-// Tells what is to be told as the first items leave.
+// Emits what is due as the first items leave.
 fn tell_first(items: &VecDeque<Item>, count: usize, events: &mut Events) -> Result<(), AllocError>
     ensures ok { OnOk result (events.new ≡ emit_events (reports (take count items.now.items)) events.old) }
     ensures err { OnErr result (Grown events.old events.new) }
@@ -561,7 +561,7 @@ impl Kept {
         )
     }
 
-    /// Tells what is to be told as the first items leave.
+    /// Emits what is due as the first items leave.
     pub fn tell_leaving(&self, count: usize, events: &mut Events) -> Result<(), AllocError>
         ensures ok { OnOk result (events.new ≡ emit_events (reports (take count self.now.items)) events.old) }
         ensures err { OnErr result (Grown events.old events.new) }

@@ -6,7 +6,7 @@ ghost use Rattle.sctp_tx_outstanding.specs.Point.{PointsAreSound, PointsGoFar};
 ghost use Rattle.sctp_tx_outstanding.specs.Records.{NewIsRecordedOnce, NewItemsRecordOnce, LossesRecordOnce, LifetimesRecordOnce, SacksRecordOnce, ResendingRecordsOnce, TakingRecordsOnce, CountsAreRecorded, LifetimesAreRecorded};
 
 /// Items that are written into a record, which is taken up at the same moment, come back under their TSNs, with all but
-/// what whole milliseconds don't tell and how often an item was reported missing.
+/// what whole milliseconds don't hold and how often an item was reported missing.
 pub fn a_record_brings_the_items_back()
     ensures { EachComesBack }
 {}

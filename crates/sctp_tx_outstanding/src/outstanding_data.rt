@@ -511,7 +511,7 @@ impl OutstandingData {
         self.acked <= number && highest < self.next_number() && number < (1 << 32) + (1 << 62)
     }
 
-    // The items up to the number leave, and are told. The answer is how many bytes are newly acknowledged by that.
+    // The items up to the number leave, with their events. The answer is how many bytes are newly acknowledged by that.
     fn leave(&mut self, number: u64, events: &mut Events) -> Result<usize, AllocError>
         requires onward { self.old.items.acked ≤ number }
         requires small { number < 2 ^ 63 }
@@ -533,7 +533,7 @@ impl OutstandingData {
         Ok(bytes)
     }
 
-    /// Takes a SACK, with blocks of any kind: items up to its cumulative TSN leave, in order, and it is told of each message
+    /// Takes a SACK, with blocks of any kind: items up to its cumulative TSN leave, in order, and an event says of each message
     /// whose end leaves whether it was delivered; those in blocks are acknowledged, and those that no block covers any more
     /// are in flight again; each that is in flight or missing below the highest one newly acknowledged by a block is
     /// reported missing, and is lost by the third report. Without memory nothing changes, or only some of the first of these
@@ -660,7 +660,7 @@ impl OutstandingData {
         Tsn::wrapped(self.first, self.acked) + past
     }
 
-    /// The round trip time that an acknowledgement of this TSN tells now: the time since its item was sent, where it is
+    /// The round trip time that an acknowledgement of this TSN measures now: the time since its item was sent, where it is
     /// kept and was sent once.
     pub fn measure_rtt(&self, now: SocketTime, tsn: Tsn) -> Option<Duration>
         ensures { option_map as_nanos result ≡ sample now (number_of self.now tsn.0) self.now.items }

@@ -9,7 +9,7 @@ use sctp_serial::LifecycleId;
 use sctp_state::{Events, SocketEvent};
 use std::alloc::AllocError;
 
-// Tells what became of a message.
+// Emits what became of a message.
 fn tell_ending(
     events: &mut Events,
     is_abandoned: bool,
@@ -30,7 +30,7 @@ fn tell_ending(
     Ok(())
 }
 
-/// Tells what is to be told as an item leaves.
+/// Emits what is due as an item leaves.
 pub fn tell_left(events: &mut Events, item: &Item) -> Result<(), AllocError>
     ensures ok { OnOk result (events.new ≡ emit_events (report item.now) events.old) }
     ensures err { OnErr result (Grown events.old events.new) }

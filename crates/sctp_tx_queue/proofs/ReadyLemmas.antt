@@ -1,4 +1,4 @@
--- How many streams can be reset, when one stream changes, and what it tells when none can.
+-- How many streams can be reset, when one stream changes, and what it says when none can.
 use Rattle.std.proofs.Common.{◌≡◌, ℕ, ◌+◌, ◌≤◌, Bool, true, false, cond, List, [], ◌∷◌, length, Some, None, refl, ap, sym, ◌∙◌, arith}
 use Rattle.std.specs.Prelude.{unwrap_or, option_map, nat_lt, ◌||◌}
 use Rattle.std.specs.List.{list_any}

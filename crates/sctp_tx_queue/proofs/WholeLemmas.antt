@@ -39,7 +39,7 @@ pub whole_moved : (size : ℕ) (n : MessageNumbers) (ms : List Queued) → is_fr
 whole_moved size n [] h = absurd (cc)
 whole_moved size n (m ∷ rest) h = ap (λ b. cond b rest (move_past size n m ∷ rest)) (whole_ends size m h)
 
--- its stream goes in line, and it is told
+-- its stream goes in line, with its bytes
 pub whole_line : (id bytes priority size : ℕ) (n : MessageNumbers) (ms : List Queued) (sch : Scheduler) → is_front_whole size ms ≡ true → set_bytes_remaining id bytes priority (accept id sch) ≡ in_line id bytes priority (front_made id size n ms) sch
 whole_line id bytes priority size n [] sch h = absurd (cc)
 whole_line id bytes priority size n (m ∷ rest) sch h = refl

@@ -1,4 +1,4 @@
--- What a queue is once it was written into a record and the record is taken up, at the same moment: all that is not told
+-- What a queue is once it was written into a record and the record is taken up, at the same moment: all that is not written
 -- in full is read anew.
 use Rattle.std.specs.Prelude.{◌≡◌, ℕ, ◌+◌, ◌%◌, ◌^◌, Bool, if◌then◌else◌, Option, Some, None, option_map, map}
 use Rattle.std.specs.List.Sorted.{IsStrictlySortedBy}

@@ -1,4 +1,4 @@
--- What a call leaves that ran out of memory before its end: nothing is lost but messages that expired, and these are told.
+-- What a call leaves that ran out of memory before its end: nothing is lost but messages that expired, and their events are emitted.
 use Rattle.std.specs.Prelude.{◌≡◌, ◌⊎◌, ℕ, zero, suc, Some, None, List, take}
 use Rattle.sctp_state.specs.Events.{Emitted}
 use Rattle.sctp_tx_queue.specs.declared.send_queue.stream.ResetStep.{ResetStep}
@@ -11,7 +11,7 @@ pub record Same {P : Type 0} (q : Queue) (told : Emitted P) (after : Queue) (lat
   pub queue : after ≡ q
   pub events : later ≡ told
 
--- the expired messages at the front of a stream are dropped and told, and nothing else
+-- the expired messages at the front of a stream are dropped, with their events, and nothing else
 pub record Freed {P : Type 0} (now id : ℕ) (q : Queue) (told : Emitted P) (after : Queue) (later : Emitted P) : Type 0 where
   pub queue : after ≡ record q { streams = streams_without_stale now id q.streams }
   pub events : later ≡ drop_expired now (stream id q.streams).messages told

@@ -130,7 +130,7 @@ front_left (m ∷ rest) = left_bytes m
 abbrev pub sendable : Stream → ℕ
 sendable s = if is_stopped s.pause then 0 else front_left s.messages
 
--- the scheduler hears what the stream has to send
+-- the scheduler is given what the stream has to send
 abbrev pub hears : ℕ → Stream → Scheduler → Scheduler
 hears id s sch = set_bytes_remaining id (sendable s) s.priority sch
 

@@ -57,7 +57,7 @@ streams_from now tx ss = record ss { entries = entries_from now ss.default_thres
 
 -- ---- the queue
 
--- the scheduler hears what these streams have to send
+-- the scheduler is given what these streams have to send
 abbrev pub each_heard : List ℕ → Streams → Scheduler → Scheduler
 each_heard [] ss sch = sch
 each_heard (id ∷ ids) ss sch = each_heard ids ss (hears id (stream id ss) sch)

@@ -62,7 +62,7 @@ impl Model for SendQueue {
     ghost view = { λ q. record { streams = q.streams; scheduler = q.scheduler; next_number = q.next_message_id.0; begun = option_map (λ id. id.0) q.begun } };
 }
 
-// Tells that a message was dropped, and what its stream has to send then. Without memory nothing changes.
+// Emits that a message was dropped, and sets what its stream has to send then. Without memory nothing changes.
 fn leave_line(
     scheduler: &mut StreamScheduler,
     events: &mut Events,
@@ -269,7 +269,7 @@ impl SendQueue {
     }
 
     /// The next fragment, with a payload of at most `max_payload` bytes, in the scheduler's order. Messages that expired
-    /// before they were begun are dropped on the way: each is given up, and ends its lifecycle. Then events tell what
+    /// before they were begun are dropped on the way: each is given up, and ends its lifecycle. Then events say what
     /// amounts fell to their thresholds, and that the message was handed out whole. `None` says that no stream has
     /// anything to send.
     pub fn produce(
@@ -420,7 +420,7 @@ impl SendQueue {
         }
     }
 
-    // Takes the memory for a stream that is to be reset, and tells of the messages that it drops.
+    // Takes the memory for a stream that is to be reset, and emits the events of the messages that it drops.
     fn tell_and_open(
         &mut self,
         id: StreamId,

@@ -195,7 +195,7 @@ fn answers(queue: &SendQueue, step: Step) -> bool {
     }
 }
 
-// The calls that tell nothing.
+// The calls that emit nothing.
 fn settles(alloc: Global, queue: &mut SendQueue, step: Step) -> Result<bool, AllocError> {
     match step {
         Step::Accept(id, length) => accept(alloc, queue, id, length, &SendOptions::default()),

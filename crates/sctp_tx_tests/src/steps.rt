@@ -218,7 +218,7 @@ fn answers(sender: &Sender, step: Step) -> bool {
     }
 }
 
-// The calls that send and tell nothing.
+// The calls that send and emit nothing.
 fn settles(sender: &mut Sender, step: Step) -> Result<bool, AllocError> {
     match step {
         Step::Accept(id, size) => put(sender, id, size, &SendOptions::default()),

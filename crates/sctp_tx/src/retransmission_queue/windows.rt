@@ -117,7 +117,7 @@ impl Windows {
         }
     }
 
-    /// The peer told its window, while so much payload was unacknowledged.
+    /// The peer advertised its window, while so much payload was unacknowledged.
     pub fn hear_window(&mut self, a_rwnd: u32, payload: usize)
         ensures { self.new ≡ advertise a_rwnd payload self.old }
     {

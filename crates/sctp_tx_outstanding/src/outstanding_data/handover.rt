@@ -14,7 +14,7 @@ use std::collections::VecDeque;
 
 impl OutstandingData {
     /// Writes the items, the next TSN and the peer's cumulative TSN into the record of a socket that is handed over now.
-    /// Breakpoints of resets, and messages whose rest is to leave the send queue, are not told. Without memory the record
+    /// Breakpoints of resets, and messages whose rest is to leave the send queue, are not written. Without memory the record
     /// stays as it was.
     pub fn add_to_handover_state(
         &self,

@@ -14,7 +14,7 @@ use sctp_state::api::handover::{HandoverOutgoingStream, HandoverStreamMessage};
 use sctp_stream_scheduler::StreamScheduler;
 use std::alloc::{AllocError, Global};
 
-// Tells the scheduler what the streams of a record have to send.
+// Gives the scheduler what the streams of a record have to send.
 fn hear_all(
     scheduler: &mut StreamScheduler,
     streams: &Streams,

@@ -42,7 +42,7 @@ fn next_after(stream: &Stream, size: usize, is_total_low: bool) -> Next
     }
 }
 
-// Tells of a fragment, and puts its stream in line for the next one.
+// Emits the events of a fragment, and puts its stream in line for the next one.
 fn tell_and_queue(
     scheduler: &mut StreamScheduler,
     events: &mut Events,
@@ -138,7 +138,7 @@ fn send_part(
     }
 }
 
-/// A stream sends its next fragment, which is told, and goes in line for the one after it; one that has none leaves.
+/// A stream sends its next fragment, with its events, and goes in line for the one after it; one that has none leaves.
 /// Without memory nothing changes.
 pub(crate) fn send_from(
     alloc: Global,

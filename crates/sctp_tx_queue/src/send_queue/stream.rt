@@ -87,7 +87,7 @@ fn is_front_stale(messages: &VecDeque<QueuedMessage>, now: SocketTime) -> bool
     }
 }
 
-// Tells of the messages at the front that expired before they were begun.
+// Emits the events of the messages at the front that expired before they were begun.
 fn tell_stale_front(
     messages: &VecDeque<QueuedMessage>,
     now: SocketTime,
@@ -152,7 +152,7 @@ fn pop_front(messages: &mut VecDeque<QueuedMessage>, buffered: &mut ThresholdWat
     }
 }
 
-// Tells of the messages of which nothing is sent that they are given up.
+// Emits of the messages of which nothing is sent that they are given up.
 fn tell_waiting(messages: &VecDeque<QueuedMessage>, events: &mut Events) -> Result<(), AllocError>
     ensures ok { OnOk result (events.new ≡ emitted_waiting messages.now.items events.old) }
     ensures err { OnErr result (Grown events.old events.new) }
@@ -491,7 +491,7 @@ impl Stream {
         Ok(())
     }
 
-    /// Tells of the messages at the front that expired before they were begun.
+    /// Emits the events of the messages at the front that expired before they were begun.
     pub fn tell_stale(&self, now: SocketTime, events: &mut Events) -> Result<(), AllocError>
         ensures ok { OnOk result (events.new ≡ drop_expired now self.now.messages events.old) }
         ensures err { OnErr result (Grown events.old events.new) }
@@ -734,7 +734,7 @@ impl Stream {
         }
     }
 
-    /// Tells of the messages of which nothing is sent that they are given up.
+    /// Emits of the messages of which nothing is sent that they are given up.
     pub fn tell_waiting(&self, events: &mut Events) -> Result<(), AllocError>
         ensures ok { OnOk result (events.new ≡ emitted_waiting self.now.messages events.old) }
         ensures err { OnErr result (Grown events.old events.new) }

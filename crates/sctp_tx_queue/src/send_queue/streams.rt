@@ -244,7 +244,7 @@ impl Streams {
         }
     }
 
-    /// Tells of the messages at the front of a stream that expired before they were begun.
+    /// Emits the events of the messages at the front of a stream that expired before they were begun.
     pub fn tell_stale(
         &self,
         id: StreamId,
@@ -339,7 +339,7 @@ impl Streams {
         self.ready_count = ready_count_after(self.ready_count, was_ready, stream.is_ready());
     }
 
-    /// A stream sends its next fragment, of at most `size` bytes: it is told, and the stream goes in line for the one after
+    /// A stream sends its next fragment, of at most `size` bytes, with its events: the stream goes in line for the one after
     /// it; one that has none leaves. Without memory nothing changes.
     pub fn send_front(
         &mut self,
@@ -451,7 +451,7 @@ impl Streams {
         self.ready_count = ready_count_after(self.ready_count, was_ready, stream.is_ready());
     }
 
-    /// Tells of the messages of a stream of which nothing is sent that they are given up.
+    /// Emits of the messages of a stream of which nothing is sent that they are given up.
     pub fn tell_waiting(&self, id: StreamId, events: &mut Events) -> Result<(), AllocError>
         ensures ok { OnOk result (events.new ≡ emitted_waiting (stream id.0 self.now).messages events.old) }
         ensures err { OnErr result (Grown events.old events.new) }

@@ -1,4 +1,4 @@
-//! What the send queue tells the socket's user.
+//! What the send queue emits to the socket's user.
 
 ghost use Rattle.std.specs.Prelude.{◌≡◌, [], ◌∷◌, ◌++◌, OnOk, OnErr};
 ghost use Rattle.sctp_state.specs.Events.{event_of, expiry, give_up, emit_events, Grown};
