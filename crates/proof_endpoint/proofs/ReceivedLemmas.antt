@@ -3,7 +3,7 @@ use Rattle.std.proofs.Common.{ℕ, zero, suc, ◌+◌, ◌^◌, ◌<◌, List, [
 use Rattle.std.specs.Prelude.{All, slice_index}
 use Rattle.std.specs.Int.{w16, w32, to_be_bytes, from_be_bytes}
 use Rattle.std.proofs.lemmas.List.Elements.{All-head, All-tail}
-use Rattle.sctp_wire.specs.Item.{Item, item_bytes, Takes, Tiles}
+use Rattle.sctp_wire.specs.Item.{Item, item_bytes, Takes, ParsesAll}
 use Rattle.sctp_wire.specs.Parameter.{ParameterTree, IsParameter}
 use Rattle.sctp_packet.specs.Chunk.{ChunkTree, data_chunk, init_chunk, init_ack_chunk, heartbeat_request_chunk, cookie_echo_chunk, idata_chunk, re_config_chunk, sack_chunk, heartbeat_ack_chunk, abort_chunk, shutdown_chunk, shutdown_ack_chunk, error_chunk, cookie_ack_chunk, shutdown_complete_chunk, forward_tsn_chunk, i_forward_tsn_chunk, unknown_chunk}
 use Rattle.sctp_packet.specs.Grammar.{Each, IsChunk}
@@ -114,7 +114,7 @@ IsReceived (forward_tsn_chunk tsn skipped) = Unit {0}
 IsReceived (i_forward_tsn_chunk tsn skipped) = Unit {0}
 IsReceived (unknown_chunk typ flags value) = Unit {0}
 
-parameters_fair : (bytes : List ℕ) (ps : List ParameterTree) → Tiles IsParameter bytes ps [] → Each IsFairParameter ps
+parameters_fair : (bytes : List ℕ) (ps : List ParameterTree) → ParsesAll IsParameter bytes ps [] → Each IsFairParameter ps
 parameters_fair bytes [] h = tt
 parameters_fair bytes (p ∷ ps) h = (record { fits = h.3.fits; of_its_variant = h.3.of_its_variant }, parameters_fair h.1 ps h.4)
 
@@ -142,7 +142,7 @@ value_bytes : (i : Item) (rest : List ℕ) → Each IsByte (item_bytes i ++ rest
 value_bytes i rest h =
     each_back IsByte (to_be_bytes w16 (4 + length i.value)) i.value (each_front IsByte (item_bytes i) rest h).1.1
 
-received_parses_all : (bytes : List ℕ) (cs : List ChunkTree) → Each IsByte bytes → Tiles IsChunk bytes cs [] → Each HasSomeCookie cs → Each IsReceived cs
+received_parses_all : (bytes : List ℕ) (cs : List ChunkTree) → Each IsByte bytes → ParsesAll IsChunk bytes cs [] → Each HasSomeCookie cs → Each IsReceived cs
 received_parses_all bytes [] b h k = tt
 received_parses_all bytes (c ∷ cs) b h k =
     let i : Item = h.0 in

@@ -2,7 +2,7 @@
 -- hand in for it to stay so.
 use Rattle.std.specs.Prelude.{ℕ, ◌<◌, ◌≤◌, ◌^◌, IfSome, List, [], length, All}
 use Rattle.sctp_serial.specs.Messages.{Message}
-use Rattle.sctp_wire.specs.Item.{Tiles}
+use Rattle.sctp_wire.specs.Item.{ParsesAll}
 use Rattle.sctp_wire.specs.Parameter.{ParameterTree, state_cookie}
 use Rattle.sctp_packet.specs.Chunk.{ChunkTree, init_ack_chunk}
 use Rattle.sctp_packet.specs.Packet.{PacketTree}
@@ -124,7 +124,7 @@ pub record FitsRecord (h : HandoverState) : Type 0 where
 pub record AreRead (chunks : List ChunkTree) : Type 0 where
   pub bytes : List ℕ
   pub small : All (λ (b : ℕ). b < 2 ^ 8) bytes
-  pub parses : Tiles IsChunk bytes chunks []
+  pub parses : ParsesAll IsChunk bytes chunks []
 
 abbrev pub HasBytes : ParameterTree → Type 0
 HasBytes (state_cookie cookie) = 0 < length cookie

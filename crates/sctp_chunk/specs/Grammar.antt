@@ -5,7 +5,7 @@ use Rattle.sctp_serial.specs.declared.types.tsn.Tsn.{Tsn}
 use Rattle.sctp_wire.specs.declared.error.ChunkParseError.{ChunkParseError}
 use Rattle.sctp_wire.specs.declared.error.ChunkParseError.TheVariants.{InvalidLength, InvalidType, Memory}
 use Rattle.sctp_wire.specs.Fields.{be16, be32}
-use Rattle.sctp_wire.specs.Item.{Item, Tiles}
+use Rattle.sctp_wire.specs.Item.{Item, ParsesAll}
 use Rattle.sctp_wire.specs.Refusal.{FailsToParseAs}
 use Rattle.sctp_wire.specs.Parameter.{ParameterTree, IsParameter, RefusesParameter}
 use Rattle.sctp_wire.specs.Cause.{CauseTree, IsCause, RefusesCause}
@@ -46,7 +46,7 @@ SaysFlags flags (i_forward_tsn_chunk tsn skipped) = Unit {0}
 
 -- fixed fields, and parameters behind them
 abbrev pub SaysInit : List ℕ → InitTree → Type 0
-SaysInit value t = (behind : List ℕ) × (value ≡ init_fields t ++ behind) × Tiles IsParameter behind t.parameters []
+SaysInit value t = (behind : List ℕ) × (value ≡ init_fields t ++ behind) × ParsesAll IsParameter behind t.parameters []
 
 -- an entry of I-FORWARD-TSN: of its flags only U is read (RFC 8260 section 2.3.1)
 abbrev pub SaysSkip : List ℕ → SkippedStream → Type 0
@@ -63,17 +63,17 @@ SaysValue value (data_chunk tsn immediate f) = value ≡ data_value tsn f
 SaysValue value (init_chunk init) = SaysInit value init
 SaysValue value (init_ack_chunk init) = SaysInit value init
 SaysValue value (sack_chunk sack) = value ≡ sack_value sack
-SaysValue value (heartbeat_request_chunk parameters) = Tiles IsParameter value parameters []
-SaysValue value (heartbeat_ack_chunk parameters) = Tiles IsParameter value parameters []
-SaysValue value (abort_chunk reflected causes) = Tiles IsCause value causes []
+SaysValue value (heartbeat_request_chunk parameters) = ParsesAll IsParameter value parameters []
+SaysValue value (heartbeat_ack_chunk parameters) = ParsesAll IsParameter value parameters []
+SaysValue value (abort_chunk reflected causes) = ParsesAll IsCause value causes []
 SaysValue value (shutdown_chunk tsn) = value ≡ be32 tsn
 SaysValue value shutdown_ack_chunk = value ≡ []
-SaysValue value (error_chunk causes) = Tiles IsCause value causes []
+SaysValue value (error_chunk causes) = ParsesAll IsCause value causes []
 SaysValue value (cookie_echo_chunk cookie) = (value ≡ cookie) × (0 < length cookie)
 SaysValue value cookie_ack_chunk = value ≡ []
 SaysValue value (shutdown_complete_chunk reflected) = value ≡ []
 SaysValue value (idata_chunk tsn immediate f) = (reserved : ℕ) × (reserved < 2 ^ 16) × (value ≡ idata_value reserved tsn f)
-SaysValue value (re_config_chunk parameters) = Tiles IsParameter value parameters []
+SaysValue value (re_config_chunk parameters) = ParsesAll IsParameter value parameters []
 SaysValue value (forward_tsn_chunk tsn skipped) = (value ≡ forward_value tsn skipped) × (list_all is_ssn_skip skipped ≡ true)
 SaysValue value (i_forward_tsn_chunk tsn skipped) = (entries : List ℕ) × (value ≡ be32 tsn ++ entries) × SaysSkips entries skipped
 SaysValue value (unknown_chunk typ flags bytes) = value ≡ bytes
@@ -241,8 +241,8 @@ HasChunkShape (exactly n) value = length value ≡ n
 HasChunkShape (at_least n) value = n ≤ length value
 HasChunkShape (in_steps n width) value = (n ≤ length value) × ((length value - n) % width ≡ 0)
 HasChunkShape by_counts value = IsCounted value
-HasChunkShape (parameters_behind n) value = (n ≤ length value) × ((ps : List ParameterTree) × Tiles IsParameter (drop n value) ps [])
-HasChunkShape of_causes value = (cs : List CauseTree) × Tiles IsCause value cs []
+HasChunkShape (parameters_behind n) value = (n ≤ length value) × ((ps : List ParameterTree) × ParsesAll IsParameter (drop n value) ps [])
+HasChunkShape of_causes value = (cs : List CauseTree) × ParsesAll IsCause value cs []
 
 -- An item, read as a chunk of type `asked`, is refused: there was no memory, it is of another type, or its value has this fault.
 abbrev pub RefusesChunkAs : ℕ → Item → ChunkParseError → Type 0

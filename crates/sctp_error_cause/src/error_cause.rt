@@ -2,7 +2,7 @@
 
 ghost use Rattle.std.specs.Prelude.{◌≡◌, ◌≢◌, ◌⊎◌, true, List, [], map, IfOk, OnOk, IfErr, Some};
 ghost use Rattle.sctp_wire.specs.CauseText.{cause_text};
-ghost use Rattle.sctp_wire.specs.Item.{Tiles};
+ghost use Rattle.sctp_wire.specs.Item.{ParsesAll};
 ghost use Rattle.sctp_wire.specs.Refusal.{FailsToParseAs};
 ghost use Rattle.sctp_wire.specs.Cause.{CauseTree, SaysCause, RefusesCauseAs, IsCause, RefusesCause, cause_item};
 ghost use Rattle.sctp_error_cause.specs.CauseViews.{cause_tree};
@@ -175,7 +175,7 @@ pub fn error_cause_from_bytes(
     alloc: Global,
     bytes: &[u8],
 ) -> Result<Vec<ErrorCause>, ChunkParseError>
-    ensures ok { IfOk result (λ list. Tiles IsCause bytes.now (map cause_tree list.items) []) }
+    ensures ok { IfOk result (λ list. ParsesAll IsCause bytes.now (map cause_tree list.items) []) }
     ensures refused { IfErr result (λ fault. (fault ≡ ChunkParseError.Memory) ⊎ FailsToParseAs IsCause RefusesCause bytes.now fault) }
 {
     items_from_bytes(alloc, bytes)
@@ -198,7 +198,7 @@ impl CheckItem for ErrorCause {
 /// Whether the bytes are causes, from the left. It has the faults of `error_cause_from_bytes`, but for want of memory, since it
 /// builds nothing.
 pub fn check_causes(bytes: &[u8]) -> Result<(), ChunkParseError>
-    ensures ok { OnOk result ((ts : List CauseTree) × Tiles IsCause bytes.now ts []) }
+    ensures ok { OnOk result ((ts : List CauseTree) × ParsesAll IsCause bytes.now ts []) }
     ensures refused { IfErr result (FailsToParseAs IsCause RefusesCause bytes.now) }
     ensures never_memory { IfErr result (λ fault. fault ≢ ChunkParseError.Memory) }
 {

@@ -4,7 +4,7 @@
 ghost use Rattle.std.specs.Prelude.{◌≡◌, ◌≢◌, ◌<◌, ◌^◌, ◌++◌, ℕ, List, [], map, All};
 ghost use Rattle.std.specs.List.{flat_map};
 ghost use Rattle.sctp_wire.specs.declared.error.ChunkParseError.{ChunkParseError};
-ghost use Rattle.sctp_wire.specs.Item.{Item, Tiles};
+ghost use Rattle.sctp_wire.specs.Item.{Item, ParsesAll};
 ghost use Rattle.sctp_wire.specs.Refusal.{FailsToParseAs};
 ghost use Rattle.sctp_wire.specs.Serialize.{IsEncodable, inner_items, padded_item};
 ghost use Rattle.sctp_wire.specs.Cause.{CauseTree, CauseFits, IsCause, RefusesCause, cause_item};
@@ -17,9 +17,9 @@ use sctp_wire::{ChunkParseError, id_fits, number_fits};
 /// Causes that are written one after the other, each with its padding, are read back as the same, whatever follows.
 pub fn causes_read_back()
     ensures padded { (ts : List CauseTree) (rest : List ℕ) → All CauseReadsBack ts
-        → Tiles IsCause (flat_map (λ t. padded_item (cause_item t)) ts ++ rest) ts rest }
+        → ParsesAll IsCause (flat_map (λ t. padded_item (cause_item t)) ts ++ rest) ts rest }
     ensures inner { (ts : List CauseTree) → All CauseReadsBack ts
-        → Tiles IsCause (inner_items (map cause_item ts)) ts [] }
+        → ParsesAll IsCause (inner_items (map cause_item ts)) ts [] }
 {}
 
 /// An item that stands for a cause is refused for want of memory alone.
@@ -67,8 +67,8 @@ pub fn one_cause()
 
 /// Bytes are at most one list of causes, and a list that is refused has one fault.
 pub fn one_list_of_causes()
-    ensures values { (bytes : List ℕ) (ts us : List CauseTree) → Tiles IsCause bytes ts [] → Tiles IsCause bytes us [] → ts ≡ us }
-    ensures never_both { (bytes : List ℕ) (ts : List CauseTree) (fault : ChunkParseError) → Tiles IsCause bytes ts []
+    ensures values { (bytes : List ℕ) (ts us : List CauseTree) → ParsesAll IsCause bytes ts [] → ParsesAll IsCause bytes us [] → ts ≡ us }
+    ensures never_both { (bytes : List ℕ) (ts : List CauseTree) (fault : ChunkParseError) → ParsesAll IsCause bytes ts []
         → FailsToParseAs IsCause RefusesCause bytes fault → fault ≢ ChunkParseError.Memory → ⊥ }
     ensures fault { (bytes : List ℕ) (fault other : ChunkParseError) → FailsToParseAs IsCause RefusesCause bytes fault
         → FailsToParseAs IsCause RefusesCause bytes other → fault ≢ ChunkParseError.Memory → other ≢ ChunkParseError.Memory → fault ≡ other }

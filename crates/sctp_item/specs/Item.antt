@@ -30,14 +30,14 @@ abbrev pub TakesNone : List ℕ → Type 0
 TakesNone bytes = (i : Item) (rest : List ℕ) → Takes bytes i rest → ⊥
 
 -- The bytes begin with items that stand for these values in turn, and the rest follows. R says which value an item stands for.
-abbrev pub Tiles : {X : Type 0} → (Item → X → Type 0) → List ℕ → List X → List ℕ → Type 0
-Tiles R bytes [] rest = bytes ≡ rest
-Tiles R bytes (x ∷ xs) rest = (i : Item) × (after : List ℕ) × Takes bytes i after × R i x × Tiles R after xs rest
+abbrev pub ParsesAll : {X : Type 0} → (Item → X → Type 0) → List ℕ → List X → List ℕ → Type 0
+ParsesAll R bytes [] rest = bytes ≡ rest
+ParsesAll R bytes (x ∷ xs) rest = (i : Item) × (after : List ℕ) × Takes bytes i after × R i x × ParsesAll R after xs rest
 
 -- The bytes are no values: behind the longest front that is some, bytes are left that begin with no item that stands for one.
-pub record Breaks {X : Type 0} (R : Item → X → Type 0) (bytes : List ℕ) : Type 0 where
+pub record FailsToParse {X : Type 0} (R : Item → X → Type 0) (bytes : List ℕ) : Type 0 where
   pub front : List X
   pub rest : List ℕ
-  pub parses : Tiles R bytes front rest
+  pub parses : ParsesAll R bytes front rest
   pub some : 0 < length rest
   pub stuck : (i : Item) (after : List ℕ) (x : X) → Takes rest i after → R i x → ⊥

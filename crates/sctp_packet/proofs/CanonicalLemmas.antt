@@ -6,7 +6,7 @@ use Rattle.std.specs.Str.{IsUtf8, all_scalars}
 use Rattle.std.proofs.lemmas.List.{length-append}
 use Rattle.std.proofs.lemmas.List.Concat.{flat_map-cons}
 use Rattle.std.proofs.lemmas.List.Elements.{All-nil, All-cons}
-use Rattle.sctp_wire.specs.Item.{Item, Tiles}
+use Rattle.sctp_wire.specs.Item.{Item, ParsesAll}
 use Rattle.sctp_wire.specs.Serialize.{IsEncodable, padded_item, inner_items}
 use Rattle.sctp_wire.specs.Text.{ReadsChars, IsTextOf}
 use Rattle.sctp_wire.specs.Parameter.{ParameterTree, IsParameter, parameter_item, parameter_is_whole}
@@ -30,7 +30,7 @@ use Rattle.sctp_packet.proofs.LawLemmas.{one_packet_lem, packet_of}
 
 -- what each item tells of its value holds of all
 each_emits : {X : Type 0} (R : Item → X → Type 0) (Fits P : X → Type 0) → ((i : Item) (x : X) → R i x → Fits x → P x)
-    → (bytes : List ℕ) (xs : List X) → Tiles R bytes xs [] → All Fits xs → All P xs
+    → (bytes : List ℕ) (xs : List X) → ParsesAll R bytes xs [] → All Fits xs → All P xs
 each_emits R Fits P tells bytes [] tiles fit = All-nil P
 each_emits R Fits P tells bytes (x ∷ xs) tiles fit =
     All-cons P x xs (tells tiles.0 x tiles.3 (fit 0 x (omega arith)))
@@ -63,12 +63,12 @@ text_read i (unknown_cause typ value) says = tt
 cause_reads_back : (i : Item) (t : CauseTree) → IsCause i t → IsEncodable (cause_item t) → CauseReadsBack t
 cause_reads_back i t says fits = record { encodable = fits; fits = says.fits; text = text_read i t says; of_its_variant = says.of_its_variant }
 
-parameters_read_back : (bytes : List ℕ) (ts : List ParameterTree) → Tiles IsParameter bytes ts [] → 4 + length (inner_items (map parameter_item ts)) < 2 ^ 16
+parameters_read_back : (bytes : List ℕ) (ts : List ParameterTree) → ParsesAll IsParameter bytes ts [] → 4 + length (inner_items (map parameter_item ts)) < 2 ^ 16
     → All ParameterReadsBack ts
 parameters_read_back bytes ts tiles fit =
     each_emits IsParameter (λ t. IsEncodable (parameter_item t)) ParameterReadsBack parameter_reads_back bytes ts tiles (each_fits parameter_item ts fit)
 
-causes_read_back : (bytes : List ℕ) (ts : List CauseTree) → Tiles IsCause bytes ts [] → 4 + length (inner_items (map cause_item ts)) < 2 ^ 16
+causes_read_back : (bytes : List ℕ) (ts : List CauseTree) → ParsesAll IsCause bytes ts [] → 4 + length (inner_items (map cause_item ts)) < 2 ^ 16
     → All CauseReadsBack ts
 causes_read_back bytes ts tiles fit =
     each_emits IsCause (λ t. IsEncodable (cause_item t)) CauseReadsBack cause_reads_back bytes ts tiles (each_fits cause_item ts fit)
@@ -78,7 +78,7 @@ causes_read_back bytes ts tiles fit =
 both : (a b : Bool) → a ≡ true → b ≡ true → (a && b) ≡ true
 both a b e f = rw (e, f) refl
 
-parameters_whole : (bytes : List ℕ) (ts : List ParameterTree) → Tiles IsParameter bytes ts [] → list_all parameter_is_whole ts ≡ true
+parameters_whole : (bytes : List ℕ) (ts : List ParameterTree) → ParsesAll IsParameter bytes ts [] → list_all parameter_is_whole ts ≡ true
 parameters_whole bytes [] tiles = refl
 parameters_whole bytes (t ∷ ts) tiles = both (parameter_is_whole t) (list_all parameter_is_whole ts) tiles.3.whole (parameters_whole tiles.1 ts tiles.4)
 
@@ -148,7 +148,7 @@ cons_same : (t u : ChunkTree) (ts us : List ChunkTree) → t ≡ u → ts ≡ us
 cons_same t u ts us a b = cc
 
 -- a chunk that was read has zero in the fields that its kind does not write
-carried_same : (bytes : List ℕ) (chunks : List ChunkTree) → Tiles IsChunk bytes chunks [] → map carried chunks ≡ chunks
+carried_same : (bytes : List ℕ) (chunks : List ChunkTree) → ParsesAll IsChunk bytes chunks [] → map carried chunks ≡ chunks
 carried_same bytes [] tiles = refl
 carried_same bytes (t ∷ chunks) tiles = cons_same (carried t) t (map carried chunks) chunks (sym tiles.3.carries) (carried_same tiles.1 chunks tiles.4)
 
@@ -164,7 +164,7 @@ canonical_is_packet bytes p is short =
       joined = refl;
       header_fits = is.header_fits;
       checksum_fits = omega arith;
-      chunks = subst (λ (cs : List ChunkTree). Tiles IsChunk (chunks_bytes p.chunks) cs []) (carried_same is.body p.chunks is.chunks) (chunks_tile p.chunks reads);
+      chunks = subst (λ (cs : List ChunkTree). ParsesAll IsChunk (chunks_bytes p.chunks) cs []) (carried_same is.body p.chunks is.chunks) (chunks_tile p.chunks reads);
     }
 
 same_bytes : (p q : PacketTree) → p.header ≡ q.header → p.chunks ≡ q.chunks → canonical p ≡ canonical q

@@ -2,7 +2,7 @@
 use Rattle.std.proofs.Common.{◌≡◌, ◌⊎◌, inl, inr, ℕ, ◌^◌, ◌<◌, ◌≤◌, Bool, true, false, List, [], ◌++◌, length, drop, map, Ok, Err, refl, sym, ap, subst, ◌∙◌, arith}
 use Rattle.std.specs.Prelude.{All, Result, IfOk, IfErr, MatchResult}
 use Rattle.sctp_wire.specs.Fields.{be16, be32}
-use Rattle.sctp_wire.specs.Item.{Item, Tiles}
+use Rattle.sctp_wire.specs.Item.{Item, ParsesAll}
 use Rattle.sctp_wire.specs.declared.checksum.Policy.{Policy}
 use Rattle.sctp_wire.specs.declared.error.ChunkParseError.{ChunkParseError}
 use Rattle.sctp_wire.specs.declared.error.ChunkParseError.TheVariants as chunk_faults
@@ -51,7 +51,7 @@ one_packet_lem bytes p q h k =
     let parts = cut_same (header_bytes p.header) (be32 p.checksum ++ h.body) (header_bytes q.header) (be32 q.checksum ++ k.body) (length_header p.header ∙ sym (length_header q.header)) (sym h.joined ∙ k.joined) in
     let sums = cut32 p.checksum q.checksum h.body k.body h.checksum_fits k.checksum_fits parts.1 in
     same_packet p.header p.checksum p.chunks q.header q.checksum q.chunks (one_header p.header q.header h.header_fits k.header_fits parts.0) sums.0
-    (one_tiling IsChunk one_chunk k.body p.chunks q.chunks (subst (λ (x : List ℕ). Tiles IsChunk x p.chunks []) sums.1 h.chunks) k.chunks)
+    (one_tiling IsChunk one_chunk k.body p.chunks q.chunks (subst (λ (x : List ℕ). ParsesAll IsChunk x p.chunks []) sums.1 h.chunks) k.chunks)
 
 packet_long : (bytes : List ℕ) (p : PacketTree) → IsPacket bytes p → 12 ≤ length bytes
 packet_long bytes p h = omega (arith, ap length h.joined, length_joined p.header p.checksum h.body)
@@ -78,7 +78,7 @@ never_both_lem policy word bytes faults.TooLong p m r a = omega (arith, a.short_
 never_both_lem policy word bytes faults.InvalidChecksum p m r a =
     clash (lets_through policy word p.checksum) a.sum (ap (lets_through policy word) (sym (field_of bytes p a.packet)) ∙ r.1)
 never_both_lem policy word bytes (faults.Chunk f) p m r a =
-    whole_not_broken IsChunk (drop 12 bytes) p.chunks (subst (λ (x : List ℕ). Tiles IsChunk x p.chunks []) (sym (body_of bytes p a.packet)) a.packet.chunks)
+    whole_not_broken IsChunk (drop 12 bytes) p.chunks (subst (λ (x : List ℕ). ParsesAll IsChunk x p.chunks []) (sym (body_of bytes p a.packet)) a.packet.chunks)
     (BreaksAs_Breaks IsChunk RefusesChunk stands chunk_fault (drop 12 bytes) f r.2 r.3)
 never_both_lem policy word bytes faults.Memory p m r a = m refl
 

@@ -11,7 +11,7 @@ use Rattle.sctp_serial.specs.declared.types.mid.Mid.{Mid}
 use Rattle.sctp_serial.specs.declared.types.StreamKey.{StreamKey}
 use Rattle.sctp_serial.specs.declared.types.StreamKey.TheVariants as keys
 use Rattle.sctp_wire.specs.Fields.{be16, be32, length_be16, length_be32}
-use Rattle.sctp_wire.specs.Item.{Item, Tiles}
+use Rattle.sctp_wire.specs.Item.{Item, ParsesAll}
 use Rattle.sctp_wire.specs.Parameter.{ParameterTree, IsParameter}
 use Rattle.sctp_wire.specs.Cause.{CauseTree, IsCause}
 use Rattle.sctp_wire.proofs.ParsesAllLemmas.{cut_same, one_tiling}
@@ -213,7 +213,7 @@ one_init value t u ft fu h k =
     let c = cut16 t.nbr_outbound_streams u.nbr_outbound_streams _ _ ft.nbr_outbound_streams fu.nbr_outbound_streams b.1 in
     let d = cut16 t.nbr_inbound_streams u.nbr_inbound_streams _ _ ft.nbr_inbound_streams fu.nbr_inbound_streams c.1 in
     let e = same32 t.initial_tsn u.initial_tsn ft.initial_tsn fu.initial_tsn d.1 in
-    let ps = one_tiling IsParameter one_parameter_lem k.0 t.parameters u.parameters (subst (λ (x : List ℕ). Tiles IsParameter x t.parameters []) parts.1 h.2) k.2 in
+    let ps = one_tiling IsParameter one_parameter_lem k.0 t.parameters u.parameters (subst (λ (x : List ℕ). ParsesAll IsParameter x t.parameters []) parts.1 h.2) k.2 in
     same_init t.initiate_tag t.a_rwnd t.nbr_outbound_streams t.nbr_inbound_streams t.initial_tsn t.parameters u.initiate_tag u.a_rwnd u.nbr_outbound_streams u.nbr_inbound_streams u.initial_tsn u.parameters
     a.0 b.0 c.0 d.0 e ps
 

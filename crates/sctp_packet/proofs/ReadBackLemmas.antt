@@ -7,7 +7,7 @@ use Rattle.std.proofs.lemmas.List.Concat.{flat_map-cons}
 use Rattle.sctp_serial.specs.declared.types.StreamKey.{StreamKey}
 use Rattle.sctp_serial.specs.declared.types.StreamKey.TheVariants as keys
 use Rattle.sctp_wire.specs.Fields.{be32}
-use Rattle.sctp_wire.specs.Item.{Tiles}
+use Rattle.sctp_wire.specs.Item.{ParsesAll}
 use Rattle.sctp_wire.specs.Serialize.{inner_items}
 use Rattle.sctp_wire.specs.Parameter.{ParameterTree, IsParameter, parameter_item}
 use Rattle.sctp_wire.specs.Cause.{CauseTree, IsCause, cause_item}
@@ -87,10 +87,10 @@ idata_says : (t : ℕ) (i : Bool) (f : FragmentTree) → chunk_value (idata_chun
 unfolding chunk_value idata_value
 idata_says t i f = rw (← kept) refl
 
-parameters_tile : (ps : List ParameterTree) → All ParameterReadsBack ps → Tiles IsParameter (inner_items (map parameter_item ps)) ps []
+parameters_tile : (ps : List ParameterTree) → All ParameterReadsBack ps → ParsesAll IsParameter (inner_items (map parameter_item ps)) ps []
 parameters_tile ps h = parses_all_inner IsParameter parameter_item ParameterReadsBack parameter_written ps h
 
-causes_tile : (cs : List CauseTree) → All CauseReadsBack cs → Tiles IsCause (inner_items (map cause_item cs)) cs []
+causes_tile : (cs : List CauseTree) → All CauseReadsBack cs → ParsesAll IsCause (inner_items (map cause_item cs)) cs []
 causes_tile cs h = parses_all_inner IsCause cause_item CauseReadsBack cause_written cs h
 
 i_forward_says : (tsn : ℕ) (ss : List SkippedStream) → list_all is_mid_skip ss ≡ true
@@ -138,9 +138,9 @@ chunk_carried (i_forward_tsn_chunk tsn ss) h = record { kind = refl; of_its_type
 chunk_carried (unknown_chunk typ flags value) h = record { kind = refl; of_its_type = h.readable; flags = refl; value = refl; fits = tt; carries = refl }
 
 -- chunks that were written are read from the front, up to the end
-pub chunks_tile : (chunks : List ChunkTree) → All ChunkReadsBack chunks → Tiles IsChunk (chunks_bytes chunks) (map carried chunks) []
+pub chunks_tile : (chunks : List ChunkTree) → All ChunkReadsBack chunks → ParsesAll IsChunk (chunks_bytes chunks) (map carried chunks) []
 unfolding chunks_bytes chunk_bytes
 chunks_tile chunks h =
     let tiles = parses_all_padded (λ i t. IsChunk i (carried t)) chunk_item ChunkReadsBack (λ t reads. (reads.encodable, chunk_carried t reads)) chunks [] h in
-    subst (λ (b : List ℕ). Tiles IsChunk b (map carried chunks) []) (append-nil _)
+    subst (λ (b : List ℕ). ParsesAll IsChunk b (map carried chunks) []) (append-nil _)
     (ParsesAll_map (λ i t. IsChunk i (carried t)) IsChunk carried (λ i t means. means) _ chunks [] tiles)

@@ -3,7 +3,7 @@ use Rattle.std.proofs.Common.{◌≡◌, ◌≢◌, inl, inr, ℕ, ◌+◌, ◌*
 use Rattle.std.specs.List.{flat_map, list_all}
 use Rattle.std.proofs.lemmas.List.{length-append, drop_at}
 use Rattle.sctp_wire.specs.Fields.{be16, be32, length_be32}
-use Rattle.sctp_wire.specs.Item.{Item, Tiles}
+use Rattle.sctp_wire.specs.Item.{Item, ParsesAll}
 use Rattle.sctp_wire.specs.Refusal.{FailsToParseAs}
 use Rattle.sctp_wire.specs.Parameter.{ParameterTree, IsParameter, RefusesParameter, parameter_shape, HasNoResult}
 use Rattle.sctp_wire.specs.Serialize.{type_of}
@@ -28,10 +28,10 @@ parameter_fault i = one_fault_as parameter_shape HasNoResult (type_of i) (type_o
 cause_fault : (i : Item) (fault other : ChunkParseError) → RefusesCause i fault → RefusesCause i other → fault ≢ Memory → other ≢ Memory → fault ≡ other
 cause_fault i = one_fault_as cause_shape (λ _ _. ⊥) (type_of i) (type_of i) i.value
 
-whole_parameters : (bytes : List ℕ) (ps : List ParameterTree) (fault : ChunkParseError) → Tiles IsParameter bytes ps [] → FailsToParseAs IsParameter RefusesParameter bytes fault → fault ≢ Memory → ⊥
+whole_parameters : (bytes : List ℕ) (ps : List ParameterTree) (fault : ChunkParseError) → ParsesAll IsParameter bytes ps [] → FailsToParseAs IsParameter RefusesParameter bytes fault → fault ≢ Memory → ⊥
 whole_parameters bytes ps fault t b memory = whole_not_broken IsParameter bytes ps t (BreaksAs_Breaks IsParameter RefusesParameter parameter_stands parameter_fault bytes fault b memory)
 
-whole_causes : (bytes : List ℕ) (cs : List CauseTree) (fault : ChunkParseError) → Tiles IsCause bytes cs [] → FailsToParseAs IsCause RefusesCause bytes fault → fault ≢ Memory → ⊥
+whole_causes : (bytes : List ℕ) (cs : List CauseTree) (fault : ChunkParseError) → ParsesAll IsCause bytes cs [] → FailsToParseAs IsCause RefusesCause bytes fault → fault ≢ Memory → ⊥
 whole_causes bytes cs fault t b memory = whole_not_broken IsCause bytes cs t (BreaksAs_Breaks IsCause RefusesCause cause_stands cause_fault bytes fault b memory)
 
 -- ---- one fault
@@ -69,9 +69,9 @@ not_faulty of_causes value fault h p m = whole_causes value h.0 fault h.1 p m
 init_shaped : (value : List ℕ) (t : InitTree) → SaysInit value t → HasChunkShape (parameters_behind 16) value
 init_shaped value t h =
     let behind : drop 16 value ≡ h.0 = ap (drop 16) h.1 ∙ drop_at (init_fields t) h.0 16 (length_front t) in
-    (omega (arith, ap length h.1, length-append (init_fields t) h.0, length_front t), (t.parameters, subst (λ (b : List ℕ). Tiles IsParameter b t.parameters []) (sym behind) h.2))
+    (omega (arith, ap length h.1, length-append (init_fields t) h.0, length_front t), (t.parameters, subst (λ (b : List ℕ). ParsesAll IsParameter b t.parameters []) (sym behind) h.2))
 
-none_dropped : (ps : List ParameterTree) (value : List ℕ) → Tiles IsParameter value ps [] → HasChunkShape (parameters_behind 0) value
+none_dropped : (ps : List ParameterTree) (value : List ℕ) → ParsesAll IsParameter value ps [] → HasChunkShape (parameters_behind 0) value
 none_dropped ps value h = (omega arith, (ps, h))
 
 sack_shaped : (value : List ℕ) (s : SackTree) → FitsSack s → value ≡ sack_value s → IsCounted value

@@ -1,7 +1,7 @@
 -- Packets read in place: what is left of one, and that a view has the answer of the reader.
 use Rattle.std.proofs.Common.{◌≡◌, ◌≢◌, ◌⊎◌, ℕ, ◌+◌, ◌≤◌, List, [], ◌∷◌, length, map, Ok, Err, refl, sym, ap, subst, ◌∙◌, arith}
 use Rattle.std.specs.Prelude.{Result, IfOk, IfErr, MatchResult}
-use Rattle.sctp_wire.specs.Item.{Item, Takes, TakesNone, Tiles}
+use Rattle.sctp_wire.specs.Item.{Item, Takes, TakesNone, ParsesAll}
 use Rattle.sctp_wire.specs.declared.checksum.Policy.{Policy}
 use Rattle.sctp_wire.specs.declared.error.ChunkParseError.{ChunkParseError}
 use Rattle.sctp_wire.specs.declared.error.ChunkParseError.TheVariants as chunk_faults
@@ -20,22 +20,22 @@ use Rattle.sctp_packet.proofs.StandsLemmas.{chunk_stands}
 use Rattle.sctp_packet.proofs.LawLemmas.{packet_of, accepted_alone, refused_alone}
 
 -- the item in front is the first chunk that is left, and the others are left behind it
-pub left_some : (bytes rest : List ℕ) (i : Item) (chunks : List ChunkTree) → Takes bytes i rest → Tiles IsChunk bytes chunks []
-    → (t : ChunkTree) × (ts : List ChunkTree) × (chunks ≡ t ∷ ts) × IsChunk i t × Tiles IsChunk rest ts []
+pub left_some : (bytes rest : List ℕ) (i : Item) (chunks : List ChunkTree) → Takes bytes i rest → ParsesAll IsChunk bytes chunks []
+    → (t : ChunkTree) × (ts : List ChunkTree) × (chunks ≡ t ∷ ts) × IsChunk i t × ParsesAll IsChunk rest ts []
 left_some bytes rest i [] taken all = absurd (omega (arith, takes_four bytes i rest taken, ap length all))
 left_some bytes rest i (c ∷ cs) taken all =
     let same = one_item_lem bytes all.1 rest all.0 i all.2 taken in
-    (c, cs, refl, subst (λ (j : Item). IsChunk j c) same.0 all.3, subst (λ (b : List ℕ). Tiles IsChunk b cs []) same.1 all.4)
+    (c, cs, refl, subst (λ (j : Item). IsChunk j c) same.0 all.3, subst (λ (b : List ℕ). ParsesAll IsChunk b cs []) same.1 all.4)
 
 -- where no item is in front, none is left
-pub left_none : (bytes : List ℕ) (chunks : List ChunkTree) → TakesNone bytes → Tiles IsChunk bytes chunks [] → chunks ≡ []
+pub left_none : (bytes : List ℕ) (chunks : List ChunkTree) → TakesNone bytes → ParsesAll IsChunk bytes chunks [] → chunks ≡ []
 left_none bytes [] none all = refl
 left_none bytes (c ∷ cs) none all = absurd (none all.0 all.1 all.2)
 
-no_bytes : (bytes : List ℕ) (chunks : List ChunkTree) → chunks ≡ [] → Tiles IsChunk bytes chunks [] → bytes ≡ []
-no_bytes bytes chunks none all = subst (λ (cs : List ChunkTree). Tiles IsChunk bytes cs []) none all
+no_bytes : (bytes : List ℕ) (chunks : List ChunkTree) → chunks ≡ [] → ParsesAll IsChunk bytes chunks [] → bytes ≡ []
+no_bytes bytes chunks none all = subst (λ (cs : List ChunkTree). ParsesAll IsChunk bytes cs []) none all
 
-pub ended_lem : (bytes : List ℕ) (chunks : List ChunkTree) → TakesNone bytes → Tiles IsChunk bytes chunks [] → bytes ≡ []
+pub ended_lem : (bytes : List ℕ) (chunks : List ChunkTree) → TakesNone bytes → ParsesAll IsChunk bytes chunks [] → bytes ≡ []
 ended_lem bytes chunks none all = no_bytes bytes chunks (left_none bytes chunks none all) all
 
 -- what stands for a chunk is refused for want of memory alone

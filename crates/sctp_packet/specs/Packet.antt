@@ -2,7 +2,7 @@
 use Rattle.std.specs.Prelude.{◌≡◌, ◌≢◌, ℕ, ◌<◌, ◌≤◌, ◌^◌, Bool, true, false, List, [], ◌++◌, length, take, drop}
 use Rattle.std.specs.Int.{w32, from_be_bytes}
 use Rattle.sctp_wire.specs.Fields.{be16, be32}
-use Rattle.sctp_wire.specs.Item.{Tiles}
+use Rattle.sctp_wire.specs.Item.{ParsesAll}
 use Rattle.sctp_wire.specs.Refusal.{FailsToParseAs}
 use Rattle.sctp_wire.specs.Checksum.{accepts, with_zero_field}
 use Rattle.sctp_wire.specs.declared.checksum.Policy.{Policy}
@@ -42,7 +42,7 @@ pub record IsPacket (bytes : List ℕ) (p : PacketTree) : Type 0 where
   pub joined : bytes ≡ joined_bytes p.header p.checksum body
   pub header_fits : FitsHeader p.header
   pub checksum_fits : p.checksum < 2 ^ 32
-  pub chunks : Tiles IsChunk body p.chunks []
+  pub chunks : ParsesAll IsChunk body p.chunks []
 
 -- ---- what a reader answers
 

@@ -1,6 +1,6 @@
 -- A packet that is read in place: its header, and the bytes of the chunks that are still to be looked at.
 use Rattle.std.specs.Prelude.{ℕ, List, []}
-use Rattle.sctp_wire.specs.Item.{Tiles}
+use Rattle.sctp_wire.specs.Item.{ParsesAll}
 use Rattle.sctp_wire.specs.declared.checksum.Policy.{Policy}
 use Rattle.sctp_chunk.specs.Chunk.{ChunkTree}
 use Rattle.sctp_chunk.specs.Grammar.{IsChunk}
@@ -13,7 +13,7 @@ pub record ViewTree : Type 0 where
 
 -- the chunks that are still to be looked at
 abbrev pub AreLeft : ViewTree → List ChunkTree → Type 0
-AreLeft v chunks = Tiles IsChunk v.rest chunks []
+AreLeft v chunks = ParsesAll IsChunk v.rest chunks []
 
 -- the packet of the view's header and these chunks
 abbrev pub viewed_packet : ViewTree → List ChunkTree → PacketTree

@@ -1,7 +1,7 @@
 //! Packets read in place (RFC 9260 section 3): nothing is built, and no memory is taken.
 
 ghost use Rattle.std.specs.Prelude.{◌≡◌, ◌≢◌, List, [], ◌∷◌, map, IfOk, IfErr, OnOk, IfSome, IfNone, MatchOption};
-ghost use Rattle.sctp_wire.specs.Item.{Takes, Tiles};
+ghost use Rattle.sctp_wire.specs.Item.{Takes, ParsesAll};
 ghost use Rattle.sctp_wire.specs.Refusal.{FailsToParseAs};
 ghost use Rattle.sctp_chunk.specs.Chunk.{ChunkTree};
 ghost use Rattle.sctp_chunk.specs.Grammar.{IsChunk, RefusesChunk};
@@ -109,7 +109,7 @@ impl<'a> PacketView<'a> {
 
 /// Whether the bytes are chunks.
 fn check_chunks(bytes: &[u8]) -> Result<(), ChunkParseError>
-    ensures ok { OnOk result ((chunks : List ChunkTree) × Tiles IsChunk bytes.now chunks []) }
+    ensures ok { OnOk result ((chunks : List ChunkTree) × ParsesAll IsChunk bytes.now chunks []) }
     ensures refused { IfErr result (FailsToParseAs IsChunk RefusesChunk bytes.now) }
     ensures never_memory { IfErr result (λ fault. fault ≢ ChunkParseError.Memory) }
 {

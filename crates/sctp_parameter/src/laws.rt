@@ -4,7 +4,7 @@
 ghost use Rattle.std.specs.Prelude.{◌≡◌, ◌≢◌, ◌<◌, ◌^◌, ◌++◌, ℕ, List, [], map, All, IfSome};
 ghost use Rattle.std.specs.List.{flat_map};
 ghost use Rattle.sctp_wire.specs.declared.error.ChunkParseError.{ChunkParseError};
-ghost use Rattle.sctp_wire.specs.Item.{Item, Tiles};
+ghost use Rattle.sctp_wire.specs.Item.{Item, ParsesAll};
 ghost use Rattle.sctp_wire.specs.Refusal.{FailsToParseAs};
 ghost use Rattle.sctp_wire.specs.Serialize.{inner_items, padded_item};
 ghost use Rattle.sctp_wire.specs.Parameter.{ParameterTree, ParameterFits, IsParameter, RefusesParameter, parameter_item};
@@ -18,9 +18,9 @@ use sctp_wire::{ChunkParseError, id_fits, number_fits};
 /// Parameters that are written one after the other, each with its padding, are read back as the same, whatever follows.
 pub fn parameters_read_back()
     ensures padded { (ts : List ParameterTree) (rest : List ℕ) → All ParameterReadsBack ts
-        → Tiles IsParameter (flat_map (λ t. padded_item (parameter_item t)) ts ++ rest) ts rest }
+        → ParsesAll IsParameter (flat_map (λ t. padded_item (parameter_item t)) ts ++ rest) ts rest }
     ensures inner { (ts : List ParameterTree) → All ParameterReadsBack ts
-        → Tiles IsParameter (inner_items (map parameter_item ts)) ts [] }
+        → ParsesAll IsParameter (inner_items (map parameter_item ts)) ts [] }
 {}
 
 /// An item that stands for a parameter is refused for want of memory alone.
@@ -85,8 +85,8 @@ pub fn one_parameter()
 
 /// Bytes are at most one list of parameters, and a list that is refused has one fault.
 pub fn one_list_of_parameters()
-    ensures values { (bytes : List ℕ) (ts us : List ParameterTree) → Tiles IsParameter bytes ts [] → Tiles IsParameter bytes us [] → ts ≡ us }
-    ensures never_both { (bytes : List ℕ) (ts : List ParameterTree) (fault : ChunkParseError) → Tiles IsParameter bytes ts []
+    ensures values { (bytes : List ℕ) (ts us : List ParameterTree) → ParsesAll IsParameter bytes ts [] → ParsesAll IsParameter bytes us [] → ts ≡ us }
+    ensures never_both { (bytes : List ℕ) (ts : List ParameterTree) (fault : ChunkParseError) → ParsesAll IsParameter bytes ts []
         → FailsToParseAs IsParameter RefusesParameter bytes fault → fault ≢ ChunkParseError.Memory → ⊥ }
     ensures fault { (bytes : List ℕ) (fault other : ChunkParseError) → FailsToParseAs IsParameter RefusesParameter bytes fault
         → FailsToParseAs IsParameter RefusesParameter bytes other → fault ≢ ChunkParseError.Memory → other ≢ ChunkParseError.Memory → fault ≡ other }

@@ -2,7 +2,7 @@
 
 ghost use Rattle.std.specs.Prelude.{◌≡◌, ◌≢◌, ◌⊎◌, List, [], map, IfOk, OnOk, IfErr, Some};
 ghost use Rattle.sctp_wire.specs.ParameterText.{parameter_text};
-ghost use Rattle.sctp_wire.specs.Item.{Tiles};
+ghost use Rattle.sctp_wire.specs.Item.{ParsesAll};
 ghost use Rattle.sctp_wire.specs.Refusal.{FailsToParseAs};
 ghost use Rattle.sctp_wire.specs.Parameter.{ParameterTree, SaysParameter, RefusesParameterAs, IsParameter, RefusesParameter, parameter_item, parameter_is_whole};
 ghost use Rattle.sctp_parameter.specs.ParameterViews.{parameter_tree};
@@ -225,7 +225,7 @@ impl FromItem for Parameter {
 
 /// The parameters that the bytes are, from the left. The fault is that of the first one that cannot be read.
 pub fn parameters_from_bytes(alloc: Global, bytes: &[u8]) -> Result<Vec<Parameter>, ChunkParseError>
-    ensures ok { IfOk result (λ list. Tiles IsParameter bytes.now (map parameter_tree list.items) []) }
+    ensures ok { IfOk result (λ list. ParsesAll IsParameter bytes.now (map parameter_tree list.items) []) }
     ensures refused { IfErr result (λ fault. (fault ≡ ChunkParseError.Memory) ⊎ FailsToParseAs IsParameter RefusesParameter bytes.now fault) }
 {
     items_from_bytes(alloc, bytes)
@@ -248,7 +248,7 @@ impl CheckItem for Parameter {
 /// Whether the bytes are parameters, from the left. It has the faults of `parameters_from_bytes`, but for want of memory, since
 /// it builds nothing.
 pub fn check_parameters(bytes: &[u8]) -> Result<(), ChunkParseError>
-    ensures ok { OnOk result ((ts : List ParameterTree) × Tiles IsParameter bytes.now ts []) }
+    ensures ok { OnOk result ((ts : List ParameterTree) × ParsesAll IsParameter bytes.now ts []) }
     ensures refused { IfErr result (FailsToParseAs IsParameter RefusesParameter bytes.now) }
     ensures never_memory { IfErr result (λ fault. fault ≢ ChunkParseError.Memory) }
 {

@@ -4,7 +4,7 @@ use Rattle.std.specs.Int.{w16, from_be_bytes, to_be_bytes}
 use Rattle.std.proofs.lemmas.List.{take_at, drop_at, length-append}
 use Rattle.std.proofs.lemmas.Bool.{cases_lt}
 use Rattle.std.proofs.lemmas.Nat.{from_be_bytes-to_be_bytes_2}
-use Rattle.sctp_item.specs.Item.{Item, item_bytes, padding, Takes, Tiles, Breaks}
+use Rattle.sctp_item.specs.Item.{Item, item_bytes, padding, Takes, ParsesAll, FailsToParse}
 
 -- two lists that are cut at the same place
 pub cut_same : (a x b y : List ℕ) → length a ≡ length b → a ++ x ≡ b ++ y → (a ≡ b) × (x ≡ y)
@@ -69,31 +69,31 @@ takes_four bytes i rest t =
 
 -- one more item at the end
 pub ParsesAll_push : {X : Type 0} (R : Item → X → Type 0) (bytes : List ℕ) (xs : List X) (mid : List ℕ) (i : Item) (x : X) (rest : List ℕ)
-    → Tiles R bytes xs mid → Takes mid i rest → R i x → Tiles R bytes (xs ++ x ∷ []) rest
+    → ParsesAll R bytes xs mid → Takes mid i rest → R i x → ParsesAll R bytes (xs ++ x ∷ []) rest
 ParsesAll_push R bytes [] mid i x rest t taken means = (i, rest, subst (λ (b : List ℕ). Takes b i rest) (sym t) taken, means, refl)
 ParsesAll_push R bytes (y ∷ xs) mid i x rest t taken means = (t.0, t.1, t.2, t.3, ParsesAll_push R t.1 xs mid i x rest t.4 taken means)
 
 -- where an item stands for one value at most, the bytes are the same values
 pub one_tiling : {X : Type 0} (R : Item → X → Type 0) → ((i : Item) (x y : X) → R i x → R i y → x ≡ y)
-    → (bytes : List ℕ) (xs ys : List X) → Tiles R bytes xs [] → Tiles R bytes ys [] → xs ≡ ys
+    → (bytes : List ℕ) (xs ys : List X) → ParsesAll R bytes xs [] → ParsesAll R bytes ys [] → xs ≡ ys
 one_tiling R one bytes [] [] t s = refl
 one_tiling R one bytes [] (y ∷ ys) t s = absurd (nothing_taken bytes s.0 s.1 t s.2)
 one_tiling R one bytes (x ∷ xs) [] t s = absurd (nothing_taken bytes t.0 t.1 s t.2)
 one_tiling {X} R one bytes (x ∷ xs) (y ∷ ys) t s =
     let same = one_item_lem bytes t.1 s.1 t.0 s.0 t.2 s.2 in
     let first : x ≡ y = one s.0 x y (subst (λ (i : Item). R i x) same.0 t.3) s.3 in
-    let others : xs ≡ ys = one_tiling R one s.1 xs ys (subst (λ (b : List ℕ). Tiles R b xs []) same.1 t.4) s.4 in
+    let others : xs ≡ ys = one_tiling R one s.1 xs ys (subst (λ (b : List ℕ). ParsesAll R b xs []) same.1 t.4) s.4 in
     ap (λ (z : X). z ∷ xs) first ∙ ap (λ (zs : List X). y ∷ zs) others
 
 -- bytes are values, or they break
 whole_or_broken : {X : Type 0} (R : Item → X → Type 0) (bytes : List ℕ) (xs front : List X) (rest : List ℕ)
-    → Tiles R bytes xs [] → Tiles R bytes front rest → 0 < length rest → ((i : Item) (after : List ℕ) (x : X) → Takes rest i after → R i x → ⊥) → ⊥
+    → ParsesAll R bytes xs [] → ParsesAll R bytes front rest → 0 < length rest → ((i : Item) (after : List ℕ) (x : X) → Takes rest i after → R i x → ⊥) → ⊥
 whole_or_broken R bytes [] [] rest t s some stuck = let n : length rest ≡ 0 = ap length (sym s ∙ t) in omega arith
 whole_or_broken R bytes [] (y ∷ ys) rest t s some stuck = nothing_taken bytes s.0 s.1 t s.2
 whole_or_broken R bytes (x ∷ xs) [] rest t s some stuck = stuck t.0 t.1 x (subst (λ (b : List ℕ). Takes b t.0 t.1) s t.2) t.3
 whole_or_broken R bytes (x ∷ xs) (y ∷ ys) rest t s some stuck =
     let same = one_item_lem bytes t.1 s.1 t.0 s.0 t.2 s.2 in
-    whole_or_broken R s.1 xs ys rest (subst (λ (b : List ℕ). Tiles R b xs []) same.1 t.4) s.4 some stuck
+    whole_or_broken R s.1 xs ys rest (subst (λ (b : List ℕ). ParsesAll R b xs []) same.1 t.4) s.4 some stuck
 
-pub whole_not_broken : {X : Type 0} (R : Item → X → Type 0) (bytes : List ℕ) (xs : List X) → Tiles R bytes xs [] → Breaks R bytes → ⊥
+pub whole_not_broken : {X : Type 0} (R : Item → X → Type 0) (bytes : List ℕ) (xs : List X) → ParsesAll R bytes xs [] → FailsToParse R bytes → ⊥
 whole_not_broken R bytes xs t b = whole_or_broken R bytes xs b.front b.rest t b.parses b.some b.stuck

@@ -4,7 +4,7 @@ use Rattle.std.specs.Prelude.{replicate, All}
 use Rattle.std.specs.List.{flat_map}
 use Rattle.std.proofs.lemmas.List.{append-nil, length-replicate}
 use Rattle.std.proofs.lemmas.List.Concat.{flat_map-cons}
-use Rattle.sctp_item.specs.Item.{Item, item_bytes, padding, Takes, Tiles}
+use Rattle.sctp_item.specs.Item.{Item, item_bytes, padding, Takes, ParsesAll}
 use Rattle.sctp_wire.specs.Serialize.{IsEncodable, padded_item, inner_items, item_of_type, type_of}
 
 pub type_of_typed : (typ : ℕ) (value : List ℕ) → typ ≡ type_of (item_of_type typ value)
@@ -37,7 +37,7 @@ later P x xs h k d less = h (suc k) d (omega arith)
 
 pub parses_all_padded : {X : Type 0} (R : Item → X → Type 0) (f : X → Item) (P : X → Type 0)
     → ((x : X) → P x → IsEncodable (f x) × R (f x) x)
-    → (xs : List X) (rest : List ℕ) → All P xs → Tiles R (flat_map (λ x. padded_item (f x)) xs ++ rest) xs rest
+    → (xs : List X) (rest : List ℕ) → All P xs → ParsesAll R (flat_map (λ x. padded_item (f x)) xs ++ rest) xs rest
 parses_all_padded R f P each [] rest h = refl
 parses_all_padded R f P each (x ∷ xs) rest h =
     let one = each x (h 0 x (omega arith)) in
@@ -54,7 +54,7 @@ parses_all_padded R f P each (x ∷ xs) rest h =
 
 pub parses_all_inner : {X : Type 0} (R : Item → X → Type 0) (f : X → Item) (P : X → Type 0)
     → ((x : X) → P x → IsEncodable (f x) × R (f x) x)
-    → (xs : List X) → All P xs → Tiles R (inner_items (map f xs)) xs []
+    → (xs : List X) → All P xs → ParsesAll R (inner_items (map f xs)) xs []
 unfolding inner_items
 parses_all_inner R f P each [] h = refl
 parses_all_inner R f P each (x ∷ []) h =

@@ -1,6 +1,6 @@
 -- Lists of items that stand for values, seen as what the values say.
 use Rattle.std.proofs.Common.{◌≡◌, ◌≢◌, inl, inr, ℕ, List, [], ◌∷◌, map, refl, sym, subst, ◌∙◌}
-use Rattle.sctp_item.specs.Item.{Item, Takes, Tiles, Breaks}
+use Rattle.sctp_item.specs.Item.{Item, Takes, ParsesAll, FailsToParse}
 use Rattle.sctp_wire.specs.Refusal.{IsStuck, FailsToParseAs}
 use Rattle.sctp_wire.specs.Shape.{Shape, RefusesAs}
 use Rattle.sctp_wire.proofs.ParsesAllLemmas.{one_item_lem}
@@ -8,7 +8,7 @@ use Rattle.sctp_wire.specs.declared.error.ChunkParseError.{ChunkParseError}
 use Rattle.sctp_wire.specs.declared.error.ChunkParseError.TheVariants.{InvalidLength, InvalidType, InvalidPadding, InvalidValue, Memory}
 
 pub ParsesAll_map : {X Y : Type 0} (R : Item → X → Type 0) (S : Item → Y → Type 0) (f : X → Y) → ((i : Item) (x : X) → R i x → S i (f x))
-    → (bytes : List ℕ) (xs : List X) (rest : List ℕ) → Tiles R bytes xs rest → Tiles S bytes (map f xs) rest
+    → (bytes : List ℕ) (xs : List X) (rest : List ℕ) → ParsesAll R bytes xs rest → ParsesAll S bytes (map f xs) rest
 ParsesAll_map R S f each bytes [] rest t = t
 ParsesAll_map R S f each bytes (x ∷ xs) rest t = (t.0, t.1, t.2, each t.0 x t.3, ParsesAll_map R S f each t.1 xs rest t.4)
 
@@ -34,7 +34,7 @@ module _ {X : Type 0} (R : Item → X → Type 0) (Refuses : Item → ChunkParse
       let same = one_item_lem bytes after refused.1 i refused.0 taken refused.2 in
       memory (stands refused.0 x fault (subst (λ (j : Item). R j x) same.0 means) refused.3)
 
-  pub BreaksAs_Breaks : (bytes : List ℕ) (fault : ChunkParseError) → FailsToParseAs R Refuses bytes fault → fault ≢ Memory → Breaks R bytes
+  pub BreaksAs_Breaks : (bytes : List ℕ) (fault : ChunkParseError) → FailsToParseAs R Refuses bytes fault → fault ≢ Memory → FailsToParse R bytes
   BreaksAs_Breaks bytes fault b memory = record {
     front = b.front;
     rest = b.rest;
@@ -52,7 +52,7 @@ module _ {X : Type 0} (R : Item → X → Type 0) (Refuses : Item → ChunkParse
       one_fault q.0 fault other (subst (λ (j : Item). Refuses j fault) same.0 p.3) q.3 m n
 
   breaks_same : (bytes : List ℕ) (fault other : ChunkParseError) (xs ys : List X) (x_rest y_rest : List ℕ)
-      → Tiles R bytes xs x_rest → Tiles R bytes ys y_rest → IsStuck Refuses x_rest fault → IsStuck Refuses y_rest other
+      → ParsesAll R bytes xs x_rest → ParsesAll R bytes ys y_rest → IsStuck Refuses x_rest fault → IsStuck Refuses y_rest other
       → fault ≢ Memory → other ≢ Memory → fault ≡ other
   breaks_same bytes fault other [] [] x_rest y_rest t s p q m n =
       stuck_same y_rest fault other (subst (λ (b : List ℕ). IsStuck Refuses b fault) (sym t ∙ s) p) q m n
@@ -62,7 +62,7 @@ module _ {X : Type 0} (R : Item → X → Type 0) (Refuses : Item → ChunkParse
       absurd (stuck_for_all bytes other (subst (λ (b : List ℕ). IsStuck Refuses b other) (sym s) q) n t.0 t.1 x t.2 t.3)
   breaks_same bytes fault other (x ∷ xs) (y ∷ ys) x_rest y_rest t s p q m n =
       let same = one_item_lem bytes t.1 s.1 t.0 s.0 t.2 s.2 in
-      breaks_same s.1 fault other xs ys x_rest y_rest (subst (λ (b : List ℕ). Tiles R b xs x_rest) same.1 t.4) s.4 p q m n
+      breaks_same s.1 fault other xs ys x_rest y_rest (subst (λ (b : List ℕ). ParsesAll R b xs x_rest) same.1 t.4) s.4 p q m n
 
   -- a list has one fault
   pub one_break : (bytes : List ℕ) (fault other : ChunkParseError) → FailsToParseAs R Refuses bytes fault → FailsToParseAs R Refuses bytes other

@@ -1,6 +1,6 @@
 -- Why a list of items is refused: by the first item from the left that cannot be read.
 use Rattle.std.specs.Prelude.{◌≡◌, ◌⊎◌, ℕ, ◌<◌, List, length}
-use Rattle.sctp_item.specs.Item.{Item, Takes, TakesNone, Tiles}
+use Rattle.sctp_item.specs.Item.{Item, Takes, TakesNone, ParsesAll}
 use Rattle.sctp_wire.specs.declared.error.ChunkParseError.{ChunkParseError}
 use Rattle.sctp_wire.specs.declared.error.ChunkParseError.TheVariants.{InvalidLength}
 
@@ -17,6 +17,6 @@ IsStuck Refuses bytes fault = ((fault ≡ InvalidLength) × TakesNone bytes)
 pub record FailsToParseAs {X : Type 0} (R : Item → X → Type 0) (Refuses : Item → ChunkParseError → Type 0) (bytes : List ℕ) (fault : ChunkParseError) : Type 0 where
   pub front : List X
   pub rest : List ℕ
-  pub parses : Tiles R bytes front rest
+  pub parses : ParsesAll R bytes front rest
   pub some : 0 < length rest
   pub stuck : IsStuck Refuses rest fault

@@ -2,7 +2,7 @@
 
 ghost use Rattle.std.specs.Prelude.{◌≡◌, ◌≢◌, ◌⊎◌, ◌-◌, ◌%◌, ◌<◌, ◌≤◌, List, [], length, OnOk, OnErr, IfErr};
 ghost use Rattle.sctp_wire.specs.declared.error.ChunkParseError.{ChunkParseError};
-ghost use Rattle.sctp_item.specs.Item.{Item, Tiles};
+ghost use Rattle.sctp_item.specs.Item.{Item, ParsesAll};
 ghost use Rattle.sctp_wire.specs.Views.{raw_item};
 ghost use Rattle.sctp_wire.specs.Refusal.{FailsToParseAs, StandsForSome};
 
@@ -26,7 +26,7 @@ pub trait CheckItem {
 /// Whether the bytes are items that each say something, up to the end. The fault is that of the first one from the left that
 /// says nothing.
 pub fn check_items<T: CheckItem>(bytes: &[u8]) -> Result<(), ChunkParseError>
-    ensures ok { OnOk result ((trees : List T.Tree) × Tiles T.stands_for bytes.now trees []) }
+    ensures ok { OnOk result ((trees : List T.Tree) × ParsesAll T.stands_for bytes.now trees []) }
     ensures refused { IfErr result (FailsToParseAs T.stands_for T.refuses bytes.now) }
     ensures never_memory { IfErr result (λ fault. fault ≢ ChunkParseError.Memory) }
 {

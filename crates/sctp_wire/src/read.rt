@@ -2,7 +2,7 @@
 
 ghost use Rattle.std.specs.Prelude.{◌≡◌, ◌⊎◌, ℕ, List, [], IfOk, IfErr};
 ghost use Rattle.sctp_wire.specs.declared.error.ChunkParseError.{ChunkParseError};
-ghost use Rattle.sctp_item.specs.Item.{Item, Tiles};
+ghost use Rattle.sctp_item.specs.Item.{Item, ParsesAll};
 ghost use Rattle.sctp_wire.specs.Views.{raw_item};
 ghost use Rattle.sctp_wire.specs.Refusal.{FailsToParseAs};
 
@@ -23,7 +23,7 @@ pub trait FromItem: Sized + Drop {
 
 /// What the items say that the bytes are, from the left. The fault is that of the first item that says nothing.
 pub fn items_from_bytes<T: FromItem>(alloc: Global, bytes: &[u8]) -> Result<Vec<T>, ChunkParseError>
-    ensures ok { IfOk result (λ values. Tiles T.stands_for bytes.now values.items []) }
+    ensures ok { IfOk result (λ values. ParsesAll T.stands_for bytes.now values.items []) }
     ensures refused { IfErr result (λ fault. (fault ≡ ChunkParseError.Memory)
         ⊎ FailsToParseAs T.stands_for T.refuses bytes.now fault) }
 {

@@ -1,7 +1,7 @@
 use Rattle.std.proofs.Common.{[], List, ℕ, map, subst, arith}
 use Rattle.std.proofs.lemmas.List.{map-append}
 use Rattle.std.proofs.lemmas.Result.{err_from_is_err_and}
-use Rattle.sctp_wire.specs.Item.{Tiles}
+use Rattle.sctp_wire.specs.Item.{ParsesAll}
 use Rattle.sctp_wire.proofs.ParsesAllLemmas.{ParsesAll_push, takes_four}
 use Rattle.sctp_chunk.specs.Grammar.{IsChunk}
 use Rattle.sctp_chunk.specs.Views.{raw_chunk}
@@ -24,4 +24,4 @@ returns-in_err-try_from-clause-refused c =
 
 pub returns-clause-ok : goal.returns-clause-ok
 returns-clause-ok c =
-    subst (λ (b : List ℕ). Tiles IsChunk c.args.view.rest (map chunk_tree c.loop-raw.chunks.items) b) c.in_default.ensures.ended c.loop-raw.invariant
+    subst (λ (b : List ℕ). ParsesAll IsChunk c.args.view.rest (map chunk_tree c.loop-raw.chunks.items) b) c.in_default.ensures.ended c.loop-raw.invariant
