@@ -15,7 +15,7 @@ use Rattle.proof_endpoint.proofs.EmittedMapsLemmas.{maps_emit_event_all, maps_th
 use Rattle.proof_endpoint.proofs.SendingMapsLemmas.{maps_send_in}
 use Rattle.proof_endpoint.proofs.RowMapsLemmas.{maps_where_open}
 
--- a context with this told
+-- a context with this emitted
 abbrev emitting : {P : Type 0} → Context P → Emitted P → Context P
 emitting c t = record c { emitted = t }
 

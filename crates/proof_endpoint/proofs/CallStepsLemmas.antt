@@ -1,4 +1,4 @@
--- What the calls that send and the settings tell.
+-- What the calls that send and the settings emit.
 use Rattle.std.proofs.Common.{ℕ, Option, Some, None, List, [], ◌∷◌, ◌++◌, refl}
 use Rattle.sctp_serial.specs.Messages.{Message}
 use Rattle.sctp_state.specs.declared.api.SocketState.{SocketState}

@@ -1,4 +1,4 @@
--- What the operations of the crates below tell: neither packets nor endings.
+-- What the operations of the crates below emit: neither packets nor endings.
 use Rattle.std.proofs.Common.{◌≡◌, ℕ, zero, suc, ◌+◌, ◌-◌, ◌&&◌, Bool, true, false, cond, not, ◌||◌, nat_lt, Option, Some, None, unwrap_or, option_map, List, [], ◌∷◌, ◌++◌, length, take, slice_get, is_some, All, refl, sym, ap, ◌∙◌, append_assoc, append-nil, arith}
 use Rattle.std.specs.List.{list_all}
 use Rattle.std.proofs.lemmas.List.Elements.{All-cons, All-nil, All-append}
@@ -86,7 +86,7 @@ quiet_production P id is_low is_total_low l =
     quiet_both (when is_low (OnBufferedAmountLow id)) (when is_total_low OnTotalBufferedAmountLow ++ fully_sent l) (quiet_when is_low (OnBufferedAmountLow id) refl)
     (quiet_both (when is_total_low OnTotalBufferedAmountLow) (fully_sent l) (quiet_when is_total_low OnTotalBufferedAmountLow refl) (quiet_fully_sent P l))
 
--- ---- telling
+-- ---- emitting
 
 module _ {P : Type 0} (pack : Packing P) (most : ℕ) where
   quiet_one : (e : Event P) → is_quiet e ≡ true → IsShort pack most e

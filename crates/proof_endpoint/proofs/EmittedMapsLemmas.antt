@@ -1,4 +1,4 @@
--- The operations of the crates below do the same whatever packets are: what they tell is mapped, and nothing else depends
+-- The operations of the crates below do the same whatever packets are: what they emit is mapped, and nothing else depends
 -- on what was emitted.
 use Rattle.std.proofs.Common.{◌≡◌, ℕ, zero, suc, ◌+◌, ◌-◌, ◌&&◌, Bool, true, false, cond, not, ◌||◌, nat_lt, Option, Some, None, unwrap_or, option_map, List, [], ◌∷◌, ◌++◌, length, take, map, slice_get, is_some, refl, sym, ap, ◌∙◌}
 use Rattle.std.proofs.lemmas.List.{map-append}

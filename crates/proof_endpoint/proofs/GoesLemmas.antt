@@ -67,7 +67,7 @@ module _ {P : Type 0} where
   pub goes_by : (n : ℕ) (c d : Context P) → d.options.mtu ≡ c.options.mtu → d.pack ≡ c.pack → Emits c.pack (most_bytes c) n c.emitted d.emitted → Goes n c d
   goes_by n c d mtu pack tells = record { mtu = mtu; pack = pack; emits = tells }
 
-  -- nothing is told
+  -- nothing is emitted
   pub goes_silent : (c d : Context P) → d.options.mtu ≡ c.options.mtu → d.pack ≡ c.pack → d.emitted ≡ c.emitted → Goes 0 c d
   goes_silent c d mtu pack told = record {
     mtu = mtu;

@@ -1,4 +1,4 @@
--- What a handover tells at both sockets.
+-- What a handover emits at both sockets.
 use Rattle.std.proofs.Common.{◌==◌, Bool, true, false, Option, Some, None, refl}
 use Rattle.sctp_state.specs.declared.api.errors.RestoreError.{RestoreError}
 use Rattle.sctp_state.specs.declared.api.handover.HandoverSocketState.{HandoverSocketState}

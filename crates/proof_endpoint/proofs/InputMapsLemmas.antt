@@ -29,7 +29,7 @@ abbrev received_as : {P : Type 0} → Bool → Endpoint P → Received P
 received_as on s = record { end = s; goes_on = on }
 
 module _ {P Q : Type 0} (f : Mapping P Q) where
-  -- a row that the words have no part in
+  -- a row that the random stream has no part in
   pub maps_on_endpoint_state : (row : EndpointState P → EndpointState P) (mapped : EndpointState Q → EndpointState Q) (s : Endpoint P)
       → mapped (map_endpoint_state f s.endpoint_state) ≡ map_endpoint_state f (row s.endpoint_state) → on_endpoint_state mapped (map_end f s) ≡ map_end f (on_endpoint_state row s)
   maps_on_endpoint_state row mapped s h = maps_stands f s (row s.endpoint_state) (mapped (map_endpoint_state f s.endpoint_state)) h

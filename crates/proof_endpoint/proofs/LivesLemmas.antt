@@ -41,7 +41,7 @@ module _ {P : Type 0} (l : ℕ) where
   pub lives_by : (x : ℕ) (c : Context P) (y : ℕ) (d : Context P) → Spends l c.emitted d.emitted (waits l c + x) (waits l d + y) → Goes l x c y d
   lives_by x c y d h = record { spends = h }
 
-  -- nothing is told, and what is alive stays so or is forgotten
+  -- nothing is emitted, and what is alive stays so or is forgotten
   pub lives_less : (x : ℕ) (c : Context P) (y : ℕ) (d : Context P) → d.emitted ≡ c.emitted → waits l d + y ≤ waits l c + x → Goes l x c y d
   lives_less x c y d told h =
       let same : Spends l c.emitted c.emitted (waits l c + x) (waits l d + y) = spends_nothing l c.emitted (waits l c + x) (waits l d + y) h in

@@ -22,7 +22,7 @@ abbrev end_in : {P : Type 0} → State → Endpoint P → Endpoint P
 end_in st s = record s { endpoint_state = endpoint_state_in st s.endpoint_state.context }
 
 module _ {P Q : Type 0} (f : Mapping P Q) where
-  -- this standing, and the end's words
+  -- this endpoint state, and the end's random stream
   pub maps_stands : (s : Endpoint P) (x : EndpointState P) (y : EndpointState Q) → y ≡ map_endpoint_state f x → stands y (map_end f s) ≡ map_end f (stands x s)
   maps_stands s x y h = ap (λ (z : EndpointState Q). stands z (map_end f s)) h
 

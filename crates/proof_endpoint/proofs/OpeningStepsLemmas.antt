@@ -1,4 +1,4 @@
--- What the rows of the handshake tell.
+-- What the rows of the handshake emit.
 use Rattle.std.proofs.Common.{◌≡◌, ℕ, not, Bool, true, false, Option, Some, None, Result, Ok, Err, List, [], ◌∷◌, codes, refl, sym, subst, arith}
 use Rattle.sctp_wire.specs.Cause.{missing_mandatory_parameter, cookie_received_while_shutting_down}
 use Rattle.sctp_packet.specs.Chunk.{ChunkTree, InitTree, init_chunk, init_ack_chunk, abort_chunk, error_chunk, cookie_ack_chunk, shutdown_ack_chunk}

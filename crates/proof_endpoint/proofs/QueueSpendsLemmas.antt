@@ -117,7 +117,7 @@ module _ (l : ℕ) where
       go true = omega arith
       go false = omega (arith, ap (waiting l) e)
 
-  -- ---- the queue, where nothing is told
+  -- ---- the queue, where nothing is emitted
 
   abbrev pub in_queue : Queue → ℕ
   in_queue q = waiting_in l q.streams.entries

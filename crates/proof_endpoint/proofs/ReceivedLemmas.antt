@@ -93,7 +93,7 @@ read_fits bytes h = tested_fits _ _ _ (cookie_from bytes) (cookie_fits bytes h)
 
 -- ---- chunks
 
--- what an end uses of a chunk that it hears
+-- what an end uses of a chunk that it receives
 abbrev pub IsReceived : ChunkTree → Type 0
 IsReceived (data_chunk tsn immediate f) = tsn < 2 ^ 32
 IsReceived (idata_chunk tsn immediate f) = tsn < 2 ^ 32

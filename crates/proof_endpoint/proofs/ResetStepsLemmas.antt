@@ -1,4 +1,4 @@
--- What resets of streams tell.
+-- What resets of streams emit.
 use Rattle.std.proofs.Common.{ℕ, ◌&&◌, ◌||◌, Bool, true, false, cond, Option, Some, None, List, [], ◌∷◌, codes, refl}
 use Rattle.sctp_serial.specs.declared.api.StreamId.{StreamId}
 use Rattle.sctp_wire.specs.Parameter.{ParameterTree, outgoing_reset_request, incoming_reset_request, reset_response}

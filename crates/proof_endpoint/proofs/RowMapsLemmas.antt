@@ -32,7 +32,7 @@ map_onward f o = record { phase = o.phase; context = map_context f o.context }
 abbrev pub OpenMaps : {P Q : Type 0} → Mapping P Q → (Phase → Tcb → Context P → EndpointState P) → (Phase → Tcb → Context Q → EndpointState Q) → Type 0
 OpenMaps {P} {Q} f row mapped = (phase : Phase) (t : Tcb) (c : Context P) → mapped phase t (map_context f c) ≡ map_endpoint_state f (row phase t c)
 
--- an answer to a SACK, in a context that was told so
+-- an answer to a SACK, in a context that emitted it
 abbrev received_with : {P : Type 0} → SackAnswer → Phase → Tcb → Context P → Sender → Emitted P → EndpointState P
 received_with a phase t c s u = after_sack a phase (record t { sender = s }) (record c { emitted = u })
 

@@ -1,4 +1,4 @@
--- What shutdown, aborts, data, forward points and acknowledgements tell.
+-- What shutdown, aborts, data, forward points and acknowledgements emit.
 use Rattle.std.proofs.Common.{◌≡◌, ℕ, ◌==◌, Bool, true, false, List, [], ◌∷◌, length, codes, refl, sym, subst}
 use Rattle.sctp_wire.specs.Cause.{CauseTree, no_user_data, user_initiated_abort, protocol_violation}
 use Rattle.sctp_chunk.specs.declared.forward_tsn.SkippedStream.{SkippedStream}

@@ -52,7 +52,7 @@ hearable tag c fits h = record {
   sum = refl;
 }
 
--- an end with default options that hears the packet takes it as it was made
+-- an end with default options that receives the packet takes it as it was made
 abbrev IsGiven : (word_of : List ℕ → ℕ) → Carried → Type 0
 IsGiven word_of p = (s t : Endpoint (List ℕ)) → s.endpoint_state.context.options ≡ defaults → Receives word_of (as_written word_of p) s t → t ≡ give p s
 

@@ -28,7 +28,7 @@ map_turned f x = record { filling = map_filling f x.filling; is_more = x.is_more
 abbrev pub map_sent : {P Q : Type 0} → Mapping P Q → Sent P → Sent Q
 map_sent f x = record { tcb = x.tcb; context = map_context f x.context }
 
--- a context with this told, and these counts
+-- a context with this emitted, and these counts
 abbrev emitting : {P : Type 0} → Context P → Counts → Emitted P → Context P
 emitting c counts t = record c { emitted = t; counts = counts }
 

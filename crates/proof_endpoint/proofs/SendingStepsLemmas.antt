@@ -1,4 +1,4 @@
--- What sending tells: bursts of packets within the mtu.
+-- What sending emits: bursts of packets within the mtu.
 use Rattle.std.proofs.Common.{ℕ, zero, suc, nat_le, nat_lt, Bool, true, false, Option, Some, None, is_some, List, [], ◌∷◌, refl, arith}
 use Rattle.sctp_packet.specs.Chunk.{ChunkTree, cookie_echo_chunk}
 use Rattle.sctp_tx_outstanding.specs.Items.{fast_items}

@@ -16,7 +16,7 @@ use Rattle.proof_endpoint.proofs.SoundGoesLemmas.{HoldsSound, Stays, stays_by, s
 use Rattle.proof_endpoint.proofs.SoundSendingLemmas.{with_reassembly, Sends, sends_buffered}
 use Rattle.proof_endpoint.proofs.SoundRowsLemmas.{IsEndpointState, Stands, OpenStands, stands_same, stands_then, stands_where_open}
 
--- ---- refusals and drops tell no packets
+-- ---- refusals and drops emit no packets
 
 taken_state : (st : State) → FitsState st → FitsState (taken_in st)
 taken_state Closed f = tt

@@ -69,7 +69,7 @@ all_cookies : (cs : List ChunkTree) → Each IsSoundChunk cs → All HasSomeCook
 all_cookies [] h = All-nil HasSomeCookie
 all_cookies (c ∷ cs) h = All-cons HasSomeCookie c cs h.0.cookie (all_cookies cs h.1)
 
--- ---- telling
+-- ---- emitting
 
 pub record Emits {P : Type 0} (pack : Packing P) (most : ℕ) (before after : Emitted P) : Type 0 where
   pub events : List (Event P)
@@ -118,7 +118,7 @@ module _ {P : Type 0} where
   pub good_whole : (c : Context P) (p : Packet) → p.limit ≡ c.options.mtu → p.tag < 2 ^ 32 → p.chunks ≡ [] → IsGood (most_bytes c) p
   good_whole c p h tag e = good_empty (most_bytes c) p (small_whole c p h e) tag e
 
-  -- what the operations of the crates below tell
+  -- what the operations of the crates below emit
   pub stays_by : (n : ℕ) (c d : Context P) → d.options.mtu ≡ c.options.mtu → d.pack ≡ c.pack → steps.Emits c.pack 0 n c.emitted d.emitted → HoldsSound d → Stays c d
   stays_by n c d mtu pack tells sound = record { mtu = mtu; pack = pack; emits = emits_quiet c.pack (most_bytes c) n c.emitted d.emitted tells; sound = sound }
 

@@ -1,4 +1,4 @@
--- What is kept stays fitting, and so does what is sent again and what a forward point tells.
+-- What is kept stays fitting, and so does what is sent again and what a forward point says.
 use Rattle.std.proofs.Common.{◌≡◌, ℕ, zero, suc, ◌+◌, ◌-◌, ◌^◌, ◌<◌, ◌||◌, not, Bool, true, false, cond, Option, Some, None, List, [], ◌∷◌, length, drop, refl, arith}
 use Rattle.std.specs.Prelude.{unwrap_or, option_map, map, slice_get, nat_le, ◌&&◌}
 use Rattle.sctp_serial.specs.declared.types.StreamKey.TheVariants.{Ordered, Unordered}

@@ -1,4 +1,4 @@
--- What a sound end tells is received as what it put together, and fits as an argument.
+-- What a sound end emits is received as what it put together, and fits as an argument.
 use Rattle.std.proofs.Common.{◌≡◌, ℕ, ◌≤◌, true, List, [], ◌∷◌, ◌++◌, length, map, All, refl, sym, subst, arith}
 use Rattle.std.proofs.lemmas.List.Elements.{All-weaker, All-cons, All-nil, All-head, All-tail}
 use Rattle.sctp_wire.specs.Fields.{be32}
@@ -21,7 +21,7 @@ use Rattle.proof_endpoint.proofs.ReceivedBackLemmas.{is_accepted, written_receiv
 use Rattle.proof_endpoint.proofs.ReceivedLemmas.{IsByte, each_back, each_of_all}
 use Rattle.proof_endpoint.proofs.SoundLawsLemmas.{can_be_read, chunks_read_back}
 
--- ---- heard
+-- ---- received
 
 hearable : (o : Options) (most : ℕ) (p : Carried) → most ≤ 65535 → ReadsBack most p → LetsThrough o p → IsHearable o p
 hearable o most p m r lets = record { header = r.header; chunks = r.chunks; short = omega (arith, r.short, m); sum = lets }

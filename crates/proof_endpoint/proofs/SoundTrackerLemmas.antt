@@ -1,4 +1,4 @@
--- What was seen stays fit to be told in a SACK, and the receiver's window stays in its field.
+-- What was seen stays fit to be reported in a SACK, and the receiver's window stays in its field.
 use Rattle.std.proofs.Common.{◌≡◌, ℕ, zero, suc, ◌+◌, ◌-◌, ◌*◌, ◌/◌, ◌^◌, ◌<◌, ◌≤◌, max, not, Bool, true, false, cond, List, [], ◌∷◌, length, take, map, refl, ap, ◌∙◌, arith, ◌&&◌}
 use Rattle.std.specs.Prelude.{All, nat_lt, nat_le, ◌==◌, filter}
 use Rattle.std.proofs.lemmas.List.Elements.{All-cons, All-nil}

@@ -1,4 +1,4 @@
--- Lifecycles: how the ends that are told and those that are alive add up.
+-- Lifecycles: how the ends that are emitted and those that are alive add up.
 use Rattle.std.proofs.Common.{◌≡◌, ℕ, ◌+◌, ◌≤◌, Bool, true, false, cond, Option, Some, None, List, [], ◌∷◌, ◌++◌, take, drop, refl, sym, ap, ◌∙◌, append_assoc, append-nil, take-append-drop, arith}
 use Rattle.sctp_state.specs.declared.api.GivenUpCause.{GivenUpCause}
 use Rattle.sctp_state.specs.declared.api.errors.SendError.{SendError}
@@ -11,7 +11,7 @@ use Rattle.sctp_tx_queue.specs.Produced.{when, fully_sent, production}
 use Rattle.spec_endpoint.specs.Calls.{refusal_events, lifecycle_end}
 use Rattle.proof_endpoint.specs.Lifecycles.{emitted_end, ends, names_lifecycle, waiting, where_end, kept_ends}
 
--- From one moment to another events are told, and each end among them is taken from what is alive.
+-- From one moment to another events are emitted, and each end among them is taken from what is alive.
 pub record Spends {P : Type 0} (l : ℕ) (before after : Emitted P) (x y : ℕ) : Type 0 where
   pub events : List (Event P)
   pub behind : after.events ≡ before.events ++ events
@@ -85,7 +85,7 @@ ends_report : (P : Type 0) (l : ℕ) (is_end is_gone : Bool) (o : Option ℕ) �
 ends_report P l true is_gone o = ends_ending P l is_gone o
 ends_report P l false is_gone o = refl
 
--- what leaves is told
+-- what leaves has its event
 pub ends_reports : (P : Type 0) (l : ℕ) (is : List Item) → ends l (reports {P = P} is) ≡ kept_ends l is
 ends_reports P l [] = refl
 ends_reports P l (i ∷ is) =

@@ -1,4 +1,4 @@
--- What the passing of time tells.
+-- What the passing of time emits.
 use Rattle.std.proofs.Common.{ℕ, nat_lt, Bool, true, false, List, codes, refl}
 use Rattle.sctp_state.specs.declared.api.ErrorKind.TheVariants.{TooManyRetries}
 use Rattle.sctp_state.specs.Errors.{is_exhausted}
@@ -20,7 +20,7 @@ use Rattle.proof_endpoint.proofs.SendingStepsLemmas.{small_add_request, goes_sen
 use Rattle.proof_endpoint.proofs.RowStepsLemmas.{StepsFrom, steps_same, goes_too_many, goes_send_shutdown, goes_send_shutdown_ack}
 use Rattle.proof_endpoint.proofs.OpeningStepsLemmas.{goes_send_init}
 
--- an association that has ended told so once
+-- an association that has ended emitted so once
 abbrev once : (has_ended : Bool) → ℕ
 once true = 1
 once false = 0
@@ -29,7 +29,7 @@ abbrev pub Leaves : {P : Type 0} → Context P → Left P → Type 0
 Leaves c x = Goes (once x.has_ended) c x.context
 
 module _ {P : Type 0} where
-  -- behind what told no ending
+  -- behind what emitted no ending
   leaves_then : (c d : Context P) (x : Left P) → Goes 0 c d → Leaves d x → Leaves c x
   leaves_then c d x g h = goes_then (once x.has_ended) c d x.context g h
 

@@ -76,7 +76,7 @@ sack_packet a m = packet (tag_of a) (sack_chunk (record {
 
 -- ---- the ends
 
--- an end hears a packet
+-- an end receives a packet
 abbrev pub give : {P : Type 0} → Carried → Endpoint P → Endpoint P
 give p s = on_packet (record { header = p.header; checksum = 0; chunks = p.chunks }) s
 
@@ -139,13 +139,13 @@ association mine peer = record {
   peer_initial_tsn = first_of peer;
 }
 
--- An end has told these events, in this order, gave nothing up, holds this association, and has these messages ready.
+-- An end has emitted these events, in this order, gave nothing up, holds this association, and has these messages ready.
 pub record Shows {P : Type 0} (s : Endpoint P) (events : List (Event P)) (held : Option Association) (ready : List Message) : Type 0 where
   pub emits : s.endpoint_state.context.emitted ≡ record { events = events; given_up = [] }
   pub holds : association_in s.endpoint_state.state ≡ held
   pub has : ready_in s.endpoint_state.state ≡ ready
 
--- Four packets open the association: each end is told so once, and what the two hold is crossed.
+-- Four packets open the association: each end emits so once, and what the two hold is mirrored.
 pub record Opens {P : Type 0} (pack : Packing P) (a b : Stream) : Type 0 where
   pub asked : Shows (asking pack a b) (pack_event pack (init_packet a) ∷ []) None []
   pub answered : Shows (answering pack a b) (pack_event pack (init_ack_packet a b) ∷ []) None []
@@ -165,7 +165,7 @@ pub record Rests {P : Type 0} (pack : Packing P) (a b : Stream) (m : Message) (o
   pub received : Shows (resting pack a b m o) (delivered_events o.lifecycle_id) (Some (association a b)) []
   pub at_rest : is_at_rest (resting pack a b m o).endpoint_state.state (resting pack a b m o).endpoint_state.context.queue ≡ true
 
--- An end that hears the bytes of this packet is the one after it, and no other.
+-- An end that receives the bytes of this packet is the one after it, and no other.
 abbrev pub Leads : (word_of : List ℕ → ℕ) → Carried → (before after : Endpoint (List ℕ)) → Type 0
 Leads word_of p before after = (t : Endpoint (List ℕ)) → Receives word_of (as_written word_of p) before t → t ≡ after
 

@@ -116,7 +116,7 @@ block_again t c = tcb_from c.now c.options (handover_state t c)
 abbrev pub context_again : Tcb → Context (List ℕ) → Packing (List ℕ) → Words → Context (List ℕ)
 context_again t c pack random = say OnConnected (queue_taken (handover_state t c) (successor c pack random).context)
 
--- The items come back under their TSNs, with what the record doesn't tell read anew.
+-- The items come back under their TSNs, with what the record doesn't hold read anew.
 pub record ItemsComeBack (now : ℕ) (d after : Outstanding) : Type 0 where
   pub kept : after.items.kept ≡ items_again now d.items.kept
   pub cumulative : wire_tsn after after.items.acked ≡ wire_tsn d d.items.acked
@@ -145,7 +145,7 @@ pub record ReceptionComesBack (t after : Tcb) : Type 0 where
   pub unordered : after.reassembly.streams.unordered ≡ map unordered_again t.reassembly.streams.unordered
   pub mode : after.reassembly.streams.is_interleaved ≡ t.reassembly.streams.is_interleaved
 
--- What no record tells of isn't there: nothing waits but messages and items.
+-- What no record speaks of isn't there: nothing waits but messages and items.
 pub record NothingWaits (t : Tcb) (q : Queue) : Type 0 where
   pub no_reset : list_any is_waiting (values_of q.streams.entries) ≡ false
   pub no_request : is_some t.requests.current ≡ false
@@ -179,7 +179,7 @@ HandoverGoesOn =
 
 -- ---- a control block that the handshake makes
 
--- by what was drawn and what the peer told, with the queue put in its mode
+-- by what was drawn and what the peer announced, with the queue put in its mode
 abbrev pub MadeConnected : Type 0
 MadeConnected =
     (i : Identity) (a_rwnd : ℕ) (peer : Capabilities) (c : Context (List ℕ)) → 0 < i.my_tag → 0 < i.peer_tag → i.my_first < words → i.peer_first < words

@@ -1,4 +1,4 @@
--- A message's lifecycle ends at most once. By a count: each end that is told takes one of the lifecycles that are alive,
+-- A message's lifecycle ends at most once. By a count: each end that is emitted takes one of the lifecycles that are alive,
 -- which come from messages that are handed in.
 use Rattle.std.specs.Prelude.{◌≡◌, ℕ, ◌+◌, ◌*◌, ◌≤◌, ◌==◌, Bool, true, false, Option, Some, None, List, [], ◌∷◌, ◌++◌, length, take, drop}
 use Rattle.rand_core.specs.Stream.{Stream}
@@ -82,7 +82,7 @@ pub record EndsWithin {P : Type 0} (l handed : ℕ) (before after : EndpointStat
 
 pub data Use : Type 0 where
   Calls : Call → Use
-  TakesEvent : Use  -- the one that was told first
+  TakesEvent : Use  -- the one that was emitted first
 
 abbrev pub without_first : {P : Type 0} → EndpointState P → EndpointState P
 without_first s = record s { context = record s.context { emitted = record s.context.emitted { events = drop 1 s.context.emitted.events } } }
@@ -95,7 +95,7 @@ abbrev pub taken_events : {P : Type 0} → Use → Endpoint P → List (Event P)
 taken_events (Calls call) s = []
 taken_events TakesEvent s = take 1 s.endpoint_state.context.emitted.events
 
--- all that is told along these uses: what is taken, and what is left at last
+-- all that is emitted along these uses: what is taken, and what is left at last
 abbrev pub emitted_along : {P : Type 0} → List Use → Endpoint P → List (Event P)
 emitted_along [] s = s.endpoint_state.context.emitted.events
 emitted_along (u ∷ us) s = taken_events u s ++ emitted_along us (after_use u s)
@@ -122,7 +122,7 @@ abbrev pub EachCallEndsWithin : Type 0
 EachCallEndsWithin =
     (l : ℕ) (call : Call) (s : Endpoint (List ℕ)) → is_restore call ≡ false → EndsWithin l (hands_lifecycle l call) s.endpoint_state (called call s).endpoint_state
 
--- of a new end no more ends are told than messages were handed in
+-- of a new end no more ends are emitted than messages were handed in
 abbrev pub EndsAreHandedIn : Type 0
 EndsAreHandedIn =
     (l : ℕ) (o : Options) (pack : Packing (List ℕ)) (words : Stream) (uses : List Use) → NoneRestores uses

@@ -1,4 +1,4 @@
--- What a sound end tells can be read back, and is received as what it put together; and it stays sound.
+-- What a sound end emits can be read back, and is received as what it put together; and it stays sound.
 use Rattle.std.specs.Prelude.{◌≡◌, ℕ, ◌+◌, ◌<◌, ◌≤◌, ◌^◌, ◌==◌, ◌||◌, not, true, Some, List, ◌++◌, length, All}
 use Rattle.rand_core.specs.Stream.{Stream}
 use Rattle.sctp_wire.specs.declared.checksum.Policy.{Policy}
@@ -17,7 +17,7 @@ use Rattle.proof_endpoint.specs.Mapped.{Carried, as_written}
 use Rattle.proof_endpoint.specs.ReceivedBack.{as_received}
 use Rattle.proof_endpoint.specs.Sound.{OptionsFit, IsSound, ArgumentFits, HasSomeCookie}
 
--- ---- packets that are told
+-- ---- packets that are emitted
 
 -- its header fits, and each of its chunks can be read back; it has at most so many bytes
 pub record ReadsBack (most : ℕ) (p : Carried) : Type 0 where
@@ -62,7 +62,7 @@ pub record EmitsWhatReadsBack (before after : Context Carried) : Type 0 where
 abbrev pub LetsThrough : Options → Carried → Type 0
 LetsThrough o p = (o.disable_checksum_verification || (p.is_summed || not (o.zero_checksum_method == 0))) ≡ true
 
--- Each end that lets its checksum through hears the bytes as this packet, and as nothing else.
+-- Each end that lets its checksum through receives the bytes as this packet, and as nothing else.
 pub record IsReceivedAs (word_of : List ℕ → ℕ) (bytes : List ℕ) (p : Carried) : Type 0 where
   pub spelled : bytes ≡ as_written word_of p
   pub received : (s : Endpoint (List ℕ)) → LetsThrough s.endpoint_state.context.options p → Receives word_of bytes s (on_packet (as_received word_of p) s)
@@ -139,7 +139,7 @@ AcceptedPacketsFit =
     (policy : Policy) (word : ℕ) (bytes : List ℕ) (p : PacketTree) → AreBytes bytes → Accepts policy word bytes p → Each HasSomeCookie p.chunks
     → ArgumentFits (Packet p)
 
--- what a reader makes of the bytes that a sound end told
+-- what a reader makes of the bytes that a sound end emitted
 abbrev pub EmittedPacketsFit : Type 0
 EmittedPacketsFit =
     (word_of : List ℕ → ℕ) (most : ℕ) (p : Carried) (policy : Policy) (word : ℕ) (q : PacketTree) → ReadsBack most p → AreBytes (as_written word_of p)

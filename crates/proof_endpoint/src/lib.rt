@@ -40,13 +40,13 @@ pub fn resets_are_in_turn()
     ensures fit { RequestsFit }
 {}
 
-/// No call makes an end tell a packet above the mtu, by its chunks and by its bytes.
+/// No call makes an end emit a packet above the mtu, by its chunks and by its bytes.
 pub fn packets_are_within_the_mtu()
     ensures chunks { EachCallStaysWithin }
     ensures bytes { EachCallSendsAtMost }
 {}
 
-/// A call that ends an association tells so once, by `OnClosed` or `OnAborted`, and no other call does. Of a packet each
+/// A call that ends an association emits so once, by `OnClosed` or `OnAborted`, and no other call does. Of a packet each
 /// chunk counts alone, since after an ABORT a COOKIE ECHO may open another association.
 pub fn an_end_closes_once()
     ensures told { EachCallEmitsEndings }
@@ -72,8 +72,8 @@ pub fn written_packets_are_received()
     ensures alone { WrittenPacketsAreOne }
 {}
 
-/// Two new ends with default options connect by four packets, whatever words they draw: each is told once that it is
-/// connected, and the associations that they hold are crossed. Then a message of 1 to 1,000 bytes crosses in a fifth
+/// Two new ends with default options connect by four packets, whatever words they draw: each emits once that it is
+/// connected, and the associations that they hold are mirrored. Then a message of 1 to 1,000 bytes crosses in a fifth
 /// packet, and is ready at the other end, alone. The sixth packet acknowledges it, and the sender is at rest. Each of
 /// the six is received as it was written.
 pub fn the_first_run_goes()
@@ -92,9 +92,9 @@ pub fn sound_ends_stay_sound()
     ensures refusing { RefusedPacketsKeepEndsSound }
 {}
 
-/// Each packet that a sound end tells can be read back, at every call whose arguments fit: its header fits, it has at most
+/// Each packet that a sound end emits can be read back, at every call whose arguments fit: its header fits, it has at most
 /// `mtu` bytes, and each of its chunks reads back as the chunk that was put in. So each end that lets its checksum through
-/// hears its bytes as this packet, and as nothing else.
+/// receives its bytes as this packet, and as nothing else.
 pub fn emitted_packets_can_be_read_back()
     ensures chunks { EmittedChunksReadBack }
     ensures as_put_in { EmittedChunksAreReceived }
@@ -104,16 +104,16 @@ pub fn emitted_packets_can_be_read_back()
 {}
 
 /// A packet that a reader makes of bytes fits as an argument, unless it is an INIT ACK with an empty cookie; and so does
-/// each packet that a reader makes of what a sound end told.
+/// each packet that a reader makes of what a sound end emitted.
 pub fn arguments_fit()
     ensures accepted { AcceptedPacketsFit }
     ensures emitted { EmittedPacketsFit }
 {}
 
-/// Of each message it is told at most once that its lifecycle ended, where no other message with its lifecycle id is handed
-/// to the end, accepted or refused, and nothing is restored. Each call tells no more ends than it takes from the messages
+/// Of each message it emits at most once that its lifecycle ended, where no other message with its lifecycle id is handed
+/// to the end, accepted or refused, and nothing is restored. Each call emits no more ends than it takes from the messages
 /// that wait, the ends of messages that are kept, and what it hands in; from a new end on, whatever is called and whenever
-/// events are taken, no more ends are told than messages were handed in.
+/// events are taken, no more ends are emitted than messages were handed in.
 pub fn no_lifecycle_ends_twice()
     ensures call { EachCallEndsWithin }
     ensures handed { EndsAreHandedIn }
@@ -122,7 +122,7 @@ pub fn no_lifecycle_ends_twice()
 
 /// An end whose association stands, and which nothing keeps from being handed over, closes and leaves a valid record. A new
 /// end with the same options that takes it up at the same moment has the association, what was negotiated, the items that
-/// are kept and the queue, and goes on with what may be sent. What the record tells less of is read anew: moments in whole
+/// are kept and the queue, and goes on with what may be sent. What the record has less of is read anew: moments in whole
 /// milliseconds, numbers as they are on the wire, thresholds, missing reports, how often an item was sent. Control blocks are
 /// made as this asks, an end that has just connected can be handed over, and no call of the queue gives a number twice, as
 /// long as the numbers of messages don't wrap.

@@ -14,21 +14,21 @@ use sctp_state::{
 ///
 /// Write what drives a socket over `S: DcSctpSocket`: it is proved in seconds, over one concrete `Socket` in minutes.
 pub trait DcSctpSocket {
-    /// Takes the event that was told first. An arm that passes events over is written `Some(_event) => ()`, since `Some(_)`
+    /// Takes the event that was emitted first. An arm that passes events over is written `Some(_event) => ()`, since `Some(_)`
     /// doesn't take it.
     fn poll_event(&mut self) -> Option<SocketEvent>;
 
     /// Hands out the message that was ready first.
     fn get_next_message(&mut self) -> Option<Message>;
 
-    /// Takes the bytes of a packet that came. Bytes that are no packet, or not one for this association, are told as an
+    /// Takes the bytes of a packet that came. Bytes that are no packet, or not one for this association, are emitted as an
     /// error and counted.
     fn handle_input(&mut self, bytes: &[u8]) -> Result<(), CallError>;
 
-    /// Tells the time. An earlier moment than the last one changes nothing.
+    /// Advances the time. An earlier moment than the last one changes nothing.
     fn advance_time(&mut self, now: SocketTime) -> Result<(), CallError>;
 
-    /// The moment by which the time is to be told next. Where no timer runs that is the greatest one, 2^64 seconds less a
+    /// The moment by which the time is to be advanced next. Where no timer runs that is the greatest one, 2^64 seconds less a
     /// nanosecond, which no 64 bits of nanoseconds hold.
     fn poll_timeout(&self) -> SocketTime;
 
@@ -41,9 +41,9 @@ pub trait DcSctpSocket {
     /// Shuts the association down: no more messages are accepted, and it ends once all are delivered (RFC 9260 section 9.2).
     fn shutdown(&mut self) -> Result<(), CallError>;
 
-    /// Queues a message, and sends as much as may be sent. A refused message changes nothing but the events that tell of
-    /// it and of the end of its lifecycle. A full queue tells an `OnError` at each call: offer no more until
-    /// `OnBufferedAmountLow`, or `OnTotalBufferedAmountLow`, was told.
+    /// Queues a message, and sends as much as may be sent. A refused message changes nothing but the events that speak of
+    /// it and of the end of its lifecycle. A full queue emits an `OnError` at each call: offer no more until
+    /// `OnBufferedAmountLow`, or `OnTotalBufferedAmountLow`, was emitted.
     fn send(&mut self, message: Message, options: &SendOptions) -> Result<(), SendError>;
 
     /// Queues several messages, and sends then. Some may be refused; the others are sent all the same.
@@ -98,8 +98,8 @@ pub trait DcSctpSocket {
     /// being recovered from, and, unless `enable_handover_with_outstanding_data` is set, messages and fragments that wait.
     fn get_handover_readiness(&self) -> HandoverReadiness;
 
-    /// Hands over the socket: its record is written, and it closes; the peer isn't told. `NotReady` says what stands in the
-    /// way, and changes nothing. Of a closed socket nothing is told.
+    /// Hands over the socket: its record is written, and it closes; the peer gets nothing. `NotReady` says what stands in the
+    /// way, and changes nothing. Of a closed socket nothing is emitted.
     fn get_handover_state_and_close(&mut self) -> Result<SocketHandoverState, HandoverError>;
 
     /// Takes up the record of a socket that was handed over, and sends what may be sent; of a closed one there is nothing to

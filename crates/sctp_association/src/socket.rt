@@ -104,7 +104,7 @@ impl<R: Rng, C: Checksum> Socket<R, C> {
         my_verification_tag(&self.state)
     }
 
-    /// The moment that was told last.
+    /// The moment to which time was advanced last.
     pub fn clock(&self) -> SocketTime
         ensures { result ≡ self.now.context.clock }
     {

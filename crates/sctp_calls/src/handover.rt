@@ -130,7 +130,7 @@ fn tcb_from<C: Checksum>(
     }
 }
 
-/// The association is gone from here; its heartbeat timers run on.
+/// The association has left here; its heartbeat timers run on.
 fn leave<C: Checksum>(state: &mut State, context: &mut Context<C>) -> Result<(), AllocError>
     ensures { OnOk result (endpoint_state_of C.word_of state.new context.new ≡ record { state = Closed; context = say OnClosed (context_of C.word_of context.old) }) }
 {
@@ -139,7 +139,7 @@ fn leave<C: Checksum>(state: &mut State, context: &mut Context<C>) -> Result<(),
     Ok(())
 }
 
-/// The record is written, and the association is gone from here; its heartbeat timers run on.
+/// The record is written, and the association has left here; its heartbeat timers run on.
 pub fn hand_over<C: Checksum>(
     state: &mut State,
     context: &mut Context<C>,

@@ -1,4 +1,4 @@
--- What is told of chunks that aren't taken.
+-- What is emitted of chunks that aren't taken.
 use Rattle.std.specs.Prelude.{ℕ, List, Bool, true, false, not, Option}
 use Rattle.spec_endpoint.specs.Input.{unless, interleaving_text, no_interleaving_text, no_partial_text}
 use Rattle.sctp_closing.specs.declared.misuse.Misuse.{Misuse}

@@ -32,7 +32,7 @@ fn causes_text(alloc: Global, causes: &[ErrorCause]) -> Result<String, AllocErro
     Ok(text)
 }
 
-/// The association is told as aborted by the peer.
+/// The association is emitted as aborted by the peer.
 fn tell_abort<C: Checksum>(
     context: &mut Context<C>,
     causes: &[ErrorCause],

@@ -32,7 +32,7 @@ pub enum Misuse {
 }
 
 impl Misuse {
-    /// What the peer is told, and the user.
+    /// What goes to the peer, and what is emitted.
     pub fn text(self) -> &'static str
         ensures { result.now ≡ misuse_text self }
     {
@@ -160,7 +160,7 @@ fn complain_of_unknown<C: Checksum>(
     context.tell(SocketEvent::OnError(ErrorKind::ParseFailed, text))
 }
 
-/// What is told of a chunk of unknown type.
+/// What is emitted of a chunk of unknown type.
 fn unknown_text(alloc: Global, chunk: &UnknownChunk) -> Result<String, AllocError>
     ensures { IfOk result (λ text. string_bytes text ≡ codes "Received " ++ (chunk_text (unknown_tree chunk.now) ++ codes ", ")) }
 {

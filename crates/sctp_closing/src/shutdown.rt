@@ -78,7 +78,7 @@ fn answer_out_of_the_blue<C: Checksum>(context: &mut Context<C>, tag: u32) -> Re
     context.emit(&mut packet)
 }
 
-/// The shutdown is complete: the peer is told, and the user.
+/// The shutdown is complete: a chunk says so to the peer, and an event to the user.
 fn complete_shutdown<C: Checksum>(
     context: &mut Context<C>,
     tcb: &TransmissionControlBlock,

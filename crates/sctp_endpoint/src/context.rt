@@ -1,4 +1,4 @@
-//! What an end has in every state: its options, its clock, the messages that wait, and what it tells.
+//! What an end has in every state: its options, its clock, the messages that wait, and what it emits.
 
 ghost use Rattle.std.specs.Prelude.{◌≡◌, OnOk, Some};
 ghost use Rattle.sctp_packet.specs.ChunkView.{chunk_tree};
@@ -143,7 +143,7 @@ impl<C: Checksum> Context<C> {
         self.emit(&mut packet)
     }
 
-    /// Tells of an error.
+    /// Emits an error.
     pub fn complain(&mut self, kind: ErrorKind, text: &str) -> Result<(), AllocError>
         ensures { OnOk result (context_of C.word_of self.new ≡ complain kind text.now (context_of C.word_of self.old)) }
     {

@@ -1,4 +1,4 @@
-//! What goes out and is told where an association ends (RFC 9260 sections 9.1, 9.2).
+//! What goes out and is emitted where an association ends (RFC 9260 sections 9.1, 9.2).
 
 ghost use Rattle.std.specs.Prelude.{◌≡◌, false, [], ◌∷◌, codes, IfOk, OnOk};
 ghost use Rattle.sctp_wire.specs.Cause.{user_initiated_abort};

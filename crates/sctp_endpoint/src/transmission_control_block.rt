@@ -35,7 +35,7 @@ pub struct Identity {
     pub tie_tag: u64,
 }
 
-/// What both ends of an association hold, crossed.
+/// What both ends of an association hold, mirrored.
 #[derive(Clone, Copy, Debug, PartialEq, Eq)]
 pub struct Association {
     pub my_tag: u32,

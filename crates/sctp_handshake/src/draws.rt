@@ -1,4 +1,4 @@
-//! What the words of the generator stand for.
+//! What the random words of the generator stand for.
 
 ghost use Rattle.std.specs.Prelude.{◌≡◌};
 ghost use Rattle.spec_endpoint.specs.Opening as table;

@@ -68,7 +68,7 @@ fn wait<C: Checksum>(
     Ok(())
 }
 
-/// INIT. It is answered by what it tells and by what the end is, and nothing of it is kept.
+/// INIT. It is answered by what it announces and by what the end is, and nothing of it is kept.
 pub fn handle_init<R: Rng, C: Checksum>(
     state: &State,
     context: &mut Context<C>,

@@ -1,4 +1,4 @@
--- What is told of packets that aren't taken.
+-- What is emitted of packets that aren't taken.
 use Rattle.std.specs.Prelude.{ℕ, List, codes}
 use Rattle.spec_endpoint.specs.Input.{wrong_tag_text}
 use Rattle.sctp_receiving.specs.declared.validation.Refusal.{Refusal}

@@ -25,7 +25,7 @@ pub enum Verdict {
     MaintainExisting,
     /// Nothing.
     Discard,
-    /// The user is told that its tag is wrong.
+    /// An event says that its tag is wrong.
     InvalidTag,
 }
 

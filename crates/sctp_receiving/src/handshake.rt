@@ -24,7 +24,7 @@ use sctp_wire::Checksum;
 use std::alloc::{AllocError, Global};
 use std::time::Duration;
 
-/// What both ends do, by the end's options and what an INIT or INIT ACK tells.
+/// What both ends do, by the end's options and what an INIT or INIT ACK announces.
 pub fn agreed_by(
     options: &Options,
     nbr_outbound_streams: u16,

@@ -56,7 +56,7 @@ fn defer_reset<C: Checksum>(
     respond(responses, request.request_seq_nbr, answer)
 }
 
-/// The streams are reset, and the user is told.
+/// The streams are reset, and an event says so.
 fn perform_reset<C: Checksum>(
     context: &mut Context<C>,
     tcb: &mut TransmissionControlBlock,

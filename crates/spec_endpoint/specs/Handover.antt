@@ -113,7 +113,7 @@ handover_state_in (Open phase t) c = handover_state t c
 abbrev pub handed_over : {P : Type 0} → EndpointState P → HandoverState
 handed_over s = handover_state_in s.state s.context
 
--- the user is told that the association is gone from here; the heartbeat timers run on
+-- an event says that the association has left here; the heartbeat timers run on
 abbrev pub left_in : {P : Type 0} → State → Context P → EndpointState P
 left_in Closed c = record { state = Closed; context = c }
 left_in (CookieWait tag first t1) c = record { state = CookieWait tag first t1; context = c }
@@ -141,7 +141,7 @@ identity_from h = record {
   tie = h.tie_tag;
 }
 
--- the record tells whether there was a method in place of the checksum, which is the own one then
+-- the record says whether there was a method in place of the checksum, which is the own one then
 abbrev pub method_if : (is_unsummed : Bool) → (own : ℕ) → ℕ
 method_if true own = own
 method_if false own = 0

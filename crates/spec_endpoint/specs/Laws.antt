@@ -1,4 +1,4 @@
--- Two laws of the table: no call makes an end tell a packet above the mtu, and an association that ends is told once.
+-- Two laws of the table: no call makes an end emit a packet above the mtu, and of an association that ends one event is emitted.
 use Rattle.std.specs.Prelude.{◌≡◌, ℕ, ◌+◌, ◌≤◌, Bool, true, false, Option, Some, None, List, [], ◌∷◌, ◌++◌, length, All}
 use Rattle.sctp_serial.specs.Messages.{Message}
 use Rattle.sctp_packet.specs.Chunk.{ChunkTree}
@@ -103,7 +103,7 @@ is_closed Closed = true
 is_closed (CookieWait tag first t1) = false
 is_closed (Open phase t) = false
 
--- an association, or an attempt at one, is gone
+-- an association, or an attempt at one, has ended
 abbrev pub ends : (before after : State) → ℕ
 ends Closed after = 0
 ends (CookieWait tag first t1) Closed = 1
@@ -134,7 +134,7 @@ abbrev pub ended_in_call : {P : Type 0} → Call → Endpoint P → ℕ
 ended_in_call (Packet p) s = ended_in p s
 ended_in_call call s = ends s.endpoint_state.state (called call s).endpoint_state.state
 
--- What was emitted stands, and behind it so many endings are told.
+-- What was emitted stands, and behind it so many endings are emitted.
 pub record EmitsEndings {P : Type 0} (count : ℕ) (before after : Context P) : Type 0 where
   pub events : List (Event P)
   pub behind : after.emitted.events ≡ before.emitted.events ++ events

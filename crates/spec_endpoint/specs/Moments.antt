@@ -7,7 +7,7 @@ use Rattle.spec_endpoint.specs.Timers.{advance, poll_timeout}
 abbrev pub at_moment : {P : Type 0} → (now : ℕ) → EndpointState P → EndpointState P
 at_moment now s = record s { context = record s.context { now = now } }
 
--- there T1-cookie alone is told by `poll_timeout`, and the delay of an acknowledgement may end before
+-- there T1-cookie alone is named by `poll_timeout`, and the delay of an acknowledgement may end before
 abbrev pub is_cookie_echoed : State → Bool
 is_cookie_echoed Closed = false
 is_cookie_echoed (CookieWait tag first t1) = false

@@ -47,7 +47,7 @@ long_word s = (next_u64 s.random).0
 abbrev pub drew_long_word : {P : Type 0} → Endpoint P → Endpoint P
 drew_long_word s = record s { random = (next_u64 s.random).1 }
 
--- with this standing
+-- with this endpoint state
 abbrev pub stands : {P : Type 0} → EndpointState P → Endpoint P → Endpoint P
 stands s e = record e { endpoint_state = s }
 
@@ -196,7 +196,7 @@ on_init_ack i s = on_init_ack_in s.endpoint_state.state i s
 
 -- ---- COOKIE ACK
 
--- the user is told, and heartbeats begin
+-- an event says so, and heartbeats begin
 abbrev pub connected_context : {P : Type 0} → Context P → Context P
 connected_context c = record (say OnConnected c) { heartbeats = beating c.now c.heartbeats }
 

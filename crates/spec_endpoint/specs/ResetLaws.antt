@@ -13,7 +13,7 @@ DoneRequestsAreAnswered =
     (number last_tsn : ℕ) (streams : List StreamId) (x : Handling (List ℕ)) → number ≡ x.tcb.requests.last → is_final x.tcb.requests.result ≡ true
     → on_outgoing number last_tsn streams x ≡ respond number x.tcb.requests.result x
 
--- while a TSN up to the last one of a request did not come, nothing is told, and no stream is reset
+-- while a TSN up to the last one of a request did not come, nothing is emitted, and no stream is reset
 pub record IsNotPerformed (before after : Handling (List ℕ)) : Type 0 where
   pub context : after.context ≡ before.context
   pub streams : after.tcb.reassembly.streams ≡ before.tcb.reassembly.streams
