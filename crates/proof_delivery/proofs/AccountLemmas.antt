@@ -1,4 +1,4 @@
--- The messages that the rules gave up are those that records of their sender name, and what they reported is what it told.
+-- The messages that the rules gave up are those that records of their sender name, and what they reported is what it emitted.
 use Rattle.std.proofs.Common.{◌≡◌, ℕ, ◌||◌, Bool, true, false, Option, List, [], ◌∷◌, ◌++◌, refl, sym, ap, ◌∙◌, subst, append-nil, append_assoc}
 use Rattle.proof_protocol.specs.State.{Message, has}
 use Rattle.proof_protocol.specs.Rules.{Event}
@@ -60,7 +60,7 @@ module _ (message : ℕ → Message) (is_interleaved : Bool) where
   once_along (perform r ∷ es) x gone may once is = once_along es (goes message is_interleaved x (perform r)) gone may.1 once is
   once_along (commit s ∷ es) x gone may once is = once_along es (goes message is_interleaved x (commit s)) gone may.1 once is
 
--- ---- what an end tells
+-- ---- what an end emits
 
 -- where its records named these so far
 pub record Accounted (lifecycle : ℕ → Option ℕ) (s : Side) (gone : List ℕ) (x : Direction) : Type 0 where
@@ -72,7 +72,7 @@ pub accounts_still : (lifecycle : ℕ → Option ℕ) (s : Side) (gone : List �
 accounts_still lifecycle s gone x a = subst (λ (ps : List ℕ). Accounted lifecycle s ps x) (sym (append-nil gone)) a
 
 module _ (message : ℕ → Message) (lifecycle : ℕ → Option ℕ) (is_interleaved : Bool) (s : Side) (gone : List ℕ) (x : Direction) (a : Accounted lifecycle s gone x) where
-  -- a turn of the sender
+  -- an action of the sender
   pub accounts_out : (n : ℕ) (prepared : List ℕ) (mid y : Direction) (e : Endpoint Carried) (asked : Bool) → Offers message is_interleaved n x mid
       → SenderClaim message lifecycle is_interleaved mid prepared (calm e) y → Accounted lifecycle (after_action asked e s) (gone ++ recorded_places (emitted_of e)) y
   accounts_out n prepared mid y e asked offers c =
@@ -90,7 +90,7 @@ module _ (message : ℕ → Message) (lifecycle : ℕ → Option ℕ) (is_interl
             ∙ ap (λ (ps : List ℕ). ids_at lifecycle ps) (ap (λ (ps : List ℕ). ps ++ c.reported.places) (sym offers.reports) ∙ sym c.reported.more))));
       }
 
-  -- a turn of the receiver
+  -- an action of the receiver
   pub accounts_in : (y : Direction) → GoesOn message is_interleaved goes_in x y → Accounted lifecycle s (gone ++ []) y
   accounts_in y g =
       let same : SameSender message is_interleaved x.rules y.rules = sender_stays message is_interleaved x y g in

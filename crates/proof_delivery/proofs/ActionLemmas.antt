@@ -1,4 +1,4 @@
--- A turn of either end leaves one direction at a later state of the rules.
+-- An action of either end leaves one direction at a later state of the rules.
 use Rattle.std.proofs.Common.{◌≡◌, ℕ, zero, suc, ◌+◌, ◌-◌, ◌^◌, ◌<◌, ◌≤◌, not, Bool, true, false, cond, ◌⊎◌, inl, inr, Option, Some, None, List, [], ◌∷◌, ◌++◌, length, replicate, slice_get, All, refl, sym, ap, subst, ◌∙◌, arith}
 use Rattle.std.specs.Prelude.{⊤}
 use Rattle.std.specs.List.{list_all}
@@ -185,7 +185,7 @@ outgoing message is_interleaved x y g = record {
 
 -- ---- more packets
 
--- those of a turn, where at its beginning so much was acknowledged and numbered
+-- those of an action, where at its beginning so much was acknowledged and numbered
 more_under_way : (Says : Saying) (of : Stamp → ℕ) (now : Stamp) (from y : Direction) (past told : _) (ss : List Stamp) → of now ≡ count (transfer_of from).sender
     → count (transfer_of from).sender ≤ (transfer_of from).acknowledged + 2 ^ 30 → (transfer_of from).acknowledged ≤ (transfer_of y).acknowledged
     → count (transfer_of from).sender ≤ count (transfer_of y).sender
@@ -291,13 +291,13 @@ module _ (message : ℕ → Message) (lifecycle : ℕ → Option ℕ) (is_interl
   asked_then : (a : Ask) → slice_get y.asks y.answered ≡ Some a → asked_by s t n ≤ a.upto
   asked_then a there = elim (since a there) [ inl before ↦ asked_still a there before | inr l ↦ asked_newly a there l ]
 
--- ---- turns
+-- ---- actions
 
 -- what was emitted is taken
 abbrev pub after_action : (asked : Bool) → Endpoint Carried → Side → Side
 after_action asked e z = record (took e z) { is_asked = asked }
 
--- what the trace says then: the end accepted these, told that, and these streams were to be reset
+-- what the trace says then: the end accepted these, emitted that, and these streams were to be reset
 abbrev pub so_far_then : SoFar → (s : Side) → Endpoint Carried → List Offer → (prepared : List ℕ) → SoFar
 so_far_then k s e os prepared = record {
   streams = reopen (performed_of e.endpoint_state.context.emitted.events) (shut_streams prepared k.streams);

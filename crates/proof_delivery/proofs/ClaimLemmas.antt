@@ -1,5 +1,5 @@
 -- What an end's values and packets say of one direction of an association, by the rules with epochs: as its sender, and as its receiver.
--- One end acts, and the state that the rules had before its turn is `from`.
+-- One end acts, and the state that the rules had before its action is `from`.
 use Rattle.std.proofs.Common.{◌≡◌, ℕ, suc, ◌+◌, ◌-◌, ◌^◌, ◌<◌, ◌≤◌, Bool, true, false, Option, Some, List, [], ◌∷◌, ◌++◌, length, slice_get, All}
 use Rattle.std.specs.Prelude.{◌⊎◌, ⊤}
 use Rattle.std.specs.List.{list_all}
@@ -77,7 +77,7 @@ of_transfer (transfers e ∷ es) = e ∷ of_transfer es
 of_transfer (e ∷ es) = of_transfer es
 
 -- One direction: its state by the rules; and the requests to reset its streams, how many of them were performed, and how many answered.
--- No packet tells them all.
+-- No packet carries them all.
 pub record Direction : Type 0 where
   pub rules : Epochs
   pub asks : List Ask
@@ -205,8 +205,8 @@ module _ (message : ℕ → Message) (lifecycle : ℕ → Option ℕ) (is_interl
   SendsIn (CookieWait tag first t1) q x = IsWaiting q x
   SendsIn (Open phase t) q x = IsSending t q x
 
-  -- Each chunk that it puts into a packet or tells, now and behind what was emitted before. These streams were to be reset in the turn. A
-  -- request that waits goes out before 2^30 fragments more are numbered; it waited before, or is of this turn. Each answer is told, and
+  -- Each chunk that it puts into a packet or emits, now and behind what was emitted before. These streams were to be reset in the action. A
+  -- request that waits goes out before 2^30 fragments more are numbered; it waited before, or is of this action. Each answer is emitted, and
   -- none as failed.
   pub record SenderClaim (from : Direction) (prepared : List ℕ) (m : Making Carried) (x : Direction) : Type 0 where
     pub kept : IsKept message is_interleaved x
@@ -249,7 +249,7 @@ module _ (message : ℕ → Message) (is_interleaved : Bool) where
   ReceivesIn (CookieWait tag first t1) handed x = IsFresh handed x
   ReceivesIn (Open phase t) handed x = IsReceiving handed t x
 
-  -- each reset that it performs it tells
+  -- each reset that it performs it emits
   pub record ReceiverClaim (from : Direction) (handed : List messages.Message) (m : Making Carried) (x : Direction) : Type 0 where
     pub kept : IsKept message is_interleaved x
     pub goes : GoesOn message is_interleaved goes_in from x
@@ -259,9 +259,9 @@ module _ (message : ℕ → Message) (is_interleaved : Bool) where
     pub emitted : All (λ (p : Carried). All (SaysIn (first_in m.state) (transfer_of from).acknowledged (count (transfer_of from).sender) x) p.chunks) (packets_in m.context.emitted.events)
     pub made : All (SaysIn (first_in m.state) (transfer_of from).acknowledged (count (transfer_of from).sender) x) m.packet.chunks
 
--- ---- what a call hears
+-- ---- what a call receives
 
--- Of a packet that the receiver emitted when `least` were acknowledged and `most` numbered, as the sender hears it: fewer than 2^30
+-- Of a packet that the receiver emitted when `least` were acknowledged and `most` numbered, as the sender receives it: fewer than 2^30
 -- were numbered since.
 pub record ReceivesSacks (call : Call) (first : ℕ) (from : Direction) : Type 0 where
   pub least : ℕ
@@ -271,7 +271,7 @@ pub record ReceivesSacks (call : Call) (first : ℕ) (from : Direction) : Type 0
   pub young : count (transfer_of from).sender < most + 2 ^ 30
   pub says : (tag : ℕ) (chunk : ChunkTree) → IsReceived call tag chunk → WasSaid (SaysIn first least most from) chunk
 
--- Of one that the sender emitted, as its receiver hears it.
+-- Of one that the sender emitted, as its receiver receives it.
 pub record ReceivesData (message : ℕ → Message) (is_interleaved : Bool) (call : Call) (first : ℕ) (from : Direction) : Type 0 where
   pub least : ℕ
   pub most : ℕ

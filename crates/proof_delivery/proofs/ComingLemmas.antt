@@ -1,4 +1,4 @@
--- Each turn of the receiver's end leaves the direction at a later state of the rules.
+-- Each action of the receiver's end leaves the direction at a later state of the rules.
 use Rattle.std.proofs.Common.{◌≡◌, ℕ, ◌+◌, ◌-◌, ◌^◌, ◌<◌, ◌≤◌, ◌==◌, ◌||◌, Bool, true, Option, Some, None, List, [], ◌∷◌, ◌++◌, take, slice_get, All, refl, sym, ap, subst, ◌∙◌, append-nil, arith}
 use Rattle.std.proofs.lemmas.List.Elements.{All-nil}
 use Rattle.std.proofs.lemmas.Bool.{or_left}

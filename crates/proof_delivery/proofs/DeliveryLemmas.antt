@@ -1,4 +1,4 @@
--- Along a trace each direction is a run of the rules, turn by turn, and at each point what became ready fits, each in its epoch.
+-- Along a trace each direction is a run of the rules, action by action, and at each point what became ready fits, each in its epoch.
 use Rattle.std.proofs.Common.{◌≡◌, ℕ, ◌+◌, ◌-◌, ◌^◌, ◌<◌, ◌||◌, not, Bool, true, false, Option, Some, None, List, [], ◌∷◌, ◌++◌, length, map, take, slice_get, refl, sym, ap, subst, ◌∙◌, append-nil, append_assoc, length-append, arith}
 use Rattle.std.proofs.lemmas.Bool.{or_parts}
 use Rattle.sctp_serial.specs.Messages as messages
@@ -40,7 +40,7 @@ use Rattle.proof_delivery.proofs.FitsLemmas.{message_of, lifecycle_of, offered_f
 use Rattle.proof_delivery.proofs.DoneLemmas.{Point, point}
 use Rattle.proof_delivery.proofs.EpochPointLemmas.{BecomeReady, become_ready}
 
--- ---- what was emitted is taken after each turn
+-- ---- what was emitted is taken after each action
 
 pub record AreSilent (w : Pair) : Type 0 where
   pub a : IsSilent w.a
@@ -182,7 +182,7 @@ module _ (all : List Offer) (all_epochs : List ℕ) (is_interleaved : Bool) (par
     pub accounts : Accounted (lifecycle_of all) (side_of from_a w) gone last
     pub places_are : places ≡ (transfer_of last).receiver.places
 
-  -- what becomes ready at this turn behind these
+  -- what becomes ready at this action behind these
   abbrev BecomeReadyAt : List ℕ → Pair → List messages.Message → (early : List (Bool × EndAction)) → Bool × EndAction → Type 0
   BecomeReadyAt places w ready early e =
       BecomeReady all all_epochs places (emitted_of (not from_a) early w) (emitted_of (not from_a) (early ++ e ∷ []) w) (length (ready ++ readied_messages (not from_a) early w))
@@ -221,7 +221,7 @@ module _ (all : List Offer) (all_epochs : List ℕ) (is_interleaved : Bool) (par
       (subst (λ (ms : List messages.Message). Point (side_of from_a w) done ms (gone ++ []) places) (sym (append-nil ready))
       (subst (λ (ps : List ℕ). Point (side_of from_a w) done ready ps places) (sym (append-nil gone)) p))
 
-  -- at one turn
+  -- at one action
   timed_now : (w v : Pair) (done : List Offer) (handed ready : List messages.Message) → ready ≡ handed ++ ready_at (side_of (not from_a) w)
       → (done_then : List Offer) (handed_then new : List messages.Message) → ready ++ new ≡ handed_then ++ ready_at (side_of (not from_a) v)
       → (stamps stamps_then : Stamps) (n m : ℕ) (said then : SoFar) (x y : Direction) → From w stamps n handed said x → From v stamps_then m handed_then then y
@@ -234,7 +234,7 @@ module _ (all : List Offer) (all_epochs : List ℕ) (is_interleaved : Bool) (par
       become_ready (message_of all) is_interleaved all there x y b g.kept.epochs.order.kept (side_of (not from_a) w).emitted (side_of (not from_a) v).emitted f.performed g.performed then.epochs later
       all_epochs (g.many ∙ sym g.accepted_is) g.epochs split places more grown k p o (omega (arith, l, from)) (omega (arith, h, to))
 
-  -- one turn, then the others
+  -- one action, then the others
   on_then : (e : Bool × EndAction) (es : List (Bool × EndAction)) (w : Pair) (stamps : Stamps) (done : List Offer) (ready : List messages.Message) (gone : List ℕ) (x y : Direction)
       → Bracketed (message_of all) x.rules y.rules
       → ((places more : List ℕ) → places ≡ (transfer_of x).receiver.places ++ more → Point (side_of from_a w) done ready gone places)
@@ -385,9 +385,9 @@ module _ (all : List Offer) (all_epochs : List ℕ) (is_interleaved : Bool) (par
           let k = length-append os later in
           omega (arith, few, n, m, k)
 
-  -- ---- at one more turn of the sender, up to the first end of an association
+  -- ---- at one more action of the sender, up to the first end of an association
 
-  -- what it tells is told behind what was emitted before
+  -- what it emits is emitted behind what was emitted before
   emitted_both : (side : Side) (past early rest : List (Event Carried)) → side.emitted ≡ past ++ (early ++ rest) → (offers : List Offer) (places : List ℕ)
       → ReportsAreTrue offers side.emitted places → ReportsAreTrue offers (past ++ early) places
   emitted_both side past early rest e offers places true_of id is =
@@ -395,7 +395,7 @@ module _ (all : List Offer) (all_epochs : List ℕ) (is_interleaved : Bool) (par
       ap (λ (es : List (Event Carried)). delivered_ids es) (e ∙ sym (append_assoc past early rest)) ∙ delivered_more (past ++ early) rest in
       true_of id (ap (λ (ids : List ℕ). has id ids) all_told ∙ has_keeps id (delivered_ids (past ++ early)) (delivered_ids rest) is)
 
-  -- nor does it tell that a reset failed
+  -- nor does it emit that a reset failed
   none_both : (side : Side) (past early rest : List (Event Carried)) → side.emitted ≡ past ++ (early ++ rest) → failed_in side.emitted ≡ false → failed_in (past ++ early) ≡ false
   none_both side past early rest e none =
       let all_told : failed_in side.emitted ≡ (failed_in (past ++ early) || failed_in rest) =
@@ -423,7 +423,7 @@ module _ (all : List Offer) (all_epochs : List ℕ) (is_interleaved : Bool) (par
       first_places (message_of all) (done ++ os) there is_interleaved (transfer_of x) ready kept (shown x receives) (transfer_of x).receiver.places [] (sym (append-nil (transfer_of x).receiver.places)) in
       subst (λ (ps : List ℕ). ReportsAreTrue (done ++ os) side.emitted ps) (now ∙ sym before) p.reports
 
--- what an end told, and tells in front of the first end of an association
+-- what an end emitted, and emits in front of the first end of an association
 pub record EmitsThen (told early : List (Event Carried)) (offers : List Offer) (places : List ℕ) : Type 0 where
   pub reports : ReportsAreTrue offers (told ++ early) places
   pub none_refused : failed_in (told ++ early) ≡ false

@@ -1,4 +1,4 @@
--- Between turns, one direction of two ends: the sender's values, the receiver's, and all packets that either ever emitted, at a
+-- Between actions, one direction of two ends: the sender's values, the receiver's, and all packets that either ever emitted, at a
 -- state of the rules.
 use Rattle.std.proofs.Common.{◌≡◌, ℕ, zero, suc, ◌+◌, ◌-◌, ◌^◌, ◌≤◌, Bool, true, false, Option, Some, None, List, [], ◌∷◌, ◌++◌, length, replicate, slice_get, All, refl, sym, ap, subst, ◌∙◌, arith, ◌<◌}
 use Rattle.std.proofs.lemmas.List.{length-append}
@@ -178,7 +178,7 @@ pub same_out : (message : ℕ → Message) (lifecycle : ℕ → Option ℕ) (is_
 same_out message lifecycle is_interleaved p t next u q r x y h k f = h.first ∙ (sym (ap (initial true) (f _ refl)) ∙ sym k.first)
 
 module _ (message : ℕ → Message) (lifecycle : ℕ → Option ℕ) (is_interleaved : Bool) (of : Stamp → ℕ) (x : Direction) where
-  -- after a turn of the sender
+  -- after an action of the sender
   pub out_first : (s t : State) (q r : _) (y : Direction) → SendsIn message lifecycle is_interleaved s q x → SendsIn message lifecycle is_interleaved t r y → Stands s t
       → (ps : List Carried) (ss : List Stamp) → AllUnderWay (says_out message is_interleaved (first_out s)) of x ps ss → AllUnderWay (says_out message is_interleaved (first_out t)) of x ps ss
   out_first Closed t q r y h k f ps ss a =
@@ -209,7 +209,7 @@ module _ (message : ℕ → Message) (lifecycle : ℕ → Option ℕ) (is_interl
 -- ---- the direction from s to r
 
 -- What the trace so far says of its resets: how the streams stand, the epoch of each message that was accepted, and how many
--- fragments were numbered before the turn in which the ask that waits was sent.
+-- fragments were numbered before the action in which the ask that waits was sent.
 pub record SoFar : Type 0 where
   pub streams : ℕ → StreamEpoch
   pub epochs : List ℕ
@@ -217,7 +217,7 @@ pub record SoFar : Type 0 where
 
 module _ (message : ℕ → Message) (lifecycle : ℕ → Option ℕ) (is_interleaved : Bool) (of : Stamp → ℕ) where
   -- Where so many messages were accepted, these were handed out, and all packets have these stamps. Each message is shorter than
-  -- an FSN tells. Each reset that was performed was told, by both ends.
+  -- an FSN says. Each reset that was performed was emitted, by both ends.
   pub record Flows (s r : Side) (accepted : ℕ) (handed : List messages.Message) (stamps_s stamps_r : List Stamp) (so_far : SoFar) (x : Direction) : Type 0 where
     pub kept : IsKept message is_interleaved x
     pub filled : IsFilled message (transfer_of x).sender
@@ -235,6 +235,6 @@ module _ (message : ℕ → Message) (lifecycle : ℕ → Option ℕ) (is_interl
     pub performed : (k : ℕ) → x.rules.performed k ≡ resets_emitted k r.emitted
     pub none_failed : failed_in s.emitted ≡ false
 
--- what it told was taken
+-- what it emitted was taken
 pub record IsSilent (x : Side) : Type 0 where
   pub emitted : x.end.endpoint_state.context.emitted ≡ silent

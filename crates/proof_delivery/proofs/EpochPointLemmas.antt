@@ -1,5 +1,5 @@
--- At one turn of a trace: what becomes ready is of an epoch between the resets that its end told before the turn, and those that it told
--- up to the turn's end.
+-- At one action of a trace: what becomes ready is of an epoch between the resets that its end emitted before the action, and those that it emitted
+-- up to the action's end.
 use Rattle.std.proofs.Common.{◌≡◌, ℕ, zero, suc, ◌<◌, ◌≤◌, ◌==◌, Bool, true, Some, List, [], ◌∷◌, ◌++◌, length, slice_get, slice_index, refl, sym, ap, subst, ◌∙◌, arith}
 use Rattle.std.proofs.lemmas.Bool.{or_left, or_right, eq-eqb}
 use Rattle.sctp_state.specs.Events.{Event}
@@ -26,9 +26,9 @@ index_behind [] ms rest k l h = index_first ms rest k h
 index_behind (x ∷ xs) ms rest zero l h = absurd (omega (arith, l))
 index_behind (x ∷ xs) ms rest (suc k) l h = index_behind xs ms rest k (omega (arith, l)) (omega (arith, h))
 
--- ---- the turn
+-- ---- the action
 
--- Of these messages, each with its epoch, some become ready: with these numbers, at these places. Before and after it, their end told this.
+-- Of these messages, each with its epoch, some become ready: with these numbers, at these places. Before and after it, their end emitted this.
 abbrev pub BecomeReady : (offers : List Offer) (epochs places : List ℕ) (before after : List (Event Carried)) (from to : ℕ) → Type 0
 BecomeReady offers epochs places before after from to =
     (k n : ℕ) (o : Offer) → from ≤ k → k < to → slice_get offers (slice_index places k) ≡ Some o → slice_get epochs (slice_index places k) ≡ Some n

@@ -1,4 +1,4 @@
--- What each act keeps of an end that is joined with the other one, each call keeps: without what doesn't happen before an
+-- What each act preserves of an end that is consistent with the other one, each call preserves: without what doesn't happen before an
 -- association ends. Messages are offered and handed out elsewhere.
 use Rattle.std.proofs.Common.{◌≡◌, Bool, true, false, refl, ap, ◌∙◌}
 use Rattle.std.specs.Prelude.{⊤}
@@ -50,7 +50,7 @@ abbrev pub IsReceivedReset : {call : Call} → ResetAct Carried call → Type 0
 IsReceivedReset (prepares stream phase t m asked can) = ⊥
 IsReceivedReset act = ⊤
 
--- A relation that holds of nothing done, goes on, and holds of each of these acts, where both ends are joined before and after.
+-- A relation that holds of nothing done, goes on, and holds of each of these acts, where both ends are consistent before and after.
 pub record KeepsJoined (g : Setting) (call : Call) (R : Making Carried → Making Carried → Type 0) : Type 0 where
   pub same : (m : Making Carried) → R m m
   pub through : {a b c : Making Carried} → R a b → R b c → R a c
@@ -160,6 +160,6 @@ module _ (g : Setting) (call : Call) (r : Rules g call) (other : is_other call �
     input = λ act none inv. let n = j.input act none inv in (n, k.input act inv n);
   }
 
-  -- each call of this kind that tells no end
+  -- each call of this kind that emits no end
   pub joined_call : (s : Endpoint Carried) → HasNoEnd (calm (called call s)) → InvAt g (calm s) → InvAt g (calm (called call s)) × R (calm s) (calm (called call s))
   joined_call s none inv = until_end call frame s none inv

@@ -1,4 +1,4 @@
--- Each turn of the sender's end leaves one direction at a later state of the rules.
+-- Each action of the sender's end leaves one direction at a later state of the rules.
 use Rattle.std.proofs.Common.{◌≡◌, inl, inr, ℕ, ◌+◌, ◌-◌, ◌^◌, ◌<◌, ◌≤◌, ◌==◌, ◌||◌, Bool, true, false, Option, Some, None, List, [], ◌∷◌, ◌++◌, length, replicate, take, slice_get, All, refl, sym, ap, subst, ◌∙◌, append-nil, arith}
 use Rattle.std.proofs.lemmas.List.Elements.{All-nil}
 use Rattle.std.proofs.lemmas.Bool.{or_left}
@@ -74,7 +74,7 @@ pub record OffersOut (message : ℕ → Message) (lifecycle : ℕ → Option ℕ
   pub to : Direction
   pub claim : SenderClaim message lifecycle is_interleaved mid [] m to
 
--- ---- what each act keeps
+-- ---- what each act preserves
 
 pub record Parts (message : ℕ → Message) (lifecycle : ℕ → Option ℕ) (is_interleaved : Bool) : Type 0 where
   pub stay : Stay message lifecycle is_interleaved
@@ -95,9 +95,9 @@ pub record Parts (message : ℕ → Message) (lifecycle : ℕ → Option ℕ) (i
       → ReceiverPremises message lifecycle is_interleaved g call x → HasNoEnd (calm (called call s.end)) → InvAt g (calm s.end)
       → ReceiverGoes message lifecycle is_interleaved x handed (calm s.end) (calm (called call s.end))
 
--- ---- where a turn leads
+-- ---- where an action leads
 
--- of the sender, which told before what `before` did, and gave these up meanwhile
+-- of the sender, which emitted before what `before` did, and gave these up meanwhile
 pub record Turned (message : ℕ → Message) (lifecycle : ℕ → Option ℕ) (is_interleaved : Bool) (of : Stamp → ℕ) (s r : Side) (accepted : ℕ)
     (handed : List messages.Message) (stamps_s stamps_r : List Stamp) (so_far : SoFar) (x : Direction) (before : Side) (by : List ℕ) : Type 0 where
   pub to : Direction
@@ -141,7 +141,7 @@ none_more ps now ss = ap (λ (n : ℕ). ss ++ replicate n now) (zero_less (lengt
     zero_less : (n : ℕ) → n - n ≡ 0
     zero_less n = omega arith
 
--- ---- what a call tells up to an end
+-- ---- what a call emits up to an end
 
 same_first : (e f : Event Carried) (es fs : List (Event Carried)) → e ∷ es ≡ f ∷ fs → e ≡ f
 same_first e f es fs h = ap (λ (l : List (Event Carried)). elim l [ [] ↦ e | z ∷ zs ↦ z ]) h
@@ -149,7 +149,7 @@ same_first e f es fs h = ap (λ (l : List (Event Carried)). elim l [ [] ↦ e | 
 same_rest : (e f : Event Carried) (es fs : List (Event Carried)) → e ∷ es ≡ f ∷ fs → es ≡ fs
 same_rest e f es fs h = ap (λ (l : List (Event Carried)). elim l [ [] ↦ es | z ∷ zs ↦ zs ]) h
 
--- in front of the first end of an association stands what the end at work had told
+-- in front of the first end of an association stands what the end at work had emitted
 up_to : (a : List (Event Carried)) (e : Event Carried) (more early late : List (Event Carried)) → a ++ e ∷ more ≡ early ++ late → ending e ≡ 1 → endings early ≡ 0
     → (rest : List (Event Carried)) × (a ≡ early ++ rest)
 up_to a e more [] late h is none = (a, refl)
@@ -235,7 +235,7 @@ module _ (message : ℕ → Message) (lifecycle : ℕ → Option ℕ) (is_interl
   pub young_now : (old : Stamp) → IsYoung now old → count (transfer_of x).sender < of old + 2 ^ 30
   young_now old y = let l = young old y in omega (arith, counted, l)
 
-  -- ---- the sender's turn
+  -- ---- the sender's action
 
   abbrev pub Out : Side → List Offer → SoFar → List ℕ → Type 0
   Out t os then by = Turned message lifecycle is_interleaved of t r (accepted + length os) handed (stamp_packets s t now stamps_s) stamps_r then x s by
@@ -391,7 +391,7 @@ module _ (message : ℕ → Message) (lifecycle : ℕ → Option ℕ) (is_interl
       by_call (Packet p) may are few stands none = absurd may
       by_call NoPacket may are few stands none = other_call NoPacket refl (λ p e. cc) may stands none
 
-  -- what the trace says, where that was told and the end is so
+  -- what the trace says, where that was emitted and the end is so
   abbrev so_emitted : Side → Emitted Carried → SoFar
   so_emitted t told = record {
     streams = reopen (performed_of told.events) (shut_streams [] so_far.streams);
@@ -425,7 +425,7 @@ module _ (message : ℕ → Message) (lifecycle : ℕ → Option ℕ) (is_interl
 
   -- ---- where it ends an association, up to there
 
-  -- a side that told what the turn tells in front of an end, and maybe more
+  -- a side that emitted what the action emits in front of an end, and maybe more
   pub record IsUntil (early : List (Event Carried)) (os : List Offer) : Type 0 where
     pub side : Side
     pub then : SoFar
@@ -434,7 +434,7 @@ module _ (message : ℕ → Message) (lifecycle : ℕ → Option ℕ) (is_interl
     pub rest : List (Event Carried)
     pub emitted : side.emitted ≡ s.emitted ++ (early ++ rest)
 
-  -- the packet that is put together isn't told
+  -- the packet that is put together isn't emitted
   set_aside : (m : Making Carried) (y : Direction) → SenderClaim message lifecycle is_interleaved x [] m y → SenderClaim message lifecycle is_interleaved x [] (calm (end_of m)) y
   set_aside m y c = record {
     kept = c.kept;
@@ -492,7 +492,7 @@ module _ (message : ℕ → Message) (lifecycle : ℕ → Option ℕ) (is_interl
       → (early late : List (Event Carried)) → (emitted_by t s r).events ≡ early ++ late → endings early ≡ 0 → IsUntil early (accepted_in t s)
   action_until t may timely ended are few early late is none = by_turn t may timely are few is
     where
-      -- a turn that ends nothing
+      -- an action that ends nothing
       whole : (t : EndAction) → MayAct t s → IsTimely t now stamps_r → AreOffered message lifecycle accepted (accepted_in t s)
           → accepted + length (accepted_in t s) < 2 ^ 32 → (emitted_by t s r).events ≡ early ++ late → endings (emitted_by t s r).events ≡ 0
           → IsUntil early (accepted_in t s)

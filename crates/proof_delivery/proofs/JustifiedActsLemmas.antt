@@ -105,7 +105,7 @@ kept_in Closed = []
 kept_in (CookieWait tag first t1) = []
 kept_in (Open phase t) = t.sender.outstanding.items.kept
 
--- after these acceptances: the queue, the kept items, and the records that were told
+-- after these acceptances: the queue, the kept items, and the records that were emitted
 pub record Sound (accepted : List Acceptance) (resets : List ℕ) (kept : List Item) (now : ℕ) (q : Queue) (gone : List GivenUp) : Type 0 where
   pub holds : Holds (Known accepted) (length accepted) q
   pub stay : AllStay (Known accepted) kept

@@ -76,11 +76,11 @@ module _ (old : List Acceptance) where
   sent_if_sound None s w h = sent_sound s w h
   sent_if_sound (Some e) s w h = h
 
--- with what a turn of the end accepts
+-- with what an action of the end accepts
 abbrev with_call : List Acceptance → Call → Side → List Acceptance
 with_call old call x = old ++ map (accepted_then (clock x)) (accepted_by call x)
 
--- between turns
+-- between actions
 abbrev pub Rests : List Acceptance → Side → Type 0
 Rests all x = (resets : List ℕ) → SoundAt all resets (calm x.end)
 
@@ -126,7 +126,7 @@ module _ (old : List Acceptance) (x : Side) where
   call_sound (Packet p) none few h = nothing_more [] (Packet p) refl (λ ids is. cc) (h [])
   call_sound NoPacket none few h = nothing_more [] NoPacket refl (λ ids is. cc) (h [])
 
--- ---- turns
+-- ---- actions
 
 -- after one that resets these streams, with its records
 pub record Actions (all : List Acceptance) (resets : List ℕ) (x : Side) (gone : List GivenUp) : Type 0 where
@@ -164,7 +164,7 @@ module _ (old : List Acceptance) (x y : Side) (h : Rests old x) where
 
 -- ---- traces
 
--- with what a turn of either end accepts
+-- with what an action of either end accepts
 abbrev pub accepted_now : (x acts : Bool) → EndAction → Pair → List Acceptance
 accepted_now x acts t w = map (accepted_then (clock (side_of x w))) (accepted_at x acts t w)
 
@@ -175,7 +175,7 @@ goes_on old false false t w none few h = action_justified old w.b w.a h t none f
 goes_on old true false t w none few h = no_more old w.a [] (actions_none old [] w.a h)
 goes_on old false true t w none few h = no_more old w.b [] (actions_none old [] w.b h)
 
--- records of a turn, where more messages are accepted later
+-- records of an action, where more messages are accepted later
 all_then : (all more : List Acceptance) (resets : List ℕ) (now : ℕ) (gs : List GivenUp) → AllByRecursion (IsJustifiedAt all resets now) gs
     → AllByRecursion (IsJustified (all ++ more)) (map (forgone_then now resets) gs)
 all_then all more resets now [] h = tt

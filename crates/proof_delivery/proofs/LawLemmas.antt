@@ -97,13 +97,13 @@ at_first : (message : ℕ → Message) (lifecycle : ℕ → Option ℕ) (is_inte
 at_first message lifecycle is_interleaved true short a b words_a words_b = first_flows message lifecycle is_interleaved (of_end true) short a b words_a words_b
 at_first message lifecycle is_interleaved false short a b words_a words_b = first_flows message lifecycle is_interleaved (of_end false) short b a words_b words_a
 
--- nor was anything told
+-- nor was anything emitted
 accounted_first : (lifecycle : ℕ → Option ℕ) (from_a : Bool) (a b : Options) (words_a words_b : Stream)
     → Accounted lifecycle (side_of from_a (traces.start a b words_a words_b)) [] first
 accounted_first lifecycle true a b words_a words_b = record { gone_is = λ p. refl; once = refl; told_is = refl }
 accounted_first lifecycle false a b words_a words_b = record { gone_is = λ p. refl; once = refl; told_is = refl }
 
--- ---- what each act keeps
+-- ---- what each act preserves
 
 all_parts : (message : ℕ → Message) (lifecycle : ℕ → Option ℕ) (is_interleaved : Bool) → Parts message lifecycle is_interleaved
 all_parts message lifecycle is_interleaved = record {
@@ -118,7 +118,7 @@ all_parts message lifecycle is_interleaved = record {
 
 -- ---- the law
 
--- nothing was told yet
+-- nothing was emitted yet
 quiet : (a b : Options) (words_a words_b : Stream) → AreSilent (traces.start a b words_a words_b)
 quiet a b words_a words_b = record { a = record { emitted = refl }; b = record { emitted = refl } }
 
@@ -182,7 +182,7 @@ refused_none a b words_a words_b turns own other follows none bounds from_a =
     none_refused a b words_a words_b turns own other follows none bounds.windows bounds.resets from_a all [] (bounds.few from_a) (sym (append-nil all))
     (short_along a b words_a words_b turns own other bounds.limits from_a)
 
--- ---- and at one more turn
+-- ---- and at one more action
 
 follows_last : (es : List (Bool × EndAction)) (e : Bool × EndAction) (w : Pair) → FollowsTheRules (es ++ e ∷ []) w → MayAct e.1 (side_of e.0 (run es w))
 follows_last [] e w h = h.0

@@ -139,7 +139,7 @@ module _ (call : Call) (fits : (bytes : ℕ) → call ≡ SetMaxMessageSize byte
     input = stays_input;
   }
 
--- ---- a turn
+-- ---- an action
 
 abbrev pub IsLimited : Side → Type 0
 IsLimited x = HasLimit x.end.endpoint_state.context

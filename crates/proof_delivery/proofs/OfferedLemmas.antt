@@ -1,4 +1,4 @@
--- Calls that offer messages: what an end says and shows as a sender, and as a receiver, after them.
+-- Calls that offer messages: what an end says and refines as a sender, and as a receiver, after them.
 use Rattle.std.proofs.Common.{◌≡◌, ℕ, ◌+◌, ◌^◌, ◌<◌, Bool, true, false, Option, List, [], ◌∷◌, length, slice_get, All, inl, refl, sym, ap, subst, ◌∙◌, arith}
 use Rattle.std.proofs.lemmas.List.Elements.{All-nil}
 use Rattle.sctp_serial.specs.Messages as messages
@@ -87,7 +87,7 @@ module _ (g : Setting) {R : Making Carried → Making Carried → Type 0} (k : K
       let rest : Until (Joined g R) (offering (m ∷ []) how e) (calm (called (Send m how) e)) = does_sent_if (frame f) e.random (refusal_of m e.endpoint_state) s in
       (rest.1 none (before.1 (none_before (offering (m ∷ []) how e) (calm (called (Send m how) e)) rest.0 none) inv)).1
 
--- ---- what it hears is nothing
+-- ---- what it receives is nothing
 
 no_received : {tag : ℕ} {chunk : ChunkTree} → IsReceived NoPacket tag chunk → ⊥
 no_received h = let e = h.given in cc
@@ -116,7 +116,7 @@ data_of_none message is_interleaved call first x h = record {
   says = λ tag chunk is. absurd (no_received is);
 }
 
--- nor is anything told of resets
+-- nor is anything emitted of resets
 record EmitsNoReset (es : List (Event Carried)) : Type 0 where
   counted : performed_in es ≡ 0
   named : performed_of es ≡ []

@@ -1,4 +1,4 @@
--- What a turn begins with: the claim that nothing is done yet, and what is received, of packets that are under way.
+-- What an action begins with: the claim that nothing is done yet, and what is received, of packets that are under way.
 use Rattle.std.proofs.Common.{◌≡◌, ℕ, ◌+◌, ◌-◌, ◌^◌, ◌<◌, ◌≤◌, Bool, Option, Some, inl, inr, List, [], ◌∷◌, length, map, slice_get, All, refl, sym, ap, subst, ◌∙◌, arith}
 use Rattle.std.specs.Prelude.{option_map}
 use Rattle.std.proofs.lemmas.Bool.{cases_lt}

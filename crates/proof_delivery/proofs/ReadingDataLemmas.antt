@@ -1,4 +1,4 @@
--- What an end hears as receiver, in the middle of its turn: each fragment and each forward point has its number there, and each request
+-- What an end receives as receiver, in the middle of its action: each fragment and each forward point has its number there, and each request
 -- is an ask.
 use Rattle.std.proofs.Common.{◌≡◌, ℕ, suc, ◌+◌, ◌^◌, ◌<◌, ◌≤◌, Bool, true, false, Option, Some, List, length, slice_get, All, sym, ap, ◌∙◌, subst, arith}
 use Rattle.std.proofs.lemmas.List.Elements.{All-weaker}

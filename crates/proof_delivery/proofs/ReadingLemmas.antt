@@ -1,4 +1,4 @@
--- What an end hears of the other as sender is read as it was meant: fragments, forward points, and the last TSNs of requests.
+-- What an end receives of the other as sender is read as it was meant: fragments, forward points, and the last TSNs of requests.
 use Rattle.std.proofs.Common.{◌≡◌, ℕ, suc, ◌+◌, ◌-◌, ◌%◌, ◌^◌, ◌<◌, ◌≤◌, max, Bool, true, false, cond, inl, inr, List, [], ◌∷◌, map, All, leb, ◌||◌, refl, sym, ap, ◌∙◌, subst, arith}
 use Rattle.std.specs.Prelude.{not}
 use Rattle.std.proofs.lemmas.Bool.{cond-true, cond-false, cases_lt}

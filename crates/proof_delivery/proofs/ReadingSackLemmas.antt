@@ -1,4 +1,4 @@
--- What an end hears as sender, in the middle of its turn: a SACK has the number there that the receiver meant, and an answer that is final is
+-- What an end receives as sender, in the middle of its action: a SACK has the number there that the receiver meant, and an answer that is final is
 -- to a request that was performed.
 use Rattle.std.proofs.Common.{◌≡◌, ℕ, ◌+◌, ◌-◌, ◌^◌, ◌<◌, ◌≤◌, Bool, true, inl, inr, Option, Some, List, length, All, sym, ap, ◌∙◌, subst, arith}
 use Rattle.std.proofs.lemmas.Bool.{cases_lt}
@@ -49,7 +49,7 @@ sack_number d acknowledged c tsn point tsn_is a b =
 -- ---- while the end acts, whose receiver doesn't
 
 module _ (message : ℕ → Message) (is_interleaved : Bool) (from x : Transfer) (before : Invariant message is_interleaved from) (kept : Invariant message is_interleaved x) (receiver : x.receiver ≡ from.receiver) where
-  -- nothing leaves that was numbered in this turn
+  -- nothing leaves that was numbered in this action
   pub left_were_numbered : x.acknowledged ≤ count from.sender
   left_were_numbered = elim (cases_lt (count from.sender) x.acknowledged) [
     | inl l ↦

@@ -1,4 +1,4 @@
--- Each act of an end leads its claim as a receiver on: what it sends, hears in its acknowledgements, waits for and is asked, and
+-- Each act of an end leads its claim as a receiver on: what it sends, receives in its acknowledgements, waits for and is asked, and
 -- so all of them.
 use Rattle.std.proofs.Common.{◌≡◌, ℕ, ◌^◌, ◌+◌, ◌<◌, ◌++◌, Bool, true, false, cond, Option, List, [], ◌∷◌, length, map, All, refl, sym, ap, subst}
 use Rattle.std.proofs.lemmas.List.Elements.{All-nil, All-cons}

@@ -66,7 +66,7 @@ emitted_behind s (OnIncomingStreamReset streams ∷ es) ss = by (are_named strea
     by false e = e
 emitted_behind s (e ∷ es) ss = emitted_behind s es ss
 
--- streams are reset and told, and these values show the state
+-- streams are reset, with their event, and these values refine the state
 pub record ResetsOn (message : ℕ → Message) (is_interleaved : Bool) (handed : List messages.Message) (x : Direction) (t : Tcb) (ss : List ℕ) : Type 0 where
   pub to : Direction
   pub goes : GoesOn message is_interleaved goes_in x to

@@ -123,7 +123,7 @@ module _ (message : ℕ → Message) (lifecycle : ℕ → Option ℕ) (is_interl
   pub goes_through : (a b c : Making Carried) → Goes a b → Goes b c → Goes a c
   goes_through a b c g h x claim = let y = g x claim in h y.0 y.1
 
-  -- to the same state of the rules, with chunks in the packet or packets told
+  -- to the same state of the rules, with chunks in the packet or packets emitted
   pub stays_by : (a b : Making Carried) (x : Direction) → Claim a x → ReceivesIn message is_interleaved b.state handed x
       → ((s : ℕ) → resets_emitted s b.context.emitted.events ≡ resets_emitted s a.context.emitted.events)
       → (SaysAll (first_in a.state) x (packets_in a.context.emitted.events) → SaysAll (first_in b.state) x (packets_in b.context.emitted.events))
@@ -150,7 +150,7 @@ module _ (message : ℕ → Message) (lifecycle : ℕ → Option ℕ) (is_interl
       (λ h. subst (λ (n : ℕ). SaysAll n x (packets_in b.context.emitted.events)) (sym first) (subst (SaysAll (first_in a.state) x) (sym packets) h))
       (λ h. subst (λ (n : ℕ). Says n x b.packet.chunks) (sym first) (subst (Says (first_in a.state) x) (sym chunks) h))
 
-  -- the rules go on, and nothing is told or put into the packet
+  -- the rules go on, and nothing is emitted or put into the packet
   pub goes_led : (phase next : Phase) (t u : Tcb) (m : Making Carried) → u.tracker.first ≡ t.tracker.first
       → ((x : Direction) → Claim (in_open phase t m) x → Leads message is_interleaved handed x u) → Goes (in_open phase t m) (in_open next u m)
   goes_led phase next t u m first leads x claim =

@@ -82,7 +82,7 @@ module _ (message : ℕ → Message) (lifecycle : ℕ → Option ℕ) (is_interl
       let b = claims_prepared phase t w ids (before ++ id ∷ []) (prepare_stream id c) a.0 (prepared_answers message lifecycle is_interleaved from id m none) a.1 in
       (b.0, subst (λ (ps : List ℕ). SenderClaim message lifecycle is_interleaved from ps (idle (Open phase t) (prepare_all ids (prepare_stream id c)) w) b.0) (append_assoc before (id ∷ []) ids) b.1)
 
-  -- where nothing was told yet
+  -- where nothing was emitted yet
   pub claim_prepared : (s : State) (c : Context Carried) (w : Stream) (ids : List ℕ) → reset_refusal s ≡ None → c.emitted ≡ silent → (x : Direction)
       → SenderClaim message lifecycle is_interleaved from [] (idle s c w) x → (y : Direction) × SenderClaim message lifecycle is_interleaved from ids (idle s (prepare_all ids c) w) y
   claim_prepared Closed c w ids fine none x h = cc

@@ -1,4 +1,4 @@
--- What is told of resets, and that whatever sends, acknowledges, gives up or settles a stream's values tells nothing of them.
+-- What is emitted of resets, and that whatever sends, acknowledges, gives up or settles a stream's values emits nothing of them.
 use Rattle.std.proofs.Common.{◌≡◌, ℕ, zero, suc, ◌+◌, ◌-◌, ◌&&◌, Bool, true, false, cond, not, ◌||◌, nat_lt, Option, Some, None, unwrap_or, option_map, List, [], ◌∷◌, ◌++◌, length, take, slice_get, is_some, refl, ap, ◌∙◌, append-nil, append_assoc, sym, arith}
 use Rattle.sctp_chunk.specs.declared.sack.GapAckBlock.{GapAckBlock}
 use Rattle.sctp_state.specs.declared.api.errors.SendError.{SendError}
@@ -37,7 +37,7 @@ abbrev pub resets_in : {P : Type 0} → List (Event P) → List (Event P)
 resets_in [] = []
 resets_in (e ∷ es) = cond (is_reset e) (e ∷ resets_in es) (resets_in es)
 
--- they are all that tells of a reset
+-- they are all that is said of a reset
 module _ {P : Type 0} where
   pub performed_counts : (es : List (Event P)) → performed_in (resets_in es) ≡ performed_in es
   performed_counts [] = refl
@@ -105,7 +105,7 @@ module _ {P : Type 0} where
   pub none_failed_both : (es fs : List (Event P)) → failed_in es ≡ false → failed_in fs ≡ false → failed_in (es ++ fs) ≡ false
   none_failed_both es fs h k = failed_more es fs ∙ (ap (λ (b : Bool). b || failed_in fs) h ∙ k)
 
--- ---- what tells none
+-- ---- what emits none
 
 none_expiry : (P : Type 0) (l : Option ℕ) → resets_in (expiry {P = P} l) ≡ []
 none_expiry P None = refl
@@ -279,7 +279,7 @@ module _ {P : Type 0} where
       let x : Filling P = filled_with size (without_discards s) (resent size (without_discards s)) left in
       fills (suc x.left) now x ∙ discards s.outstanding.items.discards q t
 
-  -- a stream that is to be reset is not told yet
+  -- of a stream that is to be reset nothing is emitted yet
   waits : (ms : List Queued) (t : Emitted P) → SameResets t (emitted_waiting ms t)
   waits [] t = refl
   waits (m ∷ ms) t =

@@ -1,4 +1,4 @@
--- What an end that asks for resets of its streams holds, as its queue or its requests change; and how its streams stand once it has told an
+-- What an end that asks for resets of its streams holds, as its queue or its requests change; and how its streams stand once it has emitted an
 -- answer.
 use Rattle.std.proofs.Common.{◌≡◌, ℕ, zero, suc, ◌<◌, ◌≤◌, Bool, true, false, cond, inl, inr, Option, Some, None, List, [], ◌∷◌, ◌++◌, refl, sym, ap, ◌∙◌, subst, arith}
 use Rattle.std.specs.Prelude.{◌||◌, ◌==◌, option_map, slice_get}
@@ -151,7 +151,7 @@ named_later s n m asks a there named l =
     let up = named_up s (suc n) m asks (omega (arith, l)) in
     omega (arith, one, up)
 
--- ---- streams that are told as reset
+-- ---- streams that are emitted as reset
 
 pub named_has : (s : ℕ) (ids : List ℕ) → are_named ids s ≡ has s ids
 named_has s [] = refl

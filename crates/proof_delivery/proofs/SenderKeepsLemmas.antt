@@ -1,4 +1,4 @@
--- Each act that can happen before an association ends keeps what an end says and shows as a sender.
+-- Each act that can happen before an association ends keeps what an end says and refines as a sender.
 use Rattle.std.proofs.Common.{◌≡◌, ℕ, Bool, Option, List, [], refl, sym, ap, subst}
 use Rattle.sctp_packet.specs.Chunk.{re_config_chunk}
 use Rattle.sctp_tx_queue.specs.declared.send_queue.stream.ResetStep.TheVariants.{Requested}

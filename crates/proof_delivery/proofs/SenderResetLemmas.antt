@@ -171,7 +171,7 @@ module _ (message : ℕ → Message) (lifecycle : ℕ → Option ℕ) (is_interl
       ∙ (ap (λ (es : List RuleEvent). es ++ of_transfer (opens_next (stream id q.streams).pause id)) (of_transfers (give_ups (unsent_of q id)))
       ∙ (ap (λ (es : List RuleEvent). give_ups (unsent_of q id) ++ es) (opens_alone (stream id q.streams).pause id) ∙ append-nil (give_ups (unsent_of q id))))
 
-  -- where no answer was told in this turn
+  -- where no answer was emitted in this action
   pub prepares_claims : (ids : List ℕ) (id : ℕ) (phase : Phase) (t : Tcb) (m : Making Carried) (x : Direction) → performed_of m.context.emitted.events ≡ []
       → SenderClaim message lifecycle is_interleaved from ids (in_open phase t m) x
       → (y : Direction) × SenderClaim message lifecycle is_interleaved from (ids ++ id ∷ []) (in_open phase t (with_context (resets.prepare_stream id m.context) m)) y
@@ -233,7 +233,7 @@ module _ (message : ℕ → Message) (lifecycle : ℕ → Option ℕ) (is_interl
         }),
       )
 
-  -- nor is any told then
+  -- nor is any emitted then
   pub prepared_answers : (id : ℕ) (m : Making Carried) → performed_of m.context.emitted.events ≡ [] → performed_of (resets.prepare_stream id m.context).emitted.events ≡ []
   prepared_answers id m none = (no_answer m.context.emitted.events (resets.prepare_stream id m.context).emitted.events (resets_prepared id m.context.queue m.context.emitted)).named ∙ none
 

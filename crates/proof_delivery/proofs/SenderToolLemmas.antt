@@ -376,7 +376,7 @@ asked_still x y asks done answered opened performed requests grows are = record 
 abbrev pub IsNear : (from x : Direction) → Type 0
 IsNear from x = (a : Ask) → slice_get x.asks x.answered ≡ Some a → count (transfer_of from).sender < a.upto + 2 ^ 30
 
--- it waited before this turn, or is of this turn
+-- it waited before this action, or is of this action
 abbrev pub IsSince : (from x : Direction) → Type 0
 IsSince from x = (a : Ask) → slice_get x.asks x.answered ≡ Some a → (slice_get from.asks x.answered ≡ Some a) ⊎ (count (transfer_of from).sender ≤ a.upto)
 
@@ -387,7 +387,7 @@ so_still f x y raised opened h s =
     let o : y.opened s ≡ x.opened s = ap (λ (g : ℕ → ℕ). g s) opened in
     (i.0 ∙ sym r, λ e. r ∙ (i.1 e ∙ sym o), λ e. r ∙ (i.2 e ∙ ap suc (sym o)))
 
--- What is told of resets as the rules go from x to y, where these streams were to be reset in the turn before, and these now: each answer,
+-- What is emitted of resets as the rules go from x to y, where these streams were to be reset in the action before, and these now: each answer,
 -- so that streams stand as the rules say, and none as failed.
 pub record EmitsResets (prepared later : List ℕ) (es fs : List (events.Event Carried)) (x y : Direction) : Type 0 where
   pub performed : y.answered + performed_in es ≡ x.answered + performed_in fs

@@ -64,7 +64,7 @@ none_at false false turn w h = none_by turn w.b h
 none_at true false turn w h = refl
 none_at false true turn w h = refl
 
--- nothing that is told raises an epoch
+-- nothing that is emitted raises an epoch
 first_after : (x acts : Bool) (turn : EndAction) (w : Pair) (f : ℕ → StreamEpoch) → resets turn ≡ false → AreAtFirst f → AreAtFirst (epochs_after x acts turn w f)
 first_after x acts turn w f none h s = reopens (are_named (performed_of (emitted_at x acts turn w)) s) (shut_streams (reset_at x acts turn w) f s) ∙ (ap (λ (ids : List ℕ). (shut_streams ids f s).epoch) (none_at x acts turn w none) ∙ h s)
   where

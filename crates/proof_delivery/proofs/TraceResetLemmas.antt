@@ -1,4 +1,4 @@
--- Resets along a trace, of what the ends hold and tell alone: what is emitted only grows; what one end asked stays as the other acts.
+-- Resets along a trace, of what the ends hold and emit alone: what is emitted only grows; what one end asked stays as the other acts.
 use Rattle.std.proofs.Common.{◌≡◌, ℕ, zero, suc, ◌<◌, not, Bool, true, false, cond, Option, Some, None, List, [], ◌∷◌, ◌++◌, length, slice_get, refl, sym, ap, ◌∙◌, append-nil, append_assoc, arith}
 use Rattle.std.proofs.lemmas.Bool.{eq-eqb}
 use Rattle.sctp_state.specs.Events.{Event}
@@ -14,7 +14,7 @@ use Rattle.proof_delivery.specs.StreamEpochs.{StreamEpoch, emitted_at, epochs_af
 
 -- ---- what is emitted
 
--- what a turn tells stands behind what was emitted
+-- what an action emits stands behind what was emitted
 pub emitted_turned : (t : EndAction) (x y : Side) → (act t x y).emitted ≡ x.emitted ++ (emitted_by t x y).events
 emitted_turned (Calls call) x y = refl
 emitted_turned (Gives which checksum) x y = go (slice_get (emitted_packets y) which)
@@ -75,7 +75,7 @@ asked_again s n = ap (λ (b : Bool). let m : ℕ = cond b n (numbered_count s) i
 
 -- ---- epochs
 
--- the other end's turns leave them
+-- the other end's actions leave them
 pub epochs_beside : (x : Bool) (t : EndAction) (w : Pair) (f : ℕ → StreamEpoch) (s : ℕ) → epochs_after x (not x) t w f s ≡ f s
 epochs_beside true t w f s = refl
 epochs_beside false t w f s = refl

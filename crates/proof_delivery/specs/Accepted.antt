@@ -14,7 +14,7 @@ pub record Offer : Type 0 where
   pub message : Message
   pub options : SendOptions
 
--- ---- one turn
+-- ---- one action
 
 abbrev pub unless_refused : (refusal : Option SendError) → Message → SendOptions → List Offer
 unless_refused None m o = record { message = m; options = o } ∷ []
@@ -34,7 +34,7 @@ abbrev pub accepted_in : EndAction → Side → List Offer
 accepted_in (Calls call) x = accepted_by call x
 accepted_in turn x = []
 
--- true is end a: what end x accepts at a turn of this end
+-- true is end a: what end x accepts at an action of this end
 abbrev pub accepted_at : (x acts : Bool) → EndAction → Pair → List Offer
 accepted_at true true turn w = accepted_in turn w.a
 accepted_at false false turn w = accepted_in turn w.b

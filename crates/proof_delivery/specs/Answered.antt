@@ -19,7 +19,7 @@ is_same None (Some n) = false
 is_same (Some n) None = false
 is_same (Some n) (Some m) = n == m
 
--- how many fragments each end had numbered before the turn in which the request that waits was started
+-- how many fragments each end had numbered before the action in which the request that waits was started
 pub record Asked : Type 0 where
   pub a : ℕ
   pub b : ℕ
@@ -45,7 +45,7 @@ abbrev pub KeepsRequests : List (Bool × EndAction) → Pair → Asked → Type 
 KeepsRequests [] w k = AreAnswered w k
 KeepsRequests (e ∷ es) w k = AreAnswered w k × KeepsRequests es (goes e.0 e.1 w) (asked_after e.0 e.1 w k)
 
--- how often an end told that its request was performed
+-- how often an end emitted that its request was performed
 abbrev pub performed_in : {P : Type 0} → List (Event P) → ℕ
 performed_in [] = 0
 performed_in (OnStreamsResetPerformed streams ∷ es) = suc (performed_in es)

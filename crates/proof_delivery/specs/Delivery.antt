@@ -17,7 +17,7 @@ use Rattle.proof_delivery.specs.Windows.{no_stamps, KeepsWindows, KeepsLimits}
 use Rattle.proof_delivery.specs.Answered.{KeepsResets}
 use Rattle.proof_delivery.specs.StreamEpochs.{AreInTheirEpochs, NoneIsRefused}
 
--- ---- the judge
+-- ---- what is observed
 
 -- the message that was accepted at this place
 abbrev pub message_at : List Offer → ℕ → Option Message
@@ -51,7 +51,7 @@ pub record IsReady (offers : List Offer) (places : List ℕ) (id : ℕ) : Type 0
   pub its_id : offer.options.lifecycle_id ≡ Some id
   pub is_ready : has place places ≡ true
 
--- so it is of each id that was told as delivered
+-- so it is of each id that was reported as delivered
 abbrev pub ReportsAreTrue : List Offer → List (Event Carried) → (places : List ℕ) → Type 0
 ReportsAreTrue offers told places = (id : ℕ) → has id (delivered_ids told) ≡ true → IsReady offers places id
 
@@ -59,7 +59,7 @@ ReportsAreTrue offers told places = (id : ℕ) → has id (delivered_ids told) �
 abbrev pub AllAreDone : List Offer → (gone places : List ℕ) → Type 0
 AllAreDone offers gone places = (p : ℕ) → p < length offers → (has p places ≡ true) ⊎ (has p gone ≡ true)
 
--- One list of places serves all along the trace: at each point its beginning fits, and tells what became of the other messages.
+-- One list of places serves all along the trace: at each point its beginning fits, and says what became of the other messages.
 -- True is the direction from a to b.
 pub record Delivers (from_a : Bool) (turns : List (Bool × EndAction)) (w : Pair) : Type 0 where
   pub places : List ℕ
@@ -93,7 +93,7 @@ MessagesAreDelivered =
     → FollowsTheRules turns (start a b words_a words_b) → HasNotEnded (run turns (start a b words_a words_b))
     → IsInBounds turns (start a b words_a words_b) → (from_a : Bool) → Delivers from_a turns (start a b words_a words_b)
 
--- and no end tells that a reset failed
+-- and no end emits that a reset failed
 abbrev pub NoResetIsRefused : Type 0
 NoResetIsRefused =
     (a b : Options) (words_a words_b : Stream) (turns : List (Bool × EndAction)) → AreGiven a → AreGiven b

@@ -1,4 +1,4 @@
--- Where one more turn of a trace may end an association: what the end tells before that.
+-- Where one more action of a trace may end an association: what the end emits before that.
 use Rattle.std.specs.Prelude.{◌≡◌, ◌^◌, ◌<◌, not, Bool, false, List, [], ◌∷◌, ◌++◌, length, take}
 use Rattle.rand_core.specs.Stream.{Stream}
 use Rattle.sctp_state.specs.Events.{Event}
@@ -14,12 +14,12 @@ use Rattle.proof_delivery.specs.Answered.{KeepsResets}
 use Rattle.proof_delivery.specs.StreamEpochs.{failed_in}
 use Rattle.proof_delivery.specs.Delivery.{ReportsAreTrue, Delivers}
 
--- the stamps of all packets behind these turns
+-- the stamps of all packets behind these actions
 abbrev pub stamps_along : List (Bool × EndAction) → Pair → Stamps → Stamps
 stamps_along [] w s = s
 stamps_along (e ∷ es) w s = stamps_along es (goes e.0 e.1 w) (stamps_after e.0 e.1 w s)
 
--- what a trace has to keep, and one more turn of this end; behind it the windows and the requests are asked for no more
+-- what a trace has to keep, and one more action of this end; behind it the windows and the requests are asked for no more
 pub record IsInBoundsThen (from_a : Bool) (turns : List (Bool × EndAction)) (last : EndAction) (w : Pair) : Type 0 where
   pub windows : KeepsWindows turns w no_stamps
   pub timely : IsTimely last (stamp (run turns w)) (stamps_for from_a (stamps_along turns w no_stamps))
@@ -27,8 +27,8 @@ pub record IsInBoundsThen (from_a : Bool) (turns : List (Bool × EndAction)) (la
   pub few : length (accepted from_a (turns ++ (from_a, last) ∷ []) w) < 2 ^ 32
   pub limits : KeepsLimits (turns ++ (from_a, last) ∷ [])
 
--- The list of places that serves the trace serves what the sender tells at that turn too, up to the first end of an association; nor
--- does it tell up to there that a reset failed.
+-- The list of places that serves the trace serves what the sender emits at that action too, up to the first end of an association; nor
+-- does it emit up to there that a reset failed.
 pub record DeliversThen (from_a : Bool) (turns : List (Bool × EndAction)) (last : EndAction) (w : Pair) : Type 0 where
   pub delivers : Delivers from_a turns w
   pub reports : (early late : List (Event Carried)) → (emitted_by last (side_of from_a (run turns w)) (side_of (not from_a) (run turns w))).events ≡ early ++ late
@@ -38,7 +38,7 @@ pub record DeliversThen (from_a : Bool) (turns : List (Bool × EndAction)) (last
   pub none_refused : (early late : List (Event Carried)) → (emitted_by last (side_of from_a (run turns w)) (side_of (not from_a) (run turns w))).events ≡ early ++ late
       → endings early ≡ 0 → failed_in ((side_of from_a (run turns w)).emitted ++ early) ≡ false
 
--- Along each trace that follows the rules, and one more turn, which may end an association.
+-- Along each trace that follows the rules, and one more action, which may end an association.
 abbrev pub MessagesAreDeliveredThen : Type 0
 MessagesAreDeliveredThen =
     (a b : Options) (words_a words_b : Stream) (turns : List (Bool × EndAction)) (from_a : Bool) (last : EndAction) → AreGiven a → AreGiven b

@@ -11,7 +11,7 @@ use Rattle.proof_endpoint.specs.Mapped.{Carried}
 use Rattle.proof_pair.specs.Trace.{Side, Pair, emitted_packets, EndAction, Calls, Gives, Refuses, as_received, goes, state_of}
 use Rattle.proof_delivery.specs.Windows.{queue_of}
 
--- ---- one turn
+-- ---- one action
 
 abbrev pub emitted_of : Endpoint Carried → Emitted Carried
 emitted_of e = e.endpoint_state.context.emitted
@@ -24,7 +24,7 @@ abbrev pub emitted_foreign : (refusal : Option (List ℕ)) → PacketTree → Si
 emitted_foreign None p x = silent
 emitted_foreign (Some text) p x = emitted_of (called (Packet p) x.end)
 
--- what an end tells, before it is taken
+-- what an end emits, before it is taken
 abbrev pub emitted_by : EndAction → (x y : Side) → Emitted Carried
 emitted_by (Calls call) x y = emitted_of (called call x.end)
 emitted_by (Gives which checksum) x y = emitted_given (slice_get (emitted_packets y) which) checksum x
@@ -34,7 +34,7 @@ emitted_by (Refuses p) x y = emitted_foreign (refusal p.header.verification_tag 
 abbrev pub given_up_by : EndAction → (x y : Side) → List ℕ
 given_up_by turn x y = map (λ (g : GivenUp). g.number) (emitted_by turn x y).given_up
 
--- true is end a: what end x gives up at a turn of this end
+-- true is end a: what end x gives up at an action of this end
 abbrev pub given_up_at : (x acts : Bool) → EndAction → Pair → List ℕ
 given_up_at true true turn w = given_up_by turn w.a w.b
 given_up_at false false turn w = given_up_by turn w.b w.a

@@ -51,13 +51,13 @@ abbrev pub records_if : (refusal : Option (List ℕ)) → PacketTree → Side �
 records_if None p x = []
 records_if (Some text) p x = records_of (called (Packet p) x.end)
 
--- what one end gives up at its turn, beside the other
+-- what one end gives up at its action, beside the other
 abbrev pub records_by : EndAction → (x y : Side) → List GivenUp
 records_by (Calls call) x y = records_of (called call x.end)
 records_by (Gives which checksum) x y = records_given (slice_get (emitted_packets y) which) checksum x
 records_by (Refuses p) x y = records_if (refusal p.header.verification_tag p.chunks (state_of x)) p x
 
--- true is end a: what end x gives up at a turn of this end
+-- true is end a: what end x gives up at an action of this end
 abbrev pub records_at : (x acts : Bool) → EndAction → Pair → List GivenUp
 records_at true true turn w = records_by turn w.a w.b
 records_at false false turn w = records_by turn w.b w.a
@@ -68,18 +68,18 @@ abbrev pub reset_unless : Option ResetStreamsError → (streams : List ℕ) → 
 reset_unless None streams = streams
 reset_unless (Some e) streams = []
 
--- the streams that an end is asked to reset at its turn, and does
+-- the streams that an end is asked to reset at its action, and does
 abbrev pub reset_by : EndAction → Side → List ℕ
 reset_by (Calls (ResetStreams streams)) x = reset_unless (reset_refusal (state_of x)) streams
 reset_by turn x = []
 
--- true is end a: those of end x at a turn of this end
+-- true is end a: those of end x at an action of this end
 abbrev pub reset_at : (x acts : Bool) → EndAction → Pair → List ℕ
 reset_at true true turn w = reset_by turn w.a
 reset_at false false turn w = reset_by turn w.b
 reset_at x acts turn w = []
 
--- a record, the clock of its end then, and the streams that are reset at that turn
+-- a record, the clock of its end then, and the streams that are reset at that action
 pub record Forgone : Type 0 where
   pub given_up : GivenUp
   pub at : ℕ

@@ -16,7 +16,7 @@ one_is_reset =
     ++ ((true, Calls (Send (text 97) plainly)) ∷ (true, Calls (ResetStreams (1 ∷ []))) ∷ (true, Calls (ResetStreams (1 ∷ []))) ∷ (true, Calls (Send (text 98) plainly))
     ∷ (false, Gives 2 0) ∷ (false, Gives 3 0) ∷ (true, Gives 2 0) ∷ (true, Gives 3 0) ∷ (false, Gives 4 0) ∷ [])
 
--- both become ready, and the reset is told once at either end
+-- both become ready, and the reset is emitted once at either end
 pub record OneIsReset : Type 0 where
   pub follows : FollowsTheRules one_is_reset at_first
   pub not_ended : HasNotEnded (run one_is_reset at_first)

@@ -1,6 +1,6 @@
--- Along a trace: the epoch of each message that an end accepted, and how often the other end told that its stream was reset. A stream is
+-- Along a trace: the epoch of each message that an end accepted, and how often the other end emitted that its stream was reset. A stream is
 -- open at first, in epoch 0. A reset that is answered Ok makes an open stream wait, and what is accepted from then on is of the next
--- epoch; the stream is open again once its end is told that the reset was performed.
+-- epoch; the stream is open again once its end emits that the reset was performed.
 use Rattle.std.specs.Prelude.{◌≡◌, ℕ, ◌+◌, ◌<◌, ◌≤◌, ◌==◌, ◌&&◌, not, Bool, true, false, cond, Some, List, [], ◌∷◌, ◌++◌, length, map, slice_get, slice_index}
 use Rattle.std.specs.List.{list_any}
 use Rattle.sctp_state.specs.Events.{Event, OnStreamsResetPerformed, OnStreamsResetFailed, OnIncomingStreamReset}
@@ -35,15 +35,15 @@ opened_if b e = record e { is_open = cond b true e.is_open }
 abbrev pub reopen : List ℕ → (ℕ → StreamEpoch) → ℕ → StreamEpoch
 reopen streams f s = opened_if (are_named streams s) (f s)
 
--- ---- one turn
+-- ---- one action
 
--- the streams that are told as reset by the other end
+-- the streams that are emitted as reset by the other end
 abbrev pub performed_of : {P : Type 0} → List (Event P) → List ℕ
 performed_of [] = []
 performed_of (OnStreamsResetPerformed streams ∷ es) = streams ++ performed_of es
 performed_of (e ∷ es) = performed_of es
 
--- true is end a: what end x is told at a turn of this end
+-- true is end a: what is emitted at end x at an action of this end
 abbrev pub emitted_at : (x acts : Bool) → EndAction → Pair → List (Event Carried)
 emitted_at true true turn w = (emitted_by turn w.a w.b).events
 emitted_at false false turn w = (emitted_by turn w.b w.a).events
@@ -62,12 +62,12 @@ abbrev pub offer_epochs : (x : Bool) → List (Bool × EndAction) → Pair → (
 offer_epochs x [] w f = []
 offer_epochs x (e ∷ es) w f = epochs_of (accepted_at x e.0 e.1 w) f ++ offer_epochs x es (goes e.0 e.1 w) (epochs_after x e.0 e.1 w f)
 
--- how the streams stand behind these turns
+-- how the streams stand behind these actions
 abbrev pub epochs_along : (x : Bool) → List (Bool × EndAction) → Pair → (ℕ → StreamEpoch) → ℕ → StreamEpoch
 epochs_along x [] w f = f
 epochs_along x (e ∷ es) w f = epochs_along x es (goes e.0 e.1 w) (epochs_after x e.0 e.1 w f)
 
--- how often an end told that this stream of the other end was reset
+-- how often an end emitted that this stream of the other end was reset
 abbrev pub resets_emitted : {P : Type 0} → ℕ → List (Event P) → ℕ
 resets_emitted s [] = 0
 resets_emitted s (OnIncomingStreamReset streams ∷ es) = cond (are_named streams s) (1 + resets_emitted s es) (resets_emitted s es)
@@ -76,10 +76,10 @@ resets_emitted s (e ∷ es) = resets_emitted s es
 abbrev pub emitted_of : (x : Bool) → List (Bool × EndAction) → Pair → List (Event Carried)
 emitted_of x turns w = (side_of x (run turns w)).emitted
 
--- ---- the judge
+-- ---- what is observed
 
--- Each message that became ready at a turn is of an epoch between the resets of its stream that its end told before that turn, and those
--- that it told up to its end.
+-- Each message that became ready at an action is of an epoch between the resets of its stream that its end emitted before that action, and those
+-- that it emitted up to its end.
 pub record AreInTheirEpochs (from_a : Bool) (turns : List (Bool × EndAction)) (w : Pair) (places : List ℕ) : Type 0 where
   pub least : (early late : List (Bool × EndAction)) (e : Bool × EndAction) → turns ≡ early ++ e ∷ late → (k n : ℕ) (o : Offer)
       → length (readied_messages (not from_a) early w) ≤ k → k < length (readied_messages (not from_a) (early ++ e ∷ []) w)
@@ -90,7 +90,7 @@ pub record AreInTheirEpochs (from_a : Bool) (turns : List (Bool × EndAction)) (
       → slice_get (accepted from_a turns w) (slice_index places k) ≡ Some o → slice_get (offer_epochs from_a turns w all_open) (slice_index places k) ≡ Some n
       → n ≤ resets_emitted o.message.stream (emitted_of (not from_a) (early ++ e ∷ []) w)
 
--- no reset is told as failed
+-- no reset is emitted as failed
 abbrev pub failed_in : {P : Type 0} → List (Event P) → Bool
 failed_in [] = false
 failed_in (OnStreamsResetFailed streams ∷ es) = true

@@ -1,5 +1,5 @@
 -- How many fragments two ends have numbered, and how far what is under way may lie behind: the windows under which numbers
--- on the wire say what they mean. All is read off the values that the ends hold between turns.
+-- on the wire say what they mean. All is read off the values that the ends hold between actions.
 use Rattle.std.specs.Prelude.{◌≡◌, ℕ, ◌+◌, ◌-◌, ◌^◌, ◌<◌, ◌≤◌, Bool, true, false, Some, List, [], ◌∷◌, ◌++◌, length, replicate, slice_get, nat_le, ⊤, All}
 use Rattle.std.specs.List.{list_any}
 use Rattle.sctp_serial.specs.Unwrapped.{origin}
@@ -42,7 +42,7 @@ pub record AreWithin (w : Pair) : Type 0 where
 
 -- ---- packets that are given
 
--- how many fragments each end had numbered before the turn at which a packet was emitted
+-- how many fragments each end had numbered before the action at which a packet was emitted
 pub record Stamp : Type 0 where
   pub a : ℕ
   pub b : ℕ
@@ -58,7 +58,7 @@ pub record Stamps : Type 0 where
 abbrev pub no_stamps : Stamps
 no_stamps = record { of_a = []; of_b = [] }
 
--- for the packets that this turn added
+-- for the packets that this action added
 abbrev pub stamp_packets : (before after : Side) → Stamp → List Stamp → List Stamp
 stamp_packets x y s stamps = stamps ++ replicate (length (emitted_packets y) - length (emitted_packets x)) s
 

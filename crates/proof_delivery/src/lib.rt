@@ -17,24 +17,24 @@ pub mod asks;
 /// ready stays ready or is handed out, and the places of the messages only grow at their back.
 ///
 /// Streams may be reset (RFC 6525). A message is of the epoch that its stream is in at its acceptance; a reset of an open stream begins the
-/// next one. Each message becomes ready in its epoch: at the turn at which it does, its epoch lies between the resets of its stream that
-/// its end told before that turn, and those that it told up to its end (`epochs` of Delivers). No end tells that a reset failed
+/// next one. Each message becomes ready in its epoch: at the action at which it does, its epoch lies between the resets of its stream that
+/// its end emitted before that action, and those that it emitted up to its end (`epochs` of Delivers). No end emits that a reset failed
 /// (`none_refused`).
 ///
 /// Of the others, at each point: an ordered message that isn't ready, while a later one of its stream is, was given up, and a
-/// record of its sender names it (RFC 3758 section 3.5). No two records name the same message. A lifecycle id that the sender tells as delivered is that of a message
+/// record of its sender names it (RFC 3758 section 3.5). No two records name the same message. A lifecycle id that the sender reports as delivered is that of a message
 /// that is ready. And where nothing waits at the sender and it keeps no fragment, each message that it accepted is ready or was
 /// given up.
 ///
-/// The trace keeps these bounds (`IsInBounds`), all read off what the ends hold between turns:
+/// The trace keeps these bounds (`IsInBounds`), all read off what the ends hold between actions:
 /// - no fragment is kept while more than 2^30 fragments are numbered from it on, and fewer than 2^62 are numbered in all;
 /// - on each stream fewer than 32,000 ordered messages are numbered from one with a kept fragment on;
-/// - a packet is given while either end has numbered fewer than 2^30 fragments since the turn that emitted it;
+/// - a packet is given while either end has numbered fewer than 2^30 fragments since the action that emitted it;
 /// - each end accepts fewer than 2^32 messages, and a limit on their size is set below 2^32, as `set_max_message_size` asks;
 /// - each end has fewer than 2^32 - 1 requests to reset streams performed; and while one waits for its answer, its end has numbered fewer
-///   than 2^30 fragments since the turn that started it.
+///   than 2^30 fragments since the action that started it.
 ///
-/// A turn behind such a trace may end an association. What its end tells before that is true too: a lifecycle id that it tells as
+/// An action behind such a trace may end an association. What its end emits before that is true too: a lifecycle id that it reports as
 /// delivered is that of a message that is ready (`ends`).
 ///
 /// In one such trace, computed, two messages are accepted and become ready (`goes`).
@@ -49,7 +49,7 @@ pub fn messages_are_delivered()
 {}
 
 /// There are such traces within these bounds. In one, computed, three messages are sent on one stream; the packet of the second is
-/// lost, and it may not be sent again. It is given up, the others become ready, the first is told as delivered, and in the end
+/// lost, and it may not be sent again. It is given up, the others become ready, the first is reported as delivered, and in the end
 /// the sender is at rest.
 pub fn a_message_is_skipped()
     ensures { OneIsSkipped }
@@ -58,7 +58,7 @@ pub fn a_message_is_skipped()
 /// Along each trace of two ends in which no handover is taken up, also behind the end of an association and with resets of
 /// streams: each record of a message given up is justified. It names the place of a message that this end accepted so far, and its
 /// cause holds. Either the message has a lifetime, and the end's clock isn't before acceptance plus lifetime (RFC 3758 section
-/// 4.1); or it was sent again as often as its limit says, 65,535 times where none was set (RFC 7496 section 3.2); or the turn is a
+/// 4.1); or it was sent again as often as its limit says, 65,535 times where none was set (RFC 7496 section 3.2); or the action is a
 /// call that reset its stream (RFC 6525 section 5.1.2). An end accepts fewer than 2^32 messages, so that their numbers don't wrap.
 /// In one such trace, computed, two messages are given up, one for its lifetime, one for its limit.
 pub fn records_are_justified()
@@ -68,7 +68,7 @@ pub fn records_are_justified()
 {}
 
 /// There are such traces with resets. In one, computed, a message is sent, its stream is reset, twice, and another message is accepted
-/// before the answer comes. The first is of epoch 0, the second of epoch 1; both become ready; the reset is told once at either end, and
+/// before the answer comes. The first is of epoch 0, the second of epoch 1; both become ready; the reset is emitted once at either end, and
 /// none is refused.
 pub fn a_stream_is_reset()
     ensures { OneIsReset }

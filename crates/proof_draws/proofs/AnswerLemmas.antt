@@ -22,7 +22,7 @@ use Rattle.proof_draws.proofs.WritingLemmas.{Knows, same_fits, named_add, named_
 use Rattle.proof_draws.proofs.OpeningLemmas.{announced_named}
 use Rattle.proof_draws.proofs.FillingLemmas.{named_sent, send_with_named, send_buffered_named}
 
--- ---- what an INIT tells is not drawn
+-- ---- what an INIT announces is not drawn
 
 abbrev emitted_with : (outbound inbound : ℕ) → (is_partial : Bool) → (types : List ℕ) → (method : ℕ) → Capabilities
 emitted_with outbound inbound is_partial types method = record {
@@ -108,7 +108,7 @@ module _ (n : Names) where
 
 -- ---- INIT
 
--- the cookie of what an INIT told
+-- the cookie of what an INIT announced
 abbrev cookie_with : InitTree → (tag first tie : ℕ) → Capabilities → Cookie
 cookie_with i tag first tie k = record (cookie_for i tag first tie) { peer_capabilities = k }
 

@@ -29,7 +29,7 @@ use Rattle.proof_draws.proofs.ClosingLemmas.{acked_named}
 abbrev endpoint_state_in : {P : Type 0} → State → Context P → EndpointState P
 endpoint_state_in st c = record { state = st; context = c }
 
--- the answer was told
+-- the answer was emitted
 abbrev answered : {P : Type 0} → InitTree → (tag first tie : ℕ) → EndpointState P → EndpointState P
 answered i tag first tie s = with_context s (answer i tag first tie s.context)
 

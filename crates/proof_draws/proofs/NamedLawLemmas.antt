@@ -38,7 +38,7 @@ module _ {P : Type 0} (n : Names) (are : AreNames n) (pack : Packing P) where
   call_named (Packet p) s w v is k = packet_named n are pack p s w v is k
   call_named NoPacket s w v is k = refl
 
--- packets that are named as they are told are written by one who knows the names
+-- packets that are named as they are emitted are written by one who knows the names
 abbrev naming : Names → Packing Carried → Packing Carried
 naming n pack = record {
   write = λ header is_summed chunks. named_carried n (pack.write header is_summed chunks);

@@ -24,7 +24,7 @@ use Rattle.proof_draws.proofs.FillingLemmas.{named_sent, send_lost_named, send_b
 abbrev pub named_onward : {P : Type 0} → Names → Packing P → Onward P → Onward P
 named_onward n pack o = record { phase = named_phase n o.phase; context = plain pack o.context }
 
--- an answer to a SACK, in a context that was told so
+-- an answer to a SACK, in a context that emitted it
 abbrev received_with : {P : Type 0} → SackAnswer → Phase → Tcb → Context P → Sender → Emitted P → EndpointState P
 received_with a phase t c s u = after_sack a phase (record t { sender = s }) (record c { emitted = u })
 

@@ -226,7 +226,7 @@ module _ (n : Names) (are : AreNames n) where
 
   -- ---- a cookie that came back
 
-  -- where the ties tell the same
+  -- where the ties say the same
   by_ties : (tag : ℕ) (i : Identity) (k : Cookie) → (n.cookie_tie k.tie_tag == n.tie i.tie) ≡ (k.tie_tag == i.tie) → (n.cookie_tie k.tie_tag == 0) ≡ (k.tie_tag == 0)
       → compare_tags (n.tag tag) (named_identity n i) (named_cookie n k) ≡ compare_tags tag i k
   by_ties tag i k same none =

@@ -13,6 +13,6 @@ named_carried n p = record { header = named_header n p.header; is_summed = p.is_
 abbrev pub as_named : Names → Mapping Carried Carried
 as_named n = record { of = named_carried n; word_of = as_carried.word_of }
 
--- the end under these names, with each packet that it told under them
+-- the end under these names, with each packet that it emitted under them
 abbrev pub image : Names → EndpointState Carried → EndpointState Carried
 image n s = named_endpoint_state n as_carried (map_endpoint_state (as_named n) s)

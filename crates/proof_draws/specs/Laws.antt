@@ -112,7 +112,7 @@ EchoesAreNamed =
 
 -- ---- the end of an association, and of a packet
 
--- a row of a standing
+-- a row of an endpoint state
 abbrev pub RowIsNamed : (row : EndpointState (List ℕ) → EndpointState (List ℕ)) → Type 0
 RowIsNamed row =
     (n : Names) → AreNames n → (pack : Packing (List ℕ)) (s : EndpointState (List ℕ)) → s.context.pack ≡ under n pack

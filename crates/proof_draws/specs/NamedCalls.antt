@@ -59,7 +59,7 @@ InitIsNamed n i (Open phase t) w v = InitIsNamedOpen n i phase t w v
 
 -- ---- INIT ACK
 
--- the named cookie tells its maker as before, and a tie is drawn
+-- the named cookie names its maker as before, and a tie is drawn
 pub record KnowsEcho (n : Names) (cookie : List ℕ) (w v : Stream) : Type 0 where
   pub maker : maker (n.cookie cookie) ≡ maker cookie
   pub draws : DrawsTie n w v
@@ -130,7 +130,7 @@ CallIsNamed n call s w v = ⊤
 
 -- ---- the laws
 
--- An end under other names is after each call what it was before, under the same names, and has told the same packets under them.
+-- An end under other names is after each call what it was before, under the same names, and has emitted the same packets under them.
 abbrev pub EachCallIsNamed : Type 0
 EachCallIsNamed =
     (n : Names) → AreNames n → (call : Call) (s : EndpointState Carried) (w v : Stream) → s.context.pack ≡ as_carried → CallIsNamed n call s.state w v

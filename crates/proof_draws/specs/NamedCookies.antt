@@ -11,7 +11,7 @@ rewritten name (Err fault) bytes = bytes
 abbrev pub cookie_named : (Cookie → Cookie) → List ℕ → List ℕ
 cookie_named name bytes = rewritten name (read_cookie bytes) bytes
 
--- Each cookie keeps its length, and tells its maker as before; one that an end makes is made under the names, and what is read is
+-- Each cookie keeps its length, and names its maker as before; one that an end makes is made under the names, and what is read is
 -- read as the named one.
 pub record NamesCookies (name : Cookie → Cookie) : Type 0 where
   pub size : (bytes : List ℕ) → length (cookie_named name bytes) ≡ length bytes

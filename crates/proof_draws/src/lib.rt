@@ -1,4 +1,4 @@
-//! Draws: an end whose tags, ties and first TSNs are others does the same under these names, and tells the same packets under them.
+//! Draws: an end whose tags, ties and first TSNs are others does the same under these names, and emits the same packets under them.
 #![tactic(auto)]
 
 ghost use Rattle.proof_draws.specs.Laws.{AnswersAreNamed, BurstsAreNamed, CallsAreNamed, ConnectIsNamed, DataIsNamed, EchoesAreNamed, EndingsAreNamed, ForwardPointsAreNamed, MomentsAreNamed, NewBlocksAreNamed, PacketsAreNamed, RefusalsAreNamed, SacksAreNamed, VerdictsAreNamed};
@@ -63,7 +63,7 @@ pub fn packets_are_named()
     ensures packets { PacketsAreNamed }
 {}
 
-/// Each call of an end under other names leaves it as the same call leaves the first one, under these names, and tells the same packets
+/// Each call of an end under other names leaves it as the same call leaves the first one, under these names, and emits the same packets
 /// under them. Asked for are the words that are drawn, and of a packet what opens an association in it; of other calls nothing, but that
 /// no record is taken up. A packet that one of the two refuses the other one refuses too.
 pub fn each_call_is_named()

@@ -1,4 +1,4 @@
--- One turn of both traces: the ends that act are alike after it, and twins where no association ends.
+-- One action of both traces: the ends that act are alike after it, and twins where no association ends.
 use Rattle.std.proofs.Common.{◌≡◌, ℕ, ◌==◌, ◌||◌, ◌≤◌, Bool, false, Option, Some, None, List, [], ◌∷◌, ◌++◌, map, slice_get, All, ◌⊎◌, inl, inr, refl, sym, ap, subst, ◌∙◌, arith}
 use Rattle.std.specs.Prelude.{⊤}
 use Rattle.sctp_packet.specs.Chunk.{ChunkTree, InitTree, init_chunk}
@@ -61,7 +61,7 @@ kind_received cs (an_echo cookie rest begins flows) =
     an_echo cookie (map carried rest) (ap (λ (z : List ChunkTree). map carried z) begins) (all_flow_carried rest ∙ flows)
 kind_received cs (a_flow flows) = a_flow (all_flow_carried cs ∙ flows)
 
--- ---- a turn, as it goes
+-- ---- an action, as it goes
 
 abbrev asked_as : Bool → Side → Side
 asked_as b x = record x { is_asked = b }
@@ -134,7 +134,7 @@ module _ (ps : List (Drawn × Drawn)) (k : Knows ps) (o q : Options) (own : AreG
     pub idle_twin : (a b : Side) (gone too : List GivenUp) → Idle x z a b gone too → Twin ps a y b
     idle_twin a b gone too g = subst (λ (s : Side). Twin ps s y b) (sym g.first_is) (subst (λ (s : Side). Twin ps x y s) (sym g.second_is) t)
 
--- ---- the turns
+-- ---- the actions
 
 receives_call : (x : Side) (c : Call) → MayCall c x → ReceivesKind c
 receives_call x (Packet p) may = absurd may

@@ -20,7 +20,7 @@ use Rattle.proof_draws_pair.proofs.GuideLemmas.{Guides, tags_after}
 use Rattle.proof_draws_pair.proofs.StepLemmas.{two_of, receives_init, Named}
 use Rattle.proof_draws_pair.proofs.FlowLemmas.{own_tags}
 
--- ---- calls that hear nothing
+-- ---- calls that receive nothing
 
 silent_call : (x : Side) (c : Call) → MayCall c x → receives_init c ≡ false
 silent_call x (Packet p) may = absurd may

@@ -1,4 +1,4 @@
--- Chunks under the names of their sender are chunks that the reader hears under its own, where these are of the same two tags; and
+-- Chunks under the names of their sender are chunks that the reader receives under its own, where these are of the same two tags; and
 -- chunks without numbers are the same under all names.
 use Rattle.std.proofs.Common.{◌≡◌, ℕ, ◌&&◌, not, Bool, true, false, List, [], ◌∷◌, ◌++◌, map, refl, sym, ap, ◌∙◌}
 use Rattle.std.specs.List.{list_all}
@@ -105,7 +105,7 @@ chunks_bare m n (c ∷ cs) h =
     ap (λ (d : ChunkTree). d ∷ blanks (map carried (named_chunks m cs))) (bare_named m n c parts.0)
     ∙ ap (λ (ds : List ChunkTree). blank (named_chunk n (carried c)) ∷ ds) (chunks_bare m n cs parts.1)
 
--- ---- INIT and INIT ACK tell the sender's numbers alone
+-- ---- INIT and INIT ACK carry the sender's numbers alone
 
 pub init_received : (m n : Names) (o : Options) (tag first method : ℕ) → m.tag tag ≡ n.tag tag → m.own ≡ n.own
     → named_init m (init_of o tag first (announce o method)) ≡ named_init n (init_of o tag first (announce o method))

@@ -1,4 +1,4 @@
--- What each call tells, of packets of each kind.
+-- What each call emits, of packets of each kind.
 use Rattle.std.proofs.Common.{◌≡◌, ℕ, not, Bool, true, false, Option, Some, None, List, [], ◌∷◌, All, refl, sym, ap, subst, ◌∙◌}
 use Rattle.std.specs.List.{list_all}
 use Rattle.std.proofs.lemmas.Bool.{both_ways}
@@ -80,7 +80,7 @@ receives_nothing c k none silent = record {
   restores = λ h e. subst ReceivesKind e k;
 }
 
--- ---- what it tells, unless it is an INIT
+-- ---- what it emits, unless it is an INIT
 
 own_of : (c : Call) (e : Endpoint Carried) (s : State) → (is_closed s ≡ true → receives_init c ≡ false) → (chunk : ChunkTree) → May c s chunk → IsOwnIn c e s chunk
 own_of c e s f (init_ack_chunk i) h = λ closed. absurd (both_ways (receives_init c) (f closed) h)

@@ -44,7 +44,7 @@ held_by t = record {
   peer_initial_tsn = t.identity.peer_first;
 }
 
--- the end beside one that holds an association has its tags crossed
+-- the end beside one that holds an association has its tags mirrored
 pub faced_tags : (s u : State) (mine peer : ℕ) → Holds u mine peer → Faces (view_of u).holds (view_of s).mine → Faces (view_of s).holds (view_of u).mine
     → TagsAre peer mine s
 faced_tags s Closed mine peer h f g = let none = h.held in cc

@@ -1,4 +1,4 @@
--- The second end is the image of the first one between turns; so it is after each call, under the same names.
+-- The second end is the image of the first one between actions; so it is after each call, under the same names.
 use Rattle.std.proofs.Common.{◌≡◌, ℕ, Bool, List, [], ◌∷◌, ◌++◌, map, refl, sym, ap, subst, ◌∙◌}
 use Rattle.sctp_state.specs.declared.api.ErrorKind.TheVariants.{ParseFailed}
 use Rattle.sctp_state.specs.Events.{Event, SendPacket, OnError, OnAborted}
@@ -20,7 +20,7 @@ endpoint_state s c = record { state = s; context = c }
 abbrev pub emitted_under : Names → List (Event Carried) → List (Event Carried)
 emitted_under n es = map (map_event (as_named n)) es
 
--- an end that has told nothing is its image where its state is
+-- an end that has emitted nothing is its image where its state is
 pub is_image : (n : Names) (s t : EndpointState Carried) → s.context.pack ≡ as_carried → s.context.emitted.events ≡ [] → t.state ≡ named_state n s.state
     → t.context ≡ s.context → t ≡ image n s
 is_image n s t packing quiet state context =

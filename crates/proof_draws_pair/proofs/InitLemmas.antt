@@ -29,7 +29,7 @@ use Rattle.proof_draws_pair.proofs.StepLemmas.{drawn_tag, two_of, Named}
 use Rattle.proof_draws_pair.proofs.ReceivedLemmas.{all_received, taken_too}
 use Rattle.proof_draws_pair.proofs.EchoLemmas.{cookie_made}
 
--- ---- an end that hears an INIT alone keeps its state
+-- ---- an end that receives an INIT alone keeps its state
 
 pub ended_stays : (b : Bool) (phase : Phase) (t : Tcb) (c : Context Carried) → is_closed (ended_if b phase t c).state ≡ false
 ended_stays true phase t c = refl

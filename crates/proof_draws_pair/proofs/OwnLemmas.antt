@@ -1,4 +1,4 @@
--- What a call tells, by acts: numbers are told by an end that has a control block, an INIT ACK where an INIT is received, and then a
+-- What a call emits, by acts: numbers are emitted by an end that has a control block, an INIT ACK where an INIT is received, and then a
 -- cookie by an end that keeps it.
 use Rattle.std.proofs.Common.{◌≡◌, ℕ, not, Bool, true, false, List, [], ◌∷◌, ◌++◌, map, All, refl, sym, ap, subst, ◌∙◌, append_assoc}
 use Rattle.std.specs.List.{list_all}
@@ -100,7 +100,7 @@ pub record Emitted (P : ChunkTree → Type 0) (pack : Packing Carried) (es : Lis
   pub made : All P chunks
 
 module _ (P : ChunkTree → Type 0) (pack : Packing Carried) (es : List (Event Carried)) (chunks : List ChunkTree) (h : Emitted P pack es chunks) where
-  -- other is asked, and more is told
+  -- other is asked, and more is emitted
   emitted_more : (Q : ChunkTree → Type 0) → ((c : ChunkTree) → P c → Q c) → (more now : List (Event Carried)) → now ≡ es ++ more → EachChunk Q more
       → Emitted Q pack now chunks
   emitted_more Q f more now behind k = record {
@@ -150,12 +150,12 @@ module _ (call : Call) (g : Receives call) where
   no_init : {A : Type 0} (c : Call) → call ≡ c → receives_init c ≡ false → receives_init call ≡ true → A
   no_init c e f h = absurd (both_ways (receives_init call) (ap receives_init e ∙ f) h)
 
-  -- another state, and the same told
+  -- another state, and the same emitted
   actions_to : (s u : State) (m : Making Carried) → (is_opened s ≡ true → is_opened u ≡ true) → (receives_init call ≡ true → is_past s ≡ false → is_past u ≡ false)
       → Emitted (May call s) m.context.pack m.context.emitted.events m.packet.chunks → Emitted (May call u) m.context.pack m.context.emitted.events m.packet.chunks
   actions_to s u m f q h = emitted_as (May call s) m.context.pack m.context.emitted.events m.packet.chunks h (May call u) (changes call s u f q)
 
-  -- and a connection is told
+  -- and `OnConnected` is emitted
   connected_to : (s u : State) (m : Making Carried) → (is_opened s ≡ true → is_opened u ≡ true) → (receives_init call ≡ true → is_past s ≡ false → is_past u ≡ false)
       → Emitted (May call s) m.context.pack m.context.emitted.events m.packet.chunks
       → Emitted (May call u) m.context.pack (m.context.emitted.events ++ OnConnected ∷ []) m.packet.chunks
@@ -288,7 +288,7 @@ module _ (call : Call) (g : Receives call) where
     input = λ act none. own_input act;
   }
 
-  -- what a call tells
+  -- what a call emits
   pub emits_may : (e : Endpoint Carried) → e.endpoint_state.context.pack ≡ as_carried → e.endpoint_state.context.emitted.events ≡ [] → HasNoEnd (calm (called call e))
       → EachChunk (May call (called call e).endpoint_state.state) (called call e).endpoint_state.context.emitted.events
   emits_may e packing quiet none =

@@ -49,7 +49,7 @@ refusal_same tag cs s u f g h None None true =
 refusal_same tag cs s u f g h None None false =
     ap (λ (own : ℕ). plain_refusal (begins_with_cookie cs) (tag == 0) (is_single_init cs) (tag == own) tag own) h
 
--- which packets are refused is told by tags alone
+-- which packets are refused is decided by tags alone
 refusal_by_tags : (tag : ℕ → ℕ) (own peer a b : ℕ) (cookie other : List ℕ → List ℕ) (t c u d : ℕ → ℕ) (n : ℕ) (cs : List ChunkTree) (s : State)
     → refusal n cs (named_state (record { tag = tag; tie = t; cookie_tie = c; own = own; peer = peer; cookie = cookie }) s)
     ≡ refusal n cs (named_state (record { tag = tag; tie = u; cookie_tie = d; own = a; peer = b; cookie = other }) s)
@@ -150,7 +150,7 @@ module _ (ps : List (Draw × Draw)) (k : Knows ps) (x z : Side) (p q : Carried) 
 
   module _ (law : EachCallIsNamed) (packing : x.end.endpoint_state.context.pack ≡ as_carried) (quiet : x.end.endpoint_state.context.emitted.events ≡ [])
       (same : z.end.endpoint_state.context ≡ x.end.endpoint_state.context) (none : refusal tag received (state_of x) ≡ None) (numbers : NumbersFitIn (state_of x)) where
-    -- under names by which the reader's image hears it, or what does the same
+    -- under names by which the reader's image receives it, or what does the same
     pub taken_as : (own other_tag : ℕ) (t c : ℕ → ℕ) → state_of z ≡ named_state (names ps own other_tag t c) (state_of x)
         → (on_chunks (m.tag tag) received_too z.end).endpoint_state ≡ (on_chunks (m.tag tag) (named_chunks (flip (names ps own other_tag t c)) received) z.end).endpoint_state
         → AreNamed (names ps own other_tag t c) tag received (state_of x) x.end.random z.end.random

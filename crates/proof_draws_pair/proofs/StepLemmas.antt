@@ -1,4 +1,4 @@
--- One call on an end and on its image: what it tells is under the names of the call, and both go on as twins.
+-- One call on an end and on its image: what it emits is under the names of the call, and both go on as twins.
 use Rattle.std.proofs.Common.{◌≡◌, ℕ, not, Bool, true, false, Some, None, List, [], ◌∷◌, ◌++◌, All, ◌⊎◌, inl, inr, refl, sym, ap, subst, ◌∙◌}
 use Rattle.std.specs.Prelude.{⊤}
 use Rattle.std.proofs.lemmas.Bool.{both_ways}
@@ -26,7 +26,7 @@ use Rattle.proof_draws_pair.proofs.NamesLemmas.{same_tie, names_in, TagsAre, sta
 use Rattle.proof_draws_pair.proofs.ImageLemmas.{Mirrors, named, refused, emitted_under}
 use Rattle.proof_draws_pair.proofs.TwinLemmas.{Holds, HoldsOne, has_numbers, IsTaken, IsEchoing, Numbers, Marked, Stand, Twins, Twin, twins_on, twins_both, AreMarked, twins_under}
 
--- ---- what a call tells, by what it hears and leaves
+-- ---- what a call emits, by what it receives and leaves
 
 abbrev pub first_is_init : List ChunkTree → Bool
 first_is_init [] = false
@@ -51,7 +51,7 @@ is_past Closed = true
 is_past (CookieWait tag first t1) = true
 is_past (Open phase t) = not (is_alone phase)
 
--- What holds numbers is told by an end with a control block; an INIT ACK by a closed end to an INIT, with the tag drawn for it; and where
+-- What holds numbers is emitted by an end with a control block; an INIT ACK by a closed end to an INIT, with the tag drawn for it; and where
 -- an INIT is received, a cookie by an end that keeps it.
 abbrev pub IsOwnIn : Call → (before : Endpoint Carried) → (after : State) → ChunkTree → Type 0
 IsOwnIn c e s (init_ack_chunk i) = is_closed s ≡ true → (receives_init c ≡ true) × (i.initiate_tag ≡ drawn_tag e)
@@ -67,7 +67,7 @@ EachChunk P (e ∷ es) = EachChunk P es
 abbrev pub EmitsOwn : Call → Endpoint Carried → Type 0
 EmitsOwn c e = EachChunk (IsOwnIn c e (called c e).endpoint_state.state) (called c e).endpoint_state.context.emitted.events
 
--- ---- of the packets behind those told before
+-- ---- of the packets behind those emitted before
 
 abbrev EachPacket : (Carried → Type 0) → List (Event Carried) → Type 0
 EachPacket P [] = ⊤
@@ -176,7 +176,7 @@ module _ (ps : List (Drawn × Drawn)) (k : Knows ps) where
   state_past mine peer tie a b (Open ShutdownReceived t) h = refl
   state_past mine peer tie a b (Open (ShutdownAckSent t2) t) h = refl
 
-  -- ---- a chunk that is told
+  -- ---- a chunk that is emitted
 
   module _ (o q : Options) (c : Call) (e : Endpoint Carried) (s u : State) (asked : Bool) (mine peer : ℕ) (cookie_tie : ℕ → ℕ) (tags : TagsAre mine peer s)
       (ties : TieIs c u s cookie_tie) (drew : receives_init c ≡ true → is_closed s ≡ true → drawn_tag e ≡ mine) where

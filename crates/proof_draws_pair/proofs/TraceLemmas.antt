@@ -1,4 +1,4 @@
--- Along two traces of the same turns: both ends are twins until an association first ends, and alike after the turn that ends it.
+-- Along two traces of the same actions: both ends are twins until an association first ends, and alike after the action that ends it.
 use Rattle.std.proofs.Common.{◌≡◌, Bool, true, false, List, [], ◌∷◌, ◌++◌, All, inl, inr, refl, sym, subst}
 use Rattle.rand_core.specs.Stream.{Stream}
 use Rattle.sctp_state.specs.Options.{Options}
@@ -116,7 +116,7 @@ module _ (ps : List (Drawn × Drawn)) (k : Knows ps) (law : EachCallIsNamed) (la
           acts = acts_alike b a given_b given_a w.b w.a v.b v.a g kinds.a kinds.b_numbers t u same may drew;
         }
 
-    -- the turn of the same end
+    -- the action of the same end
     last_by : (at_a too : Bool) (t u : EndAction) (w v : Pair) → too ≡ at_a → Both a b w v → AreOfAKind w → SameAction t u → MayAct t (side_of at_a w)
         → ((d e : Drawn) → Has (d, e) (pairs_of (drawn_at at_a t w) (drawn_at too u v)) → Has (d, e) ps) → ActionIsAlike (at_a, t) (too, u) w v
     last_by at_a too t u w v is h kinds same may drew =

@@ -1,5 +1,5 @@
--- What holds between turns of both ends in both traces: the second is under the names of its draws, and so is each packet that it
--- told, under the names of whoever sent it.
+-- What holds between actions of both ends in both traces: the second is under the names of its draws, and so is each packet that it
+-- emitted, under the names of whoever sent it.
 use Rattle.std.proofs.Common.{◌≡◌, ℕ, zero, suc, Bool, true, false, Some, None, List, [], ◌∷◌, ◌++◌, slice_get, All, ◌⊎◌, inl, inr, refl, sym, subst}
 use Rattle.std.specs.Prelude.{⊤}
 use Rattle.std.proofs.lemmas.List.Elements.{All-weaker}

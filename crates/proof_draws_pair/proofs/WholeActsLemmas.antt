@@ -1,4 +1,4 @@
--- Each act keeps an end whole: what it has to send has a payload, its request numbers are of 32 bits, and packets without a checksum go to an end
+-- Each act leaves an end whole: what it has to send has a payload, its request numbers are of 32 bits, and packets without a checksum go to an end
 -- with a method.
 use Rattle.std.proofs.Common.{◌≡◌, ℕ, ◌<◌, ◌==◌, Bool, true, false, None, List, [], ◌∷◌, ◌++◌, length, nat_lt, All, refl, sym, ap, subst, ◌∙◌, append-nil}
 use Rattle.std.specs.List.{list_all}
@@ -78,7 +78,7 @@ module _ (method : ℕ) where
   abbrev AreSaid : List (Event Carried) → Type 0
   AreSaid es = All (IsSaid method) (packets_in es)
 
-  -- more is told, that is no packet
+  -- more is emitted, that is no packet
   said_none : (es more now : List (Event Carried)) → now ≡ es ++ more → packets_in more ≡ [] → AreSaid es → AreSaid now
   said_none es more now behind none h =
       subst (All (IsSaid method))

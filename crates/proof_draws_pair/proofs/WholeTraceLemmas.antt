@@ -31,7 +31,7 @@ use Rattle.proof_draws_pair.proofs.ActionLemmas.{kind_received}
 use Rattle.proof_draws_pair.proofs.WholeLemmas.{is_whole, kind_whole}
 use Rattle.proof_draws_pair.proofs.WholeActsLemmas.{StateIsWhole, numbers_in, IsSaid, IsWhole, wholes}
 
--- ---- between turns
+-- ---- between actions
 
 -- an end, beside one with this method
 pub record SideIsWhole (method : ℕ) (x : Side) : Type 0 where
@@ -44,7 +44,7 @@ packet_of (Packet p) q = p
 packet_of c q = q
 
 module _ (o q : Options) (x y : Side) (own : AreGiven o) (other : AreGiven q) (h : Halves o q x y) (a : SideIsWhole q.zero_checksum_method x) where
-  -- a turn begins
+  -- an action begins
   whole_begins : (asked : Bool) → IsWhole q.zero_checksum_method (state_of x) x.end.endpoint_state.context.queue x.end.endpoint_state.context.emitted.events (calm x.end).packet
   whole_begins asked = (
     a.state,

@@ -1,4 +1,4 @@
--- Two traces of the same turns, by the same options: until an association first ends they are alike, whatever words were drawn.
+-- Two traces of the same actions, by the same options: until an association first ends they are alike, whatever words were drawn.
 use Rattle.std.specs.Prelude.{◌≡◌, ℕ, ◌==◌, not, Bool, false, Option, Some, None, List, [], ◌∷◌, ◌++◌, slice_get, All, ⊤}
 use Rattle.rand_core.specs.Stream.{Stream}
 use Rattle.sctp_state.specs.Events.{Event, SendPacket, OnError, OnAborted, GivenUp}
@@ -34,7 +34,7 @@ AreEmitted [] (f ∷ fs) = ⊥
 AreEmitted (e ∷ es) [] = ⊥
 AreEmitted (e ∷ es) (f ∷ fs) = IsAlike e f × AreEmitted es fs
 
--- ---- between turns
+-- ---- between actions
 
 -- An end of the first trace and that of the second: the same but for names. No packet is left to be taken.
 pub record AreAlike (x y : Side) : Type 0 where
@@ -49,7 +49,7 @@ pub record ArePairsAlike (w v : Pair) : Type 0 where
   pub a : AreAlike w.a v.a
   pub b : AreAlike w.b v.b
 
--- ---- in a turn
+-- ---- in an action
 
 abbrev pub records_given : Option Carried → (checksum : ℕ) → Side → List GivenUp
 records_given None checksum x = []
@@ -71,7 +71,7 @@ pub record ActsAlike (t u : EndAction) (x y v w : Side) : Type 0 where
   pub stays : Stays x (act t x y) → Stays v (act u v w)
   pub stayed : endings (act t x y).emitted ≡ 0 → Stays v (act u v w) → Stays x (act t x y)
 
--- ---- the same turns
+-- ---- the same actions
 
 -- A packet's checksum may be another one, since its bytes are. None comes from elsewhere.
 abbrev pub SameAction : EndAction → EndAction → Type 0
@@ -87,13 +87,13 @@ SameActions (e ∷ es) (f ∷ fs) = (f.0 ≡ e.0) × SameAction e.1 f.1 × SameA
 
 -- ---- the law
 
--- before and after the last of these turns, and in it
+-- before and after the last of these actions, and in it
 pub record ActionIsAlike (e f : Bool × EndAction) (w v : Pair) : Type 0 where
   pub before : ArePairsAlike w v
   pub after : ArePairsAlike (goes e.0 e.1 w) (goes f.0 f.1 v)
   pub acts : ActsAlike e.1 f.1 (side_of e.0 w) (side_of (not e.0) w) (side_of f.0 v) (side_of (not f.0) v)
 
--- The first trace follows the rules, and no association has ended in it before the last turn; no tag is drawn twice in either.
+-- The first trace follows the rules, and no association has ended in it before the last action; no tag is drawn twice in either.
 abbrev pub TracesAreAlike : Type 0
 TracesAreAlike =
     (a b : Options) (words_a words_b others_a others_b : Stream) (es fs : List (Bool × EndAction)) (e f : Bool × EndAction) → AreGiven a → AreGiven b

@@ -1,4 +1,4 @@
--- What two traces of the same turns drew, place by place, and the names that take the one's ends to the other's.
+-- What two traces of the same actions drew, place by place, and the names that take the one's ends to the other's.
 use Rattle.std.specs.Prelude.{◌≡◌, ℕ, ◌+◌, ◌-◌, ◌%◌, ◌^◌, ◌<◌, ◌==◌, if◌then◌else◌, Bool, true, false, List, [], ◌∷◌, ◌++◌, map}
 use Rattle.sctp_capabilities.specs.Cookie.{Cookie}
 use Rattle.proof_pair.specs.Trace.{Pair, EndAction, goes}

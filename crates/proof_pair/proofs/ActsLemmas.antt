@@ -1,4 +1,4 @@
--- The walk over the rows: packets that come, and the whole. What each act keeps, each call keeps.
+-- The walk over the rows: packets that come, and the whole. What each act preserves, each call preserves.
 use Rattle.std.proofs.Common.{◌≡◌, ℕ, ◌==◌, Bool, true, false, Option, Some, None, List, [], ◌∷◌, ◌++◌, length, codes, refl, sym, ◌∙◌, append_assoc}
 use Rattle.rand_core.specs.Stream.{Stream}
 use Rattle.sctp_wire.specs.Parameter.{ParameterTree}

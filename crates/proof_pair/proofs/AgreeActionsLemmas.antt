@@ -1,5 +1,5 @@
--- Along each trace in which no end draws a tag twice: an end that is told of a connection holds what the other holds or held,
--- by what each held after a turn.
+-- Along each trace in which no end draws a tag twice: an end that emits `OnConnected` holds what the other holds or held,
+-- by what each held after an action.
 use Rattle.std.proofs.Common.{◌≡◌, ℕ, ◌||◌, ◌==◌, Bool, true, false, Option, Some, None, List, [], ◌∷◌, ◌++◌, ◌⊎◌, inl, inr, map, slice_get, length, drop, All, refl, sym, ap, subst, ◌∙◌, append-nil}
 use Rattle.std.proofs.lemmas.Bool.{both_ways}
 use Rattle.std.proofs.lemmas.List.Elements.{All-nil, All-cons, All-head, All-tail, All-weaker}
@@ -32,7 +32,7 @@ use Rattle.proof_pair.proofs.AgreePacketLemmas.{shape_carried, distinct_behind}
 use Rattle.proof_pair.proofs.AgreeTraceLemmas.{Knows, Turned, drop_emitted, knows_other, actions, knows_start}
 use Rattle.proof_pair.proofs.AgreeWithinLemmas.{calm_nothing, Stands, not_yet, has_either, receives_within}
 
--- ---- what was negotiated, between turns
+-- ---- what was negotiated, between actions
 
 record Negotiated (o q : Options) (x : Side) : Type 0 where
   able : Able o q (negotiated.view_of (state_of x))
@@ -114,7 +114,7 @@ module _ (o q : Options) (x : Side) (own : AreGiven o) (other : AreGiven q) wher
   right_in c (CookieWait tag first t1) said able = refl
   right_in c (Open phase t) said able = ap (λ k. misuse k c) able.agrees ∙ emits_right q o c said
 
-  -- ---- turns
+  -- ---- actions
 
   negotiated_call : (call : Call) → IsPlainCall call → Negotiated o q x → Negotiated o q (took (called call x.end) x)
   negotiated_call call u k =
@@ -146,9 +146,9 @@ module _ (o q : Options) (x : Side) (own : AreGiven o) (other : AreGiven q) wher
   negotiated_action (Gives which checksum) y may k l = negotiated_given (slice_get (emitted_packets y) which) checksum which (emitted_packets y) l.said refl k
   negotiated_action (Refuses p) y may k l = negotiated_foreign (refusal p.header.verification_tag p.chunks (state_of x)) p refl k
 
--- ---- within a turn
+-- ---- within an action
 
--- what was held in a turn was held before it or is held after it, and who was told of a connection is open
+-- what was held in an action was held before it or is held after it, and who emitted `OnConnected` is open
 record Holds (x z : Side) (n m : History) : Type 0 where
   held : (a : Association) → Has a m.held → Has a n.held ⊎ (Has a (held_in (state_of x)) ⊎ Has a (held_in (state_of z)))
   stands : has_connected (emitted_since x z) ≡ true → is_opened (state_of z) ≡ true
@@ -222,7 +222,7 @@ module _ (o q : Options) (x y : Side) (own : AreGiven o) (other : AreGiven q) (k
   holds_action (Gives which checksum) may shapes n = holds_given (slice_get (emitted_packets y) which) checksum which (emitted_packets y) l.said shapes refl n
   holds_action (Refuses p) may shapes n = holds_foreign (refusal p.header.verification_tag p.chunks (state_of x)) p refl n
 
--- ---- notes of turns beside those of chunks
+-- ---- histories of actions beside those of chunks
 
 pub has_front : {A : Type 0} (a : A) (xs ys : List A) → Has a xs → Has a (xs ++ ys)
 has_front a [] ys h = absurd h
@@ -272,7 +272,7 @@ distinct_first (e ∷ es) w k h = distinct_before e.0 e.1 w k (distinct_first es
 
 -- ---- traces
 
--- both ends, with notes of chunks and of turns
+-- both ends, with histories of chunks and of actions
 record Halves (o q : Options) (w : Pair) (k j : Histories) : Type 0 where
   e1 : List Association
   e2 : List Association

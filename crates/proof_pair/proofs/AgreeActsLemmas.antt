@@ -16,7 +16,7 @@ use Rattle.proof_pair.proofs.JoinActsLemmas.{packets_both, light_packets, light_
 use Rattle.proof_pair.proofs.AgreeLemmas.{Past, View, view_of, Says, says_later, Shape, is_load, shape_with, shape_plain, Stands, stands_later, Agreed, Bound, Tagged, Later, later_same, Said, said_later}
 use Rattle.proof_protocol.proofs.CommonLemmas.{or_none}
 
--- the options of the end that acts, what it told before this turn, and under which tag its packet came
+-- the options of the end that acts, what it emitted before this action, and under which tag its packet came
 pub record Setting : Type 0 where
   pub own : Options
   pub past : List (Event Carried)
@@ -55,7 +55,7 @@ module _ (g : Setting) (x y : Past) (v : View) (o : Options) (pack : Packing Car
   packets_now more ps e =
       ap packets_in (sym (append_assoc g.past es more)) ∙ (packets_both (g.past ++ es) more ∙ ap (λ (z : List Carried). packets_in (g.past ++ es) ++ z) e)
 
-  -- the state is seen otherwise, more is told, and no packet goes out
+  -- the state is seen otherwise, more is emitted, and no packet goes out
   pub inv_view : (w : View) (more : List (Event Carried)) → packets_in more ≡ [] → Stands x y w → (has_connected (es ++ more) ≡ true → Agreed y w)
       → Tagged g.under w → Inv g x y w o pack (es ++ more) tag chunks
   inv_view w more none stands agreed tagged = record {
@@ -74,7 +74,7 @@ module _ (g : Setting) (x y : Past) (v : View) (o : Options) (pack : Packing Car
   still more none h =
       sym (connected_both es more ∙ (ap (λ (b : Bool). has_connected es || b) none ∙ or_none (has_connected es))) ∙ h
 
-  -- more is told, that is no packet and no connection
+  -- more is emitted, that is no packet and no `OnConnected`
   pub inv_silent : (more : List (Event Carried)) → packets_in more ≡ [] → has_connected more ≡ false → Inv g x y v o pack (es ++ more) tag chunks
   inv_silent more none not_yet = inv_view v more none i.stands (λ h. i.agreed (still more not_yet h)) i.tagged
 

@@ -1,4 +1,4 @@
--- What hears no chunk that opens an association takes up none, and tells of no connection.
+-- What receives no chunk that opens an association takes up none, and emits no `OnConnected`.
 use Rattle.std.proofs.Common.{◌≡◌, ℕ, ◌||◌, Bool, true, false, List, [], ◌∷◌, ◌++◌, refl, ap, ◌∙◌}
 use Rattle.std.proofs.lemmas.Bool.{both_ways}
 use Rattle.sctp_packet.specs.Chunk.{ChunkTree, init_ack_chunk, cookie_echo_chunk, cookie_ack_chunk}
@@ -17,12 +17,12 @@ use Rattle.proof_pair.proofs.JoinActsLemmas.{connected_both, light_connected}
 use Rattle.proof_pair.proofs.AgreeLemmas.{is_opening}
 use Rattle.proof_protocol.proofs.CommonLemmas.{or_none}
 
--- what a call may hear and do
+-- what a call may receive and do
 pub record IsCalm (call : Call) : Type 0 where
   pub hears : (tag : ℕ) (chunk : ChunkTree) → IsReceived call tag chunk → is_opening chunk ≡ false
   pub restores : (h : HandoverState) → call ≡ Restore h → ⊥
 
--- what is held was held, and no connection is told
+-- what is held was held, and no `OnConnected` is emitted
 pub record Rests (s : State) (es : List (Event Carried)) (t : State) (fs : List (Event Carried)) : Type 0 where
   pub held : (a : Association) → Has a (held_in t) → Has a (held_in s)
   pub emitted : has_connected fs ≡ has_connected es
@@ -44,7 +44,7 @@ ends_unconnected OnConnected h = cc
 ends_unconnected e h = refl
 
 module _ (call : Call) (calm : IsCalm call) where
-  -- what stays of the state, and is told lightly
+  -- what stays of the state, and what is emitted is light
   lightly : (s t : State) (m n : Making Carried) → ((a : Association) → Has a (held_in t) → Has a (held_in s)) → EmitsLightly m.context.emitted n.context.emitted
       → Rests s m.context.emitted.events t n.context.emitted.events
   lightly s t m n held l = record {

@@ -31,7 +31,7 @@ past_of n echoed = record { drawn = n.drawn; held = n.held; echoed = echoed }
 abbrev pub bounded : Options → List (Event Carried) → Option ℕ → Option Association → Setting
 bounded o past tag only = record { own = o; past = past; under = record { tag = tag; only = only } }
 
--- an end goes on, from these notes to those
+-- an end goes on, from these histories to those
 pub record Goes (g : Setting) (y : Past) (n : History) (echoed : List Association) (m : History) (e : Endpoint Carried) : Type 0 where
   pub more : List Association
   pub later : Later (past_of n echoed) (past_of m more)
@@ -153,7 +153,7 @@ module _ (o : Options) (past : List (Event Carried)) (y : Past) (fine : AreGiven
       let done : InvAt h z y (calm e) = accepts h z Established (tcb_by c.options k (long_word s)) _ e.random refl (inl refl) bound in
       ended_as e.endpoint_state.state e.endpoint_state.context e.random done refl
 
-  -- ---- the own association is told of again
+  -- ---- `OnConnected` is emitted again of the own association
 
   is_own : (t : Tcb) (late : Option (List ℕ)) → AreDistinct n.drawn → AreDistinct y.drawn → compare_tags tag t.identity k ≡ MaintainExisting
       → Holds x y (association_of t) late → a ≡ association_of t

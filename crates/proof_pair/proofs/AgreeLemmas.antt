@@ -1,4 +1,4 @@
--- What an end's state and what it said tell of both ends, over every trace: by what each drew, held and echoed.
+-- What an end's state, and what it said, say of both ends, over every trace: by what each drew, held and echoed.
 use Rattle.std.proofs.Common.{◌≡◌, ◌≢◌, ℕ, ◌^◌, ◌<◌, ◌&&◌, not, Bool, true, false, Option, Some, None, List, [], ◌∷◌, ◌++◌, ◌⊎◌, inl, inr, refl, sym, ap, subst, ◌∙◌, Ok, All}
 use Rattle.std.specs.Prelude.{⊤}
 use Rattle.std.specs.List.{list_all}
@@ -198,7 +198,7 @@ Stands x y rests = ⊤
 Stands x y (waits d) = Waits x d
 Stands x y (holds a kept) = Holds x y a kept
 
--- one that was told that it is connected
+-- one that emitted that it is connected
 abbrev pub Agreed : Past → View → Type 0
 Agreed y rests = ⊤
 Agreed y (waits d) = ⊥

@@ -1,4 +1,4 @@
--- Notes that are taken chunk by chunk: what was held within a packet too. The draws are those of the turn.
+-- Histories that are taken chunk by chunk: what was held within a packet too. The draws are those of the action.
 use Rattle.std.proofs.Common.{◌≡◌, ℕ, Bool, true, false, Option, Some, None, List, [], ◌∷◌, ◌++◌, slice_get, refl, sym, ◌∙◌, append_assoc}
 use Rattle.sctp_packet.specs.Chunk.{ChunkTree}
 use Rattle.sctp_packet.specs.Packet.{PacketTree}
@@ -29,7 +29,7 @@ noted_given (Some p) checksum x n =
     let q : PacketTree = as_received p checksum in
     noted_taking (refusal q.header.verification_tag q.chunks (state_of x)) q x.end n
 
--- of one turn: within it, and after it
+-- of one action: within it, and after it
 abbrev pub noted_in : EndAction → (x y : Side) → History → History
 noted_in (Calls Connect) x y n = noted (drawn_to_connect (state_of x) x.end) Closed n
 noted_in (Calls call) x y n = n

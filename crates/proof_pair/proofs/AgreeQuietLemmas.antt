@@ -1,4 +1,4 @@
--- The acts of calls that hear nothing of an opening: what holds of an end, over every trace, is kept.
+-- The acts of calls that receive nothing of an opening: what holds of an end, over every trace, is kept.
 use Rattle.std.proofs.Common.{◌≡◌, ℕ, Bool, true, false, Some, None, List, [], ◌∷◌, ◌++◌, inl, inr, refl, sym, ap, subst, ◌∙◌, All, arith}
 use Rattle.std.proofs.lemmas.List.Elements.{All-nil}
 use Rattle.std.proofs.lemmas.Bool.{both_ways}

@@ -1,4 +1,4 @@
--- A packet is received chunk by chunk, over every trace: what holds of an end is kept, and its notes grow.
+-- A packet is received chunk by chunk, over every trace: what holds of an end is kept, and its histories grow.
 use Rattle.std.proofs.Common.{◌≡◌, ℕ, true, false, Option, Some, None, Result, Ok, Err, List, [], ◌∷◌, ◌++◌, All, codes, inl, inr, refl, sym, ap, subst, ◌∙◌, Bool}
 use Rattle.std.proofs.lemmas.List.Elements.{All-nil, All-cons}
 use Rattle.std.proofs.lemmas.Option.{same_Some}

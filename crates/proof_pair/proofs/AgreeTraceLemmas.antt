@@ -1,4 +1,4 @@
--- A turn of a trace in which no end draws a tag twice: an end that is told of a connection holds what the other holds or held.
+-- An action of a trace in which no end draws a tag twice: an end that emits `OnConnected` holds what the other holds or held.
 use Rattle.std.proofs.Common.{◌≡◌, ℕ, ◌==◌, ◌||◌, Bool, true, false, Option, Some, None, List, [], ◌∷◌, ◌++◌, map, slice_get, length, drop, All, inl, inr, refl, sym, ap, subst, ◌∙◌, append-nil}
 use Rattle.std.specs.Prelude.{⊤}
 use Rattle.std.proofs.lemmas.List.Elements.{All-nil, All-cons, All-head, All-tail, All-weaker}
@@ -30,7 +30,7 @@ use Rattle.proof_pair.proofs.AgreeOpeningLemmas.{Known, kept_quiet, does_connect
 use Rattle.proof_pair.proofs.AgreeCookieLemmas.{past_of, bounded, Goes, has_behind, goes_held}
 use Rattle.proof_pair.proofs.AgreePacketLemmas.{Admitted, admitted, shape_carried, takes_packet}
 
--- ---- between turns
+-- ---- between actions
 
 pub record Knows (o : Options) (x : Side) (mine theirs : Past) : Type 0 where
   pub stands : Stands mine theirs (view_of (state_of x))
@@ -41,7 +41,7 @@ pub record Knows (o : Options) (x : Side) (mine theirs : Past) : Type 0 where
   pub said : All (Said mine theirs) (packets_in x.emitted)
   pub known : Known mine
 
--- a turn of an end, from these notes to those
+-- an action of an end, from these histories to those
 pub record Turned (o : Options) (x z : Side) (n : History) (echoed : List Association) (m : History) (theirs : Past) : Type 0 where
   pub more : List Association
   pub later : Later (past_of n echoed) (past_of m more)
@@ -219,7 +219,7 @@ module _ (o : Options) (x : Side) (y : Past) (fine : AreGiven o) (n : History) (
       taken_by theirs p checksum (x.is_asked || (p.header.verification_tag == 0)) (all_get (Said y (past_of n e1)) ps which p is all)
       (refusal (as_received p checksum).header.verification_tag (as_received p checksum).chunks (state_of x)) refl mine
 
--- ---- turns
+-- ---- actions
 
 module _ (o q : Options) (x y : Side) (fine : AreGiven o) (n r : History) (e1 e2 : List Association) (k : Knows o x (past_of n e1) (past_of r e2))
     (l : Knows q y (past_of r e2) (past_of n e1)) (theirs : AreDistinct r.drawn) where

@@ -1,4 +1,4 @@
--- Within a packet: what is held between two chunks was held before it or is held after it, and an end that was told that it is
+-- Within a packet: what is held between two chunks was held before it or is held after it, and an end that emitted that it is
 -- connected holds an association after it.
 use Rattle.std.proofs.Common.{◌≡◌, ℕ, ◌==◌, ◌||◌, Bool, true, false, Option, Some, None, Result, Ok, Err, List, [], ◌∷◌, ◌++◌, ◌⊎◌, inl, inr, All, codes, length, refl, sym, ap, subst, ◌∙◌}
 use Rattle.std.specs.List.{list_all}
@@ -94,13 +94,13 @@ ended_open (Open phase t) s e = ended_if_open _ phase _ _
 
 -- ---- what is emitted
 
--- an error is told, and no connection
+-- an error is emitted, and no `OnConnected`
 emitted_error : {A : Type 0} (es : List (Event Carried)) (e : Event Carried) → has_connected (e ∷ []) ≡ false → has_connected es ≡ false
     → has_connected (es ++ e ∷ []) ≡ true → A
 emitted_error es e plain none h =
     absurd (both_ways true (sym h ∙ (connected_both es (e ∷ []) ∙ (ap (λ (b : Bool). b || has_connected (e ∷ [])) none ∙ plain))) refl)
 
--- an end that is told that it is connected is open then
+-- an end that emits that it is connected is open then
 abbrev pub Stands : Endpoint Carried → Type 0
 Stands e = has_connected e.endpoint_state.context.emitted.events ≡ true → is_opened e.endpoint_state.state ≡ true
 

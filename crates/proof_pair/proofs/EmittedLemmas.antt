@@ -1,4 +1,4 @@
--- What the operations of the crates below tell: nothing of how an association stands, and no packets.
+-- What the operations of the crates below emit: nothing of how an association stands, and no packets.
 use Rattle.std.proofs.Common.{◌≡◌, ℕ, zero, suc, ◌+◌, ◌-◌, ◌&&◌, Bool, true, false, cond, not, ◌||◌, nat_lt, Option, Some, None, unwrap_or, option_map, List, [], ◌∷◌, ◌++◌, length, take, slice_get, is_some, refl, sym, ap, ◌∙◌, append_assoc, append-nil}
 use Rattle.std.specs.List.{list_all}
 use Rattle.std.proofs.lemmas.List.Folds.{list_all-append}
@@ -36,7 +36,7 @@ is_light OnConnectionRestarted = false
 is_light (OnAborted kind text) = false
 is_light e = true
 
--- and tell no message as delivered
+-- and report no message as delivered
 abbrev pub is_quiet : {P : Type 0} → Event P → Bool
 is_quiet (OnLifecycleMessageDelivered id) = false
 is_quiet e = is_light e
@@ -100,7 +100,7 @@ light_reports : (P : Type 0) (is : List Item) → list_all is_light (reports {P 
 light_reports P [] = refl
 light_reports P (i ∷ is) = light_both (report i) (reports is) (light_ended_if P i.fragment.is_end (is_abandoned i) i.lifecycle) (light_reports P is)
 
--- ---- telling
+-- ---- emitting
 
 -- what was emitted stands, and such events behind it
 pub record EmitsLightly {P : Type 0} (before after : Emitted P) : Type 0 where

@@ -38,7 +38,7 @@ seam_taken : (ms : List Message) → ms ++ new_behind ms (drop 1 ms) ≡ take 1 
 seam_taken ms =
     ap (λ (z : List Message). ms ++ z) (drop_of_length-le (drop 1 ms) {i = length ms} (without_first ms)) ∙ (append-nil ms ∙ sym (take-append-drop 1 ms))
 
--- one turn, then the others
+-- one action, then the others
 in_action : (before new later out rest now last : List Message) → before ++ new ≡ out ++ now → now ++ later ≡ rest ++ last
     → before ++ (new ++ later) ≡ (out ++ rest) ++ last
 in_action before new later out rest now last h k =
@@ -46,7 +46,7 @@ in_action before new later out rest now last h k =
     ∙ (ap (λ (z : List Message). z ++ later) h
     ∙ (append_assoc out now later ∙ (ap (λ (z : List Message). out ++ z) k ∙ sym (append_assoc out rest last))))
 
--- ---- turns
+-- ---- actions
 
 -- What is ready, and what is new behind it, is what is handed out, and what is ready then. An association that stands is not
 -- replaced.
@@ -173,7 +173,7 @@ handed_prefix a b words_a words_b es own other follows none x =
     let w : Pair = start a b words_a words_b in
     extends_by (handed_messages x es w) (readied_messages x es w) (ready_at (side_of x (run es w))) (handed_in_order a b words_a words_b es own other follows none x)
 
--- ---- as turns follow
+-- ---- as actions follow
 
 extends_behind : (front before after : List Message) → Extends before after → Extends (front ++ before) (front ++ after)
 extends_behind front before after h =

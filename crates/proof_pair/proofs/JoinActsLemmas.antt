@@ -51,7 +51,7 @@ module _ (past es more now : List (Event Carried)) (behind : now ≡ es ++ more)
 
 -- ---- what holds of the end that acts
 
--- its options and the other's, what it told before, the other end, whether INITs were given, and what the other end said
+-- its options and the other's, what it emitted before, the other end, whether INITs were given, and what the other end said
 pub record Setting : Type 0 where
   pub own : Options
   pub other : Options
@@ -100,7 +100,7 @@ module _ (g : Setting) (v : View) (o : Options) (pack : Packing Carried) (es : L
     made = h;
   }
 
-  -- more is told, and no packet goes out
+  -- more is emitted, and no packet goes out
   pub inv_events : (more now : List (Event Carried)) → now ≡ es ++ more → packets_in more ≡ [] → has_connected more ≡ false → Inv g v o pack now tag chunks
   inv_events more now behind none not_yet = record {
     stands = i.stands;
@@ -154,7 +154,7 @@ module _ (g : Setting) (v : View) (o : Options) (pack : Packing Carried) (es : L
   late_by false w more now behind e as_before at_last so =
       as_before e ∙ i.connected (sym (connected_later g.past es more now behind e) ∙ so)
 
-  -- the state is seen otherwise, and this was told
+  -- the state is seen otherwise, and this was emitted
   pub inv_view : (w : View) (more now : List (Event Carried)) → now ≡ es ++ more → packets_in more ≡ [] → (has_connected more ≡ false → w.is_late ≡ v.is_late)
       → (has_connected more ≡ true → w.is_late ≡ true) → Leads (view_of g.beside) v w g.asked
       → Stands g.own g.other w (view_of g.beside) g.asked g.other_asked → Inv g w o pack now tag chunks

@@ -1,4 +1,4 @@
--- Each act keeps what two ends know of each other, as long as no association has ended.
+-- Each act preserves what two ends know of each other, as long as no association has ended.
 use Rattle.std.proofs.Common.{◌≡◌, ℕ, ◌==◌, ◌||◌, not, Bool, true, false, Option, Some, None, Result, Ok, Err, List, [], ◌∷◌, ◌++◌, All, ◌⊎◌, inl, inr, refl, sym, ap, subst, ◌∙◌, append-nil, arith}
 use Rattle.std.specs.List.{list_any}
 use Rattle.std.proofs.lemmas.Bool.Decides.{nat_tests}
@@ -24,7 +24,7 @@ use Rattle.proof_pair.proofs.JoinLemmas.{Draw, Both, IsDraw, drawn_is, View, own
 use Rattle.proof_pair.proofs.JoinActsLemmas.{Setting, Uttered, UtteredAll, Inv, InvAt, inv_view, connected_both}
 use Rattle.proof_protocol.proofs.ToolsLemmas.{not_both}
 
--- what the call of this turn may be, and hears
+-- what the call of this action may be, and receives
 pub record Rules (g : Setting) (call : Call) : Type 0 where
   pub says : (tag : ℕ) (chunk : ChunkTree) → IsReceived call tag chunk → (v : View) → All (UtteredAll g v) g.others → Uttered g v tag chunk
   pub asks : (tag : ℕ) (chunk : ChunkTree) → IsReceived call tag chunk → tag ≡ 0 → g.asked ≡ true

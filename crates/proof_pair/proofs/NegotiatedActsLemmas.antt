@@ -72,7 +72,7 @@ stays_sent {P} now most s q t =
 
 -- ---- an end at work
 
--- the options of both ends, and what the one that acts told before this turn
+-- the options of both ends, and what the one that acts emitted before this action
 pub record Setting : Type 0 where
   pub own : Options
   pub other : Options
@@ -92,7 +92,7 @@ pub record Inv (g : Setting) (v : View) (o : Options) (pack : Packing Carried) (
 abbrev pub InvAt : Setting → Making Carried → Type 0
 InvAt g m = Inv g (view_of m.state) m.context.options m.context.pack m.context.emitted.events m.packet.chunks
 
--- what a call hears of the other end
+-- what a call receives of the other end
 pub record Receives (g : Setting) (call : Call) : Type 0 where
   pub says : (tag : ℕ) (chunk : ChunkTree) → IsReceived call tag chunk → Emits g.other g.own chunk
   pub restores : (h : HandoverState) → call ≡ Restore h → ⊥
@@ -107,7 +107,7 @@ module _ (g : Setting) (v : View) (o : Options) (pack : Packing Carried) (es : L
   packets_now more ps e =
       ap packets_in (sym (append_assoc g.past es more)) ∙ (packets_both (g.past ++ es) more ∙ ap (λ (z : List Carried). packets_in (g.past ++ es) ++ z) e)
 
-  -- the state is seen otherwise, and more is told that is no packet
+  -- the state is seen otherwise, and more is emitted that is no packet
   inv_view : (w : View) (more now : List (Event Carried)) → now ≡ es ++ more → packets_in more ≡ [] → Able g.own g.other w → Inv g w o pack now chunks
   inv_view w more now behind none able = record {
     able = able;

@@ -106,7 +106,7 @@ reads_emitted : (made k : Cookie) → CapabilitiesFit made.peer_capabilities →
 reads_emitted made k fits e =
     ap (λ (z : Cookie). z.peer_capabilities) (read_as (cookie_bytes made) k e ∙ (ap cookie_from (same_bytes made) ∙ from_small made fits))
 
--- ---- what an end with these options tells the other one
+-- ---- what an end with these options announces to the other one
 
 -- one that reads a cookie makes an association with what was agreed
 abbrev pub Brings : (own other : Options) → List ℕ → Type 0

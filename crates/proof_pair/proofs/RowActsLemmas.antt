@@ -21,7 +21,7 @@ use Rattle.spec_endpoint.specs.Laws.{Call, Shutdown, ending, is_closed}
 use Rattle.proof_pair.specs.Acts.{always, Making, idle, in_open, IsReceived, point_of, closes, shuts, shuts_on, takes_data, takes_idata, takes_forward, takes_iforward, takes_sack, samples, counts_errors, Preserves}
 use Rattle.proof_pair.proofs.PacketActsLemmas.{does_plain, does_chunk, does_complain, does_send_buffered, does_send_lost}
 
--- a standing with these words, and nothing begun
+-- an end with this endpoint state and this random stream, and nothing begun
 abbrev pub placed : {P : Type 0} → EndpointState P → Stream → Making P
 placed s w = idle s.state s.context w
 

@@ -1,4 +1,4 @@
--- What stays as a control block was made, whatever is sent, heard and lost.
+-- What stays as a control block was made, whatever is sent, received and lost.
 use Rattle.std.proofs.Common.{◌≡◌, ℕ, zero, suc, ◌-◌, ◌&&◌, ◌||◌, nat_le, Bool, true, false, cond, Option, Some, None, unwrap_or, option_map, List, [], ◌∷◌, length, slice_get, refl, ◌∙◌, ◌==◌}
 use Rattle.sctp_serial.specs.declared.api.StreamId.{StreamId}
 use Rattle.sctp_serial.specs.declared.types.StreamKey.TheVariants.{Ordered, Unordered}

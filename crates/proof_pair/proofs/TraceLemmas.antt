@@ -1,4 +1,4 @@
--- Along each trace that follows the rules, two ends are joined until an association first ends.
+-- Along each trace that follows the rules, two ends are consistent until an association first ends.
 use Rattle.std.proofs.Common.{◌≡◌, ℕ, ◌==◌, ◌||◌, Bool, true, false, Option, Some, None, List, [], ◌∷◌, ◌++◌, map, slice_get, All, refl, sym, ap, subst, ◌∙◌, append-nil, arith}
 use Rattle.std.proofs.lemmas.Bool.Decides.{nat_tests}
 use Rattle.std.proofs.lemmas.List.Elements.{All-nil, All-cons, All-head, All-tail, All-weaker}
@@ -41,7 +41,7 @@ says_asked o q v u a b tag f (init_ack_chunk i) h = record {
 }
 says_asked o q v u a b tag f c h = h
 
--- ---- between turns
+-- ---- between actions
 
 abbrev pub SaysAll : (o q : Options) (v u : View) (asked : Bool) → Carried → Type 0
 SaysAll o q v u asked p = All (Says o q v u asked p.header.verification_tag) p.chunks
@@ -70,7 +70,7 @@ setting o q x y asked = record {
 }
 
 module _ (o q : Options) (x y : Side) (asked : Bool) where
-  -- a turn begins
+  -- an action begins
   pub begins : (x.is_asked ≡ true → asked ≡ true) → Half o q x y → Half q o y x → InvAt (setting o q x y asked) (calm x.end)
   begins f h k =
       let g : Setting = setting o q x y asked in
@@ -141,7 +141,7 @@ module _ (o q : Options) (x y : Side) (asked : Bool) where
     said = inv.received;
   }
 
--- ---- what a call hears
+-- ---- what a call receives
 
 abbrev packet_of : Call → PacketTree → PacketTree
 packet_of (Packet p) q = p
@@ -202,7 +202,7 @@ module _ (o q : Options) (x y : Side) (own : AreGiven o) (other : AreGiven q) wh
       other = other;
     }
 
--- ---- turns
+-- ---- actions
 
 pub record Halves (o q : Options) (x y : Side) : Type 0 where
   pub own : Half o q x y

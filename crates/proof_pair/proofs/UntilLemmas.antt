@@ -1,4 +1,4 @@
--- What each act tells, and the frame up to the first end of an association.
+-- What each act emits, and the frame up to the first end of an association.
 use Rattle.std.proofs.Common.{◌≡◌, ◌⊎◌, inl, inr, true, List, [], ◌∷◌, ◌++◌, refl, sym, ap, ◌∙◌, append_assoc, append-nil, arith}
 use Rattle.std.specs.List.{list_all}
 use Rattle.std.proofs.lemmas.Bool.{and_parts}
@@ -14,7 +14,7 @@ use Rattle.proof_pair.proofs.EmittedLemmas.{is_light, EmitsLightly, emits_same, 
 use Rattle.proof_pair.proofs.ActsLemmas.{keeps_call}
 use Rattle.proof_endpoint.proofs.EmitsLemmas.{endings_append}
 
--- ---- acts that tell nothing of how the association stands
+-- ---- acts that emit nothing of how the association stands
 
 abbrev pub Light : {P : Type 0} → (before after : Making P) → Type 0
 Light a b = EmitsLightly a.context.emitted b.context.emitted
@@ -143,7 +143,7 @@ module _ {P : Type 0} where
   pub none_before : (a b : Making P) → Grows a b → HasNoEnd b → HasNoEnd a
   none_before a b g h = omega (arith, ap endings g.behind, endings_append a.context.emitted.events g.events, h)
 
-  -- an end that is told is one
+  -- an end that is emitted is one
   pub no_end : (a b : Making P) (e : Event P) → b.context.emitted.events ≡ a.context.emitted.events ++ e ∷ [] → ending e ≡ 1 → HasNoEnd b → ⊥
   no_end a b e is one h = omega (arith, ap endings is, endings_append a.context.emitted.events (e ∷ []), one, h)
 
@@ -172,14 +172,14 @@ module _ {P : Type 0} where
       input = λ act. (grows_light (before_input act) (after_input act) (light_input act), k.input act);
     }
 
--- What each act keeps as long as no association has ended, each call keeps that tells no end.
+-- What each act preserves as long as no association has ended, each call preserves that emits no end.
 pub until_end : {P : Type 0} (call : Call) {R : Making P → Making P → Type 0} → PreservesUntilEnd call R → (s : Endpoint P) → HasNoEnd (calm (called call s))
     → R (calm s) (calm (called call s))
 until_end call k s none = (keeps_call call (frame k) s).1 none
 
--- ---- where an end is told, up to there
+-- ---- where an end is emitted, up to there
 
--- an end at work that has told no association over, and what is emitted then in the same call
+-- an end at work that has emitted no association over, and what is emitted then in the same call
 pub record FirstEnd {P : Type 0} (R : Making P → Making P → Type 0) (a b : Making P) : Type 0 where
   pub here : Making P
   pub none : HasNoEnd here
@@ -189,7 +189,7 @@ pub record FirstEnd {P : Type 0} (R : Making P → Making P → Type 0) (a b : M
   pub more : List (Event P)
   pub emitted : b.context.emitted.events ≡ here.context.emitted.events ++ event ∷ more
 
--- none is told, or there is a first one
+-- none is emitted, or there is a first one
 abbrev pub ToFirstEnd : {P : Type 0} → (Making P → Making P → Type 0) → Making P → Making P → Type 0
 ToFirstEnd R a b = (HasNoEnd b × R a b) ⊎ FirstEnd R a b
 
@@ -206,7 +206,7 @@ module _ {P : Type 0} {call : Call} {R : Making P → Making P → Type 0} (k : 
   abbrev First : Making P → Making P → Type 0
   First a b = HasNoEnd a → ToFirstEnd R a b
 
-  -- an act that tells these, none of them an end
+  -- an act that emits these, none of them an end
   still : (a b : Making P) (es : List (Event P)) → b.context.emitted.events ≡ a.context.emitted.events ++ es → endings es ≡ 0 → (HasNoEnd b → R a b) → First a b
   still a b es e none f h = let n : HasNoEnd b = omega (arith, ap endings e, endings_append a.context.emitted.events es, none, h) in inl (n, f n)
 
@@ -298,7 +298,7 @@ module _ {P : Type 0} {call : Call} {R : Making P → Making P → Type 0} (k : 
     input = λ act. (grows_light (before_input act) (after_input act) (light_input act), lightly (before_input act) (after_input act) (light_input act) (k.input act));
   }
 
--- What each act keeps as long as no association has ended, each call keeps up to the first end that it tells.
+-- What each act preserves as long as no association has ended, each call preserves up to the first end that it emits.
 pub until_first_end : {P : Type 0} (call : Call) {R : Making P → Making P → Type 0} → PreservesUntilEnd call R → (s : Endpoint P) → HasNoEnd (calm s)
     → ToFirstEnd R (calm s) (calm (called call s))
 until_first_end call k s none = (keeps_call call (first_frame k) s).1 none

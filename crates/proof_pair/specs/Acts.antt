@@ -463,7 +463,7 @@ before_time (times_cookie old new cookie t m) = in_open (CookieEchoed old cookie
 before_time (times_request timer phase t m) = in_open phase t m
 before_time (wakes_request phase t m) = in_open phase t m
 
--- what a timeout leaves of the items, and tells
+-- what a timeout leaves of the items, and emits
 abbrev pub timeout_of : {P : Type 0} → Tcb → Making P → Step P
 timeout_of t m = nack_all t.sender.outstanding.items m.context.emitted
 
@@ -609,7 +609,7 @@ before_input (ends_packet phase t m) = in_open phase t m
 abbrev pub after_input : {P : Type 0} {call : Call} → InputAct P call → Making P
 after_input (ends_packet phase t m) = in_open phase (at_end m.context.now t) m
 
--- ---- what each act keeps
+-- ---- what each act preserves
 
 -- A relation on ends at work that holds of nothing done, goes on, and holds of each act of this call.
 pub record Preserves {P : Type 0} (call : Call) (R : Making P → Making P → Type 0) : Type 0 where

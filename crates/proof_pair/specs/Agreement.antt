@@ -1,4 +1,4 @@
--- Along any trace of two ends: what each drew and held, and what an end that is told of a connection knows of the other.
+-- Along any trace of two ends: what each drew and held, and what an end that emits `OnConnected` knows of the other.
 use Rattle.std.specs.Prelude.{◌≡◌, ℕ, Bool, true, false, Option, Some, None, List, [], ◌∷◌, ◌++◌, slice_get, length, drop, ⊤, ◌⊎◌}
 use Rattle.rand_core.specs.Stream.{Stream}
 use Rattle.sctp_packet.specs.Chunk.{ChunkTree, init_chunk}
@@ -98,7 +98,7 @@ drawn_in (Calls call) x y = []
 drawn_in (Gives which checksum) x y = drawn_given (slice_get (emitted_packets y) which) checksum x
 drawn_in (Refuses p) x y = []
 
--- of one turn: what was drawn in it, and what is held after it
+-- of one action: what was drawn in it, and what is held after it
 abbrev pub history_by : EndAction → (x y : Side) → History → History
 history_by turn x y n = record { drawn = drawn_in turn x y ++ n.drawn; held = held_in (state_of (act turn x y)) ++ n.held }
 
@@ -147,11 +147,11 @@ AreAllowed (e ∷ es) = IsAllowed e.1 × AreAllowed es
 
 -- ---- the law
 
--- told since
+-- emitted since
 abbrev pub emitted_since : (before after : Side) → List (Event Carried)
 emitted_since before after = drop (length before.emitted) after.emitted
 
--- an end that was told in a turn that it is connected holds an association after it, which the other end holds or held mirrored
+-- an end that emitted in an action that it is connected holds an association after it, which the other end holds or held mirrored
 abbrev pub Agrees : (before after : Side) → (other : History) → Type 0
 Agrees before after other =
     has_connected (emitted_since before after) ≡ true → (a : Association) × Has a (held_in (state_of after)) × Has (mirrored a) other.held

@@ -13,14 +13,14 @@ use Rattle.proof_pair.specs.Opens.{at_first, one_connects}
 abbrev pub ready_at : Side → List Message
 ready_at x = ready_in (state_of x)
 
--- ---- one turn
+-- ---- one action
 
 -- a call for a message hands out the first that is ready
 abbrev pub handed_by : EndAction → Side → List Message
 handed_by (Calls TakeMessage) x = take 1 (ready_at x)
 handed_by turn x = []
 
--- true is end a: what end x hands out at a turn of this end
+-- true is end a: what end x hands out at an action of this end
 abbrev pub handed_at : (x acts : Bool) → EndAction → Pair → List Message
 handed_at true true turn w = handed_by turn w.a
 handed_at false false turn w = handed_by turn w.b
@@ -59,7 +59,7 @@ HandedIsAPrefix =
     → FollowsTheRules turns (start a b words_a words_b) → HasNotEnded (run turns (start a b words_a words_b)) → (x : Bool)
     → Extends (handed_messages x turns (start a b words_a words_b)) (readied_messages x turns (start a b words_a words_b))
 
--- as turns follow, of any trace
+-- as actions follow, of any trace
 abbrev pub ReadiedGrows : Type 0
 ReadiedGrows = (x : Bool) (turns more : List (Bool × EndAction)) (w : Pair) → Extends (readied_messages x turns w) (readied_messages x (turns ++ more) w)
 

@@ -1,4 +1,4 @@
--- Two traces of which the law of agreement speaks and that of joined ends doesn't, computed: a restart, and an old cookie.
+-- Two traces of which the law of agreement speaks and that of consistent ends doesn't, computed: a restart, and an old cookie.
 use Rattle.std.specs.Prelude.{◌≡◌, Bool, true, false, List, [], ◌∷◌, ◌++◌, length}
 use Rattle.spec_endpoint.specs.Laws.{Connect, Close}
 use Rattle.proof_pair.specs.Trace.{has_connected, EndAction, Calls, Gives, run, state_of}
@@ -19,7 +19,7 @@ one_restarts = one_connects ++ ((true, Calls Close) ∷ (true, Calls Connect) �
 abbrev pub restart_actions : List (Bool × EndAction)
 restart_actions = one_restarts ++ ((false, Gives 4 0) ∷ [])
 
--- the second end is told that it is connected, by the last turn
+-- the second end emits that it is connected, by the last action
 pub record Reopens (before all : List (Bool × EndAction)) : Type 0 where
   pub allowed : AreAllowed all
   pub distinct : NoneTwice (histories_along all at_first no_histories)

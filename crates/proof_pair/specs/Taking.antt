@@ -1,4 +1,4 @@
--- What becomes of data and of forward points that an end with a control block hears (RFC 9260 section 6.2, RFC 3758
+-- What becomes of data and of forward points that an end with a control block receives (RFC 9260 section 6.2, RFC 3758
 -- section 3.6).
 use Rattle.std.specs.Prelude.{◌≡◌, ℕ, ◌==◌, ◌||◌, not, Bool, true, false, None, List, length}
 use Rattle.sctp_chunk.specs.declared.forward_tsn.SkippedStream.{SkippedStream}
@@ -41,7 +41,7 @@ pub record IsTaken (tsn : ℕ) (is_immediate : Bool) (f : FragmentTree) (before 
   pub adds : is_new tsn before ≡ true → after.reassembly ≡ add tsn f before.reassembly
   pub keeps : is_new tsn before ≡ false → after.reassembly ≡ before.reassembly
 
--- The tracker has heard the point, and reassembly where it moved the cumulative TSN.
+-- The tracker has received the point, and reassembly where it moved the cumulative TSN.
 pub record IsPassed (tsn : ℕ) (skipped : List SkippedStream) (before after : Tcb) : Type 0 where
   pub observes : after.tracker ≡ pass_tsn tsn before.tracker
   pub forwards : moves_on (number_of before.tracker tsn) before.tracker.tracker ≡ true → after.reassembly ≡ forward tsn skipped before.reassembly

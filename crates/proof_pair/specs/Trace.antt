@@ -1,4 +1,4 @@
--- Two ends, all that they ever told, and how they go on: any calls, any packets of the other end, again and in any order, any
+-- Two ends, all that they ever emitted, and how they go on: any calls, any packets of the other end, again and in any order, any
 -- moments, any foreign bytes that are refused.
 use Rattle.std.specs.Prelude.{◌≡◌, ℕ, ◌==◌, ◌||◌, ◌^◌, ◌<◌, Bool, true, false, Option, Some, None, List, [], ◌∷◌, ◌++◌, map, slice_get, ⊤, ◌⊎◌}
 use Rattle.rand_core.specs.Stream.{Stream}
@@ -12,11 +12,11 @@ use Rattle.spec_endpoint.specs.Input.{refusal}
 use Rattle.spec_endpoint.specs.Laws.{Call, Connect, Shutdown, Restore, Packet, called, endings}
 use Rattle.proof_endpoint.specs.Mapped.{Carried}
 
--- ---- an end, and what it told
+-- ---- an end, and what it emitted
 
 pub record Side : Type 0 where
   pub end : Endpoint Carried
-  pub emitted : List (Event Carried)  -- so far; what was emitted is taken after each turn
+  pub emitted : List (Event Carried)  -- so far; what was emitted is taken after each action
   pub is_asked : Bool  -- an INIT was given to it
 
 pub record Pair : Type 0 where
@@ -38,13 +38,13 @@ packets_in (e ∷ es) = packets_in es
 abbrev pub emitted_packets : Side → List Carried
 emitted_packets x = packets_in x.emitted
 
--- it was told that it is connected
+-- it emitted that it is connected
 abbrev pub has_connected : {P : Type 0} → List (Event P) → Bool
 has_connected [] = false
 has_connected (OnConnected ∷ es) = true
 has_connected (e ∷ es) = has_connected es
 
--- ---- turns
+-- ---- actions
 
 pub data EndAction : Type 0 where
   Calls : Call → EndAction  -- any call but for packets that can be read; moments and bytes that are no packet too
@@ -88,7 +88,7 @@ run (e ∷ es) w = run es (goes e.0 e.1 w)
 
 -- ---- the rules
 
--- Before it was told that it is connected, an end is asked neither for a shutdown, nor to connect once an INIT was given to
+-- Before it emitted that it is connected, an end is asked neither for a shutdown, nor to connect once an INIT was given to
 -- it. No record of a handover is taken up.
 abbrev pub MayCall : Call → Side → Type 0
 MayCall Connect x = (has_connected x.emitted ≡ true) ⊎ (x.is_asked ≡ false)

@@ -14,7 +14,7 @@ use proof_endpoint::a_handover_and_its_restore_give_the_end_back;
 /// Two new ends go on by any calls, moments, foreign bytes that they refuse, and packets of the other end, each of which may
 /// come again and in any order. Until an association first ends at one of them, what each end's association can do was
 /// negotiated of the two option sets; and associations that both hold are mirrored: tags, first TSNs and stream counts. Before
-/// it was told that it is connected, an end is asked neither for a shutdown, nor to connect once an INIT was given to it
+/// it emitted that it is connected, an end is asked neither for a shutdown, nor to connect once an INIT was given to it
 /// (RFC 9260 sections 5.1, 5.2).
 pub fn ends_are_consistent()
     ensures joined { EndsAreConsistent }
@@ -50,10 +50,10 @@ pub fn traces_open()
     ensures both { BothConnect }
 {}
 
-/// A new end has what a handover asks of its control block and of its queue, in the form that each call keeps: tags above 0, the
+/// A new end has the handover invariant of its control block and of its queue, in the form that each call preserves: tags above 0, the
 /// first TSNs and the mode that it was made with, streams by ascending ids, at most their first messages partly sent, something left
 /// of each, and numbers that differ, as long as they don't wrap. A peer names a tag above 0, and what is restored is a valid record.
-/// So whatever is done with a new end to which fewer than 2^32 messages are offered, and whatever it hears: whenever its association
+/// So whatever is done with a new end to which fewer than 2^32 messages are offered, and whatever it receives: whenever its association
 /// stands and nothing keeps it from being handed over, its record is valid, and a new end that takes it up has it again.
 pub fn each_end_can_be_handed_over()
     ensures anew { NewEndsMeetHandoverInvariant }
@@ -66,8 +66,8 @@ pub fn each_end_can_be_handed_over()
 
 /// Over every trace of two new ends, without the rules of `ends_are_consistent`: collisions, restarts, old cookies and repeated
 /// ones, closes, shutdowns and new openings (RFC 9260 section 5.2). Where no end draws a tag twice, and no record of a handover
-/// is taken up: an end that was told in a turn that it is connected holds an association after it, and the other end holds or
-/// held it, mirrored in tags and first TSNs. What an end held is what it held after one of its turns.
+/// is taken up: an end that emitted in an action that it is connected holds an association after it, and the other end holds or
+/// held it, mirrored in tags and first TSNs. What an end held is what it held after one of its actions.
 ///
 /// Two such traces, computed: after both ends closed, an old cookie opens one of them again; and an end that closed and
 /// connects anew opens the other one, that still held the old association.

@@ -1,4 +1,4 @@
--- What an end makes of a call, a packet or bytes from elsewhere is a turn of the trace.
+-- What an end makes of a call, a packet or bytes from elsewhere is an action of the trace.
 use Rattle.std.proofs.Common.{◌≡◌, inl, inr, ℕ, ◌≤◌, ◌<◌, ◌^◌, ◌==◌, ◌||◌, ◌&&◌, Bool, true, false, Option, Some, None, List, [], ◌∷◌, ◌++◌, length, take, drop, slice_get, refl, sym, ap, subst, ◌∙◌, append-nil}
 use Rattle.std.specs.Prelude.{All}
 use Rattle.std.specs.Int.{w32, from_be_bytes}
@@ -39,9 +39,9 @@ use Rattle.proof_world.proofs.EventLemmas.{Readable, all_readable, same_itself}
 use Rattle.proof_world.proofs.LoggedLemmas.{given_up_news}
 use Rattle.proof_world.proofs.SidesLemmas.{IsFirst, IsSilentOf, silent_first, silent_news, Good, stays_good, goes_good}
 
--- ---- one turn of an end
+-- ---- one action of an end
 
--- the end is as after this turn, its packets and the log have grown, and of the other end nothing is told
+-- the end is as after this action, its packets and the log have grown, and of the other end nothing is emitted
 pub record Goes (word_of : List ℕ → ℕ) (x : End) (log : List Entry) (others : List (List ℕ)) (side : Side) (end beside : traces.Side) (turn : EndAction) (new : Side) (longer : List Entry) : Type 0 where
   pub more : List Entry
   pub logged : longer ≡ log ++ more

@@ -46,7 +46,7 @@ is_associated entry = false
 abbrev Plain : Entry → Type 0
 Plain e = is_associated e ≡ false
 
--- nothing is told
+-- nothing is emitted
 abbrev Mute : Entry → Type 0
 Mute e = is_happened e ≡ false
 
@@ -80,7 +80,7 @@ mute_associated : (b : Bool) (y : End) (a : Option Association) → All Mute (as
 mute_associated true y a = All-nil Mute
 mute_associated false y a = All-cons Mute (Associated y a) [] refl (All-nil Mute)
 
--- ---- what an event adds: an entry that tells nothing, and news of its end, or none
+-- ---- what an event adds: an entry that says nothing, and news of its end, or none
 
 data Adds (x : End) (old : Side) (log longer : List Entry) : Type 0 where
   news : (first : Entry) (after : Endpoint (List ℕ)) → IsFirst first → Mute first → longer ≡ log ++ first ∷ news_of x old after → Adds x old log longer
@@ -124,7 +124,7 @@ stands_in y log more before behind e = elim (one_is_longer log more before (conn
         let same : b ≡ connection y = ap (λ (l : List Entry). elim l [ [] ↦ b | z ∷ zs ↦ z ]) (sym is) in
         old bs (made ∙ ap (λ (z : Entry). before ++ z ∷ bs) same)
 
--- it is told once at least
+-- it is emitted once at least
 some_connected : (y : End) (front behind : List Entry) → 1 ≤ times_connected y (front ++ connection y ∷ behind)
 some_connected y front behind =
     longer (flat_map (connected_by y) front) (flat_map (connected_by y) behind) (same_end y y) (same_itself y) (flat_map (connected_by y) (front ++ connection y ∷ behind))
@@ -161,7 +161,7 @@ plain_behind y head rest front behind mute plain e = elim (one_is_longer head re
         let told : is_happened (connection y) ≡ false = subst Mute same (All-head Mute b bs there) in
         absurd (both_ways true told refl)
 
--- ---- one end, and its turn
+-- ---- one end, and its action
 
 emitted_grows : (t : EndAction) (x y : traces.Side) → (act t x y).emitted ≡ x.emitted ++ emitted_since x (act t x y)
 emitted_grows (Calls call) x y = ap (λ (es : List (Event Carried)). x.emitted ++ es) (sym (drop_emitted x.emitted _))
@@ -184,7 +184,7 @@ module _ (word_of : List ℕ → ℕ) (x : End) (log longer more : List Entry) (
   abbrev since : List (Event Carried)
   since = emitted_since end (act t end beside)
 
-  -- so many packets were told before
+  -- so many packets were emitted before
   abbrev sent : ℕ
   sent = 0 + length (packets_in (mapped f end.emitted))
 
@@ -207,7 +207,7 @@ module _ (word_of : List ℕ → ℕ) (x : End) (log longer more : List Entry) (
   state_now : new.socket.endpoint_state.state ≡ state_of (act t end beside)
   state_now = ap (λ (z : Endpoint (List ℕ)). z.endpoint_state.state) h.image.socket
 
-  -- what it holds then it holds after the turn
+  -- what it holds then it holds after the action
   holds_then : (front behind : List Entry) → more ≡ front ++ connection x ∷ behind → All Plain (connection x ∷ behind)
       → held x (log ++ front) ≡ association_in (state_of (act t end beside))
   holds_then front behind is plain =
@@ -266,7 +266,7 @@ were_turned word_of y log longer more others new end beside t n e g h =
 
 -- ---- one event
 
--- by the law of its turn
+-- by the law of its action
 module _ (word_of : List ℕ → ℕ) (x : End) (log longer more : List Entry) (others others_now : List (List ℕ)) (side new : Side) (end beside : traces.Side) (t : EndAction)
     (logged : longer ≡ log ++ more) (g : Good word_of x log others side end) (h : Good word_of x longer others_now new (act t end beside))
     (theirs : History) (were : WereHeld (other x) log theirs) (law : agreement.Agrees end (act t end beside) theirs) where

@@ -1,4 +1,4 @@
--- A world's log is made of blocks, one a turn of its trace; and what holds of each beginning of it.
+-- A world's log is made of blocks, one an action of its trace; and what holds of each beginning of it.
 use Rattle.std.proofs.Common.{◌≡◌, ◌⊎◌, inl, inr, ℕ, suc, not, ◌&&◌, Bool, true, false, Some, List, [], ◌∷◌, ◌++◌, length, drop, refl, sym, ap, subst, ◌∙◌, append-nil, append_assoc}
 use Rattle.std.specs.Prelude.{⊤}
 use Rattle.std.specs.List.{flat_map}
@@ -37,7 +37,7 @@ pub same_front : {X : Type 0} (a xs ys : List X) → a ++ xs ≡ a ++ ys → xs 
 same_front [] xs ys h = h
 same_front (z ∷ a) xs ys h = same_front a xs ys (split_tail z z (a ++ xs) (a ++ ys) h)
 
--- ---- traces, by one turn more
+-- ---- traces, by one action more
 
 abbrev pub readied_at : Bool → (Bool × EndAction) → Pair → List Message
 readied_at x e w = new_behind (ready_at (side_of x w)) (ready_at (side_of x (goes e.0 e.1 w)))
@@ -70,7 +70,7 @@ abbrev pub end_at : Bool → End
 end_at true = A
 end_at false = B
 
--- this turn's entries stand between
+-- this action's entries stand between
 abbrev pub IsBlock : (Bool × EndAction) → Pair → (log longer : List Entry) → Type 0
 IsBlock e c log longer = IsEmitted (end_at e.0) e.1 (side_of e.0 c) (side_of (not e.0) c) (side_of e.0 (goes e.0 e.1 c)) log longer
 
@@ -169,7 +169,7 @@ emitted_action B (true, t) c log mid b h = more_of (happened_by B) log mid (b.fi
 emitted_action A (false, t) c log mid b h = more_of (happened_by A) log mid (b.first ∷ b.more) [] b.logged b.tells_none ∙ (append-nil (emitted_events A log) ∙ h)
 emitted_action B (false, t) c log mid b h = b.emits
 
--- what it tells
+-- what it emits
 block_emitted : (x : End) (e : Bool × EndAction) (c : Pair) (log mid : List Entry) (b : IsBlock e c log mid) → AreEmitted x log c
     → emitted_events x (b.first ∷ b.more) ≡ bare (emitted_at (is_a x) e.0 e.1 c)
 block_emitted x e c log mid b h =
@@ -237,7 +237,7 @@ handed_run x (e ∷ es) c log longer h =
 
 -- ---- each beginning of the log
 
--- so many turns have been
+-- so many actions have been
 pub record IsReached (c : Pair) (done : List (Bool × EndAction)) (log : List Entry) : Type 0 where
   pub offers_are : (x : End) → offers x log ≡ accepted (is_a x) done c
   pub ready_are : (x : End) → ready x log ≡ readied_messages (is_a x) done c
@@ -247,7 +247,7 @@ pub record IsReached (c : Pair) (done : List (Bool × EndAction)) (log : List En
   pub told_are : (x : End) → AreEmitted x log (run done c)
   pub epochs_are : (x : End) → HasEpochs x log done c
 
--- nothing was told yet
+-- nothing was emitted yet
 pub nothing_yet : (c : Pair) → ((x : Bool) → (side_of x c).emitted ≡ []) → IsReached c [] []
 nothing_yet c none = record {
   offers_are = λ x. refl;
@@ -270,7 +270,7 @@ reached_more c done e log mid r b = record {
   epochs_are = λ x. epochs_action x done e c log mid b (r.told_are x) (r.epochs_are x);
 }
 
--- What holds after each turn, and within each block where it holds before and behind it, holds of each beginning.
+-- What holds after each action, and within each block where it holds before and behind it, holds of each beginning.
 module _ (all : List (Bool × EndAction)) (c : Pair) (P : List Entry → Type 0)
     (at_turn : (done rest : List (Bool × EndAction)) (log : List Entry) → all ≡ done ++ rest → IsReached c done log → P log)
     (within : (done rest : List (Bool × EndAction)) (e : Bool × EndAction) (log mid front behind : List Entry) → all ≡ done ++ e ∷ rest → IsReached c done log
@@ -362,7 +362,7 @@ taken_none Closed = refl
 taken_none (CookieWait tag first t1) = refl
 taken_none (Open phase t) = none_dropped t.reassembly.ready
 
--- a turn hands out nothing, or nothing becomes ready at it
+-- an action hands out nothing, or nothing becomes ready at it
 one_or_none : (t : EndAction) (own beside : Side) → (handed_by t own ≡ []) ⊎ (new_behind (ready_at own) (ready_at (act t own beside)) ≡ [])
 one_or_none (Calls TakeMessage) own beside = inr (taken_none (state_of own))
 one_or_none (Calls call) own beside = inl refl

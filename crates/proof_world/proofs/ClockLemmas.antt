@@ -1,4 +1,4 @@
--- Along a trace: no turn but a moment moves an end's clock.
+-- Along a trace: no action but a moment moves an end's clock.
 use Rattle.std.proofs.Common.{◌≡◌, ℕ, Bool, true, false, Option, Some, None, List, refl, ap, ◌∙◌, slice_get}
 use Rattle.sctp_packet.specs.Packet.{PacketTree}
 use Rattle.spec_endpoint.specs.Association.{Context, Endpoint}
@@ -84,7 +84,7 @@ module _ (call : Call) (still : (now : ℕ) → call ≡ Advance now → ⊥) wh
     input = on_input;
   }
 
--- ---- turns
+-- ---- actions
 
 abbrev pub moves : EndAction → Bool
 moves (Calls (Advance now)) = true

@@ -38,7 +38,7 @@ use Rattle.proof_world.proofs.DeliveredLemmas.{calls_log, time_log}
 
 -- ---- an event's entries
 
--- the first one, what tells nothing of messages but reports, and what tells of no end
+-- the first one, what says nothing of messages but reports, and what says nothing of an end
 pub record IsParted (x : End) (turn : EndAction) (own : traces.Side) (log longer : List Entry) : Type 0 where
   pub first : Entry
   pub begins : BeginsWith x turn own first
@@ -169,7 +169,7 @@ module _ (x : End) (turn : EndAction) (own : traces.Side) (log longer : List Ent
         split = split_tail b.first k b.rest (early ++ between) is;
       })
 
-      -- all that tells of an end would stand in it
+      -- all that says of an end would stand in it
       go : Longer (b.first ∷ b.rest) early late b.behind ⊎ Longer early (b.first ∷ b.rest) b.behind late → (early ≡ []) ⊎ IsFront b.first b.rest early
       go (inl m) =
           let stays : Stands longer = λ y.

@@ -1,4 +1,4 @@
--- A world that a new one was led to is led on by each run, and composes.
+-- A reachable world is led on by each run, and composes.
 use Rattle.std.proofs.Common.{◌≡◌, ◌⊎◌, inl, inr, ◌^◌, ◌<◌, ℕ, true, false, List, [], ◌∷◌, ◌++◌, length, refl, sym, ap, subst, ◌∙◌, append-nil, append_assoc, arith}
 use Rattle.std.specs.Prelude.{slice_index, All}
 use Rattle.std.specs.List.{list_any}

@@ -1,4 +1,4 @@
--- Worlds are joined, since their traces are.
+-- Worlds are consistent, since their traces are.
 use Rattle.std.proofs.Common.{◌≡◌, ℕ, Option, Some, None, List, length, refl, sym, ap, ◌∙◌}
 use Rattle.std.specs.List.{flat_map}
 use Rattle.sctp_state.specs.Options.{Options, IsValid}

@@ -255,7 +255,7 @@ module _ (word_of_a word_of_b : List ℕ → ℕ) where
 
   -- ---- whole runs
 
-  -- a world at which so many of the turns have been
+  -- a world at which so many of the actions have been
   pub record IsPoint (all : List (Bool × EndAction)) (first : Pair) (u : World) : Type 0 where
     pub early : List (Bool × EndAction)
     pub late : List (Bool × EndAction)

@@ -1,4 +1,4 @@
--- Of each event of a world: what it adds to the log of messages is what the turn does in the trace.
+-- Of each event of a world: what it adds to the log of messages is what the action does in the trace.
 use Rattle.std.proofs.Common.{◌≡◌, inl, inr, ℕ, zero, suc, Bool, true, false, Option, Some, None, List, [], ◌∷◌, ◌++◌, length, take, drop, refl, sym, ap, ◌∙◌, append-nil, arith}
 use Rattle.std.specs.List.{flat_map}
 use Rattle.std.proofs.lemmas.Bool.Decides.{nat_tests}
@@ -64,7 +64,7 @@ none_new (m ∷ ms) = none_new ms
 
 -- ---- calls
 
--- what a call's entry says is what the turn does
+-- what a call's entry says is what the action does
 module _ (f : Mapping Carried (List ℕ)) (x : End) (end : traces.Side) (s : Endpoint (List ℕ)) (is : s ≡ map_end f end.end) where
   call_offers : (call : Call) → offers_in call (answer_to call s) ≡ accepted_by (step_of call) end
   call_offers (Send m o) = ap (λ (z : Endpoint (List ℕ)). offers_in (Send m o) (answer_to (Send m o) z)) is ∙ one_offer (refusal m (shown_state end.end.endpoint_state.state) end.end.endpoint_state.context) m o
@@ -103,7 +103,7 @@ module _ (f : Mapping Carried (List ℕ)) (x : End) (end : traces.Side) (s : End
   call_resets (Reset streams) = ap (λ (z : Endpoint (List ℕ)). reset_unless (reset_refusal z.endpoint_state.state) streams) is
   call_resets call = refl
 
--- ---- turns of packets
+-- ---- actions of packets
 
 receiving_accepts : (b : Bool) (n sum : ℕ) (end : traces.Side) → accepted_in (receiving b n sum) end ≡ []
 receiving_accepts true n sum end = refl

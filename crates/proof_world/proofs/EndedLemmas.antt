@@ -119,7 +119,7 @@ module _ (l : ℕ) (x z : End) where
 
 -- ---- an end and the log
 
--- all that it told is taken, and what it told and what is alive were handed in
+-- all that it emitted is taken, and what it emitted and what is alive were handed in
 record Counted (l : ℕ) (x : End) (side : Side) (log : List Entry) : Type 0 where
   taken : side.socket.endpoint_state.context.emitted.events ≡ []
   few : ended_at l x log + alive l side.socket.endpoint_state ≤ handed_to l x log
@@ -210,7 +210,7 @@ module _ (l : ℕ) where
   other_emitted x z apart side first bytes old new log longer t handed_in none k =
       subst (λ (entries : List Entry). Counted l x side entries) (sym t.logged) (other_goes x z apart side old first t.after log handed_in none k)
 
-  -- an entry that tells of neither
+  -- an entry that speaks of neither
   one_more : (x : End) (side : Side) (first : Entry) (log : List Entry) → handed_by l x first ≡ 0 → ended_by l x first ≡ 0 → Counted l x side log
       → Counted l x side (log ++ first ∷ [])
   one_more x side first log handed_in none k = record {

@@ -1,4 +1,4 @@
--- What the log has of an end's events is what the trace's end told, but for its packets; and what that says of resets.
+-- What the log has of an end's events is what the trace's end emitted, but for its packets; and what that says of resets.
 use Rattle.std.proofs.Common.{◌≡◌, ◌⊎◌, inl, inr, ℕ, suc, ◌+◌, Bool, true, false, cond, Option, List, [], ◌∷◌, ◌++◌, map, drop, refl, sym, ap, subst, ◌∙◌, append_assoc}
 use Rattle.std.specs.List.{flat_map}
 use Rattle.std.proofs.lemmas.Grind.{flat_map-append}
@@ -162,7 +162,7 @@ none_begun more (k ∷ before) behind first none is h =
     none_begun (before ++ first ∷ behind) before behind first
     (none_behind (begun_by k) (flat_map begun_by (before ++ first ∷ behind)) (sym (ap (flat_map begun_by) is) ∙ none)) refl h
 
--- behind a message that became ready nothing is told
+-- behind a message that became ready nothing is emitted
 abbrev pub IsEmittedFirst : List Entry → Type 0
 IsEmittedFirst more = (x y : End) (m : Message) (front behind : List Entry) → more ≡ front ++ BecameReady y m ∷ behind → emitted_events x behind ≡ []
 

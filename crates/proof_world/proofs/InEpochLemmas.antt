@@ -27,7 +27,7 @@ use Rattle.proof_protocol.proofs.CommonLemmas.{get_front}
 
 -- ---- where an entry stands
 
--- in the block of a turn
+-- in the block of an action
 pub record IsLocated (all : List (Bool × EndAction)) (c : Pair) (k : Entry) (early : List Entry) : Type 0 where
   pub done : List (Bool × EndAction)
   pub rest : List (Bool × EndAction)
@@ -266,7 +266,7 @@ module _ (x : End) (all : List (Bool × EndAction)) (c : Pair) (from : courses.D
       let same = counts at.done at.log at.reached in
       omega (arith, low, same)
 
-  -- an event so far has begun before this turn, or with it
+  -- an event so far has begun before this action, or with it
   begun_before : (before behind : List Entry) (first : Entry) → early ≡ before ++ first ∷ behind → begins_event first ≡ true → (between : List Entry) × (at.log ≡ before ++ between)
   begun_before before behind first is begins = go (one_is_longer at.log at.front before (first ∷ behind) (sym at.here ∙ is))
     where
@@ -284,7 +284,7 @@ module _ (x : End) (all : List (Bool × EndAction)) (c : Pair) (from : courses.D
       go (inl h) = here h.between h.made h.behind
       go (inr h) = (h.between, h.made)
 
-  -- behind it the turn tells nothing
+  -- behind it the action emits nothing
   none_behind_it : emitted_events y at.behind ≡ []
   none_behind_it = go at.front at.within
     where

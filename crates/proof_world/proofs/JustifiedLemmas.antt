@@ -1,4 +1,4 @@
--- Each record in the log of a world is justified: of each event, since its turn of the trace tells justified records alone.
+-- Each record in the log of a world is justified: of each event, since its action of the trace emits justified records alone.
 use Rattle.std.proofs.Common.{◌≡◌, inl, inr, ℕ, ◌^◌, ◌<◌, Bool, true, false, Some, None, List, [], ◌∷◌, ◌++◌, length, map, refl, sym, ap, subst, ◌∙◌, append-nil, append_assoc}
 use Rattle.std.specs.Prelude.{⊤, All}
 use Rattle.std.specs.List.{flat_map, AllByRecursion}
@@ -220,7 +220,7 @@ module _ (f : Mapping Carried (List ℕ)) (x : End) (own beside : traces.Side) (
       still_marks (Foreign x (worlds.clock s) None) [] still logged refl
       (record { right = λ y all now rs. tt; takes = λ y. refl; ticks = λ y m. refl; clears = cleared_by [] (sym clear); given_up = λ y. refl }) (sym none) refl
 
--- ---- what the turns are
+-- ---- what the actions are
 
 call_restores : (call : Call) → restores (Calls (step_of call)) ≡ false
 call_restores Connect = refl
@@ -281,7 +281,7 @@ ticks_at B A turn c log longer m = m.ticks_none (courses.clock c.b)
 ticks_at A B turn c log longer m = m.ticks_none (courses.clock c.a)
 ticks_at B B turn c log longer m = m.ticks (courses.clock c.b)
 
--- what is emitted at the turn of either end is justified, with the streams that the log says
+-- what is emitted at the action of either end is justified, with the streams that the log says
 emits_at : (x y : End) (turn : EndAction) (c : Pair) (log longer : List Entry) (m : Marks y turn (traces.side_of (is_a y) c) (traces.side_of (is_a y) (goes (is_a y) turn c)) log longer)
     (all : List Acceptance) (now : ℕ) (rs : List ℕ) → AllByRecursion (IsJustifiedAt all (reset_at (is_a x) (is_a y) turn c) now) (records_at (is_a x) (is_a y) turn c)
     → AllByRecursion (IsJustifiedAt all (resets_after x rs m.first) now) (records_at (is_a x) (is_a y) turn c)

@@ -1,4 +1,4 @@
--- A world that stands delivers what its trace delivers, and so does the log of the next event up to the first end that it tells.
+-- A world in which no association is over delivers what its trace delivers, and so does the log of the next event up to the first end that it emits.
 use Rattle.std.proofs.Common.{◌≡◌, ◌⊎◌, inl, inr, ℕ, ◌+◌, ◌-◌, ◌^◌, ◌<◌, ◌||◌, not, Bool, true, false, List, [], ◌∷◌, ◌++◌, length, take, refl, sym, ap, subst, ◌∙◌, append-nil, append_assoc, arith}
 use Rattle.std.specs.Prelude.{slice_index}
 use Rattle.std.specs.List.{flat_map, list_any}
@@ -70,7 +70,7 @@ any_more test (d ∷ es) e h k = go (test d) h (any_more test es e)
     go true h f = cc
     go false h f = f h k
 
--- ---- what an end told
+-- ---- what an end emitted
 
 own_emitted : (at_a : Bool) (t : EndAction) (c : Pair) → (traces.side_of at_a (goes at_a t c)).emitted
     ≡ (traces.side_of at_a c).emitted ++ (emitted_by t (traces.side_of at_a c) (traces.side_of (not at_a) c)).events
@@ -248,7 +248,7 @@ module _ (w : World) (l : IsReachable w) (rules : FollowsTheRules w) (none : Sta
       → IsInItsEpoch x early m.stream (slice_index from.places (length (ready (other x) early)))
   epochs_front x from early late m e = each_in_its_epoch x r.trace first_pair from w.log early late m reached blocks e
 
-  -- no end told that a reset failed
+  -- no end emitted that a reset failed
   pub none_failed : courses.NoResetIsRefused → IsKept → (x : End) → failed_in (emitted_events x w.log) ≡ false
   none_failed law k x =
       ap (λ (es : List (Event (List ℕ))). failed_in es) (emitted_is x)
@@ -379,7 +379,7 @@ module _ (w : World) (l : IsReachable w) (rules : FollowsTheRules w) (none : Sta
             ∙ (ap (λ (l : List ℕ). reported (other x) w.log ++ l) (b_parted.begins.reported (other x)) ∙ append-nil (reported (other x) w.log))) h
       ]
 
-      -- it tells nothing
+      -- it emits nothing
       pub none_failed_beside : failed_in (emitted_events (other x) w.log) ≡ false → failed_in (emitted_events (other x) here) ≡ false
       none_failed_beside h = elim front [
         | inl none_there ↦ ap (λ (l : List Entry). failed_in (emitted_events (other x) (w.log ++ l))) none_there ∙ (ap (λ (l : List Entry). failed_in (emitted_events (other x) l)) (append-nil w.log) ∙ h)

@@ -76,7 +76,7 @@ pub same_epochs : (os : List Offer) (f g : ℕ → StreamEpoch) → ((s : ℕ) �
 same_epochs [] f g e = refl
 same_epochs (o ∷ os) f g e = ap (λ (z : StreamEpoch). z.epoch ∷ epochs_of os f) (e o.message.stream) ∙ ap (λ (ns : List ℕ). (g o.message.stream).epoch ∷ ns) (same_epochs os f g e)
 
--- ---- traces, by one turn more
+-- ---- traces, by one action more
 
 pub along_more : (x : Bool) (es : List (Bool × EndAction)) (e : Bool × EndAction) (w : Pair) (f : ℕ → StreamEpoch) (s : ℕ)
     → courses.epochs_along x (es ++ e ∷ []) w f s ≡ courses.epochs_after x e.0 e.1 (run es w) (courses.epochs_along x es w f) s

@@ -96,7 +96,7 @@ quiet_ready x y = record { telling = record { associated = λ a. refl; emitted =
 pub quiet_handed : (x y : End) → IsQuietOn (handed_out_by x) y
 quiet_handed x y = record { telling = record { associated = λ a. refl; emitted = λ n. refl; happened = λ e. refl }; gave_up = λ g. refl }
 
--- of what an end tells, the other one gave up and reported nothing
+-- of what an end emits, the other one gave up and reported nothing
 pub quiet_given_up : (x y : End) → same_end x y ≡ false → IsQuietOn (given_up_by x) y
 quiet_given_up x y h = record { telling = record { associated = λ a. refl; emitted = λ n. refl; happened = λ e. refl }; gave_up = λ g. ap (λ (b : Bool). none_unless b g) h }
 
@@ -123,7 +123,7 @@ pub ready_news_other : (x y : End) → same_end x y ≡ false → (n ready : ℕ
     → flat_map (ready_by x) (news y n ready old s) ≡ []
 ready_news_other x y h n ready old s = none_in_news (ready_by x) y (quiet_ready x y) (ready_other x y h) n ready old s
 
--- what was given up is told once
+-- what was given up is emitted once
 given_up_own : (x : End) → same_end x x ≡ true → (gs : List GivenUp) → given_up x (given_up_entries x gs) ≡ gs
 given_up_own x h [] = refl
 given_up_own x h (g ∷ gs) = ap (λ (b : Bool). none_unless b g ++ given_up x (given_up_entries x gs)) h ∙ ap (λ (z : List GivenUp). g ∷ z) (given_up_own x h gs)

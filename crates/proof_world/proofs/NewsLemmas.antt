@@ -1,4 +1,4 @@
--- What an event adds to the log: of its own end what it told, of the other one nothing.
+-- What an event adds to the log: of its own end what it emitted, of the other one nothing.
 use Rattle.std.proofs.Common.{◌≡◌, ℕ, ◌+◌, ◌==◌, Bool, true, false, Option, Some, None, List, [], ◌∷◌, ◌++◌, map, drop, refl, sym, ap, ◌∙◌, append-nil}
 use Rattle.std.specs.List.{flat_map}
 use Rattle.std.proofs.lemmas.Grind.{flat_map-append}

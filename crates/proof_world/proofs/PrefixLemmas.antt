@@ -1,4 +1,4 @@
--- What fits a list of places, each beginning of it fits; and logs that are made of the turns of a trace.
+-- What fits a list of places, each beginning of it fits; and logs that are made of the actions of a trace.
 use Rattle.std.proofs.Common.{◌≡◌, ◌⊎◌, inl, inr, ℕ, zero, suc, ◌<◌, ◌≤◌, Some, List, [], ◌∷◌, ◌++◌, length, map, take, refl, sym, ap, ◌∙◌, arith}
 use Rattle.std.specs.Prelude.{slice_index, slice_get}
 use Rattle.std.proofs.lemmas.List.{take-map}

@@ -31,7 +31,7 @@ pub record IsFirst (e : Entry) : Type 0 where
   pub quiet : (x : End) (h : Option Association) → held_after x h e ≡ h
   pub given_up : (x : End) → given_up_by x e ≡ []
 
--- entries that tell nothing of this end
+-- entries that say nothing of this end
 pub record IsSilentOf (x : End) (more : List Entry) : Type 0 where
   pub emitted : emitted_in x more ≡ []
   pub quiet : (h : Option Association) → held_from x h more ≡ h
@@ -98,7 +98,7 @@ pub record Good (word_of : List ℕ → ℕ) (x : End) (log : List Entry) (other
   pub held : held x log ≡ association side.socket
   pub asked : end.is_asked ≡ true → list_any (asks x others) log ≡ true
 
--- as the log grows by what tells nothing of it, and the other end's packets grow
+-- as the log grows by what says nothing of it, and the other end's packets grow
 pub stays_good : (word_of : List ℕ → ℕ) (x : End) (log more : List Entry) (others new : List (List ℕ)) (side : Side) (end : traces.Side) → IsSilentOf x more
     → Good word_of x log others side end → Good word_of x (log ++ more) (others ++ new) side end
 stays_good word_of x log more others new side end s g = record {

@@ -1,4 +1,4 @@
--- Logs in which no end tells that an association is over, and the first event of a run that ends one.
+-- Logs in which no end emits that an association is over, and the first event of a run that ends one.
 use Rattle.std.proofs.Common.{◌≡◌, ◌⊎◌, inl, inr, ℕ, zero, suc, ◌+◌, List, ◌++◌, length, refl, ap, ◌∙◌, length-append, arith}
 use Rattle.std.specs.List.{flat_map}
 use Rattle.std.proofs.lemmas.Grind.{flat_map-append}

@@ -1,4 +1,4 @@
--- Each event of a world is a turn of the trace, and each run a trace.
+-- Each event of a world is an action of the trace, and each run a trace.
 use Rattle.std.proofs.Common.{◌≡◌, ℕ, true, false, Option, Some, None, List, [], ◌∷◌, ◌++◌, map, slice_get, refl, sym, ap, subst, ◌∙◌, append-nil, append_assoc}
 use Rattle.std.specs.Prelude.{All, option_map}
 use Rattle.std.proofs.lemmas.Grind.{flat_map-append}
@@ -106,7 +106,7 @@ given_up_places_more x log longer more new e h =
 pub numbers_of : (gs hs : List GivenUp) → gs ≡ hs → map (λ (g : GivenUp). g.number) gs ≡ map (λ (g : GivenUp). g.number) hs
 numbers_of gs hs e = ap (map (λ (g : GivenUp). g.number)) e
 
--- the records of a turn, told two ways
+-- the records of an action, in two ways
 given_records : (p : Option Carried) (checksum : ℕ) (own : traces.Side) → (giving.emitted_given p checksum own).given_up ≡ records_given p checksum own
 given_records None checksum own = refl
 given_records (Some p) checksum own = refl

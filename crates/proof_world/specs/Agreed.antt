@@ -1,4 +1,4 @@
--- What an end that is told of a connection knows of the other one: claim and associations are read off the log.
+-- What an end that emits `OnConnected` knows of the other one: claim and associations are read off the log.
 use Rattle.std.specs.Prelude.{◌≡◌, Bool, Some, List, ◌∷◌, ◌++◌}
 use Rattle.sctp_state.specs.Events.{OnConnected}
 use Rattle.spec_endpoint.specs.Shown.{Association}
@@ -27,6 +27,6 @@ DrawsNoTagTwice l =
     (turns : List (Bool × EndAction)) → AreActionsOf l.word_of_a l.word_of_b l.actions turns (start l.a l.b l.random_a l.random_b)
     → NoneTwice (histories_along turns (start l.a l.b l.random_a l.random_b) no_histories)
 
--- Of each world that a new one was led to, whatever rules the run follows, and behind the end of an association too.
+-- Of each reachable world, whatever rules the run follows, and behind the end of an association too.
 abbrev pub WorldsAgree : Type 0
 WorldsAgree = (w : World) (l : IsReachable w) → DrawsNoTagTwice l → Agrees w.log

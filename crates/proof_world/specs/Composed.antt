@@ -1,4 +1,4 @@
--- What holds of each world that a new one was led to, until an end first tells that an association is over.
+-- What holds of each reachable world, until an end first emits that an association is over.
 use Rattle.std.specs.Prelude.{◌≡◌, ◌^◌, ◌<◌, false, List, ◌++◌, length}
 use Rattle.sctp_rx.specs.Delivery.{Extends}
 use Rattle.proof_delivery.specs.StreamEpochs.{failed_in}
@@ -9,9 +9,9 @@ use Rattle.proof_world.specs.Consistent.{Stands, FollowsTheRules, AreConsistent}
 use Rattle.proof_world.specs.Delivered.{AlongRun, offers, emitted_events, Delivers, IsInBounds}
 use Rattle.proof_world.specs.Justified.{AreJustified}
 
--- Where the rules are followed until then, both ends are joined between events; what was handed out is a prefix of what became
+-- Where the rules are followed until then, both ends are consistent between events; what was handed out is a prefix of what became
 -- ready, at each point of the log; and as long as the bounds are kept, what became ready fits what was accepted, each message in its
--- epoch, what was skipped was given up, what was reported is ready, at rest nothing is left, and no end tells that a reset failed.
+-- epoch, what was skipped was given up, what was reported is ready, at rest nothing is left, and no end emits that a reset failed.
 -- Records of messages given up are justified, behind that too.
 pub record Composes (w : World) (l : IsReachable w) : Type 0 where
   pub consistent : FollowsTheRules w → AlongRun (λ u. Stands u.log → AreConsistent l.a l.b u) l.actions (origin l) w l.runs

@@ -1,4 +1,4 @@
--- Two ends of a world are joined: premises and claim are read off the log and the world.
+-- Two ends of a world are consistent: premises and claim are read off the log and the world.
 use Rattle.std.specs.Prelude.{◌≡◌, ◌⊎◌, ℕ, ◌==◌, ◌&&◌, ◌≤◌, Bool, false, Option, Some, None, List, [], ◌∷◌, ◌++◌, length, take, drop, slice_get, ⊤}
 use Rattle.std.specs.Int.{w32, from_be_bytes}
 use Rattle.std.specs.List.{flat_map, list_any}
@@ -38,11 +38,11 @@ ended_by x (Happened y OnClosed) = none_unless (same_end x y) y
 ended_by x (Happened y (OnAborted kind text)) = none_unless (same_end x y) y
 ended_by x entry = []
 
--- how often this end told that an association is over
+-- how often this end emitted that an association is over
 abbrev pub times_ended : End → List Entry → ℕ
 times_ended x log = length (flat_map (ended_by x) log)
 
--- none told so yet
+-- none emitted so yet
 abbrev pub Stands : List Entry → Type 0
 Stands log = (x : End) → times_ended x log ≡ 0
 
@@ -54,11 +54,11 @@ MayFollow w before (Called x clock Shutdown answer) = 1 ≤ times_connected x be
 MayFollow w before (Called x clock Connect answer) = (1 ≤ times_connected x before) ⊎ (was_asked x w before ≡ false)
 MayFollow w before entry = ⊤
 
--- each entry, by those before it, until an end first tells that an association is over
+-- each entry, by those before it, until an end first emits that an association is over
 abbrev pub FollowsTheRules : World → Type 0
 FollowsTheRules w = (before : List Entry) (entry : Entry) (behind : List Entry) → w.log ≡ before ++ entry ∷ behind → Stands before → MayFollow w before entry
 
--- The rules were followed, and no end told that an association is over.
+-- The rules were followed, and no end emitted that an association is over.
 pub record IsUndisturbed (w : World) : Type 0 where
   pub follows : FollowsTheRules w
   pub stands : Stands w.log
@@ -73,7 +73,7 @@ pub record AreConsistent (a b : Options) (w : World) : Type 0 where
   pub are_mirrored : (i j : Association) → held A w.log ≡ Some i → held B w.log ≡ Some j → j ≡ mirrored i
   pub counts : agreed b a ≡ exchange (agreed a b)
 
--- Of each world that a new one was led to, undisturbed.
+-- Of each reachable world, undisturbed.
 abbrev pub WorldsAreConsistent : Type 0
 WorldsAreConsistent = (w : World) (l : IsReachable w) → IsUndisturbed w → AreConsistent l.a l.b w
 

@@ -31,7 +31,7 @@ offers_by x entry = []
 abbrev pub offers : End → List Entry → List Offer
 offers x log = flat_map (offers_by x) log
 
--- ---- what an end told, but for packets
+-- ---- what an end emitted, but for packets
 
 abbrev pub happened_by : End → Entry → List (Event (List ℕ))
 happened_by x (Happened y event) = none_unless (same_end x y) event
@@ -51,7 +51,7 @@ abbrev pub reset_by : End → Entry → List ℕ
 reset_by x (Called y clock call answer) = all_unless (same_end x y) (reset_in call answer)
 reset_by x entry = []
 
--- such a call shuts those that are open, and they are open again once the end tells that they were reset
+-- such a call shuts those that are open, and they are open again once the end emits that they were reset
 abbrev pub epochs_after : End → Entry → (ℕ → StreamEpoch) → ℕ → StreamEpoch
 epochs_after x entry f = reopen (performed_of (happened_by x entry)) (shut_streams (reset_by x entry) f)
 
@@ -60,7 +60,7 @@ abbrev pub offer_epochs : End → List Entry → (ℕ → StreamEpoch) → List 
 offer_epochs x [] f = []
 offer_epochs x (entry ∷ log) f = epochs_of (offers_by x entry) f ++ offer_epochs x log (epochs_after x entry f)
 
--- ---- what became of them, as the end that accepted them tells
+-- ---- what became of them, as the end that accepted them reports
 
 -- the places of those that it gave up
 abbrev pub given_up_places : End → List Entry → List ℕ
@@ -70,7 +70,7 @@ abbrev pub reported_by : End → Entry → List ℕ
 reported_by x (Happened y event) = all_unless (same_end x y) (delivered_by event)
 reported_by x entry = []
 
--- the lifecycle ids of those that it told as delivered
+-- the lifecycle ids of those that it reported as delivered
 abbrev pub reported : End → List Entry → List ℕ
 reported x log = flat_map (reported_by x) log
 
@@ -140,7 +140,7 @@ abbrev pub KeepsRequests : (actions : List Action) (w v : World) → Runs action
 KeepsRequests [] w v r k = Stands w.log → AreAnswered w k
 KeepsRequests (action ∷ actions) w v r k = (Stands w.log → AreAnswered w k) × KeepsRequests actions r.0 v r.2 (asked_after w r.0 k)
 
--- none waits too long, and not too many are told as performed
+-- none waits too long, and not too many are reported as performed
 pub record KeepsResets (actions : List Action) (w v : World) (runs : Runs actions w v) : Type 0 where
   pub answered : KeepsRequests actions w v runs none_asked
   pub few : (x : End) (early late : List Entry) → v.log ≡ early ++ late → Stands early → performed_in (emitted_events x early) < 2 ^ 32 - 1
@@ -156,7 +156,7 @@ begins_event (Timed x clock now) = true
 begins_event entry = false
 
 -- Of a message on this stream, which end x accepted at this place, and which becomes ready next behind this log: its epoch lies between
--- the resets of the stream that the other end told before this event, as before any other so far, and those that it told up to here.
+-- the resets of the stream that the other end emitted before this event, as before any other so far, and those that it emitted up to here.
 pub record IsInItsEpoch (x : End) (log : List Entry) (stream place : ℕ) : Type 0 where
   pub epoch : ℕ
   pub its_own : slice_get (offer_epochs x log all_open) place ≡ Some epoch
@@ -175,9 +175,9 @@ AlongRun P (action ∷ actions) w v r = P w × AlongRun P actions r.0 v r.2
 abbrev pub ready_places : End → List Entry → (places : List ℕ) → List ℕ
 ready_places x log places = take (length (ready (other x) log)) places
 
--- Of what end x accepted: one list of places serves all along the log, until an end first tells that an association is over. At each
+-- Of what end x accepted: one list of places serves all along the log, until an end first emits that an association is over. At each
 -- point its beginning fits; each message becomes ready in its epoch; an ordered message that isn't ready, while a later one of its
--- stream is, was given up; and each id that x told as delivered is that of a ready message. Between events, no two records of x name
+-- stream is, was given up; and each id that x reported as delivered is that of a ready message. Between events, no two records of x name
 -- the same message; and where nothing is queued at x and no item kept, each message is ready or was given up.
 pub record Delivers (x : End) (actions : List Action) (w v : World) (runs : Runs actions w v) : Type 0 where
   pub places : List ℕ

@@ -27,13 +27,13 @@ abbrev pub ended_by : (l : ℕ) → End → Entry → ℕ
 ended_by l x (Happened y event) = only_if (same_end x y) (emitted_end l event)
 ended_by l x entry = 0
 
--- how often the end told that this lifecycle ended
+-- how often the end emitted that this lifecycle ended
 abbrev pub ended_at : (l : ℕ) → End → List Entry → ℕ
 ended_at l x log = total (ended_by l x) log
 
 -- ---- the laws
 
--- of two new ends none tells of more ends than messages were handed to it
+-- of two new ends none emits more ends than messages were handed to it
 abbrev pub EndedAreHandedIn : Type 0
 EndedAreHandedIn =
     (options_a options_b : Options) (words_a words_b : Stream) (word_of_a word_of_b : List ℕ → ℕ) (actions : List Action) (w : World)

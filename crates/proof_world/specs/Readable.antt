@@ -39,7 +39,7 @@ pub record IsReadable (word_of_a word_of_b : List ℕ → ℕ) (w : World) : Typ
 
 -- ---- what happens
 
--- Only what a call hands in has to fit: packets of the other end do, and bytes from elsewhere are told where they are refused.
+-- Only what a call hands in has to fit: packets of the other end do, and bytes from elsewhere are given where they are refused.
 abbrev pub ActionFits : Action → Type 0
 ActionFits (CallOf x call) = ArgumentFits (step_of call)
 ActionFits (Give packet x) = Unit {0}

@@ -1,4 +1,4 @@
--- Each run of a world is a trace of its two ends: the same turns, with packets as lists of chunks in place of bytes.
+-- Each run of a world is a trace of its two ends: the same actions, with packets as lists of chunks in place of bytes.
 use Rattle.std.specs.Prelude.{◌≡◌, ℕ, ◌⊎◌, Bool, true, false, Some, List, [], ◌∷◌, map, slice_get, ⊤, All}
 use Rattle.std.specs.List.{flat_map}
 use Rattle.rand_core.specs.Stream.{Stream}
@@ -52,7 +52,7 @@ pub record IsReachable (w : World) : Type 0 where
 abbrev pub origin : {w : World} → IsReachable w → World
 origin l = fresh_world l.a l.b l.random_a l.random_b l.word_of_a l.word_of_b
 
--- ---- the turns of a run, one an action
+-- ---- the trace of a run, an end's action for each of its actions
 
 abbrev pub is_a : End → Bool
 is_a A = true
@@ -78,7 +78,7 @@ pub record IsReceiving (reads writes : List ℕ → ℕ) (packet : ℕ) (end bes
   pub there : slice_get (emitted_packets beside) packet ≡ Some carried
   pub received : turn ≡ receiving (is_let_through reads writes end.end.endpoint_state.context.options carried) packet (field_of writes carried.header carried.is_summed carried.chunks)
 
--- Bytes from elsewhere are a packet, which is told where the end refuses it, or none.
+-- Bytes from elsewhere are a packet, which is given where the end refuses it, or none.
 abbrev pub IsForeign : List ℕ → EndAction → Type 0
 IsForeign bytes turn = ((p : PacketTree) × IsPacket bytes p × (turn ≡ Refuses p)) ⊎ (turn ≡ Calls table.NoPacket)
 
@@ -106,10 +106,10 @@ emitted_by x entry = []
 abbrev pub emitted_in : End → List Entry → List Entry
 emitted_in x log = flat_map (emitted_by x) log
 
--- A side is the trace's side with each packet written: its socket, its packets, and in the log all that it told, in order.
+-- A side is the trace's side with each packet written: its socket, its packets, and in the log all that it emitted, in order.
 pub record IsImage (word_of : List ℕ → ℕ) (x : End) (log : List Entry) (side : Side) (end : traces.Side) : Type 0 where
   pub socket : side.socket ≡ map_end (as_bytes word_of) end.end
-  pub quiet : end.end.endpoint_state.context.emitted ≡ silent  -- nothing told is left
+  pub quiet : end.end.endpoint_state.context.emitted ≡ silent  -- nothing emitted is left
   pub packets : side.packets ≡ map (as_written word_of) (emitted_packets end)
   pub emitted : emitted_in x log ≡ emitted_entries x 0 (map (map_event (as_bytes word_of)) end.emitted)
 

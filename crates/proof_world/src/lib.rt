@@ -12,14 +12,14 @@ ghost use Rattle.proof_world.specs.Readable.{EachActionKeepsWorldsReadable, NewW
 
 /// Each packet that one of two ends ever sent can be read back, as the chunks that were put together and as nothing else: of a
 /// new world whose options fit, and along each run of actions that fit. A packet that is given is one of the other end's, so
-/// it is asked only that it is bytes; bytes from elsewhere may be any, since they are told only where the end refuses them.
+/// it is asked only that it is bytes; bytes from elsewhere may be any, since they are given only where the end refuses them.
 pub fn packets_read_back()
     ensures anew { NewWorldsAreReadable }
     ensures happening { EachActionKeepsWorldsReadable }
     ensures running { RunsKeepWorldsReadable }
 {}
 
-/// Along each run of a new world no end tells that a lifecycle ended more often than messages with its id were handed to it,
+/// Along each run of a new world no end emits that a lifecycle ended more often than messages with its id were handed to it,
 /// accepted or refused, alone or in a batch: at most once, where one message at most has it. Whatever comes to the ends, and
 /// whatever is reset or handed over.
 pub fn lifecycles_are_accounted()
@@ -27,16 +27,16 @@ pub fn lifecycles_are_accounted()
     ensures once { NoLifecycleEndsTwiceHere }
 {}
 
-/// Each run of a new world is a trace of two new ends, by one turn an event, for any options, words and checksum functions, calls
+/// Each run of a new world is a trace of two new ends, by one end's action an event, for any options, words and checksum functions, calls
 /// whose arguments fit, and bytes from elsewhere. The world's sockets are the trace's ends with each packet written, its packets
-/// are those that they told, in order, and the log has all that they told, packets by their numbers. A packet that is given
+/// are those that they emitted, in order, and the log has all that they emitted, packets by their numbers. A packet that is given
 /// is received as the chunks that were put in, where its reader lets the checksum through, and else as no packet. Each packet that was
 /// emitted is to be bytes, numbers up to 255.
 pub fn worlds_have_traces()
     ensures courses { WorldsHaveTraces }
 {}
 
-/// Until an end tells that an association is over, what each end of a world can do was negotiated of the two option sets, and
+/// Until an end emits that an association is over, what each end of a world can do was negotiated of the two option sets, and
 /// the associations that the log says that both hold are mirrored. Before its own OnConnected an end calls neither shutdown,
 /// nor connect once an INIT was given to it (RFC 9260 sections 5.1, 5.2). The opening of the first run keeps these rules. Each packet
 /// that was emitted is to be bytes.
@@ -45,22 +45,22 @@ pub fn worlds_are_consistent()
     ensures can_be_kept { OpeningFollows }
 {}
 
-/// Of each run of a new world, whatever it goes on with, until an end first tells that an association is over, in the middle of an
-/// event as well: the rules and the bounds are asked of the part up to there alone. Between events both ends are joined. What was
+/// Of each run of a new world, whatever it goes on with, until an end first emits that an association is over, in the middle of an
+/// event as well: the rules and the bounds are asked of the part up to there alone. Between events both ends are consistent. What was
 /// handed out at an end, in order, is a prefix of what became ready there, at each point of the log.
 ///
 /// And as long as the run keeps its bounds, in either direction and at each point of the log, the messages that became ready at one
 /// end are messages that the other one accepted, byte for byte, each at most once, and on each stream ordered ones in the order of
 /// acceptance (RFC 9260 sections 6.5, 6.6; RFC 8260 section 2.2; RFC 3758 section 3.6). One list of places says which, and grows
 /// at its back. Of the others, an ordered one that isn't ready, while a later one of its stream is, was given up, and the log names
-/// it (RFC 3758 section 3.5). A lifecycle id that the log tells as delivered is that of a message that is ready. And between events,
+/// it (RFC 3758 section 3.5). A lifecycle id that the log reports as delivered is that of a message that is ready. And between events,
 /// where nothing is queued at the sender and it keeps no item, each message that it accepted is ready or was given up. The bounds
 /// are read off the log and the values of the sockets between events: those of `messages_are_delivered` of `proof_delivery`.
 ///
 /// Streams may be reset (RFC 6525). By the log alone, a call of reset that is answered Ok begins the next epoch of each open stream that it
-/// names, and the stream is open again once its end tells that it was reset. Each message becomes ready in its epoch: that lies between
-/// the resets of its stream that the other end told before that event, and those that it told before the message. Within the bounds no
-/// end tells that a reset failed, at any point up to the first end of an association.
+/// names, and the stream is open again once its end emits that it was reset. Each message becomes ready in its epoch: that lies between
+/// the resets of its stream that the other end emitted before that event, and those that it emitted before the message. Within the bounds no
+/// end emits that a reset failed, at any point up to the first end of an association.
 ///
 /// The messages of the offers are those that were accepted, and each has an epoch.
 pub fn worlds_compose()

@@ -26,7 +26,7 @@ use Rattle.proof_world_draws.specs.Alike.{ArePaired, AreComparable, ShowAlong, W
 use Rattle.proof_world_draws.proofs.EventLemmas.{same_action, event_shown}
 use Rattle.proof_world_draws.proofs.EndingLemmas.{ended_or_none}
 
--- ---- traces, turn by turn
+-- ---- traces, action by action
 
 same_more : (es fs : List (Bool × EndAction)) (e f : Bool × EndAction) → SameActions es fs → f.0 ≡ e.0 → SameAction e.1 f.1 → SameActions (es ++ e ∷ []) (fs ++ f ∷ [])
 same_more [] [] e f h at same = (at, same, tt)
@@ -102,7 +102,7 @@ module _ (w v : World) (p : ArePaired w v) (q : AreComparable p) where
     b = none_ended f B x.log x.a.packets x.b c.b h.b (stands B);
   }
 
-  -- no tag is drawn twice up to the next turn
+  -- no tag is drawn twice up to the next action
   once : (word_of : List ℕ → ℕ) (c : Pair) (front : List Action) (action : Action) (actions : List Action) (es : List (Bool × EndAction)) (e : Bool × EndAction) (fs : List (Bool × EndAction))
       → AreTagsApart word_of p.actions c → p.actions ≡ front ++ action ∷ actions → AreActionsOf word_of word_of front es c → AreActionsOf word_of word_of (action ∷ actions) (e ∷ fs) (run es c)
       → NoTagTwice (es ++ e ∷ []) c

@@ -1,4 +1,4 @@
--- An end that tells in a turn that its association is over holds no message that is ready.
+-- An end that emits in an action that its association is over holds no message that is ready.
 use Rattle.std.proofs.Common.{◌≡◌, ◌⊎◌, inl, inr, ℕ, ◌+◌, ◌&&◌, ◌==◌, not, Bool, true, false, Option, Some, None, List, [], ◌∷◌, ◌++◌, length, map, slice_get, refl, sym, ap, subst, ◌∙◌, arith}
 use Rattle.std.specs.Prelude.{All}
 use Rattle.std.specs.List.{list_all}
@@ -168,7 +168,7 @@ kind_behind cs (an_answer i is) = subst (λ (l : List ChunkTree). NoneBehind (ma
 kind_behind cs (an_echo cookie rest is flows) = subst (λ (l : List ChunkTree). NoneBehind (map carried l)) (sym is) (all_no_echo rest flows)
 kind_behind cs (a_flow flows) = none_of_all (map carried cs) (all_no_echo cs flows)
 
--- ---- a turn
+-- ---- an action
 
 abbrev Ends : (before after : traces.Side) → Type 0
 Ends x z = (endings z.emitted ≡ 0) ⊎ (ready_in (state_of z) ≡ [])

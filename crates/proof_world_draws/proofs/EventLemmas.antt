@@ -60,7 +60,7 @@ happening (GiveForeign x bytes) w u own g = cc
 happening (AdvanceTime A now) w u own e = record { after = after_time now w.a.socket; settles = ap (λ (z : World). z.a) e; logged = ap (λ (z : World). z.log) e }
 happening (AdvanceTime B now) w u own e = record { after = after_time now w.b.socket; settles = ap (λ (z : World). z.b) e; logged = ap (λ (z : World). z.log) e }
 
--- the clock that an end is told
+-- the clock that an end is given
 clock_then : (x : End) (now : ℕ) (w u : World) → Happens (AdvanceTime x now) w u → clock (after_time now (side_of x w).socket) ≡ clock (side_of x u).socket
 clock_then A now w u e = sym (ap (λ (z : World). z.a.socket.endpoint_state.context.now) e)
 clock_then B now w u e = sym (ap (λ (z : World). z.b.socket.endpoint_state.context.now) e)
@@ -95,7 +95,7 @@ given_up_own : (x : End) (t : EndAction) (c : Pair) → records_at (is_a x) (is_
 given_up_own A t c = refl
 given_up_own B t c = refl
 
--- ---- the turns
+-- ---- the actions
 
 -- no packet that an end refuses comes from elsewhere
 abbrev IsOwn : EndAction → Type 0

@@ -1,4 +1,4 @@
--- What the log shows of an event, by the turn that it is.
+-- What the log shows of an event, by the action that it is.
 use Rattle.std.proofs.Common.{◌≡◌, ◌⊎◌, inl, inr, ℕ, zero, suc, ◌+◌, Bool, true, false, Option, Some, None, List, [], ◌∷◌, ◌++◌, length, map, drop, slice_get, refl, sym, ap, subst, ◌∙◌, append-nil}
 use Rattle.std.proofs.lemmas.List.{map-append}
 use Rattle.sctp_serial.specs.Messages.{Message}
@@ -24,7 +24,7 @@ use Rattle.proof_world.proofs.EmittingLemmas.{association_same}
 use Rattle.proof_world_draws.specs.Visible.{shown_by, visible}
 use Rattle.proof_world_draws.proofs.VisibleLemmas.{visible_both, none_associated, emitted_shown}
 
--- ---- what was emitted in a turn
+-- ---- what was emitted in an action
 
 pub record Grows (before after : traces.Side) : Type 0 where
   pub since : List (Event Carried)
@@ -52,7 +52,7 @@ ready_part x s u = ready_entries x (ready_before (same_association (association_
 abbrev pub shows : (log first told gone ready : List Entry) → List Entry
 shows log first told gone ready = log ++ (first ++ (told ++ (gone ++ ready)))
 
--- so many packets were told before
+-- so many packets were emitted before
 abbrev pub sent : (f : Mapping Carried (List ℕ)) → traces.Side → ℕ
 sent f end = 0 + length (packets_in (mapped f end.emitted))
 

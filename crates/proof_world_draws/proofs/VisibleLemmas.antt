@@ -1,4 +1,4 @@
--- What the log shows of two ends that were told alike.
+-- What the log shows of two ends that emitted alike.
 use Rattle.std.proofs.Common.{◌≡◌, ℕ, suc, ◌+◌, List, [], ◌∷◌, ◌++◌, length, refl, sym, ap, subst}
 use Rattle.std.proofs.lemmas.Grind.{flat_map-append}
 use Rattle.sctp_state.specs.Events.{Event, SendPacket, OnError, OnAborted}

@@ -54,7 +54,7 @@ is_foreign action = false
 abbrev pub AreTagsApart : (word_of : List ℕ → ℕ) → List Action → Pair → Type 0
 AreTagsApart word_of actions c = (turns : List (Bool × EndAction)) → AreActionsOf word_of word_of actions turns c → NoTagTwice turns c
 
--- Until an end of the first world tells that an association is over it follows the rules, and no bytes come from elsewhere.
+-- Until an end of the first world emits that an association is over it follows the rules, and no bytes come from elsewhere.
 pub record AreComparable {w v : World} (p : ArePaired w v) : Type 0 where
   pub follows : FollowsTheRules w
   pub own : KeepsFrom is_foreign p.actions (first_new p) w p.first
@@ -63,7 +63,7 @@ pub record AreComparable {w v : World} (p : ArePaired w v) : Type 0 where
 
 -- ---- the law
 
--- Between the actions of two runs: up to the one at which an end of the first tells that an association is over, and behind that one too.
+-- Between the actions of two runs: up to the one at which an end of the first emits that an association is over, and behind that one too.
 abbrev pub ShowAlong : (actions : List Action) (w v x y : World) → Runs actions w x → Runs actions v y → Type 0
 ShowAlong [] w v x y r s = ShowTheSame w v
 ShowAlong (action ∷ actions) w v x y r s = ShowTheSame w v × (Stands w.log → ShowAlong actions r.0 s.0 x y r.2 s.2)

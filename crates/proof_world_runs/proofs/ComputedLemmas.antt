@@ -1,4 +1,4 @@
--- Runs of worlds that are computed: the turns of their actions, packets that are bytes, and what two ends start with.
+-- Runs of worlds that are computed: the traces of their actions, packets that are bytes, and what two ends start with.
 use Rattle.std.proofs.Common.{◌≡◌, ℕ, ◌^◌, ◌<◌, ◌==◌, ◌&&◌, ◌||◌, not, Bool, true, false, Option, Some, None, List, [], ◌∷◌, map, slice_get, All, refl, sym, ap, ◌∙◌, arith}
 use Rattle.std.specs.Prelude.{nat_lt}
 use Rattle.std.specs.Option.{is_some}

@@ -79,7 +79,7 @@ next_call x call w = one_there (calls x call w)
 next_time : (x : End) (now : ℕ) (w : World) → (u : World) × (u ≡ advances_time x now w)
 next_time x now w = one_there (advances_time x now w)
 
--- ---- a turn is that of one action, and an action has one turn
+-- ---- an end's action is that of one action of the world, which has one
 
 module _ (word_of_a word_of_b : List ℕ → ℕ) where
   give_a : (n : ℕ) (w : World) (c : Pair) → Both word_of_a word_of_b w c → (p : Carried) → slice_get (emitted_packets c.b) n ≡ Some p → (u : World) × Gives A n w u

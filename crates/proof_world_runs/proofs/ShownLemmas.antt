@@ -95,7 +95,7 @@ rests_as f side end e h =
     ap (λ (z : Endpoint (List ℕ)). socket.is_at_rest z.endpoint_state.state z.endpoint_state.context.queue) e
     ∙ (ap (λ (b : Bool). b && not (keeps_items (state_of end))) h.none_waits ∙ ap (λ (b : Bool). not b) (none_kept (state_of end) h.none_kept))
 
--- ---- all turns have been
+-- ---- all actions have been
 
 at_the_end : (es : List (Bool × EndAction)) (c : Pair) (done : List (Bool × EndAction)) (log longer : List Entry) → IsReached c done log → AreBlocks es (run done c) log longer
     → IsReached c (done ++ es) longer

@@ -19,7 +19,7 @@ one_is_reset =
     ++ (CallOf A (Send (text 97) plainly) ∷ CallOf A (Reset (1 ∷ [])) ∷ CallOf A (Reset (1 ∷ [])) ∷ CallOf A (Send (text 98) plainly)
     ∷ Give 2 B ∷ Give 3 B ∷ Give 2 A ∷ Give 3 A ∷ Give 4 B ∷ [])
 
--- both become ready, and each end tells once that the stream was reset
+-- both become ready, and each end emits once that the stream was reset
 pub record OneIsReset : Type 0 where
   pub world : World
   pub reachable : IsReachable world

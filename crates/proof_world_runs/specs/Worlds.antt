@@ -15,7 +15,7 @@ abbrev pub is_foreign : Action → Bool
 is_foreign (GiveForeign x bytes) = true
 is_foreign action = false
 
--- no bytes come from elsewhere: what an end makes of them no turn of chunks says
+-- no bytes come from elsewhere: what an end makes of them no action of chunks says
 abbrev pub NoneIsForeign : List Action → Type 0
 NoneIsForeign actions = list_any is_foreign actions ≡ false
 
@@ -33,7 +33,7 @@ pub record HasWorld (from : World) (word_of_a word_of_b : List ℕ → ℕ) (act
   pub runs : Runs actions from world
   pub images : AreImages word_of_a word_of_b world to
 
--- For any options, words, checksum functions and actions that fit, and the turns of these actions.
+-- For any options, words, checksum functions and actions that fit, and the trace of these actions.
 abbrev pub TracesHaveWorlds : Type 0
 TracesHaveWorlds =
     (a b : Options) (words_a words_b : Stream) (word_of_a word_of_b : List ℕ → ℕ) (actions : List Action) (turns : List (Bool × EndAction))

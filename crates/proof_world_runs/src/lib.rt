@@ -15,14 +15,14 @@ pub fn traces_have_worlds()
 
 /// All that `worlds_compose` of `proof_world` asks can be had. In one run of a new world, computed, the rules are followed,
 /// no association is over and the bounds are kept, while of three messages that are sent on one stream the packet of the second is
-/// lost, and it may not be sent again. It is given up, the others become ready, the first is told as delivered, and in the end the
+/// lost, and it may not be sent again. It is given up, the others become ready, the first is reported as delivered, and in the end the
 /// sender is at rest.
 pub fn a_message_is_skipped()
     ensures { OneIsSkipped }
 {}
 
 /// It can be had with resets, too. In one run of a new world, computed, a message is sent, its stream is reset, twice, and another message
-/// is accepted before the answer comes. The first is of epoch 0, the second of epoch 1; both become ready, and each end tells once
+/// is accepted before the answer comes. The first is of epoch 0, the second of epoch 1; both become ready, and each end emits once
 /// that the stream was reset.
 pub fn a_stream_is_reset()
     ensures { OneIsReset }

@@ -31,7 +31,7 @@ pub record IsFresh (w : World) : Type 0 where
   pub word_of : List ℕ → ℕ
   pub is : w ≡ fresh_world defaults defaults a b word_of word_of
 
--- each end was told once that it is connected, and the associations that they hold are mirrored
+-- each end emitted once that it is connected, and the associations that they hold are mirrored
 pub record IsOpen (w : World) : Type 0 where
   pub association : Association
   pub held_by_a : held A w.log ≡ Some association

@@ -1,4 +1,4 @@
--- What a judge sees of two ends: the log, and what is read off it alone.
+-- What is observed of two ends: the log, and what is read off it alone.
 use Rattle.std.specs.Prelude.{ℕ, ◌+◌, ◌==◌, ◌&&◌, Bool, true, false, Option, Some, None, List, [], ◌∷◌, length, codes}
 use Rattle.std.specs.List.{flat_map, list_any}
 use Rattle.sctp_serial.specs.Messages.{Message}
@@ -146,7 +146,7 @@ abbrev pub connected_by : End → Entry → List End
 connected_by x (Happened y OnConnected) = none_unless (same_end x y) y
 connected_by x entry = []
 
--- how often this end told that it is connected
+-- how often this end emitted that it is connected
 abbrev pub times_connected : End → List Entry → ℕ
 times_connected x log = length (flat_map (connected_by x) log)
 
@@ -162,6 +162,6 @@ abbrev pub held_from : End → Option Association → List Entry → Option Asso
 held_from x held [] = held
 held_from x held (entry ∷ log) = held_from x (held_after x held entry) log
 
--- the association that this end holds: the last one that the log tells
+-- the association that this end holds: the last one that the log has
 abbrev pub held : End → List Entry → Option Association
 held x log = held_from x None log

@@ -91,7 +91,7 @@ news x packets ready old s =
 abbrev pub news_of : End → Side → Endpoint (List ℕ) → List Entry
 news_of x side s = news x (length side.packets) (length (ready_at side.socket)) (association side.socket) s
 
--- all that it told is taken
+-- all that it emitted is taken
 abbrev pub quiet : Endpoint (List ℕ) → Endpoint (List ℕ)
 quiet s = record s { endpoint_state = record s.endpoint_state { context = record s.endpoint_state.context { emitted = silent } } }
 
@@ -114,7 +114,7 @@ abbrev pub with_side : End → Side → List Entry → World → World
 with_side A side log w = record w { a = side; log = log }
 with_side B side log w = record w { b = side; log = log }
 
--- an end went on to s, and this entry tells of it
+-- an end went on to s, and this entry says so
 abbrev pub record_news : End → Entry → Endpoint (List ℕ) → World → World
 record_news x first s w = with_side x (take_emitted (side_of x w) s) (w.log ++ first ∷ news_of x (side_of x w) s) w
 
@@ -196,7 +196,7 @@ pub record Gives (x : End) (packet : ℕ) (w v : World) : Type 0 where
 abbrev pub IsJudged : (bytes : List ℕ) → Endpoint (List ℕ) → (is_refused : Bool) → Type 0
 IsJudged bytes s is_refused = Judges s.endpoint_state.context.pack.word_of bytes s.endpoint_state.context.options s.endpoint_state.state is_refused
 
--- bytes from elsewhere: they are told to an end that refuses them, and else skipped
+-- bytes from elsewhere: they are given to an end that refuses them, and else skipped
 pub data ComesTo (x : End) (bytes : List ℕ) (old new : Side) (log longer : List Entry) : Type 0 where
   taken_in : (t : TakesBytes x (Foreign x (clock old.socket) (Some bytes)) bytes old new log longer) → IsJudged bytes old.socket true → ComesTo x bytes old new log longer
   skipped : IsJudged bytes old.socket false → new ≡ old → longer ≡ log ++ Foreign x (clock old.socket) None ∷ [] → ComesTo x bytes old new log longer
