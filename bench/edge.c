@@ -1,5 +1,5 @@
 /* Two sockets through sctp.h, with no checksums: 1,000 messages of 1,000 bytes from one to the other, ten ahead. With an argument what is
- * handed out is copied, else it is lent. Says how many events were told and how many messages came. */
+ * handed out is copied, else it is lent. Says how many events were emitted and how many messages came. */
 #include "sctp.h"
 #include <stdio.h>
 

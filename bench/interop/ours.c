@@ -133,7 +133,7 @@ static void take_event(const sctp_event *event, const uint8_t *bytes) {
     }
 }
 
-/* Takes the messages that are ready, and what ours tells. */
+/* Takes the messages that are ready, and what ours emits. */
 void take_from_ours(void) {
     static uint8_t buffer[1 << 19];
     sctp_event event;

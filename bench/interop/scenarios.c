@@ -33,7 +33,7 @@ static void settle(void) {
           m->given_up ? ", given up" : "", m->ended ? ", ended" : "");
 }
 
-/* Nothing is told twice, and nothing that wasn't asked for. */
+/* Nothing is emitted twice, and nothing that wasn't asked for. */
 static void check(void) {
     for (int side = OURS; side <= THEIRS; side++) {
         struct told *told = &world->told[side];

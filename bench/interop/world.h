@@ -12,7 +12,7 @@ enum side { OURS, THEIRS, BOTH };
 #define SECOND 1000000000ull
 #define STREAMS 64
 
-/* What an end was told; of resets the streams are counted. */
+/* What an end emitted; of resets the streams are counted. */
 struct told {
     unsigned connected, closed, aborted, restarted, asked, reset, was_reset, denied, errors;
 };

@@ -240,7 +240,7 @@ static void short_buffers(sctp_socket *a, sctp_socket *b) {
     is("no other", sctp_next_message(b, &message, buffer, 4), SCTP_NOTHING);
 }
 
-/* Hands the packets of one end to the other as they are lent, four times. Answers how many events of a kind the other end told. */
+/* Hands the packets of one end to the other as they are lent, four times. Answers how many events of a kind the other end emitted. */
 static int lend_packets(sctp_socket *from, sctp_socket *to, uint32_t kind) {
     const uint8_t *bytes;
     sctp_event event;

@@ -11,7 +11,7 @@ static void must(const char *what, uint32_t answer) {
     }
 }
 
-/* Takes all that a socket tells, and hands its packets to the other end. Answers how many there were. */
+/* Takes all that a socket emits, and hands its packets to the other end. Answers how many there were. */
 static int take_events(const char *name, sctp_socket *from, sctp_socket *to) {
     const uint8_t *bytes;
     sctp_event event;

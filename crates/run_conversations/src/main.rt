@@ -20,7 +20,7 @@ use sctp_world::{ScriptFault, run_script};
 use std::alloc::{AllocError, Global};
 use std::io;
 
-/// Runs a script in a world from the start. A line that is no command ends it, and is told.
+/// Runs a script in a world from the start. A line that is no command ends it, and is printed.
 fn answer_in_one(rt: &HostRuntime, script: &str) -> Result<(), ScriptFault> {
     let mut reader = script.as_bytes();
     let mut writer = io::writer(rt);

@@ -1,8 +1,8 @@
 //! Packets that are cut short, and packets with other lengths: says what the reading of each gives.
 //!
 //! Standard input has a command a line, and is answered on standard output; a line that begins with `#` is printed.
-//! HEX is bytes as hex digits, other words are decimal numbers. Answers that follow one another and are equal are told once, behind
-//! the first and the last of what they answer. Each is told twice: with any checksum let through, and with the packet's own alone, which
+//! HEX is bytes as hex digits, other words are decimal numbers. Answers that follow one another and are equal are printed once, behind
+//! the first and the last of what they answer. Each is printed twice: with any checksum let through, and with the packet's own alone, which
 //! is the sum of its bytes.
 //!
 //! | command | answers |

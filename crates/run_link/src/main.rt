@@ -1,7 +1,7 @@
 //! Two sockets over a link in memory that loses packets: the loop in which an owner drives a socket.
 //!
 //! Standard input has a conversation a line. At `talk` three messages cross once the sockets are connected, and the association shuts
-//! down, while every third packet is lost; what each socket tells and hands out is printed, and when time passes. A line of numbers is a
+//! down, while every third packet is lost; what each socket emits and hands out is printed, and when time passes. A line of numbers is a
 //! plan for many messages (`soak`). A line that begins with `#` is printed.
 #![tactic(auto)]
 
@@ -54,8 +54,8 @@ fn new_end<S>(rt: &HostRuntime, socket: S) -> End<S> {
     }
 }
 
-/// One turn: what came is handed in, the time is told, and all that the socket tells and has ready is taken. Answers by which moment
-/// the time is to be told again.
+/// One turn: what came is handed in, the time is advanced, and all that the socket emits and has ready is taken. Answers by which moment
+/// the time is to be advanced again.
 fn turn<S: DcSctpSocket>(end: &mut End<S>, now: SocketTime) -> Result<SocketTime> {
     for bytes in end.came.drain(..) {
         end.socket.handle_input(&bytes)?;
@@ -77,7 +77,7 @@ fn turn<S: DcSctpSocket>(end: &mut End<S>, now: SocketTime) -> Result<SocketTime
     Ok(end.socket.poll_timeout())
 }
 
-/// Prints what the socket told and handed out.
+/// Prints what the socket emitted and handed out.
 fn show<S>(rt: &HostRuntime, name: &str, end: &mut End<S>) -> Result<()> {
     for event in end.told.drain(..) {
         println!(rt; "{name} {event:?}")?;

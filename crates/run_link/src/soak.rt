@@ -2,7 +2,7 @@
 //!
 //! Every third message is partially reliable: it is sent again at most once, or not at all. When both ends have sent so many messages
 //! as the last number of a plan says, and again at the end, the conversation stops until all is quiet, and what came and what the sockets
-//! hold is told; behind the word `packets` also how many packets it took.
+//! hold is printed; behind the word `packets` also how many packets it took.
 
 mod course;
 mod end;

@@ -29,14 +29,14 @@ pub trait Receiver {
     fn bytes(&self) -> usize;
 }
 
-/// Takes the next message that is ready, and tells it.
+/// Takes the next message that is ready, and prints it.
 pub fn tell_next(alloc: Global, message: Option<Message>, output: &mut String) -> Told {
     let outcome = tell_message(alloc, message.as_ref(), output);
     drop(message);
     outcome
 }
 
-/// Tells how many messages are ready, and how many bytes are held.
+/// Prints how many messages are ready, and how many bytes are held.
 pub fn tell_sums<R: Receiver>(receiver: &R, output: &mut String) -> Told {
     let (count, bytes) = (receiver.len(), receiver.bytes());
     write!(output, "ready {count}, bytes {bytes}")

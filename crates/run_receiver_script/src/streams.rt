@@ -146,7 +146,7 @@ impl<S: ReassemblyStreams> Streams<S> {
         Ok(())
     }
 
-    // Fragments come: tells, for each, which messages become ready, and how many bytes are held then.
+    // Fragments come: prints, for each, which messages become ready, and how many bytes are held then.
     fn come(&mut self, alloc: Global, words: &[&str], output: &mut String) -> Told {
         for word in words.iter().skip(1) {
             self.take_one(alloc, value(word))?;

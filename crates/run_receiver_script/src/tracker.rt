@@ -59,7 +59,7 @@ impl Tracker {
         }
     }
 
-    // TSNs come, each so many times: `+` is told where it is new, else `-`.
+    // TSNs come, each so many times: `+` is printed where it is new, else `-`.
     fn come(&mut self, words: &[&str], times: u8, is_immediate: bool, output: &mut String) -> Told {
         for word in words.iter().skip(1) {
             for _ in 0..times {
@@ -100,7 +100,7 @@ impl Tracker {
         }
     }
 
-    // A test is answered, a change is told.
+    // A test is answered, a change is printed.
     fn answer(&mut self, name: &str, word: &str, output: &mut String) -> Told {
         match self.test(name, self.tsn(word)) {
             Some(answer) => output.push_str(yes_or_no(answer)),

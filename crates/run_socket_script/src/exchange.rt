@@ -44,7 +44,7 @@ fn pass_time<S: Driven>(rt: &HostRuntime, a: &mut Side<S>, b: &mut Side<S>) -> a
     Ok(())
 }
 
-/// Hands over what each end sent; where nothing is on its way, time passes. Then what the sockets tell is taken.
+/// Hands over what each end sent; where nothing is on its way, time passes. Then what the sockets emit is taken.
 fn go_on<S: Driven>(
     rt: &HostRuntime,
     a: &mut Side<S>,

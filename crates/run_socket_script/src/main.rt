@@ -1,5 +1,5 @@
 //! Two sockets that are driven by lines: runs each script of standard input on two new sockets, and prints what the calls answer
-//! and what the sockets tell.
+//! and what the sockets emit.
 //!
 //! A script is what stands behind a line that begins with `#`, which says what the script shows and is printed too. Lines that begin
 //! with `make` say what the sockets are made with (`setup`), the others what happens to them (`moves`).

@@ -109,7 +109,7 @@ fn renew<S: Driven>(
     tell_refusal(rt, side.name, side.socket.restore_from_state(state))
 }
 
-/// The socket is handed over to a new one; where it isn't ready, it tells why.
+/// The socket is handed over to a new one; where it isn't ready, it says why.
 fn replace<S: Driven>(rt: &HostRuntime, side: &mut Side<S>) -> anyhow::Result<bool> {
     match side.socket.get_handover_state_and_close() {
         Ok(state) => {
@@ -237,7 +237,7 @@ fn act_with<S: Driven>(
     }
 }
 
-/// What happens at an end, and what it tells of it.
+/// What happens at an end, and what it emits of it.
 fn act<S: Driven>(
     rt: &HostRuntime,
     side: &mut Side<S>,
@@ -265,7 +265,7 @@ fn give_and_tell<S: Driven>(
     Ok(true)
 }
 
-/// A moment is told, in milliseconds.
+/// Time is advanced to a moment, in milliseconds.
 fn tell_time<S: Driven>(
     rt: &HostRuntime,
     side: &mut Side<S>,

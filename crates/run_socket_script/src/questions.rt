@@ -19,7 +19,7 @@ fn tell_state<S: Driven>(rt: &HostRuntime, side: &Side<S>) -> anyhow::Result<boo
     Ok(true)
 }
 
-/// The moment that it was told, and the one at which it has something to do, in milliseconds.
+/// The moment to which its time was advanced, and the one at which it has something to do, in milliseconds.
 fn tell_moments<S: Driven>(rt: &HostRuntime, side: &Side<S>) -> anyhow::Result<bool> {
     let clock = milliseconds_of(side.socket.moment());
     let timeout = milliseconds_of(side.socket.poll_timeout());

@@ -4,7 +4,7 @@ use crate::driven::Driven;
 use crate::moves::run_line;
 use sctp_state::CallError;
 
-/// A socket, and all packets that it told.
+/// A socket, and all packets that it emitted.
 pub struct Side<S> {
     pub name: &'static str,
     pub socket: S,

@@ -1,4 +1,4 @@
-//! What a socket tells, and what it answers, is printed.
+//! What a socket emits, and what it answers, is printed.
 
 use crate::driven::Driven;
 use crate::payload::payload_text;
@@ -94,7 +94,7 @@ fn tell_given_up(rt: &HostRuntime, name: &str, gone: GivenUp) -> anyhow::Result<
     Ok(())
 }
 
-/// What a socket has told since it was looked at last. Packets are kept, and not printed where `is_quiet`.
+/// What a socket has emitted since it was looked at last. Packets are kept, and not printed where `is_quiet`.
 pub fn take_told<S: Driven>(
     rt: &HostRuntime,
     side: &mut Side<S>,

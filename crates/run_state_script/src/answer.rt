@@ -7,7 +7,7 @@ use std::fmt::Display;
 /// What a command answers.
 #[derive(Clone, Copy)]
 pub enum Answer {
-    /// It is done. What it answers, if anything, has been told.
+    /// It is done. What it answers, if anything, has been printed.
     Done,
     /// Yes or no.
     Flag(bool),
@@ -30,7 +30,7 @@ pub struct Line<'a> {
 
 /// What is tried in a section.
 pub trait Subject {
-    /// Does what the line says. What is told goes behind the line.
+    /// Does what the line says. What is printed goes behind the line.
     fn obey(
         &mut self,
         alloc: Global,
@@ -101,7 +101,7 @@ pub fn bytes_of(alloc: Global, digits: &str) -> Result<Option<Vec<u8>>, AllocErr
     }
 }
 
-/// Lets the subject do each of the commands, and tells the answers.
+/// Lets the subject do each of the commands, and prints the answers.
 pub fn run_commands<S: Subject>(
     alloc: Global,
     commands: &str,
@@ -127,13 +127,13 @@ fn finish(output: &mut String, answer: Answer) -> Result<(), AllocError> {
     }
 }
 
-/// Tells a value's text.
+/// Prints a value's text.
 pub fn tell<T: Display>(output: &mut String, value: &T) -> Result<Answer, AllocError> {
     write!(output, ": {value}")?;
     Ok(Answer::Done)
 }
 
-/// Tells bytes, in hex.
+/// Prints bytes, in hex.
 pub fn tell_hex(alloc: Global, output: &mut String, bytes: &[u8]) -> Result<Answer, AllocError> {
     let digits = hex::encode(alloc, bytes)?;
     let outcome = tell(output, &digits);
@@ -141,7 +141,7 @@ pub fn tell_hex(alloc: Global, output: &mut String, bytes: &[u8]) -> Result<Answ
     outcome
 }
 
-/// Tells values, each with its name. A flag is 1 or 0.
+/// Prints values, each with its name. A flag is 1 or 0.
 pub fn tell_all(output: &mut String, values: &[(&str, u128)]) -> Result<Answer, AllocError> {
     output.push_str(":")?;
     for (name, value) in values {

@@ -11,7 +11,7 @@ use sctp_state::Options;
 use sctp_wire::{ChunkParseError, all_encodable, parameters_serialize_to};
 use std::alloc::{AllocError, Global};
 
-/// What an end has been set to, and what it was told last.
+/// What an end has been set to, and what was announced to it last.
 #[derive(Clone, Copy)]
 struct End {
     options: Options,
@@ -79,7 +79,7 @@ fn write_parameters(
     tell_hex(alloc, output, &bytes)
 }
 
-// What is no list of parameters tells nothing.
+// What is no list of parameters announces nothing.
 fn read(alloc: Global, told: &mut Capabilities, line: Line<'_>) -> Result<(), AllocError> {
     match bytes_of(alloc, line.last)? {
         Some(bytes) => read_parameters(alloc, told, line.numbers, &bytes),

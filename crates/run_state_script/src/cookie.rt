@@ -21,7 +21,7 @@ pub fn run(alloc: Global, commands: &str, output: &mut String) -> Result<(), All
 }
 
 impl Subject for StateCookie {
-    /// `write`: the bytes. `read HEX`: takes the cookie of these bytes, or tells why they are none. `show`, `capabilities`, and
+    /// `write`: the bytes. `read HEX`: takes the cookie of these bytes, or says why they are none. `show`, `capabilities`, and
     /// what can be set.
     fn obey(
         &mut self,

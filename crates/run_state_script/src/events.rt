@@ -1,4 +1,4 @@
-//! `events`: what a socket tells, and the records of messages given up.
+//! `events`: what a socket emits, and the records of messages given up.
 
 use crate::answer::{Answer, Line, Subject, bytes_of, low_half, low_word, run_commands, tell_all};
 use sctp_serial::{LifecycleId, OutgoingMessageId, StreamId};

@@ -69,7 +69,7 @@ abbrev pub with_clock : observations.End → ℕ → Clocks → Clocks
 with_clock observations.A moment clocks = record { a = stamp moment; b = clocks.b }
 with_clock observations.B moment clocks = record { a = clocks.a; b = stamp moment }
 
--- calls, packets that are given, bytes from elsewhere and moments tell the clock of their end
+-- calls, packets that are given, bytes from elsewhere and moments have the clock of their end
 abbrev pub clocks_after : Clocks → observations.Entry → Clocks
 clocks_after clocks (observations.Called x clock call answer) = with_clock x clock clocks
 clocks_after clocks (observations.Given x clock number) = with_clock x clock clocks

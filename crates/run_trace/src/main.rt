@@ -1,8 +1,8 @@
 //! Draws a conversation of two sockets: reads the commands of `sctp-world` from standard input, and writes what its one argument names:
 //! `text`, a ladder; `chart`, the same as an SVG; `pcap`, the packets as a pcapng capture.
 //!
-//! Status 0 at the end of input; 1 at a line that is no command, which standard output tells, for `chart` and `pcap` standard error;
-//! 1 also without such an argument, told on standard error; 2, without a text, at want of memory or a failed read or write. A chart or a capture is
+//! Status 0 at the end of input; 1 at a line that is no command, which is printed on standard output, for `chart` and `pcap` standard error;
+//! 1 also without such an argument, printed on standard error; 2, without a text, at want of memory or a failed read or write. A chart or a capture is
 //! written when it is whole, or not at all. What `probe` and `show` print is left out.
 #![tactic(auto)]
 

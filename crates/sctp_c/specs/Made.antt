@@ -11,7 +11,7 @@ use Rattle.sctp_c_records.specs.declared.options.OptionsRecord.{OptionsRecord}
 use Rattle.sctp_c.specs.Calls.{end_of, stream}
 use Rattle.sctp_c.specs.declared.endpoint.Endpoint.{Endpoint}
 
--- a closed socket at moment zero, which has told nothing
+-- a closed socket at moment zero, which has emitted nothing
 pub record IsFresh (options : Options) (checksum : PacketChecksum) (rng : Lcg) (e : Endpoint) : Type 0 where
   pub start : end_of e.socket ≡ fresh options (writing (word_by checksum)) (stream rng)
   pub working : e.socket.has_failed ≡ false

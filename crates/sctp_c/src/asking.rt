@@ -24,7 +24,7 @@ pub extern "C" fn sctp_answer_text(answer: u32, buffer: &mut [u8]) -> usize {
     text.len()
 }
 
-/// The moment by which the time is to be told next, in nanoseconds; the greatest number where no timer runs.
+/// The moment by which the time is to be advanced next, in nanoseconds; the greatest number where no timer runs.
 #[unsafe(no_mangle)]
 pub extern "C" fn sctp_poll_timeout(socket: &mut Handle, nanos: &mut u64) -> u32
     ensures due { Tells (λ s. time.poll_timeout (end_of s).endpoint_state < 2 ^ 64 → nanos.new ≡ time.poll_timeout (end_of s).endpoint_state) socket.old.held result socket.new.held }

@@ -15,7 +15,7 @@ use sctp_c_records::answers::{INVALID_ARGUMENT, INVALID_STREAM, NO_SOCKET, SHORT
 use sctp_c_records::{OutgoingRecord, SendRecord};
 use std::alloc::Global;
 
-/// Queues copies of messages, and sends as much as may be sent. Each message's answer is told.
+/// Queues copies of messages, and sends as much as may be sent. Each message's answer is handed out.
 #[unsafe(no_mangle)]
 pub extern "C" fn sctp_send_many(
     alloc: Global,

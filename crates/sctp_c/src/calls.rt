@@ -57,7 +57,7 @@ pub extern "C" fn sctp_handle_input(socket: &mut Handle, bytes: &[u8]) -> u32
     }
 }
 
-/// Tells the time, in nanoseconds since the socket was made.
+/// Advances the time, in nanoseconds since the socket was made.
 #[unsafe(no_mangle)]
 pub extern "C" fn sctp_advance_time(socket: &mut Handle, nanos: u64) -> u32
     ensures { Makes (λ s f. f ≡ on_endpoint_state (time.advance nanos) (end_of s)) socket.old.held result socket.new.held }

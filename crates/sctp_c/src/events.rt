@@ -1,4 +1,4 @@
-//! What a socket told, handed out or lent. What doesn't fit stays.
+//! What a socket emitted, handed out or lent. What doesn't fit stays.
 
 ghost use Rattle.std.specs.Prelude.{◌≡◌, [], ◌∷◌, length, drop};
 ghost use Rattle.sctp_c.specs.Calls.{Answers};
@@ -12,7 +12,7 @@ use sctp_c_records::EventRecord;
 use sctp_c_records::answers::NO_SOCKET;
 use std::alloc::Global;
 
-/// Hands out the event that was told first. Where it doesn't fit its length is told, and it stays.
+/// Hands out the event that was emitted first. Where it doesn't fit its length is handed out, and it stays.
 #[unsafe(no_mangle)]
 pub extern "C" fn sctp_poll_event(
     alloc: Global,
@@ -35,7 +35,7 @@ pub extern "C" fn sctp_poll_event(
     }
 }
 
-/// Hands out the event that was told first, and lends its bytes until the next call. Where there is no memory for those of streams, it
+/// Hands out the event that was emitted first, and lends its bytes until the next call. Where there is no memory for those of streams, it
 /// stays.
 #[unsafe(no_mangle)]
 pub extern "C" fn sctp_borrow_event(

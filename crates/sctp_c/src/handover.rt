@@ -15,7 +15,7 @@ use sctp_c_calls as calls;
 use sctp_c_records::answers::NO_SOCKET;
 use std::alloc::Global;
 
-/// Hands out the socket's record, and the socket closes. Where it doesn't fit its length is told, and it stays.
+/// Hands out the socket's record, and the socket closes. Where it doesn't fit its length is handed out, and it stays.
 #[unsafe(no_mangle)]
 pub extern "C" fn sctp_handover(
     alloc: Global,

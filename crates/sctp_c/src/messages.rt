@@ -16,7 +16,7 @@ use sctp_c_records::answers::{INVALID_ARGUMENT, INVALID_STREAM, NO_SOCKET};
 use sctp_c_records::{MessageRecord, SendRecord};
 use std::alloc::Global;
 
-/// Hands out the message that was ready first. Where it doesn't fit its length is told, and it stays.
+/// Hands out the message that was ready first. Where it doesn't fit its length is handed out, and it stays.
 #[unsafe(no_mangle)]
 pub extern "C" fn sctp_next_message(
     socket: &mut Handle,

@@ -19,7 +19,7 @@ ending_at (suc zero) = RanOut
 ending_at (suc (suc zero)) = HadFailed
 ending_at (suc (suc (suc n))) = Worked
 
--- what a call answers that tells nothing else
+-- what a call answers that says nothing else
 abbrev pub call_number : Result (Unit {0}) CallError → ℕ
 call_number (Ok done) = 0
 call_number (Err calls.Memory) = 1

@@ -14,7 +14,7 @@ use rand_core::Rng;
 use sctp_association::{Checksum, DcSctpSocket, Socket, SocketState, StreamId};
 use sctp_c_records::MetricsRecord;
 
-/// The moment by which the time is to be told next, in nanoseconds; the greatest number where none so early is.
+/// The moment by which the time is to be advanced next, in nanoseconds; the greatest number where none so early is.
 pub fn nanos_until<R: Rng, C: Checksum>(socket: &Socket<R, C>) -> u64
     ensures due { time.poll_timeout (endpoint R.stream C.word_of socket.now).endpoint_state < 2 ^ 64 → result ≡ time.poll_timeout (endpoint R.stream C.word_of socket.now).endpoint_state }
     ensures never { 2 ^ 64 ≤ time.poll_timeout (endpoint R.stream C.word_of socket.now).endpoint_state → result ≡ 2 ^ 64 - 1 }

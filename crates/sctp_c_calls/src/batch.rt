@@ -67,7 +67,7 @@ fn tell(answers: &mut [u32], mut own: Vec<u32>, refusals: &[(usize, SendError)])
     front.copy_from_slice(&own);
 }
 
-/// Queues copies of messages, and sends as much as may be sent. Each message's answer is told.
+/// Queues copies of messages, and sends as much as may be sent. Each message's answer is handed out.
 pub fn send_many<R: Rng, C: Checksum>(
     alloc: Global,
     socket: &mut Socket<R, C>,

@@ -50,7 +50,7 @@ pub fn handle_input<R: Rng, C: Checksum>(socket: &mut Socket<R, C>, bytes: &[u8]
     call_number(socket.handle_input(bytes))
 }
 
-/// Tells the time, in nanoseconds since the socket was made.
+/// Advances the time, in nanoseconds since the socket was made.
 pub fn advance_time<R: Rng, C: Checksum>(socket: &mut Socket<R, C>, nanos: u64) -> u32
     ensures answers { IsAmong (0 ∷ 1 ∷ 2 ∷ []) result }
     ensures ends { Ends (ending_at result) socket.old socket.new }

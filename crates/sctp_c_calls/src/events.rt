@@ -1,4 +1,4 @@
-//! What a socket told, handed out or lent. What doesn't fit stays.
+//! What a socket emitted, handed out or lent. What doesn't fit stays.
 
 ghost use Rattle.std.specs.Prelude.{◌≡◌, None, [], ◌∷◌, length, drop, option_map};
 ghost use Rattle.sctp_c_calls.specs.Answers.{IsAmong, OnAnswer, OnOthers};
@@ -11,7 +11,7 @@ use sctp_c_records::answers::{NO_ROOM, NOTHING, OK, SHORT_BUFFER};
 use sctp_c_records::{EventParts, EventRecord, hand_out, parts_of};
 use std::alloc::Global;
 
-/// Takes out the event that was told first: the one that is kept, or else the socket's.
+/// Takes out the event that was emitted first: the one that is kept, or else the socket's.
 fn take_first<R: Rng, C: Checksum>(
     socket: &mut Socket<R, C>,
     kept: &mut Option<SocketEvent>,
@@ -27,7 +27,7 @@ fn take_first<R: Rng, C: Checksum>(
     }
 }
 
-/// Hands out the event that was told first. Where it doesn't fit its length is told, and it is kept.
+/// Hands out the event that was emitted first. Where it doesn't fit its length is handed out, and it is kept.
 pub fn poll_event<R: Rng, C: Checksum>(
     alloc: Global,
     socket: &mut Socket<R, C>,
@@ -62,7 +62,7 @@ pub fn poll_event<R: Rng, C: Checksum>(
     }
 }
 
-/// Hands out the event that was told first, whose bytes `lent` has then in place of what it had. Where there is no memory for
+/// Hands out the event that was emitted first, whose bytes `lent` has then in place of what it had. Where there is no memory for
 /// those of streams, the event is kept.
 pub fn borrow_event<R: Rng, C: Checksum>(
     alloc: Global,

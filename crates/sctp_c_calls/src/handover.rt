@@ -56,7 +56,7 @@ fn put_record(
     Ok(put_bytes(&bytes, buffer))
 }
 
-/// Hands out the socket's record, and the socket closes. Where it doesn't fit its length is told, and it is kept.
+/// Hands out the socket's record, and the socket closes. Where it doesn't fit its length is handed out, and it is kept.
 pub fn hand_over<R: Rng, C: Checksum>(
     alloc: Global,
     socket: &mut Socket<R, C>,

@@ -37,7 +37,7 @@ fn show(message: &Message, head: &mut MessageRecord, buffer: &mut [u8]) -> bool
     put_bytes(&message.payload, buffer)
 }
 
-/// Hands out the message that was ready first. Where it doesn't fit its length is told, and it stays.
+/// Hands out the message that was ready first. Where it doesn't fit its length is handed out, and it stays.
 pub fn next_message<R: Rng, C: Checksum>(
     socket: &mut Socket<R, C>,
     head: &mut MessageRecord,

@@ -8,7 +8,7 @@ use sctp_c_records::answers::{
     EMPTY_PAYLOAD, FAILED, MEMORY, MESSAGE_TOO_LARGE, OK, RESOURCE_EXHAUSTION, SHUTTING_DOWN,
 };
 
-/// The number of a call that tells nothing else.
+/// The number of a call that says nothing else.
 pub(crate) fn call_number(outcome: Result<(), CallError>) -> u32
     ensures { result ≡ call_number outcome }
 {

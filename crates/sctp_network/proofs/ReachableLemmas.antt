@@ -1,4 +1,4 @@
--- Unless it has failed, a world that a new one was led to is led on: its new packets are bytes, and what was handed in fits.
+-- Unless it has failed, a reachable world is led on: its new packets are bytes, and what was handed in fits.
 use Rattle.std.proofs.Common.{◌≡◌, ◌<◌, ℕ, ◌+◌, Bool, true, false, List, [], ◌∷◌, ◌++◌, length, get_or, take, drop, map, refl, sym, ap, subst, ◌∙◌}
 use Rattle.std.specs.Prelude.{All, Result, Ok, Err, OnOk, IfErr}
 use Rattle.std.proofs.lemmas.List.{drop_more}

@@ -1,5 +1,5 @@
 //! Two sockets and the network between them: all packets that they ever sent, of which any may be given again, late or
-//! never, and a log of all that a judge sees.
+//! never, and a log of all that is observed.
 #![tactic(auto)]
 
 pub mod arguments;

@@ -1,4 +1,4 @@
-//! One end of a network: a socket with all packets that it ever sent, and what happens at it as a judge sees it.
+//! One end of a network: a socket with all packets that it ever sent, and what is observed of it.
 #![tactic(auto)]
 
 mod calling;

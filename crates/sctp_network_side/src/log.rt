@@ -1,4 +1,4 @@
-//! What happens in a world, and what a judge sees of it.
+//! What happens in a world, and what is observed of it.
 
 ghost use Rattle.std.specs.Prelude.{◌≡◌, ◌++◌, ℕ, [], ◌∷◌, map, IfOk, OnOk, Some};
 ghost use Rattle.sctp_serial.specs.Messages.{message_of};
@@ -79,7 +79,7 @@ pub enum Event {
     Give(usize, End),
     /// Bytes from elsewhere come to an end. Those that it wouldn't refuse are skipped.
     Foreign(End, Vec<u8>),
-    /// The end is told the time.
+    /// The end's time is advanced.
     Time(End, SocketTime),
 }
 
@@ -91,13 +91,13 @@ pub enum Entry {
     Give(End, SocketTime, usize),
     /// The bytes from elsewhere that came, or none where they were skipped.
     Foreign(End, SocketTime, Option<Vec<u8>>),
-    /// The moment that the end was told.
+    /// The moment to which the end's time was advanced.
     Time(End, SocketTime, SocketTime),
     /// The end's association is now this one.
     Association(End, Option<Association>),
     /// The end sent its packet of this number.
     Packet(End, usize),
-    /// The end told this, which is no packet.
+    /// The end emitted this, which is no packet.
     Event(End, SocketEvent),
     /// The end gave a message up.
     GivenUp(End, GivenUp),

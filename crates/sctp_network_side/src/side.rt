@@ -102,7 +102,7 @@ impl<R: Rng, C: Checksum> Side<R, C> {
         }
     }
 
-    /// Logs the entry, takes all that the end told, and logs what is new.
+    /// Logs the entry, takes all that the end emitted, and logs what is new.
     fn settle(
         &mut self,
         alloc: Global,
@@ -156,7 +156,7 @@ impl<R: Rng, C: Checksum> Side<R, C> {
         Ok(self.settle(alloc, end, first, before, log)?)
     }
 
-    /// The end is told the time.
+    /// The end's time is advanced.
     pub fn tell_time(
         &mut self,
         alloc: Global,
@@ -315,7 +315,7 @@ fn take_event(
     Ok(())
 }
 
-/// Takes all events that the end told.
+/// Takes all events that the end emitted.
 fn take_told<R: Rng, C: Checksum>(
     socket: &mut Socket<R, C>,
     packets: &mut Vec<Vec<u8>>,

@@ -39,7 +39,7 @@ pub record IsMessage (chunks : List ChunkTree) (tsn : ℕ) (f : FragmentTree) : 
 
 -- ---- replies
 
--- the window that each reply tells
+-- the window that each reply advertises
 abbrev pub reply_window : ℕ
 reply_window = 4718592
 

@@ -16,7 +16,7 @@ use sctp_packet::{
 use sctp_wire::{Checksum, Message, Policy, Tsn};
 use std::alloc::{AllocError, Global};
 
-/// The window that each reply tells.
+/// The window that each reply advertises.
 const REPLY_WINDOW: u32 = 4718592;
 
 /// The length of each reply: a common header, and a SACK without blocks and duplicates.

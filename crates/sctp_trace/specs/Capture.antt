@@ -1,4 +1,4 @@
--- A capture in the format pcapng: blocks, of which each tells its length at both ends. Numbers have their lowest byte first.
+-- A capture in the format pcapng: blocks, of which each has its length at both ends. Numbers have their lowest byte first.
 use Rattle.std.specs.Prelude.{◌≡◌, ℕ, ◌+◌, ◌/◌, ◌%◌, ◌^◌, Bool, false, List, [], ◌∷◌, ◌++◌, length, codes, replicate, zero, suc, nat_lt}
 use Rattle.std.specs.List.{flat_map, list_any}
 use Rattle.sctp_wire.specs.Item.{padding}
@@ -26,7 +26,7 @@ end_of_options = le32 0
 unfoldable pub block : (kind : ℕ) → (body : List ℕ) → List ℕ
 block kind body = le32 kind ++ (le32 (length body + 12) ++ (body ++ le32 (length body + 12)))
 
--- the order of bytes, version 1.0, and a length that isn't told
+-- the order of bytes, version 1.0, and a length that isn't given
 unfoldable pub section_body : List ℕ
 section_body = le32 0x1a2b3c4d ++ (le16 1 ++ (le16 0 ++ (le32 0xffffffff ++ le32 0xffffffff)))
 

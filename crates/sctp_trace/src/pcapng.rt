@@ -16,7 +16,7 @@ use thiserror::Error;
 /// 2^32.
 const UPPER: u64 = 0x1_0000_0000;
 
-/// The whole block: byte order, version 1.0, and a length that isn't told.
+/// The whole block: byte order, version 1.0, and a length that isn't given.
 const SECTION_HEADER: [u8; 28] = [
     0x0a, 0x0d, 0x0d, 0x0a, 28, 0, 0, 0, 0x4d, 0x3c, 0x2b, 0x1a, 1, 0, 0, 0, 0xff, 0xff, 0xff,
     0xff, 0xff, 0xff, 0xff, 0xff, 28, 0, 0, 0,

@@ -35,7 +35,7 @@ pub record IsHex (word bytes : List ℕ) : Type 0 where
 
 -- ---- commands
 
--- what the bytes of a packet say; an event of the world; a moment that both ends are told, in nanoseconds; the packet of
+-- what the bytes of a packet say; an event of the world; a moment to which the time of both ends is advanced, in nanoseconds; the packet of
 -- this number that an end sent
 pub data Asked : Type 0 where
   probe_of : List ℕ → Asked

@@ -27,7 +27,7 @@ pub enum Command {
     /// `connect X`, `shutdown X`, `close X`, `send X S P HEX ..`, `recv X`, `give X K Y`, `reset X S`, `foreign X HEX`: an
     /// event of the world.
     Event(Event),
-    /// `time MS`: both ends are told the moment.
+    /// `time MS`: the time of both ends is advanced to the moment.
     Time(SocketTime),
     /// `show X K`: the packet of this number, from 0 on, that the end sent.
     Show(End, usize),

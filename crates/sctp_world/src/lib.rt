@@ -1,4 +1,4 @@
-//! Two sockets that talk to each other, what a judge sees of them, and the commands that drive them.
+//! Two sockets that talk to each other, what is observed of them, and the commands that drive them.
 //!
 //! [`World`] has two sockets and all packets that they ever sent, of which any may be given again, late or never. The commands
 //! drive one, a line each; one more, `probe`, reads a packet and answers with its message and the packet that acknowledges it.

@@ -119,7 +119,7 @@ fn tell<S: Soaked>(
     tell_held(rt, name, end)
 }
 
-/// Both ends send; when they have sent as many as are to be looked at first, and at the end, what they hold is told.
+/// Both ends send; when they have sent as many as are to be looked at first, and at the end, what they hold is printed.
 fn converse_as<S: Soaked, R: Rng>(
     rt: &HostRuntime,
     a: &mut End<S>,

@@ -137,7 +137,7 @@ fn take_event<S>(end: &mut End<S>, event: SocketEvent) -> Result<()> {
     }
 }
 
-/// Takes all that the socket tells.
+/// Takes all that the socket emits.
 fn take_told<S: Soaked>(end: &mut End<S>) -> Result<()> {
     for _ in 0..MANY {
         match end.socket.poll_event() {
@@ -163,7 +163,7 @@ fn take_messages<S: Soaked>(end: &mut End<S>) {
     }
 }
 
-/// What came is handed in, the time is told, and all that the socket tells and has ready is taken.
+/// What came is handed in, the time is advanced, and all that the socket emits and has ready is taken.
 pub fn turn<S: Soaked>(end: &mut End<S>, now: SocketTime) -> Result<()> {
     for bytes in end.came.drain(..) {
         end.socket.handle_input(&bytes)?;

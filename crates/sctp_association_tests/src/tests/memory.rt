@@ -38,7 +38,7 @@ fn made(alloc: Global, name: &str, words: u64) -> Result<Socket<Pcg32, Seven>, C
     )
 }
 
-/// The record of an idle end, which tells that it is closed, and nothing else.
+/// The record of an idle end, which emits that it is closed, and nothing else.
 fn hands_over<S: Watched>(socket: &mut S) -> Result<SocketHandoverState, Fault> {
     right(socket.get_handover_readiness().is_ready())?;
     match socket.get_handover_state_and_close() {
@@ -100,7 +100,7 @@ fn refuse<S: Watched>(
     refuses(b, state, RestoreError::SocketNotClosed)
 }
 
-/// The new socket takes the record, and tells that it is connected.
+/// The new socket takes the record, and emits that it is connected.
 fn takes_over<S: Watched>(
     b: &mut S,
     new: &mut S,

@@ -17,7 +17,7 @@ use sctp_wire::Checksum;
 /// it; where memory ran out in the first world, the second isn't stepped. Where it ran out before, in either, the answer is `Memory`.
 ///
 /// Two worlds that began with the same options in pairs and one checksum function, and were led by the same events, show the same whatever
-/// words their ends drew, until an end of the first tells that an association is over, and up to and with the event in which it does.
+/// words their ends drew, until an end of the first emits that an association is over, and up to and with the event in which it does.
 pub fn run_pair<R: Rng, S: Rng, C: Checksum>(
     first: &mut World<R, C>,
     second: &mut World<S, C>,

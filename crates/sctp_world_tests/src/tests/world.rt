@@ -61,7 +61,7 @@ fn message(alloc: Global, bytes: &[u8]) -> Result<Message, AllocError> {
     Ok(Message::new(StreamId(1), PpId(53), payload))
 }
 
-/// Whether the end takes a setting and tells nothing.
+/// Whether the end takes a setting and emits nothing.
 fn takes<W: Watched>(world: &mut W, call: Call) -> Result<bool, WorldError> {
     let before = world.entries().len();
     world.does(Event::Call(End::A, call))?;
@@ -81,7 +81,7 @@ fn is_set<W: Watched>(world: &mut W) -> Result<bool, WorldError> {
     )
 }
 
-/// Whether the last entries of the log tell of a message that was refused with this error, and of nothing more.
+/// Whether the last entries of the log are of a message that was refused with this error, and of nothing more.
 fn refuses<W: Watched>(
     alloc: Global,
     world: &mut W,
@@ -113,7 +113,7 @@ fn open<W: Watched>(world: &mut W) -> Result<(), WorldError> {
     ])
 }
 
-/// Whether a message of three bytes crosses: the sender is at rest when it hears so, and not before.
+/// Whether a message of three bytes crosses: the sender is at rest when it receives so, and not before.
 fn crosses<W: Watched>(alloc: Global, world: &mut W) -> Result<bool, WorldError> {
     let options = SendOptions {
         lifecycle_id: LifecycleId::new(7),
