@@ -9,7 +9,7 @@ pub trait Player {
     fn play(&mut self, alloc: Global, words: &[&str], output: &mut String) -> Told;
 }
 
-// An answer is a line.
+/// An answer is a line.
 fn play_line<P: Player>(alloc: Global, player: &mut P, line: &str, output: &mut String) -> Told {
     let words: Vec<&str> = line.split_whitespace().collect(alloc)?;
     let length = output.len();

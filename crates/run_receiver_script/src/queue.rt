@@ -36,7 +36,7 @@ pub fn run(alloc: Global, words: &[&str], script: &str, output: &mut String) -> 
     outcome
 }
 
-// The record of a socket that has sent nothing.
+/// The record of a socket that has sent nothing.
 fn record(alloc: Global, message_interleaving: bool) -> SocketHandoverState {
     let mut state = SocketHandoverState::empty(alloc);
     state.socket_state = HandoverSocketState::Connected;
@@ -48,7 +48,7 @@ fn record(alloc: Global, message_interleaving: bool) -> SocketHandoverState {
     state
 }
 
-// Whether a record is valid, of a connected socket.
+/// Whether a record is valid, of a connected socket.
 #[tactic(auto, using(sctp_reassembly::proofs::ReceptionLemmas::valid_reception))]
 fn is_valid(state: &SocketHandoverState) -> bool
     ensures { IsTrue result → is_valid_reception state.now.capabilities.message_interleaving (receive_of state.now.rx) ≡ true }
@@ -127,7 +127,7 @@ impl Queue {
         tell_record(&self.state.rx, output)
     }
 
-    // A new queue takes up what was written.
+    /// A new queue takes up what was written.
     fn restore(&mut self, alloc: Global, output: &mut String) -> Told {
         if !is_valid(&self.state) {
             return output.push_str("refused");
@@ -141,7 +141,7 @@ impl Queue {
     }
 }
 
-// The streams with their next numbers, then those of unordered messages.
+/// The streams with their next numbers, then those of unordered messages.
 fn tell_record(rx: &HandoverReceive, output: &mut String) -> Told {
     output.push_str("ordered")?;
     for stream in &rx.ordered_streams {

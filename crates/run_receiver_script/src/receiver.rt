@@ -52,7 +52,7 @@ fn reset<R: Receiver>(alloc: Global, receiver: &mut R, words: &[&str]) -> Told {
     receiver.reset(&ids)
 }
 
-// `add TSN STREAM NUMBER FSN ENDS HEX`, `forward TSN ENTRY ..`, `reset STREAM ..`.
+/// `add TSN STREAM NUMBER FSN ENDS HEX`, `forward TSN ENTRY ..`, `reset STREAM ..`.
 fn change<R: Receiver>(alloc: Global, receiver: &mut R, words: &[&str]) -> Told {
     match word(words, 0) {
         "add" => receiver.add(number(words, 1), fragment_of(alloc, words)?),

@@ -277,7 +277,7 @@ impl<S: Stream> Player for Alone<S> {
 }
 
 impl<S: Stream> Alone<S> {
-    // `add NUMBER INDEX ENDS HEX`, `forward NUMBER INDEX`, `drop NUMBER INDEX`.
+    /// `add NUMBER INDEX ENDS HEX`, `forward NUMBER INDEX`, `drop NUMBER INDEX`.
     fn change(&mut self, alloc: Global, words: &[&str]) -> Result<(), AllocError> {
         let (number, index) = (number(words, 1), number(words, 2));
         match word(words, 0) {

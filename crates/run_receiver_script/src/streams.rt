@@ -146,7 +146,7 @@ impl<S: ReassemblyStreams> Streams<S> {
         Ok(())
     }
 
-    // Fragments come: prints, for each, which messages become ready, and how many bytes are held then.
+    /// Fragments come: prints, for each, which messages become ready, and how many bytes are held then.
     fn come(&mut self, alloc: Global, words: &[&str], output: &mut String) -> Told {
         for word in words.iter().skip(1) {
             self.take_one(alloc, value(word))?;
@@ -185,7 +185,7 @@ fn row_of(words: &[&str]) -> Row {
     }
 }
 
-// The last message that was named and has the TSN.
+/// The last message that was named and has the TSN.
 fn row_with(rows: &[Row], tsn: u64) -> Option<Row> {
     let mut found = None;
     for row in rows {

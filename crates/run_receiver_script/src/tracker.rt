@@ -59,7 +59,7 @@ impl Tracker {
         }
     }
 
-    // TSNs come, each so many times: `+` is printed where it is new, else `-`.
+    /// TSNs come, each so many times: `+` is printed where it is new, else `-`.
     fn come(&mut self, words: &[&str], times: u8, is_immediate: bool, output: &mut String) -> Told {
         for word in words.iter().skip(1) {
             for _ in 0..times {
@@ -75,7 +75,7 @@ impl Tracker {
         self.tracker.is_tsn_valid(tsn) && self.tracker.handle_forward_tsn(self.now, tsn)
     }
 
-    // `due`, `waiting`, `timeout`, `valid TSN`, `next TSN`, `forward TSN`.
+    /// `due`, `waiting`, `timeout`, `valid TSN`, `next TSN`, `forward TSN`.
     fn test(&mut self, name: &str, tsn: Tsn) -> Option<bool> {
         match name {
             "due" => Some(self.tracker.should_send_ack(self.now, false)),
@@ -88,7 +88,7 @@ impl Tracker {
         }
     }
 
-    // `at MS`, `end`, `rto MS`, `force`.
+    /// `at MS`, `end`, `rto MS`, `force`.
     fn change(&mut self, name: &str, millis: u64) {
         let time = Duration::from_millis(millis);
         match name {
@@ -100,7 +100,7 @@ impl Tracker {
         }
     }
 
-    // A test is answered, a change is printed.
+    /// A test is answered, a change is printed.
     fn answer(&mut self, name: &str, word: &str, output: &mut String) -> Told {
         match self.test(name, self.tsn(word)) {
             Some(answer) => output.push_str(yes_or_no(answer)),
@@ -126,7 +126,7 @@ impl Tracker {
         write!(output, "{front} {assembled} {has_seen}")
     }
 
-    // A new tracker takes up what was written.
+    /// A new tracker takes up what was written.
     fn restore(&mut self, alloc: Global, first: Tsn, output: &mut String) -> Told {
         let mut other = DataTracker::new(alloc, first, &Options::default());
         other.restore_from_state(&self.state);
@@ -143,7 +143,7 @@ fn tell_timer(expiry: SocketTime, output: &mut String) -> Told {
     }
 }
 
-// The cumulative TSN, the window, then the blocks, then the duplicates.
+/// The cumulative TSN, the window, then the blocks, then the duplicates.
 fn tell_sack(sack: &SackChunk, output: &mut String) -> Told {
     write!(output, "{} {}", sack.cumulative_tsn_ack.0, sack.a_rwnd)?;
     for block in &sack.gap_ack_blocks {

@@ -79,7 +79,7 @@ fn write_parameters(
     tell_hex(alloc, output, &bytes)
 }
 
-// What is no list of parameters announces nothing.
+/// What is no list of parameters announces nothing.
 fn read(alloc: Global, told: &mut Capabilities, line: Line<'_>) -> Result<(), AllocError> {
     match bytes_of(alloc, line.last)? {
         Some(bytes) => read_parameters(alloc, told, line.numbers, &bytes),

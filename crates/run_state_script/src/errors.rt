@@ -78,7 +78,7 @@ fn tell_batch(output: &mut String, fault: &BatchFault) -> Result<Answer, AllocEr
     tell_number(output, fault.number())
 }
 
-// The second message of a batch is empty.
+/// The second message of a batch is empty.
 fn refused_batch(alloc: Global, output: &mut String) -> Result<Answer, AllocError> {
     let errors = vec![in alloc; (1usize, SendError::EmptyPayload)]?;
     let fault = BatchFault::Refused(BatchSendError(errors));

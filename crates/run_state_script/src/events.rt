@@ -41,7 +41,7 @@ impl Subject for Marked {
     }
 }
 
-// As one that knows nothing but the trait sees it.
+/// As one that knows nothing but the trait sees it.
 fn add<S: EventSink>(events: &mut S, event: SocketEvent) -> Result<Answer, AllocError> {
     events.add(event)?;
     Ok(Answer::Done)

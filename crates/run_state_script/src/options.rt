@@ -79,7 +79,7 @@ fn windows(o: &Options, output: &mut String) -> Result<Answer, AllocError> {
     Ok(Answer::Done)
 }
 
-// In milliseconds, as `intervals`.
+/// In milliseconds, as `intervals`.
 fn timeouts(o: &Options, output: &mut String) -> Result<Answer, AllocError> {
     let values = [
         ("rtt-most", o.rtt_max.as_millis()),

@@ -48,7 +48,7 @@ impl Clocks {
         }
     }
 
-    // An entry may have the clock of its end.
+    /// An entry may have the clock of its end.
     fn read(&mut self, entry: &Entry)
         ensures { self.new ≡ clocks_after self.old (entry_tree entry.now) }
     {

@@ -44,7 +44,7 @@ fn clean(blocks: &mut Vec<GapAckBlock>)
     join_touching(blocks);
 }
 
-// Joins blocks that overlap or follow one another. Each is put at its place in front of those that are still to be read.
+/// Joins blocks that overlap or follow one another. Each is put at its place in front of those that are still to be read.
 fn join_touching(blocks: &mut Vec<GapAckBlock>)
     requires { Ascend 0 blocks.old.items }
     ensures covered { SameOffsets blocks.new.items blocks.old.items }

@@ -10,7 +10,7 @@ use crate::reassembly_key::ReassemblyKey;
 use sctp_serial::Message;
 use std::alloc::{AllocError, Global};
 
-// The payloads of an interval, joined. That of a single fragment is handed on as it came.
+/// The payloads of an interval, joined. That of a single fragment is handed on as it came.
 fn into_payload<K: ReassemblyKey>(
     alloc: Global,
     interval: Interval<K>,

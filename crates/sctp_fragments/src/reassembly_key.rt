@@ -25,7 +25,7 @@ pub trait ReassemblyKey: Copy + Ord {
     fn number(self) -> u64
         ensures { result ≡ number self };
 
-    // A value of the type is a key.
+    /// A value of the type is a key.
     fn known(self)
         ensures { is_key self };
 

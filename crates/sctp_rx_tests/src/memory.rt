@@ -13,7 +13,7 @@ use sctp_state::api::handover::HandoverSocketState;
 use sctp_state::{Options, SocketHandoverState};
 use std::alloc::{AllocError, Global};
 
-// A fragment of one byte; the number is that of its message.
+/// A fragment of one byte; the number is that of its message.
 fn piece(
     alloc: Global,
     stream_key: StreamKey,
@@ -44,7 +44,7 @@ fn add(queue: &mut ReassemblyQueue, tsn: u32, fragment: Data) -> Result<(), Allo
     queue.add(Tsn(tsn), fragment)
 }
 
-// A whole message on an ordered stream.
+/// A whole message on an ordered stream.
 fn give(
     alloc: Global,
     queue: &mut ReassemblyQueue,
@@ -58,7 +58,7 @@ fn give(
     add(queue, tsn, fragment)
 }
 
-// The first fragment or the second of an unordered message.
+/// The first fragment or the second of an unordered message.
 fn give_part(
     alloc: Global,
     queue: &mut ReassemblyQueue,
@@ -71,7 +71,7 @@ fn give_part(
     add(queue, tsn, fragment)
 }
 
-// Forward points name streams in both ways; an entry of the other kind says nothing.
+/// Forward points name streams in both ways; an entry of the other kind says nothing.
 fn pass(queue: &mut ReassemblyQueue, tsn: u32, stream: u16, number: u16) -> Result<(), AllocError> {
     let id = StreamId(stream);
     let entries = [
@@ -108,7 +108,7 @@ fn step(alloc: Global, queue: &mut ReassemblyQueue, i: u32) -> Result<(), AllocE
     }
 }
 
-// Whether all steps were taken; an error ends them.
+/// Whether all steps were taken; an error ends them.
 fn takes_steps(alloc: Global, queue: &mut ReassemblyQueue) -> bool {
     for i in 0..STEPS {
         if step(alloc, queue, i).is_err() {
@@ -123,7 +123,7 @@ fn is_next(queue: &mut ReassemblyQueue, payload: &[u8]) -> Option<bool> {
     Some(message.payload.as_slice() == payload)
 }
 
-// Whether these are ready, in order, and no other; or, where steps are left out, a beginning of them.
+/// Whether these are ready, in order, and no other; or, where steps are left out, a beginning of them.
 fn are_ready(queue: &mut ReassemblyQueue, is_whole: bool) -> bool {
     let payloads = [
         b"cd".as_slice(),
@@ -143,7 +143,7 @@ fn are_ready(queue: &mut ReassemblyQueue, is_whole: bool) -> bool {
     queue.get_next_message().is_none()
 }
 
-// Whether a queue that lacked memory can be used: a reset leaves nothing but what waited.
+/// Whether a queue that lacked memory can be used: a reset leaves nothing but what waited.
 fn can_be_reset(queue: &mut ReassemblyQueue) -> bool {
     if queue.reset_streams_and_leave_deferred_reset(&[]).is_err() {
         return false;
@@ -153,7 +153,7 @@ fn can_be_reset(queue: &mut ReassemblyQueue) -> bool {
     before <= 1 && is_taken == (before == 1) && queue.queued_bytes() == 0
 }
 
-// Whether the queue does as it should, wherever an allocation was refused.
+/// Whether the queue does as it should, wherever an allocation was refused.
 fn is_sound(alloc: Global, is_interleaved: bool) -> bool {
     let mut queue = ReassemblyQueue::new(alloc, 1000, is_interleaved);
     let is_whole = takes_steps(alloc, &mut queue);
@@ -175,7 +175,7 @@ fn takes_all_steps(rt: HostRuntime) {
     assert!(rt; takes_all(rt.alloc(), true));
 }
 
-// Whether a TSN is new, where memory lacks once at most.
+/// Whether a TSN is new, where memory lacks once at most.
 fn observe(tracker: &mut DataTracker, tsn: u32) -> Result<bool, AllocError> {
     let now = SocketTime::zero();
     match tracker.observe(now, Tsn(tsn), false) {
@@ -191,7 +191,7 @@ fn is_sack(sack: &SackChunk) -> bool {
         && sack.duplicate_tsns.as_slice() == [Tsn(10), Tsn(12)].as_slice()
 }
 
-// Whether the SACK is as it should be, where memory lacks once at most.
+/// Whether the SACK is as it should be, where memory lacks once at most.
 fn tells(tracker: &mut DataTracker) -> Result<bool, AllocError> {
     match tracker.create_selective_ack(4711) {
         Ok(sack) => Ok(is_sack(&sack)),
@@ -199,7 +199,7 @@ fn tells(tracker: &mut DataTracker) -> Result<bool, AllocError> {
     }
 }
 
-// Five TSNs with gaps, and two of them again.
+/// Five TSNs with gaps, and two of them again.
 fn tracks_on(tracker: &mut DataTracker) -> Result<bool, AllocError> {
     for tsn in [15, 10, 12, 14] {
         if !observe(tracker, tsn)? {
@@ -219,7 +219,7 @@ fn tracks(alloc: Global) -> Result<bool, AllocError> {
     outcome
 }
 
-// The record of a socket that has sent nothing.
+/// The record of a socket that has sent nothing.
 fn record(alloc: Global, message_interleaving: bool) -> SocketHandoverState {
     let mut state = SocketHandoverState::empty(alloc);
     state.socket_state = HandoverSocketState::Connected;
@@ -231,7 +231,7 @@ fn record(alloc: Global, message_interleaving: bool) -> SocketHandoverState {
     state
 }
 
-// Whether a record is valid, of a connected socket.
+/// Whether a record is valid, of a connected socket.
 #[tactic(auto, using(sctp_reassembly::proofs::ReceptionLemmas::valid_reception))]
 fn is_valid(state: &SocketHandoverState) -> bool
     ensures { IsTrue result → is_valid_reception state.now.capabilities.message_interleaving (receive_of state.now.rx) ≡ true }
@@ -242,7 +242,7 @@ fn is_valid(state: &SocketHandoverState) -> bool
     }
 }
 
-// A message came on stream 3 before the handover, and its record is written.
+/// A message came on stream 3 before the handover, and its record is written.
 fn writes(
     alloc: Global,
     queue: &mut ReassemblyQueue,
@@ -258,7 +258,7 @@ fn takes_up(queue: &mut ReassemblyQueue, state: &SocketHandoverState) -> bool
     queue.restore_from_state(state).is_ok() || queue.restore_from_state(state).is_ok()
 }
 
-// There the second message is in turn.
+/// There the second message is in turn.
 fn is_in_turn(alloc: Global, queue: &mut ReassemblyQueue) -> Result<bool, AllocError> {
     give(alloc, queue, 2, 3, 1, 98)?;
     Ok(is_next(queue, b"b".as_slice()) == Some(true))
@@ -296,7 +296,7 @@ fn goes_on(alloc: Global, is_interleaved: bool) -> Result<bool, AllocError> {
     outcome
 }
 
-// The test to run with a refused allocation.
+/// The test to run with a refused allocation.
 #[test]
 fn tells_want_of_memory(rt: HostRuntime) {
     for is_interleaved in [false, true] {

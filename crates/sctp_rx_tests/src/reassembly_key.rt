@@ -6,7 +6,7 @@ use sctp_rx::{
     leads_to, next_key, touch,
 };
 
-// Whether no key lies between the two, of which the first is the lower one.
+/// Whether no key lies between the two, of which the first is the lower one.
 fn are_neighbours<K: ReassemblyKey>(first: K, second: K) -> bool {
     if !is_before(first, second) {
         return false;
@@ -14,7 +14,7 @@ fn are_neighbours<K: ReassemblyKey>(first: K, second: K) -> bool {
     touch(first, second)
 }
 
-// Whether the second key is the next one behind the first, and the third one isn't.
+/// Whether the second key is the next one behind the first, and the third one isn't.
 fn are_in_a_row<K: ReassemblyKey>(first: K, second: K, third: K) -> bool {
     is_before(first, second)
         && leads_to(first, second)
@@ -26,7 +26,7 @@ fn are_in_a_row<K: ReassemblyKey>(first: K, second: K, third: K) -> bool {
         && !is_same(first, second)
 }
 
-// Whether the second key is the next one, of a message with this number, and equal keys are the same by `==` too.
+/// Whether the second key is the next one, of a message with this number, and equal keys are the same by `==` too.
 fn goes_on<K: ReassemblyKey>(first: K, second: K, number: u64) -> bool
     requires { rank_at K.number K.index first < K.bound }
 {
@@ -55,7 +55,7 @@ fn unordered(number: u64, index: u64) -> UnorderedInterleavedKey
     UnorderedInterleavedKey { number, index }
 }
 
-// Behind the last place of a message comes the first of the next one.
+/// Behind the last place of a message comes the first of the next one.
 #[test]
 fn follow_each_other(rt: HostRuntime) {
     const LAST: u64 = u64::MAX;

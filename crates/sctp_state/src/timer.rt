@@ -133,7 +133,7 @@ impl Timer {
         self.duration
     }
 
-    // Whether the timer stops at its expiry of this number.
+    /// Whether the timer stops at its expiry of this number.
     fn is_last_expiry(max_restarts: Option<u32>, count: u64) -> bool
         ensures { result ≡ is_last max_restarts count }
     {
@@ -143,7 +143,7 @@ impl Timer {
         }
     }
 
-    // The nanoseconds from the expiry of this number to the next one, before they are bounded.
+    /// The nanoseconds from the expiry of this number to the next one, before they are bounded.
     fn doubled(backoff_algorithm: BackoffAlgorithm, duration: Duration, count: u64) -> u128
         ensures value { result ≡ double backoff_algorithm (as_nanos duration) count }
     {

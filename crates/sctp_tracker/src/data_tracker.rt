@@ -39,7 +39,7 @@ pub enum AckState {
 impl AckState {
     ghost use Rattle.sctp_tracker.specs.Tracker.{ack_after, is_ack_due};
 
-    // The state after one more packet.
+    /// The state after one more packet.
     fn after(self, is_urgent: bool) -> AckState
         ensures { result ≡ ack_after is_urgent self }
     {
@@ -315,7 +315,7 @@ impl DataTracker {
         self.seen_packet = state.rx.seen_packet;
     }
 
-    // The number that the TSN stands for.
+    /// The number that the TSN stands for.
     fn unwrapped(&self, tsn: Tsn) -> u64
         ensures value { result ≡ number_of self.now tsn.0 }
         ensures bound { result < 2 ^ 63 + 2 ^ 33 }
@@ -332,7 +332,7 @@ impl DataTracker {
 
 ghost use Rattle.sctp_tracker.specs.Tracker.{ack_delay, is_urgent};
 
-// How long an acknowledgement waits at most.
+/// How long an acknowledgement waits at most.
 fn ack_delay(rto: Duration, most: Duration) -> Duration
     ensures { as_nanos result ≡ ack_delay (as_nanos rto) (as_nanos most) }
 {
@@ -344,7 +344,7 @@ fn ack_delay(rto: Duration, most: Duration) -> Duration
     }
 }
 
-// Whether there is a reason to acknowledge at once.
+/// Whether there is a reason to acknowledge at once.
 fn is_urgent(is_new: bool, has_gap: bool, is_immediate: bool, seen_packet: bool) -> bool
     ensures { result ≡ is_urgent is_new has_gap is_immediate seen_packet }
 {

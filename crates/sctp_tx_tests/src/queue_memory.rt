@@ -10,7 +10,7 @@ use sctp_tx_queue::SendQueue;
 use std::alloc::Global;
 use std::mem;
 
-// Whether a step holds, where memory lacks at the second attempt.
+/// Whether a step holds, where memory lacks at the second attempt.
 fn holds_at_last(alloc: Global, queue: &mut SendQueue, events: &mut Events, step: Step) -> bool {
     match holds(alloc, queue, events, step) {
         Ok(is_so) => is_so,
@@ -41,7 +41,7 @@ fn hold(alloc: Global, steps: &[Step]) -> bool {
     outcome
 }
 
-// Priorities, thresholds, and messages of two fragments, one of them expired and one discarded.
+/// Priorities, thresholds, and messages of two fragments, one of them expired and one discarded.
 fn sends(alloc: Global) -> bool {
     let steps = [
         Priority(2, 7),
@@ -74,7 +74,7 @@ fn sends(alloc: Global) -> bool {
     hold(alloc, &steps)
 }
 
-// Messages that leave whole, of streams that go on or have nothing more, and one that is parted.
+/// Messages that leave whole, of streams that go on or have nothing more, and one that is parted.
 fn sends_whole(alloc: Global) -> bool {
     let steps = [
         Threshold(1, 6),
@@ -99,7 +99,7 @@ fn sends_whole(alloc: Global) -> bool {
     hold(alloc, &steps)
 }
 
-// A reset with a message that waits is performed, one is refused, and all begins again.
+/// A reset with a message that waits is performed, one is refused, and all begins again.
 fn resets(alloc: Global) -> bool {
     let steps = [
         AcceptNamed(1, 6, 7),
@@ -131,7 +131,7 @@ fn resets(alloc: Global) -> bool {
     hold(alloc, &steps)
 }
 
-// Another queue takes up the record of a socket without anything else.
+/// Another queue takes up the record of a socket without anything else.
 fn takes_up(
     queue: &SendQueue,
     other: &mut SendQueue,
@@ -179,7 +179,7 @@ const AFTER: [Step; 7] = [
     IsEmpty(true),
 ];
 
-// Another queue goes on with a message that is partly sent and one that waits.
+/// Another queue goes on with a message that is partly sent and one that waits.
 fn goes_on(alloc: Global) -> bool {
     let mut queue = SendQueue::new(alloc, &Options::default());
     let outcome = all_hold(alloc, &mut queue, &BEFORE)
@@ -189,7 +189,7 @@ fn goes_on(alloc: Global) -> bool {
     outcome
 }
 
-// The test to run with a refused allocation.
+/// The test to run with a refused allocation.
 #[test]
 fn tells_want_of_memory(rt: HostRuntime) {
     assert!(rt; sends(rt.alloc()));

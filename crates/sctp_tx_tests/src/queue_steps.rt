@@ -63,7 +63,7 @@ pub fn at(millis: u64) -> SocketTime {
     SocketTime::zero() + Duration::from_millis(millis)
 }
 
-// Each byte is its place, modulo 256.
+/// Each byte is its place, modulo 256.
 fn bytes(alloc: Global, length: usize) -> Result<Vec<u8>, AllocError> {
     let mut bytes = vec![in alloc; 0; length]?;
     let mut next = 0u8;
@@ -184,7 +184,7 @@ pub fn is_given_up(events: &mut Events, message: u32, cause: GivenUpCause) -> bo
     }
 }
 
-// Whether a question has its answer; a call is none.
+/// Whether a question has its answer; a call is none.
 fn answers(queue: &SendQueue, step: Step) -> bool {
     match step {
         Step::Amount(id, bytes) => queue.buffered_amount(StreamId(id)) == bytes,
@@ -195,7 +195,7 @@ fn answers(queue: &SendQueue, step: Step) -> bool {
     }
 }
 
-// The calls that emit nothing.
+/// The calls that emit nothing.
 fn settles(alloc: Global, queue: &mut SendQueue, step: Step) -> Result<bool, AllocError> {
     match step {
         Step::Accept(id, length) => accept(alloc, queue, id, length, &SendOptions::default()),

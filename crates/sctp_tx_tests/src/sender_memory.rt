@@ -33,8 +33,8 @@ fn seen(sender: &Sender) -> Measures {
     }
 }
 
-// Whether a step that lacked memory left these. A timeout has cut the congestion window, and a packet that was being filled
-// may have taken from the peer's; else all is as it was.
+/// Whether a step that lacked memory left these. A timeout has cut the congestion window, and a packet that was being filled
+/// may have taken from the peer's; else all is as it was.
 fn is_left(before: Measures, after: Measures, step: Step) -> bool {
     match step {
         TimesOut(..) => after
@@ -52,7 +52,7 @@ fn is_left(before: Measures, after: Measures, step: Step) -> bool {
     }
 }
 
-// All that was sent came.
+/// All that was sent came.
 fn acknowledge(alloc: Global, sender: &mut Sender, now: SocketTime) -> Result<(), AllocError> {
     let sack = SackChunk {
         cumulative_tsn_ack: sender.items.last_assigned_tsn(),
@@ -65,7 +65,7 @@ fn acknowledge(alloc: Global, sender: &mut Sender, now: SocketTime) -> Result<()
     Ok(())
 }
 
-// A turn of the sender, at a moment when t3-rtx has expired.
+/// A turn of the sender, at a moment when t3-rtx has expired.
 fn turn(alloc: Global, sender: &mut Sender, now: SocketTime) -> Result<(), AllocError> {
     sender.items.handle_timeout(now, &mut sender.events)?;
     sender
@@ -79,7 +79,7 @@ fn turn(alloc: Global, sender: &mut Sender, now: SocketTime) -> Result<(), Alloc
     acknowledge(alloc, sender, now)
 }
 
-// A turn that lacks memory is followed by another.
+/// A turn that lacks memory is followed by another.
 fn comes_to_rest(alloc: Global, sender: &mut Sender) -> bool {
     for i in 1..12 {
         let _ = turn(alloc, sender, at(100_000 * i));
@@ -87,7 +87,7 @@ fn comes_to_rest(alloc: Global, sender: &mut Sender) -> bool {
     sender.queue.is_empty() && sender.items.is_empty() && sender.items.unacked_packet_bytes() == 0
 }
 
-// Whether these hold up to the first that lacks memory, if one does.
+/// Whether these hold up to the first that lacks memory, if one does.
 fn all_hold(alloc: Global, sender: &mut Sender, steps: &[Step]) -> bool {
     for step in steps {
         let before = seen(sender);
@@ -109,7 +109,7 @@ fn hold(alloc: Global, steps: &[Step]) -> bool {
     outcome
 }
 
-// Three packets are lost; one goes again, and another sender goes on.
+/// Three packets are lost; one goes again, and another sender goes on.
 fn sends_again(alloc: Global) -> bool {
     let steps = [
         Accept(1, 2500),
@@ -127,7 +127,7 @@ fn sends_again(alloc: Global) -> bool {
     hold(alloc, &steps)
 }
 
-// The third report has TSN 10 go again at once.
+/// The third report has TSN 10 go again at once.
 fn recovers(alloc: Global) -> bool {
     let steps = [
         Accept(1, 5800),
@@ -146,7 +146,7 @@ fn recovers(alloc: Global) -> bool {
     hold(alloc, &steps)
 }
 
-// A message's lifetime ends, and the rest of another one leaves the queue; a reset holds the forward point.
+/// A message's lifetime ends, and the rest of another one leaves the queue; a reset holds the forward point.
 fn gives_up(alloc: Global) -> bool {
     let steps = [
         AcceptShort(1, 20, 5),
@@ -173,7 +173,7 @@ fn gives_up(alloc: Global) -> bool {
     hold(alloc, &steps)
 }
 
-// The test to run with a refused allocation.
+/// The test to run with a refused allocation.
 #[test]
 fn tells_want_of_memory(rt: HostRuntime) {
     assert!(rt; sends_again(rt.alloc()));

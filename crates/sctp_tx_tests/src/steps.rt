@@ -206,7 +206,7 @@ fn hand_over(sender: &mut Sender, now: SocketTime) -> Result<bool, AllocError> {
     outcome
 }
 
-// Whether a question has its answer; a call is none.
+/// Whether a question has its answer; a call is none.
 fn answers(sender: &Sender, step: Step) -> bool {
     let items = &sender.items;
     match step {
@@ -218,7 +218,7 @@ fn answers(sender: &Sender, step: Step) -> bool {
     }
 }
 
-// The calls that send and emit nothing.
+/// The calls that send and emit nothing.
 fn settles(sender: &mut Sender, step: Step) -> Result<bool, AllocError> {
     match step {
         Step::Accept(id, size) => put(sender, id, size, &SendOptions::default()),
@@ -234,7 +234,7 @@ fn settles(sender: &mut Sender, step: Step) -> Result<bool, AllocError> {
     }
 }
 
-// The calls that send, or take a packet.
+/// The calls that send, or take a packet.
 fn goes(sender: &mut Sender, step: Step) -> Result<bool, AllocError> {
     match step {
         Step::Sends(millis, tsn, size) => Ok(next(sender, at(millis))? == (Tsn(tsn), size)),

@@ -61,7 +61,7 @@ fn parse_words(alloc: Global, words: &[&[u8]]) -> Result<Option<Command>, AllocE
     }
 }
 
-// The command that begins with this word.
+/// The command that begins with this word.
 fn parse_named(alloc: Global, name: &[u8], rest: &[&[u8]]) -> Result<Option<Command>, AllocError>
     ensures command { IfOk result (λ found. IfSome found (λ command. SpellsWords (name.now ∷ map (λ word. word.now) rest.now) (command_of command))) }
     ensures none { IfOk result (λ found. IfNone found ((asked : Asked) → SpellsWords (name.now ∷ map (λ word. word.now) rest.now) asked → ⊥)) }

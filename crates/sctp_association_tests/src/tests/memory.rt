@@ -157,7 +157,7 @@ fn an_idle_end_goes_on(rt: HostRuntime) {
     assert!(rt; is_handed_over(rt.alloc()).is_ok());
 }
 
-// The test to run with a refused allocation.
+/// The test to run with a refused allocation.
 #[test]
 fn tells_want_of_memory(rt: HostRuntime) {
     let is_right = match is_handed_over(rt.alloc()) {

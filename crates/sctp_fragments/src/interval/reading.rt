@@ -37,7 +37,7 @@ impl<K: ReassemblyKey> Interval<K> {
         bytes
     }
 
-    // How much room the payloads take, where that can be counted.
+    /// How much room the payloads take, where that can be counted.
     fn room(&self) -> usize {
         let mut bytes = 0_usize;
         for index in 0..self.entries.len() {

@@ -62,7 +62,7 @@ impl Duplicates {
     }
 }
 
-// How the numbers are written.
+/// How the numbers are written.
 fn tsns_of(alloc: Global, first: Tsn, numbers: &[u64]) -> Result<Vec<Tsn>, AllocError>
     ensures { IfOk result (λ written. written.items ≡ tsns first.0 numbers.now) }
 {
@@ -72,7 +72,7 @@ fn tsns_of(alloc: Global, first: Tsn, numbers: &[u64]) -> Result<Vec<Tsn>, Alloc
         .collect(alloc)
 }
 
-// Adds a number to those that came again, unless it is there or twenty are.
+/// Adds a number to those that came again, unless it is there or twenty are.
 fn remember(duplicates: &mut Vec<u64>, number: u64) -> Result<(), AllocError>
     ensures ok { OnOk result (duplicates.new.items ≡ with_duplicate number duplicates.old.items) }
     ensures few { length duplicates.old.items ≤ 20 → length duplicates.new.items ≤ 20 }

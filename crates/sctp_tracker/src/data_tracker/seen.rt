@@ -119,7 +119,7 @@ impl Seen {
     }
 }
 
-// The first twenty runs.
+/// The first twenty runs.
 fn first_runs(alloc: Global, runs: &BTreeMap<u64, u64>) -> Result<Vec<(u64, u64)>, AllocError>
     ensures { IfOk result (λ first. first.items ≡ take 20 (map read runs.now.entries)) }
 {
@@ -129,7 +129,7 @@ fn first_runs(alloc: Global, runs: &BTreeMap<u64, u64>) -> Result<Vec<(u64, u64)
         .collect(alloc)
 }
 
-// Runs as offsets from the front, but those whose offsets don't have 16 bits.
+/// Runs as offsets from the front, but those whose offsets don't have 16 bits.
 fn blocks_of(alloc: Global, front: u64, runs: &[(u64, u64)]) -> Result<Vec<GapAckBlock>, AllocError>
     requires { AreRuns front (runs_of runs.now) }
     ensures { IfOk result (λ blocks. blocks.items ≡ blocks_of front (runs_of runs.now)) }
@@ -149,7 +149,7 @@ fn blocks_of(alloc: Global, front: u64, runs: &[(u64, u64)]) -> Result<Vec<GapAc
     Ok(blocks)
 }
 
-// The first run.
+/// The first run.
 fn first_run(runs: &BTreeMap<u64, u64>) -> Option<(u64, u64)>
     ensures { result ≡ slice_get runs.now.entries 0 }
 {
@@ -165,7 +165,7 @@ fn drop_first(runs: &mut BTreeMap<u64, u64>)
     runs.pop_first();
 }
 
-// Takes out the runs that a front at this point reaches, and gives the point to which it moves.
+/// Takes out the runs that a front at this point reaches, and gives the point to which it moves.
 fn pass(runs: &mut BTreeMap<u64, u64>, mut point: u64) -> u64
     requires runs { AreRuns 0 (runs_of runs.old.entries) }
     requires small { max point (last_above 0 (runs_of runs.old.entries)) < 2 ^ 63 }
@@ -181,7 +181,7 @@ fn pass(runs: &mut BTreeMap<u64, u64>, mut point: u64) -> u64
     point
 }
 
-// The last run that begins at the number or before it.
+/// The last run that begins at the number or before it.
 fn run_at(runs: &BTreeMap<u64, u64>, number: u64) -> Option<(u64, u64)>
     ensures { result ≡ run_at number runs.now.entries }
 {
@@ -200,7 +200,7 @@ fn is_held(run: Option<(u64, u64)>, number: u64) -> bool
     }
 }
 
-// Where the number's run begins: at the run before it, if that ends right before it.
+/// Where the number's run begins: at the run before it, if that ends right before it.
 fn first_with(run: Option<(u64, u64)>, number: u64) -> u64
     requires { 0 < number }
     ensures { result ≡ first_with number run }
@@ -211,7 +211,7 @@ fn first_with(run: Option<(u64, u64)>, number: u64) -> u64
     }
 }
 
-// Where the number's run ends: with the run behind it, if that begins right behind it.
+/// Where the number's run ends: with the run behind it, if that begins right behind it.
 fn last_with(runs: &BTreeMap<u64, u64>, number: u64) -> u64
     requires { number < 2 ^ 63 }
     ensures { result ≡ last_with number runs.now.entries }
@@ -222,7 +222,7 @@ fn last_with(runs: &BTreeMap<u64, u64>, number: u64) -> u64
     }
 }
 
-// Adds a number, and says whether it is new.
+/// Adds a number, and says whether it is new.
 fn add_to(runs: &mut BTreeMap<u64, u64>, number: u64) -> Result<bool, AllocError>
     requires within { (0 < number) × (number < 2 ^ 63) }
     requires runs { AreRuns 0 (runs_of runs.old.entries) }

@@ -93,8 +93,8 @@ impl HandoverReadiness {
         0 < self.0 & reason.0
     }
 
-    // Writes the name where the reason is there, behind a comma unless it is the first, and answers whether the next
-    // one would be the first.
+    /// Writes the name where the reason is there, behind a comma unless it is the first, and answers whether the next
+    /// one would be the first.
     fn write_reason<W: fmt::Write>(
         self,
         f: &mut fmt::Formatter<W>,
@@ -115,7 +115,7 @@ impl HandoverReadiness {
         Ok(false)
     }
 
-    // Writes the names of those reasons that are there, joined by commas.
+    /// Writes the names of those reasons that are there, joined by commas.
     fn write_reasons<W: fmt::Write>(
         self,
         f: &mut fmt::Formatter<W>,

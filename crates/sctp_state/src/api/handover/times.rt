@@ -6,7 +6,7 @@ ghost use Rattle.sctp_state.specs.HandoverTimes.{ms_from, moment_from, ms_since,
 use sctp_serial::{LifecycleId, SocketTime};
 use std::time::Duration;
 
-// At most the greatest number of 31 bits.
+/// At most the greatest number of 31 bits.
 fn bounded(millis: u128) -> i32
     ensures { result ≡ pos (min millis (2 ^ 31 - 1)) }
 {

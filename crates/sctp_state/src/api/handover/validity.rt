@@ -254,7 +254,7 @@ fn are_valid_items(items: &[HandoverOutstandingData]) -> bool
     true
 }
 
-// Sums of lengths, which stop at the greatest number.
+/// Sums of lengths, which stop at the greatest number.
 fn queued_bytes(messages: &[HandoverStreamMessage]) -> usize
     ensures { result ≡ min (queued_bytes (map stream_message_of messages.now)) (2 ^ 64 - 1) }
 {
