@@ -142,7 +142,7 @@ impl StreamScheduler {
         ensures ok { OnOk result (self.new ≡ set_bytes_remaining id.0 bytes priority (accept id.0 self.old)) }
         ensures err { OnErr result (self.new ≡ self.old) }
     {
-        let Some(finish) = self.finish_time(id) else {
+        let Some(finish) = self.active.finish_time(id.0) else {
             return self.set_bytes_remaining(id, bytes, priority);
         };
         if bytes == 0 {
@@ -154,12 +154,6 @@ impl StreamScheduler {
         self.active.renew(id.0, finish, next)?;
         self.virtual_time = finish;
         Ok(())
-    }
-
-    fn finish_time(&self, id: StreamId) -> Option<u128>
-        ensures { result ≡ finish_time id.0 self.now.times }
-    {
-        self.active.finish_time(id.0)
     }
 
     // The finish time of a stream that becomes active at this virtual time.

@@ -2,12 +2,12 @@ use Rattle.std.proofs.Common.{◌∙◌, sym, ap}
 use Rattle.std.specs.Ordering.{nat_cmp}
 use Rattle.std.specs.Map.{remove_entry}
 use Rattle.std.specs.BTreeMap.{is_at}
-use Rattle.sctp_stream_scheduler.specs.Scheduler.{Scheduler}
+use Rattle.sctp_stream_scheduler.specs.Scheduler.{Scheduler, finish_time}
 use Rattle.sctp_stream_scheduler.proofs.SchedulerLemmas.{leaves_once}
 use Rattle.sctp_stream_scheduler.proofs.stream_scheduler.StreamScheduler.take_turn.Goals as goal
 
 pub returns-then-bytes-eq0-clause-ok : goal.returns-then-bytes-eq0-clause-ok
 returns-then-bytes-eq0-clause-ok c =
     ap (λ (s : Scheduler). record s { times = c.leave.new.self; virtual_time = c.in-Some.finish }) c.self.view_is
-    ∙ leaves_once c.args.id.0 c.args.bytes c.args.priority c.in-Some.finish c.args.self.now _ c.if-bytes-eq0.true (sym c.finish_time.ensures ∙ c.in-Some.is)
+    ∙ leaves_once c.args.id.0 c.args.bytes c.args.priority c.in-Some.finish c.args.self.now _ c.if-bytes-eq0.true (sym (ap (λ (s : Scheduler). finish_time c.args.id.0 s.times) c.self.view_is) ∙ sym c.finish_time.ensures ∙ c.in-Some.is)
     (c.leave.ensures.times ∙ ap (λ (s : Scheduler). remove_entry (is_at (nat_cmp c.args.id.0)) s.times) c.self.view_is) c.leave.ensures.gone
