@@ -156,7 +156,7 @@ impl StreamScheduler {
         Ok(())
     }
 
-    // The finish time of a stream that becomes active at this virtual time.
+    /// The finish time of a stream that becomes active at this virtual time.
     fn finish_at(&self, virtual_time: u128, bytes: usize, priority: u16) -> u128
         ensures { result ≡ finish_at virtual_time bytes priority self.now }
     {

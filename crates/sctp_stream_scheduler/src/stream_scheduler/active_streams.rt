@@ -31,7 +31,7 @@ impl Model for ActiveStreams {
     ghost invariant = { λ a. Indexes a.turns.keys a.finish_times.entries × IsOnly a.only a.finish_times.entries };
 }
 
-// Takes a stream out.
+/// Takes a stream out.
 fn leave(
     finish_times: &mut BTreeMap<u16, u128>,
     turns: &mut BTreeSet<(u128, u16)>,
@@ -48,7 +48,7 @@ fn leave(
     Some(finish)
 }
 
-// Puts in a stream that isn't there.
+/// Puts in a stream that isn't there.
 fn enter(
     finish_times: &mut BTreeMap<u16, u128>,
     turns: &mut BTreeSet<(u128, u16)>,
@@ -71,7 +71,7 @@ fn enter(
     }
 }
 
-// Gives a stream that is there another time. Without memory nothing changes.
+/// Gives a stream that is there another time. Without memory nothing changes.
 fn renew(
     finish_times: &mut BTreeMap<u16, u128>,
     turns: &mut BTreeSet<(u128, u16)>,
