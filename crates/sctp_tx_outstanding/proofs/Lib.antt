@@ -1,5 +1,6 @@
 pub mod AgainLemmas
 pub mod EntriesLemmas
+pub mod EarliestLemmas
 pub mod ExpiryLemmas
 pub mod ForwardLemmas
 pub mod ReceivedLemmas

@@ -1,8 +1,7 @@
 -- The items of each message, as items come, change and leave.
-use Rattle.std.proofs.Common.{◌≡◌, ℕ, zero, suc, ◌+◌, ◌-◌, ◌*◌, ◌^◌, ◌<◌, ◌≤◌, ◌==◌, Bool, true, false, cond, List, [], ◌∷◌, ◌++◌, Option, Some, length, take, drop, slice_index_or, refl, ap, sym, subst, ◌∙◌, inl, inr, arith}
+use Rattle.std.proofs.Common.{◌≡◌, ℕ, zero, suc, ◌+◌, ◌-◌, ◌^◌, ◌<◌, ◌≤◌, ◌==◌, Bool, true, false, cond, List, [], ◌∷◌, ◌++◌, Option, Some, length, take, drop, slice_index_or, refl, ap, sym, subst, ◌∙◌, inl, inr, arith}
 use Rattle.std.specs.Prelude.{◌&&◌, map}
 use Rattle.std.proofs.lemmas.Bool.{cases_lt}
-use Rattle.std.proofs.lemmas.Bool.Decides.{nat_tests}
 use Rattle.sctp_chunk.specs.Chunk.{FragmentTree}
 use Rattle.sctp_tx_outstanding.specs.declared.kept.Change.{Change}
 use Rattle.sctp_tx_outstanding.specs.declared.kept.Change.TheVariants as changes
@@ -13,7 +12,7 @@ use Rattle.sctp_tx_outstanding.specs.Waiting.{by_number, is_listed}
 use Rattle.sctp_tx_outstanding.specs.Messages.{NoneIsOf, is_of_as, key_of, AreKeys, Finds}
 use Rattle.sctp_tx_outstanding.specs.declared.messages.Messages.{Messages}
 use Rattle.sctp_tx_outstanding.proofs.LaidLemmas.{laid}
-use Rattle.sctp_tx_outstanding.proofs.WaitingLemmas.{as_from, as_below, as_at, as_never, as_next, as_alike, as_turned, here, ahead, behind, further, not_same, not_below, is_same_lem, equal}
+use Rattle.sctp_tx_outstanding.proofs.WaitingLemmas.{as_below, as_at, as_never, as_next, as_alike, as_turned, here, ahead, behind, further, not_same, not_below, is_same_lem, equal}
 
 -- ---- keys
 

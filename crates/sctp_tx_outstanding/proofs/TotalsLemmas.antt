@@ -6,10 +6,11 @@ use Rattle.std.proofs.lemmas.List.Elements.{All-head, All-tail, All-cons, All-ni
 use Rattle.sctp_tx_outstanding.specs.declared.totals.Totals.{Totals}
 use Rattle.sctp_tx_outstanding.specs.declared.kept.Change.{Change}
 use Rattle.sctp_tx_outstanding.specs.declared.kept.Change.TheVariants as changes
-use Rattle.sctp_tx_outstanding.specs.Item.{Item, chunk_size, header_size, is_outstanding, should_be_retransmitted, is_fast, may_expire}
+use Rattle.sctp_tx_outstanding.specs.Item.{Item, chunk_size, header_size, is_outstanding, should_be_retransmitted, is_fast, NotBefore, never}
 use Rattle.sctp_tx_outstanding.specs.Change.{apply_change}
-use Rattle.sctp_tx_outstanding.specs.Items.{change_at, when, packet_part, payload_part, flight_part, queued_part, fast_part, expiring_part}
+use Rattle.sctp_tx_outstanding.specs.Items.{change_at, when, packet_part, payload_part, flight_part, queued_part, fast_part}
 use Rattle.sctp_tx_outstanding.specs.Totals.{parts, nothing, exchange, IsSmall, AreTotals, Exchanges}
+use Rattle.sctp_tx_outstanding.proofs.EarliestLemmas.{all_sooner, earliest_changed, earliest_pushed}
 
 -- ---- the item at a place
 
@@ -123,7 +124,7 @@ module _ (m : Bool) (is js : List Item) (old new t : Totals) (before : AreTotals
 
   -- totals follow where each sum does
   pub follow : Moves (packet_part m) (λ u. u.packet_bytes) → Moves payload_part (λ u. u.payload_bytes) → Moves flight_part (λ u. u.flights) → Moves queued_part (λ u. u.queued)
-      → Moves fast_part (λ u. u.fast) → Moves expiring_part (λ u. u.expiring) → AreTotals m js (exchange old new t)
+      → Moves fast_part (λ u. u.fast) → All (NotBefore (min t.earliest new.earliest)) js → AreTotals m js (exchange old new t)
   follow a b c d e f = record {
     packet = replaced t.packet_bytes (sum_by (packet_part m) is) old.packet_bytes new.packet_bytes (sum_by (packet_part m) js) (2 ^ 128 - 1) before.packet a.0 a.1
         (bytes_fit (length js) (sum_by (packet_part m) js) few (sum_small (packet_part m) (2 ^ 33) (packet_le m) js small));
@@ -135,8 +136,7 @@ module _ (m : Bool) (is js : List Item) (old new t : Totals) (before : AreTotals
         (counts_fit (length js) (sum_by queued_part js) few (sum_small queued_part 1 (one_le should_be_retransmitted) js small));
     fast = replaced t.fast (sum_by fast_part is) old.fast new.fast (sum_by fast_part js) (2 ^ 64 - 1) before.fast e.0 e.1
         (counts_fit (length js) (sum_by fast_part js) few (sum_small fast_part 1 (one_le is_fast) js small));
-    expiring = replaced t.expiring (sum_by expiring_part is) old.expiring new.expiring (sum_by expiring_part js) (2 ^ 64 - 1) before.expiring f.0 f.1
-        (counts_fit (length js) (sum_by expiring_part js) few (sum_small expiring_part 1 (one_le may_expire) js small));
+    earliest = f;
     small = small;
   }
 
@@ -149,7 +149,7 @@ totals_changed m k x is old new t before few h =
     (moves m x flight_part (λ u. u.flights) (λ i. refl) refl k is old new h)
     (moves m x queued_part (λ u. u.queued) (λ i. refl) refl k is old new h)
     (moves m x fast_part (λ u. u.fast) (λ i. refl) refl k is old new h)
-    (moves m x expiring_part (λ u. u.expiring) (λ i. refl) refl k is old new h)
+    (earliest_changed m x t.earliest k is old new h before.earliest)
 
 pushed : (f : Item → ℕ) (is : List Item) (i : Item) → (sum_by f (is ++ i ∷ []) + 0 ≡ sum_by f is + f i) × (0 ≤ sum_by f is)
 pushed f is i = (omega (arith, sum_by_push f is i), omega arith)
@@ -157,7 +157,7 @@ pushed f is i = (omega (arith, sum_by_push f is i), omega arith)
 pub totals_pushed : (m : Bool) (is : List Item) (i : Item) (t : Totals) → AreTotals m is t → length (is ++ i ∷ []) < 2 ^ 64 → IsSmall i → AreTotals m (is ++ i ∷ []) (exchange nothing (parts m i) t)
 totals_pushed m is i t before few h =
     follow m is (is ++ i ∷ []) nothing (parts m i) t before few (All-append IsSmall is (i ∷ []) before.small (All-cons IsSmall i [] h (All-nil IsSmall)))
-    (pushed (packet_part m) is i) (pushed payload_part is i) (pushed flight_part is i) (pushed queued_part is i) (pushed fast_part is i) (pushed expiring_part is i)
+    (pushed (packet_part m) is i) (pushed payload_part is i) (pushed flight_part is i) (pushed queued_part is i) (pushed fast_part is i) (earliest_pushed t.earliest is i before.earliest)
 
 popped : (f : Item → ℕ) (i : Item) (is : List Item) → (sum_by f is + f i ≡ sum_by f (i ∷ is) + 0) × (f i ≤ sum_by f (i ∷ is))
 popped f i is = (omega (arith, sum_by-cons f i is), omega (arith, sum_by-cons f i is))
@@ -165,7 +165,8 @@ popped f i is = (omega (arith, sum_by-cons f i is), omega (arith, sum_by-cons f 
 pub totals_popped : (m : Bool) (i : Item) (is : List Item) (t : Totals) → AreTotals m (i ∷ is) t → length is < 2 ^ 64 → AreTotals m is (exchange (parts m i) nothing t)
 totals_popped m i is t before few =
     follow m (i ∷ is) is (parts m i) nothing t before few (All-tail IsSmall i is before.small)
-    (popped (packet_part m) i is) (popped payload_part i is) (popped flight_part i is) (popped queued_part i is) (popped fast_part i is) (popped expiring_part i is)
+    (popped (packet_part m) i is) (popped payload_part i is) (popped flight_part i is) (popped queued_part i is) (popped fast_part i is)
+    (all_sooner t.earliest never is (All-tail (NotBefore t.earliest) i is before.earliest))
 
 pub totals_as : (m : Bool) (is js : List Item) (t u : Totals) → AreTotals m is t → js ≡ is → u ≡ t → AreTotals m js u
 totals_as m is js t u h a b = subst (λ ks. AreTotals m ks u) (sym a) (subst (λ v. AreTotals m is v) (sym b) h)

@@ -1,5 +1,5 @@
 -- Missing reports pass over the items that blocks cover.
-use Rattle.std.proofs.Common.{◌≡◌, ℕ, zero, suc, ◌+◌, ◌-◌, ◌<◌, ◌≤◌, ◌||◌, ◌&&◌, Bool, true, false, cond, List, [], ◌∷◌, ◌++◌, refl, ap, sym, subst, ◌∙◌, arith, IsTrue}
+use Rattle.std.proofs.Common.{◌≡◌, ℕ, zero, suc, ◌+◌, ◌-◌, ◌≤◌, ◌||◌, ◌&&◌, Bool, true, false, cond, List, [], ◌∷◌, ◌++◌, refl, ap, sym, subst, ◌∙◌, arith, IsTrue}
 use Rattle.std.specs.Prelude.{Option, Some, None, unwrap_or, option_map, slice_get}
 use Rattle.sctp_chunk.specs.Chunk.{FragmentTree}
 use Rattle.sctp_chunk.specs.declared.sack.GapAckBlock.{GapAckBlock}
@@ -10,7 +10,7 @@ use Rattle.sctp_tx_outstanding.specs.declared.kept.Change.TheVariants as changes
 use Rattle.sctp_tx_outstanding.specs.Item.{Item, is_in_flight, ack, nack, is_lost, is_used_up}
 use Rattle.sctp_tx_outstanding.specs.Items.{Items, Outstanding, change_at, last_of}
 use Rattle.sctp_tx_outstanding.specs.Losses.{Step, first_step, placeholder, placeholders, given_up, gives_up, loses, change_items, nack_item, nack_at, nack_below}
-use Rattle.sctp_tx_outstanding.specs.Passes.{IsCursor, IsWalk, AreCovered}
+use Rattle.sctp_tx_outstanding.specs.Passes.{IsWalk, AreCovered}
 use Rattle.sctp_tx_outstanding.specs.Heard.{Rests, Rest}
 use Rattle.sctp_tx_outstanding.proofs.ReceivedLemmas.{still, state_of_lem, nack_still, rest_changed, rest_laid, cursor_later, cursor_begin}
 use Rattle.sctp_tx_outstanding.proofs.LossesLemmas.{or_false}

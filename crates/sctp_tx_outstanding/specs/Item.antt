@@ -1,5 +1,5 @@
 -- A fragment that has its TSN, until the peer's cumulative TSN passes it.
-use Rattle.std.specs.Prelude.{ℕ, suc, ◌+◌, ◌-◌, ◌*◌, ◌/◌, ◌==◌, ◌&&◌, ◌||◌, nat_lt, nat_le, min, Bool, true, false, if◌then◌else◌, Option, Some, None, length}
+use Rattle.std.specs.Prelude.{◌≡◌, ◌<◌, ◌^◌, ℕ, suc, ◌+◌, ◌-◌, ◌*◌, ◌/◌, ◌==◌, ◌&&◌, ◌||◌, nat_lt, nat_le, min, Bool, true, false, if◌then◌else◌, Option, Some, None, List, [], ◌∷◌, length}
 use Rattle.sctp_chunk.specs.Chunk.{FragmentTree}
 use Rattle.sctp_tx_outstanding.specs.declared.item.ItemState.{ItemState}
 use Rattle.sctp_tx_outstanding.specs.declared.item.ItemState.TheVariants.{InFlight, Missing, Queued, QueuedFast, Acked, GivenUp}
@@ -101,13 +101,25 @@ is_due now (Some moment) = nat_le moment now
 abbrev pub has_expired : ℕ → Item → Bool
 has_expired now i = is_due now i.expires
 
-abbrev pub has_lifetime : Option ℕ → Bool
-has_lifetime None = false
-has_lifetime (Some moment) = true
+abbrev pub never : ℕ
+never = 2 ^ 128 - 1
 
--- missing or lost, and not worth sending for ever
-abbrev pub may_expire : Item → Bool
-may_expire i = has_nack i.state && has_lifetime i.expires
+abbrev pub or_never : Option ℕ → ℕ
+or_never None = never
+or_never (Some moment) = moment
+
+-- from when on it isn't worth sending, where it is missing or lost
+abbrev pub expiry : Item → ℕ
+expiry i = if has_nack i.state then or_never i.expires else never
+
+-- the earliest moment at which one expires, or the one found before
+abbrev pub earliest_of : ℕ → List Item → ℕ
+earliest_of found [] = found
+earliest_of found (i ∷ is) = earliest_of (min found (expiry i)) is
+
+-- it doesn't expire before this moment
+abbrev pub NotBefore : ℕ → Item → Type 0
+NotBefore earliest i = (now : ℕ) → now < earliest → (has_nack i.state && has_expired now i) ≡ false
 
 -- it was sent again as often as it may be
 abbrev pub is_used_up : Item → Bool

@@ -6,7 +6,7 @@ use Rattle.sctp_serial.specs.Serial.{serial_difference}
 use Rattle.sctp_serial.specs.Unwrapped.{origin, words, wire, nearest}
 use Rattle.sctp_chunk.specs.Chunk.{FragmentTree}
 use Rattle.sctp_tx_outstanding.specs.declared.item.ItemState.TheVariants.{InFlight}
-use Rattle.sctp_tx_outstanding.specs.Item.{Item, is_of, abandon, is_outstanding, should_be_retransmitted, is_fast, may_expire, chunk_size}
+use Rattle.sctp_tx_outstanding.specs.Item.{Item, is_of, abandon, is_outstanding, should_be_retransmitted, is_fast, chunk_size}
 
 -- a message of which the send queue is to drop what is left
 pub record Discard : Type 0 where
@@ -68,9 +68,6 @@ queued_part i = when (should_be_retransmitted i) 1
 abbrev pub fast_part : Item → ℕ
 fast_part i = when (is_fast i) 1
 
-abbrev pub expiring_part : Item → ℕ
-expiring_part i = when (may_expire i) 1
-
 -- the bytes of the chunks in flight or missing, those of their payloads, and how many they are
 abbrev pub flight_bytes : Items → ℕ
 flight_bytes s = sum_by (packet_part s.is_interleaved) s.kept
@@ -87,10 +84,6 @@ waiting_items s = sum_by queued_part s.kept
 
 abbrev pub fast_items : Items → ℕ
 fast_items s = sum_by fast_part s.kept
-
--- how many are missing or lost and have a lifetime
-abbrev pub expiring_items : Items → ℕ
-expiring_items s = sum_by expiring_part s.kept
 
 -- ---- one item changes
 

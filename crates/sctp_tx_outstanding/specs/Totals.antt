@@ -3,9 +3,9 @@ use Rattle.std.specs.Prelude.{◌≡◌, ℕ, zero, suc, ◌+◌, ◌-◌, ◌^�
 use Rattle.std.specs.List.{sum_by, All}
 use Rattle.sctp_tx_outstanding.specs.declared.totals.Totals.{Totals}
 use Rattle.sctp_tx_outstanding.specs.declared.kept.Change.{Change}
-use Rattle.sctp_tx_outstanding.specs.Item.{Item}
+use Rattle.sctp_tx_outstanding.specs.Item.{Item, expiry, never, NotBefore}
 use Rattle.sctp_tx_outstanding.specs.Change.{apply_change}
-use Rattle.sctp_tx_outstanding.specs.Items.{packet_part, payload_part, flight_part, queued_part, fast_part, expiring_part}
+use Rattle.sctp_tx_outstanding.specs.Items.{packet_part, payload_part, flight_part, queued_part, fast_part}
 
 -- what one item adds
 abbrev pub parts : (is_interleaved : Bool) → Item → Totals
@@ -15,11 +15,11 @@ parts is_interleaved i = record {
   flights = flight_part i;
   queued = queued_part i;
   fast = fast_part i;
-  expiring = expiring_part i;
+  earliest = expiry i;
 }
 
 abbrev pub nothing : Totals
-nothing = record { packet_bytes = 0; payload_bytes = 0; flights = 0; queued = 0; fast = 0; expiring = 0 }
+nothing = record { packet_bytes = 0; payload_bytes = 0; flights = 0; queued = 0; fast = 0; earliest = never }
 
 -- the totals with one part in place of another
 abbrev pub exchange : (old new : Totals) → Totals → Totals
@@ -29,20 +29,20 @@ exchange old new t = record {
   flights = min (t.flights - old.flights + new.flights) (2 ^ 64 - 1);
   queued = min (t.queued - old.queued + new.queued) (2 ^ 64 - 1);
   fast = min (t.fast - old.fast + new.fast) (2 ^ 64 - 1);
-  expiring = min (t.expiring - old.expiring + new.expiring) (2 ^ 64 - 1);
+  earliest = min t.earliest new.earliest;
 }
 
 abbrev pub IsSmall : Item → Type 0
 IsSmall i = length i.fragment.payload < 2 ^ 32
 
--- they are the sums, and no payload is too long for them
+-- they are the sums, none expires before the earliest moment, and no payload is too long for the sums
 pub record AreTotals (is_interleaved : Bool) (is : List Item) (t : Totals) : Type 0 where
   pub packet : t.packet_bytes ≡ sum_by (packet_part is_interleaved) is
   pub payload : t.payload_bytes ≡ sum_by payload_part is
   pub flights : t.flights ≡ sum_by flight_part is
   pub queued : t.queued ≡ sum_by queued_part is
   pub fast : t.fast ≡ sum_by fast_part is
-  pub expiring : t.expiring ≡ sum_by expiring_part is
+  pub earliest : All (NotBefore t.earliest) is
   pub small : All IsSmall is
 
 -- what the item at a place adds before a change, and after it

@@ -3,7 +3,7 @@
 ghost use Rattle.std.specs.Prelude.{◌≡◌, ℕ, ◌-◌, ◌<◌, ◌≤◌, ◌^◌, ◌&&◌, Bool, length, min, max, false, true, None, IfOk};
 ghost use Rattle.std.specs.Duration.{as_nanos};
 ghost use Rattle.sctp_chunk.specs.Views.{fragment_tree};
-ghost use Rattle.sctp_tx_outstanding.specs.Item.{is_in_flight, waits, waits_fast, has_nack, has_ack, is_given_up, is_due, header_size, size_of, chunk_size, acked, uncovered, nack_state, resent, slow};
+ghost use Rattle.sctp_tx_outstanding.specs.Item.{is_due, header_size, size_of, chunk_size, acked, uncovered, nack_state, resent, slow};
 
 mod handover;
 
@@ -34,64 +34,6 @@ pub enum ItemState {
 }
 
 impl ItemState {
-    fn flies(self) -> bool
-        ensures { result ≡ is_in_flight self }
-    {
-        match self {
-            ItemState::InFlight => true,
-            ItemState::Missing => true,
-            _ => false,
-        }
-    }
-
-    fn waits(self) -> bool
-        ensures { result ≡ waits self }
-    {
-        match self {
-            ItemState::Queued => true,
-            ItemState::QueuedFast => true,
-            _ => false,
-        }
-    }
-
-    fn waits_fast(self) -> bool
-        ensures { result ≡ waits_fast self }
-    {
-        match self {
-            ItemState::QueuedFast => true,
-            _ => false,
-        }
-    }
-
-    fn lacks(self) -> bool
-        ensures { result ≡ has_nack self }
-    {
-        match self {
-            ItemState::Missing => true,
-            ItemState::Queued => true,
-            ItemState::QueuedFast => true,
-            _ => false,
-        }
-    }
-
-    fn has_ack(self) -> bool
-        ensures { result ≡ has_ack self }
-    {
-        match self {
-            ItemState::Acked => true,
-            _ => false,
-        }
-    }
-
-    fn is_gone(self) -> bool
-        ensures { result ≡ is_given_up self }
-    {
-        match self {
-            ItemState::GivenUp => true,
-            _ => false,
-        }
-    }
-
     fn acked(self) -> ItemState
         ensures { result ≡ acked self }
     {
@@ -180,7 +122,7 @@ impl Model for Item {
 
 impl Item {
     ghost use Rattle.std.specs.Prelude.{Option};
-    ghost use Rattle.sctp_tx_outstanding.specs.Item.{is_outstanding, should_be_retransmitted, is_fast, is_nacked, is_acked, is_abandoned, is_open, has_been_retransmitted, has_expired, may_expire, is_used_up, is_of, ack, uncover, is_lost, nack, mark_as_retransmitted, miss_fast, abandon, rtt_from};
+    ghost use Rattle.sctp_tx_outstanding.specs.Item.{is_outstanding, should_be_retransmitted, is_fast, is_nacked, is_acked, is_abandoned, is_open, has_been_retransmitted, has_expired, expiry, is_used_up, is_of, ack, uncover, is_lost, nack, mark_as_retransmitted, miss_fast, abandon, rtt_from};
 
     /// A fragment that is sent now for the first time.
     pub fn new(
@@ -249,42 +191,45 @@ impl Item {
     pub fn is_outstanding(&self) -> bool
         ensures { result ≡ is_outstanding self.now }
     {
-        self.state.flies()
+        matches!(self.state, ItemState::InFlight | ItemState::Missing)
     }
 
     /// Whether a block of the last SACK covers it.
     pub fn is_acked(&self) -> bool
         ensures { result ≡ is_acked self.now }
     {
-        self.state.has_ack()
+        matches!(self.state, ItemState::Acked)
     }
 
     /// Whether it was reported missing, or is lost.
     pub fn is_nacked(&self) -> bool
         ensures { result ≡ is_nacked self.now }
     {
-        self.state.lacks()
+        matches!(
+            self.state,
+            ItemState::Missing | ItemState::Queued | ItemState::QueuedFast
+        )
     }
 
     /// Whether its message was given up.
     pub fn is_abandoned(&self) -> bool
         ensures { result ≡ is_abandoned self.now }
     {
-        self.state.is_gone()
+        matches!(self.state, ItemState::GivenUp)
     }
 
     /// Whether it is to be sent again.
     pub fn should_be_retransmitted(&self) -> bool
         ensures { result ≡ should_be_retransmitted self.now }
     {
-        self.state.waits()
+        matches!(self.state, ItemState::Queued | ItemState::QueuedFast)
     }
 
     /// Whether it is to be sent again by the packet that ignores the congestion window.
     pub fn is_fast(&self) -> bool
         ensures { result ≡ is_fast self.now }
     {
-        self.state.waits_fast()
+        matches!(self.state, ItemState::QueuedFast)
     }
 
     /// Whether it was sent more than once.
@@ -301,11 +246,17 @@ impl Item {
         is_due(self.expires_at, now)
     }
 
-    /// Whether it is missing or lost, and has a lifetime.
-    pub fn may_expire(&self) -> bool
-        ensures { result ≡ may_expire self.now }
+    /// From which nanosecond on its message isn't worth sending, where it is missing or lost; `u128::MAX` is never.
+    pub fn expiry(&self) -> u128
+        ensures { result ≡ expiry self.now }
     {
-        self.state.lacks() && self.expires_at.is_some()
+        if !self.is_nacked() {
+            return u128::MAX;
+        }
+        match self.expires_at {
+            Some(moment) => moment.as_nanos(),
+            None => u128::MAX,
+        }
     }
 
     /// Whether it was sent again as often as it may be.
@@ -364,7 +315,7 @@ impl Item {
     pub fn ack(&mut self)
         ensures { self.new ≡ ack self.old }
     {
-        if !self.state.is_gone() {
+        if !self.is_abandoned() {
             self.reports = 0;
         }
         self.state = self.state.acked();
@@ -389,7 +340,7 @@ impl Item {
     pub fn nack(&mut self, at_once: bool, fast: bool)
         ensures { self.new ≡ nack at_once fast self.old }
     {
-        if !self.state.flies() {
+        if !self.is_outstanding() {
             return;
         }
         let is_lost = at_once || self.reports >= 2;

@@ -2,9 +2,10 @@
 
 ghost use Rattle.std.specs.Prelude.{◌≡◌, ◌==◌, ◌+◌, ℕ, Some, map, min, option_map, slice_get, not, nat_lt, sum_by, ◌<◌, ◌≤◌, ◌^◌, ◌∷◌, ◌++◌, [], length, drop, take, OnOk, OnErr, IfSome, IfNone};
 ghost use Rattle.sctp_tx_outstanding.specs.Change.{apply_change};
-ghost use Rattle.sctp_tx_outstanding.specs.Items.{change_at, lay_down, is_of_at, last_of, later_of, later_at, without_payload, packet_part, payload_part, flight_part, queued_part, fast_part, expiring_part};
+ghost use Rattle.sctp_tx_outstanding.specs.Item.{earliest_of, never};
+ghost use Rattle.sctp_tx_outstanding.specs.Items.{change_at, lay_down, is_of_at, last_of, later_of, later_at, without_payload, packet_part, payload_part, flight_part, queued_part, fast_part};
 ghost use Rattle.sctp_tx_outstanding.specs.Totals.{AreTotals, Exchanges};
-ghost use Rattle.sctp_tx_outstanding.specs.Losses.{placeholder};
+ghost use Rattle.sctp_tx_outstanding.specs.Losses.{expires, placeholder};
 ghost use Rattle.sctp_tx_outstanding.specs.Views.{last_tree};
 ghost use Rattle.sctp_tx_outstanding.specs.Heard.{Rest, RestBelow, RestFrom};
 ghost use Rattle.sctp_tx_outstanding.specs.Sack.{reports};
@@ -22,7 +23,7 @@ use crate::telling::tell_left;
 use crate::totals::Totals;
 use crate::waiting::Waiting;
 use sctp_chunk::{Data, GapAckBlock, are_runs};
-use sctp_serial::{Fsn, Mid, OutgoingMessageId, PpId, Ssn, StreamKey};
+use sctp_serial::{Fsn, Mid, OutgoingMessageId, PpId, SocketTime, Ssn, StreamKey};
 use sctp_state::Events;
 use std::alloc::{AllocError, Global};
 use std::collections::VecDeque;
@@ -143,6 +144,17 @@ fn list_all(items: &VecDeque<Item>, messages: &mut Messages)
     for place in 0..items.len() {
         list_at(items, messages, place);
     }
+}
+
+// The earliest moment at which an item expires.
+fn earliest_of(items: &VecDeque<Item>) -> u128
+    ensures { result ≡ earliest_of never items.now.items }
+{
+    let mut earliest = u128::MAX;
+    for item in items.iter() {
+        earliest = earliest.min(item.expiry());
+    }
+    earliest
 }
 
 // Emits what is due as the first items leave.
@@ -502,11 +514,18 @@ impl Kept {
         self.heard.hear(blocks, is_within);
     }
 
-    /// Whether an item that is missing or lost has a lifetime.
-    pub fn has_expiring(&self) -> bool
-        ensures { result ≡ nat_lt 0 (sum_by expiring_part self.now.items) }
+    /// Whether an item that is missing or lost may have expired.
+    pub fn may_expire(&self, now: SocketTime) -> bool
+        ensures { result ≡ false → All (λ i. expires now i ≡ false) self.now.items }
     {
-        self.totals.expiring > 0
+        self.totals.earliest <= now.as_nanos()
+    }
+
+    /// Looks up when the first item expires, so that none is looked at before.
+    pub(crate) fn find_earliest(&mut self)
+        ensures { self.new ≡ self.old }
+    {
+        self.totals.earliest = earliest_of(&self.items);
     }
 
     /// Changes the item at the place, if there is one.

@@ -77,7 +77,7 @@ struct Loss {
 }
 
 impl OutstandingData {
-    ghost use Rattle.sctp_tx_outstanding.specs.Items.{no_items, next_number, wire_tsn, number_of, flight_bytes, flight_payload, flight_items, waiting_items, fast_items, expiring_items};
+    ghost use Rattle.sctp_tx_outstanding.specs.Items.{no_items, next_number, wire_tsn, number_of, flight_bytes, flight_payload, flight_items, waiting_items, fast_items};
     ghost use Rattle.sctp_tx_outstanding.specs.Losses.{close_message, abandon_message, first_step, nack_at, nack_below, nack_all, expired_at, expire_at, expire_outstanding};
 
     /// Nothing is outstanding, and the next TSN is `initial_tsn`. Takes no memory. Without partial reliability no message
@@ -411,11 +411,11 @@ impl OutstandingData {
         Ok(())
     }
 
-    // Whether a lifetime can end: with partial reliability, where an item that is missing or lost has one.
-    fn may_expire(&self) -> bool
-        ensures { result ≡ (self.now.items.is_partial && nat_lt 0 (expiring_items self.now.items)) }
+    // Whether a lifetime may have ended: with partial reliability, that of an item that is missing or lost.
+    fn may_expire(&self, now: SocketTime) -> bool
+        ensures { result ≡ false → (k : ℕ) → expired_at now k self.now.items ≡ None }
     {
-        self.is_partial && self.kept.has_expiring()
+        self.is_partial && self.kept.may_expire(now)
     }
 
     // Whether the item at the place is missing or lost, and its message expired and may be given up.
@@ -458,12 +458,13 @@ impl OutstandingData {
         ensures told { OnOk result (events.new ≡ (expire_outstanding now self.old.items events.old).emitted) }
         ensures err { OnErr result (SomeExpired now self.old events.old self.new events.new) }
     {
-        if !self.may_expire() {
+        if !self.may_expire(now) {
             return Ok(());
         }
         for place in 0..self.kept.len() {
             self.expire_item(place, now, events)?;
         }
+        self.kept.find_earliest();
         Ok(())
     }
 

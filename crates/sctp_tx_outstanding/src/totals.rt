@@ -7,7 +7,7 @@ ghost use Rattle.sctp_tx_outstanding.specs.Totals.{parts, exchange, nothing};
 use crate::item::Item;
 
 /// Sums over the items: of those in flight or missing the bytes of their chunks, of their payloads, and how many they are;
-/// how many are to be sent again, in all and by the fast packet, and how many are missing or lost and have a lifetime.
+/// how many are to be sent again, in all and by the fast packet. Before the nanosecond `earliest` none expires.
 #[derive(Clone, Copy)]
 pub struct Totals {
     pub packet_bytes: u128,
@@ -15,7 +15,7 @@ pub struct Totals {
     pub flights: usize,
     pub queued: usize,
     pub fast: usize,
-    pub expiring: usize,
+    pub earliest: u128,
 }
 
 fn bytes_if(condition: bool, bytes: usize) -> u128
@@ -40,7 +40,7 @@ impl Totals {
             flights: 0,
             queued: 0,
             fast: 0,
-            expiring: 0,
+            earliest: u128::MAX,
         }
     }
 
@@ -55,7 +55,7 @@ impl Totals {
             flights: one_if(flies),
             queued: one_if(item.should_be_retransmitted()),
             fast: one_if(item.is_fast()),
-            expiring: one_if(item.may_expire()),
+            earliest: item.expiry(),
         }
     }
 
@@ -69,7 +69,7 @@ impl Totals {
             flights: count(self.flights, old.flights, new.flights),
             queued: count(self.queued, old.queued, new.queued),
             fast: count(self.fast, old.fast, new.fast),
-            expiring: count(self.expiring, old.expiring, new.expiring),
+            earliest: self.earliest.min(new.earliest),
         }
     }
 }

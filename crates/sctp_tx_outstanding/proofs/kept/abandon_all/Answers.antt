@@ -1,5 +1,4 @@
 use Rattle.std.proofs.Common.{◌≡◌, length, rules, arith}
-use Rattle.sctp_tx_outstanding.specs.Messages.{NoneIsOf}
 use Rattle.sctp_tx_outstanding.proofs.MessagesLemmas.{none_here, laid_on, laid_next, laid_done}
 use Rattle.sctp_tx_outstanding.proofs.kept.abandon_all.Goals as goal
 

@@ -1,4 +1,4 @@
-use Rattle.std.proofs.Common.{◌≡◌, ◌≤◌, length, ◌∙◌, rules, arith}
+use Rattle.std.proofs.Common.{◌≡◌, length, ◌∙◌, rules, arith}
 use Rattle.std.specs.Prelude.{option_map}
 use Rattle.sctp_tx_outstanding.specs.Items.{last_of}
 use Rattle.sctp_tx_outstanding.specs.Views.{last_tree}

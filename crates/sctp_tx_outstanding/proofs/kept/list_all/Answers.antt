@@ -1,4 +1,4 @@
-use Rattle.std.proofs.Common.{◌≡◌, ◌≤◌, length, arith}
+use Rattle.std.proofs.Common.{◌≤◌, length, arith}
 use Rattle.sctp_tx_outstanding.proofs.MessagesLemmas.{finds_all}
 use Rattle.sctp_tx_outstanding.proofs.kept.list_all.Goals as goal
 

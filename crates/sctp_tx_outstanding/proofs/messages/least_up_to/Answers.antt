@@ -1,4 +1,4 @@
-use Rattle.std.proofs.Common.{◌<◌, arith}
+use Rattle.std.proofs.Common.{arith}
 use Rattle.sctp_tx_outstanding.proofs.messages.least_up_to.Goals as goal
 
 pub returns-in-Some-clause-none : goal.returns-in-Some-clause-none

@@ -1,4 +1,4 @@
-use Rattle.std.proofs.Common.{◌≡◌, ◌+◌, ◌==◌, ◌<◌, ◌^◌, false, cond, ap, ◌∙◌, rules, arith, refl}
+use Rattle.std.proofs.Common.{◌+◌, ◌==◌, ◌<◌, ◌^◌, false, cond, ap, ◌∙◌, arith, refl}
 use Rattle.sctp_tx_outstanding.specs.Waiting.{is_listed}
 use Rattle.sctp_tx_outstanding.proofs.WaitingLemmas.{listed_put}
 use Rattle.sctp_tx_outstanding.proofs.MessagesLemmas.{left}

@@ -1,4 +1,4 @@
-use Rattle.std.proofs.Common.{◌≡◌, ◌+◌, ◌-◌, ◌^◌, ◌≤◌, rules, arith}
+use Rattle.std.proofs.Common.{◌≡◌, ◌+◌, ◌-◌, ◌≤◌, rules, arith}
 use Rattle.sctp_tx_outstanding.specs.Messages.{key_of}
 use Rattle.sctp_tx_outstanding.proofs.MessagesLemmas.{none_of}
 use Rattle.sctp_tx_outstanding.proofs.messages.Messages.next.Goals as goal

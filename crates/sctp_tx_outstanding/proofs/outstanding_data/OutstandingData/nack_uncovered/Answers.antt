@@ -1,4 +1,4 @@
-use Rattle.std.proofs.Common.{◌+◌, ◌≤◌, ◌<◌, refl, arith, false}
+use Rattle.std.proofs.Common.{◌+◌, ◌≤◌, refl, arith, false}
 use Rattle.sctp_tx_outstanding.specs.Passes.{AreCovered}
 use Rattle.sctp_tx_outstanding.proofs.LossesLemmas.{nack_next_items, nack_next_emitted, nack_next_lossy}
 use Rattle.sctp_tx_outstanding.proofs.UncoveredLemmas.{walk_begin, walk_past, covered_less, none_covered, passed_items, passed_emitted, passed_lossy, passed_rest}
