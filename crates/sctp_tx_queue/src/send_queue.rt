@@ -72,7 +72,7 @@ fn leave_line(
     lifecycle_id: Option<LifecycleId>,
 ) -> Result<(), AllocError>
     ensures ok { OnOk result (scheduler.new ≡ set_bytes_remaining id.0 bytes priority scheduler.old) }
-    ensures told { OnOk result (events.new ≡ emit_events (expiry lifecycle_id) events.old) }
+    ensures emitted { OnOk result (events.new ≡ emit_events (expiry lifecycle_id) events.old) }
     ensures err { OnErr result (scheduler.new ≡ scheduler.old) }
     ensures silent { OnErr result (events.new ≡ events.old) }
 {
@@ -212,7 +212,7 @@ impl SendQueue {
         events: &mut Events,
     ) -> Result<Option<DataToSend>, AllocError>
         ensures queue { OnOk result (self.new ≡ (turn_from id.0 size self.old.streams self.old events.old).queue) }
-        ensures told { OnOk result (events.new ≡ (turn_from id.0 size self.old.streams self.old events.old).emitted) }
+        ensures emitted { OnOk result (events.new ≡ (turn_from id.0 size self.old.streams self.old events.old).emitted) }
         ensures made { IfOk result (λ found. option_map produced_of found ≡ (turn_from id.0 size self.old.streams self.old events.old).made) }
         ensures err { OnErr result (Same self.old events.old self.new events.new) }
     {
@@ -233,7 +233,7 @@ impl SendQueue {
         events: &mut Events,
     ) -> Result<Option<DataToSend>, AllocError>
         ensures queue { OnOk result (self.new ≡ (turn now id.0 size self.old events.old).queue) }
-        ensures told { OnOk result (events.new ≡ (turn now id.0 size self.old events.old).emitted) }
+        ensures emitted { OnOk result (events.new ≡ (turn now id.0 size self.old events.old).emitted) }
         ensures made { IfOk result (λ found. option_map produced_of found ≡ (turn now id.0 size self.old events.old).made) }
         ensures err { OnErr result (Stopped now id.0 self.old events.old self.new events.new) }
     {
@@ -250,7 +250,7 @@ impl SendQueue {
     ) -> Result<Option<DataToSend>, AllocError>
         requires { 0 < size }
         ensures queue { OnOk result (self.new ≡ (produce now size self.old events.old).queue) }
-        ensures told { OnOk result (events.new ≡ (produce now size self.old events.old).emitted) }
+        ensures emitted { OnOk result (events.new ≡ (produce now size self.old events.old).emitted) }
         ensures made { IfOk result (λ found. option_map produced_of found ≡ (produce now size self.old events.old).made) }
         ensures err { OnErr result (Interrupted now size self.old events.old self.new events.new) }
     {
@@ -280,7 +280,7 @@ impl SendQueue {
     ) -> Result<Option<DataToSend>, AllocError>
         requires { 0 < max_payload }
         ensures queue { OnOk result (self.new ≡ (produce now max_payload self.old events.old).queue) }
-        ensures told { OnOk result (events.new ≡ (produce now max_payload self.old events.old).emitted) }
+        ensures emitted { OnOk result (events.new ≡ (produce now max_payload self.old events.old).emitted) }
         ensures made { IfOk result (λ found. option_map produced_of found ≡ (produce now max_payload self.old events.old).made) }
         ensures idle { IfOk result (λ found. found ≡ None → self.new.scheduler.times ≡ []) }
         ensures begins { IfOk result (λ found. Begins self.old.scheduler.is_interleaved (option_map produced_of found) self.new) }
@@ -314,7 +314,7 @@ impl SendQueue {
         events: &mut Events,
     ) -> Result<(), AllocError>
         ensures queue { OnOk result (self.new ≡ (set_low_threshold id.0 bytes self.old events.old).queue) }
-        ensures told { OnOk result (events.new ≡ (set_low_threshold id.0 bytes self.old events.old).emitted) }
+        ensures emitted { OnOk result (events.new ≡ (set_low_threshold id.0 bytes self.old events.old).emitted) }
         ensures err { OnErr result (Same self.old events.old self.new events.new) }
     {
         let mark = events.mark();
@@ -371,7 +371,7 @@ impl SendQueue {
         events: &mut Events,
     ) -> Result<(), AllocError>
         ensures queue { OnOk result (self.new ≡ (discard id.0 message_id.0 self.old events.old).queue) }
-        ensures told { OnOk result (events.new ≡ (discard id.0 message_id.0 self.old events.old).emitted) }
+        ensures emitted { OnOk result (events.new ≡ (discard id.0 message_id.0 self.old events.old).emitted) }
         ensures err { OnErr result (Same self.old events.old self.new events.new) }
     {
         let Some(discarded) = self.streams.front_discarded(id, message_id) else {
@@ -403,7 +403,7 @@ impl SendQueue {
         events: &mut Events,
     ) -> Result<(), AllocError>
         ensures queue { OnOk result (self.new ≡ (prepare_reset id.0 self.old events.old).queue) }
-        ensures told { OnOk result (events.new ≡ (prepare_reset id.0 self.old events.old).emitted) }
+        ensures emitted { OnOk result (events.new ≡ (prepare_reset id.0 self.old events.old).emitted) }
         ensures err { OnErr result (Same self.old events.old self.new events.new) }
     {
         let mark = events.mark();
@@ -431,7 +431,7 @@ impl SendQueue {
         ensures ok { OnOk result (self.new ≡ (let p : ℕ = (stream id.0 self.old.streams).priority in record self.old { streams = open_stream id.0 self.old.streams; scheduler = set_bytes_remaining id.0 bytes p self.old.scheduler })) }
         ensures open { OnOk result (IsSome (lookup (is_at (nat_cmp id.0)) self.new.streams.entries)) }
         ensures stream { OnOk result (stream id.0 self.new.streams ≡ stream id.0 self.old.streams) }
-        ensures told { OnOk result (events.new ≡ emitted_waiting (stream id.0 self.old.streams).messages events.old) }
+        ensures emitted { OnOk result (events.new ≡ emitted_waiting (stream id.0 self.old.streams).messages events.old) }
         ensures err { OnErr result (self.new ≡ self.old) }
         ensures grown { OnErr result (Grown events.old events.new) }
     {

@@ -51,7 +51,7 @@ fn tell_and_queue(
     lifecycle_id: Option<LifecycleId>,
 ) -> Result<(), AllocError>
     ensures ok { OnOk result (scheduler.new ≡ set_bytes_remaining id.0 next.bytes next.priority (accept id.0 scheduler.old)) }
-    ensures told { OnOk result (events.new ≡ emit_events (production id.0 next.lows.is_low next.lows.is_total_low lifecycle_id) events.old) }
+    ensures emitted { OnOk result (events.new ≡ emit_events (production id.0 next.lows.is_low next.lows.is_total_low lifecycle_id) events.old) }
     ensures err { OnErr result (scheduler.new ≡ scheduler.old) }
     ensures grown { OnErr result (Grown events.old events.new) }
 {
@@ -68,7 +68,7 @@ fn go_in_line(
     lifecycle_id: Option<LifecycleId>,
 ) -> Result<(), AllocError>
     ensures ok { OnOk result (scheduler.new ≡ set_bytes_remaining id.0 next.bytes next.priority (accept id.0 scheduler.old)) }
-    ensures told { OnOk result (events.new ≡ emit_events (production id.0 next.lows.is_low next.lows.is_total_low lifecycle_id) events.old) }
+    ensures emitted { OnOk result (events.new ≡ emit_events (production id.0 next.lows.is_low next.lows.is_total_low lifecycle_id) events.old) }
     ensures err { OnErr result (scheduler.new ≡ scheduler.old) }
     ensures silent { OnErr result (events.new ≡ events.old) }
 {
@@ -92,7 +92,7 @@ fn send_whole(
     requires { IsTrue (is_front_whole size stream.old.messages) }
     ensures stream { OnOk result (stream.new ≡ advance size stream.old) }
     ensures line { OnOk result (scheduler.new ≡ in_line id.0 (sendable (advance size stream.old)) stream.old.priority (next_fragment id.0 size stream.old) scheduler.old) }
-    ensures told { OnOk result (events.new ≡ emitted_made id.0 (crosses (watched_amount stream.old) (watched_amount (advance size stream.old))) is_total_low (next_fragment id.0 size stream.old) events.old) }
+    ensures emitted { OnOk result (events.new ≡ emitted_made id.0 (crosses (watched_amount stream.old) (watched_amount (advance size stream.old))) is_total_low (next_fragment id.0 size stream.old) events.old) }
     ensures made { IfOk result (λ found. option_map produced_of found ≡ next_fragment id.0 size stream.old) }
     ensures less { OnOk result (amount_of stream.new ≤ amount_of stream.old) }
     ensures err { OnErr result (stream.new ≡ stream.old) }
@@ -116,7 +116,7 @@ fn send_part(
 ) -> Result<Option<DataToSend>, AllocError>
     ensures stream { OnOk result (stream.new ≡ advance size stream.old) }
     ensures line { OnOk result (scheduler.new ≡ in_line id.0 (sendable (advance size stream.old)) stream.old.priority (next_fragment id.0 size stream.old) scheduler.old) }
-    ensures told { OnOk result (events.new ≡ emitted_made id.0 (crosses (watched_amount stream.old) (watched_amount (advance size stream.old))) is_total_low (next_fragment id.0 size stream.old) events.old) }
+    ensures emitted { OnOk result (events.new ≡ emitted_made id.0 (crosses (watched_amount stream.old) (watched_amount (advance size stream.old))) is_total_low (next_fragment id.0 size stream.old) events.old) }
     ensures made { IfOk result (λ found. option_map produced_of found ≡ next_fragment id.0 size stream.old) }
     ensures less { OnOk result (amount_of stream.new ≤ amount_of stream.old) }
     ensures err { OnErr result (stream.new ≡ stream.old) }
@@ -151,7 +151,7 @@ pub(crate) fn send_from(
 ) -> Result<Option<DataToSend>, AllocError>
     ensures stream { OnOk result (stream.new ≡ advance size stream.old) }
     ensures line { OnOk result (scheduler.new ≡ in_line id.0 (sendable (advance size stream.old)) stream.old.priority (next_fragment id.0 size stream.old) scheduler.old) }
-    ensures told { OnOk result (events.new ≡ emitted_made id.0 (crosses (watched_amount stream.old) (watched_amount (advance size stream.old))) is_total_low (next_fragment id.0 size stream.old) events.old) }
+    ensures emitted { OnOk result (events.new ≡ emitted_made id.0 (crosses (watched_amount stream.old) (watched_amount (advance size stream.old))) is_total_low (next_fragment id.0 size stream.old) events.old) }
     ensures made { IfOk result (λ found. option_map produced_of found ≡ next_fragment id.0 size stream.old) }
     ensures less { OnOk result (amount_of stream.new ≤ amount_of stream.old) }
     ensures err { OnErr result (stream.new ≡ stream.old) }

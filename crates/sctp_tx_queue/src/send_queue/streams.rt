@@ -351,7 +351,7 @@ impl Streams {
     ) -> Result<Option<DataToSend>, AllocError>
         ensures streams { OnOk result (self.new ≡ streams_after id.0 size self.old) }
         ensures line { OnOk result (scheduler.new ≡ in_line id.0 (sendable (stream id.0 (streams_after id.0 size self.old))) (stream id.0 (streams_after id.0 size self.old)).priority (next_fragment id.0 size (stream id.0 self.old)) scheduler.old) }
-        ensures told { OnOk result (events.new ≡ emitted_of id.0 size self.old events.old) }
+        ensures emitted { OnOk result (events.new ≡ emitted_of id.0 size self.old events.old) }
         ensures made { IfOk result (λ found. option_map produced_of found ≡ next_fragment id.0 size (stream id.0 self.old)) }
         ensures err { OnErr result (self.new ≡ self.old) }
         ensures kept { OnErr result (scheduler.new ≡ scheduler.old) }

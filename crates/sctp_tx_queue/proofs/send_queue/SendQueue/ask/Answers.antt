@@ -15,13 +15,13 @@ loop-turns-preserved c =
     record {
       rest =
           sym (step c.loop-turns.turns c.args.now c.args.size c.in-Some.id.0 c.loop-turns.self c.turn.new.self c.loop-turns.events c.turn.new.events (omega (arith, c.loop-turns-test.true))
-          next none c.in_ok-made.ensures.queue c.in_ok-made.ensures.told)
+          next none c.in_ok-made.ensures.queue c.in_ok-made.ensures.emitted)
           ∙ c.loop-turns.invariant.rest;
       passed = (
         suc passed.0,
         passed_as (suc passed.0) c.args.now c.args.size c.args.self.now (turn c.args.now c.in-Some.id.0 c.args.size c.loop-turns.self c.loop-turns.events).queue c.turn.new.self c.args.events.now
             (turn c.args.now c.in-Some.id.0 c.args.size c.loop-turns.self c.loop-turns.events).emitted c.turn.new.events
-            (passed_more passed.0 c.args.now c.args.size c.in-Some.id.0 c.args.self.now c.loop-turns.self c.args.events.now c.loop-turns.events passed.1 next (sym none)) c.in_ok-made.ensures.queue c.in_ok-made.ensures.told,
+            (passed_more passed.0 c.args.now c.args.size c.in-Some.id.0 c.args.self.now c.loop-turns.self c.args.events.now c.loop-turns.events passed.1 next (sym none)) c.in_ok-made.ensures.queue c.in_ok-made.ensures.emitted,
       );
     }
 
@@ -35,8 +35,8 @@ last c =
 pub returns-in-Some-made-clause-queue : goal.returns-in-Some-made-clause-queue
 returns-in-Some-made-clause-queue c = c.in_ok-made.ensures.queue ∙ ap (λ t. t.queue) (last c)
 
-pub returns-in-Some-made-clause-told : goal.returns-in-Some-made-clause-told
-returns-in-Some-made-clause-told c = c.in_ok-made.ensures.told ∙ ap (λ t. t.emitted) (last c)
+pub returns-in-Some-made-clause-emitted : goal.returns-in-Some-made-clause-emitted
+returns-in-Some-made-clause-emitted c = c.in_ok-made.ensures.emitted ∙ ap (λ t. t.emitted) (last c)
 
 pub returns-in-Some-made-clause-made : goal.returns-in-Some-made-clause-made
 returns-in-Some-made-clause-made c = ap (λ o. option_map produced_of o) (sym c.in-Some-made.is) ∙ c.in_ok-made.ensures.made ∙ ap (λ t. t.made) (last c)

@@ -19,14 +19,14 @@ returns-clause-line c =
     ∙ ap (λ p. set_bytes_remaining id (sendable (advance c.args.size s)) p sch) next.ensures.priority
     ∙ whole_line id (sendable (advance c.args.size s)) s.priority c.args.size (front_numbers s.messages s) s.messages c.args.scheduler.now c.requires
 
-pub returns-clause-told : goal.returns-clause-told
-returns-clause-told c =
+pub returns-clause-emitted : goal.returns-clause-emitted
+returns-clause-emitted c =
     let s = c.args.stream.now in
     let id = c.args.id.0 in
     let next = c.next_after-next in
     let low = crosses (watched_amount s) (watched_amount (advance c.args.size s)) in
     let lifecycle = front_lifecycle s.messages in
-    c.in_ok-go_in_line.ensures.told
+    c.in_ok-go_in_line.ensures.emitted
     ∙ ap (λ l. emit_events (production id next.result.lows.is_low next.result.lows.is_total_low l) c.args.events.now) c.front_lifecycle.ensures
     ∙ ap (λ b. emit_events (production id b next.result.lows.is_total_low lifecycle) c.args.events.now) next.ensures.low
     ∙ ap (λ b. emit_events (production id low b lifecycle) c.args.events.now) next.ensures.total

@@ -6,6 +6,6 @@ use Rattle.sctp_tx_queue.proofs.send_queue.stream.tell_stale_front.Given as goal
 
 abbrev pub invariant-loop-message : goal.invariant-loop-message
 invariant-loop-message l = record {
-  told : drop_expired l.now (deque_iter_rest l.message-iterator) l.events ≡ drop_expired l.now l.messages.items l.initial.events;
+  emitted : drop_expired l.now (deque_iter_rest l.message-iterator) l.events ≡ drop_expired l.now l.messages.items l.initial.events;
   grown : Grown l.initial.events l.events;
 }

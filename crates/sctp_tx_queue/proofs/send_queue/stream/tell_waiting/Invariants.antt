@@ -6,6 +6,6 @@ use Rattle.sctp_tx_queue.proofs.send_queue.stream.tell_waiting.Given as goal
 
 abbrev pub invariant-loop-message : goal.invariant-loop-message
 invariant-loop-message l = record {
-  told : emitted_waiting (deque_iter_rest l.message-iterator) l.events ≡ emitted_waiting l.messages.items l.initial.events;
+  emitted : emitted_waiting (deque_iter_rest l.message-iterator) l.events ≡ emitted_waiting l.messages.items l.initial.events;
   grown : Grown l.initial.events l.events;
 }

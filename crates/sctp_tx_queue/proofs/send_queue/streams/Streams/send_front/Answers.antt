@@ -27,8 +27,8 @@ returns-in_default-clause-line c =
     let after = stream id (streams_after id c.args.size ss) in
     c.leave.ensures ∙ ap (λ o. in_line id (sendable after) after.priority o c.args.scheduler.now) (none_made id c.args.size ss none)
 
-pub returns-in_default-clause-told : goal.returns-in_default-clause-told
-returns-in_default-clause-told c =
+pub returns-in_default-clause-emitted : goal.returns-in_default-clause-emitted
+returns-in_default-clause-emitted c =
     let id = c.args.id.0 in
     let ss = c.args.self.now in
     let none = c.in_default.ensures.value ∙ ap (λ x. lookup (is_at (nat_cmp id)) x.entries) c.self.view_is in
@@ -86,8 +86,8 @@ returns-clause-line c =
     let at = c.in-Some.ensures.value ∙ ap (λ x. lookup (is_at (nat_cmp c.args.id.0)) x.entries) c.self.view_is in
     c.in_ok-made.ensures.line ∙ sent_line c.args.id.0 c.args.size c.in-Some.stream.now ss c.args.scheduler.now at
 
-pub returns-clause-told : goal.returns-clause-told
-returns-clause-told c =
+pub returns-clause-emitted : goal.returns-clause-emitted
+returns-clause-emitted c =
     let id = c.args.id.0 in
     let size = c.args.size in
     let ss = c.args.self.now in
@@ -101,7 +101,7 @@ returns-clause-told c =
     ∙ crosses_same total (lower c.fragment_size.result total) (watched_total ss) (watched_total (streams_after id size ss)) amount threshold
     (total_after id size c.fragment_size.result total.amount v ss at c.fragment_size.ensures amount) threshold in
     let low : Stream → _ = λ t. crosses (watched_amount t) (watched_amount (advance size t)) in
-    c.in_ok-made.ensures.told
+    c.in_ok-made.ensures.emitted
     ∙ ap (λ b. emitted_made id (low v) b (next_fragment id size v) c.args.events.now) is_total_low
     ∙ ap (λ (t : Stream). emitted_made id (low t) (crosses (watched_total ss) (watched_total (streams_after id size ss))) (next_fragment id size t) c.args.events.now) (sym (stream_there id v ss at))
 
