@@ -1,5 +1,5 @@
--- Along a trace: no request to reset streams stays unanswered while its end numbers 2^30 fragments, and an end starts fewer than 2^32 of
--- them: one is started once the one before it is answered.
+-- Along a trace: no request to reset streams is without a final answer while its end numbers 2^30 fragments, and an end starts fewer than
+-- 2^32 of them: one is started once the one before it has its final answer.
 use Rattle.std.specs.Prelude.{◌≡◌, ℕ, suc, ◌+◌, ◌-◌, ◌^◌, ◌<◌, ◌==◌, Bool, true, false, cond, Option, Some, None, option_map, List, [], ◌∷◌}
 use Rattle.sctp_state.specs.Events.{Event, OnStreamsResetPerformed}
 use Rattle.spec_endpoint.specs.Requests.{Request}

@@ -23,7 +23,8 @@ named_in s zero asks = 0
 named_in s (suc n) [] = 0
 named_in s (suc n) (a ∷ asks) = cond (has s a.streams) (suc (named_in s n asks)) (named_in s n asks)
 
--- what ask j is to stream s, by the rules: with it the stream's next epoch begins
+-- the request of the rules that ask j makes for stream s: with it the stream's next epoch begins, and each ask before it that names s
+-- began one
 abbrev pub request_for : (s j upto : ℕ) → List Ask → rules.Request
 request_for s j upto asks = record { stream = s; upto = upto; epoch = suc (named_in s j asks) }
 
@@ -51,7 +52,8 @@ number_of first j = wire words first (origin + j)
 abbrev pub last_tsn_of : (first : ℕ) → Ask → ℕ
 last_tsn_of first a = wire words first (origin + a.upto - 1)
 
--- A request says an ask, and goes out before 2^30 fragments more are numbered: `most` are, as it does.
+-- A request parameter with this number, last TSN and streams is one of the asks. It goes out when `most` fragments are numbered: fewer than
+-- 2^30 more than when it was asked.
 pub record SaysAsk (first most : ℕ) (asks : List Ask) (number last_tsn : ℕ) (streams : List StreamId) : Type 0 where
   pub at : ℕ
   pub ask : Ask

@@ -17,7 +17,7 @@ abbrev pub drawn : List (Bool × EndAction) → Pair → List Draw
 drawn [] w = []
 drawn (e ∷ es) w = drawn_at e.0 e.1 w ++ drawn es (goes e.0 e.1 w)
 
--- no verification tag is drawn twice, by either end
+-- no verification tag is drawn twice, both ends' draws taken together
 abbrev pub NoTagTwice : List (Bool × EndAction) → Pair → Type 0
 NoTagTwice es w = AreDistinct (drawn es w)
 

@@ -127,6 +127,7 @@ abbrev pub AreDistinct : List Draw → Type 0
 AreDistinct [] = ⊤
 AreDistinct (d ∷ ds) = ((e : Draw) → Has e ds → e.tag ≡ d.tag → ⊥) × AreDistinct ds
 
+-- neither end draws a tag twice; both may draw the same one
 abbrev pub NoneTwice : Histories → Type 0
 NoneTwice k = AreDistinct k.a.drawn × AreDistinct k.b.drawn
 

@@ -48,7 +48,7 @@ module _ (message : ℕ → Message) where
     pub distinct : p ≢ q
     pub rising : ordered_of message p ≡ true → ordered_of message q ≡ true → stream_of message p ≡ stream_of message q → p < q
 
-  -- given up, and if ordered, behind the next number
+  -- given up, and if ordered, below the next number
   abbrev pub IsPassed : Sender → Receiver → ℕ → Type 0
   IsPassed o i p = (o.given_up p ≡ true) × (ordered_of message p ≡ true → o.number p < i.next (stream_of message p))
 
@@ -73,11 +73,12 @@ module _ (message : ℕ → Message) where
   pub record SackTrue (o : Sender) (i : Receiver) (c : ℕ) : Type 0 where
     pub all_seen : (t : ℕ) → t < c → i.seen t ≡ true
     pub done : (t : ℕ) → t < c → (fragment o t).is_end ≡ true → IsDone o i (place_of o t)
-    -- an ordered message that ends below is behind its stream's next number
+    -- an ordered message that ends below c has a number below its stream's next one
     pub behind : (t : ℕ) → t < c → (fragment o t).is_end ≡ true → ordered_of message (place_of o t) ≡ true
         → o.number (place_of o t) < i.next (stream_of message (place_of o t))
 
-  -- an entry for an ordered stream stands for a fragment from which on the stream's are named
+  -- of a number n of an ordered stream s that the entries cover: some fragment below the point has this number or a greater one, and from
+  -- there on the entries cover each ordered fragment of the stream below the point
   pub record Reach (o : Sender) (f : ForwardPoint) (s n : ℕ) : Type 0 where
     pub at : ℕ
     pub below : at < f.upto

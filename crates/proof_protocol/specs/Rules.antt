@@ -38,7 +38,7 @@ abbrev pub covers : List Entry → Bool → ℕ → ℕ → Bool
 covers [] kind s n = false
 covers (e ∷ es) kind s n = (same e.ordered kind && ((e.stream == s) && nat_le n e.number)) || covers es kind s n
 
--- the number behind all that the entries name, and at least n
+-- the least number above all that the entries name, and at least n
 abbrev pub raise : List Entry → Bool → ℕ → ℕ → ℕ
 raise [] kind s n = n
 raise (e ∷ es) kind s n = raise es kind s (cond (same e.ordered kind && (e.stream == s)) (max n (suc e.number)) n)

@@ -16,7 +16,7 @@ pub record Fragment : Type 0 where
   pub placeholder : Bool  -- ends a message that is given up. It is never sent as data
   pub payload : List ℕ
 
--- what the receiver hands out
+-- a message that became ready at the receiver, handed out or not
 pub record ReadyMessage : Type 0 where
   pub stream : ℕ
   pub protocol_id : ℕ
@@ -27,11 +27,11 @@ pub record Entry : Type 0 where
   pub ordered : Bool
   pub stream : ℕ
   pub number : ℕ
-  pub written : ℕ  -- as it is on the wire
+  pub written : ℕ  -- the number as it is on the wire: less the base of its epoch
 
 -- FORWARD-TSN or I-FORWARD-TSN (RFC 3758 section 3.2, RFC 8260 section 2.3.1): each fragment below `upto` counts as seen
 pub record ForwardPoint : Type 0 where
-  pub upto : ℕ
+  pub upto : ℕ  -- the first fragment that it doesn't cover: the new cumulative TSN, and 1
   pub entries : List Entry
 
 pub record Sender : Type 0 where
@@ -56,9 +56,9 @@ pub record Receiver : Type 0 where
 pub record Transfer : Type 0 where
   pub sender : Sender
   pub receiver : Receiver
-  pub acknowledged : ℕ  -- the fragments below have left the sender: its cumulative TSN ack point, and 1
+  pub acknowledged : ℕ  -- the first fragment that hasn't left the sender: its cumulative TSN ack point, and 1
   pub reports : List ℕ  -- the places reported as delivered
-  pub sacks : List ℕ  -- the cumulative points of all SACKs ever sent
+  pub sacks : List ℕ  -- of all SACKs ever sent the first fragment that each doesn't cover: its cumulative TSN ack, and 1
   pub forward_points : List ForwardPoint  -- all that were ever sent
 
 abbrev pub stream_of : (ℕ → Message) → ℕ → ℕ

@@ -2,6 +2,7 @@
 use Rattle.std.specs.Prelude.{◌≡◌, ℕ, Bool, List}
 use Rattle.proof_protocol.specs.State.{Entry, ForwardPoint, Sender, IsAmong}
 
+-- so it is of each message, of the next one of each stream and kind, and of the entries of these points
 pub record AreTheirOwn (o : Sender) (points : List ForwardPoint) : Type 0 where
   pub messages : (p : ℕ) → o.written p ≡ o.number p
   pub next : (kind : Bool) (s : ℕ) → o.following kind s ≡ o.counts kind s

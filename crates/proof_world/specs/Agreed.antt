@@ -21,7 +21,7 @@ pub record IsAgreed (x : End) (log : List Entry) : Type 0 where
 abbrev pub Agrees : List Entry → Type 0
 Agrees log = (x : End) (before behind : List Entry) → log ≡ before ++ Happened x OnConnected ∷ behind → IsAgreed x before
 
--- no verification tag is drawn twice, by either end
+-- neither end draws a verification tag twice; both may draw the same one
 abbrev pub DrawsNoTagTwice : {w : World} → IsReachable w → Type 0
 DrawsNoTagTwice l =
     (turns : List (Bool × EndAction)) → AreActionsOf l.word_of_a l.word_of_b l.actions turns (start l.a l.b l.random_a l.random_b)

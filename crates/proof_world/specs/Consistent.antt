@@ -42,7 +42,7 @@ ended_by x entry = []
 abbrev pub times_ended : End → List Entry → ℕ
 times_ended x log = length (flat_map (ended_by x) log)
 
--- none emitted so yet
+-- no end emitted so yet
 abbrev pub Stands : List Entry → Type 0
 Stands log = (x : End) → times_ended x log ≡ 0
 
@@ -58,7 +58,7 @@ MayFollow w before entry = ⊤
 abbrev pub FollowsTheRules : World → Type 0
 FollowsTheRules w = (before : List Entry) (entry : Entry) (behind : List Entry) → w.log ≡ before ++ entry ∷ behind → Stands before → MayFollow w before entry
 
--- The rules were followed, and no end emitted that an association is over.
+-- The opening rules were kept, and no end emitted that an association is over.
 pub record IsUndisturbed (w : World) : Type 0 where
   pub follows : FollowsTheRules w
   pub stands : Stands w.log

@@ -102,13 +102,13 @@ IsTimely (CallOf x call) now s = ⊤
 IsTimely (GiveForeign x bytes) now s = ⊤
 IsTimely (AdvanceTime x time) now s = ⊤
 
--- at each world that stands
+-- at each world in which no association is over
 abbrev pub KeepsWindows : (actions : List Action) (w v : World) → Runs actions w v → Stamps → Type 0
 KeepsWindows [] w v r s = Stands w.log → AreWithin w
 KeepsWindows (action ∷ actions) w v r s =
     (Stands w.log → AreWithin w × IsTimely action (stamp w) s) × KeepsWindows actions r.0 v r.2 (stamps_after w r.0 s)
 
--- no such action from a world that stands
+-- none of the actions that begin in a world with no association over is such a one
 abbrev pub KeepsFrom : (Action → Bool) → (actions : List Action) (w v : World) → Runs actions w v → Type 0
 KeepsFrom is_such [] w v r = ⊤
 KeepsFrom is_such (action ∷ actions) w v r = (Stands w.log → is_such action ≡ false) × KeepsFrom is_such actions r.0 v r.2
@@ -135,7 +135,7 @@ pub record AreAnswered (w : World) (k : Asked) : Type 0 where
   pub a : IsAnswered w.a.socket.endpoint_state.state k.a
   pub b : IsAnswered w.b.socket.endpoint_state.state k.b
 
--- at each world that stands
+-- at each world in which no association is over
 abbrev pub KeepsRequests : (actions : List Action) (w v : World) → Runs actions w v → Asked → Type 0
 KeepsRequests [] w v r k = Stands w.log → AreAnswered w k
 KeepsRequests (action ∷ actions) w v r k = (Stands w.log → AreAnswered w k) × KeepsRequests actions r.0 v r.2 (asked_after w r.0 k)

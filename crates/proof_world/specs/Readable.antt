@@ -26,7 +26,7 @@ pub record CanBeReadBack (word_of : List ℕ → ℕ) (bytes : List ℕ) : Type 
 
 -- ---- a world
 
--- an end that is sound, of whose tellings none is left, and whose packets can be read back
+-- an end that is sound, of which each event emitted is taken, and whose packets can be read back
 pub record IsReadableSide (word_of : List ℕ → ℕ) (side : Side) : Type 0 where
   pub own : side.socket.endpoint_state.context.pack ≡ writing word_of
   pub sound : IsSound side.socket

@@ -50,7 +50,7 @@ pub record CameBy (before : List Action) (w : World) : Type 0 where
   pub fresh : IsFresh origin
   pub runs : Runs before origin w
 
--- What events lead to that continue the first run: the ends are open, the message has mirrored, its sender is at rest.
+-- What events lead to that continue the first run: the ends are open, the message has crossed, its sender is at rest.
 pub record LeadsFirstRun (actions : List Action) (w v : World) : Type 0 where
   pub opens : (before : List Action) → CameBy before w → before ++ actions ≡ opening → IsOpen v
   pub crosses : (m : Message) (options : SendOptions) → IsSmall m → (before : List Action) → CameBy before w

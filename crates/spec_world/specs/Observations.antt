@@ -56,7 +56,7 @@ pub data Call : Type 0 where
 pub data Answer : Type 0 where
   Done : Answer
   Sent : (refused : Option SendError) → Answer
-  SentMany : (refused : List (ℕ × SendError)) → Answer  -- by their places
+  SentMany : (refused : List (ℕ × SendError)) → Answer  -- by their indices in the batch
   Received : Option Message → Answer
   AskedReset : (refused : Option ResetStreamsError) → Answer
   HandedOver : HandoverState → Answer
@@ -68,7 +68,7 @@ pub data Answer : Type 0 where
 pub data Entry : Type 0 where
   Called : End → (clock : ℕ) → Call → Answer → Entry
   Given : End → (clock : ℕ) → (packet : ℕ) → Entry
-  Foreign : End → (clock : ℕ) → Option (List ℕ) → Entry  -- bytes from elsewhere, or none where they were skipped
+  Foreign : End → (clock : ℕ) → Option (List ℕ) → Entry  -- bytes from elsewhere, or none where they were withheld
   Timed : End → (clock : ℕ) → (now : ℕ) → Entry
   Associated : End → Option Association → Entry
   Emitted : End → (packet : ℕ) → Entry

@@ -120,7 +120,7 @@ record_news x first s w = with_side x (take_emitted (side_of x w) s) (w.log ++ f
 
 -- ---- calls and moments
 
--- the call in the table of steps
+-- the same call, of the table of steps
 abbrev pub step_of : Call → table.Call
 step_of Connect = table.Connect
 step_of Shutdown = table.Shutdown
@@ -196,7 +196,7 @@ pub record Gives (x : End) (packet : ℕ) (w v : World) : Type 0 where
 abbrev pub IsJudged : (bytes : List ℕ) → Endpoint (List ℕ) → (is_refused : Bool) → Type 0
 IsJudged bytes s is_refused = Judges s.endpoint_state.context.pack.word_of bytes s.endpoint_state.context.options s.endpoint_state.state is_refused
 
--- bytes from elsewhere: they are given to an end that refuses them, and else skipped
+-- bytes from elsewhere: they are given to an end that refuses them, and else withheld from it
 pub data ComesTo (x : End) (bytes : List ℕ) (old new : Side) (log longer : List Entry) : Type 0 where
   taken_in : (t : TakesBytes x (Foreign x (clock old.socket) (Some bytes)) bytes old new log longer) → IsJudged bytes old.socket true → ComesTo x bytes old new log longer
   skipped : IsJudged bytes old.socket false → new ≡ old → longer ≡ log ++ Foreign x (clock old.socket) None ∷ [] → ComesTo x bytes old new log longer
@@ -246,7 +246,7 @@ pub record RunsUpToWant (actions : List Action) (w : World) : Type 0 where
 abbrev pub IsShort : (mtu : ℕ) → List ℕ → Type 0
 IsShort mtu bytes = length bytes ≤ mtu
 
--- an end of whose tellings none is left
+-- an end of which each event emitted is taken
 pub record IsShortSide (mtu : ℕ) (side : Side) : Type 0 where
   pub word_of : List ℕ → ℕ
   pub own : side.socket.endpoint_state.context.pack ≡ writing word_of
