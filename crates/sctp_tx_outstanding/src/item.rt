@@ -115,9 +115,9 @@ impl Model for Item {
 
     ghost Value = { Item };
 
-    ghost view = { λ i. record { number = i.message_id.0; fragment = fragment_tree i.data; expires = i.expires_at; limit = i.max_retransmissions; lifecycle = i.lifecycle_id; state = i.state; sent = i.sendings; reports = i.reports; sent_at = i.sent_at } };
+    ghost view = { λ i. record { number = i.message_id.0; fragment = fragment_tree i.«data»; expires = i.expires_at; limit = i.max_retransmissions; lifecycle = i.lifecycle_id; state = i.state; sent = i.sendings; reports = i.reports; sent_at = i.sent_at } };
 
-    ghost invariant = { λ i. (length i.data.payload.items < 2 ^ 32) × ((i.sendings ≤ 65536) × (i.reports ≤ 2)) };
+    ghost invariant = { λ i. (length i.«data».payload.items < 2 ^ 32) × ((i.sendings ≤ 65536) × (i.reports ≤ 2)) };
 }
 
 impl Item {
