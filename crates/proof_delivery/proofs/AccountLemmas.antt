@@ -1,7 +1,7 @@
 -- The messages that the rules gave up are those that records of their sender name, and what they reported is what it emitted.
 use Rattle.std.proofs.Common.{◌≡◌, ℕ, ◌||◌, Bool, true, false, Option, List, [], ◌∷◌, ◌++◌, refl, sym, ap, ◌∙◌, subst, append-nil, append_assoc}
 use Rattle.proof_protocol.specs.State.{Message, has}
-use Rattle.proof_protocol.specs.Rules.{Event}
+use Rattle.proof_protocol.specs.Rules.{Rule}
 use Rattle.proof_protocol.specs.Resets.{Epochs, ResetEvent, transfers, reset_stream, send_request, perform, commit, goes, MayAll, go_all}
 use Rattle.proof_tx_refines.specs.Led.{given_up_by, given_ups, recorded_places, delivered_ids, ids_at}
 use Rattle.proof_tx_refines.specs.Records.{are_distinct}
@@ -29,7 +29,7 @@ has_behind p gone more = has_more p gone more ∙ swapped (has p gone) (has p mo
     swapped false false = refl
 
 module _ (message : ℕ → Message) (is_interleaved : Bool) where
-  given_up_once : (e : Event) (x : Epochs) (p : ℕ) (gone : List ℕ) → x.transfer.sender.given_up p ≡ has p gone
+  given_up_once : (e : Rule) (x : Epochs) (p : ℕ) (gone : List ℕ) → x.transfer.sender.given_up p ≡ has p gone
       → (goes message is_interleaved x (transfers e)).transfer.sender.given_up p ≡ has p (gone ++ given_up_by e)
   given_up_once e x p gone is =
       all_records message is_interleaved (e ∷ []) x.transfer p

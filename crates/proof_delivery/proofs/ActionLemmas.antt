@@ -9,7 +9,7 @@ use Rattle.std.proofs.lemmas.Option.{slice_get_within}
 use Rattle.sctp_serial.specs.Messages as messages
 use Rattle.sctp_state.specs.Events.{Event}
 use Rattle.proof_protocol.specs.State.{Message, count, stream_of}
-use Rattle.proof_protocol.specs.Rules.{accept, begin, number, close, give_up, data_comes, late_comes, deliver, send_sack, leave, send_forward, forward_comes, forget}
+use Rattle.proof_protocol.specs.Rules.{accept, begin, number, end_with_placeholder, give_up, data_comes, late_comes, become_ready, send_sack, ack_point_advances, send_forward, forward_comes, perform_reset}
 use Rattle.proof_protocol.specs.Resets.{Epochs, ResetEvent, transfers, reset_stream, send_request, perform, commit, goes, go_all}
 use Rattle.sctp_tx_queue.specs.Queue.{Queue}
 use Rattle.spec_endpoint.specs.Association.{State, Endpoint}
@@ -17,7 +17,7 @@ use Rattle.proof_endpoint.specs.Mapped.{Carried}
 use Rattle.proof_pair.specs.Acts.{calm}
 use Rattle.proof_pair.specs.Trace.{Side, packets_in, emitted_packets, took, state_of}
 use Rattle.proof_pair.proofs.JoinActsLemmas.{packets_both}
-use Rattle.proof_delivery.specs.Accepted.{Offer}
+use Rattle.proof_delivery.specs.Accepted.{AcceptedMessage}
 use Rattle.proof_delivery.specs.Answered.{waiting_number, is_same, asked_by}
 use Rattle.proof_delivery.specs.Asks.{Ask, number_of}
 use Rattle.proof_delivery.specs.StreamEpochs.{StreamEpoch, shut_streams, reopen, performed_of, epochs_of}
@@ -42,16 +42,16 @@ module _ (message : ℕ → Message) (is_interleaved : Bool) where
   accepted_once x (transfers accept) s = cc
   accepted_once x (transfers (begin p)) s = record { accepted = refl; epoch = refl }
   accepted_once x (transfers (number p bytes more)) s = record { accepted = refl; epoch = refl }
-  accepted_once x (transfers (close p)) s = record { accepted = refl; epoch = refl }
+  accepted_once x (transfers (end_with_placeholder p)) s = record { accepted = refl; epoch = refl }
   accepted_once x (transfers (give_up p)) s = record { accepted = refl; epoch = refl }
-  accepted_once x (transfers (leave c)) s = record { accepted = refl; epoch = refl }
+  accepted_once x (transfers (ack_point_advances c)) s = record { accepted = refl; epoch = refl }
   accepted_once x (transfers (send_forward f)) s = record { accepted = refl; epoch = refl }
   accepted_once x (transfers (data_comes t)) s = cc
   accepted_once x (transfers (late_comes t)) s = cc
-  accepted_once x (transfers (deliver p)) s = cc
+  accepted_once x (transfers (become_ready p)) s = cc
   accepted_once x (transfers (send_sack c)) s = cc
   accepted_once x (transfers (forward_comes f)) s = cc
-  accepted_once x (transfers (forget s c)) h = cc
+  accepted_once x (transfers (perform_reset s c)) h = cc
   accepted_once x (reset_stream t) s = record { accepted = refl; epoch = refl }
   accepted_once x (send_request t) s = record { accepted = refl; epoch = refl }
   accepted_once x (perform r) s = cc
@@ -112,10 +112,10 @@ offers_none message is_interleaved x k = record {
 }
 
 -- the messages of these places, from this one on
-abbrev pub message_in : Offer → Message
+abbrev pub message_in : AcceptedMessage → Message
 message_in o = record { stream = o.message.stream; ordered = not o.options.unordered; protocol_id = o.message.ppid; payload = o.message.payload }
 
-abbrev pub AreOffered : (ℕ → Message) → (ℕ → Option ℕ) → ℕ → List Offer → Type 0
+abbrev pub AreOffered : (ℕ → Message) → (ℕ → Option ℕ) → ℕ → List AcceptedMessage → Type 0
 AreOffered message lifecycle p [] = ⊤
 AreOffered message lifecycle p (o ∷ os) = (message p ≡ message_in o) × (lifecycle p ≡ o.options.lifecycle_id) × AreOffered message lifecycle (p + 1) os
 
@@ -131,16 +131,16 @@ outgoing_one : (e : ResetEvent) → goes_out e ≡ true → is_outgoing e ≡ tr
 outgoing_one (transfers accept) h = refl
 outgoing_one (transfers (begin p)) h = refl
 outgoing_one (transfers (number p bytes more)) h = h
-outgoing_one (transfers (close p)) h = refl
+outgoing_one (transfers (end_with_placeholder p)) h = refl
 outgoing_one (transfers (give_up p)) h = refl
-outgoing_one (transfers (leave c)) h = refl
+outgoing_one (transfers (ack_point_advances c)) h = refl
 outgoing_one (transfers (send_forward f)) h = refl
 outgoing_one (transfers (data_comes t)) h = h
 outgoing_one (transfers (late_comes t)) h = h
-outgoing_one (transfers (deliver p)) h = h
+outgoing_one (transfers (become_ready p)) h = h
 outgoing_one (transfers (send_sack c)) h = h
 outgoing_one (transfers (forward_comes f)) h = h
-outgoing_one (transfers (forget s c)) h = h
+outgoing_one (transfers (perform_reset s c)) h = h
 outgoing_one (reset_stream s) h = refl
 outgoing_one (send_request s) h = refl
 outgoing_one (perform r) h = h
@@ -155,16 +155,16 @@ outgoing_has : (e : ResetEvent) → is_outgoing e ≡ true → fills e ≡ true
 outgoing_has (transfers (number p bytes more)) h = h
 outgoing_has (transfers accept) h = refl
 outgoing_has (transfers (begin p)) h = refl
-outgoing_has (transfers (close p)) h = refl
+outgoing_has (transfers (end_with_placeholder p)) h = refl
 outgoing_has (transfers (give_up p)) h = refl
 outgoing_has (transfers (data_comes t)) h = refl
 outgoing_has (transfers (late_comes t)) h = refl
-outgoing_has (transfers (deliver p)) h = refl
+outgoing_has (transfers (become_ready p)) h = refl
 outgoing_has (transfers (send_sack c)) h = refl
-outgoing_has (transfers (leave c)) h = refl
+outgoing_has (transfers (ack_point_advances c)) h = refl
 outgoing_has (transfers (send_forward f)) h = refl
 outgoing_has (transfers (forward_comes f)) h = refl
-outgoing_has (transfers (forget s c)) h = refl
+outgoing_has (transfers (perform_reset s c)) h = refl
 outgoing_has (reset_stream s) h = refl
 outgoing_has (send_request s) h = refl
 outgoing_has (perform r) h = refl
@@ -220,7 +220,7 @@ get_behind (x ∷ xs) ys zero n e = inl e
 get_behind (x ∷ xs) ys (suc p) n e = elim (get_behind xs ys p n e) [ inl a ↦ inl a | inr b ↦ let at = b.1 in inr (b.0, omega (arith, at), b.2) ]
 
 module _ (message : ℕ → Message) (lifecycle : ℕ → Option ℕ) (f : ℕ → StreamEpoch) where
-  offered_epochs : (os : List Offer) (p k n : ℕ) → AreOffered message lifecycle p os → slice_get (epochs_of os f) k ≡ Some n
+  offered_epochs : (os : List AcceptedMessage) (p k n : ℕ) → AreOffered message lifecycle p os → slice_get (epochs_of os f) k ≡ Some n
       → ((f (stream_of message (p + k))).epoch ≡ n) × (k < length os)
   offered_epochs [] p k n h e = cc
   offered_epochs (o ∷ os) p zero n h e =
@@ -235,7 +235,7 @@ module _ (message : ℕ → Message) (lifecycle : ℕ → Option ℕ) (f : ℕ �
       (subst (λ (m : ℕ). (f (stream_of message m)).epoch ≡ n) (omega arith) r.0, omega (arith, l))
 
   -- of those that were accepted, and of those that are offered
-  offers_epochs : (is_interleaved : Bool) (x mid : Direction) (os : List Offer) (before : List ℕ) → Offers message is_interleaved (length os) x mid → AreSo f x.rules
+  offers_epochs : (is_interleaved : Bool) (x mid : Direction) (os : List AcceptedMessage) (before : List ℕ) → Offers message is_interleaved (length os) x mid → AreSo f x.rules
       → AreOffered message lifecycle (transfer_of x).sender.accepted os → length before ≡ (transfer_of x).sender.accepted
       → ((p n : ℕ) → slice_get before p ≡ Some n → x.rules.epoch p ≡ n) → (p n : ℕ) → slice_get (before ++ epochs_of os f) p ≡ Some n → mid.rules.epoch p ≡ n
   offers_epochs is_interleaved x mid os before offers so are many are_so p n e = elim (get_behind before (epochs_of os f) p n e) [
@@ -295,10 +295,10 @@ module _ (message : ℕ → Message) (lifecycle : ℕ → Option ℕ) (is_interl
 
 -- what was emitted is taken
 abbrev pub after_action : (asked : Bool) → Endpoint Carried → Side → Side
-after_action asked e z = record (took e z) { is_asked = asked }
+after_action asked e z = record (took e z) { got_init = asked }
 
 -- what the trace says then: the end accepted these, emitted that, and these streams were to be reset
-abbrev pub so_far_then : SoFar → (s : Side) → Endpoint Carried → List Offer → (prepared : List ℕ) → SoFar
+abbrev pub so_far_then : SoFar → (s : Side) → Endpoint Carried → List AcceptedMessage → (prepared : List ℕ) → SoFar
 so_far_then k s e os prepared = record {
   streams = reopen (performed_of e.endpoint_state.context.emitted.events) (shut_streams prepared k.streams);
   epochs = k.epochs ++ epochs_of os k.streams;
@@ -310,7 +310,7 @@ module _ (message : ℕ → Message) (lifecycle : ℕ → Option ℕ) (is_interl
     (f : Flows message lifecycle is_interleaved of s r accepted handed stamps_s stamps_r so_far x)
     (now : Stamp) (at_now : of now ≡ count (transfer_of x).sender) (near : count (transfer_of x).sender ≤ (transfer_of x).acknowledged + 2 ^ 30) (asked : Bool) where
   -- of the sender, which accepts these
-  pub ends_out : (os : List Offer) (prepared : List ℕ) (mid y : Direction) (e : Endpoint Carried) → Offers message is_interleaved (length os) x mid
+  pub ends_out : (os : List AcceptedMessage) (prepared : List ℕ) (mid y : Direction) (e : Endpoint Carried) → Offers message is_interleaved (length os) x mid
       → AreOffered message lifecycle accepted os → SenderClaim message lifecycle is_interleaved mid prepared (calm e) y → Stands (state_of s) e.endpoint_state.state
       → Flows message lifecycle is_interleaved of (after_action asked e s) r (accepted + length os) handed (stamp_packets s (after_action asked e s) now stamps_s) stamps_r (so_far_then so_far s e os prepared) y
   ends_out os prepared mid y e offers are c stands =
@@ -345,7 +345,7 @@ module _ (message : ℕ → Message) (lifecycle : ℕ → Option ℕ) (is_interl
         answers = answers;
         streams = c.epochs so_far.streams (so_still so_far.streams x.rules mid.rules offers.raised offers.opened f.streams);
         many = length-append so_far.epochs (epochs_of os so_far.streams) ∙ (ap (λ (n : ℕ). n + length (epochs_of os so_far.streams)) many
-            ∙ ap (λ (n : ℕ). accepted + n) (length-map os (λ (o : Offer). (so_far.streams o.message.stream).epoch)));
+            ∙ ap (λ (n : ℕ). accepted + n) (length-map os (λ (o : AcceptedMessage). (so_far.streams o.message.stream).epoch)));
         epochs = λ p n h. ap (λ (g : ℕ → ℕ). g p) same.epoch
             ∙ offers_epochs message lifecycle so_far.streams is_interleaved x mid os so_far.epochs offers f.streams (subst (λ (n : ℕ). AreOffered message lifecycle n os) (sym is) are) (many ∙ sym is) f.epochs p n h;
         asked = asked_then message lifecycle is_interleaved (state_of s) e.endpoint_state.state (queue_of s) e.endpoint_state.context.queue x y f.sends c.shown stands f.kept

@@ -5,7 +5,7 @@ use Rattle.std.proofs.lemmas.Bool.{eqb-true, eq-eqb}
 use Rattle.std.proofs.lemmas.Option.{slice_get_within}
 use Rattle.sctp_wire.specs.Parameter.{ParameterTree, outgoing_reset_request, incoming_reset_request, reset_response}
 use Rattle.proof_protocol.specs.State.{Message, IsAmong, has, count, put}
-use Rattle.proof_protocol.specs.Rules.{Event, IsAllowed}
+use Rattle.proof_protocol.specs.Rules.{Rule, IsAllowed}
 use Rattle.proof_protocol.specs.Invariant.{Invariant}
 use Rattle.proof_protocol.specs.Resets as rules
 use Rattle.proof_protocol.specs.Resets.{Epochs, ResetEvent, transfers, reset_stream, send_request, perform, commit, goes, go_all}
@@ -61,7 +61,7 @@ named_next s (suc n) (b ∷ asks) a e =
 
 module _ (message : ℕ → Message) (is_interleaved : Bool) (x : Epochs) (asks : List Ask) (done answered : ℕ) (are : AreAsked x asks done answered) where
   -- whatever the transfer does
-  pub asks_stay : (e : Event) → Invariant message is_interleaved x.transfer → IsAllowed message is_interleaved x.transfer e → AreAsked (goes message is_interleaved x (transfers e)) asks done answered
+  pub asks_stay : (e : Rule) → Invariant message is_interleaved x.transfer → IsAllowed message is_interleaved x.transfer e → AreAsked (goes message is_interleaved x (transfers e)) asks done answered
   asks_stay e kept may = record {
     opened = are.opened;
     performed = are.performed;

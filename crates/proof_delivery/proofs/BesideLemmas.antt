@@ -7,7 +7,7 @@ use Rattle.sctp_tx_queue.specs.Queue.{Queue}
 use Rattle.sctp_tx_outstanding.specs.Items.{no_items}
 use Rattle.sctp_rx.specs.ReassemblyQueue.{Deferred}
 use Rattle.proof_protocol.specs.State.{Message, Sender, Transfer, new_sender}
-use Rattle.proof_protocol.specs.Rules.{Event, accept, begin, number, close, give_up, data_comes, late_comes, deliver, send_sack, leave, send_forward, forward_comes, forget, after}
+use Rattle.proof_protocol.specs.Rules.{Rule, accept, begin, number, end_with_placeholder, give_up, data_comes, late_comes, become_ready, send_sack, ack_point_advances, send_forward, forward_comes, perform_reset, after}
 use Rattle.proof_protocol.specs.Resets.{Request, Epochs, ResetEvent, transfers, reset_stream, send_request, perform, commit, MayReset, goes, MayAll, go_all}
 use Rattle.proof_protocol.specs.Based.{InEpochs}
 use Rattle.proof_protocol.proofs.BasedLemmas.{keeps_epochs}
@@ -24,7 +24,7 @@ use Rattle.proof_delivery.proofs.LeavesLemmas.{Leaves, by_transfer, by_commit, b
 use Rattle.proof_delivery.proofs.ActionLemmas.{is_outgoing, Stay}
 
 -- by its kind
-each_reset : (P : ResetEvent → Type 0) → ((e : Event) → P (transfers e)) → ((s : ℕ) → P (reset_stream s)) → ((s : ℕ) → P (send_request s)) → ((r : Request) → P (perform r))
+each_reset : (P : ResetEvent → Type 0) → ((e : Rule) → P (transfers e)) → ((s : ℕ) → P (reset_stream s)) → ((s : ℕ) → P (send_request s)) → ((r : Request) → P (perform r))
     → ((s : ℕ) → P (commit s)) → (e : ResetEvent) → P e
 each_reset P a b c d f (transfers e) = a e
 each_reset P a b c d f (reset_stream s) = b s
@@ -78,20 +78,20 @@ module _ (message : ℕ → Message) (lifecycle : ℕ → Option ℕ) (is_interl
 
   -- ---- a sender's rules, and acceptance, leave the receiver as it is
 
-  receiver_once : (x : Transfer) (e : Event) → is_outgoing (transfers e) ≡ true → ((after message is_interleaved x e).receiver ≡ x.receiver) × ((after message is_interleaved x e).sacks ≡ x.sacks)
+  receiver_once : (x : Transfer) (e : Rule) → is_outgoing (transfers e) ≡ true → ((after message is_interleaved x e).receiver ≡ x.receiver) × ((after message is_interleaved x e).sacks ≡ x.sacks)
   receiver_once x accept s = (refl, refl)
   receiver_once x (begin p) s = (refl, refl)
   receiver_once x (number p bytes more) s = (refl, refl)
-  receiver_once x (close p) s = (refl, refl)
+  receiver_once x (end_with_placeholder p) s = (refl, refl)
   receiver_once x (give_up p) s = (refl, refl)
-  receiver_once x (leave c) s = (refl, refl)
+  receiver_once x (ack_point_advances c) s = (refl, refl)
   receiver_once x (send_forward f) s = (refl, refl)
   receiver_once x (data_comes t) s = cc
   receiver_once x (late_comes t) s = cc
-  receiver_once x (deliver p) s = cc
+  receiver_once x (become_ready p) s = cc
   receiver_once x (send_sack c) s = cc
   receiver_once x (forward_comes f) s = cc
-  receiver_once x (forget t c) s = cc
+  receiver_once x (perform_reset t c) s = cc
 
   leaves_once : (x : Epochs) → InEpochs message is_interleaved x → (e : ResetEvent) → MayReset message is_interleaved x e → is_outgoing e ≡ true → Leaves message is_interleaved x (goes message is_interleaved x e)
   leaves_once x k = each_reset (λ e. MayReset message is_interleaved x e → is_outgoing e ≡ true → Leaves message is_interleaved x (goes message is_interleaved x e))

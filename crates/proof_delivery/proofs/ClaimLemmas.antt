@@ -16,7 +16,7 @@ use Rattle.sctp_tx.specs.ForwardPoints.{most_of}
 use Rattle.sctp_rx.specs.Tracker.{IsTracker, tracker}
 use Rattle.sctp_rx.specs.ReassemblyQueue.{reassembly}
 use Rattle.proof_protocol.specs.State.{Message, ForwardPoint, Sender, Transfer, IsAmong, new_sender, fragment, count}
-use Rattle.proof_protocol.specs.Rules.{Event, accept, begin, number, close, give_up, data_comes, late_comes, deliver, send_sack, leave, send_forward, forward_comes, forget}
+use Rattle.proof_protocol.specs.Rules.{Rule, accept, begin, number, end_with_placeholder, give_up, data_comes, late_comes, become_ready, send_sack, ack_point_advances, send_forward, forward_comes, perform_reset}
 use Rattle.proof_protocol.specs.Resets.{Epochs, ResetEvent, transfers, reset_stream, send_request, perform, commit, MayAll, go_all}
 use Rattle.proof_protocol.specs.Based.{InEpochs, EpochWindows}
 use Rattle.proof_tx_refines.specs.Refinement.{SenderRefines}
@@ -32,7 +32,7 @@ use Rattle.spec_endpoint.specs.Association.{Tcb, State, Closed, CookieWait, Open
 use Rattle.spec_endpoint.specs.Laws.{Call}
 use Rattle.proof_endpoint.specs.Mapped.{Carried}
 use Rattle.proof_pair.specs.Acts.{Making, IsReceived}
-use Rattle.proof_pair.specs.Trace.{packets_in, AreGiven}
+use Rattle.proof_pair.specs.Trace.{packets_in, AreValidOptions}
 use Rattle.proof_pair.proofs.JoinActsLemmas.{Setting}
 use Rattle.proof_delivery.specs.Asks.{Ask, AreAsked, SaysOutgoing, SaysIncoming, IsAsking, IsAnswering}
 use Rattle.proof_delivery.specs.Answered.{performed_in}
@@ -41,20 +41,20 @@ use Rattle.proof_delivery.specs.StreamEpochs.{StreamEpoch, shut_streams, reopen,
 -- ---- rules of one end
 
 -- those of a receiver
-abbrev pub is_receiving : Event → Bool
+abbrev pub is_receiving : Rule → Bool
 is_receiving accept = false
 is_receiving (begin p) = false
 is_receiving (number p bytes more) = false
-is_receiving (close p) = false
+is_receiving (end_with_placeholder p) = false
 is_receiving (give_up p) = false
 is_receiving (data_comes t) = true
 is_receiving (late_comes t) = true
-is_receiving (deliver p) = true
+is_receiving (become_ready p) = true
 is_receiving (send_sack c) = true
-is_receiving (leave c) = false
+is_receiving (ack_point_advances c) = false
 is_receiving (send_forward f) = false
 is_receiving (forward_comes f) = true
-is_receiving (forget s c) = false
+is_receiving (perform_reset s c) = false
 
 abbrev pub goes_out : ResetEvent → Bool
 goes_out (transfers e) = is_sending e
@@ -71,7 +71,7 @@ goes_in (perform r) = true
 goes_in (commit s) = false
 
 -- what happens to the transfer alone
-abbrev pub of_transfer : List ResetEvent → List Event
+abbrev pub of_transfer : List ResetEvent → List Rule
 of_transfer [] = []
 of_transfer (transfers e ∷ es) = e ∷ of_transfer es
 of_transfer (e ∷ es) = of_transfer es
@@ -289,7 +289,7 @@ module _ (message : ℕ → Message) (lifecycle : ℕ → Option ℕ) (is_interl
 
   -- of the receiver beside it, and of the SACKs and answers that come from there
   pub record SenderPremises (g : Setting) (call : Call) (from : Direction) : Type 0 where
-    pub own : AreGiven g.own
+    pub own : AreValidOptions g.own
     pub kept : IsKept message is_interleaved from
     pub mode : is_interleaved ≡ (agreed g.own g.other).message_interleaving
     pub few : length from.asks < 2 ^ 32
@@ -302,7 +302,7 @@ module _ (message : ℕ → Message) (lifecycle : ℕ → Option ℕ) (is_interl
 
   -- of the sender beside it, its windows, and what comes from there
   pub record ReceiverPremises (g : Setting) (call : Call) (from : Direction) : Type 0 where
-    pub own : AreGiven g.own
+    pub own : AreValidOptions g.own
     pub kept : IsKept message is_interleaved from
     pub mode : is_interleaved ≡ (agreed g.own g.other).message_interleaving
     pub few_asks : length from.asks < 2 ^ 32

@@ -19,7 +19,7 @@ use Rattle.spec_endpoint.specs.Input.{refusal, counts, taken_if}
 use Rattle.spec_endpoint.specs.Laws.{Call, Connect, Close, Shutdown, Send, SendMany, ResetStreams, TakeMessage, SetLowThreshold, SetPriority, SetMaxMessageSize, Advance, HandOver, Restore, Packet, NoPacket, called, endings}
 use Rattle.proof_endpoint.specs.Mapped.{Carried}
 use Rattle.proof_pair.specs.Acts.{Making, calm, HasNoEnd}
-use Rattle.proof_pair.specs.Trace.{Side, packets_in, emitted_packets, EndAction, Calls, Gives, Refuses, as_received, give, foreign_if, act, MayCall, MayAct, AreGiven, state_of}
+use Rattle.proof_pair.specs.Trace.{Side, packets_in, emitted_packets, EndAction, Calls, Gives, Refuses, as_received, give, foreign_if, act, MayCall, MayAct, AreValidOptions, state_of}
 use Rattle.proof_pair.specs.Handing.{handed_by}
 use Rattle.proof_pair.proofs.JoinActsLemmas.{Setting}
 use Rattle.proof_pair.proofs.JoinKeepsLemmas.{Rules}
@@ -40,8 +40,8 @@ use Rattle.proof_delivery.proofs.ActionLemmas.{after_action, ends_in}
 use Rattle.proof_delivery.proofs.AccountLemmas.{accounts_still, accounts_in}
 use Rattle.proof_delivery.proofs.GoingLemmas.{goes_bracketed, none_more, is_offer, Parts, Turned, holds, counted, near, mode_back, young_now}
 
-module _ (message : ℕ → Message) (lifecycle : ℕ → Option ℕ) (is_interleaved : Bool) (of : Stamp → ℕ) (parts : Parts message lifecycle is_interleaved) (o q : Options) (own : AreGiven o)
-    (other : AreGiven q) (mode : is_interleaved ≡ (agreed o q).message_interleaving) (s r : Side) (h : Halves o q s r) (quiet_s : IsSilent s) (quiet_r : IsSilent r)
+module _ (message : ℕ → Message) (lifecycle : ℕ → Option ℕ) (is_interleaved : Bool) (of : Stamp → ℕ) (parts : Parts message lifecycle is_interleaved) (o q : Options) (own : AreValidOptions o)
+    (other : AreValidOptions q) (mode : is_interleaved ≡ (agreed o q).message_interleaving) (s r : Side) (h : Halves o q s r) (quiet_s : IsSilent s) (quiet_r : IsSilent r)
     (within : IsWithin (state_of s) (queue_of s)) (accepted : ℕ) (handed : List messages.Message) (stamps_s stamps_r : List Stamp) (so_far : SoFar) (x : Direction)
     (f : Flows message lifecycle is_interleaved of s r accepted handed stamps_s stamps_r so_far x) (soon : IsAnswered (state_of s) so_far.asked) (few_told : performed_in s.emitted < 2 ^ 32 - 1)
     (now : Stamp) (at_now : of now ≡ numbered_count (state_of s)) (young : (old : Stamp) → IsYoung now old → of now < of old + 2 ^ 30) where
@@ -98,20 +98,20 @@ module _ (message : ℕ → Message) (lifecycle : ℕ → Option ℕ) (is_interl
   premises : (asked : Bool) (call : Call) → ReceivesData message is_interleaved call (first_out (state_of s)) x → ReceiverPremises message lifecycle is_interleaved (setting q o r s asked) call x
   premises asked call hears = receiver_premises message lifecycle is_interleaved of o q s r accepted handed stamps_s stamps_r so_far x f asked call other back few_told hold hears
 
-  joined_in : (asked : Bool) (call : Call) → Rules (setting q o r s asked) call → is_other call ≡ true → (r.is_asked ≡ true → asked ≡ true)
+  joined_in : (asked : Bool) (call : Call) → Rules (setting q o r s asked) call → is_other call ≡ true → (r.got_init ≡ true → asked ≡ true)
       → HasNoEnd (calm (called call r.end)) → ReceivesData message is_interleaved call (first_out (state_of s)) x → Stands (state_of r) (called call r.end).endpoint_state.state
       → In (after_action asked (called call r.end) r) []
   joined_in asked call rules other_call le none hears stands =
       let g : Setting = setting q o r s asked in
       leads_in asked call (joined_call g call rules other_call (parts.receiver_keeps g call x handed (premises asked call hears)) r.end none (begins q o r s asked le h.other h.own)).1 stands
 
-  offered_in : (call : Call) → Rules (setting q o r s r.is_asked) call → is_offer call ≡ true → IsNoPacket call → HasNoEnd (calm (called call r.end))
-      → Stands (state_of r) (called call r.end).endpoint_state.state → In (after_action r.is_asked (called call r.end) r) []
+  offered_in : (call : Call) → Rules (setting q o r s r.got_init) call → is_offer call ≡ true → IsNoPacket call → HasNoEnd (calm (called call r.end))
+      → Stands (state_of r) (called call r.end).endpoint_state.state → In (after_action r.got_init (called call r.end) r) []
   offered_in call rules offer plain none stands =
-      let g : Setting = setting q o r s r.is_asked in
-      leads_in r.is_asked call
-      (parts.offered_in g call x r handed rules offer (premises r.is_asked call (receives_no_data message is_interleaved (first_out (state_of s)) x call plain hold.windows)) none
-      (begins q o r s r.is_asked (λ z. z) h.other h.own)) stands
+      let g : Setting = setting q o r s r.got_init in
+      leads_in r.got_init call
+      (parts.offered_in g call x r handed rules offer (premises r.got_init call (receives_no_data message is_interleaved (first_out (state_of s)) x call plain hold.windows)) none
+      (begins q o r s r.got_init (λ z. z) h.other h.own)) stands
 
   -- nothing happens that the rules see
   quietly_in : (out : List messages.Message) (m : Making Carried) → ReceivesIn message is_interleaved m.state (handed ++ out) x → packets_in m.context.emitted.events ≡ []
@@ -129,32 +129,32 @@ module _ (message : ℕ → Message) (lifecycle : ℕ → Option ℕ) (is_interl
   taken_action : Stands (state_of r) (taken_in (state_of r)) → In (act (Calls TakeMessage) r s) (take 1 (ready_in (state_of r)))
   taken_action stands =
       let out : List messages.Message = take 1 (ready_in (state_of r)) in
-      claim_in r.is_asked out (called TakeMessage r.end) x
+      claim_in r.got_init out (called TakeMessage r.end) x
       (quietly_in out (calm (called TakeMessage r.end)) (parts.taken_in_turn (state_of r) handed x f.refines) (ap (λ (t : Emitted Carried). packets_in t.events) quiet_r.emitted)
       (ap (λ (t : Emitted Carried). resets_in t.events) quiet_r.emitted) refl) stands
 
-  refused_in : (p : PacketTree) (text : List ℕ) → called (Packet p) r.end ≡ complains text (counts r.end) → In (after_action r.is_asked (called (Packet p) r.end) r) []
+  refused_in : (p : PacketTree) (text : List ℕ) → called (Packet p) r.end ≡ complains text (counts r.end) → In (after_action r.got_init (called (Packet p) r.end) r) []
   refused_in p text same =
       let e : Endpoint Carried = complains text (counts r.end) in
-      subst (λ (z : Endpoint Carried). In (after_action r.is_asked z r) []) (sym same)
-      (claim_in r.is_asked [] e x
+      subst (λ (z : Endpoint Carried). In (after_action r.got_init z r) []) (sym same)
+      (claim_in r.got_init [] e x
       (quietly_in [] (calm e) (subst (λ (ms : List messages.Message). ReceivesIn message is_interleaved (state_of r) ms x) (sym same_handed) f.refines)
       (ap (λ (t : Emitted Carried). packets_in (t.events ++ OnError ParseFailed text ∷ [])) quiet_r.emitted)
       (ap (λ (t : Emitted Carried). resets_in (t.events ++ OnError ParseFailed text ∷ [])) quiet_r.emitted) refl) (λ a e. e))
 
   -- streams are to be reset, unless the end refuses
   reset_in : (ids : List ℕ) (refusal : Option ResetStreamsError) → reset_refusal (state_of r) ≡ refusal → MayCall (ResetStreams ids) r
-      → HasNoEnd (calm (calls.reset_by refusal ids r.end)) → Stands (state_of r) (calls.reset_by refusal ids r.end).endpoint_state.state → In (after_action r.is_asked (calls.reset_by refusal ids r.end) r) []
+      → HasNoEnd (calm (calls.reset_by refusal ids r.end)) → Stands (state_of r) (calls.reset_by refusal ids r.end).endpoint_state.state → In (after_action r.got_init (calls.reset_by refusal ids r.end) r) []
   reset_in ids (Some e) fine may none stands =
-      claim_in r.is_asked [] (calls.reset_by (Some e) ids r.end) x (none_handed (calm r.end) x start) stands
+      claim_in r.got_init [] (calls.reset_by (Some e) ids r.end) x (none_handed (calm r.end) x start) stands
   reset_in ids None fine may none stands =
-      let g : Setting = setting q o r s r.is_asked in
+      let g : Setting = setting q o r s r.got_init in
       let quiet : Rules g NoPacket = rules_call q o r s other own NoPacket tt in
       let goes : ReceiverGoes message lifecycle is_interleaved x handed (calls.preparing ids r.end) (calm (calls.reset_by None ids r.end)) =
-      calls.then_reset g quiet (parts.receiver_keeps g NoPacket x handed (premises r.is_asked NoPacket (receives_no_data message is_interleaved (first_out (state_of s)) x NoPacket (λ p e. cc) hold.windows)))
-      r.end ids (rules_call q o r s other own (ResetStreams ids) may) fine none (begins q o r s r.is_asked (λ z. z) h.other h.own) in
+      calls.then_reset g quiet (parts.receiver_keeps g NoPacket x handed (premises r.got_init NoPacket (receives_no_data message is_interleaved (first_out (state_of s)) x NoPacket (λ p e. cc) hold.windows)))
+      r.end ids (rules_call q o r s other own (ResetStreams ids) may) fine none (begins q o r s r.got_init (λ z. z) h.other h.own) in
       let c = goes x (calls.claim_preparing message is_interleaved x handed ids r.end x start) in
-      claim_in r.is_asked [] (calls.reset_by None ids r.end) c.0 (none_handed (calm (calls.reset_by None ids r.end)) c.0 c.1) stands
+      claim_in r.got_init [] (calls.reset_by None ids r.end) c.0 (none_handed (calm (calls.reset_by None ids r.end)) c.0 c.1) stands
 
   -- any call
   call_in : (call : Call) → MayCall call r → endings (act (Calls call) r s).emitted ≡ 0
@@ -164,7 +164,7 @@ module _ (message : ℕ → Message) (lifecycle : ℕ → Option ℕ) (is_interl
       other_call : (call : Call) → is_other call ≡ true → IsNoPacket call → MayCall call r → Stands (state_of r) (state_of (act (Calls call) r s))
           → HasNoEnd (calm (called call r.end)) → In (act (Calls call) r s) []
       other_call call is plain may stands none =
-          joined_in r.is_asked call (rules_call q o r s other own call may) is (λ z. z) none (receives_no_data message is_interleaved (first_out (state_of s)) x call plain hold.windows) stands
+          joined_in r.got_init call (rules_call q o r s other own call may) is (λ z. z) none (receives_no_data message is_interleaved (first_out (state_of s)) x call plain hold.windows) stands
 
       by_call : (call : Call) → MayCall call r → Stands (state_of r) (state_of (act (Calls call) r s)) → HasNoEnd (calm (called call r.end))
           → In (act (Calls call) r s) (handed_by (Calls call) r)
@@ -190,8 +190,8 @@ module _ (message : ℕ → Message) (lifecycle : ℕ → Option ℕ) (is_interl
   given_in (Some p) checksum n there timely none stands =
       let a : AtStamp (λ stamp p. IsUnderWay (says_out message is_interleaved (first_out (state_of s))) x (of stamp) p) stamps_s n p =
       each_at (λ stamp p. IsUnderWay (says_out message is_interleaved (first_out (state_of s))) x (of stamp) p) (emitted_packets s) stamps_s n p there f.out in
-      joined_in (r.is_asked || (p.header.verification_tag == 0)) (Packet (as_received p checksum)) (rules_given q o r s other own p checksum n there) refl
-      (or_left r.is_asked (p.header.verification_tag == 0)) (none_of r.emitted (called (Packet (as_received p checksum)) r.end).endpoint_state.context.emitted.events none)
+      joined_in (r.got_init || (p.header.verification_tag == 0)) (Packet (as_received p checksum)) (rules_given q o r s other own p checksum n there) refl
+      (or_left r.got_init (p.header.verification_tag == 0)) (none_of r.emitted (called (Packet (as_received p checksum)) r.end).endpoint_state.context.emitted.events none)
       (receives_data message is_interleaved (first_out (state_of s)) x (of a.stamp) p checksum a.holds
       (young_now message lifecycle is_interleaved of parts o q own other mode s r h quiet_s quiet_r within accepted handed stamps_s stamps_r so_far x f soon few_told now at_now young a.stamp (timely a.stamp a.there))) stands
 

@@ -17,14 +17,14 @@ use Rattle.proof_tx_refines.proofs.SackLemmas.{delivered_more}
 use Rattle.proof_endpoint.specs.Mapped.{Carried}
 use Rattle.spec_endpoint.specs.Input.{refusal}
 use Rattle.spec_endpoint.specs.Laws.{endings}
-use Rattle.proof_pair.specs.Trace.{Side, Pair, emitted_packets, EndAction, Calls, Gives, Refuses, give, foreign_if, act, goes, run, MayAct, side_of, FollowsTheRules, HasNotEnded, AreGiven, state_of}
+use Rattle.proof_pair.specs.Trace.{Side, Pair, emitted_packets, EndAction, Calls, Gives, Refuses, give, foreign_if, act, goes, run, MayAct, side_of, KeepsOpeningRules, NeitherHasEnded, AreValidOptions, state_of}
 use Rattle.proof_pair.specs.Handing.{ready_at, handed_by, handed_at, new_behind, readied_messages}
 use Rattle.proof_pair.proofs.TraceLemmas.{Halves, swapped, before_run, goes_consistent}
 use Rattle.proof_pair.proofs.HandingLemmas.{Hands, hands_at}
-use Rattle.proof_delivery.specs.Accepted.{Offer, accepted_in, accepted_at, accepted}
+use Rattle.proof_delivery.specs.Accepted.{AcceptedMessage, accepted_in, accepted_at, accepted}
 use Rattle.proof_delivery.specs.Windows.{Stamp, stamp, Stamps, stamps_after, stamps_for, IsTimely, AreWithin, KeepsWindows}
 use Rattle.proof_delivery.specs.Answered.{Asked, asked_after, IsAnswered, AreAnswered, KeepsRequests, performed_in}
-use Rattle.proof_delivery.specs.StreamEpochs.{StreamEpoch, epochs_after, epochs_of, offer_epochs, emitted_of, failed_in}
+use Rattle.proof_delivery.specs.StreamEpochs.{StreamEpoch, epochs_after, epochs_of, message_epochs, emitted_of, failed_in}
 use Rattle.proof_delivery.specs.GivenUp.{emitted_by, given_up_at, given_up}
 use Rattle.proof_delivery.specs.Delivery.{ReportsAreTrue}
 use Rattle.proof_delivery.specs.Ending.{stamps_along}
@@ -95,7 +95,7 @@ pub record Stepped (message : ℕ → Message) (lifecycle : ℕ → Option ℕ) 
 abbrev pub AreFewPerformed : Pair → Type 0
 AreFewPerformed w = (x : Bool) → performed_in (side_of x w).emitted < 2 ^ 32 - 1
 
-module _ (message : ℕ → Message) (lifecycle : ℕ → Option ℕ) (is_interleaved : Bool) (parts : Parts message lifecycle is_interleaved) (a b : Options) (own : AreGiven a) (other : AreGiven b)
+module _ (message : ℕ → Message) (lifecycle : ℕ → Option ℕ) (is_interleaved : Bool) (parts : Parts message lifecycle is_interleaved) (a b : Options) (own : AreValidOptions a) (other : AreValidOptions b)
     (mode : is_interleaved ≡ (agreed a b).message_interleaving) where
   mode_back : is_interleaved ≡ (agreed b a).message_interleaving
   mode_back = mode ∙ sym (ap (λ c. c.message_interleaving) (agreed_exchanged a b))
@@ -104,7 +104,7 @@ module _ (message : ℕ → Message) (lifecycle : ℕ → Option ℕ) (is_interl
   more_by_none n = omega arith
 
   pub stepped : (from_a at_a : Bool) (t : EndAction) (w : Pair) (stamps : Stamps) → Halves a b w.a w.b → AreSilent w → AreWithin w → (k : Asked) → AreAnswered w k → AreFewPerformed w
-      → MayAct t (side_of at_a w) → IsTimely t (stamp w) (stamps_for at_a stamps) → HasNotEnded (goes at_a t w) → (n : ℕ) (handed : List messages.Message)
+      → MayAct t (side_of at_a w) → IsTimely t (stamp w) (stamps_for at_a stamps) → NeitherHasEnded (goes at_a t w) → (n : ℕ) (handed : List messages.Message)
       → AreOffered message lifecycle n (accepted_at from_a at_a t w) → n + length (accepted_at from_a at_a t w) < 2 ^ 32
       → (f : ℕ → StreamEpoch) (epochs : List ℕ) (x : Direction) → FlowsFrom message lifecycle is_interleaved from_a w stamps n handed (so_far from_a f epochs k) x
       → Stepped message lifecycle is_interleaved from_a (goes at_a t w) (stamps_after at_a t w stamps) (n + length (accepted_at from_a at_a t w)) (handed ++ handed_at (not from_a) at_a t w)
@@ -166,13 +166,13 @@ abbrev other_actions : List (Bool × EndAction) → List (Bool × EndAction)
 other_actions [] = []
 other_actions (e ∷ es) = es
 
-module _ (all : List Offer) (all_epochs : List ℕ) (is_interleaved : Bool) (parts : Parts (message_of all) (lifecycle_of all) is_interleaved) (a b : Options) (own : AreGiven a) (other : AreGiven b)
+module _ (all : List AcceptedMessage) (all_epochs : List ℕ) (is_interleaved : Bool) (parts : Parts (message_of all) (lifecycle_of all) is_interleaved) (a b : Options) (own : AreValidOptions a) (other : AreValidOptions b)
     (mode : is_interleaved ≡ (agreed a b).message_interleaving) (few : length all < 2 ^ 32) (from_a : Bool) where
   abbrev From : Pair → Stamps → ℕ → List messages.Message → SoFar → Direction → Type 0
   From w stamps n handed said x = FlowsFrom (message_of all) (lifecycle_of all) is_interleaved from_a w stamps n handed said x
 
   -- where such a trace leads, whose places are all that became ready
-  pub record Leads (w : Pair) (stamps : Stamps) (done : List Offer) (ready : List messages.Message) (gone places : List ℕ) : Type 0 where
+  pub record Leads (w : Pair) (stamps : Stamps) (done : List AcceptedMessage) (ready : List messages.Message) (gone places : List ℕ) : Type 0 where
     pub handed : List messages.Message
     pub ready_are : ready ≡ handed ++ ready_at (side_of (not from_a) w)
     pub last : Direction
@@ -189,7 +189,7 @@ module _ (all : List Offer) (all_epochs : List ℕ) (is_interleaved : Bool) (par
       (length (ready ++ readied_messages (not from_a) (early ++ e ∷ []) w))
 
   -- where this was accepted, became ready and was given up before, one list of places serves all along
-  pub record DeliversOn (es : List (Bool × EndAction)) (w : Pair) (stamps : Stamps) (done : List Offer) (ready : List messages.Message) (gone : List ℕ) (x : Direction) : Type 0 where
+  pub record DeliversOn (es : List (Bool × EndAction)) (w : Pair) (stamps : Stamps) (done : List AcceptedMessage) (ready : List messages.Message) (gone : List ℕ) (x : Direction) : Type 0 where
     pub places : List ℕ
     pub more : List ℕ
     pub grown : places ≡ (transfer_of x).receiver.places ++ more
@@ -206,7 +206,7 @@ module _ (all : List Offer) (all_epochs : List ℕ) (is_interleaved : Bool) (par
       (ready_is (message_of all) is_interleaved (state_of (side_of (not from_a) w)) handed x f.refines)
 
   -- now
-  point_now : (w : Pair) (stamps : Stamps) (done later : List Offer) → all ≡ done ++ later → (handed ready : List messages.Message)
+  point_now : (w : Pair) (stamps : Stamps) (done later : List AcceptedMessage) → all ≡ done ++ later → (handed ready : List messages.Message)
       → ready ≡ handed ++ ready_at (side_of (not from_a) w) → (gone : List ℕ) (said : SoFar) (x : Direction) → From w stamps (length done) handed said x
       → Accounted (lifecycle_of all) (side_of from_a w) gone x → (places more : List ℕ) → places ≡ (transfer_of x).receiver.places ++ more → Point (side_of from_a w) done ready gone places
   point_now w stamps done later e handed ready r gone said x f a places more grown =
@@ -214,16 +214,16 @@ module _ (all : List Offer) (all_epochs : List ℕ) (is_interleaved : Bool) (par
       f.sends ready (ready_now w handed ready r stamps (length done) said x f) places more grown
 
   -- behind nothing more
-  here : (w : Pair) (done : List Offer) (ready : List messages.Message) (gone places : List ℕ) → Point (side_of from_a w) done ready gone places
+  here : (w : Pair) (done : List AcceptedMessage) (ready : List messages.Message) (gone places : List ℕ) → Point (side_of from_a w) done ready gone places
       → Point (side_of from_a w) (done ++ []) (ready ++ []) (gone ++ []) places
   here w done ready gone places p =
-      subst (λ (os : List Offer). Point (side_of from_a w) os (ready ++ []) (gone ++ []) places) (sym (append-nil done))
+      subst (λ (os : List AcceptedMessage). Point (side_of from_a w) os (ready ++ []) (gone ++ []) places) (sym (append-nil done))
       (subst (λ (ms : List messages.Message). Point (side_of from_a w) done ms (gone ++ []) places) (sym (append-nil ready))
       (subst (λ (ps : List ℕ). Point (side_of from_a w) done ready ps places) (sym (append-nil gone)) p))
 
   -- at one action
-  timed_now : (w v : Pair) (done : List Offer) (handed ready : List messages.Message) → ready ≡ handed ++ ready_at (side_of (not from_a) w)
-      → (done_then : List Offer) (handed_then new : List messages.Message) → ready ++ new ≡ handed_then ++ ready_at (side_of (not from_a) v)
+  timed_now : (w v : Pair) (done : List AcceptedMessage) (handed ready : List messages.Message) → ready ≡ handed ++ ready_at (side_of (not from_a) w)
+      → (done_then : List AcceptedMessage) (handed_then new : List messages.Message) → ready ++ new ≡ handed_then ++ ready_at (side_of (not from_a) v)
       → (stamps stamps_then : Stamps) (n m : ℕ) (said then : SoFar) (x y : Direction) → From w stamps n handed said x → From v stamps_then m handed_then then y
       → Bracketed (message_of all) x.rules y.rules → (later : List ℕ) → all_epochs ≡ then.epochs ++ later → (places more : List ℕ) → places ≡ (transfer_of y).receiver.places ++ more
       → BecomeReady all all_epochs places (side_of (not from_a) w).emitted (side_of (not from_a) v).emitted (length ready) (length (ready ++ new))
@@ -235,7 +235,7 @@ module _ (all : List Offer) (all_epochs : List ℕ) (is_interleaved : Bool) (par
       all_epochs (g.many ∙ sym g.accepted_is) g.epochs split places more grown k p o (omega (arith, l, from)) (omega (arith, h, to))
 
   -- one action, then the others
-  on_then : (e : Bool × EndAction) (es : List (Bool × EndAction)) (w : Pair) (stamps : Stamps) (done : List Offer) (ready : List messages.Message) (gone : List ℕ) (x y : Direction)
+  on_then : (e : Bool × EndAction) (es : List (Bool × EndAction)) (w : Pair) (stamps : Stamps) (done : List AcceptedMessage) (ready : List messages.Message) (gone : List ℕ) (x y : Direction)
       → Bracketed (message_of all) x.rules y.rules
       → ((places more : List ℕ) → places ≡ (transfer_of x).receiver.places ++ more → Point (side_of from_a w) done ready gone places)
       → ((places more : List ℕ) → places ≡ (transfer_of y).receiver.places ++ more → BecomeReady all all_epochs places (side_of (not from_a) w).emitted (side_of (not from_a) (goes e.0 e.1 w)).emitted
@@ -256,7 +256,7 @@ module _ (all : List Offer) (all_epochs : List ℕ) (is_interleaved : Bool) (par
       v : Pair
       v = goes e.0 e.1 w
 
-      os : List Offer
+      os : List AcceptedMessage
       os = accepted_at from_a e.0 e.1 w
 
       new : List messages.Message
@@ -268,17 +268,17 @@ module _ (all : List Offer) (all_epochs : List ℕ) (is_interleaved : Bool) (par
       grown : d.places ≡ (transfer_of x).receiver.places ++ (b.more ++ d.more)
       grown = d.grown ∙ (ap (λ (l : List ℕ). l ++ d.more) b.places ∙ append_assoc (transfer_of x).receiver.places b.more d.more)
 
-      later : (s : Side) (os2 : List Offer) (ms2 : List messages.Message) (ps2 : List ℕ) → Point s ((done ++ os) ++ os2) ((ready ++ new) ++ ms2) ((gone ++ left) ++ ps2) d.places
+      later : (s : Side) (os2 : List AcceptedMessage) (ms2 : List messages.Message) (ps2 : List ℕ) → Point s ((done ++ os) ++ os2) ((ready ++ new) ++ ms2) ((gone ++ left) ++ ps2) d.places
           → Point s (done ++ (os ++ os2)) (ready ++ (new ++ ms2)) (gone ++ (left ++ ps2)) d.places
       later s os2 ms2 ps2 p =
-          subst (λ (o : List Offer). Point s o (ready ++ (new ++ ms2)) (gone ++ (left ++ ps2)) d.places) (append_assoc done os os2)
+          subst (λ (o : List AcceptedMessage). Point s o (ready ++ (new ++ ms2)) (gone ++ (left ++ ps2)) d.places) (append_assoc done os os2)
           (subst (λ (m : List messages.Message). Point s ((done ++ os) ++ os2) m (gone ++ (left ++ ps2)) d.places) (append_assoc ready new ms2)
           (subst (λ (l : List ℕ). Point s ((done ++ os) ++ os2) ((ready ++ new) ++ ms2) l d.places) (append_assoc gone left ps2) p))
 
-      regrouped : (u : Pair) (z : Stamps) (os2 : List Offer) (ms2 : List messages.Message) (ps2 : List ℕ)
+      regrouped : (u : Pair) (z : Stamps) (os2 : List AcceptedMessage) (ms2 : List messages.Message) (ps2 : List ℕ)
           → Leads u z ((done ++ os) ++ os2) ((ready ++ new) ++ ms2) ((gone ++ left) ++ ps2) d.places → Leads u z (done ++ (os ++ os2)) (ready ++ (new ++ ms2)) (gone ++ (left ++ ps2)) d.places
       regrouped u z os2 ms2 ps2 l =
-          subst (λ (o : List Offer). Leads u z o (ready ++ (new ++ ms2)) (gone ++ (left ++ ps2)) d.places) (append_assoc done os os2)
+          subst (λ (o : List AcceptedMessage). Leads u z o (ready ++ (new ++ ms2)) (gone ++ (left ++ ps2)) d.places) (append_assoc done os os2)
           (subst (λ (m : List messages.Message). Leads u z ((done ++ os) ++ os2) m (gone ++ (left ++ ps2)) d.places) (append_assoc ready new ms2)
           (subst (λ (p : List ℕ). Leads u z ((done ++ os) ++ os2) ((ready ++ new) ++ ms2) p d.places) (append_assoc gone left ps2) l))
 
@@ -307,10 +307,10 @@ module _ (all : List Offer) (all_epochs : List ℕ) (is_interleaved : Bool) (par
       in_epochs (f ∷ early) late z is =
           subst (λ (t : Bool × EndAction). BecomeReadyAt d.places w ready (t ∷ early) z) (ap (λ (ts : List (Bool × EndAction)). first_action ts e) is) (behind early z (d.in_epochs early late z (ap other_actions is)))
 
-  pub delivers_on : (es : List (Bool × EndAction)) (w : Pair) (stamps : Stamps) → FollowsTheRules es w → HasNotEnded (run es w) → KeepsWindows es w stamps
+  pub delivers_on : (es : List (Bool × EndAction)) (w : Pair) (stamps : Stamps) → KeepsOpeningRules es w → NeitherHasEnded (run es w) → KeepsWindows es w stamps
       → (k : Asked) → KeepsRequests es w k → AreFewPerformed (run es w) → Halves a b w.a w.b → AreSilent w
-      → (done more : List Offer) → all ≡ done ++ (accepted from_a es w ++ more)
-      → (f : ℕ → StreamEpoch) (epochs more_epochs : List ℕ) → all_epochs ≡ epochs ++ (offer_epochs from_a es w f ++ more_epochs) → (handed ready : List messages.Message)
+      → (done more : List AcceptedMessage) → all ≡ done ++ (accepted from_a es w ++ more)
+      → (f : ℕ → StreamEpoch) (epochs more_epochs : List ℕ) → all_epochs ≡ epochs ++ (message_epochs from_a es w f ++ more_epochs) → (handed ready : List messages.Message)
       → ready ≡ handed ++ ready_at (side_of (not from_a) w) → (gone : List ℕ) (x : Direction) → From w stamps (length done) handed (so_far from_a f epochs k) x
       → Accounted (lifecycle_of all) (side_of from_a w) gone x → DeliversOn es w stamps done ready gone x
   delivers_on [] w stamps follows none windows k soon told h quiet done more is f epochs more_epochs are handed ready r gone x flows accounts = record {
@@ -320,7 +320,7 @@ module _ (all : List Offer) (all_epochs : List ℕ) (is_interleaved : Bool) (par
     points = points;
     in_epochs = in_epochs;
     leads =
-        subst (λ (os : List Offer). Leads w stamps os (ready ++ []) (gone ++ []) (transfer_of x).receiver.places) (sym (append-nil done))
+        subst (λ (os : List AcceptedMessage). Leads w stamps os (ready ++ []) (gone ++ []) (transfer_of x).receiver.places) (sym (append-nil done))
         (subst (λ (ms : List messages.Message). Leads w stamps done ms (gone ++ []) (transfer_of x).receiver.places) (sym (append-nil ready))
         (subst (λ (ps : List ℕ). Leads w stamps done ready ps (transfer_of x).receiver.places) (sym (append-nil gone)) now));
   }
@@ -349,17 +349,17 @@ module _ (all : List Offer) (all_epochs : List ℕ) (is_interleaved : Bool) (par
       in_epochs (g ∷ early) late e is = cc
   delivers_on (e ∷ es) w stamps follows none windows k soon told h quiet done more is f epochs more_epochs are handed ready r gone x flows accounts =
       let v : Pair = goes e.0 e.1 w in
-      let os : List Offer = accepted_at from_a e.0 e.1 w in
-      let later : List Offer = accepted from_a es v ++ more in
-      let split : all ≡ done ++ (os ++ later) = is ∙ ap (λ (l : List Offer). done ++ l) (append_assoc os (accepted from_a es v) more) in
+      let os : List AcceptedMessage = accepted_at from_a e.0 e.1 w in
+      let later : List AcceptedMessage = accepted from_a es v ++ more in
+      let split : all ≡ done ++ (os ++ later) = is ∙ ap (λ (l : List AcceptedMessage). done ++ l) (append_assoc os (accepted from_a es v) more) in
       let new : List messages.Message = new_behind (ready_at (side_of (not from_a) w)) (ready_at (side_of (not from_a) v)) in
-      let not_yet : HasNotEnded v = before_run es v none in
+      let not_yet : NeitherHasEnded v = before_run es v none in
       let few_now : AreFewPerformed w = λ y. few_before y (e ∷ es) w (2 ^ 32 - 1) (told y) in
       let g : ℕ → StreamEpoch = epochs_after from_a e.0 e.1 w f in
       let ns : List ℕ = epochs_of os f in
-      let later_epochs : List ℕ = offer_epochs from_a es v g ++ more_epochs in
+      let later_epochs : List ℕ = message_epochs from_a es v g ++ more_epochs in
       let split_epochs : all_epochs ≡ (epochs ++ ns) ++ later_epochs =
-      are ∙ (ap (λ (l : List ℕ). epochs ++ l) (append_assoc ns (offer_epochs from_a es v g) more_epochs) ∙ sym (append_assoc epochs ns later_epochs)) in
+      are ∙ (ap (λ (l : List ℕ). epochs ++ l) (append_assoc ns (message_epochs from_a es v g) more_epochs) ∙ sym (append_assoc epochs ns later_epochs)) in
       let s = stepped (message_of all) (lifecycle_of all) is_interleaved parts a b own other mode from_a e.0 e.1 w stamps h quiet windows.0 k (answered_now (e ∷ es) w k soon) few_now follows.0 windows.1 not_yet
       (length done) handed (offered_from all done os later split) (below done os later split) f epochs x flows in
       let hand : Hands (handed_at (not from_a) e.0 e.1 w) (state_of (side_of (not from_a) w)) (state_of (side_of (not from_a) v)) =
@@ -378,9 +378,9 @@ module _ (all : List Offer) (all_epochs : List ℕ) (is_interleaved : Bool) (par
       (gone ++ given_up_at from_a e.0 e.1 w) s.to
       (subst (λ (n : ℕ). From v (stamps_after e.0 e.1 w stamps) n handed_then said s.to) (sym (length-append done os)) s.flows) (s.accounts gone accounts))
     where
-      below : (done os later : List Offer) → all ≡ done ++ (os ++ later) → length done + length os < 2 ^ 32
+      below : (done os later : List AcceptedMessage) → all ≡ done ++ (os ++ later) → length done + length os < 2 ^ 32
       below done os later e =
-          let n = ap (λ (z : List Offer). length z) e in
+          let n = ap (λ (z : List AcceptedMessage). length z) e in
           let m = length-append done (os ++ later) in
           let k = length-append os later in
           omega (arith, few, n, m, k)
@@ -388,7 +388,7 @@ module _ (all : List Offer) (all_epochs : List ℕ) (is_interleaved : Bool) (par
   -- ---- at one more action of the sender, up to the first end of an association
 
   -- what it emits is emitted behind what was emitted before
-  emitted_both : (side : Side) (past early rest : List (Event Carried)) → side.emitted ≡ past ++ (early ++ rest) → (offers : List Offer) (places : List ℕ)
+  emitted_both : (side : Side) (past early rest : List (Event Carried)) → side.emitted ≡ past ++ (early ++ rest) → (offers : List AcceptedMessage) (places : List ℕ)
       → ReportsAreTrue offers side.emitted places → ReportsAreTrue offers (past ++ early) places
   emitted_both side past early rest e offers places true_of id is =
       let all_told : delivered_ids side.emitted ≡ delivered_ids (past ++ early) ++ delivered_ids rest =
@@ -402,7 +402,7 @@ module _ (all : List Offer) (all_epochs : List ℕ) (is_interleaved : Bool) (par
       ap (λ (es : List (Event Carried)). failed_in es) (e ∙ sym (append_assoc past early rest)) ∙ failed_more (past ++ early) rest in
       (or_parts (failed_in (past ++ early)) (failed_in rest) (sym all_told ∙ none)).0
 
-  until_then : (s r side : Side) (of : Stamp → ℕ) (stamps_s stamps_r : List Stamp) (done os : List Offer) → all ≡ done ++ os → (handed ready : List messages.Message)
+  until_then : (s r side : Side) (of : Stamp → ℕ) (stamps_s stamps_r : List Stamp) (done os : List AcceptedMessage) → all ≡ done ++ os → (handed ready : List messages.Message)
       → ready ≡ handed ++ ready_at r → (x : Direction) → Invariant (message_of all) is_interleaved (transfer_of x) → ReceivesIn (message_of all) is_interleaved (state_of r) handed x
       → (gone by : List ℕ) → Accounted (lifecycle_of all) s gone x → (then : SoFar)
       → Turned (message_of all) (lifecycle_of all) is_interleaved of side r (length done + length os) handed stamps_s stamps_r then x s by
@@ -424,25 +424,25 @@ module _ (all : List Offer) (all_epochs : List ℕ) (is_interleaved : Bool) (par
       subst (λ (ps : List ℕ). ReportsAreTrue (done ++ os) side.emitted ps) (now ∙ sym before) p.reports
 
 -- what an end emitted, and emits in front of the first end of an association
-pub record EmitsThen (told early : List (Event Carried)) (offers : List Offer) (places : List ℕ) : Type 0 where
+pub record EmitsThen (told early : List (Event Carried)) (offers : List AcceptedMessage) (places : List ℕ) : Type 0 where
   pub reports : ReportsAreTrue offers (told ++ early) places
   pub none_refused : failed_in (told ++ early) ≡ false
 
-module _ (all : List Offer) (all_epochs : List ℕ) (is_interleaved : Bool) (parts : Parts (message_of all) (lifecycle_of all) is_interleaved) (few : length all < 2 ^ 32) where
-  below_all : (done os : List Offer) → all ≡ done ++ os → length done + length os < 2 ^ 32
+module _ (all : List AcceptedMessage) (all_epochs : List ℕ) (is_interleaved : Bool) (parts : Parts (message_of all) (lifecycle_of all) is_interleaved) (few : length all < 2 ^ 32) where
+  below_all : (done os : List AcceptedMessage) → all ≡ done ++ os → length done + length os < 2 ^ 32
   below_all done os e =
-      let n = ap (λ (z : List Offer). length z) e in
+      let n = ap (λ (z : List AcceptedMessage). length z) e in
       let m = length-append done os in
       omega (arith, few, n, m)
 
-  pub emits_then : (from_a : Bool) (a b : Options) (own : AreGiven a) (other : AreGiven b) (mode : is_interleaved ≡ (agreed a b).message_interleaving) (w : Pair) (stamps : Stamps)
-      → Halves a b w.a w.b → AreSilent w → AreWithin w → AreFewPerformed w → HasNotEnded w → (t : EndAction) → MayAct t (side_of from_a w)
-      → IsTimely t (stamp w) (stamps_for from_a stamps) → (done : List Offer) → all ≡ done ++ accepted_in t (side_of from_a w) → (ready : List messages.Message) (gone places : List ℕ)
+  pub emits_then : (from_a : Bool) (a b : Options) (own : AreValidOptions a) (other : AreValidOptions b) (mode : is_interleaved ≡ (agreed a b).message_interleaving) (w : Pair) (stamps : Stamps)
+      → Halves a b w.a w.b → AreSilent w → AreWithin w → AreFewPerformed w → NeitherHasEnded w → (t : EndAction) → MayAct t (side_of from_a w)
+      → IsTimely t (stamp w) (stamps_for from_a stamps) → (done : List AcceptedMessage) → all ≡ done ++ accepted_in t (side_of from_a w) → (ready : List messages.Message) (gone places : List ℕ)
       → Leads all all_epochs is_interleaved parts a b own other mode few from_a w stamps done ready gone places
       → (early late : List (Event Carried)) → (emitted_by t (side_of from_a w) (side_of (not from_a) w)).events ≡ early ++ late → endings early ≡ 0
       → EmitsThen (side_of from_a w).emitted early (done ++ accepted_in t (side_of from_a w)) (take (length ready) places)
   emits_then true a b own other mode w stamps h quiet within performed none t may timely done is ready gone places l early late told before =
-      let offered = offered_from all done (accepted_in t w.a) [] (is ∙ ap (λ (os : List Offer). done ++ os) (sym (append-nil (accepted_in t w.a)))) in
+      let offered = offered_from all done (accepted_in t w.a) [] (is ∙ ap (λ (os : List AcceptedMessage). done ++ os) (sym (append-nil (accepted_in t w.a)))) in
       let u = action_until (message_of all) (lifecycle_of all) is_interleaved (of_end true) parts a b own other mode w.a w.b h quiet.a quiet.b within.a (length done) l.handed stamps.of_a stamps.of_b
       l.said l.last l.flows l.soon (performed true) (stamp w) refl (λ old y. y.a) t may timely none.a offered (below_all done (accepted_in t w.a) is) early late told before in
       record {
@@ -453,7 +453,7 @@ module _ (all : List Offer) (all_epochs : List ℕ) (is_interleaved : Bool) (par
         none_refused = none_both all all_epochs is_interleaved parts a b own other mode few true u.side w.a.emitted early u.rest u.emitted u.out.flows.none_failed;
       }
   emits_then false a b own other mode w stamps h quiet within performed none t may timely done is ready gone places l early late told before =
-      let offered = offered_from all done (accepted_in t w.b) [] (is ∙ ap (λ (os : List Offer). done ++ os) (sym (append-nil (accepted_in t w.b)))) in
+      let offered = offered_from all done (accepted_in t w.b) [] (is ∙ ap (λ (os : List AcceptedMessage). done ++ os) (sym (append-nil (accepted_in t w.b)))) in
       let u = action_until (message_of all) (lifecycle_of all) is_interleaved (of_end false) parts b a other own (mode_back (message_of all) (lifecycle_of all) is_interleaved parts a b own other mode) w.b w.a (swapped a b w.a w.b h)
       quiet.b quiet.a within.b (length done) l.handed stamps.of_b stamps.of_a
       l.said l.last l.flows l.soon (performed false) (stamp w) refl (λ old y. y.b) t may timely none.b offered (below_all done (accepted_in t w.b) is) early late told before in

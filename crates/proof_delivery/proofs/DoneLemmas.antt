@@ -15,7 +15,7 @@ use Rattle.proof_tx_refines.specs.Records.{are_distinct}
 use Rattle.proof_tx_refines.proofs.RestLemmas.{rest_outgoing}
 use Rattle.spec_endpoint.specs.Association.{State, Closed, CookieWait, Open}
 use Rattle.proof_pair.specs.Trace.{Side, state_of}
-use Rattle.proof_delivery.specs.Accepted.{Offer}
+use Rattle.proof_delivery.specs.Accepted.{AcceptedMessage}
 use Rattle.proof_delivery.specs.GivenUp.{kept_in, IsAtRest}
 use Rattle.proof_delivery.specs.Windows.{queue_of}
 use Rattle.proof_delivery.specs.Delivery.{Fits, SkippedAreGivenUp, ReportsAreTrue, AllAreDone}
@@ -25,7 +25,7 @@ use Rattle.proof_delivery.proofs.ActionLemmas.{message_in}
 use Rattle.proof_delivery.proofs.FitsLemmas.{places_fit, first_places}
 
 -- where these were accepted at an end, became ready beyond, and were given up
-pub record Point (s : Side) (offers : List Offer) (ready : List messages.Message) (gone places : List ℕ) : Type 0 where
+pub record Point (s : Side) (offers : List AcceptedMessage) (ready : List messages.Message) (gone places : List ℕ) : Type 0 where
   pub fits : Fits offers ready (take (length ready) places)
   pub skipped : SkippedAreGivenUp offers gone (take (length ready) places)
   pub reports : ReportsAreTrue offers s.emitted (take (length ready) places)
@@ -55,7 +55,7 @@ reported_at lifecycle (p ∷ ps) id h = by_id (lifecycle p) refl h (reported_at 
           | inr later ↦ reported_behind lifecycle p ps id (rest later)
         ]
 
-offer_at : (offers : List Offer) (p : ℕ) → p < length offers → (o : Offer) × (slice_get offers p ≡ Some o)
+offer_at : (offers : List AcceptedMessage) (p : ℕ) → p < length offers → (o : AcceptedMessage) × (slice_get offers p ≡ Some o)
 offer_at offers p l =
     elim (slice_get_cases offers p).1 [
       | inl a ↦ (a.0, a.2)
@@ -72,14 +72,14 @@ rests message lifecycle is_interleaved (Open phase t) q x k h empty none = rest_
 
 -- ---- the point
 
-module _ (message : ℕ → Message) (lifecycle : ℕ → Option ℕ) (is_interleaved : Bool) (offers : List Offer)
-    (there : (p : ℕ) (o : Offer) → slice_get offers p ≡ Some o → message p ≡ message_in o)
-    (ids : (p : ℕ) (o : Offer) → slice_get offers p ≡ Some o → lifecycle p ≡ o.options.lifecycle_id)
+module _ (message : ℕ → Message) (lifecycle : ℕ → Option ℕ) (is_interleaved : Bool) (offers : List AcceptedMessage)
+    (there : (p : ℕ) (o : AcceptedMessage) → slice_get offers p ≡ Some o → message p ≡ message_in o)
+    (ids : (p : ℕ) (o : AcceptedMessage) → slice_get offers p ≡ Some o → lifecycle p ≡ o.options.lifecycle_id)
     (s : Side) (x : Direction) (kept : Invariant message is_interleaved (transfer_of x)) (few : (transfer_of x).sender.accepted ≡ length offers) where
   claims : Claims message (transfer_of x)
   claims = claimed message is_interleaved (transfer_of x) kept
 
-  its_id : (p : ℕ) (o : Offer) (id : ℕ) → slice_get offers p ≡ Some o → lifecycle p ≡ Some id → o.options.lifecycle_id ≡ Some id
+  its_id : (p : ℕ) (o : AcceptedMessage) (id : ℕ) → slice_get offers p ≡ Some o → lifecycle p ≡ Some id → o.options.lifecycle_id ≡ Some id
   its_id p o id at_p e = sym (ids p o at_p) ∙ e
 
   module _ (gone : List ℕ) (a : Accounted lifecycle s gone x) where
@@ -96,7 +96,7 @@ module _ (message : ℕ → Message) (lifecycle : ℕ → Option ℕ) (is_interl
         let r : Reported lifecycle (transfer_of x).reports id = reported_at lifecycle (transfer_of x).reports id (sym (ap (λ (z : List ℕ). has id z) a.told_is) ∙ h) in
         let ready : has r.place (transfer_of x).receiver.places ≡ true = claims.reports r.place r.among in
         let below = kept.outgoing.begun_below r.place (kept.incoming.ready_begun r.place ready) in
-        let o : (o : Offer) × (slice_get offers r.place ≡ Some o) = offer_at offers r.place (omega (arith, below, few)) in
+        let o : (o : AcceptedMessage) × (slice_get offers r.place ≡ Some o) = offer_at offers r.place (omega (arith, below, few)) in
         record { place = r.place; offer = o.0; there = o.1; its_id = its_id r.place o.0 id o.1 r.its_id; is_ready = ready }
 
     rest_now : AtRest (transfer_of x) → AllAreDone offers gone (transfer_of x).receiver.places

@@ -8,7 +8,7 @@ use Rattle.proof_protocol.specs.Based.{Bracketed}
 use Rattle.proof_protocol.specs.Invariant.{Invariant}
 use Rattle.proof_tx_refines.proofs.RestLemmas.{has_more}
 use Rattle.proof_endpoint.specs.Mapped.{Carried}
-use Rattle.proof_delivery.specs.Accepted.{Offer}
+use Rattle.proof_delivery.specs.Accepted.{AcceptedMessage}
 use Rattle.proof_delivery.specs.StreamEpochs.{resets_emitted}
 use Rattle.proof_delivery.proofs.ClaimLemmas.{Direction, transfer_of}
 use Rattle.proof_delivery.proofs.ActionLemmas.{message_in}
@@ -29,17 +29,17 @@ index_behind (x ∷ xs) ms rest (suc k) l h = index_behind xs ms rest k (omega (
 -- ---- the action
 
 -- Of these messages, each with its epoch, some become ready: with these numbers, at these places. Before and after it, their end emitted this.
-abbrev pub BecomeReady : (offers : List Offer) (epochs places : List ℕ) (before after : List (Event Carried)) (from to : ℕ) → Type 0
+abbrev pub BecomeReady : (offers : List AcceptedMessage) (epochs places : List ℕ) (before after : List (Event Carried)) (from to : ℕ) → Type 0
 BecomeReady offers epochs places before after from to =
-    (k n : ℕ) (o : Offer) → from ≤ k → k < to → slice_get offers (slice_index places k) ≡ Some o → slice_get epochs (slice_index places k) ≡ Some n
+    (k n : ℕ) (o : AcceptedMessage) → from ≤ k → k < to → slice_get offers (slice_index places k) ≡ Some o → slice_get epochs (slice_index places k) ≡ Some n
     → (resets_emitted o.message.stream before ≤ n) × (n ≤ resets_emitted o.message.stream after)
 
-module _ (message : ℕ → Message) (is_interleaved : Bool) (offers : List Offer) (there : (p : ℕ) (o : Offer) → slice_get offers p ≡ Some o → message p ≡ message_in o)
+module _ (message : ℕ → Message) (is_interleaved : Bool) (offers : List AcceptedMessage) (there : (p : ℕ) (o : AcceptedMessage) → slice_get offers p ≡ Some o → message p ≡ message_in o)
     (x y : Direction) (b : Bracketed message x.rules y.rules) (kept : Invariant message is_interleaved (transfer_of y)) (before after : List (Event Carried))
     (told_before : (s : ℕ) → x.rules.performed s ≡ resets_emitted s before) (told_after : (s : ℕ) → y.rules.performed s ≡ resets_emitted s after)
     (epochs later all_epochs : List ℕ) (many : length epochs ≡ (transfer_of y).sender.accepted) (epochs_are : (p n : ℕ) → slice_get epochs p ≡ Some n → y.rules.epoch p ≡ n)
     (split : all_epochs ≡ epochs ++ later) where
-  one_ready : (p n : ℕ) (o : Offer) → has p b.more ≡ true → slice_get offers p ≡ Some o → slice_get all_epochs p ≡ Some n
+  one_ready : (p n : ℕ) (o : AcceptedMessage) → has p b.more ≡ true → slice_get offers p ≡ Some o → slice_get all_epochs p ≡ Some n
       → (resets_emitted o.message.stream before ≤ n) × (n ≤ resets_emitted o.message.stream after)
   one_ready p n o h at_p of_p =
       let on : stream_of message p ≡ o.message.stream = ap (λ (m : Message). m.stream) (there p o at_p) in

@@ -15,7 +15,7 @@ use Rattle.proof_protocol.specs.Invariant.{Invariant}
 use Rattle.proof_protocol.proofs.ClaimsLemmas.{claimed}
 use Rattle.spec_endpoint.specs.Association.{State, Closed, CookieWait, Open}
 use Rattle.spec_endpoint.specs.Calls.{ready_in}
-use Rattle.proof_delivery.specs.Accepted.{Offer}
+use Rattle.proof_delivery.specs.Accepted.{AcceptedMessage}
 use Rattle.proof_delivery.specs.Delivery.{message_at, Fits}
 use Rattle.proof_delivery.proofs.ClaimLemmas.{Direction, transfer_of, ReceivesIn, IsFresh}
 use Rattle.proof_delivery.proofs.ActionLemmas.{message_in, AreOffered}
@@ -23,55 +23,55 @@ use Rattle.proof_delivery.proofs.ActionLemmas.{message_in, AreOffered}
 -- ---- what was accepted, by place
 
 -- and nothing beyond
-abbrev pub message_of : List Offer → ℕ → Message
+abbrev pub message_of : List AcceptedMessage → ℕ → Message
 message_of os p = elim (slice_get os p) [ None ↦ record { stream = 0; ordered = false; protocol_id = 0; payload = [] } | Some o ↦ message_in o ]
 
-abbrev pub lifecycle_of : List Offer → ℕ → Option ℕ
+abbrev pub lifecycle_of : List AcceptedMessage → ℕ → Option ℕ
 lifecycle_of os p = elim (slice_get os p) [ None ↦ None | Some o ↦ o.options.lifecycle_id ]
 
 -- as short as what was accepted
-pub all_short : (os : List Offer) → All (λ (o : Offer). length o.message.payload < 2 ^ 32) os → (p : ℕ) → length (message_of os p).payload < 2 ^ 32
+pub all_short : (os : List AcceptedMessage) → All (λ (o : AcceptedMessage). length o.message.payload < 2 ^ 32) os → (p : ℕ) → length (message_of os p).payload < 2 ^ 32
 all_short [] h p = omega arith
-all_short (o ∷ os) h zero = All-head (λ (o : Offer). length o.message.payload < 2 ^ 32) o os h
-all_short (o ∷ os) h (suc p) = all_short os (All-tail (λ (o : Offer). length o.message.payload < 2 ^ 32) o os h) p
+all_short (o ∷ os) h zero = All-head (λ (o : AcceptedMessage). length o.message.payload < 2 ^ 32) o os h
+all_short (o ∷ os) h (suc p) = all_short os (All-tail (λ (o : AcceptedMessage). length o.message.payload < 2 ^ 32) o os h) p
 
-pub get_behind : (xs ys : List Offer) (n : ℕ) (o : Offer) → slice_get xs n ≡ Some o → slice_get (xs ++ ys) n ≡ Some o
+pub get_behind : (xs ys : List AcceptedMessage) (n : ℕ) (o : AcceptedMessage) → slice_get xs n ≡ Some o → slice_get (xs ++ ys) n ≡ Some o
 get_behind [] ys n o e = cc
 get_behind (x ∷ xs) ys zero o e = e
 get_behind (x ∷ xs) ys (suc n) o e = get_behind xs ys n o e
 
-get_next : (xs ys : List Offer) (o : Offer) → slice_get (xs ++ o ∷ ys) (length xs) ≡ Some o
+get_next : (xs ys : List AcceptedMessage) (o : AcceptedMessage) → slice_get (xs ++ o ∷ ys) (length xs) ≡ Some o
 get_next [] ys o = refl
 get_next (x ∷ xs) ys o = get_next xs ys o
 
-one_more : (xs : List Offer) (o : Offer) → length (xs ++ o ∷ []) ≡ length xs + 1
+one_more : (xs : List AcceptedMessage) (o : AcceptedMessage) → length (xs ++ o ∷ []) ≡ length xs + 1
 one_more [] o = refl
 one_more (x ∷ xs) o = let e = one_more xs o in omega (arith, e)
 
-module _ (all : List Offer) where
-  message_there : (p : ℕ) (o : Offer) → slice_get all p ≡ Some o → message_of all p ≡ message_in o
+module _ (all : List AcceptedMessage) where
+  message_there : (p : ℕ) (o : AcceptedMessage) → slice_get all p ≡ Some o → message_of all p ≡ message_in o
   message_there p o e =
-      ap (λ (z : Option Offer). elim z [ None ↦ record { stream = 0; ordered = false; protocol_id = 0; payload = [] } | Some o ↦ message_in o ]) e
+      ap (λ (z : Option AcceptedMessage). elim z [ None ↦ record { stream = 0; ordered = false; protocol_id = 0; payload = [] } | Some o ↦ message_in o ]) e
 
-  lifecycle_there : (p : ℕ) (o : Offer) → slice_get all p ≡ Some o → lifecycle_of all p ≡ o.options.lifecycle_id
-  lifecycle_there p o e = ap (λ (z : Option Offer). elim z [ None ↦ None | Some o ↦ o.options.lifecycle_id ]) e
+  lifecycle_there : (p : ℕ) (o : AcceptedMessage) → slice_get all p ≡ Some o → lifecycle_of all p ≡ o.options.lifecycle_id
+  lifecycle_there p o e = ap (λ (z : Option AcceptedMessage). elim z [ None ↦ None | Some o ↦ o.options.lifecycle_id ]) e
 
   -- behind what was accepted before
-  pub offered_from : (done rest later : List Offer) → all ≡ done ++ (rest ++ later) → AreOffered (message_of all) (lifecycle_of all) (length done) rest
+  pub offered_from : (done rest later : List AcceptedMessage) → all ≡ done ++ (rest ++ later) → AreOffered (message_of all) (lifecycle_of all) (length done) rest
   offered_from done [] later e = tt
   offered_from done (o ∷ rest) later e =
-      let there : slice_get all (length done) ≡ Some o = ap (λ (z : List Offer). slice_get z (length done)) e ∙ get_next done (rest ++ later) o in
+      let there : slice_get all (length done) ≡ Some o = ap (λ (z : List AcceptedMessage). slice_get z (length done)) e ∙ get_next done (rest ++ later) o in
       let next : all ≡ (done ++ o ∷ []) ++ (rest ++ later) = e ∙ sym (append_assoc done (o ∷ []) (rest ++ later)) in (
         message_there (length done) o there,
         lifecycle_there (length done) o there,
         subst (λ (n : ℕ). AreOffered (message_of all) (lifecycle_of all) n rest) (one_more done o) (offered_from (done ++ o ∷ []) rest later next),
       )
 
-  pub lifecycle_accepted : (done later : List Offer) → all ≡ done ++ later → (p : ℕ) (o : Offer) → slice_get done p ≡ Some o → lifecycle_of all p ≡ o.options.lifecycle_id
-  lifecycle_accepted done later e p o there = lifecycle_there p o (ap (λ (z : List Offer). slice_get z p) e ∙ get_behind done later p o there)
+  pub lifecycle_accepted : (done later : List AcceptedMessage) → all ≡ done ++ later → (p : ℕ) (o : AcceptedMessage) → slice_get done p ≡ Some o → lifecycle_of all p ≡ o.options.lifecycle_id
+  lifecycle_accepted done later e p o there = lifecycle_there p o (ap (λ (z : List AcceptedMessage). slice_get z p) e ∙ get_behind done later p o there)
 
-  pub accepted_there : (done later : List Offer) → all ≡ done ++ later → (p : ℕ) (o : Offer) → slice_get done p ≡ Some o → message_of all p ≡ message_in o
-  accepted_there done later e p o there = message_there p o (ap (λ (z : List Offer). slice_get z p) e ∙ get_behind done later p o there)
+  pub accepted_there : (done later : List AcceptedMessage) → all ≡ done ++ later → (p : ℕ) (o : AcceptedMessage) → slice_get done p ≡ Some o → message_of all p ≡ message_in o
+  accepted_there done later e p o there = message_there p o (ap (λ (z : List AcceptedMessage). slice_get z p) e ∙ get_behind done later p o there)
 
 -- ---- what the values show of what became ready
 
@@ -105,16 +105,16 @@ abbrev other_ready : List ReadyMessage → List ReadyMessage
 other_ready [] = []
 other_ready (x ∷ xs) = xs
 
-module _ (message : ℕ → Message) (os : List Offer) (there : (p : ℕ) (o : Offer) → slice_get os p ≡ Some o → message p ≡ message_in o) where
+module _ (message : ℕ → Message) (os : List AcceptedMessage) (there : (p : ℕ) (o : AcceptedMessage) → slice_get os p ≡ Some o → message p ≡ message_in o) where
   one_alike : (p : ℕ) (m : messages.Message) → p < length os → ready_of m ≡ ready_message message p → message_at os p ≡ Some m
   one_alike p m l e =
       elim (slice_get_cases os p).1 [
         | inl a ↦
-            let o : Offer = a.0 in
+            let o : AcceptedMessage = a.0 in
             let is : message p ≡ message_in o = there p o a.2 in
             let same : m ≡ o.message =
             ap given_back e ∙ ap (λ (z : Message). given_back (record { stream = z.stream; protocol_id = z.protocol_id; payload = z.payload })) is in
-            ap (λ (z : Option Offer). option_map (λ (o : Offer). o.message) z) a.2 ∙ ap (λ (z : messages.Message). Some z) (sym same)
+            ap (λ (z : Option AcceptedMessage). option_map (λ (o : AcceptedMessage). o.message) z) a.2 ∙ ap (λ (z : messages.Message). Some z) (sym same)
         | inr b ↦ let past = b.0 in absurd (omega (arith, past, l))
       ]
 

@@ -29,14 +29,14 @@ use Rattle.proof_endpoint.specs.Mapped.{Carried}
 use Rattle.proof_endpoint.proofs.LawsLemmas.{emits_endings}
 use Rattle.proof_endpoint.proofs.EmitsLemmas.{endings_append}
 use Rattle.proof_pair.specs.Acts.{Making, calm, end_of, HasNoEnd, PreservesUntilEnd}
-use Rattle.proof_pair.specs.Trace.{Side, packets_in, emitted_packets, EndAction, Calls, Gives, Refuses, as_received, give, foreign_if, act, MayCall, MayAct, AreGiven, state_of}
+use Rattle.proof_pair.specs.Trace.{Side, packets_in, emitted_packets, EndAction, Calls, Gives, Refuses, as_received, give, foreign_if, act, MayCall, MayAct, AreValidOptions, state_of}
 use Rattle.proof_pair.proofs.UntilLemmas.{until_first_end}
 use Rattle.proof_pair.proofs.JoinActsLemmas.{Setting, InvAt}
 use Rattle.proof_pair.proofs.JoinKeepsLemmas.{Rules}
 use Rattle.proof_pair.proofs.TraceLemmas.{setting, begins, rules_call, rules_given, Halves, none_of}
 use Rattle.proof_pair.proofs.HandingActsLemmas.{Readies, readies}
 use Rattle.proof_pair.proofs.HandingLemmas.{hands}
-use Rattle.proof_delivery.specs.Accepted.{Offer, accepted_by, accepted_in}
+use Rattle.proof_delivery.specs.Accepted.{AcceptedMessage, accepted_by, accepted_in}
 use Rattle.proof_delivery.specs.GivenUp.{emitted_of, emitted_given, emitted_foreign, emitted_by, given_up_by}
 use Rattle.proof_delivery.specs.Windows.{Stamp, IsYoung, IsTimely, IsWithin, queue_of, numbered_count, stamp_packets}
 use Rattle.proof_delivery.specs.Justified.{reset_unless, reset_by}
@@ -68,7 +68,7 @@ is_offer (SendMany ms o) = true
 is_offer call = false
 
 -- these are accepted, and fragments go out
-pub record OffersOut (message : ℕ → Message) (lifecycle : ℕ → Option ℕ) (is_interleaved : Bool) (x : Direction) (os : List Offer) (m : Making Carried) : Type 0 where
+pub record OffersOut (message : ℕ → Message) (lifecycle : ℕ → Option ℕ) (is_interleaved : Bool) (x : Direction) (os : List AcceptedMessage) (m : Making Carried) : Type 0 where
   pub mid : Direction
   pub offers : Offers message is_interleaved (length os) x mid
   pub to : Direction
@@ -215,8 +215,8 @@ none_named es none = sym (performed_names es) ∙ ap (λ (fs : List (Event Carri
 none_fails : (es : List (Event Carried)) → resets_in es ≡ [] → failed_in es ≡ false
 none_fails es none = sym (failed_still es) ∙ ap (λ (fs : List (Event Carried)). failed_in fs) none
 
-module _ (message : ℕ → Message) (lifecycle : ℕ → Option ℕ) (is_interleaved : Bool) (of : Stamp → ℕ) (parts : Parts message lifecycle is_interleaved) (o q : Options) (own : AreGiven o)
-    (other : AreGiven q) (mode : is_interleaved ≡ (agreed o q).message_interleaving) (s r : Side) (h : Halves o q s r) (quiet_s : IsSilent s) (quiet_r : IsSilent r)
+module _ (message : ℕ → Message) (lifecycle : ℕ → Option ℕ) (is_interleaved : Bool) (of : Stamp → ℕ) (parts : Parts message lifecycle is_interleaved) (o q : Options) (own : AreValidOptions o)
+    (other : AreValidOptions q) (mode : is_interleaved ≡ (agreed o q).message_interleaving) (s r : Side) (h : Halves o q s r) (quiet_s : IsSilent s) (quiet_r : IsSilent r)
     (within : IsWithin (state_of s) (queue_of s)) (accepted : ℕ) (handed : List messages.Message) (stamps_s stamps_r : List Stamp) (so_far : SoFar) (x : Direction)
     (f : Flows message lifecycle is_interleaved of s r accepted handed stamps_s stamps_r so_far x) (soon : IsAnswered (state_of s) so_far.asked) (few_told : performed_in s.emitted < 2 ^ 32 - 1)
     (now : Stamp) (at_now : of now ≡ numbered_count (state_of s)) (young : (old : Stamp) → IsYoung now old → of now < of old + 2 ^ 30) where
@@ -237,7 +237,7 @@ module _ (message : ℕ → Message) (lifecycle : ℕ → Option ℕ) (is_interl
 
   -- ---- the sender's action
 
-  abbrev pub Out : Side → List Offer → SoFar → List ℕ → Type 0
+  abbrev pub Out : Side → List AcceptedMessage → SoFar → List ℕ → Type 0
   Out t os then by = Turned message lifecycle is_interleaved of t r (accepted + length os) handed (stamp_packets s t now stamps_s) stamps_r then x s by
 
   -- nothing is done yet
@@ -276,7 +276,7 @@ module _ (message : ℕ → Message) (lifecycle : ℕ → Option ℕ) (is_interl
         accounts = λ gone a. accounts_out message lifecycle is_interleaved s gone x a 0 prepared x y e asked none c;
       }
 
-  joined_out : (asked : Bool) (call : Call) → Rules (setting o q s r asked) call → is_other call ≡ true → (s.is_asked ≡ true → asked ≡ true)
+  joined_out : (asked : Bool) (call : Call) → Rules (setting o q s r asked) call → is_other call ≡ true → (s.got_init ≡ true → asked ≡ true)
       → HasNoEnd (calm (called call s.end)) → ReceivesSacks call (first_in (state_of r)) x → Stands (state_of s) (called call s.end).endpoint_state.state
       → Out (after_action asked (called call s.end) s) [] (so_far_then so_far s (called call s.end) [] []) (recorded_places (emitted_of (called call s.end)))
   joined_out asked call rules other_call le none hears stands =
@@ -286,23 +286,23 @@ module _ (message : ℕ → Message) (lifecycle : ℕ → Option ℕ) (is_interl
       let c = goes [] x start in
       claim_out asked [] (called call s.end) c.0 c.1 stands
 
-  offered_out : (call : Call) → Rules (setting o q s r s.is_asked) call → is_offer call ≡ true → IsNoPacket call
+  offered_out : (call : Call) → Rules (setting o q s r s.got_init) call → is_offer call ≡ true → IsNoPacket call
       → AreOffered message lifecycle accepted (accepted_by call s) → accepted + length (accepted_by call s) < 2 ^ 32
       → HasNoEnd (calm (called call s.end)) → Stands (state_of s) (called call s.end).endpoint_state.state
-      → Out (after_action s.is_asked (called call s.end) s) (accepted_by call s) (so_far_then so_far s (called call s.end) (accepted_by call s) []) (recorded_places (emitted_of (called call s.end)))
+      → Out (after_action s.got_init (called call s.end) s) (accepted_by call s) (so_far_then so_far s (called call s.end) (accepted_by call s) []) (recorded_places (emitted_of (called call s.end)))
   offered_out call rules offer plain are few none stands =
-      let g : Setting = setting o q s r s.is_asked in
-      let os : List Offer = accepted_by call s in
+      let g : Setting = setting o q s r s.got_init in
+      let os : List AcceptedMessage = accepted_by call s in
       let c : OffersOut message lifecycle is_interleaved x os (calm (called call s.end)) =
-      parts.offered_out g call x s rules offer (premises_out s.is_asked call (none_received call plain))
+      parts.offered_out g call x s rules offer (premises_out s.got_init call (none_received call plain))
       (subst (λ (n : ℕ). AreOffered message lifecycle n os) (sym f.accepted_is) are) (subst (λ (n : ℕ). n + length os < 2 ^ 32) (sym f.accepted_is) few)
-      none (begins o q s r s.is_asked (λ z. z) h.own h.other) quiet_s f.sends start.near in
+      none (begins o q s r s.got_init (λ z. z) h.own h.other) quiet_s f.sends start.near in
       record {
         to = c.to;
-        flows = ends_out message lifecycle is_interleaved of parts.stay s r accepted handed stamps_s stamps_r so_far x f now counted near s.is_asked os [] c.mid c.to (called call s.end)
+        flows = ends_out message lifecycle is_interleaved of parts.stay s r accepted handed stamps_s stamps_r so_far x f now counted near s.got_init os [] c.mid c.to (called call s.end)
             c.offers are c.claim stands;
         bracketed = goes_bracketed message is_interleaved is_outgoing x c.to f.kept.epochs (goes_on message is_interleaved is_outgoing x c.mid c.to c.offers.goes (outgoing message is_interleaved c.mid c.to c.claim.goes));
-        accounts = λ gone a. accounts_out message lifecycle is_interleaved s gone x a (length os) [] c.mid c.to (called call s.end) s.is_asked c.offers c.claim;
+        accounts = λ gone a. accounts_out message lifecycle is_interleaved s gone x a (length os) [] c.mid c.to (called call s.end) s.got_init c.offers c.claim;
       }
 
   -- nothing happens that the rules see
@@ -326,18 +326,18 @@ module _ (message : ℕ → Message) (lifecycle : ℕ → Option ℕ) (is_interl
 
   taken_out : Stands (state_of s) (taken_in (state_of s)) → Out (act (Calls TakeMessage) s r) [] (so_far_turned (Calls TakeMessage) s r so_far) (given_up_by (Calls TakeMessage) s r)
   taken_out stands =
-      claim_out s.is_asked [] (called TakeMessage s.end) x
+      claim_out s.got_init [] (called TakeMessage s.end) x
       (quietly_out (calm (called TakeMessage s.end)) (parts.taken_out (state_of s) (queue_of s) x f.sends) (ap (λ (t : Emitted Carried). recorded_places t) quiet_s.emitted)
       (ap (λ (t : Emitted Carried). delivered_ids t.events) quiet_s.emitted) (ap (λ (t : Emitted Carried). packets_in t.events) quiet_s.emitted)
       (ap (λ (t : Emitted Carried). resets_in t.events) quiet_s.emitted) refl) stands
 
   -- a packet is not taken for one
   refused_out : (p : PacketTree) (text : List ℕ) → called (Packet p) s.end ≡ complains text (counts s.end)
-      → Out (after_action s.is_asked (called (Packet p) s.end) s) [] (so_far_then so_far s (called (Packet p) s.end) [] []) (recorded_places (emitted_of (called (Packet p) s.end)))
+      → Out (after_action s.got_init (called (Packet p) s.end) s) [] (so_far_then so_far s (called (Packet p) s.end) [] []) (recorded_places (emitted_of (called (Packet p) s.end)))
   refused_out p text same =
       let e : Endpoint Carried = complains text (counts s.end) in
-      subst (λ (z : Endpoint Carried). Out (after_action s.is_asked z s) [] (so_far_then so_far s z [] []) (recorded_places (emitted_of z))) (sym same)
-      (claim_out s.is_asked [] e x
+      subst (λ (z : Endpoint Carried). Out (after_action s.got_init z s) [] (so_far_then so_far s z [] []) (recorded_places (emitted_of z))) (sym same)
+      (claim_out s.got_init [] e x
       (quietly_out (calm e) f.sends (ap (λ (t : Emitted Carried). recorded_places t) quiet_s.emitted)
       (ap (λ (t : Emitted Carried). delivered_ids (t.events ++ OnError ParseFailed text ∷ [])) quiet_s.emitted)
       (ap (λ (t : Emitted Carried). packets_in (t.events ++ OnError ParseFailed text ∷ [])) quiet_s.emitted)
@@ -346,18 +346,18 @@ module _ (message : ℕ → Message) (lifecycle : ℕ → Option ℕ) (is_interl
   -- streams are to be reset, unless the end refuses
   reset_out : (ids : List ℕ) (refusal : Option ResetStreamsError) → reset_refusal (state_of s) ≡ refusal → MayCall (ResetStreams ids) s
       → HasNoEnd (calm (calls.reset_by refusal ids s.end)) → Stands (state_of s) (calls.reset_by refusal ids s.end).endpoint_state.state
-      → Out (after_action s.is_asked (calls.reset_by refusal ids s.end) s) [] (so_far_then so_far s (calls.reset_by refusal ids s.end) [] (reset_unless refusal ids))
+      → Out (after_action s.got_init (calls.reset_by refusal ids s.end) s) [] (so_far_then so_far s (calls.reset_by refusal ids s.end) [] (reset_unless refusal ids))
       (recorded_places (emitted_of (calls.reset_by refusal ids s.end)))
-  reset_out ids (Some e) fine may none stands = claim_out s.is_asked [] (calls.reset_by (Some e) ids s.end) x start stands
+  reset_out ids (Some e) fine may none stands = claim_out s.got_init [] (calls.reset_by (Some e) ids s.end) x start stands
   reset_out ids None fine may none stands =
-      let g : Setting = setting o q s r s.is_asked in
+      let g : Setting = setting o q s r s.got_init in
       let quiet : Rules g NoPacket = rules_call o q s r own other NoPacket tt in
       let first = calls.claim_prepared message lifecycle is_interleaved x (state_of s) s.end.endpoint_state.context s.end.random ids fine quiet_s.emitted x start in
       let goes : SenderGoes message lifecycle is_interleaved x (calls.preparing ids s.end) (calm (calls.reset_by None ids s.end)) =
-      calls.then_reset g quiet (parts.sender_keeps g NoPacket x (premises_out s.is_asked NoPacket (none_received NoPacket (λ p e. cc)))) s.end ids
-      (rules_call o q s r own other (ResetStreams ids) may) fine none (begins o q s r s.is_asked (λ z. z) h.own h.other) in
+      calls.then_reset g quiet (parts.sender_keeps g NoPacket x (premises_out s.got_init NoPacket (none_received NoPacket (λ p e. cc)))) s.end ids
+      (rules_call o q s r own other (ResetStreams ids) may) fine none (begins o q s r s.got_init (λ z. z) h.own h.other) in
       let c = goes ids first.0 first.1 in
-      claim_out s.is_asked ids (calls.reset_by None ids s.end) c.0 c.1 stands
+      claim_out s.got_init ids (calls.reset_by None ids s.end) c.0 c.1 stands
 
   -- any call
   call_out : (call : Call) → MayCall call s → endings (act (Calls call) s r).emitted ≡ 0
@@ -369,7 +369,7 @@ module _ (message : ℕ → Message) (lifecycle : ℕ → Option ℕ) (is_interl
       other_call : (call : Call) → is_other call ≡ true → IsNoPacket call → MayCall call s → Stands (state_of s) (state_of (act (Calls call) s r))
           → HasNoEnd (calm (called call s.end)) → Out (act (Calls call) s r) [] (so_far_then so_far s (called call s.end) [] []) (given_up_by (Calls call) s r)
       other_call call is plain may stands none =
-          joined_out s.is_asked call (rules_call o q s r own other call may) is (λ z. z) none (none_received call plain) stands
+          joined_out s.got_init call (rules_call o q s r own other call may) is (λ z. z) none (none_received call plain) stands
 
       by_call : (call : Call) → MayCall call s → AreOffered message lifecycle accepted (accepted_by call s)
           → accepted + length (accepted_by call s) < 2 ^ 32 → Stands (state_of s) (state_of (act (Calls call) s r)) → HasNoEnd (calm (called call s.end))
@@ -406,8 +406,8 @@ module _ (message : ℕ → Message) (lifecycle : ℕ → Option ℕ) (is_interl
   given_out (Some p) checksum n there timely none stands =
       let a : AtStamp (λ stamp p. IsUnderWay (says_in message is_interleaved (first_in (state_of r))) x (of stamp) p) stamps_r n p =
       each_at (λ stamp p. IsUnderWay (says_in message is_interleaved (first_in (state_of r))) x (of stamp) p) (emitted_packets r) stamps_r n p there f.answers in
-      joined_out (s.is_asked || (p.header.verification_tag == 0)) (Packet (as_received p checksum)) (rules_given o q s r own other p checksum n there) refl
-      (or_left s.is_asked (p.header.verification_tag == 0)) (none_of s.emitted (called (Packet (as_received p checksum)) s.end).endpoint_state.context.emitted.events none)
+      joined_out (s.got_init || (p.header.verification_tag == 0)) (Packet (as_received p checksum)) (rules_given o q s r own other p checksum n there) refl
+      (or_left s.got_init (p.header.verification_tag == 0)) (none_of s.emitted (called (Packet (as_received p checksum)) s.end).endpoint_state.context.emitted.events none)
       (receives_sacks message is_interleaved (first_in (state_of r)) x (of a.stamp) p checksum a.holds (young_now a.stamp (timely a.stamp a.there))) stands
 
   foreign_out : (text : Option (List ℕ)) (p : PacketTree) → refusal p.header.verification_tag p.chunks (state_of s) ≡ text
@@ -426,7 +426,7 @@ module _ (message : ℕ → Message) (lifecycle : ℕ → Option ℕ) (is_interl
   -- ---- where it ends an association, up to there
 
   -- a side that emitted what the action emits in front of an end, and maybe more
-  pub record IsUntil (early : List (Event Carried)) (os : List Offer) : Type 0 where
+  pub record IsUntil (early : List (Event Carried)) (os : List AcceptedMessage) : Type 0 where
     pub side : Side
     pub then : SoFar
     pub by : List ℕ
@@ -452,7 +452,7 @@ module _ (message : ℕ → Message) (lifecycle : ℕ → Option ℕ) (is_interl
     made = All-nil _;
   }
 
-  joined_until : (asked : Bool) (call : Call) → Rules (setting o q s r asked) call → is_other call ≡ true → (s.is_asked ≡ true → asked ≡ true)
+  joined_until : (asked : Bool) (call : Call) → Rules (setting o q s r asked) call → is_other call ≡ true → (s.got_init ≡ true → asked ≡ true)
       → ReceivesSacks call (first_in (state_of r)) x → (early late : List (Event Carried)) → (emitted_of (called call s.end)).events ≡ early ++ late → endings early ≡ 0
       → IsUntil early []
   joined_until asked call rules other_call le hears early late is none =
@@ -511,7 +511,7 @@ module _ (message : ℕ → Message) (lifecycle : ℕ → Option ℕ) (is_interl
 
       other_call : (call : Call) → is_other call ≡ true → IsNoPacket call → MayCall call s → (emitted_of (called call s.end)).events ≡ early ++ late → IsUntil early []
       other_call call kind plain may is =
-          joined_until s.is_asked call (rules_call o q s r own other call may) kind (λ z. z)
+          joined_until s.got_init call (rules_call o q s r own other call may) kind (λ z. z)
           (none_received call plain) early late is none
 
       by_packet : (p : Option Carried) (checksum n : ℕ) → slice_get (emitted_packets r) n ≡ p → ((old : Stamp) → slice_get stamps_r n ≡ Some old → IsYoung now old)
@@ -527,8 +527,8 @@ module _ (message : ℕ → Message) (lifecycle : ℕ → Option ℕ) (is_interl
       by_packet (Some p) checksum n there timely is =
           let a : AtStamp (λ stamp p. IsUnderWay (says_in message is_interleaved (first_in (state_of r))) x (of stamp) p) stamps_r n p =
           each_at (λ stamp p. IsUnderWay (says_in message is_interleaved (first_in (state_of r))) x (of stamp) p) (emitted_packets r) stamps_r n p there f.answers in
-          joined_until (s.is_asked || (p.header.verification_tag == 0)) (Packet (as_received p checksum)) (rules_given o q s r own other p checksum n there) refl
-          (or_left s.is_asked (p.header.verification_tag == 0))
+          joined_until (s.got_init || (p.header.verification_tag == 0)) (Packet (as_received p checksum)) (rules_given o q s r own other p checksum n there) refl
+          (or_left s.got_init (p.header.verification_tag == 0))
           (receives_sacks message is_interleaved (first_in (state_of r)) x (of a.stamp) p checksum a.holds (young_now a.stamp (timely a.stamp a.there))) early late is none
 
       by_foreign : (text : Option (List ℕ)) (p : PacketTree) → refusal p.header.verification_tag p.chunks (state_of s) ≡ text → endings (emitted_foreign text p s).events ≡ 0

@@ -22,8 +22,8 @@ use Rattle.proof_pair.specs.Trace.{Side, Pair, emitted_packets, EndAction, Calls
 use Rattle.proof_pair.proofs.PacketActsLemmas.{does_send_buffered}
 use Rattle.proof_pair.proofs.RowActsLemmas.{placed, does_where_open}
 use Rattle.proof_pair.proofs.ActsLemmas.{keeps_call}
-use Rattle.proof_delivery.specs.Accepted.{Offer, accepted_by, accepted_in, accepted_at, accepted}
-use Rattle.proof_delivery.specs.Justified.{clock, Acceptance, accepted_then, acceptances, records_of, records_given, records_if, records_by, records_at, reset_unless, reset_by, reset_at, forgone_then, forgone, IsJustified, restores, RestoresNone, RecordsAreJustified, AcceptancesAreAccepted}
+use Rattle.proof_delivery.specs.Accepted.{AcceptedMessage, accepted_by, accepted_in, accepted_at, accepted}
+use Rattle.proof_delivery.specs.Justified.{clock, Acceptance, accepted_then, acceptances, records_of, records_given, records_if, records_by, records_at, reset_unless, reset_by, reset_at, dated_record, dated_records, IsJustified, restores, RestoresNone, RecordsAreJustified, AcceptancesAreAccepted}
 use Rattle.proof_delivery.proofs.JustifiedQueueLemmas.{all_behind}
 use Rattle.proof_delivery.proofs.JustifiedActsLemmas.{IsJustifiedAt, SoundAt, kept_in, stays_sound}
 use Rattle.proof_delivery.proofs.JustifiedOffersLemmas.{justified_more, shorter, offers_sound}
@@ -177,12 +177,12 @@ goes_on old false true t w none few h = no_more old w.b [] (actions_none old [] 
 
 -- records of an action, where more messages are accepted later
 all_then : (all more : List Acceptance) (resets : List ℕ) (now : ℕ) (gs : List GivenUp) → AllByRecursion (IsJustifiedAt all resets now) gs
-    → AllByRecursion (IsJustified (all ++ more)) (map (forgone_then now resets) gs)
+    → AllByRecursion (IsJustified (all ++ more)) (map (dated_record now resets) gs)
 all_then all more resets now [] h = tt
 all_then all more resets now (g ∷ gs) h = (justified_more resets all more now g h.0, all_then all more resets now gs h.1)
 
 run_justified : (x : Bool) (es : List (Bool × EndAction)) (old : List Acceptance) (w : Pair) → RestoresNone es → length (old ++ acceptances x es w) < 2 ^ 32
-    → Rests old (side_of x w) → AllByRecursion (IsJustified (old ++ acceptances x es w)) (forgone x es w)
+    → Rests old (side_of x w) → AllByRecursion (IsJustified (old ++ acceptances x es w)) (dated_records x es w)
 run_justified x [] old w none few h = tt
 run_justified x (e ∷ es) old w none few h =
     let v : Pair = goes e.0 e.1 w in
@@ -194,24 +194,24 @@ run_justified x (e ∷ es) old w none few h =
     let now : ℕ = clock (side_of x v) in
     let resets : List ℕ = reset_at x e.0 e.1 w in
     let t : Actions all resets (side_of x v) (records_at x e.0 e.1 w) = goes_on old x e.0 e.1 w ((or_parts (restores e.1) later none).0) (shorter all more short) h in
-    subst (λ (xs : List Acceptance). AllByRecursion (IsJustified xs) (forgone x (e ∷ es) w)) joins
-    (all_behind (IsJustified (all ++ more)) (map (forgone_then now resets) (records_at x e.0 e.1 w)) (forgone x es v) (all_then all more resets now (records_at x e.0 e.1 w) t.justified)
+    subst (λ (xs : List Acceptance). AllByRecursion (IsJustified xs) (dated_records x (e ∷ es) w)) joins
+    (all_behind (IsJustified (all ++ more)) (map (dated_record now resets) (records_at x e.0 e.1 w)) (dated_records x es v) (all_then all more resets now (records_at x e.0 e.1 w) t.justified)
     (run_justified x es all v ((or_parts (restores e.1) later none).1) short t.rests))
 
 -- ---- the laws
 
 -- an acceptance's message
-pub offers_back : (now : ℕ) (os : List Offer) → map (λ (a : Acceptance). a.offer) (map (accepted_then now) os) ≡ os
+pub offers_back : (now : ℕ) (os : List AcceptedMessage) → map (λ (a : Acceptance). a.offer) (map (accepted_then now) os) ≡ os
 offers_back now [] = refl
-offers_back now (o ∷ os) = ap (λ (rest : List Offer). o ∷ rest) (offers_back now os)
+offers_back now (o ∷ os) = ap (λ (rest : List AcceptedMessage). o ∷ rest) (offers_back now os)
 
 pub acceptances_accepted : AcceptancesAreAccepted
 acceptances_accepted x [] w = refl
 acceptances_accepted x (e ∷ es) w =
     let v : Pair = goes e.0 e.1 w in
     map-append (λ (a : Acceptance). a.offer) (accepted_now x e.0 e.1 w) (acceptances x es v)
-    ∙ (ap (λ (os : List Offer). os ++ map (λ (a : Acceptance). a.offer) (acceptances x es v)) (offers_back (clock (side_of x w)) (accepted_at x e.0 e.1 w))
-    ∙ ap (λ (os : List Offer). accepted_at x e.0 e.1 w ++ os) (acceptances_accepted x es v))
+    ∙ (ap (λ (os : List AcceptedMessage). os ++ map (λ (a : Acceptance). a.offer) (acceptances x es v)) (offers_back (clock (side_of x w)) (accepted_at x e.0 e.1 w))
+    ∙ ap (λ (os : List AcceptedMessage). accepted_at x e.0 e.1 w ++ os) (acceptances_accepted x es v))
 
 as_many : (x : Bool) (es : List (Bool × EndAction)) (w : Pair) → length (accepted x es w) ≡ length (acceptances x es w)
 as_many x es w = sym (ap length (acceptances_accepted x es w)) ∙ length-map (acceptances x es w) (λ (a : Acceptance). a.offer)

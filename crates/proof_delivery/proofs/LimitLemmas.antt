@@ -19,9 +19,9 @@ use Rattle.spec_endpoint.specs.Requests.{Outcome, Unsettled, Done, Denied, outco
 use Rattle.spec_endpoint.specs.StreamReset.{on_outcome}
 use Rattle.proof_endpoint.specs.Mapped.{Carried}
 use Rattle.proof_pair.specs.Acts.{Making, PacketAct, begins, adds_plain, emits, complains, counts, before_packets, after_packets, OpeningAct, connects, adds_init, answers_new, answers_waiting, answers_echoed, answers_again, echoes, adds_cookie, establishes, opens, restarts, opens_again, maintains, adds_cookie_ack, before_opening, after_opening, ClosingAct, closes, shuts, shuts_on, before_closing, after_closing, DataAct, takes_data, takes_idata, takes_forward, takes_iforward, before_data, after_data, SackAct, takes_sack, samples, counts_errors, before_sack, after_sack, SendingAct, asks, adds_ack, expires, adds_forward, forwards_later, asks_no_reset, asks_reset, adds_request, sends, sends_fast, before_sending, after_sending, TimeAct, advances, delay_ends, times_out, beats, times_init, times_cookie, times_request, wakes_request, before_time, after_time, CallAct, accepts, refuses, takes_message, sets_low_threshold, sets_priority, sets_max_message_size, before_call, after_call, ResetAct, prepares, defers, performs, processes, takes_response, adds_responses, before_reset, after_reset, HandoverAct, leaves, takes_up, before_handover, after_handover, InputAct, ends_packet, before_input, after_input, Preserves}
-use Rattle.proof_pair.specs.Trace.{Side, Pair, emitted_packets, EndAction, Calls, Gives, Refuses, as_received, give, foreign_if, act, goes, AreGiven, new_side, start, state_of}
+use Rattle.proof_pair.specs.Trace.{Side, Pair, emitted_packets, EndAction, Calls, Gives, Refuses, as_received, give, foreign_if, act, goes, AreValidOptions, new_side, start, state_of}
 use Rattle.proof_pair.proofs.ActsLemmas.{keeps_call}
-use Rattle.proof_delivery.specs.Accepted.{Offer, unless_refused, accepted_of, accepted_by, accepted_in, accepted_at, accepted}
+use Rattle.proof_delivery.specs.Accepted.{AcceptedMessage, unless_refused, accepted_of, accepted_by, accepted_in, accepted_at, accepted}
 use Rattle.proof_delivery.specs.Windows.{sets_more, KeepsLimits}
 
 -- ---- an act
@@ -175,7 +175,7 @@ limited_goes false t w h a b = (a, limited_action t w.b w.a h b)
 
 -- ---- what is accepted
 
-abbrev IsShort : Offer → Type 0
+abbrev IsShort : AcceptedMessage → Type 0
 IsShort o = length o.message.payload < 2 ^ 32
 
 not_larger : (is_empty is_large is_late is_full : Bool) (len limit : ℕ) → refusal_by is_empty is_large is_late is_full len limit ≡ None → is_large ≡ false
@@ -226,11 +226,11 @@ accepted_short x (e ∷ es) w k a b =
     let on = limited_goes e.0 e.1 w both.0 a b in
     All-append IsShort (accepted_at x e.0 e.1 w) (accepted x es (goes e.0 e.1 w)) (all_short_at x e.0 e.1 w a b) (accepted_short x es (goes e.0 e.1 w) both.1 on.0 on.1)
 
-limited_new : (o : Options) (words : Stream) → AreGiven o → IsLimited (new_side o words)
+limited_new : (o : Options) (words : Stream) → AreValidOptions o → IsLimited (new_side o words)
 limited_new o words h = let l = h.valid.sizes.message in omega (arith, l)
 
 -- from the start on
-pub all_accepted_short : (a b : Options) (words_a words_b : Stream) → AreGiven a → AreGiven b → (turns : List (Bool × EndAction)) → KeepsLimits turns → (from_a : Bool)
-    → All (λ (o : Offer). length o.message.payload < 2 ^ 32) (accepted from_a turns (start a b words_a words_b))
+pub all_accepted_short : (a b : Options) (words_a words_b : Stream) → AreValidOptions a → AreValidOptions b → (turns : List (Bool × EndAction)) → KeepsLimits turns → (from_a : Bool)
+    → All (λ (o : AcceptedMessage). length o.message.payload < 2 ^ 32) (accepted from_a turns (start a b words_a words_b))
 all_accepted_short a b words_a words_b own other turns k from_a =
     accepted_short from_a turns (start a b words_a words_b) k (limited_new a words_a own) (limited_new b words_b other)

@@ -20,7 +20,7 @@ use Rattle.proof_pair.proofs.CallActsLemmas.{does_offer, does_offer_all, does_se
 use Rattle.proof_pair.proofs.JoinActsLemmas.{Setting, InvAt}
 use Rattle.proof_pair.proofs.JoinKeepsLemmas.{Rules}
 use Rattle.proof_pair.proofs.JoinFrameLemmas.{joins}
-use Rattle.proof_delivery.specs.Accepted.{Offer, accepted_of, accepted_by}
+use Rattle.proof_delivery.specs.Accepted.{AcceptedMessage, accepted_of, accepted_by}
 use Rattle.proof_delivery.specs.Answered.{performed_in}
 use Rattle.proof_delivery.specs.Asks.{Ask}
 use Rattle.proof_delivery.specs.StreamEpochs.{StreamEpoch, shut_streams, reopen, performed_of, resets_emitted, failed_in}
@@ -206,7 +206,7 @@ module _ (message : ℕ → Message) (lifecycle : ℕ → Option ℕ) (is_interl
           → ((mid : Direction) → KeepsJoined g NoPacket (SenderGoes message lifecycle is_interleaved mid) → SenderGoes message lifecycle is_interleaved mid (offering ms how s.end) (calm (called call s.end)))
           → OffersOut message lifecycle is_interleaved x (accepted_of ms how (shown_state (state_of s)) s.end.endpoint_state.context) (calm (called call s.end))
       behind_offers ms how are few goes =
-          let os : List Offer = accepted_of ms how (shown_state (state_of s)) s.end.endpoint_state.context in
+          let os : List AcceptedMessage = accepted_of ms how (shown_state (state_of s)) s.end.endpoint_state.context in
           let o : OfferedTo message lifecycle is_interleaved (state_of s) (offered_at ms how) x (length os) =
           offers_all message lifecycle is_interleaved ms (state_of s) s.end.endpoint_state.context x how is_offering are few in
           let c = goes o.mid (sender_keeps o.mid (premises_then call (offered_at ms how) (length os) p o)) [] o.mid (claim_then ms how (length os) q soon o) in

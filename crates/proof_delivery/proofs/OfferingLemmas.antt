@@ -28,7 +28,7 @@ use Rattle.proof_endpoint.specs.Mapped.{Carried}
 use Rattle.proof_pair.specs.Trace.{packets_in}
 use Rattle.proof_pair.proofs.EmittedLemmas.{emits_refused, quiet_refused}
 use Rattle.proof_pair.proofs.AskedKeepsLemmas.{some_payload}
-use Rattle.proof_delivery.specs.Accepted.{Offer, unless_refused, accepted_of}
+use Rattle.proof_delivery.specs.Accepted.{AcceptedMessage, unless_refused, accepted_of}
 use Rattle.proof_delivery.proofs.AsksLemmas.{asks_stay}
 use Rattle.proof_delivery.proofs.ClaimLemmas.{Direction, transfer_of, IsKept, IsWaiting, SendsIn}
 use Rattle.proof_delivery.proofs.ResetEventsLemmas.{resets_in, resets_refused}
@@ -74,7 +74,7 @@ queued_as p m lifecycle expires limit = record {
   fsn = 0;
 }
 
-abbrev offer_of : messages.Message → SendOptions → Offer
+abbrev offer_of : messages.Message → SendOptions → AcceptedMessage
 offer_of m how = record { message = m; options = how }
 
 module _ (message : ℕ → Message) (lifecycle : ℕ → Option ℕ) (p now : ℕ) (m : messages.Message) (how : SendOptions) (is : message p ≡ message_in (offer_of m how))
@@ -259,11 +259,11 @@ module _ (message : ℕ → Message) (lifecycle : ℕ → Option ℕ) (is_interl
   offered_then n k s d x a e b = record { mid = b.mid; offers = offers_both n k x a.mid b.mid a.offers b.offers; is = b.is }
 
   -- the first, whether it is refused or not, and what is left
-  pub record OffersFirst (s : State) (d : Context Carried) (x : Direction) (n : ℕ) (rest : List Offer) : Type 0 where
+  pub record OffersFirst (s : State) (d : Context Carried) (x : Direction) (n : ℕ) (rest : List AcceptedMessage) : Type 0 where
     pub first : OfferedTo s d x n
     pub are : AreOffered message lifecycle (transfer_of first.mid).sender.accepted rest
 
-  offers_first : (r : Option SendError) (s : State) (c : Context Carried) (x : Direction) (m : messages.Message) (how : SendOptions) (rest : List Offer) → refusal m (shown_state s) c ≡ r
+  offers_first : (r : Option SendError) (s : State) (c : Context Carried) (x : Direction) (m : messages.Message) (how : SendOptions) (rest : List AcceptedMessage) → refusal m (shown_state s) c ≡ r
       → IsOffering s c x → AreOffered message lifecycle (transfer_of x).sender.accepted (unless_refused r m how ++ rest)
       → (transfer_of x).sender.accepted + length (unless_refused r m how ++ rest) < 2 ^ 32
       → OffersFirst s (calls.offered r m how c) x (length (unless_refused r m how)) rest
@@ -289,7 +289,7 @@ module _ (message : ℕ → Message) (lifecycle : ℕ → Option ℕ) (is_interl
   offers_all (m ∷ ms) s c x how h are few =
       let r : Option SendError = refusal m (shown_state s) c in
       let d : Context Carried = offer m how (shown_state s) c in
-      let rest : List Offer = accepted_of ms how (shown_state s) d in
+      let rest : List AcceptedMessage = accepted_of ms how (shown_state s) d in
       let f : OffersFirst s d x (length (unless_refused r m how)) rest = offers_first r s c x m how rest refl h are few in
       let n = length-append (unless_refused r m how) rest in
       let p = f.first.offers.accepted in

@@ -20,7 +20,7 @@ use Rattle.proof_tx_refines.specs.Led.{recorded_places, delivered_ids}
 use Rattle.spec_endpoint.specs.Laws.{Call, Packet}
 use Rattle.proof_endpoint.specs.Mapped.{Carried}
 use Rattle.proof_pair.specs.Acts.{calm, IsReceived}
-use Rattle.proof_pair.specs.Trace.{Side, packets_in, as_received, AreGiven, state_of}
+use Rattle.proof_pair.specs.Trace.{Side, packets_in, as_received, AreValidOptions, state_of}
 use Rattle.proof_pair.proofs.AddedLemmas.{all_at}
 use Rattle.proof_pair.proofs.TraceLemmas.{setting}
 use Rattle.proof_delivery.specs.Answered.{waiting_number, IsAnswered, performed_in}
@@ -168,7 +168,7 @@ module _ (message : ℕ → Message) (lifecycle : ℕ → Option ℕ) (is_interl
       let o = f.kept.asked.order.2 in
       omega (arith, few, a, o)
 
-  pub sender_premises : (asked : Bool) (call : Call) → AreGiven own → is_interleaved ≡ (agreed own other).message_interleaving → performed_in s.emitted < 2 ^ 32 - 1
+  pub sender_premises : (asked : Bool) (call : Call) → AreValidOptions own → is_interleaved ≡ (agreed own other).message_interleaving → performed_in s.emitted < 2 ^ 32 - 1
       → ReceivesSacks call (first_in (state_of r)) x → SenderPremises message lifecycle is_interleaved (setting own other s r asked) call x
   sender_premises asked call given mode few hears = record {
     kept = f.kept;
@@ -180,7 +180,7 @@ module _ (message : ℕ → Message) (lifecycle : ℕ → Option ℕ) (is_interl
     hears = hears;
   }
 
-  pub receiver_premises : (asked : Bool) (call : Call) → AreGiven other → is_interleaved ≡ (agreed other own).message_interleaving → performed_in s.emitted < 2 ^ 32 - 1
+  pub receiver_premises : (asked : Bool) (call : Call) → AreValidOptions other → is_interleaved ≡ (agreed other own).message_interleaving → performed_in s.emitted < 2 ^ 32 - 1
       → Holds message lifecycle is_interleaved x (queue_of s) f.kept → ReceivesData message is_interleaved call (first_out (state_of s)) x
       → ReceiverPremises message lifecycle is_interleaved (setting other own r s asked) call x
   receiver_premises asked call given mode few holds hears = record {

@@ -11,7 +11,7 @@ use Rattle.sctp_rx.specs.Tracker.{Tracker, IsTracker, is_valid, has_seen, moves_
 use Rattle.sctp_rx.specs.Streams.{is_far, entries_in}
 use Rattle.sctp_rx.specs.ReassemblyQueue.{Reassembly, Deferred, Waiting, Added, Forwarded, number_of, came, add_now, forward_now, fragment_waits, point_waits, with_waiting, waits, resetting, waiting_in, add, forward}
 use Rattle.proof_protocol.specs.State.{Message, ForwardPoint, IsAmong}
-use Rattle.proof_protocol.specs.Rules.{Event, data_comes, late_comes, forward_comes, deliver, covers}
+use Rattle.proof_protocol.specs.Rules.{Rule, data_comes, late_comes, forward_comes, become_ready, covers}
 use Rattle.proof_protocol.specs.Points.{AreApart}
 use Rattle.proof_protocol.specs.Based.{EpochWindows}
 use Rattle.proof_protocol.proofs.BasedLemmas.{unseen_is_now}
@@ -105,7 +105,7 @@ module _ (first done : ℕ) (asks : List Ask) (q : Requests) where
 -- ---- the rules go on to a state that these values show
 
 pub record Arrives (message : ℕ → Message) (is_interleaved : Bool) (first : ℕ) (handed : List messages.Message) (x : Direction) (t : Tracker) (r : Reassembly) : Type 0 where
-  pub events : List Event
+  pub events : List Rule
   pub all : list_all is_receiving events ≡ true
   pub shift : ℕ
   pub comes : Comes message is_interleaved first shift x.rules events handed t r
@@ -142,7 +142,7 @@ module _ (message : ℕ → Message) (is_interleaved : Bool) (first : ℕ) (hand
         → Arrives message is_interleaved first handed x (observe (origin + k) now t) (added_unless false tsn f r)
     new_arrives unseen false current =
         let l = held_while message is_interleaved first shift x.rules kept.epochs windows.items handed t r shown near waiting is k tsn f few tsn_is carries written unseen (ordered unseen) now current in
-        record { events = data_comes k ∷ map deliver l.0; all = ready_is_receiving l.0; shift = shift_after r.first shift k; comes = l.1; is_tracker = later }
+        record { events = data_comes k ∷ map become_ready l.0; all = ready_is_receiving l.0; shift = shift_after r.first shift k; comes = l.1; is_tracker = later }
     new_arrives unseen true late =
         let l = late_while message is_interleaved first shift x.rules kept.epochs windows.items handed t r shown near waiting is k tsn f few tsn_is carries written unseen (ordered unseen) now late in
         record { events = late_comes k ∷ []; all = refl; shift = shift_after r.first shift k; comes = l; is_tracker = later }
@@ -175,7 +175,7 @@ module _ (message : ℕ → Message) (is_interleaved : Bool) (first : ℕ) (hand
     point_by : (b : Bool) → moves_on (origin + k) t ≡ b → Arrives message is_interleaved first handed x (tracker.forward (origin + k) t) (skipped_if b tsn skipped r)
     point_by true moves =
         let l = point_while message is_interleaved first shift x.rules kept.epochs windows.items handed t r shown near waiting is k tsn f few sent last moves tsn_is apart (named moves) skipped are in
-        record { events = forward_comes f ∷ map deliver l.0; all = ready_is_receiving l.0; shift = shift_after r.first shift k; comes = l.1; is_tracker = passed }
+        record { events = forward_comes f ∷ map become_ready l.0; all = ready_is_receiving l.0; shift = shift_after r.first shift k; comes = l.1; is_tracker = passed }
     point_by false old = stays (tracker.forward (origin + k) t) (old_point message is_interleaved shift (base_now x.rules) (transfer_of x) handed t r shown (origin + k) old) passed
 
     pub point_arrives : Arrives message is_interleaved first handed x (tracker.forward (origin + k) t) (skipped_if (moves_on (origin + k) t) tsn skipped r)

@@ -8,7 +8,7 @@ use Rattle.sctp_wire.specs.Parameter.{ParameterTree, reset_response}
 use Rattle.sctp_packet.specs.Chunk.{ChunkTree, sack_chunk, re_config_chunk}
 use Rattle.sctp_rx.specs.ReassemblyQueue.{Deferred}
 use Rattle.proof_protocol.specs.State.{Message, IsAmong}
-use Rattle.proof_protocol.specs.Rules.{Event, accept, begin, number, close, give_up, data_comes, late_comes, deliver, send_sack, leave, send_forward, forward_comes, forget}
+use Rattle.proof_protocol.specs.Rules.{Rule, accept, begin, number, end_with_placeholder, give_up, data_comes, late_comes, become_ready, send_sack, ack_point_advances, send_forward, forward_comes, perform_reset}
 use Rattle.proof_protocol.specs.Resets.{Request, Epochs, ResetEvent, transfers, reset_stream, send_request, perform, commit, goes, MayAll, go_all}
 use Rattle.proof_protocol.specs.Based.{InEpochs}
 use Rattle.proof_protocol.proofs.BasedLemmas.{keeps_epochs, all_in_epochs}
@@ -20,7 +20,7 @@ use Rattle.proof_delivery.proofs.ClaimLemmas.{Direction, transfer_of, is_receivi
 use Rattle.proof_delivery.proofs.SenderToolLemmas.{all_transfers}
 
 -- what becomes ready is a receiver's
-pub ready_is_receiving : (ps : List ℕ) → list_all is_receiving (map deliver ps) ≡ true
+pub ready_is_receiving : (ps : List ℕ) → list_all is_receiving (map become_ready ps) ≡ true
 ready_is_receiving [] = refl
 ready_is_receiving (p ∷ ps) = ready_is_receiving ps
 
@@ -28,11 +28,11 @@ module _ (message : ℕ → Message) (is_interleaved : Bool) where
   -- ---- of the transfer alone
 
   -- where these lead
-  abbrev pub led : Direction → List Event → Direction
+  abbrev pub led : Direction → List Rule → Direction
   led x es = record x { rules = go_all message is_interleaved x.rules (map transfers es) }
 
   -- by the laws of the receiver's values
-  pub receiving_goes : (x : Direction) (es : List Event) → MayAll message is_interleaved x.rules (map transfers es) → list_all is_receiving es ≡ true → GoesOn message is_interleaved goes_in x (led x es)
+  pub receiving_goes : (x : Direction) (es : List Rule) → MayAll message is_interleaved x.rules (map transfers es) → list_all is_receiving es ≡ true → GoesOn message is_interleaved goes_in x (led x es)
   receiving_goes x es may all = record {
     events = map transfers es;
     may = may;
@@ -45,18 +45,18 @@ module _ (message : ℕ → Message) (is_interleaved : Bool) where
     answered = omega arith;
   }
 
-  pub performed_along : (es : List Event) (x : Epochs) → (go_all message is_interleaved x (map transfers es)).performed ≡ x.performed
+  pub performed_along : (es : List Rule) (x : Epochs) → (go_all message is_interleaved x (map transfers es)).performed ≡ x.performed
   performed_along [] x = refl
   performed_along (e ∷ es) x = performed_along es (goes message is_interleaved x (transfers e))
 
-  asked_along : (es : List Event) (x : Epochs) (asks : List Ask) (done answered : ℕ) → InEpochs message is_interleaved x → MayAll message is_interleaved x (map transfers es) → AreAsked x asks done answered
+  asked_along : (es : List Rule) (x : Epochs) (asks : List Ask) (done answered : ℕ) → InEpochs message is_interleaved x → MayAll message is_interleaved x (map transfers es) → AreAsked x asks done answered
       → AreAsked (go_all message is_interleaved x (map transfers es)) asks done answered
   asked_along [] x asks done answered k may are = are
   asked_along (e ∷ es) x asks done answered k may are =
       asked_along es (goes message is_interleaved x (transfers e)) asks done answered (keeps_epochs message is_interleaved x k (transfers e) may.0) may.1
       (asks_stay message is_interleaved x asks done answered are e k.order.kept may.0.0)
 
-  pub led_kept : (x : Direction) (es : List Event) → IsKept message is_interleaved x → MayAll message is_interleaved x.rules (map transfers es) → IsKept message is_interleaved (led x es)
+  pub led_kept : (x : Direction) (es : List Rule) → IsKept message is_interleaved x → MayAll message is_interleaved x.rules (map transfers es) → IsKept message is_interleaved (led x es)
   led_kept x es k may = record {
     epochs = all_in_epochs message is_interleaved (map transfers es) x.rules k.epochs may;
     asked = asked_along es x.rules x.asks x.done x.answered k.epochs may k.asked;
@@ -81,16 +81,16 @@ module _ (message : ℕ → Message) (is_interleaved : Bool) where
   same_once : (x : Epochs) (e : ResetEvent) → goes_in e ≡ true → SameSender x (goes message is_interleaved x e)
   same_once x (transfers (data_comes t)) is = none_changed x _ refl refl refl refl refl refl refl refl
   same_once x (transfers (late_comes t)) is = none_changed x _ refl refl refl refl refl refl refl refl
-  same_once x (transfers (deliver p)) is = none_changed x _ refl refl refl refl refl refl refl refl
+  same_once x (transfers (become_ready p)) is = none_changed x _ refl refl refl refl refl refl refl refl
   same_once x (transfers (send_sack c)) is = none_changed x _ refl refl refl refl refl refl refl refl
   same_once x (transfers (forward_comes f)) is = none_changed x _ refl refl refl refl refl refl refl refl
-  same_once x (transfers (forget s c)) is = cc
+  same_once x (transfers (perform_reset s c)) is = cc
   same_once x (transfers accept) is = cc
   same_once x (transfers (begin p)) is = cc
   same_once x (transfers (number p bytes more)) is = cc
-  same_once x (transfers (close p)) is = cc
+  same_once x (transfers (end_with_placeholder p)) is = cc
   same_once x (transfers (give_up p)) is = cc
-  same_once x (transfers (leave c)) is = cc
+  same_once x (transfers (ack_point_advances c)) is = cc
   same_once x (transfers (send_forward f)) is = cc
   same_once x (reset_stream s) is = cc
   same_once x (send_request s) is = cc

@@ -21,7 +21,7 @@ use Rattle.sctp_tx.specs.Resent.{resent_fast, send_fast}
 use Rattle.sctp_tx.specs.ForwardPoints.{expire, forward_chunk}
 use Rattle.sctp_tx.specs.Sending.{send}
 use Rattle.proof_protocol.specs.State.{Message, ForwardPoint, Transfer, count}
-use Rattle.proof_protocol.specs.Rules.{Event, leave, send_forward}
+use Rattle.proof_protocol.specs.Rules.{Rule, ack_point_advances, send_forward}
 use Rattle.proof_protocol.specs.Joints.{reports_of}
 use Rattle.proof_tx_refines.specs.Asked.{AreSameAsked}
 use Rattle.proof_tx_refines.specs.Refinement.{SenderRefines}
@@ -90,31 +90,31 @@ says_written message false first least most x f s = s
 
 -- ---- SACKs are sending rules, and give nothing up
 
-none_given : (n c : ℕ) → given_ups (replicate n (leave c)) ≡ []
+none_given : (n c : ℕ) → given_ups (replicate n (ack_point_advances c)) ≡ []
 none_given zero c = refl
 none_given (suc n) c = none_given n c
 
-leaves_send : (n c : ℕ) (es : List Event) → list_all is_sending es ≡ true → list_all is_sending (replicate n (leave c) ++ es) ≡ true
-leaves_send n c es h = list_all-append is_sending (replicate n (leave c)) es ∙ (ap (λ (b : Bool). b && list_all is_sending es) (all_leaves n c) ∙ h)
+leaves_send : (n c : ℕ) (es : List Rule) → list_all is_sending es ≡ true → list_all is_sending (replicate n (ack_point_advances c) ++ es) ≡ true
+leaves_send n c es h = list_all-append is_sending (replicate n (ack_point_advances c)) es ∙ (ap (λ (b : Bool). b && list_all is_sending es) (all_leaves n c) ∙ h)
 
-leaves_given : (message : ℕ → Message) (is_interleaved : Bool) (n c : ℕ) (places : List ℕ) (es : List Event) → given_ups es ≡ places → given_ups (replicate n (leave c) ++ es) ≡ places
-leaves_given message is_interleaved n c places es h = given_more message is_interleaved (replicate n (leave c)) es ∙ (ap (λ (ps : List ℕ). ps ++ given_ups es) (none_given n c) ∙ h)
+leaves_given : (message : ℕ → Message) (is_interleaved : Bool) (n c : ℕ) (places : List ℕ) (es : List Rule) → given_ups es ≡ places → given_ups (replicate n (ack_point_advances c) ++ es) ≡ places
+leaves_given message is_interleaved n c places es h = given_more message is_interleaved (replicate n (ack_point_advances c)) es ∙ (ap (λ (ps : List ℕ). ps ++ given_ups es) (none_given n c) ∙ h)
 
 -- ---- the transfer alone goes on
 
 module _ (message : ℕ → Message) (lifecycle : ℕ → Option ℕ) (is_interleaved : Bool) where
   -- by these rules
-  record Moves (x : Direction) (z : Transfer) (es : List Event) : Type 0 where
+  record Moves (x : Direction) (z : Transfer) (es : List Rule) : Type 0 where
     goes : GoesOn message is_interleaved goes_out x (with_transfer message is_interleaved x z)
     given_up : given_ups (of_transfer goes.events) ≡ given_ups es
     asked : AreAsked (with_transfer message is_interleaved x z).rules x.asks x.done x.answered
 
   -- what is recorded, where these are given up
-  recorded_given : (x : Direction) (z : Transfer) (es : List Event) (r : Moves x z es) (later told places : List ℕ) → given_ups es ≡ places → later ≡ told ++ places
+  recorded_given : (x : Direction) (z : Transfer) (es : List Rule) (r : Moves x z es) (later told places : List ℕ) → given_ups es ≡ places → later ≡ told ++ places
       → later ≡ told ++ given_ups (of_transfer r.goes.events)
   recorded_given x z es r later told places e is = is ∙ ap (λ (ps : List ℕ). told ++ ps) (sym (r.given_up ∙ e))
 
-  moves : (x : Direction) (z : Transfer) (es : List Event) (q : Queue) (s : Items) → IsKept message is_interleaved x → list_all is_sending es ≡ true → LeadsInEpochs message is_interleaved x.rules es z q s → Moves x z es
+  moves : (x : Direction) (z : Transfer) (es : List Rule) (q : Queue) (s : Items) → IsKept message is_interleaved x → list_all is_sending es ≡ true → LeadsInEpochs message is_interleaved x.rules es z q s → Moves x z es
   moves x z es q s kept all l =
       let y : Direction = with_transfer message is_interleaved x z in
       let goes = transfers_go message is_interleaved goes_out x z es l.may (all_transfers goes_out is_sending (λ e h. h) es all) l.goes_to in
@@ -166,7 +166,7 @@ module _ (message : ℕ → Message) (lifecycle : ℕ → Option ℕ) (is_interl
               (shown_on message lifecycle is_interleaved t q q s x l.after a.shown e l.refines f.follows (same_queue message lifecycle is_interleaved q));
           near = λ n. n;
           since = λ n. n;
-          given_up = ap recorded_places told_is ∙ recorded_given message lifecycle is_interleaved x l.after l.leads.events r (recorded_places later) (recorded_places m.context.emitted) l.places l.leads.given_up l.told_of;
+          given_up = ap recorded_places told_is ∙ recorded_given message lifecycle is_interleaved x l.after l.leads.events r (recorded_places later) (recorded_places m.context.emitted) l.places l.leads.given_up l.recorded;
           reported = reports_none lifecycle (transfer_of x) l.after es c.emitted.events (ap (λ (z : Transfer). z.reports) l.leads.rest_stays)
               (ap (λ (z : Emitted Carried). delivered_ids z.events) told_is ∙ same_delivered m.context.emitted later light);
           resets = emits_no_answer prepared es c.emitted.events x y (no_answer es c.emitted.events (ap (λ (z : Emitted Carried). resets_in z.events) told_is ∙ resets)) refl refl refl;
@@ -320,7 +320,7 @@ module _ (message : ℕ → Message) (lifecycle : ℕ → Option ℕ) (is_interl
           shown = shown_on message lifecycle is_interleaved t q f.queue f.sender x z a.shown stays s.leads.refines leads.follows (send_asked now most t.sender q told);
           near = λ n. n;
           since = λ n. n;
-          given_up = recorded_given message lifecycle is_interleaved x z s.leads.leads.events r (recorded_places f.emitted) (recorded_places told) s.leads.places s.leads.leads.given_up s.leads.told_of;
+          given_up = recorded_given message lifecycle is_interleaved x z s.leads.leads.events r (recorded_places f.emitted) (recorded_places told) s.leads.places s.leads.leads.given_up s.leads.recorded;
           reported = reports_none lifecycle (transfer_of x) z told.events f.emitted.events (ap (λ (z : Transfer). z.reports) s.leads.leads.rest_stays)
               (same_delivered told f.emitted (quiet_sent now most t.sender q told));
           resets = emits_no_answer prepared told.events f.emitted.events x y (no_answer told.events f.emitted.events (resets_sent now most t.sender q told)) refl refl refl;
@@ -350,7 +350,7 @@ module _ (message : ℕ → Message) (lifecycle : ℕ → Option ℕ) (is_interl
       let z = l.after in
       let y : Direction = with_transfer message is_interleaved x z in
       let s = handle_sack now point k.a_rwnd blocks t.sender told in
-      let es : List Event = replicate n (leave c.point) ++ l.leads.events in
+      let es : List Rule = replicate n (ack_point_advances c.point) ++ l.leads.events in
       let leads = receiving_follows message lifecycle is_interleaved x.rules q t.sender a.kept.epochs.order.kept a.shown.refines a.shown.follows now point c.point k.a_rwnd blocks told c.number_is h in
       let r = moves message lifecycle is_interleaved x z es q s.outstanding.items a.kept (leaves_send n c.point l.leads.events l.leads.sends) leads in
       let stays = received_same true now point k.a_rwnd blocks t.sender told in
@@ -364,7 +364,7 @@ module _ (message : ℕ → Message) (lifecycle : ℕ → Option ℕ) (is_interl
           shown = shown_on message lifecycle is_interleaved t q q s x z a.shown stays l.refines leads.follows (same_queue message lifecycle is_interleaved q);
           near = λ n. n;
           since = λ n. n;
-          given_up = recorded_given message lifecycle is_interleaved x z es r (recorded_places later) (recorded_places told) l.places (leaves_given message is_interleaved n c.point l.places l.leads.events l.leads.given_up) l.told_of;
+          given_up = recorded_given message lifecycle is_interleaved x z es r (recorded_places later) (recorded_places told) l.places (leaves_given message is_interleaved n c.point l.places l.leads.events l.leads.given_up) l.recorded;
           reported = record { places = reports_of (transfer_of x).sender (transfer_of x).acknowledged n; more = ap (λ (z : Transfer). z.reports) l.leads.rest_stays; told_of = h.reported };
           resets = emits_no_answer prepared told.events later.events x y (no_answer told.events later.events (resets_sack true point blocks t.sender told)) refl refl refl;
           first = stays.first;

@@ -19,7 +19,7 @@ use Rattle.sctp_tx_queue.specs.Queue.{Queue, Queued, stream}
 use Rattle.sctp_tx_queue.specs.Resets.{is_partly, emitted_waiting, prepare_reset, requested_streams, request_resets, commit_resets}
 use Rattle.sctp_tx_outstanding.specs.Items.{begin_reset}
 use Rattle.proof_protocol.specs.State.{Message, Transfer, IsAmong, has, count}
-use Rattle.proof_protocol.specs.Rules.{Event as RuleEvent}
+use Rattle.proof_protocol.specs.Rules.{Rule as RuleEvent}
 use Rattle.proof_protocol.specs.Resets.{Epochs, transfers, restarts, send_request, commit, MayAll, go_all}
 use Rattle.proof_protocol.proofs.ToolsLemmas.{not_both, has_from}
 use Rattle.proof_protocol.proofs.CommonLemmas.{get_last}
@@ -218,7 +218,7 @@ module _ (message : ℕ → Message) (lifecycle : ℕ → Option ℕ) (is_interl
           };
           near = λ n. n;
           since = λ n. n;
-          given_up = l.leads.told_of ∙ ap (λ (ps : List ℕ). recorded_places told ++ ps) (sym given);
+          given_up = l.leads.recorded ∙ ap (λ (ps : List ℕ). recorded_places told ++ ps) (sym given);
           reported = reports_none lifecycle (transfer_of x) (transfer_of y) told.events later.events (ap (λ (tr : Transfer). tr.reports) (leads ∙ l.leads.leads.rest_stays))
               (waiting_reports (stream id q.streams).messages told);
           resets = record {

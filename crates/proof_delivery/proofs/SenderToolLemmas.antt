@@ -10,7 +10,7 @@ use Rattle.sctp_packet.specs.Chunk.{ChunkTree, FragmentTree, data_chunk, idata_c
 use Rattle.sctp_state.specs.Events as events
 use Rattle.sctp_state.specs.Events.{Emitted, OnLifecycleMessageDelivered}
 use Rattle.proof_protocol.specs.State.{Message, ForwardPoint, Transfer, IsAmong, count}
-use Rattle.proof_protocol.specs.Rules.{Event, accept, begin, number, close, give_up, data_comes, late_comes, deliver, send_sack, leave, send_forward, forward_comes, forget, after}
+use Rattle.proof_protocol.specs.Rules.{Rule, accept, begin, number, end_with_placeholder, give_up, data_comes, late_comes, become_ready, send_sack, ack_point_advances, send_forward, forward_comes, perform_reset, after}
 use Rattle.proof_protocol.specs.Resets.{Request, Epochs, ResetEvent, transfers, reset_stream, send_request, perform, commit, MayReset, goes, MayAll, go_all}
 use Rattle.proof_protocol.specs.Based.{InEpochs}
 use Rattle.proof_protocol.proofs.BasedLemmas.{keeps_epochs, all_in_epochs}
@@ -36,17 +36,17 @@ use Rattle.proof_delivery.proofs.ResetEventsLemmas.{resets_in, performed_counts,
 
 pub transfer_more : (es fs : List ResetEvent) → of_transfer (es ++ fs) ≡ of_transfer es ++ of_transfer fs
 transfer_more [] fs = refl
-transfer_more (transfers e ∷ es) fs = ap (λ (gs : List Event). e ∷ gs) (transfer_more es fs)
+transfer_more (transfers e ∷ es) fs = ap (λ (gs : List Rule). e ∷ gs) (transfer_more es fs)
 transfer_more (reset_stream s ∷ es) fs = transfer_more es fs
 transfer_more (send_request s ∷ es) fs = transfer_more es fs
 transfer_more (perform r ∷ es) fs = transfer_more es fs
 transfer_more (commit s ∷ es) fs = transfer_more es fs
 
-pub of_transfers : (es : List Event) → of_transfer (map transfers es) ≡ es
+pub of_transfers : (es : List Rule) → of_transfer (map transfers es) ≡ es
 of_transfers [] = refl
-of_transfers (e ∷ es) = ap (λ (gs : List Event). e ∷ gs) (of_transfers es)
+of_transfers (e ∷ es) = ap (λ (gs : List Rule). e ∷ gs) (of_transfers es)
 
-pub all_transfers : (kind : ResetEvent → Bool) (only : Event → Bool) → ((e : Event) → only e ≡ true → kind (transfers e) ≡ true) → (es : List Event) → list_all only es ≡ true
+pub all_transfers : (kind : ResetEvent → Bool) (only : Rule → Bool) → ((e : Rule) → only e ≡ true → kind (transfers e) ≡ true) → (es : List Rule) → list_all only es ≡ true
     → list_all kind (map transfers es) ≡ true
 all_transfers kind only each [] h = refl
 all_transfers kind only each (e ∷ es) h =
@@ -99,7 +99,7 @@ module _ (message : ℕ → Message) (is_interleaved : Bool) where
   abbrev pub with_transfer : Direction → Transfer → Direction
   with_transfer x t = record x { rules = record x.rules { transfer = t } }
 
-  abbrev pub transfers_go : (kind : ResetEvent → Bool) (x : Direction) (t : Transfer) (es : List Event) → MayAll message is_interleaved x.rules (map transfers es) → list_all kind (map transfers es) ≡ true
+  abbrev pub transfers_go : (kind : ResetEvent → Bool) (x : Direction) (t : Transfer) (es : List Rule) → MayAll message is_interleaved x.rules (map transfers es) → list_all kind (map transfers es) ≡ true
       → go_all message is_interleaved x.rules (map transfers es) ≡ record x.rules { transfer = t } → GoesOn message is_interleaved kind x (with_transfer x t)
   transfers_go kind x t es may all leads = record {
     events = map transfers es;
@@ -123,50 +123,50 @@ module _ (message : ℕ → Message) (is_interleaved : Bool) where
     pub points : (f : ForwardPoint) → IsAmong f (transfer_of x).forward_points → IsAmong f (transfer_of y).forward_points
     pub sacks : (c : ℕ) → IsAmong c (transfer_of x).sacks → IsAmong c (transfer_of y).sacks
 
-  left_once : (x : Transfer) (e : Event) → x.acknowledged ≤ (after message is_interleaved x e).acknowledged
-  left_once x (leave c) = omega arith
+  left_once : (x : Transfer) (e : Rule) → x.acknowledged ≤ (after message is_interleaved x e).acknowledged
+  left_once x (ack_point_advances c) = omega arith
   left_once x accept = omega arith
   left_once x (begin p) = omega arith
   left_once x (number p bytes more) = omega arith
-  left_once x (close p) = omega arith
+  left_once x (end_with_placeholder p) = omega arith
   left_once x (give_up p) = omega arith
   left_once x (data_comes t) = omega arith
   left_once x (late_comes t) = omega arith
-  left_once x (deliver p) = omega arith
+  left_once x (become_ready p) = omega arith
   left_once x (send_sack c) = omega arith
   left_once x (send_forward f) = omega arith
   left_once x (forward_comes f) = omega arith
-  left_once x (forget s c) = omega arith
+  left_once x (perform_reset s c) = omega arith
 
-  points_once : (x : Transfer) (e : Event) (f : ForwardPoint) → IsAmong f x.forward_points → IsAmong f (after message is_interleaved x e).forward_points
+  points_once : (x : Transfer) (e : Rule) (f : ForwardPoint) → IsAmong f x.forward_points → IsAmong f (after message is_interleaved x e).forward_points
   points_once x (send_forward g) f a = inr a
   points_once x accept f a = a
   points_once x (begin p) f a = a
   points_once x (number p bytes more) f a = a
-  points_once x (close p) f a = a
+  points_once x (end_with_placeholder p) f a = a
   points_once x (give_up p) f a = a
   points_once x (data_comes t) f a = a
   points_once x (late_comes t) f a = a
-  points_once x (deliver p) f a = a
+  points_once x (become_ready p) f a = a
   points_once x (send_sack c) f a = a
-  points_once x (leave c) f a = a
+  points_once x (ack_point_advances c) f a = a
   points_once x (forward_comes g) f a = a
-  points_once x (forget s c) f a = a
+  points_once x (perform_reset s c) f a = a
 
-  sacks_once : (x : Transfer) (e : Event) (n : ℕ) → IsAmong n x.sacks → IsAmong n (after message is_interleaved x e).sacks
+  sacks_once : (x : Transfer) (e : Rule) (n : ℕ) → IsAmong n x.sacks → IsAmong n (after message is_interleaved x e).sacks
   sacks_once x (send_sack c) n a = inr a
   sacks_once x accept n a = a
   sacks_once x (begin p) n a = a
   sacks_once x (number p bytes more) n a = a
-  sacks_once x (close p) n a = a
+  sacks_once x (end_with_placeholder p) n a = a
   sacks_once x (give_up p) n a = a
   sacks_once x (data_comes t) n a = a
   sacks_once x (late_comes t) n a = a
-  sacks_once x (deliver p) n a = a
-  sacks_once x (leave c) n a = a
+  sacks_once x (become_ready p) n a = a
+  sacks_once x (ack_point_advances c) n a = a
   sacks_once x (send_forward f) n a = a
   sacks_once x (forward_comes f) n a = a
-  sacks_once x (forget s c) n a = a
+  sacks_once x (perform_reset s c) n a = a
 
   -- of the transfers alone
   record Goes (x y : Transfer) : Type 0 where
@@ -301,17 +301,17 @@ module _ (message : ℕ → Message) (is_interleaved : Bool) where
   same_once : (x : Epochs) (e : ResetEvent) → goes_out e ≡ true → SameReceiver x (goes message is_interleaved x e)
   same_once x (transfers (begin p)) s = record { receiver = refl; sacks = refl; performed = refl; base = refl }
   same_once x (transfers (number p bytes more)) s = record { receiver = refl; sacks = refl; performed = refl; base = refl }
-  same_once x (transfers (close p)) s = record { receiver = refl; sacks = refl; performed = refl; base = refl }
+  same_once x (transfers (end_with_placeholder p)) s = record { receiver = refl; sacks = refl; performed = refl; base = refl }
   same_once x (transfers (give_up p)) s = record { receiver = refl; sacks = refl; performed = refl; base = refl }
-  same_once x (transfers (leave c)) s = record { receiver = refl; sacks = refl; performed = refl; base = refl }
+  same_once x (transfers (ack_point_advances c)) s = record { receiver = refl; sacks = refl; performed = refl; base = refl }
   same_once x (transfers (send_forward f)) s = record { receiver = refl; sacks = refl; performed = refl; base = refl }
   same_once x (transfers accept) s = cc
   same_once x (transfers (data_comes t)) s = cc
   same_once x (transfers (late_comes t)) s = cc
-  same_once x (transfers (deliver p)) s = cc
+  same_once x (transfers (become_ready p)) s = cc
   same_once x (transfers (send_sack c)) s = cc
   same_once x (transfers (forward_comes f)) s = cc
-  same_once x (transfers (forget s c)) h = cc
+  same_once x (transfers (perform_reset s c)) h = cc
   same_once x (reset_stream t) s = record { receiver = refl; sacks = refl; performed = refl; base = refl }
   same_once x (send_request t) s = record { receiver = refl; sacks = refl; performed = refl; base = refl }
   same_once x (perform r) s = cc

@@ -6,33 +6,33 @@ use Rattle.std.proofs.lemmas.List.{length-append, length-map}
 use Rattle.std.proofs.lemmas.List.Elements.{All-nil, All-cons, All-append}
 use Rattle.spec_endpoint.specs.Laws.{Connect, Close, Shutdown, Send, SendMany, ResetStreams, TakeMessage, SetLowThreshold, SetPriority, SetMaxMessageSize, Advance, HandOver, Restore, Packet, NoPacket}
 use Rattle.proof_pair.specs.Trace.{Side, Pair, EndAction, Calls, Gives, Refuses, goes, run}
-use Rattle.proof_delivery.specs.Accepted.{Offer, accepted_at, accepted}
+use Rattle.proof_delivery.specs.Accepted.{AcceptedMessage, accepted_at, accepted}
 use Rattle.proof_delivery.specs.Windows.{resets, KeepsStreams}
 use Rattle.proof_delivery.specs.Justified.{reset_by, reset_at}
-use Rattle.proof_delivery.specs.StreamEpochs.{StreamEpoch, are_named, shut_streams, opened_if, performed_of, emitted_at, epochs_after, epochs_of, offer_epochs, epochs_along}
+use Rattle.proof_delivery.specs.StreamEpochs.{StreamEpoch, are_named, shut_streams, opened_if, performed_of, emitted_at, epochs_after, epochs_of, message_epochs, epochs_along}
 
-pub one_each : (os : List Offer) (f : ℕ → StreamEpoch) → length (epochs_of os f) ≡ length os
-one_each os f = length-map os (λ (o : Offer). (f o.message.stream).epoch)
+pub one_each : (os : List AcceptedMessage) (f : ℕ → StreamEpoch) → length (epochs_of os f) ≡ length os
+one_each os f = length-map os (λ (o : AcceptedMessage). (f o.message.stream).epoch)
 
-pub epochs_are_many : (x : Bool) (turns : List (Bool × EndAction)) (w : Pair) (f : ℕ → StreamEpoch) → length (offer_epochs x turns w f) ≡ length (accepted x turns w)
+pub epochs_are_many : (x : Bool) (turns : List (Bool × EndAction)) (w : Pair) (f : ℕ → StreamEpoch) → length (message_epochs x turns w f) ≡ length (accepted x turns w)
 epochs_are_many x [] w f = refl
 epochs_are_many x (e ∷ es) w f =
-    let here : List Offer = accepted_at x e.0 e.1 w in
+    let here : List AcceptedMessage = accepted_at x e.0 e.1 w in
     let v : Pair = goes e.0 e.1 w in
-    let a = length-append (epochs_of here f) (offer_epochs x es v (epochs_after x e.0 e.1 w f)) in
+    let a = length-append (epochs_of here f) (message_epochs x es v (epochs_after x e.0 e.1 w f)) in
     let b = length-append here (accepted x es v) in
     let c = one_each here f in
     let d = epochs_are_many x es v (epochs_after x e.0 e.1 w f) in
-    a ∙ (ap (λ (n : ℕ). n + length (offer_epochs x es v (epochs_after x e.0 e.1 w f))) c ∙ (ap (λ (n : ℕ). length here + n) d ∙ sym b))
+    a ∙ (ap (λ (n : ℕ). n + length (message_epochs x es v (epochs_after x e.0 e.1 w f))) c ∙ (ap (λ (n : ℕ). length here + n) d ∙ sym b))
 
 pub epochs_go_on : (x : Bool) (es fs : List (Bool × EndAction)) (w : Pair) (f : ℕ → StreamEpoch)
-    → offer_epochs x (es ++ fs) w f ≡ offer_epochs x es w f ++ offer_epochs x fs (run es w) (epochs_along x es w f)
+    → message_epochs x (es ++ fs) w f ≡ message_epochs x es w f ++ message_epochs x fs (run es w) (epochs_along x es w f)
 epochs_go_on x [] fs w f = refl
 epochs_go_on x (e ∷ es) fs w f =
     let here : List ℕ = epochs_of (accepted_at x e.0 e.1 w) f in
     let v : Pair = goes e.0 e.1 w in
     let g : ℕ → StreamEpoch = epochs_after x e.0 e.1 w f in
-    ap (λ (ns : List ℕ). here ++ ns) (epochs_go_on x es fs v g) ∙ sym (append_assoc here (offer_epochs x es v g) (offer_epochs x fs (run es v) (epochs_along x es v g)))
+    ap (λ (ns : List ℕ). here ++ ns) (epochs_go_on x es fs v g) ∙ sym (append_assoc here (message_epochs x es v g) (message_epochs x fs (run es v) (epochs_along x es v g)))
 
 -- ---- where no stream is reset
 
@@ -71,13 +71,13 @@ first_after x acts turn w f none h s = reopens (are_named (performed_of (emitted
     reopens : (b : Bool) (e : StreamEpoch) → (opened_if b e).epoch ≡ e.epoch
     reopens b e = refl
 
-all_first : (os : List Offer) (f : ℕ → StreamEpoch) → AreAtFirst f → All (λ (n : ℕ). n ≡ 0) (epochs_of os f)
+all_first : (os : List AcceptedMessage) (f : ℕ → StreamEpoch) → AreAtFirst f → All (λ (n : ℕ). n ≡ 0) (epochs_of os f)
 all_first [] f h = All-nil (λ (n : ℕ). n ≡ 0)
 all_first (o ∷ os) f h = All-cons (λ (n : ℕ). n ≡ 0) (f o.message.stream).epoch (epochs_of os f) (h o.message.stream) (all_first os f h)
 
-pub all_in_first_epoch : (x : Bool) (turns : List (Bool × EndAction)) (w : Pair) (f : ℕ → StreamEpoch) → KeepsStreams turns → AreAtFirst f → All (λ (n : ℕ). n ≡ 0) (offer_epochs x turns w f)
+pub all_in_first_epoch : (x : Bool) (turns : List (Bool × EndAction)) (w : Pair) (f : ℕ → StreamEpoch) → KeepsStreams turns → AreAtFirst f → All (λ (n : ℕ). n ≡ 0) (message_epochs x turns w f)
 all_in_first_epoch x [] w f none h = All-nil (λ (n : ℕ). n ≡ 0)
 all_in_first_epoch x (e ∷ es) w f none h =
     let parts = or_parts (resets e.1) (list_any (λ (d : Bool × EndAction). resets d.1) es) none in
-    All-append (λ (n : ℕ). n ≡ 0) (epochs_of (accepted_at x e.0 e.1 w) f) (offer_epochs x es (goes e.0 e.1 w) (epochs_after x e.0 e.1 w f)) (all_first (accepted_at x e.0 e.1 w) f h)
+    All-append (λ (n : ℕ). n ≡ 0) (epochs_of (accepted_at x e.0 e.1 w) f) (message_epochs x es (goes e.0 e.1 w) (epochs_after x e.0 e.1 w f)) (all_first (accepted_at x e.0 e.1 w) f h)
     (all_in_first_epoch x es (goes e.0 e.1 w) (epochs_after x e.0 e.1 w f) parts.1 (first_after x e.0 e.1 w f parts.0 h))

@@ -10,38 +10,38 @@ use Rattle.spec_endpoint.specs.Laws.{Call, Send, SendMany}
 use Rattle.proof_endpoint.specs.Mapped.{Carried}
 use Rattle.proof_pair.specs.Trace.{Side, Pair, EndAction, Calls, goes, state_of}
 
-pub record Offer : Type 0 where
+pub record AcceptedMessage : Type 0 where
   pub message : Message
   pub options : SendOptions
 
 -- ---- one action
 
-abbrev pub unless_refused : (refusal : Option SendError) → Message → SendOptions → List Offer
+abbrev pub unless_refused : (refusal : Option SendError) → Message → SendOptions → List AcceptedMessage
 unless_refused None m o = record { message = m; options = o } ∷ []
 unless_refused (Some e) m o = []
 
 -- of several, one after the other
-abbrev pub accepted_of : List Message → SendOptions → SocketState → Context Carried → List Offer
+abbrev pub accepted_of : List Message → SendOptions → SocketState → Context Carried → List AcceptedMessage
 accepted_of [] o shown c = []
 accepted_of (m ∷ ms) o shown c = unless_refused (refusal m shown c) m o ++ accepted_of ms o shown (offer m o shown c)
 
-abbrev pub accepted_by : Call → Side → List Offer
+abbrev pub accepted_by : Call → Side → List AcceptedMessage
 accepted_by (Send m o) x = accepted_of (m ∷ []) o (shown_state (state_of x)) x.end.endpoint_state.context
 accepted_by (SendMany ms o) x = accepted_of ms o (shown_state (state_of x)) x.end.endpoint_state.context
 accepted_by call x = []
 
-abbrev pub accepted_in : EndAction → Side → List Offer
+abbrev pub accepted_in : EndAction → Side → List AcceptedMessage
 accepted_in (Calls call) x = accepted_by call x
 accepted_in turn x = []
 
 -- true is end a: what end x accepts at an action of this end
-abbrev pub accepted_at : (x acts : Bool) → EndAction → Pair → List Offer
+abbrev pub accepted_at : (x acts : Bool) → EndAction → Pair → List AcceptedMessage
 accepted_at true true turn w = accepted_in turn w.a
 accepted_at false false turn w = accepted_in turn w.b
 accepted_at x acts turn w = []
 
 -- ---- traces
 
-abbrev pub accepted : (x : Bool) → List (Bool × EndAction) → Pair → List Offer
+abbrev pub accepted : (x : Bool) → List (Bool × EndAction) → Pair → List AcceptedMessage
 accepted x [] w = []
 accepted x (e ∷ es) w = accepted_at x e.0 e.1 w ++ accepted x es (goes e.0 e.1 w)

@@ -8,10 +8,10 @@ use Rattle.proof_protocol.specs.State.{has}
 use Rattle.proof_tx_refines.specs.Led.{delivered_ids}
 use Rattle.proof_tx_refines.specs.Records.{are_distinct}
 use Rattle.proof_endpoint.specs.Mapped.{Carried}
-use Rattle.proof_pair.specs.Trace.{Pair, EndAction, run, side_of, FollowsTheRules, HasNotEnded, AreGiven, start}
+use Rattle.proof_pair.specs.Trace.{Pair, EndAction, run, side_of, KeepsOpeningRules, NeitherHasEnded, AreValidOptions, start}
 use Rattle.proof_pair.specs.Handing.{readied_messages, text, two_come}
 use Rattle.proof_pair.specs.Opens.{at_first}
-use Rattle.proof_delivery.specs.Accepted.{Offer, accepted}
+use Rattle.proof_delivery.specs.Accepted.{AcceptedMessage, accepted}
 use Rattle.proof_delivery.specs.GivenUp.{given_up, IsAtRest}
 use Rattle.proof_delivery.specs.Windows.{no_stamps, KeepsWindows, KeepsLimits}
 use Rattle.proof_delivery.specs.Answered.{KeepsResets}
@@ -20,43 +20,43 @@ use Rattle.proof_delivery.specs.StreamEpochs.{AreInTheirEpochs, NoneIsRefused}
 -- ---- what is observed
 
 -- the message that was accepted at this place
-abbrev pub message_at : List Offer → ℕ → Option Message
-message_at offers place = option_map (λ (o : Offer). o.message) (slice_get offers place)
+abbrev pub message_at : List AcceptedMessage → ℕ → Option Message
+message_at offers place = option_map (λ (o : AcceptedMessage). o.message) (slice_get offers place)
 
 -- ordered ones of one stream
-pub record AreInOneLine (o p : Offer) : Type 0 where
+pub record AreOrderedOnOneStream (o p : AcceptedMessage) : Type 0 where
   pub first : o.options.unordered ≡ false
   pub second : p.options.unordered ≡ false
   pub stream : o.message.stream ≡ p.message.stream
 
 -- The ready messages are those accepted at these places, byte for byte, each once; on each stream ordered ones in the order of
 -- acceptance.
-pub record Fits (offers : List Offer) (ready : List Message) (places : List ℕ) : Type 0 where
+pub record Fits (offers : List AcceptedMessage) (ready : List Message) (places : List ℕ) : Type 0 where
   pub alike : map (message_at offers) places ≡ map (λ (m : Message). Some m) ready
   pub distinct : (j k : ℕ) → j < k → k < length places → slice_index places j ≢ slice_index places k
-  pub rising : (j k : ℕ) → j < k → k < length places → (o p : Offer) → slice_get offers (slice_index places j) ≡ Some o
-      → slice_get offers (slice_index places k) ≡ Some p → AreInOneLine o p → slice_index places j < slice_index places k
+  pub rising : (j k : ℕ) → j < k → k < length places → (o p : AcceptedMessage) → slice_get offers (slice_index places j) ≡ Some o
+      → slice_get offers (slice_index places k) ≡ Some p → AreOrderedOnOneStream o p → slice_index places j < slice_index places k
 
 -- an ordered message that isn't ready, while a later one of its stream is, was given up
-abbrev pub SkippedAreGivenUp : List Offer → (gone places : List ℕ) → Type 0
+abbrev pub SkippedAreGivenUp : List AcceptedMessage → (gone places : List ℕ) → Type 0
 SkippedAreGivenUp offers gone places =
-    (p q : ℕ) (o r : Offer) → slice_get offers p ≡ Some o → slice_get offers q ≡ Some r → AreInOneLine o r → p < q → has q places ≡ true
+    (p q : ℕ) (o r : AcceptedMessage) → slice_get offers p ≡ Some o → slice_get offers q ≡ Some r → AreOrderedOnOneStream o r → p < q → has q places ≡ true
     → has p places ≡ false → has p gone ≡ true
 
 -- a message with this lifecycle id is ready
-pub record IsReady (offers : List Offer) (places : List ℕ) (id : ℕ) : Type 0 where
+pub record IsReady (offers : List AcceptedMessage) (places : List ℕ) (id : ℕ) : Type 0 where
   pub place : ℕ
-  pub offer : Offer
+  pub offer : AcceptedMessage
   pub there : slice_get offers place ≡ Some offer
   pub its_id : offer.options.lifecycle_id ≡ Some id
   pub is_ready : has place places ≡ true
 
 -- so it is of each id that was reported as delivered
-abbrev pub ReportsAreTrue : List Offer → List (Event Carried) → (places : List ℕ) → Type 0
+abbrev pub ReportsAreTrue : List AcceptedMessage → List (Event Carried) → (places : List ℕ) → Type 0
 ReportsAreTrue offers told places = (id : ℕ) → has id (delivered_ids told) ≡ true → IsReady offers places id
 
 -- each message is ready, or was given up
-abbrev pub AllAreDone : List Offer → (gone places : List ℕ) → Type 0
+abbrev pub AllAreDone : List AcceptedMessage → (gone places : List ℕ) → Type 0
 AllAreDone offers gone places = (p : ℕ) → p < length offers → (has p places ≡ true) ⊎ (has p gone ≡ true)
 
 -- One list of places serves all along the trace: at each point its beginning fits, and says what became of the other messages.
@@ -89,25 +89,25 @@ pub record IsInBounds (turns : List (Bool × EndAction)) (w : Pair) : Type 0 whe
 -- Along each trace that follows the rules, until an association first ends.
 abbrev pub MessagesAreDelivered : Type 0
 MessagesAreDelivered =
-    (a b : Options) (words_a words_b : Stream) (turns : List (Bool × EndAction)) → AreGiven a → AreGiven b
-    → FollowsTheRules turns (start a b words_a words_b) → HasNotEnded (run turns (start a b words_a words_b))
+    (a b : Options) (words_a words_b : Stream) (turns : List (Bool × EndAction)) → AreValidOptions a → AreValidOptions b
+    → KeepsOpeningRules turns (start a b words_a words_b) → NeitherHasEnded (run turns (start a b words_a words_b))
     → IsInBounds turns (start a b words_a words_b) → (from_a : Bool) → Delivers from_a turns (start a b words_a words_b)
 
 -- and no end emits that a reset failed
 abbrev pub NoResetIsRefused : Type 0
 NoResetIsRefused =
-    (a b : Options) (words_a words_b : Stream) (turns : List (Bool × EndAction)) → AreGiven a → AreGiven b
-    → FollowsTheRules turns (start a b words_a words_b) → HasNotEnded (run turns (start a b words_a words_b))
+    (a b : Options) (words_a words_b : Stream) (turns : List (Bool × EndAction)) → AreValidOptions a → AreValidOptions b
+    → KeepsOpeningRules turns (start a b words_a words_b) → NeitherHasEnded (run turns (start a b words_a words_b))
     → IsInBounds turns (start a b words_a words_b) → NoneIsRefused turns (start a b words_a words_b)
 
 -- ---- such a trace, computed: two messages are accepted, and become ready
 
-abbrev pub plain : (byte : ℕ) → Offer
+abbrev pub plain : (byte : ℕ) → AcceptedMessage
 plain byte = record { message = text byte; options = plainly }
 
 pub record TwoAreDelivered : Type 0 where
-  pub follows : FollowsTheRules two_come at_first
-  pub not_ended : HasNotEnded (run two_come at_first)
+  pub follows : KeepsOpeningRules two_come at_first
+  pub not_ended : NeitherHasEnded (run two_come at_first)
   pub bounds : IsInBounds two_come at_first
   pub accepts : accepted true two_come at_first ≡ plain 97 ∷ plain 98 ∷ []
   pub readies : readied_messages false two_come at_first ≡ text 97 ∷ text 98 ∷ []

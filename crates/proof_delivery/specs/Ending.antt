@@ -5,7 +5,7 @@ use Rattle.sctp_state.specs.Events.{Event}
 use Rattle.sctp_state.specs.Options.{Options}
 use Rattle.spec_endpoint.specs.Laws.{endings}
 use Rattle.proof_endpoint.specs.Mapped.{Carried}
-use Rattle.proof_pair.specs.Trace.{Pair, EndAction, goes, run, side_of, FollowsTheRules, HasNotEnded, AreGiven, start}
+use Rattle.proof_pair.specs.Trace.{Pair, EndAction, goes, run, side_of, KeepsOpeningRules, NeitherHasEnded, AreValidOptions, start}
 use Rattle.proof_pair.specs.Handing.{readied_messages}
 use Rattle.proof_delivery.specs.Accepted.{accepted}
 use Rattle.proof_delivery.specs.GivenUp.{emitted_by}
@@ -41,6 +41,6 @@ pub record DeliversThen (from_a : Bool) (turns : List (Bool × EndAction)) (last
 -- Along each trace that follows the rules, and one more action, which may end an association.
 abbrev pub MessagesAreDeliveredThen : Type 0
 MessagesAreDeliveredThen =
-    (a b : Options) (words_a words_b : Stream) (turns : List (Bool × EndAction)) (from_a : Bool) (last : EndAction) → AreGiven a → AreGiven b
-    → FollowsTheRules (turns ++ (from_a, last) ∷ []) (start a b words_a words_b) → HasNotEnded (run turns (start a b words_a words_b))
+    (a b : Options) (words_a words_b : Stream) (turns : List (Bool × EndAction)) (from_a : Bool) (last : EndAction) → AreValidOptions a → AreValidOptions b
+    → KeepsOpeningRules (turns ++ (from_a, last) ∷ []) (start a b words_a words_b) → NeitherHasEnded (run turns (start a b words_a words_b))
     → IsInBoundsThen from_a turns last (start a b words_a words_b) → DeliversThen from_a turns last (start a b words_a words_b)

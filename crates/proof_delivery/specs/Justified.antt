@@ -16,9 +16,9 @@ use Rattle.spec_endpoint.specs.Input.{refusal}
 use Rattle.spec_endpoint.specs.StreamReset.{reset_refusal}
 use Rattle.spec_endpoint.specs.Laws.{Send, ResetStreams, Advance, Restore, Packet, called}
 use Rattle.proof_endpoint.specs.Mapped.{Carried}
-use Rattle.proof_pair.specs.Trace.{Side, Pair, emitted_packets, EndAction, Calls, Gives, Refuses, as_received, goes, run, side_of, FollowsTheRules, HasNotEnded, start, state_of}
+use Rattle.proof_pair.specs.Trace.{Side, Pair, emitted_packets, EndAction, Calls, Gives, Refuses, as_received, goes, run, side_of, KeepsOpeningRules, NeitherHasEnded, start, state_of}
 use Rattle.proof_pair.specs.Opens.{at_first, one_connects}
-use Rattle.proof_delivery.specs.Accepted.{Offer, accepted_at, accepted}
+use Rattle.proof_delivery.specs.Accepted.{AcceptedMessage, accepted_at, accepted}
 
 -- ---- acceptance
 
@@ -27,10 +27,10 @@ clock x = x.end.endpoint_state.context.now
 
 -- an accepted message, and the clock of its end then
 pub record Acceptance : Type 0 where
-  pub offer : Offer
+  pub offer : AcceptedMessage
   pub at : ℕ
 
-abbrev pub accepted_then : ℕ → Offer → Acceptance
+abbrev pub accepted_then : ℕ → AcceptedMessage → Acceptance
 accepted_then now o = record { offer = o; at = now }
 
 abbrev pub acceptances : (x : Bool) → List (Bool × EndAction) → Pair → List Acceptance
@@ -80,23 +80,23 @@ reset_at false false turn w = reset_by turn w.b
 reset_at x acts turn w = []
 
 -- a record, the clock of its end then, and the streams that are reset at that action
-pub record Forgone : Type 0 where
+pub record DatedRecord : Type 0 where
   pub given_up : GivenUp
   pub at : ℕ
   pub resets : List ℕ
 
-abbrev pub forgone_then : (now : ℕ) → (resets : List ℕ) → GivenUp → Forgone
-forgone_then now resets g = record { given_up = g; at = now; resets = resets }
+abbrev pub dated_record : (now : ℕ) → (resets : List ℕ) → GivenUp → DatedRecord
+dated_record now resets g = record { given_up = g; at = now; resets = resets }
 
 -- all of an end, in order
-abbrev pub forgone : (x : Bool) → List (Bool × EndAction) → Pair → List Forgone
-forgone x [] w = []
-forgone x (e ∷ es) w = map (forgone_then (clock (side_of x (goes e.0 e.1 w))) (reset_at x e.0 e.1 w)) (records_at x e.0 e.1 w) ++ forgone x es (goes e.0 e.1 w)
+abbrev pub dated_records : (x : Bool) → List (Bool × EndAction) → Pair → List DatedRecord
+dated_records x [] w = []
+dated_records x (e ∷ es) w = map (dated_record (clock (side_of x (goes e.0 e.1 w))) (reset_at x e.0 e.1 w)) (records_at x e.0 e.1 w) ++ dated_records x es (goes e.0 e.1 w)
 
 -- ---- justified records
 
 -- how often a fragment may be sent again
-abbrev pub limit_of : Offer → ℕ
+abbrev pub limit_of : AcceptedMessage → ℕ
 limit_of o = unwrap_or o.options.max_retransmissions 65535
 
 -- it has a lifetime, which is over
@@ -115,7 +115,7 @@ IsRight (Retransmissions count) now resets a = limit_of a.offer ≤ count
 IsRight Reset now resets a = is_of_one resets a ≡ true
 
 -- of one of these messages, by its place
-pub record IsJustified (accepted : List Acceptance) (f : Forgone) : Type 0 where
+pub record IsJustified (accepted : List Acceptance) (f : DatedRecord) : Type 0 where
   pub acceptance : Acceptance
   pub there : slice_get accepted f.given_up.number ≡ Some acceptance
   pub right : IsRight f.given_up.cause f.at f.resets acceptance
@@ -136,7 +136,7 @@ abbrev pub RecordsAreJustified : Type 0
 RecordsAreJustified =
     (a b : Options) (words_a words_b : Stream) (turns : List (Bool × EndAction)) → RestoresNone turns → (x : Bool)
     → length (accepted x turns (start a b words_a words_b)) < 2 ^ 32
-    → AllByRecursion (IsJustified (acceptances x turns (start a b words_a words_b))) (forgone x turns (start a b words_a words_b))
+    → AllByRecursion (IsJustified (acceptances x turns (start a b words_a words_b))) (dated_records x turns (start a b words_a words_b))
 
 -- acceptances are those of the accepted messages, one by one
 abbrev pub AcceptancesAreAccepted : Type 0
@@ -157,8 +157,8 @@ two_are_lost =
     ∷ (true, Calls (Advance ten_seconds)) ∷ [])
 
 pub record TwoAreGivenUp : Type 0 where
-  pub follows : FollowsTheRules two_are_lost at_first
+  pub follows : KeepsOpeningRules two_are_lost at_first
   pub restores_none : RestoresNone two_are_lost
-  pub not_ended : HasNotEnded (run two_are_lost at_first)
-  pub gives_up : forgone true two_are_lost at_first
-      ≡ forgone_then ten_seconds [] (record { number = 0; cause = Retransmissions 0 }) ∷ forgone_then ten_seconds [] (record { number = 1; cause = Lifetime }) ∷ []
+  pub not_ended : NeitherHasEnded (run two_are_lost at_first)
+  pub gives_up : dated_records true two_are_lost at_first
+      ≡ dated_record ten_seconds [] (record { number = 0; cause = Retransmissions 0 }) ∷ dated_record ten_seconds [] (record { number = 1; cause = Lifetime }) ∷ []

@@ -7,7 +7,7 @@ use Rattle.sctp_state.specs.Events.{Event, OnStreamsResetPerformed, OnStreamsRes
 use Rattle.proof_endpoint.specs.Mapped.{Carried}
 use Rattle.proof_pair.specs.Trace.{Pair, EndAction, goes, run, side_of}
 use Rattle.proof_pair.specs.Handing.{readied_messages}
-use Rattle.proof_delivery.specs.Accepted.{Offer, accepted_at, accepted}
+use Rattle.proof_delivery.specs.Accepted.{AcceptedMessage, accepted_at, accepted}
 use Rattle.proof_delivery.specs.GivenUp.{emitted_by}
 use Rattle.proof_delivery.specs.Justified.{reset_at}
 
@@ -55,12 +55,12 @@ epochs_after x acts turn w f = reopen (performed_of (emitted_at x acts turn w)) 
 -- ---- traces
 
 -- the epoch of each message, in their order
-abbrev pub epochs_of : List Offer → (ℕ → StreamEpoch) → List ℕ
-epochs_of offers f = map (λ (o : Offer). (f o.message.stream).epoch) offers
+abbrev pub epochs_of : List AcceptedMessage → (ℕ → StreamEpoch) → List ℕ
+epochs_of offers f = map (λ (o : AcceptedMessage). (f o.message.stream).epoch) offers
 
-abbrev pub offer_epochs : (x : Bool) → List (Bool × EndAction) → Pair → (ℕ → StreamEpoch) → List ℕ
-offer_epochs x [] w f = []
-offer_epochs x (e ∷ es) w f = epochs_of (accepted_at x e.0 e.1 w) f ++ offer_epochs x es (goes e.0 e.1 w) (epochs_after x e.0 e.1 w f)
+abbrev pub message_epochs : (x : Bool) → List (Bool × EndAction) → Pair → (ℕ → StreamEpoch) → List ℕ
+message_epochs x [] w f = []
+message_epochs x (e ∷ es) w f = epochs_of (accepted_at x e.0 e.1 w) f ++ message_epochs x es (goes e.0 e.1 w) (epochs_after x e.0 e.1 w f)
 
 -- how the streams stand behind these actions
 abbrev pub epochs_along : (x : Bool) → List (Bool × EndAction) → Pair → (ℕ → StreamEpoch) → ℕ → StreamEpoch
@@ -81,13 +81,13 @@ emitted_of x turns w = (side_of x (run turns w)).emitted
 -- Each message that became ready at an action is of an epoch between the resets of its stream that its end emitted before that action, and those
 -- that it emitted up to its end.
 pub record AreInTheirEpochs (from_a : Bool) (turns : List (Bool × EndAction)) (w : Pair) (places : List ℕ) : Type 0 where
-  pub least : (early late : List (Bool × EndAction)) (e : Bool × EndAction) → turns ≡ early ++ e ∷ late → (k n : ℕ) (o : Offer)
+  pub least : (early late : List (Bool × EndAction)) (e : Bool × EndAction) → turns ≡ early ++ e ∷ late → (k n : ℕ) (o : AcceptedMessage)
       → length (readied_messages (not from_a) early w) ≤ k → k < length (readied_messages (not from_a) (early ++ e ∷ []) w)
-      → slice_get (accepted from_a turns w) (slice_index places k) ≡ Some o → slice_get (offer_epochs from_a turns w all_open) (slice_index places k) ≡ Some n
+      → slice_get (accepted from_a turns w) (slice_index places k) ≡ Some o → slice_get (message_epochs from_a turns w all_open) (slice_index places k) ≡ Some n
       → resets_emitted o.message.stream (emitted_of (not from_a) early w) ≤ n
-  pub most : (early late : List (Bool × EndAction)) (e : Bool × EndAction) → turns ≡ early ++ e ∷ late → (k n : ℕ) (o : Offer)
+  pub most : (early late : List (Bool × EndAction)) (e : Bool × EndAction) → turns ≡ early ++ e ∷ late → (k n : ℕ) (o : AcceptedMessage)
       → length (readied_messages (not from_a) early w) ≤ k → k < length (readied_messages (not from_a) (early ++ e ∷ []) w)
-      → slice_get (accepted from_a turns w) (slice_index places k) ≡ Some o → slice_get (offer_epochs from_a turns w all_open) (slice_index places k) ≡ Some n
+      → slice_get (accepted from_a turns w) (slice_index places k) ≡ Some o → slice_get (message_epochs from_a turns w all_open) (slice_index places k) ≡ Some n
       → n ≤ resets_emitted o.message.stream (emitted_of (not from_a) (early ++ e ∷ []) w)
 
 -- no reset is emitted as failed

@@ -4,7 +4,7 @@ ghost use Rattle.std.specs.Prelude.{◌≡◌, ◌+◌, ◌++◌, ◌<◌, ◌�
 ghost use Rattle.sctp_wire.specs.Parameter.{ParameterTree};
 ghost use Rattle.proof_protocol.specs.Invariant.{Invariant};
 ghost use Rattle.proof_protocol.specs.Resets.{Epochs, commit, go_all, goes, perform, reset_stream, send_request, transfers};
-ghost use Rattle.proof_protocol.specs.Rules.{Event, IsAllowed};
+ghost use Rattle.proof_protocol.specs.Rules.{Rule, IsAllowed};
 ghost use Rattle.proof_protocol.specs.State.{Message, count, has};
 ghost use Rattle.proof_rx_refines.specs.Resets.{AreNextTo, named_by};
 ghost use Rattle.sctp_rx.specs.ReassemblyQueue.{Deferred};
@@ -12,7 +12,7 @@ ghost use Rattle.sctp_tx_queue.specs.Queue.{Queue};
 ghost use Rattle.spec_endpoint.specs.Requests.{Done, Requests, Unsettled, ids, in_progress, is_final, is_last, is_next, outcome, performed};
 ghost use Rattle.proof_pair.specs.Trace.{Pair, EndAction, run};
 ghost use Rattle.proof_delivery.specs.Accepted.{accepted};
-ghost use Rattle.proof_delivery.specs.StreamEpochs.{all_open, epochs_along, offer_epochs};
+ghost use Rattle.proof_delivery.specs.StreamEpochs.{all_open, epochs_along, message_epochs};
 ghost use Rattle.proof_delivery.specs.Windows.{KeepsStreams};
 ghost use Rattle.proof_delivery.specs.Asks.{AreAsked, Ask, IsAnswering, IsAsk, IsAsking, SaysDone, SaysIncoming, SaysOutgoing, number_of, request_for};
 
@@ -20,7 +20,7 @@ ghost use Rattle.proof_delivery.specs.Asks.{AreAsked, Ask, IsAnswering, IsAsk, I
 /// they are. Where each was answered, one more may be sent (`sent`): its streams wait, and it ends at what was numbered so far. It is
 /// performed (`performed`), and then answered (`answered`), one stream after the other.
 pub fn asks_are_kept()
-    ensures transfers { (message : ℕ → Message) (is_interleaved : Bool) (x : Epochs) (asks : List Ask) (done answered : ℕ) (e : Event) → AreAsked x asks done answered →
+    ensures transfers { (message : ℕ → Message) (is_interleaved : Bool) (x : Epochs) (asks : List Ask) (done answered : ℕ) (e : Rule) → AreAsked x asks done answered →
         Invariant message is_interleaved x.transfer → IsAllowed message is_interleaved x.transfer e → AreAsked (goes message is_interleaved x (transfers e)) asks done answered }
     ensures resets { (message : ℕ → Message) (is_interleaved : Bool) (x : Epochs) (asks : List Ask) (done answered : ℕ) (s : ℕ) → AreAsked x asks done answered →
         AreAsked (goes message is_interleaved x (reset_stream s)) asks done answered }
@@ -71,8 +71,8 @@ pub fn requests_are_told_apart()
 /// Along each trace there is an epoch for each message that an end accepted (`many`), in their order (`goes_on`); and where no stream is
 /// reset, each is 0 (`first`).
 pub fn epochs_are_of_messages()
-    ensures many { (x : Bool) (turns : List (Bool × EndAction)) (w : Pair) → length (offer_epochs x turns w all_open) ≡ length (accepted x turns w) }
+    ensures many { (x : Bool) (turns : List (Bool × EndAction)) (w : Pair) → length (message_epochs x turns w all_open) ≡ length (accepted x turns w) }
     ensures goes_on { (x : Bool) (turns more : List (Bool × EndAction)) (w : Pair) →
-        offer_epochs x (turns ++ more) w all_open ≡ offer_epochs x turns w all_open ++ offer_epochs x more (run turns w) (epochs_along x turns w all_open) }
-    ensures first { (x : Bool) (turns : List (Bool × EndAction)) (w : Pair) → KeepsStreams turns → All (λ (n : ℕ). n ≡ 0) (offer_epochs x turns w all_open) }
+        message_epochs x (turns ++ more) w all_open ≡ message_epochs x turns w all_open ++ message_epochs x more (run turns w) (epochs_along x turns w all_open) }
+    ensures first { (x : Bool) (turns : List (Bool × EndAction)) (w : Pair) → KeepsStreams turns → All (λ (n : ℕ). n ≡ 0) (message_epochs x turns w all_open) }
 {}

@@ -45,7 +45,7 @@ IsThat i chunk = Unit {0}
 module _ (ps : List (Drawn × Drawn)) (k : Knows ps) (law : EachCallIsNamed) (o q : Options) (x y z : Side) (t : Twin ps x y z) (p r : Carried)
     (checksum other : ℕ) (packing : x.end.endpoint_state.context.pack ≡ as_carried) (quiet : x.end.endpoint_state.context.emitted.events ≡ []) (i : InitTree)
     (n : IsNamedBy ps (state_of y) (state_of x) p r) (alone : p.chunks ≡ init_ack_chunk i ∷ [])
-    (none : refusal p.header.verification_tag (map carried p.chunks) (state_of x) ≡ None) (numbers : NumbersFitIn (state_of x)) (said : IsInitAck q o (seen y) (seen x) y.is_asked i)
+    (none : refusal p.header.verification_tag (map carried p.chunks) (state_of x) ≡ None) (numbers : NumbersFitIn (state_of x)) (said : IsInitAck q o (seen y) (seen x) y.got_init i)
     (taken : IsTaken i n.mine n.cookie_tie) where
   abbrev call : Call
   call = Packet (as_received p checksum)

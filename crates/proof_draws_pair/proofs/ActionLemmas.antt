@@ -11,7 +11,7 @@ use Rattle.spec_endpoint.specs.Input.{refusal}
 use Rattle.spec_endpoint.specs.Laws.{Call, Connect, Restore, Packet, called, endings}
 use Rattle.proof_endpoint.specs.Mapped.{Carried}
 use Rattle.proof_endpoint.proofs.LawsLemmas.{stays_within}
-use Rattle.proof_pair.specs.Trace.{Side, emitted_packets, EndAction, Calls, Gives, Refuses, as_carried, took, as_received, give, act, MayCall, MayAct, AreGiven, state_of}
+use Rattle.proof_pair.specs.Trace.{Side, emitted_packets, EndAction, Calls, Gives, Refuses, as_carried, took, as_received, give, act, MayCall, MayAct, AreValidOptions, state_of}
 use Rattle.proof_pair.specs.Agreement.{Draw as Drawn, Has, drawn_to_connect, drawn_given, drawn_in}
 use Rattle.proof_pair.proofs.AddedLemmas.{all_get}
 use Rattle.proof_pair.proofs.TraceLemmas.{SaysAll, seen, Half, Halves, none_of, actions}
@@ -47,8 +47,8 @@ EndsEmitEventOwn =
 -- an end with an established association answers an INIT
 abbrev pub LateInitsAreNamed : List (Drawn × Drawn) → Type 0
 LateInitsAreNamed ps =
-    (o q : Options) (x y z : Side) (p r : Carried) (checksum other : ℕ) → AreGiven q → Halves o q x y → (t : Twin ps x y z)
-    → (n : IsNamedBy ps (state_of y) (state_of x) p r) → SaysAll q o (seen y) (seen x) y.is_asked p
+    (o q : Options) (x y z : Side) (p r : Carried) (checksum other : ℕ) → AreValidOptions q → Halves o q x y → (t : Twin ps x y z)
+    → (n : IsNamedBy ps (state_of y) (state_of x) p r) → SaysAll q o (seen y) (seen x) y.got_init p
     → ((d e : Drawn) → Has (d, e) (pairs_of (drawn_given (Some p) checksum x) (drawn_given (Some r) other z)) → Has (d, e) ps)
     → (i : InitTree) → p.chunks ≡ init_chunk i ∷ [] → refusal p.header.verification_tag (map carried p.chunks) (state_of x) ≡ None
     → NumbersFitIn (state_of x) → (phase : Phase) (u : Tcb) → state_of x ≡ Open phase u → is_alone phase ≡ false
@@ -64,7 +64,7 @@ kind_received cs (a_flow flows) = a_flow (all_flow_carried cs ∙ flows)
 -- ---- an action, as it goes
 
 abbrev asked_as : Bool → Side → Side
-asked_as b x = record x { is_asked = b }
+asked_as b x = record x { got_init = b }
 
 -- one call on both ends, or nothing
 pub record Turning (ps : List (Drawn × Drawn)) (x z : Side) (u : State) (a b : Side) (gone too : List GivenUp) : Type 0 where
@@ -86,7 +86,7 @@ pub record Idle (x z a b : Side) (gone too : List GivenUp) : Type 0 where
   pub gone_is : gone ≡ []
   pub gone_too : too ≡ []
 
-module _ (ps : List (Drawn × Drawn)) (k : Knows ps) (o q : Options) (own : AreGiven o) (x y z : Side) (h : Halves o q x y) (t : Twin ps x y z) where
+module _ (ps : List (Drawn × Drawn)) (k : Knows ps) (o q : Options) (own : AreValidOptions o) (x y z : Side) (h : Halves o q x y) (t : Twin ps x y z) where
   least : 12 ≤ x.end.endpoint_state.context.options.mtu
   least = omega (arith, own.valid.sizes.mtu_least, ap (λ (p : Options). p.mtu) h.own.options)
 
@@ -151,7 +151,7 @@ two_connect Closed (Open phase t) e f p q = cc
 two_connect (CookieWait tag first t1) r e f p q = cc
 two_connect (Open phase t) r e f p q = cc
 
-module _ (ps : List (Drawn × Drawn)) (k : Knows ps) (law : EachCallIsNamed) (late : LateInitsAreNamed ps) (o q : Options) (own : AreGiven o) (other : AreGiven q)
+module _ (ps : List (Drawn × Drawn)) (k : Knows ps) (law : EachCallIsNamed) (late : LateInitsAreNamed ps) (o q : Options) (own : AreValidOptions o) (other : AreValidOptions q)
     (x y z v : Side) (h : Halves o q x y) (t : Twin ps x y z) (b : Twin ps y x v) (kinds : All (λ (p : Carried). IsKind p.chunks) (emitted_packets y))
     (numbers : NumbersFitIn (state_of x)) where
   -- none of it is drawn but what stands among the pairs
@@ -169,8 +169,8 @@ module _ (ps : List (Drawn × Drawn)) (k : Knows ps) (law : EachCallIsNamed) (la
   call_actions c may drew = record {
     call = c;
     second = called c z.end;
-    asked = x.is_asked;
-    both_asked = z.is_asked;
+    asked = x.got_init;
+    both_asked = z.got_init;
     same = t.asked;
     first_is = refl;
     second_is = refl;
@@ -194,13 +194,13 @@ module _ (ps : List (Drawn × Drawn)) (k : Knows ps) (law : EachCallIsNamed) (la
       → Turning ps x z (state_of y) (give (Some p) checksum x) (give (Some r) other_checksum z) (records_given (Some p) checksum x) (records_given (Some r) other_checksum z)
   some_actions p r which checksum other_checksum there n pair =
       let kind : IsKind p.chunks = all_get (λ (c : Carried). IsKind c.chunks) (emitted_packets y) which p there kinds in
-      let says : SaysAll q o (seen y) (seen x) y.is_asked p = all_get (SaysAll q o (seen y) (seen x) y.is_asked) (emitted_packets y) which p there h.other.said in
+      let says : SaysAll q o (seen y) (seen x) y.got_init p = all_get (SaysAll q o (seen y) (seen x) y.got_init) (emitted_packets y) which p there h.other.said in
       record {
         call = Packet (as_received p checksum);
         second = called (Packet (as_received r other_checksum)) z.end;
-        asked = x.is_asked || (p.header.verification_tag == 0);
-        both_asked = z.is_asked || (r.header.verification_tag == 0);
-        same = ap (λ (a : Bool). a || (r.header.verification_tag == 0)) t.asked ∙ ap (λ (a : Bool). x.is_asked || a) (asked_too p r n);
+        asked = x.got_init || (p.header.verification_tag == 0);
+        both_asked = z.got_init || (r.header.verification_tag == 0);
+        same = ap (λ (a : Bool). a || (r.header.verification_tag == 0)) t.asked ∙ ap (λ (a : Bool). x.got_init || a) (asked_too p r n);
         first_is = refl;
         second_is = refl;
         gone_is = refl;

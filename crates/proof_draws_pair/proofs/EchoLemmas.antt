@@ -17,7 +17,7 @@ use Rattle.spec_endpoint.specs.Input.{my_tag, refusal}
 use Rattle.spec_endpoint.specs.Laws.{Call, Packet, called}
 use Rattle.proof_endpoint.specs.Mapped.{Carried}
 use Rattle.proof_pair.specs.Acts.{IsEchoed}
-use Rattle.proof_pair.specs.Trace.{Side, AreGiven, as_carried, as_received, state_of}
+use Rattle.proof_pair.specs.Trace.{Side, AreValidOptions, as_carried, as_received, state_of}
 use Rattle.proof_pair.specs.Agreement.{Draw as Drawn}
 use Rattle.proof_pair.proofs.JoinLemmas.{Draw, Both, IsDraw, view_of, cookie_by, IsEcho}
 use Rattle.proof_pair.proofs.TraceLemmas.{seen}
@@ -37,7 +37,7 @@ use Rattle.proof_draws_pair.proofs.FlowLemmas.{held_by, all_true}
 
 -- ---- the cookie
 
-pub cookie_made : (o : Options) (d e : Draw) → AreGiven o → IsDraw d → IsDraw e → (ps : List (Drawn × Drawn)) (k : Knows ps) (mine peer : ℕ) (tie cookie_tie : ℕ → ℕ)
+pub cookie_made : (o : Options) (d e : Draw) → AreValidOptions o → IsDraw d → IsDraw e → (ps : List (Drawn × Drawn)) (k : Knows ps) (mine peer : ℕ) (tie cookie_tie : ℕ → ℕ)
     → Made ps k mine peer tie cookie_tie (cookie_by o d e)
 cookie_made o d e fine fd fe ps k mine peer tie cookie_tie = record { fits = cookie_fits o d e fine fd fe; some_peer = fd.some; some_own = fe.some }
 
@@ -98,7 +98,7 @@ flows_as_that cookie (cookie_echo_chunk c) h = cc
 flows_as_that cookie (init_ack_chunk i) h = cc
 flows_as_that cookie c h = tt
 
-module _ (ps : List (Drawn × Drawn)) (k : Knows ps) (law : EachCallIsNamed) (o q : Options) (given : AreGiven q) (x y z : Side) (t : Twin ps x y z) (p r : Carried)
+module _ (ps : List (Drawn × Drawn)) (k : Knows ps) (law : EachCallIsNamed) (o q : Options) (given : AreValidOptions q) (x y z : Side) (t : Twin ps x y z) (p r : Carried)
     (checksum other : ℕ) (packing : x.end.endpoint_state.context.pack ≡ as_carried) (quiet : x.end.endpoint_state.context.emitted.events ≡ []) (cookie : List ℕ)
     (rest : List ChunkTree) (n : IsNamedBy ps (state_of y) (state_of x) p r) (begins : p.chunks ≡ cookie_echo_chunk cookie ∷ rest)
     (flows : list_all is_flowing rest ≡ true) (none : refusal p.header.verification_tag (map carried p.chunks) (state_of x) ≡ None) (numbers : NumbersFitIn (state_of x))

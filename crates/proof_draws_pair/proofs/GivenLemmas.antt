@@ -11,7 +11,7 @@ use Rattle.spec_endpoint.specs.Input.{refusal, counts, on_endpoint_state, repeat
 use Rattle.spec_endpoint.specs.Laws.{Call, Packet, called}
 use Rattle.proof_endpoint.specs.Mapped.{Carried}
 use Rattle.proof_pair.specs.Acts.{is_opened}
-use Rattle.proof_pair.specs.Trace.{Side, AreGiven, as_received, state_of}
+use Rattle.proof_pair.specs.Trace.{Side, AreValidOptions, as_received, state_of}
 use Rattle.proof_pair.specs.Agreement.{Draw as Drawn, Has, drawn_receiving, drawn_taking, drawn_given}
 use Rattle.proof_pair.proofs.JoinLemmas.{Draw, IsDraw, view_of, IsInit, IsInitAck, IsEcho, Says, Drawn as IsDrawn, Faces}
 use Rattle.proof_pair.proofs.TraceLemmas.{SaysAll, seen, Halves}
@@ -68,9 +68,9 @@ peer_at s phase u m d e f h =
     subst (λ (n : Option Draw). Faces (view_of (Open phase u)).holds n) f (subst (λ (z : State). Faces (view_of z).holds m) e h) in
     sym (ap (λ (x : Draw). x.tag) here)
 
-module _ (ps : List (Drawn × Drawn)) (k : Knows ps) (law : EachCallIsNamed) (o q : Options) (given : AreGiven q) (x y z v : Side) (h : Halves o q x y)
+module _ (ps : List (Drawn × Drawn)) (k : Knows ps) (law : EachCallIsNamed) (o q : Options) (given : AreValidOptions q) (x y z v : Side) (h : Halves o q x y)
     (t : Twin ps x y z) (p r : Carried) (checksum other : ℕ) (n : IsNamedBy ps (state_of y) (state_of x) p r)
-    (says : SaysAll q o (seen y) (seen x) y.is_asked p)
+    (says : SaysAll q o (seen y) (seen x) y.got_init p)
     (numbers : NumbersFitIn (state_of x))
     (late : (i : InitTree) → p.chunks ≡ init_chunk i ∷ [] → refusal p.header.verification_tag (map carried p.chunks) (state_of x) ≡ None
     → (phase : Phase) (u : Tcb) → state_of x ≡ Open phase u → is_alone phase ≡ false → Named ps x z (state_of y) (Packet (as_received p checksum)) (called (Packet (as_received r other)) z.end))
@@ -94,7 +94,7 @@ module _ (ps : List (Drawn × Drawn)) (k : Knows ps) (law : EachCallIsNamed) (o 
   Marks c = Marked u (state_of x) n.mine n.peer n.cookie_tie c
 
   abbrev SaysThis : ChunkTree → Type 0
-  SaysThis c = Says q o (seen y) (seen x) y.is_asked tag c
+  SaysThis c = Says q o (seen y) (seen x) y.got_init tag c
 
   first_of : (P : ChunkTree → Type 0) (c : ChunkTree) (cs : List ChunkTree) → p.chunks ≡ c ∷ cs → All P p.chunks → P c
   first_of P c cs e all = All-head P c cs (subst (All P) e all)
@@ -138,14 +138,14 @@ module _ (ps : List (Drawn × Drawn)) (k : Knows ps) (law : EachCallIsNamed) (o 
     ack_opened : (i : InitTree) → p.chunks ≡ init_ack_chunk i ∷ [] → is_opened (state_of x) ≡ true → Named ps x z u call f
     ack_opened i alone opened = ack_unheard ps k law x y z t p r checksum other h.own.packing h.own.quiet i n alone none numbers opened
 
-    ack_by_state : (i : InitTree) (s : State) → state_of x ≡ s → p.chunks ≡ init_ack_chunk i ∷ [] → IsInitAck q o (seen y) (seen x) y.is_asked i → IsTaken i n.mine n.cookie_tie
+    ack_by_state : (i : InitTree) (s : State) → state_of x ≡ s → p.chunks ≡ init_ack_chunk i ∷ [] → IsInitAck q o (seen y) (seen x) y.got_init i → IsTaken i n.mine n.cookie_tie
         → Named ps x z u call f
     ack_by_state i Closed is alone said mark = absurd (waits_not (state_of x) said.other said.to is)
     ack_by_state i (CookieWait own first t1) is alone said mark =
         ack_named ps k law o q x y z t p r checksum other h.own.packing h.own.quiet i n alone none numbers said mark own first t1 is
     ack_by_state i (Open phase b) is alone said mark = ack_opened i alone (ap is_opened is)
 
-    ack_by : (i : InitTree) → p.chunks ≡ init_ack_chunk i ∷ [] → IsInitAck q o (seen y) (seen x) y.is_asked i → HoldsOne (state_of x) ⊎ IsTaken i n.mine n.cookie_tie
+    ack_by : (i : InitTree) → p.chunks ≡ init_ack_chunk i ∷ [] → IsInitAck q o (seen y) (seen x) y.got_init i → HoldsOne (state_of x) ⊎ IsTaken i n.mine n.cookie_tie
         → Named ps x z u call f
     ack_by i alone said (inl one) = ack_opened i alone (open_at (state_of x) one)
     ack_by i alone said (inr mark) = ack_by_state i (state_of x) refl alone said mark

@@ -70,7 +70,7 @@ abbrev taken : Context Carried → Context Carried
 taken c = record c { emitted = record { events = []; given_up = [] } }
 
 abbrev asked_as : Bool → Side → Side
-asked_as b x = record x { is_asked = b }
+asked_as b x = record x { got_init = b }
 
 -- an error whose text holds other tags
 error_alike : (text other : List ℕ) (es fs : List (Event Carried)) → es ≡ [] → fs ≡ []

@@ -12,7 +12,7 @@ use Rattle.spec_endpoint.specs.Opening.{tsn_from, tag_from, word, drew_word, coo
 use Rattle.spec_endpoint.specs.Input.{refusal, counts, taken_if, handle_chunks, ended_if}
 use Rattle.spec_endpoint.specs.Laws.{Call, Packet, called, is_closed}
 use Rattle.proof_endpoint.specs.Mapped.{Carried}
-use Rattle.proof_pair.specs.Trace.{Side, AreGiven, as_carried, as_received, state_of}
+use Rattle.proof_pair.specs.Trace.{Side, AreValidOptions, as_carried, as_received, state_of}
 use Rattle.proof_pair.specs.Agreement.{Draw as Drawn, Has}
 use Rattle.proof_pair.proofs.JoinLemmas.{Draw, IsDraw, drawn_is, init_by, cookie_by, IsInit}
 use Rattle.proof_pair.proofs.TraceLemmas.{seen}
@@ -57,7 +57,7 @@ IsThat (init_ack_chunk i) = ⊥
 IsThat (cookie_echo_chunk c) = ⊥
 IsThat chunk = Unit {0}
 
-module _ (ps : List (Drawn × Drawn)) (k : Knows ps) (law : EachCallIsNamed) (o q : Options) (given : AreGiven q) (x y z : Side) (t : Twin ps x y z) (p r : Carried)
+module _ (ps : List (Drawn × Drawn)) (k : Knows ps) (law : EachCallIsNamed) (o q : Options) (given : AreValidOptions q) (x y z : Side) (t : Twin ps x y z) (p r : Carried)
     (checksum other : ℕ) (packing : x.end.endpoint_state.context.pack ≡ as_carried) (quiet : x.end.endpoint_state.context.emitted.events ≡ []) (i : InitTree)
     (n : IsNamedBy ps (state_of y) (state_of x) p r) (alone : p.chunks ≡ init_chunk i ∷ [])
     (none : refusal p.header.verification_tag (map carried p.chunks) (state_of x) ≡ None) (numbers : NumbersFitIn (state_of x)) (said : IsInit q (seen y) p.header.verification_tag i)

@@ -161,7 +161,7 @@ module _ (ps : List (Drawn × Drawn)) (k : Knows ps) (law : EachCallIsNamed) whe
       let tie : ℕ → ℕ = λ old. t.tie u.identity.tie in
       let m : Names = names ps own peer tie tie in
       let said : IsInit q (seen y) tag i =
-      All-head (Says q o (seen y) (seen x) y.is_asked tag) (init_chunk i) [] (subst (All (Says q o (seen y) (seen x) y.is_asked tag)) alone says) in
+      All-head (Says q o (seen y) (seen x) y.got_init tag) (init_chunk i) [] (subst (All (Says q o (seen y) (seen x) y.got_init tag)) alone says) in
       let mark : i.initiate_tag ≡ n.mine =
       All-head (Marked (state_of y) s n.mine n.peer n.cookie_tie) (init_chunk i) [] (subst (All (Marked (state_of y) s n.mine n.peer n.cookie_tie)) alone n.marks) in
       let theirs : IsDraw said.draw = draw_is q (state_of y) said.draw said.own h.other.stands.draw in

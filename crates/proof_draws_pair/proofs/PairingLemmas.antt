@@ -15,7 +15,7 @@ use Rattle.proof_pair.proofs.AgreePacketLemmas.{distinct_behind}
 use Rattle.proof_draws.specs.NamedChunks.{move_by}
 use Rattle.proof_draws.specs.Renamed.{rename, DiffersFrom, AreApart, IsPaired, Renames}
 use Rattle.proof_draws.proofs.RenamedLemmas.{renames}
-use Rattle.proof_draws_pair.specs.Pairing.{drawn_at, drawn, NoTagTwice, pairs_of, pairs, tags_of, distance, far, Knows}
+use Rattle.proof_draws_pair.specs.Pairing.{drawn_at, drawn, AllDrawnTagsAreDistinct, pairs_of, pairs, tags_of, distance, far, Knows}
 
 -- ---- members
 
@@ -139,7 +139,7 @@ pairs_within (a ∷ es) (b ∷ fs) w v d e h =
     within_pairs (drawn_at a.0 a.1 w) (drawn_at b.0 b.1 v) (pairs es fs (goes a.0 a.1 w) (goes b.0 b.1 v)) (drawn es (goes a.0 a.1 w))
     (drawn fs (goes b.0 b.1 v)) (pairs_within es fs (goes a.0 a.1 w) (goes b.0 b.1 v)) d e h
 
-pairs_apart : (es fs : List (Bool × EndAction)) (w v : Pair) → NoTagTwice es w → NoTagTwice fs v → AreApart (tags_of (pairs es fs w v))
+pairs_apart : (es fs : List (Bool × EndAction)) (w v : Pair) → AllDrawnTagsAreDistinct es w → AllDrawnTagsAreDistinct fs v → AreApart (tags_of (pairs es fs w v))
 pairs_apart [] fs w v p q = tt
 pairs_apart (a ∷ es) [] w v p q = tt
 pairs_apart (a ∷ es) (b ∷ fs) w v p q =
@@ -205,7 +205,7 @@ renamed_below (p ∷ ps) b tag small =
 
 -- ---- all of it
 
-pub pairs_know : (es fs : List (Bool × EndAction)) (w v : Pair) → NoTagTwice es w → NoTagTwice fs v → Knows (pairs es fs w v)
+pub pairs_know : (es fs : List (Bool × EndAction)) (w v : Pair) → AllDrawnTagsAreDistinct es w → AllDrawnTagsAreDistinct fs v → Knows (pairs es fs w v)
 pairs_know es fs w v p q =
     let ps : Pairs = pairs es fs w v in
     let apart : AreApart (tags_of ps) = pairs_apart es fs w v p q in

@@ -230,7 +230,7 @@ module _ (ps : List (Drawn × Drawn)) (k : Knows ps) where
   taken c = record c { emitted = record { events = []; given_up = [] } }
 
   abbrev asked_as : Bool → Side → Side
-  asked_as b x = record x { is_asked = b }
+  asked_as b x = record x { got_init = b }
 
   module _ (o q : Options) (x y z : Side) (c : Call) (f : Endpoint Carried) (asked both_asked : Bool) (same : both_asked ≡ asked) (t : Twin ps x y z)
       (stand : Stand (state_of x) (called c x.end).endpoint_state.state) (packing : (called c x.end).endpoint_state.context.pack ≡ as_carried)

@@ -4,7 +4,7 @@ use Rattle.rand_core.specs.Stream.{Stream}
 use Rattle.sctp_state.specs.Options.{Options}
 use Rattle.spec_endpoint.specs.Laws.{endings}
 use Rattle.proof_endpoint.specs.Mapped.{Carried}
-use Rattle.proof_pair.specs.Trace.{Side, Pair, emitted_packets, EndAction, act, goes, run, MayAct, side_of, FollowsTheRules, HasNotEnded, AreGiven, start, state_of, new_side}
+use Rattle.proof_pair.specs.Trace.{Side, Pair, emitted_packets, EndAction, act, goes, run, MayAct, side_of, KeepsOpeningRules, NeitherHasEnded, AreValidOptions, start, state_of, new_side}
 use Rattle.proof_pair.specs.Agreement.{Draw as Drawn, Has}
 use Rattle.proof_pair.proofs.TraceLemmas.{Halves, swapped, before_run, follows_front}
 use Rattle.proof_pair.proofs.HandingLemmas.{first_halves}
@@ -43,7 +43,7 @@ twin_beside ps x y next v stand t = record {
 }
 
 module _ (ps : List (Drawn × Drawn)) (k : Knows ps) (law : EachCallIsNamed) (late : LateInitsAreNamed ps) (tells : EndsEmitEventOwn) where
-  module _ (o q : Options) (own : AreGiven o) (other : AreGiven q) (x y z v : Side) (b : Beside ps o q x y z v)
+  module _ (o q : Options) (own : AreValidOptions o) (other : AreValidOptions q) (x y z v : Side) (b : Beside ps o q x y z v)
       (kinds : All (λ (p : Carried). IsKind p.chunks) (emitted_packets y)) (numbers : NumbersFitIn (state_of x)) (t u : EndAction) (same : SameAction t u) (may : MayAct t x)
       (drew : Drew ps k law late o q own other x y z v b.halves b.own b.other kinds numbers t u) where
     goes_so : Goes ps k law late o q own other x y z v b.halves b.own b.other kinds numbers t u
@@ -89,9 +89,9 @@ module _ (ps : List (Drawn × Drawn)) (k : Knows ps) (law : EachCallIsNamed) (la
   abbrev Among : (at_a : Bool) (t u : EndAction) → (w v : Pair) → Type 0
   Among at_a t u w v = (d e : Drawn) → Has (d, e) (pairs_of (drawn_at at_a t w) (drawn_at at_a u v)) → Has (d, e) ps
 
-  module _ (a b : Options) (given_a : AreGiven a) (given_b : AreGiven b) where
+  module _ (a b : Options) (given_a : AreValidOptions a) (given_b : AreValidOptions b) where
     goes_both : (at_a : Bool) (t u : EndAction) (w v : Pair) → Both a b w v → AreOfAKind w → SameAction t u → MayAct t (side_of at_a w) → Among at_a t u w v
-        → HasNotEnded (goes at_a t w) → Both a b (goes at_a t w) (goes at_a u v)
+        → NeitherHasEnded (goes at_a t w) → Both a b (goes at_a t w) (goes at_a u v)
     goes_both true t u w v h kinds same may drew none =
         beside_after a b given_a given_b w.a w.b v.a v.b h kinds.b kinds.a_numbers t u same may drew none.a
     goes_both false t u w v h kinds same may drew none =
@@ -125,7 +125,7 @@ module _ (ps : List (Drawn × Drawn)) (k : Knows ps) (law : EachCallIsNamed) (la
         (subst (λ (c : Bool). (d e : Drawn) → Has (d, e) (pairs_of (drawn_at at_a t w) (drawn_at c u v)) → Has (d, e) ps) is drew))
 
     goes_by : (at_a too : Bool) (t u : EndAction) (w v : Pair) → too ≡ at_a → Both a b w v → AreOfAKind w → SameAction t u → MayAct t (side_of at_a w)
-        → ((d e : Drawn) → Has (d, e) (pairs_of (drawn_at at_a t w) (drawn_at too u v)) → Has (d, e) ps) → HasNotEnded (goes at_a t w)
+        → ((d e : Drawn) → Has (d, e) (pairs_of (drawn_at at_a t w) (drawn_at too u v)) → Has (d, e) ps) → NeitherHasEnded (goes at_a t w)
         → Both a b (goes at_a t w) (goes too u v)
     goes_by at_a too t u w v is h kinds same may drew none =
         subst (λ (c : Bool). Both a b (goes at_a t w) (goes c u v)) (sym is)
@@ -142,8 +142,8 @@ module _ (ps : List (Drawn × Drawn)) (k : Knows ps) (law : EachCallIsNamed) (la
     none_left [] e h = h
     none_left (g ∷ es) e h = h
 
-    pub along : (es fs : List (Bool × EndAction)) (e f : Bool × EndAction) (w v : Pair) → SameActions (es ++ e ∷ []) (fs ++ f ∷ []) → FollowsTheRules (es ++ e ∷ []) w
-        → HasNotEnded (run es w) → KindsAlong es w → ((d c : Drawn) → Has (d, c) (pairs (es ++ e ∷ []) (fs ++ f ∷ []) w v) → Has (d, c) ps) → Both a b w v
+    pub along : (es fs : List (Bool × EndAction)) (e f : Bool × EndAction) (w v : Pair) → SameActions (es ++ e ∷ []) (fs ++ f ∷ []) → KeepsOpeningRules (es ++ e ∷ []) w
+        → NeitherHasEnded (run es w) → KindsAlong es w → ((d c : Drawn) → Has (d, c) (pairs (es ++ e ∷ []) (fs ++ f ∷ []) w v) → Has (d, c) ps) → Both a b w v
         → ActionIsAlike e f (run es w) (run fs v)
     along [] [] e f w v same follows none kinds among h =
         last_by e.0 f.0 e.1 f.1 w v same.0 h kinds same.1 follows.0

@@ -112,7 +112,7 @@ pub record Twin (ps : List (Draw × Draw)) (x y z : Side) : Type 0 where
   pub state : state_of z ≡ named_state (names_in ps (state_of x) tie) (state_of x)
   pub context : z.end.endpoint_state.context ≡ x.end.endpoint_state.context
   pub emitted : Twins ps (state_of x) (state_of y) x.emitted z.emitted
-  pub asked : z.is_asked ≡ x.is_asked
+  pub asked : z.got_init ≡ x.got_init
 
 module _ (ps : List (Draw × Draw)) (k : Knows ps) where
   twin_alike : (s u : State) (e f : Event Carried) → IsTwin ps s u e f → IsAlike e f

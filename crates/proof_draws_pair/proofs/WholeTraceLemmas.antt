@@ -18,7 +18,7 @@ use Rattle.spec_endpoint.specs.Input.{refusal, counts, taken_if}
 use Rattle.spec_endpoint.specs.Laws.{Call, Packet, called, endings}
 use Rattle.proof_endpoint.specs.Mapped.{Carried}
 use Rattle.proof_pair.specs.Acts.{calm, IsReceived}
-use Rattle.proof_pair.specs.Trace.{Side, Pair, new_side, packets_in, emitted_packets, EndAction, Calls, Gives, Refuses, took, as_received, give, foreign_if, act, goes, run, MayCall, MayAct, side_of, FollowsTheRules, HasNotEnded, AreGiven, start, state_of}
+use Rattle.proof_pair.specs.Trace.{Side, Pair, new_side, packets_in, emitted_packets, EndAction, Calls, Gives, Refuses, took, as_received, give, foreign_if, act, goes, run, MayCall, MayAct, side_of, KeepsOpeningRules, NeitherHasEnded, AreValidOptions, start, state_of}
 use Rattle.proof_pair.proofs.UntilLemmas.{until_end}
 use Rattle.proof_pair.proofs.AddedLemmas.{all_get}
 use Rattle.proof_pair.proofs.JoinActsLemmas.{packets_both, Setting}
@@ -43,7 +43,7 @@ abbrev packet_of : Call → PacketTree → PacketTree
 packet_of (Packet p) q = p
 packet_of c q = q
 
-module _ (o q : Options) (x y : Side) (own : AreGiven o) (other : AreGiven q) (h : Halves o q x y) (a : SideIsWhole q.zero_checksum_method x) where
+module _ (o q : Options) (x y : Side) (own : AreValidOptions o) (other : AreValidOptions q) (h : Halves o q x y) (a : SideIsWhole q.zero_checksum_method x) where
   -- an action begins
   whole_begins : (asked : Bool) → IsWhole q.zero_checksum_method (state_of x) x.end.endpoint_state.context.queue x.end.endpoint_state.context.emitted.events (calm x.end).packet
   whole_begins asked = (
@@ -57,7 +57,7 @@ module _ (o q : Options) (x y : Side) (own : AreGiven o) (other : AreGiven q) (h
   -- and ends
   whole_ends : (asked : Bool) (e : Endpoint Carried)
       → IsWhole q.zero_checksum_method e.endpoint_state.state e.endpoint_state.context.queue e.endpoint_state.context.emitted.events (calm e).packet
-      → SideIsWhole q.zero_checksum_method (record (took e x) { is_asked = asked })
+      → SideIsWhole q.zero_checksum_method (record (took e x) { got_init = asked })
   whole_ends asked e w = record {
     state = w.0;
     queue = w.1;
@@ -67,11 +67,11 @@ module _ (o q : Options) (x y : Side) (own : AreGiven o) (other : AreGiven q) (h
 
   whole_call : (call : Call) → MayCall call x → endings (act (Calls call) x y).emitted ≡ 0 → SideIsWhole q.zero_checksum_method (act (Calls call) x y)
   whole_call call may none =
-      let g : Setting = setting o q x y x.is_asked in
+      let g : Setting = setting o q x y x.got_init in
       let e : Endpoint Carried = called call x.end in
-      whole_ends x.is_asked e
+      whole_ends x.got_init e
       (until_end call (wholes g call (rules_call o q x y own other call may) (λ tag chunk heard. absurd (subst (λ (c : Call). MayCall c x) heard.given may))) x.end
-      (none_of x.emitted e.endpoint_state.context.emitted.events none) (begins o q x y x.is_asked (λ z. z) h.own h.other, whole_begins x.is_asked)).1
+      (none_of x.emitted e.endpoint_state.context.emitted.events none) (begins o q x y x.got_init (λ z. z) h.own h.other, whole_begins x.got_init)).1
 
   -- each chunk of a packet of a kind is whole
   received_whole : (p : Carried) (checksum : ℕ) → IsKind p.chunks → (tag : ℕ) (chunk : ChunkTree) → IsReceived (Packet (as_received p checksum)) tag chunk
@@ -92,7 +92,7 @@ module _ (o q : Options) (x y : Side) (own : AreGiven o) (other : AreGiven q) (h
         → SideIsWhole q.zero_checksum_method (give p checksum x)
     whole_given None checksum n there none = a
     whole_given (Some p) checksum n there none =
-        let now : Bool = x.is_asked || (p.header.verification_tag == 0) in
+        let now : Bool = x.got_init || (p.header.verification_tag == 0) in
         let g : Setting = setting o q x y now in
         let call : Call = Packet (as_received p checksum) in
         let e : Endpoint Carried = called call x.end in
@@ -100,7 +100,7 @@ module _ (o q : Options) (x y : Side) (own : AreGiven o) (other : AreGiven q) (h
         whole_ends now e
         (until_end call (wholes g call (rules_given o q x y own other p checksum n there) (received_whole p checksum kind)) x.end
         (none_of x.emitted e.endpoint_state.context.emitted.events none)
-        (begins o q x y now (or_left x.is_asked (p.header.verification_tag == 0)) h.own h.other, whole_begins now)).1
+        (begins o q x y now (or_left x.got_init (p.header.verification_tag == 0)) h.own h.other, whole_begins now)).1
 
     whole_refused : (r : Option (List ℕ)) (p : PacketTree) → refusal p.header.verification_tag p.chunks (state_of x) ≡ r
         → SideIsWhole q.zero_checksum_method (foreign_if r p x)
@@ -109,10 +109,10 @@ module _ (o q : Options) (x y : Side) (own : AreGiven o) (other : AreGiven q) (h
         let s : Endpoint Carried = x.end in
         let same : called (Packet p) s ≡ complains text (counts s) =
         ap (λ (r : Option (List ℕ)). taken_if r p.header.verification_tag p.chunks (counts s)) is in
-        let w = whole_begins x.is_asked in
+        let w = whole_begins x.got_init in
         let none : packets_in (s.endpoint_state.context.emitted.events ++ OnError ParseFailed text ∷ []) ≡ [] =
         ap (λ (es : List (Event Carried)). packets_in (es ++ OnError ParseFailed text ∷ [])) h.own.quiet in
-        whole_ends x.is_asked (called (Packet p) s)
+        whole_ends x.got_init (called (Packet p) s)
         (subst (λ (e : Endpoint Carried). IsWhole q.zero_checksum_method e.endpoint_state.state e.endpoint_state.context.queue e.endpoint_state.context.emitted.events (calm e).packet) (sym same)
         (w.0, w.1, refl, λ e. cc, subst (All (IsSaid q.zero_checksum_method)) (sym none) (All-nil (IsSaid q.zero_checksum_method))))
 
@@ -128,8 +128,8 @@ pub record AreWhole (o q : Options) (w : Pair) : Type 0 where
   pub a : SideIsWhole q.zero_checksum_method w.a
   pub b : SideIsWhole o.zero_checksum_method w.b
 
-module _ (o q : Options) (own : AreGiven o) (other : AreGiven q) where
-  whole_goes : (at_a : Bool) (t : EndAction) (w : Pair) → MayAct t (side_of at_a w) → HasNotEnded (goes at_a t w) → AreWhole o q w → AreWhole o q (goes at_a t w)
+module _ (o q : Options) (own : AreValidOptions o) (other : AreValidOptions q) where
+  whole_goes : (at_a : Bool) (t : EndAction) (w : Pair) → MayAct t (side_of at_a w) → NeitherHasEnded (goes at_a t w) → AreWhole o q w → AreWhole o q (goes at_a t w)
   whole_goes true t w may none h = record {
     halves = goes_consistent o q own other true t w may none h.halves;
     a = whole_turned o q w.a w.b own other h.halves h.a h.b t may none.a;
@@ -141,7 +141,7 @@ module _ (o q : Options) (own : AreGiven o) (other : AreGiven q) where
     b = whole_turned q o w.b w.a other own (swapped o q w.a w.b h.halves) h.b h.a t may none.b;
   }
 
-  whole_run : (es : List (Bool × EndAction)) (w : Pair) → FollowsTheRules es w → HasNotEnded (run es w) → AreWhole o q w → AreWhole o q (run es w)
+  whole_run : (es : List (Bool × EndAction)) (w : Pair) → KeepsOpeningRules es w → NeitherHasEnded (run es w) → AreWhole o q w → AreWhole o q (run es w)
   whole_run [] w follows none h = h
   whole_run (e ∷ es) w follows none h =
       whole_run es (goes e.0 e.1 w) follows.1 none (whole_goes e.0 e.1 w follows.0 (before_run es (goes e.0 e.1 w) none) h)
@@ -159,7 +159,7 @@ module _ (o q : Options) (own : AreGiven o) (other : AreGiven q) where
     b_numbers = numbers_in (state_of w.b) h.b.state;
   }
 
-  kinds_along : (es : List (Bool × EndAction)) (w : Pair) → FollowsTheRules es w → HasNotEnded (run es w) → AreWhole o q w → KindsAlong es w
+  kinds_along : (es : List (Bool × EndAction)) (w : Pair) → KeepsOpeningRules es w → NeitherHasEnded (run es w) → AreWhole o q w → KindsAlong es w
   kinds_along [] w follows none h = are_of_a_kind w h
   kinds_along (e ∷ es) w follows none h = (
     are_of_a_kind w h,
@@ -189,8 +189,8 @@ packets_of_a_kind a b words_a words_b es own other follows none =
     let w : Pair = start a b words_a words_b in
     are_of_a_kind a b own other (run es w) (whole_run a b own other es w follows none (start_whole a b words_a words_b))
 
-pub along_of_a_kind : (a b : Options) (words_a words_b : Stream) (es : List (Bool × EndAction)) → AreGiven a → AreGiven b
-    → FollowsTheRules es (start a b words_a words_b) → HasNotEnded (run es (start a b words_a words_b)) → KindsAlong es (start a b words_a words_b)
+pub along_of_a_kind : (a b : Options) (words_a words_b : Stream) (es : List (Bool × EndAction)) → AreValidOptions a → AreValidOptions b
+    → KeepsOpeningRules es (start a b words_a words_b) → NeitherHasEnded (run es (start a b words_a words_b)) → KindsAlong es (start a b words_a words_b)
 along_of_a_kind a b words_a words_b es own other follows none =
     kinds_along a b own other es (start a b words_a words_b) follows none (start_whole a b words_a words_b)
 

@@ -6,11 +6,11 @@ use Rattle.sctp_state.specs.Options.{Options}
 use Rattle.spec_endpoint.specs.Laws.{Packet, called, endings}
 use Rattle.spec_endpoint.specs.Shown.{association_in}
 use Rattle.proof_endpoint.specs.Mapped.{Carried}
-use Rattle.proof_pair.specs.Trace.{Side, Pair, emitted_packets, EndAction, Calls, Gives, Refuses, as_received, act, goes, run, side_of, FollowsTheRules, HasNotEnded, AreGiven, start, state_of}
+use Rattle.proof_pair.specs.Trace.{Side, Pair, emitted_packets, EndAction, Calls, Gives, Refuses, as_received, act, goes, run, side_of, KeepsOpeningRules, NeitherHasEnded, AreValidOptions, start, state_of}
 use Rattle.proof_draws.specs.NamedChunks.{Names, AreNames}
 use Rattle.proof_draws.specs.Names.{named_state}
 use Rattle.proof_draws.specs.Images.{named_carried}
-use Rattle.proof_draws_pair.specs.Pairing.{NoTagTwice}
+use Rattle.proof_draws_pair.specs.Pairing.{AllDrawnTagsAreDistinct}
 
 -- ---- what is emitted
 
@@ -43,7 +43,7 @@ pub record AreAlike (x y : Side) : Type 0 where
   pub state : state_of y ≡ named_state names (state_of x)
   pub context : y.end.endpoint_state.context ≡ x.end.endpoint_state.context
   pub emitted : AreEmitted x.emitted y.emitted
-  pub asked : y.is_asked ≡ x.is_asked
+  pub asked : y.got_init ≡ x.got_init
 
 pub record ArePairsAlike (w v : Pair) : Type 0 where
   pub a : AreAlike w.a v.a
@@ -96,10 +96,10 @@ pub record ActionIsAlike (e f : Bool × EndAction) (w v : Pair) : Type 0 where
 -- The first trace follows the rules, and no association has ended in it before the last action; no tag is drawn twice in either.
 abbrev pub TracesAreAlike : Type 0
 TracesAreAlike =
-    (a b : Options) (words_a words_b others_a others_b : Stream) (es fs : List (Bool × EndAction)) (e f : Bool × EndAction) → AreGiven a → AreGiven b
-    → SameActions (es ++ e ∷ []) (fs ++ f ∷ []) → FollowsTheRules (es ++ e ∷ []) (start a b words_a words_b)
-    → HasNotEnded (run es (start a b words_a words_b)) → NoTagTwice (es ++ e ∷ []) (start a b words_a words_b)
-    → NoTagTwice (fs ++ f ∷ []) (start a b others_a others_b)
+    (a b : Options) (words_a words_b others_a others_b : Stream) (es fs : List (Bool × EndAction)) (e f : Bool × EndAction) → AreValidOptions a → AreValidOptions b
+    → SameActions (es ++ e ∷ []) (fs ++ f ∷ []) → KeepsOpeningRules (es ++ e ∷ []) (start a b words_a words_b)
+    → NeitherHasEnded (run es (start a b words_a words_b)) → AllDrawnTagsAreDistinct (es ++ e ∷ []) (start a b words_a words_b)
+    → AllDrawnTagsAreDistinct (fs ++ f ∷ []) (start a b others_a others_b)
     → ActionIsAlike e f (run es (start a b words_a words_b)) (run fs (start a b others_a others_b))
 
 -- ---- checksums
@@ -115,8 +115,8 @@ pub record ArePassed (w : Pair) : Type 0 where
 -- along each trace that follows the rules, until an association first ends
 abbrev pub PacketsPass : Type 0
 PacketsPass =
-    (a b : Options) (words_a words_b : Stream) (es : List (Bool × EndAction)) → AreGiven a → AreGiven b → FollowsTheRules es (start a b words_a words_b)
-    → HasNotEnded (run es (start a b words_a words_b)) → ArePassed (run es (start a b words_a words_b))
+    (a b : Options) (words_a words_b : Stream) (es : List (Bool × EndAction)) → AreValidOptions a → AreValidOptions b → KeepsOpeningRules es (start a b words_a words_b)
+    → NeitherHasEnded (run es (start a b words_a words_b)) → ArePassed (run es (start a b words_a words_b))
 
 -- and so it is in a trace that is alike
 abbrev pub ImagesPass : Type 0

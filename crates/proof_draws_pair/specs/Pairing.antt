@@ -18,8 +18,8 @@ drawn [] w = []
 drawn (e ∷ es) w = drawn_at e.0 e.1 w ++ drawn es (goes e.0 e.1 w)
 
 -- no verification tag is drawn twice, both ends' draws taken together
-abbrev pub NoTagTwice : List (Bool × EndAction) → Pair → Type 0
-NoTagTwice es w = AreDistinct (drawn es w)
+abbrev pub AllDrawnTagsAreDistinct : List (Bool × EndAction) → Pair → Type 0
+AllDrawnTagsAreDistinct es w = AreDistinct (drawn es w)
 
 -- ---- of two traces, place by place
 
@@ -81,4 +81,4 @@ pub record Knows (ps : List (Draw × Draw)) : Type 0 where
   pub small : (tag : ℕ) → tag < 2 ^ 32 → rename (tags_of ps) tag < 2 ^ 32
 
 abbrev pub DrawsHaveNames : Type 0
-DrawsHaveNames = (es fs : List (Bool × EndAction)) (w v : Pair) → NoTagTwice es w → NoTagTwice fs v → Knows (pairs es fs w v)
+DrawsHaveNames = (es fs : List (Bool × EndAction)) (w v : Pair) → AllDrawnTagsAreDistinct es w → AllDrawnTagsAreDistinct fs v → Knows (pairs es fs w v)

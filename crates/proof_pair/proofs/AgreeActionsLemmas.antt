@@ -16,8 +16,8 @@ use Rattle.spec_endpoint.specs.Input.{refusal, counts, taken_if, handle_chunks, 
 use Rattle.spec_endpoint.specs.Laws.{Call, Connect, Packet, NoPacket, called}
 use Rattle.proof_endpoint.specs.Mapped.{Carried}
 use Rattle.proof_pair.specs.Acts.{calm, is_opened, IsReceived}
-use Rattle.proof_pair.specs.Trace.{Side, Pair, as_carried, new_side, packets_in, emitted_packets, has_connected, EndAction, Calls, Gives, Refuses, took, as_received, give, foreign_if, act, goes, AreGiven, start, state_of}
-use Rattle.proof_pair.specs.Agreement.{Draw, Association, mirrored, Has, History, association_of, held_in, drawn_in, history_by, Histories, no_history, no_histories, histories_after, histories_along, AreDistinct, NoneTwice, IsPlainCall, IsAllowed, AreAllowed, emitted_since, Agrees, AgreesAlong, EndsAgree}
+use Rattle.proof_pair.specs.Trace.{Side, Pair, as_carried, new_side, packets_in, emitted_packets, has_connected, EndAction, Calls, Gives, Refuses, took, as_received, give, foreign_if, act, goes, AreValidOptions, start, state_of}
+use Rattle.proof_pair.specs.Agreement.{Draw, Association, mirrored, Has, History, association_of, held_in, drawn_in, history_by, Histories, no_history, no_histories, histories_after, histories_along, AreDistinct, AreDistinctPerEnd, IsPlainCall, IsAllowed, AreAllowed, emitted_since, Agrees, AgreesAlong, EndsAgree}
 use Rattle.proof_pair.proofs.PacketActsLemmas.{does_complain}
 use Rattle.proof_pair.proofs.ActsLemmas.{keeps_call, does_receive, does_repeats_if}
 use Rattle.proof_pair.proofs.AddedLemmas.{all_at, all_get}
@@ -66,7 +66,7 @@ negotiated_begins o q x k = record {
   made = All-nil (Emits o q);
 }
 
-negotiated_ends : (o q : Options) (x : Side) (e : Endpoint Carried) (asked : Bool) → InvAt (setting o q x) (calm e) → Negotiated o q (record (took e x) { is_asked = asked })
+negotiated_ends : (o q : Options) (x : Side) (e : Endpoint Carried) (asked : Bool) → InvAt (setting o q x) (calm e) → Negotiated o q (record (took e x) { got_init = asked })
 negotiated_ends o q x e asked i = record { able = i.able; size = i.size; options = i.options; packing = i.packing; quiet = refl; said = i.said }
 
 -- what the other end said, as it is received
@@ -75,7 +75,7 @@ received_all o q [] h = All-nil (Emits q o)
 received_all o q (c ∷ cs) h =
     All-cons (Emits q o) (carried c) (map carried cs) (emits_carried q o c (All-head (Emits q o) c cs h)) (received_all o q cs (All-tail (Emits q o) c cs h))
 
-module _ (o q : Options) (x : Side) (own : AreGiven o) (other : AreGiven q) where
+module _ (o q : Options) (x : Side) (own : AreValidOptions o) (other : AreValidOptions q) where
   abbrev g : Setting
   g = setting o q x
 
@@ -118,7 +118,7 @@ module _ (o q : Options) (x : Side) (own : AreGiven o) (other : AreGiven q) wher
 
   negotiated_call : (call : Call) → IsPlainCall call → Negotiated o q x → Negotiated o q (took (called call x.end) x)
   negotiated_call call u k =
-      negotiated_ends o q x (called call x.end) x.is_asked (keeps_call call (negotiates g call (receives_user call u)) x.end (negotiated_begins o q x k))
+      negotiated_ends o q x (called call x.end) x.got_init (keeps_call call (negotiates g call (receives_user call u)) x.end (negotiated_begins o q x k))
 
   complained : (text : List ℕ) → Negotiated o q x → InvAt g (calm (complains text (counts x.end)))
   complained text k =
@@ -130,7 +130,7 @@ module _ (o q : Options) (x : Side) (own : AreGiven o) (other : AreGiven q) wher
   negotiated_foreign (Some text) p is k =
       let e : Endpoint Carried = called (Packet p) x.end in
       let here : e ≡ complains text (counts x.end) = ap (λ (r : Option (List ℕ)). taken_if r p.header.verification_tag p.chunks (counts x.end)) is in
-      negotiated_ends o q x e x.is_asked (subst (λ (z : Endpoint Carried). InvAt g (calm z)) (sym here) (complained text k))
+      negotiated_ends o q x e x.got_init (subst (λ (z : Endpoint Carried). InvAt g (calm z)) (sym here) (complained text k))
 
   negotiated_given : (p : Option Carried) (checksum which : ℕ) (ps : List Carried) → All (EmitsAll q o) ps → slice_get ps which ≡ p → Negotiated o q x
       → Negotiated o q (give p checksum x)
@@ -138,7 +138,7 @@ module _ (o q : Options) (x : Side) (own : AreGiven o) (other : AreGiven q) wher
   negotiated_given (Some p) checksum which ps all is k =
       let h : PacketTree = as_received p checksum in
       let said : All (Emits q o) h.chunks = received_all o q p.chunks (all_get (EmitsAll q o) ps which p is all) in
-      negotiated_ends o q x (called (Packet h) x.end) (x.is_asked || (p.header.verification_tag == 0))
+      negotiated_ends o q x (called (Packet h) x.end) (x.got_init || (p.header.verification_tag == 0))
       (keeps_call (Packet h) (negotiates g (Packet h) (receives_packet h said)) x.end (negotiated_begins o q x k))
 
   negotiated_action : (t : EndAction) (y : Side) → IsAllowed t → Negotiated o q x → Negotiated q o y → Negotiated o q (act t x y)
@@ -161,7 +161,7 @@ module _ (x : Side) where
   holds_same n = record { held = λ a h. inl h; stands = λ h. absurd (both_ways true (sym h ∙ ap has_connected silent) refl) }
 
   holds_on : (n m : History) (e : Endpoint Carried) (asked : Bool) → ((a : Association) → Has a m.held → Has a n.held ⊎ (Has a (held_in (state_of x)) ⊎ Has a (held_in e.endpoint_state.state)))
-      → Stands e → Holds x (record (took e x) { is_asked = asked }) n m
+      → Stands e → Holds x (record (took e x) { got_init = asked }) n m
   holds_on n m e asked held stands = record {
     held = held;
     stands = λ h. stands (sym (ap has_connected (drop_emitted x.emitted e.endpoint_state.context.emitted.events)) ∙ h);
@@ -169,7 +169,7 @@ module _ (x : Side) where
 
   -- where no association is taken up
   holds_calm : (n m : History) (e : Endpoint Carried) (asked : Bool) → m.held ≡ n.held → x.end.endpoint_state.context.emitted.events ≡ [] → RestsAt (calm x.end) (calm e)
-      → Holds x (record (took e x) { is_asked = asked }) n m
+      → Holds x (record (took e x) { got_init = asked }) n m
   holds_calm n m e asked same quiet r =
       holds_on n m e asked (λ a h. inl (subst (Has a) same h)) (not_yet x.end e (ap has_connected quiet) r)
 
@@ -180,10 +180,10 @@ held_alike : (call : Call) (x y : Side) (n : History) → (noted_in (Calls call)
 held_alike Connect x y n = refl
 held_alike call x y n = refl
 
-module _ (o q : Options) (x y : Side) (own : AreGiven o) (other : AreGiven q) (k : Negotiated o q x) (l : Negotiated q o y) where
+module _ (o q : Options) (x y : Side) (own : AreValidOptions o) (other : AreValidOptions q) (k : Negotiated o q x) (l : Negotiated q o y) where
   holds_call : (call : Call) → IsPlainCall call → (n : History) → Holds x (took (called call x.end) x) n (noted_in (Calls call) x y n)
   holds_call call u n =
-      holds_calm x n (noted_in (Calls call) x y n) (called call x.end) x.is_asked (held_alike call x y n) k.quiet
+      holds_calm x n (noted_in (Calls call) x y n) (called call x.end) x.got_init (held_alike call x y n) k.quiet
       (keeps_call call (rests call (calm_user call u)) x.end)
 
   complains_calmly : (text : List ℕ) → RestsAt (calm x.end) (calm (complains text (counts x.end)))
@@ -194,10 +194,10 @@ module _ (o q : Options) (x y : Side) (own : AreGiven o) (other : AreGiven q) (k
   holds_foreign (Some text) p is n =
       let e : Endpoint Carried = called (Packet p) x.end in
       let here : e ≡ complains text (counts x.end) = ap (λ (r : Option (List ℕ)). taken_if r p.header.verification_tag p.chunks (counts x.end)) is in
-      holds_calm x n n e x.is_asked refl k.quiet (subst (λ (z : Endpoint Carried). RestsAt (calm x.end) (calm z)) (sym here) (complains_calmly text))
+      holds_calm x n n e x.got_init refl k.quiet (subst (λ (z : Endpoint Carried). RestsAt (calm x.end) (calm z)) (sym here) (complains_calmly text))
 
   holds_taken : (r : Option (List ℕ)) (p : PacketTree) (asked : Bool) → Shape p.chunks → All (Emits q o) p.chunks → (n : History)
-      → Holds x (record (took (taken_if r p.header.verification_tag p.chunks (counts x.end)) x) { is_asked = asked }) n (noted_taking r p x.end n)
+      → Holds x (record (took (taken_if r p.header.verification_tag p.chunks (counts x.end)) x) { got_init = asked }) n (noted_taking r p x.end n)
   holds_taken (Some text) p asked shape said n = holds_calm x n n (complains text (counts x.end)) asked refl k.quiet (complains_calmly text)
   holds_taken None p asked shape said n =
       let tag : ℕ = p.header.verification_tag in
@@ -214,7 +214,7 @@ module _ (o q : Options) (x y : Side) (own : AreGiven o) (other : AreGiven q) (k
   holds_given None checksum which ps all shapes is n = holds_same x n
   holds_given (Some p) checksum which ps all shapes is n =
       let h : PacketTree = as_received p checksum in
-      holds_taken (refusal h.header.verification_tag h.chunks (state_of x)) h (x.is_asked || (p.header.verification_tag == 0))
+      holds_taken (refusal h.header.verification_tag h.chunks (state_of x)) h (x.got_init || (p.header.verification_tag == 0))
       (shape_carried p.chunks (all_get (λ r. Shape r.chunks) ps which p is shapes)) (received_all o q p.chunks (all_get (EmitsAll q o) ps which p is all)) n
 
   holds_action : (t : EndAction) → IsAllowed t → All (λ r. Shape r.chunks) (emitted_packets y) → (n : History) → Holds x (act t x y) n (noted_in t x y n)
@@ -262,11 +262,11 @@ agrees_by o x z n n2 e1 e2 r s y d m stands t =
 
 -- ---- draws before
 
-distinct_before : (at_a : Bool) (t : EndAction) (w : Pair) (k : Histories) → NoneTwice (histories_after at_a t w k) → NoneTwice k
+distinct_before : (at_a : Bool) (t : EndAction) (w : Pair) (k : Histories) → AreDistinctPerEnd (histories_after at_a t w k) → AreDistinctPerEnd k
 distinct_before true t w k h = (distinct_behind (drawn_in t w.a w.b) k.a.drawn h.0, h.1)
 distinct_before false t w k h = (h.0, distinct_behind (drawn_in t w.b w.a) k.b.drawn h.1)
 
-pub distinct_first : (es : List (Bool × EndAction)) (w : Pair) (k : Histories) → NoneTwice (histories_along es w k) → NoneTwice k
+pub distinct_first : (es : List (Bool × EndAction)) (w : Pair) (k : Histories) → AreDistinctPerEnd (histories_along es w k) → AreDistinctPerEnd k
 distinct_first [] w k h = h
 distinct_first (e ∷ es) w k h = distinct_before e.0 e.1 w k (distinct_first es (goes e.0 e.1 w) (histories_after e.0 e.1 w k) h)
 
@@ -286,12 +286,12 @@ record Halves (o q : Options) (w : Pair) (k j : Histories) : Type 0 where
 shapes_of : (x y : Past) (ps : List Carried) → All (Said x y) ps → All (λ r. Shape r.chunks) ps
 shapes_of x y ps h = All-weaker (Said x y) (λ r. Shape r.chunks) (λ p s. s.shape) ps h
 
-module _ (o q : Options) (fine : AreGiven o) (fine_too : AreGiven q) where
-  along : (es : List (Bool × EndAction)) (w : Pair) (k j : Histories) → Halves o q w k j → AreAllowed es → NoneTwice (histories_along es w j) → AgreesAlong es w j
+module _ (o q : Options) (fine : AreValidOptions o) (fine_too : AreValidOptions q) where
+  along : (es : List (Bool × EndAction)) (w : Pair) (k j : Histories) → Halves o q w k j → AreAllowed es → AreDistinctPerEnd (histories_along es w j) → AgreesAlong es w j
   along [] w k j h may none = tt
   along ((true, t) ∷ es) w k j h may none =
       let z : Side = act t w.a w.b in
-      let distinct : NoneTwice (histories_after true t w j) = distinct_first es (goes true t w) (histories_after true t w j) none in
+      let distinct : AreDistinctPerEnd (histories_after true t w j) = distinct_first es (goes true t w) (histories_after true t w j) none in
       let mine : AreDistinct (noted_all t w.a w.b k.a).drawn =
       subst AreDistinct (sym (same_draws t w.a w.b k.a ∙ ap (λ (ds : List Draw). drawn_in t w.a w.b ++ ds) h.notes_a.drawn)) distinct.0 in
       let theirs : AreDistinct k.b.drawn = subst AreDistinct (sym h.notes_b.drawn) distinct.1 in
@@ -313,7 +313,7 @@ module _ (o q : Options) (fine : AreGiven o) (fine_too : AreGiven q) where
       )
   along ((false, t) ∷ es) w k j h may none =
       let z : Side = act t w.b w.a in
-      let distinct : NoneTwice (histories_after false t w j) = distinct_first es (goes false t w) (histories_after false t w j) none in
+      let distinct : AreDistinctPerEnd (histories_after false t w j) = distinct_first es (goes false t w) (histories_after false t w j) none in
       let mine : AreDistinct (noted_all t w.b w.a k.b).drawn =
       subst AreDistinct (sym (same_draws t w.b w.a k.b ∙ ap (λ (ds : List Draw). drawn_in t w.b w.a ++ ds) h.notes_b.drawn)) distinct.1 in
       let theirs : AreDistinct k.a.drawn = subst AreDistinct (sym h.notes_a.drawn) distinct.0 in

@@ -15,7 +15,7 @@ use Rattle.spec_endpoint.specs.Opening.{long_word, connected_context, cookie_ack
 use Rattle.spec_endpoint.specs.Laws.{NoPacket}
 use Rattle.proof_endpoint.specs.Mapped.{Carried}
 use Rattle.proof_pair.specs.Acts.{at, nothing, idle, calm, is_opened, all_along, as_held, adds_plain, Preserves}
-use Rattle.proof_pair.specs.Trace.{AreGiven}
+use Rattle.proof_pair.specs.Trace.{AreValidOptions}
 use Rattle.proof_pair.specs.Agreement.{Draw, Association, mirrored, Has, History, association_of, held_in, AreDistinct}
 use Rattle.proof_pair.proofs.BundledLemmas.{added_more, first_more, plain_added}
 use Rattle.proof_pair.proofs.PacketActsLemmas.{does_begin, does_out, does_complain, does_send_with}
@@ -67,7 +67,7 @@ both_false true false x true e = cc
 both_false true false x false e = cc
 both_false false false x z e = (refl, refl)
 
-module _ (o : Options) (past : List (Event Carried)) (y : Past) (fine : AreGiven o) (n : History) (echoed : List Association) (known : Known (past_of n echoed))
+module _ (o : Options) (past : List (Event Carried)) (y : Past) (fine : AreValidOptions o) (n : History) (echoed : List Association) (known : Known (past_of n echoed))
     (tag : ℕ) (cookie : List ℕ) (said : SaysEcho y (past_of n echoed) tag cookie) (k : Cookie) (reads : read_cookie cookie ≡ Ok k) where
   abbrev g : Setting
   g = bounded o past None None
@@ -99,7 +99,7 @@ module _ (o : Options) (past : List (Event Carried)) (y : Past) (fine : AreGiven
       → InvAt h z y (idle (Open phase t) c w)
       → InvAt h z y (idle (Open phase (cookie_ack k.peer_tag t c).tcb) (cookie_ack k.peer_tag t c).context w)
   accepts h z phase t c w same here inv =
-      let own : AreGiven h.own = subst AreGiven (sym same) fine in
+      let own : AreValidOptions h.own = subst AreValidOptions (sym same) fine in
       let q : Preserves NoPacket (λ a b. InvAt h z y a → InvAt h z y b) = kept_quiet h y own z in
       let p : Packet = accepting c.options k.peer_tag t in
       let begun : InvAt h z y (at (Open phase t) c w p) = does_begin q (Open phase t) c w p refl (as_held phase t refl refl) inv in

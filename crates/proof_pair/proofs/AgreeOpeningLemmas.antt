@@ -17,7 +17,7 @@ use Rattle.spec_endpoint.specs.Opening.{tsn_from, tag_from, word, drew_word, t1_
 use Rattle.spec_endpoint.specs.Laws.{NoPacket, Packet as Given}
 use Rattle.proof_endpoint.specs.Mapped.{Carried}
 use Rattle.proof_pair.specs.Acts.{Making, at, nothing, idle, calm, echoing, an_init_ack_alone, Preserves}
-use Rattle.proof_pair.specs.Trace.{has_connected, AreGiven}
+use Rattle.proof_pair.specs.Trace.{has_connected, AreValidOptions}
 use Rattle.proof_pair.specs.Agreement.{Draw, Association, mirrored, Has, association_of, two_drawn, AreDistinct}
 use Rattle.proof_pair.proofs.BundledLemmas.{one_bundled}
 use Rattle.proof_pair.proofs.PacketActsLemmas.{does_out}
@@ -80,7 +80,7 @@ quiet_call = record { hears = λ tag chunk h. no_packet h.given; connects = λ e
 abbrev pub Known : Past → Type 0
 Known x = (b : Association) → Has b x.echoed → Has b.mine x.drawn
 
-module _ (g : Setting) (y : Past) (own : AreGiven g.own) where
+module _ (g : Setting) (y : Past) (own : AreValidOptions g.own) where
   pub kept_quiet : (x : Past) → Preserves NoPacket (λ a b. InvAt g x y a → InvAt g x y b)
   kept_quiet x = quiet g x y NoPacket own quiet_call
 

@@ -14,7 +14,7 @@ use Rattle.spec_endpoint.specs.Input.{my_tag, abort_flag, complete_flag, has_shu
 use Rattle.spec_endpoint.specs.Laws.{NoPacket}
 use Rattle.proof_endpoint.specs.Mapped.{Carried}
 use Rattle.proof_pair.specs.Acts.{calm, Preserves}
-use Rattle.proof_pair.specs.Trace.{AreGiven}
+use Rattle.proof_pair.specs.Trace.{AreValidOptions}
 use Rattle.proof_pair.specs.Agreement.{Draw, Association, History, drawn_for, AreDistinct}
 use Rattle.proof_pair.proofs.RowActsLemmas.{does_where_open}
 use Rattle.proof_pair.proofs.ActsLemmas.{does_repeats_if, does_ended}
@@ -172,7 +172,7 @@ distinct_receiving tag (c ∷ cs) e n h =
 
 -- ---- chunk by chunk
 
-module _ (o : Options) (past : List (Event Carried)) (y : Past) (fine : AreGiven o) (theirs : AreDistinct y.drawn) (p : PacketTree) (under : Option ℕ) where
+module _ (o : Options) (past : List (Event Carried)) (y : Past) (fine : AreValidOptions o) (theirs : AreDistinct y.drawn) (p : PacketTree) (under : Option ℕ) where
   abbrev g : Setting
   g = bounded o past under None
 

@@ -22,7 +22,7 @@ use Rattle.sctp_tx.specs.ForwardPoints.{chunk_if, forward_chunk}
 use Rattle.sctp_tx.specs.Sending as fragments
 use Rattle.proof_endpoint.specs.Mapped.{Carried}
 use Rattle.proof_pair.specs.Acts.{Making, in_open, may_shut, IsReceived, IsEchoed, fragments_of, PacketAct, begins, adds_plain, emits, complains, counts, before_packets, after_packets, OpeningAct, connects, adds_init, answers_new, answers_waiting, answers_echoed, answers_again, echoes, adds_cookie, establishes, opens, restarts, opens_again, maintains, adds_cookie_ack, before_opening, after_opening, ClosingAct, closes, shuts, shuts_on, before_closing, after_closing, DataAct, takes_data, takes_idata, takes_forward, takes_iforward, before_data, after_data, SackAct, takes_sack, samples, counts_errors, before_sack, after_sack, SendingAct, asks, adds_ack, expires, adds_forward, forwards_later, asks_no_reset, asks_reset, adds_request, sends, sends_fast, before_sending, after_sending, TimeAct, advances, delay_ends, times_out, beats, times_init, times_cookie, times_request, wakes_request, before_time, after_time, CallAct, accepts, refuses, takes_message, sets_low_threshold, sets_priority, sets_max_message_size, before_call, after_call, ResetAct, prepares, defers, performs, processes, takes_response, adds_responses, before_reset, after_reset, HandoverAct, leaves, takes_up, before_handover, after_handover, InputAct, ends_packet, before_input, after_input, Preserves}
-use Rattle.proof_pair.specs.Trace.{AreGiven}
+use Rattle.proof_pair.specs.Trace.{AreValidOptions}
 use Rattle.proof_pair.specs.Agreement.{association_of}
 use Rattle.proof_pair.proofs.EmittedLemmas.{EmitsLightly}
 use Rattle.proof_pair.proofs.UntilLemmas.{light_sack, light_sending, light_time, light_call, light_reset}
@@ -45,7 +45,7 @@ pub record Quiet (call : Call) : Type 0 where
 
 -- ---- an INIT
 
-pub fits_init : (o os : Options) (size tag first : ℕ) → AreGiven o → os ≡ record o { max_message_size = size } → FitsDraw (record { tag = tag; first = first })
+pub fits_init : (o os : Options) (size tag first : ℕ) → AreValidOptions o → os ≡ record o { max_message_size = size } → FitsDraw (record { tag = tag; first = first })
     → FitsInit (init_of os tag first (announce os os.zero_checksum_method))
 fits_init o os size tag first fine e fits =
     subst (λ (z : Options). FitsInit (init_of z tag first (announce z z.zero_checksum_method))) (sym e)
@@ -59,7 +59,7 @@ fits_init o os size tag first fine e fits =
 one_alone : (p q : Packet) (c : ChunkTree) → p ≡ q → Shape (q.chunks ++ c ∷ []) → Shape (p.chunks ++ c ∷ [])
 one_alone p q c e h = subst (λ (z : Packet). Shape (z.chunks ++ c ∷ [])) (sym e) h
 
-module _ (g : Setting) (x y : Past) (call : Call) (own : AreGiven g.own) (q : Quiet call) where
+module _ (g : Setting) (x y : Past) (call : Call) (own : AreValidOptions g.own) (q : Quiet call) where
   emits_all : (v : View) (m n : Making Carried) (tag : ℕ) (cs : List ChunkTree) → EmitsLightly m.context.emitted n.context.emitted
       → Inv g x y v m.context.options m.context.pack m.context.emitted.events tag cs → Inv g x y v m.context.options m.context.pack n.context.emitted.events tag cs
   emits_all v m n tag cs l inv =

@@ -20,7 +20,7 @@ use Rattle.spec_endpoint.specs.Input.{receive}
 use Rattle.spec_endpoint.specs.Laws.{Call, Packet as Given, NoPacket}
 use Rattle.proof_endpoint.specs.Mapped.{Carried}
 use Rattle.proof_pair.specs.Acts.{Making, idle, calm, nothing, echoing, IsReceived, always, Preserves}
-use Rattle.proof_pair.specs.Trace.{AreGiven}
+use Rattle.proof_pair.specs.Trace.{AreValidOptions}
 use Rattle.proof_pair.specs.Agreement.{Draw, Association, Has, History, association_of, held_in, two_drawn, one_drawn, drawn_for, AreDistinct}
 use Rattle.proof_pair.proofs.PacketActsLemmas.{does_plain, does_complain, does_send_buffered, does_send_cookie}
 use Rattle.proof_pair.proofs.RowActsLemmas.{does_closed, does_send_shutdown_ack}
@@ -107,7 +107,7 @@ settled o past y under a n e1 e2 more known phase t d w inv =
           (record { under = inv.tagged.under; same = tt });
     }
 
-module _ (o : Options) (past : List (Event Carried)) (under : Option ℕ) (y : Past) (fine : AreGiven o) (theirs : AreDistinct y.drawn) (p : PacketTree) where
+module _ (o : Options) (past : List (Event Carried)) (under : Option ℕ) (y : Past) (fine : AreValidOptions o) (theirs : AreDistinct y.drawn) (p : PacketTree) where
   abbrev g : Setting
   g = bounded o past under None
 
@@ -282,7 +282,7 @@ module _ (o : Options) (past : List (Event Carried)) (under : Option ℕ) (y : P
 
 -- ---- COOKIE ECHO
 
-module _ (o : Options) (past : List (Event Carried)) (y : Past) (fine : AreGiven o) (theirs : AreDistinct y.drawn) (p : PacketTree)
+module _ (o : Options) (past : List (Event Carried)) (y : Past) (fine : AreValidOptions o) (theirs : AreDistinct y.drawn) (p : PacketTree)
     (n : History) (e1 : List Association) (known : Known (past_of n e1)) (mine : AreDistinct n.drawn) (cookie : List ℕ)
     (said : SaysEcho y (past_of n e1) p.header.verification_tag cookie) where
   read_as : (r : Result Cookie StateCookieError) (st : State) (s : Endpoint Carried) → read_cookie cookie ≡ r
@@ -303,7 +303,7 @@ module _ (o : Options) (past : List (Event Carried)) (y : Past) (fine : AreGiven
 
 -- ---- any chunk
 
-module _ (o : Options) (past : List (Event Carried)) (y : Past) (fine : AreGiven o) (theirs : AreDistinct y.drawn) (p : PacketTree) where
+module _ (o : Options) (past : List (Event Carried)) (y : Past) (fine : AreValidOptions o) (theirs : AreDistinct y.drawn) (p : PacketTree) where
   receives_echo : (under : Option ℕ) (n : History) (e1 : List Association) (cookie : List ℕ) (e : Endpoint Carried) → under ≡ None → Known (past_of n e1) → AreDistinct n.drawn
       → SaysEcho y (past_of n e1) p.header.verification_tag cookie → InvAt (bounded o past under None) (past_of n e1) y (calm e)
       → Goes (bounded o past under None) y n e1 (noted [] (receive p.header.verification_tag (cookie_echo_chunk cookie) e).end.endpoint_state.state n)

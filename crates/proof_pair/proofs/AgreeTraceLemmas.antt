@@ -16,7 +16,7 @@ use Rattle.spec_endpoint.specs.Input.{refusal, counts, taken_if, handle_chunks}
 use Rattle.spec_endpoint.specs.Laws.{Call, Connect, Restore, Packet, called}
 use Rattle.proof_endpoint.specs.Mapped.{Carried}
 use Rattle.proof_pair.specs.Acts.{calm, nothing}
-use Rattle.proof_pair.specs.Trace.{Side, as_carried, new_side, packets_in, emitted_packets, has_connected, EndAction, Calls, Gives, Refuses, took, as_received, give, foreign_if, act, AreGiven, state_of}
+use Rattle.proof_pair.specs.Trace.{Side, as_carried, new_side, packets_in, emitted_packets, has_connected, EndAction, Calls, Gives, Refuses, took, as_received, give, foreign_if, act, AreValidOptions, state_of}
 use Rattle.proof_pair.specs.Agreement.{Association, mirrored, Has, History, held_in, drawn_to_connect, no_history, AreDistinct, IsAllowed, emitted_since}
 use Rattle.proof_pair.proofs.PacketActsLemmas.{does_complain}
 use Rattle.proof_pair.proofs.OpeningActsLemmas.{end_in}
@@ -76,7 +76,7 @@ module _ (o : Options) (x : Side) (y : Past) where
       subst (λ (es : List (Event Carried)). Inv g px y (view_of (state_of x)) c.options c.pack es nothing.tag []) (sym k.quiet) inv
 
   ends : (u : Option ℕ) (n m : History) (e1 : List Association) (asked : Bool) (e : Endpoint Carried) → Goes (bounded o x.emitted u None) y n e1 m e
-      → Turned o x (record (took e x) { is_asked = asked }) n e1 m y
+      → Turned o x (record (took e x) { got_init = asked }) n e1 m y
   ends u n m e1 asked e h = record {
     more = h.more;
     later = h.later;
@@ -141,7 +141,7 @@ quiet_user call u = record {
   restores = λ h e. subst IsQuietCall e u;
 }
 
-module _ (o : Options) (x : Side) (y : Past) (fine : AreGiven o) (n : History) (e1 : List Association) (k : Knows o x (past_of n e1) y) where
+module _ (o : Options) (x : Side) (y : Past) (fine : AreValidOptions o) (n : History) (e1 : List Association) (k : Knows o x (past_of n e1) y) where
   abbrev g : Setting
   g = bounded o x.emitted None None
 
@@ -152,7 +152,7 @@ module _ (o : Options) (x : Side) (y : Past) (fine : AreGiven o) (n : History) (
       → Turned o x (took (called call x.end) x) n e1 (noted [] (called call x.end).endpoint_state.state n) y
   user_calls call u =
       let e : Endpoint Carried = called call x.end in
-      ends o x y None n (noted [] e.endpoint_state.state n) e1 x.is_asked e
+      ends o x y None n (noted [] e.endpoint_state.state n) e1 x.got_init e
       (goes_held g y n e1 e k.known (keeps_call call (quiet g (past_of n e1) y call fine (quiet_user call u)) x.end started))
 
   connects_in : (st : State) (s : Endpoint Carried) → AreDistinct (drawn_to_connect st s ++ n.drawn) → has_connected s.endpoint_state.context.emitted.events ≡ false
@@ -170,7 +170,7 @@ module _ (o : Options) (x : Side) (y : Past) (fine : AreGiven o) (n : History) (
   user_connects : AreDistinct (drawn_to_connect (state_of x) x.end ++ n.drawn)
       → Turned o x (took (connect x.end) x) n e1 (noted [] (connect x.end).endpoint_state.state (noted (drawn_to_connect (state_of x) x.end) Closed n)) y
   user_connects mine =
-      ends o x y None n (noted [] (connect x.end).endpoint_state.state (noted (drawn_to_connect (state_of x) x.end) Closed n)) e1 x.is_asked (connect x.end)
+      ends o x y None n (noted [] (connect x.end).endpoint_state.state (noted (drawn_to_connect (state_of x) x.end) Closed n)) e1 x.got_init (connect x.end)
       (connects_in (state_of x) x.end mine (ap has_connected k.quiet) started)
 
   -- ---- packets
@@ -184,7 +184,7 @@ module _ (o : Options) (x : Side) (y : Past) (fine : AreGiven o) (n : History) (
   foreign (Some text) p is =
       let e : Endpoint Carried = called (Packet p) x.end in
       let here : e ≡ complains text (counts x.end) = ap (λ (r : Option (List ℕ)). taken_if r p.header.verification_tag p.chunks (counts x.end)) is in
-      ends o x y None n (noted [] e.endpoint_state.state n) e1 x.is_asked e
+      ends o x y None n (noted [] e.endpoint_state.state n) e1 x.got_init e
       (goes_held g y n e1 e k.known (subst (λ (z : Endpoint Carried). InvAt g (past_of n e1) y (calm z)) (sym here) (refuses text)))
 
   says_all : (tag : ℕ) (cs : List ChunkTree) → All (Says y (past_of n e1) tag) cs → All (Says y (past_of n e1) tag) (map carried cs)
@@ -198,7 +198,7 @@ module _ (o : Options) (x : Side) (y : Past) (fine : AreGiven o) (n : History) (
     q = as_received p checksum
 
     taken_by : (r : Option (List ℕ)) → refusal q.header.verification_tag q.chunks (state_of x) ≡ r → AreDistinct (noted_taking r q x.end n).drawn
-        → Turned o x (record (took (taken_if r q.header.verification_tag q.chunks (counts x.end)) x) { is_asked = asked }) n e1
+        → Turned o x (record (took (taken_if r q.header.verification_tag q.chunks (counts x.end)) x) { got_init = asked }) n e1
         (noted [] (taken_if r q.header.verification_tag q.chunks (counts x.end)).endpoint_state.state (noted_taking r q x.end n)) y
     taken_by None is mine =
         let tag : ℕ = q.header.verification_tag in
@@ -216,12 +216,12 @@ module _ (o : Options) (x : Side) (y : Past) (fine : AreGiven o) (n : History) (
       → Turned o x (give p checksum x) n e1 (noted [] (state_of (give p checksum x)) (noted_given p checksum x n)) y
   given_by theirs ps None checksum which all is mine = same o x y n e1 k
   given_by theirs ps (Some p) checksum which all is mine =
-      taken_by theirs p checksum (x.is_asked || (p.header.verification_tag == 0)) (all_get (Said y (past_of n e1)) ps which p is all)
+      taken_by theirs p checksum (x.got_init || (p.header.verification_tag == 0)) (all_get (Said y (past_of n e1)) ps which p is all)
       (refusal (as_received p checksum).header.verification_tag (as_received p checksum).chunks (state_of x)) refl mine
 
 -- ---- actions
 
-module _ (o q : Options) (x y : Side) (fine : AreGiven o) (n r : History) (e1 e2 : List Association) (k : Knows o x (past_of n e1) (past_of r e2))
+module _ (o q : Options) (x y : Side) (fine : AreValidOptions o) (n r : History) (e1 e2 : List Association) (k : Knows o x (past_of n e1) (past_of r e2))
     (l : Knows q y (past_of r e2) (past_of n e1)) (theirs : AreDistinct r.drawn) where
   pub actions : (t : EndAction) → IsAllowed t → AreDistinct (noted_all t x y n).drawn → Turned o x (act t x y) n e1 (noted_all t x y n) (past_of r e2)
   actions (Calls Connect) may mine = user_connects o x (past_of r e2) fine n e1 k mine

@@ -17,7 +17,7 @@ use Rattle.spec_endpoint.specs.Opening.{complains}
 use Rattle.spec_endpoint.specs.Input.{refusal, counts, taken_if}
 use Rattle.spec_endpoint.specs.Laws.{Call, TakeMessage, Packet, called, endings}
 use Rattle.proof_endpoint.specs.Mapped.{Carried}
-use Rattle.proof_pair.specs.Trace.{Side, Pair, emitted_packets, EndAction, Calls, Gives, Refuses, as_received, give, foreign_if, act, goes, run, MayCall, MayAct, side_of, FollowsTheRules, HasNotEnded, AreGiven, start, state_of}
+use Rattle.proof_pair.specs.Trace.{Side, Pair, emitted_packets, EndAction, Calls, Gives, Refuses, as_received, give, foreign_if, act, goes, run, MayCall, MayAct, side_of, KeepsOpeningRules, NeitherHasEnded, AreValidOptions, start, state_of}
 use Rattle.proof_pair.specs.Handing.{ready_at, handed_by, handed_at, new_behind, handed_messages, readied_messages, AreHandedInOrder}
 use Rattle.proof_pair.proofs.UntilLemmas.{until_end}
 use Rattle.proof_pair.proofs.JoinActsLemmas.{Setting}
@@ -65,14 +65,14 @@ hands_taken Closed = record { all = refl; stands = λ a e. e }
 hands_taken (CookieWait tag first t1) = record { all = refl; stands = λ a e. e }
 hands_taken (Open phase t) = record { all = seam_taken t.reassembly.ready; stands = λ a e. e }
 
-module _ (o q : Options) (x y : Side) (own : AreGiven o) (other : AreGiven q) (h : Halves o q x y) where
+module _ (o q : Options) (x y : Side) (own : AreValidOptions o) (other : AreValidOptions q) (h : Halves o q x y) where
   hands_other : (call : Call) → (call ≡ TakeMessage → ⊥) → MayCall call x → endings (act (Calls call) x y).emitted ≡ 0
       → Hands [] (state_of x) (state_of (act (Calls call) x y))
   hands_other call not may none =
       let e : Endpoint Carried = called call x.end in
       hands_none (state_of x) e.endpoint_state.state
-      (until_end call (readies (setting o q x y x.is_asked) call (rules_call o q x y own other call may) not) x.end
-      (none_of x.emitted e.endpoint_state.context.emitted.events none) (begins o q x y x.is_asked (λ z. z) h.own h.other)).1
+      (until_end call (readies (setting o q x y x.got_init) call (rules_call o q x y own other call may) not) x.end
+      (none_of x.emitted e.endpoint_state.context.emitted.events none) (begins o q x y x.got_init (λ z. z) h.own h.other)).1
 
   hands_call : (call : Call) → MayCall call x → endings (act (Calls call) x y).emitted ≡ 0
       → Hands (handed_by (Calls call) x) (state_of x) (state_of (act (Calls call) x y))
@@ -83,13 +83,13 @@ module _ (o q : Options) (x y : Side) (own : AreGiven o) (other : AreGiven q) (h
       → Hands [] (state_of x) (state_of (give p checksum x))
   hands_given None checksum n there none = hands_still (state_of x)
   hands_given (Some p) checksum n there none =
-      let now : Bool = x.is_asked || (p.header.verification_tag == 0) in
+      let now : Bool = x.got_init || (p.header.verification_tag == 0) in
       let g : Setting = setting o q x y now in
       let call : Call = Packet (as_received p checksum) in
       let e : Endpoint Carried = called call x.end in
       hands_none (state_of x) e.endpoint_state.state
       (until_end call (readies g call (rules_given o q x y own other p checksum n there) (λ e. cc)) x.end
-      (none_of x.emitted e.endpoint_state.context.emitted.events none) (begins o q x y now (or_left x.is_asked (p.header.verification_tag == 0)) h.own h.other)).1
+      (none_of x.emitted e.endpoint_state.context.emitted.events none) (begins o q x y now (or_left x.got_init (p.header.verification_tag == 0)) h.own h.other)).1
 
   hands_refused : (r : Option (List ℕ)) (p : PacketTree) → refusal p.header.verification_tag p.chunks (state_of x) ≡ r
       → Hands [] (state_of x) (state_of (foreign_if r p x))
@@ -110,46 +110,46 @@ module _ (o q : Options) (x y : Side) (own : AreGiven o) (other : AreGiven q) (h
 abbrev held : (x : Bool) → Pair → Option Association
 held x w = association_in (state_of (side_of x w))
 
-module _ (o q : Options) (own : AreGiven o) (other : AreGiven q) where
-  pub hands_at : (x acts : Bool) (t : EndAction) (w : Pair) → MayAct t (side_of acts w) → HasNotEnded (goes acts t w) → Halves o q w.a w.b
+module _ (o q : Options) (own : AreValidOptions o) (other : AreValidOptions q) where
+  pub hands_at : (x acts : Bool) (t : EndAction) (w : Pair) → MayAct t (side_of acts w) → NeitherHasEnded (goes acts t w) → Halves o q w.a w.b
       → Hands (handed_at x acts t w) (state_of (side_of x w)) (state_of (side_of x (goes acts t w)))
   hands_at true true t w may none h = hands o q w.a w.b own other h t may none.a
   hands_at false false t w may none h = hands q o w.b w.a other own (swapped o q w.a w.b h) t may none.b
   hands_at true false t w may none h = hands_still (state_of w.a)
   hands_at false true t w may none h = hands_still (state_of w.b)
 
-  run_handed : (x : Bool) (es : List (Bool × EndAction)) (w : Pair) → FollowsTheRules es w → HasNotEnded (run es w) → Halves o q w.a w.b
+  run_handed : (x : Bool) (es : List (Bool × EndAction)) (w : Pair) → KeepsOpeningRules es w → NeitherHasEnded (run es w) → Halves o q w.a w.b
       → ready_at (side_of x w) ++ readied_messages x es w ≡ handed_messages x es w ++ ready_at (side_of x (run es w))
   run_handed x [] w follows none h = append-nil (ready_at (side_of x w))
   run_handed x (e ∷ es) w follows none h =
       let v : Pair = goes e.0 e.1 w in
-      let not_yet : HasNotEnded v = before_run es v none in
+      let not_yet : NeitherHasEnded v = before_run es v none in
       in_action (ready_at (side_of x w)) (new_behind (ready_at (side_of x w)) (ready_at (side_of x v))) (readied_messages x es v) (handed_at x e.0 e.1 w) (handed_messages x es v)
       (ready_at (side_of x v)) (ready_at (side_of x (run es v))) (hands_at x e.0 e.1 w follows.0 not_yet h).all
       (run_handed x es v follows.1 none (goes_consistent o q own other e.0 e.1 w follows.0 not_yet h))
 
-  run_stands : (x : Bool) (p : Association) (es : List (Bool × EndAction)) (w : Pair) → FollowsTheRules es w → HasNotEnded (run es w) → Halves o q w.a w.b
+  run_stands : (x : Bool) (p : Association) (es : List (Bool × EndAction)) (w : Pair) → KeepsOpeningRules es w → NeitherHasEnded (run es w) → Halves o q w.a w.b
       → held x w ≡ Some p → held x (run es w) ≡ Some p
   run_stands x p [] w follows none h is = is
   run_stands x p (e ∷ es) w follows none h is =
       let v : Pair = goes e.0 e.1 w in
-      let not_yet : HasNotEnded v = before_run es v none in
+      let not_yet : NeitherHasEnded v = before_run es v none in
       run_stands x p es v follows.1 none (goes_consistent o q own other e.0 e.1 w follows.0 not_yet h)
       ((hands_at x e.0 e.1 w follows.0 not_yet h).stands p is)
 
-  later_stands : (x : Bool) (p : Association) (es more : List (Bool × EndAction)) (w : Pair) → FollowsTheRules (es ++ more) w → HasNotEnded (run (es ++ more) w)
+  later_stands : (x : Bool) (p : Association) (es more : List (Bool × EndAction)) (w : Pair) → KeepsOpeningRules (es ++ more) w → NeitherHasEnded (run (es ++ more) w)
       → Halves o q w.a w.b → held x (run es w) ≡ Some p → held x (run (es ++ more) w) ≡ Some p
   later_stands x p [] more w follows none h is = run_stands x p more w follows none h is
   later_stands x p (e ∷ es) more w follows none h is =
       let v : Pair = goes e.0 e.1 w in
-      let not_yet : HasNotEnded v = before_run (es ++ more) v none in
+      let not_yet : NeitherHasEnded v = before_run (es ++ more) v none in
       later_stands x p es more v follows.1 none (goes_consistent o q own other e.0 e.1 w follows.0 not_yet h) is
 
 pub first_halves : (a b : Options) (words_a words_b : Stream) → Halves a b (start a b words_a words_b).a (start a b words_a words_b).b
 first_halves a b words_a words_b = record { own = first_half a b words_a words_b; other = first_half b a words_b words_a }
 
-pub associations_stand : (a b : Options) (words_a words_b : Stream) (es more : List (Bool × EndAction)) → AreGiven a → AreGiven b
-    → FollowsTheRules (es ++ more) (start a b words_a words_b) → HasNotEnded (run (es ++ more) (start a b words_a words_b)) → (x : Bool) (p : Association)
+pub associations_stand : (a b : Options) (words_a words_b : Stream) (es more : List (Bool × EndAction)) → AreValidOptions a → AreValidOptions b
+    → KeepsOpeningRules (es ++ more) (start a b words_a words_b) → NeitherHasEnded (run (es ++ more) (start a b words_a words_b)) → (x : Bool) (p : Association)
     → association_in (state_of (side_of x (run es (start a b words_a words_b)))) ≡ Some p
     → association_in (state_of (side_of x (run (es ++ more) (start a b words_a words_b)))) ≡ Some p
 associations_stand a b words_a words_b es more own other follows none x p is =
@@ -159,15 +159,15 @@ pub nothing_ready : (x : Bool) (a b : Options) (words_a words_b : Stream) → re
 nothing_ready true a b words_a words_b = refl
 nothing_ready false a b words_a words_b = refl
 
-pub handed_in_order : (a b : Options) (words_a words_b : Stream) (es : List (Bool × EndAction)) → AreGiven a → AreGiven b
-    → FollowsTheRules es (start a b words_a words_b) → HasNotEnded (run es (start a b words_a words_b)) → (x : Bool)
+pub handed_in_order : (a b : Options) (words_a words_b : Stream) (es : List (Bool × EndAction)) → AreValidOptions a → AreValidOptions b
+    → KeepsOpeningRules es (start a b words_a words_b) → NeitherHasEnded (run es (start a b words_a words_b)) → (x : Bool)
     → AreHandedInOrder x es (start a b words_a words_b)
 handed_in_order a b words_a words_b es own other follows none x =
     let w : Pair = start a b words_a words_b in
     ap (λ (ms : List Message). ms ++ readied_messages x es w) (sym (nothing_ready x a b words_a words_b)) ∙ run_handed a b own other x es w follows none (first_halves a b words_a words_b)
 
-pub handed_prefix : (a b : Options) (words_a words_b : Stream) (es : List (Bool × EndAction)) → AreGiven a → AreGiven b
-    → FollowsTheRules es (start a b words_a words_b) → HasNotEnded (run es (start a b words_a words_b)) → (x : Bool)
+pub handed_prefix : (a b : Options) (words_a words_b : Stream) (es : List (Bool × EndAction)) → AreValidOptions a → AreValidOptions b
+    → KeepsOpeningRules es (start a b words_a words_b) → NeitherHasEnded (run es (start a b words_a words_b)) → (x : Bool)
     → Extends (handed_messages x es (start a b words_a words_b)) (readied_messages x es (start a b words_a words_b))
 handed_prefix a b words_a words_b es own other follows none x =
     let w : Pair = start a b words_a words_b in

@@ -19,7 +19,7 @@ use Rattle.spec_endpoint.specs.Opening.{word, drew_word, init_of, init_ack_of, c
 use Rattle.spec_endpoint.specs.Laws.{Call, Connect, Shutdown, Restore}
 use Rattle.proof_endpoint.specs.Mapped.{Carried}
 use Rattle.proof_pair.specs.Acts.{Making, end_of, drawn_tag, drawn_first, IsReceived, IsEchoed, connects, echoes, before_opening, after_opening}
-use Rattle.proof_pair.specs.Trace.{has_connected, AreGiven}
+use Rattle.proof_pair.specs.Trace.{has_connected, AreValidOptions}
 use Rattle.proof_pair.proofs.JoinLemmas.{Draw, Both, IsDraw, drawn_is, View, own_draw, peer_draw, both_of, view_of, late_view, init_by, cookie_by, IsInit, IsPlain, IsInitAck, IsEcho, Faces, faces_plain, faced_by, faced_at, faces_at, holds_mine, faced_none}
 use Rattle.proof_pair.proofs.JoinActsLemmas.{Setting, Uttered, UtteredAll, Inv, InvAt, inv_view, connected_both}
 use Rattle.proof_protocol.proofs.ToolsLemmas.{not_both}
@@ -31,8 +31,8 @@ pub record Rules (g : Setting) (call : Call) : Type 0 where
   pub connects : call ≡ Connect → (has_connected g.past ≡ true) ⊎ (g.asked ≡ false)
   pub shuts : call ≡ Shutdown → has_connected g.past ≡ true
   pub restores : (h : HandoverState) → call ≡ Restore h → ⊥
-  pub own : AreGiven g.own
-  pub other : AreGiven g.other
+  pub own : AreValidOptions g.own
+  pub other : AreValidOptions g.other
 
 -- ---- the parameters of an INIT ACK
 
@@ -77,7 +77,7 @@ cookie_found o method c = found_by o.enable_partial_reliability (not (method == 
 
 -- ---- the cookie that comes back
 
-pub cookie_fits : (o : Options) (d e : Draw) → AreGiven o → IsDraw d → IsDraw e → CookieFits (cookie_by o d e)
+pub cookie_fits : (o : Options) (d e : Draw) → AreValidOptions o → IsDraw d → IsDraw e → CookieFits (cookie_by o d e)
 cookie_fits o d e fine fd fe = record {
   peer_tag = fd.tag;
   my_tag = fe.tag;
@@ -90,7 +90,7 @@ cookie_fits o d e fine fd fe = record {
 }
 
 -- it is read as it was made
-pub read_back : (o : Options) (d e : Draw) (c : List ℕ) (k : Cookie) → AreGiven o → IsDraw d → IsDraw e → c ≡ cookie_bytes (cookie_by o d e)
+pub read_back : (o : Options) (d e : Draw) (c : List ℕ) (k : Cookie) → AreValidOptions o → IsDraw d → IsDraw e → c ≡ cookie_bytes (cookie_by o d e)
     → read_cookie c ≡ Ok k → k ≡ cookie_by o d e
 read_back o d e c k fine fd fe is reads =
     let written : Cookie = cookie_by o d e in

@@ -17,7 +17,7 @@ use Rattle.spec_endpoint.specs.Association.{Tcb, Phase, CookieEchoed, Establishe
 use Rattle.spec_endpoint.specs.Sending.{is_alone}
 use Rattle.spec_endpoint.specs.Opening.{cookie_for, agreed_by, init_ack_of, cookie_in}
 use Rattle.spec_endpoint.specs.Input.{misuse}
-use Rattle.proof_pair.specs.Trace.{AreGiven}
+use Rattle.proof_pair.specs.Trace.{AreValidOptions}
 use Rattle.proof_pair.proofs.JoinLemmas.{kept_in}
 use Rattle.proof_pair.proofs.JoinKeepsLemmas.{emitted_with_cookie, cookie_found}
 
@@ -134,13 +134,13 @@ emits_right o q (init_ack_chunk i) h = refl
 emits_right o q (cookie_echo_chunk c) h = refl
 emits_right o q c h = h
 
-emitted_fits : (o : Options) → AreGiven o → CapabilitiesFit (announced_by_init o)
+emitted_fits : (o : Options) → AreValidOptions o → CapabilitiesFit (announced_by_init o)
 emitted_fits o fine =
     subst CapabilitiesFit (sym (told_with_options o.zero_checksum_method o))
     (record { zero_checksum_method = fine.method; incoming = fine.outgoing; outgoing = fine.incoming })
 
 -- an INIT of the other end is answered
-pub emits_back : (o q : Options) (i : InitTree) (tag first tie : ℕ) → AreGiven q → Emits q o (init_chunk i) → EmitsBack o q (init_ack_of o i tag first tie)
+pub emits_back : (o q : Options) (i : InitTree) (tag first tie : ℕ) → AreValidOptions q → Emits q o (init_chunk i) → EmitsBack o q (init_ack_of o i tag first tie)
 emits_back o q i tag first tie fine said =
     let method : ℕ = (agreed_by o i).zero_checksum_method in
     let made : Cookie = cookie_for i tag first tie in

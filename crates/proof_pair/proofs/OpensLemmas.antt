@@ -11,10 +11,10 @@ use Rattle.sctp_packet.specs.Written.{chunk_bytes, chunks_bytes, chunk_value, da
 use Rattle.sctp_capabilities.specs.Cookie.{cookie_bytes, capability_bytes, cookie_from, read_cookie}
 use Rattle.spec_endpoint.specs.Timers.{tick_timers}
 use Rattle.sctp_state.specs.Options.{defaults}
-use Rattle.proof_pair.specs.Trace.{AreGiven}
+use Rattle.proof_pair.specs.Trace.{AreValidOptions}
 use Rattle.proof_pair.specs.Opens.{OneConnects, BothConnect}
 
-given_defaults : AreGiven defaults
+given_defaults : AreValidOptions defaults
 given_defaults = record {
   valid = record {
     sizes = record {

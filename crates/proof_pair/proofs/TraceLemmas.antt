@@ -19,7 +19,7 @@ use Rattle.spec_endpoint.specs.Laws.{Call, Packet, called, endings}
 use Rattle.proof_endpoint.specs.Mapped.{Carried}
 use Rattle.proof_endpoint.proofs.EmitsLemmas.{endings_append}
 use Rattle.proof_pair.specs.Acts.{calm, nothing, IsReceived}
-use Rattle.proof_pair.specs.Trace.{Side, Pair, as_carried, new_side, packets_in, emitted_packets, has_connected, EndAction, Calls, Gives, Refuses, took, as_received, give, foreign_if, act, goes, run, MayCall, MayAct, side_of, FollowsTheRules, HasNotEnded, AreGiven, start, state_of, AreConsistent}
+use Rattle.proof_pair.specs.Trace.{Side, Pair, as_carried, new_side, packets_in, emitted_packets, has_connected, EndAction, Calls, Gives, Refuses, took, as_received, give, foreign_if, act, goes, run, MayCall, MayAct, side_of, KeepsOpeningRules, NeitherHasEnded, AreValidOptions, start, state_of, AreConsistent}
 use Rattle.proof_pair.proofs.UntilLemmas.{until_end}
 use Rattle.proof_pair.proofs.AddedLemmas.{all_at, all_get}
 use Rattle.proof_pair.proofs.JoinLemmas.{Draw, View, own_draw, peer_draw, view_of, Says, says_carried, Faces, Can, Stands}
@@ -50,13 +50,13 @@ abbrev pub seen : Side → View
 seen x = view_of (state_of x)
 
 pub record Half (o q : Options) (x y : Side) : Type 0 where
-  pub stands : Stands o q (seen x) (seen y) x.is_asked y.is_asked
+  pub stands : Stands o q (seen x) (seen y) x.got_init y.got_init
   pub size : ℕ
   pub options : x.end.endpoint_state.context.options ≡ record o { max_message_size = size }
   pub packing : x.end.endpoint_state.context.pack ≡ as_carried
   pub quiet : x.end.endpoint_state.context.emitted.events ≡ []
   pub connected : has_connected x.emitted ≡ true → (seen x).is_late ≡ true
-  pub said : All (SaysAll o q (seen x) (seen y) x.is_asked) (packets_in x.emitted)
+  pub said : All (SaysAll o q (seen x) (seen y) x.got_init) (packets_in x.emitted)
 
 abbrev pub setting : (o q : Options) (x y : Side) (asked : Bool) → Setting
 setting o q x y asked = record {
@@ -65,13 +65,13 @@ setting o q x y asked = record {
   past = x.emitted;
   beside = state_of y;
   asked = asked;
-  other_asked = y.is_asked;
+  other_asked = y.got_init;
   others = emitted_packets y;
 }
 
 module _ (o q : Options) (x y : Side) (asked : Bool) where
   -- an action begins
-  pub begins : (x.is_asked ≡ true → asked ≡ true) → Half o q x y → Half q o y x → InvAt (setting o q x y asked) (calm x.end)
+  pub begins : (x.got_init ≡ true → asked ≡ true) → Half o q x y → Half q o y x → InvAt (setting o q x y asked) (calm x.end)
   begins f h k =
       let g : Setting = setting o q x y asked in
       let v : View = seen x in
@@ -79,10 +79,10 @@ module _ (o q : Options) (x y : Side) (asked : Bool) where
       let n : List (Event Carried) = [] in
       let told : x.emitted ++ n ≡ x.emitted = append-nil x.emitted in
       let said : All (SaysAll o q v u asked) (packets_in x.emitted) =
-      All-weaker (SaysAll o q v u x.is_asked) (SaysAll o q v u asked)
-      (λ p. All-weaker (Says o q v u x.is_asked p.header.verification_tag) (Says o q v u asked p.header.verification_tag)
-      (says_asked o q v u x.is_asked asked p.header.verification_tag f) p.chunks) (packets_in x.emitted) h.said in
-      let stands : Stands o q v u asked y.is_asked = record {
+      All-weaker (SaysAll o q v u x.got_init) (SaysAll o q v u asked)
+      (λ p. All-weaker (Says o q v u x.got_init p.header.verification_tag) (Says o q v u asked p.header.verification_tag)
+      (says_asked o q v u x.got_init asked p.header.verification_tag f) p.chunks) (packets_in x.emitted) h.said in
+      let stands : Stands o q v u asked y.got_init = record {
         faces = h.stands.faces;
         faced = h.stands.faced;
         late = h.stands.late;
@@ -107,7 +107,7 @@ module _ (o q : Options) (x y : Side) (asked : Bool) where
 
   -- and ends
   abbrev pub after : Endpoint Carried → Side
-  after e = record (took e x) { is_asked = asked }
+  after e = record (took e x) { got_init = asked }
 
   pub ends_own : (e : Endpoint Carried) → InvAt (setting o q x y asked) (calm e) → Half o q (after e) y
   ends_own e inv = record {
@@ -158,9 +158,9 @@ all_carried g v tag (c ∷ cs) h =
 is_zero : (n : ℕ) → n ≡ 0 → (n == 0) ≡ true
 is_zero n e = grind (arith, nat_tests, e)
 
-module _ (o q : Options) (x y : Side) (own : AreGiven o) (other : AreGiven q) where
+module _ (o q : Options) (x y : Side) (own : AreValidOptions o) (other : AreValidOptions q) where
   -- a call of the user, a moment, or bytes that are no packet
-  pub rules_call : (call : Call) → MayCall call x → Rules (setting o q x y x.is_asked) call
+  pub rules_call : (call : Call) → MayCall call x → Rules (setting o q x y x.got_init) call
   rules_call call may = record {
     says = λ tag chunk h v all. absurd (subst (λ (c : Call). MayCall c x) h.given may);
     asks = λ tag chunk h e. absurd (subst (λ (c : Call). MayCall c x) h.given may);
@@ -174,7 +174,7 @@ module _ (o q : Options) (x y : Side) (own : AreGiven o) (other : AreGiven q) wh
   -- a packet of the other end
   module _ (p : Carried) (checksum n : ℕ) (there : slice_get (emitted_packets y) n ≡ Some p) where
     abbrev pub asked : Bool
-    asked = x.is_asked || (p.header.verification_tag == 0)
+    asked = x.got_init || (p.header.verification_tag == 0)
 
     same_packet : (tag : ℕ) (chunk : ChunkTree) (h : IsReceived (Packet (as_received p checksum)) tag chunk) → as_received p checksum ≡ h.packet
     same_packet tag chunk h = ap (λ (c : Call). packet_of c (as_received p checksum)) h.given
@@ -193,7 +193,7 @@ module _ (o q : Options) (x y : Side) (own : AreGiven o) (other : AreGiven q) wh
     pub rules_given : Rules (setting o q x y asked) (Packet (as_received p checksum))
     rules_given = record {
       says = says_given;
-      asks = λ tag chunk h e. or_right x.is_asked (p.header.verification_tag == 0)
+      asks = λ tag chunk h e. or_right x.got_init (p.header.verification_tag == 0)
           (is_zero p.header.verification_tag (ap (λ (z : PacketTree). z.header.verification_tag) (same_packet tag chunk h) ∙ (h.under ∙ e)));
       connects = λ e. cc;
       shuts = λ e. cc;
@@ -217,42 +217,42 @@ none_of past es h = omega (arith, endings_append past es, h)
 none_past : (past es : List (Event Carried)) → endings (past ++ es) ≡ 0 → endings past ≡ 0
 none_past past es h = omega (arith, endings_append past es, h)
 
-module _ (o q : Options) (x y : Side) (own : AreGiven o) (other : AreGiven q) (h : Halves o q x y) where
-  pub ends_action : (asked : Bool) (e : Endpoint Carried) → InvAt (setting o q x y asked) (calm e) → Halves o q (record (took e x) { is_asked = asked }) y
+module _ (o q : Options) (x y : Side) (own : AreValidOptions o) (other : AreValidOptions q) (h : Halves o q x y) where
+  pub ends_action : (asked : Bool) (e : Endpoint Carried) → InvAt (setting o q x y asked) (calm e) → Halves o q (record (took e x) { got_init = asked }) y
   ends_action asked e inv = record { own = ends_own o q x y asked e inv; other = ends_other o q x y asked e inv h.other }
 
   pub actions_call : (call : Call) → MayCall call x → endings (act (Calls call) x y).emitted ≡ 0 → Halves o q (act (Calls call) x y) y
   actions_call call may none =
-      let g : Setting = setting o q x y x.is_asked in
+      let g : Setting = setting o q x y x.got_init in
       let e : Endpoint Carried = called call x.end in
-      ends_action x.is_asked e
+      ends_action x.got_init e
       (until_end call (joins g call (rules_call o q x y own other call may)) x.end (none_of x.emitted e.endpoint_state.context.emitted.events none)
-      (begins o q x y x.is_asked (λ z. z) h.own h.other))
+      (begins o q x y x.got_init (λ z. z) h.own h.other))
 
   pub actions_given : (p : Option Carried) (checksum n : ℕ) → slice_get (emitted_packets y) n ≡ p → endings (give p checksum x).emitted ≡ 0
       → Halves o q (give p checksum x) y
   actions_given None checksum n there none = h
   actions_given (Some p) checksum n there none =
-      let now : Bool = x.is_asked || (p.header.verification_tag == 0) in
+      let now : Bool = x.got_init || (p.header.verification_tag == 0) in
       let g : Setting = setting o q x y now in
       let call : Call = Packet (as_received p checksum) in
       let e : Endpoint Carried = called call x.end in
       ends_action now e
       (until_end call (joins g call (rules_given o q x y own other p checksum n there)) x.end (none_of x.emitted e.endpoint_state.context.emitted.events none)
-      (begins o q x y now (or_left x.is_asked (p.header.verification_tag == 0)) h.own h.other))
+      (begins o q x y now (or_left x.got_init (p.header.verification_tag == 0)) h.own h.other))
 
   pub actions_refused : (r : Option (List ℕ)) (p : PacketTree) → refusal p.header.verification_tag p.chunks (state_of x) ≡ r → Halves o q (foreign_if r p x) y
   actions_refused None p is = h
   actions_refused (Some text) p is =
-      let g : Setting = setting o q x y x.is_asked in
+      let g : Setting = setting o q x y x.got_init in
       let s : Endpoint Carried = x.end in
       let same : called (Packet p) s ≡ complains text (counts s) =
       ap (λ (r : Option (List ℕ)). taken_if r p.header.verification_tag p.chunks (counts s)) is in
-      let inv : InvAt g (calm s) = begins o q x y x.is_asked (λ z. z) h.own h.other in
+      let inv : InvAt g (calm s) = begins o q x y x.got_init (λ z. z) h.own h.other in
       let there : InvAt g (calm (complains text (counts s))) =
       inv_light g (seen x) s.endpoint_state.context.options s.endpoint_state.context.pack s.endpoint_state.context.emitted.events nothing.tag [] inv (OnError ParseFailed text ∷ [])
       (s.endpoint_state.context.emitted.events ++ OnError ParseFailed text ∷ []) refl refl in
-      ends_action x.is_asked (called (Packet p) s) (subst (λ (e : Endpoint Carried). InvAt g (calm e)) (sym same) there)
+      ends_action x.got_init (called (Packet p) s) (subst (λ (e : Endpoint Carried). InvAt g (calm e)) (sym same) there)
 
   pub actions : (t : EndAction) → MayAct t x → endings (act t x y).emitted ≡ 0 → Halves o q (act t x y) y
   actions (Calls call) may none = actions_call call may none
@@ -276,22 +276,22 @@ module _ (x y : Side) where
   before_action (Gives which checksum) none = before_given (slice_get (emitted_packets y) which) checksum none
   before_action (Refuses p) none = before_foreign (refusal p.header.verification_tag p.chunks (state_of x)) p none
 
-pub before_goes : (at_a : Bool) (t : EndAction) (w : Pair) → HasNotEnded (goes at_a t w) → HasNotEnded w
+pub before_goes : (at_a : Bool) (t : EndAction) (w : Pair) → NeitherHasEnded (goes at_a t w) → NeitherHasEnded w
 before_goes true t w h = record { a = before_action w.a w.b t h.a; b = h.b }
 before_goes false t w h = record { a = h.a; b = before_action w.b w.a t h.b }
 
-pub before_run : (es : List (Bool × EndAction)) (w : Pair) → HasNotEnded (run es w) → HasNotEnded w
+pub before_run : (es : List (Bool × EndAction)) (w : Pair) → NeitherHasEnded (run es w) → NeitherHasEnded w
 before_run [] w h = h
 before_run (e ∷ es) w h = before_goes e.0 e.1 w (before_run es (goes e.0 e.1 w) h)
 
-module _ (o q : Options) (own : AreGiven o) (other : AreGiven q) where
-  pub goes_consistent : (at_a : Bool) (t : EndAction) (w : Pair) → MayAct t (side_of at_a w) → HasNotEnded (goes at_a t w) → Halves o q w.a w.b
+module _ (o q : Options) (own : AreValidOptions o) (other : AreValidOptions q) where
+  pub goes_consistent : (at_a : Bool) (t : EndAction) (w : Pair) → MayAct t (side_of at_a w) → NeitherHasEnded (goes at_a t w) → Halves o q w.a w.b
       → Halves o q (goes at_a t w).a (goes at_a t w).b
   goes_consistent true t w may none h = actions o q w.a w.b own other h t may none.a
   goes_consistent false t w may none h =
       swapped q o (act t w.b w.a) w.a (actions q o w.b w.a other own (swapped o q w.a w.b h) t may none.b)
 
-  pub run_consistent : (es : List (Bool × EndAction)) (w : Pair) → FollowsTheRules es w → HasNotEnded (run es w) → Halves o q w.a w.b
+  pub run_consistent : (es : List (Bool × EndAction)) (w : Pair) → KeepsOpeningRules es w → NeitherHasEnded (run es w) → Halves o q w.a w.b
       → Halves o q (run es w).a (run es w).b
   run_consistent [] w follows none h = h
   run_consistent (e ∷ es) w follows none h =
@@ -339,8 +339,8 @@ consistent_of a b w h = record {
   counts = agreed_exchanged a b;
 }
 
-pub ends_consistent : (a b : Options) (words_a words_b : Stream) (es : List (Bool × EndAction)) → AreGiven a → AreGiven b
-    → FollowsTheRules es (start a b words_a words_b) → HasNotEnded (run es (start a b words_a words_b)) → AreConsistent a b (run es (start a b words_a words_b))
+pub ends_consistent : (a b : Options) (words_a words_b : Stream) (es : List (Bool × EndAction)) → AreValidOptions a → AreValidOptions b
+    → KeepsOpeningRules es (start a b words_a words_b) → NeitherHasEnded (run es (start a b words_a words_b)) → AreConsistent a b (run es (start a b words_a words_b))
 ends_consistent a b words_a words_b es own other follows none =
     let w : Pair = start a b words_a words_b in
     consistent_of a b (run es w) (run_consistent a b own other es w follows none (record { own = first_half a b words_a words_b; other = first_half b a words_b words_a }))
@@ -349,11 +349,11 @@ pub run_both : (es fs : List (Bool × EndAction)) (c : Pair) → run (es ++ fs) 
 run_both [] fs c = refl
 run_both (e ∷ es) fs c = run_both es fs (goes e.0 e.1 c)
 
-pub follows_more : (es : List (Bool × EndAction)) (e : Bool × EndAction) (c : Pair) → FollowsTheRules es c → MayAct e.1 (side_of e.0 (run es c))
-    → FollowsTheRules (es ++ e ∷ []) c
+pub follows_more : (es : List (Bool × EndAction)) (e : Bool × EndAction) (c : Pair) → KeepsOpeningRules es c → MayAct e.1 (side_of e.0 (run es c))
+    → KeepsOpeningRules (es ++ e ∷ []) c
 follows_more [] e c h may = (may, tt)
 follows_more (d ∷ es) e c h may = (h.0, follows_more es e (goes d.0 d.1 c) h.1 may)
 
-pub follows_front : (es fs : List (Bool × EndAction)) (w : Pair) → FollowsTheRules (es ++ fs) w → FollowsTheRules es w
+pub follows_front : (es fs : List (Bool × EndAction)) (w : Pair) → KeepsOpeningRules (es ++ fs) w → KeepsOpeningRules es w
 follows_front [] fs w h = tt
 follows_front (e ∷ es) fs w h = (h.0, follows_front es fs (goes e.0 e.1 w) h.1)

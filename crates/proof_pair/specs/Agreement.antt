@@ -10,7 +10,7 @@ use Rattle.spec_endpoint.specs.Opening.{tsn_from, tag_from, word, drew_word, nex
 use Rattle.spec_endpoint.specs.Input.{Received, refusal, counts, on_endpoint_state, repeats_if, has_data, receive}
 use Rattle.spec_endpoint.specs.Laws.{Call, Connect, Restore, Packet}
 use Rattle.proof_endpoint.specs.Mapped.{Carried}
-use Rattle.proof_pair.specs.Trace.{Side, Pair, has_connected, emitted_packets, as_received, EndAction, Calls, Gives, Refuses, act, goes, AreGiven, start, state_of}
+use Rattle.proof_pair.specs.Trace.{Side, Pair, has_connected, emitted_packets, as_received, EndAction, Calls, Gives, Refuses, act, goes, AreValidOptions, start, state_of}
 
 -- a verification tag, and the first TSN that goes with it
 pub record Draw : Type 0 where
@@ -128,8 +128,8 @@ AreDistinct [] = ⊤
 AreDistinct (d ∷ ds) = ((e : Draw) → Has e ds → e.tag ≡ d.tag → ⊥) × AreDistinct ds
 
 -- neither end draws a tag twice; both may draw the same one
-abbrev pub NoneTwice : Histories → Type 0
-NoneTwice k = AreDistinct k.a.drawn × AreDistinct k.b.drawn
+abbrev pub AreDistinctPerEnd : Histories → Type 0
+AreDistinctPerEnd k = AreDistinct k.a.drawn × AreDistinct k.b.drawn
 
 -- ---- what is allowed: no record of a handover is taken up. Packets that can be read are given, not called
 
@@ -168,5 +168,5 @@ AgreesAlong (e ∷ es) w k = AgreesAt e.0 e.1 w k × AgreesAlong es (goes e.0 e.
 -- Along each trace in which no end draws a tag twice.
 abbrev pub EndsAgree : Type 0
 EndsAgree =
-    (a b : Options) (words_a words_b : Stream) (turns : List (Bool × EndAction)) → AreGiven a → AreGiven b → AreAllowed turns
-    → NoneTwice (histories_along turns (start a b words_a words_b) no_histories) → AgreesAlong turns (start a b words_a words_b) no_histories
+    (a b : Options) (words_a words_b : Stream) (turns : List (Bool × EndAction)) → AreValidOptions a → AreValidOptions b → AreAllowed turns
+    → AreDistinctPerEnd (histories_along turns (start a b words_a words_b) no_histories) → AgreesAlong turns (start a b words_a words_b) no_histories

@@ -7,7 +7,7 @@ use Rattle.sctp_rx.specs.Delivery.{Extends}
 use Rattle.spec_endpoint.specs.Shown.{Association, association_in}
 use Rattle.spec_endpoint.specs.Calls.{ready_in}
 use Rattle.spec_endpoint.specs.Laws.{Send, TakeMessage}
-use Rattle.proof_pair.specs.Trace.{Side, Pair, EndAction, Calls, Gives, goes, run, side_of, FollowsTheRules, HasNotEnded, AreGiven, start, state_of}
+use Rattle.proof_pair.specs.Trace.{Side, Pair, EndAction, Calls, Gives, goes, run, side_of, KeepsOpeningRules, NeitherHasEnded, AreValidOptions, start, state_of}
 use Rattle.proof_pair.specs.Opens.{at_first, one_connects}
 
 abbrev pub ready_at : Side → List Message
@@ -49,14 +49,14 @@ AreHandedInOrder x turns w = readied_messages x turns w ≡ handed_messages x tu
 -- Along each trace that follows the rules, until an association first ends.
 abbrev pub MessagesAreHandedInOrder : Type 0
 MessagesAreHandedInOrder =
-    (a b : Options) (words_a words_b : Stream) (turns : List (Bool × EndAction)) → AreGiven a → AreGiven b
-    → FollowsTheRules turns (start a b words_a words_b) → HasNotEnded (run turns (start a b words_a words_b)) → (x : Bool)
+    (a b : Options) (words_a words_b : Stream) (turns : List (Bool × EndAction)) → AreValidOptions a → AreValidOptions b
+    → KeepsOpeningRules turns (start a b words_a words_b) → NeitherHasEnded (run turns (start a b words_a words_b)) → (x : Bool)
     → AreHandedInOrder x turns (start a b words_a words_b)
 
 abbrev pub HandedIsAPrefix : Type 0
 HandedIsAPrefix =
-    (a b : Options) (words_a words_b : Stream) (turns : List (Bool × EndAction)) → AreGiven a → AreGiven b
-    → FollowsTheRules turns (start a b words_a words_b) → HasNotEnded (run turns (start a b words_a words_b)) → (x : Bool)
+    (a b : Options) (words_a words_b : Stream) (turns : List (Bool × EndAction)) → AreValidOptions a → AreValidOptions b
+    → KeepsOpeningRules turns (start a b words_a words_b) → NeitherHasEnded (run turns (start a b words_a words_b)) → (x : Bool)
     → Extends (handed_messages x turns (start a b words_a words_b)) (readied_messages x turns (start a b words_a words_b))
 
 -- as actions follow, of any trace
@@ -69,8 +69,8 @@ HandedGrows = (x : Bool) (turns more : List (Bool × EndAction)) (w : Pair) → 
 -- and an association that an end holds, it holds from then on: no other takes its place
 abbrev pub AssociationsStand : Type 0
 AssociationsStand =
-    (a b : Options) (words_a words_b : Stream) (turns more : List (Bool × EndAction)) → AreGiven a → AreGiven b
-    → FollowsTheRules (turns ++ more) (start a b words_a words_b) → HasNotEnded (run (turns ++ more) (start a b words_a words_b)) → (x : Bool) (p : Association)
+    (a b : Options) (words_a words_b : Stream) (turns more : List (Bool × EndAction)) → AreValidOptions a → AreValidOptions b
+    → KeepsOpeningRules (turns ++ more) (start a b words_a words_b) → NeitherHasEnded (run (turns ++ more) (start a b words_a words_b)) → (x : Bool) (p : Association)
     → association_in (state_of (side_of x (run turns (start a b words_a words_b)))) ≡ Some p
     → association_in (state_of (side_of x (run (turns ++ more) (start a b words_a words_b)))) ≡ Some p
 
@@ -85,7 +85,7 @@ two_come =
     ++ ((true, Calls (Send (text 97) plainly)) ∷ (true, Calls (Send (text 98) plainly)) ∷ (false, Gives 2 0) ∷ (false, Gives 3 0) ∷ (false, Calls TakeMessage) ∷ [])
 
 pub record OneIsHandedOut : Type 0 where
-  pub follows : FollowsTheRules two_come at_first
-  pub not_ended : HasNotEnded (run two_come at_first)
+  pub follows : KeepsOpeningRules two_come at_first
+  pub not_ended : NeitherHasEnded (run two_come at_first)
   pub hands : handed_messages false two_come at_first ≡ text 97 ∷ []
   pub readies : readied_messages false two_come at_first ≡ text 97 ∷ text 98 ∷ []

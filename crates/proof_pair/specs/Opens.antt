@@ -4,7 +4,7 @@ use Rattle.std.specs.Prelude.{◌≡◌, Bool, true, false, List, [], ◌∷◌}
 use Rattle.sctp_state.specs.Options.{defaults}
 use Rattle.spec_endpoint.specs.Laws.{Connect}
 use Rattle.spec_endpoint.specs.Pair.{random_from}
-use Rattle.proof_pair.specs.Trace.{Pair, has_connected, EndAction, Calls, Gives, run, FollowsTheRules, HasNotEnded, AreGiven, start}
+use Rattle.proof_pair.specs.Trace.{Pair, has_connected, EndAction, Calls, Gives, run, KeepsOpeningRules, NeitherHasEnded, AreValidOptions, start}
 
 abbrev pub at_first : Pair
 at_first = start defaults defaults (random_from 456) (random_from 1000)
@@ -20,9 +20,9 @@ both_connect =
     ∷ (true, Gives 2 0) ∷ []
 
 pub record Opens (turns : List (Bool × EndAction)) : Type 0 where
-  pub given : AreGiven defaults
-  pub follows : FollowsTheRules turns at_first
-  pub not_ended : HasNotEnded (run turns at_first)
+  pub given : AreValidOptions defaults
+  pub follows : KeepsOpeningRules turns at_first
+  pub not_ended : NeitherHasEnded (run turns at_first)
   pub a_connected : has_connected (run turns at_first).a.emitted ≡ true
   pub b_connected : has_connected (run turns at_first).b.emitted ≡ true
 

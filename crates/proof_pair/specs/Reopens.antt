@@ -3,7 +3,7 @@ use Rattle.std.specs.Prelude.{◌≡◌, Bool, true, false, List, [], ◌∷◌,
 use Rattle.spec_endpoint.specs.Laws.{Connect, Close}
 use Rattle.proof_pair.specs.Trace.{has_connected, EndAction, Calls, Gives, run, state_of}
 use Rattle.proof_pair.specs.Opens.{at_first, one_connects}
-use Rattle.proof_pair.specs.Agreement.{held_in, no_histories, histories_along, NoneTwice, AreAllowed, emitted_since}
+use Rattle.proof_pair.specs.Agreement.{held_in, no_histories, histories_along, AreDistinctPerEnd, AreAllowed, emitted_since}
 
 -- both ends close, and the COOKIE ECHO comes again
 abbrev pub both_close : List (Bool × EndAction)
@@ -22,7 +22,7 @@ restart_actions = one_restarts ++ ((false, Gives 4 0) ∷ [])
 -- the second end emits that it is connected, by the last action
 pub record Reopens (before all : List (Bool × EndAction)) : Type 0 where
   pub allowed : AreAllowed all
-  pub distinct : NoneTwice (histories_along all at_first no_histories)
+  pub distinct : AreDistinctPerEnd (histories_along all at_first no_histories)
   pub emits : has_connected (emitted_since (run before at_first).b (run all at_first).b) ≡ true
   pub b_holds : length (held_in (state_of (run all at_first).b)) ≡ 1
 

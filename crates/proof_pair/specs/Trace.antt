@@ -17,7 +17,7 @@ use Rattle.proof_endpoint.specs.Mapped.{Carried}
 pub record Side : Type 0 where
   pub end : Endpoint Carried
   pub emitted : List (Event Carried)  -- so far; what was emitted is taken after each action
-  pub is_asked : Bool  -- an INIT was given to it
+  pub got_init : Bool  -- an INIT was given to it
 
 pub record Pair : Type 0 where
   pub a : Side
@@ -27,7 +27,7 @@ abbrev pub as_carried : Packing Carried
 as_carried = record { write = λ header is_summed chunks. record { header = header; is_summed = is_summed; chunks = chunks }; word_of = λ bytes. 0 }
 
 abbrev pub new_side : Options → Stream → Side
-new_side o words = record { end = fresh o as_carried words; emitted = []; is_asked = false }
+new_side o words = record { end = fresh o as_carried words; emitted = []; got_init = false }
 
 -- all packets that it ever emitted
 abbrev pub packets_in : List (Event Carried) → List Carried
@@ -65,7 +65,7 @@ as_received p checksum = record { header = p.header; checksum = checksum; chunks
 -- an INIT goes under tag 0
 abbrev pub give : Option Carried → (checksum : ℕ) → Side → Side
 give None checksum x = x
-give (Some p) checksum x = record (took (called (Packet (as_received p checksum)) x.end) x) { is_asked = x.is_asked || (p.header.verification_tag == 0) }
+give (Some p) checksum x = record (took (called (Packet (as_received p checksum)) x.end) x) { got_init = x.got_init || (p.header.verification_tag == 0) }
 
 abbrev pub foreign_if : (refusal : Option (List ℕ)) → PacketTree → Side → Side
 foreign_if None p x = x
@@ -91,7 +91,7 @@ run (e ∷ es) w = run es (goes e.0 e.1 w)
 -- Before it emitted that it is connected, an end is asked neither for a shutdown, nor to connect once an INIT was given to
 -- it. No record of a handover is taken up.
 abbrev pub MayCall : Call → Side → Type 0
-MayCall Connect x = (has_connected x.emitted ≡ true) ⊎ (x.is_asked ≡ false)
+MayCall Connect x = (has_connected x.emitted ≡ true) ⊎ (x.got_init ≡ false)
 MayCall Shutdown x = has_connected x.emitted ≡ true
 MayCall (Restore h) x = ⊥
 MayCall (Packet p) x = ⊥
@@ -105,19 +105,19 @@ abbrev pub side_of : Bool → Pair → Side
 side_of true w = w.a
 side_of false w = w.b
 
-abbrev pub FollowsTheRules : List (Bool × EndAction) → Pair → Type 0
-FollowsTheRules [] w = ⊤
-FollowsTheRules (e ∷ es) w = MayAct e.1 (side_of e.0 w) × FollowsTheRules es (goes e.0 e.1 w)
+abbrev pub KeepsOpeningRules : List (Bool × EndAction) → Pair → Type 0
+KeepsOpeningRules [] w = ⊤
+KeepsOpeningRules (e ∷ es) w = MayAct e.1 (side_of e.0 w) × KeepsOpeningRules es (goes e.0 e.1 w)
 
 -- no association has ended so far, at either end
-pub record HasNotEnded (w : Pair) : Type 0 where
+pub record NeitherHasEnded (w : Pair) : Type 0 where
   pub a : endings w.a.emitted ≡ 0
   pub b : endings w.b.emitted ≡ 0
 
 -- ---- what two ends start with
 
 -- options that a socket can be made with: they are valid, and these numbers fit their types
-pub record AreGiven (o : Options) : Type 0 where
+pub record AreValidOptions (o : Options) : Type 0 where
   pub valid : IsValid o
   pub incoming : o.announced_maximum_incoming_streams < 2 ^ 16
   pub outgoing : o.announced_maximum_outgoing_streams < 2 ^ 16
@@ -149,6 +149,6 @@ pub record AreConsistent (a b : Options) (w : Pair) : Type 0 where
 -- Along each trace that follows the rules, until an association first ends.
 abbrev pub EndsAreConsistent : Type 0
 EndsAreConsistent =
-    (a b : Options) (words_a words_b : Stream) (turns : List (Bool × EndAction)) → AreGiven a → AreGiven b
-    → FollowsTheRules turns (start a b words_a words_b) → HasNotEnded (run turns (start a b words_a words_b))
+    (a b : Options) (words_a words_b : Stream) (turns : List (Bool × EndAction)) → AreValidOptions a → AreValidOptions b
+    → KeepsOpeningRules turns (start a b words_a words_b) → NeitherHasEnded (run turns (start a b words_a words_b))
     → AreConsistent a b (run turns (start a b words_a words_b))

@@ -2,9 +2,9 @@
 use Rattle.std.proofs.Common.{◌≡◌, ℕ, suc, ◌+◌, ◌<◌, ◌≤◌, Bool, true, false, cond, not, ◌&&◌, ◌||◌, ◌⊎◌, inl, inr, List, [], ◌∷◌, refl, sym, ap, ◌∙◌, subst, arith, eqb, ltb}
 use Rattle.std.proofs.lemmas.Bool.{cases_lt, cases_eq, and_parts, eqb-true, ne_eqb, eq-eqb, cond-true, cond-false, not-true, or_left, or_right}
 use Rattle.proof_protocol.specs.State.{Message, Entry, ForwardPoint, IsAmong, put, count, place_of, stream_of, ordered_of}
-use Rattle.proof_protocol.specs.Rules.{Event, accept, begin, number, close, give_up, data_comes, late_comes, deliver, send_sack, leave, send_forward, forward_comes, forget, same, covers, drops, IsResettable, AreWritten, IsAllowed, after}
-use Rattle.proof_protocol.specs.Resets.{Request, Epochs, ResetEvent, transfers, reset_stream, send_request, perform, commit, first_epoch, rebase, InEpoch, MayReset, epochs_after, goes, MayAll, go_all, InOrder}
-use Rattle.proof_protocol.specs.Based.{Names, IsWritten, LastPerformed, Based, UnseenIsNow, InEpochs}
+use Rattle.proof_protocol.specs.Rules.{Rule, accept, begin, number, end_with_placeholder, give_up, data_comes, late_comes, become_ready, send_sack, ack_point_advances, send_forward, forward_comes, perform_reset, same, covers, drops, IsResettable, AreWritten, IsAllowed, after}
+use Rattle.proof_protocol.specs.Resets.{Request, Epochs, ResetEvent, transfers, reset_stream, send_request, perform, commit, first_epoch, rebase, InEpoch, MayReset, epochs_after, goes, MayAll, go_all, EpochInvariant}
+use Rattle.proof_protocol.specs.Based.{Names, IsWritten, LastPerformed, Based, UnseenIsOfCurrentEpoch, InEpochs}
 use Rattle.proof_protocol.proofs.ToolsLemmas.{put_at, put_off, put_true, put_keeps, not_both, raised_up}
 use Rattle.proof_protocol.proofs.BeginLemmas.{unsettled}
 use Rattle.proof_protocol.proofs.StepLemmas.{later}
@@ -13,23 +13,23 @@ use Rattle.proof_protocol.proofs.ForgetLemmas.{reset_aligned}
 
 -- ---- what only grows at the receiver
 
-module _ (message : ℕ → Message) (is_interleaved : Bool) (x : Epochs) (k : InOrder message is_interleaved x) where
-  pub seen_stays : (e : Event) (t : ℕ) → x.transfer.receiver.seen t ≡ true → (after message is_interleaved x.transfer e).receiver.seen t ≡ true
+module _ (message : ℕ → Message) (is_interleaved : Bool) (x : Epochs) (k : EpochInvariant message is_interleaved x) where
+  pub seen_stays : (e : Rule) (t : ℕ) → x.transfer.receiver.seen t ≡ true → (after message is_interleaved x.transfer e).receiver.seen t ≡ true
   seen_stays accept t h = h
   seen_stays (begin p) t h = h
   seen_stays (number p bytes more) t h = h
-  seen_stays (close p) t h = h
+  seen_stays (end_with_placeholder p) t h = h
   seen_stays (give_up p) t h = h
   seen_stays (data_comes u) t h = put_keeps x.transfer.receiver.seen u t h
   seen_stays (late_comes u) t h = put_keeps x.transfer.receiver.seen u t h
-  seen_stays (deliver p) t h = h
+  seen_stays (become_ready p) t h = h
   seen_stays (send_sack c) t h = h
-  seen_stays (leave c) t h = h
+  seen_stays (ack_point_advances c) t h = h
   seen_stays (send_forward f) t h = h
   seen_stays (forward_comes f) t h = or_right (ltb t f.upto) (x.transfer.receiver.seen t) h
-  seen_stays (forget s c) t h = h
+  seen_stays (perform_reset s c) t h = h
 
-  next_delivered : (p : ℕ) → IsAllowed message is_interleaved x.transfer (deliver p) → (s : ℕ) → x.transfer.receiver.next s ≤ (after message is_interleaved x.transfer (deliver p)).receiver.next s
+  next_delivered : (p : ℕ) → IsAllowed message is_interleaved x.transfer (become_ready p) → (s : ℕ) → x.transfer.receiver.next s ≤ (after message is_interleaved x.transfer (become_ready p)).receiver.next s
   next_delivered p a s = go (ordered_of message p) refl (eqb s (stream_of message p)) refl
     where
       go : (b : Bool) → ordered_of message p ≡ b → (c : Bool) → eqb s (stream_of message p) ≡ c
@@ -40,43 +40,43 @@ module _ (message : ℕ → Message) (is_interleaved : Bool) (x : Epochs) (k : I
       go true h false e = rw (h, e) (omega arith)
       go false h c e = rw h (omega arith)
 
-  pub next_stays : (e : Event) → IsAllowed message is_interleaved x.transfer e → (s : ℕ) → x.transfer.receiver.next s ≤ (after message is_interleaved x.transfer e).receiver.next s
+  pub next_stays : (e : Rule) → IsAllowed message is_interleaved x.transfer e → (s : ℕ) → x.transfer.receiver.next s ≤ (after message is_interleaved x.transfer e).receiver.next s
   next_stays accept a s = omega arith
   next_stays (begin p) a s = omega arith
   next_stays (number p bytes more) a s = omega arith
-  next_stays (close p) a s = omega arith
+  next_stays (end_with_placeholder p) a s = omega arith
   next_stays (give_up p) a s = omega arith
   next_stays (data_comes u) a s = omega arith
   next_stays (late_comes u) a s = omega arith
-  next_stays (deliver p) a s = next_delivered p a s
+  next_stays (become_ready p) a s = next_delivered p a s
   next_stays (send_sack c) a s = omega arith
-  next_stays (leave c) a s = omega arith
+  next_stays (ack_point_advances c) a s = omega arith
   next_stays (send_forward f) a s = omega arith
   next_stays (forward_comes f) a s = raised_up f.entries true s (x.transfer.receiver.next s)
-  next_stays (forget s c) a b = omega arith
+  next_stays (perform_reset s c) a b = omega arith
 
-  pub passed_stays : (e : Event) → InEpoch message is_interleaved x e → (s : ℕ) → x.transfer.receiver.passed_below s ≤ (after message is_interleaved x.transfer e).receiver.passed_below s
+  pub passed_stays : (e : Rule) → InEpoch message is_interleaved x e → (s : ℕ) → x.transfer.receiver.passed_below s ≤ (after message is_interleaved x.transfer e).receiver.passed_below s
   passed_stays accept i s = omega arith
   passed_stays (begin p) i s = omega arith
   passed_stays (number p bytes more) i s = omega arith
-  passed_stays (close p) i s = omega arith
+  passed_stays (end_with_placeholder p) i s = omega arith
   passed_stays (give_up p) i s = omega arith
   passed_stays (data_comes u) i s = omega arith
   passed_stays (late_comes u) i s = omega arith
-  passed_stays (deliver p) i s = omega arith
+  passed_stays (become_ready p) i s = omega arith
   passed_stays (send_sack c) i s = omega arith
-  passed_stays (leave c) i s = omega arith
+  passed_stays (ack_point_advances c) i s = omega arith
   passed_stays (send_forward f) i s = omega arith
   passed_stays (forward_comes f) i s = raised_up f.entries false s (x.transfer.receiver.passed_below s)
-  passed_stays (forget s c) i b = absurd i
+  passed_stays (perform_reset s c) i b = absurd i
 
   -- what is held was held, or was not seen
-  pub held_before : (e : Event) → IsAllowed message is_interleaved x.transfer e → (t : ℕ) → (after message is_interleaved x.transfer e).receiver.held t ≡ true
+  pub held_before : (e : Rule) → IsAllowed message is_interleaved x.transfer e → (t : ℕ) → (after message is_interleaved x.transfer e).receiver.held t ≡ true
       → (x.transfer.receiver.held t ≡ true) ⊎ ((t < count x.transfer.sender) × (x.transfer.receiver.seen t ≡ false))
   held_before accept a t h = inl h
   held_before (begin p) a t h = inl h
   held_before (number p bytes more) a t h = inl h
-  held_before (close p) a t h = inl h
+  held_before (end_with_placeholder p) a t h = inl h
   held_before (give_up p) a t h = inl h
   held_before (data_comes u) a t h =
       elim (put_true x.transfer.receiver.held u t h) [
@@ -84,23 +84,23 @@ module _ (message : ℕ → Message) (is_interleaved : Bool) (x : Epochs) (k : I
         | inr o ↦ inl o
       ]
   held_before (late_comes u) a t h = inl h
-  held_before (deliver p) a t h = inl (and_parts (x.transfer.receiver.held t) (not (eqb (place_of x.transfer.sender t) p)) h).0
+  held_before (become_ready p) a t h = inl (and_parts (x.transfer.receiver.held t) (not (eqb (place_of x.transfer.sender t) p)) h).0
   held_before (send_sack c) a t h = inl h
-  held_before (leave c) a t h = inl h
+  held_before (ack_point_advances c) a t h = inl h
   held_before (send_forward f) a t h = inl h
   held_before (forward_comes f) a t h = inl (and_parts (x.transfer.receiver.held t) (not (drops message is_interleaved x.transfer.sender f t)) h).0
-  held_before (forget s c) a t h = inl (and_parts (x.transfer.receiver.held t) (not (eqb (stream_of message (place_of x.transfer.sender t)) s)) h).0
+  held_before (perform_reset s c) a t h = inl (and_parts (x.transfer.receiver.held t) (not (eqb (stream_of message (place_of x.transfer.sender t)) s)) h).0
 
 -- ---- of which epoch what comes is
 
-module _ (message : ℕ → Message) (is_interleaved : Bool) (x : Epochs) (k : InOrder message is_interleaved x) (b : Based message x) where
+module _ (message : ℕ → Message) (is_interleaved : Bool) (x : Epochs) (k : EpochInvariant message is_interleaved x) (b : Based message x) where
   abbrev st : ℕ → ℕ
   st p = stream_of message p
 
   pub not_later : (p : ℕ) → x.transfer.sender.begun p ≡ true → x.epoch p ≤ x.performed (st p)
   not_later p h = let i = k.begun p h in let c = (k.chain (st p)).0 in omega (arith, i, c)
 
-  pub unseen_is_now : UnseenIsNow message x
+  pub unseen_is_now : UnseenIsOfCurrentEpoch message x
   unseen_is_now t h u =
       let p = place_of x.transfer.sender t in
       let m = not_later p (k.kept.outgoing.place_begun t h) in
@@ -124,7 +124,7 @@ module _ (message : ℕ → Message) (is_interleaved : Bool) (x : Epochs) (k : I
 
   -- ---- a rule of the transfer
 
-  module _ (e : Event) (a : IsAllowed message is_interleaved x.transfer e) (i : InEpoch message is_interleaved x e)
+  module _ (e : Rule) (a : IsAllowed message is_interleaved x.transfer e) (i : InEpoch message is_interleaved x e)
       (same : (p : ℕ) → p < x.transfer.sender.accepted → epochs_after message is_interleaved x e p ≡ x.epoch p)
       (begins : (p : ℕ) → (after message is_interleaved x.transfer e).sender.begun p ≡ true
       → (x.transfer.sender.begun p ≡ true) ⊎ ((epochs_after message is_interleaved x e p ≡ x.performed (st p)) × (epochs_after message is_interleaved x e p ≡ x.opened (st p))
@@ -258,7 +258,7 @@ module _ (message : ℕ → Message) (is_interleaved : Bool) (x : Epochs) (k : I
     }
 
   -- a rule that accepts nothing, begins nothing and sends no forward point
-  plain : (e : Event) (a : IsAllowed message is_interleaved x.transfer e) (i : InEpoch message is_interleaved x e) → ((p : ℕ) → epochs_after message is_interleaved x e p ≡ x.epoch p)
+  plain : (e : Rule) (a : IsAllowed message is_interleaved x.transfer e) (i : InEpoch message is_interleaved x e) → ((p : ℕ) → epochs_after message is_interleaved x e p ≡ x.epoch p)
       → ((p : ℕ) → (after message is_interleaved x.transfer e).sender.begun p ≡ x.transfer.sender.begun p)
       → ((s : ℕ) (kind : Bool) → (after message is_interleaved x.transfer e).sender.counts kind s ≡ x.transfer.sender.counts kind s)
       → ((p : ℕ) → (after message is_interleaved x.transfer e).sender.written p ≡ x.transfer.sender.written p)
@@ -375,20 +375,20 @@ module _ (message : ℕ → Message) (is_interleaved : Bool) (x : Epochs) (k : I
         | inr o ↦ inl o
       ])
 
-  transfer_rule : (e : Event) → IsAllowed message is_interleaved x.transfer e → InEpoch message is_interleaved x e → Based message (goes message is_interleaved x (transfers e))
+  transfer_rule : (e : Rule) → IsAllowed message is_interleaved x.transfer e → InEpoch message is_interleaved x e → Based message (goes message is_interleaved x (transfers e))
   transfer_rule accept a i = accepts_next a
   transfer_rule (begin p) a i = begins_next p a i
   transfer_rule (number p bytes more) a i = plain (number p bytes more) a i (λ q. refl) (λ q. refl) (λ s kind. refl) (λ q. refl) (λ s kind. refl) (λ f m. m)
-  transfer_rule (close p) a i = plain (close p) a i (λ q. refl) (λ q. refl) (λ s kind. refl) (λ q. refl) (λ s kind. refl) (λ f m. m)
+  transfer_rule (end_with_placeholder p) a i = plain (end_with_placeholder p) a i (λ q. refl) (λ q. refl) (λ s kind. refl) (λ q. refl) (λ s kind. refl) (λ f m. m)
   transfer_rule (give_up p) a i = plain (give_up p) a i (λ q. refl) (λ q. refl) (λ s kind. refl) (λ q. refl) (λ s kind. refl) (λ f m. m)
   transfer_rule (data_comes t) a i = plain (data_comes t) a i (λ q. refl) (λ q. refl) (λ s kind. refl) (λ q. refl) (λ s kind. refl) (λ f m. m)
   transfer_rule (late_comes t) a i = plain (late_comes t) a i (λ q. refl) (λ q. refl) (λ s kind. refl) (λ q. refl) (λ s kind. refl) (λ f m. m)
-  transfer_rule (deliver p) a i = plain (deliver p) a i (λ q. refl) (λ q. refl) (λ s kind. refl) (λ q. refl) (λ s kind. refl) (λ f m. m)
+  transfer_rule (become_ready p) a i = plain (become_ready p) a i (λ q. refl) (λ q. refl) (λ s kind. refl) (λ q. refl) (λ s kind. refl) (λ f m. m)
   transfer_rule (send_sack c) a i = plain (send_sack c) a i (λ q. refl) (λ q. refl) (λ s kind. refl) (λ q. refl) (λ s kind. refl) (λ f m. m)
-  transfer_rule (leave c) a i = plain (leave c) a i (λ q. refl) (λ q. refl) (λ s kind. refl) (λ q. refl) (λ s kind. refl) (λ f m. m)
+  transfer_rule (ack_point_advances c) a i = plain (ack_point_advances c) a i (λ q. refl) (λ q. refl) (λ s kind. refl) (λ q. refl) (λ s kind. refl) (λ f m. m)
   transfer_rule (send_forward f) a i = sends_next f a i
   transfer_rule (forward_comes f) a i = plain (forward_comes f) a i (λ q. refl) (λ q. refl) (λ s kind. refl) (λ q. refl) (λ s kind. refl) (λ f m. m)
-  transfer_rule (forget s c) a i = absurd i
+  transfer_rule (perform_reset s c) a i = absurd i
 
   -- ---- resets
 

@@ -22,7 +22,7 @@ module _ (message : ℕ → Message) (is_interleaved : Bool) (o : Sender) (i : O
   number_at q e = put_at o.number p (o.counts (ordered_of message p) (stream_of message p)) q e
 
   pub unsettled : IsSettled o p → ⊥
-  unsettled x = elim x.gone [ inl b ↦ not_both b w.not_begun | inr g ↦ not_both g w.not_given ]
+  unsettled x = elim x.gone [ inl b ↦ not_both b w.not_begun | inr g ↦ not_both g w.not_given_up ]
 
   pub moved : (q : ℕ) → q ≢ p → IsSettled o q → IsSettled new q
   moved q d x = record {
@@ -136,9 +136,9 @@ module _ (message : ℕ → Message) (is_interleaved : Bool) (o : Sender) (i : O
   begins_outgoing = record {
     place_begun = λ t h. put_keeps o.begun p (place_of o t) (i.place_begun t h);
     begun_below = begun_below;
-    given_below = i.given_below;
+    given_up_below = i.given_up_below;
     partly_begun = partly_begun;
-    partly_kept = λ q b. elim (put_true o.partly p q b) [ inl e ↦ ap o.given_up e ∙ w.not_given | inr h ↦ i.partly_kept q h ];
+    partly_kept = λ q b. elim (put_true o.partly p q b) [ inl e ↦ ap o.given_up e ∙ w.not_given_up | inr h ↦ i.partly_kept q h ];
     fifo = i.fifo;
     settled = settled;
     rises = rises;

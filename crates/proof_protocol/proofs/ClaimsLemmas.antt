@@ -1,7 +1,7 @@
 -- What holds gives_up the claims.
 use Rattle.std.proofs.Common.{◌≡◌, ℕ, ◌<◌, Bool, true, false, ◌⊎◌, inl, inr, List, get_or, sym, ap, ◌∙◌, arith}
 use Rattle.proof_protocol.specs.State.{Message, Transfer, has, start, ordered_of, stream_of}
-use Rattle.proof_protocol.specs.Rules.{Event, Happens, run}
+use Rattle.proof_protocol.specs.Rules.{Rule, Happens, run}
 use Rattle.proof_protocol.specs.Claims.{Claims, AtRest}
 use Rattle.proof_protocol.specs.Invariant.{Invariant}
 use Rattle.proof_protocol.proofs.ToolsLemmas.{not_both, has_at}
@@ -50,5 +50,5 @@ module _ (message : ℕ → Message) (is_interleaved : Bool) (x : Transfer) (k :
     rest = rest;
   }
 
-pub always : (message : ℕ → Message) (is_interleaved : Bool) (es : List Event) → Happens message is_interleaved start es → Claims message (run message is_interleaved start es)
+pub always : (message : ℕ → Message) (is_interleaved : Bool) (es : List Rule) → Happens message is_interleaved start es → Claims message (run message is_interleaved start es)
 always message is_interleaved es h = claimed message is_interleaved (run message is_interleaved start es) (all_kept message is_interleaved es start (at_start message is_interleaved) h)

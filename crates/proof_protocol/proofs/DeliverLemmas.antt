@@ -3,7 +3,7 @@ use Rattle.std.proofs.Common.{◌≡◌, ◌≢◌, ℕ, suc, ◌<◌, ◌≤◌
 use Rattle.std.proofs.lemmas.Bool.{cases_eq, cases_order, cases_Bool, eq-eqb, eqb-true, and_from, and_parts, and_cases, and_left, and_right, cond-true, cond-false, not-false, not_from_true, false_from_ne_true}
 use Rattle.std.proofs.lemmas.List.{map_push}
 use Rattle.proof_protocol.specs.State.{Message, Sender, Receiver, ReadyMessage, place_of, count, has, gather, ordered_of, stream_of}
-use Rattle.proof_protocol.specs.Rules.{IsRipe, delivers}
+use Rattle.proof_protocol.specs.Rules.{IsRipe, makes_ready}
 use Rattle.proof_protocol.specs.Claims.{ready_message}
 use Rattle.proof_protocol.specs.Invariant.{Outgoing, Incoming, IsDone, Apart}
 use Rattle.proof_protocol.proofs.ToolsLemmas.{not_both, has_push, has_keeps, has_last, has_at, pairs_push}
@@ -29,7 +29,7 @@ module _ (message : ℕ → Message) (o : Sender) (out : Outgoing message o) whe
 
 module _ (message : ℕ → Message) (is_interleaved : Bool) (o : Sender) (out : Outgoing message o) (i : Receiver) (inc : Incoming message o i) (p : ℕ) (ripe : IsRipe message o i p) where
   abbrev new : Receiver
-  new = delivers message o i p
+  new = makes_ready message o i p
 
   begun : o.begun p ≡ true
   begun = let e = ripe.complete.ended in sym (ap o.begun e.2) ∙ out.place_begun e.0 e.1

@@ -35,21 +35,21 @@ module _ (message : ℕ → Message) (is_interleaved : Bool) (o : Sender) (out :
       let h : x.0 < count o = omega (arith, up, w) in
       let bq = out.place_begun x.0 h in
       elim (cases_eq (o.number p) (o.number q)) [
-        | inl e ↦ inr (ap o.given_up (one_place message o out p q b bq (sym x.3) (sym x.4) e) ∙ due.all_given x.0 x.1 x.2)
+        | inl e ↦ inr (ap o.given_up (one_place message o out p q b bq (sym x.3) (sym x.4) e) ∙ due.all_given_up x.0 x.1 x.2)
         | inr d ↦
             let le = x.5 in
             let l = lower_place message o out p q b bq (sym x.3) (sym x.4) (omega (arith, le, d)) in
             let y = end_before message o out p q x.0 b l (sym x.4) h refl in
             elim (cases_lt y.0 left) [
               | inl a ↦ subst (λ z. IsDone o i z) y.2 (lt.done y.0 a y.3)
-              | inr g ↦ let yl = y.1 in inr (sym (ap o.given_up y.2) ∙ due.all_given y.0 g (omega (arith, yl, up)))
+              | inr g ↦ let yl = y.1 in inr (sym (ap o.given_up y.2) ∙ due.all_given_up y.0 g (omega (arith, yl, up)))
             ]
       ]
 
   unordered_done : is_interleaved ≡ false → (t : ℕ) → t < f.upto → ordered_of message (place_of o t) ≡ false → IsDone o i (place_of o t)
   unordered_done m t h k =
       elim (cases_lt t left) [
-        | inr g ↦ inr (due.all_given t g h)
+        | inr g ↦ inr (due.all_given_up t g h)
         | inl l ↦
             let e : t + (left - t) ≡ left = omega (arith, l) in
             let a = due.ahead in
@@ -58,7 +58,7 @@ module _ (message : ℕ → Message) (is_interleaved : Bool) (o : Sender) (out :
               | inl x ↦ let xl = x.1 in subst (λ z. IsDone o i z) x.2 (lt.done x.0 (omega (arith, xl, e)) x.3)
               | inr y ↦
                   let z = sym (ap (place_of o) e) ∙ y in
-                  inr (sym (ap o.given_up z) ∙ due.all_given left (omega arith) a)
+                  inr (sym (ap o.given_up z) ∙ due.all_given_up left (omega arith) a)
             ]
       ]
 
@@ -69,7 +69,7 @@ module _ (message : ℕ → Message) (is_interleaved : Bool) (o : Sender) (out :
         elim (cases_lt t left) [
           | inl l ↦ inl (lt.all_seen t l)
           | inr g ↦ inr (
-            due.all_given t g h,
+            due.all_given_up t g h,
             λ k.
                 subst (λ z. covers f.entries z (stream_of message (place_of o t)) (o.number (place_of o t)) ≡ true) k
                 (due.touched t g h (or_left (ordered_of message (place_of o t)) is_interleaved k)),

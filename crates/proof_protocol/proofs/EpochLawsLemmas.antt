@@ -2,11 +2,11 @@
 use Rattle.std.proofs.Common.{◌≡◌, ℕ, suc, ◌+◌, ◌<◌, ◌≤◌, Bool, true, false, ◌⊎◌, inl, inr, List, [], ◌∷◌, ◌++◌, refl, sym, ap, ◌∙◌, subst, arith, append-nil, append_assoc, eqb}
 use Rattle.std.proofs.lemmas.Bool.{cases_lt, cases_eq, cases_Bool, or_cases, or_left, or_right, eqb-true, cases_order}
 use Rattle.proof_protocol.specs.State.{Message, ForwardPoint, IsAmong, has, count, place_of, stream_of, ordered_of}
-use Rattle.proof_protocol.specs.Rules.{accept, begin, number, close, give_up, data_comes, late_comes, deliver, send_sack, leave, send_forward, forward_comes, forget, same, covers, IsAllowed}
+use Rattle.proof_protocol.specs.Rules.{accept, begin, number, end_with_placeholder, give_up, data_comes, late_comes, become_ready, send_sack, ack_point_advances, send_forward, forward_comes, perform_reset, same, covers, IsAllowed}
 use Rattle.proof_protocol.specs.Windows.{IsNear}
 use Rattle.proof_protocol.specs.Resets.{Request, Epochs, ResetEvent, transfers, reset_stream, send_request, perform, commit, MayReset, goes, MayAll, go_all}
-use Rattle.proof_protocol.specs.Lifted.{IsNow}
-use Rattle.proof_protocol.specs.Based.{base_at, NamedIsNow, EntriesAreNow, NothingWaits, EpochWindows, Bracketed, InEpochs}
+use Rattle.proof_protocol.specs.Lifted.{IsOfCurrentEpoch}
+use Rattle.proof_protocol.specs.Based.{base_at, NamedIsOfCurrentEpoch, EntriesAreOfCurrentEpoch, NothingWaits, EpochWindows, Bracketed, InEpochs}
 use Rattle.proof_protocol.proofs.ToolsLemmas.{put_at, put_off, not_both, among_covers}
 use Rattle.proof_protocol.proofs.DeliverLemmas.{lower_place}
 use Rattle.proof_protocol.proofs.SackLemmas.{end_before}
@@ -29,7 +29,7 @@ module _ (message : ℕ → Message) (is_interleaved : Bool) (x : Epochs) (k : I
         | inl g ↦ let e = k.based.earlier q (x.performed (st q)) h (omega arith) g in absurd (omega (arith, e, l))
       ]
 
-  pub named_is_now : NamedIsNow message x
+  pub named_is_now : NamedIsOfCurrentEpoch message x
   named_is_now f u s n kind m l unseen c greatest =
       let z = k.based.points f m kind s n c in
       let o = x.transfer.sender in
@@ -57,7 +57,7 @@ module _ (message : ℕ → Message) (is_interleaved : Bool) (x : Epochs) (k : I
       (p, b, z.kind_is, z.on_stream, num, now, omega (arith, base_s, num))
 
   -- a fragment that was not seen has the number of the rules that the receiver reads
-  pub unseen_on_wire : (t : ℕ) → t < count x.transfer.sender → x.transfer.receiver.seen t ≡ false → IsNow (λ kind s. x.base s (x.performed s) kind) message x.transfer.sender t
+  pub unseen_on_wire : (t : ℕ) → t < count x.transfer.sender → x.transfer.receiver.seen t ≡ false → IsOfCurrentEpoch (λ kind s. x.base s (x.performed s) kind) message x.transfer.sender t
   unseen_on_wire t h u =
       let p = place_of x.transfer.sender t in
       let e = unseen_is_now message is_interleaved x k.order k.based t h u in
@@ -74,7 +74,7 @@ module _ (message : ℕ → Message) (is_interleaved : Bool) (x : Epochs) (k : I
         | inr (inr l) ↦ let r = k.order.kept.outgoing.rises q p bq bp (sym kind) (sym on) l in absurd (omega (arith, r, e))
       ]
 
-  pub entries_are_now : EntriesAreNow message x
+  pub entries_are_now : EntriesAreOfCurrentEpoch message x
   entries_are_now f u e m l unseen among greatest =
       let w = k.based.entries f m e among in
       let z = named_is_now f u e.stream e.number e.ordered m l unseen (among_covers e f.entries among) greatest in
@@ -252,7 +252,7 @@ module _ (message : ℕ → Message) (is_interleaved : Bool) where
   none_added : (x y : Epochs) → y.transfer.receiver.places ≡ x.transfer.receiver.places → Bracketed message x y
   none_added x y e = record { more = []; places = e ∙ sym (append-nil x.transfer.receiver.places); least = λ p h. cc; most = λ p h. cc }
 
-  delivered : (x : Epochs) → InEpochs message is_interleaved x → (p : ℕ) → IsAllowed message is_interleaved x.transfer (deliver p) → Bracketed message x (goes message is_interleaved x (transfers (deliver p)))
+  delivered : (x : Epochs) → InEpochs message is_interleaved x → (p : ℕ) → IsAllowed message is_interleaved x.transfer (become_ready p) → Bracketed message x (goes message is_interleaved x (transfers (become_ready p)))
   delivered x k p a =
       let e = in_its_epoch message is_interleaved x k.order p a in
       record {
@@ -269,16 +269,16 @@ module _ (message : ℕ → Message) (is_interleaved : Bool) where
   once x k (transfers accept) a = none_added x (goes message is_interleaved x (transfers accept)) refl
   once x k (transfers (begin p)) a = none_added x (goes message is_interleaved x (transfers (begin p))) refl
   once x k (transfers (number p bytes more)) a = none_added x (goes message is_interleaved x (transfers (number p bytes more))) refl
-  once x k (transfers (close p)) a = none_added x (goes message is_interleaved x (transfers (close p))) refl
+  once x k (transfers (end_with_placeholder p)) a = none_added x (goes message is_interleaved x (transfers (end_with_placeholder p))) refl
   once x k (transfers (give_up p)) a = none_added x (goes message is_interleaved x (transfers (give_up p))) refl
   once x k (transfers (data_comes t)) a = none_added x (goes message is_interleaved x (transfers (data_comes t))) refl
   once x k (transfers (late_comes t)) a = none_added x (goes message is_interleaved x (transfers (late_comes t))) refl
-  once x k (transfers (deliver p)) a = delivered x k p a.0
+  once x k (transfers (become_ready p)) a = delivered x k p a.0
   once x k (transfers (send_sack c)) a = none_added x (goes message is_interleaved x (transfers (send_sack c))) refl
-  once x k (transfers (leave c)) a = none_added x (goes message is_interleaved x (transfers (leave c))) refl
+  once x k (transfers (ack_point_advances c)) a = none_added x (goes message is_interleaved x (transfers (ack_point_advances c))) refl
   once x k (transfers (send_forward f)) a = none_added x (goes message is_interleaved x (transfers (send_forward f))) refl
   once x k (transfers (forward_comes f)) a = none_added x (goes message is_interleaved x (transfers (forward_comes f))) refl
-  once x k (transfers (forget s c)) a = absurd a.1
+  once x k (transfers (perform_reset s c)) a = absurd a.1
   once x k (reset_stream s) a = none_added x (goes message is_interleaved x (reset_stream s)) refl
   once x k (send_request s) a = none_added x (goes message is_interleaved x (send_request s)) refl
   once x k (perform r) a = none_added x (goes message is_interleaved x (perform r)) refl
@@ -305,16 +305,16 @@ module _ (message : ℕ → Message) (is_interleaved : Bool) where
   epoch_once x (transfers accept) p h = put_off x.epoch x.transfer.sender.accepted (x.raised (stream_of message x.transfer.sender.accepted)) p (omega (arith, h))
   epoch_once x (transfers (begin q)) p h = refl
   epoch_once x (transfers (number q bytes more)) p h = refl
-  epoch_once x (transfers (close q)) p h = refl
+  epoch_once x (transfers (end_with_placeholder q)) p h = refl
   epoch_once x (transfers (give_up q)) p h = refl
   epoch_once x (transfers (data_comes t)) p h = refl
   epoch_once x (transfers (late_comes t)) p h = refl
-  epoch_once x (transfers (deliver q)) p h = refl
+  epoch_once x (transfers (become_ready q)) p h = refl
   epoch_once x (transfers (send_sack c)) p h = refl
-  epoch_once x (transfers (leave c)) p h = refl
+  epoch_once x (transfers (ack_point_advances c)) p h = refl
   epoch_once x (transfers (send_forward f)) p h = refl
   epoch_once x (transfers (forward_comes f)) p h = refl
-  epoch_once x (transfers (forget s c)) p h = refl
+  epoch_once x (transfers (perform_reset s c)) p h = refl
   epoch_once x (reset_stream b) p h = refl
   epoch_once x (send_request b) p h = refl
   epoch_once x (perform r) p h = refl
@@ -324,16 +324,16 @@ module _ (message : ℕ → Message) (is_interleaved : Bool) where
   accepted_once x (transfers accept) = omega arith
   accepted_once x (transfers (begin q)) = omega arith
   accepted_once x (transfers (number q bytes more)) = omega arith
-  accepted_once x (transfers (close q)) = omega arith
+  accepted_once x (transfers (end_with_placeholder q)) = omega arith
   accepted_once x (transfers (give_up q)) = omega arith
   accepted_once x (transfers (data_comes t)) = omega arith
   accepted_once x (transfers (late_comes t)) = omega arith
-  accepted_once x (transfers (deliver q)) = omega arith
+  accepted_once x (transfers (become_ready q)) = omega arith
   accepted_once x (transfers (send_sack c)) = omega arith
-  accepted_once x (transfers (leave c)) = omega arith
+  accepted_once x (transfers (ack_point_advances c)) = omega arith
   accepted_once x (transfers (send_forward f)) = omega arith
   accepted_once x (transfers (forward_comes f)) = omega arith
-  accepted_once x (transfers (forget s c)) = omega arith
+  accepted_once x (transfers (perform_reset s c)) = omega arith
   accepted_once x (reset_stream b) = omega arith
   accepted_once x (send_request b) = omega arith
   accepted_once x (perform r) = omega arith

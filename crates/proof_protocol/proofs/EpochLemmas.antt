@@ -2,8 +2,8 @@
 use Rattle.std.proofs.Common.{◌≡◌, ℕ, suc, ◌<◌, ◌≤◌, Bool, true, false, ◌⊎◌, inl, inr, List, [], ◌∷◌, refl, sym, ap, ◌∙◌, subst, arith}
 use Rattle.std.proofs.lemmas.Bool.{cases_lt, cases_eq}
 use Rattle.proof_protocol.specs.State.{Message, IsAmong, put, count, place_of, stream_of}
-use Rattle.proof_protocol.specs.Rules.{Event, accept, begin, number, close, give_up, data_comes, late_comes, deliver, send_sack, leave, send_forward, forward_comes, forget, IsSettled, IsResettable, IsAllowed, after}
-use Rattle.proof_protocol.specs.Resets.{Request, Epochs, ResetEvent, transfers, reset_stream, send_request, perform, commit, first_epoch, InEpoch, MayReset, restarts, goes, MayAll, go_all, RequestTrue, InOrder, EachInItsEpoch}
+use Rattle.proof_protocol.specs.Rules.{Rule, accept, begin, number, end_with_placeholder, give_up, data_comes, late_comes, become_ready, send_sack, ack_point_advances, send_forward, forward_comes, perform_reset, IsSettled, IsResettable, IsAllowed, after}
+use Rattle.proof_protocol.specs.Resets.{Request, Epochs, ResetEvent, transfers, reset_stream, send_request, perform, commit, first_epoch, InEpoch, MayReset, restarts, goes, MayAll, go_all, RequestTrue, EpochInvariant, EachInItsEpoch}
 use Rattle.proof_protocol.proofs.ToolsLemmas.{put_at, put_off, put_true, not_both}
 use Rattle.proof_protocol.proofs.KeepsLemmas.{keeps, at_start}
 use Rattle.proof_protocol.proofs.BeginLemmas.{unsettled}
@@ -11,12 +11,12 @@ use Rattle.proof_protocol.proofs.StepLemmas.{later, settled_stays, dropped_stays
 use Rattle.proof_protocol.proofs.ForgetLemmas.{none_held}
 use Rattle.proof_protocol.proofs.RestartLemmas.{restarts_kept}
 
-module _ (message : ℕ → Message) (is_interleaved : Bool) (x : Epochs) (k : InOrder message is_interleaved x) where
+module _ (message : ℕ → Message) (is_interleaved : Bool) (x : Epochs) (k : EpochInvariant message is_interleaved x) where
   abbrev st : ℕ → ℕ
   st p = stream_of message p
 
   -- a rule of the transfer, where new places and newly begun messages keep the order
-  module _ (e : Event) (a : IsAllowed message is_interleaved x.transfer e) (epoch : ℕ → ℕ)
+  module _ (e : Rule) (a : IsAllowed message is_interleaved x.transfer e) (epoch : ℕ → ℕ)
       (grows : x.transfer.sender.accepted ≤ (after message is_interleaved x.transfer e).sender.accepted)
       (same : (p : ℕ) → p < x.transfer.sender.accepted → epoch p ≡ x.epoch p)
       (new : (p : ℕ) → p < (after message is_interleaved x.transfer e).sender.accepted → (p < x.transfer.sender.accepted) ⊎ (epoch p ≡ x.raised (st p)))
@@ -56,7 +56,7 @@ module _ (message : ℕ → Message) (is_interleaved : Bool) (x : Epochs) (k : I
               ];
         }
 
-    pub moves : InOrder message is_interleaved y
+    pub moves : EpochInvariant message is_interleaved y
     moves = record {
       kept = keeps message is_interleaved x.transfer k.kept e a;
       chain = k.chain;
@@ -89,13 +89,13 @@ module _ (message : ℕ → Message) (is_interleaved : Bool) (x : Epochs) (k : I
     }
 
   -- a rule that accepts nothing and begins nothing
-  plain : (e : Event) (a : IsAllowed message is_interleaved x.transfer e) → (after message is_interleaved x.transfer e).sender.accepted ≡ x.transfer.sender.accepted
+  plain : (e : Rule) (a : IsAllowed message is_interleaved x.transfer e) → (after message is_interleaved x.transfer e).sender.accepted ≡ x.transfer.sender.accepted
       → ((p : ℕ) → (after message is_interleaved x.transfer e).sender.begun p ≡ x.transfer.sender.begun p)
-      → InOrder message is_interleaved (record x { transfer = after message is_interleaved x.transfer e })
+      → EpochInvariant message is_interleaved (record x { transfer = after message is_interleaved x.transfer e })
   plain e a n b =
       moves e a x.epoch (omega (arith, n)) (λ p h. refl) (λ p h. inl (subst (λ z. p < z) n h)) (λ p h. inl (sym (b p) ∙ h))
 
-  transfer_rule : (e : Event) → IsAllowed message is_interleaved x.transfer e → InEpoch message is_interleaved x e → InOrder message is_interleaved (goes message is_interleaved x (transfers e))
+  transfer_rule : (e : Rule) → IsAllowed message is_interleaved x.transfer e → InEpoch message is_interleaved x e → EpochInvariant message is_interleaved (goes message is_interleaved x (transfers e))
   transfer_rule accept a i =
       let n = x.transfer.sender.accepted in
       moves accept a (put x.epoch n (x.raised (st n))) (omega arith)
@@ -113,16 +113,16 @@ module _ (message : ℕ → Message) (is_interleaved : Bool) (x : Epochs) (k : I
         | inr o ↦ inl o
       ])
   transfer_rule (number p bytes more) a i = plain (number p bytes more) a refl (λ q. refl)
-  transfer_rule (close p) a i = plain (close p) a refl (λ q. refl)
+  transfer_rule (end_with_placeholder p) a i = plain (end_with_placeholder p) a refl (λ q. refl)
   transfer_rule (give_up p) a i = plain (give_up p) a refl (λ q. refl)
   transfer_rule (data_comes t) a i = plain (data_comes t) a refl (λ q. refl)
   transfer_rule (late_comes t) a i = plain (late_comes t) a refl (λ q. refl)
-  transfer_rule (deliver p) a i = plain (deliver p) a refl (λ q. refl)
+  transfer_rule (become_ready p) a i = plain (become_ready p) a refl (λ q. refl)
   transfer_rule (send_sack c) a i = plain (send_sack c) a refl (λ q. refl)
-  transfer_rule (leave c) a i = plain (leave c) a refl (λ q. refl)
+  transfer_rule (ack_point_advances c) a i = plain (ack_point_advances c) a refl (λ q. refl)
   transfer_rule (send_forward f) a i = plain (send_forward f) a refl (λ q. refl)
   transfer_rule (forward_comes f) a i = plain (forward_comes f) a refl (λ q. refl)
-  transfer_rule (forget s c) a i = absurd i
+  transfer_rule (perform_reset s c) a i = absurd i
 
   -- all that the receiver's side of a reset asks
   pub resettable : (r : Request) → MayReset message is_interleaved x (perform r) → IsResettable message x.transfer.sender x.transfer.receiver r.stream r.upto
@@ -147,10 +147,10 @@ module _ (message : ℕ → Message) (is_interleaved : Bool) (x : Epochs) (k : I
           let h = subst (λ z. x.epoch p ≤ x.opened z) s (k.begun p b) in
           absurd (not_both e ((k.asked r a.0).settled p (k.kept.outgoing.begun_below p b) s (omega (arith, c, h, next))).not_partly)
 
-  performs : (r : Request) → MayReset message is_interleaved x (perform r) → InOrder message is_interleaved (goes message is_interleaved x (perform r))
+  performs : (r : Request) → MayReset message is_interleaved x (perform r) → EpochInvariant message is_interleaved (goes message is_interleaved x (perform r))
   performs r a =
       let ok = resettable r a in
-      let z = plain (forget r.stream r.upto) ok refl (λ q. refl) in
+      let z = plain (perform_reset r.stream r.upto) ok refl (λ q. refl) in
       let next = a.1 in
       record {
         kept = z.kept;
@@ -195,7 +195,7 @@ module _ (message : ℕ → Message) (is_interleaved : Bool) (x : Epochs) (k : I
             ];
       }
 
-  resets : (s : ℕ) → MayReset message is_interleaved x (reset_stream s) → InOrder message is_interleaved (goes message is_interleaved x (reset_stream s))
+  resets : (s : ℕ) → MayReset message is_interleaved x (reset_stream s) → EpochInvariant message is_interleaved (goes message is_interleaved x (reset_stream s))
   resets s a =
       let up : ((b : ℕ) → x.raised b ≤ put x.raised s (suc (x.raised s)) b) =
       (λ b. elim (cases_eq b s) [
@@ -226,7 +226,7 @@ module _ (message : ℕ → Message) (is_interleaved : Bool) (x : Epochs) (k : I
         over = k.over;
       }
 
-  requests : (s : ℕ) → MayReset message is_interleaved x (send_request s) → InOrder message is_interleaved (goes message is_interleaved x (send_request s))
+  requests : (s : ℕ) → MayReset message is_interleaved x (send_request s) → EpochInvariant message is_interleaved (goes message is_interleaved x (send_request s))
   requests s a = record {
     kept = k.kept;
     chain = k.chain;
@@ -242,7 +242,7 @@ module _ (message : ℕ → Message) (is_interleaved : Bool) (x : Epochs) (k : I
     over = k.over;
   }
 
-  commits : (s : ℕ) → MayReset message is_interleaved x (commit s) → InOrder message is_interleaved (goes message is_interleaved x (commit s))
+  commits : (s : ℕ) → MayReset message is_interleaved x (commit s) → EpochInvariant message is_interleaved (goes message is_interleaved x (commit s))
   commits s a = record {
     kept = restarts_kept message is_interleaved x.transfer k.kept s;
     chain = λ b.
@@ -277,7 +277,7 @@ module _ (message : ℕ → Message) (is_interleaved : Bool) (x : Epochs) (k : I
       again : (p : ℕ) → IsSettled x.transfer.sender p → IsSettled (restarts x.transfer.sender s) p
       again p y = record { not_partly = y.not_partly; gone = y.gone }
 
-  pub keeps_order : (e : ResetEvent) → MayReset message is_interleaved x e → InOrder message is_interleaved (goes message is_interleaved x e)
+  pub keeps_order : (e : ResetEvent) → MayReset message is_interleaved x e → EpochInvariant message is_interleaved (goes message is_interleaved x e)
   keeps_order (transfers e) a = transfer_rule e a.0 a.1
   keeps_order (reset_stream s) a = resets s a
   keeps_order (send_request s) a = requests s a
@@ -298,7 +298,7 @@ module _ (message : ℕ → Message) (is_interleaved : Bool) (x : Epochs) (k : I
       ]
 
 module _ (message : ℕ → Message) (is_interleaved : Bool) where
-  pub order_at_first : InOrder message is_interleaved first_epoch
+  pub order_at_first : EpochInvariant message is_interleaved first_epoch
   order_at_first = record {
     kept = at_start message is_interleaved;
     chain = λ s. (omega arith, omega arith, omega arith);
@@ -309,6 +309,6 @@ module _ (message : ℕ → Message) (is_interleaved : Bool) where
     over = λ p b h. absurd (omega (arith, h));
   }
 
-  pub all_in_order : (es : List ResetEvent) (x : Epochs) → InOrder message is_interleaved x → MayAll message is_interleaved x es → InOrder message is_interleaved (go_all message is_interleaved x es)
+  pub all_in_order : (es : List ResetEvent) (x : Epochs) → EpochInvariant message is_interleaved x → MayAll message is_interleaved x es → EpochInvariant message is_interleaved (go_all message is_interleaved x es)
   all_in_order [] x k h = k
   all_in_order (e ∷ es) x k h = all_in_order es (goes message is_interleaved x e) (keeps_order message is_interleaved x k e h.0) h.1

@@ -2,7 +2,7 @@
 use Rattle.std.proofs.Common.{◌≡◌, ℕ, ◌<◌, ◌≤◌, Bool, true, false, not, ◌⊎◌, inl, inr, ap, ◌∙◌, subst, arith, eqb}
 use Rattle.std.proofs.lemmas.Bool.{cases_lt, cases_eq, and_parts, and_left, and_right, and_cases, eqb-true, eq-eqb, not-false, not_from_true}
 use Rattle.proof_protocol.specs.State.{Message, Sender, Receiver, fragment, place_of, count, has, stream_of, ordered_of}
-use Rattle.proof_protocol.specs.Rules.{IsResettable, forgets}
+use Rattle.proof_protocol.specs.Rules.{IsResettable, performs_reset}
 use Rattle.proof_protocol.specs.Invariant.{Outgoing, Incoming, IsDone, IsPassed, SackTrue}
 use Rattle.proof_protocol.proofs.ToolsLemmas.{put_at, put_off}
 use Rattle.proof_protocol.proofs.SackLemmas.{sack_true}
@@ -41,7 +41,7 @@ module _ (message : ℕ → Message) (is_interleaved : Bool) (o : Sender) (out :
       subst (λ y. IsDone o i y) z.2 (truth.done z.0 z.1 z.3)
 
   abbrev new : Receiver
-  new = forgets message o i s
+  new = performs_reset message o i s
 
   passed_at : (t : ℕ) → t < count o → stream_of message (place_of o t) ≡ s → (has (place_of o t) i.places ≡ true) ⊎ IsPassed message o i (place_of o t)
   passed_at t h e =

@@ -18,7 +18,7 @@ module _ (message : ℕ → Message) (o : Sender) (i : Outgoing message o) where
     partly_kept = λ q b.
         let d : q ≢ p = λ e. not_both b (ap o.partly e ∙ ended) in
         put_off o.given_up p true q d ∙ i.partly_kept q b;
-    given_below = λ q g. elim (put_true o.given_up p q g) [ inl e ↦ subst (λ n. n < o.accepted) (sym e) within | inr h ↦ i.given_below q h ];
+    given_up_below = λ q g. elim (put_true o.given_up p q g) [ inl e ↦ subst (λ n. n < o.accepted) (sym e) within | inr h ↦ i.given_up_below q h ];
     place_begun = i.place_begun;
     begun_below = i.begun_below;
     partly_begun = i.partly_begun;
@@ -39,7 +39,7 @@ module _ (message : ℕ → Message) (o : Sender) (i : Outgoing message o) where
     partly_kept = i.partly_kept;
     place_begun = i.place_begun;
     begun_below = λ p b. let l = i.begun_below p b in omega (arith, l);
-    given_below = λ p b. let l = i.given_below p b in omega (arith, l);
+    given_up_below = λ p b. let l = i.given_up_below p b in omega (arith, l);
     partly_begun = i.partly_begun;
     fifo = i.fifo;
     settled = λ a q b l s. let x = i.settled a q b l s in record { not_partly = x.not_partly; gone = x.gone };

@@ -2,7 +2,7 @@
 use Rattle.std.proofs.Common.{◌≡◌, ℕ, ◌<◌, Bool, true, false, not, ◌&&◌, ◌⊎◌, inl, inr, List, [], ◌∷◌, ◌++◌, refl, sym, ap, ◌∙◌, subst, arith, append-nil}
 use Rattle.std.proofs.lemmas.Bool.{cases_Bool, and_parts, not-true, cond-true, cond-false}
 use Rattle.proof_protocol.specs.State.{Message, Sender, Receiver, Transfer, fragment, place_of, has, gather, is_empty, IsAmong, start}
-use Rattle.proof_protocol.specs.Rules.{Event, accept, begin, number, close, give_up, data_comes, late_comes, deliver, send_sack, leave, send_forward, forward_comes, forget, IsAllowed, after, Happens, run, report, part, end_of}
+use Rattle.proof_protocol.specs.Rules.{Rule, accept, begin, number, end_with_placeholder, give_up, data_comes, late_comes, become_ready, send_sack, ack_point_advances, send_forward, forward_comes, perform_reset, IsAllowed, after, Happens, run, report, part, placeholder_of}
 use Rattle.proof_protocol.specs.Invariant.{Outgoing, Incoming, InRuns, Invariant, IsIndexed, SackTrue, ForwardTrue}
 use Rattle.proof_protocol.proofs.ToolsLemmas.{not_both, has_push}
 use Rattle.proof_protocol.proofs.IndexedLemmas.{indexed_none, indexed_push}
@@ -67,7 +67,7 @@ module _ (message : ℕ → Message) (is_interleaved : Bool) (x : Transfer) (k :
             inl (subst (λ z. has p z ≡ true) (append-nil qs) h2)
       ]
 
-  leaves : (c : ℕ) → IsAmong c x.sacks → x.acknowledged < c → Invariant message is_interleaved (after message is_interleaved x (leave c))
+  leaves : (c : ℕ) → IsAmong c x.sacks → x.acknowledged < c → Invariant message is_interleaved (after message is_interleaved x (ack_point_advances c))
   leaves c a l = record {
     outgoing = k.outgoing;
     incoming = k.incoming;
@@ -89,7 +89,7 @@ module _ (message : ℕ → Message) (is_interleaved : Bool) (x : Transfer) (k :
         ];
   }
 
-  pub keeps : (e : Event) → IsAllowed message is_interleaved x e → Invariant message is_interleaved (after message is_interleaved x e)
+  pub keeps : (e : Rule) → IsAllowed message is_interleaved x e → Invariant message is_interleaved (after message is_interleaved x e)
   keeps accept a = sender_moves _ (accepts_outgoing message x.sender k.outgoing) (accepts_later message x.sender k.outgoing) (λ m. accepts_runs message x.sender k.outgoing (k.runs m)) k.indexed
   keeps (begin p) a =
       sender_moves _ (begins_outgoing message is_interleaved x.sender k.outgoing p a.0 a.1) (begins_later message is_interleaved x.sender k.outgoing p a.0 a.1)
@@ -99,8 +99,8 @@ module _ (message : ℕ → Message) (is_interleaved : Bool) (x : Transfer) (k :
       let fin : f.is_end ≡ true → f.placeholder ≡ false → gather p x.sender.numbered ++ bytes ≡ (message p).payload =
       (λ l nf. ap (λ z. gather p x.sender.numbered ++ z) (sym (append-nil bytes) ∙ ap (λ z. bytes ++ z) (sym (none_left more l))) ∙ a.1) in
       sender_moves _ (numbers_outgoing message x.sender k.outgoing f a.0 fin) (numbers_later message x.sender k.outgoing f a.0 fin) (λ m. numbers_runs message x.sender k.outgoing f a.0 fin (k.runs m)) (indexed_push x.sender.numbered k.indexed f refl)
-  keeps (close p) a =
-      let f = end_of x.sender p in
+  keeps (end_with_placeholder p) a =
+      let f = placeholder_of x.sender p in
       let fin : f.is_end ≡ true → f.placeholder ≡ false → gather p x.sender.numbered ++ [] ≡ (message p).payload = (λ l nf. cc) in
       sender_moves _ (numbers_outgoing message x.sender k.outgoing f a fin) (numbers_later message x.sender k.outgoing f a fin) (λ m. numbers_runs message x.sender k.outgoing f a fin (k.runs m)) (indexed_push x.sender.numbered k.indexed f refl)
   keeps (give_up p) a = sender_moves _ (gives_outgoing message x.sender k.outgoing p a.0 a.1) (gives_later message x.sender k.outgoing p) (λ m. gives_runs message x.sender k.outgoing p (k.runs m)) k.indexed
@@ -108,7 +108,7 @@ module _ (message : ℕ → Message) (is_interleaved : Bool) (x : Transfer) (k :
   keeps (late_comes t) a =
       let given = late_passed message x.sender k.outgoing x.receiver k.incoming t a.0 a.1 a.2 in
       receiver_moves _ (marks_incoming message x.sender x.receiver k.incoming t a.0 a.1 given) (marks_onward message x.sender x.receiver k.incoming t a.0 a.1 given)
-  keeps (deliver p) a = receiver_moves _ (delivers_incoming message is_interleaved x.sender k.outgoing x.receiver k.incoming p a) (delivers_onward message is_interleaved x.sender k.outgoing x.receiver k.incoming p a)
+  keeps (become_ready p) a = receiver_moves _ (delivers_incoming message is_interleaved x.sender k.outgoing x.receiver k.incoming p a) (delivers_onward message is_interleaved x.sender k.outgoing x.receiver k.incoming p a)
   keeps (send_sack c) a = record {
     outgoing = k.outgoing;
     incoming = k.incoming;
@@ -123,7 +123,7 @@ module _ (message : ℕ → Message) (is_interleaved : Bool) (x : Transfer) (k :
     forwards_true = k.forwards_true;
     reports_true = k.reports_true;
   }
-  keeps (leave c) a = leaves c a.0 a.1
+  keeps (ack_point_advances c) a = leaves c a.0 a.1
   keeps (send_forward f) a = record {
     outgoing = k.outgoing;
     incoming = k.incoming;
@@ -141,7 +141,7 @@ module _ (message : ℕ → Message) (is_interleaved : Bool) (x : Transfer) (k :
   keeps (forward_comes f) a =
       let ft = k.forwards_true f a in
       receiver_moves _ (skips_incoming message is_interleaved x.sender k.outgoing x.receiver k.incoming f ft) (skips_onward message is_interleaved x.sender k.outgoing x.receiver k.incoming f ft)
-  keeps (forget s c) a =
+  keeps (perform_reset s c) a =
       receiver_moves _ (forgets_incoming message is_interleaved x.sender k.outgoing x.receiver k.incoming s c a) (forgets_onward message is_interleaved x.sender k.outgoing x.receiver k.incoming s c a)
 
 module _ (message : ℕ → Message) (is_interleaved : Bool) where
@@ -150,7 +150,7 @@ module _ (message : ℕ → Message) (is_interleaved : Bool) where
     outgoing = record {
       place_begun = λ t h. absurd (omega arith);
       begun_below = λ p h. cc;
-      given_below = λ p h. cc;
+      given_up_below = λ p h. cc;
       partly_begun = λ p h. h;
       partly_kept = λ p h. cc;
       fifo = λ t u l h s. absurd (omega arith);
@@ -192,6 +192,6 @@ module _ (message : ℕ → Message) (is_interleaved : Bool) where
     reports_true = λ p h. h;
   }
 
-  pub all_kept : (es : List Event) (x : Transfer) → Invariant message is_interleaved x → Happens message is_interleaved x es → Invariant message is_interleaved (run message is_interleaved x es)
+  pub all_kept : (es : List Rule) (x : Transfer) → Invariant message is_interleaved x → Happens message is_interleaved x es → Invariant message is_interleaved (run message is_interleaved x es)
   all_kept [] x k h = k
   all_kept (e ∷ es) x k h = all_kept es (after message is_interleaved x e) (keeps message is_interleaved x k e h.0) h.1

@@ -3,10 +3,10 @@ use Rattle.std.proofs.Common.{◌≡◌, ℕ, zero, suc, ◌+◌, ◌-◌, ◌<�
 use Rattle.std.proofs.lemmas.Bool.{cases_lt, leb-true, le-leb, eqb-true, false_from_ne_true, cond-true, cond-false}
 use Rattle.proof_protocol.specs.Reassembly.{Chunk, MessageKey, Queue, KeyOf, next_of, nth, ReadyRun, RunTaken, Readied, no_more, one_more, Added, NoneReady, Forwarded, keep_undropped, chunk_of, key_of, message_key, below_of}
 use Rattle.proof_protocol.specs.State.{Message, Entry, ForwardPoint, IsAmong, Sender, Transfer, fragment, place_of, count, ordered_of, stream_of}
-use Rattle.proof_protocol.specs.Rules.{same, covers, raise, data_comes, forward_comes, deliver}
+use Rattle.proof_protocol.specs.Rules.{same, covers, raise, data_comes, forward_comes, become_ready}
 use Rattle.proof_protocol.specs.Invariant.{Invariant}
 use Rattle.proof_protocol.specs.Joints.{Refines, LeadsTo}
-use Rattle.proof_protocol.specs.Lifted.{as_written, wire_point, AreEntriesNow, up_key, down_key, is_from, up_chunk, up_some, lift, wire_chunk, wire_key, IsNow}
+use Rattle.proof_protocol.specs.Lifted.{as_written, wire_point, AreEntriesOfCurrentEpoch, up_key, down_key, is_from, up_chunk, up_some, lift, wire_chunk, wire_key, IsOfCurrentEpoch}
 use Rattle.proof_protocol.proofs.ToolsLemmas.{same_is}
 use Rattle.proof_protocol.proofs.ReceiverRowLemmas.{new_chunk, point_comes, key_laws}
 
@@ -173,7 +173,7 @@ readied_up base is_interleaved q r (one_more m κ n w y z more) =
 
 -- ---- a fragment of the epoch that the receiver is in
 
-module _ (base : Bool → ℕ → ℕ) (message : ℕ → Message) (o : Sender) (t : ℕ) (now : IsNow base message o t) where
+module _ (base : Bool → ℕ → ℕ) (message : ℕ → Message) (o : Sender) (t : ℕ) (now : IsOfCurrentEpoch base message o t) where
   pub up_wire_key : (is_interleaved : Bool) → up_key base is_interleaved (wire_key is_interleaved message o t) ≡ key_of is_interleaved message o t
   up_wire_key false = refl
   up_wire_key true = ap (λ (n : ℕ). let y : MessageKey = record (message_key message o t) { number = n } in y) now
@@ -190,9 +190,9 @@ module _ (base : Bool → ℕ → ℕ) (message : ℕ → Message) (o : Sender) 
       by false = refl
 
 pub wire_chunk_row : (message : ℕ → Message) (is_interleaved : Bool) (base : Bool → ℕ → ℕ) (x : Transfer) (q m r : Queue (KeyOf is_interleaved) (next_of is_interleaved)) (t : ℕ)
-    → Invariant message is_interleaved x → Refines message is_interleaved x (lift base is_interleaved q) → t < count x.sender → (fragment x.sender t).placeholder ≡ false → x.receiver.seen t ≡ false → IsNow base message x.sender t
+    → Invariant message is_interleaved x → Refines message is_interleaved x (lift base is_interleaved q) → t < count x.sender → (fragment x.sender t).placeholder ≡ false → x.receiver.seen t ≡ false → IsOfCurrentEpoch base message x.sender t
     → Added (KeyOf is_interleaved) (next_of is_interleaved) q m (wire_key is_interleaved message x.sender t) (wire_chunk message is_interleaved x.sender t) → Readied (KeyOf is_interleaved) (next_of is_interleaved) m r
-    → (ps : List ℕ) × LeadsTo message is_interleaved x (data_comes t) (map deliver ps) (lift base is_interleaved r)
+    → (ps : List ℕ) × LeadsTo message is_interleaved x (data_comes t) (map become_ready ps) (lift base is_interleaved r)
 wire_chunk_row message is_interleaved base x q m r t k s within real unseen now added more =
     let a = added_up base is_interleaved q m (wire_key is_interleaved message x.sender t) (wire_chunk message is_interleaved x.sender t) added in
     let b = subst (λ (w : Chunk). Added (KeyOf is_interleaved) (next_of is_interleaved) (lift base is_interleaved q) (lift base is_interleaved m) (key_of is_interleaved message x.sender t) w) (up_wire_chunk base message x.sender t now is_interleaved)
@@ -250,7 +250,7 @@ module _ (base : Bool → ℕ → ℕ) (kind : Bool) (s : ℕ) where
       step true h false i = rw (h, i) refl
       step false h c i = rw h refl
 
-pub forwarded_up : (base : Bool → ℕ → ℕ) (is_interleaved : Bool) (q r : Queue (KeyOf is_interleaved) (next_of is_interleaved)) (f : ForwardPoint) → AreEntriesNow base f
+pub forwarded_up : (base : Bool → ℕ → ℕ) (is_interleaved : Bool) (q r : Queue (KeyOf is_interleaved) (next_of is_interleaved)) (f : ForwardPoint) → AreEntriesOfCurrentEpoch base f
     → (is_interleaved ≡ false → (a n : ℕ) → covers f.entries false a n ≡ false)
     → Forwarded (KeyOf is_interleaved) (next_of is_interleaved) is_interleaved (below_of is_interleaved) q r (wire_point f)
     → Forwarded (KeyOf is_interleaved) (next_of is_interleaved) is_interleaved (below_of is_interleaved) (lift base is_interleaved q) (lift base is_interleaved r) f
@@ -291,9 +291,9 @@ forwarded_up base is_interleaved q r f now only z = record {
     by κ false e = rw e refl
 
 pub wire_point_row : (message : ℕ → Message) (is_interleaved : Bool) (base : Bool → ℕ → ℕ) (x : Transfer) (q m r : Queue (KeyOf is_interleaved) (next_of is_interleaved)) (f : ForwardPoint)
-    → Invariant message is_interleaved x → Refines message is_interleaved x (lift base is_interleaved q) → IsAmong f x.forward_points → AreEntriesNow base f
+    → Invariant message is_interleaved x → Refines message is_interleaved x (lift base is_interleaved q) → IsAmong f x.forward_points → AreEntriesOfCurrentEpoch base f
     → Forwarded (KeyOf is_interleaved) (next_of is_interleaved) is_interleaved (below_of is_interleaved) q m (wire_point f) → Readied (KeyOf is_interleaved) (next_of is_interleaved) m r
-    → (ps : List ℕ) × LeadsTo message is_interleaved x (forward_comes f) (map deliver ps) (lift base is_interleaved r)
+    → (ps : List ℕ) × LeadsTo message is_interleaved x (forward_comes f) (map become_ready ps) (lift base is_interleaved r)
 wire_point_row message is_interleaved base x q m r f k s sent now z more =
     point_comes (KeyOf is_interleaved) (next_of is_interleaved) message is_interleaved x k (key_of is_interleaved message x.sender) (below_of is_interleaved) (key_laws message is_interleaved x k) (lift base is_interleaved q) s (lift base is_interleaved m) (lift base is_interleaved r) f sent
     (forwarded_up base is_interleaved q m f now (k.forwards_true f sent).only_ordered z) (readied_up base is_interleaved m r more)

@@ -98,7 +98,7 @@ module _ (message : ℕ → Message) (o : Sender) (i : Outgoing message o) (f : 
   numbers_outgoing = record {
     place_begun = each_push blank (λ t z. o.begun z.place ≡ true) o.numbered f i.place_begun (i.partly_begun f.place is_partly);
     begun_below = i.begun_below;
-    given_below = i.given_below;
+    given_up_below = i.given_up_below;
     partly_begun = partly_begun;
     partly_kept = partly_kept;
     fifo = pairs_push blank (λ y z. stream_of message y.place ≡ stream_of message z.place → y.place ≤ z.place) o.numbered f i.fifo behind;

@@ -46,7 +46,7 @@ due_first =
     record {
       ahead = omega arith;
       within = omega arith;
-      all_given = λ t lo hi. ap (λ z. (before 17).sender.given_up (place_of (before 17).sender z)) (one t lo hi);
+      all_given_up = λ t lo hi. ap (λ z. (before 17).sender.given_up (place_of (before 17).sender z)) (one t lo hi);
       touched = λ t lo hi k. ap (λ z. covers over_two.entries (three (place_of (before 17).sender z)).ordered (three (place_of (before 17).sender z)).stream ((before 17).sender.number (place_of (before 17).sender z))) (one t lo hi);
       sound = sound;
       only_ordered = λ m a n. refl;
@@ -81,11 +81,11 @@ none_at_last p r =
     cc
 
 may_begin_zero : IsAllowed three false (before 3) (begin 0)
-may_begin_zero = (record { below = omega arith; not_begun = refl; not_given = refl }, (λ q l s. absurd (omega (arith, l))), (λ m q. refl))
+may_begin_zero = (record { below = omega arith; not_begun = refl; not_given_up = refl }, (λ q l s. absurd (omega (arith, l))), (λ m q. refl))
 
 may_begin_one : IsAllowed three false (before 6) (begin 1)
 may_begin_one = (
-  record { below = omega arith; not_begun = refl; not_given = refl },
+  record { below = omega arith; not_begun = refl; not_given_up = refl },
   (λ q l s. let z : 0 ≡ q = omega (arith, l) in subst (λ n. IsSettled (before 6).sender n) z (record { not_partly = refl; gone = inl refl })),
   (λ m q. idle q),
 )
@@ -95,7 +95,7 @@ may_begin_one = (
 
 may_begin_two : IsAllowed three false (before 8) (begin 2)
 may_begin_two = (
-  record { below = omega arith; not_begun = refl; not_given = refl },
+  record { below = omega arith; not_begun = refl; not_given_up = refl },
   (λ q l s. other q l s),
   (λ m q. idle q),
 )

@@ -2,7 +2,7 @@
 use Rattle.std.proofs.Common.{◌≡◌, ℕ, zero, suc, ◌<◌, ◌≤◌, Bool, true, false, not, cond, ◌&&◌, ◌||◌, inl, inr, List, [], ◌∷◌, ◌++◌, map, refl, sym, ap, ◌∙◌, arith, eqb}
 use Rattle.std.proofs.lemmas.Bool.{cases_lt, cases_eq, and_parts, and_from, or_left, cond-true, eq-eqb, eqb-true, not_from_false, not-true, false_from_ne_true}
 use Rattle.proof_protocol.specs.State.{Message, Transfer, fragment, place_of, count, gather, ordered_of, stream_of}
-use Rattle.proof_protocol.specs.Rules.{deliver, IsRipe, Happens, after, run}
+use Rattle.proof_protocol.specs.Rules.{become_ready, IsRipe, Happens, after, run}
 use Rattle.proof_protocol.specs.Reassembly.{concatenation, Chunk, chunk_of, Queue, nth, ReadyRun, RunTaken, Readied, no_more, one_more, Sees, KeyLaws}
 use Rattle.proof_protocol.specs.Invariant.{Invariant}
 use Rattle.proof_protocol.proofs.ToolsLemmas.{not_both}
@@ -70,7 +70,7 @@ module _ (Key : Type 0) (succ : Key → Key) (message : ℕ → Message) (is_int
     }
 
     abbrev delivered : Transfer
-    delivered = after message is_interleaved x (deliver (place_of x.sender (ts 0)))
+    delivered = after message is_interleaved x (become_ready (place_of x.sender (ts 0)))
 
     sees_delivered : (r : Queue Key succ) → RunTaken Key succ q r κ n w → Sees Key succ message is_interleaved delivered.sender delivered.receiver key r
     sees_delivered r z = record {
@@ -147,11 +147,11 @@ module _ (Key : Type 0) (succ : Key → Key) (message : ℕ → Message) (is_int
 -- what became ready in the queue became ready by the rules, and nothing more is ripe
 pub readied : (Key : Type 0) (succ : Key → Key) (message : ℕ → Message) (is_interleaved : Bool) (key : ℕ → Key) (below : Key → ℕ → Bool) (q r : Queue Key succ) → Readied Key succ q r
     → (x : Transfer) → Invariant message is_interleaved x → KeyLaws Key succ is_interleaved x.sender key below → Sees Key succ message is_interleaved x.sender x.receiver key q
-    → (ps : List ℕ) × Happens message is_interleaved x (map deliver ps) × Sees Key succ message is_interleaved (run message is_interleaved x (map deliver ps)).sender (run message is_interleaved x (map deliver ps)).receiver key r
-    × ((p : ℕ) → IsRipe message (run message is_interleaved x (map deliver ps)).sender (run message is_interleaved x (map deliver ps)).receiver p → ⊥)
+    → (ps : List ℕ) × Happens message is_interleaved x (map become_ready ps) × Sees Key succ message is_interleaved (run message is_interleaved x (map become_ready ps)).sender (run message is_interleaved x (map become_ready ps)).receiver key r
+    × ((p : ℕ) → IsRipe message (run message is_interleaved x (map become_ready ps)).sender (run message is_interleaved x (map become_ready ps)).receiver p → ⊥)
 readied Key succ message is_interleaved key below q r (no_more none) x k laws s = ([], tt, s, none_ripe Key succ message is_interleaved x k key below laws q s none)
 readied Key succ message is_interleaved key below q r (one_more m κ n w y z more) x k laws s =
     let p = place_of x.sender (ts Key succ message is_interleaved x k key below laws q s κ n w y 0) in
     let ok = ripe Key succ message is_interleaved x k key below laws q s κ n w y in
-    let rest = readied Key succ message is_interleaved key below m r more (after message is_interleaved x (deliver p)) (keeps message is_interleaved x k (deliver p) ok) laws (sees_delivered Key succ message is_interleaved x k key below laws q s κ n w y m z) in
+    let rest = readied Key succ message is_interleaved key below m r more (after message is_interleaved x (become_ready p)) (keeps message is_interleaved x k (become_ready p) ok) laws (sees_delivered Key succ message is_interleaved x k key below laws q s κ n w y m z) in
     (p ∷ rest.0, (ok, rest.1), rest.2, rest.3)

@@ -18,7 +18,7 @@ module _ (message : ℕ → Message) (o : Sender) (i : Outgoing message o) (s : 
   restarts_outgoing = record {
     place_begun = i.place_begun;
     begun_below = i.begun_below;
-    given_below = i.given_below;
+    given_up_below = i.given_up_below;
     partly_begun = i.partly_begun;
     partly_kept = i.partly_kept;
     fifo = i.fifo;

@@ -2,7 +2,7 @@
 use Rattle.std.proofs.Common.{◌≡◌, ℕ, ◌<◌, Bool, true, false, cond, inl, inr, Option, Some, None, List, [], ◌∷◌, ◌++◌, refl, sym, ◌∙◌}
 use Rattle.std.proofs.lemmas.Bool.{cases_eq}
 use Rattle.proof_protocol.specs.State.{Message, Transfer, is_empty, put, stream_of}
-use Rattle.proof_protocol.specs.Rules.{Event, accept, begin, number, close, give_up, IsAllowed, Happens, after, run}
+use Rattle.proof_protocol.specs.Rules.{Rule, accept, begin, number, end_with_placeholder, give_up, IsAllowed, Happens, after, run}
 use Rattle.proof_protocol.specs.Sending.{Waiting, Queued}
 use Rattle.proof_protocol.specs.Invariant.{Invariant}
 use Rattle.proof_protocol.specs.Joints.{Sends}
@@ -27,7 +27,7 @@ put_twice f k v w n =
     ]
 
 module _ (message : ℕ → Message) (is_interleaved : Bool) (x : Transfer) (k : Invariant message is_interleaved x) (queue : ℕ → Option Waiting) (q : Queued message x.sender queue) where
-  sends : (es : List Event) (r : ℕ → Option Waiting) → Happens message is_interleaved x es → Queued message (run message is_interleaved x es).sender r
+  sends : (es : List Rule) (r : ℕ → Option Waiting) → Happens message is_interleaved x es → Queued message (run message is_interleaved x es).sender r
       → run message is_interleaved x es ≡ record x { sender = (run message is_interleaved x es).sender } → Sends message is_interleaved x es r
   sends es r h z e = record { may = h; kept = all_kept message is_interleaved es x k h; queued = z; rest_stays = e }
 
@@ -63,18 +63,18 @@ module _ (message : ℕ → Message) (is_interleaved : Bool) (x : Transfer) (k :
   pub unsent_dropped : (p : ℕ) (w : Waiting) → queue p ≡ Some w → w.begun ≡ false → Sends message is_interleaved x (give_up p ∷ []) (put queue p None)
   unsent_dropped p w e b =
       let y = q.waits p w e b in
-      sends (give_up p ∷ []) _ ((y.below, not_partly (x.sender.partly p) refl, y.not_given), tt) (queued_drop message is_interleaved x.sender k.outgoing queue q p w e b) refl
+      sends (give_up p ∷ []) _ ((y.below, not_partly (x.sender.partly p) refl, y.not_given_up), tt) (queued_drop message is_interleaved x.sender k.outgoing queue q p w e b) refl
     where
       not_partly : (c : Bool) → x.sender.partly p ≡ c → x.sender.partly p ≡ false
       not_partly false h = h
       not_partly true h = let a = k.outgoing.partly_begun p h in let n = (q.waits p w e b).not_begun in cc
 
   -- a message that is partly sent is given up: a placeholder ends it, and the rest leaves the queue
-  pub rest_dropped : (p : ℕ) (w : Waiting) → queue p ≡ Some w → w.begun ≡ true → Sends message is_interleaved x (close p ∷ give_up p ∷ []) (put queue p None)
+  pub rest_dropped : (p : ℕ) (w : Waiting) → queue p ≡ Some w → w.begun ≡ true → Sends message is_interleaved x (end_with_placeholder p ∷ give_up p ∷ []) (put queue p None)
   rest_dropped p w e b =
       let h = q.partly p w e b in
       let below = k.outgoing.begun_below p (k.outgoing.partly_begun p h) in
-      sends (close p ∷ give_up p ∷ []) _ (h, ((below, put_at x.sender.partly p false p refl, k.outgoing.partly_kept p h), tt)) (queued_close message is_interleaved x.sender k.outgoing queue q p w e b) refl
+      sends (end_with_placeholder p ∷ give_up p ∷ []) _ (h, ((below, put_at x.sender.partly p false p refl, k.outgoing.partly_kept p h), tt)) (queued_close message is_interleaved x.sender k.outgoing queue q p w e b) refl
 
   -- a message whose end has its TSN is given up, once
   pub sent_given_up : (p : ℕ) → p < x.sender.accepted → x.sender.given_up p ≡ false → queue p ≡ None → Sends message is_interleaved x (give_up p ∷ []) queue

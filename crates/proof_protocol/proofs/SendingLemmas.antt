@@ -2,7 +2,7 @@
 use Rattle.std.proofs.Common.{◌≡◌, ◌≢◌, ℕ, suc, ◌<◌, Bool, true, false, not, cond, inl, inr, Option, Some, None, List, [], ◌∷◌, ◌++◌, length, get_or, refl, sym, ap, ◌∙◌, subst, arith, eqb, append_assoc}
 use Rattle.std.proofs.lemmas.Bool.{cases_eq, cond-false, ne_eqb, false_from_ne_true}
 use Rattle.proof_protocol.specs.State.{Message, Fragment, Sender, blank, place_of, gather, is_empty, put, stream_of}
-use Rattle.proof_protocol.specs.Rules.{Waits, IsSettled, accepts, begins, numbers, gives_up, part, end_of}
+use Rattle.proof_protocol.specs.Rules.{Waits, IsSettled, accepts, begins, numbers, gives_up, part, placeholder_of}
 use Rattle.proof_protocol.specs.Sending.{Waiting, Queued}
 use Rattle.proof_protocol.specs.Invariant.{Outgoing}
 use Rattle.proof_protocol.proofs.ToolsLemmas.{put_at, put_off, put_keeps, not_both, gathered_push, gathered_off}
@@ -33,12 +33,12 @@ module _ (message : ℕ → Message) (is_interleaved : Bool) (o : Sender) (out :
               | inl s ↦ record {
                 below = omega (arith, s);
                 not_begun = false_from_ne_true (o.begun p) (λ h. let a = out.begun_below p h in omega (arith, a, s));
-                not_given = false_from_ne_true (o.given_up p) (λ h. let a = out.given_below p h in omega (arith, a, s));
+                not_given_up = false_from_ne_true (o.given_up p) (λ h. let a = out.given_up_below p h in omega (arith, a, s));
               }
               | inr d ↦
                   let x = q.waits p w (sym (put_off queue o.accepted (Some w0) p d) ∙ e) b in
                   let l = x.below in
-                  record { below = omega (arith, l); not_begun = x.not_begun; not_given = x.not_given }
+                  record { below = omega (arith, l); not_begun = x.not_begun; not_given_up = x.not_given_up }
             ];
         partly = λ p w e b.
             elim (cases_eq p o.accepted) [
@@ -94,7 +94,7 @@ module _ (message : ℕ → Message) (is_interleaved : Bool) (o : Sender) (out :
               | inl s ↦ absurd (not_both (sym (ap (λ z. z.begun) (here a v s f))) n)
               | inr d ↦
                   let x = q.waits a v (sym (off a d) ∙ f) n in
-                  record { below = x.below; not_begun = put_off o.begun p true a d ∙ x.not_begun; not_given = x.not_given }
+                  record { below = x.below; not_begun = put_off o.begun p true a d ∙ x.not_begun; not_given_up = x.not_given_up }
             ];
         partly = λ a v f n.
             elim (cases_eq a p) [
@@ -136,7 +136,7 @@ module _ (message : ℕ → Message) (is_interleaved : Bool) (o : Sender) (out :
         waits = λ a v g n.
             elim (cases_eq a p) [
               | inl s ↦ let c = (some a v s g).1 in absurd (not_both (sym (ap (λ z. z.begun) c)) n)
-              | inr d ↦ let x = q.waits a v (sym (off a d) ∙ g) n in record { below = x.below; not_begun = x.not_begun; not_given = x.not_given }
+              | inr d ↦ let x = q.waits a v (sym (off a d) ∙ g) n in record { below = x.below; not_begun = x.not_begun; not_given_up = x.not_given_up }
             ];
         partly = λ a v g n.
             elim (cases_eq a p) [
@@ -190,13 +190,13 @@ module _ (message : ℕ → Message) (is_interleaved : Bool) (o : Sender) (out :
         waits = λ a v g n.
             let d = never a v g in
             let y = q.waits a v (sym (off a d) ∙ g) n in
-            record { below = y.below; not_begun = y.not_begun; not_given = put_off o.given_up p true a d ∙ y.not_given };
+            record { below = y.below; not_begun = y.not_begun; not_given_up = put_off o.given_up p true a d ∙ y.not_given_up };
         partly = λ a v g n. q.partly a v (sym (off a (never a v g)) ∙ g) n;
         rest = λ a v g. q.rest a v (sym (off a (never a v g)) ∙ g);
       }
 
   -- what was given up while partly sent has a placeholder end, and the rest leaves the queue
-  pub queued_close : (p : ℕ) (w : Waiting) → queue p ≡ Some w → w.begun ≡ true → Queued message (gives_up (numbers o (end_of o p)) p) (put queue p None)
+  pub queued_close : (p : ℕ) (w : Waiting) → queue p ≡ Some w → w.begun ≡ true → Queued message (gives_up (numbers o (placeholder_of o p)) p) (put queue p None)
   queued_close p w e b =
       let off : ((a : ℕ) → a ≢ p → put queue p None a ≡ queue a) = (λ a d. put_off queue p None a d) in
       let never : ((a : ℕ) (v : Waiting) → put queue p None a ≡ Some v → a ≢ p) = (λ a v g s. none_some (put queue p None a) v g (put_at queue p None a s)) in
@@ -212,12 +212,12 @@ module _ (message : ℕ → Message) (is_interleaved : Bool) (o : Sender) (out :
         waits = λ a v g n.
             let d = never a v g in
             let y = q.waits a v (sym (off a d) ∙ g) n in
-            record { below = y.below; not_begun = y.not_begun; not_given = put_off o.given_up p true a d ∙ y.not_given };
+            record { below = y.below; not_begun = y.not_begun; not_given_up = put_off o.given_up p true a d ∙ y.not_given_up };
         partly = λ a v g n. let d = never a v g in put_off o.partly p false a d ∙ q.partly a v (sym (off a d) ∙ g) n;
         rest = λ a v g.
             let d = never a v g in
             let m : p ≢ a = λ s. d (sym s) in
-            ap (λ z. z ++ v.rest) (gathered_off a o.numbered (end_of o p) m) ∙ q.rest a v (sym (off a d) ∙ g);
+            ap (λ z. z ++ v.rest) (gathered_off a o.numbered (placeholder_of o p) m) ∙ q.rest a v (sym (off a d) ∙ g);
       }
 
   -- a message that is fully numbered is given up
@@ -227,7 +227,7 @@ module _ (message : ℕ → Message) (is_interleaved : Bool) (o : Sender) (out :
     waits = λ a v g n.
         let d : a ≢ p = λ s. none_some (queue a) v g (ap queue s ∙ e) in
         let y = q.waits a v g n in
-        record { below = y.below; not_begun = y.not_begun; not_given = put_off o.given_up p true a d ∙ y.not_given };
+        record { below = y.below; not_begun = y.not_begun; not_given_up = put_off o.given_up p true a d ∙ y.not_given_up };
     partly = q.partly;
     rest = q.rest;
   }

@@ -2,8 +2,8 @@
 use Rattle.std.proofs.Common.{◌≡◌, ℕ, zero, suc, ◌+◌, ◌<◌, ◌≤◌, Bool, true, false, not, cond, ◌&&◌, ◌||◌, inl, inr, Option, Some, None, ◌++◌, replicate, refl, sym, ap, ◌∙◌, subst, arith, eqb, ltb, append-nil, append_assoc}
 use Rattle.std.proofs.lemmas.Bool.{cases_eq, and_parts, and_from, or_left, or_right, cond-true, cond-false, not-true, not_from_false}
 use Rattle.proof_protocol.specs.State.{Message, Fragment, ForwardPoint, Sender, Receiver, Transfer, fragment, place_of, count, ordered_of, stream_of}
-use Rattle.proof_protocol.specs.Rules.{leave, Happens, after, run, report, drops, skips, takes, forgets, covers, raise, floor}
-use Rattle.proof_protocol.specs.Reassembly.{Chunk, MessageKey, chunk_with, chunk_of, message_key, Queue, Added, IsLate, keep_undropped, Forwarded, unforgotten, Forgotten, Sees, KeyLaws}
+use Rattle.proof_protocol.specs.Rules.{ack_point_advances, Happens, after, run, report, drops, skips, takes, performs_reset, covers, raise, floor}
+use Rattle.proof_protocol.specs.Reassembly.{Chunk, MessageKey, chunk_with, chunk_of, message_key, Queue, Added, IsLate, keep_undropped, Forwarded, keep_other_streams, ResetPerformed, Sees, KeyLaws}
 use Rattle.proof_protocol.specs.State.{IsAmong}
 use Rattle.proof_protocol.specs.Invariant.{Outgoing, Incoming}
 use Rattle.proof_protocol.proofs.ToolsLemmas.{put_at, put_off, put_true, put_keeps}
@@ -85,16 +85,16 @@ module _ (Key : Type 0) (succ : Key → Key) (message : ℕ → Message) (is_int
     ready_is = z.ready ∙ s.ready_is;
   }
 
-  pub unforgotten_some : (a : ℕ) (c : Option Chunk) (w : Chunk) → unforgotten Key succ a c ≡ Some w → (c ≡ Some w) × (eqb w.stream a ≡ false)
+  pub unforgotten_some : (a : ℕ) (c : Option Chunk) (w : Chunk) → keep_other_streams Key succ a c ≡ Some w → (c ≡ Some w) × (eqb w.stream a ≡ false)
   unforgotten_some a None w e = cc
   unforgotten_some a (Some v) w e = let x = cond_none (eqb v.stream a) v w e in (ap Some x.1, subst (λ z. eqb z.stream a ≡ false) x.1 x.0)
 
   -- a stream was reset, and its next number is the sender's count
-  pub sees_forgotten : (a : ℕ) → i.next a ≡ o.counts true a → Forgotten Key succ q r a (o.counts true a) (o.counts false a) → Sees Key succ message is_interleaved o (forgets message o i a) key r
+  pub sees_forgotten : (a : ℕ) → i.next a ≡ o.counts true a → ResetPerformed Key succ q r a (o.counts true a) (o.counts false a) → Sees Key succ message is_interleaved o (performs_reset message o i a) key r
   sees_forgotten a aligned z = record {
     holds = λ u h.
         let p = and_parts (i.held u) (not (eqb (stream_of message (place_of o u)) a)) h in
-        z.chunks (key u) ∙ (ap (unforgotten Key succ a) (s.holds u p.0)
+        z.chunks (key u) ∙ (ap (keep_other_streams Key succ a) (s.holds u p.0)
         ∙ cond-false (eqb (stream_of message (place_of o u)) a) None (Some (chunk_of message is_interleaved o u)) (not-true (eqb (stream_of message (place_of o u)) a) p.1));
     held = λ κ w e.
         let x = unforgotten_some a (q.chunks κ) w (sym (z.chunks κ) ∙ e) in
@@ -160,12 +160,12 @@ module _ (Key : Type 0) (succ : Key → Key) (message : ℕ → Message) (is_int
 -- a SACK takes all items below its point away, one after another
 module _ (message : ℕ → Message) (is_interleaved : Bool) where
   pub leave_all : (n c : ℕ) (x : Transfer) → IsAmong c x.sacks → x.acknowledged + n ≤ c
-      → Happens message is_interleaved x (replicate n (leave c)) × (run message is_interleaved x (replicate n (leave c)) ≡ record x { acknowledged = x.acknowledged + n; reports = x.reports ++ reports_of x.sender x.acknowledged n })
+      → Happens message is_interleaved x (replicate n (ack_point_advances c)) × (run message is_interleaved x (replicate n (ack_point_advances c)) ≡ record x { acknowledged = x.acknowledged + n; reports = x.reports ++ reports_of x.sender x.acknowledged n })
   leave_all zero c x a h =
       let e : x.acknowledged ≡ x.acknowledged + 0 = omega arith in
       (tt, ap (λ z. let y : Transfer = record x { acknowledged = z } in y) e ∙ ap (λ z. let y : Transfer = record x { acknowledged = x.acknowledged + 0; reports = z } in y) (sym (append-nil x.reports)))
   leave_all (suc n) c x a h =
-      let ih = leave_all n c (after message is_interleaved x (leave c)) a (omega (arith, h)) in
+      let ih = leave_all n c (after message is_interleaved x (ack_point_advances c)) a (omega (arith, h)) in
       let e : suc x.acknowledged + n ≡ x.acknowledged + suc n = omega arith in
       let lt : x.acknowledged < c = omega (arith, h) in (
         ((a, lt), ih.0),

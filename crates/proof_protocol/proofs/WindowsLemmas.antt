@@ -3,7 +3,7 @@ use Rattle.std.proofs.Common.{◌≡◌, ℕ, suc, ◌+◌, ◌-◌, ◌%◌, �
 use Rattle.std.proofs.lemmas.Bool.{cases_lt, cases_Bool, cond-true, cond-false, lt-ltb, le-ltb}
 use Rattle.proof_protocol.specs.State.{Message, ForwardPoint, Transfer, place_of, count, IsAmong, ordered_of, stream_of}
 use Rattle.proof_protocol.specs.Rules.{covers}
-use Rattle.proof_protocol.specs.Windows.{Windows, IsNear, IsTimely, IsFront}
+use Rattle.proof_protocol.specs.Windows.{Windows, IsNear, IsTimely, IsFirstUnseen}
 use Rattle.sctp_serial.specs.Unwrapped.{wire, nearest}
 use Rattle.proof_protocol.specs.Invariant.{Invariant}
 use Rattle.proof_protocol.proofs.ToolsLemmas.{not_both}
@@ -20,7 +20,7 @@ module _ (message : ℕ → Message) (is_interleaved : Bool) (x : Transfer) (k :
 
   module _ (windows : Windows message x) where
     -- a fragment that was kept when n were numbered comes in time
-    pub data_window : (f t n : ℕ) → IsFront x.receiver f → t < n → n ≤ t + 2 ^ 30 → IsTimely x n → IsNear (2 ^ 31) f t
+    pub data_window : (f t n : ℕ) → IsFirstUnseen x.receiver f → t < n → n ≤ t + 2 ^ 30 → IsTimely x n → IsNear (2 ^ 31) f t
     data_window f t n front a b timely =
         let w = front_window f front.0 front.1 in
         let lo = w.0 in

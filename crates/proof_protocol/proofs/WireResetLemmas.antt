@@ -3,12 +3,12 @@ use Rattle.std.proofs.Common.{◌≡◌, ℕ, ◌+◌, ◌-◌, ◌<◌, ◌||�
 use Rattle.std.specs.Prelude.{nat_le}
 use Rattle.std.proofs.lemmas.Bool.{eqb-true, eq-eqb}
 use Rattle.proof_protocol.specs.State.{Message, Transfer, count, put}
-use Rattle.proof_protocol.specs.Rules.{late_comes, forget, send_sack, IsAllowed, IsResettable}
-use Rattle.proof_protocol.specs.Reassembly.{Chunk, MessageKey, Queue, KeyOf, next_of, key_of, below_of, IsLate, Forgotten, unforgotten, NoneReady}
+use Rattle.proof_protocol.specs.Rules.{late_comes, perform_reset, send_sack, IsAllowed, IsResettable}
+use Rattle.proof_protocol.specs.Reassembly.{Chunk, MessageKey, Queue, KeyOf, next_of, key_of, below_of, IsLate, ResetPerformed, keep_other_streams, NoneReady}
 use Rattle.proof_protocol.specs.Invariant.{Invariant}
 use Rattle.proof_protocol.specs.Joints.{Refines, LeadsTo}
 use Rattle.proof_protocol.specs.Resets.{restarts}
-use Rattle.proof_protocol.specs.Lifted.{down_key, up_key, is_from, up_chunk, up_some, lift, wire_chunk, IsNow, IsRebased}
+use Rattle.proof_protocol.specs.Lifted.{down_key, up_key, is_from, up_chunk, up_some, lift, wire_chunk, IsOfCurrentEpoch, IsRebased}
 use Rattle.proof_protocol.proofs.ReceiverRowLemmas.{key_laws, late_chunk, sack_made, stream_reset}
 use Rattle.proof_protocol.proofs.LiftedLemmas.{lift_at, none_up, number_up, up_wire_chunk}
 
@@ -31,7 +31,7 @@ module _ (base : Bool → ℕ → ℕ) (is_interleaved : Bool) (q : Queue (KeyOf
           omega (arith, n, l)
 
 pub wire_late_row : (message : ℕ → Message) (is_interleaved : Bool) (base : Bool → ℕ → ℕ) (x : Transfer) (q : Queue (KeyOf is_interleaved) (next_of is_interleaved)) (t : ℕ)
-    → Invariant message is_interleaved x → Refines message is_interleaved x (lift base is_interleaved q) → t < count x.sender → x.receiver.seen t ≡ false → IsNow base message x.sender t
+    → Invariant message is_interleaved x → Refines message is_interleaved x (lift base is_interleaved q) → t < count x.sender → x.receiver.seen t ≡ false → IsOfCurrentEpoch base message x.sender t
     → IsLate (KeyOf is_interleaved) (next_of is_interleaved) is_interleaved q (wire_chunk message is_interleaved x.sender t) → NoneReady is_interleaved q
     → LeadsTo message is_interleaved x (late_comes t) [] (lift base is_interleaved q)
 wire_late_row message is_interleaved base x q t k s within unseen now late none =
@@ -66,7 +66,7 @@ module _ (message : ℕ → Message) (base new : Bool → ℕ → ℕ) (x : Tran
   off_stream kind a e = is kind a ∙ ap (λ b. cond b (x.sender.counts kind s) (base kind a)) e
 
   -- what is left of a chunk
-  chunk_left : (is_interleaved : Bool) (o : Option Chunk) → up_some new is_interleaved (unforgotten (KeyOf is_interleaved) (next_of is_interleaved) s o) ≡ unforgotten (KeyOf is_interleaved) (next_of is_interleaved) s (up_some base is_interleaved o)
+  chunk_left : (is_interleaved : Bool) (o : Option Chunk) → up_some new is_interleaved (keep_other_streams (KeyOf is_interleaved) (next_of is_interleaved) s o) ≡ keep_other_streams (KeyOf is_interleaved) (next_of is_interleaved) s (up_some base is_interleaved o)
   chunk_left is_interleaved None = refl
   chunk_left is_interleaved (Some w) = go (eqb w.stream s) refl
     where
@@ -75,11 +75,11 @@ module _ (message : ℕ → Message) (base new : Bool → ℕ → ℕ) (x : Tran
       go false e = rw e (ap (λ n. Some (let v : Chunk = record w { number = cond (w.ordered || is_interleaved) (n + w.number) w.number } in v)) (off_stream w.ordered w.stream e))
 
   -- a chunk of the stream is forgotten
-  none_left : (is_interleaved : Bool) (o : Option Chunk) → ((w : Chunk) → o ≡ Some w → w.stream ≡ s) → unforgotten (KeyOf is_interleaved) (next_of is_interleaved) s o ≡ None
+  none_left : (is_interleaved : Bool) (o : Option Chunk) → ((w : Chunk) → o ≡ Some w → w.stream ≡ s) → keep_other_streams (KeyOf is_interleaved) (next_of is_interleaved) s o ≡ None
   none_left is_interleaved None h = refl
   none_left is_interleaved (Some w) h = ap (λ b. cond b None (Some w)) (eq-eqb w.stream s (h w refl))
 
-  module _ (is_interleaved : Bool) (q r : Queue (KeyOf is_interleaved) (next_of is_interleaved)) (z : Forgotten (KeyOf is_interleaved) (next_of is_interleaved) q r s 0 0) where
+  module _ (is_interleaved : Bool) (q r : Queue (KeyOf is_interleaved) (next_of is_interleaved)) (z : ResetPerformed (KeyOf is_interleaved) (next_of is_interleaved) q r s 0 0) where
     number_left : (kind : Bool) (left before : ℕ → ℕ) → ((a : ℕ) → left a ≡ put before s 0 a)
         → (a : ℕ) → new kind a + left a ≡ put (λ c. base kind c + before c) s (x.sender.counts kind s) a
     number_left kind left before h a = go (eqb a s) refl
@@ -97,12 +97,12 @@ module _ (message : ℕ → Message) (base new : Bool → ℕ → ℕ) (x : Tran
             omega (arith, l, n, p)
 
   -- without interleaving the keys stay; with it those of the stream are no longer held
-  chunks_left : (is_interleaved : Bool) (q r : Queue (KeyOf is_interleaved) (next_of is_interleaved)) → Refines message is_interleaved x (lift base is_interleaved q) → Forgotten (KeyOf is_interleaved) (next_of is_interleaved) q r s 0 0
-      → (κ : KeyOf is_interleaved) → (lift new is_interleaved r).chunks κ ≡ unforgotten (KeyOf is_interleaved) (next_of is_interleaved) s ((lift base is_interleaved q).chunks κ)
+  chunks_left : (is_interleaved : Bool) (q r : Queue (KeyOf is_interleaved) (next_of is_interleaved)) → Refines message is_interleaved x (lift base is_interleaved q) → ResetPerformed (KeyOf is_interleaved) (next_of is_interleaved) q r s 0 0
+      → (κ : KeyOf is_interleaved) → (lift new is_interleaved r).chunks κ ≡ keep_other_streams (KeyOf is_interleaved) (next_of is_interleaved) s ((lift base is_interleaved q).chunks κ)
   chunks_left false q r shows z κ = ap (up_some new false) (z.chunks κ) ∙ chunk_left false (q.chunks κ)
   chunks_left true q r shows z κ = go (eqb κ.stream s) refl
     where
-      go : (b : Bool) → eqb κ.stream s ≡ b → (lift new true r).chunks κ ≡ unforgotten MessageKey (next_of true) s ((lift base true q).chunks κ)
+      go : (b : Bool) → eqb κ.stream s ≡ b → (lift new true r).chunks κ ≡ keep_other_streams MessageKey (next_of true) s ((lift base true q).chunks κ)
       go true e = gone (is_from new true κ) refl ∙ sym (none_left true ((lift base true q).chunks κ) (λ w h.
           let y = shows.held κ w h in
           ap (λ (v : Chunk). v.stream) y.3 ∙ (ap (λ (c : MessageKey). c.stream) y.2 ∙ eqb-true κ.stream s e)))
@@ -124,18 +124,18 @@ module _ (message : ℕ → Message) (base new : Bool → ℕ → ℕ) (x : Tran
           at_base : new κ.ordered κ.stream ≡ base κ.ordered κ.stream → (lift new true r).chunks κ ≡ seen_by (base κ.ordered κ.stream)
           at_base n = ap seen_by n
 
-          by : (c : Bool) → is_from base true κ ≡ c → seen_by (base κ.ordered κ.stream) ≡ unforgotten MessageKey (next_of true) s ((lift base true q).chunks κ)
+          by : (c : Bool) → is_from base true κ ≡ c → seen_by (base κ.ordered κ.stream) ≡ keep_other_streams MessageKey (next_of true) s ((lift base true q).chunks κ)
           by true f =
               ap (λ b. cond b (up_some new true (r.chunks (down_key base true κ))) None) f
               ∙ (ap (up_some new true) (z.chunks (down_key base true κ))
               ∙ (chunk_left true (q.chunks (down_key base true κ))
-              ∙ ap (unforgotten MessageKey (next_of true) s) (sym (ap (λ b. cond b (up_some base true (q.chunks (down_key base true κ))) None) f))))
+              ∙ ap (keep_other_streams MessageKey (next_of true) s) (sym (ap (λ b. cond b (up_some base true (q.chunks (down_key base true κ))) None) f))))
           by false f =
               ap (λ b. cond b (up_some new true (r.chunks (down_key base true κ))) None) f
-              ∙ ap (unforgotten MessageKey (next_of true) s) (sym (ap (λ b. cond b (up_some base true (q.chunks (down_key base true κ))) None) f))
+              ∙ ap (keep_other_streams MessageKey (next_of true) s) (sym (ap (λ b. cond b (up_some base true (q.chunks (down_key base true κ))) None) f))
 
-  pub forgotten_up : (is_interleaved : Bool) (q r : Queue (KeyOf is_interleaved) (next_of is_interleaved)) → Refines message is_interleaved x (lift base is_interleaved q) → Forgotten (KeyOf is_interleaved) (next_of is_interleaved) q r s 0 0
-      → Forgotten (KeyOf is_interleaved) (next_of is_interleaved) (lift base is_interleaved q) (lift new is_interleaved r) s (x.sender.counts true s) (x.sender.counts false s)
+  pub forgotten_up : (is_interleaved : Bool) (q r : Queue (KeyOf is_interleaved) (next_of is_interleaved)) → Refines message is_interleaved x (lift base is_interleaved q) → ResetPerformed (KeyOf is_interleaved) (next_of is_interleaved) q r s 0 0
+      → ResetPerformed (KeyOf is_interleaved) (next_of is_interleaved) (lift base is_interleaved q) (lift new is_interleaved r) s (x.sender.counts true s) (x.sender.counts false s)
   forgotten_up is_interleaved q r shows z = record {
     chunks = chunks_left is_interleaved q r shows z;
     next = number_left is_interleaved q r z true r.next q.next z.next;
@@ -145,7 +145,7 @@ module _ (message : ℕ → Message) (base new : Bool → ℕ → ℕ) (x : Tran
 
 pub wire_reset_row : (message : ℕ → Message) (is_interleaved : Bool) (base new : Bool → ℕ → ℕ) (x : Transfer) (q r : Queue (KeyOf is_interleaved) (next_of is_interleaved)) (s c : ℕ)
     → Invariant message is_interleaved x → Refines message is_interleaved x (lift base is_interleaved q) → IsResettable message x.sender x.receiver s c → IsRebased base new x.sender s
-    → Forgotten (KeyOf is_interleaved) (next_of is_interleaved) q r s 0 0 → NoneReady is_interleaved q → LeadsTo message is_interleaved x (forget s c) [] (lift new is_interleaved r)
+    → ResetPerformed (KeyOf is_interleaved) (next_of is_interleaved) q r s 0 0 → NoneReady is_interleaved q → LeadsTo message is_interleaved x (perform_reset s c) [] (lift new is_interleaved r)
 wire_reset_row message is_interleaved base new x q r s c k shows resettable is z none =
     stream_reset (KeyOf is_interleaved) (next_of is_interleaved) message is_interleaved x k (key_of is_interleaved message x.sender) (below_of is_interleaved) (key_laws message is_interleaved x k) (lift base is_interleaved q) shows (lift new is_interleaved r) s c
     resettable (forgotten_up message base new x s is is_interleaved q r shows z) (none_up base is_interleaved q none)

@@ -2,7 +2,7 @@
 use Rattle.std.specs.Prelude.{◌≡◌, ℕ, ◌+◌, ◌^◌, ◌<◌, ◌≤◌, Bool, true, false, List, ◌++◌}
 use Rattle.proof_protocol.specs.State.{Message, Entry, ForwardPoint, Sender, IsAmong, has, count, place_of, stream_of, ordered_of}
 use Rattle.proof_protocol.specs.Rules.{covers}
-use Rattle.proof_protocol.specs.Resets.{Request, Epochs, InOrder}
+use Rattle.proof_protocol.specs.Resets.{Request, Epochs, EpochInvariant}
 
 -- how many messages of its kind were numbered on its stream before a message's epoch
 abbrev pub base_at : (ℕ → Message) → Epochs → ℕ → ℕ
@@ -61,21 +61,21 @@ module _ (message : ℕ → Message) where
   -- ---- what comes is of the epoch that the receiver is in
 
   -- a fragment that was not seen
-  abbrev pub UnseenIsNow : Epochs → Type 0
-  UnseenIsNow x = (t : ℕ) → t < count x.transfer.sender → x.transfer.receiver.seen t ≡ false
+  abbrev pub UnseenIsOfCurrentEpoch : Epochs → Type 0
+  UnseenIsOfCurrentEpoch x = (t : ℕ) → t < count x.transfer.sender → x.transfer.receiver.seen t ≡ false
       → x.epoch (place_of x.transfer.sender t) ≡ x.performed (stream_of message (place_of x.transfer.sender t))
 
   -- a message with the number that a forward point names, where the point passes a fragment that was not seen: no number of its stream
   -- and kind is named above it
-  abbrev pub NamedIsNow : Epochs → Type 0
-  NamedIsNow x = (f : ForwardPoint) (u s n : ℕ) (kind : Bool) → IsAmong f x.transfer.forward_points → u < f.upto → x.transfer.receiver.seen u ≡ false
+  abbrev pub NamedIsOfCurrentEpoch : Epochs → Type 0
+  NamedIsOfCurrentEpoch x = (f : ForwardPoint) (u s n : ℕ) (kind : Bool) → IsAmong f x.transfer.forward_points → u < f.upto → x.transfer.receiver.seen u ≡ false
       → covers f.entries kind s n ≡ true → ((m : ℕ) → covers f.entries kind s m ≡ true → m ≤ n)
       → (p : ℕ) × (x.transfer.sender.begun p ≡ true) × (ordered_of message p ≡ kind) × (stream_of message p ≡ s) × (x.transfer.sender.number p ≡ n)
       × (x.epoch p ≡ x.performed s) × (x.base s (x.performed s) kind ≤ n)
 
   -- so its entry is written with the base that the receiver has
-  abbrev pub EntriesAreNow : Epochs → Type 0
-  EntriesAreNow x = (f : ForwardPoint) (u : ℕ) (e : Entry) → IsAmong f x.transfer.forward_points → u < f.upto → x.transfer.receiver.seen u ≡ false
+  abbrev pub EntriesAreOfCurrentEpoch : Epochs → Type 0
+  EntriesAreOfCurrentEpoch x = (f : ForwardPoint) (u : ℕ) (e : Entry) → IsAmong f x.transfer.forward_points → u < f.upto → x.transfer.receiver.seen u ≡ false
       → IsAmong e f.entries → ((m : ℕ) → covers f.entries e.ordered e.stream m ≡ true → m ≤ e.number)
       → x.base e.stream (x.performed e.stream) e.ordered + e.written ≡ e.number
 
@@ -107,5 +107,5 @@ module _ (message : ℕ → Message) where
 
 module _ (message : ℕ → Message) (is_interleaved : Bool) where
   pub record InEpochs (x : Epochs) : Type 0 where
-    pub order : InOrder message is_interleaved x
+    pub order : EpochInvariant message is_interleaved x
     pub based : Based message x

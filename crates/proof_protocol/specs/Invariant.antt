@@ -24,7 +24,7 @@ module _ (message : ℕ → Message) where
   pub record Outgoing (o : Sender) : Type 0 where
     pub place_begun : (t : ℕ) → t < count o → o.begun (place_of o t) ≡ true
     pub begun_below : (p : ℕ) → o.begun p ≡ true → p < o.accepted
-    pub given_below : (p : ℕ) → o.given_up p ≡ true → p < o.accepted
+    pub given_up_below : (p : ℕ) → o.given_up p ≡ true → p < o.accepted
     pub partly_begun : (p : ℕ) → o.partly p ≡ true → o.begun p ≡ true
     pub partly_kept : (p : ℕ) → o.partly p ≡ true → o.given_up p ≡ false
     -- on a stream, messages are numbered one after another

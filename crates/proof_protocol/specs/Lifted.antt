@@ -53,8 +53,8 @@ wire_key true message o t = record {
 }
 
 -- a fragment of the epoch that the receiver is in
-abbrev pub IsNow : (Bool → ℕ → ℕ) → (ℕ → Message) → Sender → ℕ → Type 0
-IsNow base message o t = base (ordered_of message (place_of o t)) (stream_of message (place_of o t)) + o.written (place_of o t) ≡ o.number (place_of o t)
+abbrev pub IsOfCurrentEpoch : (Bool → ℕ → ℕ) → (ℕ → Message) → Sender → ℕ → Type 0
+IsOfCurrentEpoch base message o t = base (ordered_of message (place_of o t)) (stream_of message (place_of o t)) + o.written (place_of o t) ≡ o.number (place_of o t)
 
 -- a forward point with its numbers as they are written
 abbrev pub as_written : Entry → Entry
@@ -64,8 +64,8 @@ abbrev pub wire_point : ForwardPoint → ForwardPoint
 wire_point f = record f { entries = map as_written f.entries }
 
 -- each entry is of the epoch that the receiver is in
-abbrev pub AreEntriesNow : (Bool → ℕ → ℕ) → ForwardPoint → Type 0
-AreEntriesNow base f = (e : Entry) → IsAmong e f.entries → base e.ordered e.stream + e.written ≡ e.number
+abbrev pub AreEntriesOfCurrentEpoch : (Bool → ℕ → ℕ) → ForwardPoint → Type 0
+AreEntriesOfCurrentEpoch base f = (e : Entry) → IsAmong e f.entries → base e.ordered e.stream + e.written ≡ e.number
 
 -- after a reset of stream s its numbers count from what the sender counted
 abbrev pub IsRebased : (base new : Bool → ℕ → ℕ) → Sender → ℕ → Type 0

@@ -124,13 +124,13 @@ module _ (Key : Type 0) (succ : Key → Key) where
     pub ready : r.ready ≡ q.ready
 
   -- what the reset of stream s leaves of a chunk
-  abbrev pub unforgotten : ℕ → Option Chunk → Option Chunk
-  unforgotten s None = None
-  unforgotten s (Some w) = cond (w.stream == s) None (Some w)
+  abbrev pub keep_other_streams : ℕ → Option Chunk → Option Chunk
+  keep_other_streams s None = None
+  keep_other_streams s (Some w) = cond (w.stream == s) None (Some w)
 
   -- a stream was reset: its numbers count on from what the sender counted
-  pub record Forgotten (q r : Queue) (s ordered_count unordered_count : ℕ) : Type 0 where
-    pub chunks : (κ : Key) → r.chunks κ ≡ unforgotten s (q.chunks κ)
+  pub record ResetPerformed (q r : Queue) (s ordered_count unordered_count : ℕ) : Type 0 where
+    pub chunks : (κ : Key) → r.chunks κ ≡ keep_other_streams s (q.chunks κ)
     pub next : (a : ℕ) → r.next a ≡ put q.next s ordered_count a
     pub passed : (a : ℕ) → r.passed_below a ≡ put q.passed_below s unordered_count a
     pub ready : r.ready ≡ q.ready

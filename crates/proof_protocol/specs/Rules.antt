@@ -3,26 +3,26 @@
 use Rattle.std.specs.Prelude.{◌≡◌, ℕ, suc, ◌<◌, ◌≤◌, ◌==◌, ◌&&◌, ◌||◌, not, nat_lt, nat_le, max, Bool, true, false, cond, ◌⊎◌, List, [], ◌∷◌, ◌++◌}
 use Rattle.proof_protocol.specs.State.{Message, Fragment, Entry, ForwardPoint, Sender, Receiver, Transfer, fragment, place_of, count, put, IsAmong, gather, parts, is_empty, stream_of, ordered_of}
 
-pub data Event : Type 0 where
-  accept : Event  -- the next message goes into the send queue
-  begin : (p : ℕ) → Event  -- a message takes its SSN or MID
-  number : (p : ℕ) (bytes more : List ℕ) → Event  -- its next fragment takes a TSN, and `more` is left of it
-  close : (p : ℕ) → Event  -- a placeholder end takes a TSN
-  give_up : (p : ℕ) → Event
-  data_comes : (t : ℕ) → Event
-  late_comes : (t : ℕ) → Event  -- a fragment of a message that was given up: seen, and not held
-  deliver : (p : ℕ) → Event  -- a message becomes ready
-  send_sack : (c : ℕ) → Event  -- it acknowledges the fragments below c
-  leave : (c : ℕ) → Event  -- such a SACK has come, and one fragment leaves the sender
-  send_forward : (f : ForwardPoint) → Event
-  forward_comes : (f : ForwardPoint) → Event
-  forget : (s c : ℕ) → Event  -- an outgoing reset request of stream s is performed (RFC 6525 section 5.2.2)
+pub data Rule : Type 0 where
+  accept : Rule  -- the next message goes into the send queue
+  begin : (p : ℕ) → Rule  -- a message takes its SSN or MID
+  number : (p : ℕ) (bytes more : List ℕ) → Rule  -- its next fragment takes a TSN, and `more` is left of it
+  end_with_placeholder : (p : ℕ) → Rule  -- a placeholder end takes a TSN
+  give_up : (p : ℕ) → Rule
+  data_comes : (t : ℕ) → Rule
+  late_comes : (t : ℕ) → Rule  -- a fragment of a message that was given up: seen, and not held
+  become_ready : (p : ℕ) → Rule  -- a message becomes ready
+  send_sack : (c : ℕ) → Rule  -- it acknowledges the fragments below c
+  ack_point_advances : (c : ℕ) → Rule  -- such a SACK has come, and one fragment leaves the sender
+  send_forward : (f : ForwardPoint) → Rule
+  forward_comes : (f : ForwardPoint) → Rule
+  perform_reset : (s c : ℕ) → Rule  -- an outgoing reset request of stream s is performed (RFC 6525 section 5.2.2)
 
 -- not numbered, and not given up
 pub record Waits (o : Sender) (p : ℕ) : Type 0 where
   pub below : p < o.accepted
   pub not_begun : o.begun p ≡ false
-  pub not_given : o.given_up p ≡ false
+  pub not_given_up : o.given_up p ≡ false
 
 -- out of the send queue
 pub record IsSettled (o : Sender) (p : ℕ) : Type 0 where
@@ -60,8 +60,8 @@ gives_up o p = record o { given_up = put o.given_up p true }
 abbrev pub part : Sender → ℕ → List ℕ → List ℕ → Fragment
 part o p bytes more = record { place = p; index = parts p o.numbered; is_end = is_empty more; placeholder = false; payload = bytes }
 
-abbrev pub end_of : Sender → ℕ → Fragment
-end_of o p = record { place = p; index = parts p o.numbered; is_end = true; placeholder = true; payload = [] }
+abbrev pub placeholder_of : Sender → ℕ → Fragment
+placeholder_of o p = record { place = p; index = parts p o.numbered; is_end = true; placeholder = true; payload = [] }
 
 abbrev pub takes : Receiver → ℕ → Receiver
 takes i t = record i { seen = put i.seen t true; held = put i.held t true }
@@ -94,8 +94,8 @@ module _ (message : ℕ → Message) where
     pub complete : Complete o i p
     pub in_turn : ordered_of message p ≡ true → o.number p ≡ i.next (stream_of message p)
 
-  abbrev pub delivers : Sender → Receiver → ℕ → Receiver
-  delivers o i p = record i {
+  abbrev pub makes_ready : Sender → Receiver → ℕ → Receiver
+  makes_ready o i p = record i {
     held = λ t. i.held t && not (place_of o t == p);
     next = λ s. cond (ordered_of message p && (s == stream_of message p)) (suc (o.number p)) (i.next s);
     places = i.places ++ p ∷ [];
@@ -103,8 +103,8 @@ module _ (message : ℕ → Message) where
   }
 
   -- a stream is reset: no fragment of it is held, and none of its old messages comes any more
-  abbrev pub forgets : Sender → Receiver → ℕ → Receiver
-  forgets o i s = record i {
+  abbrev pub performs_reset : Sender → Receiver → ℕ → Receiver
+  performs_reset o i s = record i {
     held = λ t. i.held t && not (stream_of message (place_of o t) == s);
     passed_below = put i.passed_below s (o.counts false s);
   }
@@ -143,7 +143,7 @@ module _ (message : ℕ → Message) (is_interleaved : Bool) where
   pub record IsDue (o : Sender) (acknowledged : ℕ) (f : ForwardPoint) : Type 0 where
     pub ahead : acknowledged < f.upto
     pub within : f.upto ≤ count o
-    pub all_given : (t : ℕ) → acknowledged ≤ t → t < f.upto → o.given_up (place_of o t) ≡ true
+    pub all_given_up : (t : ℕ) → acknowledged ≤ t → t < f.upto → o.given_up (place_of o t) ≡ true
     -- each stream touched is named, with the greatest number touched
     pub touched : (t : ℕ) → acknowledged ≤ t → t < f.upto → (ordered_of message (place_of o t) || is_interleaved) ≡ true
         → covers f.entries (ordered_of message (place_of o t)) (stream_of message (place_of o t)) (o.number (place_of o t)) ≡ true
@@ -153,45 +153,45 @@ module _ (message : ℕ → Message) (is_interleaved : Bool) where
     pub as_written : AreWritten o acknowledged f.upto f.entries
 
   -- may this happen now?
-  abbrev pub IsAllowed : Transfer → Event → Type 0
+  abbrev pub IsAllowed : Transfer → Rule → Type 0
   IsAllowed x accept = Unit {0}
   IsAllowed x (begin p) =
       Waits x.sender p × ((q : ℕ) → q < p → stream_of message q ≡ stream_of message p → IsSettled x.sender q)
       × (is_interleaved ≡ false → (q : ℕ) → x.sender.partly q ≡ false)
   IsAllowed x (number p bytes more) = (x.sender.partly p ≡ true) × (gather p x.sender.numbered ++ (bytes ++ more) ≡ (message p).payload)
-  IsAllowed x (close p) = x.sender.partly p ≡ true
+  IsAllowed x (end_with_placeholder p) = x.sender.partly p ≡ true
   IsAllowed x (give_up p) = (p < x.sender.accepted) × (x.sender.partly p ≡ false) × (x.sender.given_up p ≡ false)
   IsAllowed x (data_comes t) = (t < count x.sender) × ((fragment x.sender t).placeholder ≡ false) × (x.receiver.seen t ≡ false)
   IsAllowed x (late_comes t) =
       (t < count x.sender) × (x.receiver.seen t ≡ false)
       × (x.sender.number (place_of x.sender t) < floor x.receiver (ordered_of message (place_of x.sender t)) (stream_of message (place_of x.sender t)))
-  IsAllowed x (deliver p) = IsRipe message x.sender x.receiver p
+  IsAllowed x (become_ready p) = IsRipe message x.sender x.receiver p
   IsAllowed x (send_sack c) = ((t : ℕ) → t < c → x.receiver.seen t ≡ true) × ((p : ℕ) → IsRipe message x.sender x.receiver p → ⊥)
-  IsAllowed x (leave c) = IsAmong c x.sacks × (x.acknowledged < c)
+  IsAllowed x (ack_point_advances c) = IsAmong c x.sacks × (x.acknowledged < c)
   IsAllowed x (send_forward f) = IsDue x.sender x.acknowledged f
   IsAllowed x (forward_comes f) = IsAmong f x.forward_points
-  IsAllowed x (forget s c) = IsResettable message x.sender x.receiver s c
+  IsAllowed x (perform_reset s c) = IsResettable message x.sender x.receiver s c
 
-  abbrev pub after : Transfer → Event → Transfer
+  abbrev pub after : Transfer → Rule → Transfer
   after x accept = record x { sender = accepts x.sender }
   after x (begin p) = record x { sender = begins message x.sender p }
   after x (number p bytes more) = record x { sender = numbers x.sender (part x.sender p bytes more) }
-  after x (close p) = record x { sender = numbers x.sender (end_of x.sender p) }
+  after x (end_with_placeholder p) = record x { sender = numbers x.sender (placeholder_of x.sender p) }
   after x (give_up p) = record x { sender = gives_up x.sender p }
   after x (data_comes t) = record x { receiver = takes x.receiver t }
   after x (late_comes t) = record x { receiver = marks x.receiver t }
-  after x (deliver p) = record x { receiver = delivers message x.sender x.receiver p }
+  after x (become_ready p) = record x { receiver = makes_ready message x.sender x.receiver p }
   after x (send_sack c) = record x { sacks = c ∷ x.sacks }
-  after x (leave c) = record x { acknowledged = suc x.acknowledged; reports = x.reports ++ report x.sender x.acknowledged }
+  after x (ack_point_advances c) = record x { acknowledged = suc x.acknowledged; reports = x.reports ++ report x.sender x.acknowledged }
   after x (send_forward f) = record x { forward_points = f ∷ x.forward_points }
   after x (forward_comes f) = record x { receiver = skips x.sender x.receiver f }
-  after x (forget s c) = record x { receiver = forgets message x.sender x.receiver s }
+  after x (perform_reset s c) = record x { receiver = performs_reset message x.sender x.receiver s }
 
   -- a whole schedule may happen from this state
-  abbrev pub Happens : Transfer → List Event → Type 0
+  abbrev pub Happens : Transfer → List Rule → Type 0
   Happens x [] = Unit {0}
   Happens x (e ∷ es) = IsAllowed x e × Happens (after x e) es
 
-  abbrev pub run : Transfer → List Event → Transfer
+  abbrev pub run : Transfer → List Rule → Transfer
   run x [] = x
   run x (e ∷ es) = run (after x e) es

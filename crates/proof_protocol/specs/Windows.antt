@@ -18,5 +18,5 @@ abbrev pub IsTimely : Transfer → ℕ → Type 0
 IsTimely x n = (n ≤ count x.sender) × (count x.sender < n + 2 ^ 30)
 
 -- the first fragment that is not seen
-abbrev pub IsFront : Receiver → ℕ → Type 0
-IsFront i f = (i.seen f ≡ false) × ((t : ℕ) → t < f → i.seen t ≡ true)
+abbrev pub IsFirstUnseen : Receiver → ℕ → Type 0
+IsFirstUnseen i f = (i.seen f ≡ false) × ((t : ℕ) → t < f → i.seen t ≡ true)

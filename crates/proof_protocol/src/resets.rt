@@ -2,11 +2,11 @@
 //! the stream's last reset.
 
 ghost use Rattle.std.specs.Prelude.{◌≡◌, ◌+◌, ◌<◌, ◌≤◌, Bool, List, false, suc, true, ℕ};
-ghost use Rattle.proof_protocol.specs.Based.{Based, Bracketed, EntriesAreNow, EpochWindows, InEpochs, NamedIsNow, NothingWaits, UnseenIsNow, base_at};
+ghost use Rattle.proof_protocol.specs.Based.{Based, Bracketed, EntriesAreOfCurrentEpoch, EpochWindows, InEpochs, NamedIsOfCurrentEpoch, NothingWaits, UnseenIsOfCurrentEpoch, base_at};
 ghost use Rattle.proof_protocol.specs.Claims.{Claims};
 ghost use Rattle.proof_protocol.specs.Invariant.{IsDone, Invariant};
-ghost use Rattle.proof_protocol.specs.Lifted.{IsNow};
-ghost use Rattle.proof_protocol.specs.Resets.{EachInItsEpoch, Epochs, InOrder, MayAll, MayReset, Request, ResetEvent, commit, first_epoch, go_all, goes};
+ghost use Rattle.proof_protocol.specs.Lifted.{IsOfCurrentEpoch};
+ghost use Rattle.proof_protocol.specs.Resets.{EachInItsEpoch, Epochs, EpochInvariant, MayAll, MayReset, Request, ResetEvent, commit, first_epoch, go_all, goes};
 ghost use Rattle.proof_protocol.specs.Rules.{IsResettable, covers};
 ghost use Rattle.proof_protocol.specs.Windows.{IsNear};
 ghost use Rattle.proof_protocol.specs.State.{ForwardPoint, IsAmong, Message, Transfer, count, ordered_of, place_of, stream_of};
@@ -37,10 +37,10 @@ pub fn each_in_its_epoch()
 /// The invariant of the rules with resets holds at first, each step keeps it, and it gives the claim. It contains the
 /// invariant of the transfer, so the transfer's claims hold with resets too.
 pub fn order_is_kept()
-    ensures first { (message : ℕ → Message) (is_interleaved : Bool) → InOrder message is_interleaved first_epoch }
+    ensures first { (message : ℕ → Message) (is_interleaved : Bool) → EpochInvariant message is_interleaved first_epoch }
     ensures step { (message : ℕ → Message) (is_interleaved : Bool) (x : Epochs) (e : ResetEvent) →
-        InOrder message is_interleaved x → MayReset message is_interleaved x e → InOrder message is_interleaved (goes message is_interleaved x e) }
-    ensures claims { (message : ℕ → Message) (is_interleaved : Bool) (x : Epochs) → InOrder message is_interleaved x → EachInItsEpoch message is_interleaved x }
+        EpochInvariant message is_interleaved x → MayReset message is_interleaved x e → EpochInvariant message is_interleaved (goes message is_interleaved x e) }
+    ensures claims { (message : ℕ → Message) (is_interleaved : Bool) (x : Epochs) → EpochInvariant message is_interleaved x → EachInItsEpoch message is_interleaved x }
 {}
 
 /// With the bases of the epochs, too: the invariant holds at first, and each step keeps it. On the wire a number is the one here
@@ -63,11 +63,11 @@ pub fn epochs_are_kept()
 /// numbers that a forward point names, where the point moves the front of what is seen: their entries are written with the base
 /// that the receiver has. What was sent before a reset of its stream was performed, and comes late, was seen.
 pub fn what_comes_is_of_its_epoch()
-    ensures fragments { (message : ℕ → Message) (is_interleaved : Bool) (x : Epochs) → InEpochs message is_interleaved x → UnseenIsNow message x }
+    ensures fragments { (message : ℕ → Message) (is_interleaved : Bool) (x : Epochs) → InEpochs message is_interleaved x → UnseenIsOfCurrentEpoch message x }
     ensures wire { (message : ℕ → Message) (is_interleaved : Bool) (x : Epochs) (t : ℕ) → InEpochs message is_interleaved x → t < count x.transfer.sender →
-        x.transfer.receiver.seen t ≡ false → IsNow (λ kind s. x.base s (x.performed s) kind) message x.transfer.sender t }
-    ensures points { (message : ℕ → Message) (is_interleaved : Bool) (x : Epochs) → InEpochs message is_interleaved x → NamedIsNow message x }
-    ensures entries { (message : ℕ → Message) (is_interleaved : Bool) (x : Epochs) → InEpochs message is_interleaved x → EntriesAreNow message x }
+        x.transfer.receiver.seen t ≡ false → IsOfCurrentEpoch (λ kind s. x.base s (x.performed s) kind) message x.transfer.sender t }
+    ensures points { (message : ℕ → Message) (is_interleaved : Bool) (x : Epochs) → InEpochs message is_interleaved x → NamedIsOfCurrentEpoch message x }
+    ensures entries { (message : ℕ → Message) (is_interleaved : Bool) (x : Epochs) → InEpochs message is_interleaved x → EntriesAreOfCurrentEpoch message x }
 {}
 
 /// While a request waits to be performed, nothing of its stream is numbered above its last TSN, and a forward point that goes on

@@ -4,7 +4,7 @@
 ghost use Rattle.std.specs.Prelude.{◌≡◌, ◌+◌, ◌<◌, ◌≤◌, ◌++◌, Bool, List, None, Option, Some, [], ◌∷◌, cond, false, replicate, true, ℕ};
 ghost use Rattle.proof_protocol.specs.Joints.{Sends, reports_of};
 ghost use Rattle.proof_protocol.specs.Invariant.{Invariant};
-ghost use Rattle.proof_protocol.specs.Rules.{accept, begin, close, give_up, Happens, leave, number, run};
+ghost use Rattle.proof_protocol.specs.Rules.{accept, begin, end_with_placeholder, give_up, Happens, ack_point_advances, number, run};
 ghost use Rattle.proof_protocol.specs.Sending.{Queued, Waiting};
 ghost use Rattle.proof_protocol.specs.State.{IsAmong, Message, Transfer, is_empty, put, stream_of};
 
@@ -46,7 +46,7 @@ pub fn unsent_is_given_up()
 pub fn partly_sent_is_given_up()
     ensures sends { (message : ℕ → Message) (is_interleaved : Bool) (x : Transfer) (queue : ℕ → Option Waiting) (p : ℕ) (w : Waiting) →
         Invariant message is_interleaved x → Queued message x.sender queue → queue p ≡ Some w → w.begun ≡ true →
-        Sends message is_interleaved x (close p ∷ give_up p ∷ []) (put queue p None) }
+        Sends message is_interleaved x (end_with_placeholder p ∷ give_up p ∷ []) (put queue p None) }
 {}
 
 /// A message is given up all of whose fragments have a TSN, and that was not given up before.
@@ -59,8 +59,8 @@ pub fn sent_is_given_up()
 /// A SACK that was ever sent takes all fragments below its point away, with the reports in the order of their TSNs.
 pub fn sack_comes()
     ensures may { (message : ℕ → Message) (is_interleaved : Bool) (x : Transfer) (n c : ℕ) → IsAmong c x.sacks → x.acknowledged + n ≤ c →
-        Happens message is_interleaved x (replicate n (leave c)) }
+        Happens message is_interleaved x (replicate n (ack_point_advances c)) }
     ensures leads { (message : ℕ → Message) (is_interleaved : Bool) (x : Transfer) (n c : ℕ) → IsAmong c x.sacks → x.acknowledged + n ≤ c →
-        run message is_interleaved x (replicate n (leave c))
+        run message is_interleaved x (replicate n (ack_point_advances c))
         ≡ record x { acknowledged = x.acknowledged + n; reports = x.reports ++ reports_of x.sender x.acknowledged n } }
 {}

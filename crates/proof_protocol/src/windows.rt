@@ -4,7 +4,7 @@ ghost use Rattle.std.specs.Prelude.{◌≡◌, ◌+◌, ◌^◌, ◌<◌, ◌≤
 ghost use Rattle.proof_protocol.specs.Invariant.{Invariant};
 ghost use Rattle.proof_protocol.specs.Rules.{covers};
 ghost use Rattle.proof_protocol.specs.State.{ForwardPoint, IsAmong, Message, Transfer, count, ordered_of, place_of, stream_of};
-ghost use Rattle.proof_protocol.specs.Windows.{IsFront, IsNear, IsTimely, Windows};
+ghost use Rattle.proof_protocol.specs.Windows.{IsFirstUnseen, IsNear, IsTimely, Windows};
 ghost use Rattle.sctp_serial.specs.Unwrapped.{nearest, wire};
 
 /// A number that lies less than half its space from where it is looked for is read as it was meant: TSNs, MIDs and
@@ -18,7 +18,7 @@ pub fn numbers_are_read()
 /// its own was kept. Where nothing is missing the front is the sender's count.
 pub fn data_is_near()
     ensures near { (message : ℕ → Message) (is_interleaved : Bool) (x : Transfer) (f t n : ℕ) → Invariant message is_interleaved x → Windows message x →
-        IsFront x.receiver f → t < n → n ≤ t + 2 ^ 30 → IsTimely x n → IsNear (2 ^ 31) f t }
+        IsFirstUnseen x.receiver f → t < n → n ≤ t + 2 ^ 30 → IsTimely x n → IsNear (2 ^ 31) f t }
 {}
 
 /// A SACK's cumulative point is near the sender's own, where it was emitted when n fragments were numbered and the

@@ -12,8 +12,8 @@ use Rattle.sctp_rx.specs.Tracker as tracker
 use Rattle.sctp_rx.specs.Tracker.{Tracker, IsTracker, moves_on, observe}
 use Rattle.sctp_rx.specs.ReassemblyQueue.{Reassembly, Deferred, number_of, fragment_waits, waiting_in, came, add, forward, defer, forward_now}
 use Rattle.proof_protocol.specs.State.{Message, ForwardPoint, Transfer, IsAmong, count}
-use Rattle.proof_protocol.specs.Rules.{Event, accept, begin, number, close, give_up, data_comes, late_comes, deliver, send_sack, leave, send_forward, forward_comes, forget, IsAllowed, Happens, after, run}
-use Rattle.proof_protocol.specs.Lifted.{wire_point, IsNow, AreEntriesNow}
+use Rattle.proof_protocol.specs.Rules.{Rule, accept, begin, number, end_with_placeholder, give_up, data_comes, late_comes, become_ready, send_sack, ack_point_advances, send_forward, forward_comes, perform_reset, IsAllowed, Happens, after, run}
+use Rattle.proof_protocol.specs.Lifted.{wire_point, IsOfCurrentEpoch, AreEntriesOfCurrentEpoch}
 use Rattle.proof_protocol.specs.Points.{AreApart}
 use Rattle.proof_protocol.specs.Invariant.{Invariant}
 use Rattle.proof_protocol.specs.Resets.{Request, Epochs, transfers, MayReset, MayAll, goes, go_all}
@@ -34,39 +34,39 @@ use Rattle.proof_rx_refines.proofs.DeferralLemmas.{fragment_at_once, point_calle
 
 -- ---- the rules go on
 
-abbrev is_arrival : Event → Bool
+abbrev is_arrival : Rule → Bool
 is_arrival (data_comes t) = true
 is_arrival (late_comes t) = true
-is_arrival (deliver p) = true
+is_arrival (become_ready p) = true
 is_arrival (forward_comes f) = true
 is_arrival e = false
 
-all_ready : (ps : List ℕ) → list_all is_arrival (map deliver ps) ≡ true
+all_ready : (ps : List ℕ) → list_all is_arrival (map become_ready ps) ≡ true
 all_ready [] = refl
 all_ready (p ∷ ps) = all_ready ps
 
 module _ (message : ℕ → Message) (is_interleaved : Bool) where
-  one_gone : (x : Epochs) (e : Event) → is_arrival e ≡ true → IsAllowed message is_interleaved x.transfer e
+  one_gone : (x : Epochs) (e : Rule) → is_arrival e ≡ true → IsAllowed message is_interleaved x.transfer e
       → MayReset message is_interleaved x (transfers e) × (goes message is_interleaved x (transfers e) ≡ record x { transfer = after message is_interleaved x.transfer e })
   one_gone x (data_comes t) is may = ((may, tt), refl)
   one_gone x (late_comes t) is may = ((may, tt), refl)
-  one_gone x (deliver p) is may = ((may, tt), refl)
+  one_gone x (become_ready p) is may = ((may, tt), refl)
   one_gone x (forward_comes f) is may = ((may, tt), refl)
   one_gone x accept is may = cc
   one_gone x (begin p) is may = cc
   one_gone x (number p bytes more) is may = cc
-  one_gone x (close p) is may = cc
+  one_gone x (end_with_placeholder p) is may = cc
   one_gone x (give_up p) is may = cc
   one_gone x (send_sack c) is may = cc
-  one_gone x (leave c) is may = cc
+  one_gone x (ack_point_advances c) is may = cc
   one_gone x (send_forward f) is may = cc
-  one_gone x (forget s c) is may = cc
+  one_gone x (perform_reset s c) is may = cc
 
-  record Gone (x : Epochs) (es : List Event) : Type 0 where
+  record Gone (x : Epochs) (es : List Rule) : Type 0 where
     may : MayAll message is_interleaved x (map transfers es)
     is : go_all message is_interleaved x (map transfers es) ≡ record x { transfer = run message is_interleaved x.transfer es }
 
-  gone : (es : List Event) (x : Epochs) → list_all is_arrival es ≡ true → Happens message is_interleaved x.transfer es → Gone x es
+  gone : (es : List Rule) (x : Epochs) → list_all is_arrival es ≡ true → Happens message is_interleaved x.transfer es → Gone x es
   gone [] x all h = record { may = tt; is = refl }
   gone (e ∷ es) x all h =
       let a = and_parts (is_arrival e) (list_all is_arrival es) all in
@@ -122,7 +122,7 @@ module _ (message : ℕ → Message) (is_interleaved : Bool) (first shift : ℕ)
   abbrev kept : Invariant message is_interleaved x.transfer
   kept = k.order.kept
 
-  comes : (later : ℕ) (es : List Event) (u : Tracker) (s : Reassembly) → list_all is_arrival es ≡ true → ((w : ℕ) → r.first ≡ Some w → (later ≡ shift) × (s.first ≡ Some w))
+  comes : (later : ℕ) (es : List Rule) (u : Tracker) (s : Reassembly) → list_all is_arrival es ≡ true → ((w : ℕ) → r.first ≡ Some w → (later ≡ shift) × (s.first ≡ Some w))
       → GoesNear message is_interleaved (base_now x) first later x.transfer es handed r.deferred u s → Comes message is_interleaved first later x es handed u s
   comes later es u s all same n =
       let y = run message is_interleaved x.transfer es in
@@ -144,7 +144,7 @@ module _ (message : ℕ → Message) (is_interleaved : Bool) (first shift : ℕ)
 
   module _ (is_tracker : IsTracker t) (at tsn : ℕ) (f : FragmentTree) (few : AreFew x.transfer.sender) (tsn_is : tsn ≡ wire words first (origin + at)) (carries : Carries message is_interleaved x.transfer.sender at f)
       (written : IsWritten message is_interleaved x.transfer.sender at f) (unseen : was_seen t at ≡ false) (ordered : IsNearNext message x.transfer at) where
-    is_now : IsNow (base_now x) message x.transfer.sender at
+    is_now : IsOfCurrentEpoch (base_now x) message x.transfer.sender at
     is_now = unseen_on_wire message is_interleaved x k at carries.numbered (sym (shown.seen at) ∙ unseen)
 
     as_read : IsRead message is_interleaved (shift_after r.first shift at) x.transfer.sender r at tsn f
@@ -168,10 +168,10 @@ module _ (message : ℕ → Message) (is_interleaved : Bool) (first shift : ℕ)
     )
 
     pub held_while : (now : Bool) → is_behind message is_interleaved x.transfer.sender x.transfer.receiver at ≡ false
-        → (ps : List ℕ) × Comes message is_interleaved first (shift_after r.first shift at) x (data_comes at ∷ map deliver ps) handed (observe (origin + at) now t) (add tsn f r)
+        → (ps : List ℕ) × Comes message is_interleaved first (shift_after r.first shift at) x (data_comes at ∷ map become_ready ps) handed (observe (origin + at) now t) (add tsn f r)
     held_while now current =
         let l = held_comes message is_interleaved (base_now x) first shift x.transfer kept windows handed t r shown near at tsn f tsn_is carries unseen is_now is_tracker at_once few written ordered now current in
-        (l.0, comes (shift_after r.first shift at) (data_comes at ∷ map deliver l.0) (observe (origin + at) now t) (add tsn f r) (all_ready l.0) begun_then l.1)
+        (l.0, comes (shift_after r.first shift at) (data_comes at ∷ map become_ready l.0) (observe (origin + at) now t) (add tsn f r) (all_ready l.0) begun_then l.1)
 
     pub late_while : (now : Bool) → is_behind message is_interleaved x.transfer.sender x.transfer.receiver at ≡ true
         → Comes message is_interleaved first (shift_after r.first shift at) x (late_comes at ∷ []) handed (observe (origin + at) now t) (add tsn f r)
@@ -183,7 +183,7 @@ module _ (message : ℕ → Message) (is_interleaved : Bool) (first shift : ℕ)
 
   module _ (is_tracker : IsTracker t) (at tsn : ℕ) (f : ForwardPoint) (few : AreFew x.transfer.sender) (sent : IsAmong f x.transfer.forward_points) (last : f.upto ≡ suc at) (moves : moves_on (origin + at) t ≡ true)
       (tsn_is : tsn ≡ wire words first (origin + at)) (apart : AreApart f.entries) (ordered : AreNearNext x.transfer f) (xs : List SkippedStream) (are : AreEntries is_interleaved xs f.entries) where
-    are_now : AreEntriesNow (base_now x) f
+    are_now : AreEntriesOfCurrentEpoch (base_now x) f
     are_now e a =
         let u = front message is_interleaved (base_now x) shift x.transfer kept handed t r shown is_tracker in
         let below = front_below message is_interleaved (base_now x) shift x.transfer kept handed t r shown is_tracker at moves in
@@ -205,13 +205,13 @@ module _ (message : ℕ → Message) (is_interleaved : Bool) (first shift : ℕ)
             let same = same_shift at w.told w.begun in
             point_called message is_interleaved x k shift r.first d w r e tsn at xs f (omega (arith, here, same)) (point_below message is_interleaved x.transfer kept few at f sent last) last sent stand
 
-    pub point_while : (ps : List ℕ) × Comes message is_interleaved first (shift_after r.first shift at) x (forward_comes f ∷ map deliver ps) handed (tracker.forward (origin + at) t) (forward tsn xs r)
+    pub point_while : (ps : List ℕ) × Comes message is_interleaved first (shift_after r.first shift at) x (forward_comes f ∷ map become_ready ps) handed (tracker.forward (origin + at) t) (forward tsn xs r)
     point_while =
         let c = is_called in
         let l = point_comes message is_interleaved (base_now x) first shift x.transfer kept windows handed t r shown near is_tracker at tsn f sent last moves are_now tsn_is apart xs c few ordered are in
         let begun : (w : ℕ) → r.first ≡ Some w → (shift_after r.first shift at ≡ shift) × ((forward tsn xs r).first ≡ Some w) =
         λ w e. (same_shift at w e, ap (λ (z : Reassembly). z.first) c ∙ ap (λ (o : Option ℕ). Some (unwrap_or o tsn)) e) in
-        (l.0, comes (shift_after r.first shift at) (forward_comes f ∷ map deliver l.0) (tracker.forward (origin + at) t) (forward tsn xs r) (all_ready l.0) begun l.1)
+        (l.0, comes (shift_after r.first shift at) (forward_comes f ∷ map become_ready l.0) (tracker.forward (origin + at) t) (forward tsn xs r) (all_ready l.0) begun l.1)
 
   -- ---- a reset is deferred
 

@@ -17,7 +17,7 @@ use Rattle.sctp_rx.specs.Tracker.{Tracker}
 use Rattle.sctp_tracker.proofs.SeenOneFormLemmas.{contains_up_to}
 use Rattle.sctp_reassembly.proofs.SettledQueueLemmas.{settled_passes}
 use Rattle.proof_protocol.specs.State.{Message, Entry, ForwardPoint, Transfer, IsAmong, place_of, ordered_of}
-use Rattle.proof_protocol.specs.Rules.{forward_comes, deliver}
+use Rattle.proof_protocol.specs.Rules.{forward_comes, become_ready}
 use Rattle.proof_protocol.specs.Invariant.{Invariant}
 use Rattle.proof_protocol.specs.Reassembly.{Queue, KeyOf, next_of, key_of, below_of, KeyLaws}
 use Rattle.proof_protocol.proofs.ReceiverRowLemmas.{key_laws}
@@ -25,7 +25,7 @@ use Rattle.proof_protocol.proofs.LiftedLemmas.{wire_point_row}
 use Rattle.proof_rx_refines.specs.View.{IsSeenAs, was_seen, chunk_of_held, key_of_held, unordered_at, held_on, view_with, view_of}
 use Rattle.proof_rx_refines.specs.Read.{StandsFor, StandForAll, shift_after}
 use Rattle.proof_protocol.specs.Points.{IsApart, AreApart}
-use Rattle.proof_protocol.specs.Lifted.{up_chunk, as_written, wire_point, AreEntriesNow}
+use Rattle.proof_protocol.specs.Lifted.{up_chunk, as_written, wire_point, AreEntriesOfCurrentEpoch}
 use Rattle.proof_rx_refines.specs.Refinement.{ReceiverRefines, Goes}
 use Rattle.proof_rx_refines.proofs.KeyLemmas.{Decided, twice_not}
 use Rattle.proof_rx_refines.proofs.TakesLemmas.{takes_fewer, takes_readied}
@@ -87,7 +87,7 @@ written_apart (e ∷ es) h = (each es h.0, written_apart es h.1)
 module _ (message : ℕ → Message) (is_interleaved : Bool) (base : Bool → ℕ → ℕ) (before : ℕ) (x : Transfer) (kept : Invariant message is_interleaved x) (handed : List messages.Message) (t : Tracker) (r : Reassembly)
     (shown : ReceiverRefines message is_interleaved base before x handed t r)
     (k tsn : ℕ) (xs : List SkippedStream) (call_is : forward tsn xs r ≡ forward_now (number_of r tsn) xs (came tsn r)) (f : ForwardPoint) (sent : IsAmong f x.forward_points) (last : f.upto ≡ suc k) (tsn_is : number_of r tsn + shift_after r.first before k ≡ origin + k)
-    (stand : StandForAll is_interleaved r.streams xs (wire_point f).entries) (apart : AreApart f.entries) (are_now : AreEntriesNow base f) where
+    (stand : StandForAll is_interleaved r.streams xs (wire_point f).entries) (apart : AreApart f.entries) (are_now : AreEntriesOfCurrentEpoch base f) where
   abbrev shift : ℕ
   shift = shift_after r.first before k
 
@@ -163,7 +163,7 @@ module _ (message : ℕ → Message) (is_interleaved : Bool) (base : Bool → �
   pub first_is : (forward tsn xs r).first ≡ Some (unwrap_or r.first tsn)
   first_is = ap (λ z. z.first) call_is
 
-  pub row_point : (ps : List ℕ) × Goes message is_interleaved base shift x (forward_comes f ∷ map deliver ps) handed r.deferred (tracker.forward (origin + k) t) (forward tsn xs r)
+  pub row_point : (ps : List ℕ) × Goes message is_interleaved base shift x (forward_comes f ∷ map become_ready ps) handed r.deferred (tracker.forward (origin + k) t) (forward tsn xs r)
   row_point =
       let d = done in
       let settled = subst (λ z. AreSettled z.streams) call_is (settled_passes r shown.settled tsn xs) in
@@ -174,7 +174,7 @@ module _ (message : ℕ → Message) (is_interleaved : Bool) (base : Bool → �
       let l = wire_point_row message is_interleaved base x q m d.leads.queue f kept shown.refines sent are_now point (takes_readied is_interleaved d.leads.takes none_more) in
       let p' : IsSeenAs is_interleaved shift (view_of handed (apply_outcome outcome (came tsn r))) d.leads.queue = subst (λ z. IsSeenAs is_interleaved shift z d.leads.queue) (sym view_is) d.leads.seen_as in (
         l.0,
-        subst (λ z. Goes message is_interleaved base shift x (forward_comes f ∷ map deliver l.0) handed r.deferred (tracker.forward (origin + k) t) z) (sym call_is)
-            (goes_to message is_interleaved base shift x kept (forward_comes f) (map deliver l.0) d.leads.queue l.1 handed r.deferred (tracker.forward (origin + k) t) (apply_outcome outcome (came tsn r)) p'
+        subst (λ z. Goes message is_interleaved base shift x (forward_comes f ∷ map become_ready l.0) handed r.deferred (tracker.forward (origin + k) t) z) (sym call_is)
+            (goes_to message is_interleaved base shift x kept (forward_comes f) (map become_ready l.0) d.leads.queue l.1 handed r.deferred (tracker.forward (origin + k) t) (apply_outcome outcome (came tsn r)) p'
             (λ i. point_seen t x.receiver.seen shown.seen k f.upto i last) d.mode settled (λ e. cc) refl),
       )

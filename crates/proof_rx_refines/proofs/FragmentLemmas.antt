@@ -16,7 +16,7 @@ use Rattle.proof_protocol.specs.State.{Message, Transfer, Sender, fragment, orde
 use Rattle.proof_protocol.specs.Rules.{floor}
 use Rattle.proof_protocol.specs.Joints.{Refines}
 use Rattle.proof_protocol.specs.Reassembly.{Queue, KeyOf, next_of, IsLate}
-use Rattle.proof_protocol.specs.Lifted.{lift, wire_key, wire_chunk, IsNow}
+use Rattle.proof_protocol.specs.Lifted.{lift, wire_key, wire_chunk, IsOfCurrentEpoch}
 use Rattle.proof_rx_refines.specs.View.{IsFiled, IsSeenAs, chunk_of_held, key_of_held, ordered_at, unordered_at, view_of}
 use Rattle.proof_rx_refines.specs.Read.{Carries, IsRead, number_read, is_behind}
 
@@ -98,7 +98,7 @@ module _ (message : ℕ → Message) (is_interleaved : Bool) (shift : ℕ) (o : 
 
 module _ (message : ℕ → Message) (is_interleaved : Bool) (shift : ℕ) (x : Transfer) (handed : List messages.Message) (r : Reassembly) (k tsn : ℕ) (f : FragmentTree) (carries : Carries message is_interleaved x.sender k f) (read : IsRead message is_interleaved shift x.sender r k tsn f)
     (base : Bool → ℕ → ℕ) (q : Queue (KeyOf is_interleaved) (next_of is_interleaved)) (shows : Refines message is_interleaved x (lift base is_interleaved q)) (p : IsSeenAs is_interleaved shift (view_of handed r) q)
-    (current : IsNow base message x.sender k) where
+    (current : IsOfCurrentEpoch base message x.sender k) where
   abbrev place : ℕ
   place = rules.place_of x.sender k
 

@@ -15,10 +15,10 @@ use Rattle.sctp_rx.specs.Tracker.{Tracker, IsTracker, observe}
 use Rattle.sctp_tracker.proofs.SeenOneFormLemmas.{contains_add}
 use Rattle.sctp_reassembly.proofs.SettledQueueLemmas.{settled_arrives}
 use Rattle.proof_protocol.specs.State.{Message, Transfer, put}
-use Rattle.proof_protocol.specs.Rules.{data_comes, late_comes, deliver}
+use Rattle.proof_protocol.specs.Rules.{data_comes, late_comes, become_ready}
 use Rattle.proof_protocol.specs.Invariant.{Invariant}
 use Rattle.proof_protocol.specs.Reassembly.{Chunk, Queue, KeyOf, next_of, key_of, below_of, KeyLaws}
-use Rattle.proof_protocol.specs.Lifted.{up_key, up_chunk, up_some, lift, wire_key, wire_chunk, IsNow}
+use Rattle.proof_protocol.specs.Lifted.{up_key, up_chunk, up_some, lift, wire_key, wire_chunk, IsOfCurrentEpoch}
 use Rattle.proof_protocol.specs.Reassembly as queues
 use Rattle.proof_protocol.proofs.ReceiverRowLemmas.{key_laws}
 use Rattle.proof_protocol.proofs.LiftedLemmas.{lift_at, up_wire_key, up_wire_chunk, wire_chunk_row}
@@ -67,7 +67,7 @@ add_mode n f ss = go f.is_unordered
 
 module _ (message : ℕ → Message) (is_interleaved : Bool) (base : Bool → ℕ → ℕ) (before : ℕ) (x : Transfer) (kept : Invariant message is_interleaved x) (handed : List messages.Message) (t : Tracker) (r : Reassembly)
     (shown : ReceiverRefines message is_interleaved base before x handed t r)
-    (is_tracker : IsTracker t) (k tsn : ℕ) (f : FragmentTree) (at_once : fragment_waits (number_of r tsn) f.stream_id r.deferred ≡ false) (carries : Carries message is_interleaved x.sender k f) (read : IsRead message is_interleaved (shift_after r.first before k) x.sender r k tsn f) (unseen : was_seen t k ≡ false) (is_now : IsNow base message x.sender k) where
+    (is_tracker : IsTracker t) (k tsn : ℕ) (f : FragmentTree) (at_once : fragment_waits (number_of r tsn) f.stream_id r.deferred ≡ false) (carries : Carries message is_interleaved x.sender k f) (read : IsRead message is_interleaved (shift_after r.first before k) x.sender r k tsn f) (unseen : was_seen t k ≡ false) (is_now : IsOfCurrentEpoch base message x.sender k) where
   abbrev shift : ℕ
   shift = shift_after r.first before k
 
@@ -141,7 +141,7 @@ module _ (message : ℕ → Message) (is_interleaved : Bool) (base : Bool → �
   pub first_is : (add tsn f r).first ≡ Some (unwrap_or r.first tsn)
   first_is = ap (λ z. z.first) call_is
 
-  pub row_held : is_behind message is_interleaved x.sender x.receiver k ≡ false → (now : Bool) → (ps : List ℕ) × Goes message is_interleaved base shift x (data_comes k ∷ map deliver ps) handed r.deferred (observe (origin + k) now t) (add tsn f r)
+  pub row_held : is_behind message is_interleaved x.sender x.receiver k ≡ false → (now : Bool) → (ps : List ℕ) × Goes message is_interleaved base shift x (data_comes k ∷ map become_ready ps) handed r.deferred (observe (origin + k) now t) (add tsn f r)
   row_held current now =
       let a = arrival f.is_unordered refl in
       let p' : IsSeenAs is_interleaved shift (view_of handed (apply_outcome outcome (came tsn r))) a.leads.queue = subst (λ z. IsSeenAs is_interleaved shift z a.leads.queue) (sym view_is) a.leads.seen_as in
@@ -151,8 +151,8 @@ module _ (message : ℕ → Message) (is_interleaved : Bool) (base : Bool → �
       let none_more = none_left message is_interleaved base shift x kept outcome.streams ((handed ++ r.ready) ++ outcome.messages) a.leads.queue a.leads.seen_as settled (λ κ w e. sent a.middle comes κ w (takes_fewer is_interleaved a.leads.takes κ w e)) in
       let l = wire_chunk_row message is_interleaved base x q a.middle a.leads.queue k kept shown.refines carries.numbered carries.real unseen_there is_now comes (takes_readied is_interleaved a.leads.takes none_more) in (
         l.0,
-        subst (λ z. Goes message is_interleaved base shift x (data_comes k ∷ map deliver l.0) handed r.deferred (observe (origin + k) now t) z) (sym call_is)
-            (goes_to message is_interleaved base shift x kept (data_comes k) (map deliver l.0) a.leads.queue l.1 handed r.deferred (observe (origin + k) now t) (apply_outcome outcome (came tsn r)) p'
+        subst (λ z. Goes message is_interleaved base shift x (data_comes k ∷ map become_ready l.0) handed r.deferred (observe (origin + k) now t) z) (sym call_is)
+            (goes_to message is_interleaved base shift x kept (data_comes k) (map become_ready l.0) a.leads.queue l.1 handed r.deferred (observe (origin + k) now t) (apply_outcome outcome (came tsn r)) p'
             (λ n. observed_seen t is_tracker x.receiver.seen shown.seen k n now) mode_is settled (λ e. cc) refl),
       )
     where

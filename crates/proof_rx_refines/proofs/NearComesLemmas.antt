@@ -8,8 +8,8 @@ use Rattle.sctp_rx.specs.Tracker as tracker
 use Rattle.sctp_rx.specs.Tracker.{Tracker, IsTracker, moves_on, observe}
 use Rattle.sctp_rx.specs.ReassemblyQueue.{Reassembly, Deferred, number_of, fragment_waits, point_waits, came, add, forward, forward_now}
 use Rattle.proof_protocol.specs.State.{Message, ForwardPoint, Transfer, IsAmong}
-use Rattle.proof_protocol.specs.Rules.{Event, data_comes, late_comes, deliver, forward_comes, run}
-use Rattle.proof_protocol.specs.Lifted.{wire_point, IsNow, AreEntriesNow}
+use Rattle.proof_protocol.specs.Rules.{Rule, data_comes, late_comes, become_ready, forward_comes, run}
+use Rattle.proof_protocol.specs.Lifted.{wire_point, IsOfCurrentEpoch, AreEntriesOfCurrentEpoch}
 use Rattle.proof_protocol.specs.Invariant.{Invariant}
 use Rattle.proof_rx_refines.specs.View.{was_seen}
 use Rattle.proof_rx_refines.specs.Read.{Carries, IsRead, StandForAll, is_behind, shift_after}
@@ -31,7 +31,7 @@ module _ (message : ℕ → Message) (is_interleaved : Bool) (base : Bool → �
   -- ---- a fragment
 
   module _ (k tsn : ℕ) (f : FragmentTree) (tsn_is : tsn ≡ wire words first (origin + k)) (carries : Carries message is_interleaved x.sender k f) (unseen : was_seen t k ≡ false)
-      (is_now : IsNow base message x.sender k) where
+      (is_now : IsOfCurrentEpoch base message x.sender k) where
     abbrev later : ℕ
     later = shift_after r.first shift k
 
@@ -42,7 +42,7 @@ module _ (message : ℕ → Message) (is_interleaved : Bool) (base : Bool → �
         is_now m shown.mode e)
 
     module _ (is_tracker : IsTracker t) (at_once : fragment_waits (number_of r tsn) f.stream_id r.deferred ≡ false) where
-      pub near_then : IsRead message is_interleaved later x.sender r k tsn f → (now : Bool) (es : List Event) (waiting : Option Deferred)
+      pub near_then : IsRead message is_interleaved later x.sender r k tsn f → (now : Bool) (es : List Rule) (waiting : Option Deferred)
           → Goes message is_interleaved base later x es handed waiting (observe (origin + k) now t) (add tsn f r) → ReadsNear message is_interleaved base first later (run message is_interleaved x es) (add tsn f r)
       near_then read now es waiting goes = record {
         tsns = fragment_keeps message is_interleaved base first shift x kept windows handed t r shown near.tsns k tsn f tsn_is carries unseen at_once read es waiting (observe (origin + k) now t) goes;
@@ -51,11 +51,11 @@ module _ (message : ℕ → Message) (is_interleaved : Bool) (base : Bool → �
       }
 
       pub held_comes : AreFew x.sender → IsWritten message is_interleaved x.sender k f → IsNearNext message x k → (now : Bool) → is_behind message is_interleaved x.sender x.receiver k ≡ false
-          → (ps : List ℕ) × GoesNear message is_interleaved base first later x (data_comes k ∷ map deliver ps) handed r.deferred (observe (origin + k) now t) (add tsn f r)
+          → (ps : List ℕ) × GoesNear message is_interleaved base first later x (data_comes k ∷ map become_ready ps) handed r.deferred (observe (origin + k) now t) (add tsn f r)
       held_comes few written ordered now current =
           let read = is_read few written ordered in
           let l = row_held message is_interleaved base shift x kept handed t r shown is_tracker k tsn f at_once carries read unseen is_now current now in
-          (l.0, record { goes = l.1; near = near_then read now (data_comes k ∷ map deliver l.0) r.deferred l.1 })
+          (l.0, record { goes = l.1; near = near_then read now (data_comes k ∷ map become_ready l.0) r.deferred l.1 })
 
       pub late_comes_then : AreFew x.sender → IsWritten message is_interleaved x.sender k f → IsNearNext message x k → (now : Bool) → is_behind message is_interleaved x.sender x.receiver k ≡ true
           → GoesNear message is_interleaved base first later x (late_comes k ∷ []) handed r.deferred (observe (origin + k) now t) (add tsn f r)
@@ -70,10 +70,10 @@ module _ (message : ℕ → Message) (is_interleaved : Bool) (base : Bool → �
       at_once = ap (fragment_waits (number_of r tsn) f.stream_id) none
 
       pub held_near : AreFew x.sender → IsWritten message is_interleaved x.sender k f → IsNearNext message x k → (now : Bool) → is_behind message is_interleaved x.sender x.receiver k ≡ false
-          → (ps : List ℕ) × GoesNear message is_interleaved base first later x (data_comes k ∷ map deliver ps) handed None (observe (origin + k) now t) (add tsn f r)
+          → (ps : List ℕ) × GoesNear message is_interleaved base first later x (data_comes k ∷ map become_ready ps) handed None (observe (origin + k) now t) (add tsn f r)
       held_near few written ordered now current =
           let l = held_comes is_tracker at_once few written ordered now current in
-          (l.0, subst (λ (d : Option Deferred). GoesNear message is_interleaved base first later x (data_comes k ∷ map deliver l.0) handed d (observe (origin + k) now t) (add tsn f r)) none l.1)
+          (l.0, subst (λ (d : Option Deferred). GoesNear message is_interleaved base first later x (data_comes k ∷ map become_ready l.0) handed d (observe (origin + k) now t) (add tsn f r)) none l.1)
 
       pub late_near : AreFew x.sender → IsWritten message is_interleaved x.sender k f → IsNearNext message x k → (now : Bool) → is_behind message is_interleaved x.sender x.receiver k ≡ true
           → GoesNear message is_interleaved base first later x (late_comes k ∷ []) handed None (observe (origin + k) now t) (add tsn f r)
@@ -84,7 +84,7 @@ module _ (message : ℕ → Message) (is_interleaved : Bool) (base : Bool → �
   -- ---- a forward point
 
   module _ (is_tracker : IsTracker t) (k tsn : ℕ) (f : ForwardPoint) (sent : IsAmong f x.forward_points) (last : f.upto ≡ suc k) (moves : moves_on (origin + k) t ≡ true)
-      (are_now : AreEntriesNow base f) where
+      (are_now : AreEntriesOfCurrentEpoch base f) where
     pub entries_read : AreFew x.sender → AreApart f.entries → AreNearNext x f → (entries : List SkippedStream) → AreEntries is_interleaved entries f.entries
         → StandForAll is_interleaved r.streams entries (wire_point f).entries
     entries_read few apart ordered entries are =
@@ -97,7 +97,7 @@ module _ (message : ℕ → Message) (is_interleaved : Bool) (base : Bool → �
       read = point_is_read message is_interleaved base first shift x kept windows handed t r shown near.tsns is_tracker k tsn f sent last moves tsn_is
 
       module _ (entries : List SkippedStream) (call_is : forward tsn entries r ≡ forward_now (number_of r tsn) entries (came tsn r)) where
-        pub point_near_then : StandForAll is_interleaved r.streams entries (wire_point f).entries → (es : List Event) (waiting : Option Deferred)
+        pub point_near_then : StandForAll is_interleaved r.streams entries (wire_point f).entries → (es : List Rule) (waiting : Option Deferred)
             → Goes message is_interleaved base (shift_after r.first shift k) x es handed waiting (tracker.forward (origin + k) t) (forward tsn entries r)
             → ReadsNear message is_interleaved base first (shift_after r.first shift k) (run message is_interleaved x es) (forward tsn entries r)
         point_near_then stand es waiting goes = record {
@@ -107,11 +107,11 @@ module _ (message : ℕ → Message) (is_interleaved : Bool) (base : Bool → �
         }
 
         pub point_comes : AreFew x.sender → AreNearNext x f → AreEntries is_interleaved entries f.entries
-            → (ps : List ℕ) × GoesNear message is_interleaved base first (shift_after r.first shift k) x (forward_comes f ∷ map deliver ps) handed r.deferred (tracker.forward (origin + k) t) (forward tsn entries r)
+            → (ps : List ℕ) × GoesNear message is_interleaved base first (shift_after r.first shift k) x (forward_comes f ∷ map become_ready ps) handed r.deferred (tracker.forward (origin + k) t) (forward tsn entries r)
         point_comes few ordered are =
             let stand = entries_read few apart ordered entries are in
             let l = row_point message is_interleaved base shift x kept handed t r shown k tsn entries call_is f sent last read stand apart are_now in
-            (l.0, record { goes = l.1; near = point_near_then stand (forward_comes f ∷ map deliver l.0) r.deferred l.1 })
+            (l.0, record { goes = l.1; near = point_near_then stand (forward_comes f ∷ map become_ready l.0) r.deferred l.1 })
 
       -- where no reset is deferred
       module _ (none : r.deferred ≡ None) (few : AreFew x.sender) where
@@ -120,10 +120,10 @@ module _ (message : ℕ → Message) (is_interleaved : Bool) (base : Bool → �
             called_at_once r tsn k (shift_after r.first shift k) entries read (point_below message is_interleaved x kept few k f sent last) (ap (point_waits (number_of r tsn)) none)
 
         pub point_near : AreNearNext x f → (entries : List SkippedStream) → AreEntries is_interleaved entries f.entries
-            → (ps : List ℕ) × GoesNear message is_interleaved base first (shift_after r.first shift k) x (forward_comes f ∷ map deliver ps) handed None (tracker.forward (origin + k) t) (forward tsn entries r)
+            → (ps : List ℕ) × GoesNear message is_interleaved base first (shift_after r.first shift k) x (forward_comes f ∷ map become_ready ps) handed None (tracker.forward (origin + k) t) (forward tsn entries r)
         point_near ordered entries are =
             let l = point_comes entries (called entries) few ordered are in (
               l.0,
-              subst (λ (d : Option Deferred). GoesNear message is_interleaved base first (shift_after r.first shift k) x (forward_comes f ∷ map deliver l.0) handed d (tracker.forward (origin + k) t) (forward tsn entries r)) none
+              subst (λ (d : Option Deferred). GoesNear message is_interleaved base first (shift_after r.first shift k) x (forward_comes f ∷ map become_ready l.0) handed d (tracker.forward (origin + k) t) (forward tsn entries r)) none
                   l.1,
             )

@@ -8,7 +8,7 @@ use Rattle.sctp_rx.specs.Streams.{unordered_number}
 use Rattle.sctp_rx.specs.ReassemblyQueue.{Reassembly}
 use Rattle.proof_protocol.specs.State.{Message, Entry, ForwardPoint, Sender, Transfer, IsAmong, place_of, count, ordered_of, stream_of}
 use Rattle.proof_protocol.specs.Rules.{covers}
-use Rattle.proof_protocol.specs.Lifted.{IsNow}
+use Rattle.proof_protocol.specs.Lifted.{IsOfCurrentEpoch}
 use Rattle.proof_protocol.specs.Invariant.{Invariant, Outgoing}
 use Rattle.proof_protocol.proofs.DeliverLemmas.{lower_place}
 use Rattle.proof_protocol.proofs.SackLemmas.{end_before}
@@ -185,7 +185,7 @@ module _ (message : ℕ → Message) (is_interleaved : Bool) (base : Bool → �
       mid_read message is_interleaved base x kept windows e.stream (unordered_at r.streams e.stream).near (near.streams e.stream) z.0 f.upto e.written (own ∙ sym n) on z.3 (omega (arith, c, ahead))
 
   -- as the queue reads it
-  pub fragment_number : (k : ℕ) (f : FragmentTree) → Carries message is_interleaved x.sender k f → IsWritten message is_interleaved x.sender k f → x.acknowledged ≤ k → IsNow base message x.sender k → is_interleaved ≡ true → r.streams.is_interleaved ≡ is_interleaved → f.is_unordered ≡ true
+  pub fragment_number : (k : ℕ) (f : FragmentTree) → Carries message is_interleaved x.sender k f → IsWritten message is_interleaved x.sender k f → x.acknowledged ≤ k → IsOfCurrentEpoch base message x.sender k → is_interleaved ≡ true → r.streams.is_interleaved ≡ is_interleaved → f.is_unordered ≡ true
       → number_read true f r.streams ≡ origin + x.sender.written (place_of x.sender k)
   fragment_number k f carries written a now is_mixed mode e =
       let on : IsOn message x.sender f.stream_id k = record { numbered = carries.numbered; unordered = sym (twice_not f.is_unordered (ordered_of message (place_of x.sender k)) carries.kind) ∙ ap not e; stream = sym carries.stream } in

@@ -14,7 +14,7 @@ use Rattle.sctp_rx.specs.ReassemblyQueue.{Reassembly}
 use Rattle.proof_protocol.specs.State.{Message, Fragment, Entry, ForwardPoint, Sender, Transfer, IsAmong, fragment, place_of, count, parts, ordered_of, stream_of}
 use Rattle.proof_protocol.specs.Rules.{same, covers}
 use Rattle.proof_protocol.specs.Invariant.{Invariant, Outgoing}
-use Rattle.proof_protocol.specs.Lifted.{as_written, wire_chunk, wire_point, IsNow, AreEntriesNow}
+use Rattle.proof_protocol.specs.Lifted.{as_written, wire_chunk, wire_point, IsOfCurrentEpoch, AreEntriesOfCurrentEpoch}
 use Rattle.proof_protocol.proofs.ToolsLemmas.{same_is, among_covers}
 use Rattle.proof_protocol.proofs.DeliverLemmas.{lower_place}
 use Rattle.proof_protocol.proofs.WindowsLemmas.{words_read, halves_read}
@@ -102,7 +102,7 @@ module _ (message : ℕ → Message) (is_interleaved : Bool) (base : Bool → �
 
   -- ---- a fragment
 
-  module _ (k : ℕ) (f : FragmentTree) (carries : Carries message is_interleaved x.sender k f) (written : IsWritten message is_interleaved x.sender k f) (is_now : IsNow base message x.sender k) (near : IsNearNext message x k)
+  module _ (k : ℕ) (f : FragmentTree) (carries : Carries message is_interleaved x.sender k f) (written : IsWritten message is_interleaved x.sender k f) (is_now : IsOfCurrentEpoch base message x.sender k) (near : IsNearNext message x k)
       (unordered : is_interleaved ≡ true → f.is_unordered ≡ true → number_read true f r.streams ≡ origin + x.sender.written (place_of x.sender k)) where
     abbrev place : ℕ
     place = place_of x.sender k
@@ -159,7 +159,7 @@ module _ (message : ℕ → Message) (is_interleaved : Bool) (base : Bool → �
 
   -- ---- entries
 
-  module _ (few : AreFew x.sender) (f : ForwardPoint) (sent : IsAmong f x.forward_points) (are_now : AreEntriesNow base f) (near : AreNearNext x f)
+  module _ (few : AreFew x.sender) (f : ForwardPoint) (sent : IsAmong f x.forward_points) (are_now : AreEntriesOfCurrentEpoch base f) (near : AreNearNext x f)
       (unordered : is_interleaved ≡ true → (e : Entry) → IsAmong e f.entries → e.ordered ≡ false → nearest words 0 (unordered_at r.streams e.stream).near (wire words 0 (origin + e.written)) ≡ origin + e.written) where
     named_below : (e : Entry) → IsAmong e f.entries → e.written < 2 ^ 62
     named_below e a =

@@ -7,8 +7,8 @@ use Rattle.sctp_chunk.specs.declared.forward_tsn.SkippedStream.{SkippedStream}
 use Rattle.sctp_rx.specs.Tracker.{Tracker, IsTracker, moves_on}
 use Rattle.sctp_rx.specs.ReassemblyQueue.{Reassembly, Deferred, number_of, fragment_waits, came, add, forward, reassembly, forward_now}
 use Rattle.proof_protocol.specs.State.{Message, ForwardPoint, Transfer, IsAmong, place_of, count, start}
-use Rattle.proof_protocol.specs.Rules.{Event, IsAllowed, after, run}
-use Rattle.proof_protocol.specs.Lifted.{IsNow}
+use Rattle.proof_protocol.specs.Rules.{Rule, IsAllowed, after, run}
+use Rattle.proof_protocol.specs.Lifted.{IsOfCurrentEpoch}
 use Rattle.proof_protocol.specs.Invariant.{Invariant}
 use Rattle.proof_protocol.proofs.StepLemmas.{later}
 use Rattle.proof_rx_refines.specs.View.{was_seen}
@@ -39,7 +39,7 @@ module _ (message : ℕ → Message) (is_interleaved : Bool) (base : Bool → �
     pub kept_yet : x.acknowledged ≤ k
     kept_yet = not_acknowledged message is_interleaved x kept k (sym (shown.seen k) ∙ unseen)
 
-    pub fragment_is_read : AreFew x.sender → IsWritten message is_interleaved x.sender k f → IsNow base message x.sender k → IsNearNext message x k
+    pub fragment_is_read : AreFew x.sender → IsWritten message is_interleaved x.sender k f → IsOfCurrentEpoch base message x.sender k → IsNearNext message x k
         → (is_interleaved ≡ true → f.is_unordered ≡ true → number_read true f r.streams ≡ origin + x.sender.written (place_of x.sender k))
         → IsRead message is_interleaved (shift_after r.first shift k) x.sender r k tsn f
     fragment_is_read few written now ordered unordered = record {
@@ -50,7 +50,7 @@ module _ (message : ℕ → Message) (is_interleaved : Bool) (base : Bool → �
       index_below = index_below message is_interleaved x kept few k carries.numbered;
     }
 
-    pub fragment_keeps : fragment_waits (number_of r tsn) f.stream_id r.deferred ≡ false → IsRead message is_interleaved (shift_after r.first shift k) x.sender r k tsn f → (es : List Event) (waiting : Option Deferred) (u : Tracker)
+    pub fragment_keeps : fragment_waits (number_of r tsn) f.stream_id r.deferred ≡ false → IsRead message is_interleaved (shift_after r.first shift k) x.sender r k tsn f → (es : List Rule) (waiting : Option Deferred) (u : Tracker)
         → Goes message is_interleaved base (shift_after r.first shift k) x es handed waiting u (add tsn f r)
         → IsNearQueue first (shift_after r.first shift k) (run message is_interleaved x es) (add tsn f r)
     fragment_keeps at_once read es waiting u goes =
@@ -67,7 +67,7 @@ module _ (message : ℕ → Message) (is_interleaved : Bool) (base : Bool → �
     point_is_read = tsn_is_read message is_interleaved x kept windows first shift r near k tsn tsn_is unpassed (point_numbered message is_interleaved x kept k f sent last)
 
     pub point_keeps : (entries : List SkippedStream) → forward tsn entries r ≡ forward_now (number_of r tsn) entries (came tsn r)
-        → (es : List Event) (waiting : Option Deferred) (u : Tracker) → Goes message is_interleaved base (shift_after r.first shift k) x es handed waiting u (forward tsn entries r)
+        → (es : List Rule) (waiting : Option Deferred) (u : Tracker) → Goes message is_interleaved base (shift_after r.first shift k) x es handed waiting u (forward tsn entries r)
         → IsNearQueue first (shift_after r.first shift k) (run message is_interleaved x es) (forward tsn entries r)
     point_keeps entries call_is es waiting u goes =
         subst (λ z. IsNearQueue first (shift_after r.first shift k) (run message is_interleaved x es) z)
@@ -79,7 +79,7 @@ module _ (message : ℕ → Message) (is_interleaved : Bool) (base : Bool → �
 pub new_is_near : (is_interleaved : Bool) (first shift max_size : ℕ) → IsNearQueue first shift start (reassembly max_size is_interleaved)
 new_is_near is_interleaved first shift max_size w e = cc
 
-pub sender_keeps : (message : ℕ → Message) (is_interleaved : Bool) (first shift : ℕ) (x : Transfer) (e : Event) (r : Reassembly) → Invariant message is_interleaved x → IsAllowed message is_interleaved x e → (after message is_interleaved x e).receiver ≡ x.receiver
+pub sender_keeps : (message : ℕ → Message) (is_interleaved : Bool) (first shift : ℕ) (x : Transfer) (e : Rule) (r : Reassembly) → Invariant message is_interleaved x → IsAllowed message is_interleaved x e → (after message is_interleaved x e).receiver ≡ x.receiver
     → IsNearQueue first shift x r → IsNearQueue first shift (after message is_interleaved x e) r
 sender_keeps message is_interleaved first shift x e r kept may same near w h =
     let q = near w h in

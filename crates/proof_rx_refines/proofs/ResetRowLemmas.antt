@@ -19,7 +19,7 @@ use Rattle.sctp_rx.specs.ReassemblyQueue.{Reassembly, waiting_in, reset, apply_e
 use Rattle.sctp_rx.specs.Tracker.{Tracker}
 use Rattle.sctp_reassembly.proofs.SettledQueueLemmas.{settled_begins_anew}
 use Rattle.proof_protocol.specs.State.{Message, IsAmong, put, place_of, count, stream_of}
-use Rattle.proof_protocol.specs.Reassembly.{Chunk, Queue, KeyOf, next_of, nth, Forgotten, NoneReady, unforgotten}
+use Rattle.proof_protocol.specs.Reassembly.{Chunk, Queue, KeyOf, next_of, nth, ResetPerformed, NoneReady, keep_other_streams}
 use Rattle.proof_protocol.specs.Invariant.{Invariant}
 use Rattle.proof_protocol.specs.Joints.{Refines}
 use Rattle.proof_protocol.specs.Lifted.{lift, IsRebased}
@@ -87,12 +87,12 @@ without s v = record {
 
 module _ (is_interleaved : Bool) where
   abbrev forget_one : ℕ → Queue (KeyOf is_interleaved) (next_of is_interleaved) → Queue (KeyOf is_interleaved) (next_of is_interleaved)
-  forget_one s q = record { chunks = λ κ. unforgotten (KeyOf is_interleaved) (next_of is_interleaved) s (q.chunks κ); next = put q.next s 0; passed_below = put q.passed_below s 0; ready = q.ready }
+  forget_one s q = record { chunks = λ κ. keep_other_streams (KeyOf is_interleaved) (next_of is_interleaved) s (q.chunks κ); next = put q.next s 0; passed_below = put q.passed_below s 0; ready = q.ready }
 
-  is_forgotten : (s : ℕ) (q : Queue (KeyOf is_interleaved) (next_of is_interleaved)) → Forgotten (KeyOf is_interleaved) (next_of is_interleaved) q (forget_one s q) s 0 0
+  is_forgotten : (s : ℕ) (q : Queue (KeyOf is_interleaved) (next_of is_interleaved)) → ResetPerformed (KeyOf is_interleaved) (next_of is_interleaved) q (forget_one s q) s 0 0
   is_forgotten s q = record { chunks = λ κ. refl; next = λ a. refl; passed = λ a. refl; ready = refl }
 
-  left_some : (s : ℕ) (o : Option Chunk) (w : Chunk) → unforgotten (KeyOf is_interleaved) (next_of is_interleaved) s o ≡ Some w → (o ≡ Some w) × (eqb w.stream s ≡ false)
+  left_some : (s : ℕ) (o : Option Chunk) (w : Chunk) → keep_other_streams (KeyOf is_interleaved) (next_of is_interleaved) s o ≡ Some w → (o ≡ Some w) × (eqb w.stream s ≡ false)
   left_some s None w e = cc
   left_some s (Some v) w e = go (eqb v.stream s) refl e
     where
@@ -132,7 +132,7 @@ module _ (is_interleaved : Bool) where
           let z = p.holds kind a h c.0 in
           let off : eqb h.fragment.stream_id s ≡ false = ap (λ n. eqb n s) (p.filed kind a h c.0).stream_is ∙ c.1 in (
             z.0,
-            ap (unforgotten (KeyOf is_interleaved) (next_of is_interleaved) s) z.1 ∙ cond-false (eqb h.fragment.stream_id s) None (Some (chunk_of_held z.0 h)) off,
+            ap (keep_other_streams (KeyOf is_interleaved) (next_of is_interleaved) s) z.1 ∙ cond-false (eqb h.fragment.stream_id s) None (Some (chunk_of_held z.0 h)) off,
             z.2,
           );
       found = λ κ w e.

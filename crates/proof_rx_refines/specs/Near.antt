@@ -9,7 +9,7 @@ use Rattle.sctp_chunk.specs.declared.forward_tsn.SkippedStream.TheVariants.{Forw
 use Rattle.sctp_rx.specs.Tracker.{Tracker}
 use Rattle.sctp_rx.specs.ReassemblyQueue.{Reassembly, Deferred}
 use Rattle.proof_protocol.specs.State.{Message, Entry, ForwardPoint, Sender, Transfer, IsAmong, place_of, count, ordered_of, stream_of}
-use Rattle.proof_protocol.specs.Rules.{Event, covers, run}
+use Rattle.proof_protocol.specs.Rules.{Rule, covers, run}
 use Rattle.proof_protocol.specs.Windows.{IsNear}
 use Rattle.proof_rx_refines.specs.View.{unordered_at}
 use Rattle.proof_rx_refines.specs.Refinement.{Goes}
@@ -117,6 +117,6 @@ pub record ReadsNear (message : ℕ → Message) (is_interleaved : Bool) (base :
   pub start : r.first ≡ None → r.near ≡ origin
 
 -- these events lead to these values, and what comes next is read as it was meant too
-pub record GoesNear (message : ℕ → Message) (is_interleaved : Bool) (base : Bool → ℕ → ℕ) (first shift : ℕ) (x : Transfer) (es : List Event) (handed : List messages.Message) (waiting : Option Deferred) (t : Tracker) (r : Reassembly) : Type 0 where
+pub record GoesNear (message : ℕ → Message) (is_interleaved : Bool) (base : Bool → ℕ → ℕ) (first shift : ℕ) (x : Transfer) (es : List Rule) (handed : List messages.Message) (waiting : Option Deferred) (t : Tracker) (r : Reassembly) : Type 0 where
   pub goes : Goes message is_interleaved base shift x es handed waiting t r
   pub near : ReadsNear message is_interleaved base first shift (run message is_interleaved x es) r

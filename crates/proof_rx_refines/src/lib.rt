@@ -4,7 +4,7 @@
 //! are its receiver (`ReceiverRefines`). A call leads to values that are the receiver again after the events that the law names.
 //! `handed` is what was handed out of the queue before, and `shift` the fragment that the queue counts TSNs from: the first
 //! that came. `base` is how many messages of each kind and stream were numbered before the stream's last reset; what comes is of
-//! the time since then (`IsNow`, `AreEntriesNow`). No reset is deferred here: `resets` has what comes while one is.
+//! the time since then (`IsOfCurrentEpoch`, `AreEntriesOfCurrentEpoch`). No reset is deferred here: `resets` has what comes while one is.
 #![tactic(auto)]
 
 ghost use Rattle.std.specs.Prelude.{◌≡◌, ◌+◌, ◌++◌, ◌^◌, ◌<◌, Bool, List, None, Some, [], ◌∷◌, false, map, suc, true, unwrap_or, ℕ};
@@ -19,9 +19,9 @@ ghost use Rattle.sctp_tracker.specs.declared.data_tracker.AckState.{AckState};
 ghost use Rattle.sctp_rx.specs.Sack.{report};
 ghost use Rattle.sctp_rx.specs.ReassemblyQueue.{Reassembly, add, forward, number_of, reassembly};
 ghost use Rattle.proof_protocol.specs.Invariant.{Invariant};
-ghost use Rattle.proof_protocol.specs.Lifted.{AreEntriesNow, IsNow, no_base, wire_point};
+ghost use Rattle.proof_protocol.specs.Lifted.{AreEntriesOfCurrentEpoch, IsOfCurrentEpoch, no_base, wire_point};
 ghost use Rattle.proof_protocol.specs.Reassembly.{NoneReady};
-ghost use Rattle.proof_protocol.specs.Rules.{Event, IsAllowed, after, data_comes, deliver, forward_comes, late_comes, send_sack};
+ghost use Rattle.proof_protocol.specs.Rules.{Rule, IsAllowed, after, data_comes, become_ready, forward_comes, late_comes, send_sack};
 ghost use Rattle.proof_protocol.specs.State.{ForwardPoint, IsAmong, Message, Transfer, start};
 ghost use Rattle.proof_rx_refines.specs.Read.{Carries, IsRead, StandForAll, is_behind, shift_after};
 ghost use Rattle.proof_protocol.specs.Points.{AreApart};
@@ -43,17 +43,17 @@ pub fn new_values_are_the_start()
 pub fn fragment_comes()
     ensures held { (message : ℕ → Message) (is_interleaved : Bool) (base : Bool → ℕ → ℕ) (shift : ℕ) (x : Transfer) (handed : List messages.Message) (t : Tracker) (r : Reassembly) (k tsn : ℕ) (f : FragmentTree) (now : Bool) →
         Invariant message is_interleaved x → ReceiverRefines message is_interleaved base shift x handed t r → IsTracker t → r.deferred ≡ None →
-        Carries message is_interleaved x.sender k f → IsRead message is_interleaved (shift_after r.first shift k) x.sender r k tsn f → was_seen t k ≡ false → IsNow base message x.sender k →
+        Carries message is_interleaved x.sender k f → IsRead message is_interleaved (shift_after r.first shift k) x.sender r k tsn f → was_seen t k ≡ false → IsOfCurrentEpoch base message x.sender k →
         is_behind message is_interleaved x.sender x.receiver k ≡ false →
-        (ps : List ℕ) × Goes message is_interleaved base (shift_after r.first shift k) x (data_comes k ∷ map deliver ps) handed None (observe (origin + k) now t) (add tsn f r) }
+        (ps : List ℕ) × Goes message is_interleaved base (shift_after r.first shift k) x (data_comes k ∷ map become_ready ps) handed None (observe (origin + k) now t) (add tsn f r) }
     ensures late { (message : ℕ → Message) (is_interleaved : Bool) (base : Bool → ℕ → ℕ) (shift : ℕ) (x : Transfer) (handed : List messages.Message) (t : Tracker) (r : Reassembly) (k tsn : ℕ) (f : FragmentTree) (now : Bool) →
         Invariant message is_interleaved x → ReceiverRefines message is_interleaved base shift x handed t r → IsTracker t → r.deferred ≡ None →
-        Carries message is_interleaved x.sender k f → IsRead message is_interleaved (shift_after r.first shift k) x.sender r k tsn f → was_seen t k ≡ false → IsNow base message x.sender k →
+        Carries message is_interleaved x.sender k f → IsRead message is_interleaved (shift_after r.first shift k) x.sender r k tsn f → was_seen t k ≡ false → IsOfCurrentEpoch base message x.sender k →
         is_behind message is_interleaved x.sender x.receiver k ≡ true →
         Goes message is_interleaved base (shift_after r.first shift k) x (late_comes k ∷ []) handed None (observe (origin + k) now t) (add tsn f r) }
     ensures first { (message : ℕ → Message) (is_interleaved : Bool) (base : Bool → ℕ → ℕ) (shift : ℕ) (x : Transfer) (handed : List messages.Message) (t : Tracker) (r : Reassembly) (k tsn : ℕ) (f : FragmentTree) →
         Invariant message is_interleaved x → ReceiverRefines message is_interleaved base shift x handed t r → IsTracker t → r.deferred ≡ None →
-        Carries message is_interleaved x.sender k f → IsRead message is_interleaved (shift_after r.first shift k) x.sender r k tsn f → was_seen t k ≡ false → IsNow base message x.sender k →
+        Carries message is_interleaved x.sender k f → IsRead message is_interleaved (shift_after r.first shift k) x.sender r k tsn f → was_seen t k ≡ false → IsOfCurrentEpoch base message x.sender k →
         (add tsn f r).first ≡ Some (unwrap_or r.first tsn) }
 {}
 
@@ -64,12 +64,12 @@ pub fn forward_point_comes()
     ensures goes { (message : ℕ → Message) (is_interleaved : Bool) (base : Bool → ℕ → ℕ) (shift : ℕ) (x : Transfer) (handed : List messages.Message) (t : Tracker) (r : Reassembly) (k tsn : ℕ) (entries : List SkippedStream) (f : ForwardPoint) →
         Invariant message is_interleaved x → ReceiverRefines message is_interleaved base shift x handed t r → r.deferred ≡ None →
         IsAmong f x.forward_points → f.upto ≡ suc k → number_of r tsn + shift_after r.first shift k ≡ origin + k → k < 2 ^ 62 →
-        StandForAll is_interleaved r.streams entries (wire_point f).entries → AreApart f.entries → AreEntriesNow base f →
-        (ps : List ℕ) × Goes message is_interleaved base (shift_after r.first shift k) x (forward_comes f ∷ map deliver ps) handed None (tracker.forward (origin + k) t) (forward tsn entries r) }
+        StandForAll is_interleaved r.streams entries (wire_point f).entries → AreApart f.entries → AreEntriesOfCurrentEpoch base f →
+        (ps : List ℕ) × Goes message is_interleaved base (shift_after r.first shift k) x (forward_comes f ∷ map become_ready ps) handed None (tracker.forward (origin + k) t) (forward tsn entries r) }
     ensures first { (message : ℕ → Message) (is_interleaved : Bool) (base : Bool → ℕ → ℕ) (shift : ℕ) (x : Transfer) (handed : List messages.Message) (t : Tracker) (r : Reassembly) (k tsn : ℕ) (entries : List SkippedStream) (f : ForwardPoint) →
         Invariant message is_interleaved x → ReceiverRefines message is_interleaved base shift x handed t r → r.deferred ≡ None →
         IsAmong f x.forward_points → f.upto ≡ suc k → number_of r tsn + shift_after r.first shift k ≡ origin + k → k < 2 ^ 62 →
-        StandForAll is_interleaved r.streams entries (wire_point f).entries → AreApart f.entries → AreEntriesNow base f →
+        StandForAll is_interleaved r.streams entries (wire_point f).entries → AreApart f.entries → AreEntriesOfCurrentEpoch base f →
         (forward tsn entries r).first ≡ Some (unwrap_or r.first tsn) }
 {}
 
@@ -114,7 +114,7 @@ pub fn message_is_taken()
 
 /// While the sender goes on, the values stay the receiver.
 pub fn sender_goes_on()
-    ensures receives { (message : ℕ → Message) (is_interleaved : Bool) (base : Bool → ℕ → ℕ) (shift : ℕ) (x : Transfer) (e : Event) (handed : List messages.Message) (t : Tracker) (r : Reassembly) →
+    ensures receives { (message : ℕ → Message) (is_interleaved : Bool) (base : Bool → ℕ → ℕ) (shift : ℕ) (x : Transfer) (e : Rule) (handed : List messages.Message) (t : Tracker) (r : Reassembly) →
         Invariant message is_interleaved x → IsAllowed message is_interleaved x e → (after message is_interleaved x e).receiver ≡ x.receiver →
         ReceiverRefines message is_interleaved base shift x handed t r → ReceiverRefines message is_interleaved base shift (after message is_interleaved x e) handed t r }
 {}

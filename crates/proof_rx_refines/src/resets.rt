@@ -12,7 +12,7 @@ ghost use Rattle.sctp_rx.specs.Tracker.{IsTracker, Tracker, moves_on, observe};
 ghost use Rattle.proof_protocol.specs.Based.{InEpochs};
 ghost use Rattle.proof_protocol.specs.Points.{AreApart};
 ghost use Rattle.proof_protocol.specs.Resets.{Epochs, Request};
-ghost use Rattle.proof_protocol.specs.Rules.{data_comes, deliver, forward_comes, late_comes};
+ghost use Rattle.proof_protocol.specs.Rules.{data_comes, become_ready, forward_comes, late_comes};
 ghost use Rattle.proof_protocol.specs.State.{ForwardPoint, IsAmong, Message, count};
 ghost use Rattle.proof_rx_refines.specs.Near.{AreEntries, AreFew, AreNearNext, IsInWindow, IsNearNext, IsWritten, ReadsNear};
 ghost use Rattle.proof_rx_refines.specs.Read.{Carries, is_behind, shift_after};
@@ -55,7 +55,7 @@ pub fn fragments_come_in_epochs()
         IsWaitingFor shift x r.first r.deferred → IsTracker t → AreFew x.transfer.sender →
         tsn ≡ wire words first (origin + k) → Carries message is_interleaved x.transfer.sender k f → IsWritten message is_interleaved x.transfer.sender k f → was_seen t k ≡ false → IsNearNext message x.transfer k →
         is_behind message is_interleaved x.transfer.sender x.transfer.receiver k ≡ false →
-        (ps : List ℕ) × Comes message is_interleaved first (shift_after r.first shift k) x (data_comes k ∷ map deliver ps) handed (observe (origin + k) now t) (add tsn f r) }
+        (ps : List ℕ) × Comes message is_interleaved first (shift_after r.first shift k) x (data_comes k ∷ map become_ready ps) handed (observe (origin + k) now t) (add tsn f r) }
     ensures late { (message : ℕ → Message) (is_interleaved : Bool) (first shift : ℕ) (x : Epochs) (handed : List messages.Message) (t : Tracker) (r : Reassembly) (k tsn : ℕ) (f : FragmentTree) (now : Bool) →
         InEpochs message is_interleaved x → IsInWindow x.transfer → ReceiverRefines message is_interleaved (base_now x) shift x.transfer handed t r → ReadsNear message is_interleaved (base_now x) first shift x.transfer r →
         IsWaitingFor shift x r.first r.deferred → IsTracker t → AreFew x.transfer.sender →
@@ -72,5 +72,5 @@ pub fn points_come_in_epochs()
         IsWaitingFor shift x r.first r.deferred → IsTracker t → AreFew x.transfer.sender →
         IsAmong f x.transfer.forward_points → f.upto ≡ suc k → moves_on (origin + k) t ≡ true → tsn ≡ wire words first (origin + k) →
         AreApart f.entries → AreNearNext x.transfer f → AreEntries is_interleaved entries f.entries →
-        (ps : List ℕ) × Comes message is_interleaved first (shift_after r.first shift k) x (forward_comes f ∷ map deliver ps) handed (tracker.forward (origin + k) t) (forward tsn entries r) }
+        (ps : List ℕ) × Comes message is_interleaved first (shift_after r.first shift k) x (forward_comes f ∷ map become_ready ps) handed (tracker.forward (origin + k) t) (forward tsn entries r) }
 {}

@@ -11,7 +11,7 @@ use Rattle.sctp_tx_outstanding.specs.Item.{Item, is_of, abandon}
 use Rattle.sctp_tx_outstanding.specs.Items.{Items, Discard, lay_down, without_payload, later_of, last_of}
 use Rattle.sctp_tx_outstanding.specs.Losses.{placeholder, placeholders, discards_of, abandon_message}
 use Rattle.proof_protocol.specs.State.{Message, Fragment, Sender, Transfer, IsAmong, fragment, place_of, count, parts, blank, put, stream_of}
-use Rattle.proof_protocol.specs.Rules.{Event, close, give_up, run, numbers, gives_up, end_of, Happens}
+use Rattle.proof_protocol.specs.Rules.{Rule, end_with_placeholder, give_up, run, numbers, gives_up, placeholder_of, Happens}
 use Rattle.proof_protocol.specs.Invariant.{Invariant}
 use Rattle.proof_protocol.specs.Sending as sending
 use Rattle.proof_protocol.specs.Sending.{Waiting}
@@ -118,7 +118,7 @@ module _ (message : ℕ → Message) (lifecycle : ℕ → Option ℕ) where
 
   -- ---- the whole
 
-  pub record GivesUp (is_interleaved : Bool) (x : Transfer) (ms : ℕ → List Queued) (s : Items) (p : ℕ) (es : List Event) : Type 0 where
+  pub record GivesUp (is_interleaved : Bool) (x : Transfer) (ms : ℕ → List Queued) (s : Items) (p : ℕ) (es : List Rule) : Type 0 where
     pub may : Happens message is_interleaved x es
     pub rest_stays : run message is_interleaved x es ≡ record x { sender = (run message is_interleaved x es).sender }
     pub counts_stay : (run message is_interleaved x es).sender.following ≡ x.sender.following
@@ -217,7 +217,7 @@ module _ (message : ℕ → Message) (lifecycle : ℕ → Option ℕ) (is_interl
 
   module _ (open_end : f.is_end ≡ false) where
     abbrev o1 : Sender
-    o1 = numbers o (end_of o p)
+    o1 = numbers o (placeholder_of o p)
 
     abbrev o2 : Sender
     o2 = gives_up o1 p
@@ -262,7 +262,7 @@ module _ (message : ℕ → Message) (lifecycle : ℕ → Option ℕ) (is_interl
             by_begun false c = absurd (not_both begun (queue.queued.waits p w e c).not_begun)
 
     counts : count o1 ≡ suc (count o)
-    counts = let l = length-append o.numbered (end_of o p ∷ []) in omega (arith, l)
+    counts = let l = length-append o.numbered (placeholder_of o p ∷ []) in omega (arith, l)
 
     -- the placeholder
     not_first : (n : ℕ) → 0 < n → false ≡ (n == 0)
@@ -271,22 +271,22 @@ module _ (message : ℕ → Message) (lifecycle : ℕ → Option ℕ) (is_interl
     next_index : (a b : ℕ) → suc a ≡ b → (a % 2 ^ 32 + 1) % 2 ^ 32 ≡ b % 2 ^ 32
     next_index a b e = omega (arith, e)
 
-    stands : StandsFor message lifecycle o2 (end_of o p) (lay_down p (placeholder p f))
+    stands : StandsFor message lifecycle o2 (placeholder_of o p) (lay_down p (placeholder p f))
     stands = go (is_of p (placeholder p f))
       where
-        tree : (placeholder p f).fragment ≡ tree_of message o2 (end_of o p)
+        tree : (placeholder p f).fragment ≡ tree_of message o2 (placeholder_of o p)
         tree =
             ap (λ (z : FragmentTree). let r : FragmentTree = record z { fsn = (z.fsn + 1) % 2 ^ 32; payload = []; is_beginning = false; is_end = true } in r) the_last.is
             ∙ (ap (λ q. at_place q ((fragment o at).index)) the_last.place
-            ∙ (ap (λ n. with_fsn n) (next_index ((fragment o at).index) (parts p o.numbered) index_is) ∙ ap (λ b. let r : FragmentTree = record (tree_of message o2 (end_of o p)) { is_beginning = b } in r) (not_first (parts p o.numbered) some_parts)))
+            ∙ (ap (λ n. with_fsn n) (next_index ((fragment o at).index) (parts p o.numbered) index_is) ∙ ap (λ b. let r : FragmentTree = record (tree_of message o2 (placeholder_of o p)) { is_beginning = b } in r) (not_first (parts p o.numbered) some_parts)))
           where
             at_place : ℕ → ℕ → FragmentTree
-            at_place q n = record (tree_of message o2 (record (end_of o p) { place = q })) { fsn = (n % 2 ^ 32 + 1) % 2 ^ 32; is_beginning = false }
+            at_place q n = record (tree_of message o2 (record (placeholder_of o p) { place = q })) { fsn = (n % 2 ^ 32 + 1) % 2 ^ 32; is_beginning = false }
 
             with_fsn : ℕ → FragmentTree
-            with_fsn n = record (tree_of message o2 (end_of o p)) { fsn = n; is_beginning = false }
+            with_fsn n = record (tree_of message o2 (placeholder_of o p)) { fsn = n; is_beginning = false }
 
-        go : (b : Bool) → StandsFor message lifecycle o2 (end_of o p) (cond b (abandon (placeholder p f)) (placeholder p f))
+        go : (b : Bool) → StandsFor message lifecycle o2 (placeholder_of o p) (cond b (abandon (placeholder p f)) (placeholder p f))
         go true = record { place = refl; carried = tree; lifecycle_id = refl; given_up = sym (put_at o.given_up p true p refl); placeholder = λ h. put_at o.given_up p true p refl }
         go false = record { place = refl; carried = tree; lifecycle_id = refl; given_up = sym (put_at o.given_up p true p refl); placeholder = λ h. put_at o.given_up p true p refl }
 
@@ -303,15 +303,15 @@ module _ (message : ℕ → Message) (lifecycle : ℕ → Option ℕ) (is_interl
         shown z = record s { kept = z; discards = s.discards ++ record { stream = f.stream_id; number = p } ∷ [] }
 
     stays : Stays message lifecycle (gives_up o p) o2
-    stays = record { same = λ t h. get_or_append_left o.numbered (end_of o p ∷ []) blank t h; number = λ t h. refl; given_up = λ t h. refl }
+    stays = record { same = λ t h. get_or_append_left o.numbered (placeholder_of o p ∷ []) blank t h; number = λ t h. refl; given_up = λ t h. refl }
 
     stream_is : f.stream_id ≡ stream_of message p
     stream_is = ap (λ (z : FragmentTree). z.stream_id) the_last.is ∙ ap (stream_of message) the_last.place
 
-    open_row : GivesUp message lifecycle is_interleaved x ms s p (close p ∷ give_up p ∷ [])
+    open_row : GivesUp message lifecycle is_interleaved x ms s p (end_with_placeholder p ∷ give_up p ∷ [])
     open_row =
         let r = rest_dropped message is_interleaved x k (queue_of message o ms) queue.queued p queued.0 queued.1 queued.2 in
-        let frame : ((r : ℕ) → r ≢ p → Frame o o2 r) = (λ r d. record { number = refl; given_up = put_off o.given_up p true r d; parts_are = parts_off r o.numbered (end_of o p) (λ e. d (sym e)) }) in
+        let frame : ((r : ℕ) → r ≢ p → Frame o o2 r) = (λ r d. record { number = refl; given_up = put_off o.given_up p true r d; parts_are = parts_off r o.numbered (placeholder_of o p) (λ e. d (sym e)) }) in
         record {
           may = r.may;
           rest_stays = refl;
@@ -320,7 +320,7 @@ module _ (message : ℕ → Message) (lifecycle : ℕ → Option ℕ) (is_interl
           kept =
               subst (λ (z : Items). AreKept message lifecycle o2 x.acknowledged z.kept) (sym one_more)
               (kept_push message lifecycle (gives_up o p) o2 stays counts (lay_down p (placeholder p f))
-              (subst (λ (z : Fragment). StandsFor message lifecycle o2 z (lay_down p (placeholder p f))) (sym (get_or_push o.numbered (end_of o p) blank (count o) refl)) stands)
+              (subst (λ (z : Fragment). StandsFor message lifecycle o2 z (lay_down p (placeholder p f))) (sym (get_or_push o.numbered (placeholder_of o p) blank (count o) refl)) stands)
               x.acknowledged (map (lay_down p) s.kept) (laid message lifecycle o p x.acknowledged s.kept kept));
           messages =
               change message lifecycle o o2 ms ms p (λ k r d. refl) frame (omega arith) entry None
@@ -369,9 +369,9 @@ module _ (message : ℕ → Message) (lifecycle : ℕ → Option ℕ) (is_interl
               | inr e ↦ put_at o.given_up p true d.number (ap (λ (z : Discard). z.number) e)
             ]
 
-  pub gives : (es : List Event) × GivesUp message lifecycle is_interleaved x ms s p es × (given_ups es ≡ p ∷ []) × (list_all is_sending es ≡ true)
+  pub gives : (es : List Rule) × GivesUp message lifecycle is_interleaved x ms s p es × (given_ups es ≡ p ∷ []) × (list_all is_sending es ≡ true)
   gives = go f.is_end refl
     where
-      go : (b : Bool) → f.is_end ≡ b → (es : List Event) × GivesUp message lifecycle is_interleaved x ms s p es × (given_ups es ≡ p ∷ []) × (list_all is_sending es ≡ true)
+      go : (b : Bool) → f.is_end ≡ b → (es : List Rule) × GivesUp message lifecycle is_interleaved x ms s p es × (given_ups es ≡ p ∷ []) × (list_all is_sending es ≡ true)
       go true e = (give_up p ∷ [], ended_row e, refl, refl)
-      go false e = (close p ∷ give_up p ∷ [], open_row e, refl, refl)
+      go false e = (end_with_placeholder p ∷ give_up p ∷ [], open_row e, refl, refl)

@@ -143,7 +143,7 @@ module _ (message : ℕ → Message) (lifecycle : ℕ → Option ℕ) (is_interl
     not_begun = false_from_ne_true (x.sender.begun p) (λ b. let l = k.outgoing.begun_below p b in omega (arith, l))
 
     not_given : x.sender.given_up p ≡ false
-    not_given = false_from_ne_true (x.sender.given_up p) (λ b. let l = k.outgoing.given_below p b in omega (arith, l))
+    not_given = false_from_ne_true (x.sender.given_up p) (λ b. let l = k.outgoing.given_up_below p b in omega (arith, l))
 
     no_parts : parts p x.sender.numbered ≡ 0
     no_parts = go (parts p x.sender.numbered) refl

@@ -10,7 +10,7 @@ use Rattle.sctp_tx_queue.specs.Queue.{Queued, Queue, stream, is_stopped}
 use Rattle.sctp_tx_queue.specs.Produced.{turn}
 use Rattle.sctp_tx_outstanding.specs.Items.{Items}
 use Rattle.proof_protocol.specs.State.{Message, Sender, Transfer, stream_of}
-use Rattle.proof_protocol.specs.Rules.{Event, accept, begin, number, close, give_up, data_comes, late_comes, deliver, send_sack, leave, send_forward, forward_comes, forget, IsAllowed, Happens, after, run}
+use Rattle.proof_protocol.specs.Rules.{Rule, accept, begin, number, end_with_placeholder, give_up, data_comes, late_comes, become_ready, send_sack, ack_point_advances, send_forward, forward_comes, perform_reset, IsAllowed, Happens, after, run}
 use Rattle.proof_protocol.specs.Invariant.{Invariant}
 use Rattle.proof_protocol.specs.Sending.{Waiting}
 use Rattle.proof_protocol.specs.Resets.{Epochs, transfers, InEpoch, goes, MayAll, go_all}
@@ -30,70 +30,70 @@ use Rattle.proof_tx_refines.proofs.WaitsLemmas.{turn_waits}
 
 module _ (message : ℕ → Message) (is_interleaved : Bool) where
   -- what is given up isn't begun any more
-  still_unbegun : (x : Transfer) (e : Event) → IsAllowed message is_interleaved x e → (p : ℕ) → x.sender.given_up p ≡ true → x.sender.begun p ≡ false → (after message is_interleaved x e).sender.begun p ≡ false
+  still_unbegun : (x : Transfer) (e : Rule) → IsAllowed message is_interleaved x e → (p : ℕ) → x.sender.given_up p ≡ true → x.sender.begun p ≡ false → (after message is_interleaved x e).sender.begun p ≡ false
   still_unbegun x accept a p g n = n
-  still_unbegun x (begin r) a p g n = put_off x.sender.begun r true p (λ e. not_both g (ap x.sender.given_up e ∙ a.0.not_given)) ∙ n
+  still_unbegun x (begin r) a p g n = put_off x.sender.begun r true p (λ e. not_both g (ap x.sender.given_up e ∙ a.0.not_given_up)) ∙ n
   still_unbegun x (number r bytes more) a p g n = n
-  still_unbegun x (close r) a p g n = n
+  still_unbegun x (end_with_placeholder r) a p g n = n
   still_unbegun x (give_up r) a p g n = n
   still_unbegun x (data_comes t) a p g n = n
   still_unbegun x (late_comes t) a p g n = n
-  still_unbegun x (deliver r) a p g n = n
+  still_unbegun x (become_ready r) a p g n = n
   still_unbegun x (send_sack c) a p g n = n
-  still_unbegun x (leave c) a p g n = n
+  still_unbegun x (ack_point_advances c) a p g n = n
   still_unbegun x (send_forward f) a p g n = n
   still_unbegun x (forward_comes f) a p g n = n
-  still_unbegun x (forget s c) a p g n = n
+  still_unbegun x (perform_reset s c) a p g n = n
 
-  unbegun : (es : List Event) (x : Transfer) → Invariant message is_interleaved x → Happens message is_interleaved x es → (p : ℕ) → x.sender.given_up p ≡ true → x.sender.begun p ≡ false
+  unbegun : (es : List Rule) (x : Transfer) → Invariant message is_interleaved x → Happens message is_interleaved x es → (p : ℕ) → x.sender.given_up p ≡ true → x.sender.begun p ≡ false
       → (run message is_interleaved x es).sender.begun p ≡ false
   unbegun [] x k h p g n = n
   unbegun (e ∷ es) x k h p g n =
       unbegun es (after message is_interleaved x e) (keeps message is_interleaved x k e h.0) h.1 p ((later message is_interleaved x k e h.0).given_stays p g) (still_unbegun x e h.0 p g n)
 
-  begun_later : (es : List Event) (x : Transfer) → Invariant message is_interleaved x → Happens message is_interleaved x es → (p : ℕ) → x.sender.begun p ≡ true → (run message is_interleaved x es).sender.begun p ≡ true
+  begun_later : (es : List Rule) (x : Transfer) → Invariant message is_interleaved x → Happens message is_interleaved x es → (p : ℕ) → x.sender.begun p ≡ true → (run message is_interleaved x es).sender.begun p ≡ true
   begun_later [] x k h p b = b
   begun_later (e ∷ es) x k h p b = begun_later es (after message is_interleaved x e) (keeps message is_interleaved x k e h.0) h.1 p ((later message is_interleaved x k e h.0).begun_stays p b)
 
   -- nothing is accepted
-  accepted_stays : (x : Transfer) (e : Event) → is_sending e ≡ true → (after message is_interleaved x e).sender.accepted ≡ x.sender.accepted
+  accepted_stays : (x : Transfer) (e : Rule) → is_sending e ≡ true → (after message is_interleaved x e).sender.accepted ≡ x.sender.accepted
   accepted_stays x accept h = cc
   accepted_stays x (begin r) h = refl
   accepted_stays x (number r bytes more) h = refl
-  accepted_stays x (close r) h = refl
+  accepted_stays x (end_with_placeholder r) h = refl
   accepted_stays x (give_up r) h = refl
   accepted_stays x (data_comes t) h = refl
   accepted_stays x (late_comes t) h = refl
-  accepted_stays x (deliver r) h = refl
+  accepted_stays x (become_ready r) h = refl
   accepted_stays x (send_sack c) h = refl
-  accepted_stays x (leave c) h = refl
+  accepted_stays x (ack_point_advances c) h = refl
   accepted_stays x (send_forward f) h = refl
   accepted_stays x (forward_comes f) h = refl
-  accepted_stays x (forget s c) h = refl
+  accepted_stays x (perform_reset s c) h = refl
 
-  accepted_later : (es : List Event) (x : Transfer) → list_all is_sending es ≡ true → (run message is_interleaved x es).sender.accepted ≡ x.sender.accepted
+  accepted_later : (es : List Rule) (x : Transfer) → list_all is_sending es ≡ true → (run message is_interleaved x es).sender.accepted ≡ x.sender.accepted
   accepted_later [] x h = refl
   accepted_later (e ∷ es) x h =
       let a = and_parts (is_sending e) (list_all is_sending es) h in
       accepted_later es (after message is_interleaved x e) a.1 ∙ accepted_stays x e a.0
 
   -- forward points that were sent stay
-  points_grow : (x : Transfer) (e : Event) → length x.forward_points ≤ length (after message is_interleaved x e).forward_points
+  points_grow : (x : Transfer) (e : Rule) → length x.forward_points ≤ length (after message is_interleaved x e).forward_points
   points_grow x accept = omega arith
   points_grow x (begin r) = omega arith
   points_grow x (number r bytes more) = omega arith
-  points_grow x (close r) = omega arith
+  points_grow x (end_with_placeholder r) = omega arith
   points_grow x (give_up r) = omega arith
   points_grow x (data_comes t) = omega arith
   points_grow x (late_comes t) = omega arith
-  points_grow x (deliver r) = omega arith
+  points_grow x (become_ready r) = omega arith
   points_grow x (send_sack c) = omega arith
-  points_grow x (leave c) = omega arith
+  points_grow x (ack_point_advances c) = omega arith
   points_grow x (send_forward f) = omega arith
   points_grow x (forward_comes f) = omega arith
-  points_grow x (forget s c) = omega arith
+  points_grow x (perform_reset s c) = omega arith
 
-  points_later : (es : List Event) (x : Transfer) → length x.forward_points ≤ length (run message is_interleaved x es).forward_points
+  points_later : (es : List Rule) (x : Transfer) → length x.forward_points ≤ length (run message is_interleaved x es).forward_points
   points_later [] x = omega arith
   points_later (e ∷ es) x =
       let a = points_grow x e in
@@ -104,26 +104,26 @@ module _ (message : ℕ → Message) (is_interleaved : Bool) where
   abbrev Begins : Epochs → Transfer → Type 0
   Begins x y = (p : ℕ) → x.transfer.sender.begun p ≡ false → y.sender.begun p ≡ true → x.epoch p ≤ x.opened (stream_of message p)
 
-  in_epoch : (x : Epochs) (e : Event) (es : List Event) → Invariant message is_interleaved x.transfer → is_sending e ≡ true → IsAllowed message is_interleaved x.transfer e → Happens message is_interleaved (after message is_interleaved x.transfer e) es
+  in_epoch : (x : Epochs) (e : Rule) (es : List Rule) → Invariant message is_interleaved x.transfer → is_sending e ≡ true → IsAllowed message is_interleaved x.transfer e → Happens message is_interleaved (after message is_interleaved x.transfer e) es
       → length (run message is_interleaved x.transfer (e ∷ es)).forward_points ≡ length x.transfer.forward_points → Begins x (run message is_interleaved x.transfer (e ∷ es)) → InEpoch message is_interleaved x e
   in_epoch x accept es k is a h l bound = tt
   in_epoch x (begin r) es k is a h l bound =
       bound r a.0.not_begun (begun_later es (after message is_interleaved x.transfer (begin r)) (keeps message is_interleaved x.transfer k (begin r) a) h r (put_at x.transfer.sender.begun r true r refl))
   in_epoch x (number r bytes more) es k is a h l bound = tt
-  in_epoch x (close r) es k is a h l bound = tt
+  in_epoch x (end_with_placeholder r) es k is a h l bound = tt
   in_epoch x (give_up r) es k is a h l bound = tt
   in_epoch x (data_comes t) es k is a h l bound = tt
   in_epoch x (late_comes t) es k is a h l bound = tt
-  in_epoch x (deliver r) es k is a h l bound = tt
+  in_epoch x (become_ready r) es k is a h l bound = tt
   in_epoch x (send_sack c) es k is a h l bound = tt
-  in_epoch x (leave c) es k is a h l bound = tt
+  in_epoch x (ack_point_advances c) es k is a h l bound = tt
   in_epoch x (send_forward f) es k is a h l bound =
       let g : suc (length x.transfer.forward_points) ≤ length (run message is_interleaved x.transfer (send_forward f ∷ es)).forward_points = points_later es (after message is_interleaved x.transfer (send_forward f)) in
       absurd (omega (arith, g, l))
   in_epoch x (forward_comes f) es k is a h l bound = tt
-  in_epoch x (forget s c) es k is a h l bound = cc
+  in_epoch x (perform_reset s c) es k is a h l bound = cc
 
-  pub in_epochs : (es : List Event) (x : Epochs) → Invariant message is_interleaved x.transfer → list_all is_sending es ≡ true → Happens message is_interleaved x.transfer es
+  pub in_epochs : (es : List Rule) (x : Epochs) → Invariant message is_interleaved x.transfer → list_all is_sending es ≡ true → Happens message is_interleaved x.transfer es
       → length (run message is_interleaved x.transfer es).forward_points ≡ length x.transfer.forward_points → Begins x (run message is_interleaved x.transfer es) → MayAll message is_interleaved x (map transfers es)
   in_epochs [] x k all h l bound = tt
   in_epochs (e ∷ es) x k all h l bound =
@@ -143,7 +143,7 @@ module _ (message : ℕ → Message) (is_interleaved : Bool) where
 -- ---- what leads to a queue in which what waits on streams that aren't open waits still
 
 module _ (message : ℕ → Message) (lifecycle : ℕ → Option ℕ) (is_interleaved : Bool) (x : Epochs) (q r : Queue) (t : Items) (k : Invariant message is_interleaved x.transfer)
-    (sh : QueueRefines message lifecycle is_interleaved x.transfer.sender q) (h : ArePausedAs x q) (still : WaitsOn q r) (es : List Event) (may : Happens message is_interleaved x.transfer es)
+    (sh : QueueRefines message lifecycle is_interleaved x.transfer.sender q) (h : ArePausedAs x q) (still : WaitsOn q r) (es : List Rule) (may : Happens message is_interleaved x.transfer es)
     (all : list_all is_sending es ≡ true) (shown : SenderRefines message lifecycle is_interleaved (run message is_interleaved x.transfer es) r t) where
   abbrev o : Sender
   o = x.transfer.sender
@@ -204,7 +204,7 @@ module _ (message : ℕ → Message) (lifecycle : ℕ → Option ℕ) (is_interl
   begins_waiting points = in_epochs message is_interleaved es x k all may (ap length points) newly
 
 -- the epochs stay
-pub goes_sending : (message : ℕ → Message) (is_interleaved : Bool) (es : List Event) (x : Epochs) → list_all is_sending es ≡ true
+pub goes_sending : (message : ℕ → Message) (is_interleaved : Bool) (es : List Rule) (x : Epochs) → list_all is_sending es ≡ true
     → go_all message is_interleaved x (map transfers es) ≡ record x { transfer = run message is_interleaved x.transfer es }
 goes_sending message is_interleaved [] x all = refl
 goes_sending message is_interleaved (e ∷ es) x all =
@@ -233,7 +233,7 @@ queue_begins message lifecycle is_interleaved x q r t told later k sh h still l 
 
 pub turn_begins : {P : Type 0} (message : ℕ → Message) (lifecycle : ℕ → Option ℕ) (is_interleaved : Bool) (x : Epochs) (q : Queue) (s : Items) → Invariant message is_interleaved x.transfer
     → SenderRefines message lifecycle is_interleaved x.transfer q s → ArePausedAs x q → (now id size : ℕ) (told : Emitted P) → is_stopped (stream id q.streams).pause ≡ false
-    → (es : List Event) → Happens message is_interleaved x.transfer es → list_all is_sending es ≡ true → (t : Items)
+    → (es : List Rule) → Happens message is_interleaved x.transfer es → list_all is_sending es ≡ true → (t : Items)
     → SenderRefines message lifecycle is_interleaved (run message is_interleaved x.transfer es) (turn now id size q told).queue t → (run message is_interleaved x.transfer es).forward_points ≡ x.transfer.forward_points
     → MayAll message is_interleaved x (map transfers es)
 turn_begins message lifecycle is_interleaved x q s k sh h now id size told goes_on es may all t shown points =

@@ -21,7 +21,7 @@ use Rattle.sctp_tx.specs.Retransmission.{Sender, handle_sack, step_of}
 use Rattle.sctp_tx.specs.Resent.{send_fast, resent, resent_by, flight, resent_fast, may_send_new, timed_if}
 use Rattle.sctp_tx.specs.Sending.{Filling, offered_payload, append, turned_if, next_turn, fill, discard_all, without_discards, filled_with, send}
 use Rattle.proof_protocol.specs.State.{Message, Transfer}
-use Rattle.proof_protocol.specs.Rules.{Event, leave, Happens}
+use Rattle.proof_protocol.specs.Rules.{Rule, ack_point_advances, Happens}
 use Rattle.proof_protocol.specs.Invariant.{Invariant}
 use Rattle.proof_protocol.specs.Resets.{Epochs, ResetEvent, transfers, goes, MayAll, go_all}
 use Rattle.proof_protocol.proofs.KeepsLemmas.{all_kept}
@@ -156,13 +156,13 @@ module _ (message : ℕ → Message) (lifecycle : ℕ → Option ℕ) (is_interl
 
 -- ---- a SACK
 
-pub leaves_send : (n c : ℕ) → list_all is_sending (replicate n (leave c)) ≡ true
+pub leaves_send : (n c : ℕ) → list_all is_sending (replicate n (ack_point_advances c)) ≡ true
 leaves_send zero c = refl
-leaves_send (suc n) c = and_from true (list_all is_sending (replicate n (leave c))) refl (leaves_send n c)
+leaves_send (suc n) c = and_from true (list_all is_sending (replicate n (ack_point_advances c))) refl (leaves_send n c)
 
-leaves_may : (message : ℕ → Message) (is_interleaved : Bool) (n c : ℕ) (x : Epochs) → Happens message is_interleaved x.transfer (replicate n (leave c)) → MayAll message is_interleaved x (map transfers (replicate n (leave c)))
+leaves_may : (message : ℕ → Message) (is_interleaved : Bool) (n c : ℕ) (x : Epochs) → Happens message is_interleaved x.transfer (replicate n (ack_point_advances c)) → MayAll message is_interleaved x (map transfers (replicate n (ack_point_advances c)))
 leaves_may message is_interleaved zero c x h = tt
-leaves_may message is_interleaved (suc n) c x h = ((h.0, tt), leaves_may message is_interleaved n c (goes message is_interleaved x (transfers (leave c))) h.1)
+leaves_may message is_interleaved (suc n) c x h = ((h.0, tt), leaves_may message is_interleaved n c (goes message is_interleaved x (transfers (ack_point_advances c))) h.1)
 
 module _ {P : Type 0} (message : ℕ → Message) (lifecycle : ℕ → Option ℕ) (is_interleaved : Bool) (x : Epochs) (q : Queue) (s : Sender) (k : Invariant message is_interleaved x.transfer)
     (sh : SenderRefines message lifecycle is_interleaved x.transfer q s.outstanding.items) (h : FollowsEpochs x q s.outstanding.items) (now cumulative c a_rwnd : ℕ) (blocks : List GapAckBlock) (told : Emitted P)
@@ -171,10 +171,10 @@ module _ {P : Type 0} (message : ℕ → Message) (lifecycle : ℕ → Option �
   abbrev n : ℕ
   n = leaving cumulative s.outstanding.items
 
-  abbrev es : List Event
-  es = replicate n (leave c)
+  abbrev es : List Rule
+  es = replicate n (ack_point_advances c)
 
-  abbrev fs : List Event
+  abbrev fs : List Rule
   fs = hr.losses.leads.events
 
   abbrev x1 : Epochs

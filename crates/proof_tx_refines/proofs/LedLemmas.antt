@@ -6,18 +6,18 @@ use Rattle.sctp_state.specs.Events.{Emitted}
 use Rattle.sctp_tx_queue.specs.Queue.{Queue}
 use Rattle.sctp_tx_outstanding.specs.Items.{Items}
 use Rattle.proof_protocol.specs.State.{Message, Transfer}
-use Rattle.proof_protocol.specs.Rules.{Event, Happens, after, run}
+use Rattle.proof_protocol.specs.Rules.{Rule, Happens, after, run}
 use Rattle.proof_protocol.specs.Invariant.{Invariant}
 use Rattle.proof_protocol.proofs.GrowsLemmas.{run_more}
 use Rattle.proof_tx_refines.specs.Refinement.{SenderRefines}
 use Rattle.proof_tx_refines.specs.Led.{is_sending, given_up_by, given_ups, recorded_places, Leads, LeadsTo}
 
 module _ (message : ℕ → Message) (is_interleaved : Bool) where
-  pub happens_more : (es fs : List Event) (x : Transfer) → Happens message is_interleaved x es → Happens message is_interleaved (run message is_interleaved x es) fs → Happens message is_interleaved x (es ++ fs)
+  pub happens_more : (es fs : List Rule) (x : Transfer) → Happens message is_interleaved x es → Happens message is_interleaved (run message is_interleaved x es) fs → Happens message is_interleaved x (es ++ fs)
   happens_more [] fs x a b = b
   happens_more (e ∷ es) fs x a b = (a.0, happens_more es fs (after message is_interleaved x e) a.1 b)
 
-  pub given_more : (es fs : List Event) → given_ups (es ++ fs) ≡ given_ups es ++ given_ups fs
+  pub given_more : (es fs : List Rule) → given_ups (es ++ fs) ≡ given_ups es ++ given_ups fs
   given_more [] fs = refl
   given_more (e ∷ es) fs = ap (λ z. given_up_by e ++ z) (given_more es fs) ∙ sym (append_assoc (given_up_by e) (given_ups es) (given_ups fs))
 
@@ -45,9 +45,9 @@ led_on message lifecycle is_interleaved x told later last q r s t a b = record {
   leads = leads_on message is_interleaved x a.after b.after a.places b.places a.leads b.leads;
   kept = b.kept;
   refines = b.refines;
-  told_of = b.told_of ∙ (ap (λ z. z ++ b.places) a.told_of ∙ append_assoc (recorded_places told) a.places b.places);
+  recorded = b.recorded ∙ (ap (λ z. z ++ b.places) a.recorded ∙ append_assoc (recorded_places told) a.places b.places);
 }
 
 pub led_none : {P : Type 0} (message : ℕ → Message) (lifecycle : ℕ → Option ℕ) (is_interleaved : Bool) (x : Transfer) (told : Emitted P) (q : Queue) (s : Items) → Invariant message is_interleaved x → SenderRefines message lifecycle is_interleaved x q s
     → LeadsTo message lifecycle is_interleaved x told q s told
-led_none message lifecycle is_interleaved x told q s k h = record { after = x; places = []; leads = leads_none message is_interleaved x; kept = k; refines = h; told_of = sym (append-nil (recorded_places told)) }
+led_none message lifecycle is_interleaved x told q s k h = record { after = x; places = []; leads = leads_none message is_interleaved x; kept = k; refines = h; recorded = sym (append-nil (recorded_places told)) }

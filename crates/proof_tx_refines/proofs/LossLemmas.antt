@@ -17,7 +17,7 @@ use Rattle.sctp_tx_outstanding.specs.Item.{Item, is_in_flight, has_nack, is_give
 use Rattle.sctp_tx_outstanding.specs.Items.{Items, later_of}
 use Rattle.sctp_tx_outstanding.specs.Losses.{Step, abandon_message, given_up, given_up_if, gives_up, loses, change_items, nack_item, nack_at, nack_below, expires, expired_of, option_bind, expire_at, expire_below}
 use Rattle.proof_protocol.specs.State.{Message, Sender, Transfer, fragment}
-use Rattle.proof_protocol.specs.Rules.{Event, run}
+use Rattle.proof_protocol.specs.Rules.{Rule, run}
 use Rattle.proof_protocol.proofs.KeepsLemmas.{all_kept}
 use Rattle.proof_tx_refines.specs.Refinement.{StandsFor, AreKept, QueueRefines, AreQueued, messages_of}
 use Rattle.proof_tx_refines.specs.Led.{is_sending, given_ups, recorded_places, LeadsTo}
@@ -92,9 +92,9 @@ module _ {P : Type 0} (message : ℕ → Message) (lifecycle : ℕ → Option �
       };
       discards = r.1.discards;
     };
-    told_of =
+    recorded =
         map-append (λ g. g.number) later.given_up (record { number = p; cause = cause } ∷ [])
-        ∙ (ap (λ w. w ++ p ∷ []) a.told_of ∙ append_assoc (recorded_places told) a.places (p ∷ []));
+        ∙ (ap (λ w. w ++ p ∷ []) a.recorded ∙ append_assoc (recorded_places told) a.places (p ∷ []));
   }
     where
       y : Transfer
@@ -109,7 +109,7 @@ module _ {P : Type 0} (message : ℕ → Message) (lifecycle : ℕ → Option �
       l : (g : FragmentTree) × (later_of p None s.kept ≡ Some g)
       l = some_last message lifecycle p k None s.kept i here number
 
-      r : (es : List Event) × GivesUp message lifecycle is_interleaved y (messages_of q) s p es × (given_ups es ≡ p ∷ []) × (list_all is_sending es ≡ true)
+      r : (es : List Rule) × GivesUp message lifecycle is_interleaved y (messages_of q) s p es × (given_ups es ≡ p ∷ []) × (list_all is_sending es ≡ true)
       r = gives message lifecycle is_interleaved y a.kept (messages_of q) s a.refines.items.kept a.refines.queue.messages a.refines.discards p live l.0 l.1
 
       z : Transfer
@@ -127,7 +127,7 @@ module _ {P : Type 0} (message : ℕ → Message) (lifecycle : ℕ → Option �
       items = record { mode = a.refines.items.mode; point = a.refines.items.point; kept = kept_changed message lifecycle a.after.sender g alike k a.after.acknowledged s.kept a.refines.items.kept };
       discards = a.refines.discards;
     };
-    told_of = a.told_of;
+    recorded = a.recorded;
   }
 
   module _ (at_once fast : Bool) where

@@ -16,7 +16,7 @@ use Rattle.sctp_tx_queue.specs.Resets.{step_stream, each_stepped, commit_resets}
 use Rattle.sctp_tx_queue.proofs.InOrderLemmas.{put_elsewhere}
 use Rattle.sctp_tx_outstanding.specs.Items.{Items, Discard}
 use Rattle.proof_protocol.specs.State.{Message, Sender, IsAmong}
-use Rattle.proof_protocol.specs.Rules.{Event, accept, begin, number, close, give_up, data_comes, late_comes, deliver, send_sack, leave, send_forward, forward_comes, forget}
+use Rattle.proof_protocol.specs.Rules.{Rule, accept, begin, number, end_with_placeholder, give_up, data_comes, late_comes, become_ready, send_sack, ack_point_advances, send_forward, forward_comes, perform_reset}
 use Rattle.proof_protocol.specs.Resets.{Epochs, transfers, send_request, commit, epochs_after, goes, MayAll, go_all}
 use Rattle.proof_protocol.proofs.ToolsLemmas.{not_both}
 use Rattle.proof_protocol.proofs.CommonLemmas.{none_some}
@@ -284,22 +284,22 @@ module _ (message : ℕ → Message) (lifecycle : ℕ → Option ℕ) (is_interl
 -- ---- the rules of a sender
 
 module _ (message : ℕ → Message) (is_interleaved : Bool) where
-  pub same_epochs : (x : Epochs) (e : Event) → is_sending e ≡ true → epochs_after message is_interleaved x e ≡ x.epoch
+  pub same_epochs : (x : Epochs) (e : Rule) → is_sending e ≡ true → epochs_after message is_interleaved x e ≡ x.epoch
   same_epochs x accept h = cc
   same_epochs x (begin p) h = refl
   same_epochs x (number p bytes more) h = refl
-  same_epochs x (close p) h = refl
+  same_epochs x (end_with_placeholder p) h = refl
   same_epochs x (give_up p) h = refl
   same_epochs x (data_comes t) h = refl
   same_epochs x (late_comes t) h = refl
-  same_epochs x (deliver p) h = refl
+  same_epochs x (become_ready p) h = refl
   same_epochs x (send_sack c) h = refl
-  same_epochs x (leave c) h = refl
+  same_epochs x (ack_point_advances c) h = refl
   same_epochs x (send_forward f) h = refl
   same_epochs x (forward_comes f) h = refl
-  same_epochs x (forget s c) h = refl
+  same_epochs x (perform_reset s c) h = refl
 
-  pub sending_pauses : (es : List Event) (x : Epochs) (q : Queue) → list_all is_sending es ≡ true → ArePausedAs x q → ArePausedAs (go_all message is_interleaved x (map transfers es)) q
+  pub sending_pauses : (es : List Rule) (x : Epochs) (q : Queue) → list_all is_sending es ≡ true → ArePausedAs x q → ArePausedAs (go_all message is_interleaved x (map transfers es)) q
   sending_pauses [] x q all h = h
   sending_pauses (e ∷ es) x q all h =
       let a = and_parts (is_sending e) (list_all is_sending es) all in

@@ -391,7 +391,7 @@ module _ (message : ℕ → Message) (lifecycle : ℕ → Option ℕ) (is_interl
       let some = (points_are_sound most items).ahead due room in
       record {
         point = point;
-        allowed = record { ahead = omega (arith, c, some); within = way.within; all_given = p.given; touched = p.touched; sound = p.sound; only_ordered = p.only; as_written = p.as_written };
+        allowed = record { ahead = omega (arith, c, some); within = way.within; all_given_up = p.given; touched = p.touched; sound = p.sound; only_ordered = p.only; as_written = p.as_written };
         upto = omega (arith, c);
         chunk = written_point;
         apart = ascend_apart is_interleaved way.entries (subst (λ z. Ascend z) (sym way.written) (point_ascends most items items.kept));

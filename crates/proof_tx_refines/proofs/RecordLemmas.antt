@@ -8,7 +8,7 @@ use Rattle.sctp_tx_queue.specs.Queue.{Queue}
 use Rattle.sctp_tx_outstanding.specs.Item.{Item, is_abandoned}
 use Rattle.sctp_tx_outstanding.specs.Items.{Items}
 use Rattle.proof_protocol.specs.State.{Message, Sender, Transfer, start, has}
-use Rattle.proof_protocol.specs.Rules.{Event, accept, begin, number, close, give_up, data_comes, late_comes, deliver, send_sack, leave, send_forward, forward_comes, forget, Happens, after}
+use Rattle.proof_protocol.specs.Rules.{Rule, accept, begin, number, end_with_placeholder, give_up, data_comes, late_comes, become_ready, send_sack, ack_point_advances, send_forward, forward_comes, perform_reset, Happens, after}
 use Rattle.proof_protocol.proofs.ToolsLemmas.{put_at, put_off, not_both}
 use Rattle.proof_tx_refines.specs.Led.{given_ups, recorded_places, LeadsTo}
 use Rattle.proof_tx_refines.specs.Refinement.{SenderRefines, AreKept}
@@ -37,11 +37,11 @@ distinct_more (p ∷ ps) qs a b apart =
 -- ---- the rules give up each message once
 
 module _ (message : ℕ → Message) (is_interleaved : Bool) where
-  pub record GivesOnce (x : Transfer) (es : List Event) : Type 0 where
+  pub record GivesOnce (x : Transfer) (es : List Rule) : Type 0 where
     pub once : are_distinct (given_ups es) ≡ true
     pub fresh : (p : ℕ) → has p (given_ups es) ≡ true → x.sender.given_up p ≡ false
 
-  gives : (x : Transfer) (q : ℕ) (es : List Event) → x.sender.given_up q ≡ false → GivesOnce (after message is_interleaved x (give_up q)) es → GivesOnce x (give_up q ∷ es)
+  gives : (x : Transfer) (q : ℕ) (es : List Rule) → x.sender.given_up q ≡ false → GivesOnce (after message is_interleaved x (give_up q)) es → GivesOnce x (give_up q ∷ es)
   gives x q es live g = record {
     once =
         and_from (not (has q (given_ups es))) (are_distinct (given_ups es))
@@ -52,24 +52,24 @@ module _ (message : ℕ → Message) (is_interleaved : Bool) where
       earlier : (p : ℕ) → (p ≡ q → ⊥) → ((p == q) || has p (given_ups es)) ≡ true → x.sender.given_up p ≡ false
       earlier p d h = sym (put_off x.sender.given_up q true p d) ∙ g.fresh p (ap (λ b. b || has p (given_ups es)) (sym (ne_eqb p q d)) ∙ h)
 
-  pub gives_once : (es : List Event) (x : Transfer) → Happens message is_interleaved x es → GivesOnce x es
+  pub gives_once : (es : List Rule) (x : Transfer) → Happens message is_interleaved x es → GivesOnce x es
   gives_once [] x h = record { once = refl; fresh = λ p e. cc }
   gives_once (accept ∷ es) x h = let g = gives_once es _ h.1 in record { once = g.once; fresh = g.fresh }
   gives_once (begin p ∷ es) x h = let g = gives_once es _ h.1 in record { once = g.once; fresh = g.fresh }
   gives_once (number p bytes more ∷ es) x h = let g = gives_once es _ h.1 in record { once = g.once; fresh = g.fresh }
-  gives_once (close p ∷ es) x h = let g = gives_once es _ h.1 in record { once = g.once; fresh = g.fresh }
+  gives_once (end_with_placeholder p ∷ es) x h = let g = gives_once es _ h.1 in record { once = g.once; fresh = g.fresh }
   gives_once (give_up p ∷ es) x h = gives x p es h.0.2 (gives_once es (after message is_interleaved x (give_up p)) h.1)
   gives_once (data_comes t ∷ es) x h = let g = gives_once es _ h.1 in record { once = g.once; fresh = g.fresh }
   gives_once (late_comes t ∷ es) x h = let g = gives_once es _ h.1 in record { once = g.once; fresh = g.fresh }
-  gives_once (deliver p ∷ es) x h = let g = gives_once es _ h.1 in record { once = g.once; fresh = g.fresh }
+  gives_once (become_ready p ∷ es) x h = let g = gives_once es _ h.1 in record { once = g.once; fresh = g.fresh }
   gives_once (send_sack c ∷ es) x h = let g = gives_once es _ h.1 in record { once = g.once; fresh = g.fresh }
-  gives_once (leave c ∷ es) x h = let g = gives_once es _ h.1 in record { once = g.once; fresh = g.fresh }
+  gives_once (ack_point_advances c ∷ es) x h = let g = gives_once es _ h.1 in record { once = g.once; fresh = g.fresh }
   gives_once (send_forward f ∷ es) x h = let g = gives_once es _ h.1 in record { once = g.once; fresh = g.fresh }
   gives_once (forward_comes f ∷ es) x h = let g = gives_once es _ h.1 in record { once = g.once; fresh = g.fresh }
-  gives_once (forget s c ∷ es) x h = let g = gives_once es _ h.1 in record { once = g.once; fresh = g.fresh }
+  gives_once (perform_reset s c ∷ es) x h = let g = gives_once es _ h.1 in record { once = g.once; fresh = g.fresh }
 
   -- what was given up before, and is now
-  pub one_more : (ps : List ℕ) (es : List Event) (x : Transfer) → Happens message is_interleaved x es → are_distinct ps ≡ true → ((p : ℕ) → x.sender.given_up p ≡ has p ps)
+  pub one_more : (ps : List ℕ) (es : List Rule) (x : Transfer) → Happens message is_interleaved x es → are_distinct ps ≡ true → ((p : ℕ) → x.sender.given_up p ≡ has p ps)
       → are_distinct (ps ++ given_ups es) ≡ true
   one_more ps es x h once exact = let g = gives_once es x h in distinct_more ps (given_ups es) once g.once (λ p m. sym (exact p) ∙ g.fresh p m)
 
@@ -81,7 +81,7 @@ new_row told none = record { once = ap (λ (gs : List GivenUp). are_distinct (ma
 module _ {P : Type 0} (message : ℕ → Message) (lifecycle : ℕ → Option ℕ) (is_interleaved : Bool) (x : Transfer) (q : Queue) (s : Items) (told later : Emitted P) (taken : List ℕ)
     (l : LeadsTo message lifecycle is_interleaved x told q s later) (one : OneRecord taken x.sender told) where
   all_more : all_recorded taken later ≡ all_recorded taken told ++ l.places
-  all_more = ap (λ (ps : List ℕ). taken ++ ps) l.told_of ∙ sym (append_assoc taken (recorded_places told) l.places)
+  all_more = ap (λ (ps : List ℕ). taken ++ ps) l.recorded ∙ sym (append_assoc taken (recorded_places told) l.places)
 
   pub sending_row : OneRecord taken l.after.sender later
   sending_row = record {

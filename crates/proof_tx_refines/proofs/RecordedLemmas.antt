@@ -65,7 +65,7 @@ prepares_lead message lifecycle is_interleaved x q s k sh id told =
         leads = record { events = give_ups ps; may = z.may; leads = refl; sends = all_sending ps; given_up = given_are ps; rest_stays = rest_same message is_interleaved ps x };
         kept = z.kept;
         refines = z.refines;
-        told_of = emitted_dropped (stream id q.streams).messages told;
+        recorded = emitted_dropped (stream id q.streams).messages told;
       };
       gives_up = refl;
       leads_to = refl;

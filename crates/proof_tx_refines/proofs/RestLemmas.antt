@@ -10,7 +10,7 @@ use Rattle.std.proofs.lemmas.Bool.Decides.{nat_tests}
 use Rattle.sctp_tx_queue.specs.Queue.{Queued, Queue, Stream, Entries, blank, has_nothing, is_empty}
 use Rattle.sctp_tx_outstanding.specs.Items.{Items}
 use Rattle.proof_protocol.specs.State.{Message, Transfer, has, stream_of}
-use Rattle.proof_protocol.specs.Rules.{Event, accept, begin, number, close, give_up, data_comes, late_comes, deliver, send_sack, leave, send_forward, forward_comes, forget, after, run, IsSettled}
+use Rattle.proof_protocol.specs.Rules.{Rule, accept, begin, number, end_with_placeholder, give_up, data_comes, late_comes, become_ready, send_sack, ack_point_advances, send_forward, forward_comes, perform_reset, after, run, IsSettled}
 use Rattle.proof_protocol.specs.Claims.{AtRest}
 use Rattle.proof_protocol.specs.Invariant.{Outgoing, Invariant}
 use Rattle.proof_protocol.proofs.ToolsLemmas.{not_both}
@@ -66,11 +66,11 @@ has_more p (q ∷ qs) rs = ap (λ b. (p == q) || b) (has_more p qs rs) ∙ assoc
     assoc false b c = refl
 
 module _ (message : ℕ → Message) (is_interleaved : Bool) where
-  one_record : (e : Event) (x : Transfer) (p : ℕ) → (after message is_interleaved x e).sender.given_up p ≡ (has p (given_up_by e) || x.sender.given_up p)
+  one_record : (e : Rule) (x : Transfer) (p : ℕ) → (after message is_interleaved x e).sender.given_up p ≡ (has p (given_up_by e) || x.sender.given_up p)
   one_record accept x p = refl
   one_record (begin q) x p = refl
   one_record (number q bytes more) x p = refl
-  one_record (close q) x p = refl
+  one_record (end_with_placeholder q) x p = refl
   one_record (give_up q) x p = go (p == q)
     where
       go : (b : Bool) → cond b true (x.sender.given_up p) ≡ ((b || false) || x.sender.given_up p)
@@ -78,14 +78,14 @@ module _ (message : ℕ → Message) (is_interleaved : Bool) where
       go false = refl
   one_record (data_comes t) x p = refl
   one_record (late_comes t) x p = refl
-  one_record (deliver q) x p = refl
+  one_record (become_ready q) x p = refl
   one_record (send_sack c) x p = refl
-  one_record (leave c) x p = refl
+  one_record (ack_point_advances c) x p = refl
   one_record (send_forward f) x p = refl
   one_record (forward_comes f) x p = refl
-  one_record (forget s c) x p = refl
+  one_record (perform_reset s c) x p = refl
 
-  pub all_records : (es : List Event) (x : Transfer) (p : ℕ) → (run message is_interleaved x es).sender.given_up p ≡ (has p (given_ups es) || x.sender.given_up p)
+  pub all_records : (es : List Rule) (x : Transfer) (p : ℕ) → (run message is_interleaved x es).sender.given_up p ≡ (has p (given_ups es) || x.sender.given_up p)
   all_records [] x p = refl
   all_records (e ∷ es) x p =
       all_records es (after message is_interleaved x e) p

@@ -14,7 +14,7 @@ use Rattle.sctp_tx_outstanding.specs.Losses.{Step, given_up, gives_up, loses, ch
 use Rattle.sctp_tx_outstanding.specs.Sack.{highest_end, bound, is_valid, ending, report, reports, leaving, staying, acked_by, reported_below, receive_sack_first, receive_sack}
 use Rattle.proof_protocol.specs.State.{Message, Sender, Transfer, IsAmong, fragment, place_of}
 use Rattle.proof_protocol.specs.Rules as laws
-use Rattle.proof_protocol.specs.Rules.{leave, Happens, run}
+use Rattle.proof_protocol.specs.Rules.{ack_point_advances, Happens, run}
 use Rattle.proof_protocol.specs.Joints.{reports_of}
 use Rattle.proof_protocol.specs.Invariant.{Invariant}
 use Rattle.proof_protocol.proofs.KeepsLemmas.{all_kept}
@@ -117,11 +117,11 @@ module _ {P : Type 0} (message : ℕ → Message) (lifecycle : ℕ → Option �
   point_is : x.acknowledged + n ≡ c
   point_is = let a = sh.items.point in omega (arith, a, upto, ahead)
 
-  gone : Happens message is_interleaved x (replicate n (leave c)) × (run message is_interleaved x (replicate n (leave c)) ≡ x1)
+  gone : Happens message is_interleaved x (replicate n (ack_point_advances c)) × (run message is_interleaved x (replicate n (ack_point_advances c)) ≡ x1)
   gone = leave_all message is_interleaved n c x sent (omega (arith, point_is))
 
   kept1 : Invariant message is_interleaved x1
-  kept1 = subst (λ (w : Transfer). Invariant message is_interleaved w) gone.1 (all_kept message is_interleaved (replicate n (leave c)) x k gone.0)
+  kept1 = subst (λ (w : Transfer). Invariant message is_interleaved w) gone.1 (all_kept message is_interleaved (replicate n (ack_point_advances c)) x k gone.0)
 
   shows1 : SenderRefines message lifecycle is_interleaved x1 q (acked_by blocks (staying cumulative s))
   shows1 = record {
@@ -138,7 +138,7 @@ module _ {P : Type 0} (message : ℕ → Message) (lifecycle : ℕ → Option �
   first = receive_sack_first cumulative blocks s told
 
   at_first : LeadsTo message lifecycle is_interleaved x1 told q first.items first.emitted
-  at_first = record { after = x1; places = []; leads = leads_none message is_interleaved x1; kept = kept1; refines = shows1; told_of = sym (append-nil (recorded_places told)) }
+  at_first = record { after = x1; places = []; leads = leads_none message is_interleaved x1; kept = kept1; refines = shows1; recorded = sym (append-nil (recorded_places told)) }
 
   pub sack_row : ReceivesSack message lifecycle is_interleaved x q n c told (receive_sack cumulative blocks fast s told).items (receive_sack cumulative blocks fast s told).emitted
   sack_row = record {

@@ -19,7 +19,7 @@ use Rattle.sctp_tx.specs.Resent.{send_fast, resent, resent_by, flight, resent_fa
 use Rattle.sctp_tx.specs.Sending.{Filling, offered_payload, item_of, append, ask_queue, turned_if, next_turn, fill, discard_all, without_discards, filled_with}
 use Rattle.proof_protocol.specs.State as rules
 use Rattle.proof_protocol.specs.State.{Message, Transfer, fragment, place_of, count}
-use Rattle.proof_protocol.specs.Rules.{Event, IsAllowed, Happens, after, run}
+use Rattle.proof_protocol.specs.Rules.{Rule, IsAllowed, Happens, after, run}
 use Rattle.proof_protocol.specs.Invariant.{Invariant}
 use Rattle.proof_protocol.proofs.KeepsLemmas.{keeps}
 use Rattle.proof_protocol.proofs.StepLemmas.{later}
@@ -37,7 +37,7 @@ use Rattle.proof_tx_refines.proofs.DiscardLemmas.{discards_all}
 -- ---- what was carried once may come at any later time
 
 module _ (message : ℕ → Message) (is_interleaved : Bool) (first : ℕ) where
-  pub carries_once : (x : Transfer) (k : Invariant message is_interleaved x) (e : Event) → (l : IsAllowed message is_interleaved x e) → (c : ℕ × FragmentTree)
+  pub carries_once : (x : Transfer) (k : Invariant message is_interleaved x) (e : Rule) → (l : IsAllowed message is_interleaved x e) → (c : ℕ × FragmentTree)
       → (a : Carries message first x.sender c) → (b : Carries message first (after message is_interleaved x e).sender c) × (b.at ≡ a.at)
   carries_once x k e l c a =
       let o = x.sender in
@@ -58,7 +58,7 @@ module _ (message : ℕ → Message) (is_interleaved : Bool) (first : ℕ) where
       } in
       (b, refl)
 
-  pub carries_along : (es : List Event) (x : Transfer) → Invariant message is_interleaved x → Happens message is_interleaved x es → (c : ℕ × FragmentTree)
+  pub carries_along : (es : List Rule) (x : Transfer) → Invariant message is_interleaved x → Happens message is_interleaved x es → (c : ℕ × FragmentTree)
       → (a : Carries message first x.sender c) → (b : Carries message first (run message is_interleaved x es).sender c) × (b.at ≡ a.at)
   carries_along [] x k h c a = (a, refl)
   carries_along (e ∷ es) x k h c a =
@@ -228,7 +228,7 @@ module _ {P : Type 0} (message : ℕ → Message) (lifecycle : ℕ → Option �
       go : (made : Option Produced) → t.made ≡ made → Filled (step t.made)
       go None e =
           subst (λ (m : Option Produced). Filled (step m)) (sym e) (record {
-            leads = record { after = one.after; places = one.places; leads = one.leads; kept = one.kept; refines = subst (λ (m : Option Produced). SenderRefines message lifecycle is_interleaved one.after t.queue (with_made now m s)) e one.refines; told_of = one.told_of };
+            leads = record { after = one.after; places = one.places; leads = one.leads; kept = one.kept; refines = subst (λ (m : Option Produced). SenderRefines message lifecycle is_interleaved one.after t.queue (with_made now m s)) e one.refines; recorded = one.recorded };
             none_left = a.none_left;
             first_is = a.first_is;
             carried = before;
@@ -237,7 +237,7 @@ module _ {P : Type 0} (message : ℕ → Message) (lifecycle : ℕ → Option �
           let sh = subst (λ (m : Option Produced). SenderRefines message lifecycle is_interleaved one.after t.queue (with_made now m s)) e one.refines in
           let c = new_carries one.after.sender one.after.acknowledged s f.sender.outstanding p a.first_is refl sh.items in
           subst (λ (m : Option Produced). Filled (step m)) (sym e) (record {
-            leads = record { after = one.after; places = one.places; leads = one.leads; kept = one.kept; refines = sh; told_of = one.told_of };
+            leads = record { after = one.after; places = one.places; leads = one.leads; kept = one.kept; refines = sh; recorded = one.recorded };
             none_left = a.none_left;
             first_is = a.first_is;
             carried =
@@ -331,7 +331,7 @@ module _ (message : ℕ → Message) (lifecycle : ℕ → Option ℕ) (is_interl
           leads = leads_none message is_interleaved x;
           kept = k;
           refines = record { queue = d.queue_is; items = r.items; discards = subst (λ ds. AreDiscards x.sender (messages_of left.queue) ds) (sym none) d.none_left };
-          told_of = quiet_emitted s.outstanding.items.discards q told ∙ sym (append-nil (recorded_places told));
+          recorded = quiet_emitted s.outstanding.items.discards q told ∙ sym (append-nil (recorded_places told));
         };
         none_left = none;
         first_is = r.first_is;
@@ -347,7 +347,7 @@ module _ (message : ℕ → Message) (lifecycle : ℕ → Option ℕ) (is_interl
           leads = f.leads.leads;
           kept = f.leads.kept;
           refines = subst (λ (z : Outstanding). SenderRefines message lifecycle is_interleaved f.leads.after whole.queue z.items) (sym same) f.leads.refines;
-          told_of = f.leads.told_of;
+          recorded = f.leads.recorded;
         };
         carried = f.carried;
       }

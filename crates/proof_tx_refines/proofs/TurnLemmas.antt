@@ -15,7 +15,7 @@ use Rattle.sctp_tx_queue.proofs.RestLemmas.{turn_rests, without_stale_rests}
 use Rattle.sctp_tx_queue.proofs.ProduceLemmas.{idles, gives, turned}
 use Rattle.sctp_tx_outstanding.specs.Items.{Items}
 use Rattle.proof_protocol.specs.State.{Message, Sender, Transfer, IsAmong, place_of, count, put, is_empty, stream_of, ordered_of}
-use Rattle.proof_protocol.specs.Rules.{Event, begin, number, run, begins, numbers, part, same}
+use Rattle.proof_protocol.specs.Rules.{Rule, begin, number, run, begins, numbers, part, same}
 use Rattle.proof_protocol.specs.Invariant.{Invariant}
 use Rattle.proof_protocol.specs.Sending as sending
 use Rattle.proof_protocol.specs.Sending.{Waiting}
@@ -142,7 +142,7 @@ module _ {P : Type 0} (message : ℕ → Message) (lifecycle : ℕ → Option �
       items = record { mode = sh.items.mode; point = point_y; kept = f.items };
       discards = discards_as y.sender [] new_is (subst (λ (z : ℕ → List Queued). AreDiscards y.sender z s.discards) same f.discards_are);
     };
-    told_of = emitted_is;
+    recorded = emitted_is;
   }
     where
       with_messages : List Queued → Stream
@@ -216,7 +216,7 @@ module _ {P : Type 0} (message : ℕ → Message) (lifecycle : ℕ → Option �
     split : drop m.offset m.payload ≡ bytes ++ more
     split = sym (take-append-drop size (drop m.offset m.payload))
 
-    module _ (begun partly : ℕ → Bool) (number written : ℕ → ℕ) (counts following : Bool → ℕ → ℕ) (z : Transfer) (events : List Event)
+    module _ (begun partly : ℕ → Bool) (number written : ℕ → ℕ) (counts following : Bool → ℕ → ℕ) (z : Transfer) (events : List Rule)
         (number_off : (r : ℕ) → r ≢ p → written r ≡ y.sender.written r) (number_begun : (u : ℕ) → u < count y.sender → written (place_of y.sender u) ≡ y.sender.written (place_of y.sender u)) where
       abbrev o1 : Sender
       o1 = record y.sender { begun = begun; partly = partly; number = number; counts = counts; written = written; following = following }
@@ -241,7 +241,7 @@ module _ {P : Type 0} (message : ℕ → Message) (lifecycle : ℕ → Option �
               items = record { mode = sh.items.mode; point = point_y; kept = b.items };
               discards = discards_as o' front new_is b.discards_are;
             };
-            told_of = emitted_is ∙ ap (λ w. recorded_places told ++ w) (sym (append-nil f.places));
+            recorded = emitted_is ∙ ap (λ w. recorded_places told ++ w) (sym (append-nil f.places));
           }
 
     -- it was begun before

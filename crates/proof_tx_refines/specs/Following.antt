@@ -18,7 +18,7 @@ use Rattle.sctp_tx.specs.ForwardPoints.{expire}
 use Rattle.sctp_tx.specs.Resent.{send_fast}
 use Rattle.sctp_tx.specs.Sending.{send}
 use Rattle.proof_protocol.specs.State.{Message, Transfer, IsAmong, count, stream_of}
-use Rattle.proof_protocol.specs.Rules.{Event, accept, leave, run}
+use Rattle.proof_protocol.specs.Rules.{Rule, accept, ack_point_advances, run}
 use Rattle.proof_protocol.specs.Invariant.{Invariant}
 use Rattle.proof_protocol.specs.Resets.{Epochs, first_epoch, transfers, send_request, commit, goes, MayAll, go_all}
 use Rattle.proof_tx_refines.specs.Refinement.{find, messages_of, SenderRefines}
@@ -40,7 +40,7 @@ InEachFollowed P = (message : ℕ → Message) (lifecycle : ℕ → Option ℕ) 
     → Invariant message is_interleaved x.transfer → SenderRefines message lifecycle is_interleaved x.transfer q s.outstanding.items → FollowsEpochs x q s.outstanding.items → P message lifecycle is_interleaved x q s
 
 -- these rules may happen by the rules with epochs too, they change the transfer alone, and the values keep the epochs then
-pub record LeadsInEpochs (message : ℕ → Message) (is_interleaved : Bool) (x : Epochs) (es : List Event) (y : Transfer) (q : Queue) (s : Items) : Type 0 where
+pub record LeadsInEpochs (message : ℕ → Message) (is_interleaved : Bool) (x : Epochs) (es : List Rule) (y : Transfer) (q : Queue) (s : Items) : Type 0 where
   pub may : MayAll message is_interleaved x (map transfers es)
   pub goes_to : go_all message is_interleaved x (map transfers es) ≡ record x { transfer = y }
   pub follows : FollowsEpochs (record x { transfer = y }) q s
@@ -154,7 +154,7 @@ ReceivingFollows = InEachFollowed (λ message lifecycle is_interleaved x q s.
     (now cumulative c a_rwnd : ℕ) (blocks : List GapAckBlock) (told : Emitted (List ℕ))
     → is_valid cumulative blocks s.outstanding.items ≡ true → cumulative + 1 ≡ origin + c → IsAmong c x.transfer.sacks
     → (h : ReceivesSack message lifecycle is_interleaved x.transfer q (leaving cumulative s.outstanding.items) c told (handle_sack now cumulative a_rwnd blocks s told).outstanding.items (step_of cumulative blocks s told).emitted)
-    → LeadsInEpochs message is_interleaved x (replicate (leaving cumulative s.outstanding.items) (leave c) ++ h.losses.leads.events) h.losses.after q (handle_sack now cumulative a_rwnd blocks s told).outstanding.items)
+    → LeadsInEpochs message is_interleaved x (replicate (leaving cumulative s.outstanding.items) (ack_point_advances c) ++ h.losses.leads.events) h.losses.after q (handle_sack now cumulative a_rwnd blocks s told).outstanding.items)
 
 -- ---- what changes the items alone
 

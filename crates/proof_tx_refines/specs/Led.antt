@@ -6,43 +6,43 @@ use Rattle.sctp_state.specs.Events.{Emitted}
 use Rattle.sctp_tx_queue.specs.Queue.{Queue}
 use Rattle.sctp_tx_outstanding.specs.Items.{Items}
 use Rattle.proof_protocol.specs.State.{Message, Transfer, is_empty}
-use Rattle.proof_protocol.specs.Rules.{Event, accept, begin, number, close, give_up, data_comes, late_comes, deliver, send_sack, leave, send_forward, forward_comes, forget, Happens, run}
+use Rattle.proof_protocol.specs.Rules.{Rule, accept, begin, number, end_with_placeholder, give_up, data_comes, late_comes, become_ready, send_sack, ack_point_advances, send_forward, forward_comes, perform_reset, Happens, run}
 use Rattle.proof_protocol.specs.Invariant.{Invariant}
 use Rattle.proof_tx_refines.specs.Refinement.{SenderRefines}
 
 -- the place that a rule gives up
-abbrev pub given_up_by : Event → List ℕ
+abbrev pub given_up_by : Rule → List ℕ
 given_up_by accept = []
 given_up_by (begin p) = []
 given_up_by (number p bytes more) = []
-given_up_by (close p) = []
+given_up_by (end_with_placeholder p) = []
 given_up_by (give_up p) = p ∷ []
 given_up_by (data_comes t) = []
 given_up_by (late_comes t) = []
-given_up_by (deliver p) = []
+given_up_by (become_ready p) = []
 given_up_by (send_sack c) = []
-given_up_by (leave c) = []
+given_up_by (ack_point_advances c) = []
 given_up_by (send_forward f) = []
 given_up_by (forward_comes f) = []
-given_up_by (forget s c) = []
+given_up_by (perform_reset s c) = []
 
 -- the rules of a sender, but for acceptance. A fragment has bytes
-abbrev pub is_sending : Event → Bool
+abbrev pub is_sending : Rule → Bool
 is_sending accept = false
 is_sending (begin p) = true
 is_sending (number p bytes more) = not (is_empty bytes)
-is_sending (close p) = true
+is_sending (end_with_placeholder p) = true
 is_sending (give_up p) = true
 is_sending (data_comes t) = false
 is_sending (late_comes t) = false
-is_sending (deliver p) = false
+is_sending (become_ready p) = false
 is_sending (send_sack c) = false
-is_sending (leave c) = true
+is_sending (ack_point_advances c) = true
 is_sending (send_forward f) = true
 is_sending (forward_comes f) = false
-is_sending (forget s c) = false
+is_sending (perform_reset s c) = false
 
-abbrev pub given_ups : List Event → List ℕ
+abbrev pub given_ups : List Rule → List ℕ
 given_ups [] = []
 given_ups (e ∷ es) = given_up_by e ++ given_ups es
 
@@ -52,7 +52,7 @@ recorded_places told = map (λ g. g.number) told.given_up
 
 -- rules of a sender, which change it alone, lead from x to y, and give these places up
 pub record Leads (message : ℕ → Message) (is_interleaved : Bool) (x y : Transfer) (places : List ℕ) : Type 0 where
-  pub events : List Event
+  pub events : List Rule
   pub may : Happens message is_interleaved x events
   pub leads : run message is_interleaved x events ≡ y
   pub sends : list_all is_sending events ≡ true
@@ -66,7 +66,7 @@ pub record LeadsTo {P : Type 0} (message : ℕ → Message) (lifecycle : ℕ →
   pub leads : Leads message is_interleaved x after places
   pub kept : Invariant message is_interleaved after
   pub refines : SenderRefines message lifecycle is_interleaved after q s
-  pub told_of : recorded_places later ≡ recorded_places told ++ places
+  pub recorded : recorded_places later ≡ recorded_places told ++ places
 
 -- ---- what is emitted of messages that leave
 

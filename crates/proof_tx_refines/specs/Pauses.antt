@@ -16,7 +16,7 @@ use Rattle.sctp_tx_outstanding.specs.Sack.{staying}
 use Rattle.sctp_tx.specs.Retransmission.{Sender}
 use Rattle.sctp_tx.specs.Sending.{discard_all}
 use Rattle.proof_protocol.specs.State.{Message, Transfer, IsAmong, stream_of}
-use Rattle.proof_protocol.specs.Rules.{Event, accept, give_up, send_forward, Happens, run}
+use Rattle.proof_protocol.specs.Rules.{Rule, accept, give_up, send_forward, Happens, run}
 use Rattle.proof_protocol.specs.Invariant.{Invariant}
 use Rattle.proof_protocol.specs.Resets.{Request, Epochs, ResetEvent, transfers, reset_stream, send_request, commit, InEpoch, MayReset, goes, MayAll, go_all}
 use Rattle.proof_tx_refines.specs.Refinement.{find, messages_of, SenderRefines}
@@ -30,7 +30,7 @@ use Rattle.proof_tx_refines.specs.Rows.{offered_entry, InEachState}
 abbrev pub unsent_of : Queue → ℕ → List ℕ
 unsent_of q id = map (λ (m : Queued). m.number) (filter (λ m. not (is_partly m)) (messages_of q id))
 
-abbrev pub give_ups : List ℕ → List Event
+abbrev pub give_ups : List ℕ → List Rule
 give_ups ps = map give_up ps
 
 -- each of these is given up, and nothing else
@@ -154,13 +154,13 @@ TurningPauses = InEachEpochs (λ message lifecycle is_interleaved x q.
 
 -- the rules of a sender, but for acceptance, leave the epochs
 abbrev pub SendingPauses : Type 0
-SendingPauses = (message : ℕ → Message) (is_interleaved : Bool) (x : Epochs) (q : Queue) (es : List Event)
+SendingPauses = (message : ℕ → Message) (is_interleaved : Bool) (x : Epochs) (q : Queue) (es : List Rule)
     → list_all is_sending es ≡ true → ArePausedAs x q → ArePausedAs (go_all message is_interleaved x (map transfers es)) q
 
 -- what leads to it may happen by the rules with epochs: what it begins is of the epoch in which its stream is open
 abbrev pub TurnsBegin : Type 0
 TurnsBegin = InEachEpochs (λ message lifecycle is_interleaved x q.
-    (now id size : ℕ) (told : Emitted (List ℕ)) (es : List Event) (t : Items) → is_stopped (stream id q.streams).pause ≡ false
+    (now id size : ℕ) (told : Emitted (List ℕ)) (es : List Rule) (t : Items) → is_stopped (stream id q.streams).pause ≡ false
     → Happens message is_interleaved x.transfer es → list_all is_sending es ≡ true → (run message is_interleaved x.transfer es).forward_points ≡ x.transfer.forward_points
     → SenderRefines message lifecycle is_interleaved (run message is_interleaved x.transfer es) (turn now id size q told).queue t
     → MayAll message is_interleaved x (map transfers es))

@@ -27,7 +27,7 @@ use Rattle.sctp_tx.specs.Resent.{resent_fast, send_fast}
 use Rattle.sctp_tx.specs.Sending.{item_of, discard_all, without_discards, send}
 use Rattle.proof_protocol.specs.State as rules
 use Rattle.proof_protocol.specs.State.{Message, Transfer, IsAmong, new_sender, start, has, fragment, count, stream_of, ordered_of}
-use Rattle.proof_protocol.specs.Rules.{Event, accept, leave, IsAllowed, Happens, after, run}
+use Rattle.proof_protocol.specs.Rules.{Rule, accept, ack_point_advances, IsAllowed, Happens, after, run}
 use Rattle.proof_protocol.specs.Resets.{restarts}
 use Rattle.proof_protocol.specs.Claims.{AtRest}
 use Rattle.proof_protocol.specs.Invariant.{Invariant}
@@ -137,8 +137,8 @@ leave_places n x = record x { acknowledged = x.acknowledged + n; reports = x.rep
 
 -- n fragments leave, up to c, with the reports of the rules; then messages are given up that lost a fragment
 pub record ReceivesSack {P : Type 0} (message : ℕ → Message) (lifecycle : ℕ → Option ℕ) (is_interleaved : Bool) (x : Transfer) (q : Queue) (n c : ℕ) (told : Emitted P) (s : Items) (later : Emitted P) : Type 0 where
-  pub may : Happens message is_interleaved x (replicate n (leave c))
-  pub leaves : run message is_interleaved x (replicate n (leave c)) ≡ leave_places n x
+  pub may : Happens message is_interleaved x (replicate n (ack_point_advances c))
+  pub leaves : run message is_interleaved x (replicate n (ack_point_advances c)) ≡ leave_places n x
   pub upto : (leave_places n x).acknowledged ≡ c
   pub reported : delivered_ids later.events ≡ delivered_ids told.events ++ ids_at lifecycle (reports_of x.sender x.acknowledged n)
   pub losses : LeadsTo message lifecycle is_interleaved (leave_places n x) told q s later
@@ -215,7 +215,7 @@ AllCarry message first least o (c ∷ cs) = ((carries : Carries message first o 
 
 -- a chunk carries its fragment after each rule too, whichever it is
 abbrev pub CarryingStays : Type 0
-CarryingStays = (message : ℕ → Message) (is_interleaved : Bool) (first : ℕ) (x : Transfer) (e : Event) (chunk : ℕ × FragmentTree)
+CarryingStays = (message : ℕ → Message) (is_interleaved : Bool) (first : ℕ) (x : Transfer) (e : Rule) (chunk : ℕ × FragmentTree)
     → Invariant message is_interleaved x → IsAllowed message is_interleaved x e → Carries message first x.sender chunk → Carries message first (after message is_interleaved x e).sender chunk
 
 pub record Sends {P : Type 0} (message : ℕ → Message) (lifecycle : ℕ → Option ℕ) (is_interleaved : Bool) (x : Transfer) (now most : ℕ) (s : Sender) (q : Queue) (told : Emitted P) : Type 0 where

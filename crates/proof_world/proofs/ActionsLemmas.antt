@@ -34,7 +34,7 @@ use Rattle.proof_delivery.specs.GivenUp as giving
 use Rattle.spec_world.specs.Observations.{End, A, B, same_end, Entry, Given, given_up}
 use Rattle.spec_world.specs.World.{Side, association, ready_at, news_of, take_emitted}
 use Rattle.proof_world.specs.Traces.{is_let_through, receiving, IsReceiving, IsForeign}
-use Rattle.proof_world.specs.Consistent.{asks, is_init, is_some_init}
+use Rattle.proof_world.specs.Consistent.{gets_init, is_init, is_some_init}
 use Rattle.proof_world.proofs.EventLemmas.{Readable, all_readable, same_itself}
 use Rattle.proof_world.proofs.LoggedLemmas.{given_up_news}
 use Rattle.proof_world.proofs.SidesLemmas.{IsFirst, IsSilentOf, silent_first, silent_news, Good, stays_good, goes_good}
@@ -80,8 +80,8 @@ or_of : (a b c : Bool) → (a ≡ true → c ≡ true) → (b ≡ true → c ≡
 or_of true b c f g e = f refl
 or_of false b c f g e = g e
 
-any_longer : (x : End) (ps : List (List ℕ)) (log more : List Entry) → list_any (asks x ps) log ≡ true → list_any (asks x ps) (log ++ more) ≡ true
-any_longer x ps log more e = list_any-append (asks x ps) log more ∙ or_left (list_any (asks x ps) log) (list_any (asks x ps) more) e
+any_longer : (x : End) (ps : List (List ℕ)) (log more : List Entry) → list_any (gets_init x ps) log ≡ true → list_any (gets_init x ps) (log ++ more) ≡ true
+any_longer x ps log more e = list_any-append (gets_init x ps) log more ∙ or_left (list_any (gets_init x ps) log) (list_any (gets_init x ps) more) e
 
 module _ (word_of : List ℕ → ℕ) (x : End) (log : List Entry) (first : Entry) (others : List (List ℕ)) (side : Side) (end beside : traces.Side)
     (is_first : IsFirst first) (g : Good word_of x log others side end) (new : Side) (longer : List Entry) where
@@ -92,22 +92,22 @@ module _ (word_of : List ℕ → ℕ) (x : End) (log : List Entry) (first : Entr
   own = end.end
 
   -- such an end as this went on to
-  goes_by : (turn : EndAction) (s : Endpoint Carried) (asked : Bool) → act turn end beside ≡ record (took s end) { is_asked = asked }
+  goes_by : (turn : EndAction) (s : Endpoint Carried) (asked : Bool) → act turn end beside ≡ record (took s end) { got_init = asked }
       → s.endpoint_state.context.emitted.given_up ≡ (giving.emitted_by turn end beside).given_up
       → IsSound s → s.endpoint_state.context.pack ≡ as_carried → All Readable (traces.packets_in s.endpoint_state.context.emitted.events)
-      → (asked ≡ true → list_any (asks x others) (log ++ first ∷ news_of x side (map_end written_of s)) ≡ true)
+      → (asked ≡ true → list_any (gets_init x others) (log ++ first ∷ news_of x side (map_end written_of s)) ≡ true)
       → (after : Endpoint (List ℕ)) → after ≡ map_end written_of s → new ≡ take_emitted side after → longer ≡ log ++ first ∷ news_of x side after
       → Goes word_of x log others side end beside turn new longer
   goes_by turn s asked turns gave_up sound pack readable was after is news logged =
       let there : Endpoint (List ℕ) = map_end written_of s in
       let settles : new ≡ take_emitted side there = news ∙ ap (take_emitted side) is in
       let grows : longer ≡ log ++ first ∷ news_of x side there = logged ∙ ap (λ (z : Endpoint (List ℕ)). log ++ first ∷ news_of x side z) is in
-      let good : Good word_of x (log ++ first ∷ news_of x side there) others (take_emitted side there) (record (took s end) { is_asked = asked }) =
+      let good : Good word_of x (log ++ first ∷ news_of x side there) others (take_emitted side there) (record (took s end) { got_init = asked }) =
       goes_good word_of x log first others side end s asked is_first sound pack readable was g in
-      let moved : Good word_of x longer others (take_emitted side there) (record (took s end) { is_asked = asked }) =
-      subst (λ (l : List Entry). Good word_of x l others (take_emitted side there) (record (took s end) { is_asked = asked })) (sym grows) good in
-      let here : Good word_of x longer others new (record (took s end) { is_asked = asked }) =
-      subst (λ (z : Side). Good word_of x longer others z (record (took s end) { is_asked = asked })) (sym settles) moved in
+      let moved : Good word_of x longer others (take_emitted side there) (record (took s end) { got_init = asked }) =
+      subst (λ (l : List Entry). Good word_of x l others (take_emitted side there) (record (took s end) { got_init = asked })) (sym grows) good in
+      let here : Good word_of x longer others new (record (took s end) { got_init = asked }) =
+      subst (λ (z : Side). Good word_of x longer others z (record (took s end) { got_init = asked })) (sym settles) moved in
       record {
         more = first ∷ news_of x side there;
         logged = grows;
@@ -126,13 +126,13 @@ module _ (word_of : List ℕ → ℕ) (x : End) (log : List Entry) (first : Entr
   mapped_after : (call : Call) → called call side.socket ≡ map_end written_of (called call own)
   mapped_after call = ap (called call) g.image.socket ∙ maps_called written_of call own
 
-  was_before : (more : List Entry) → end.is_asked ≡ true → list_any (asks x others) (log ++ more) ≡ true
+  was_before : (more : List Entry) → end.got_init ≡ true → list_any (gets_init x others) (log ++ more) ≡ true
   was_before more e = any_longer x others log more (g.asked e)
 
   pub call_goes : (call : Call) → ArgumentFits call → (after : Endpoint (List ℕ)) → after ≡ called call side.socket → new ≡ take_emitted side after
       → longer ≡ log ++ first ∷ news_of x side after → Goes word_of x log others side end beside (Calls call) new longer
   call_goes call fits after is news logged =
-      goes_by (Calls call) (called call own) end.is_asked refl refl (stays_sound call own g.sound fits) (packing_after call)
+      goes_by (Calls call) (called call own) end.got_init refl refl (stays_sound call own g.sound fits) (packing_after call)
       (readable_after own.endpoint_state.context (called call own).endpoint_state.context g.image.quiet g.sound.options.mtu_most g.packing (can_be_read call own g.sound fits))
       (was_before (first ∷ news_of x side (map_end written_of (called call own))))
       after (is ∙ mapped_after call) news logged
@@ -159,17 +159,17 @@ module _ (word_of : List ℕ → ℕ) (x : End) (log : List Entry) (first : Entr
     an_init : p.header.verification_tag ≡ 0 → is_init packet ≡ true
     an_init e = ap (λ (k : ℕ). k == 0) (tag_at p.header sum p.chunks reads.header ∙ e)
 
-    asks_first : (p.header.verification_tag == 0) ≡ true → asks x others first ≡ true
+    asks_first : (p.header.verification_tag == 0) ≡ true → gets_init x others first ≡ true
     asks_first e =
-        ap (asks x others) is_given
+        ap (gets_init x others) is_given
         ∙ same_self x (is_some_init (slice_get others n)) (ap is_some_init given_there ∙ an_init (eqb-true p.header.verification_tag 0 e))
 
-    was_now : (more : List Entry) → (end.is_asked || (p.header.verification_tag == 0)) ≡ true → list_any (asks x others) (log ++ first ∷ more) ≡ true
+    was_now : (more : List Entry) → (end.got_init || (p.header.verification_tag == 0)) ≡ true → list_any (gets_init x others) (log ++ first ∷ more) ≡ true
     was_now more e =
-        or_of end.is_asked (p.header.verification_tag == 0) (list_any (asks x others) (log ++ first ∷ more))
+        or_of end.got_init (p.header.verification_tag == 0) (list_any (gets_init x others) (log ++ first ∷ more))
         (was_before (first ∷ more))
-        (λ z. list_any-append (asks x others) log (first ∷ more)
-        ∙ or_right (list_any (asks x others) log) (list_any (asks x others) (first ∷ more)) (or_left (asks x others first) (list_any (asks x others) more) (asks_first z)))
+        (λ z. list_any-append (gets_init x others) log (first ∷ more)
+        ∙ or_right (list_any (gets_init x others) log) (list_any (gets_init x others) (first ∷ more)) (or_left (gets_init x others first) (list_any (gets_init x others) more) (asks_first z)))
         e
 
     abbrev call : Call
@@ -179,7 +179,7 @@ module _ (word_of : List ℕ → ℕ) (x : End) (log : List Entry) (first : Entr
         → new ≡ take_emitted side after → longer ≡ log ++ first ∷ news_of x side after → Goes word_of x log others side end beside (traces.Gives n sum) new longer
     given_as q same q_fits after is news logged =
         let fits : ArgumentFits call = subst (λ (z : PacketTree). ArgumentFits (Packet z)) same q_fits in
-        goes_by (traces.Gives n sum) (called call own) (end.is_asked || (p.header.verification_tag == 0)) (ap (λ (o : Option Carried). give o sum end) there)
+        goes_by (traces.Gives n sum) (called call own) (end.got_init || (p.header.verification_tag == 0)) (ap (λ (o : Option Carried). give o sum end) there)
         (sym (ap (λ (o : Option Carried). (giving.emitted_given o sum end).given_up) there))
         (stays_sound call own g.sound fits) (packing_after call)
         (readable_after own.endpoint_state.context (called call own).endpoint_state.context g.image.quiet g.sound.options.mtu_most g.packing (can_be_read call own g.sound fits))
@@ -237,7 +237,7 @@ module _ (word_of : List ℕ → ℕ) (x : End) (log : List Entry) (first : Entr
   refused_as q text why after is news logged =
       let e : refusal q.header.verification_tag q.chunks own.endpoint_state.state ≡ Some text =
       ap (refusal q.header.verification_tag q.chunks) (sym state_is) ∙ why in
-      goes_by (Refuses q) (called (Packet q) own) end.is_asked (ap (λ (o : Option (List ℕ)). foreign_if o q end) e)
+      goes_by (Refuses q) (called (Packet q) own) end.got_init (ap (λ (o : Option (List ℕ)). foreign_if o q end) e)
       (sym (ap (λ (o : Option (List ℕ)). (giving.emitted_foreign o q end).given_up) e))
       (stays_sound_refused q text own g.sound e) (packing_after (Packet q))
       (readable_after own.endpoint_state.context (called (Packet q) own).endpoint_state.context g.image.quiet g.sound.options.mtu_most g.packing (can_be_read_refused q text own g.sound e))

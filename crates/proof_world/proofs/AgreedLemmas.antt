@@ -19,8 +19,8 @@ use Rattle.proof_pair.specs.Agreement.{Has, History, held_in, history_by, Histor
 use Rattle.proof_pair.proofs.AgreeTraceLemmas.{drop_emitted}
 use Rattle.proof_pair.proofs.AgreeWithinLemmas.{has_either}
 use Rattle.proof_pair.proofs.AgreeActionsLemmas.{ends_agree}
-use Rattle.spec_world.specs.Observations.{End, A, B, same_end, none_unless, same_association, Entry, Associated, Emitted, Happened, GaveUp, BecameReady, Call, Connect, Shutdown, Close, Send, SendMany, Receive, Reset, SetPriority, SetMaxMessageSize, SetLowThreshold, HandOver, connected_by, times_connected, held_after, held_from, held}
-use Rattle.spec_world.specs.World.{Side, World, Action, CallOf, Give, GiveForeign, AdvanceTime, ComesTo, taken_in, skipped, Happens, Runs, side_of, other, packets_in, news_of, emitted_entries, given_up_entries, ready_entries, ready_before, ready_at, association, associated_if, association_entries, call_entry, after_call, time_entry, after_time, step_of}
+use Rattle.spec_world.specs.Observations.{End, A, B, same_end, none_unless, same_association, Entry, Associated, EmittedPacket, EmittedEvent, GaveUp, BecameReady, Call, Connect, Shutdown, Close, Send, SendMany, Receive, Reset, SetPriority, SetMaxMessageSize, SetLowThreshold, HandOver, connected_by, times_connected, held_after, held_from, held}
+use Rattle.spec_world.specs.World.{Side, World, Action, CallOf, Give, GiveForeign, AdvanceTime, ComesTo, taken_in, withheld, Happens, Runs, side_of, other, packets_in, news_of, emitted_entries, given_up_entries, ready_entries, ready_before, ready_at, association, associated_if, association_entries, call_entry, after_call, time_entry, after_time, table_call}
 use Rattle.proof_world.specs.Traces.{ActionFits, IsInBytes, is_a, end_of, receiving, IsForeign, IsActionOf, AreActionsOf, emitted_in, origin}
 use Rattle.proof_world.specs.Agreed.{IsAgreed, Agrees, WorldsAgree}
 use Rattle.proof_world.proofs.EventLemmas.{mapped, entries_both, same_itself, connected_emitted}
@@ -35,7 +35,7 @@ use Rattle.proof_world.proofs.ConsistentLemmas.{given_of}
 -- ---- entries
 
 abbrev is_happened : Entry → Bool
-is_happened (Happened y e) = true
+is_happened (EmittedEvent y e) = true
 is_happened entry = false
 
 abbrev is_associated : Entry → Bool
@@ -56,8 +56,8 @@ all_back P (x ∷ xs) ys h = all_back P xs ys (All-tail P x (xs ++ ys) h)
 
 plain_emitted : (y : End) (n : ℕ) (es : List (Event (List ℕ))) → All Plain (emitted_entries y n es)
 plain_emitted y n [] = All-nil Plain
-plain_emitted y n (SendPacket p ∷ es) = All-cons Plain (Emitted y n) (emitted_entries y (n + 1) es) refl (plain_emitted y (n + 1) es)
-plain_emitted y n (e ∷ es) = All-cons Plain (Happened y e) (emitted_entries y n es) refl (plain_emitted y n es)
+plain_emitted y n (SendPacket p ∷ es) = All-cons Plain (EmittedPacket y n) (emitted_entries y (n + 1) es) refl (plain_emitted y (n + 1) es)
+plain_emitted y n (e ∷ es) = All-cons Plain (EmittedEvent y e) (emitted_entries y n es) refl (plain_emitted y n es)
 
 plain_given_up : (y : End) (gs : List GivenUp) → All Plain (given_up_entries y gs)
 plain_given_up y [] = All-nil Plain
@@ -88,7 +88,7 @@ data Adds (x : End) (old : Side) (log longer : List Entry) : Type 0 where
 
 comes_adds : (x : End) (bytes : List ℕ) (old new : Side) (log longer : List Entry) → ComesTo x bytes old new log longer → Adds x old log longer
 comes_adds x bytes old new log longer (taken_in t judged) = news _ t.after (record { emitted = λ y. refl; quiet = λ y o. refl; given_up = λ y. refl }) refl t.logged
-comes_adds x bytes old new log longer (skipped judged stays logged) = none _ (record { emitted = λ y. refl; quiet = λ y o. refl; given_up = λ y. refl }) refl logged
+comes_adds x bytes old new log longer (withheld judged stays logged) = none _ (record { emitted = λ y. refl; quiet = λ y o. refl; given_up = λ y. refl }) refl logged
 
 event_adds : (action : Action) (w u : World) → Happens action w u → Adds (end_of action) (side_of (end_of action) w) w.log u.log
 event_adds (CallOf A call) w u e =
@@ -105,7 +105,7 @@ event_adds (AdvanceTime B now) w u e =
 -- ---- an OnConnected of it
 
 abbrev connection : End → Entry
-connection y = Happened y OnConnected
+connection y = EmittedEvent y OnConnected
 
 -- it is old, or among what was added
 data Stands (y : End) (log more before behind : List Entry) : Type 0 where
@@ -373,7 +373,7 @@ module _ (word_of_a word_of_b : List ℕ → ℕ) where
 
 -- ---- what traces are asked
 
-plain_call : (call : Call) → IsPlainCall (step_of call)
+plain_call : (call : Call) → IsPlainCall (table_call call)
 plain_call Connect = tt
 plain_call Shutdown = tt
 plain_call Close = tt

@@ -6,19 +6,19 @@ use Rattle.std.proofs.lemmas.Option.{slice_get_within}
 use Rattle.sctp_serial.specs.Messages.{Message}
 use Rattle.proof_protocol.specs.State.{has}
 use Rattle.proof_protocol.proofs.ToolsLemmas.{has_at, has_keeps, not_both}
-use Rattle.proof_delivery.specs.Accepted.{Offer}
+use Rattle.proof_delivery.specs.Accepted.{AcceptedMessage}
 use Rattle.proof_delivery.specs.Delivery.{message_at, Fits, SkippedAreGivenUp, IsReady}
 use Rattle.proof_world.proofs.PrefixLemmas.{split_head, split_tail, length_front, index_front, fits_front}
 
 -- so far: what is offered, ready, given up and reported, by the beginning of these places
-pub record IsDelivered (offers : List Offer) (ready : List Message) (gone reported places : List ℕ) : Type 0 where
+pub record IsDelivered (offers : List AcceptedMessage) (ready : List Message) (gone reported places : List ℕ) : Type 0 where
   pub fits : Fits offers ready (take (length ready) places)
   pub skipped : SkippedAreGivenUp offers gone (take (length ready) places)
   pub reports : (id : ℕ) → has id reported ≡ true → IsReady offers (take (length ready) places) id
 
-pub same_delivered : (o p : List Offer) (m n : List Message) (g h r s places : List ℕ) → p ≡ o → n ≡ m → h ≡ g → s ≡ r → IsDelivered o m g r places → IsDelivered p n h s places
+pub same_delivered : (o p : List AcceptedMessage) (m n : List Message) (g h r s places : List ℕ) → p ≡ o → n ≡ m → h ≡ g → s ≡ r → IsDelivered o m g r places → IsDelivered p n h s places
 same_delivered o p m n g h r s places a b c d i =
-    subst (λ (z : List Offer). IsDelivered z n h s places) (sym a)
+    subst (λ (z : List AcceptedMessage). IsDelivered z n h s places) (sym a)
     (subst (λ (z : List Message). IsDelivered o z h s places) (sym b)
     (subst (λ (z : List ℕ). IsDelivered o m z s places) (sym c) (subst (λ (z : List ℕ). IsDelivered o m g z places) (sym d) i)))
 
@@ -50,7 +50,7 @@ has_front p (suc m) (suc n) (x ∷ xs) l h =
 -- ---- fewer are ready
 
 -- of one stream, a place that comes later is larger
-skipped_shorter : (offers : List Offer) (ready : List Message) (gone places : List ℕ) (m n : ℕ) → m ≤ n → Fits offers ready (take n places) → SkippedAreGivenUp offers gone (take n places)
+skipped_shorter : (offers : List AcceptedMessage) (ready : List Message) (gone places : List ℕ) (m n : ℕ) → m ≤ n → Fits offers ready (take n places) → SkippedAreGivenUp offers gone (take n places)
     → SkippedAreGivenUp offers gone (take m places)
 skipped_shorter offers ready gone places m n small f skipped p q o r first second line less is_ready not_ready = go (has p (take n places)) refl
   where
@@ -77,12 +77,12 @@ skipped_shorter offers ready gone places m n small f skipped p q o r first secon
     go false e = skipped p q o r first second line less (has_front q m n places small is_ready) e
     go true e = let j = found p (take n places) e in absurd (later j (cases_lt j.index (length (take m places))))
 
-ready_longer : (offers : List Offer) (places : List ℕ) (m n id : ℕ) → m ≤ n → IsReady offers (take m places) id → IsReady offers (take n places) id
+ready_longer : (offers : List AcceptedMessage) (places : List ℕ) (m n id : ℕ) → m ≤ n → IsReady offers (take m places) id → IsReady offers (take n places) id
 ready_longer offers places m n id small i =
     record { place = i.place; offer = i.offer; there = i.there; its_id = i.its_id; is_ready = has_front i.place m n places small i.is_ready }
 
 -- in a block of the end at which they become ready
-pub ready_between : (offers : List Offer) (before here after more behind : List Message) (gone reported places : List ℕ) → here ≡ before ++ more → after ≡ here ++ behind
+pub ready_between : (offers : List AcceptedMessage) (before here after more behind : List Message) (gone reported places : List ℕ) → here ≡ before ++ more → after ≡ here ++ behind
     → IsDelivered offers before gone reported places → IsDelivered offers after gone reported places → IsDelivered offers here gone reported places
 ready_between offers before here after more behind gone reported places e f h k = record {
   fits = fits_front offers after here behind places f k.fits;
@@ -95,17 +95,17 @@ ready_between offers before here after more behind gone reported places e f h k 
 
 -- ---- more is offered, given up, reported
 
-get_front : (xs ys : List Offer) (p : ℕ) → p < length xs → slice_get (xs ++ ys) p ≡ slice_get xs p
+get_front : (xs ys : List AcceptedMessage) (p : ℕ) → p < length xs → slice_get (xs ++ ys) p ≡ slice_get xs p
 get_front [] ys p l = absurd (omega (arith, l))
 get_front (x ∷ xs) ys zero l = refl
 get_front (x ∷ xs) ys (suc p) l = get_front xs ys p (omega (arith, l))
 
-offered_at : (offers : List Offer) (p : ℕ) (m : Message) (o : Option Offer) → slice_get offers p ≡ o → option_map (λ (z : Offer). z.message) o ≡ Some m → p < length offers
+offered_at : (offers : List AcceptedMessage) (p : ℕ) (m : Message) (o : Option AcceptedMessage) → slice_get offers p ≡ o → option_map (λ (z : AcceptedMessage). z.message) o ≡ Some m → p < length offers
 offered_at offers p m None e h = cc
 offered_at offers p m (Some o) e h = slice_get_within offers p o e
 
 -- what is ready was offered
-placed : (offers : List Offer) (places : List ℕ) (ready : List Message) → map (message_at offers) places ≡ map (λ (m : Message). Some m) ready → (q : ℕ) → has q places ≡ true
+placed : (offers : List AcceptedMessage) (places : List ℕ) (ready : List Message) → map (message_at offers) places ≡ map (λ (m : Message). Some m) ready → (q : ℕ) → has q places ≡ true
     → q < length offers
 placed offers [] ready e q h = cc
 placed offers (p ∷ places) [] e q h = cc
@@ -121,7 +121,7 @@ placed offers (p ∷ places) (m ∷ ready) e q h =
     rest : {x y : Option Message} {xs ys : List (Option Message)} → x ∷ xs ≡ y ∷ ys → xs ≡ ys
     rest {x} {y} {xs} {ys} e = ap (λ (l : List (Option Message)). elim l [ [] ↦ xs | z ∷ zs ↦ zs ]) e
 
-skipped_more : (offers more : List Offer) (ready : List Message) (gone new places : List ℕ) → Fits offers ready places → SkippedAreGivenUp offers gone places
+skipped_more : (offers more : List AcceptedMessage) (ready : List Message) (gone new places : List ℕ) → Fits offers ready places → SkippedAreGivenUp offers gone places
     → SkippedAreGivenUp (offers ++ more) (gone ++ new) places
 skipped_more offers more ready gone new places f skipped p q o r first second line less is_ready not_ready =
     let l = placed offers places ready f.alike q is_ready in
@@ -129,29 +129,29 @@ skipped_more offers more ready gone new places f skipped p q o r first second li
     (skipped p q o r (sym (get_front offers more p (omega (arith, l, less))) ∙ first) (sym (get_front offers more q l) ∙ second) line less is_ready not_ready)
 
 -- in a block of the end that offers
-pub emitted_between : (offers more after : List Offer) (ready : List Message) (gone new last reported later told places : List ℕ) → after ≡ offers ++ more → told ≡ reported ++ later
+pub emitted_between : (offers more after : List AcceptedMessage) (ready : List Message) (gone new last reported later told places : List ℕ) → after ≡ offers ++ more → told ≡ reported ++ later
     → {earlier : List ℕ} → IsDelivered offers ready gone earlier places → IsDelivered after ready last told places → IsDelivered after ready (gone ++ new) reported places
 emitted_between offers more after ready gone new last reported later told places e f h k = record {
   fits = k.fits;
-  skipped = subst (λ (o : List Offer). SkippedAreGivenUp o (gone ++ new) (take (length ready) places)) (sym e) (skipped_more offers more ready gone new (take (length ready) places) h.fits h.skipped);
+  skipped = subst (λ (o : List AcceptedMessage). SkippedAreGivenUp o (gone ++ new) (take (length ready) places)) (sym e) (skipped_more offers more ready gone new (take (length ready) places) h.fits h.skipped);
   reports = λ id is. k.reports id (ap (has id) f ∙ has_keeps id reported later is);
 }
 
 -- ---- more is offered, and nothing becomes ready
 
-alike_more : (offers more : List Offer) (places : List ℕ) (ready : List Message) → map (message_at offers) places ≡ map (λ (m : Message). Some m) ready
+alike_more : (offers more : List AcceptedMessage) (places : List ℕ) (ready : List Message) → map (message_at offers) places ≡ map (λ (m : Message). Some m) ready
     → map (message_at (offers ++ more)) places ≡ map (λ (m : Message). Some m) ready
 alike_more offers more [] ready e = e
 alike_more offers more (p ∷ places) [] e = cc
 alike_more offers more (p ∷ places) (m ∷ ready) e =
     let here : message_at offers p ≡ Some m = split_head (message_at offers p) (Some m) (map (message_at offers) places) (map (λ (m : Message). Some m) ready) e in
     let l = offered_at offers p m (slice_get offers p) refl here in
-    ap (λ (o : Option Offer). option_map (λ (z : Offer). z.message) o ∷ map (message_at (offers ++ more)) places) (get_front offers more p l)
+    ap (λ (o : Option AcceptedMessage). option_map (λ (z : AcceptedMessage). z.message) o ∷ map (message_at (offers ++ more)) places) (get_front offers more p l)
     ∙ (ap (λ (z : Option Message). z ∷ map (message_at (offers ++ more)) places) here
     ∙ ap (λ (l : List (Option Message)). Some m ∷ l)
     (alike_more offers more places ready (split_tail (message_at offers p) (Some m) (map (message_at offers) places) (map (λ (m : Message). Some m) ready) e)))
 
-fits_more : (offers more : List Offer) (ready : List Message) (places : List ℕ) → Fits offers ready places → Fits (offers ++ more) ready places
+fits_more : (offers more : List AcceptedMessage) (ready : List Message) (places : List ℕ) → Fits offers ready places → Fits (offers ++ more) ready places
 fits_more offers more ready places f = record {
   alike = alike_more offers more places ready f.alike;
   distinct = f.distinct;
@@ -162,7 +162,7 @@ fits_more offers more ready places f = record {
     same : (k : ℕ) → k < length places → slice_get (offers ++ more) (slice_index places k) ≡ slice_get offers (slice_index places k)
     same k h = get_front offers more (slice_index places k) (placed offers places ready f.alike (slice_index places k) (has_at places k h))
 
-pub offered_between : (offers more : List Offer) (ready : List Message) (gone reported told places : List ℕ) → IsDelivered offers ready gone reported places
+pub offered_between : (offers more : List AcceptedMessage) (ready : List Message) (gone reported told places : List ℕ) → IsDelivered offers ready gone reported places
     → ((id : ℕ) → has id told ≡ true → IsReady (offers ++ more) (take (length ready) places) id) → IsDelivered (offers ++ more) ready gone told places
 offered_between offers more ready gone reported told places h reports = record {
   fits = fits_more offers more ready (take (length ready) places) h.fits;

@@ -12,7 +12,7 @@ use Rattle.spec_endpoint.specs.Laws.{TakeMessage}
 use Rattle.spec_endpoint.specs.Shown.{Association, association_in}
 use Rattle.proof_pair.specs.Trace.{Side, Pair, EndAction, Calls, Gives, Refuses, act, goes, run, side_of, state_of}
 use Rattle.proof_pair.specs.Handing.{ready_at, new_behind, handed_by, handed_at, handed_messages, readied_messages}
-use Rattle.proof_delivery.specs.Accepted.{Offer, accepted_at, accepted}
+use Rattle.proof_delivery.specs.Accepted.{AcceptedMessage, accepted_at, accepted}
 use Rattle.proof_delivery.proofs.LawLemmas.{accepted_more}
 use Rattle.proof_delivery.specs.GivenUp.{given_up_at, given_up}
 use Rattle.proof_delivery.specs.Justified.{reset_at}
@@ -26,7 +26,7 @@ use Rattle.sctp_state.specs.Events.{Event}
 use Rattle.spec_world.specs.Observations as observations
 use Rattle.spec_world.specs.Observations.{End, A, B, Entry, ready_by, ready, handed_out_by, handed_out}
 use Rattle.proof_world.specs.Traces.{is_a}
-use Rattle.proof_world.specs.Delivered.{offers_by, offers, happened_by, emitted_events, reset_by, epochs_after, offer_epochs, given_up_places, reported_by, reported}
+use Rattle.proof_world.specs.Delivered.{accepted_messages_by, accepted_messages, emitted_events_by, emitted_events, reset_by, epochs_after, message_epochs, given_up_places, reported_by, reported}
 use Rattle.proof_world.proofs.WorldLemmas.{given_up_places_more, numbers_of}
 use Rattle.proof_world.proofs.HappenedLemmas.{bare, bare_both, bare_names}
 use Rattle.proof_world.proofs.LoggedEpochLemmas.{epochs_along, along_both, epochs_both, none_offered, event_along, same_epochs, along_more}
@@ -102,13 +102,13 @@ module _ (e : Bool × EndAction) (c : Pair) (log mid : List Entry) (b : IsBlock 
   abbrev block : List Entry
   block = b.first ∷ b.more
 
-  offers_block : (x : End) → offers_by x b.first ≡ accepted_at (is_a x) e.0 e.1 c → offers x mid ≡ offers x log ++ accepted_at (is_a x) e.0 e.1 c
+  offers_block : (x : End) → accepted_messages_by x b.first ≡ accepted_at (is_a x) e.0 e.1 c → accepted_messages x mid ≡ accepted_messages x log ++ accepted_at (is_a x) e.0 e.1 c
   offers_block x h =
-      more_of (offers_by x) log mid block (accepted_at (is_a x) e.0 e.1 c) b.logged
-      (ap (λ (z : List Offer). z ++ flat_map (offers_by x) b.more) h
-      ∙ (ap (λ (z : List Offer). accepted_at (is_a x) e.0 e.1 c ++ z) (b.quiet x) ∙ append-nil (accepted_at (is_a x) e.0 e.1 c)))
+      more_of (accepted_messages_by x) log mid block (accepted_at (is_a x) e.0 e.1 c) b.logged
+      (ap (λ (z : List AcceptedMessage). z ++ flat_map (accepted_messages_by x) b.more) h
+      ∙ (ap (λ (z : List AcceptedMessage). accepted_at (is_a x) e.0 e.1 c ++ z) (b.quiet x) ∙ append-nil (accepted_at (is_a x) e.0 e.1 c)))
 
-first_offers : (x : End) (e : Bool × EndAction) (c : Pair) (log mid : List Entry) (b : IsBlock e c log mid) → offers_by x b.first ≡ accepted_at (is_a x) e.0 e.1 c
+first_offers : (x : End) (e : Bool × EndAction) (c : Pair) (log mid : List Entry) (b : IsBlock e c log mid) → accepted_messages_by x b.first ≡ accepted_at (is_a x) e.0 e.1 c
 first_offers A (true, t) c log mid b = b.offers
 first_offers B (true, t) c log mid b = b.no_offers
 first_offers A (false, t) c log mid b = b.no_offers
@@ -126,7 +126,7 @@ block_handed B (true, t) c log mid b = b.none_handed
 block_handed A (false, t) c log mid b = b.none_handed
 block_handed B (false, t) c log mid b = b.handed
 
-offers_action : (x : End) (e : Bool × EndAction) (c : Pair) (log mid : List Entry) → IsBlock e c log mid → offers x mid ≡ offers x log ++ accepted_at (is_a x) e.0 e.1 c
+offers_action : (x : End) (e : Bool × EndAction) (c : Pair) (log mid : List Entry) → IsBlock e c log mid → accepted_messages x mid ≡ accepted_messages x log ++ accepted_at (is_a x) e.0 e.1 c
 offers_action x e c log mid b = offers_block e c log mid b x (first_offers x e c log mid b)
 
 ready_action : (x : End) (e : Bool × EndAction) (c : Pair) (log mid : List Entry) → IsBlock e c log mid → ready x mid ≡ ready x log ++ readied_at (is_a x) e c
@@ -165,8 +165,8 @@ AreEmitted x log c = emitted_events x log ≡ bare (side_of (is_a x) c).emitted
 
 emitted_action : (x : End) (e : Bool × EndAction) (c : Pair) (log mid : List Entry) → IsBlock e c log mid → AreEmitted x log c → AreEmitted x mid (goes e.0 e.1 c)
 emitted_action A (true, t) c log mid b h = b.emits
-emitted_action B (true, t) c log mid b h = more_of (happened_by B) log mid (b.first ∷ b.more) [] b.logged b.tells_none ∙ (append-nil (emitted_events B log) ∙ h)
-emitted_action A (false, t) c log mid b h = more_of (happened_by A) log mid (b.first ∷ b.more) [] b.logged b.tells_none ∙ (append-nil (emitted_events A log) ∙ h)
+emitted_action B (true, t) c log mid b h = more_of (emitted_events_by B) log mid (b.first ∷ b.more) [] b.logged b.tells_none ∙ (append-nil (emitted_events B log) ∙ h)
+emitted_action A (false, t) c log mid b h = more_of (emitted_events_by A) log mid (b.first ∷ b.more) [] b.logged b.tells_none ∙ (append-nil (emitted_events A log) ∙ h)
 emitted_action B (false, t) c log mid b h = b.emits
 
 -- what it emits
@@ -175,7 +175,7 @@ block_emitted : (x : End) (e : Bool × EndAction) (c : Pair) (log mid : List Ent
 block_emitted x e c log mid b h =
     same_front (bare (side_of (is_a x) c).emitted) (emitted_events x (b.first ∷ b.more)) (bare (emitted_at (is_a x) e.0 e.1 c))
     (ap (λ (es : List (Event (List ℕ))). es ++ emitted_events x (b.first ∷ b.more)) (sym h)
-    ∙ (sym (flat_map-append (happened_by x) log (b.first ∷ b.more))
+    ∙ (sym (flat_map-append (emitted_events_by x) log (b.first ∷ b.more))
     ∙ (ap (emitted_events x) (sym b.logged)
     ∙ (emitted_action x e c log mid b h
     ∙ (ap (λ (es : List (Event Carried)). bare es) (emitted_goes (is_a x) e.0 e.1 c) ∙ bare_both (side_of (is_a x) c).emitted (emitted_at (is_a x) e.0 e.1 c))))))
@@ -184,7 +184,7 @@ block_emitted x e c log mid b h =
 
 -- as in the trace
 pub record HasEpochs (x : End) (log : List Entry) (done : List (Bool × EndAction)) (c : Pair) : Type 0 where
-  pub epochs : offer_epochs x log all_open ≡ courses.offer_epochs (is_a x) done c all_open
+  pub epochs : message_epochs x log all_open ≡ courses.message_epochs (is_a x) done c all_open
   pub streams : (s : ℕ) → epochs_along x log all_open s ≡ courses.epochs_along (is_a x) done c all_open s
 
 epochs_action : (x : End) (done : List (Bool × EndAction)) (e : Bool × EndAction) (c : Pair) (log mid : List Entry) → IsBlock e (run done c) log mid → AreEmitted x log (run done c)
@@ -193,14 +193,14 @@ epochs_action x done e c log mid b told h =
     let d : Pair = run done c in
     let here : ℕ → StreamEpoch = epochs_along x log all_open in
     let there : ℕ → StreamEpoch = courses.epochs_along (is_a x) done c all_open in
-    let new : List Offer = accepted_at (is_a x) e.0 e.1 d in
+    let new : List AcceptedMessage = accepted_at (is_a x) e.0 e.1 d in
     record {
       epochs =
-          ap (λ (l : List Entry). offer_epochs x l all_open) b.logged
+          ap (λ (l : List Entry). message_epochs x l all_open) b.logged
           ∙ (epochs_both x log (b.first ∷ b.more) all_open
-          ∙ (ap (λ (ns : List ℕ). offer_epochs x log all_open ++ (epochs_of (offers_by x b.first) here ++ ns)) (none_offered x b.more (epochs_after x b.first here) (b.quiet x))
-          ∙ (ap (λ (os : List Offer). offer_epochs x log all_open ++ (epochs_of os here ++ [])) (first_offers x e d log mid b)
-          ∙ (ap (λ (ns : List ℕ). offer_epochs x log all_open ++ (ns ++ [])) (same_epochs new here there h.streams)
+          ∙ (ap (λ (ns : List ℕ). message_epochs x log all_open ++ (epochs_of (accepted_messages_by x b.first) here ++ ns)) (none_offered x b.more (epochs_after x b.first here) (b.quiet x))
+          ∙ (ap (λ (os : List AcceptedMessage). message_epochs x log all_open ++ (epochs_of os here ++ [])) (first_offers x e d log mid b)
+          ∙ (ap (λ (ns : List ℕ). message_epochs x log all_open ++ (ns ++ [])) (same_epochs new here there h.streams)
           ∙ (ap (λ (ns : List ℕ). ns ++ (epochs_of new there ++ [])) h.epochs ∙ sym (epochs_go_on (is_a x) done (e ∷ []) c all_open))))));
       streams = λ s.
           ap (λ (l : List Entry). epochs_along x l all_open s) b.logged
@@ -217,10 +217,10 @@ epochs_action x done e c log mid b told h =
 joins : {X : Type 0} (last mid log rest new : List X) → last ≡ mid ++ rest → mid ≡ log ++ new → last ≡ log ++ (new ++ rest)
 joins {X} last mid log rest new e f = e ∙ (ap (λ (l : List X). l ++ rest) f ∙ append_assoc log new rest)
 
-pub offers_run : (x : End) (es : List (Bool × EndAction)) (c : Pair) (log longer : List Entry) → AreBlocks es c log longer → offers x longer ≡ offers x log ++ accepted (is_a x) es c
-offers_run x [] c log longer h = ap (offers x) h ∙ sym (append-nil (offers x log))
+pub offers_run : (x : End) (es : List (Bool × EndAction)) (c : Pair) (log longer : List Entry) → AreBlocks es c log longer → accepted_messages x longer ≡ accepted_messages x log ++ accepted (is_a x) es c
+offers_run x [] c log longer h = ap (accepted_messages x) h ∙ sym (append-nil (accepted_messages x log))
 offers_run x (e ∷ es) c log longer h =
-    joins (offers x longer) (offers x h.0) (offers x log) (accepted (is_a x) es (goes e.0 e.1 c)) (accepted_at (is_a x) e.0 e.1 c)
+    joins (accepted_messages x longer) (accepted_messages x h.0) (accepted_messages x log) (accepted (is_a x) es (goes e.0 e.1 c)) (accepted_at (is_a x) e.0 e.1 c)
     (offers_run x es (goes e.0 e.1 c) h.0 longer h.2) (offers_action x e c log h.0 h.1)
 
 pub ready_run : (x : End) (es : List (Bool × EndAction)) (c : Pair) (log longer : List Entry) → AreBlocks es c log longer → ready x longer ≡ ready x log ++ readied_messages (is_a x) es c
@@ -239,7 +239,7 @@ handed_run x (e ∷ es) c log longer h =
 
 -- so many actions have been
 pub record IsReached (c : Pair) (done : List (Bool × EndAction)) (log : List Entry) : Type 0 where
-  pub offers_are : (x : End) → offers x log ≡ accepted (is_a x) done c
+  pub offers_are : (x : End) → accepted_messages x log ≡ accepted (is_a x) done c
   pub ready_are : (x : End) → ready x log ≡ readied_messages (is_a x) done c
   pub handed_are : (x : End) → handed_out x log ≡ handed_messages (is_a x) done c
   pub gone_are : (x : End) → given_up_places x log ≡ given_up (is_a x) done c
@@ -261,7 +261,7 @@ nothing_yet c none = record {
 
 pub reached_more : (c : Pair) (done : List (Bool × EndAction)) (e : Bool × EndAction) (log mid : List Entry) → IsReached c done log → IsBlock e (run done c) log mid → IsReached c (done ++ e ∷ []) mid
 reached_more c done e log mid r b = record {
-  offers_are = λ x. offers_action x e (run done c) log mid b ∙ (ap (λ (z : List Offer). z ++ accepted_at (is_a x) e.0 e.1 (run done c)) (r.offers_are x) ∙ sym (accepted_more (is_a x) done e c));
+  offers_are = λ x. offers_action x e (run done c) log mid b ∙ (ap (λ (z : List AcceptedMessage). z ++ accepted_at (is_a x) e.0 e.1 (run done c)) (r.offers_are x) ∙ sym (accepted_more (is_a x) done e c));
   ready_are = λ x. ready_action x e (run done c) log mid b ∙ (ap (λ (z : List Message). z ++ readied_at (is_a x) e (run done c)) (r.ready_are x) ∙ sym (readied_more (is_a x) done e c));
   handed_are = λ x. handed_action x e (run done c) log mid b ∙ (ap (λ (z : List Message). z ++ handed_at (is_a x) e.0 e.1 (run done c)) (r.handed_are x) ∙ sym (handed_more (is_a x) done e c));
   gone_are = λ x. given_up_action x e (run done c) log mid b ∙ (ap (λ (z : List ℕ). z ++ given_up_at (is_a x) e.0 e.1 (run done c)) (r.gone_are x) ∙ sym (given_up_more (is_a x) done e c));

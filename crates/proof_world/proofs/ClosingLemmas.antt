@@ -22,10 +22,10 @@ use Rattle.proof_delivery.specs.Justified.{reset_by}
 use Rattle.spec_world.specs.Observations as observations
 use Rattle.spec_world.specs.Observations.{End, A, B, Entry, Given, Foreign, Call, ready_by, handed_out_by, given_up_by}
 use Rattle.spec_world.specs.World as worlds
-use Rattle.spec_world.specs.World.{Side, World, Action, CallOf, Give, GiveForeign, AdvanceTime, ComesTo, taken_in, skipped, Happens, side_of, other, news_of, association, associated_if, association_entries, emitted_entries, given_up_entries, ready_entries, ready_before, calls, call_entry, after_call, advances_time, time_entry, after_time, clock, step_of}
+use Rattle.spec_world.specs.World.{Side, World, Action, CallOf, Give, GiveForeign, AdvanceTime, ComesTo, taken_in, withheld, Happens, side_of, other, news_of, association, associated_if, association_entries, emitted_entries, given_up_entries, ready_entries, ready_before, calls, call_entry, after_call, advances_time, time_entry, after_time, clock, table_call}
 use Rattle.proof_world.specs.Traces.{is_a, end_of, IsActionOf}
-use Rattle.proof_world.specs.Delivered.{offers_by, happened_by, reported_by}
-use Rattle.proof_world.specs.Consistent.{ended_by, times_ended, Stands}
+use Rattle.proof_world.specs.Delivered.{accepted_messages_by, emitted_events_by, reported_by}
+use Rattle.proof_world.specs.Consistent.{ended_by, times_ended, NoneHasEnded}
 use Rattle.proof_world.proofs.EventLemmas.{mapped}
 use Rattle.proof_world.proofs.LoggedLemmas.{IsQuietOnEmitted, behind_none, none_ready, none_associated, none_emitted, quiet_offers, quiet_ready, quiet_handed, quiet_reported}
 use Rattle.proof_world.proofs.StandingLemmas.{times_more}
@@ -46,12 +46,12 @@ pub record IsParted (x : End) (turn : EndAction) (own : traces.Side) (log longer
   pub rest : List Entry
   pub behind : List Entry
   pub logged : longer ≡ log ++ first ∷ (rest ++ behind)
-  pub offers : (y : End) → flat_map (offers_by y) rest ≡ []
+  pub offers : (y : End) → flat_map (accepted_messages_by y) rest ≡ []
   pub hands : (y : End) → flat_map (handed_out_by y) rest ≡ []
   pub ready : (y : End) → flat_map (ready_by y) rest ≡ []
   pub given_up : (y : End) → flat_map (given_up_by y) rest ≡ []
   pub reported : flat_map (reported_by (other x)) rest ≡ []
-  pub happened : flat_map (happened_by (other x)) rest ≡ []
+  pub happened : flat_map (emitted_events_by (other x)) rest ≡ []
   pub ended : (y : End) → flat_map (ended_by y) behind ≡ []
 
 none_front : {X : Type 0} (f : Entry → List X) (x : End) → IsQuietOnEmitted f x → (b : Bool) (a : Option Association) (n : ℕ) (es : List (Event (List ℕ)))
@@ -82,19 +82,19 @@ module _ (f : Mapping Carried (List ℕ)) (x : End) (own : traces.Side) (w u : W
         rest = start ++ emitted_entries x n es;
         behind = gone ++ last;
         logged = logged ∙ ap (λ (l : List Entry). w.log ++ first ∷ l) (sym (append_assoc start (emitted_entries x n es) (gone ++ last)));
-        offers = λ y. none_front (offers_by y) x (quiet_offers y x).telling same (association after) n es;
+        offers = λ y. none_front (accepted_messages_by y) x (quiet_offers y x).telling same (association after) n es;
         hands = λ y. none_front (handed_out_by y) x (quiet_handed y x).telling same (association after) n es;
         ready = λ y. none_front (ready_by y) x (quiet_ready y x).telling same (association after) n es;
         given_up = λ y. none_front (given_up_by y) x (record { associated = λ a. refl; emitted = λ k. refl; happened = λ e. refl }) same (association after) n es;
         reported = none_front (reported_by (other x)) x (quiet_reported (other x) x (not_other x)).telling same (association after) n es;
-        happened = none_front (happened_by (other x)) x (quiet_happened (other x) x (not_other x)).telling same (association after) n es;
+        happened = none_front (emitted_events_by (other x)) x (quiet_happened (other x) x (not_other x)).telling same (association after) n es;
         ended = λ y.
             flat_map-append (ended_by y) gone last
             ∙ (ap (λ (l : List End). l ++ flat_map (ended_by y) last) (none_over x y after.endpoint_state.context.emitted.given_up)
             ∙ none_ready (ended_by y) x (λ m. refl) (drop (ready_before (observations.same_association old (association after)) (length (worlds.ready_at s))) (worlds.ready_at after)));
       }
 
-  call_parted : (call : Call) → turn ≡ Calls (step_of call) → u ≡ calls x call w → IsParted x turn own w.log u.log
+  call_parted : (call : Call) → turn ≡ Calls (table_call call) → u ≡ calls x call w → IsParted x turn own w.log u.log
   call_parted call t e =
       parted_by (call_entry x call s) (subst (λ (z : EndAction). BeginsWith x z own (call_entry x call s)) (sym t) (call_begins f x own s is call)) (λ y. refl) (after_call call s)
       (ap (λ (z : World). z.log) e ∙ calls_log x call w)
@@ -110,7 +110,7 @@ module _ (f : Mapping Carried (List ℕ)) (x : End) (own : traces.Side) (w u : W
   foreign_parted : (bytes : List ℕ) → turns.accepted_in turn own ≡ [] → handed_by turn own ≡ [] → reset_by turn own ≡ [] → ComesTo x bytes (side_of x w) (side_of x u) w.log u.log
       → IsParted x turn own w.log u.log
   foreign_parted bytes h k l (taken_in t judged) = parted_by (Foreign x (clock s) (Some bytes)) (foreign_begins f x own turn (clock s) (Some bytes) h k l) (λ y. refl) t.after t.logged
-  foreign_parted bytes h k l (skipped judged stays logged) = record {
+  foreign_parted bytes h k l (withheld judged stays logged) = record {
     first = Foreign x (clock s) None;
     begins = foreign_begins f x own turn (clock s) None h k l;
     no_end = λ y. refl;
@@ -154,7 +154,7 @@ pub record IsFront (first : Entry) (rest early : List Entry) : Type 0 where
   pub split : rest ≡ some ++ more
 
 module _ (x : End) (turn : EndAction) (own : traces.Side) (log longer : List Entry) (b : IsParted x turn own log longer) where
-  pub in_front : (early late : List Entry) → longer ≡ (log ++ early) ++ late → Stands (log ++ early) → (Stands longer → ⊥) → (early ≡ []) ⊎ IsFront b.first b.rest early
+  pub in_front : (early late : List Entry) → longer ≡ (log ++ early) ++ late → NoneHasEnded (log ++ early) → (NoneHasEnded longer → ⊥) → (early ≡ []) ⊎ IsFront b.first b.rest early
   in_front early late e stands over = go (one_is_longer (b.first ∷ b.rest) b.behind early late here)
     where
       here : (b.first ∷ b.rest) ++ b.behind ≡ early ++ late
@@ -172,7 +172,7 @@ module _ (x : End) (turn : EndAction) (own : traces.Side) (log longer : List Ent
       -- all that says of an end would stand in it
       go : Longer (b.first ∷ b.rest) early late b.behind ⊎ Longer early (b.first ∷ b.rest) b.behind late → (early ≡ []) ⊎ IsFront b.first b.rest early
       go (inl m) =
-          let stays : Stands longer = λ y.
+          let stays : NoneHasEnded longer = λ y.
           let none : times_ended y (m.between ++ late) ≡ 0 = ap (λ (l : List End). length l) (sym (ap (flat_map (ended_by y)) m.behind) ∙ b.ended y) in
           let parts = times_more y m.between late in
           let sum = times_more y (log ++ early) late in
@@ -192,7 +192,7 @@ module _ (x : End) (turn : EndAction) (own : traces.Side) (log longer : List Ent
       ∙ ap (λ (l : List X). flat_map f log ++ l) (ap (flat_map f) h.is ∙ (ap (λ (l : List X). f b.first ++ l) some ∙ append-nil (f b.first)))
 
 -- of either end
-pub first_offers : (y x : End) (turn : EndAction) (c : Pair) (first : Entry) → BeginsWith x turn (traces.side_of (is_a x) c) first → offers_by y first ≡ accepted_at (is_a y) (is_a x) turn c
+pub first_offers : (y x : End) (turn : EndAction) (c : Pair) (first : Entry) → BeginsWith x turn (traces.side_of (is_a x) c) first → accepted_messages_by y first ≡ accepted_at (is_a y) (is_a x) turn c
 first_offers A A turn c first b = b.offers
 first_offers B B turn c first b = b.offers
 first_offers A B turn c first b = b.no_offers
@@ -230,8 +230,8 @@ still_prefix y acts t c handed ready e =
 
 -- entries of what was emitted, one an event
 entry_of : (x : End) (n : ℕ) (e : Event (List ℕ)) → (m : ℕ) × (z : Entry) × ((es : List (Event (List ℕ))) → emitted_entries x n (e ∷ es) ≡ z ∷ emitted_entries x m es)
-entry_of x n (SendPacket bytes) = (n + 1, observations.Emitted x n, λ es. refl)
-entry_of x n e = (n, observations.Happened x e, λ es. refl)
+entry_of x n (SendPacket bytes) = (n + 1, observations.EmittedPacket x n, λ es. refl)
+entry_of x n e = (n, observations.EmittedEvent x e, λ es. refl)
 
 -- a beginning of them is that of a beginning of the events
 pub record IsEmitting (f : Mapping Carried (List ℕ)) (x : End) (n : ℕ) (es : List (Event Carried)) (front : List Entry) : Type 0 where

@@ -18,8 +18,8 @@ use Rattle.spec_world.specs.Observations.{End, A, B, Connect, Shutdown, Entry, C
 use Rattle.spec_world.specs.World.{World, Action, Runs, other, is_at_rest}
 use Rattle.spec_world.proofs.RunLemmas.{Runs_append}
 use Rattle.proof_world.specs.Traces.{ActionFits, IsInBytes, IsReachable, origin, is_a, end_of}
-use Rattle.proof_world.specs.Consistent.{asks, was_asked, Stands, MayFollow, FollowsTheRules, AreConsistent}
-use Rattle.proof_world.specs.Delivered.{AlongRun, sets_more, offers, emitted_events, given_up_places, ready_places, IsInItsEpoch, Delivers, IsInBounds}
+use Rattle.proof_world.specs.Consistent.{gets_init, got_init, NoneHasEnded, MayFollow, KeepsOpeningRules, AreConsistent}
+use Rattle.proof_world.specs.Delivered.{AlongRun, sets_more, accepted_messages, emitted_events, given_up_places, ready_places, IsInItsEpoch, Delivers, IsInBounds}
 use Rattle.proof_world.specs.Composed.{WorldsCompose}
 use Rattle.proof_world.proofs.SidesLemmas.{any_more}
 use Rattle.proof_world.proofs.StandingLemmas.{times_more, stands_front}
@@ -77,20 +77,20 @@ reachable_before w u l front fit r e = record {
 }
 
 -- which kept the rules, where the later one does
-rules_before : (u v : World) → Extends u v → FollowsTheRules v → FollowsTheRules u
+rules_before : (u v : World) → Extends u v → KeepsOpeningRules v → KeepsOpeningRules u
 rules_before u v e rules before entry behind is stands =
     may_before entry
     (rules before entry (behind ++ e.more) (e.logged ∙ (ap (λ (l : List Entry). l ++ e.more) is ∙ append_assoc before (entry ∷ behind) e.more)) stands)
   where
-    not_asked : (x : End) → was_asked x v before ≡ false → was_asked x u before ≡ false
+    not_asked : (x : End) → got_init x v before ≡ false → got_init x u before ≡ false
     not_asked A h =
-        false_from_ne_true (was_asked A u before)
+        false_from_ne_true (got_init A u before)
         (λ t. not_both
-        (subst (λ (ps : List (List ℕ)). list_any (asks A ps) before ≡ true) (sym e.b) (any_more A u.b.packets e.sent_b before t)) h)
+        (subst (λ (ps : List (List ℕ)). list_any (gets_init A ps) before ≡ true) (sym e.b) (any_more A u.b.packets e.sent_b before t)) h)
     not_asked B h =
-        false_from_ne_true (was_asked B u before)
+        false_from_ne_true (got_init B u before)
         (λ t. not_both
-        (subst (λ (ps : List (List ℕ)). list_any (asks B ps) before ≡ true) (sym e.a) (any_more B u.a.packets e.sent_a before t)) h)
+        (subst (λ (ps : List (List ℕ)). list_any (gets_init B ps) before ≡ true) (sym e.a) (any_more B u.a.packets e.sent_a before t)) h)
 
     may_before : (entry : Entry) → MayFollow v before entry → MayFollow u before entry
     may_before (Called x clock Shutdown answer) h = h
@@ -116,7 +116,7 @@ same_or_other B A = inr refl
 
 -- ---- until an association is over
 
-module _ (w : World) (l : IsReachable w) (rules : FollowsTheRules w) where
+module _ (w : World) (l : IsReachable w) (rules : KeepsOpeningRules w) where
   up : UpToEnd l.actions (origin l) w l.runs
   up = up_to_end l.actions (origin l) w l.fit l.runs (λ x. refl)
 
@@ -126,7 +126,7 @@ module _ (w : World) (l : IsReachable w) (rules : FollowsTheRules w) where
   abbrev reachable : IsReachable u
   reachable = reachable_before w u l up.front up.fit up.before up.later
 
-  u_rules : FollowsTheRules u
+  u_rules : KeepsOpeningRules u
   u_rules = rules_before u w up.later rules
 
   abbrev Over : Type 0
@@ -134,8 +134,8 @@ module _ (w : World) (l : IsReachable w) (rules : FollowsTheRules w) where
 
   -- each beginning that stands is one of that world, or ends in the event behind it
   at_early : (P : List Entry → Type 0) (o : Over) → ((early late : List Entry) → u.log ≡ early ++ late → P early)
-      → ((more late : List Entry) → o.next.log ≡ (u.log ++ more) ++ late → Stands (u.log ++ more) → P (u.log ++ more))
-      → (early late : List Entry) → w.log ≡ early ++ late → Stands early → P early
+      → ((more late : List Entry) → o.next.log ≡ (u.log ++ more) ++ late → NoneHasEnded (u.log ++ more) → P (u.log ++ more))
+      → (early late : List Entry) → w.log ≡ early ++ late → NoneHasEnded early → P early
   at_early P o before within early late is stands =
       elim (one_is_longer early late u.log up.later.more (sym is ∙ up.later.logged)) [
         | inl m ↦ before early m.between m.made
@@ -147,11 +147,11 @@ module _ (w : World) (l : IsReachable w) (rules : FollowsTheRules w) where
           elim (one_is_longer early late o.next.log o.later.more (sym is ∙ o.later.logged)) [
             | inl m ↦
                 subst P (sym made)
-                (within more m.between (m.made ∙ ap (λ (l : List Entry). l ++ m.between) made) (subst Stands made stands))
+                (within more m.between (m.made ∙ ap (λ (l : List Entry). l ++ m.between) made) (subst NoneHasEnded made stands))
             | inr m ↦ absurd (o.ends (stands_front o.next.log m.between early m.made stands))
           ]
 
-  pub handed_then : (x : End) (early late : List Entry) → w.log ≡ early ++ late → Stands early → orders.Extends (handed_out x early) (ready x early)
+  pub handed_then : (x : End) (early late : List Entry) → w.log ≡ early ++ late → NoneHasEnded early → orders.Extends (handed_out x early) (ready x early)
   handed_then x early late is stands =
       elim up.over [
         | inl same ↦ prefix u reachable u_rules up.stands x early late (ap (λ (z : World). z.log) (sym same) ∙ is)
@@ -186,7 +186,7 @@ module _ (w : World) (l : IsReachable w) (rules : FollowsTheRules w) where
         epochs_front u reachable u_rules up.stands x from before late m
         (e ∙ (ap (λ (l : List Entry). l ++ late) is ∙ append_assoc before (BecameReady (other x) m ∷ []) late))
 
-    epochs_then : (o : Over) (x : End) (from : Given x) (early late : List Entry) → w.log ≡ early ++ late → Stands early → LastIsInItsEpoch x from early
+    epochs_then : (o : Over) (x : End) (from : Given x) (early late : List Entry) → w.log ≡ early ++ late → NoneHasEnded early → LastIsInItsEpoch x from early
     epochs_then o x from =
         at_early (LastIsInItsEpoch x from) o (epochs_before x from)
         (λ more behind e st before m is.
@@ -194,11 +194,11 @@ module _ (w : World) (l : IsReachable w) (rules : FollowsTheRules w) where
         epochs_front u reachable u_rules up.stands x from before there.0 m there.1)
 
     -- it ends no association
-    stands_ready : (x : End) (early : List Entry) (m : Message) → Stands early → Stands (early ++ BecameReady x m ∷ [])
+    stands_ready : (x : End) (early : List Entry) (m : Message) → NoneHasEnded early → NoneHasEnded (early ++ BecameReady x m ∷ [])
     stands_ready x early m st y = let sum = times_more y early (BecameReady x m ∷ []) in let before = st y in omega (arith, sum, before)
 
-    given : (x : End) (from : Given x) → ((early late : List Entry) → w.log ≡ early ++ late → Stands early → IsDeliveredAt x from.places early)
-        → ((early late : List Entry) → w.log ≡ early ++ late → Stands early → LastIsInItsEpoch x from early)
+    given : (x : End) (from : Given x) → ((early late : List Entry) → w.log ≡ early ++ late → NoneHasEnded early → IsDeliveredAt x from.places early)
+        → ((early late : List Entry) → w.log ≡ early ++ late → NoneHasEnded early → LastIsInItsEpoch x from early)
         → Delivers x l.actions (origin l) w l.runs
     given x from each in_epochs = record {
       places = from.places;
@@ -209,14 +209,14 @@ module _ (w : World) (l : IsReachable w) (rules : FollowsTheRules w) where
       reports = λ early late e st. (each early late e st).reports;
       once = up.along_run (λ z. are_distinct (given_up_places x z.log) ≡ true) (once u reachable u_rules up.stands x from);
       rest =
-          up.along_run (λ z. is_at_rest x z ≡ true → AllAreDone (offers x z.log) (given_up_places x z.log) (ready_places x z.log from.places))
+          up.along_run (λ z. is_at_rest x z ≡ true → AllAreDone (accepted_messages x z.log) (given_up_places x z.log) (ready_places x z.log from.places))
           (rests u reachable u_rules up.stands x from);
     }
 
     abbrev whole_front : (x : End) (from : Given x) → IsDeliveredAt x from.places u.log
     whole_front x from = delivered_front u reachable u_rules up.stands x from u.log [] (sym (append-nil u.log))
 
-    few_then : (o : Over) → length (offers (end_of o.action) (u.log ++ (b_parted u reachable u_rules up.stands o.action o.next w o.fits o.happens o.ends o.later rules).first ∷ [])) < 2 ^ 32
+    few_then : (o : Over) → length (accepted_messages (end_of o.action) (u.log ++ (b_parted u reachable u_rules up.stands o.action o.next w o.fits o.happens o.ends o.later rules).first ∷ [])) < 2 ^ 32
     few_then o =
         let first : Entry = (b_parted u reachable u_rules up.stands o.action o.next w o.fits o.happens o.ends o.later rules).first in
         let behind : List Entry = behind_first u reachable u_rules up.stands o.action o.next w o.fits o.happens o.ends o.later rules in
@@ -276,19 +276,19 @@ module _ (w : World) (l : IsReachable w) (rules : FollowsTheRules w) where
     none_fails_before : NoResetIsRefused → (x : End) (early late : List Entry) → u.log ≡ early ++ late → NoneFails x early
     none_fails_before refuses x early late e = none_failed_front u reachable u_rules up.stands x (none_fails_so_far refuses x) early late e
 
-    own_fails_none : NoResetIsRefused → MessagesAreDeliveredThen → (o : Over) (early late : List Entry) → w.log ≡ early ++ late → Stands early → NoneFails (end_of o.action) early
+    own_fails_none : NoResetIsRefused → MessagesAreDeliveredThen → (o : Over) (early late : List Entry) → w.log ≡ early ++ late → NoneHasEnded early → NoneFails (end_of o.action) early
     own_fails_none refuses then o =
         at_early (NoneFails (end_of o.action)) o (none_fails_before refuses (end_of o.action))
         (λ more behind e st.
         none_failed_own u reachable u_rules up.stands o.action o.next w o.fits o.happens o.ends o.later rules more behind e st (ends_then then o))
 
-    other_fails_none : NoResetIsRefused → (o : Over) (early late : List Entry) → w.log ≡ early ++ late → Stands early → NoneFails (other (end_of o.action)) early
+    other_fails_none : NoResetIsRefused → (o : Over) (early late : List Entry) → w.log ≡ early ++ late → NoneHasEnded early → NoneFails (other (end_of o.action)) early
     other_fails_none refuses o =
         at_early (NoneFails (other (end_of o.action))) o (none_fails_before refuses (other (end_of o.action)))
         (λ more behind e st.
         none_failed_beside u reachable u_rules up.stands o.action o.next w o.fits o.happens o.ends o.later rules more behind e st (none_fails_so_far refuses (other (end_of o.action))))
 
-    pub none_fails : NoResetIsRefused → MessagesAreDeliveredThen → (x : End) (early late : List Entry) → w.log ≡ early ++ late → Stands early → NoneFails x early
+    pub none_fails : NoResetIsRefused → MessagesAreDeliveredThen → (x : End) (early late : List Entry) → w.log ≡ early ++ late → NoneHasEnded early → NoneFails x early
     none_fails refuses then x early late is stands =
         elim up.over [
           | inl same ↦ none_fails_before refuses x early late (ap (λ (z : World). z.log) (sym same) ∙ is)
@@ -302,7 +302,7 @@ module _ (w : World) (l : IsReachable w) (rules : FollowsTheRules w) where
 pub compose : MessagesAreDelivered → NoResetIsRefused → MessagesAreDeliveredThen → WorldsCompose
 compose law refuses then w l = record {
   consistent = λ rules.
-      along_reachable (λ z. Stands z.log → AreConsistent l.a l.b z) (origin l) [] l.actions (origin l) w refl l.runs (All-nil ActionFits) l.fit
+      along_reachable (λ z. NoneHasEnded z.log → AreConsistent l.a l.b z) (origin l) [] l.actions (origin l) w refl l.runs (All-nil ActionFits) l.fit
       (λ front y fit before later stands.
       are_consistent ends_consistent y (reachable_before w y l front fit before later) (record { follows = rules_before y w later rules; stands = stands }));
   handed = λ rules. handed_then w l rules;

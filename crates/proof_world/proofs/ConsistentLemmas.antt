@@ -8,7 +8,7 @@ use Rattle.spec_endpoint.specs.Shown.{Association, association_in}
 use Rattle.proof_endpoint.specs.Mapped.{as_bytes}
 use Rattle.proof_endpoint.specs.Sound.{OptionsFit}
 use Rattle.proof_pair.specs.Trace as traces
-use Rattle.proof_pair.specs.Trace.{Pair, AreGiven, AreMirrored, EndsAreConsistent, run, start}
+use Rattle.proof_pair.specs.Trace.{Pair, AreValidOptions, AreMirrored, EndsAreConsistent, run, start}
 use Rattle.spec_world.specs.Observations.{End, A, B, Entry, mirrored, held}
 use Rattle.spec_world.specs.World.{Side}
 use Rattle.proof_world.specs.Traces.{origin}
@@ -18,7 +18,7 @@ use Rattle.proof_world.proofs.NewsLemmas.{ended_by_emitted, made_same}
 use Rattle.proof_world.proofs.SidesLemmas.{Good}
 use Rattle.proof_world.proofs.RunsLemmas.{Ran, ran, fresh_both}
 
-pub given_of : (o : Options) → IsValid o → OptionsFit o → AreGiven o
+pub given_of : (o : Options) → IsValid o → OptionsFit o → AreValidOptions o
 given_of o valid fits = record { valid = valid; incoming = fits.incoming_streams; outgoing = fits.outgoing_streams; method = fits.zero_checksum_method }
 
 abbrev of : Identity → Association

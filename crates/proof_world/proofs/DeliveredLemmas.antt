@@ -11,11 +11,11 @@ use Rattle.spec_endpoint.specs.Laws as table
 use Rattle.spec_endpoint.specs.Shown.{Association, association_in}
 use Rattle.proof_endpoint.specs.Mapped.{Mapping, Carried, map_end, as_written, as_bytes}
 use Rattle.proof_pair.specs.Trace as traces
-use Rattle.proof_pair.specs.Trace.{Pair, EndAction, Calls, emitted_packets, act, goes, run, state_of, HasNotEnded, AreGiven}
+use Rattle.proof_pair.specs.Trace.{Pair, EndAction, Calls, emitted_packets, act, goes, run, state_of, NeitherHasEnded, AreValidOptions}
 use Rattle.proof_pair.specs.Handing.{handed_by}
 use Rattle.proof_pair.proofs.TraceLemmas.{Halves, before_run, goes_consistent}
 use Rattle.proof_pair.proofs.HandingLemmas.{hands_at}
-use Rattle.proof_delivery.specs.Accepted.{Offer, accepted}
+use Rattle.proof_delivery.specs.Accepted.{AcceptedMessage, accepted}
 use Rattle.proof_delivery.specs.Accepted as turns
 use Rattle.proof_delivery.specs.Answered as requests
 use Rattle.proof_delivery.specs.Answered.{Asked, asked_by, IsAnswered}
@@ -28,10 +28,10 @@ use Rattle.proof_tx_refines.specs.Led.{delivered_ids}
 use Rattle.proof_delivery.specs.Ending as ending
 use Rattle.spec_world.specs.Observations as observations
 use Rattle.spec_world.specs.Observations.{End, A, B, same_end, all_unless, unrefused, Entry, Called, Given, Foreign, Answer, Sent, SentMany, accepted_in, accepted_by, Call, Connect, Shutdown, Close, Send, SendMany, Receive, Reset, SetPriority, SetMaxMessageSize, SetLowThreshold, HandOver}
-use Rattle.spec_world.specs.World.{Side, World, Action, CallOf, Give, GiveForeign, AdvanceTime, ComesTo, taken_in, skipped, Gives, Happens, Runs, side_of, take_emitted, news_of, clock, calls, call_entry, after_call, advances_time, time_entry, after_time, step_of}
+use Rattle.spec_world.specs.World.{Side, World, Action, CallOf, Give, GiveForeign, AdvanceTime, ComesTo, taken_in, withheld, Gives, Happens, Runs, side_of, take_emitted, news_of, clock, calls, call_entry, after_call, advances_time, time_entry, after_time, table_call}
 use Rattle.proof_world.specs.Traces.{ActionFits, IsInBytes, is_a, end_of, receiving, IsActionOf}
-use Rattle.proof_world.specs.Delivered.{given_up_places, reported, AlongRun, SideIsWithin, AreWithin, stamp, stamp_packets, stamps_after, IsTimely, KeepsWindows, asked_after, AreAnswered, KeepsRequests, asks_more, sets_more, offers_in, offers_by, offers, emitted_events, OffersAreAccepted, OffersHaveEpochs}
-use Rattle.proof_world.specs.Consistent.{Stands}
+use Rattle.proof_world.specs.Delivered.{given_up_places, reported, AlongRun, SideIsWithin, AreWithin, stamp, stamp_packets, stamps_after, IsTimely, KeepsWindows, asked_after, AreAnswered, KeepsRequests, exceeds_limit, sets_more, accepted_messages_in, accepted_messages_by, accepted_messages, emitted_events, OffersAreAccepted, OffersHaveEpochs}
+use Rattle.proof_world.specs.Consistent.{NoneHasEnded}
 use Rattle.proof_world.proofs.StandingLemmas.{stands_front}
 use Rattle.proof_world.proofs.UpToEndLemmas.{stamps_along}
 use Rattle.proof_world.proofs.WorldLemmas.{Both, Extends, extends_then, in_bytes_before, Stepped, steps}
@@ -72,7 +72,7 @@ module _ (f : Mapping Carried (List ℕ)) (x : End) (own beside next : traces.Si
       → IsEmitted x turn own beside next w.log u.log
   goes_emitted first b after at logged = goes_on_emitted f x turn own beside next w.log u.log (side_of x w) (side_of x u) is is_next stands gave_up reports tells first b after at logged
 
-  call_emitted : (call : Call) → turn ≡ Calls (step_of call) → u ≡ calls x call w → IsEmitted x turn own beside next w.log u.log
+  call_emitted : (call : Call) → turn ≡ Calls (table_call call) → u ≡ calls x call w → IsEmitted x turn own beside next w.log u.log
   call_emitted call t e =
       goes_emitted (call_entry x call s) (subst (λ (z : EndAction). BeginsWith x z own (call_entry x call s)) (sym t) (call_begins f x own s is call)) (after_call call s)
       (ap (side_of x) e ∙ calls_side x call w) (ap (λ (z : World). z.log) e ∙ calls_log x call w)
@@ -88,7 +88,7 @@ module _ (f : Mapping Carried (List ℕ)) (x : End) (own beside next : traces.Si
   foreign_emitted : (bytes : List ℕ) → turns.accepted_in turn own ≡ [] → handed_by turn own ≡ [] → reset_by turn own ≡ [] → ComesTo x bytes (side_of x w) (side_of x u) w.log u.log
       → IsEmitted x turn own beside next w.log u.log
   foreign_emitted bytes h k l (taken_in t judged) = goes_emitted (Foreign x (clock s) (Some bytes)) (foreign_begins f x own turn (clock s) (Some bytes) h k l) t.after t.side t.logged
-  foreign_emitted bytes h k l (skipped judged stays logged) =
+  foreign_emitted bytes h k l (withheld judged stays logged) =
       skipped_emitted f x turn own beside next w.log u.log (side_of x w) (side_of x u) is is_next stands gave_up reports tells (Foreign x (clock s) None)
       (foreign_begins f x own turn (clock s) None h k l) stays logged
 
@@ -228,7 +228,7 @@ module _ (word_of_a word_of_b : List ℕ → ℕ) where
 
   -- ---- limits
 
-  call_more : (call : Call) → windows.sets_more (Calls (step_of call)) ≡ asks_more call
+  call_more : (call : Call) → windows.sets_more (Calls (table_call call)) ≡ exceeds_limit call
   call_more Connect = refl
   call_more Shutdown = refl
   call_more Close = refl
@@ -265,9 +265,9 @@ module _ (word_of_a word_of_b : List ℕ → ℕ) where
 
   pub record Delivering (actions : List Action) (w v : World) (c : Pair) (runs : Runs actions w v) (turns : List (Bool × EndAction)) : Type 0 where
     pub blocks : block.Stands turns c → AreBlocks turns c w.log v.log
-    pub windows_kept : (s : Stamps) → Stands v.log → KeepsWindows actions w v runs s → windows.KeepsWindows turns c s
+    pub windows_kept : (s : Stamps) → NoneHasEnded v.log → KeepsWindows actions w v runs s → windows.KeepsWindows turns c s
     pub stamps : (s : Stamps) → stamps_along actions w v runs s ≡ ending.stamps_along turns c s
-    pub requests_kept : (k : Asked) → Stands v.log → KeepsRequests actions w v runs k → requests.KeepsRequests turns c k
+    pub requests_kept : (k : Asked) → NoneHasEnded v.log → KeepsRequests actions w v runs k → requests.KeepsRequests turns c k
     pub limits : list_any (λ (e : Bool × EndAction). windows.sets_more e.1) turns ≡ list_any sets_more actions
     pub points : (all done : List (Bool × EndAction)) (first : Pair) → all ≡ done ++ turns → run done first ≡ c → block.Stands turns c → IsReached first done w.log
         → AlongRun (IsPoint all first) actions w v runs
@@ -277,9 +277,9 @@ module _ (word_of_a word_of_b : List ℕ → ℕ) where
   unfolding ran
   delivering [] w v c fit r small h = record {
     blocks = λ s. ap (λ (z : World). z.log) r;
-    windows_kept = λ s st k. are_within w c h (k (subst (λ (z : World). Stands z.log) r st));
+    windows_kept = λ s st k. are_within w c h (k (subst (λ (z : World). NoneHasEnded z.log) r st));
     stamps = λ s. refl;
-    requests_kept = λ k st i. are_answered w c k h (i (subst (λ (z : World). Stands z.log) r st));
+    requests_kept = λ k st i. are_answered w c k h (i (subst (λ (z : World). NoneHasEnded z.log) r st));
     limits = refl;
     points = λ all done first split is s reached.
         record { early = done; late = []; split = split; reached = reached; both = subst (Both word_of_a word_of_b w) (sym is) h };
@@ -327,32 +327,32 @@ along_each P Q f (action ∷ actions) w v r h = (f w h.0, along_each P Q f actio
 
 -- ---- an association that stands is not replaced
 
-module _ (o q : Options) (own : AreGiven o) (other : AreGiven q) where
-  pub stands_along : (es : List (Bool × EndAction)) (c : Pair) → traces.FollowsTheRules es c → HasNotEnded (run es c) → Halves o q c.a c.b → block.Stands es c
+module _ (o q : Options) (own : AreValidOptions o) (other : AreValidOptions q) where
+  pub stands_along : (es : List (Bool × EndAction)) (c : Pair) → traces.KeepsOpeningRules es c → NeitherHasEnded (run es c) → Halves o q c.a c.b → block.Stands es c
   stands_along [] c follows none h = tt
   stands_along (e ∷ es) c follows none h =
       let d : Pair = goes e.0 e.1 c in
-      let not_yet : HasNotEnded d = before_run es d none in (
+      let not_yet : NeitherHasEnded d = before_run es d none in (
         (hands_at o q own other e.0 e.0 e.1 c follows.0 not_yet h).stands,
         stands_along es d follows.1 none (goes_consistent o q own other e.0 e.1 c follows.0 not_yet h),
       )
 
 -- ---- offers and accepted messages
 
-messages_with : (o : SendOptions) (ms : List Message) → map (λ (z : Offer). z.message) (map (λ (m : Message). record { message = m; options = o }) ms) ≡ ms
+messages_with : (o : SendOptions) (ms : List Message) → map (λ (z : AcceptedMessage). z.message) (map (λ (m : Message). record { message = m; options = o }) ms) ≡ ms
 messages_with o [] = refl
 messages_with o (m ∷ ms) = ap (λ (l : List Message). m ∷ l) (messages_with o ms)
 
-one_call : (call : Call) (answer : Answer) → accepted_in call answer ≡ map (λ (z : Offer). z.message) (offers_in call answer)
+one_call : (call : Call) (answer : Answer) → accepted_in call answer ≡ map (λ (z : AcceptedMessage). z.message) (accepted_messages_in call answer)
 one_call (Send m o) (Sent None) = refl
 one_call (Send m o) (Sent (Some e)) = refl
 one_call (SendMany ms o) (SentMany refused) = sym (messages_with o (unrefused 0 ms refused))
 one_call call answer = refl
 
-one_entry : (x : End) (e : Entry) → accepted_by x e ≡ map (λ (z : Offer). z.message) (offers_by x e)
+one_entry : (x : End) (e : Entry) → accepted_by x e ≡ map (λ (z : AcceptedMessage). z.message) (accepted_messages_by x e)
 one_entry x (Called y clock call answer) = go (same_end x y)
   where
-    go : (b : Bool) → all_unless b (accepted_in call answer) ≡ map (λ (z : Offer). z.message) (all_unless b (offers_in call answer))
+    go : (b : Bool) → all_unless b (accepted_in call answer) ≡ map (λ (z : AcceptedMessage). z.message) (all_unless b (accepted_messages_in call answer))
     go true = one_call call answer
     go false = refl
 one_entry x e = refl
@@ -364,5 +364,5 @@ pub offers_accepted : OffersAreAccepted
 offers_accepted x [] = refl
 offers_accepted x (e ∷ log) =
     ap (λ (l : List Message). l ++ observations.accepted x log) (one_entry x e)
-    ∙ (ap (λ (l : List Message). map (λ (z : Offer). z.message) (offers_by x e) ++ l) (offers_accepted x log)
-    ∙ sym (map-append (λ (z : Offer). z.message) (offers_by x e) (offers x log)))
+    ∙ (ap (λ (l : List Message). map (λ (z : AcceptedMessage). z.message) (accepted_messages_by x e) ++ l) (offers_accepted x log)
+    ∙ sym (map-append (λ (z : AcceptedMessage). z.message) (accepted_messages_by x e) (accepted_messages x log)))

@@ -23,9 +23,9 @@ use Rattle.proof_delivery.specs.Justified.{reset_unless}
 use Rattle.spec_world.specs.Observations.{End, A, B, same_end, same_association, same_numbers, all_unless, Call, Connect, Shutdown, Close, Send, SendMany, Receive, Reset, SetPriority, SetMaxMessageSize, SetLowThreshold, HandOver, Entry, Given, Foreign, ready_by, handed_out_in, handed_out_by, given_up}
 use Rattle.spec_world.specs.Observations as observations
 use Rattle.spec_world.specs.World as worlds
-use Rattle.spec_world.specs.World.{Side, taken_in, other, association, ready_before, news_of, take_emitted, handed_by as record_by, step_of, answer_to, call_entry, time_entry, clock}
+use Rattle.spec_world.specs.World.{Side, taken_in, other, association, ready_before, news_of, take_emitted, handed_by as record_by, table_call, answer_to, call_entry, time_entry, clock}
 use Rattle.proof_world.specs.Traces.{receiving, IsReceiving, IsForeign}
-use Rattle.proof_world.specs.Delivered.{offers_in, offers_by, happened_by, emitted_events, reset_in, reset_by, given_up_places, reported_by, reported}
+use Rattle.proof_world.specs.Delivered.{accepted_messages_in, accepted_messages_by, emitted_events_by, emitted_events, reset_in, reset_by, given_up_places, reported_by, reported}
 use Rattle.proof_world.proofs.EventLemmas.{same_itself}
 use Rattle.proof_world.proofs.LoggedLemmas.{quiet_offers, quiet_handed, quiet_given_up, quiet_reported, none_in_news, ready_news, ready_news_other, first_handed, one_offer, many_offers}
 use Rattle.proof_world.proofs.HappenedLemmas.{bare, begun_by, quiet_resets, quiet_begun, quiet_happened, IsEmittedFirst, none_emitted_first, news_emitted_first}
@@ -66,10 +66,10 @@ none_new (m ∷ ms) = none_new ms
 
 -- what a call's entry says is what the action does
 module _ (f : Mapping Carried (List ℕ)) (x : End) (end : traces.Side) (s : Endpoint (List ℕ)) (is : s ≡ map_end f end.end) where
-  call_offers : (call : Call) → offers_in call (answer_to call s) ≡ accepted_by (step_of call) end
-  call_offers (Send m o) = ap (λ (z : Endpoint (List ℕ)). offers_in (Send m o) (answer_to (Send m o) z)) is ∙ one_offer (refusal m (shown_state end.end.endpoint_state.state) end.end.endpoint_state.context) m o
+  call_offers : (call : Call) → accepted_messages_in call (answer_to call s) ≡ accepted_by (table_call call) end
+  call_offers (Send m o) = ap (λ (z : Endpoint (List ℕ)). accepted_messages_in (Send m o) (answer_to (Send m o) z)) is ∙ one_offer (refusal m (shown_state end.end.endpoint_state.state) end.end.endpoint_state.context) m o
   call_offers (SendMany ms o) =
-      ap (λ (z : Endpoint (List ℕ)). offers_in (SendMany ms o) (answer_to (SendMany ms o) z)) is
+      ap (λ (z : Endpoint (List ℕ)). accepted_messages_in (SendMany ms o) (answer_to (SendMany ms o) z)) is
       ∙ many_offers 0 ms o (shown_state end.end.endpoint_state.state) (map_end f end.end).endpoint_state.context end.end.endpoint_state.context
       (record { options = refl; queue = refl; now = refl })
   call_offers Connect = refl
@@ -86,7 +86,7 @@ module _ (f : Mapping Carried (List ℕ)) (x : End) (end : traces.Side) (s : End
   none_handed zero = refl
   none_handed (suc n) = refl
 
-  call_hands : (call : Call) → handed_out_in (answer_to call s) ≡ handed_by (Calls (step_of call)) end
+  call_hands : (call : Call) → handed_out_in (answer_to call s) ≡ handed_by (Calls (table_call call)) end
   call_hands Receive = first_handed (worlds.ready_at s) ∙ ap (λ (z : Endpoint (List ℕ)). take 1 (ready_in z.endpoint_state.state)) is
   call_hands HandOver = none_handed (readiness s.endpoint_state)
   call_hands (Send m o) = refl
@@ -99,7 +99,7 @@ module _ (f : Mapping Carried (List ℕ)) (x : End) (end : traces.Side) (s : End
   call_hands (SetMaxMessageSize bytes) = refl
   call_hands (SetLowThreshold stream bytes) = refl
 
-  pub call_resets : (call : Call) → reset_in call (answer_to call s) ≡ turns.reset_by (Calls (step_of call)) end
+  pub call_resets : (call : Call) → reset_in call (answer_to call s) ≡ turns.reset_by (Calls (table_call call)) end
   call_resets (Reset streams) = ap (λ (z : Endpoint (List ℕ)). reset_unless (reset_refusal z.endpoint_state.state) streams) is
   call_resets call = refl
 
@@ -144,10 +144,10 @@ pub record IsEmitted (x : End) (turn : EndAction) (own beside next : traces.Side
   pub first : Entry
   pub more : List Entry
   pub logged : longer ≡ log ++ first ∷ more
-  pub quiet : (y : End) → flat_map (offers_by y) more ≡ []
+  pub quiet : (y : End) → flat_map (accepted_messages_by y) more ≡ []
   pub hands_nothing : (y : End) → flat_map (handed_out_by y) more ≡ []
-  pub offers : offers_by x first ≡ accepted_in turn own
-  pub no_offers : offers_by (other x) first ≡ []
+  pub offers : accepted_messages_by x first ≡ accepted_in turn own
+  pub no_offers : accepted_messages_by (other x) first ≡ []
   pub ready : flat_map (ready_by x) (first ∷ more) ≡ new_behind (handing.ready_at own) (handing.ready_at next)
   pub none_ready : flat_map (ready_by (other x)) (first ∷ more) ≡ []
   pub handed : flat_map (handed_out_by x) (first ∷ more) ≡ handed_by turn own
@@ -161,15 +161,15 @@ pub record IsEmitted (x : End) (turn : EndAction) (own beside next : traces.Side
   pub resets_nothing : (y : End) → flat_map (reset_by y) more ≡ []
   pub emits : emitted_events x longer ≡ bare next.emitted
   pub tells_none : emitted_events (other x) (first ∷ more) ≡ []
-  pub first_tells : (y : End) → happened_by y first ≡ []
+  pub first_tells : (y : End) → emitted_events_by y first ≡ []
   pub none_ready_first : (y : End) → ready_by y first ≡ []
   pub none_begins : flat_map begun_by more ≡ []
   pub told_first : IsEmittedFirst more
 
 -- the first entries: what they say of messages and resets
 pub record BeginsWith (x : End) (turn : EndAction) (own : traces.Side) (first : Entry) : Type 0 where
-  pub offers : offers_by x first ≡ accepted_in turn own
-  pub no_offers : offers_by (other x) first ≡ []
+  pub offers : accepted_messages_by x first ≡ accepted_in turn own
+  pub no_offers : accepted_messages_by (other x) first ≡ []
   pub ready : (y : End) → ready_by y first ≡ []
   pub handed : handed_out_by x first ≡ handed_by turn own
   pub none_handed : handed_out_by (other x) first ≡ []
@@ -177,7 +177,7 @@ pub record BeginsWith (x : End) (turn : EndAction) (own : traces.Side) (first : 
   pub reported : (y : End) → reported_by y first ≡ []
   pub resets : reset_by x first ≡ turns.reset_by turn own
   pub no_resets : reset_by (other x) first ≡ []
-  pub happened : (y : End) → happened_by y first ≡ []
+  pub happened : (y : End) → emitted_events_by y first ≡ []
 
 module _ (f : Mapping Carried (List ℕ)) (x : End) (turn : EndAction) (own beside next : traces.Side) (log longer : List Entry) (side new : Side)
     (is : side.socket ≡ map_end f own.end) (is_next : new.socket ≡ map_end f next.end)
@@ -198,7 +198,7 @@ module _ (f : Mapping Carried (List ℕ)) (x : End) (turn : EndAction) (own besi
         first = first;
         more = news;
         logged = logged;
-        quiet = λ y. none_in_news (offers_by y) x (quiet_offers y x) (λ z. refl) n m (association side.socket) after;
+        quiet = λ y. none_in_news (accepted_messages_by y) x (quiet_offers y x) (λ z. refl) n m (association side.socket) after;
         hands_nothing = λ y. none_in_news (handed_out_by y) x (quiet_handed y x) (λ z. refl) n m (association side.socket) after;
         offers = b.offers;
         no_offers = b.no_offers;
@@ -232,7 +232,7 @@ module _ (f : Mapping Carried (List ℕ)) (x : End) (turn : EndAction) (own besi
         emits = tells;
         tells_none =
             ap (λ (z : List (Event (List ℕ))). z ++ emitted_events (other x) news) (b.happened (other x))
-            ∙ none_in_news (happened_by (other x)) x (quiet_happened (other x) x (not_other x)) (λ z. refl) n m (association side.socket) after;
+            ∙ none_in_news (emitted_events_by (other x)) x (quiet_happened (other x) x (not_other x)) (λ z. refl) n m (association side.socket) after;
         first_tells = b.happened;
         none_ready_first = b.ready;
         none_begins = none_in_news begun_by x (quiet_begun x) (λ z. refl) n m (association side.socket) after;
@@ -274,10 +274,10 @@ module _ (f : Mapping Carried (List ℕ)) (x : End) (turn : EndAction) (own besi
 -- ---- first entries
 
 module _ (f : Mapping Carried (List ℕ)) (x : End) (own : traces.Side) where
-  pub call_begins : (s : Endpoint (List ℕ)) → s ≡ map_end f own.end → (call : Call) → BeginsWith x (Calls (step_of call)) own (call_entry x call s)
+  pub call_begins : (s : Endpoint (List ℕ)) → s ≡ map_end f own.end → (call : Call) → BeginsWith x (Calls (table_call call)) own (call_entry x call s)
   call_begins s is call = record {
-    offers = ap (λ (b : Bool). all_unless b (offers_in call (answer_to call s))) (same_itself x) ∙ call_offers f x own s is call;
-    no_offers = ap (λ (b : Bool). all_unless b (offers_in call (answer_to call s))) (not_other x);
+    offers = ap (λ (b : Bool). all_unless b (accepted_messages_in call (answer_to call s))) (same_itself x) ∙ call_offers f x own s is call;
+    no_offers = ap (λ (b : Bool). all_unless b (accepted_messages_in call (answer_to call s))) (not_other x);
     ready = λ y. refl;
     handed = ap (λ (b : Bool). all_unless b (handed_out_in (answer_to call s))) (same_itself x) ∙ call_hands f x own s is call;
     none_handed = ap (λ (b : Bool). all_unless b (handed_out_in (answer_to call s))) (not_other x);

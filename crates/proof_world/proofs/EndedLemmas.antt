@@ -11,7 +11,7 @@ use Rattle.spec_endpoint.specs.Receiving.{Receives, received, not_read}
 use Rattle.proof_endpoint.specs.Lifecycles.{emitted_end, ends, alive, hands_lifecycle, is_restore, EndsWithin}
 use Rattle.proof_endpoint.proofs.LifecycleLemmas.{ends_within}
 use Rattle.spec_world.specs.Observations.{End, A, B, Call, Connect, Shutdown, Close, Send, SendMany, Receive, Reset, SetPriority, SetMaxMessageSize, SetLowThreshold, HandOver, Entry, Associated, GaveUp, BecameReady, same_end, same_association}
-use Rattle.spec_world.specs.World.{Side, World, Action, CallOf, Give, GiveForeign, AdvanceTime, TakesBytes, ComesTo, taken_in, skipped, Comes, Gives, Happens, Runs, fresh_world, emitted_entries, given_up_entries, association, associated_if, association_entries, ready_at, ready_before, ready_entries, news, news_of, take_emitted, step_of, after_call, after_time, call_entry, time_entry}
+use Rattle.spec_world.specs.World.{Side, World, Action, CallOf, Give, GiveForeign, AdvanceTime, TakesBytes, ComesTo, taken_in, withheld, Comes, Gives, Happens, Runs, fresh_world, emitted_entries, given_up_entries, association, associated_if, association_entries, ready_at, ready_before, ready_entries, news, news_of, take_emitted, table_call, after_call, after_time, call_entry, time_entry}
 use Rattle.proof_world.specs.Ended.{only_if, total, handed_by, handed_to, ended_by, ended_at, EndedAreHandedIn, NoLifecycleEndsTwiceHere}
 
 total_append : (f : Entry → ℕ) (xs ys : List Entry) → total f (xs ++ ys) ≡ total f xs + total f ys
@@ -171,7 +171,7 @@ module _ (l : ℕ) where
         );
       }
 
-  not_restored : (call : Call) → is_restore (step_of call) ≡ false
+  not_restored : (call : Call) → is_restore (table_call call) ≡ false
   not_restored Connect = refl
   not_restored Shutdown = refl
   not_restored Close = refl
@@ -184,8 +184,8 @@ module _ (l : ℕ) where
   not_restored (SetLowThreshold stream bytes) = refl
   not_restored HandOver = refl
 
-  call_within : (call : Call) (s : Endpoint (List ℕ)) → EndsWithin l (hands_lifecycle l (step_of call)) s.endpoint_state (after_call call s).endpoint_state
-  call_within call s = ends_within l (step_of call) s (not_restored call)
+  call_within : (call : Call) (s : Endpoint (List ℕ)) → EndsWithin l (hands_lifecycle l (table_call call)) s.endpoint_state (after_call call s).endpoint_state
+  call_within call s = ends_within l (table_call call) s (not_restored call)
 
   time_within : (now : ℕ) (s : Endpoint (List ℕ)) → EndsWithin l 0 s.endpoint_state (after_time now s).endpoint_state
   time_within now s = ends_within l (table.Advance now) s refl
@@ -220,14 +220,14 @@ module _ (l : ℕ) where
 
   own_came : (x : End) (bytes : List ℕ) (old new : Side) (log longer : List Entry) → ComesTo x bytes old new log longer → Counted l x old log → Counted l x new longer
   own_came x bytes old new log longer (taken_in t j) k = own_emitted x _ bytes old new log longer t refl refl k
-  own_came x bytes old new log longer (skipped j is logged) k =
+  own_came x bytes old new log longer (withheld j is logged) k =
       subst (λ (side : Side). Counted l x side longer) (sym is)
       (subst (λ (entries : List Entry). Counted l x old entries) (sym logged) (one_more x old _ log refl refl k))
 
   other_came : (x z : End) → same_end x z ≡ false → (side : Side) (bytes : List ℕ) (old new : Side) (log longer : List Entry) → ComesTo z bytes old new log longer
       → Counted l x side log → Counted l x side longer
   other_came x z apart side bytes old new log longer (taken_in t j) k = other_emitted x z apart side _ bytes old new log longer t refl refl k
-  other_came x z apart side bytes old new log longer (skipped j is logged) k =
+  other_came x z apart side bytes old new log longer (withheld j is logged) k =
       subst (λ (entries : List Entry). Counted l x side entries) (sym logged) (one_more x side _ log refl refl k)
 
   -- ---- both ends
@@ -258,12 +258,12 @@ module _ (l : ℕ) where
 
   happens_counted : (action : Action) (w v : World) → Happens action w v → AreCounted w → AreCounted v
   happens_counted (CallOf A call) w v e k = subst AreCounted (sym e) (record {
-    a = own_goes A w.a (call_entry A call w.a.socket) (after_call call w.a.socket) (hands_lifecycle l (step_of call)) w.log (call_within call w.a.socket) refl refl k.a;
+    a = own_goes A w.a (call_entry A call w.a.socket) (after_call call w.a.socket) (hands_lifecycle l (table_call call)) w.log (call_within call w.a.socket) refl refl k.a;
     b = other_goes B A refl w.b w.a (call_entry A call w.a.socket) (after_call call w.a.socket) w.log refl refl k.b;
   })
   happens_counted (CallOf B call) w v e k = subst AreCounted (sym e) (record {
     a = other_goes A B refl w.a w.b (call_entry B call w.b.socket) (after_call call w.b.socket) w.log refl refl k.a;
-    b = own_goes B w.b (call_entry B call w.b.socket) (after_call call w.b.socket) (hands_lifecycle l (step_of call)) w.log (call_within call w.b.socket) refl refl k.b;
+    b = own_goes B w.b (call_entry B call w.b.socket) (after_call call w.b.socket) (hands_lifecycle l (table_call call)) w.log (call_within call w.b.socket) refl refl k.b;
   })
   happens_counted (Give packet x) w v g k = given_counted x packet w v g k
   happens_counted (GiveForeign x bytes) w v g k = foreign_counted x bytes w v g k

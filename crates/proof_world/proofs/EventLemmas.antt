@@ -10,7 +10,7 @@ use Rattle.proof_endpoint.specs.Mapped.{Mapping, Carried, map_event}
 use Rattle.proof_endpoint.specs.ReadBack.{ReadsBack, CanBeRead, as_carried}
 use Rattle.proof_pair.specs.Trace as traces
 use Rattle.proof_pair.specs.Trace.{has_connected}
-use Rattle.spec_world.specs.Observations.{End, A, B, same_end, none_unless, Entry, Emitted, Happened, connected_by}
+use Rattle.spec_world.specs.Observations.{End, A, B, same_end, none_unless, Entry, EmittedPacket, EmittedEvent, connected_by}
 use Rattle.spec_world.specs.World.{packets_in, emitted_entries}
 use Rattle.proof_world.specs.Traces.{emitted_in}
 use Rattle.proof_world.specs.Consistent.{ended_by}
@@ -51,22 +51,22 @@ start x n fs = ap (λ (m : ℕ). emitted_entries x m fs) (omega arith)
 pub entries_both : (x : End) (n : ℕ) (es fs : List (Event (List ℕ))) → emitted_entries x n (es ++ fs) ≡ emitted_entries x n es ++ emitted_entries x (n + length (packets_in es)) fs
 entries_both x n [] fs = start x n fs
 entries_both x n (SendPacket p ∷ es) fs =
-    ap (λ (l : List Entry). Emitted x n ∷ l) (entries_both x (n + 1) es fs ∙ ap (λ (l : List Entry). emitted_entries x (n + 1) es ++ l) (next x n (length (packets_in es)) fs))
-entries_both x n (OnConnected ∷ es) fs = ap (λ (l : List Entry). Happened x OnConnected ∷ l) (entries_both x n es fs)
-entries_both x n (OnClosed ∷ es) fs = ap (λ (l : List Entry). Happened x OnClosed ∷ l) (entries_both x n es fs)
-entries_both x n (OnConnectionRestarted ∷ es) fs = ap (λ (l : List Entry). Happened x OnConnectionRestarted ∷ l) (entries_both x n es fs)
-entries_both x n (OnAborted kind text ∷ es) fs = ap (λ (l : List Entry). Happened x (OnAborted kind text) ∷ l) (entries_both x n es fs)
-entries_both x n (OnError kind text ∷ es) fs = ap (λ (l : List Entry). Happened x (OnError kind text) ∷ l) (entries_both x n es fs)
-entries_both x n (OnBufferedAmountLow id ∷ es) fs = ap (λ (l : List Entry). Happened x (OnBufferedAmountLow id) ∷ l) (entries_both x n es fs)
-entries_both x n (OnTotalBufferedAmountLow ∷ es) fs = ap (λ (l : List Entry). Happened x OnTotalBufferedAmountLow ∷ l) (entries_both x n es fs)
-entries_both x n (OnStreamsResetFailed ids ∷ es) fs = ap (λ (l : List Entry). Happened x (OnStreamsResetFailed ids) ∷ l) (entries_both x n es fs)
-entries_both x n (OnStreamsResetPerformed ids ∷ es) fs = ap (λ (l : List Entry). Happened x (OnStreamsResetPerformed ids) ∷ l) (entries_both x n es fs)
-entries_both x n (OnIncomingStreamReset ids ∷ es) fs = ap (λ (l : List Entry). Happened x (OnIncomingStreamReset ids) ∷ l) (entries_both x n es fs)
-entries_both x n (OnLifecycleMessageFullySent id ∷ es) fs = ap (λ (l : List Entry). Happened x (OnLifecycleMessageFullySent id) ∷ l) (entries_both x n es fs)
-entries_both x n (OnLifecycleMessageMaybeExpired id ∷ es) fs = ap (λ (l : List Entry). Happened x (OnLifecycleMessageMaybeExpired id) ∷ l) (entries_both x n es fs)
-entries_both x n (OnLifecycleMessageExpired id ∷ es) fs = ap (λ (l : List Entry). Happened x (OnLifecycleMessageExpired id) ∷ l) (entries_both x n es fs)
-entries_both x n (OnLifecycleMessageDelivered id ∷ es) fs = ap (λ (l : List Entry). Happened x (OnLifecycleMessageDelivered id) ∷ l) (entries_both x n es fs)
-entries_both x n (OnLifecycleEnd id ∷ es) fs = ap (λ (l : List Entry). Happened x (OnLifecycleEnd id) ∷ l) (entries_both x n es fs)
+    ap (λ (l : List Entry). EmittedPacket x n ∷ l) (entries_both x (n + 1) es fs ∙ ap (λ (l : List Entry). emitted_entries x (n + 1) es ++ l) (next x n (length (packets_in es)) fs))
+entries_both x n (OnConnected ∷ es) fs = ap (λ (l : List Entry). EmittedEvent x OnConnected ∷ l) (entries_both x n es fs)
+entries_both x n (OnClosed ∷ es) fs = ap (λ (l : List Entry). EmittedEvent x OnClosed ∷ l) (entries_both x n es fs)
+entries_both x n (OnConnectionRestarted ∷ es) fs = ap (λ (l : List Entry). EmittedEvent x OnConnectionRestarted ∷ l) (entries_both x n es fs)
+entries_both x n (OnAborted kind text ∷ es) fs = ap (λ (l : List Entry). EmittedEvent x (OnAborted kind text) ∷ l) (entries_both x n es fs)
+entries_both x n (OnError kind text ∷ es) fs = ap (λ (l : List Entry). EmittedEvent x (OnError kind text) ∷ l) (entries_both x n es fs)
+entries_both x n (OnBufferedAmountLow id ∷ es) fs = ap (λ (l : List Entry). EmittedEvent x (OnBufferedAmountLow id) ∷ l) (entries_both x n es fs)
+entries_both x n (OnTotalBufferedAmountLow ∷ es) fs = ap (λ (l : List Entry). EmittedEvent x OnTotalBufferedAmountLow ∷ l) (entries_both x n es fs)
+entries_both x n (OnStreamsResetFailed ids ∷ es) fs = ap (λ (l : List Entry). EmittedEvent x (OnStreamsResetFailed ids) ∷ l) (entries_both x n es fs)
+entries_both x n (OnStreamsResetPerformed ids ∷ es) fs = ap (λ (l : List Entry). EmittedEvent x (OnStreamsResetPerformed ids) ∷ l) (entries_both x n es fs)
+entries_both x n (OnIncomingStreamReset ids ∷ es) fs = ap (λ (l : List Entry). EmittedEvent x (OnIncomingStreamReset ids) ∷ l) (entries_both x n es fs)
+entries_both x n (OnLifecycleMessageFullySent id ∷ es) fs = ap (λ (l : List Entry). EmittedEvent x (OnLifecycleMessageFullySent id) ∷ l) (entries_both x n es fs)
+entries_both x n (OnLifecycleMessageMaybeExpired id ∷ es) fs = ap (λ (l : List Entry). EmittedEvent x (OnLifecycleMessageMaybeExpired id) ∷ l) (entries_both x n es fs)
+entries_both x n (OnLifecycleMessageExpired id ∷ es) fs = ap (λ (l : List Entry). EmittedEvent x (OnLifecycleMessageExpired id) ∷ l) (entries_both x n es fs)
+entries_both x n (OnLifecycleMessageDelivered id ∷ es) fs = ap (λ (l : List Entry). EmittedEvent x (OnLifecycleMessageDelivered id) ∷ l) (entries_both x n es fs)
+entries_both x n (OnLifecycleEnd id ∷ es) fs = ap (λ (l : List Entry). EmittedEvent x (OnLifecycleEnd id) ∷ l) (entries_both x n es fs)
 
 pub same_itself : (x : End) → same_end x x ≡ true
 same_itself A = refl
@@ -83,42 +83,42 @@ skip e l false is same = same
 -- an end's own entries
 pub emitted_own : (x : End) (n : ℕ) (es : List (Event (List ℕ))) → emitted_in x (emitted_entries x n es) ≡ emitted_entries x n es
 emitted_own x n [] = refl
-emitted_own x n (SendPacket p ∷ es) = put x (Emitted x n) _ _ (same_end x x) (same_itself x) (emitted_own x (n + 1) es)
-emitted_own x n (OnConnected ∷ es) = put x (Happened x OnConnected) _ _ (same_end x x) (same_itself x) (emitted_own x n es)
-emitted_own x n (OnClosed ∷ es) = put x (Happened x OnClosed) _ _ (same_end x x) (same_itself x) (emitted_own x n es)
-emitted_own x n (OnConnectionRestarted ∷ es) = put x (Happened x OnConnectionRestarted) _ _ (same_end x x) (same_itself x) (emitted_own x n es)
-emitted_own x n (OnAborted kind text ∷ es) = put x (Happened x (OnAborted kind text)) _ _ (same_end x x) (same_itself x) (emitted_own x n es)
-emitted_own x n (OnError kind text ∷ es) = put x (Happened x (OnError kind text)) _ _ (same_end x x) (same_itself x) (emitted_own x n es)
-emitted_own x n (OnBufferedAmountLow id ∷ es) = put x (Happened x (OnBufferedAmountLow id)) _ _ (same_end x x) (same_itself x) (emitted_own x n es)
-emitted_own x n (OnTotalBufferedAmountLow ∷ es) = put x (Happened x OnTotalBufferedAmountLow) _ _ (same_end x x) (same_itself x) (emitted_own x n es)
-emitted_own x n (OnStreamsResetFailed ids ∷ es) = put x (Happened x (OnStreamsResetFailed ids)) _ _ (same_end x x) (same_itself x) (emitted_own x n es)
-emitted_own x n (OnStreamsResetPerformed ids ∷ es) = put x (Happened x (OnStreamsResetPerformed ids)) _ _ (same_end x x) (same_itself x) (emitted_own x n es)
-emitted_own x n (OnIncomingStreamReset ids ∷ es) = put x (Happened x (OnIncomingStreamReset ids)) _ _ (same_end x x) (same_itself x) (emitted_own x n es)
-emitted_own x n (OnLifecycleMessageFullySent id ∷ es) = put x (Happened x (OnLifecycleMessageFullySent id)) _ _ (same_end x x) (same_itself x) (emitted_own x n es)
-emitted_own x n (OnLifecycleMessageMaybeExpired id ∷ es) = put x (Happened x (OnLifecycleMessageMaybeExpired id)) _ _ (same_end x x) (same_itself x) (emitted_own x n es)
-emitted_own x n (OnLifecycleMessageExpired id ∷ es) = put x (Happened x (OnLifecycleMessageExpired id)) _ _ (same_end x x) (same_itself x) (emitted_own x n es)
-emitted_own x n (OnLifecycleMessageDelivered id ∷ es) = put x (Happened x (OnLifecycleMessageDelivered id)) _ _ (same_end x x) (same_itself x) (emitted_own x n es)
-emitted_own x n (OnLifecycleEnd id ∷ es) = put x (Happened x (OnLifecycleEnd id)) _ _ (same_end x x) (same_itself x) (emitted_own x n es)
+emitted_own x n (SendPacket p ∷ es) = put x (EmittedPacket x n) _ _ (same_end x x) (same_itself x) (emitted_own x (n + 1) es)
+emitted_own x n (OnConnected ∷ es) = put x (EmittedEvent x OnConnected) _ _ (same_end x x) (same_itself x) (emitted_own x n es)
+emitted_own x n (OnClosed ∷ es) = put x (EmittedEvent x OnClosed) _ _ (same_end x x) (same_itself x) (emitted_own x n es)
+emitted_own x n (OnConnectionRestarted ∷ es) = put x (EmittedEvent x OnConnectionRestarted) _ _ (same_end x x) (same_itself x) (emitted_own x n es)
+emitted_own x n (OnAborted kind text ∷ es) = put x (EmittedEvent x (OnAborted kind text)) _ _ (same_end x x) (same_itself x) (emitted_own x n es)
+emitted_own x n (OnError kind text ∷ es) = put x (EmittedEvent x (OnError kind text)) _ _ (same_end x x) (same_itself x) (emitted_own x n es)
+emitted_own x n (OnBufferedAmountLow id ∷ es) = put x (EmittedEvent x (OnBufferedAmountLow id)) _ _ (same_end x x) (same_itself x) (emitted_own x n es)
+emitted_own x n (OnTotalBufferedAmountLow ∷ es) = put x (EmittedEvent x OnTotalBufferedAmountLow) _ _ (same_end x x) (same_itself x) (emitted_own x n es)
+emitted_own x n (OnStreamsResetFailed ids ∷ es) = put x (EmittedEvent x (OnStreamsResetFailed ids)) _ _ (same_end x x) (same_itself x) (emitted_own x n es)
+emitted_own x n (OnStreamsResetPerformed ids ∷ es) = put x (EmittedEvent x (OnStreamsResetPerformed ids)) _ _ (same_end x x) (same_itself x) (emitted_own x n es)
+emitted_own x n (OnIncomingStreamReset ids ∷ es) = put x (EmittedEvent x (OnIncomingStreamReset ids)) _ _ (same_end x x) (same_itself x) (emitted_own x n es)
+emitted_own x n (OnLifecycleMessageFullySent id ∷ es) = put x (EmittedEvent x (OnLifecycleMessageFullySent id)) _ _ (same_end x x) (same_itself x) (emitted_own x n es)
+emitted_own x n (OnLifecycleMessageMaybeExpired id ∷ es) = put x (EmittedEvent x (OnLifecycleMessageMaybeExpired id)) _ _ (same_end x x) (same_itself x) (emitted_own x n es)
+emitted_own x n (OnLifecycleMessageExpired id ∷ es) = put x (EmittedEvent x (OnLifecycleMessageExpired id)) _ _ (same_end x x) (same_itself x) (emitted_own x n es)
+emitted_own x n (OnLifecycleMessageDelivered id ∷ es) = put x (EmittedEvent x (OnLifecycleMessageDelivered id)) _ _ (same_end x x) (same_itself x) (emitted_own x n es)
+emitted_own x n (OnLifecycleEnd id ∷ es) = put x (EmittedEvent x (OnLifecycleEnd id)) _ _ (same_end x x) (same_itself x) (emitted_own x n es)
 
 -- of the other one it has none
 pub emitted_other : (x y : End) → same_end x y ≡ false → (n : ℕ) (es : List (Event (List ℕ))) → emitted_in x (emitted_entries y n es) ≡ []
 emitted_other x y d n [] = refl
-emitted_other x y d n (SendPacket p ∷ es) = skip (Emitted y n) _ (same_end x y) d (emitted_other x y d (n + 1) es)
-emitted_other x y d n (OnConnected ∷ es) = skip (Happened y OnConnected) _ (same_end x y) d (emitted_other x y d n es)
-emitted_other x y d n (OnClosed ∷ es) = skip (Happened y OnClosed) _ (same_end x y) d (emitted_other x y d n es)
-emitted_other x y d n (OnConnectionRestarted ∷ es) = skip (Happened y OnConnectionRestarted) _ (same_end x y) d (emitted_other x y d n es)
-emitted_other x y d n (OnAborted kind text ∷ es) = skip (Happened y (OnAborted kind text)) _ (same_end x y) d (emitted_other x y d n es)
-emitted_other x y d n (OnError kind text ∷ es) = skip (Happened y (OnError kind text)) _ (same_end x y) d (emitted_other x y d n es)
-emitted_other x y d n (OnBufferedAmountLow id ∷ es) = skip (Happened y (OnBufferedAmountLow id)) _ (same_end x y) d (emitted_other x y d n es)
-emitted_other x y d n (OnTotalBufferedAmountLow ∷ es) = skip (Happened y OnTotalBufferedAmountLow) _ (same_end x y) d (emitted_other x y d n es)
-emitted_other x y d n (OnStreamsResetFailed ids ∷ es) = skip (Happened y (OnStreamsResetFailed ids)) _ (same_end x y) d (emitted_other x y d n es)
-emitted_other x y d n (OnStreamsResetPerformed ids ∷ es) = skip (Happened y (OnStreamsResetPerformed ids)) _ (same_end x y) d (emitted_other x y d n es)
-emitted_other x y d n (OnIncomingStreamReset ids ∷ es) = skip (Happened y (OnIncomingStreamReset ids)) _ (same_end x y) d (emitted_other x y d n es)
-emitted_other x y d n (OnLifecycleMessageFullySent id ∷ es) = skip (Happened y (OnLifecycleMessageFullySent id)) _ (same_end x y) d (emitted_other x y d n es)
-emitted_other x y d n (OnLifecycleMessageMaybeExpired id ∷ es) = skip (Happened y (OnLifecycleMessageMaybeExpired id)) _ (same_end x y) d (emitted_other x y d n es)
-emitted_other x y d n (OnLifecycleMessageExpired id ∷ es) = skip (Happened y (OnLifecycleMessageExpired id)) _ (same_end x y) d (emitted_other x y d n es)
-emitted_other x y d n (OnLifecycleMessageDelivered id ∷ es) = skip (Happened y (OnLifecycleMessageDelivered id)) _ (same_end x y) d (emitted_other x y d n es)
-emitted_other x y d n (OnLifecycleEnd id ∷ es) = skip (Happened y (OnLifecycleEnd id)) _ (same_end x y) d (emitted_other x y d n es)
+emitted_other x y d n (SendPacket p ∷ es) = skip (EmittedPacket y n) _ (same_end x y) d (emitted_other x y d (n + 1) es)
+emitted_other x y d n (OnConnected ∷ es) = skip (EmittedEvent y OnConnected) _ (same_end x y) d (emitted_other x y d n es)
+emitted_other x y d n (OnClosed ∷ es) = skip (EmittedEvent y OnClosed) _ (same_end x y) d (emitted_other x y d n es)
+emitted_other x y d n (OnConnectionRestarted ∷ es) = skip (EmittedEvent y OnConnectionRestarted) _ (same_end x y) d (emitted_other x y d n es)
+emitted_other x y d n (OnAborted kind text ∷ es) = skip (EmittedEvent y (OnAborted kind text)) _ (same_end x y) d (emitted_other x y d n es)
+emitted_other x y d n (OnError kind text ∷ es) = skip (EmittedEvent y (OnError kind text)) _ (same_end x y) d (emitted_other x y d n es)
+emitted_other x y d n (OnBufferedAmountLow id ∷ es) = skip (EmittedEvent y (OnBufferedAmountLow id)) _ (same_end x y) d (emitted_other x y d n es)
+emitted_other x y d n (OnTotalBufferedAmountLow ∷ es) = skip (EmittedEvent y OnTotalBufferedAmountLow) _ (same_end x y) d (emitted_other x y d n es)
+emitted_other x y d n (OnStreamsResetFailed ids ∷ es) = skip (EmittedEvent y (OnStreamsResetFailed ids)) _ (same_end x y) d (emitted_other x y d n es)
+emitted_other x y d n (OnStreamsResetPerformed ids ∷ es) = skip (EmittedEvent y (OnStreamsResetPerformed ids)) _ (same_end x y) d (emitted_other x y d n es)
+emitted_other x y d n (OnIncomingStreamReset ids ∷ es) = skip (EmittedEvent y (OnIncomingStreamReset ids)) _ (same_end x y) d (emitted_other x y d n es)
+emitted_other x y d n (OnLifecycleMessageFullySent id ∷ es) = skip (EmittedEvent y (OnLifecycleMessageFullySent id)) _ (same_end x y) d (emitted_other x y d n es)
+emitted_other x y d n (OnLifecycleMessageMaybeExpired id ∷ es) = skip (EmittedEvent y (OnLifecycleMessageMaybeExpired id)) _ (same_end x y) d (emitted_other x y d n es)
+emitted_other x y d n (OnLifecycleMessageExpired id ∷ es) = skip (EmittedEvent y (OnLifecycleMessageExpired id)) _ (same_end x y) d (emitted_other x y d n es)
+emitted_other x y d n (OnLifecycleMessageDelivered id ∷ es) = skip (EmittedEvent y (OnLifecycleMessageDelivered id)) _ (same_end x y) d (emitted_other x y d n es)
+emitted_other x y d n (OnLifecycleEnd id ∷ es) = skip (EmittedEvent y (OnLifecycleEnd id)) _ (same_end x y) d (emitted_other x y d n es)
 
 -- ---- what can be read back
 

@@ -10,10 +10,10 @@ use Rattle.proof_endpoint.specs.Mapped.{Mapping, Carried, as_bytes}
 use Rattle.proof_pair.specs.Trace as traces
 use Rattle.proof_delivery.specs.Answered.{performed_in}
 use Rattle.proof_delivery.specs.StreamEpochs.{are_named, performed_of, resets_emitted, failed_in}
-use Rattle.spec_world.specs.Observations.{End, A, B, same_end, same_association, none_unless, Entry, Called, Given, Foreign, Timed, Associated, Emitted, Happened, GaveUp, BecameReady, ready_by}
+use Rattle.spec_world.specs.Observations.{End, A, B, same_end, same_association, none_unless, Entry, Called, Given, Foreign, Timed, Associated, EmittedPacket, EmittedEvent, GaveUp, BecameReady, ready_by}
 use Rattle.spec_world.specs.World.{Side, association, ready_at, associated_if, emitted_entries, given_up_entries, ready_before, news}
 use Rattle.proof_world.specs.Traces.{emitted_by, emitted_in}
-use Rattle.proof_world.specs.Delivered.{happened_by, emitted_events, reset_by, begins_event}
+use Rattle.proof_world.specs.Delivered.{emitted_events_by, emitted_events, reset_by, begins_event}
 use Rattle.proof_world.proofs.EventLemmas.{mapped, same_itself}
 use Rattle.proof_world.proofs.LoggedLemmas.{IsQuietOn, behind_none, none_ready, none_associated, none_emitted, quiet_ready}
 use Rattle.proof_world.proofs.PrefixLemmas.{none_behind, Longer, one_is_longer, split_head}
@@ -105,7 +105,7 @@ happened_emitted f x n (OnLifecycleMessageExpired id ∷ es) = own_more x (OnLif
 happened_emitted f x n (OnLifecycleMessageDelivered id ∷ es) = own_more x (OnLifecycleMessageDelivered id) _ _ (happened_emitted f x n es)
 happened_emitted f x n (OnLifecycleEnd id ∷ es) = own_more x (OnLifecycleEnd id) _ _ (happened_emitted f x n es)
 
-one_step : (x : End) (e : Entry) → emitted_events x (emitted_by x e) ≡ happened_by x e
+one_step : (x : End) (e : Entry) → emitted_events x (emitted_by x e) ≡ emitted_events_by x e
 one_step x (Called y clock call answer) = refl
 one_step x (Given y clock packet) = refl
 one_step x (Foreign y clock bytes) = refl
@@ -113,21 +113,21 @@ one_step x (Timed y clock now) = refl
 one_step x (Associated y a) = refl
 one_step x (GaveUp y g) = refl
 one_step x (BecameReady y m) = refl
-one_step A (Emitted A packet) = refl
-one_step A (Emitted B packet) = refl
-one_step B (Emitted A packet) = refl
-one_step B (Emitted B packet) = refl
-one_step A (Happened A event) = refl
-one_step A (Happened B event) = refl
-one_step B (Happened A event) = refl
-one_step B (Happened B event) = refl
+one_step A (EmittedPacket A packet) = refl
+one_step A (EmittedPacket B packet) = refl
+one_step B (EmittedPacket A packet) = refl
+one_step B (EmittedPacket B packet) = refl
+one_step A (EmittedEvent A event) = refl
+one_step A (EmittedEvent B event) = refl
+one_step B (EmittedEvent A event) = refl
+one_step B (EmittedEvent B event) = refl
 
 pub happened_by_emitted : (x : End) (log : List Entry) → emitted_events x log ≡ emitted_events x (emitted_in x log)
 happened_by_emitted x [] = refl
 happened_by_emitted x (e ∷ log) =
-    ap (λ (l : List (Event (List ℕ))). happened_by x e ++ l) (happened_by_emitted x log)
+    ap (λ (l : List (Event (List ℕ))). emitted_events_by x e ++ l) (happened_by_emitted x log)
     ∙ (ap (λ (l : List (Event (List ℕ))). l ++ emitted_events x (emitted_in x log)) (sym (one_step x e))
-    ∙ sym (flat_map-append (happened_by x) (emitted_by x e) (emitted_in x log)))
+    ∙ sym (flat_map-append (emitted_events_by x) (emitted_by x e) (emitted_in x log)))
 
 pub happened_is : (word_of : List ℕ → ℕ) (x : End) (log : List Entry) (others : List (List ℕ)) (side : Side) (end : traces.Side) → Good word_of x log others side end
     → emitted_events x log ≡ bare end.emitted
@@ -144,7 +144,7 @@ quiet_resets x y = record { telling = record { associated = λ a. refl; emitted 
 pub quiet_begun : (y : End) → IsQuietOn begun_by y
 quiet_begun y = record { telling = record { associated = λ a. refl; emitted = λ n. refl; happened = λ e. refl }; gave_up = λ g. refl }
 
-pub quiet_happened : (x y : End) → same_end x y ≡ false → IsQuietOn (happened_by x) y
+pub quiet_happened : (x y : End) → same_end x y ≡ false → IsQuietOn (emitted_events_by x) y
 quiet_happened x y h = record {
   telling = record { associated = λ a. refl; emitted = λ n. refl; happened = λ e. ap (λ (b : Bool). none_unless b e) h };
   gave_up = λ g. refl;
@@ -186,13 +186,13 @@ emitted_before : (early last : List Entry) → ((y : End) → flat_map (ready_by
 emitted_before early last none quiet x y m front behind is = go (one_is_longer early last front (BecameReady y m ∷ behind) is)
   where
     within : (between : List Entry) → early ≡ front ++ between → BecameReady y m ∷ behind ≡ between ++ last → emitted_events x behind ≡ []
-    within [] made rest = last_none (happened_by x) (BecameReady y m ∷ []) behind (ap (emitted_events x) rest ∙ quiet x)
+    within [] made rest = last_none (emitted_events_by x) (BecameReady y m ∷ []) behind (ap (emitted_events x) rest ∙ quiet x)
     within (k ∷ between) made rest =
         absurd (ready_among y m front between early (none y)
         (made ∙ ap (λ (e : Entry). front ++ e ∷ between) (sym (split_head (BecameReady y m) k behind (between ++ last) rest))))
 
     go : Longer early front (BecameReady y m ∷ behind) last ⊎ Longer front early last (BecameReady y m ∷ behind) → emitted_events x behind ≡ []
-    go (inl h) = last_none (happened_by x) (h.between ++ BecameReady y m ∷ []) behind (ap (emitted_events x) (joins h.between) ∙ (sym (ap (emitted_events x) h.behind) ∙ quiet x))
+    go (inl h) = last_none (emitted_events_by x) (h.between ++ BecameReady y m ∷ []) behind (ap (emitted_events x) (joins h.between) ∙ (sym (ap (emitted_events x) h.behind) ∙ quiet x))
       where
         joins : (between : List Entry) → (between ++ BecameReady y m ∷ []) ++ behind ≡ between ++ BecameReady y m ∷ behind
         joins [] = refl
@@ -200,7 +200,7 @@ emitted_before early last none quiet x y m front behind is = go (one_is_longer e
     go (inr h) = within h.between h.made h.behind
 
 quiet_last : (x y : End) (gs : List GivenUp) (ms : List Message) → emitted_events x (given_up_entries y gs ++ map (BecameReady y) ms) ≡ []
-quiet_last x y [] ms = none_ready (happened_by x) y (λ m. refl) ms
+quiet_last x y [] ms = none_ready (emitted_events_by x) y (λ m. refl) ms
 quiet_last x y (g ∷ gs) ms = quiet_last x y gs ms
 
 pub news_emitted_first : (x : End) (n ready : ℕ) (old : Option Association) (s : Endpoint (List ℕ)) → IsEmittedFirst (news x n ready old s)

@@ -7,7 +7,7 @@ use Rattle.sctp_serial.specs.Messages.{Message}
 use Rattle.sctp_state.specs.Events.{Event}
 use Rattle.proof_pair.specs.Trace.{Pair, EndAction, goes, run}
 use Rattle.proof_pair.specs.Handing.{readied_messages}
-use Rattle.proof_delivery.specs.Accepted.{Offer, accepted_at, accepted}
+use Rattle.proof_delivery.specs.Accepted.{AcceptedMessage, accepted_at, accepted}
 use Rattle.proof_delivery.specs.Delivery as courses
 use Rattle.proof_delivery.specs.Delivery.{message_at}
 use Rattle.proof_delivery.specs.StreamEpochs as epochs
@@ -17,7 +17,7 @@ use Rattle.proof_delivery.proofs.StreamEpochLemmas.{epochs_are_many, epochs_go_o
 use Rattle.spec_world.specs.Observations.{End, A, B, Entry, BecameReady, ready_by, ready}
 use Rattle.spec_world.specs.World.{other}
 use Rattle.proof_world.specs.Traces.{is_a}
-use Rattle.proof_world.specs.Delivered.{offers_by, offers, happened_by, emitted_events, offer_epochs, begins_event, IsInItsEpoch}
+use Rattle.proof_world.specs.Delivered.{accepted_messages_by, accepted_messages, emitted_events_by, emitted_events, message_epochs, begins_event, IsInItsEpoch}
 use Rattle.proof_world.proofs.HappenedLemmas.{bare_resets, none_begun, ready_among}
 use Rattle.proof_world.proofs.LoggedEpochLemmas.{epochs_along, epochs_both, none_offered}
 use Rattle.proof_world.proofs.PrefixLemmas.{none_before, Longer, one_is_longer, split_head, split_tail}
@@ -117,7 +117,7 @@ there_too (z ∷ xs) (y ∷ ys) zero x h e = (y, refl)
 there_too (z ∷ xs) (y ∷ ys) (suc n) x h e = there_too xs ys n x (omega (arith, h)) e
 
 -- the message at the place behind these
-at_place : (os : List Offer) (n : ℕ) (places : List ℕ) (front behind : List Message) (m : Message)
+at_place : (os : List AcceptedMessage) (n : ℕ) (places : List ℕ) (front behind : List Message) (m : Message)
     → map (message_at os) (take n places) ≡ map (λ (z : Message). Some z) (front ++ m ∷ behind) → message_at os (slice_index places (length front)) ≡ Some m
 at_place os zero places [] behind m e = cc
 at_place os zero places (z ∷ front) behind m e = cc
@@ -129,17 +129,17 @@ at_place os (suc n) (p ∷ places) (z ∷ front) behind m e =
     at_place os n places front behind m
     (split_tail (message_at os p) (Some z) (map (message_at os) (take n places)) (map (λ (z : Message). Some z) (front ++ m ∷ behind)) e)
 
-its_offer : (os : List Offer) (p : ℕ) (m : Message) → message_at os p ≡ Some m → (o : Offer) × (slice_get os p ≡ Some o) × (o.message ≡ m)
+its_offer : (os : List AcceptedMessage) (p : ℕ) (m : Message) → message_at os p ≡ Some m → (o : AcceptedMessage) × (slice_get os p ≡ Some o) × (o.message ≡ m)
 its_offer os p m e = go (slice_get os p) refl e
   where
-    go : (o : Option Offer) → slice_get os p ≡ o → option_map (λ (o : Offer). o.message) o ≡ Some m → (o : Offer) × (slice_get os p ≡ Some o) × (o.message ≡ m)
+    go : (o : Option AcceptedMessage) → slice_get os p ≡ o → option_map (λ (o : AcceptedMessage). o.message) o ≡ Some m → (o : AcceptedMessage) × (slice_get os p ≡ Some o) × (o.message ≡ m)
     go None h k = cc
     go (Some o) h k = (o, h, ap (λ (z : Option Message). elim z [ None ↦ m | Some y ↦ y ]) k)
 
 accepted_both : (x : Bool) (es fs : List (Bool × EndAction)) (w : Pair) → accepted x (es ++ fs) w ≡ accepted x es w ++ accepted x fs (run es w)
 accepted_both x [] fs w = refl
 accepted_both x (e ∷ es) fs w =
-    ap (λ (l : List Offer). accepted_at x e.0 e.1 w ++ l) (accepted_both x es fs (goes e.0 e.1 w))
+    ap (λ (l : List AcceptedMessage). accepted_at x e.0 e.1 w ++ l) (accepted_both x es fs (goes e.0 e.1 w))
     ∙ sym (append_assoc (accepted_at x e.0 e.1 w) (accepted x es (goes e.0 e.1 w)) (accepted x fs (run es (goes e.0 e.1 w))))
 
 -- ---- in the block of the other end
@@ -155,16 +155,16 @@ module _ (x : End) (all : List (Bool × EndAction)) (c : Pair) (from : courses.D
   abbrev place : ℕ
   place = slice_index from.places (length (ready y early))
 
-  none_offered_there : offers x block ≡ []
+  none_offered_there : accepted_messages x block ≡ []
   none_offered_there = elim (own_or_beside x at.turn (run at.done c) at.log at.mid at.block) [
     | inl none ↦ absurd (ready_among y m at.front at.behind block none at.within)
     | inr n ↦ n.offers
   ]
 
-  none_in_front : flat_map (offers_by x) at.front ≡ []
+  none_in_front : flat_map (accepted_messages_by x) at.front ≡ []
   none_in_front =
-      none_before (flat_map (offers_by x) at.front) (flat_map (offers_by x) (BecameReady y m ∷ at.behind))
-      (sym (flat_map-append (offers_by x) at.front (BecameReady y m ∷ at.behind)) ∙ (sym (ap (flat_map (offers_by x)) at.within) ∙ none_offered_there))
+      none_before (flat_map (accepted_messages_by x) at.front) (flat_map (accepted_messages_by x) (BecameReady y m ∷ at.behind))
+      (sym (flat_map-append (accepted_messages_by x) at.front (BecameReady y m ∷ at.behind)) ∙ (sym (ap (flat_map (accepted_messages_by x)) at.within) ∙ none_offered_there))
 
   then : IsReached c (at.done ++ at.turn ∷ []) at.mid
   then = reached_more c at.done at.turn at.log at.mid at.reached at.block
@@ -193,39 +193,39 @@ module _ (x : End) (all : List (Bool × EndAction)) (c : Pair) (from : courses.D
   same_offers : accepted (is_a x) (at.done ++ at.turn ∷ []) c ≡ accepted (is_a x) at.done c
   same_offers =
       sym (then.offers_are x)
-      ∙ (ap (offers x) at.block.logged
-      ∙ (flat_map-append (offers_by x) at.log block
-      ∙ (ap (λ (os : List Offer). offers x at.log ++ os) none_offered_there ∙ (append-nil (offers x at.log) ∙ at.reached.offers_are x))))
+      ∙ (ap (accepted_messages x) at.block.logged
+      ∙ (flat_map-append (accepted_messages_by x) at.log block
+      ∙ (ap (λ (os : List AcceptedMessage). accepted_messages x at.log ++ os) none_offered_there ∙ (append-nil (accepted_messages x at.log) ∙ at.reached.offers_are x))))
 
-  offer : (o : Offer) × (slice_get (accepted (is_a x) at.done c) place ≡ Some o) × (o.message ≡ m)
+  offer : (o : AcceptedMessage) × (slice_get (accepted (is_a x) at.done c) place ≡ Some o) × (o.message ≡ m)
   offer =
       its_offer (accepted (is_a x) at.done c) place m
-      (subst (λ (os : List Offer). message_at os place ≡ Some m) same_offers
+      (subst (λ (os : List AcceptedMessage). message_at os place ≡ Some m) same_offers
       (at_place (accepted (is_a x) (at.done ++ at.turn ∷ []) c) (length (readied_messages (not (is_a x)) (at.done ++ at.turn ∷ []) c)) from.places (ready y early) (ready y at.behind) m
       ((from.fits (at.done ++ at.turn ∷ []) at.rest split_then).alike ∙ ap (map (λ (z : Message). Some z)) readied_is)))
 
-  its_epoch : (n : ℕ) × (slice_get (epochs.offer_epochs (is_a x) at.done c all_open) place ≡ Some n)
+  its_epoch : (n : ℕ) × (slice_get (epochs.message_epochs (is_a x) at.done c all_open) place ≡ Some n)
   its_epoch =
-      there_too (accepted (is_a x) at.done c) (epochs.offer_epochs (is_a x) at.done c all_open) place offer.0 (sym (epochs_are_many (is_a x) at.done c all_open)) offer.1
+      there_too (accepted (is_a x) at.done c) (epochs.message_epochs (is_a x) at.done c all_open) place offer.0 (sym (epochs_are_many (is_a x) at.done c all_open)) offer.1
 
-  epochs_here : offer_epochs x early all_open ≡ epochs.offer_epochs (is_a x) at.done c all_open
+  epochs_here : message_epochs x early all_open ≡ epochs.message_epochs (is_a x) at.done c all_open
   epochs_here =
-      ap (λ (l : List Entry). offer_epochs x l all_open) at.here
+      ap (λ (l : List Entry). message_epochs x l all_open) at.here
       ∙ (epochs_both x at.log at.front all_open
-      ∙ (ap (λ (ns : List ℕ). offer_epochs x at.log all_open ++ ns) (none_offered x at.front (epochs_along x at.log all_open) none_in_front)
-      ∙ (append-nil (offer_epochs x at.log all_open) ∙ (at.reached.epochs_are x).epochs)))
+      ∙ (ap (λ (ns : List ℕ). message_epochs x at.log all_open ++ ns) (none_offered x at.front (epochs_along x at.log all_open) none_in_front)
+      ∙ (append-nil (message_epochs x at.log all_open) ∙ (at.reached.epochs_are x).epochs)))
 
   offer_of_all : slice_get (accepted (is_a x) all c) place ≡ Some offer.0
   offer_of_all =
-      ap (λ (os : List Offer). slice_get os place) (ap (λ (es : List (Bool × EndAction)). accepted (is_a x) es c) at.split ∙ accepted_both (is_a x) at.done (at.turn ∷ at.rest) c)
+      ap (λ (os : List AcceptedMessage). slice_get os place) (ap (λ (es : List (Bool × EndAction)). accepted (is_a x) es c) at.split ∙ accepted_both (is_a x) at.done (at.turn ∷ at.rest) c)
       ∙ get_front (accepted (is_a x) at.done c) (accepted (is_a x) (at.turn ∷ at.rest) (run at.done c)) place offer.0 offer.1
 
-  epoch_of_all : slice_get (epochs.offer_epochs (is_a x) all c all_open) place ≡ Some its_epoch.0
+  epoch_of_all : slice_get (epochs.message_epochs (is_a x) all c all_open) place ≡ Some its_epoch.0
   epoch_of_all =
       ap (λ (ns : List ℕ). slice_get ns place)
-      (ap (λ (es : List (Bool × EndAction)). epochs.offer_epochs (is_a x) es c all_open) at.split ∙ epochs_go_on (is_a x) at.done (at.turn ∷ at.rest) c all_open)
-      ∙ get_front (epochs.offer_epochs (is_a x) at.done c all_open)
-      (epochs.offer_epochs (is_a x) (at.turn ∷ at.rest) (run at.done c) (epochs.epochs_along (is_a x) at.done c all_open)) place its_epoch.0 its_epoch.1
+      (ap (λ (es : List (Bool × EndAction)). epochs.message_epochs (is_a x) es c all_open) at.split ∙ epochs_go_on (is_a x) at.done (at.turn ∷ at.rest) c all_open)
+      ∙ get_front (epochs.message_epochs (is_a x) at.done c all_open)
+      (epochs.message_epochs (is_a x) (at.turn ∷ at.rest) (run at.done c) (epochs.epochs_along (is_a x) at.done c all_open)) place its_epoch.0 its_epoch.1
 
   -- ---- between the resets
 
@@ -256,7 +256,7 @@ module _ (x : End) (all : List (Bool × EndAction)) (c : Pair) (from : courses.D
   more_emitted : (before between log : List Entry) → log ≡ before ++ between → resets_emitted stream (emitted_events y before) ≤ resets_emitted stream (emitted_events y log)
   more_emitted before between log is =
       let parts = ap (λ (l : List Entry). resets_emitted stream (emitted_events y l)) is in
-      let both = ap (λ (es : List (Event (List ℕ))). resets_emitted stream es) (flat_map-append (happened_by y) before between) in
+      let both = ap (λ (es : List (Event (List ℕ))). resets_emitted stream es) (flat_map-append (emitted_events_by y) before between) in
       let sum = emitted_both stream (emitted_events y before) (emitted_events y between) in
       omega (arith, parts, both, sum)
 
@@ -298,7 +298,7 @@ module _ (x : End) (all : List (Bool × EndAction)) (c : Pair) (from : courses.D
   all_emitted =
       ap (λ (es : List (Event (List ℕ))). resets_emitted stream es)
       (ap (emitted_events y) mid_is
-      ∙ (flat_map-append (happened_by y) early (BecameReady y m ∷ at.behind)
+      ∙ (flat_map-append (emitted_events_by y) early (BecameReady y m ∷ at.behind)
       ∙ (ap (λ (es : List (Event (List ℕ))). emitted_events y early ++ es) none_behind_it ∙ append-nil (emitted_events y early))))
 
   after_action : its_epoch.0 ≤ resets_emitted stream (emitted_events y early)

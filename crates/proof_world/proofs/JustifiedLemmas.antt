@@ -13,17 +13,17 @@ use Rattle.spec_endpoint.specs.Laws as table
 use Rattle.proof_endpoint.specs.Mapped.{Mapping, Carried, map_end, as_bytes}
 use Rattle.proof_pair.specs.Trace as traces
 use Rattle.proof_pair.specs.Trace.{Pair, EndAction, Calls, act, goes, start}
-use Rattle.proof_delivery.specs.Accepted.{Offer, accepted_in}
+use Rattle.proof_delivery.specs.Accepted.{AcceptedMessage, accepted_in}
 use Rattle.proof_delivery.specs.Justified as courses
 use Rattle.proof_delivery.specs.Justified.{Acceptance, accepted_then, records_at, reset_by, reset_at, restores}
 use Rattle.proof_delivery.proofs.JustifiedActsLemmas.{IsJustifiedAt}
 use Rattle.proof_delivery.proofs.JustifiedOffersLemmas.{shorter}
 use Rattle.proof_delivery.proofs.JustifiedTraceLemmas.{Rests, Actions, accepted_now, goes_on, offers_back, at_first}
 use Rattle.spec_world.specs.Observations.{End, A, B, same_end, none_unless, Entry, Called, Given, Foreign, Timed, GaveUp, Call, Connect, given_up_by, given_up}
-use Rattle.spec_world.specs.World.{Side, World, Action, CallOf, Give, GiveForeign, AdvanceTime, ComesTo, taken_in, skipped, Gives, Happens, Runs, side_of, other, take_emitted, news_of, calls, call_entry, after_call, advances_time, time_entry, after_time, step_of, answer_to, association, ready_at, fresh_world}
+use Rattle.spec_world.specs.World.{Side, World, Action, CallOf, Give, GiveForeign, AdvanceTime, ComesTo, taken_in, withheld, Gives, Happens, Runs, side_of, other, take_emitted, news_of, calls, call_entry, after_call, advances_time, time_entry, after_time, table_call, answer_to, association, ready_at, fresh_world}
 use Rattle.spec_world.specs.World as worlds
 use Rattle.proof_world.specs.Traces.{ActionFits, IsInBytes, is_a, end_of, receiving, IsForeign, IsActionOf}
-use Rattle.proof_world.specs.Delivered.{offers_by, offers, reset_in}
+use Rattle.proof_world.specs.Delivered.{accepted_messages_by, accepted_messages, reset_in}
 use Rattle.proof_world.specs.Justified.{clock_if, clock_after, clock_from, clock, resets_if, resets_after, resets_from, resets, acceptances_by, acceptances, WorldsAreJustified, AcceptancesAreOffers}
 use Rattle.proof_world.proofs.LoggedLemmas.{IsQuietOn, none_in_news}
 use Rattle.proof_world.proofs.EventLemmas.{same_itself}
@@ -124,7 +124,7 @@ module _ (x : End) (all : List Acceptance) (resets : List ℕ) (now : ℕ) where
 -- a first entry with this clock, at which these streams are reset
 record HasClock (x : End) (n : ℕ) (cleared : List ℕ) (first : Entry) : Type 0 where
   right : (y : End) (all : List Acceptance) (now : ℕ) (rs : List ℕ) → IsRight y all now rs first
-  takes : (y : End) → acceptances_by y first ≡ map (accepted_then n) (offers_by y first)
+  takes : (y : End) → acceptances_by y first ≡ map (accepted_then n) (accepted_messages_by y first)
   ticks : (y : End) (m : ℕ) → clock_after y m first ≡ clock_if (same_end y x) n m
   clears : (y : End) (rs : List ℕ) → resets_after y rs first ≡ resets_if (same_end y x) cleared rs
   given_up : (y : End) → given_up_by y first ≡ []
@@ -143,7 +143,7 @@ record Marks (x : End) (turn : EndAction) (own next : traces.Side) (log longer :
   clears : (rs : List ℕ) → resets_after x rs first ≡ reset_by turn own
 
 marks_by : (x : End) (turn : EndAction) (own next : traces.Side) (log longer : List Entry) (first : Entry) (more : List Entry) (n : ℕ)
-    → longer ≡ log ++ first ∷ more → flat_map firsts more ≡ [] → HasClock x n (reset_by turn own) first → offers_by x first ≡ accepted_in turn own → offers_by (other x) first ≡ []
+    → longer ≡ log ++ first ∷ more → flat_map firsts more ≡ [] → HasClock x n (reset_by turn own) first → accepted_messages_by x first ≡ accepted_in turn own → accepted_messages_by (other x) first ≡ []
     → map (accepted_then n) (accepted_in turn own) ≡ map (accepted_then (courses.clock own)) (accepted_in turn own) → n ≡ courses.clock next
     → Marks x turn own next log longer
 marks_by x turn own next log longer first more n logged quiet h offers none then is = record {
@@ -160,7 +160,7 @@ marks_by x turn own next log longer first more n logged quiet h offers none then
   clears = λ rs. h.clears x rs ∙ ap (λ (b : Bool). resets_if b (reset_by turn own) rs) (same_itself x);
 }
 
-call_still : (call : Call) → moves (Calls (step_of call)) ≡ false
+call_still : (call : Call) → moves (Calls (table_call call)) ≡ false
 call_still Connect = refl
 call_still call = refl
 
@@ -179,7 +179,7 @@ module _ (f : Mapping Carried (List ℕ)) (x : End) (own beside : traces.Side) (
   quiet_news after = none_in_news firsts x (none_first x) (λ m. refl) (length (side_of x w).packets) (length (ready_at s)) (association s) after
 
   still_marks : (first : Entry) (more : List Entry) → moves turn ≡ false → u.log ≡ w.log ++ first ∷ more → flat_map firsts more ≡ [] → HasClock x (worlds.clock s) (reset_by turn own) first
-      → offers_by x first ≡ accepted_in turn own → offers_by (other x) first ≡ [] → Marks x turn own next w.log u.log
+      → accepted_messages_by x first ≡ accepted_in turn own → accepted_messages_by (other x) first ≡ [] → Marks x turn own next w.log u.log
   still_marks first more still logged quiet h offers none =
       marks_by x turn own next w.log u.log first more (worlds.clock s) logged quiet h offers none (ap (λ (n : ℕ). map (accepted_then n) (accepted_in turn own)) clock_is)
       (clock_is ∙ sym (action_still turn own beside still))
@@ -187,9 +187,9 @@ module _ (f : Mapping Carried (List ℕ)) (x : End) (own beside : traces.Side) (
   cleared_by : (cleared : List ℕ) → cleared ≡ reset_by turn own → (y : End) (rs : List ℕ) → resets_if (same_end y x) cleared rs ≡ resets_if (same_end y x) (reset_by turn own) rs
   cleared_by cleared e y rs = ap (λ (r : List ℕ). resets_if (same_end y x) r rs) e
 
-  call_marks : (call : Call) → turn ≡ Calls (step_of call) → u ≡ calls x call w → Marks x turn own next w.log u.log
+  call_marks : (call : Call) → turn ≡ Calls (table_call call) → u ≡ calls x call w → Marks x turn own next w.log u.log
   call_marks call t e =
-      let b : BeginsWith x (Calls (step_of call)) own (call_entry x call s) = call_begins f x own s is call in
+      let b : BeginsWith x (Calls (table_call call)) own (call_entry x call s) = call_begins f x own s is call in
       still_marks (call_entry x call s) (news_of x (side_of x w) (after_call call s)) (ap moves t ∙ call_still call) (ap (λ (z : World). z.log) e ∙ calls_log x call w)
       (quiet_news (after_call call s))
       (record { right = λ y all now rs. tt; takes = λ y. refl; ticks = λ y m. refl; clears = cleared_by (reset_in call (answer_to call s)) (call_resets f x own s is call ∙ ap (λ (z : EndAction). reset_by z own) (sym t)); given_up = λ y. refl })
@@ -216,13 +216,13 @@ module _ (f : Mapping Carried (List ℕ)) (x : End) (own beside : traces.Side) (
   foreign_marks bytes still none clear (taken_in t judged) =
       still_marks (Foreign x (worlds.clock s) (Some bytes)) (news_of x (side_of x w) t.after) still t.logged (quiet_news t.after)
       (record { right = λ y all now rs. tt; takes = λ y. refl; ticks = λ y m. refl; clears = cleared_by [] (sym clear); given_up = λ y. refl }) (sym none) refl
-  foreign_marks bytes still none clear (skipped judged stays logged) =
+  foreign_marks bytes still none clear (withheld judged stays logged) =
       still_marks (Foreign x (worlds.clock s) None) [] still logged refl
       (record { right = λ y all now rs. tt; takes = λ y. refl; ticks = λ y m. refl; clears = cleared_by [] (sym clear); given_up = λ y. refl }) (sym none) refl
 
 -- ---- what the actions are
 
-call_restores : (call : Call) → restores (Calls (step_of call)) ≡ false
+call_restores : (call : Call) → restores (Calls (table_call call)) ≡ false
 call_restores Connect = refl
 call_restores call = refl
 
@@ -374,18 +374,18 @@ module _ (word_of_a word_of_b : List ℕ → ℕ) (x : End) where
 
 -- ---- the laws
 
-one_entry : (x : End) (e : Entry) → map (λ (a : Acceptance). a.offer) (acceptances_by x e) ≡ offers_by x e
-one_entry x (Called y clock call answer) = offers_back clock (offers_by x (Called y clock call answer))
+one_entry : (x : End) (e : Entry) → map (λ (a : Acceptance). a.offer) (acceptances_by x e) ≡ accepted_messages_by x e
+one_entry x (Called y clock call answer) = offers_back clock (accepted_messages_by x (Called y clock call answer))
 one_entry x e = refl
 
 pub acceptances_offers : AcceptancesAreOffers
 acceptances_offers x [] = refl
 acceptances_offers x (e ∷ log) =
     map-append (λ (a : Acceptance). a.offer) (acceptances_by x e) (acceptances x log)
-    ∙ (ap (λ (l : List Offer). l ++ map (λ (a : Acceptance). a.offer) (acceptances x log)) (one_entry x e)
-    ∙ ap (λ (l : List Offer). offers_by x e ++ l) (acceptances_offers x log))
+    ∙ (ap (λ (l : List AcceptedMessage). l ++ map (λ (a : Acceptance). a.offer) (acceptances x log)) (one_entry x e)
+    ∙ ap (λ (l : List AcceptedMessage). accepted_messages_by x e ++ l) (acceptances_offers x log))
 
-as_many : (x : End) (log : List Entry) → length (offers x log) ≡ length (acceptances x log)
+as_many : (x : End) (log : List Entry) → length (accepted_messages x log) ≡ length (acceptances x log)
 as_many x log = sym (ap length (acceptances_offers x log)) ∙ length-map (acceptances x log) (λ (a : Acceptance). a.offer)
 
 known_first : (x : End) (a b : Options) (words_a words_b : Stream) → Known x [] (traces.side_of (is_a x) (start a b words_a words_b))

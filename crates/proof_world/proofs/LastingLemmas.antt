@@ -17,11 +17,11 @@ use Rattle.proof_tx_refines.specs.Led.{delivered_ids}
 use Rattle.proof_tx_refines.specs.Records.{are_distinct}
 use Rattle.proof_tx_refines.proofs.SackLemmas.{delivered_more}
 use Rattle.proof_pair.specs.Trace as traces
-use Rattle.proof_pair.specs.Trace.{Pair, EndAction, goes, run, start, HasNotEnded, AreGiven, MayAct}
+use Rattle.proof_pair.specs.Trace.{Pair, EndAction, goes, run, start, NeitherHasEnded, AreValidOptions, MayAct}
 use Rattle.proof_pair.specs.Handing.{ready_at, handed_at, readied_messages}
 use Rattle.proof_pair.proofs.TraceLemmas.{before_run, run_both, follows_more, follows_front}
 use Rattle.proof_pair.proofs.HandingLemmas.{handed_in_order, handed_prefix, first_halves}
-use Rattle.proof_delivery.specs.Accepted.{Offer, accepted_at, accepted}
+use Rattle.proof_delivery.specs.Accepted.{AcceptedMessage, accepted_at, accepted}
 use Rattle.proof_delivery.specs.GivenUp.{emitted_by}
 use Rattle.proof_delivery.specs.Answered as requests
 use Rattle.proof_delivery.specs.Answered.{none_asked, performed_in}
@@ -37,8 +37,8 @@ use Rattle.proof_delivery.proofs.ResetEventsLemmas.{failed_more}
 use Rattle.spec_world.specs.Observations.{End, A, B, Entry, BecameReady, ready, handed_out, handed_out_by, ready_by, given_up_by}
 use Rattle.spec_world.specs.World.{World, Action, Happens, other, is_at_rest, packets_in, emitted_entries}
 use Rattle.proof_world.specs.Traces.{ActionFits, IsReachable, origin, is_a, end_of, emitted_in}
-use Rattle.proof_world.specs.Delivered.{given_up_places, reported_by, reported, AlongRun, ready_places, stamp, IsTimely, KeepsWindows, KeepsRequests, sets_more, offers_by, offers, happened_by, emitted_events, IsInItsEpoch}
-use Rattle.proof_world.specs.Consistent.{ended_by, times_ended, Stands, FollowsTheRules}
+use Rattle.proof_world.specs.Delivered.{given_up_places, reported_by, reported, AlongRun, ready_places, stamp, IsTimely, KeepsWindows, KeepsRequests, sets_more, accepted_messages_by, accepted_messages, emitted_events_by, emitted_events, IsInItsEpoch}
+use Rattle.proof_world.specs.Consistent.{ended_by, times_ended, NoneHasEnded, KeepsOpeningRules}
 use Rattle.proof_world.proofs.EventLemmas.{mapped, entries_both, ended_emitted}
 use Rattle.proof_world.proofs.NewsLemmas.{emitted_both, ended_by_emitted}
 use Rattle.proof_world.proofs.StandingLemmas.{times_more}
@@ -59,8 +59,8 @@ use Rattle.proof_world.proofs.ClosingLemmas.{IsParted, parted_of, IsFront, in_fr
 
 -- ---- beginnings of traces
 
-not_ended_front : (es fs : List (Bool × EndAction)) (c : Pair) → HasNotEnded (run (es ++ fs) c) → HasNotEnded (run es c)
-not_ended_front es fs c h = before_run fs (run es c) (subst HasNotEnded (run_both es fs c) h)
+not_ended_front : (es fs : List (Bool × EndAction)) (c : Pair) → NeitherHasEnded (run (es ++ fs) c) → NeitherHasEnded (run es c)
+not_ended_front es fs c h = before_run fs (run es c) (subst NeitherHasEnded (run_both es fs c) h)
 
 any_more : (test : (Bool × EndAction) → Bool) (es : List (Bool × EndAction)) (e : Bool × EndAction) → list_any test es ≡ false → test e ≡ false → list_any test (es ++ e ∷ []) ≡ false
 any_more test [] e h k = ap (λ (b : Bool). b || false) k
@@ -124,14 +124,14 @@ module _ (f : Mapping Carried (List ℕ)) (x : End) (log early late : List Entry
   emits_happened =
       happened_by_emitted x (log ++ early)
       ∙ (ap (emitted_events x) (emitted_both x log early)
-      ∙ (flat_map-append (happened_by x) (emitted_in x log) (emitted_in x early)
+      ∙ (flat_map-append (emitted_events_by x) (emitted_in x log) (emitted_in x early)
       ∙ (ap (λ (l : List (Event (List ℕ))). l ++ emitted_events x (emitted_in x early)) (ap (emitted_events x) before ∙ happened_emitted f x 0 past)
       ∙ (ap (λ (l : List (Event (List ℕ))). bare past ++ l) (ap (emitted_events x) emits.are ∙ happened_emitted f x n emits.some)
       ∙ sym (bare_both past emits.some)))))
 
 -- ---- a world that stands
 
-module _ (w : World) (l : IsReachable w) (rules : FollowsTheRules w) (none : Stands w.log) where
+module _ (w : World) (l : IsReachable w) (rules : KeepsOpeningRules w) (none : NoneHasEnded w.log) where
   abbrev a : Options
   a = l.a
 
@@ -169,19 +169,19 @@ module _ (w : World) (l : IsReachable w) (rules : FollowsTheRules w) (none : Sta
   d : Delivering word_of_a word_of_b actions first_world w first_pair l.runs r.trace
   d = delivering word_of_a word_of_b actions first_world w first_pair l.fit l.runs l.bytes (fresh_both a b words_a words_b word_of_a word_of_b l.fits_a l.fits_b)
 
-  own : AreGiven a
+  own : AreValidOptions a
   own = given_of a l.valid_a l.fits_a
 
-  theirs : AreGiven b
+  theirs : AreValidOptions b
   theirs = given_of b l.valid_b l.fits_b
 
-  not_ended : HasNotEnded c
+  not_ended : NeitherHasEnded c
   not_ended = record {
     a = none_ended word_of_a A w.log w.b.packets w.a c.a r.both.a (none A);
     b = none_ended word_of_b B w.log w.a.packets w.b c.b r.both.b (none B);
   }
 
-  follows : traces.FollowsTheRules r.trace first_pair
+  follows : traces.KeepsOpeningRules r.trace first_pair
   follows = r.follows rules none
 
   stand : block.Stands r.trace first_pair
@@ -190,7 +190,7 @@ module _ (w : World) (l : IsReachable w) (rules : FollowsTheRules w) (none : Sta
   blocks : AreBlocks r.trace first_pair [] w.log
   blocks = d.blocks stand
 
-  offered : (x : End) → offers x w.log ≡ accepted (is_a x) r.trace first_pair
+  offered : (x : End) → accepted_messages x w.log ≡ accepted (is_a x) r.trace first_pair
   offered x = offers_run x r.trace first_pair [] w.log blocks
 
   emitted_is : (x : End) → emitted_events x w.log ≡ bare (traces.side_of (is_a x) c).emitted
@@ -212,7 +212,7 @@ module _ (w : World) (l : IsReachable w) (rules : FollowsTheRules w) (none : Sta
     pub windows : KeepsWindows actions first_world w l.runs no_stamps
     pub answered : KeepsRequests actions first_world w l.runs none_asked
     pub few_resets : (x : End) → performed_in (emitted_events x w.log) < 2 ^ 32 - 1
-    pub few : (x : End) → length (offers x w.log) < 2 ^ 32
+    pub few : (x : End) → length (accepted_messages x w.log) < 2 ^ 32
     pub limits : list_any sets_more actions ≡ false
 
   resets_kept : IsKept → requests.KeepsResets r.trace first_pair
@@ -235,8 +235,8 @@ module _ (w : World) (l : IsReachable w) (rules : FollowsTheRules w) (none : Sta
   }
     where
       few_at : (from_a : Bool) → length (accepted from_a r.trace first_pair) < 2 ^ 32
-      few_at true = subst (λ (l : List Offer). length l < 2 ^ 32) (offered A) (k.few A)
-      few_at false = subst (λ (l : List Offer). length l < 2 ^ 32) (offered B) (k.few B)
+      few_at true = subst (λ (l : List AcceptedMessage). length l < 2 ^ 32) (offered A) (k.few A)
+      few_at false = subst (λ (l : List AcceptedMessage). length l < 2 ^ 32) (offered B) (k.few B)
 
   pub trace_delivers : courses.MessagesAreDelivered → IsKept → (x : End) → courses.Delivers (is_a x) r.trace first_pair
   trace_delivers law k x = law a b words_a words_b r.trace own theirs follows not_ended (bounds k) (is_a x)
@@ -258,13 +258,13 @@ module _ (w : World) (l : IsReachable w) (rules : FollowsTheRules w) (none : Sta
   none_failed_front x h early late e =
       (or_parts (failed_in (emitted_events x early)) (failed_in (emitted_events x late))
       (sym (failed_more (emitted_events x early) (emitted_events x late))
-      ∙ (ap (λ (es : List (Event (List ℕ))). failed_in es) (sym (flat_map-append (happened_by x) early late)) ∙ (sym (ap (λ (l : List Entry). failed_in (emitted_events x l)) e) ∙ h)))).0
+      ∙ (ap (λ (es : List (Event (List ℕ))). failed_in es) (sym (flat_map-append (emitted_events_by x) early late)) ∙ (sym (ap (λ (l : List Entry). failed_in (emitted_events x l)) e) ∙ h)))).0
 
   pub rests : (x : End) (from : courses.Delivers (is_a x) r.trace first_pair)
-      → AlongRun (λ u. is_at_rest x u ≡ true → AllAreDone (offers x u.log) (given_up_places x u.log) (ready_places x u.log from.places)) actions first_world w l.runs
+      → AlongRun (λ u. is_at_rest x u ≡ true → AllAreDone (accepted_messages x u.log) (given_up_places x u.log) (ready_places x u.log from.places)) actions first_world w l.runs
   rests x from =
       along_each (IsPoint word_of_a word_of_b r.trace first_pair)
-      (λ u. is_at_rest x u ≡ true → AllAreDone (offers x u.log) (given_up_places x u.log) (ready_places x u.log from.places))
+      (λ u. is_at_rest x u ≡ true → AllAreDone (accepted_messages x u.log) (given_up_places x u.log) (ready_places x u.log from.places))
       (λ u p. at_rest word_of_a word_of_b x r.trace first_pair from p.early p.late u p.split p.reached p.both)
       actions first_world w l.runs (d.points r.trace [] first_pair refl refl stand reached)
 
@@ -277,15 +277,15 @@ module _ (w : World) (l : IsReachable w) (rules : FollowsTheRules w) (none : Sta
   prefix x early late is =
       prefix_each x r.trace first_pair
       (λ before behind s.
-      let front_follows : traces.FollowsTheRules (before ++ behind) first_pair = subst (λ (l : List (Bool × EndAction)). traces.FollowsTheRules l first_pair) s follows in
-      let none_yet : HasNotEnded (run (before ++ behind) first_pair) = subst (λ (l : List (Bool × EndAction)). HasNotEnded (run l first_pair)) s not_ended in
+      let front_follows : traces.KeepsOpeningRules (before ++ behind) first_pair = subst (λ (l : List (Bool × EndAction)). traces.KeepsOpeningRules l first_pair) s follows in
+      let none_yet : NeitherHasEnded (run (before ++ behind) first_pair) = subst (λ (l : List (Bool × EndAction)). NeitherHasEnded (run l first_pair)) s not_ended in
       handed_prefix a b words_a words_b before own theirs (follows_front before behind first_pair front_follows) (not_ended_front before behind first_pair none_yet) (is_a x))
       w.log early late reached blocks is
 
   -- ---- the event that ends an association, of a run that goes on to v
 
-  module _ (action : Action) (next v : World) (fits : ActionFits action) (happens : Happens action w next) (over : Stands next.log → ⊥) (later : Extends next v)
-      (v_rules : FollowsTheRules v) where
+  module _ (action : Action) (next v : World) (fits : ActionFits action) (happens : Happens action w next) (over : NoneHasEnded next.log → ⊥) (later : Extends next v)
+      (v_rules : KeepsOpeningRules v) where
     abbrev pub x : End
     x = end_of action
 
@@ -301,7 +301,7 @@ module _ (w : World) (l : IsReachable w) (rules : FollowsTheRules w) (none : Sta
     may : MayAct step.turn own_side
     may = may_action word_of_a word_of_b action w next v c step.turn happens step.extends later r.both step.is v_rules none
 
-    module _ (early late : List Entry) (e : next.log ≡ (w.log ++ early) ++ late) (stands : Stands (w.log ++ early)) where
+    module _ (early late : List Entry) (e : next.log ≡ (w.log ++ early) ++ late) (stands : NoneHasEnded (w.log ++ early)) where
       front : (early ≡ []) ⊎ IsFront b_parted.first b_parted.rest early
       front = in_front x step.turn own_side w.log next.log b_parted early late e stands over
 
@@ -370,10 +370,10 @@ module _ (w : World) (l : IsReachable w) (rules : FollowsTheRules w) (none : Sta
       delivered_beside places h = elim front [
         | inl none_there ↦ same_there (other x) places none_there h
         | inr k ↦
-            same_delivered (offers (other x) w.log) (offers (other x) here) (ready (other (other x)) w.log) (ready (other (other x)) here) (given_up_places (other x) w.log) (given_up_places (other x) here)
+            same_delivered (accepted_messages (other x) w.log) (accepted_messages (other x) here) (ready (other (other x)) w.log) (ready (other (other x)) here) (given_up_places (other x) w.log) (given_up_places (other x) here)
             (reported (other x) w.log) (reported (other x) here) places
-            (reads k (offers_by (other x)) (b_parted.offers (other x))
-            ∙ (ap (λ (l : List Offer). offers (other x) w.log ++ l) b_parted.begins.no_offers ∙ append-nil (offers (other x) w.log)))
+            (reads k (accepted_messages_by (other x)) (b_parted.offers (other x))
+            ∙ (ap (λ (l : List AcceptedMessage). accepted_messages (other x) w.log ++ l) b_parted.begins.no_offers ∙ append-nil (accepted_messages (other x) w.log)))
             (ready_same k (other (other x))) (given_up_same k (other x))
             (reads k (reported_by (other x)) b_parted.reported
             ∙ (ap (λ (l : List ℕ). reported (other x) w.log ++ l) (b_parted.begins.reported (other x)) ∙ append-nil (reported (other x) w.log))) h
@@ -384,7 +384,7 @@ module _ (w : World) (l : IsReachable w) (rules : FollowsTheRules w) (none : Sta
       none_failed_beside h = elim front [
         | inl none_there ↦ ap (λ (l : List Entry). failed_in (emitted_events (other x) (w.log ++ l))) none_there ∙ (ap (λ (l : List Entry). failed_in (emitted_events (other x) l)) (append-nil w.log) ∙ h)
         | inr k ↦ ap (λ (es : List (Event (List ℕ))). failed_in es)
-            (reads k (happened_by (other x)) b_parted.happened
+            (reads k (emitted_events_by (other x)) b_parted.happened
             ∙ (ap (λ (es : List (Event (List ℕ))). emitted_events (other x) w.log ++ es) (b_parted.begins.happened (other x)) ∙ append-nil (emitted_events (other x) w.log))) ∙ h
       ]
 
@@ -424,29 +424,29 @@ module _ (w : World) (l : IsReachable w) (rules : FollowsTheRules w) (none : Sta
           goes k =
               let t : IsEmitting f x (0 + length (packets_in (mapped f own_side.emitted))) emitted_now (emitted_in x early) =
               emits f x w.log early late own_side.emitted emitted_now before_emitted after_emitted in
-              let offers_are : offers x here ≡ offers x w.log ++ offers_by x b_parted.first = reads k (offers_by x) (b_parted.offers x) in
-              let accepted_are : accepted (is_a x) (r.trace ++ (is_a x, step.turn) ∷ []) first_pair ≡ offers x w.log ++ offers_by x b_parted.first =
+              let offers_are : accepted_messages x here ≡ accepted_messages x w.log ++ accepted_messages_by x b_parted.first = reads k (accepted_messages_by x) (b_parted.offers x) in
+              let accepted_are : accepted (is_a x) (r.trace ++ (is_a x, step.turn) ∷ []) first_pair ≡ accepted_messages x w.log ++ accepted_messages_by x b_parted.first =
               accepted_more (is_a x) r.trace (is_a x, step.turn) first_pair
-              ∙ (ap (λ (l : List Offer). l ++ accepted_at (is_a x) (is_a x) step.turn c) (sym (offered x))
-              ∙ ap (λ (l : List Offer). offers x w.log ++ l) (sym (first_offers x x step.turn c b_parted.first b_parted.begins))) in
+              ∙ (ap (λ (l : List AcceptedMessage). l ++ accepted_at (is_a x) (is_a x) step.turn c) (sym (offered x))
+              ∙ ap (λ (l : List AcceptedMessage). accepted_messages x w.log ++ l) (sym (first_offers x x step.turn c b_parted.first b_parted.begins))) in
               let ready_are : readied_messages (not (is_a x)) r.trace first_pair ≡ ready (other x) w.log =
               ap (λ (z : Bool). readied_messages z r.trace first_pair) (sym (is_a_other x)) ∙ sym (became_ready (other x)) in
               let reports : (id : ℕ) → has id (reported x here) ≡ true
-              → IsReady (offers x w.log ++ offers_by x b_parted.first) (take (length (ready (other x) w.log)) from.delivers.places) id =
+              → IsReady (accepted_messages x w.log ++ accepted_messages_by x b_parted.first) (take (length (ready (other x) w.log)) from.delivers.places) id =
               λ id is.
-              subst (λ (l : List Offer). IsReady l (take (length (ready (other x) w.log)) from.delivers.places) id) accepted_are
+              subst (λ (l : List AcceptedMessage). IsReady l (take (length (ready (other x) w.log)) from.delivers.places) id) accepted_are
               (subst (λ (l : List Message). IsReady (accepted (is_a x) (r.trace ++ (is_a x, step.turn) ∷ []) first_pair) (take (length l) from.delivers.places) id) ready_are
               (from.reports t.some t.more t.split (emits_none f x w.log early late own_side.emitted emitted_now before_emitted after_emitted none_early) id
               (sym (ap (has id) (emits_reports f x w.log early late own_side.emitted emitted_now before_emitted after_emitted)) ∙ is))) in
-              let longer : IsDelivered (offers x w.log ++ offers_by x b_parted.first) (ready (other x) w.log) (given_up_places x w.log) (reported x here) from.delivers.places =
-              offered_between (offers x w.log) (offers_by x b_parted.first) (ready (other x) w.log) (given_up_places x w.log) (reported x w.log) (reported x here) from.delivers.places h reports in
-              same_delivered (offers x w.log ++ offers_by x b_parted.first) (offers x here) (ready (other x) w.log) (ready (other x) here) (given_up_places x w.log) (given_up_places x here)
+              let longer : IsDelivered (accepted_messages x w.log ++ accepted_messages_by x b_parted.first) (ready (other x) w.log) (given_up_places x w.log) (reported x here) from.delivers.places =
+              offered_between (accepted_messages x w.log) (accepted_messages_by x b_parted.first) (ready (other x) w.log) (given_up_places x w.log) (reported x w.log) (reported x here) from.delivers.places h reports in
+              same_delivered (accepted_messages x w.log ++ accepted_messages_by x b_parted.first) (accepted_messages x here) (ready (other x) w.log) (ready (other x) here) (given_up_places x w.log) (given_up_places x here)
               (reported x here) (reported x here) from.delivers.places offers_are (ready_same k (other x)) (given_up_same k x) refl longer
 
     -- ---- the bounds, with that event
 
     pub ends_delivering : ending.MessagesAreDeliveredThen → IsKept → IsTimely action (stamp w) (stamps_along actions first_world w l.runs windows.no_stamps)
-        → sets_more action ≡ false → length (offers x (w.log ++ b_parted.first ∷ [])) < 2 ^ 32
+        → sets_more action ≡ false → length (accepted_messages x (w.log ++ b_parted.first ∷ [])) < 2 ^ 32
         → ending.DeliversThen (is_a x) r.trace step.turn first_pair
     ends_delivering law k t no_more few =
         law a b words_a words_b r.trace (is_a x) step.turn own theirs (follows_more r.trace (is_a x, step.turn) first_pair follows may) not_ended (record {
@@ -455,19 +455,19 @@ module _ (w : World) (l : IsReachable w) (rules : FollowsTheRules w) (none : Sta
               subst (λ (s : windows.Stamps). windows.IsTimely step.turn (windows.stamp c) (windows.stamps_for (is_a x) s)) (d.stamps windows.no_stamps)
               (timely word_of_a word_of_b action w c step.turn (stamps_along actions first_world w l.runs windows.no_stamps) r.both step.is t);
           resets = resets_kept k;
-          few = subst (λ (l : List Offer). length l < 2 ^ 32) accepted_are few;
+          few = subst (λ (l : List AcceptedMessage). length l < 2 ^ 32) accepted_are few;
           limits =
               any_more (λ (e : Bool × EndAction). windows.sets_more e.1) r.trace (is_a x, step.turn) (d.limits ∙ k.limits) (action_more word_of_a word_of_b action step.turn c step.is ∙ no_more);
         })
       where
-        accepted_are : offers x (w.log ++ b_parted.first ∷ []) ≡ accepted (is_a x) (r.trace ++ (is_a x, step.turn) ∷ []) first_pair
+        accepted_are : accepted_messages x (w.log ++ b_parted.first ∷ []) ≡ accepted (is_a x) (r.trace ++ (is_a x, step.turn) ∷ []) first_pair
         accepted_are =
-            flat_map-append (offers_by x) w.log (b_parted.first ∷ [])
-            ∙ (ap (λ (l : List Offer). offers x w.log ++ l) (append-nil (offers_by x b_parted.first) ∙ first_offers x x step.turn c b_parted.first b_parted.begins)
-            ∙ (ap (λ (l : List Offer). l ++ accepted_at (is_a x) (is_a x) step.turn c) (offered x) ∙ sym (accepted_more (is_a x) r.trace (is_a x, step.turn) first_pair)))
+            flat_map-append (accepted_messages_by x) w.log (b_parted.first ∷ [])
+            ∙ (ap (λ (l : List AcceptedMessage). accepted_messages x w.log ++ l) (append-nil (accepted_messages_by x b_parted.first) ∙ first_offers x x step.turn c b_parted.first b_parted.begins)
+            ∙ (ap (λ (l : List AcceptedMessage). l ++ accepted_at (is_a x) (is_a x) step.turn c) (offered x) ∙ sym (accepted_more (is_a x) r.trace (is_a x, step.turn) first_pair)))
 
     -- its first entry ends nothing
-    pub stands_first : Stands (w.log ++ b_parted.first ∷ [])
+    pub stands_first : NoneHasEnded (w.log ++ b_parted.first ∷ [])
     stands_first y =
         let sum = times_more y w.log (b_parted.first ∷ []) in
         let before = none y in

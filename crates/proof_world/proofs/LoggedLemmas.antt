@@ -13,19 +13,19 @@ use Rattle.sctp_tx_queue.specs.Queue.{Queue, add}
 use Rattle.spec_endpoint.specs.Calls.{refusal, refusals, with_refusal, queue_entry, offered, offer}
 use Rattle.spec_endpoint.specs.Shown.{Association}
 use Rattle.proof_endpoint.specs.Mapped.{Carried}
-use Rattle.proof_delivery.specs.Accepted.{Offer, unless_refused, accepted_of}
+use Rattle.proof_delivery.specs.Accepted.{AcceptedMessage, unless_refused, accepted_of}
 use Rattle.proof_tx_refines.specs.Led.{delivered_by}
-use Rattle.spec_world.specs.Observations.{End, same_end, same_association, none_unless, all_unless, some_unless, unrefused, Send, Sent, Received, Entry, Associated, Emitted, Happened, GaveUp, BecameReady, ready_by, handed_out_in, handed_out_by, given_up_by, given_up}
+use Rattle.spec_world.specs.Observations.{End, same_end, same_association, none_unless, all_unless, some_unless, unrefused, Send, Sent, Received, Entry, Associated, EmittedPacket, EmittedEvent, GaveUp, BecameReady, ready_by, handed_out_in, handed_out_by, given_up_by, given_up}
 use Rattle.spec_world.specs.World.{association, ready_at, associated_if, association_entries, ready_before, ready_entries, given_up_entries, emitted_entries, news}
-use Rattle.proof_world.specs.Delivered.{offers_in, offers_by, reported_by}
+use Rattle.proof_world.specs.Delivered.{accepted_messages_in, accepted_messages_by, reported_by}
 
 -- ---- what an event adds behind its first entry
 
 -- of this end's events, such entries say nothing of it
 pub record IsQuietOnEmitted {X : Type 0} (f : Entry → List X) (y : End) : Type 0 where
   pub associated : (a : Option Association) → f (Associated y a) ≡ []
-  pub emitted : (n : ℕ) → f (Emitted y n) ≡ []
-  pub happened : (e : Event (List ℕ)) → f (Happened y e) ≡ []
+  pub emitted : (n : ℕ) → f (EmittedPacket y n) ≡ []
+  pub happened : (e : Event (List ℕ)) → f (EmittedEvent y e) ≡ []
 
 pub record IsQuietOn {X : Type 0} (f : Entry → List X) (y : End) : Type 0 where
   pub telling : IsQuietOnEmitted f y
@@ -49,22 +49,22 @@ module _ {X : Type 0} (f : Entry → List X) (y : End) (q : IsQuietOnEmitted f y
 
   pub none_emitted : (n : ℕ) (es : List (Event (List ℕ))) → flat_map f (emitted_entries y n es) ≡ []
   none_emitted n [] = refl
-  none_emitted n (SendPacket p ∷ es) = one_more f y (Emitted y n) (emitted_entries y (n + 1) es) (q.emitted n) (none_emitted (n + 1) es)
-  none_emitted n (OnConnected ∷ es) = one_more f y (Happened y OnConnected) (emitted_entries y n es) (q.happened OnConnected) (none_emitted n es)
-  none_emitted n (OnClosed ∷ es) = one_more f y (Happened y OnClosed) (emitted_entries y n es) (q.happened OnClosed) (none_emitted n es)
-  none_emitted n (OnConnectionRestarted ∷ es) = one_more f y (Happened y OnConnectionRestarted) (emitted_entries y n es) (q.happened OnConnectionRestarted) (none_emitted n es)
-  none_emitted n (OnAborted kind text ∷ es) = one_more f y (Happened y (OnAborted kind text)) (emitted_entries y n es) (q.happened (OnAborted kind text)) (none_emitted n es)
-  none_emitted n (OnError kind text ∷ es) = one_more f y (Happened y (OnError kind text)) (emitted_entries y n es) (q.happened (OnError kind text)) (none_emitted n es)
-  none_emitted n (OnBufferedAmountLow id ∷ es) = one_more f y (Happened y (OnBufferedAmountLow id)) (emitted_entries y n es) (q.happened (OnBufferedAmountLow id)) (none_emitted n es)
-  none_emitted n (OnTotalBufferedAmountLow ∷ es) = one_more f y (Happened y OnTotalBufferedAmountLow) (emitted_entries y n es) (q.happened OnTotalBufferedAmountLow) (none_emitted n es)
-  none_emitted n (OnStreamsResetFailed ids ∷ es) = one_more f y (Happened y (OnStreamsResetFailed ids)) (emitted_entries y n es) (q.happened (OnStreamsResetFailed ids)) (none_emitted n es)
-  none_emitted n (OnStreamsResetPerformed ids ∷ es) = one_more f y (Happened y (OnStreamsResetPerformed ids)) (emitted_entries y n es) (q.happened (OnStreamsResetPerformed ids)) (none_emitted n es)
-  none_emitted n (OnIncomingStreamReset ids ∷ es) = one_more f y (Happened y (OnIncomingStreamReset ids)) (emitted_entries y n es) (q.happened (OnIncomingStreamReset ids)) (none_emitted n es)
-  none_emitted n (OnLifecycleMessageFullySent id ∷ es) = one_more f y (Happened y (OnLifecycleMessageFullySent id)) (emitted_entries y n es) (q.happened (OnLifecycleMessageFullySent id)) (none_emitted n es)
-  none_emitted n (OnLifecycleMessageMaybeExpired id ∷ es) = one_more f y (Happened y (OnLifecycleMessageMaybeExpired id)) (emitted_entries y n es) (q.happened (OnLifecycleMessageMaybeExpired id)) (none_emitted n es)
-  none_emitted n (OnLifecycleMessageExpired id ∷ es) = one_more f y (Happened y (OnLifecycleMessageExpired id)) (emitted_entries y n es) (q.happened (OnLifecycleMessageExpired id)) (none_emitted n es)
-  none_emitted n (OnLifecycleMessageDelivered id ∷ es) = one_more f y (Happened y (OnLifecycleMessageDelivered id)) (emitted_entries y n es) (q.happened (OnLifecycleMessageDelivered id)) (none_emitted n es)
-  none_emitted n (OnLifecycleEnd id ∷ es) = one_more f y (Happened y (OnLifecycleEnd id)) (emitted_entries y n es) (q.happened (OnLifecycleEnd id)) (none_emitted n es)
+  none_emitted n (SendPacket p ∷ es) = one_more f y (EmittedPacket y n) (emitted_entries y (n + 1) es) (q.emitted n) (none_emitted (n + 1) es)
+  none_emitted n (OnConnected ∷ es) = one_more f y (EmittedEvent y OnConnected) (emitted_entries y n es) (q.happened OnConnected) (none_emitted n es)
+  none_emitted n (OnClosed ∷ es) = one_more f y (EmittedEvent y OnClosed) (emitted_entries y n es) (q.happened OnClosed) (none_emitted n es)
+  none_emitted n (OnConnectionRestarted ∷ es) = one_more f y (EmittedEvent y OnConnectionRestarted) (emitted_entries y n es) (q.happened OnConnectionRestarted) (none_emitted n es)
+  none_emitted n (OnAborted kind text ∷ es) = one_more f y (EmittedEvent y (OnAborted kind text)) (emitted_entries y n es) (q.happened (OnAborted kind text)) (none_emitted n es)
+  none_emitted n (OnError kind text ∷ es) = one_more f y (EmittedEvent y (OnError kind text)) (emitted_entries y n es) (q.happened (OnError kind text)) (none_emitted n es)
+  none_emitted n (OnBufferedAmountLow id ∷ es) = one_more f y (EmittedEvent y (OnBufferedAmountLow id)) (emitted_entries y n es) (q.happened (OnBufferedAmountLow id)) (none_emitted n es)
+  none_emitted n (OnTotalBufferedAmountLow ∷ es) = one_more f y (EmittedEvent y OnTotalBufferedAmountLow) (emitted_entries y n es) (q.happened OnTotalBufferedAmountLow) (none_emitted n es)
+  none_emitted n (OnStreamsResetFailed ids ∷ es) = one_more f y (EmittedEvent y (OnStreamsResetFailed ids)) (emitted_entries y n es) (q.happened (OnStreamsResetFailed ids)) (none_emitted n es)
+  none_emitted n (OnStreamsResetPerformed ids ∷ es) = one_more f y (EmittedEvent y (OnStreamsResetPerformed ids)) (emitted_entries y n es) (q.happened (OnStreamsResetPerformed ids)) (none_emitted n es)
+  none_emitted n (OnIncomingStreamReset ids ∷ es) = one_more f y (EmittedEvent y (OnIncomingStreamReset ids)) (emitted_entries y n es) (q.happened (OnIncomingStreamReset ids)) (none_emitted n es)
+  none_emitted n (OnLifecycleMessageFullySent id ∷ es) = one_more f y (EmittedEvent y (OnLifecycleMessageFullySent id)) (emitted_entries y n es) (q.happened (OnLifecycleMessageFullySent id)) (none_emitted n es)
+  none_emitted n (OnLifecycleMessageMaybeExpired id ∷ es) = one_more f y (EmittedEvent y (OnLifecycleMessageMaybeExpired id)) (emitted_entries y n es) (q.happened (OnLifecycleMessageMaybeExpired id)) (none_emitted n es)
+  none_emitted n (OnLifecycleMessageExpired id ∷ es) = one_more f y (EmittedEvent y (OnLifecycleMessageExpired id)) (emitted_entries y n es) (q.happened (OnLifecycleMessageExpired id)) (none_emitted n es)
+  none_emitted n (OnLifecycleMessageDelivered id ∷ es) = one_more f y (EmittedEvent y (OnLifecycleMessageDelivered id)) (emitted_entries y n es) (q.happened (OnLifecycleMessageDelivered id)) (none_emitted n es)
+  none_emitted n (OnLifecycleEnd id ∷ es) = one_more f y (EmittedEvent y (OnLifecycleEnd id)) (emitted_entries y n es) (q.happened (OnLifecycleEnd id)) (none_emitted n es)
 
 module _ {X : Type 0} (f : Entry → List X) (y : End) (q : IsQuietOn f y) where
   none_given_up : (gs : List GivenUp) → flat_map f (given_up_entries y gs) ≡ []
@@ -87,7 +87,7 @@ module _ {X : Type 0} (f : Entry → List X) (y : End) (q : IsQuietOn f y) where
 
 -- ---- readings of the log
 
-pub quiet_offers : (x y : End) → IsQuietOn (offers_by x) y
+pub quiet_offers : (x y : End) → IsQuietOn (accepted_messages_by x) y
 quiet_offers x y = record { telling = record { associated = λ a. refl; emitted = λ n. refl; happened = λ e. refl }; gave_up = λ g. refl }
 
 pub quiet_ready : (x y : End) → IsQuietOn (ready_by x) y
@@ -149,10 +149,10 @@ pub first_handed : (ms : List Message) → handed_out_in (Received (first_of ms)
 first_handed [] = refl
 first_handed (m ∷ ms) = refl
 
-abbrev with_options : SendOptions → List Message → List Offer
+abbrev with_options : SendOptions → List Message → List AcceptedMessage
 with_options o ms = map (λ (m : Message). record { message = m; options = o }) ms
 
-pub one_offer : (r : Option SendError) (m : Message) (o : SendOptions) → offers_in (Send m o) (Sent r) ≡ unless_refused r m o ++ []
+pub one_offer : (r : Option SendError) (m : Message) (o : SendOptions) → accepted_messages_in (Send m o) (Sent r) ≡ unless_refused r m o ++ []
 one_offer None m o = refl
 one_offer (Some e) m o = refl
 
@@ -227,7 +227,7 @@ many_offers place (m ∷ ms) o shown c d a =
         → with_options o (unrefused place (m ∷ ms) (with_refusal place r rest)) ≡ unless_refused s m o ++ accepted_of ms o shown (offer m o shown d)
     go None None e none ih =
         ap (λ (b : Bool). with_options o (some_unless b m (unrefused (place + 1) ms rest))) none
-        ∙ ap (λ (z : List Offer). record { message = m; options = o } ∷ z) ih
+        ∙ ap (λ (z : List AcceptedMessage). record { message = m; options = o } ∷ z) ih
     go (Some x) (Some y) e none ih =
         ap (λ (b : Bool). with_options o (some_unless b m (unrefused (place + 1) ms ((place, x) ∷ rest)))) (here x)
         ∙ (ap (with_options o) (unrefused_later place x rest (place + 1) ms (omega arith)) ∙ ih)

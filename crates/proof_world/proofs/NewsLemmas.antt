@@ -7,7 +7,7 @@ use Rattle.sctp_serial.specs.Messages.{Message}
 use Rattle.sctp_state.specs.Events.{Event, GivenUp, SendPacket, OnConnected, OnClosed, OnConnectionRestarted, OnAborted, OnError, OnBufferedAmountLow, OnTotalBufferedAmountLow, OnStreamsResetFailed, OnStreamsResetPerformed, OnIncomingStreamReset, OnLifecycleMessageFullySent, OnLifecycleMessageMaybeExpired, OnLifecycleMessageExpired, OnLifecycleMessageDelivered, OnLifecycleEnd}
 use Rattle.spec_endpoint.specs.Association.{Endpoint}
 use Rattle.spec_endpoint.specs.Shown.{Association}
-use Rattle.spec_world.specs.Observations.{End, A, B, same_end, same_association, none_unless, Entry, Called, Given, Foreign, Timed, Associated, Emitted, Happened, GaveUp, BecameReady, newer, held_after, held_from, connected_by}
+use Rattle.spec_world.specs.Observations.{End, A, B, same_end, same_association, none_unless, Entry, Called, Given, Foreign, Timed, Associated, EmittedPacket, EmittedEvent, GaveUp, BecameReady, newer, held_after, held_from, connected_by}
 use Rattle.spec_world.specs.World.{association, ready_at, associated_if, association_entries, ready_before, ready_entries, given_up_entries, emitted_entries, news}
 use Rattle.proof_world.specs.Traces.{emitted_by, emitted_in}
 use Rattle.proof_world.specs.Consistent.{ended_by}
@@ -166,23 +166,23 @@ connected_step x (Timed y clock now) = refl
 connected_step x (Associated y a) = refl
 connected_step x (GaveUp y g) = refl
 connected_step x (BecameReady y m) = refl
-connected_step x (Emitted y packet) = of_none (connected_by x) (Emitted y packet) (same_end x y) refl
-connected_step x (Happened y (SendPacket p)) = of_none (connected_by x) (Happened y (SendPacket p)) (same_end x y) refl
-connected_step x (Happened y OnConnected) = of_one (connected_by x) (Happened y OnConnected) y (same_end x y) refl
-connected_step x (Happened y OnClosed) = of_none (connected_by x) (Happened y OnClosed) (same_end x y) refl
-connected_step x (Happened y OnConnectionRestarted) = of_none (connected_by x) (Happened y OnConnectionRestarted) (same_end x y) refl
-connected_step x (Happened y (OnAborted kind text)) = of_none (connected_by x) (Happened y (OnAborted kind text)) (same_end x y) refl
-connected_step x (Happened y (OnError kind text)) = of_none (connected_by x) (Happened y (OnError kind text)) (same_end x y) refl
-connected_step x (Happened y (OnBufferedAmountLow id)) = of_none (connected_by x) (Happened y (OnBufferedAmountLow id)) (same_end x y) refl
-connected_step x (Happened y OnTotalBufferedAmountLow) = of_none (connected_by x) (Happened y OnTotalBufferedAmountLow) (same_end x y) refl
-connected_step x (Happened y (OnStreamsResetFailed ids)) = of_none (connected_by x) (Happened y (OnStreamsResetFailed ids)) (same_end x y) refl
-connected_step x (Happened y (OnStreamsResetPerformed ids)) = of_none (connected_by x) (Happened y (OnStreamsResetPerformed ids)) (same_end x y) refl
-connected_step x (Happened y (OnIncomingStreamReset ids)) = of_none (connected_by x) (Happened y (OnIncomingStreamReset ids)) (same_end x y) refl
-connected_step x (Happened y (OnLifecycleMessageFullySent id)) = of_none (connected_by x) (Happened y (OnLifecycleMessageFullySent id)) (same_end x y) refl
-connected_step x (Happened y (OnLifecycleMessageMaybeExpired id)) = of_none (connected_by x) (Happened y (OnLifecycleMessageMaybeExpired id)) (same_end x y) refl
-connected_step x (Happened y (OnLifecycleMessageExpired id)) = of_none (connected_by x) (Happened y (OnLifecycleMessageExpired id)) (same_end x y) refl
-connected_step x (Happened y (OnLifecycleMessageDelivered id)) = of_none (connected_by x) (Happened y (OnLifecycleMessageDelivered id)) (same_end x y) refl
-connected_step x (Happened y (OnLifecycleEnd id)) = of_none (connected_by x) (Happened y (OnLifecycleEnd id)) (same_end x y) refl
+connected_step x (EmittedPacket y packet) = of_none (connected_by x) (EmittedPacket y packet) (same_end x y) refl
+connected_step x (EmittedEvent y (SendPacket p)) = of_none (connected_by x) (EmittedEvent y (SendPacket p)) (same_end x y) refl
+connected_step x (EmittedEvent y OnConnected) = of_one (connected_by x) (EmittedEvent y OnConnected) y (same_end x y) refl
+connected_step x (EmittedEvent y OnClosed) = of_none (connected_by x) (EmittedEvent y OnClosed) (same_end x y) refl
+connected_step x (EmittedEvent y OnConnectionRestarted) = of_none (connected_by x) (EmittedEvent y OnConnectionRestarted) (same_end x y) refl
+connected_step x (EmittedEvent y (OnAborted kind text)) = of_none (connected_by x) (EmittedEvent y (OnAborted kind text)) (same_end x y) refl
+connected_step x (EmittedEvent y (OnError kind text)) = of_none (connected_by x) (EmittedEvent y (OnError kind text)) (same_end x y) refl
+connected_step x (EmittedEvent y (OnBufferedAmountLow id)) = of_none (connected_by x) (EmittedEvent y (OnBufferedAmountLow id)) (same_end x y) refl
+connected_step x (EmittedEvent y OnTotalBufferedAmountLow) = of_none (connected_by x) (EmittedEvent y OnTotalBufferedAmountLow) (same_end x y) refl
+connected_step x (EmittedEvent y (OnStreamsResetFailed ids)) = of_none (connected_by x) (EmittedEvent y (OnStreamsResetFailed ids)) (same_end x y) refl
+connected_step x (EmittedEvent y (OnStreamsResetPerformed ids)) = of_none (connected_by x) (EmittedEvent y (OnStreamsResetPerformed ids)) (same_end x y) refl
+connected_step x (EmittedEvent y (OnIncomingStreamReset ids)) = of_none (connected_by x) (EmittedEvent y (OnIncomingStreamReset ids)) (same_end x y) refl
+connected_step x (EmittedEvent y (OnLifecycleMessageFullySent id)) = of_none (connected_by x) (EmittedEvent y (OnLifecycleMessageFullySent id)) (same_end x y) refl
+connected_step x (EmittedEvent y (OnLifecycleMessageMaybeExpired id)) = of_none (connected_by x) (EmittedEvent y (OnLifecycleMessageMaybeExpired id)) (same_end x y) refl
+connected_step x (EmittedEvent y (OnLifecycleMessageExpired id)) = of_none (connected_by x) (EmittedEvent y (OnLifecycleMessageExpired id)) (same_end x y) refl
+connected_step x (EmittedEvent y (OnLifecycleMessageDelivered id)) = of_none (connected_by x) (EmittedEvent y (OnLifecycleMessageDelivered id)) (same_end x y) refl
+connected_step x (EmittedEvent y (OnLifecycleEnd id)) = of_none (connected_by x) (EmittedEvent y (OnLifecycleEnd id)) (same_end x y) refl
 
 pub connected_by_emitted : (x : End) (log : List Entry) → flat_map (connected_by x) log ≡ flat_map (connected_by x) (emitted_in x log)
 connected_by_emitted x [] = refl
@@ -199,23 +199,23 @@ ended_step x (Timed y clock now) = refl
 ended_step x (Associated y a) = refl
 ended_step x (GaveUp y g) = refl
 ended_step x (BecameReady y m) = refl
-ended_step x (Emitted y packet) = of_none (ended_by x) (Emitted y packet) (same_end x y) refl
-ended_step x (Happened y (SendPacket p)) = of_none (ended_by x) (Happened y (SendPacket p)) (same_end x y) refl
-ended_step x (Happened y OnConnected) = of_none (ended_by x) (Happened y OnConnected) (same_end x y) refl
-ended_step x (Happened y OnClosed) = of_one (ended_by x) (Happened y OnClosed) y (same_end x y) refl
-ended_step x (Happened y OnConnectionRestarted) = of_none (ended_by x) (Happened y OnConnectionRestarted) (same_end x y) refl
-ended_step x (Happened y (OnAborted kind text)) = of_one (ended_by x) (Happened y (OnAborted kind text)) y (same_end x y) refl
-ended_step x (Happened y (OnError kind text)) = of_none (ended_by x) (Happened y (OnError kind text)) (same_end x y) refl
-ended_step x (Happened y (OnBufferedAmountLow id)) = of_none (ended_by x) (Happened y (OnBufferedAmountLow id)) (same_end x y) refl
-ended_step x (Happened y OnTotalBufferedAmountLow) = of_none (ended_by x) (Happened y OnTotalBufferedAmountLow) (same_end x y) refl
-ended_step x (Happened y (OnStreamsResetFailed ids)) = of_none (ended_by x) (Happened y (OnStreamsResetFailed ids)) (same_end x y) refl
-ended_step x (Happened y (OnStreamsResetPerformed ids)) = of_none (ended_by x) (Happened y (OnStreamsResetPerformed ids)) (same_end x y) refl
-ended_step x (Happened y (OnIncomingStreamReset ids)) = of_none (ended_by x) (Happened y (OnIncomingStreamReset ids)) (same_end x y) refl
-ended_step x (Happened y (OnLifecycleMessageFullySent id)) = of_none (ended_by x) (Happened y (OnLifecycleMessageFullySent id)) (same_end x y) refl
-ended_step x (Happened y (OnLifecycleMessageMaybeExpired id)) = of_none (ended_by x) (Happened y (OnLifecycleMessageMaybeExpired id)) (same_end x y) refl
-ended_step x (Happened y (OnLifecycleMessageExpired id)) = of_none (ended_by x) (Happened y (OnLifecycleMessageExpired id)) (same_end x y) refl
-ended_step x (Happened y (OnLifecycleMessageDelivered id)) = of_none (ended_by x) (Happened y (OnLifecycleMessageDelivered id)) (same_end x y) refl
-ended_step x (Happened y (OnLifecycleEnd id)) = of_none (ended_by x) (Happened y (OnLifecycleEnd id)) (same_end x y) refl
+ended_step x (EmittedPacket y packet) = of_none (ended_by x) (EmittedPacket y packet) (same_end x y) refl
+ended_step x (EmittedEvent y (SendPacket p)) = of_none (ended_by x) (EmittedEvent y (SendPacket p)) (same_end x y) refl
+ended_step x (EmittedEvent y OnConnected) = of_none (ended_by x) (EmittedEvent y OnConnected) (same_end x y) refl
+ended_step x (EmittedEvent y OnClosed) = of_one (ended_by x) (EmittedEvent y OnClosed) y (same_end x y) refl
+ended_step x (EmittedEvent y OnConnectionRestarted) = of_none (ended_by x) (EmittedEvent y OnConnectionRestarted) (same_end x y) refl
+ended_step x (EmittedEvent y (OnAborted kind text)) = of_one (ended_by x) (EmittedEvent y (OnAborted kind text)) y (same_end x y) refl
+ended_step x (EmittedEvent y (OnError kind text)) = of_none (ended_by x) (EmittedEvent y (OnError kind text)) (same_end x y) refl
+ended_step x (EmittedEvent y (OnBufferedAmountLow id)) = of_none (ended_by x) (EmittedEvent y (OnBufferedAmountLow id)) (same_end x y) refl
+ended_step x (EmittedEvent y OnTotalBufferedAmountLow) = of_none (ended_by x) (EmittedEvent y OnTotalBufferedAmountLow) (same_end x y) refl
+ended_step x (EmittedEvent y (OnStreamsResetFailed ids)) = of_none (ended_by x) (EmittedEvent y (OnStreamsResetFailed ids)) (same_end x y) refl
+ended_step x (EmittedEvent y (OnStreamsResetPerformed ids)) = of_none (ended_by x) (EmittedEvent y (OnStreamsResetPerformed ids)) (same_end x y) refl
+ended_step x (EmittedEvent y (OnIncomingStreamReset ids)) = of_none (ended_by x) (EmittedEvent y (OnIncomingStreamReset ids)) (same_end x y) refl
+ended_step x (EmittedEvent y (OnLifecycleMessageFullySent id)) = of_none (ended_by x) (EmittedEvent y (OnLifecycleMessageFullySent id)) (same_end x y) refl
+ended_step x (EmittedEvent y (OnLifecycleMessageMaybeExpired id)) = of_none (ended_by x) (EmittedEvent y (OnLifecycleMessageMaybeExpired id)) (same_end x y) refl
+ended_step x (EmittedEvent y (OnLifecycleMessageExpired id)) = of_none (ended_by x) (EmittedEvent y (OnLifecycleMessageExpired id)) (same_end x y) refl
+ended_step x (EmittedEvent y (OnLifecycleMessageDelivered id)) = of_none (ended_by x) (EmittedEvent y (OnLifecycleMessageDelivered id)) (same_end x y) refl
+ended_step x (EmittedEvent y (OnLifecycleEnd id)) = of_none (ended_by x) (EmittedEvent y (OnLifecycleEnd id)) (same_end x y) refl
 
 pub ended_by_emitted : (x : End) (log : List Entry) → flat_map (ended_by x) log ≡ flat_map (ended_by x) (emitted_in x log)
 ended_by_emitted x [] = refl

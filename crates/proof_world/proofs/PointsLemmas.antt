@@ -15,7 +15,7 @@ use Rattle.proof_tx_refines.specs.Records.{are_distinct}
 use Rattle.proof_pair.specs.Trace as traces
 use Rattle.proof_pair.specs.Trace.{Pair, EndAction, run, state_of}
 use Rattle.proof_pair.specs.Handing.{readied_messages}
-use Rattle.proof_delivery.specs.Accepted.{Offer, accepted}
+use Rattle.proof_delivery.specs.Accepted.{AcceptedMessage, accepted}
 use Rattle.proof_delivery.specs.Delivery as courses
 use Rattle.proof_delivery.specs.Delivery.{AllAreDone}
 use Rattle.proof_delivery.specs.GivenUp.{given_up, kept_in, IsAtRest}
@@ -24,7 +24,7 @@ use Rattle.spec_world.specs.Observations as observations
 use Rattle.spec_world.specs.Observations.{End, A, B, Entry, ready_by, ready, given_up_by}
 use Rattle.spec_world.specs.World.{Side, World, other, is_at_rest}
 use Rattle.proof_world.specs.Traces.{is_a}
-use Rattle.proof_world.specs.Delivered.{offers_by, offers, given_up_places, reported_by, reported, ready_places}
+use Rattle.proof_world.specs.Delivered.{accepted_messages_by, accepted_messages, given_up_places, reported_by, reported, ready_places}
 use Rattle.proof_world.proofs.WorldLemmas.{Both, given_up_places_more, numbers_of}
 use Rattle.proof_world.proofs.BetweenLemmas.{IsDelivered, same_delivered, ready_between, emitted_between}
 use Rattle.proof_world.proofs.BlockLemmas.{IsBlock, AreBlocks, IsReached, at_each, whole, none_said, all_first, ready_split, ready_before}
@@ -33,7 +33,7 @@ use Rattle.proof_world.proofs.BlockLemmas.{IsBlock, AreBlocks, IsReached, at_eac
 
 -- in the other end's block an end says nothing
 pub record IsBeside (x : End) (block : List Entry) : Type 0 where
-  pub offers : offers x block ≡ []
+  pub offers : accepted_messages x block ≡ []
   pub given_up : observations.given_up x block ≡ []
   pub reported : reported x block ≡ []
 
@@ -42,49 +42,49 @@ pub own_or_beside : (x : End) (e : Bool × EndAction) (d : Pair) (log mid : List
 own_or_beside A (true, t) d log mid b = inl b.none_ready
 own_or_beside B (false, t) d log mid b = inl b.none_ready
 own_or_beside A (false, t) d log mid b =
-    inr (record { offers = ap (λ (l : List Offer). l ++ offers A b.more) b.no_offers ∙ b.quiet A; given_up = b.none_gone; reported = b.none_reported })
+    inr (record { offers = ap (λ (l : List AcceptedMessage). l ++ accepted_messages A b.more) b.no_offers ∙ b.quiet A; given_up = b.none_gone; reported = b.none_reported })
 own_or_beside B (true, t) d log mid b =
-    inr (record { offers = ap (λ (l : List Offer). l ++ offers B b.more) b.no_offers ∙ b.quiet B; given_up = b.none_gone; reported = b.none_reported })
+    inr (record { offers = ap (λ (l : List AcceptedMessage). l ++ accepted_messages B b.more) b.no_offers ∙ b.quiet B; given_up = b.none_gone; reported = b.none_reported })
 
 abbrev pub IsDeliveredAt : End → (places : List ℕ) → List Entry → Type 0
-IsDeliveredAt x places log = IsDelivered (offers x log) (ready (other x) log) (given_up_places x log) (reported x log) places
+IsDeliveredAt x places log = IsDelivered (accepted_messages x log) (ready (other x) log) (given_up_places x log) (reported x log) places
 
 module _ (x : End) (places : List ℕ) (e : Bool × EndAction) (d : Pair) (log mid front behind : List Entry) (b : IsBlock e d log mid) (split : b.more ≡ front ++ behind)
     (h : IsDeliveredAt x places log) (k : IsDeliveredAt x places mid) where
   abbrev here : List Entry
   here = log ++ b.first ∷ front
 
-  offered_first : offers x mid ≡ offers x here
-  offered_first = all_first e d log mid front behind b split (offers_by x) (b.quiet x)
+  offered_first : accepted_messages x mid ≡ accepted_messages x here
+  offered_first = all_first e d log mid front behind b split (accepted_messages_by x) (b.quiet x)
 
   in_own : ready (other x) (b.first ∷ b.more) ≡ [] → IsDeliveredAt x places here
   in_own none =
       let same = none_said e d log mid front behind b split (ready_by (other x)) none in
-      let before : IsDelivered (offers x log) (ready (other x) here) (given_up_places x log) (reported x log) places =
-      same_delivered (offers x log) (offers x log) (ready (other x) log) (ready (other x) here) (given_up_places x log) (given_up_places x log) (reported x log) (reported x log) places refl same.0 refl refl h in
-      let after : IsDelivered (offers x here) (ready (other x) here) (given_up_places x mid) (reported x mid) places =
-      same_delivered (offers x mid) (offers x here) (ready (other x) mid) (ready (other x) here) (given_up_places x mid) (given_up_places x mid) (reported x mid) (reported x mid) places
+      let before : IsDelivered (accepted_messages x log) (ready (other x) here) (given_up_places x log) (reported x log) places =
+      same_delivered (accepted_messages x log) (accepted_messages x log) (ready (other x) log) (ready (other x) here) (given_up_places x log) (given_up_places x log) (reported x log) (reported x log) places refl same.0 refl refl h in
+      let after : IsDelivered (accepted_messages x here) (ready (other x) here) (given_up_places x mid) (reported x mid) places =
+      same_delivered (accepted_messages x mid) (accepted_messages x here) (ready (other x) mid) (ready (other x) here) (given_up_places x mid) (given_up_places x mid) (reported x mid) (reported x mid) places
       (sym offered_first) (sym same.1) refl refl k in
       let told : reported x mid ≡ reported x here ++ reported x behind =
       ap (reported x) (whole e d log mid front behind b split) ∙ flat_map-append (reported_by x) here behind in
       let given : given_up_places x here ≡ given_up_places x log ++ given_up_places x (b.first ∷ front) =
       given_up_places_more x log here (b.first ∷ front) (given_up_places x (b.first ∷ front)) refl refl in
-      subst (λ (g : List ℕ). IsDelivered (offers x here) (ready (other x) here) g (reported x here) places) (sym given)
-      (emitted_between (offers x log) (offers x (b.first ∷ front)) (offers x here) (ready (other x) here) (given_up_places x log) (given_up_places x (b.first ∷ front)) (given_up_places x mid)
-      (reported x here) (reported x behind) (reported x mid) places (flat_map-append (offers_by x) log (b.first ∷ front)) told before after)
+      subst (λ (g : List ℕ). IsDelivered (accepted_messages x here) (ready (other x) here) g (reported x here) places) (sym given)
+      (emitted_between (accepted_messages x log) (accepted_messages x (b.first ∷ front)) (accepted_messages x here) (ready (other x) here) (given_up_places x log) (given_up_places x (b.first ∷ front)) (given_up_places x mid)
+      (reported x here) (reported x behind) (reported x mid) places (flat_map-append (accepted_messages_by x) log (b.first ∷ front)) told before after)
 
   beside : IsBeside x (b.first ∷ b.more) → IsDeliveredAt x places here
   beside n =
-      let o = none_said e d log mid front behind b split (offers_by x) n.offers in
+      let o = none_said e d log mid front behind b split (accepted_messages_by x) n.offers in
       let g = none_said e d log mid front behind b split (given_up_by x) n.given_up in
       let r = none_said e d log mid front behind b split (reported_by x) n.reported in
-      let before : IsDelivered (offers x here) (ready (other x) log) (given_up_places x here) (reported x here) places =
-      same_delivered (offers x log) (offers x here) (ready (other x) log) (ready (other x) log) (given_up_places x log) (given_up_places x here) (reported x log) (reported x here) places
+      let before : IsDelivered (accepted_messages x here) (ready (other x) log) (given_up_places x here) (reported x here) places =
+      same_delivered (accepted_messages x log) (accepted_messages x here) (ready (other x) log) (ready (other x) log) (given_up_places x log) (given_up_places x here) (reported x log) (reported x here) places
       o.0 refl (numbers_of (observations.given_up x here) (observations.given_up x log) g.0) r.0 h in
-      let after : IsDelivered (offers x here) (ready (other x) mid) (given_up_places x here) (reported x here) places =
-      same_delivered (offers x mid) (offers x here) (ready (other x) mid) (ready (other x) mid) (given_up_places x mid) (given_up_places x here) (reported x mid) (reported x here) places
+      let after : IsDelivered (accepted_messages x here) (ready (other x) mid) (given_up_places x here) (reported x here) places =
+      same_delivered (accepted_messages x mid) (accepted_messages x here) (ready (other x) mid) (ready (other x) mid) (given_up_places x mid) (given_up_places x here) (reported x mid) (reported x here) places
       (sym o.1) refl (sym (numbers_of (observations.given_up x mid) (observations.given_up x here) g.1)) (sym r.1) k in
-      ready_between (offers x here) (ready (other x) log) (ready (other x) here) (ready (other x) mid) (ready (other x) (b.first ∷ front)) (ready (other x) behind)
+      ready_between (accepted_messages x here) (ready (other x) log) (ready (other x) here) (ready (other x) mid) (ready (other x) (b.first ∷ front)) (ready (other x) behind)
       (given_up_places x here) (reported x here) places (ready_before e d log mid front behind b split (other x)) (ready_split e d log mid front behind b split (other x)) before after
 
   delivered_within : IsDeliveredAt x places here
@@ -124,7 +124,7 @@ module _ (x : End) (all : List (Bool × EndAction)) (c : Pair) (from : courses.D
 
   delivered_action : (done rest : List (Bool × EndAction)) (log : List Entry) → all ≡ done ++ rest → IsReached c done log → IsDeliveredAt x from.places log
   delivered_action done rest log e r =
-      same_delivered (accepted (is_a x) done c) (offers x log) (readied_messages (not (is_a x)) done c) (ready (other x) log) (given_up (is_a x) done c) (given_up_places x log)
+      same_delivered (accepted (is_a x) done c) (accepted_messages x log) (readied_messages (not (is_a x)) done c) (ready (other x) log) (given_up (is_a x) done c) (given_up_places x log)
       (delivered_ids (traces.side_of (is_a x) (run done c)).emitted) (reported x log) from.places (r.offers_are x) (ready_so_far done log r) (r.gone_are x) (r.reported_are x)
       (record { fits = from.fits done rest e; skipped = from.skipped done rest e; reports = from.reports done rest e })
 
@@ -143,9 +143,9 @@ module _ (word_of_a word_of_b : List ℕ → ℕ) where
   rests_at B u c h e = rests (as_bytes word_of_b) u.b c.b h.b.image.socket e
 
   pub at_rest : (x : End) (all : List (Bool × EndAction)) (c : Pair) (from : courses.Delivers (is_a x) all c) (done rest : List (Bool × EndAction)) (u : World) → all ≡ done ++ rest
-      → IsReached c done u.log → Both word_of_a word_of_b u (run done c) → is_at_rest x u ≡ true → AllAreDone (offers x u.log) (given_up_places x u.log) (ready_places x u.log from.places)
+      → IsReached c done u.log → Both word_of_a word_of_b u (run done c) → is_at_rest x u ≡ true → AllAreDone (accepted_messages x u.log) (given_up_places x u.log) (ready_places x u.log from.places)
   at_rest x all c from done rest u e r h still =
-      subst (λ (o : List Offer). AllAreDone o (given_up_places x u.log) (ready_places x u.log from.places)) (sym (r.offers_are x))
+      subst (λ (o : List AcceptedMessage). AllAreDone o (given_up_places x u.log) (ready_places x u.log from.places)) (sym (r.offers_are x))
       (subst (λ (g : List ℕ). AllAreDone (accepted (is_a x) done c) g (ready_places x u.log from.places)) (sym (r.gone_are x))
       (subst (λ (m : List Message). AllAreDone (accepted (is_a x) done c) (given_up (is_a x) done c) (take (length m) from.places)) (sym (ready_so_far x all c from done u.log r))
       (from.rest done rest e (rests_at x u (run done c) h still))))

@@ -3,7 +3,7 @@ use Rattle.std.proofs.Common.{◌≡◌, ◌⊎◌, inl, inr, ℕ, zero, suc, �
 use Rattle.std.specs.Prelude.{slice_index, slice_get}
 use Rattle.std.proofs.lemmas.List.{take-map}
 use Rattle.sctp_serial.specs.Messages.{Message}
-use Rattle.proof_delivery.specs.Accepted.{Offer}
+use Rattle.proof_delivery.specs.Accepted.{AcceptedMessage}
 use Rattle.proof_delivery.specs.Delivery.{message_at, Fits}
 
 -- ---- lists
@@ -73,7 +73,7 @@ index_front (suc m) (suc n) (x ∷ xs) (suc k) l h = index_front m n xs k (omega
 
 -- ---- a beginning of what is ready
 
-module _ (offers : List Offer) (ready front behind : List Message) (places : List ℕ) (split : ready ≡ front ++ behind) where
+module _ (offers : List AcceptedMessage) (ready front behind : List Message) (places : List ℕ) (split : ready ≡ front ++ behind) where
   shorter : length front ≤ length ready
   shorter = let h = length_front front behind in let e = ap length split in omega (arith, h, e)
 

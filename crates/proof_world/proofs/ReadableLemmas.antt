@@ -23,7 +23,7 @@ use Rattle.proof_endpoint.proofs.ReceivedBackLemmas.{is_accepted}
 use Rattle.proof_endpoint.proofs.SoundLawsLemmas.{is_new, stays_sound, stays_sound_refused, can_be_read, can_be_read_refused}
 use Rattle.proof_endpoint.proofs.SoundReceivedLemmas.{emitted_fit}
 use Rattle.spec_world.specs.Observations.{End, A, B, Entry}
-use Rattle.spec_world.specs.World.{Side, World, Action, CallOf, Give, GiveForeign, AdvanceTime, TakesBytes, ComesTo, taken_in, skipped, Comes, Gives, Happens, Runs, fresh_side, packets_in, take_emitted, step_of, after_call, after_time}
+use Rattle.spec_world.specs.World.{Side, World, Action, CallOf, Give, GiveForeign, AdvanceTime, TakesBytes, ComesTo, taken_in, withheld, Comes, Gives, Happens, Runs, fresh_side, packets_in, take_emitted, table_call, after_call, after_time}
 use Rattle.proof_world.specs.Readable.{CanBeReadBack, IsReadableSide, IsReadable, GivesBytes, NewWorldsAreReadable, EachActionKeepsWorldsReadable, RunsKeepWorldsReadable}
 use Rattle.proof_pair.proofs.AddedLemmas.{all_get}
 
@@ -162,7 +162,7 @@ module _ (word_of : List ℕ → ℕ) where
   came_readable : (x : End) (bytes : List ℕ) (old new : Side) (log more : List Entry) → ComesTo x bytes old new log more → IsReadableSide word_of old → IsReadableSide word_of new
   came_readable x bytes old new log more (taken_in t j) h =
       subst (IsReadableSide word_of) (sym t.side) (refused_by old.socket.endpoint_state.context.pack.word_of bytes old t.after t.takes j h)
-  came_readable x bytes old new log more (skipped j is logged) h = subst (IsReadableSide word_of) (sym is) h
+  came_readable x bytes old new log more (withheld j is logged) h = subst (IsReadableSide word_of) (sym is) h
 
 -- ---- both ends
 
@@ -194,9 +194,9 @@ module _ (f g : List ℕ → ℕ) where
 
 pub happens_readable : EachActionKeepsWorldsReadable
 happens_readable f g (CallOf A call) w v e fits small h =
-    subst (IsReadable f g) (sym e) (record { a = call_readable f (step_of call) w.a fits h.a; b = h.b })
+    subst (IsReadable f g) (sym e) (record { a = call_readable f (table_call call) w.a fits h.a; b = h.b })
 happens_readable f g (CallOf B call) w v e fits small h =
-    subst (IsReadable f g) (sym e) (record { a = h.a; b = call_readable g (step_of call) w.b fits h.b })
+    subst (IsReadable f g) (sym e) (record { a = h.a; b = call_readable g (table_call call) w.b fits h.b })
 happens_readable f g (Give packet x) w v e fits small h = given_readable f g x packet w v e small h
 happens_readable f g (GiveForeign x bytes) w v e fits small h = foreign_readable f g x bytes w v e h
 happens_readable f g (AdvanceTime A now) w v e fits small h =
@@ -225,7 +225,7 @@ emitted_before x first bytes old new log more t packet h =
 
 came_before : (x : End) (bytes : List ℕ) (old new : Side) (log more : List Entry) → ComesTo x bytes old new log more → WereBytes old new
 came_before x bytes old new log more (taken_in t j) = emitted_before x _ bytes old new log more t
-came_before x bytes old new log more (skipped j is logged) = same_before old new is
+came_before x bytes old new log more (withheld j is logged) = same_before old new is
 
 one_before : (action : Action) (w v : World) → Happens action w v → Before w v
 one_before (CallOf A call) w v e = subst (Before w) (sym e) (record { a = settled_before w.a (after_call call w.a.socket); b = same_before w.b w.b refl })

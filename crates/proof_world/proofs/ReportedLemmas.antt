@@ -5,7 +5,7 @@ use Rattle.sctp_state.specs.Events.{Event, SendPacket, OnConnected, OnClosed, On
 use Rattle.proof_endpoint.specs.Mapped.{Mapping, Carried, as_bytes}
 use Rattle.proof_tx_refines.specs.Led.{delivered_by, delivered_ids}
 use Rattle.proof_pair.specs.Trace as traces
-use Rattle.spec_world.specs.Observations.{End, A, B, same_end, all_unless, Entry, Called, Given, Foreign, Timed, Associated, Emitted, Happened, GaveUp, BecameReady}
+use Rattle.spec_world.specs.Observations.{End, A, B, same_end, all_unless, Entry, Called, Given, Foreign, Timed, Associated, EmittedPacket, EmittedEvent, GaveUp, BecameReady}
 use Rattle.spec_world.specs.World.{Side, emitted_entries}
 use Rattle.proof_world.specs.Traces.{emitted_by, emitted_in}
 use Rattle.proof_world.specs.Delivered.{reported_by, reported}
@@ -47,14 +47,14 @@ reported_step x (Timed y clock now) = refl
 reported_step x (Associated y a) = refl
 reported_step x (GaveUp y g) = refl
 reported_step x (BecameReady y m) = refl
-reported_step A (Emitted A packet) = refl
-reported_step A (Emitted B packet) = refl
-reported_step B (Emitted A packet) = refl
-reported_step B (Emitted B packet) = refl
-reported_step A (Happened A event) = append-nil (delivered_by event)
-reported_step A (Happened B event) = refl
-reported_step B (Happened A event) = refl
-reported_step B (Happened B event) = append-nil (delivered_by event)
+reported_step A (EmittedPacket A packet) = refl
+reported_step A (EmittedPacket B packet) = refl
+reported_step B (EmittedPacket A packet) = refl
+reported_step B (EmittedPacket B packet) = refl
+reported_step A (EmittedEvent A event) = append-nil (delivered_by event)
+reported_step A (EmittedEvent B event) = refl
+reported_step B (EmittedEvent A event) = refl
+reported_step B (EmittedEvent B event) = append-nil (delivered_by event)
 
 pub reported_by_emitted : (x : End) (log : List Entry) → reported x log ≡ reported x (emitted_in x log)
 reported_by_emitted x [] = refl

@@ -14,9 +14,9 @@ use Rattle.proof_endpoint.proofs.SoundLawsLemmas.{is_new}
 use Rattle.proof_pair.specs.Trace as traces
 use Rattle.proof_pair.specs.Trace.{Pair, EndAction, has_connected, MayCall, MayAct, goes, run, start, new_side}
 use Rattle.spec_world.specs.Observations.{End, A, B, Entry, Answer, Called, Call, Connect, Shutdown, Close, Send, SendMany, Receive, Reset, SetPriority, SetMaxMessageSize, SetLowThreshold, HandOver, connected_by, times_connected}
-use Rattle.spec_world.specs.World.{Side, World, Action, CallOf, Give, GiveForeign, AdvanceTime, ComesTo, taken_in, skipped, Happens, Runs, take_emitted, side_of, news_of, calls, call_entry, after_call, after_time, clock, answer_to, step_of, fresh_side, fresh_world}
+use Rattle.spec_world.specs.World.{Side, World, Action, CallOf, Give, GiveForeign, AdvanceTime, ComesTo, taken_in, withheld, Happens, Runs, take_emitted, side_of, news_of, calls, call_entry, after_call, after_time, clock, answer_to, table_call, fresh_side, fresh_world}
 use Rattle.proof_world.specs.Traces.{ActionFits, IsInBytes, is_a, end_of, receiving, IsReceiving, IsForeign, IsActionOf, AreActionsOf, WorldsHaveTraces}
-use Rattle.proof_world.specs.Consistent.{asks, Stands, MayFollow, FollowsTheRules}
+use Rattle.proof_world.specs.Consistent.{gets_init, NoneHasEnded, MayFollow, KeepsOpeningRules}
 use Rattle.proof_world.proofs.EventLemmas.{Readable, connected_emitted}
 use Rattle.proof_world.proofs.NewsLemmas.{connected_by_emitted}
 use Rattle.proof_world.proofs.SidesLemmas.{Good, any_more}
@@ -58,11 +58,11 @@ grows_log w u more logged a b = record {
 
 comes_a : (bytes : List ℕ) (w u : World) → ComesTo A bytes w.a u.a w.log u.log → u.b ≡ w.b → Extends w u
 comes_a bytes w u (taken_in t judged) same = grows_a w u _ t.after t.logged t.side same
-comes_a bytes w u (skipped judged stays logged) same = grows_log w u _ logged stays same
+comes_a bytes w u (withheld judged stays logged) same = grows_log w u _ logged stays same
 
 comes_b : (bytes : List ℕ) (w u : World) → ComesTo B bytes w.b u.b w.log u.log → u.a ≡ w.a → Extends w u
 comes_b bytes w u (taken_in t judged) same = grows_b w u _ t.after t.logged t.side same
-comes_b bytes w u (skipped judged stays logged) same = grows_log w u _ logged same stays
+comes_b bytes w u (withheld judged stays logged) same = grows_log w u _ logged same stays
 
 pub happens_extends : (action : Action) (w u : World) → Happens action w u → Extends w u
 happens_extends (CallOf A call) w u e = grows_a w u _ (after_call call w.a.socket) (ap (λ (z : World). z.log) e) (ap (λ (z : World). z.a) e) (ap (λ (z : World). z.b) e)
@@ -86,17 +86,17 @@ module _ (word_of : List ℕ → ℕ) (x : End) (log : List Entry) (others : Lis
       connected_emitted (as_bytes word_of) x 0 end.emitted
       (subst (λ (l : List Entry). 1 ≤ length (flat_map (connected_by x) l)) g.image.emitted (subst (λ (l : List End). 1 ≤ length l) (connected_by_emitted x log) h))
 
-  not_asked : (new : List (List ℕ)) → list_any (asks x (others ++ new)) log ≡ false → end.is_asked ≡ false
-  not_asked new none = false_from_ne_true end.is_asked (λ e. not_both (any_more x others new log (g.asked e)) none)
+  not_asked : (new : List (List ℕ)) → list_any (gets_init x (others ++ new)) log ≡ false → end.got_init ≡ false
+  not_asked new none = false_from_ne_true end.got_init (λ e. not_both (any_more x others new log (g.asked e)) none)
 
-  may_connect : (all new : List (List ℕ)) → all ≡ others ++ new → (1 ≤ times_connected x log) ⊎ (list_any (asks x all) log ≡ false)
-      → (has_connected end.emitted ≡ true) ⊎ (end.is_asked ≡ false)
+  may_connect : (all new : List (List ℕ)) → all ≡ others ++ new → (1 ≤ times_connected x log) ⊎ (list_any (gets_init x all) log ≡ false)
+      → (has_connected end.emitted ≡ true) ⊎ (end.got_init ≡ false)
   may_connect all new is (inl h) = inl (connected_of h)
-  may_connect all new is (inr none) = inr (not_asked new (ap (λ (ps : List (List ℕ)). list_any (asks x ps) log) (sym is) ∙ none))
+  may_connect all new is (inr none) = inr (not_asked new (ap (λ (ps : List (List ℕ)). list_any (gets_init x ps) log) (sym is) ∙ none))
 
 module _ (word_of_a word_of_b : List ℕ → ℕ) where
   may_call : (x : End) (call : Call) (clock : ℕ) (answer : Answer) (w v : World) (c : Pair) → Both word_of_a word_of_b w c → Extends w v → MayFollow v w.log (Called x clock call answer)
-      → MayCall (step_of call) (traces.side_of (is_a x) c)
+      → MayCall (table_call call) (traces.side_of (is_a x) c)
   may_call A Connect clock answer w v c h e may = may_connect word_of_a A w.log w.b.packets w.a c.a h.a v.b.packets e.sent_b e.b may
   may_call B Connect clock answer w v c h e may = may_connect word_of_b B w.log w.a.packets w.b c.b h.b v.a.packets e.sent_a e.a may
   may_call A Shutdown clock answer w v c h e may = connected_of word_of_a A w.log w.b.packets w.a c.a h.a may
@@ -114,7 +114,7 @@ module _ (word_of_a word_of_b : List ℕ → ℕ) where
   logged_then : (before rest more log longer : List Entry) (entry : Entry) → log ≡ before ++ entry ∷ rest → longer ≡ log ++ more → longer ≡ before ++ entry ∷ (rest ++ more)
   logged_then before rest more log longer entry e f = f ∙ ap (λ (l : List Entry). l ++ more) e ∙ append_assoc before (entry ∷ rest) more
 
-  may_follow : (x : End) (call : Call) (w u v : World) → u ≡ calls x call w → Extends u v → FollowsTheRules v → Stands w.log
+  may_follow : (x : End) (call : Call) (w u v : World) → u ≡ calls x call w → Extends u v → KeepsOpeningRules v → NoneHasEnded w.log
       → MayFollow v w.log (call_entry x call (side_of x w).socket)
   may_follow A call w u v e f rules stands =
       rules w.log (call_entry A call w.a.socket) _ (logged_then w.log (news_of A w.a (after_call call w.a.socket)) f.more u.log v.log (call_entry A call w.a.socket)
@@ -134,7 +134,7 @@ module _ (word_of_a word_of_b : List ℕ → ℕ) where
   may_refuse turn bytes end (inl x) = subst (λ (t : EndAction). MayAct t end) (sym x.2) tt
   may_refuse turn bytes end (inr e) = subst (λ (t : EndAction). MayAct t end) (sym e) tt
 
-  pub may_action : (action : Action) (w u v : World) (c : Pair) (turn : EndAction) → Happens action w u → Extends w u → Extends u v → Both word_of_a word_of_b w c → IsActionOf word_of_a word_of_b action turn c → FollowsTheRules v → Stands w.log
+  pub may_action : (action : Action) (w u v : World) (c : Pair) (turn : EndAction) → Happens action w u → Extends w u → Extends u v → Both word_of_a word_of_b w c → IsActionOf word_of_a word_of_b action turn c → KeepsOpeningRules v → NoneHasEnded w.log
       → MayAct turn (traces.side_of (is_a (end_of action)) c)
   may_action (CallOf x call) w u v c turn happens e f h is rules stands =
       subst (λ (t : EndAction). MayAct t (traces.side_of (is_a x) c)) (sym is)
@@ -150,7 +150,7 @@ module _ (word_of_a word_of_b : List ℕ → ℕ) where
     pub trace : List (Bool × EndAction)
     pub are : AreActionsOf word_of_a word_of_b actions trace c
     pub both : Both word_of_a word_of_b v (run trace c)
-    pub follows : FollowsTheRules v → Stands v.log → traces.FollowsTheRules trace c
+    pub follows : KeepsOpeningRules v → NoneHasEnded v.log → traces.KeepsOpeningRules trace c
 
   unfoldable pub ran : (actions : List Action) (w v : World) (c : Pair) → All ActionFits actions → Runs actions w v → IsInBytes v → Both word_of_a word_of_b w c → Ran actions w v c
   ran [] w v c fit e small h = record {

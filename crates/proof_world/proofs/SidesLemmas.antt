@@ -15,10 +15,10 @@ use Rattle.proof_endpoint.specs.ReadBack.{as_carried}
 use Rattle.proof_pair.specs.Trace as traces
 use Rattle.proof_pair.specs.Trace.{took, emitted_packets}
 use Rattle.proof_pair.proofs.JoinActsLemmas.{packets_both}
-use Rattle.spec_world.specs.Observations.{End, same_end, Entry, Called, Given, Foreign, Timed, Associated, Emitted, Happened, GaveUp, BecameReady, held_after, held_from, held, given_up_by, given_up}
+use Rattle.spec_world.specs.Observations.{End, same_end, Entry, Called, Given, Foreign, Timed, Associated, EmittedPacket, EmittedEvent, GaveUp, BecameReady, held_after, held_from, held, given_up_by, given_up}
 use Rattle.spec_world.specs.World.{Side, association, ready_at, packets_in, emitted_entries, news_of, take_emitted}
-use Rattle.proof_world.specs.Traces.{emitted_by, emitted_in, IsImage}
-use Rattle.proof_world.specs.Consistent.{asks, is_some_init}
+use Rattle.proof_world.specs.Traces.{emitted_by, emitted_in, IsWrittenAs}
+use Rattle.proof_world.specs.Consistent.{gets_init, is_some_init}
 use Rattle.proof_world.proofs.EventLemmas.{mapped, packets_mapped, entries_both, Readable}
 use Rattle.proof_world.proofs.LoggedLemmas.{none_in_news, quiet_given_up}
 use Rattle.proof_world.proofs.NewsLemmas.{emitted_both, news_own, news_other, held_both, held_own, held_other}
@@ -60,7 +60,7 @@ some_more : (o p : Option (List ℕ)) → ((bytes : List ℕ) → o ≡ Some byt
 some_more None p f e = cc
 some_more (Some bytes) p f e = ap is_some_init (f bytes refl) ∙ e
 
-asks_more : (x : End) (ps qs : List (List ℕ)) (e : Entry) → asks x ps e ≡ true → asks x (ps ++ qs) e ≡ true
+asks_more : (x : End) (ps qs : List (List ℕ)) (e : Entry) → gets_init x ps e ≡ true → gets_init x (ps ++ qs) e ≡ true
 asks_more x ps qs (Given y clock packet) h =
     and_right (same_end x y) (is_some_init (slice_get ps packet)) (is_some_init (slice_get (ps ++ qs) packet))
     (some_more (slice_get ps packet) (slice_get (ps ++ qs) packet) (λ bytes. get_front ps qs packet bytes)) h
@@ -68,8 +68,8 @@ asks_more x ps qs (Called y clock call answer) h = h
 asks_more x ps qs (Foreign y clock bytes) h = h
 asks_more x ps qs (Timed y clock now) h = h
 asks_more x ps qs (Associated y a) h = h
-asks_more x ps qs (Emitted y packet) h = h
-asks_more x ps qs (Happened y event) h = h
+asks_more x ps qs (EmittedPacket y packet) h = h
+asks_more x ps qs (EmittedEvent y event) h = h
 asks_more x ps qs (GaveUp y g) h = h
 asks_more x ps qs (BecameReady y m) h = h
 
@@ -78,25 +78,25 @@ either true b c d f g e = ap (λ (z : Bool). z || d) (f refl)
 either false b true d f g e = refl
 either false b false d f g e = g e
 
-pub any_more : (x : End) (ps qs : List (List ℕ)) (log : List Entry) → list_any (asks x ps) log ≡ true → list_any (asks x (ps ++ qs)) log ≡ true
+pub any_more : (x : End) (ps qs : List (List ℕ)) (log : List Entry) → list_any (gets_init x ps) log ≡ true → list_any (gets_init x (ps ++ qs)) log ≡ true
 any_more x ps qs [] h = h
 any_more x ps qs (e ∷ log) h =
-    either (asks x ps e) (list_any (asks x ps) log) (asks x (ps ++ qs) e) (list_any (asks x (ps ++ qs)) log) (asks_more x ps qs e) (any_more x ps qs log) h
+    either (gets_init x ps e) (list_any (gets_init x ps) log) (gets_init x (ps ++ qs) e) (list_any (gets_init x (ps ++ qs)) log) (asks_more x ps qs e) (any_more x ps qs log) h
 
-pub asked_longer : (x : End) (ps qs : List (List ℕ)) (log more : List Entry) → list_any (asks x ps) log ≡ true → list_any (asks x (ps ++ qs)) (log ++ more) ≡ true
+pub asked_longer : (x : End) (ps qs : List (List ℕ)) (log more : List Entry) → list_any (gets_init x ps) log ≡ true → list_any (gets_init x (ps ++ qs)) (log ++ more) ≡ true
 asked_longer x ps qs log more h =
-    list_any-append (asks x (ps ++ qs)) log more ∙ or_left (list_any (asks x (ps ++ qs)) log) (list_any (asks x (ps ++ qs)) more) (any_more x ps qs log h)
+    list_any-append (gets_init x (ps ++ qs)) log more ∙ or_left (list_any (gets_init x (ps ++ qs)) log) (list_any (gets_init x (ps ++ qs)) more) (any_more x ps qs log h)
 
 -- ---- a side
 
 -- beside these packets of the other end
 pub record Good (word_of : List ℕ → ℕ) (x : End) (log : List Entry) (others : List (List ℕ)) (side : Side) (end : traces.Side) : Type 0 where
-  pub image : IsImage word_of x log side end
+  pub image : IsWrittenAs word_of x log side end
   pub sound : IsSound end.end
   pub packing : end.end.endpoint_state.context.pack ≡ as_carried
   pub readable : All Readable (emitted_packets end)
   pub held : held x log ≡ association side.socket
-  pub asked : end.is_asked ≡ true → list_any (asks x others) log ≡ true
+  pub asked : end.got_init ≡ true → list_any (gets_init x others) log ≡ true
 
 -- as the log grows by what says nothing of it, and the other end's packets grow
 pub stays_good : (word_of : List ℕ → ℕ) (x : End) (log more : List Entry) (others new : List (List ℕ)) (side : Side) (end : traces.Side) → IsSilentOf x more
@@ -130,7 +130,7 @@ module _ (word_of : List ℕ → ℕ) (x : End) (log : List Entry) (first : Entr
   events = s.endpoint_state.context.emitted.events
 
   abbrev now : traces.Side
-  now = record (took s end) { is_asked = asked }
+  now = record (took s end) { got_init = asked }
 
   packets_now : side.packets ≡ map f.of (emitted_packets end) → side.packets ++ packets_in (mapped f events) ≡ map f.of (emitted_packets now)
   packets_now e =
@@ -160,7 +160,7 @@ module _ (word_of : List ℕ → ℕ) (x : End) (log : List Entry) (first : Entr
       ∙ held_own x (length side.packets) (length (ready_at side.socket)) (association side.socket) after
 
   pub goes_good : IsFirst first → IsSound s → s.endpoint_state.context.pack ≡ as_carried → All Readable (traces.packets_in events)
-      → (asked ≡ true → list_any (asks x others) (log ++ first ∷ news_of x side after) ≡ true)
+      → (asked ≡ true → list_any (gets_init x others) (log ++ first ∷ news_of x side after) ≡ true)
       → Good word_of x log others side end → Good word_of x (log ++ first ∷ news_of x side after) others (take_emitted side after) now
   goes_good k sound pack readable was g = record {
     image = record {

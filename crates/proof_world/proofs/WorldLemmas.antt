@@ -19,7 +19,7 @@ use Rattle.proof_delivery.specs.GivenUp as giving
 use Rattle.proof_delivery.specs.GivenUp.{given_up_at}
 use Rattle.proof_delivery.specs.Justified.{records_given, records_if, records_by, records_at}
 use Rattle.spec_world.specs.Observations.{End, A, B, Entry, Given, Foreign, Call, given_up_by, given_up}
-use Rattle.spec_world.specs.World.{Side, World, Action, CallOf, Give, GiveForeign, AdvanceTime, ComesTo, taken_in, skipped, Gives, Happens, step_of, calls, call_entry, advances_time, time_entry, Takes}
+use Rattle.spec_world.specs.World.{Side, World, Action, CallOf, Give, GiveForeign, AdvanceTime, ComesTo, taken_in, withheld, Gives, Happens, table_call, calls, call_entry, advances_time, time_entry, Takes}
 use Rattle.proof_world.specs.Traces.{ActionFits, IsInBytes, is_a, end_of, IsActionOf}
 use Rattle.proof_world.specs.Delivered.{given_up_places}
 use Rattle.proof_world.proofs.EventLemmas.{Readable}
@@ -194,12 +194,12 @@ module _ (word_of_a word_of_b : List ℕ → ℕ) where
   step_call : (x : End) (call : Call) (w u : World) (c : Pair) → ActionFits (CallOf x call) → u ≡ calls x call w → Both word_of_a word_of_b w c
       → Stepped word_of_a word_of_b (CallOf x call) w u c
   step_call A call w u c fits e h =
-      stepped_a (CallOf A call) w u c refl h (Calls (step_of call)) refl
-      (call_goes word_of_a A w.log (call_entry A call w.a.socket) w.b.packets w.a c.a c.b (record { emitted = λ y. refl; quiet = λ y o. refl; given_up = λ y. refl }) h.a u.a u.log (step_of call) fits _ refl
+      stepped_a (CallOf A call) w u c refl h (Calls (table_call call)) refl
+      (call_goes word_of_a A w.log (call_entry A call w.a.socket) w.b.packets w.a c.a c.b (record { emitted = λ y. refl; quiet = λ y o. refl; given_up = λ y. refl }) h.a u.a u.log (table_call call) fits _ refl
       (ap (λ (z : World). z.a) e) (ap (λ (z : World). z.log) e)) (ap (λ (z : World). z.b) e)
   step_call B call w u c fits e h =
-      stepped_b (CallOf B call) w u c refl h (Calls (step_of call)) refl
-      (call_goes word_of_b B w.log (call_entry B call w.b.socket) w.a.packets w.b c.b c.a (record { emitted = λ y. refl; quiet = λ y o. refl; given_up = λ y. refl }) h.b u.b u.log (step_of call) fits _ refl
+      stepped_b (CallOf B call) w u c refl h (Calls (table_call call)) refl
+      (call_goes word_of_b B w.log (call_entry B call w.b.socket) w.a.packets w.b c.b c.a (record { emitted = λ y. refl; quiet = λ y o. refl; given_up = λ y. refl }) h.b u.b u.log (table_call call) fits _ refl
       (ap (λ (z : World). z.b) e) (ap (λ (z : World). z.log) e)) (ap (λ (z : World). z.a) e)
 
   step_time : (x : End) (now : ℕ) (w u : World) (c : Pair) → u ≡ advances_time x now w → Both word_of_a word_of_b w c → Stepped word_of_a word_of_b (AdvanceTime x now) w u c
@@ -240,7 +240,7 @@ module _ (word_of_a word_of_b : List ℕ → ℕ) where
       let went = foreign_goes word_of_a A w.log (Foreign A w.a.socket.endpoint_state.context.now (Some bytes)) w.b.packets w.a c.a c.b (record { emitted = λ y. refl; quiet = λ y o. refl; given_up = λ y. refl }) h.a u.a u.log
       w.a.socket.endpoint_state.context.pack.word_of bytes judged t.after t.takes t.side t.logged in
       stepped_a (GiveForeign A bytes) w u c refl h went.0 went.1 went.2 same
-  foreign_a bytes w u c (skipped judged stays logged) same h =
+  foreign_a bytes w u c (withheld judged stays logged) same h =
       let went = skipped_goes word_of_a A w.log (Foreign A w.a.socket.endpoint_state.context.now None) w.b.packets w.a c.a c.b (record { emitted = λ y. refl; quiet = λ y o. refl; given_up = λ y. refl }) h.a u.a u.log
       w.a.socket.endpoint_state.context.pack.word_of bytes false refl judged stays logged in
       stepped_a (GiveForeign A bytes) w u c refl h went.0 went.1 went.2 same
@@ -251,7 +251,7 @@ module _ (word_of_a word_of_b : List ℕ → ℕ) where
       let went = foreign_goes word_of_b B w.log (Foreign B w.b.socket.endpoint_state.context.now (Some bytes)) w.a.packets w.b c.b c.a (record { emitted = λ y. refl; quiet = λ y o. refl; given_up = λ y. refl }) h.b u.b u.log
       w.b.socket.endpoint_state.context.pack.word_of bytes judged t.after t.takes t.side t.logged in
       stepped_b (GiveForeign B bytes) w u c refl h went.0 went.1 went.2 same
-  foreign_b bytes w u c (skipped judged stays logged) same h =
+  foreign_b bytes w u c (withheld judged stays logged) same h =
       let went = skipped_goes word_of_b B w.log (Foreign B w.b.socket.endpoint_state.context.now None) w.a.packets w.b c.b c.a (record { emitted = λ y. refl; quiet = λ y o. refl; given_up = λ y. refl }) h.b u.b u.log
       w.b.socket.endpoint_state.context.pack.word_of bytes false refl judged stays logged in
       stepped_b (GiveForeign B bytes) w u c refl h went.0 went.1 went.2 same

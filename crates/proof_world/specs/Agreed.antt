@@ -3,8 +3,8 @@ use Rattle.std.specs.Prelude.{◌≡◌, Bool, Some, List, ◌∷◌, ◌++◌}
 use Rattle.sctp_state.specs.Events.{OnConnected}
 use Rattle.spec_endpoint.specs.Shown.{Association}
 use Rattle.proof_pair.specs.Trace.{EndAction, start}
-use Rattle.proof_pair.specs.Agreement.{no_histories, histories_along, NoneTwice}
-use Rattle.spec_world.specs.Observations.{End, mirrored, held, Entry, Happened}
+use Rattle.proof_pair.specs.Agreement.{no_histories, histories_along, AreDistinctPerEnd}
+use Rattle.spec_world.specs.Observations.{End, mirrored, held, Entry, EmittedEvent}
 use Rattle.spec_world.specs.World.{World, other}
 use Rattle.proof_world.specs.Traces.{IsReachable, AreActionsOf}
 
@@ -19,14 +19,14 @@ pub record IsAgreed (x : End) (log : List Entry) : Type 0 where
 
 -- At each OnConnected, by what stands before it. An end holds an association from its entry to the next one.
 abbrev pub Agrees : List Entry → Type 0
-Agrees log = (x : End) (before behind : List Entry) → log ≡ before ++ Happened x OnConnected ∷ behind → IsAgreed x before
+Agrees log = (x : End) (before behind : List Entry) → log ≡ before ++ EmittedEvent x OnConnected ∷ behind → IsAgreed x before
 
 -- neither end draws a verification tag twice; both may draw the same one
-abbrev pub DrawsNoTagTwice : {w : World} → IsReachable w → Type 0
-DrawsNoTagTwice l =
+abbrev pub EachEndDrawsDistinctTags : {w : World} → IsReachable w → Type 0
+EachEndDrawsDistinctTags l =
     (turns : List (Bool × EndAction)) → AreActionsOf l.word_of_a l.word_of_b l.actions turns (start l.a l.b l.random_a l.random_b)
-    → NoneTwice (histories_along turns (start l.a l.b l.random_a l.random_b) no_histories)
+    → AreDistinctPerEnd (histories_along turns (start l.a l.b l.random_a l.random_b) no_histories)
 
 -- Of each reachable world, whatever rules the run follows, and behind the end of an association too.
 abbrev pub WorldsAgree : Type 0
-WorldsAgree = (w : World) (l : IsReachable w) → DrawsNoTagTwice l → Agrees w.log
+WorldsAgree = (w : World) (l : IsReachable w) → EachEndDrawsDistinctTags l → Agrees w.log

@@ -5,8 +5,8 @@ use Rattle.proof_delivery.specs.StreamEpochs.{failed_in}
 use Rattle.spec_world.specs.Observations.{End, Entry, ready, handed_out}
 use Rattle.spec_world.specs.World.{World}
 use Rattle.proof_world.specs.Traces.{IsReachable, origin}
-use Rattle.proof_world.specs.Consistent.{Stands, FollowsTheRules, AreConsistent}
-use Rattle.proof_world.specs.Delivered.{AlongRun, offers, emitted_events, Delivers, IsInBounds}
+use Rattle.proof_world.specs.Consistent.{NoneHasEnded, KeepsOpeningRules, AreConsistent}
+use Rattle.proof_world.specs.Delivered.{AlongRun, accepted_messages, emitted_events, Delivers, IsInBounds}
 use Rattle.proof_world.specs.Justified.{AreJustified}
 
 -- Where the rules are followed until then, both ends are consistent between events; what was handed out is a prefix of what became
@@ -14,12 +14,12 @@ use Rattle.proof_world.specs.Justified.{AreJustified}
 -- epoch, what was skipped was given up, what was reported is ready, at rest nothing is left, and no end emits that a reset failed.
 -- Records of messages given up are justified, behind that too.
 pub record Composes (w : World) (l : IsReachable w) : Type 0 where
-  pub consistent : FollowsTheRules w → AlongRun (λ u. Stands u.log → AreConsistent l.a l.b u) l.actions (origin l) w l.runs
-  pub handed : FollowsTheRules w → (x : End) (early late : List Entry) → w.log ≡ early ++ late → Stands early → Extends (handed_out x early) (ready x early)
-  pub delivers : FollowsTheRules w → IsInBounds l.actions (origin l) w l.runs → (x : End) → Delivers x l.actions (origin l) w l.runs
-  pub none_refused : FollowsTheRules w → IsInBounds l.actions (origin l) w l.runs → (x : End) (early late : List Entry) → w.log ≡ early ++ late → Stands early
+  pub consistent : KeepsOpeningRules w → AlongRun (λ u. NoneHasEnded u.log → AreConsistent l.a l.b u) l.actions (origin l) w l.runs
+  pub handed : KeepsOpeningRules w → (x : End) (early late : List Entry) → w.log ≡ early ++ late → NoneHasEnded early → Extends (handed_out x early) (ready x early)
+  pub delivers : KeepsOpeningRules w → IsInBounds l.actions (origin l) w l.runs → (x : End) → Delivers x l.actions (origin l) w l.runs
+  pub none_refused : KeepsOpeningRules w → IsInBounds l.actions (origin l) w l.runs → (x : End) (early late : List Entry) → w.log ≡ early ++ late → NoneHasEnded early
       → failed_in (emitted_events x early) ≡ false
-  pub justified : (x : End) → length (offers x w.log) < 2 ^ 32 → AreJustified x w.log
+  pub justified : (x : End) → length (accepted_messages x w.log) < 2 ^ 32 → AreJustified x w.log
 
 abbrev pub WorldsCompose : Type 0
 WorldsCompose = (w : World) (l : IsReachable w) → Composes w l

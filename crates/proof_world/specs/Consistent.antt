@@ -7,7 +7,7 @@ use Rattle.sctp_capabilities.specs.Capabilities.{agreed, exchange}
 use Rattle.sctp_state.specs.Events.{OnClosed, OnAborted}
 use Rattle.spec_endpoint.specs.Association.{Tcb, Phase, Open}
 use Rattle.spec_endpoint.specs.Shown.{Association}
-use Rattle.spec_world.specs.Observations.{End, A, B, same_end, none_unless, mirrored, held, times_connected, Connect, Shutdown, Entry, Called, Given, Happened}
+use Rattle.spec_world.specs.Observations.{End, A, B, same_end, none_unless, mirrored, held, times_connected, Connect, Shutdown, Entry, Called, Given, EmittedEvent}
 use Rattle.spec_world.specs.World.{World, Runs, side_of, other}
 use Rattle.spec_world.specs.FirstRun.{opening, IsFresh}
 use Rattle.proof_world.specs.Traces.{IsReachable}
@@ -23,19 +23,19 @@ is_some_init None = false
 is_some_init (Some bytes) = is_init bytes
 
 -- an INIT among these packets is given to this end
-abbrev pub asks : End → (packets : List (List ℕ)) → Entry → Bool
-asks x packets (Given y clock packet) = same_end x y && is_some_init (slice_get packets packet)
-asks x packets entry = false
+abbrev pub gets_init : End → (packets : List (List ℕ)) → Entry → Bool
+gets_init x packets (Given y clock packet) = same_end x y && is_some_init (slice_get packets packet)
+gets_init x packets entry = false
 
 -- an INIT of the other end was given to this one
-abbrev pub was_asked : End → World → List Entry → Bool
-was_asked x w log = list_any (asks x (side_of (other x) w).packets) log
+abbrev pub got_init : End → World → List Entry → Bool
+got_init x w log = list_any (gets_init x (side_of (other x) w).packets) log
 
 -- ---- until an association is over
 
 abbrev pub ended_by : End → Entry → List End
-ended_by x (Happened y OnClosed) = none_unless (same_end x y) y
-ended_by x (Happened y (OnAborted kind text)) = none_unless (same_end x y) y
+ended_by x (EmittedEvent y OnClosed) = none_unless (same_end x y) y
+ended_by x (EmittedEvent y (OnAborted kind text)) = none_unless (same_end x y) y
 ended_by x entry = []
 
 -- how often this end emitted that an association is over
@@ -43,25 +43,25 @@ abbrev pub times_ended : End → List Entry → ℕ
 times_ended x log = length (flat_map (ended_by x) log)
 
 -- no end emitted so yet
-abbrev pub Stands : List Entry → Type 0
-Stands log = (x : End) → times_ended x log ≡ 0
+abbrev pub NoneHasEnded : List Entry → Type 0
+NoneHasEnded log = (x : End) → times_ended x log ≡ 0
 
 -- ---- the rules
 
 -- Before its own OnConnected an end calls neither shutdown, nor connect once an INIT was given to it.
 abbrev pub MayFollow : World → (before : List Entry) → Entry → Type 0
 MayFollow w before (Called x clock Shutdown answer) = 1 ≤ times_connected x before
-MayFollow w before (Called x clock Connect answer) = (1 ≤ times_connected x before) ⊎ (was_asked x w before ≡ false)
+MayFollow w before (Called x clock Connect answer) = (1 ≤ times_connected x before) ⊎ (got_init x w before ≡ false)
 MayFollow w before entry = ⊤
 
 -- each entry, by those before it, until an end first emits that an association is over
-abbrev pub FollowsTheRules : World → Type 0
-FollowsTheRules w = (before : List Entry) (entry : Entry) (behind : List Entry) → w.log ≡ before ++ entry ∷ behind → Stands before → MayFollow w before entry
+abbrev pub KeepsOpeningRules : World → Type 0
+KeepsOpeningRules w = (before : List Entry) (entry : Entry) (behind : List Entry) → w.log ≡ before ++ entry ∷ behind → NoneHasEnded before → MayFollow w before entry
 
 -- The opening rules were kept, and no end emitted that an association is over.
 pub record IsUndisturbed (w : World) : Type 0 where
-  pub follows : FollowsTheRules w
-  pub stands : Stands w.log
+  pub follows : KeepsOpeningRules w
+  pub stands : NoneHasEnded w.log
 
 -- ---- the law
 
@@ -79,4 +79,4 @@ WorldsAreConsistent = (w : World) (l : IsReachable w) → IsUndisturbed w → Ar
 
 -- The rules can be kept: the opening of the first run keeps them, and leaves no association over.
 abbrev pub OpeningFollows : Type 0
-OpeningFollows = (w v : World) → IsFresh w → Runs opening w v → FollowsTheRules v × Stands v.log
+OpeningFollows = (w v : World) → IsFresh w → Runs opening w v → KeepsOpeningRules v × NoneHasEnded v.log

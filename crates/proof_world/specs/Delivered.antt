@@ -7,38 +7,38 @@ use Rattle.sctp_state.specs.Events.{Event, GivenUp}
 use Rattle.proof_protocol.specs.State.{has}
 use Rattle.proof_tx_refines.specs.Led.{delivered_by}
 use Rattle.proof_tx_refines.specs.Records.{are_distinct}
-use Rattle.proof_delivery.specs.Accepted.{Offer}
+use Rattle.proof_delivery.specs.Accepted.{AcceptedMessage}
 use Rattle.proof_delivery.specs.Answered.{Asked, none_asked, asked_by, IsAnswered, performed_in}
 use Rattle.proof_delivery.specs.Justified.{reset_unless}
 use Rattle.proof_delivery.specs.StreamEpochs.{StreamEpoch, all_open, shut_streams, reopen, performed_of, epochs_of, resets_emitted}
 use Rattle.proof_delivery.specs.Windows.{numbered_count, IsWithin, Stamp, Stamps, no_stamps, IsYoung}
 use Rattle.proof_delivery.specs.Delivery.{Fits, SkippedAreGivenUp, IsReady, AllAreDone}
-use Rattle.spec_world.specs.Observations.{End, A, B, same_end, none_unless, all_unless, Call, Send, SendMany, Reset, SetMaxMessageSize, Answer, Sent, SentMany, AskedReset, unrefused, Entry, Called, Given, Foreign, Timed, Happened, BecameReady, accepted, ready, given_up}
+use Rattle.spec_world.specs.Observations.{End, A, B, same_end, none_unless, all_unless, Call, Send, SendMany, Reset, SetMaxMessageSize, Answer, Sent, SentMany, AskedReset, unrefused, Entry, Called, Given, Foreign, Timed, EmittedEvent, BecameReady, accepted, ready, given_up}
 use Rattle.spec_world.specs.World.{Side, World, Action, CallOf, Give, GiveForeign, AdvanceTime, Runs, other, is_at_rest}
-use Rattle.proof_world.specs.Consistent.{Stands}
+use Rattle.proof_world.specs.Consistent.{NoneHasEnded}
 
 -- ---- what was accepted, with the options of its sending
 
-abbrev pub offers_in : Call → Answer → List Offer
-offers_in (Send m options) (Sent None) = record { message = m; options = options } ∷ []
-offers_in (SendMany ms options) (SentMany refused) = map (λ (m : Message). record { message = m; options = options }) (unrefused 0 ms refused)
-offers_in call answer = []
+abbrev pub accepted_messages_in : Call → Answer → List AcceptedMessage
+accepted_messages_in (Send m options) (Sent None) = record { message = m; options = options } ∷ []
+accepted_messages_in (SendMany ms options) (SentMany refused) = map (λ (m : Message). record { message = m; options = options }) (unrefused 0 ms refused)
+accepted_messages_in call answer = []
 
-abbrev pub offers_by : End → Entry → List Offer
-offers_by x (Called y clock call answer) = all_unless (same_end x y) (offers_in call answer)
-offers_by x entry = []
+abbrev pub accepted_messages_by : End → Entry → List AcceptedMessage
+accepted_messages_by x (Called y clock call answer) = all_unless (same_end x y) (accepted_messages_in call answer)
+accepted_messages_by x entry = []
 
-abbrev pub offers : End → List Entry → List Offer
-offers x log = flat_map (offers_by x) log
+abbrev pub accepted_messages : End → List Entry → List AcceptedMessage
+accepted_messages x log = flat_map (accepted_messages_by x) log
 
 -- ---- what an end emitted, but for packets
 
-abbrev pub happened_by : End → Entry → List (Event (List ℕ))
-happened_by x (Happened y event) = none_unless (same_end x y) event
-happened_by x entry = []
+abbrev pub emitted_events_by : End → Entry → List (Event (List ℕ))
+emitted_events_by x (EmittedEvent y event) = none_unless (same_end x y) event
+emitted_events_by x entry = []
 
 abbrev pub emitted_events : End → List Entry → List (Event (List ℕ))
-emitted_events x log = flat_map (happened_by x) log
+emitted_events x log = flat_map (emitted_events_by x) log
 
 -- ---- the epochs of its streams
 
@@ -53,12 +53,12 @@ reset_by x entry = []
 
 -- such a call shuts those that are open, and they are open again once the end emits that they were reset
 abbrev pub epochs_after : End → Entry → (ℕ → StreamEpoch) → ℕ → StreamEpoch
-epochs_after x entry f = reopen (performed_of (happened_by x entry)) (shut_streams (reset_by x entry) f)
+epochs_after x entry f = reopen (performed_of (emitted_events_by x entry)) (shut_streams (reset_by x entry) f)
 
 -- the epoch of each message that was accepted, in their order
-abbrev pub offer_epochs : End → List Entry → (ℕ → StreamEpoch) → List ℕ
-offer_epochs x [] f = []
-offer_epochs x (entry ∷ log) f = epochs_of (offers_by x entry) f ++ offer_epochs x log (epochs_after x entry f)
+abbrev pub message_epochs : End → List Entry → (ℕ → StreamEpoch) → List ℕ
+message_epochs x [] f = []
+message_epochs x (entry ∷ log) f = epochs_of (accepted_messages_by x entry) f ++ message_epochs x log (epochs_after x entry f)
 
 -- ---- what became of them, as the end that accepted them reports
 
@@ -67,7 +67,7 @@ abbrev pub given_up_places : End → List Entry → List ℕ
 given_up_places x log = map (λ (g : GivenUp). g.number) (given_up x log)
 
 abbrev pub reported_by : End → Entry → List ℕ
-reported_by x (Happened y event) = all_unless (same_end x y) (delivered_by event)
+reported_by x (EmittedEvent y event) = all_unless (same_end x y) (delivered_by event)
 reported_by x entry = []
 
 -- the lifecycle ids of those that it reported as delivered
@@ -104,22 +104,22 @@ IsTimely (AdvanceTime x time) now s = ⊤
 
 -- at each world in which no association is over
 abbrev pub KeepsWindows : (actions : List Action) (w v : World) → Runs actions w v → Stamps → Type 0
-KeepsWindows [] w v r s = Stands w.log → AreWithin w
+KeepsWindows [] w v r s = NoneHasEnded w.log → AreWithin w
 KeepsWindows (action ∷ actions) w v r s =
-    (Stands w.log → AreWithin w × IsTimely action (stamp w) s) × KeepsWindows actions r.0 v r.2 (stamps_after w r.0 s)
+    (NoneHasEnded w.log → AreWithin w × IsTimely action (stamp w) s) × KeepsWindows actions r.0 v r.2 (stamps_after w r.0 s)
 
 -- none of the actions that begin in a world with no association over is such a one
 abbrev pub KeepsFrom : (Action → Bool) → (actions : List Action) (w v : World) → Runs actions w v → Type 0
 KeepsFrom is_such [] w v r = ⊤
-KeepsFrom is_such (action ∷ actions) w v r = (Stands w.log → is_such action ≡ false) × KeepsFrom is_such actions r.0 v r.2
+KeepsFrom is_such (action ∷ actions) w v r = (NoneHasEnded w.log → is_such action ≡ false) × KeepsFrom is_such actions r.0 v r.2
 
-abbrev pub asks_more : Call → Bool
-asks_more (SetMaxMessageSize bytes) = nat_le (2 ^ 32) bytes
-asks_more call = false
+abbrev pub exceeds_limit : Call → Bool
+exceeds_limit (SetMaxMessageSize bytes) = nat_le (2 ^ 32) bytes
+exceeds_limit call = false
 
 -- a limit of messages' sizes that doesn't fit 32 bits
 abbrev pub sets_more : Action → Bool
-sets_more (CallOf x call) = asks_more call
+sets_more (CallOf x call) = exceeds_limit call
 sets_more action = false
 
 -- ---- requests to reset streams, along a run
@@ -137,13 +137,13 @@ pub record AreAnswered (w : World) (k : Asked) : Type 0 where
 
 -- at each world in which no association is over
 abbrev pub KeepsRequests : (actions : List Action) (w v : World) → Runs actions w v → Asked → Type 0
-KeepsRequests [] w v r k = Stands w.log → AreAnswered w k
-KeepsRequests (action ∷ actions) w v r k = (Stands w.log → AreAnswered w k) × KeepsRequests actions r.0 v r.2 (asked_after w r.0 k)
+KeepsRequests [] w v r k = NoneHasEnded w.log → AreAnswered w k
+KeepsRequests (action ∷ actions) w v r k = (NoneHasEnded w.log → AreAnswered w k) × KeepsRequests actions r.0 v r.2 (asked_after w r.0 k)
 
 -- none waits too long, and not too many are reported as performed
 pub record KeepsResets (actions : List Action) (w v : World) (runs : Runs actions w v) : Type 0 where
   pub answered : KeepsRequests actions w v runs none_asked
-  pub few : (x : End) (early late : List Entry) → v.log ≡ early ++ late → Stands early → performed_in (emitted_events x early) < 2 ^ 32 - 1
+  pub few : (x : End) (early late : List Entry) → v.log ≡ early ++ late → NoneHasEnded early → performed_in (emitted_events x early) < 2 ^ 32 - 1
 
 -- ---- each message becomes ready in its epoch
 
@@ -159,7 +159,7 @@ begins_event entry = false
 -- the resets of the stream that the other end emitted before this event, as before any other so far, and those that it emitted up to here.
 pub record IsInItsEpoch (x : End) (log : List Entry) (stream place : ℕ) : Type 0 where
   pub epoch : ℕ
-  pub its_own : slice_get (offer_epochs x log all_open) place ≡ Some epoch
+  pub its_own : slice_get (message_epochs x log all_open) place ≡ Some epoch
   pub least : (before behind : List Entry) (first : Entry) → log ≡ before ++ first ∷ behind → begins_event first ≡ true
       → resets_emitted stream (emitted_events (other x) before) ≤ epoch
   pub most : epoch ≤ resets_emitted stream (emitted_events (other x) log)
@@ -181,26 +181,26 @@ ready_places x log places = take (length (ready (other x) log)) places
 -- the same message; and where nothing is queued at x and no item kept, each message is ready or was given up.
 pub record Delivers (x : End) (actions : List Action) (w v : World) (runs : Runs actions w v) : Type 0 where
   pub places : List ℕ
-  pub fits : (early late : List Entry) → v.log ≡ early ++ late → Stands early → Fits (offers x early) (ready (other x) early) (ready_places x early places)
-  pub epochs : (early late : List Entry) (m : Message) → v.log ≡ early ++ BecameReady (other x) m ∷ late → Stands early
+  pub fits : (early late : List Entry) → v.log ≡ early ++ late → NoneHasEnded early → Fits (accepted_messages x early) (ready (other x) early) (ready_places x early places)
+  pub epochs : (early late : List Entry) (m : Message) → v.log ≡ early ++ BecameReady (other x) m ∷ late → NoneHasEnded early
       → IsInItsEpoch x early m.stream (slice_index places (length (ready (other x) early)))
-  pub skipped : (early late : List Entry) → v.log ≡ early ++ late → Stands early → SkippedAreGivenUp (offers x early) (given_up_places x early) (ready_places x early places)
-  pub reports : (early late : List Entry) → v.log ≡ early ++ late → Stands early → (id : ℕ) → has id (reported x early) ≡ true
-      → IsReady (offers x early) (ready_places x early places) id
-  pub once : AlongRun (λ u. Stands u.log → are_distinct (given_up_places x u.log) ≡ true) actions w v runs
-  pub rest : AlongRun (λ u. Stands u.log → is_at_rest x u ≡ true → AllAreDone (offers x u.log) (given_up_places x u.log) (ready_places x u.log places)) actions w v runs
+  pub skipped : (early late : List Entry) → v.log ≡ early ++ late → NoneHasEnded early → SkippedAreGivenUp (accepted_messages x early) (given_up_places x early) (ready_places x early places)
+  pub reports : (early late : List Entry) → v.log ≡ early ++ late → NoneHasEnded early → (id : ℕ) → has id (reported x early) ≡ true
+      → IsReady (accepted_messages x early) (ready_places x early places) id
+  pub once : AlongRun (λ u. NoneHasEnded u.log → are_distinct (given_up_places x u.log) ≡ true) actions w v runs
+  pub rest : AlongRun (λ u. NoneHasEnded u.log → is_at_rest x u ≡ true → AllAreDone (accepted_messages x u.log) (given_up_places x u.log) (ready_places x u.log places)) actions w v runs
 
 -- what a run has to keep until then
 pub record IsInBounds (actions : List Action) (w v : World) (runs : Runs actions w v) : Type 0 where
   pub windows : KeepsWindows actions w v runs no_stamps
   pub resets : KeepsResets actions w v runs
-  pub few : (x : End) (early late : List Entry) → v.log ≡ early ++ late → Stands early → length (offers x early) < 2 ^ 32
+  pub few : (x : End) (early late : List Entry) → v.log ≡ early ++ late → NoneHasEnded early → length (accepted_messages x early) < 2 ^ 32
   pub limits : KeepsFrom sets_more actions w v runs
 
 -- the messages of the offers are those accepted
 abbrev pub OffersAreAccepted : Type 0
-OffersAreAccepted = (x : End) (log : List Entry) → accepted x log ≡ map (λ (o : Offer). o.message) (offers x log)
+OffersAreAccepted = (x : End) (log : List Entry) → accepted x log ≡ map (λ (o : AcceptedMessage). o.message) (accepted_messages x log)
 
 -- each of them has an epoch
 abbrev pub OffersHaveEpochs : Type 0
-OffersHaveEpochs = (x : End) (log : List Entry) → length (offer_epochs x log all_open) ≡ length (offers x log)
+OffersHaveEpochs = (x : End) (log : List Entry) → length (message_epochs x log all_open) ≡ length (accepted_messages x log)

@@ -3,8 +3,8 @@ use Rattle.std.specs.Prelude.{ℕ, ◌+◌, ◌≤◌, Bool, true, false, List, 
 use Rattle.rand_core.specs.Stream.{Stream}
 use Rattle.sctp_state.specs.Options.{Options}
 use Rattle.proof_endpoint.specs.Lifecycles.{hands_lifecycle, emitted_end}
-use Rattle.spec_world.specs.Observations.{End, Entry, Called, Happened, same_end}
-use Rattle.spec_world.specs.World.{World, Action, Runs, fresh_world, step_of}
+use Rattle.spec_world.specs.Observations.{End, Entry, Called, EmittedEvent, same_end}
+use Rattle.spec_world.specs.World.{World, Action, Runs, fresh_world, table_call}
 
 abbrev pub only_if : Bool → ℕ → ℕ
 only_if true n = n
@@ -16,7 +16,7 @@ total f (entry ∷ log) = f entry + total f log
 
 -- how many messages with this lifecycle id a call hands to the end, accepted or refused, alone or in a batch
 abbrev pub handed_by : (l : ℕ) → End → Entry → ℕ
-handed_by l x (Called y clock call answer) = only_if (same_end x y) (hands_lifecycle l (step_of call))
+handed_by l x (Called y clock call answer) = only_if (same_end x y) (hands_lifecycle l (table_call call))
 handed_by l x entry = 0
 
 -- all that were handed to it
@@ -24,7 +24,7 @@ abbrev pub handed_to : (l : ℕ) → End → List Entry → ℕ
 handed_to l x log = total (handed_by l x) log
 
 abbrev pub ended_by : (l : ℕ) → End → Entry → ℕ
-ended_by l x (Happened y event) = only_if (same_end x y) (emitted_end l event)
+ended_by l x (EmittedEvent y event) = only_if (same_end x y) (emitted_end l event)
 ended_by l x entry = 0
 
 -- how often the end emitted that this lifecycle ended

@@ -6,11 +6,11 @@ use Rattle.rand_core.specs.Stream.{Stream}
 use Rattle.sctp_state.specs.Options.{Options}
 use Rattle.sctp_state.specs.Events.{GivenUp}
 use Rattle.proof_endpoint.specs.Sound.{OptionsFit}
-use Rattle.proof_delivery.specs.Justified.{Acceptance, accepted_then, forgone_then, IsJustified}
+use Rattle.proof_delivery.specs.Justified.{Acceptance, accepted_then, dated_record, IsJustified}
 use Rattle.spec_world.specs.Observations.{End, same_end, Entry, Called, Given, Foreign, Timed, GaveUp}
 use Rattle.spec_world.specs.World.{World, Action, Runs, fresh_world}
 use Rattle.proof_world.specs.Traces.{ActionFits, IsInBytes}
-use Rattle.proof_world.specs.Delivered.{offers_by, offers, reset_in}
+use Rattle.proof_world.specs.Delivered.{accepted_messages_by, accepted_messages, reset_in}
 
 -- ---- clocks
 
@@ -59,7 +59,7 @@ resets x log = resets_from x [] log
 -- ---- what was accepted, and when
 
 abbrev pub acceptances_by : End → Entry → List Acceptance
-acceptances_by x (Called y clock call answer) = map (accepted_then clock) (offers_by x (Called y clock call answer))
+acceptances_by x (Called y clock call answer) = map (accepted_then clock) (accepted_messages_by x (Called y clock call answer))
 acceptances_by x entry = []
 
 abbrev pub acceptances : End → List Entry → List Acceptance
@@ -70,7 +70,7 @@ acceptances x log = flat_map (acceptances_by x) log
 -- each record of this end, by what stands before it
 abbrev pub AreJustified : End → List Entry → Type 0
 AreJustified x log =
-    (before behind : List Entry) (g : GivenUp) → log ≡ before ++ GaveUp x g ∷ behind → IsJustified (acceptances x before) (forgone_then (clock x before) (resets x before) g)
+    (before behind : List Entry) (g : GivenUp) → log ≡ before ++ GaveUp x g ∷ behind → IsJustified (acceptances x before) (dated_record (clock x before) (resets x before) g)
 
 -- In each run, where an end accepts fewer than 2^32 messages.
 abbrev pub WorldsAreJustified : Type 0
@@ -78,8 +78,8 @@ WorldsAreJustified =
     (a b : Options) (words_a words_b : Stream) (word_of_a word_of_b : List ℕ → ℕ) (actions : List Action) (w : World)
     → OptionsFit a → OptionsFit b → All ActionFits actions
     → Runs actions (fresh_world a b words_a words_b word_of_a word_of_b) w → IsInBytes w
-    → (x : End) → length (offers x w.log) < 2 ^ 32 → AreJustified x w.log
+    → (x : End) → length (accepted_messages x w.log) < 2 ^ 32 → AreJustified x w.log
 
 -- acceptances are those of the offers, one by one
 abbrev pub AcceptancesAreOffers : Type 0
-AcceptancesAreOffers = (x : End) (log : List Entry) → map (λ (a : Acceptance). a.offer) (acceptances x log) ≡ offers x log
+AcceptancesAreOffers = (x : End) (log : List Entry) → map (λ (a : Acceptance). a.offer) (acceptances x log) ≡ accepted_messages x log

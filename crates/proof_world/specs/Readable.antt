@@ -10,7 +10,7 @@ use Rattle.proof_endpoint.specs.Mapped.{Carried, as_written}
 use Rattle.proof_endpoint.specs.ReceivedBack.{as_received}
 use Rattle.proof_endpoint.specs.Sound.{OptionsFit, IsSound, ArgumentFits}
 use Rattle.proof_endpoint.specs.ReadBack.{ReadsBack, AreBytes}
-use Rattle.spec_world.specs.World.{Side, World, Action, CallOf, Give, GiveForeign, AdvanceTime, Happens, Runs, fresh_world, side_of, other, step_of}
+use Rattle.spec_world.specs.World.{Side, World, Action, CallOf, Give, GiveForeign, AdvanceTime, Happens, Runs, fresh_world, side_of, other, table_call}
 
 -- ---- packets
 
@@ -41,7 +41,7 @@ pub record IsReadable (word_of_a word_of_b : List ℕ → ℕ) (w : World) : Typ
 
 -- Only what a call hands in has to fit: packets of the other end do, and bytes from elsewhere are given where they are refused.
 abbrev pub ActionFits : Action → Type 0
-ActionFits (CallOf x call) = ArgumentFits (step_of call)
+ActionFits (CallOf x call) = ArgumentFits (table_call call)
 ActionFits (Give packet x) = Unit {0}
 ActionFits (GiveForeign x bytes) = Unit {0}
 ActionFits (AdvanceTime x now) = Unit {0}

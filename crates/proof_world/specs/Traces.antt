@@ -13,14 +13,14 @@ use Rattle.proof_endpoint.specs.Sound.{OptionsFit, ArgumentFits}
 use Rattle.proof_endpoint.specs.ReadBack.{AreBytes}
 use Rattle.proof_pair.specs.Trace as traces
 use Rattle.proof_pair.specs.Trace.{Pair, EndAction, Calls, Refuses, emitted_packets, goes, run, start}
-use Rattle.spec_world.specs.Observations.{End, A, B, same_end, none_unless, Entry, Emitted, Happened}
-use Rattle.spec_world.specs.World.{Side, World, Action, CallOf, Give, GiveForeign, AdvanceTime, Runs, fresh_world, step_of, emitted_entries}
+use Rattle.spec_world.specs.Observations.{End, A, B, same_end, none_unless, Entry, EmittedPacket, EmittedEvent}
+use Rattle.spec_world.specs.World.{Side, World, Action, CallOf, Give, GiveForeign, AdvanceTime, Runs, fresh_world, table_call, emitted_entries}
 
 -- ---- what comes from outside
 
 -- what a call hands in fits; bytes from elsewhere are below 256 each
 abbrev pub ActionFits : Action → Type 0
-ActionFits (CallOf x call) = ArgumentFits (step_of call)
+ActionFits (CallOf x call) = ArgumentFits (table_call call)
 ActionFits (Give packet x) = Unit {0}
 ActionFits (GiveForeign x bytes) = AreBytes bytes
 ActionFits (AdvanceTime x now) = Unit {0}
@@ -83,7 +83,7 @@ abbrev pub IsForeign : List ℕ → EndAction → Type 0
 IsForeign bytes turn = ((p : PacketTree) × IsPacket bytes p × (turn ≡ Refuses p)) ⊎ (turn ≡ Calls table.NoPacket)
 
 abbrev pub IsActionOf : (word_of_a word_of_b : List ℕ → ℕ) → Action → EndAction → Pair → Type 0
-IsActionOf f g (CallOf x call) turn c = turn ≡ Calls (step_of call)
+IsActionOf f g (CallOf x call) turn c = turn ≡ Calls (table_call call)
 IsActionOf f g (Give packet A) turn c = IsReceiving f g packet c.a c.b turn
 IsActionOf f g (Give packet B) turn c = IsReceiving g f packet c.b c.a turn
 IsActionOf f g (GiveForeign x bytes) turn c = IsForeign bytes turn
@@ -99,23 +99,23 @@ AreActionsOf f g (action ∷ actions) (e ∷ es) c = (e.0 ≡ is_a (end_of actio
 
 -- what the log has of an end's events: its packets by their numbers, the others as they are
 abbrev pub emitted_by : End → Entry → List Entry
-emitted_by x (Emitted y packet) = none_unless (same_end x y) (Emitted y packet)
-emitted_by x (Happened y event) = none_unless (same_end x y) (Happened y event)
+emitted_by x (EmittedPacket y packet) = none_unless (same_end x y) (EmittedPacket y packet)
+emitted_by x (EmittedEvent y event) = none_unless (same_end x y) (EmittedEvent y event)
 emitted_by x entry = []
 
 abbrev pub emitted_in : End → List Entry → List Entry
 emitted_in x log = flat_map (emitted_by x) log
 
 -- A side is the trace's side with each packet written: its socket, its packets, and in the log all that it emitted, in order.
-pub record IsImage (word_of : List ℕ → ℕ) (x : End) (log : List Entry) (side : Side) (end : traces.Side) : Type 0 where
+pub record IsWrittenAs (word_of : List ℕ → ℕ) (x : End) (log : List Entry) (side : Side) (end : traces.Side) : Type 0 where
   pub socket : side.socket ≡ map_end (as_bytes word_of) end.end
   pub quiet : end.end.endpoint_state.context.emitted ≡ silent  -- nothing emitted is left
   pub packets : side.packets ≡ map (as_written word_of) (emitted_packets end)
   pub emitted : emitted_in x log ≡ emitted_entries x 0 (map (map_event (as_bytes word_of)) end.emitted)
 
 pub record AreImages (word_of_a word_of_b : List ℕ → ℕ) (w : World) (c : Pair) : Type 0 where
-  pub a : IsImage word_of_a A w.log w.a c.a
-  pub b : IsImage word_of_b B w.log w.b c.b
+  pub a : IsWrittenAs word_of_a A w.log w.a c.a
+  pub b : IsWrittenAs word_of_b B w.log w.b c.b
 
 pub record HasTrace (from : Pair) (word_of_a word_of_b : List ℕ → ℕ) (actions : List Action) (w : World) : Type 0 where
   pub trace : List (Bool × EndAction)

@@ -3,12 +3,12 @@ use Rattle.std.proofs.Common.{◌≡◌, ℕ, Bool, false, List, [], ◌∷◌, 
 use Rattle.std.proofs.lemmas.List.Elements.{All-nil, All-head, All-tail}
 use Rattle.proof_endpoint.specs.ReadBack.{AreBytes}
 use Rattle.proof_pair.specs.Trace as traces
-use Rattle.proof_pair.specs.Trace.{Pair, EndAction, goes, run, HasNotEnded, AreGiven, start, MayAct}
+use Rattle.proof_pair.specs.Trace.{Pair, EndAction, goes, run, NeitherHasEnded, AreValidOptions, start, MayAct}
 use Rattle.proof_pair.specs.Agreement.{Draw, AreDistinct}
 use Rattle.proof_pair.proofs.AgreeActionsLemmas.{has_front}
 use Rattle.proof_pair.proofs.TraceLemmas.{follows_more, run_both}
 use Rattle.proof_draws.specs.NamedChunks.{Names, AreNames}
-use Rattle.proof_draws_pair.specs.Pairing.{drawn, drawn_at, NoTagTwice}
+use Rattle.proof_draws_pair.specs.Pairing.{drawn, drawn_at, AllDrawnTagsAreDistinct}
 use Rattle.proof_draws_pair.specs.Alike.{ArePairsAlike, SameAction, SameActions, ActionIsAlike, ArePassed}
 use Rattle.proof_draws_pair.proofs.PassLemmas.{images_pass}
 use Rattle.proof_draws_pair.proofs.LawLemmas.{are_always_alike}
@@ -16,13 +16,13 @@ use Rattle.proof_draws_pair.proofs.WholeTraceLemmas.{packets_pass}
 use Rattle.spec_world.specs.Observations.{A, B}
 use Rattle.spec_world.specs.World.{World, Action, Happens, Runs}
 use Rattle.proof_world.specs.Traces.{ActionFits, is_a, end_of, AreActionsOf}
-use Rattle.proof_world.specs.Consistent.{Stands}
+use Rattle.proof_world.specs.Consistent.{NoneHasEnded}
 use Rattle.proof_world.specs.Delivered.{KeepsFrom}
 use Rattle.proof_world.proofs.ConsistentLemmas.{given_of, none_ended}
 use Rattle.proof_world.proofs.WorldLemmas.{Both, Extends, in_bytes_before, Stepped, steps}
 use Rattle.proof_world.proofs.RunsLemmas.{happens_extends, runs_extends, may_action, Ran, ran, fresh_both}
 use Rattle.proof_world_draws.specs.Visible.{ShowTheSame}
-use Rattle.proof_world_draws.specs.Alike.{ArePaired, AreComparable, ShowAlong, WorldsShowTheSame, NewWorldsArePaired, is_foreign, AreTagsApart, first_new, second_new}
+use Rattle.proof_world_draws.specs.Alike.{ArePaired, AreComparable, ShowAlong, WorldsShowTheSame, NewWorldsArePaired, is_foreign, DrawsDistinctTags, first_new, second_new}
 use Rattle.proof_world_draws.proofs.EventLemmas.{same_action, event_shown}
 use Rattle.proof_world_draws.proofs.EndingLemmas.{ended_or_none}
 
@@ -52,7 +52,7 @@ distinct_front : (ds es : List Draw) → AreDistinct (ds ++ es) → AreDistinct 
 distinct_front [] es h = tt
 distinct_front (d ∷ ds) es h = (λ e has. h.0 e (has_front e ds es has), distinct_front ds es h.1)
 
-once_front : (es fs : List (Bool × EndAction)) (c : Pair) → NoTagTwice (es ++ fs) c → NoTagTwice es c
+once_front : (es fs : List (Bool × EndAction)) (c : Pair) → AllDrawnTagsAreDistinct (es ++ fs) c → AllDrawnTagsAreDistinct es c
 once_front es fs c h = distinct_front (drawn es c) (drawn fs (run es c)) (subst AreDistinct (drawn_both es fs c) h)
 
 -- ---- two new ends
@@ -75,10 +75,10 @@ module _ (w v : World) (p : ArePaired w v) (q : AreComparable p) where
   abbrev second_start : Pair
   second_start = start p.a p.b p.others_a p.others_b
 
-  given_a : AreGiven p.a
+  given_a : AreValidOptions p.a
   given_a = given_of p.a p.valid_a p.fits_a
 
-  given_b : AreGiven p.b
+  given_b : AreValidOptions p.b
   given_b = given_of p.b p.valid_b p.fits_b
 
   -- so far, and before what is left
@@ -90,13 +90,13 @@ module _ (w v : World) (p : ArePaired w v) (q : AreComparable p) where
     both : Both f f x (run es first_start)
     both_too : Both f f y (run fs second_start)
     same : SameActions es fs
-    follows : traces.FollowsTheRules es first_start
+    follows : traces.KeepsOpeningRules es first_start
     alike : ArePairsAlike (run es first_start) (run fs second_start)
     later : Extends x w
     later_too : Extends y v
     shown : ShowTheSame x y
 
-  not_ended : (x : World) (c : Pair) → Both f f x c → Stands x.log → HasNotEnded c
+  not_ended : (x : World) (c : Pair) → Both f f x c → NoneHasEnded x.log → NeitherHasEnded c
   not_ended x c h stands = record {
     a = none_ended f A x.log x.b.packets x.a c.a h.a (stands A);
     b = none_ended f B x.log x.a.packets x.b c.b h.b (stands B);
@@ -104,15 +104,15 @@ module _ (w v : World) (p : ArePaired w v) (q : AreComparable p) where
 
   -- no tag is drawn twice up to the next action
   once : (word_of : List ℕ → ℕ) (c : Pair) (front : List Action) (action : Action) (actions : List Action) (es : List (Bool × EndAction)) (e : Bool × EndAction) (fs : List (Bool × EndAction))
-      → AreTagsApart word_of p.actions c → p.actions ≡ front ++ action ∷ actions → AreActionsOf word_of word_of front es c → AreActionsOf word_of word_of (action ∷ actions) (e ∷ fs) (run es c)
-      → NoTagTwice (es ++ e ∷ []) c
+      → DrawsDistinctTags word_of p.actions c → p.actions ≡ front ++ action ∷ actions → AreActionsOf word_of word_of front es c → AreActionsOf word_of word_of (action ∷ actions) (e ∷ fs) (run es c)
+      → AllDrawnTagsAreDistinct (es ++ e ∷ []) c
   once word_of c front action actions es e fs apart split h k =
       once_front (es ++ e ∷ []) fs c
-      (subst (λ (l : List (Bool × EndAction)). NoTagTwice l c) (sym (append_assoc es (e ∷ []) fs))
+      (subst (λ (l : List (Bool × EndAction)). AllDrawnTagsAreDistinct l c) (sym (append_assoc es (e ∷ []) fs))
       (apart (es ++ e ∷ fs) (subst (λ (l : List Action). AreActionsOf word_of word_of l (es ++ e ∷ fs) c) (sym split) (actions_both word_of front (action ∷ actions) es (e ∷ fs) c h k))))
 
   next : (front : List Action) (action : Action) (actions : List Action) (x y u z : World) → p.actions ≡ front ++ action ∷ actions → Happens action x u → Happens action y z
-      → Runs actions u w → Runs actions z v → All ActionFits (action ∷ actions) → is_foreign action ≡ false → Stands x.log → IsPoint front x y
+      → Runs actions u w → Runs actions z v → All ActionFits (action ∷ actions) → is_foreign action ≡ false → NoneHasEnded x.log → IsPoint front x y
       → IsPoint (front ++ action ∷ []) u z
   next front action actions x y u z split happens happens_too left left_too fit own stands at =
       let c : Pair = run at.es first_start in
@@ -125,13 +125,13 @@ module _ (w v : World) (p : ArePaired w v) (q : AreComparable p) where
       let g : Bool × EndAction = (is_a (end_of action), r.turn) in
       let after : Ran f f actions u w (goes e.0 e.1 c) = ran f f actions u w (goes e.0 e.1 c) rest_fits left p.first_bytes s.both in
       let after_too : Ran f f actions z v (goes g.0 g.1 d) = ran f f actions z v (goes g.0 g.1 d) rest_fits left_too p.second_bytes r.both in
-      let still : HasNotEnded c = not_ended x c at.both stands in
+      let still : NeitherHasEnded c = not_ended x c at.both stands in
       let passed : ArePassed c = packets_pass p.a p.b p.random_a p.random_b at.es given_a given_b at.follows still in
       let same : SameAction s.turn r.turn = same_action f action s.turn r.turn x y c d own s.is r.is at.both at.both_too passed (images_pass c d at.alike passed) in
       let sames : SameActions (at.es ++ e ∷ []) (at.fs ++ g ∷ []) = same_more at.es at.fs e g at.same refl same in
       let may : MayAct e.1 (traces.side_of e.0 c) =
       may_action f f action x u w c s.turn happens (happens_extends action x u happens) (runs_extends actions u w left) at.both s.is q.follows stands in
-      let follows : traces.FollowsTheRules (at.es ++ e ∷ []) first_start = follows_more at.es e first_start at.follows may in
+      let follows : traces.KeepsOpeningRules (at.es ++ e ∷ []) first_start = follows_more at.es e first_start at.follows may in
       let law : ActionIsAlike e g c d =
       are_always_alike p.a p.b p.random_a p.random_b p.others_a p.others_b at.es at.fs e g given_a given_b sames follows still
       (once f first_start front action actions at.es e after.trace q.first_tags split at.are (refl, s.is, after.are))

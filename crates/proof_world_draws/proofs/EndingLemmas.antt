@@ -18,7 +18,7 @@ use Rattle.proof_endpoint.specs.Mapped.{Carried}
 use Rattle.proof_endpoint.proofs.LawsLemmas.{emits_endings}
 use Rattle.proof_endpoint.proofs.EmitsLemmas.{endings_append}
 use Rattle.proof_pair.specs.Trace as traces
-use Rattle.proof_pair.specs.Trace.{Pair, EndAction, Calls, Gives, Refuses, emitted_packets, as_received, took, give, foreign_if, act, run, MayCall, MayAct, HasNotEnded, AreGiven, FollowsTheRules, start, state_of}
+use Rattle.proof_pair.specs.Trace.{Pair, EndAction, Calls, Gives, Refuses, emitted_packets, as_received, took, give, foreign_if, act, run, MayCall, MayAct, NeitherHasEnded, AreValidOptions, KeepsOpeningRules, start, state_of}
 use Rattle.proof_pair.proofs.AddedLemmas.{all_get}
 use Rattle.proof_draws.specs.Laws.{is_flowing}
 use Rattle.proof_draws_pair.specs.Kinds.{IsKind, an_init, an_answer, an_echo, a_flow, AreOfAKind}
@@ -207,15 +207,15 @@ module _ (x y : traces.Side) (quiet : x.end.endpoint_state.context.emitted.event
   action_ends (Refuses p) may kinds = foreign_ends (refusal p.header.verification_tag p.chunks (state_of x)) p refl
 
 -- of either end
-pub ended_or_none : (a b : Options) (words_a words_b : Stream) (f : List ℕ → ℕ) (w : World) (es : List (Bool × EndAction)) (t : EndAction) (x : End) → AreGiven a → AreGiven b
-    → FollowsTheRules es (start a b words_a words_b) → HasNotEnded (run es (start a b words_a words_b)) → MayAct t (traces.side_of (is_a x) (run es (start a b words_a words_b)))
+pub ended_or_none : (a b : Options) (words_a words_b : Stream) (f : List ℕ → ℕ) (w : World) (es : List (Bool × EndAction)) (t : EndAction) (x : End) → AreValidOptions a → AreValidOptions b
+    → KeepsOpeningRules es (start a b words_a words_b) → NeitherHasEnded (run es (start a b words_a words_b)) → MayAct t (traces.side_of (is_a x) (run es (start a b words_a words_b)))
     → Both f f w (run es (start a b words_a words_b))
     → (endings (act t (traces.side_of (is_a x) (run es (start a b words_a words_b))) (traces.side_of (not (is_a x)) (run es (start a b words_a words_b)))).emitted ≡ 0)
     ⊎ (ready_in (state_of (act t (traces.side_of (is_a x) (run es (start a b words_a words_b))) (traces.side_of (not (is_a x)) (run es (start a b words_a words_b))))) ≡ [])
 ended_or_none a b words_a words_b f w es t x given_a given_b follows none may h =
     go x (run es (start a b words_a words_b)) none may h (packets_of_a_kind a b words_a words_b es given_a given_b follows none)
   where
-    go : (x : End) (c : Pair) → HasNotEnded c → MayAct t (traces.side_of (is_a x) c) → Both f f w c → AreOfAKind c
+    go : (x : End) (c : Pair) → NeitherHasEnded c → MayAct t (traces.side_of (is_a x) c) → Both f f w c → AreOfAKind c
         → Ends (traces.side_of (is_a x) c) (act t (traces.side_of (is_a x) c) (traces.side_of (not (is_a x)) c))
     go A c none may h kinds = action_ends c.a c.b (ap (λ told. told.events) h.a.image.quiet) none.a t may kinds.b
     go B c none may h kinds = action_ends c.b c.a (ap (λ told. told.events) h.b.image.quiet) none.b t may kinds.a

@@ -20,7 +20,7 @@ use Rattle.proof_draws.specs.Names.{named_state}
 use Rattle.proof_draws_pair.specs.Alike as alike
 use Rattle.proof_draws_pair.specs.Alike.{AreEmitted, AreAlike, ArePairsAlike, ActsAlike, SameAction, PassesAt, ArePassed}
 use Rattle.spec_world.specs.Observations.{End, A, B, Entry, Called, Given, Timed, given_up}
-use Rattle.spec_world.specs.World.{Side, World, Action, CallOf, Give, GiveForeign, AdvanceTime, Happens, take_emitted, news_of, side_of, other, clock, answer_to, call_entry, after_call, time_entry, after_time, step_of}
+use Rattle.spec_world.specs.World.{Side, World, Action, CallOf, Give, GiveForeign, AdvanceTime, Happens, take_emitted, news_of, side_of, other, clock, answer_to, call_entry, after_call, time_entry, after_time, table_call}
 use Rattle.proof_world.specs.Traces.{is_a, end_of, is_let_through, receiving, IsReceiving, IsActionOf}
 use Rattle.proof_world.proofs.EventLemmas.{Readable}
 use Rattle.proof_world.proofs.BlockLemmas.{same_front}
@@ -151,7 +151,7 @@ module _ (f : List ℕ → ℕ) where
   pub same_action : (action : Action) (t u : EndAction) (w v : World) (c d : Pair) → is_foreign action ≡ false → IsActionOf f f action t c → IsActionOf f f action u d
       → Both f f w c → Both f f v d → ArePassed c → ArePassed d → SameAction t u
   same_action (CallOf x call) t u w v c d own is too h k p q =
-      subst (λ (z : EndAction). SameAction z u) (sym is) (subst (λ (z : EndAction). SameAction (Calls (step_of call)) z) (sym too) refl)
+      subst (λ (z : EndAction). SameAction z u) (sym is) (subst (λ (z : EndAction). SameAction (Calls (table_call call)) z) (sym too) refl)
   same_action (Give n A) t u w v c d own is too h k p q =
       same_given n t u (received_given n c.a c.b t is h.b.readable p.b) (received_given n d.a d.b u too k.b.readable q.b)
   same_action (Give n B) t u w v c d own is too h k p q =

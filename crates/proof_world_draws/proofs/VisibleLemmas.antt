@@ -6,7 +6,7 @@ use Rattle.proof_endpoint.specs.Mapped.{Mapping, Carried, map_event}
 use Rattle.spec_endpoint.specs.Shown.{Association}
 use Rattle.std.specs.Prelude.{Bool, true, false, Option}
 use Rattle.proof_draws_pair.specs.Alike.{AreEmitted}
-use Rattle.spec_world.specs.Observations.{End, Entry, Emitted, Happened}
+use Rattle.spec_world.specs.Observations.{End, Entry, EmittedPacket, EmittedEvent}
 use Rattle.spec_world.specs.World.{packets_in, emitted_entries, associated_if}
 use Rattle.proof_world.proofs.EventLemmas.{mapped}
 use Rattle.proof_world_draws.specs.Visible.{shown_by, visible}
@@ -26,13 +26,13 @@ module _ (f : Mapping Carried (List ℕ)) where
   emitted_shown x n (e ∷ es) [] t = absurd t
   emitted_shown x n (SendPacket p ∷ es) (e ∷ fs) t =
       subst (λ (d : Event Carried). visible (emitted_entries x n (mapped f (d ∷ fs))) ≡ visible (emitted_entries x n (mapped f (SendPacket p ∷ es)))) (sym t.0.1)
-      (ap (λ (l : List Entry). Emitted x n ∷ l) (emitted_shown x (n + 1) es fs t.1))
+      (ap (λ (l : List Entry). EmittedPacket x n ∷ l) (emitted_shown x (n + 1) es fs t.1))
   emitted_shown x n (OnError kind text ∷ es) (e ∷ fs) t =
       subst (λ (d : Event Carried). visible (emitted_entries x n (mapped f (d ∷ fs))) ≡ visible (emitted_entries x n (mapped f (OnError kind text ∷ es)))) (sym t.0.1)
-      (ap (λ (l : List Entry). Happened x (OnError kind []) ∷ l) (emitted_shown x n es fs t.1))
+      (ap (λ (l : List Entry). EmittedEvent x (OnError kind []) ∷ l) (emitted_shown x n es fs t.1))
   emitted_shown x n (OnAborted kind text ∷ es) (e ∷ fs) t =
       subst (λ (d : Event Carried). visible (emitted_entries x n (mapped f (d ∷ fs))) ≡ visible (emitted_entries x n (mapped f (OnAborted kind text ∷ es)))) (sym t.0.1)
-      (ap (λ (l : List Entry). Happened x (OnAborted kind []) ∷ l) (emitted_shown x n es fs t.1))
+      (ap (λ (l : List Entry). EmittedEvent x (OnAborted kind []) ∷ l) (emitted_shown x n es fs t.1))
   emitted_shown x n (e ∷ es) (d ∷ fs) t =
       subst (λ (z : Event Carried). visible (emitted_entries x n (mapped f (z ∷ fs))) ≡ visible (emitted_entries x n (mapped f (e ∷ es)))) (sym t.0)
       (ap (λ (l : List Entry). visible (emitted_entries x n (map_event f e ∷ [])) ++ l) (emitted_shown x n es fs t.1))

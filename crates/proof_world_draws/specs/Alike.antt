@@ -4,10 +4,10 @@ use Rattle.rand_core.specs.Stream.{Stream}
 use Rattle.sctp_state.specs.Options.{Options, IsValid}
 use Rattle.proof_endpoint.specs.Sound.{OptionsFit}
 use Rattle.proof_pair.specs.Trace.{Pair, EndAction, start}
-use Rattle.proof_draws_pair.specs.Pairing.{NoTagTwice}
+use Rattle.proof_draws_pair.specs.Pairing.{AllDrawnTagsAreDistinct}
 use Rattle.spec_world.specs.World.{World, Action, GiveForeign, Runs, fresh_world}
 use Rattle.proof_world.specs.Traces.{ActionFits, IsInBytes, AreActionsOf}
-use Rattle.proof_world.specs.Consistent.{Stands, FollowsTheRules}
+use Rattle.proof_world.specs.Consistent.{NoneHasEnded, KeepsOpeningRules}
 use Rattle.proof_world.specs.Delivered.{KeepsFrom}
 use Rattle.proof_world_draws.specs.Visible.{ShowTheSame}
 
@@ -51,22 +51,22 @@ is_foreign (GiveForeign x bytes) = true
 is_foreign action = false
 
 -- no verification tag is drawn twice, over both ends together
-abbrev pub AreTagsApart : (word_of : List ℕ → ℕ) → List Action → Pair → Type 0
-AreTagsApart word_of actions c = (turns : List (Bool × EndAction)) → AreActionsOf word_of word_of actions turns c → NoTagTwice turns c
+abbrev pub DrawsDistinctTags : (word_of : List ℕ → ℕ) → List Action → Pair → Type 0
+DrawsDistinctTags word_of actions c = (turns : List (Bool × EndAction)) → AreActionsOf word_of word_of actions turns c → AllDrawnTagsAreDistinct turns c
 
 -- Until an end of the first world emits that an association is over it follows the rules, and no bytes come from elsewhere.
 pub record AreComparable {w v : World} (p : ArePaired w v) : Type 0 where
-  pub follows : FollowsTheRules w
+  pub follows : KeepsOpeningRules w
   pub own : KeepsFrom is_foreign p.actions (first_new p) w p.first
-  pub first_tags : AreTagsApart p.word_of p.actions (start p.a p.b p.random_a p.random_b)
-  pub second_tags : AreTagsApart p.word_of p.actions (start p.a p.b p.others_a p.others_b)
+  pub first_tags : DrawsDistinctTags p.word_of p.actions (start p.a p.b p.random_a p.random_b)
+  pub second_tags : DrawsDistinctTags p.word_of p.actions (start p.a p.b p.others_a p.others_b)
 
 -- ---- the law
 
 -- Between the actions of two runs: up to the one at which an end of the first emits that an association is over, and behind that one too.
 abbrev pub ShowAlong : (actions : List Action) (w v x y : World) → Runs actions w x → Runs actions v y → Type 0
 ShowAlong [] w v x y r s = ShowTheSame w v
-ShowAlong (action ∷ actions) w v x y r s = ShowTheSame w v × (Stands w.log → ShowAlong actions r.0 s.0 x y r.2 s.2)
+ShowAlong (action ∷ actions) w v x y r s = ShowTheSame w v × (NoneHasEnded w.log → ShowAlong actions r.0 s.0 x y r.2 s.2)
 
 abbrev pub WorldsShowTheSame : Type 0
 WorldsShowTheSame = (w v : World) (p : ArePaired w v) → AreComparable p → ShowAlong p.actions (first_new p) (second_new p) w v p.first p.second

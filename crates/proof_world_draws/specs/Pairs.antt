@@ -1,6 +1,6 @@
 -- Two worlds that the same actions lead on, event by event, the first one first.
 use Rattle.std.specs.Prelude.{◌≡◌, ◌⊎◌, Bool, true, false, List, [], ◌∷◌, ◌++◌}
-use Rattle.spec_world.specs.World.{World, Action, Runs, Lacks}
+use Rattle.spec_world.specs.World.{World, Action, Runs, IsDisabled}
 
 -- from the worlds w and v to the worlds x and y
 pub record Both (actions : List Action) (w v x y : World) : Type 0 where
@@ -14,7 +14,7 @@ pub record BothUpToLack (actions : List Action) (w v x y : World) : Type 0 where
   pub rest : List Action
   pub split : actions ≡ before ++ action ∷ rest
   pub both : Both before w v x y
-  pub lacks : Lacks action x ⊎ Lacks action y
+  pub lacks : IsDisabled action x ⊎ IsDisabled action y
 
 -- Up to an event at which one of them ran out of memory: the first, and then the second stands as before it; or the second, once the
 -- first had gone on.

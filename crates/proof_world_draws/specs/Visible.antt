@@ -3,7 +3,7 @@
 use Rattle.std.specs.Prelude.{◌≡◌, ℕ, List, [], ◌∷◌}
 use Rattle.std.specs.List.{flat_map}
 use Rattle.sctp_state.specs.Events.{Event, OnError, OnAborted}
-use Rattle.spec_world.specs.Observations.{Answer, Done, HandedOver, Entry, Called, Associated, Happened}
+use Rattle.spec_world.specs.Observations.{Answer, Done, HandedOver, Entry, Called, Associated, EmittedEvent}
 use Rattle.spec_world.specs.World.{World}
 
 abbrev pub without_record : Answer → Answer
@@ -18,7 +18,7 @@ without_text event = event
 abbrev pub shown_by : Entry → List Entry
 shown_by (Called x clock call answer) = Called x clock call (without_record answer) ∷ []
 shown_by (Associated x a) = []
-shown_by (Happened x event) = Happened x (without_text event) ∷ []
+shown_by (EmittedEvent x event) = EmittedEvent x (without_text event) ∷ []
 shown_by entry = entry ∷ []
 
 abbrev pub visible : List Entry → List Entry

@@ -14,11 +14,11 @@ use Rattle.proof_endpoint.specs.Mapped.{Carried}
 use Rattle.proof_endpoint.specs.Sound.{OptionsFit, FitsMessage}
 use Rattle.proof_endpoint.specs.ReadBack.{AreBytes}
 use Rattle.proof_pair.specs.Trace as traces
-use Rattle.proof_pair.specs.Trace.{Pair, EndAction, Calls, Gives, emitted_packets, goes, AreGiven}
+use Rattle.proof_pair.specs.Trace.{Pair, EndAction, Calls, Gives, emitted_packets, goes, AreValidOptions}
 use Rattle.proof_pair.specs.Handing.{text}
 use Rattle.proof_pair.proofs.OpensLemmas.{one_opens}
 use Rattle.spec_world.specs.Observations.{A, B}
-use Rattle.spec_world.specs.World.{Action, CallOf, Give, GiveForeign, AdvanceTime, step_of}
+use Rattle.spec_world.specs.World.{Action, CallOf, Give, GiveForeign, AdvanceTime, table_call}
 use Rattle.proof_world.specs.Traces.{ActionFits, is_a, end_of, is_let_through, receiving, IsReceiving, IsActionOf, AreActionsOf}
 use Rattle.proof_world_runs.specs.Worlds.{is_foreign, NoneIsForeign}
 
@@ -28,7 +28,7 @@ abbrev pub no_sum : List ℕ → ℕ
 no_sum bytes = 0
 
 abbrev pub action_of : Action → EndAction
-action_of (CallOf x call) = Calls (step_of call)
+action_of (CallOf x call) = Calls (table_call call)
 action_of (Give n x) = Gives n 0
 action_of (GiveForeign x bytes) = Calls table.NoPacket
 action_of (AdvanceTime x now) = Calls (table.Advance now)
@@ -127,5 +127,5 @@ each_fits (action ∷ actions) h = All-cons ActionFits action actions h.0 (each_
 pub text_fits : (byte : ℕ) → FitsMessage (text byte)
 text_fits byte = record { stream = omega arith; ppid = omega arith }
 
-pub given : AreGiven defaults
+pub given : AreValidOptions defaults
 given = one_opens.given

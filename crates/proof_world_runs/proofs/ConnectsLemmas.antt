@@ -4,9 +4,9 @@ use Rattle.std.specs.List.{flat_map, list_any}
 use Rattle.std.proofs.lemmas.Grind.{flat_map-append}
 use Rattle.std.proofs.lemmas.Bool.{or_parts}
 use Rattle.spec_endpoint.specs.Association.{Endpoint}
-use Rattle.spec_world.specs.Observations.{End, A, Entry, Called, Given, Foreign, Timed, Associated, Emitted, Happened, GaveUp, BecameReady, Call, Connect, Shutdown, Close, Send, SendMany, Receive, Reset, SetPriority, SetMaxMessageSize, SetLowThreshold, HandOver}
-use Rattle.spec_world.specs.World.{Side, World, Action, CallOf, Give, GiveForeign, AdvanceTime, ComesTo, taken_in, skipped, Happens, Runs, side_of, association, ready_at, news_of, clock, call_entry, after_call, time_entry, after_time}
-use Rattle.proof_world.specs.Consistent.{MayFollow, FollowsTheRules}
+use Rattle.spec_world.specs.Observations.{End, A, Entry, Called, Given, Foreign, Timed, Associated, EmittedPacket, EmittedEvent, GaveUp, BecameReady, Call, Connect, Shutdown, Close, Send, SendMany, Receive, Reset, SetPriority, SetMaxMessageSize, SetLowThreshold, HandOver}
+use Rattle.spec_world.specs.World.{Side, World, Action, CallOf, Give, GiveForeign, AdvanceTime, ComesTo, taken_in, withheld, Happens, Runs, side_of, association, ready_at, news_of, clock, call_entry, after_call, time_entry, after_time}
+use Rattle.proof_world.specs.Consistent.{MayFollow, KeepsOpeningRules}
 use Rattle.proof_world.proofs.LoggedLemmas.{IsQuietOn, none_in_news}
 use Rattle.proof_world.proofs.PrefixLemmas.{none_behind, none_before}
 use Rattle.proof_world.proofs.DeliveredLemmas.{calls_log, time_log}
@@ -50,7 +50,7 @@ none_in_block x side s first e = ap (λ (l : List Entry). l ++ ruled (news_of x 
 
 comes : (x : End) (bytes : List ℕ) (old new : Side) (log longer : List Entry) → ComesTo x bytes old new log longer → AddsNoRuled log longer
 comes x bytes old new log longer (taken_in t judged) = (_, t.logged, none_in_block x old t.after (Foreign x (clock old.socket) (Some bytes)) refl)
-comes x bytes old new log longer (skipped judged stays logged) = (_, logged, refl)
+comes x bytes old new log longer (withheld judged stays logged) = (_, logged, refl)
 
 adds : (action : Action) (w u : World) → asks_rules action ≡ false → Happens action w u → AddsNoRuled w.log u.log
 adds (CallOf x call) w u k e = (
@@ -95,8 +95,8 @@ may_any w before (Given x clock packet) h = tt
 may_any w before (Foreign x clock bytes) h = tt
 may_any w before (Timed x clock now) h = tt
 may_any w before (Associated x a) h = tt
-may_any w before (Emitted x packet) h = tt
-may_any w before (Happened x event) h = tt
+may_any w before (EmittedPacket x packet) h = tt
+may_any w before (EmittedEvent x event) h = tt
 may_any w before (GaveUp x g) h = tt
 may_any w before (BecameReady x m) h = tt
 
@@ -105,7 +105,7 @@ each_may w before [] h = tt
 each_may w before (e ∷ log) h = (may_any w before e (none_before (ruled_by e) (ruled log) h), each_may w (before ++ e ∷ []) log (none_behind (ruled_by e) (ruled log) h))
 
 -- at an empty log
-pub connects_first : (actions : List Action) (w v : World) → w.log ≡ [] → list_any asks_rules actions ≡ false → Runs (CallOf A Connect ∷ actions) w v → FollowsTheRules v
+pub connects_first : (actions : List Action) (w v : World) → w.log ≡ [] → list_any asks_rules actions ≡ false → Runs (CallOf A Connect ∷ actions) w v → KeepsOpeningRules v
 connects_first actions w v empty k r =
     let first : Entry = call_entry A Connect w.a.socket in
     let news : List Entry = news_of A w.a (after_call Connect w.a.socket) in

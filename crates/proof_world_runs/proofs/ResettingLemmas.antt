@@ -17,7 +17,7 @@ use Rattle.spec_endpoint.specs.Timers.{tick_timers}
 use Rattle.proof_endpoint.specs.Mapped.{as_written}
 use Rattle.proof_pair.specs.Trace.{Pair, EndAction, emitted_packets, run}
 use Rattle.proof_pair.specs.Opens.{at_first}
-use Rattle.proof_delivery.specs.Accepted.{Offer}
+use Rattle.proof_delivery.specs.Accepted.{AcceptedMessage}
 use Rattle.proof_delivery.specs.Accepted.{accepted}
 use Rattle.proof_delivery.specs.Delivery.{plain}
 use Rattle.proof_delivery.specs.Resetting as courses
@@ -83,7 +83,7 @@ one_reset_there =
       actions = s.by;
       undisturbed = record { follows = s.follows (drop 1 one_is_reset) refl refl; stands = s.over };
       bounds = s.bounds refl refl one_reset.bounds;
-      accepts = offers_accepted A s.world.log ∙ (ap (map (λ (o : Offer). o.message)) s.offers_a ∙ ap (map (λ (o : Offer). o.message)) two_accepted);
+      accepts = offers_accepted A s.world.log ∙ (ap (map (λ (o : AcceptedMessage). o.message)) s.offers_a ∙ ap (map (λ (o : AcceptedMessage). o.message)) two_accepted);
       epochs = s.epochs_a ∙ one_reset.epochs;
       readies = s.ready_b ∙ one_reset.readies;
       emitted = ap (λ (es : List (Event (List ℕ))). resets_emitted 1 es) s.told_b ∙ (bare_resets 1 last.b.emitted ∙ one_reset.emitted);

@@ -16,10 +16,10 @@ use Rattle.spec_endpoint.specs.Shown as socket
 use Rattle.proof_endpoint.specs.Mapped.{Mapping, Carried, map_end, as_bytes}
 use Rattle.proof_endpoint.specs.Sound.{OptionsFit}
 use Rattle.proof_pair.specs.Trace as traces
-use Rattle.proof_pair.specs.Trace.{Pair, EndAction, run, start, HasNotEnded, state_of}
+use Rattle.proof_pair.specs.Trace.{Pair, EndAction, run, start, NeitherHasEnded, state_of}
 use Rattle.proof_pair.specs.Handing.{readied_messages}
 use Rattle.proof_pair.proofs.HandingLemmas.{first_halves}
-use Rattle.proof_delivery.specs.Accepted.{Offer, accepted}
+use Rattle.proof_delivery.specs.Accepted.{AcceptedMessage, accepted}
 use Rattle.proof_delivery.specs.Delivery as courses
 use Rattle.proof_delivery.specs.GivenUp.{kept_in, given_up, IsAtRest}
 use Rattle.proof_delivery.specs.Answered as requests
@@ -31,8 +31,8 @@ use Rattle.proof_delivery.proofs.ResetEventsLemmas.{performed_both}
 use Rattle.spec_world.specs.Observations.{End, A, B, Connect, Entry, ready}
 use Rattle.spec_world.specs.World.{Side, World, Action, CallOf, Runs, emitted_entries, fresh_world, is_at_rest}
 use Rattle.proof_world.specs.Traces.{ActionFits, IsInBytes, IsReachable, origin, is_a, AreActionsOf}
-use Rattle.proof_world.specs.Delivered.{offers, offers_by, happened_by, emitted_events, offer_epochs, given_up_places, reported, sets_more, KeepsFrom, KeepsResets, IsInBounds}
-use Rattle.proof_world.specs.Consistent.{ended_by, FollowsTheRules, times_ended}
+use Rattle.proof_world.specs.Delivered.{accepted_messages, accepted_messages_by, emitted_events_by, emitted_events, message_epochs, given_up_places, reported, sets_more, KeepsFrom, KeepsResets, IsInBounds}
+use Rattle.proof_world.specs.Consistent.{ended_by, KeepsOpeningRules, times_ended}
 use Rattle.proof_world_runs.specs.Worlds.{NoneIsForeign, BothEmitBytes}
 use Rattle.proof_world.proofs.EventLemmas.{mapped}
 use Rattle.proof_world.proofs.NewsLemmas.{ended_by_emitted}
@@ -113,17 +113,17 @@ none_from p (action ∷ actions) w v r none = (
   none_from p actions r.0 v r.2 ((or_parts (p action) (list_any p actions) none).1),
 )
 
-few_front : (x : End) (log early late : List Entry) → log ≡ early ++ late → length (offers x log) < 2 ^ 32 → length (offers x early) < 2 ^ 32
+few_front : (x : End) (log early late : List Entry) → log ≡ early ++ late → length (accepted_messages x log) < 2 ^ 32 → length (accepted_messages x early) < 2 ^ 32
 few_front x log early late is small =
-    let parts : offers x log ≡ offers x early ++ offers x late = ap (λ (l : List Entry). offers x l) is ∙ flat_map-append (offers_by x) early late in
-    let sizes : length (offers x log) ≡ length (offers x early) + length (offers x late) =
-    ap (λ (l : List Offer). length l) parts ∙ length-append (offers x early) (offers x late) in
+    let parts : accepted_messages x log ≡ accepted_messages x early ++ accepted_messages x late = ap (λ (l : List Entry). accepted_messages x l) is ∙ flat_map-append (accepted_messages_by x) early late in
+    let sizes : length (accepted_messages x log) ≡ length (accepted_messages x early) + length (accepted_messages x late) =
+    ap (λ (l : List AcceptedMessage). length l) parts ∙ length-append (accepted_messages x early) (accepted_messages x late) in
     omega (arith, sizes, small)
 
 few_performed : (x : End) (log early late : List Entry) (n : ℕ) → log ≡ early ++ late → performed_in (emitted_events x log) < n → performed_in (emitted_events x early) < n
 few_performed x log early late n is small =
     let parts = ap (λ (l : List Entry). performed_in (emitted_events x l)) is in
-    let both = ap (λ (es : List (Event (List ℕ))). performed_in es) (flat_map-append (happened_by x) early late) in
+    let both = ap (λ (es : List (Event (List ℕ))). performed_in es) (flat_map-append (emitted_events_by x) early late) in
     let sum = performed_both (emitted_events x early) (emitted_events x late) in
     omega (arith, parts, both, sum, small)
 
@@ -184,7 +184,7 @@ module _ (a b : Options) (words_a words_b : Stream) (word_of_a word_of_b : List 
   nothing true = refl
   nothing false = refl
 
-  module _ (follows : traces.FollowsTheRules turns first_pair) (not_ended : HasNotEnded (run turns first_pair)) where
+  module _ (follows : traces.KeepsOpeningRules turns first_pair) (not_ended : NeitherHasEnded (run turns first_pair)) where
     stand : block.Stands turns first_pair
     stand = stands_along a b (given_of a valid_a fits_a) (given_of b valid_b fits_b) turns first_pair follows not_ended (first_halves a b words_a words_b)
 
@@ -201,9 +201,9 @@ module _ (a b : Options) (words_a words_b : Stream) (word_of_a word_of_b : List 
     over A = none_over word_of_a A there.log there.b.packets there.a (run turns first_pair).a reached.both.a not_ended.a
     over B = none_over word_of_b B there.log there.a.packets there.b (run turns first_pair).b reached.both.b not_ended.b
 
-    few : ((from_a : Bool) → length (accepted from_a turns first_pair) < 2 ^ 32) → (x : End) → length (offers x there.log) < 2 ^ 32
-    few h A = subst (λ (l : List Offer). length l < 2 ^ 32) (sym (shows_all.offers_are A)) (h true)
-    few h B = subst (λ (l : List Offer). length l < 2 ^ 32) (sym (shows_all.offers_are B)) (h false)
+    few : ((from_a : Bool) → length (accepted from_a turns first_pair) < 2 ^ 32) → (x : End) → length (accepted_messages x there.log) < 2 ^ 32
+    few h A = subst (λ (l : List AcceptedMessage). length l < 2 ^ 32) (sym (shows_all.offers_are A)) (h true)
+    few h B = subst (λ (l : List AcceptedMessage). length l < 2 ^ 32) (sym (shows_all.offers_are B)) (h false)
 
     resets_kept : requests.KeepsResets turns first_pair → KeepsResets actions first_world there reached.runs
     resets_kept k = record {
@@ -228,22 +228,22 @@ pub record Shown (actions : List Action) (turns : List (Bool × EndAction)) (c :
   pub world : World
   pub reachable : IsReachable world
   pub by : reachable.actions ≡ actions
-  pub offers_a : offers A world.log ≡ accepted true turns c
+  pub offers_a : accepted_messages A world.log ≡ accepted true turns c
   pub ready_b : ready B world.log ≡ readied_messages false turns c
   pub gone_a : given_up_places A world.log ≡ given_up true turns c
   pub reported_a : reported A world.log ≡ delivered_ids (run turns c).a.emitted
-  pub epochs_a : offer_epochs A world.log all_open ≡ epochs.offer_epochs true turns c all_open
+  pub epochs_a : message_epochs A world.log all_open ≡ epochs.message_epochs true turns c all_open
   pub told_a : emitted_events A world.log ≡ bare (run turns c).a.emitted
   pub told_b : emitted_events B world.log ≡ bare (run turns c).b.emitted
   pub over : (x : End) → times_ended x world.log ≡ 0
-  pub follows : (rest : List Action) → actions ≡ CallOf A Connect ∷ rest → list_any asks_rules rest ≡ false → FollowsTheRules world
+  pub follows : (rest : List Action) → actions ≡ CallOf A Connect ∷ rest → list_any asks_rules rest ≡ false → KeepsOpeningRules world
   pub bounds : AllAreReceived turns → list_any sets_more actions ≡ false → courses.IsInBounds turns c → IsInBounds reachable.actions (origin reachable) world reachable.runs
   pub rests : IsAtRest (run turns c).a → is_at_rest A world ≡ true
 
 pub shown : (a b : Options) (words_a words_b : Stream) (word_of_a word_of_b : List ℕ → ℕ) (actions : List Action) (turns : List (Bool × EndAction))
     → IsValid a → IsValid b → OptionsFit a → OptionsFit b → All ActionFits actions → NoneIsForeign actions
     → AreActionsOf word_of_a word_of_b actions turns (start a b words_a words_b) → BothEmitBytes word_of_a word_of_b (run turns (start a b words_a words_b))
-    → traces.FollowsTheRules turns (start a b words_a words_b) → HasNotEnded (run turns (start a b words_a words_b))
+    → traces.KeepsOpeningRules turns (start a b words_a words_b) → NeitherHasEnded (run turns (start a b words_a words_b))
     → Shown actions turns (start a b words_a words_b)
 shown a b words_a words_b f g actions turns valid_a valid_b fits_a fits_b fit none are bytes follows not_ended =
     let from : World = fresh_world a b words_a words_b f g in

@@ -16,7 +16,7 @@ use Rattle.spec_endpoint.specs.Timers.{tick_timers}
 use Rattle.proof_endpoint.specs.Mapped.{as_written}
 use Rattle.proof_pair.specs.Trace.{Pair, EndAction, emitted_packets, run}
 use Rattle.proof_pair.specs.Opens.{at_first}
-use Rattle.proof_delivery.specs.Accepted.{Offer}
+use Rattle.proof_delivery.specs.Accepted.{AcceptedMessage}
 use Rattle.proof_delivery.specs.Skipping as courses
 use Rattle.proof_delivery.proofs.SkippingLemmas.{one_skipped}
 use Rattle.spec_world.specs.Observations.{A}
@@ -74,7 +74,7 @@ one_skipped_there =
       actions = s.by;
       undisturbed = record { follows = s.follows (drop 1 one_is_lost) refl refl; stands = s.over };
       bounds = s.bounds refl refl one_skipped.bounds;
-      accepts = offers_accepted A s.world.log ∙ (ap (map (λ (o : Offer). o.message)) s.offers_a ∙ one_skipped.accepts);
+      accepts = offers_accepted A s.world.log ∙ (ap (map (λ (o : AcceptedMessage). o.message)) s.offers_a ∙ one_skipped.accepts);
       readies = s.ready_b ∙ one_skipped.readies;
       gives_up = s.gone_a ∙ one_skipped.gives_up;
       reports = s.reported_a ∙ one_skipped.reports;

@@ -9,7 +9,7 @@ use Rattle.spec_world.specs.World.{World, Action, CallOf, Give}
 use Rattle.spec_world.specs.FirstRun.{opening}
 use Rattle.proof_world.specs.Traces.{IsReachable, origin}
 use Rattle.proof_world.specs.Consistent.{IsUndisturbed}
-use Rattle.proof_world.specs.Delivered.{offer_epochs, emitted_events, IsInBounds}
+use Rattle.proof_world.specs.Delivered.{message_epochs, emitted_events, IsInBounds}
 
 -- A message is sent; its stream is reset twice at once, and another message is accepted. The second call finds the stream waiting, and
 -- raises no epoch.
@@ -27,7 +27,7 @@ pub record OneIsReset : Type 0 where
   pub undisturbed : IsUndisturbed world
   pub bounds : IsInBounds reachable.actions (origin reachable) world reachable.runs
   pub accepts : accepted A world.log ≡ text 97 ∷ text 98 ∷ []
-  pub epochs : offer_epochs A world.log all_open ≡ 0 ∷ 1 ∷ []
+  pub epochs : message_epochs A world.log all_open ≡ 0 ∷ 1 ∷ []
   pub readies : ready B world.log ≡ text 97 ∷ text 98 ∷ []
   pub emitted : resets_emitted 1 (emitted_events B world.log) ≡ 1
   pub performed : performed_of (emitted_events A world.log) ≡ 1 ∷ []

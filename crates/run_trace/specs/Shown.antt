@@ -41,8 +41,8 @@ entry_shows packets (observations.Given x clock number) = Giving (lifeline x) nu
 entry_shows packets (observations.Foreign x clock bytes) = Other (lifeline x)
 entry_shows packets (observations.Timed x clock now) = Other (lifeline x)
 entry_shows packets (observations.Associated x association) = Other (lifeline x)
-entry_shows packets (observations.Emitted x number) = Packet (lifeline x) number (bytes_in (slice_get (packets x) number))
-entry_shows packets (observations.Happened x event) = Other (lifeline x)
+entry_shows packets (observations.EmittedPacket x number) = Packet (lifeline x) number (bytes_in (slice_get (packets x) number))
+entry_shows packets (observations.EmittedEvent x event) = Other (lifeline x)
 entry_shows packets (observations.GaveUp x given_up) = Other (lifeline x)
 entry_shows packets (observations.BecameReady x message) = Other (lifeline x)
 
@@ -52,8 +52,8 @@ entry_end (observations.Given x clock number) = x
 entry_end (observations.Foreign x clock bytes) = x
 entry_end (observations.Timed x clock now) = x
 entry_end (observations.Associated x association) = x
-entry_end (observations.Emitted x number) = x
-entry_end (observations.Happened x event) = x
+entry_end (observations.EmittedPacket x number) = x
+entry_end (observations.EmittedEvent x event) = x
 entry_end (observations.GaveUp x given_up) = x
 entry_end (observations.BecameReady x message) = x
 
@@ -76,8 +76,8 @@ clocks_after clocks (observations.Given x clock number) = with_clock x clock clo
 clocks_after clocks (observations.Foreign x clock bytes) = with_clock x clock clocks
 clocks_after clocks (observations.Timed x clock now) = with_clock x clock clocks
 clocks_after clocks (observations.Associated x association) = clocks
-clocks_after clocks (observations.Emitted x number) = clocks
-clocks_after clocks (observations.Happened x event) = clocks
+clocks_after clocks (observations.EmittedPacket x number) = clocks
+clocks_after clocks (observations.EmittedEvent x event) = clocks
 clocks_after clocks (observations.GaveUp x given_up) = clocks
 clocks_after clocks (observations.BecameReady x message) = clocks
 

@@ -8,7 +8,7 @@ use Rattle.proof_endpoint.specs.FirstRun.{IsSmall}
 use Rattle.sctp_network.specs.declared.world.WorldError.{WorldError}
 use Rattle.sctp_network.specs.declared.world.WorldError.TheVariants as errors
 use Rattle.spec_world.specs.Observations.{A, B, Connect, Send}
-use Rattle.spec_world.specs.World.{Action, CallOf, Give, World, Happens, Runs, Lacks, RunsUpToLack, fresh_world}
+use Rattle.spec_world.specs.World.{Action, CallOf, Give, World, Happens, Runs, IsDisabled, RunsUpToDisabled, fresh_world}
 use Rattle.spec_world.specs.FirstRun.{opening, crossing, acknowledging, first_run, CameBy, LeadsFirstRun, ContinuesFirstRun}
 use Rattle.spec_world.proofs.RunLemmas.{Runs_append}
 use Rattle.spec_world.proofs.FirstRunLemmas.{it_opens, first, second, third, fourth, opened, to_first, to_second, to_third, to_fourth, to_opened}
@@ -17,16 +17,16 @@ use Rattle.spec_world.proofs.CrossingLemmas.{it_crosses, comes_to_rest, packets_
 -- each event finds its packet, whatever came of those before
 abbrev Goes : List Action → World → Type 0
 Goes [] w = Unit {0}
-Goes (action ∷ actions) w = (Lacks action w → ⊥) × ((u : World) → Happens action w u → Goes actions u)
+Goes (action ∷ actions) w = (IsDisabled action w → ⊥) × ((u : World) → Happens action w u → Goes actions u)
 
-never_lacks : (before : List Action) (action : Action) (rest : List Action) (w v : World) → Goes (before ++ action ∷ rest) w → Runs before w v → Lacks action v → ⊥
-never_lacks [] action rest w v goes e lacks = goes.0 (subst (Lacks action) e lacks)
+never_lacks : (before : List Action) (action : Action) (rest : List Action) (w v : World) → Goes (before ++ action ∷ rest) w → Runs before w v → IsDisabled action v → ⊥
+never_lacks [] action rest w v goes e lacks = goes.0 (subst (IsDisabled action) e lacks)
 never_lacks (b ∷ before) action rest w v goes runs lacks = never_lacks before action rest runs.0 v (goes.1 runs.0 runs.1) runs.2 lacks
 
-onward : (action : Action) (actions : List Action) (w v : World) → (Lacks action w → ⊥) → ((u : World) → Happens action w u → u ≡ v) → Goes actions v → Goes (action ∷ actions) w
+onward : (action : Action) (actions : List Action) (w v : World) → (IsDisabled action w → ⊥) → ((u : World) → Happens action w u → u ≡ v) → Goes actions v → Goes (action ∷ actions) w
 onward action actions w v there leads goes = (there, λ u happens. subst (Goes actions) (sym (leads u happens)) goes)
 
-lastly : (action : Action) (w : World) → (Lacks action w → ⊥) → Goes (action ∷ []) w
+lastly : (action : Action) (w : World) → (IsDisabled action w → ⊥) → Goes (action ∷ []) w
 lastly action w there = (there, λ u happens. tt)
 
 there : (p : List ℕ) → Some p ≡ None → ⊥
@@ -52,7 +52,7 @@ goes_all a b f m o small =
     (λ u g. to_taken a b f m o small u g)
     (lastly (Give 2 A) taken (there _))))))))
 
-pub only_memory : (actions : List Action) (w v : World) (e : WorldError) → (e ≡ errors.NoSuchPacket → RunsUpToLack actions w v) → ContinuesFirstRun actions w → e ≡ errors.Memory
+pub only_memory : (actions : List Action) (w v : World) (e : WorldError) → (e ≡ errors.NoSuchPacket → RunsUpToDisabled actions w v) → ContinuesFirstRun actions w → e ≡ errors.Memory
 only_memory actions w v errors.Memory lacks c = refl
 only_memory actions w v errors.NoSuchPacket lacks c =
     let l = lacks refl in

@@ -11,7 +11,7 @@ use Rattle.proof_endpoint.specs.ReadBack.{AreBytes}
 use Rattle.sctp_network_side.specs.declared.log.Event.{Event}
 use Rattle.sctp_network.specs.declared.world.WorldError.{WorldError}
 use Rattle.sctp_network.specs.declared.world.WorldError.TheVariants as errors
-use Rattle.spec_world.specs.World.{World, Action, CallOf, Give, GiveForeign, AdvanceTime, Runs, Lacks, RunsUpToLack, fresh_world}
+use Rattle.spec_world.specs.World.{World, Action, CallOf, Give, GiveForeign, AdvanceTime, Runs, IsDisabled, RunsUpToDisabled, fresh_world}
 use Rattle.spec_world.proofs.RunLemmas.{lacks_one}
 use Rattle.sctp_network_side.specs.SideView.{action_of}
 use Rattle.proof_world.specs.Traces.{ActionFits, IsInBytes, IsReachable}
@@ -66,11 +66,11 @@ module _ (w v : World) (failed : Bool) (a b : ℕ) (sent_a : a ≡ length w.a.pa
   reachable : (actions : List Action) → All ActionFits actions → Runs actions w v → IsReachable w → IsReachable v
   reachable actions fit runs l = reachable_on w v actions l fit runs (in_bytes_after actions w v a b runs sent_a sent_b bytes_a bytes_b l.bytes)
 
-  pub reachable_by : {X : Type 0} (r : Result X WorldError) (actions : List Action) → OnOk r (Runs actions w v) → IfErr r (λ e. e ≡ errors.NoSuchPacket → RunsUpToLack actions w v)
+  pub reachable_by : {X : Type 0} (r : Result X WorldError) (actions : List Action) → OnOk r (Runs actions w v) → IfErr r (λ e. e ≡ errors.NoSuchPacket → RunsUpToDisabled actions w v)
       → IfErr r (λ e. e ≡ errors.Memory → failed ≡ true) → All ActionFits actions → failed ≡ false → IsReachable w → IsReachable v
   reachable_by (Ok x) actions runs lacks memory fit works l = reachable actions fit runs l
   reachable_by (Err errors.NoSuchPacket) actions runs lacks memory fit works l =
-      let k : RunsUpToLack actions w v = lacks refl in
+      let k : RunsUpToDisabled actions w v = lacks refl in
       reachable k.before (front_fits actions k.before k.action k.rest k.split fit) k.runs l
   reachable_by (Err errors.Memory) actions runs lacks memory fit works l = absurd (not_both failed (memory refl) works)
     where
@@ -78,8 +78,8 @@ module _ (w v : World) (failed : Bool) (a b : ℕ) (sent_a : a ≡ length w.a.pa
       not_both b e f = cc
 
 -- a step that finds no packet
-pub lacks_then : {X : Type 0} (r : Result X WorldError) (action : Action) (w v : World) → IfErr r (λ e. e ≡ errors.NoSuchPacket → Lacks action w)
-    → IfErr r (λ e. e ≡ errors.NoSuchPacket → v ≡ w) → IfErr r (λ e. e ≡ errors.NoSuchPacket → RunsUpToLack (action ∷ []) w v)
+pub lacks_then : {X : Type 0} (r : Result X WorldError) (action : Action) (w v : World) → IfErr r (λ e. e ≡ errors.NoSuchPacket → IsDisabled action w)
+    → IfErr r (λ e. e ≡ errors.NoSuchPacket → v ≡ w) → IfErr r (λ e. e ≡ errors.NoSuchPacket → RunsUpToDisabled (action ∷ []) w v)
 lacks_then (Ok x) action w v lacks same = tt
 lacks_then (Err e) action w v lacks same = λ is. lacks_one action w v (lacks is) (same is)
 

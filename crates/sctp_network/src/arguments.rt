@@ -3,7 +3,7 @@
 ghost use Rattle.std.specs.Prelude.{map, All};
 ghost use Rattle.sctp_packet.specs.Grammar.{Each};
 ghost use Rattle.proof_endpoint.specs.Sound.{ArgumentFits};
-ghost use Rattle.spec_world.specs.World.{step_of};
+ghost use Rattle.spec_world.specs.World.{table_call};
 ghost use Rattle.sctp_network_side.specs.SideView.{action_of, call_tree};
 ghost use Rattle.sctp_network.specs.WorldView.{world_of};
 ghost use Rattle.proof_world.specs.Traces.{ActionFits};
@@ -19,7 +19,7 @@ use sctp_wire::Checksum;
 
 /// What a call hands in fits.
 pub fn a_call_fits(call: &Call)
-    ensures fits { ArgumentFits (step_of (call_tree call.now)) }
+    ensures fits { ArgumentFits (table_call (call_tree call.now)) }
 {
     match call {
         Call::Connect => {}

@@ -5,10 +5,10 @@ ghost use Rattle.sctp_packet.specs.Grammar.{Each};
 ghost use Rattle.sctp_state.specs.Options.{IsValid, options_of};
 ghost use Rattle.sctp_network.specs.declared.world.WorldError.TheVariants.{Memory as no_memory};
 ghost use Rattle.proof_endpoint.specs.ReadBack.{AreBytes};
-ghost use Rattle.spec_world.specs.World.{Comes, Happens, Runs, Lacks, RunsUpToLack, RunsUpToWant, AreShort, fresh_world, side_of, is_at_rest, TakesBytes, clock};
+ghost use Rattle.spec_world.specs.World.{Comes, Happens, Runs, IsDisabled, RunsUpToDisabled, RunsUpToEnabled, AreShort, fresh_world, side_of, is_at_rest, TakesBytes, clock};
 ghost use Rattle.spec_world.specs.FirstRun.{LeadsFirstRun, ContinuesFirstRun};
 ghost use Rattle.spec_world.specs.Observations.{Given};
-ghost use Rattle.proof_world.specs.Agreed.{Agrees, DrawsNoTagTwice};
+ghost use Rattle.proof_world.specs.Agreed.{Agrees, EachEndDrawsDistinctTags};
 ghost use Rattle.proof_world.specs.Composed.{Composes};
 ghost use Rattle.proof_world.specs.Traces.{IsReachable};
 ghost use Rattle.sctp_network_side.specs.SideView.{action_of, end_tree, entry_tree, side_in};
@@ -194,8 +194,8 @@ impl<R: Rng, C: Checksum> World<R, C> {
     fn happen(&mut self, event: &Event) -> Result<(), WorldError>
         ensures ok { OnOk result (Happens (action_of event.now) (world_of R.stream C.word_of self.old) (world_of R.stream C.word_of self.new)) }
         ensures works { OnOk result ((self.old.has_failed ≡ false) × (self.new.has_failed ≡ false)) }
-        ensures lacks { IfErr result (λ e. e ≡ WorldError.NoSuchPacket → Lacks (action_of event.now) (world_of R.stream C.word_of self.old)) }
-        ensures missing { self.old.has_failed ≡ false → Lacks (action_of event.now) (world_of R.stream C.word_of self.old) → result ≡ Err WorldError.NoSuchPacket }
+        ensures lacks { IfErr result (λ e. e ≡ WorldError.NoSuchPacket → IsDisabled (action_of event.now) (world_of R.stream C.word_of self.old)) }
+        ensures missing { self.old.has_failed ≡ false → IsDisabled (action_of event.now) (world_of R.stream C.word_of self.old) → result ≡ Err WorldError.NoSuchPacket }
         ensures same { IfErr result (λ e. e ≡ WorldError.NoSuchPacket → self.new ≡ self.old) }
         ensures stands { IfErr result (λ e. e ≡ WorldError.NoSuchPacket → self.new.has_failed ≡ false) }
         ensures memory { IfErr result (λ e. e ≡ WorldError.Memory → self.new.has_failed ≡ true) }
@@ -213,8 +213,8 @@ impl<R: Rng, C: Checksum> World<R, C> {
 
     fn act(&mut self, event: &Event) -> Result<(), WorldError>
         ensures ok { OnOk result (Happens (action_of event.now) (world_of R.stream C.word_of self.old) (world_of R.stream C.word_of self.new)) }
-        ensures lacks { IfErr result (λ e. e ≡ WorldError.NoSuchPacket → Lacks (action_of event.now) (world_of R.stream C.word_of self.old)) }
-        ensures missing { Lacks (action_of event.now) (world_of R.stream C.word_of self.old) → result ≡ Err WorldError.NoSuchPacket }
+        ensures lacks { IfErr result (λ e. e ≡ WorldError.NoSuchPacket → IsDisabled (action_of event.now) (world_of R.stream C.word_of self.old)) }
+        ensures missing { IsDisabled (action_of event.now) (world_of R.stream C.word_of self.old) → result ≡ Err WorldError.NoSuchPacket }
         ensures same { IfErr result (λ e. e ≡ WorldError.NoSuchPacket → self.new ≡ self.old) }
         ensures failed { self.new.has_failed ≡ self.old.has_failed }
     {
@@ -266,10 +266,10 @@ impl<R: Rng, C: Checksum> World<R, C> {
         ensures ok { OnOk result (Runs (map action_of events.now) (world_of R.stream C.word_of self.old) (world_of R.stream C.word_of self.new)) }
         ensures works { OnOk result ((self.old.has_failed ≡ false) × (self.new.has_failed ≡ false)) }
         ensures lacks { IfErr result (λ e. e ≡ WorldError.NoSuchPacket
-            → RunsUpToLack (map action_of events.now) (world_of R.stream C.word_of self.old) (world_of R.stream C.word_of self.new)) }
+            → RunsUpToDisabled (map action_of events.now) (world_of R.stream C.word_of self.old) (world_of R.stream C.word_of self.new)) }
         ensures stands { IfErr result (λ e. e ≡ WorldError.NoSuchPacket → self.new.has_failed ≡ false) }
         ensures wants { IfErr result (λ e. e ≡ WorldError.Memory → self.old.has_failed ≡ false
-            → RunsUpToWant (map action_of events.now) (world_of R.stream C.word_of self.old)) }
+            → RunsUpToEnabled (map action_of events.now) (world_of R.stream C.word_of self.old)) }
         ensures memory { IfErr result (λ e. e ≡ WorldError.Memory → self.new.has_failed ≡ true) }
         ensures failed { self.old.has_failed ≡ true → result ≡ Err WorldError.Memory }
     {
@@ -282,11 +282,11 @@ impl<R: Rng, C: Checksum> World<R, C> {
     fn run_each(&mut self, events: &[Event]) -> Result<(), WorldError>
         ensures ok { OnOk result (Runs (map action_of events.now) (world_of R.stream C.word_of self.old) (world_of R.stream C.word_of self.new)) }
         ensures lacks { IfErr result (λ e. e ≡ WorldError.NoSuchPacket
-            → RunsUpToLack (map action_of events.now) (world_of R.stream C.word_of self.old) (world_of R.stream C.word_of self.new)) }
+            → RunsUpToDisabled (map action_of events.now) (world_of R.stream C.word_of self.old) (world_of R.stream C.word_of self.new)) }
         ensures works { self.old.has_failed ≡ false → OnOk result (self.new.has_failed ≡ false) }
         ensures stands { IfErr result (λ e. e ≡ WorldError.NoSuchPacket → self.new.has_failed ≡ false) }
         ensures wants { IfErr result (λ e. e ≡ WorldError.Memory → self.old.has_failed ≡ false
-            → RunsUpToWant (map action_of events.now) (world_of R.stream C.word_of self.old)) }
+            → RunsUpToEnabled (map action_of events.now) (world_of R.stream C.word_of self.old)) }
         ensures memory { IfErr result (λ e. e ≡ WorldError.Memory → self.new.has_failed ≡ true) }
     {
         for event in events {
@@ -301,8 +301,8 @@ impl<R: Rng, C: Checksum> World<R, C> {
 pub fn step<R: Rng, C: Checksum>(world: &mut World<R, C>, event: &Event) -> Result<(), WorldError>
     ensures ok { OnOk result (Happens (action_of event.now) (world_of R.stream C.word_of world.old) (world_of R.stream C.word_of world.new)) }
     ensures works { OnOk result ((world.old.has_failed ≡ false) × (world.new.has_failed ≡ false)) }
-    ensures lacks { IfErr result (λ e. e ≡ WorldError.NoSuchPacket → Lacks (action_of event.now) (world_of R.stream C.word_of world.old)) }
-    ensures missing { world.old.has_failed ≡ false → Lacks (action_of event.now) (world_of R.stream C.word_of world.old) → result ≡ Err WorldError.NoSuchPacket }
+    ensures lacks { IfErr result (λ e. e ≡ WorldError.NoSuchPacket → IsDisabled (action_of event.now) (world_of R.stream C.word_of world.old)) }
+    ensures missing { world.old.has_failed ≡ false → IsDisabled (action_of event.now) (world_of R.stream C.word_of world.old) → result ≡ Err WorldError.NoSuchPacket }
     ensures same { IfErr result (λ e. e ≡ WorldError.NoSuchPacket → world.new ≡ world.old) }
     ensures stands { IfErr result (λ e. e ≡ WorldError.NoSuchPacket → world.new.has_failed ≡ false) }
     ensures memory { IfErr result (λ e. e ≡ WorldError.Memory → world.new.has_failed ≡ true) }
@@ -313,7 +313,7 @@ pub fn step<R: Rng, C: Checksum>(world: &mut World<R, C>, event: &Event) -> Resu
     ensures nothing_lacks { IfErr result (λ e. ContinuesFirstRun (action_of event.now ∷ []) (world_of R.stream C.word_of world.old) → e ≡ WorldError.Memory) }
     ensures leads { world.new.has_failed ≡ false → IsReachable (world_of R.stream C.word_of world.old) → IsReachable (world_of R.stream C.word_of world.new) }
     ensures composes { (l : IsReachable (world_of R.stream C.word_of world.new)) → Composes (world_of R.stream C.word_of world.new) l }
-    ensures agrees { (l : IsReachable (world_of R.stream C.word_of world.new)) → DrawsNoTagTwice l → Agrees (world_of R.stream C.word_of world.new).log }
+    ensures agrees { (l : IsReachable (world_of R.stream C.word_of world.new)) → EachEndDrawsDistinctTags l → Agrees (world_of R.stream C.word_of world.new).log }
 {
     let a = world.sent(End::A);
     let b = world.sent(End::B);
@@ -329,10 +329,10 @@ pub fn run<R: Rng, C: Checksum>(world: &mut World<R, C>, events: &[Event]) -> Re
     ensures ok { OnOk result (Runs (map action_of events.now) (world_of R.stream C.word_of world.old) (world_of R.stream C.word_of world.new)) }
     ensures works { OnOk result ((world.old.has_failed ≡ false) × (world.new.has_failed ≡ false)) }
     ensures lacks { IfErr result (λ e. e ≡ WorldError.NoSuchPacket
-        → RunsUpToLack (map action_of events.now) (world_of R.stream C.word_of world.old) (world_of R.stream C.word_of world.new)) }
+        → RunsUpToDisabled (map action_of events.now) (world_of R.stream C.word_of world.old) (world_of R.stream C.word_of world.new)) }
     ensures stands { IfErr result (λ e. e ≡ WorldError.NoSuchPacket → world.new.has_failed ≡ false) }
     ensures wants { IfErr result (λ e. e ≡ WorldError.Memory → world.old.has_failed ≡ false
-        → RunsUpToWant (map action_of events.now) (world_of R.stream C.word_of world.old)) }
+        → RunsUpToEnabled (map action_of events.now) (world_of R.stream C.word_of world.old)) }
     ensures memory { IfErr result (λ e. e ≡ WorldError.Memory → world.new.has_failed ≡ true) }
     ensures failed { world.old.has_failed ≡ true → result ≡ Err WorldError.Memory }
     ensures short { OnOk result ((mtu_a mtu_b : ℕ) → AreShort mtu_a mtu_b (world_of R.stream C.word_of world.old)
@@ -341,7 +341,7 @@ pub fn run<R: Rng, C: Checksum>(world: &mut World<R, C>, events: &[Event]) -> Re
     ensures nothing_lacks { IfErr result (λ e. ContinuesFirstRun (map action_of events.now) (world_of R.stream C.word_of world.old) → e ≡ WorldError.Memory) }
     ensures leads { world.new.has_failed ≡ false → IsReachable (world_of R.stream C.word_of world.old) → IsReachable (world_of R.stream C.word_of world.new) }
     ensures composes { (l : IsReachable (world_of R.stream C.word_of world.new)) → Composes (world_of R.stream C.word_of world.new) l }
-    ensures agrees { (l : IsReachable (world_of R.stream C.word_of world.new)) → DrawsNoTagTwice l → Agrees (world_of R.stream C.word_of world.new).log }
+    ensures agrees { (l : IsReachable (world_of R.stream C.word_of world.new)) → EachEndDrawsDistinctTags l → Agrees (world_of R.stream C.word_of world.new).log }
 {
     let a = world.sent(End::A);
     let b = world.sent(End::B);

@@ -5,7 +5,7 @@ use Rattle.std.proofs.lemmas.List.{append-nil, drop_all}
 use Rattle.sctp_state.specs.Events.{Event, SendPacket, OnConnected, OnClosed, OnConnectionRestarted, OnAborted, OnError, OnBufferedAmountLow, OnTotalBufferedAmountLow, OnStreamsResetFailed, OnStreamsResetPerformed, OnIncomingStreamReset, OnLifecycleMessageFullySent, OnLifecycleMessageMaybeExpired, OnLifecycleMessageExpired, OnLifecycleMessageDelivered, OnLifecycleEnd, GivenUp, first_of}
 use Rattle.sctp_serial.specs.Messages.{Message}
 use Rattle.sctp_network_side.specs.SideView.{ready_entry}
-use Rattle.spec_world.specs.Observations.{End, Entry, Happened, GaveUp, BecameReady}
+use Rattle.spec_world.specs.Observations.{End, Entry, EmittedEvent, GaveUp, BecameReady}
 use Rattle.spec_world.specs.World.{packets_in, emitted_entries, given_up_entries}
 
 packets_step : (e : Event (List ℕ)) (es : List (Event (List ℕ))) → packets_in (e ∷ es) ≡ packets_in (e ∷ []) ++ packets_in es
@@ -29,8 +29,8 @@ packets_step (OnLifecycleEnd id) es = refl
 onward : (x : End) (n : ℕ) (es : List (Event (List ℕ))) → emitted_entries x n es ≡ emitted_entries x (n + 0) es
 onward x n es = ap (λ (m : ℕ). emitted_entries x m es) (omega arith)
 
-behind : (x : End) (n : ℕ) (e : Event (List ℕ)) (es : List (Event (List ℕ))) → Happened x e ∷ emitted_entries x n es ≡ Happened x e ∷ emitted_entries x (n + 0) es
-behind x n e es = ap (λ (l : List Entry). Happened x e ∷ l) (onward x n es)
+behind : (x : End) (n : ℕ) (e : Event (List ℕ)) (es : List (Event (List ℕ))) → EmittedEvent x e ∷ emitted_entries x n es ≡ EmittedEvent x e ∷ emitted_entries x (n + 0) es
+behind x n e es = ap (λ (l : List Entry). EmittedEvent x e ∷ l) (onward x n es)
 
 emitted_step : (x : End) (n : ℕ) (e : Event (List ℕ)) (es : List (Event (List ℕ)))
     → emitted_entries x n (e ∷ es) ≡ emitted_entries x n (e ∷ []) ++ emitted_entries x (n + length (packets_in (e ∷ []))) es

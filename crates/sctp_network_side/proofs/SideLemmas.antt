@@ -60,4 +60,4 @@ pub passed : {R C : Type 0} (stream : R → Stream) (word_of : C → List ℕ �
     → longer ≡ log ++ Foreign x (clock (side_in stream word_of now).socket) None ∷ []
     → ComesTo x bytes (side_in stream word_of now) (side_in stream word_of now) log longer
 passed stream word_of v now is x bytes log longer answer j taken l =
-    comes.skipped (judged_as stream word_of v now is bytes answer false j taken) refl l
+    comes.withheld (judged_as stream word_of v now is bytes answer false j taken) refl l

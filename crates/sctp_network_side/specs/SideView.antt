@@ -17,7 +17,7 @@ use Rattle.sctp_network_side.specs.declared.log.Event as given_event
 use Rattle.sctp_network_side.specs.declared.log.Event.TheVariants as events
 use Rattle.sctp_network_side.specs.declared.log.Entry as given_entry
 use Rattle.sctp_network_side.specs.declared.log.Entry.TheVariants as entries
-use Rattle.spec_world.specs.Observations.{End, A, B, Call, Connect, Shutdown, Close, Send, SendMany, Receive, Reset, SetPriority, SetMaxMessageSize, SetLowThreshold, HandOver, Answer, Done, Sent, SentMany, Received, AskedReset, HandedOver, NotReady, Entry, Called, Given, Foreign, Timed, Associated, Emitted, Happened, GaveUp, BecameReady}
+use Rattle.spec_world.specs.Observations.{End, A, B, Call, Connect, Shutdown, Close, Send, SendMany, Receive, Reset, SetPriority, SetMaxMessageSize, SetLowThreshold, HandOver, Answer, Done, Sent, SentMany, Received, AskedReset, HandedOver, NotReady, Entry, Called, Given, Foreign, Timed, Associated, EmittedPacket, EmittedEvent, GaveUp, BecameReady}
 use Rattle.spec_world.specs.World.{Action, CallOf, Give, GiveForeign, AdvanceTime, Side}
 
 abbrev pub end_tree : given_end.End → End
@@ -58,8 +58,8 @@ entry_tree (entries.Give end clock packet) = Given (end_tree end) clock packet
 entry_tree (entries.Foreign end clock bytes) = Foreign (end_tree end) clock (option_map (λ b. b.items) bytes)
 entry_tree (entries.Time end clock now) = Timed (end_tree end) clock now
 entry_tree (entries.Association end association) = Associated (end_tree end) (option_map association_of association)
-entry_tree (entries.Packet end packet) = Emitted (end_tree end) packet
-entry_tree (entries.Event end event) = Happened (end_tree end) (event_of event)
+entry_tree (entries.Packet end packet) = EmittedPacket (end_tree end) packet
+entry_tree (entries.Event end event) = EmittedEvent (end_tree end) (event_of event)
 entry_tree (entries.GivenUp end record_) = GaveUp (end_tree end) (given_up_of record_)
 entry_tree (entries.Ready end message) = BecameReady (end_tree end) (message_of message)
 

@@ -13,7 +13,7 @@ use Rattle.sctp_state.specs.declared.api.errors.SendError.{SendError}
 use Rattle.sctp_state.specs.declared.api.errors.SendError.TheVariants as refusals
 use Rattle.sctp_state.specs.Events.{Event, SendPacket, OnConnected, OnClosed, OnConnectionRestarted, OnAborted, OnError, OnBufferedAmountLow, OnTotalBufferedAmountLow, OnStreamsResetFailed, OnStreamsResetPerformed, OnIncomingStreamReset, OnLifecycleMessageFullySent, OnLifecycleMessageMaybeExpired, OnLifecycleMessageExpired, OnLifecycleMessageDelivered, OnLifecycleEnd}
 use Rattle.sctp_serial.specs.Messages.{Message}
-use Rattle.spec_world.specs.Observations.{End, Answer, Done, Sent, SentMany, Received, AskedReset, HandedOver, NotReady, Entry, Called, Given, Foreign, Timed, Associated, Emitted, Happened, GaveUp, BecameReady, end_name}
+use Rattle.spec_world.specs.Observations.{End, Answer, Done, Sent, SentMany, Received, AskedReset, HandedOver, NotReady, Entry, Called, Given, Foreign, Timed, Associated, EmittedPacket, EmittedEvent, GaveUp, BecameReady, end_name}
 use Rattle.spec_world.specs.World.{World, side_of}
 
 abbrev pub line : List ℕ → List ℕ
@@ -147,8 +147,8 @@ entry_text w (Foreign x clock None) = foreign_line
 entry_text w (Foreign x clock (Some bytes)) = []
 entry_text w (Timed x clock now) = []
 entry_text w (Associated x a) = []
-entry_text w (Emitted x number) = packet_line x number (size_of (slice_get (side_of x w).packets number))
-entry_text w (Happened x event) = event_line x (event_name event) (event_words event)
+entry_text w (EmittedPacket x number) = packet_line x number (size_of (slice_get (side_of x w).packets number))
+entry_text w (EmittedEvent x event) = event_line x (event_name event) (event_words event)
 entry_text w (GaveUp x g) = given_up_line x g.number (cause_words g.cause)
 entry_text w (BecameReady x m) = []
 

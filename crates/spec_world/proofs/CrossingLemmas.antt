@@ -15,7 +15,7 @@ use Rattle.proof_endpoint.proofs.SendRunLemmas.{sent_end, sends, accepts_message
 use Rattle.proof_endpoint.proofs.TakeRunLemmas.{taken_end, takes_it}
 use Rattle.proof_endpoint.proofs.RunPacketsLemmas.{leads_on}
 use Rattle.proof_endpoint.proofs.FirstRunLemmas.{it_rests}
-use Rattle.spec_world.specs.Observations.{A, B, Send, Sent, Entry, Called, Given, Emitted, accepted, ready}
+use Rattle.spec_world.specs.Observations.{A, B, Send, Sent, Entry, Called, Given, EmittedPacket, accepted, ready}
 use Rattle.spec_world.specs.World.{Action, World, Takes, Gives, Runs, record_news, calls, packets_in, emitted_entries, associated_if, ready_entries, ready_before, is_at_rest, fresh_world}
 use Rattle.spec_world.specs.FirstRun.{opening, crossing, acknowledging, IsFresh, HasCrossed}
 use Rattle.spec_world.proofs.FirstRunLemmas.{given_to_a, given_to_b, takes_on, same_self, pack, bytes_of, opened, opened_then, opened_log}
@@ -51,7 +51,7 @@ module _ (a b : Stream) (f : List ℕ → ℕ) (m : Message) (o : SendOptions) w
 
   abbrev taken_log : Bool → List Entry
   taken_log t =
-      sent_log None true ++ Given B 0 2 ∷ (associated_if t B (Some (association b a)) ++ (Emitted B 2 ∷ ready_entries B (ready_before t 0) (m ∷ [])))
+      sent_log None true ++ Given B 0 2 ∷ (associated_if t B (Some (association b a)) ++ (EmittedPacket B 2 ∷ ready_entries B (ready_before t 0) (m ∷ [])))
 
   abbrev pub taken_world : Bool → World
   taken_world t = record (sent_world None true) {

@@ -14,7 +14,7 @@ use Rattle.proof_endpoint.specs.Mapped.{Carried, as_written}
 use Rattle.proof_endpoint.specs.FirstRun.{init_packet, init_ack_packet, cookie_echo_packet, cookie_ack_packet, quiet, asking, answering, echoing, accepting, opening, association, IsSmall, Leads, LeadsOn}
 use Rattle.proof_endpoint.proofs.OpeningRunLemmas.{waiting, answered, echoed, opened_a, opened_b, asks, answers, echoes, accepts, opens}
 use Rattle.proof_endpoint.proofs.RunPacketsLemmas.{leads_on}
-use Rattle.spec_world.specs.Observations.{A, B, same_association, Connect, Done, Entry, Called, Given, Associated, Emitted, Happened}
+use Rattle.spec_world.specs.Observations.{A, B, same_association, Connect, Done, Entry, Called, Given, Associated, EmittedPacket, EmittedEvent}
 use Rattle.spec_world.specs.World.{Action, Side, World, Takes, Gives, Runs, record_news, take_emitted, news_of, clock, calls, associated_if, ready_entries, ready_before, fresh_side, fresh_world}
 use Rattle.spec_world.specs.FirstRun as first_run
 use Rattle.spec_world.specs.FirstRun.{IsOpen, IsFresh}
@@ -75,19 +75,19 @@ module _ (a b : Stream) (f : List ℕ → ℕ) where
   leads = leads_on f a b some_message plainly some_small
 
   abbrev first_log : List Entry
-  first_log = Called A 0 Connect Done ∷ Emitted A 0 ∷ []
+  first_log = Called A 0 Connect Done ∷ EmittedPacket A 0 ∷ []
 
   abbrev second_log : List Entry
-  second_log = first_log ++ Given B 0 0 ∷ Emitted B 0 ∷ []
+  second_log = first_log ++ Given B 0 0 ∷ EmittedPacket B 0 ∷ []
 
   abbrev third_log : List Entry
-  third_log = second_log ++ Given A 0 0 ∷ Associated A (Some (association a b)) ∷ Emitted A 1 ∷ []
+  third_log = second_log ++ Given A 0 0 ∷ Associated A (Some (association a b)) ∷ EmittedPacket A 1 ∷ []
 
   abbrev fourth_log : List Entry
-  fourth_log = third_log ++ Given B 0 1 ∷ Associated B (Some (association b a)) ∷ Happened B OnConnected ∷ Emitted B 1 ∷ []
+  fourth_log = third_log ++ Given B 0 1 ∷ Associated B (Some (association b a)) ∷ EmittedEvent B OnConnected ∷ EmittedPacket B 1 ∷ []
 
   abbrev pub opened_log : List Entry
-  opened_log = fourth_log ++ Given A 0 1 ∷ Happened A OnConnected ∷ []
+  opened_log = fourth_log ++ Given A 0 1 ∷ EmittedEvent A OnConnected ∷ []
 
   abbrev pub first : World
   first = record { a = record { socket = waiting pack a; packets = bytes_of (init_packet a) ∷ [] }; b = fresh_side defaults b f; log = first_log }
@@ -149,7 +149,7 @@ module _ (a b : Stream) (f : List ℕ → ℕ) where
       (subst (λ (s : Endpoint (List ℕ)). Takes (bytes_of (cookie_ack_packet a)) s t) (sym has_echoed) k) ∙ opens pack a b) g
       ∙ ap (λ (t : Bool). record fourth {
         a = record { socket = opened_a pack a b; packets = bytes_of (init_packet a) ∷ bytes_of (cookie_echo_packet a b) ∷ [] };
-        log = fourth_log ++ Given A 0 1 ∷ (associated_if t A (Some (association a b)) ++ (Happened A OnConnected ∷ ready_entries A (ready_before t 0) []));
+        log = fourth_log ++ Given A 0 1 ∷ (associated_if t A (Some (association a b)) ++ (EmittedEvent A OnConnected ∷ ready_entries A (ready_before t 0) []));
       }) (same_self (association a b))
 
   pub opened_then : (rest : List Action) (v : World) → Runs (first_run.opening ++ rest) (fresh_world defaults defaults a b f f) v → Runs rest opened v

@@ -11,7 +11,7 @@ use Rattle.spec_endpoint.specs.Laws as table
 use Rattle.spec_endpoint.specs.Receiving.{Receives, received, not_read}
 use Rattle.proof_endpoint.proofs.LawsLemmas.{stays_within, sends_at_most}
 use Rattle.spec_world.specs.Observations.{End, Entry, A, B}
-use Rattle.spec_world.specs.World.{Side, World, Action, CallOf, Give, GiveForeign, AdvanceTime, TakesBytes, ComesTo, taken_in, skipped, Comes, Gives, Happens, Runs, IsShort, IsShortSide, AreShort, fresh_side, fresh_world, packets_in, take_emitted, step_of}
+use Rattle.spec_world.specs.World.{Side, World, Action, CallOf, Give, GiveForeign, AdvanceTime, TakesBytes, ComesTo, taken_in, withheld, Comes, Gives, Happens, Runs, IsShort, IsShortSide, AreShort, fresh_side, fresh_world, packets_in, take_emitted, table_call}
 
 packets_short : (mtu : ℕ) (events : List (Event (List ℕ))) → All (HasAtMost mtu) events → All (IsShort mtu) (packets_in events)
 packets_short mtu [] h = All-nil (IsShort mtu)
@@ -69,7 +69,7 @@ taken_short mtu x first bytes old new log longer t h =
 
 came_short : (mtu : ℕ) (x : End) (bytes : List ℕ) (old new : Side) (log longer : List Entry) → ComesTo x bytes old new log longer → IsShortSide mtu old → IsShortSide mtu new
 came_short mtu x bytes old new log longer (taken_in t j) h = taken_short mtu x _ bytes old new log longer t h
-came_short mtu x bytes old new log longer (skipped j is l) h = subst (IsShortSide mtu) (sym is) h
+came_short mtu x bytes old new log longer (withheld j is l) h = subst (IsShortSide mtu) (sym is) h
 
 -- ---- the world
 
@@ -94,8 +94,8 @@ foreign_short mtu_a mtu_b B bytes w v g h = record {
 }
 
 pub happens_short : (mtu_a mtu_b : ℕ) (action : Action) (w v : World) → Happens action w v → AreShort mtu_a mtu_b w → AreShort mtu_a mtu_b v
-happens_short mtu_a mtu_b (CallOf A call) w v e h = subst (AreShort mtu_a mtu_b) (sym e) (record { a = settled_short mtu_a (step_of call) w.a h.a; b = h.b })
-happens_short mtu_a mtu_b (CallOf B call) w v e h = subst (AreShort mtu_a mtu_b) (sym e) (record { a = h.a; b = settled_short mtu_b (step_of call) w.b h.b })
+happens_short mtu_a mtu_b (CallOf A call) w v e h = subst (AreShort mtu_a mtu_b) (sym e) (record { a = settled_short mtu_a (table_call call) w.a h.a; b = h.b })
+happens_short mtu_a mtu_b (CallOf B call) w v e h = subst (AreShort mtu_a mtu_b) (sym e) (record { a = h.a; b = settled_short mtu_b (table_call call) w.b h.b })
 happens_short mtu_a mtu_b (Give packet x) w v g h = given_short mtu_a mtu_b x packet w v g h
 happens_short mtu_a mtu_b (GiveForeign x bytes) w v g h = foreign_short mtu_a mtu_b x bytes w v g h
 happens_short mtu_a mtu_b (AdvanceTime A now) w v e h = subst (AreShort mtu_a mtu_b) (sym e) (record { a = settled_short mtu_a (table.Advance now) w.a h.a; b = h.b })

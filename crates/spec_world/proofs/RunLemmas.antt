@@ -1,6 +1,6 @@
 -- Events one after the other.
 use Rattle.std.proofs.Common.{◌≡◌, List, [], ◌∷◌, ◌++◌, refl, sym, ap, subst, ◌∙◌, append_assoc}
-use Rattle.spec_world.specs.World.{Action, World, Happens, Runs, Lacks, RunsUpToLack, RunsUpToWant}
+use Rattle.spec_world.specs.World.{Action, World, Happens, Runs, IsDisabled, RunsUpToDisabled, RunsUpToEnabled}
 
 pub Runs_snoc : (front : List Action) (action : Action) (w u v : World) → Runs front w u → Happens action u v → Runs (front ++ action ∷ []) w v
 Runs_snoc [] action w u v runs happens = (v, subst (λ (x : World). Happens action x v) runs happens, refl)
@@ -14,8 +14,8 @@ Runs_append (action ∷ early) late w u v r s = (r.0, r.1, Runs_append early lat
 pub runs_one : (action : Action) (w v : World) → Happens action w v → Runs (action ∷ []) w v
 runs_one action w v happens = (v, happens, refl)
 
-pub lacks_one : (action : Action) (w v : World) → Lacks action w → v ≡ w → RunsUpToLack (action ∷ []) w v
-lacks_one action w v lacks same = record { before = []; action = action; rest = []; split = refl; runs = same; lacks = subst (Lacks action) (sym same) lacks }
+pub lacks_one : (action : Action) (w v : World) → IsDisabled action w → v ≡ w → RunsUpToDisabled (action ∷ []) w v
+lacks_one action w v lacks same = record { before = []; action = action; rest = []; split = refl; runs = same; lacks = subst (IsDisabled action) (sym same) lacks }
 
 pub stepped : (all rest more : List Action) (action : Action) (w u v : World)
     → (front : List Action) × (all ≡ front ++ rest) × Runs front w u → rest ≡ action ∷ more → Happens action u v
@@ -24,7 +24,7 @@ stepped all rest more action w u v done next happens =
     (done.0 ++ action ∷ [], done.1 ∙ ap (λ (r : List Action). done.0 ++ r) next ∙ sym (append_assoc done.0 (action ∷ []) more), Runs_snoc done.0 action w u v done.2 happens)
 
 pub wanting : (all rest more : List Action) (action : Action) (w u : World)
-    → (front : List Action) × (all ≡ front ++ rest) × Runs front w u → rest ≡ action ∷ more → (Lacks action u → ⊥) → RunsUpToWant all w
+    → (front : List Action) × (all ≡ front ++ rest) × Runs front w u → rest ≡ action ∷ more → (IsDisabled action u → ⊥) → RunsUpToEnabled all w
 wanting all rest more action w u done next there = record {
   before = done.0;
   action = action;

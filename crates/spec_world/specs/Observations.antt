@@ -71,8 +71,8 @@ pub data Entry : Type 0 where
   Foreign : End → (clock : ℕ) → Option (List ℕ) → Entry  -- bytes from elsewhere, or none where they were withheld
   Timed : End → (clock : ℕ) → (now : ℕ) → Entry
   Associated : End → Option Association → Entry
-  Emitted : End → (packet : ℕ) → Entry
-  Happened : End → Event (List ℕ) → Entry
+  EmittedPacket : End → (packet : ℕ) → Entry
+  EmittedEvent : End → Event (List ℕ) → Entry
   GaveUp : End → GivenUp → Entry
   BecameReady : End → Message → Entry
 
@@ -143,7 +143,7 @@ abbrev pub given_up : End → List Entry → List GivenUp
 given_up x log = flat_map (given_up_by x) log
 
 abbrev pub connected_by : End → Entry → List End
-connected_by x (Happened y OnConnected) = none_unless (same_end x y) y
+connected_by x (EmittedEvent y OnConnected) = none_unless (same_end x y) y
 connected_by x entry = []
 
 -- how often this end emitted that it is connected

@@ -14,7 +14,7 @@ use Rattle.spec_endpoint.specs.Shown.{Association, association_in}
 use Rattle.spec_endpoint.specs.Receiving.{Receives, Judges}
 use Rattle.spec_endpoint.specs.Shown as socket
 use Rattle.spec_endpoint.specs.Wire.{writing}
-use Rattle.spec_world.specs.Observations.{End, A, B, same_association, Call, Connect, Shutdown, Close, Send, SendMany, Receive, Reset, SetPriority, SetMaxMessageSize, SetLowThreshold, HandOver, Answer, Done, Sent, SentMany, Received, AskedReset, HandedOver, NotReady, Entry, Called, Given, Foreign, Timed, Associated, Emitted, Happened, GaveUp, BecameReady}
+use Rattle.spec_world.specs.Observations.{End, A, B, same_association, Call, Connect, Shutdown, Close, Send, SendMany, Receive, Reset, SetPriority, SetMaxMessageSize, SetLowThreshold, HandOver, Answer, Done, Sent, SentMany, Received, AskedReset, HandedOver, NotReady, Entry, Called, Given, Foreign, Timed, Associated, EmittedPacket, EmittedEvent, GaveUp, BecameReady}
 
 -- an end, with the packets that it ever sent
 pub record Side : Type 0 where
@@ -49,8 +49,8 @@ packets_in (event ∷ events) = packets_in events
 -- what was emitted, the first packet with this number
 abbrev pub emitted_entries : End → ℕ → List (Event (List ℕ)) → List Entry
 emitted_entries x n [] = []
-emitted_entries x n (SendPacket bytes ∷ events) = Emitted x n ∷ emitted_entries x (n + 1) events
-emitted_entries x n (event ∷ events) = Happened x event ∷ emitted_entries x n events
+emitted_entries x n (SendPacket bytes ∷ events) = EmittedPacket x n ∷ emitted_entries x (n + 1) events
+emitted_entries x n (event ∷ events) = EmittedEvent x event ∷ emitted_entries x n events
 
 abbrev pub given_up_entries : End → List GivenUp → List Entry
 given_up_entries x gone = map (GaveUp x) gone
@@ -121,22 +121,22 @@ record_news x first s w = with_side x (take_emitted (side_of x w) s) (w.log ++ f
 -- ---- calls and moments
 
 -- the same call, of the table of steps
-abbrev pub step_of : Call → table.Call
-step_of Connect = table.Connect
-step_of Shutdown = table.Shutdown
-step_of Close = table.Close
-step_of (Send m options) = table.Send m options
-step_of (SendMany ms options) = table.SendMany ms options
-step_of Receive = table.TakeMessage
-step_of (Reset streams) = table.ResetStreams streams
-step_of (SetPriority stream priority) = table.SetPriority stream priority
-step_of (SetMaxMessageSize bytes) = table.SetMaxMessageSize bytes
-step_of (SetLowThreshold stream bytes) = table.SetLowThreshold stream bytes
-step_of HandOver = table.HandOver
+abbrev pub table_call : Call → table.Call
+table_call Connect = table.Connect
+table_call Shutdown = table.Shutdown
+table_call Close = table.Close
+table_call (Send m options) = table.Send m options
+table_call (SendMany ms options) = table.SendMany ms options
+table_call Receive = table.TakeMessage
+table_call (Reset streams) = table.ResetStreams streams
+table_call (SetPriority stream priority) = table.SetPriority stream priority
+table_call (SetMaxMessageSize bytes) = table.SetMaxMessageSize bytes
+table_call (SetLowThreshold stream bytes) = table.SetLowThreshold stream bytes
+table_call HandOver = table.HandOver
 
 -- an end after a call
 abbrev pub after_call : Call → Endpoint (List ℕ) → Endpoint (List ℕ)
-after_call call s = called (step_of call) s
+after_call call s = called (table_call call) s
 
 -- the record, where nothing stands in the way
 abbrev pub handed_by : (readiness : ℕ) → Endpoint (List ℕ) → Answer
@@ -199,7 +199,7 @@ IsJudged bytes s is_refused = Judges s.endpoint_state.context.pack.word_of bytes
 -- bytes from elsewhere: they are given to an end that refuses them, and else withheld from it
 pub data ComesTo (x : End) (bytes : List ℕ) (old new : Side) (log longer : List Entry) : Type 0 where
   taken_in : (t : TakesBytes x (Foreign x (clock old.socket) (Some bytes)) bytes old new log longer) → IsJudged bytes old.socket true → ComesTo x bytes old new log longer
-  skipped : IsJudged bytes old.socket false → new ≡ old → longer ≡ log ++ Foreign x (clock old.socket) None ∷ [] → ComesTo x bytes old new log longer
+  withheld : IsJudged bytes old.socket false → new ≡ old → longer ≡ log ++ Foreign x (clock old.socket) None ∷ [] → ComesTo x bytes old new log longer
 
 pub record Comes (x : End) (bytes : List ℕ) (w v : World) : Type 0 where
   pub comes : ComesTo x bytes (side_of x w) (side_of x v) w.log v.log
@@ -216,30 +216,30 @@ Runs [] w v = v ≡ w
 Runs (action ∷ actions) w v = (u : World) × Happens action w u × Runs actions u v
 
 -- the event names a packet that isn't there
-abbrev pub Lacks : Action → World → Type 0
-Lacks (CallOf x call) w = ⊥
-Lacks (Give packet x) w = slice_get (side_of (other x) w).packets packet ≡ None
-Lacks (GiveForeign x bytes) w = ⊥
-Lacks (AdvanceTime x now) w = ⊥
+abbrev pub IsDisabled : Action → World → Type 0
+IsDisabled (CallOf x call) w = ⊥
+IsDisabled (Give packet x) w = slice_get (side_of (other x) w).packets packet ≡ None
+IsDisabled (GiveForeign x bytes) w = ⊥
+IsDisabled (AdvanceTime x now) w = ⊥
 
 -- a run up to an event that names a packet which isn't there
-pub record RunsUpToLack (actions : List Action) (w v : World) : Type 0 where
+pub record RunsUpToDisabled (actions : List Action) (w v : World) : Type 0 where
   pub before : List Action
   pub action : Action
   pub rest : List Action
   pub split : actions ≡ before ++ action ∷ rest
   pub runs : Runs before w v
-  pub lacks : Lacks action v
+  pub lacks : IsDisabled action v
 
 -- a run up to an event that the world can meet: the packet is there, if it names one
-pub record RunsUpToWant (actions : List Action) (w : World) : Type 0 where
+pub record RunsUpToEnabled (actions : List Action) (w : World) : Type 0 where
   pub before : List Action
   pub action : Action
   pub rest : List Action
   pub split : actions ≡ before ++ action ∷ rest
   pub reached : World
   pub runs : Runs before w reached
-  pub there : Lacks action reached → ⊥
+  pub there : IsDisabled action reached → ⊥
 
 -- ---- no packet is larger than its sender's mtu
 

@@ -2,7 +2,7 @@ use Rattle.std.proofs.Common.{◌+◌, Option, ◌∷◌, map, ap, subst}
 use Rattle.sctp_serial.specs.Unwrapped.{origin}
 use Rattle.sctp_rx.specs.ReassemblyQueue.{Deferred, number_of, point_waits, forward}
 use Rattle.sctp_rx.specs.Tracker as tracker
-use Rattle.proof_protocol.specs.Rules.{forward_comes, deliver}
+use Rattle.proof_protocol.specs.Rules.{forward_comes, become_ready}
 use Rattle.proof_rx_refines.specs.Read.{shift_after}
 use Rattle.proof_rx_refines.specs.Refinement.{Goes}
 use Rattle.proof_rx_refines.proofs.ForwardRowLemmas.{called_at_once, first_is, row_point}
@@ -12,7 +12,7 @@ pub returns-clause-goes : goal.returns-clause-goes
 returns-clause-goes c message mixed base shift x handed t r k tsn entries f kept shown none sent last tsn_is small stand apart are_now =
     (let l = row_point message mixed base shift x kept handed t r shown k tsn entries
     (called_at_once r tsn k (shift_after r.first shift k) entries tsn_is small (ap (point_waits (number_of r tsn)) none)) f sent last tsn_is stand apart are_now in
-    (l.0, subst (λ (d : Option Deferred). Goes message mixed base (shift_after r.first shift k) x (forward_comes f ∷ map deliver l.0) handed d (tracker.forward (origin + k) t) (forward tsn entries r)) none l.1))
+    (l.0, subst (λ (d : Option Deferred). Goes message mixed base (shift_after r.first shift k) x (forward_comes f ∷ map become_ready l.0) handed d (tracker.forward (origin + k) t) (forward tsn entries r)) none l.1))
 
 pub returns-clause-first : goal.returns-clause-first
 returns-clause-first c message mixed base shift x handed t r k tsn entries f kept shown none sent last tsn_is small stand apart are_now =

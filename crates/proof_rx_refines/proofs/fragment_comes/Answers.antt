@@ -2,7 +2,7 @@ use Rattle.std.proofs.Common.{◌+◌, Option, [], ◌∷◌, map, ap, subst}
 use Rattle.sctp_serial.specs.Unwrapped.{origin}
 use Rattle.sctp_rx.specs.ReassemblyQueue.{Deferred, number_of, fragment_waits, add}
 use Rattle.sctp_rx.specs.Tracker.{observe}
-use Rattle.proof_protocol.specs.Rules.{data_comes, late_comes, deliver}
+use Rattle.proof_protocol.specs.Rules.{data_comes, late_comes, become_ready}
 use Rattle.proof_rx_refines.specs.Read.{shift_after}
 use Rattle.proof_rx_refines.specs.Refinement.{Goes}
 use Rattle.proof_rx_refines.proofs.FragmentRowLemmas.{first_is, row_held, row_late}
@@ -11,7 +11,7 @@ use Rattle.proof_rx_refines.proofs.fragment_comes.Goals as goal
 pub returns-clause-held : goal.returns-clause-held
 returns-clause-held c message mixed base shift x handed t r k tsn f now kept shown i none carries read unseen is_now current =
     (let l = row_held message mixed base shift x kept handed t r shown i k tsn f (ap (fragment_waits (number_of r tsn) f.stream_id) none) carries read unseen is_now current now in
-    (l.0, subst (λ (d : Option Deferred). Goes message mixed base (shift_after r.first shift k) x (data_comes k ∷ map deliver l.0) handed d (observe (origin + k) now t) (add tsn f r)) none l.1))
+    (l.0, subst (λ (d : Option Deferred). Goes message mixed base (shift_after r.first shift k) x (data_comes k ∷ map become_ready l.0) handed d (observe (origin + k) now t) (add tsn f r)) none l.1))
 
 pub returns-clause-late : goal.returns-clause-late
 returns-clause-late c message mixed base shift x handed t r k tsn f now kept shown i none carries read unseen is_now late =

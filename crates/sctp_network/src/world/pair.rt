@@ -1,7 +1,7 @@
 //! Two worlds that the same events lead on.
 
 ghost use Rattle.std.specs.Prelude.{◌≡◌, ◌⊎◌, true, false, [], ◌∷◌, map, IfErr, OnOk, Err};
-ghost use Rattle.spec_world.specs.World.{Happens, Lacks};
+ghost use Rattle.spec_world.specs.World.{Happens, IsDisabled};
 ghost use Rattle.proof_world_draws.specs.Alike.{ArePaired, AreComparable, ShowAlong, first_new, second_new};
 ghost use Rattle.proof_world_draws.specs.Pairs.{Both, BothUpToLack, RanOut};
 ghost use Rattle.sctp_network_side.specs.SideView.{action_of};
@@ -117,7 +117,7 @@ fn step_both<R: Rng, S: Rng, C: Checksum>(
     ensures second { OnOk result (Happens (action_of event.now) (world_of S.stream C.word_of second.old) (world_of S.stream C.word_of second.new)) }
     ensures works { OnOk result ((first.new.has_failed ≡ false) × (second.new.has_failed ≡ false)) }
     ensures lacks { IfErr result (λ e. e ≡ WorldError.NoSuchPacket
-        → Lacks (action_of event.now) (world_of R.stream C.word_of first.old) ⊎ Lacks (action_of event.now) (world_of S.stream C.word_of second.old)) }
+        → IsDisabled (action_of event.now) (world_of R.stream C.word_of first.old) ⊎ IsDisabled (action_of event.now) (world_of S.stream C.word_of second.old)) }
     ensures same { IfErr result (λ e. e ≡ WorldError.NoSuchPacket → (first.new ≡ first.old) × (second.new ≡ second.old)) }
     ensures ran_out { IfErr result (λ e. e ≡ WorldError.Memory
         → RanOut (action_of event.now ∷ []) (world_of R.stream C.word_of first.old) (world_of S.stream C.word_of second.old)
@@ -132,8 +132,8 @@ fn step_both<R: Rng, S: Rng, C: Checksum>(
 
 /// Whether the world has the packet that the event names, if it names one.
 fn has_packet<R: Rng, C: Checksum>(world: &World<R, C>, event: &Event) -> bool
-    ensures there { result ≡ true → Lacks (action_of event.now) (world_of R.stream C.word_of world.now) → ⊥ }
-    ensures lacks { result ≡ false → Lacks (action_of event.now) (world_of R.stream C.word_of world.now) }
+    ensures there { result ≡ true → IsDisabled (action_of event.now) (world_of R.stream C.word_of world.now) → ⊥ }
+    ensures lacks { result ≡ false → IsDisabled (action_of event.now) (world_of R.stream C.word_of world.now) }
 {
     match event {
         Event::Give(number, End::A) => world.packet(End::B, *number).is_some(),
