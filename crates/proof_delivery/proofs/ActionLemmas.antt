@@ -15,7 +15,7 @@ use Rattle.sctp_tx_queue.specs.Queue.{Queue}
 use Rattle.spec_endpoint.specs.Association.{State, Endpoint}
 use Rattle.proof_endpoint.specs.Mapped.{Carried}
 use Rattle.proof_pair.specs.Acts.{calm}
-use Rattle.proof_pair.specs.Trace.{Side, packets_in, emitted_packets, took, state_of}
+use Rattle.proof_pair.specs.Trace.{Side, packets_in, emitted_packets, drain, state_of}
 use Rattle.proof_pair.proofs.JoinActsLemmas.{packets_both}
 use Rattle.proof_delivery.specs.Accepted.{AcceptedMessage}
 use Rattle.proof_delivery.specs.Answered.{waiting_number, is_same, asked_by}
@@ -186,14 +186,14 @@ outgoing message is_interleaved x y g = record {
 -- ---- more packets
 
 -- those of an action, where at its beginning so much was acknowledged and numbered
-more_under_way : (Says : Saying) (of : Stamp → ℕ) (now : Stamp) (from y : Direction) (past told : _) (ss : List Stamp) → of now ≡ count (transfer_of from).sender
+more_under_way : (Says : Saying) (of : Stamp → ℕ) (now : Stamp) (from y : Direction) (past emitted : _) (ss : List Stamp) → of now ≡ count (transfer_of from).sender
     → count (transfer_of from).sender ≤ (transfer_of from).acknowledged + 2 ^ 30 → (transfer_of from).acknowledged ≤ (transfer_of y).acknowledged
     → count (transfer_of from).sender ≤ count (transfer_of y).sender
-    → All (λ (p : Carried). All (Says (transfer_of from).acknowledged (count (transfer_of from).sender) y) p.chunks) (packets_in told) → AllUnderWay Says of y (packets_in past) ss
-    → AllUnderWay Says of y (packets_in (past ++ told)) (ss ++ replicate (length (packets_in (past ++ told)) - length (packets_in past)) now)
-more_under_way Says of now from y past told ss is near left numbered says h =
+    → All (λ (p : Carried). All (Says (transfer_of from).acknowledged (count (transfer_of from).sender) y) p.chunks) (packets_in emitted) → AllUnderWay Says of y (packets_in past) ss
+    → AllUnderWay Says of y (packets_in (past ++ emitted)) (ss ++ replicate (length (packets_in (past ++ emitted)) - length (packets_in past)) now)
+more_under_way Says of now from y past emitted ss is near left numbered says h =
     let P : Stamp → Carried → Type 0 = λ stamp p. IsUnderWay Says y (of stamp) p in
-    let new : All (P now) (packets_in told) =
+    let new : All (P now) (packets_in emitted) =
     All-weaker (λ (p : Carried). All (Says (transfer_of from).acknowledged (count (transfer_of from).sender) y) p.chunks) (P now)
     (λ p u. record {
       least = (transfer_of from).acknowledged;
@@ -201,9 +201,9 @@ more_under_way Says of now from y past told ss is near left numbered says h =
       near = omega (arith, is, near);
       below = omega (arith, is, numbered);
       says = subst (λ (n : ℕ). All (Says (transfer_of from).acknowledged n y) p.chunks) (sym is) u;
-    }) (packets_in told) says in
-    subst (λ (ps : List Carried). AllUnderWay Says of y ps (ss ++ replicate (length ps - length (packets_in past)) now)) (sym (packets_both past told))
-    (each_behind P now (packets_in past) (packets_in told) ss h new)
+    }) (packets_in emitted) says in
+    subst (λ (ps : List Carried). AllUnderWay Says of y ps (ss ++ replicate (length ps - length (packets_in past)) now)) (sym (packets_both past emitted))
+    (each_behind P now (packets_in past) (packets_in emitted) ss h new)
 
 -- ---- how the streams stand
 
@@ -295,7 +295,7 @@ module _ (message : ℕ → Message) (lifecycle : ℕ → Option ℕ) (is_interl
 
 -- what was emitted is taken
 abbrev pub after_action : (asked : Bool) → Endpoint Carried → Side → Side
-after_action asked e z = record (took e z) { got_init = asked }
+after_action asked e z = record (drain e z) { got_init = asked }
 
 -- what the trace says then: the end accepted these, emitted that, and these streams were to be reset
 abbrev pub so_far_then : SoFar → (s : Side) → Endpoint Carried → List AcceptedMessage → (prepared : List ℕ) → SoFar
@@ -331,7 +331,7 @@ module _ (message : ℕ → Message) (lifecycle : ℕ → Option ℕ) (is_interl
       let acked = offers.acknowledged in
       let counted = offers.counted in
       let many = f.many in
-      let told : List (Event Carried) = e.endpoint_state.context.emitted.events in
+      let emitted : List (Event Carried) = e.endpoint_state.context.emitted.events in
       record {
         kept = c.kept;
         filled = filled_goes message is_interleaved is_outgoing outgoing_has mid y offers.kept.epochs went
@@ -340,7 +340,7 @@ module _ (message : ℕ → Message) (lifecycle : ℕ → Option ℕ) (is_interl
         sends = c.shown;
         refines = stay.refines (state_of r) handed mid y offers.kept went c.done (stay.refines (state_of r) handed x mid f.kept offers.goes offers.done f.refines);
         accepted_is = omega (arith, few, were, is);
-        out = more_under_way (says_out message is_interleaved (first_out e.endpoint_state.state)) of now mid y s.emitted told stamps_s
+        out = more_under_way (says_out message is_interleaved (first_out e.endpoint_state.state)) of now mid y s.emitted emitted stamps_s
             (at_now ∙ sym counted) (omega (arith, near, counted, acked)) grows.left grows.numbered c.emitted old;
         answers = answers;
         streams = c.epochs so_far.streams (so_still so_far.streams x.rules mid.rules offers.raised offers.opened f.streams);
@@ -352,9 +352,9 @@ module _ (message : ℕ → Message) (lifecycle : ℕ → Option ℕ) (is_interl
             (let a = offers.answered in let b = c.goes.answered in omega (arith, a, b))
             (λ a h. elim (c.since a h) [ inl g ↦ inl (subst (λ (l : List Ask). slice_get l y.answered ≡ Some a) offers.asks g) | inr l ↦ inr (omega (arith, l, counted)) ])
             so_far.asked f.asked;
-        answered = let a = f.answered in let b = offers.answered in let d = c.performed in let g = performed_both s.emitted told in omega (arith, a, b, d, g);
+        answered = let a = f.answered in let b = offers.answered in let d = c.performed in let g = performed_both s.emitted emitted in omega (arith, a, b, d, g);
         performed = λ k. ap (λ (g : ℕ → ℕ). g k) ((receiver_stays message is_interleaved mid y c.goes).performed ∙ offers.performed) ∙ f.performed k;
-        none_failed = none_failed_both s.emitted told f.none_failed c.none_failed;
+        none_failed = none_failed_both s.emitted emitted f.none_failed c.none_failed;
       }
 
   -- of the receiver, which hands out these
@@ -367,7 +367,7 @@ module _ (message : ℕ → Message) (lifecycle : ℕ → Option ℕ) (is_interl
       in_on message is_interleaved goes_in x y f.kept.epochs c.goes (first_in e.endpoint_state.state) of (emitted_packets r) stamps_r there in
       let grows : Grows message is_interleaved x y = goes_grows message is_interleaved goes_in x y f.kept.epochs c.goes in
       let same : SameSender message is_interleaved x.rules y.rules = sender_stays message is_interleaved x y c.goes in
-      let told : List (Event Carried) = e.endpoint_state.context.emitted.events in
+      let emitted : List (Event Carried) = e.endpoint_state.context.emitted.events in
       record {
         kept = c.kept;
         filled = receives_filled message is_interleaved x y f.kept.epochs c.goes f.filled;
@@ -376,13 +376,13 @@ module _ (message : ℕ → Message) (lifecycle : ℕ → Option ℕ) (is_interl
         refines = c.shown;
         accepted_is = ap (λ o. o.accepted) same.sender ∙ f.accepted_is;
         out = out_on message is_interleaved goes_in x y f.kept.epochs c.goes (first_out (state_of s)) of (emitted_packets s) stamps_s f.out;
-        answers = more_under_way (says_in message is_interleaved (first_in e.endpoint_state.state)) of now x y r.emitted told stamps_r
+        answers = more_under_way (says_in message is_interleaved (first_in e.endpoint_state.state)) of now x y r.emitted emitted stamps_r
             at_now near grows.left grows.numbered c.emitted old;
         streams = so_still so_far.streams x.rules y.rules same.raised same.opened f.streams;
         many = f.many;
         epochs = λ p n h. ap (λ (g : ℕ → ℕ). g p) same.epoch ∙ f.epochs p n h;
         asked = λ a h. f.asked a (sym (ap (λ (l : List Ask). slice_get l y.answered) c.stay.0 ∙ ap (λ (n : ℕ). slice_get x.asks n) c.stay.1) ∙ h);
         answered = c.stay.1 ∙ f.answered;
-        performed = λ k. let a = c.performed k in let b = f.performed k in let d = emitted_both k r.emitted told in omega (arith, a, b, d);
+        performed = λ k. let a = c.performed k in let b = f.performed k in let d = emitted_both k r.emitted emitted in omega (arith, a, b, d);
         none_failed = f.none_failed;
       }

@@ -116,13 +116,13 @@ module _ (message : ℕ → Message) (lifecycle : ℕ → Option ℕ) (is_interl
   -- nothing happens that the rules see
   quietly_in : (out : List messages.Message) (m : Making Carried) → ReceivesIn message is_interleaved m.state (handed ++ out) x → packets_in m.context.emitted.events ≡ []
       → resets_in m.context.emitted.events ≡ [] → m.packet.chunks ≡ [] → ReceiverClaim message is_interleaved x (handed ++ out) m x
-  quietly_in out m shown told resets made = record {
+  quietly_in out m shown emitted resets made = record {
     kept = f.kept;
     goes = goes_none message is_interleaved goes_in x;
     stay = (refl, refl);
     shown = shown;
     performed = λ k. let none = sym (emitted_counts k m.context.emitted.events) ∙ ap (λ (es : List (Event Carried)). resets_emitted k es) resets in omega (arith, none);
-    emitted = subst (λ (ps : List Carried). All (λ (p : Carried). All (SaysIn (first_in m.state) (transfer_of x).acknowledged (count (transfer_of x).sender) x) p.chunks) ps) (sym told) (All-nil _);
+    emitted = subst (λ (ps : List Carried). All (λ (p : Carried). All (SaysIn (first_in m.state) (transfer_of x).acknowledged (count (transfer_of x).sender) x) p.chunks) ps) (sym emitted) (All-nil _);
     made = subst (λ (cs : List ChunkTree). All (SaysIn (first_in m.state) (transfer_of x).acknowledged (count (transfer_of x).sender) x) cs) (sym made) (All-nil _);
   }
 

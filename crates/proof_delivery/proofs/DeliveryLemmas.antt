@@ -109,9 +109,9 @@ module _ (message : ℕ → Message) (lifecycle : ℕ → Option ℕ) (is_interl
       → (f : ℕ → StreamEpoch) (epochs : List ℕ) (x : Direction) → FlowsFrom message lifecycle is_interleaved from_a w stamps n handed (so_far from_a f epochs k) x
       → Stepped message lifecycle is_interleaved from_a (goes at_a t w) (stamps_after at_a t w stamps) (n + length (accepted_at from_a at_a t w)) (handed ++ handed_at (not from_a) at_a t w)
       (so_far from_a (epochs_after from_a at_a t w f) (epochs ++ epochs_of (accepted_at from_a at_a t w) f) (asked_after at_a t w k)) x w (given_up_at from_a at_a t w)
-  stepped true true t w stamps h quiet within k soon told may timely none n handed are few f epochs x flows =
+  stepped true true t w stamps h quiet within k soon emitted may timely none n handed are few f epochs x flows =
       let r = action_out message lifecycle is_interleaved (of_end true) parts a b own other mode w.a w.b h quiet.a quiet.b within.a n handed stamps.of_a stamps.of_b (so_far true f epochs k) x flows
-      soon.a (told true) (stamp w) refl (λ old y. y.a) t may timely none.a are few in
+      soon.a (emitted true) (stamp w) refl (λ old y. y.a) t may timely none.a are few in
       record {
         to = r.to;
         flows = subst (λ (ms : List messages.Message). FlowsFrom message lifecycle is_interleaved true (goes true t w) (stamps_after true t w stamps) (n + length (accepted_in t w.a)) ms
@@ -119,9 +119,9 @@ module _ (message : ℕ → Message) (lifecycle : ℕ → Option ℕ) (is_interl
         bracketed = r.bracketed;
         accounts = r.accounts;
       }
-  stepped true false t w stamps h quiet within k soon told may timely none n handed are few f epochs x flows =
+  stepped true false t w stamps h quiet within k soon emitted may timely none n handed are few f epochs x flows =
       let r = action_in message lifecycle is_interleaved (of_end true) parts a b own other mode w.a w.b h quiet.a quiet.b within.a n handed stamps.of_a stamps.of_b (so_far true f epochs k) x flows
-      soon.a (told true) (stamp w) refl (λ old y. y.a) t may timely none.b in
+      soon.a (emitted true) (stamp w) refl (λ old y. y.a) t may timely none.b in
       record {
         to = r.to;
         flows = subst (λ (m : ℕ). FlowsFrom message lifecycle is_interleaved true (goes false t w) (stamps_after false t w stamps) m (handed ++ handed_by t w.b)
@@ -132,9 +132,9 @@ module _ (message : ℕ → Message) (lifecycle : ℕ → Option ℕ) (is_interl
         bracketed = r.bracketed;
         accounts = r.accounts;
       }
-  stepped false false t w stamps h quiet within k soon told may timely none n handed are few f epochs x flows =
+  stepped false false t w stamps h quiet within k soon emitted may timely none n handed are few f epochs x flows =
       let r = action_out message lifecycle is_interleaved (of_end false) parts b a other own mode_back w.b w.a (swapped a b w.a w.b h) quiet.b quiet.a within.b n handed stamps.of_b stamps.of_a
-      (so_far false f epochs k) x flows soon.b (told false) (stamp w) refl (λ old y. y.b) t may timely none.b are few in
+      (so_far false f epochs k) x flows soon.b (emitted false) (stamp w) refl (λ old y. y.b) t may timely none.b are few in
       record {
         to = r.to;
         flows = subst (λ (ms : List messages.Message). FlowsFrom message lifecycle is_interleaved false (goes false t w) (stamps_after false t w stamps) (n + length (accepted_in t w.b)) ms
@@ -142,9 +142,9 @@ module _ (message : ℕ → Message) (lifecycle : ℕ → Option ℕ) (is_interl
         bracketed = r.bracketed;
         accounts = r.accounts;
       }
-  stepped false true t w stamps h quiet within k soon told may timely none n handed are few f epochs x flows =
+  stepped false true t w stamps h quiet within k soon emitted may timely none n handed are few f epochs x flows =
       let r = action_in message lifecycle is_interleaved (of_end false) parts b a other own mode_back w.b w.a (swapped a b w.a w.b h) quiet.b quiet.a within.b n handed stamps.of_b stamps.of_a
-      (so_far false f epochs k) x flows soon.b (told false) (stamp w) refl (λ old y. y.b) t may timely none.a in
+      (so_far false f epochs k) x flows soon.b (emitted false) (stamp w) refl (λ old y. y.b) t may timely none.a in
       record {
         to = r.to;
         flows = subst (λ (m : ℕ). FlowsFrom message lifecycle is_interleaved false (goes true t w) (stamps_after true t w stamps) m (handed ++ handed_by t w.a)
@@ -313,7 +313,7 @@ module _ (all : List AcceptedMessage) (all_epochs : List ℕ) (is_interleaved : 
       → (f : ℕ → StreamEpoch) (epochs more_epochs : List ℕ) → all_epochs ≡ epochs ++ (message_epochs from_a es w f ++ more_epochs) → (handed ready : List messages.Message)
       → ready ≡ handed ++ ready_at (side_of (not from_a) w) → (gone : List ℕ) (x : Direction) → From w stamps (length done) handed (so_far from_a f epochs k) x
       → Accounted (lifecycle_of all) (side_of from_a w) gone x → DeliversOn es w stamps done ready gone x
-  delivers_on [] w stamps follows none windows k soon told h quiet done more is f epochs more_epochs are handed ready r gone x flows accounts = record {
+  delivers_on [] w stamps follows none windows k soon emitted h quiet done more is f epochs more_epochs are handed ready r gone x flows accounts = record {
     places = (transfer_of x).receiver.places;
     more = [];
     grown = sym (append-nil (transfer_of x).receiver.places);
@@ -347,14 +347,14 @@ module _ (all : List AcceptedMessage) (all_epochs : List ℕ) (is_interleaved : 
       in_epochs : (early late : List (Bool × EndAction)) (e : Bool × EndAction) → [] ≡ early ++ e ∷ late → BecomeReadyAt (transfer_of x).receiver.places w ready early e
       in_epochs [] late e is = cc
       in_epochs (g ∷ early) late e is = cc
-  delivers_on (e ∷ es) w stamps follows none windows k soon told h quiet done more is f epochs more_epochs are handed ready r gone x flows accounts =
+  delivers_on (e ∷ es) w stamps follows none windows k soon emitted h quiet done more is f epochs more_epochs are handed ready r gone x flows accounts =
       let v : Pair = goes e.0 e.1 w in
       let os : List AcceptedMessage = accepted_at from_a e.0 e.1 w in
       let later : List AcceptedMessage = accepted from_a es v ++ more in
       let split : all ≡ done ++ (os ++ later) = is ∙ ap (λ (l : List AcceptedMessage). done ++ l) (append_assoc os (accepted from_a es v) more) in
       let new : List messages.Message = new_behind (ready_at (side_of (not from_a) w)) (ready_at (side_of (not from_a) v)) in
       let not_yet : NeitherHasEnded v = before_run es v none in
-      let few_now : AreFewPerformed w = λ y. few_before y (e ∷ es) w (2 ^ 32 - 1) (told y) in
+      let few_now : AreFewPerformed w = λ y. few_before y (e ∷ es) w (2 ^ 32 - 1) (emitted y) in
       let g : ℕ → StreamEpoch = epochs_after from_a e.0 e.1 w f in
       let ns : List ℕ = epochs_of os f in
       let later_epochs : List ℕ = message_epochs from_a es v g ++ more_epochs in
@@ -373,7 +373,7 @@ module _ (all : List AcceptedMessage) (all_epochs : List ℕ) (is_interleaved : 
       on_then e es w stamps done ready gone x s.to s.bracketed (point_now w stamps done (accepted from_a (e ∷ es) w ++ more) is handed ready r gone (so_far from_a f epochs k) x flows accounts)
       (timed_now w v done handed ready r (done ++ os) handed_then new now_ready stamps (stamps_after e.0 e.1 w stamps) (length done) (length done + length os) (so_far from_a f epochs k) said x s.to flows
       s.flows s.bracketed later_epochs split_epochs)
-      (delivers_on es v (stamps_after e.0 e.1 w stamps) follows.1 none windows.2 (asked_after e.0 e.1 w k) soon.1 told (goes_consistent a b own other e.0 e.1 w follows.0 not_yet h)
+      (delivers_on es v (stamps_after e.0 e.1 w stamps) follows.1 none windows.2 (asked_after e.0 e.1 w k) soon.1 emitted (goes_consistent a b own other e.0 e.1 w follows.0 not_yet h)
       (silent_goes e.0 e.1 w quiet) (done ++ os) more (split ∙ sym (append_assoc done os later)) g (epochs ++ ns) more_epochs split_epochs handed_then (ready ++ new) now_ready
       (gone ++ given_up_at from_a e.0 e.1 w) s.to
       (subst (λ (n : ℕ). From v (stamps_after e.0 e.1 w stamps) n handed_then said s.to) (sym (length-append done os)) s.flows) (s.accounts gone accounts))
@@ -407,14 +407,14 @@ module _ (all : List AcceptedMessage) (all_epochs : List ℕ) (is_interleaved : 
       → (gone by : List ℕ) → Accounted (lifecycle_of all) s gone x → (then : SoFar)
       → Turned (message_of all) (lifecycle_of all) is_interleaved of side r (length done + length os) handed stamps_s stamps_r then x s by
       → ReportsAreTrue (done ++ os) side.emitted (take (length ready) (transfer_of x).receiver.places)
-  until_then s r side of stamps_s stamps_r done os is handed ready ready_are x kept receives gone by told then t =
+  until_then s r side of stamps_s stamps_r done os is handed ready ready_are x kept receives gone by emitted then t =
       let whole : all ≡ (done ++ os) ++ [] = is ∙ sym (append-nil (done ++ os)) in
       let shown = λ (y : Direction) (h : ReceivesIn (message_of all) is_interleaved (state_of r) handed y).
       subst (λ (ms : List messages.Message). (transfer_of y).receiver.ready ≡ map ready_of ms) (sym ready_are) (ready_is (message_of all) is_interleaved (state_of r) handed y h) in
       let to : List ℕ = (transfer_of t.to).receiver.places in
       let p : Point side (done ++ os) ready (gone ++ by) to =
       point (message_of all) (lifecycle_of all) is_interleaved (done ++ os) (accepted_there all (done ++ os) [] whole) (lifecycle_accepted all (done ++ os) [] whole) side t.to
-      t.flows.kept.epochs.order.kept (t.flows.accepted_is ∙ sym (length-append done os)) (gone ++ by) (t.accounts gone told) t.flows.sends ready (shown t.to t.flows.refines) to []
+      t.flows.kept.epochs.order.kept (t.flows.accepted_is ∙ sym (length-append done os)) (gone ++ by) (t.accounts gone emitted) t.flows.sends ready (shown t.to t.flows.refines) to []
       (sym (append-nil to)) in
       let there = accepted_there all (done ++ os) [] whole in
       let now : take (length ready) to ≡ (transfer_of x).receiver.places =
@@ -424,9 +424,9 @@ module _ (all : List AcceptedMessage) (all_epochs : List ℕ) (is_interleaved : 
       subst (λ (ps : List ℕ). ReportsAreTrue (done ++ os) side.emitted ps) (now ∙ sym before) p.reports
 
 -- what an end emitted, and emits in front of the first end of an association
-pub record EmitsThen (told early : List (Event Carried)) (offers : List AcceptedMessage) (places : List ℕ) : Type 0 where
-  pub reports : ReportsAreTrue offers (told ++ early) places
-  pub none_refused : failed_in (told ++ early) ≡ false
+pub record EmitsThen (emitted early : List (Event Carried)) (offers : List AcceptedMessage) (places : List ℕ) : Type 0 where
+  pub reports : ReportsAreTrue offers (emitted ++ early) places
+  pub none_refused : failed_in (emitted ++ early) ≡ false
 
 module _ (all : List AcceptedMessage) (all_epochs : List ℕ) (is_interleaved : Bool) (parts : Parts (message_of all) (lifecycle_of all) is_interleaved) (few : length all < 2 ^ 32) where
   below_all : (done os : List AcceptedMessage) → all ≡ done ++ os → length done + length os < 2 ^ 32
@@ -441,10 +441,10 @@ module _ (all : List AcceptedMessage) (all_epochs : List ℕ) (is_interleaved : 
       → Leads all all_epochs is_interleaved parts a b own other mode few from_a w stamps done ready gone places
       → (early late : List (Event Carried)) → (emitted_by t (side_of from_a w) (side_of (not from_a) w)).events ≡ early ++ late → endings early ≡ 0
       → EmitsThen (side_of from_a w).emitted early (done ++ accepted_in t (side_of from_a w)) (take (length ready) places)
-  emits_then true a b own other mode w stamps h quiet within performed none t may timely done is ready gone places l early late told before =
+  emits_then true a b own other mode w stamps h quiet within performed none t may timely done is ready gone places l early late emitted before =
       let offered = offered_from all done (accepted_in t w.a) [] (is ∙ ap (λ (os : List AcceptedMessage). done ++ os) (sym (append-nil (accepted_in t w.a)))) in
       let u = action_until (message_of all) (lifecycle_of all) is_interleaved (of_end true) parts a b own other mode w.a w.b h quiet.a quiet.b within.a (length done) l.handed stamps.of_a stamps.of_b
-      l.said l.last l.flows l.soon (performed true) (stamp w) refl (λ old y. y.a) t may timely none.a offered (below_all done (accepted_in t w.a) is) early late told before in
+      l.said l.last l.flows l.soon (performed true) (stamp w) refl (λ old y. y.a) t may timely none.a offered (below_all done (accepted_in t w.a) is) early late emitted before in
       record {
         reports = emitted_both all all_epochs is_interleaved parts a b own other mode few true u.side w.a.emitted early u.rest u.emitted (done ++ accepted_in t w.a) (take (length ready) places)
             (subst (λ (ps : List ℕ). ReportsAreTrue (done ++ accepted_in t w.a) u.side.emitted (take (length ready) ps)) (sym l.places_are)
@@ -452,11 +452,11 @@ module _ (all : List AcceptedMessage) (all_epochs : List ℕ) (is_interleaved : 
             l.flows.kept.epochs.order.kept l.flows.refines gone u.by l.accounts u.then u.out));
         none_refused = none_both all all_epochs is_interleaved parts a b own other mode few true u.side w.a.emitted early u.rest u.emitted u.out.flows.none_failed;
       }
-  emits_then false a b own other mode w stamps h quiet within performed none t may timely done is ready gone places l early late told before =
+  emits_then false a b own other mode w stamps h quiet within performed none t may timely done is ready gone places l early late emitted before =
       let offered = offered_from all done (accepted_in t w.b) [] (is ∙ ap (λ (os : List AcceptedMessage). done ++ os) (sym (append-nil (accepted_in t w.b)))) in
       let u = action_until (message_of all) (lifecycle_of all) is_interleaved (of_end false) parts b a other own (mode_back (message_of all) (lifecycle_of all) is_interleaved parts a b own other mode) w.b w.a (swapped a b w.a w.b h)
       quiet.b quiet.a within.b (length done) l.handed stamps.of_b stamps.of_a
-      l.said l.last l.flows l.soon (performed false) (stamp w) refl (λ old y. y.b) t may timely none.b offered (below_all done (accepted_in t w.b) is) early late told before in
+      l.said l.last l.flows l.soon (performed false) (stamp w) refl (λ old y. y.b) t may timely none.b offered (below_all done (accepted_in t w.b) is) early late emitted before in
       record {
         reports = emitted_both all all_epochs is_interleaved parts a b own other mode few false u.side w.b.emitted early u.rest u.emitted (done ++ accepted_in t w.b) (take (length ready) places)
             (subst (λ (ps : List ℕ). ReportsAreTrue (done ++ accepted_in t w.b) u.side.emitted (take (length ready) ps)) (sym l.places_are)

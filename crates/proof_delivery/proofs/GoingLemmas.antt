@@ -308,7 +308,7 @@ module _ (message : ℕ → Message) (lifecycle : ℕ → Option ℕ) (is_interl
   -- nothing happens that the rules see
   quietly_out : (m : Making Carried) → SendsIn message lifecycle is_interleaved m.state m.context.queue x → recorded_places m.context.emitted ≡ []
       → delivered_ids m.context.emitted.events ≡ [] → packets_in m.context.emitted.events ≡ [] → resets_in m.context.emitted.events ≡ [] → m.packet.chunks ≡ [] → SenderClaim message lifecycle is_interleaved x [] m x
-  quietly_out m shown gone reports told resets made = record {
+  quietly_out m shown gone reports emitted resets made = record {
     kept = f.kept;
     goes = goes_none message is_interleaved goes_out x;
     done = refl;
@@ -320,7 +320,7 @@ module _ (message : ℕ → Message) (lifecycle : ℕ → Option ℕ) (is_interl
     performed = let none = none_performed m.context.emitted.events resets in omega (arith, none);
     epochs = λ k so. subst (λ (ns : List ℕ). AreSo (reopen ns (shut_streams [] k)) x.rules) (sym (none_named m.context.emitted.events resets)) so;
     none_failed = none_fails m.context.emitted.events resets;
-    emitted = subst (λ (ps : List Carried). All (λ (p : Carried). All (SaysOut message is_interleaved (first_out m.state) (transfer_of x).acknowledged (count (transfer_of x).sender) x) p.chunks) ps) (sym told) (All-nil _);
+    emitted = subst (λ (ps : List Carried). All (λ (p : Carried). All (SaysOut message is_interleaved (first_out m.state) (transfer_of x).acknowledged (count (transfer_of x).sender) x) p.chunks) ps) (sym emitted) (All-nil _);
     made = subst (λ (cs : List ChunkTree). All (SaysOut message is_interleaved (first_out m.state) (transfer_of x).acknowledged (count (transfer_of x).sender) x) cs) (sym made) (All-nil _);
   }
 
@@ -393,8 +393,8 @@ module _ (message : ℕ → Message) (lifecycle : ℕ → Option ℕ) (is_interl
 
   -- what the trace says, where that was emitted and the end is so
   abbrev so_emitted : Side → Emitted Carried → SoFar
-  so_emitted t told = record {
-    streams = reopen (performed_of told.events) (shut_streams [] so_far.streams);
+  so_emitted t emitted = record {
+    streams = reopen (performed_of emitted.events) (shut_streams [] so_far.streams);
     epochs = so_far.epochs ++ [];
     asked = asked_by (state_of s) (state_of t) so_far.asked;
   }
@@ -475,7 +475,7 @@ module _ (message : ℕ → Message) (lifecycle : ℕ → Option ℕ) (is_interl
 
       here : (m : Making Carried) → Joined g (SenderGoes message lifecycle is_interleaved x) (calm s.end) m × Readies g call rules takes_none (calm s.end) m
           → (rest : List (Event Carried)) → m.context.emitted.events ≡ early ++ rest → IsUntil early []
-      here m kept rest told =
+      here m kept rest emitted =
           let inv : InvAt g (calm s.end) = begins o q s r asked le h.own h.other in
           let c = (kept.0 inv).1 [] x start in
           record {
@@ -484,7 +484,7 @@ module _ (message : ℕ → Message) (lifecycle : ℕ → Option ℕ) (is_interl
             by = recorded_places m.context.emitted;
             out = claim_out asked [] (end_of m) c.0 (set_aside m c.0 c.1) (kept.1 inv).1.stands;
             rest = rest;
-            emitted = ap (λ (es : List (Event Carried)). s.emitted ++ es) told;
+            emitted = ap (λ (es : List (Event Carried)). s.emitted ++ es) emitted;
           }
 
   pub action_until : (t : EndAction) → MayAct t s → IsTimely t now stamps_r → endings s.emitted ≡ 0
@@ -497,16 +497,16 @@ module _ (message : ℕ → Message) (lifecycle : ℕ → Option ℕ) (is_interl
           → accepted + length (accepted_in t s) < 2 ^ 32 → (emitted_by t s r).events ≡ early ++ late → endings (emitted_by t s r).events ≡ 0
           → IsUntil early (accepted_in t s)
       whole t may timely are few is quiet =
-          let told : (act t s r).emitted ≡ s.emitted ++ (emitted_by t s r).events = emitted_turned t s r in
+          let emitted : (act t s r).emitted ≡ s.emitted ++ (emitted_by t s r).events = emitted_turned t s r in
           let both = endings_append s.emitted (emitted_by t s r).events in
-          let sum = ap (λ (es : List (Event Carried)). endings es) told in
+          let sum = ap (λ (es : List (Event Carried)). endings es) emitted in
           record {
             side = act t s r;
             then = so_far_turned t s r so_far;
             by = given_up_by t s r;
             out = action_out t may timely (omega (arith, sum, both, ended, quiet)) are few;
             rest = late;
-            emitted = told ∙ ap (λ (es : List (Event Carried)). s.emitted ++ es) is;
+            emitted = emitted ∙ ap (λ (es : List (Event Carried)). s.emitted ++ es) is;
           }
 
       other_call : (call : Call) → is_other call ≡ true → IsNoPacket call → MayCall call s → (emitted_of (called call s.end)).events ≡ early ++ late → IsUntil early []

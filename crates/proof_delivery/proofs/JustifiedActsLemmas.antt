@@ -143,10 +143,10 @@ module _ (accepted : List Acceptance) (resets : List ℕ) where
   anew kept now q next gone f h = record { holds = f h.holds; stay = tt; justified = h.justified }
 
   -- what a sender goes on to, with the same queue
-  onward : (s t : Sender) (now : ℕ) (q : Queue) (told more : Emitted Carried)
-      → (Goes K (IsJustifiedAt accepted resets now) now (late accepted resets now) (used accepted resets now) s told → Goes K (IsJustifiedAt accepted resets now) now (late accepted resets now) (used accepted resets now) t more)
-      → Sound accepted resets s.outstanding.items.kept now q told.given_up → Sound accepted resets t.outstanding.items.kept now q more.given_up
-  onward s t now q told more f h =
+  onward : (s t : Sender) (now : ℕ) (q : Queue) (emitted more : Emitted Carried)
+      → (Goes K (IsJustifiedAt accepted resets now) now (late accepted resets now) (used accepted resets now) s emitted → Goes K (IsJustifiedAt accepted resets now) now (late accepted resets now) (used accepted resets now) t more)
+      → Sound accepted resets s.outstanding.items.kept now q emitted.given_up → Sound accepted resets t.outstanding.items.kept now q more.given_up
+  onward s t now q emitted more f h =
       let g : Goes K (IsJustifiedAt accepted resets now) now (late accepted resets now) (used accepted resets now) t more = f (record { keeps = h.stay; right = h.justified }) in
       record { holds = h.holds; stay = g.keeps; justified = g.right }
 

@@ -18,7 +18,7 @@ use Rattle.spec_endpoint.specs.Input.{refusal, on_endpoint_state}
 use Rattle.spec_endpoint.specs.Laws.{Call, Connect, Close, Shutdown, Send, SendMany, ResetStreams, TakeMessage, SetLowThreshold, SetPriority, SetMaxMessageSize, Advance, HandOver, Restore, Packet, NoPacket, called}
 use Rattle.proof_endpoint.specs.Mapped.{Carried}
 use Rattle.proof_pair.specs.Acts.{idle, calm, IsOffered, alone, among}
-use Rattle.proof_pair.specs.Trace.{Side, Pair, emitted_packets, EndAction, Calls, Gives, Refuses, as_received, took, give, foreign_if, act, goes, side_of, start, state_of}
+use Rattle.proof_pair.specs.Trace.{Side, Pair, emitted_packets, EndAction, Calls, Gives, Refuses, as_received, drain, give, foreign_if, act, goes, side_of, start, state_of}
 use Rattle.proof_pair.proofs.PacketActsLemmas.{does_send_buffered}
 use Rattle.proof_pair.proofs.RowActsLemmas.{placed, does_where_open}
 use Rattle.proof_pair.proofs.ActsLemmas.{keeps_call}
@@ -133,7 +133,7 @@ pub record Actions (all : List Acceptance) (resets : List ℕ) (x : Side) (gone 
   pub rests : Rests all x
   pub justified : AllByRecursion (IsJustifiedAt all resets (clock x)) gone
 
-actions_took : (all : List Acceptance) (resets : List ℕ) (e : Endpoint Carried) (x : Side) → SoundAt all resets (calm e) → Actions all resets (took e x) (records_of e)
+actions_took : (all : List Acceptance) (resets : List ℕ) (e : Endpoint Carried) (x : Side) → SoundAt all resets (calm e) → Actions all resets (drain e x) (records_of e)
 actions_took all resets e x h = record { rests = λ later. record { holds = h.holds; stay = h.stay; justified = tt }; justified = h.justified }
 
 actions_none : (all : List Acceptance) (resets : List ℕ) (x : Side) → Rests all x → Actions all resets x []
@@ -147,7 +147,7 @@ module _ (old : List Acceptance) (x y : Side) (h : Rests old x) where
   actions_given None checksum = actions_none old [] x h
   actions_given (Some p) checksum =
       let e : Endpoint Carried = called (Packet (as_received p checksum)) x.end in
-      let t : Actions old [] (took e x) (records_of e) = actions_took old [] e x (steady_sound old [] (Packet (as_received p checksum)) refl (λ ids is. cc) x.end (h [])) in
+      let t : Actions old [] (drain e x) (records_of e) = actions_took old [] e x (steady_sound old [] (Packet (as_received p checksum)) refl (λ ids is. cc) x.end (h [])) in
       record { rests = t.rests; justified = t.justified }
 
   actions_refused : (r : Option (List ℕ)) (p : PacketTree) → Actions old [] (foreign_if r p x) (records_if r p x)
@@ -221,6 +221,6 @@ at_first true a b words_a words_b = λ resets. record { holds = record { stand =
 at_first false a b words_a words_b = λ resets. record { holds = record { stand = tt; counts = refl }; stay = tt; justified = tt }
 
 pub records_justified : RecordsAreJustified
-records_justified a b words_a words_b turns none x few =
+records_justified a b words_a words_b trace none x few =
     let w : Pair = start a b words_a words_b in
-    run_justified x turns [] w none (subst (λ (n : ℕ). n < 2 ^ 32) (as_many x turns w) few) (at_first x a b words_a words_b)
+    run_justified x trace [] w none (subst (λ (n : ℕ). n < 2 ^ 32) (as_many x trace w) few) (at_first x a b words_a words_b)

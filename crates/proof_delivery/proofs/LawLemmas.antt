@@ -122,30 +122,30 @@ all_parts message lifecycle is_interleaved = record {
 quiet : (a b : Options) (words_a words_b : Stream) → AreSilent (traces.start a b words_a words_b)
 quiet a b words_a words_b = record { a = record { emitted = refl }; b = record { emitted = refl } }
 
-module _ (a b : Options) (words_a words_b : Stream) (turns : List (Bool × EndAction)) (own : AreValidOptions a) (other : AreValidOptions b) (follows : KeepsOpeningRules turns (traces.start a b words_a words_b))
-    (none : NeitherHasEnded (run turns (traces.start a b words_a words_b))) (windows : KeepsWindows turns (traces.start a b words_a words_b) no_stamps)
-    (resets : KeepsResets turns (traces.start a b words_a words_b)) (from_a : Bool) where
+module _ (a b : Options) (words_a words_b : Stream) (trace : List (Bool × EndAction)) (own : AreValidOptions a) (other : AreValidOptions b) (follows : KeepsOpeningRules trace (traces.start a b words_a words_b))
+    (none : NeitherHasEnded (run trace (traces.start a b words_a words_b))) (windows : KeepsWindows trace (traces.start a b words_a words_b) no_stamps)
+    (resets : KeepsResets trace (traces.start a b words_a words_b)) (from_a : Bool) where
   abbrev w : Pair
   w = traces.start a b words_a words_b
 
   -- of these messages, the first are those that are accepted along the trace
-  along : (all more : List AcceptedMessage) (few : length all < 2 ^ 32) → all ≡ accepted from_a turns w ++ more → ((p : ℕ) → length (message_of all p).payload < 2 ^ 32)
-      → DeliversOn all (message_epochs from_a turns w all_open) (agreed a b).message_interleaving (all_parts (message_of all) (lifecycle_of all) (agreed a b).message_interleaving) a b own other refl few
-      from_a turns w no_stamps [] [] [] first
+  along : (all more : List AcceptedMessage) (few : length all < 2 ^ 32) → all ≡ accepted from_a trace w ++ more → ((p : ℕ) → length (message_of all p).payload < 2 ^ 32)
+      → DeliversOn all (message_epochs from_a trace w all_open) (agreed a b).message_interleaving (all_parts (message_of all) (lifecycle_of all) (agreed a b).message_interleaving) a b own other refl few
+      from_a trace w no_stamps [] [] [] first
   along all more few split short =
       let is_interleaved : Bool = (agreed a b).message_interleaving in
-      let epochs : List ℕ = message_epochs from_a turns w all_open in
-      delivers_on all epochs is_interleaved (all_parts (message_of all) (lifecycle_of all) is_interleaved) a b own other refl few from_a turns w no_stamps follows none windows none_asked resets.answered resets.few
+      let epochs : List ℕ = message_epochs from_a trace w all_open in
+      delivers_on all epochs is_interleaved (all_parts (message_of all) (lifecycle_of all) is_interleaved) a b own other refl few from_a trace w no_stamps follows none windows none_asked resets.answered resets.few
       (first_halves a b words_a words_b) (quiet a b words_a words_b) [] more split all_open [] [] (sym (append-nil epochs)) [] [] (sym (nothing_ready (not from_a) a b words_a words_b)) [] first
       (at_first (message_of all) (lifecycle_of all) is_interleaved from_a short a b words_a words_b) (accounted_first (lifecycle_of all) from_a a b words_a words_b)
 
   -- the messages that are accepted are those, or the first of them
-  delivers : (all more : List AcceptedMessage) (few : length all < 2 ^ 32) (split : all ≡ accepted from_a turns w ++ more) (short : (p : ℕ) → length (message_of all p).payload < 2 ^ 32)
-      → Delivers from_a turns w
+  delivers : (all more : List AcceptedMessage) (few : length all < 2 ^ 32) (split : all ≡ accepted from_a trace w ++ more) (short : (p : ℕ) → length (message_of all p).payload < 2 ^ 32)
+      → Delivers from_a trace w
   delivers all more few split short =
       let d = along all more few split short in
-      let at : (p : ℕ) (o : AcceptedMessage) → slice_get (accepted from_a turns w) p ≡ Some o → slice_get all p ≡ Some o =
-      λ p o h. ap (λ (l : List AcceptedMessage). slice_get l p) split ∙ get_behind (accepted from_a turns w) more p o h in
+      let at : (p : ℕ) (o : AcceptedMessage) → slice_get (accepted from_a trace w) p ≡ Some o → slice_get all p ≡ Some o =
+      λ p o h. ap (λ (l : List AcceptedMessage). slice_get l p) split ∙ get_behind (accepted from_a trace w) more p o h in
       record {
         places = d.places;
         fits = λ early late is. (d.points early late is).fits;
@@ -160,27 +160,27 @@ module _ (a b : Options) (words_a words_b : Stream) (turns : List (Bool × EndAc
       }
 
   -- no reset fails
-  none_refused : (all more : List AcceptedMessage) (few : length all < 2 ^ 32) (split : all ≡ accepted from_a turns w ++ more) (short : (p : ℕ) → length (message_of all p).payload < 2 ^ 32)
-      → failed_in (emitted_of from_a turns w) ≡ false
+  none_refused : (all more : List AcceptedMessage) (few : length all < 2 ^ 32) (split : all ≡ accepted from_a trace w ++ more) (short : (p : ℕ) → length (message_of all p).payload < 2 ^ 32)
+      → failed_in (emitted_of from_a trace w) ≡ false
   none_refused all more few split short = (along all more few split short).leads.flows.none_failed
 
 -- as short as a limit below 2^32 lets them be
-short_along : (a b : Options) (words_a words_b : Stream) (turns : List (Bool × EndAction)) → AreValidOptions a → AreValidOptions b → KeepsLimits turns → (from_a : Bool)
-    → (p : ℕ) → length (message_of (accepted from_a turns (traces.start a b words_a words_b)) p).payload < 2 ^ 32
-short_along a b words_a words_b turns own other limits from_a =
-    all_short (accepted from_a turns (traces.start a b words_a words_b)) (all_accepted_short a b words_a words_b own other turns limits from_a)
+short_along : (a b : Options) (words_a words_b : Stream) (trace : List (Bool × EndAction)) → AreValidOptions a → AreValidOptions b → KeepsLimits trace → (from_a : Bool)
+    → (p : ℕ) → length (message_of (accepted from_a trace (traces.start a b words_a words_b)) p).payload < 2 ^ 32
+short_along a b words_a words_b trace own other limits from_a =
+    all_short (accepted from_a trace (traces.start a b words_a words_b)) (all_accepted_short a b words_a words_b own other trace limits from_a)
 
 pub delivered : MessagesAreDelivered
-delivered a b words_a words_b turns own other follows none bounds from_a =
-    let all : List AcceptedMessage = accepted from_a turns (traces.start a b words_a words_b) in
-    delivers a b words_a words_b turns own other follows none bounds.windows bounds.resets from_a all [] (bounds.few from_a) (sym (append-nil all))
-    (short_along a b words_a words_b turns own other bounds.limits from_a)
+delivered a b words_a words_b trace own other follows none bounds from_a =
+    let all : List AcceptedMessage = accepted from_a trace (traces.start a b words_a words_b) in
+    delivers a b words_a words_b trace own other follows none bounds.windows bounds.resets from_a all [] (bounds.few from_a) (sym (append-nil all))
+    (short_along a b words_a words_b trace own other bounds.limits from_a)
 
 pub refused_none : NoResetIsRefused
-refused_none a b words_a words_b turns own other follows none bounds from_a =
-    let all : List AcceptedMessage = accepted from_a turns (traces.start a b words_a words_b) in
-    none_refused a b words_a words_b turns own other follows none bounds.windows bounds.resets from_a all [] (bounds.few from_a) (sym (append-nil all))
-    (short_along a b words_a words_b turns own other bounds.limits from_a)
+refused_none a b words_a words_b trace own other follows none bounds from_a =
+    let all : List AcceptedMessage = accepted from_a trace (traces.start a b words_a words_b) in
+    none_refused a b words_a words_b trace own other follows none bounds.windows bounds.resets from_a all [] (bounds.few from_a) (sym (append-nil all))
+    (short_along a b words_a words_b trace own other bounds.limits from_a)
 
 -- ---- and at one more action
 
@@ -208,27 +208,27 @@ accepted_more x (d ∷ es) e w =
 
 pub delivered_then : MessagesAreDeliveredThen
 unfolding delivers
-delivered_then a b words_a words_b turns from_a last own other follows none k =
+delivered_then a b words_a words_b trace from_a last own other follows none k =
     let w : Pair = traces.start a b words_a words_b in
-    let v : Pair = traces.run turns w in
-    let all : List AcceptedMessage = accepted from_a (turns ++ (from_a, last) ∷ []) w in
+    let v : Pair = traces.run trace w in
+    let all : List AcceptedMessage = accepted from_a (trace ++ (from_a, last) ∷ []) w in
     let is_interleaved : Bool = (agreed a b).message_interleaving in
     let parts = all_parts (message_of all) (lifecycle_of all) is_interleaved in
     let os : List AcceptedMessage = accepted_in last (side_of from_a v) in
-    let split : all ≡ accepted from_a turns w ++ os =
-    accepted_more from_a turns (from_a, last) w ∙ ap (λ (l : List AcceptedMessage). accepted from_a turns w ++ l) (accepted_by_own from_a last v) in
-    let rules : KeepsOpeningRules turns w = follows_front turns ((from_a, last) ∷ []) w follows in
-    let short = short_along a b words_a words_b (turns ++ (from_a, last) ∷ []) own other k.limits from_a in
-    let d = along a b words_a words_b turns own other rules none k.windows k.resets from_a all os k.few split short in
+    let split : all ≡ accepted from_a trace w ++ os =
+    accepted_more from_a trace (from_a, last) w ∙ ap (λ (l : List AcceptedMessage). accepted from_a trace w ++ l) (accepted_by_own from_a last v) in
+    let rules : KeepsOpeningRules trace w = follows_front trace ((from_a, last) ∷ []) w follows in
+    let short = short_along a b words_a words_b (trace ++ (from_a, last) ∷ []) own other k.limits from_a in
+    let d = along a b words_a words_b trace own other rules none k.windows k.resets from_a all os k.few split short in
     let then : (early late : List (Event Carried)) → (emitted_by last (side_of from_a v) (side_of (not from_a) v)).events ≡ early ++ late → endings early ≡ 0
-    → EmitsThen (side_of from_a v).emitted early (accepted from_a turns w ++ os) (take (length (readied_messages (not from_a) turns w)) d.places) =
-    λ early late told before.
-    emits_then all (message_epochs from_a turns w all_open) is_interleaved parts k.few from_a a b own other refl v (stamps_along turns w no_stamps)
-    (run_consistent a b own other turns w rules none (first_halves a b words_a words_b)) (silent_run turns w (quiet a b words_a words_b)) (within_last turns w no_stamps k.windows) k.resets.few none last
-    (follows_last turns (from_a, last) w follows) k.timely (accepted from_a turns w) split (readied_messages (not from_a) turns w) (given_up from_a turns w) d.places d.leads early late told before in
+    → EmitsThen (side_of from_a v).emitted early (accepted from_a trace w ++ os) (take (length (readied_messages (not from_a) trace w)) d.places) =
+    λ early late emitted before.
+    emits_then all (message_epochs from_a trace w all_open) is_interleaved parts k.few from_a a b own other refl v (stamps_along trace w no_stamps)
+    (run_consistent a b own other trace w rules none (first_halves a b words_a words_b)) (silent_run trace w (quiet a b words_a words_b)) (within_last trace w no_stamps k.windows) k.resets.few none last
+    (follows_last trace (from_a, last) w follows) k.timely (accepted from_a trace w) split (readied_messages (not from_a) trace w) (given_up from_a trace w) d.places d.leads early late emitted before in
     record {
-      delivers = delivers a b words_a words_b turns own other rules none k.windows k.resets from_a all os k.few split short;
-      reports = λ early late told before.
-          subst (λ (l : List AcceptedMessage). ReportsAreTrue l ((side_of from_a v).emitted ++ early) (take (length (readied_messages (not from_a) turns w)) d.places)) (sym split) (then early late told before).reports;
-      none_refused = λ early late told before. (then early late told before).none_refused;
+      delivers = delivers a b words_a words_b trace own other rules none k.windows k.resets from_a all os k.few split short;
+      reports = λ early late emitted before.
+          subst (λ (l : List AcceptedMessage). ReportsAreTrue l ((side_of from_a v).emitted ++ early) (take (length (readied_messages (not from_a) trace w)) d.places)) (sym split) (then early late emitted before).reports;
+      none_refused = λ early late emitted before. (then early late emitted before).none_refused;
     }

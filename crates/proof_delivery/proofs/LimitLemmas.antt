@@ -230,7 +230,7 @@ limited_new : (o : Options) (words : Stream) → AreValidOptions o → IsLimited
 limited_new o words h = let l = h.valid.sizes.message in omega (arith, l)
 
 -- from the start on
-pub all_accepted_short : (a b : Options) (words_a words_b : Stream) → AreValidOptions a → AreValidOptions b → (turns : List (Bool × EndAction)) → KeepsLimits turns → (from_a : Bool)
-    → All (λ (o : AcceptedMessage). length o.message.payload < 2 ^ 32) (accepted from_a turns (start a b words_a words_b))
-all_accepted_short a b words_a words_b own other turns k from_a =
-    accepted_short from_a turns (start a b words_a words_b) k (limited_new a words_a own) (limited_new b words_b other)
+pub all_accepted_short : (a b : Options) (words_a words_b : Stream) → AreValidOptions a → AreValidOptions b → (trace : List (Bool × EndAction)) → KeepsLimits trace → (from_a : Bool)
+    → All (λ (o : AcceptedMessage). length o.message.payload < 2 ^ 32) (accepted from_a trace (start a b words_a words_b))
+all_accepted_short a b words_a words_b own other trace k from_a =
+    accepted_short from_a trace (start a b words_a words_b) k (limited_new a words_a own) (limited_new b words_b other)

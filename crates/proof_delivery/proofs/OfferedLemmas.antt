@@ -170,8 +170,8 @@ module _ (message : ℕ → Message) (lifecycle : ℕ → Option ℕ) (is_interl
     claim_then : (ms : List messages.Message) (how : SendOptions) (n : ℕ) → IsSilent s → AsksSoon x
         → (o : OfferedTo message lifecycle is_interleaved (state_of s) (offered_at ms how) x n) → SenderClaim message lifecycle is_interleaved o.mid [] (offering ms how s.end) o.mid
     claim_then ms how n q soon o =
-        let told : List (Event Carried) = (offered_at ms how).emitted.events in
-        let none : EmitsNoReset told = emits_none told o.is.no_reset in
+        let emitted : List (Event Carried) = (offered_at ms how).emitted.events in
+        let none : EmitsNoReset emitted = emits_none emitted o.is.no_reset in
         record {
           kept = o.is.kept;
           goes = goes_none message is_interleaved goes_out o.mid;
@@ -180,9 +180,9 @@ module _ (message : ℕ → Message) (lifecycle : ℕ → Option ℕ) (is_interl
           near = near_then message is_interleaved n x o.mid o.offers soon;
           since = λ a there. inl there;
           given_up = o.is.given_up;
-          reported = reports_none lifecycle (transfer_of o.mid) (transfer_of o.mid) [] told refl o.is.reported;
-          performed = answered_so o.mid.answered told none;
-          epochs = λ f so. emitted_so told o.mid f none so;
+          reported = reports_none lifecycle (transfer_of o.mid) (transfer_of o.mid) [] emitted refl o.is.reported;
+          performed = answered_so o.mid.answered emitted none;
+          epochs = λ f so. emitted_so emitted o.mid f none so;
           none_failed = none.none_failed;
           emitted = subst (SaysPackets message lifecycle is_interleaved o.mid (first_out (state_of s)) o.mid)
               (sym (offers_packets ms how (shown_state (state_of s)) s.end.endpoint_state.context ∙ ap (λ (t : Emitted Carried). packets_in t.events) q.emitted))
@@ -253,13 +253,13 @@ module _ (message : ℕ → Message) (lifecycle : ℕ → Option ℕ) (is_interl
         → ReceiverClaim message is_interleaved x handed (offering ms how s.end) z
     claim_offering ms how z c =
         let before : List (Event Carried) = s.end.endpoint_state.context.emitted.events in
-        let told : List (Event Carried) = (offered_at ms how).emitted.events in
+        let emitted : List (Event Carried) = (offered_at ms how).emitted.events in
         record {
           kept = c.kept;
           goes = c.goes;
           stay = c.stay;
           shown = c.shown;
-          performed = λ k. performed_so k (z.rules.performed k) (x.rules.performed k) before told (offers_resets ms how (shown_state (state_of s)) s.end.endpoint_state.context) (c.performed k);
+          performed = λ k. performed_so k (z.rules.performed k) (x.rules.performed k) before emitted (offers_resets ms how (shown_state (state_of s)) s.end.endpoint_state.context) (c.performed k);
           emitted = subst (λ (ps : List Carried). All (λ (p : Carried). All (SaysIn (first_in (state_of s)) (transfer_of x).acknowledged (count (transfer_of x).sender) z) p.chunks) ps)
               (sym (offers_packets ms how (shown_state (state_of s)) s.end.endpoint_state.context)) c.emitted;
           made = c.made;

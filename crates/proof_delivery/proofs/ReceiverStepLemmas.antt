@@ -128,7 +128,7 @@ module _ (message : ℕ → Message) (lifecycle : ℕ → Option ℕ) (is_interl
       → ((s : ℕ) → resets_emitted s b.context.emitted.events ≡ resets_emitted s a.context.emitted.events)
       → (SaysAll (first_in a.state) x (packets_in a.context.emitted.events) → SaysAll (first_in b.state) x (packets_in b.context.emitted.events))
       → (Says (first_in a.state) x a.packet.chunks → Says (first_in b.state) x b.packet.chunks) → (y : Direction) × Claim b y
-  stays_by a b x claim shown resets told made = (
+  stays_by a b x claim shown resets emitted made = (
     x,
     step_claims a b x x claim
         (record {
@@ -137,7 +137,7 @@ module _ (message : ℕ → Message) (lifecycle : ℕ → Option ℕ) (is_interl
           stay = (refl, refl);
           shown = shown;
           performed = λ s. let e = resets s in omega (arith, e);
-          emitted = told;
+          emitted = emitted;
           made = made;
         }),
   )

@@ -110,9 +110,9 @@ module _ (message : ℕ → Message) (lifecycle : ℕ → Option ℕ) (is_interl
     asked : AreAsked (with_transfer message is_interleaved x z).rules x.asks x.done x.answered
 
   -- what is recorded, where these are given up
-  recorded_given : (x : Direction) (z : Transfer) (es : List Rule) (r : Moves x z es) (later told places : List ℕ) → given_ups es ≡ places → later ≡ told ++ places
-      → later ≡ told ++ given_ups (of_transfer r.goes.events)
-  recorded_given x z es r later told places e is = is ∙ ap (λ (ps : List ℕ). told ++ ps) (sym (r.given_up ∙ e))
+  recorded_given : (x : Direction) (z : Transfer) (es : List Rule) (r : Moves x z es) (later emitted places : List ℕ) → given_ups es ≡ places → later ≡ emitted ++ places
+      → later ≡ emitted ++ given_ups (of_transfer r.goes.events)
+  recorded_given x z es r later emitted places e is = is ∙ ap (λ (ps : List ℕ). emitted ++ ps) (sym (r.given_up ∙ e))
 
   moves : (x : Direction) (z : Transfer) (es : List Rule) (q : Queue) (s : Items) → IsKept message is_interleaved x → list_all is_sending es ≡ true → LeadsInEpochs message is_interleaved x.rules es z q s → Moves x z es
   moves x z es q s kept all l =
@@ -297,17 +297,17 @@ module _ (message : ℕ → Message) (lifecycle : ℕ → Option ℕ) (is_interl
       let now = m.context.now in
       let most = room m.packet in
       let q = m.context.queue in
-      let told = m.context.emitted in
-      let s = send_row message lifecycle is_interleaved (transfer_of x) t.sender q a.shown.refines a.kept.epochs.order.kept now most told in
-      let f = send now most t.sender q told in
+      let emitted = m.context.emitted in
+      let s = send_row message lifecycle is_interleaved (transfer_of x) t.sender q a.shown.refines a.kept.epochs.order.kept now most emitted in
+      let f = send now most t.sender q emitted in
       let z = s.leads.after in
       let y : Direction = with_transfer message is_interleaved x z in
-      let leads = sending_follows message lifecycle is_interleaved x.rules q t.sender a.kept.epochs.order.kept a.shown.refines a.shown.follows now most told s in
+      let leads = sending_follows message lifecycle is_interleaved x.rules q t.sender a.kept.epochs.order.kept a.shown.refines a.shown.follows now most emitted s in
       let r = moves message lifecycle is_interleaved x z s.leads.leads.events f.queue f.sender.outstanding.items a.kept s.leads.leads.sends leads in
       let first = t.sender.outstanding.first in
       let least = (transfer_of from).acknowledged in
       let numbered = count (transfer_of from).sender in
-      let stays = send_same now most t.sender q told in
+      let stays = send_same now most t.sender q emitted in
       let is_immediate = is_small m.context.options f.sender in
       let says = says_data message is_interleaved first least numbered y t.capabilities.message_interleaving is_immediate (interleaves phase t m inv) (transfer_of x).acknowledged
       (left_more message lifecycle is_interleaved from prepared (in_open phase t m) x premises.kept a) f.chunks s.carried in
@@ -317,15 +317,15 @@ module _ (message : ℕ → Message) (lifecycle : ℕ → Option ℕ) (is_interl
           goes = r.goes;
           asked = r.asked;
           done = refl;
-          shown = shown_on message lifecycle is_interleaved t q f.queue f.sender x z a.shown stays s.leads.refines leads.follows (send_asked now most t.sender q told);
+          shown = shown_on message lifecycle is_interleaved t q f.queue f.sender x z a.shown stays s.leads.refines leads.follows (send_asked now most t.sender q emitted);
           near = λ n. n;
           since = λ n. n;
-          given_up = recorded_given message lifecycle is_interleaved x z s.leads.leads.events r (recorded_places f.emitted) (recorded_places told) s.leads.places s.leads.leads.given_up s.leads.recorded;
-          reported = reports_none lifecycle (transfer_of x) z told.events f.emitted.events (ap (λ (z : Transfer). z.reports) s.leads.leads.rest_stays)
-              (same_delivered told f.emitted (quiet_sent now most t.sender q told));
-          resets = emits_no_answer prepared told.events f.emitted.events x y (no_answer told.events f.emitted.events (resets_sent now most t.sender q told)) refl refl refl;
+          given_up = recorded_given message lifecycle is_interleaved x z s.leads.leads.events r (recorded_places f.emitted) (recorded_places emitted) s.leads.places s.leads.leads.given_up s.leads.recorded;
+          reported = reports_none lifecycle (transfer_of x) z emitted.events f.emitted.events (ap (λ (z : Transfer). z.reports) s.leads.leads.rest_stays)
+              (same_delivered emitted f.emitted (quiet_sent now most t.sender q emitted));
+          resets = emits_no_answer prepared emitted.events f.emitted.events x y (no_answer emitted.events f.emitted.events (resets_sent now most t.sender q emitted)) refl refl refl;
           first = stays.first;
-          packets = same_packets told f.emitted (emits_sent now most t.sender q told);
+          packets = same_packets emitted f.emitted (emits_sent now most t.sender q emitted);
           made = λ h. says_all_added message is_interleaved first least numbered y m.packet (data_chunks t is_immediate f.chunks) h says;
         }),
       )
@@ -338,23 +338,23 @@ module _ (message : ℕ → Message) (lifecycle : ℕ → Option ℕ) (is_interl
   takes_sack_keeps tag k phase t m is_heard valid inv prepared x a =
       let now = m.context.now in
       let q = m.context.queue in
-      let told = m.context.emitted in
+      let emitted = m.context.emitted in
       let point = point_of k t in
       let blocks = clean_blocks k.gap_ack_blocks in
       let same = receiver_stays message is_interleaved from x a.goes in
       let c = sack_is_received message lifecycle is_interleaved g call from premises phase t m inv q x a.kept a.shown same.receiver same.sacks
       (left_more message lifecycle is_interleaved from prepared (in_open phase t m) x premises.kept a) tag k is_heard in
-      let h = received_row message lifecycle is_interleaved (transfer_of x) q t.sender a.kept.epochs.order.kept a.shown.refines told now point c.point k.a_rwnd blocks valid c.number_is c.sent in
+      let h = received_row message lifecycle is_interleaved (transfer_of x) q t.sender a.kept.epochs.order.kept a.shown.refines emitted now point c.point k.a_rwnd blocks valid c.number_is c.sent in
       let n = leaving point t.sender.outstanding.items in
       let l = h.losses in
       let z = l.after in
       let y : Direction = with_transfer message is_interleaved x z in
-      let s = handle_sack now point k.a_rwnd blocks t.sender told in
+      let s = handle_sack now point k.a_rwnd blocks t.sender emitted in
       let es : List Rule = replicate n (ack_point_advances c.point) ++ l.leads.events in
-      let leads = receiving_follows message lifecycle is_interleaved x.rules q t.sender a.kept.epochs.order.kept a.shown.refines a.shown.follows now point c.point k.a_rwnd blocks told c.number_is h in
+      let leads = receiving_follows message lifecycle is_interleaved x.rules q t.sender a.kept.epochs.order.kept a.shown.refines a.shown.follows now point c.point k.a_rwnd blocks emitted c.number_is h in
       let r = moves message lifecycle is_interleaved x z es q s.outstanding.items a.kept (leaves_send n c.point l.leads.events l.leads.sends) leads in
-      let stays = received_same true now point k.a_rwnd blocks t.sender told in
-      let later = (step_of point blocks t.sender told).emitted in
+      let stays = received_same true now point k.a_rwnd blocks t.sender emitted in
+      let later = (step_of point blocks t.sender emitted).emitted in
       let b : Making Carried = after_sack {call = call} (takes_sack tag k phase t m is_heard valid) in (
         y,
         step_claims message lifecycle is_interleaved from prepared prepared (in_open phase t m) b x y a (record {
@@ -364,11 +364,11 @@ module _ (message : ℕ → Message) (lifecycle : ℕ → Option ℕ) (is_interl
           shown = shown_on message lifecycle is_interleaved t q q s x z a.shown stays l.refines leads.follows (same_queue message lifecycle is_interleaved q);
           near = λ n. n;
           since = λ n. n;
-          given_up = recorded_given message lifecycle is_interleaved x z es r (recorded_places later) (recorded_places told) l.places (leaves_given message is_interleaved n c.point l.places l.leads.events l.leads.given_up) l.recorded;
+          given_up = recorded_given message lifecycle is_interleaved x z es r (recorded_places later) (recorded_places emitted) l.places (leaves_given message is_interleaved n c.point l.places l.leads.events l.leads.given_up) l.recorded;
           reported = record { places = reports_of (transfer_of x).sender (transfer_of x).acknowledged n; more = ap (λ (z : Transfer). z.reports) l.leads.rest_stays; told_of = h.reported };
-          resets = emits_no_answer prepared told.events later.events x y (no_answer told.events later.events (resets_sack true point blocks t.sender told)) refl refl refl;
+          resets = emits_no_answer prepared emitted.events later.events x y (no_answer emitted.events later.events (resets_sack true point blocks t.sender emitted)) refl refl refl;
           first = stays.first;
-          packets = same_packets told later (emits_sack true point blocks t.sender told);
+          packets = same_packets emitted later (emits_sack true point blocks t.sender emitted);
           made = λ h. h;
         }),
       )

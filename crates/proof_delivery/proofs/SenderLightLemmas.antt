@@ -47,10 +47,10 @@ use Rattle.proof_delivery.proofs.SenderToolLemmas.{same_packets, same_delivered,
 
 -- ---- a stream's settings
 
-settings_follow : {P : Type 0} (x : Epochs) (q : Queue) (s : Items) (id n : ℕ) (told : Emitted P) → FollowsEpochs x q s
-    → FollowsEpochs x (set_priority id n q) s × FollowsEpochs x (set_low_threshold id n q told).queue s
-settings_follow x q s id n told h =
-    let z = settings_pause x q h.paused id n told in (
+settings_follow : {P : Type 0} (x : Epochs) (q : Queue) (s : Items) (id n : ℕ) (emitted : Emitted P) → FollowsEpochs x q s
+    → FollowsEpochs x (set_priority id n q) s × FollowsEpochs x (set_low_threshold id n q emitted).queue s
+settings_follow x q s id n emitted h =
+    let z = settings_pause x q h.paused id n emitted in (
       record { paused = z.0; line = calls_keep_line.prioritised id n q h.line; keyed = written_keyed id (with_priority n (stream id q.streams)) q.streams h.keyed; breaks = h.breaks },
       record { paused = z.1; line = calls_keep_line.watched id n silent q h.line; keyed = written_keyed id (with_threshold n (stream id q.streams)) q.streams h.keyed; breaks = h.breaks },
     )
@@ -282,11 +282,11 @@ module _ (message : ℕ → Message) (lifecycle : ℕ → Option ℕ) (is_interl
       (same_delivered a.context.emitted b.context.emitted quiet) (no_answer a.context.emitted.events b.context.emitted.events resets) chunks
 
   -- streams' settings
-  settings_wait : (q : Queue) (id n : ℕ) (told : Emitted Carried) (x : Direction) → IsWaiting message lifecycle is_interleaved q x
-      → IsWaiting message lifecycle is_interleaved (set_priority id n q) x × IsWaiting message lifecycle is_interleaved (set_low_threshold id n q told).queue x
-  settings_wait q id n told x h =
-      let r = with_settings message lifecycle false (transfer_of x) q (no_items false false) h.refines id n told in
-      let e = settings_follow x.rules q (no_items false false) id n told h.follows in (
+  settings_wait : (q : Queue) (id n : ℕ) (emitted : Emitted Carried) (x : Direction) → IsWaiting message lifecycle is_interleaved q x
+      → IsWaiting message lifecycle is_interleaved (set_priority id n q) x × IsWaiting message lifecycle is_interleaved (set_low_threshold id n q emitted).queue x
+  settings_wait q id n emitted x h =
+      let r = with_settings message lifecycle false (transfer_of x) q (no_items false false) h.refines id n emitted in
+      let e = settings_follow x.rules q (no_items false false) id n emitted h.follows in (
         record {
           sender = h.sender;
           acknowledged = h.acknowledged;
@@ -309,13 +309,13 @@ module _ (message : ℕ → Message) (lifecycle : ℕ → Option ℕ) (is_interl
         },
       )
 
-  settings_shown : (s : State) (q : Queue) (id n : ℕ) (told : Emitted Carried) (x : Direction) → SendsIn message lifecycle is_interleaved s q x
-      → SendsIn message lifecycle is_interleaved s (set_priority id n q) x × SendsIn message lifecycle is_interleaved s (set_low_threshold id n q told).queue x
-  settings_shown Closed q id n told x h = settings_wait q id n told x h
-  settings_shown (CookieWait tag first t1) q id n told x h = settings_wait q id n told x h
-  settings_shown (Open phase t) q id n told x h =
-      let r = with_settings message lifecycle is_interleaved (transfer_of x) q t.sender.outstanding.items h.refines id n told in
-      let e = settings_follow x.rules q t.sender.outstanding.items id n told h.follows in
+  settings_shown : (s : State) (q : Queue) (id n : ℕ) (emitted : Emitted Carried) (x : Direction) → SendsIn message lifecycle is_interleaved s q x
+      → SendsIn message lifecycle is_interleaved s (set_priority id n q) x × SendsIn message lifecycle is_interleaved s (set_low_threshold id n q emitted).queue x
+  settings_shown Closed q id n emitted x h = settings_wait q id n emitted x h
+  settings_shown (CookieWait tag first t1) q id n emitted x h = settings_wait q id n emitted x h
+  settings_shown (Open phase t) q id n emitted x h =
+      let r = with_settings message lifecycle is_interleaved (transfer_of x) q t.sender.outstanding.items h.refines id n emitted in
+      let e = settings_follow x.rules q t.sender.outstanding.items id n emitted h.follows in
       let first = t.identity.my_first in (
         record {
           refines = r.0;
@@ -329,7 +329,7 @@ module _ (message : ℕ → Message) (lifecycle : ℕ → Option ℕ) (is_interl
           follows = e.1;
           first = h.first;
           room = h.room;
-          asks = asking_stays first x.answered x.asks q (set_low_threshold id n q told).queue t.requests (watch_asked id n q told) h.asks;
+          asks = asking_stays first x.answered x.asks q (set_low_threshold id n q emitted).queue t.requests (watch_asked id n q emitted) h.asks;
         },
       )
 

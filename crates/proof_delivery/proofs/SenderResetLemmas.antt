@@ -177,13 +177,13 @@ module _ (message : ℕ → Message) (lifecycle : ℕ → Option ℕ) (is_interl
       → (y : Direction) × SenderClaim message lifecycle is_interleaved from (ids ++ id ∷ []) (in_open phase t (with_context (resets.prepare_stream id m.context) m)) y
   prepares_claims ids id phase t m x none a =
       let q = m.context.queue in
-      let told = m.context.emitted in
-      let later = (prepare_reset id q told).emitted in
-      let r : Queue = (prepare_reset id q told).queue in
+      let emitted = m.context.emitted in
+      let later = (prepare_reset id q emitted).emitted in
+      let r : Queue = (prepare_reset id q emitted).queue in
       let items = t.sender.outstanding.items in
       let kept = a.kept.epochs.order.kept in
-      let z = preparing_follows message lifecycle is_interleaved x.rules q items kept a.shown.refines a.shown.follows id told in
-      let l = prepares_lead message lifecycle is_interleaved (transfer_of x) q items kept a.shown.refines id told in
+      let z = preparing_follows message lifecycle is_interleaved x.rules q items kept a.shown.refines a.shown.follows id emitted in
+      let l = prepares_lead message lifecycle is_interleaved (transfer_of x) q items kept a.shown.refines id emitted in
       let y : Direction = record x { rules = go_all message is_interleaved x.rules (prepare_events q id) } in
       let w : Raises x.rules y.rules q id = prepared_raises message is_interleaved x.rules q id in
       let leads : transfer_of y ≡ l.leads.after = z.transfer_is ∙ sym l.leads_to in
@@ -200,7 +200,7 @@ module _ (message : ℕ → Message) (lifecycle : ℕ → Option ℕ) (is_interl
         answered = omega arith;
       } in
       let given : given_ups (of_transfer (prepare_events q id)) ≡ l.leads.places = ap given_ups (prepare_gives q id ∙ sym l.gives_up) ∙ l.leads.leads.given_up in
-      let quiet : EmitsNoAnswer told.events later.events = no_answer told.events later.events (resets_prepared id q told) in
+      let quiet : EmitsNoAnswer emitted.events later.events = no_answer emitted.events later.events (resets_prepared id q emitted) in
       let counted = quiet.counted in
       let b : Making Carried = in_open phase t (with_context (resets.prepare_stream id m.context) m) in (
         y,
@@ -214,13 +214,13 @@ module _ (message : ℕ → Message) (lifecycle : ℕ → Option ℕ) (is_interl
             follows = z.follows;
             first = a.shown.first;
             room = a.shown.room;
-            asks = asking_stays t.identity.my_first x.answered x.asks q r t.requests (prepare_asked id q told) a.shown.asks;
+            asks = asking_stays t.identity.my_first x.answered x.asks q r t.requests (prepare_asked id q emitted) a.shown.asks;
           };
           near = λ n. n;
           since = λ n. n;
-          given_up = l.leads.recorded ∙ ap (λ (ps : List ℕ). recorded_places told ++ ps) (sym given);
-          reported = reports_none lifecycle (transfer_of x) (transfer_of y) told.events later.events (ap (λ (tr : Transfer). tr.reports) (leads ∙ l.leads.leads.rest_stays))
-              (waiting_reports (stream id q.streams).messages told);
+          given_up = l.leads.recorded ∙ ap (λ (ps : List ℕ). recorded_places emitted ++ ps) (sym given);
+          reported = reports_none lifecycle (transfer_of x) (transfer_of y) emitted.events later.events (ap (λ (tr : Transfer). tr.reports) (leads ∙ l.leads.leads.rest_stays))
+              (waiting_reports (stream id q.streams).messages emitted);
           resets = record {
             performed = omega (arith, counted);
             epochs = λ f h. subst (λ (ns : List ℕ). AreSo (reopen ns (shut_streams (ids ++ id ∷ []) f)) y.rules) (sym (quiet.named ∙ none))
@@ -228,7 +228,7 @@ module _ (message : ℕ → Message) (lifecycle : ℕ → Option ℕ) (is_interl
             none_failed = λ e. quiet.failed ∙ e;
           };
           first = refl;
-          packets = same_packets told later (emits_prepared id q told);
+          packets = same_packets emitted later (emits_prepared id q emitted);
           made = λ h. h;
         }),
       )

@@ -347,7 +347,7 @@ same_delivered t u l =
 
 module _ (lifecycle : ℕ → Option ℕ) where
   pub reports_none : (x y : Transfer) (es fs : List (events.Event Carried)) → y.reports ≡ x.reports → delivered_ids fs ≡ delivered_ids es → Reports lifecycle x y es fs
-  reports_none x y es fs same told = record { places = []; more = same ∙ sym (append-nil x.reports); told_of = told ∙ sym (append-nil (delivered_ids es)) }
+  reports_none x y es fs same emitted = record { places = []; more = same ∙ sym (append-nil x.reports); told_of = emitted ∙ sym (append-nil (delivered_ids es)) }
 
   pub reports_then : (x y z : Transfer) (es fs gs : List (events.Event Carried)) → Reports lifecycle x y es fs → Reports lifecycle y z fs gs → Reports lifecycle x z es gs
   reports_then x y z es fs gs a b = record {
@@ -449,7 +449,7 @@ module _ (message : ℕ → Message) (lifecycle : ℕ → Option ℕ) (is_interl
       let g = goes_given message is_interleaved goes_out from x y c.goes s.goes in
       let first = first_out a.state in
       let made = s.made (all_out_stay message is_interleaved goes_out x y c.kept.epochs s.goes first least most a.packet.chunks c.made) in
-      let told = emitted_out_stays message is_interleaved goes_out x y c.kept.epochs s.goes first least most (packets_in a.context.emitted.events) c.emitted in
+      let emitted = emitted_out_stays message is_interleaved goes_out x y c.kept.epochs s.goes first least most (packets_in a.context.emitted.events) c.emitted in
       let so_far = c.performed in
       let now = s.resets.performed in
       record {
@@ -465,6 +465,6 @@ module _ (message : ℕ → Message) (lifecycle : ℕ → Option ℕ) (is_interl
         epochs = λ f h. s.resets.epochs f (c.epochs f h);
         none_failed = s.resets.none_failed c.none_failed;
         emitted = subst (λ (n : ℕ). SaysPackets n y (packets_in b.context.emitted.events)) (sym s.first)
-            (subst (λ (ps : List Carried). SaysPackets first y ps) (sym s.packets) told);
+            (subst (λ (ps : List Carried). SaysPackets first y ps) (sym s.packets) emitted);
         made = subst (λ (n : ℕ). SaysAll n y b.packet.chunks) (sym s.first) made;
       }

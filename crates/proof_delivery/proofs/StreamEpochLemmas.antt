@@ -14,7 +14,7 @@ use Rattle.proof_delivery.specs.StreamEpochs.{StreamEpoch, are_named, shut_strea
 pub one_each : (os : List AcceptedMessage) (f : ℕ → StreamEpoch) → length (epochs_of os f) ≡ length os
 one_each os f = length-map os (λ (o : AcceptedMessage). (f o.message.stream).epoch)
 
-pub epochs_are_many : (x : Bool) (turns : List (Bool × EndAction)) (w : Pair) (f : ℕ → StreamEpoch) → length (message_epochs x turns w f) ≡ length (accepted x turns w)
+pub epochs_are_many : (x : Bool) (trace : List (Bool × EndAction)) (w : Pair) (f : ℕ → StreamEpoch) → length (message_epochs x trace w f) ≡ length (accepted x trace w)
 epochs_are_many x [] w f = refl
 epochs_are_many x (e ∷ es) w f =
     let here : List AcceptedMessage = accepted_at x e.0 e.1 w in
@@ -39,7 +39,7 @@ epochs_go_on x (e ∷ es) fs w f =
 abbrev AreAtFirst : (ℕ → StreamEpoch) → Type 0
 AreAtFirst f = (s : ℕ) → (f s).epoch ≡ 0
 
-none_by : (turn : EndAction) (x : Side) → resets turn ≡ false → reset_by turn x ≡ []
+none_by : (action : EndAction) (x : Side) → resets action ≡ false → reset_by action x ≡ []
 none_by (Calls (ResetStreams streams)) x h = cc
 none_by (Calls Connect) x h = refl
 none_by (Calls Close) x h = refl
@@ -58,15 +58,15 @@ none_by (Calls NoPacket) x h = refl
 none_by (Gives which checksum) x h = refl
 none_by (Refuses p) x h = refl
 
-none_at : (x acts : Bool) (turn : EndAction) (w : Pair) → resets turn ≡ false → reset_at x acts turn w ≡ []
-none_at true true turn w h = none_by turn w.a h
-none_at false false turn w h = none_by turn w.b h
-none_at true false turn w h = refl
-none_at false true turn w h = refl
+none_at : (x acts : Bool) (action : EndAction) (w : Pair) → resets action ≡ false → reset_at x acts action w ≡ []
+none_at true true action w h = none_by action w.a h
+none_at false false action w h = none_by action w.b h
+none_at true false action w h = refl
+none_at false true action w h = refl
 
 -- nothing that is emitted raises an epoch
-first_after : (x acts : Bool) (turn : EndAction) (w : Pair) (f : ℕ → StreamEpoch) → resets turn ≡ false → AreAtFirst f → AreAtFirst (epochs_after x acts turn w f)
-first_after x acts turn w f none h s = reopens (are_named (performed_of (emitted_at x acts turn w)) s) (shut_streams (reset_at x acts turn w) f s) ∙ (ap (λ (ids : List ℕ). (shut_streams ids f s).epoch) (none_at x acts turn w none) ∙ h s)
+first_after : (x acts : Bool) (action : EndAction) (w : Pair) (f : ℕ → StreamEpoch) → resets action ≡ false → AreAtFirst f → AreAtFirst (epochs_after x acts action w f)
+first_after x acts action w f none h s = reopens (are_named (performed_of (emitted_at x acts action w)) s) (shut_streams (reset_at x acts action w) f s) ∙ (ap (λ (ids : List ℕ). (shut_streams ids f s).epoch) (none_at x acts action w none) ∙ h s)
   where
     reopens : (b : Bool) (e : StreamEpoch) → (opened_if b e).epoch ≡ e.epoch
     reopens b e = refl
@@ -75,7 +75,7 @@ all_first : (os : List AcceptedMessage) (f : ℕ → StreamEpoch) → AreAtFirst
 all_first [] f h = All-nil (λ (n : ℕ). n ≡ 0)
 all_first (o ∷ os) f h = All-cons (λ (n : ℕ). n ≡ 0) (f o.message.stream).epoch (epochs_of os f) (h o.message.stream) (all_first os f h)
 
-pub all_in_first_epoch : (x : Bool) (turns : List (Bool × EndAction)) (w : Pair) (f : ℕ → StreamEpoch) → KeepsStreams turns → AreAtFirst f → All (λ (n : ℕ). n ≡ 0) (message_epochs x turns w f)
+pub all_in_first_epoch : (x : Bool) (trace : List (Bool × EndAction)) (w : Pair) (f : ℕ → StreamEpoch) → KeepsStreams trace → AreAtFirst f → All (λ (n : ℕ). n ≡ 0) (message_epochs x trace w f)
 all_in_first_epoch x [] w f none h = All-nil (λ (n : ℕ). n ≡ 0)
 all_in_first_epoch x (e ∷ es) w f none h =
     let parts = or_parts (resets e.1) (list_any (λ (d : Bool × EndAction). resets d.1) es) none in

@@ -47,9 +47,9 @@ emitted_run x (e ∷ es) w =
 pub few_before : (x : Bool) (es : List (Bool × EndAction)) (w : Pair) (n : ℕ) → performed_in (side_of x (run es w)).emitted < n → performed_in (side_of x w).emitted < n
 few_before x es w n h =
     let r = emitted_run x es w in
-    let told = ap (λ (l : List (Event Carried)). performed_in l) r.1 in
+    let emitted = ap (λ (l : List (Event Carried)). performed_in l) r.1 in
     let both = performed_both (side_of x w).emitted r.0 in
-    omega (arith, h, told, both)
+    omega (arith, h, emitted, both)
 
 -- ---- requests that wait
 

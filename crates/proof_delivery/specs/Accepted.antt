@@ -32,13 +32,13 @@ accepted_by call x = []
 
 abbrev pub accepted_in : EndAction → Side → List AcceptedMessage
 accepted_in (Calls call) x = accepted_by call x
-accepted_in turn x = []
+accepted_in action x = []
 
 -- true is end a: what end x accepts at an action of this end
 abbrev pub accepted_at : (x acts : Bool) → EndAction → Pair → List AcceptedMessage
-accepted_at true true turn w = accepted_in turn w.a
-accepted_at false false turn w = accepted_in turn w.b
-accepted_at x acts turn w = []
+accepted_at true true action w = accepted_in action w.a
+accepted_at false false action w = accepted_in action w.b
+accepted_at x acts action w = []
 
 -- ---- traces
 

@@ -31,7 +31,7 @@ abbrev pub asked_by : (before after : State) → ℕ → ℕ
 asked_by s u n = cond (is_same (waiting_number s) (waiting_number u)) n (numbered_count s)
 
 abbrev pub asked_after : Bool → EndAction → Pair → Asked → Asked
-asked_after x turn w k = record { a = asked_by (state_of w.a) (state_of (goes x turn w).a) k.a; b = asked_by (state_of w.b) (state_of (goes x turn w).b) k.b }
+asked_after x action w k = record { a = asked_by (state_of w.a) (state_of (goes x action w).a) k.a; b = asked_by (state_of w.b) (state_of (goes x action w).b) k.b }
 
 -- while it waits, its end numbers fewer than 2^30 fragments
 abbrev pub IsAnswered : State → (asked : ℕ) → Type 0
@@ -52,6 +52,6 @@ performed_in (OnStreamsResetPerformed streams ∷ es) = suc (performed_in es)
 performed_in (e ∷ es) = performed_in es
 
 -- what a trace has to keep where streams are reset
-pub record KeepsResets (turns : List (Bool × EndAction)) (w : Pair) : Type 0 where
-  pub answered : KeepsRequests turns w none_asked
-  pub few : (x : Bool) → performed_in (side_of x (run turns w)).emitted < 2 ^ 32 - 1
+pub record KeepsResets (trace : List (Bool × EndAction)) (w : Pair) : Type 0 where
+  pub answered : KeepsRequests trace w none_asked
+  pub few : (x : Bool) → performed_in (side_of x (run trace w)).emitted < 2 ^ 32 - 1

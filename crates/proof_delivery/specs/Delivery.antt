@@ -53,7 +53,7 @@ pub record IsReady (offers : List AcceptedMessage) (places : List ℕ) (id : ℕ
 
 -- so it is of each id that was reported as delivered
 abbrev pub ReportsAreTrue : List AcceptedMessage → List (Event Carried) → (places : List ℕ) → Type 0
-ReportsAreTrue offers told places = (id : ℕ) → has id (delivered_ids told) ≡ true → IsReady offers places id
+ReportsAreTrue offers emitted places = (id : ℕ) → has id (delivered_ids emitted) ≡ true → IsReady offers places id
 
 -- each message is ready, or was given up
 abbrev pub AllAreDone : List AcceptedMessage → (gone places : List ℕ) → Type 0
@@ -61,44 +61,44 @@ AllAreDone offers gone places = (p : ℕ) → p < length offers → (has p place
 
 -- One list of places serves all along the trace: at each point its beginning fits, and says what became of the other messages.
 -- True is the direction from a to b.
-pub record Delivers (from_a : Bool) (turns : List (Bool × EndAction)) (w : Pair) : Type 0 where
+pub record Delivers (from_a : Bool) (trace : List (Bool × EndAction)) (w : Pair) : Type 0 where
   pub places : List ℕ
-  pub fits : (early late : List (Bool × EndAction)) → turns ≡ early ++ late
+  pub fits : (early late : List (Bool × EndAction)) → trace ≡ early ++ late
       → Fits (accepted from_a early w) (readied_messages (not from_a) early w) (take (length (readied_messages (not from_a) early w)) places)
-  pub skipped : (early late : List (Bool × EndAction)) → turns ≡ early ++ late
+  pub skipped : (early late : List (Bool × EndAction)) → trace ≡ early ++ late
       → SkippedAreGivenUp (accepted from_a early w) (given_up from_a early w) (take (length (readied_messages (not from_a) early w)) places)
-  pub reports : (early late : List (Bool × EndAction)) → turns ≡ early ++ late
+  pub reports : (early late : List (Bool × EndAction)) → trace ≡ early ++ late
       → ReportsAreTrue (accepted from_a early w) (side_of from_a (run early w)).emitted (take (length (readied_messages (not from_a) early w)) places)
   -- no two records of the sender name the same message
-  pub once : (early late : List (Bool × EndAction)) → turns ≡ early ++ late → are_distinct (given_up from_a early w) ≡ true
-  pub rest : (early late : List (Bool × EndAction)) → turns ≡ early ++ late → IsAtRest (side_of from_a (run early w))
+  pub once : (early late : List (Bool × EndAction)) → trace ≡ early ++ late → are_distinct (given_up from_a early w) ≡ true
+  pub rest : (early late : List (Bool × EndAction)) → trace ≡ early ++ late → IsAtRest (side_of from_a (run early w))
       → AllAreDone (accepted from_a early w) (given_up from_a early w) (take (length (readied_messages (not from_a) early w)) places)
   -- each message becomes ready in its epoch
-  pub epochs : AreInTheirEpochs from_a turns w places
+  pub epochs : AreInTheirEpochs from_a trace w places
 
 -- ---- the law
 
 -- what a trace has to keep
-pub record IsInBounds (turns : List (Bool × EndAction)) (w : Pair) : Type 0 where
-  pub windows : KeepsWindows turns w no_stamps
-  pub resets : KeepsResets turns w
-  pub few : (from_a : Bool) → length (accepted from_a turns w) < 2 ^ 32
+pub record IsInBounds (trace : List (Bool × EndAction)) (w : Pair) : Type 0 where
+  pub windows : KeepsWindows trace w no_stamps
+  pub resets : KeepsResets trace w
+  pub few : (from_a : Bool) → length (accepted from_a trace w) < 2 ^ 32
   -- so that each message has fewer than 2^32 bytes, hence fragments: I-DATA counts them by 32 bits (RFC 8260 section 2.1)
-  pub limits : KeepsLimits turns
+  pub limits : KeepsLimits trace
 
 -- Along each trace that follows the rules, until an association first ends.
 abbrev pub MessagesAreDelivered : Type 0
 MessagesAreDelivered =
-    (a b : Options) (words_a words_b : Stream) (turns : List (Bool × EndAction)) → AreValidOptions a → AreValidOptions b
-    → KeepsOpeningRules turns (start a b words_a words_b) → NeitherHasEnded (run turns (start a b words_a words_b))
-    → IsInBounds turns (start a b words_a words_b) → (from_a : Bool) → Delivers from_a turns (start a b words_a words_b)
+    (a b : Options) (words_a words_b : Stream) (trace : List (Bool × EndAction)) → AreValidOptions a → AreValidOptions b
+    → KeepsOpeningRules trace (start a b words_a words_b) → NeitherHasEnded (run trace (start a b words_a words_b))
+    → IsInBounds trace (start a b words_a words_b) → (from_a : Bool) → Delivers from_a trace (start a b words_a words_b)
 
 -- and no end emits that a reset failed
 abbrev pub NoResetIsRefused : Type 0
 NoResetIsRefused =
-    (a b : Options) (words_a words_b : Stream) (turns : List (Bool × EndAction)) → AreValidOptions a → AreValidOptions b
-    → KeepsOpeningRules turns (start a b words_a words_b) → NeitherHasEnded (run turns (start a b words_a words_b))
-    → IsInBounds turns (start a b words_a words_b) → NoneIsRefused turns (start a b words_a words_b)
+    (a b : Options) (words_a words_b : Stream) (trace : List (Bool × EndAction)) → AreValidOptions a → AreValidOptions b
+    → KeepsOpeningRules trace (start a b words_a words_b) → NeitherHasEnded (run trace (start a b words_a words_b))
+    → IsInBounds trace (start a b words_a words_b) → NoneIsRefused trace (start a b words_a words_b)
 
 -- ---- such a trace, computed: two messages are accepted, and become ready
 

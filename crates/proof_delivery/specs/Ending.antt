@@ -20,27 +20,27 @@ stamps_along [] w s = s
 stamps_along (e ∷ es) w s = stamps_along es (goes e.0 e.1 w) (stamps_after e.0 e.1 w s)
 
 -- what a trace has to keep, and one more action of this end; behind it the windows and the requests are asked for no more
-pub record IsInBoundsThen (from_a : Bool) (turns : List (Bool × EndAction)) (last : EndAction) (w : Pair) : Type 0 where
-  pub windows : KeepsWindows turns w no_stamps
-  pub timely : IsTimely last (stamp (run turns w)) (stamps_for from_a (stamps_along turns w no_stamps))
-  pub resets : KeepsResets turns w
-  pub few : length (accepted from_a (turns ++ (from_a, last) ∷ []) w) < 2 ^ 32
-  pub limits : KeepsLimits (turns ++ (from_a, last) ∷ [])
+pub record IsInBoundsThen (from_a : Bool) (trace : List (Bool × EndAction)) (last : EndAction) (w : Pair) : Type 0 where
+  pub windows : KeepsWindows trace w no_stamps
+  pub timely : IsTimely last (stamp (run trace w)) (stamps_for from_a (stamps_along trace w no_stamps))
+  pub resets : KeepsResets trace w
+  pub few : length (accepted from_a (trace ++ (from_a, last) ∷ []) w) < 2 ^ 32
+  pub limits : KeepsLimits (trace ++ (from_a, last) ∷ [])
 
 -- The list of places that serves the trace serves what the sender emits at that action too, up to the first end of an association; nor
 -- does it emit up to there that a reset failed.
-pub record DeliversThen (from_a : Bool) (turns : List (Bool × EndAction)) (last : EndAction) (w : Pair) : Type 0 where
-  pub delivers : Delivers from_a turns w
-  pub reports : (early late : List (Event Carried)) → (emitted_by last (side_of from_a (run turns w)) (side_of (not from_a) (run turns w))).events ≡ early ++ late
+pub record DeliversThen (from_a : Bool) (trace : List (Bool × EndAction)) (last : EndAction) (w : Pair) : Type 0 where
+  pub delivers : Delivers from_a trace w
+  pub reports : (early late : List (Event Carried)) → (emitted_by last (side_of from_a (run trace w)) (side_of (not from_a) (run trace w))).events ≡ early ++ late
       → endings early ≡ 0
-      → ReportsAreTrue (accepted from_a (turns ++ (from_a, last) ∷ []) w) ((side_of from_a (run turns w)).emitted ++ early)
-      (take (length (readied_messages (not from_a) turns w)) delivers.places)
-  pub none_refused : (early late : List (Event Carried)) → (emitted_by last (side_of from_a (run turns w)) (side_of (not from_a) (run turns w))).events ≡ early ++ late
-      → endings early ≡ 0 → failed_in ((side_of from_a (run turns w)).emitted ++ early) ≡ false
+      → ReportsAreTrue (accepted from_a (trace ++ (from_a, last) ∷ []) w) ((side_of from_a (run trace w)).emitted ++ early)
+      (take (length (readied_messages (not from_a) trace w)) delivers.places)
+  pub none_refused : (early late : List (Event Carried)) → (emitted_by last (side_of from_a (run trace w)) (side_of (not from_a) (run trace w))).events ≡ early ++ late
+      → endings early ≡ 0 → failed_in ((side_of from_a (run trace w)).emitted ++ early) ≡ false
 
 -- Along each trace that follows the rules, and one more action, which may end an association.
 abbrev pub MessagesAreDeliveredThen : Type 0
 MessagesAreDeliveredThen =
-    (a b : Options) (words_a words_b : Stream) (turns : List (Bool × EndAction)) (from_a : Bool) (last : EndAction) → AreValidOptions a → AreValidOptions b
-    → KeepsOpeningRules (turns ++ (from_a, last) ∷ []) (start a b words_a words_b) → NeitherHasEnded (run turns (start a b words_a words_b))
-    → IsInBoundsThen from_a turns last (start a b words_a words_b) → DeliversThen from_a turns last (start a b words_a words_b)
+    (a b : Options) (words_a words_b : Stream) (trace : List (Bool × EndAction)) (from_a : Bool) (last : EndAction) → AreValidOptions a → AreValidOptions b
+    → KeepsOpeningRules (trace ++ (from_a, last) ∷ []) (start a b words_a words_b) → NeitherHasEnded (run trace (start a b words_a words_b))
+    → IsInBoundsThen from_a trace last (start a b words_a words_b) → DeliversThen from_a trace last (start a b words_a words_b)

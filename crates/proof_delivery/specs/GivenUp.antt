@@ -32,13 +32,13 @@ emitted_by (Refuses p) x y = emitted_foreign (refusal p.header.verification_tag 
 
 -- the messages that its records name
 abbrev pub given_up_by : EndAction → (x y : Side) → List ℕ
-given_up_by turn x y = map (λ (g : GivenUp). g.number) (emitted_by turn x y).given_up
+given_up_by action x y = map (λ (g : GivenUp). g.number) (emitted_by action x y).given_up
 
 -- true is end a: what end x gives up at an action of this end
 abbrev pub given_up_at : (x acts : Bool) → EndAction → Pair → List ℕ
-given_up_at true true turn w = given_up_by turn w.a w.b
-given_up_at false false turn w = given_up_by turn w.b w.a
-given_up_at x acts turn w = []
+given_up_at true true action w = given_up_by action w.a w.b
+given_up_at false false action w = given_up_by action w.b w.a
+given_up_at x acts action w = []
 
 -- ---- traces
 

@@ -59,9 +59,9 @@ records_by (Refuses p) x y = records_if (refusal p.header.verification_tag p.chu
 
 -- true is end a: what end x gives up at an action of this end
 abbrev pub records_at : (x acts : Bool) → EndAction → Pair → List GivenUp
-records_at true true turn w = records_by turn w.a w.b
-records_at false false turn w = records_by turn w.b w.a
-records_at x acts turn w = []
+records_at true true action w = records_by action w.a w.b
+records_at false false action w = records_by action w.b w.a
+records_at x acts action w = []
 
 -- the streams that are reset, unless the end refuses
 abbrev pub reset_unless : Option ResetStreamsError → (streams : List ℕ) → List ℕ
@@ -71,13 +71,13 @@ reset_unless (Some e) streams = []
 -- the streams that an end is asked to reset at its action, and does
 abbrev pub reset_by : EndAction → Side → List ℕ
 reset_by (Calls (ResetStreams streams)) x = reset_unless (reset_refusal (state_of x)) streams
-reset_by turn x = []
+reset_by action x = []
 
 -- true is end a: those of end x at an action of this end
 abbrev pub reset_at : (x acts : Bool) → EndAction → Pair → List ℕ
-reset_at true true turn w = reset_by turn w.a
-reset_at false false turn w = reset_by turn w.b
-reset_at x acts turn w = []
+reset_at true true action w = reset_by action w.a
+reset_at false false action w = reset_by action w.b
+reset_at x acts action w = []
 
 -- a record, the clock of its end then, and the streams that are reset at that action
 pub record DatedRecord : Type 0 where
@@ -124,23 +124,23 @@ pub record IsJustified (accepted : List Acceptance) (f : DatedRecord) : Type 0 w
 
 abbrev pub restores : EndAction → Bool
 restores (Calls (Restore h)) = true
-restores turn = false
+restores action = false
 
 -- no handover is taken up
 abbrev pub RestoresNone : List (Bool × EndAction) → Type 0
-RestoresNone turns = list_any (λ (e : Bool × EndAction). restores e.1) turns ≡ false
+RestoresNone trace = list_any (λ (e : Bool × EndAction). restores e.1) trace ≡ false
 
 -- Along each trace in which no handover is taken up: all records of an end so far are justified, of the messages that it accepted
 -- so far, where these are fewer than 2^32.
 abbrev pub RecordsAreJustified : Type 0
 RecordsAreJustified =
-    (a b : Options) (words_a words_b : Stream) (turns : List (Bool × EndAction)) → RestoresNone turns → (x : Bool)
-    → length (accepted x turns (start a b words_a words_b)) < 2 ^ 32
-    → AllByRecursion (IsJustified (acceptances x turns (start a b words_a words_b))) (dated_records x turns (start a b words_a words_b))
+    (a b : Options) (words_a words_b : Stream) (trace : List (Bool × EndAction)) → RestoresNone trace → (x : Bool)
+    → length (accepted x trace (start a b words_a words_b)) < 2 ^ 32
+    → AllByRecursion (IsJustified (acceptances x trace (start a b words_a words_b))) (dated_records x trace (start a b words_a words_b))
 
 -- acceptances are those of the accepted messages, one by one
 abbrev pub AcceptancesAreAccepted : Type 0
-AcceptancesAreAccepted = (x : Bool) (turns : List (Bool × EndAction)) (w : Pair) → map (λ (a : Acceptance). a.offer) (acceptances x turns w) ≡ accepted x turns w
+AcceptancesAreAccepted = (x : Bool) (trace : List (Bool × EndAction)) (w : Pair) → map (λ (a : Acceptance). a.offer) (acceptances x trace w) ≡ accepted x trace w
 
 -- ---- such a trace, computed: of two messages that are lost, one may not be sent again, and the other one's lifetime is over
 

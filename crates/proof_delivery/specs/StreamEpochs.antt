@@ -45,12 +45,12 @@ performed_of (e ∷ es) = performed_of es
 
 -- true is end a: what is emitted at end x at an action of this end
 abbrev pub emitted_at : (x acts : Bool) → EndAction → Pair → List (Event Carried)
-emitted_at true true turn w = (emitted_by turn w.a w.b).events
-emitted_at false false turn w = (emitted_by turn w.b w.a).events
-emitted_at x acts turn w = []
+emitted_at true true action w = (emitted_by action w.a w.b).events
+emitted_at false false action w = (emitted_by action w.b w.a).events
+emitted_at x acts action w = []
 
 abbrev pub epochs_after : (x acts : Bool) → EndAction → Pair → (ℕ → StreamEpoch) → ℕ → StreamEpoch
-epochs_after x acts turn w f = reopen (performed_of (emitted_at x acts turn w)) (shut_streams (reset_at x acts turn w) f)
+epochs_after x acts action w f = reopen (performed_of (emitted_at x acts action w)) (shut_streams (reset_at x acts action w) f)
 
 -- ---- traces
 
@@ -74,20 +74,20 @@ resets_emitted s (OnIncomingStreamReset streams ∷ es) = cond (are_named stream
 resets_emitted s (e ∷ es) = resets_emitted s es
 
 abbrev pub emitted_of : (x : Bool) → List (Bool × EndAction) → Pair → List (Event Carried)
-emitted_of x turns w = (side_of x (run turns w)).emitted
+emitted_of x trace w = (side_of x (run trace w)).emitted
 
 -- ---- what is observed
 
 -- Each message that became ready at an action is of an epoch between the resets of its stream that its end emitted before that action, and those
 -- that it emitted up to its end.
-pub record AreInTheirEpochs (from_a : Bool) (turns : List (Bool × EndAction)) (w : Pair) (places : List ℕ) : Type 0 where
-  pub least : (early late : List (Bool × EndAction)) (e : Bool × EndAction) → turns ≡ early ++ e ∷ late → (k n : ℕ) (o : AcceptedMessage)
+pub record AreInTheirEpochs (from_a : Bool) (trace : List (Bool × EndAction)) (w : Pair) (places : List ℕ) : Type 0 where
+  pub least : (early late : List (Bool × EndAction)) (e : Bool × EndAction) → trace ≡ early ++ e ∷ late → (k n : ℕ) (o : AcceptedMessage)
       → length (readied_messages (not from_a) early w) ≤ k → k < length (readied_messages (not from_a) (early ++ e ∷ []) w)
-      → slice_get (accepted from_a turns w) (slice_index places k) ≡ Some o → slice_get (message_epochs from_a turns w all_open) (slice_index places k) ≡ Some n
+      → slice_get (accepted from_a trace w) (slice_index places k) ≡ Some o → slice_get (message_epochs from_a trace w all_open) (slice_index places k) ≡ Some n
       → resets_emitted o.message.stream (emitted_of (not from_a) early w) ≤ n
-  pub most : (early late : List (Bool × EndAction)) (e : Bool × EndAction) → turns ≡ early ++ e ∷ late → (k n : ℕ) (o : AcceptedMessage)
+  pub most : (early late : List (Bool × EndAction)) (e : Bool × EndAction) → trace ≡ early ++ e ∷ late → (k n : ℕ) (o : AcceptedMessage)
       → length (readied_messages (not from_a) early w) ≤ k → k < length (readied_messages (not from_a) (early ++ e ∷ []) w)
-      → slice_get (accepted from_a turns w) (slice_index places k) ≡ Some o → slice_get (message_epochs from_a turns w all_open) (slice_index places k) ≡ Some n
+      → slice_get (accepted from_a trace w) (slice_index places k) ≡ Some o → slice_get (message_epochs from_a trace w all_open) (slice_index places k) ≡ Some n
       → n ≤ resets_emitted o.message.stream (emitted_of (not from_a) (early ++ e ∷ []) w)
 
 -- no reset is emitted as failed
@@ -97,4 +97,4 @@ failed_in (OnStreamsResetFailed streams ∷ es) = true
 failed_in (e ∷ es) = failed_in es
 
 abbrev pub NoneIsRefused : List (Bool × EndAction) → Pair → Type 0
-NoneIsRefused turns w = (x : Bool) → failed_in (emitted_of x turns w) ≡ false
+NoneIsRefused trace w = (x : Bool) → failed_in (emitted_of x trace w) ≡ false

@@ -63,8 +63,8 @@ abbrev pub stamp_packets : (before after : Side) → Stamp → List Stamp → Li
 stamp_packets x y s stamps = stamps ++ replicate (length (emitted_packets y) - length (emitted_packets x)) s
 
 abbrev pub stamps_after : Bool → EndAction → Pair → Stamps → Stamps
-stamps_after true turn w s = record s { of_a = stamp_packets w.a (goes true turn w).a (stamp w) s.of_a }
-stamps_after false turn w s = record s { of_b = stamp_packets w.b (goes false turn w).b (stamp w) s.of_b }
+stamps_after true action w s = record s { of_a = stamp_packets w.a (goes true action w).a (stamp w) s.of_a }
+stamps_after false action w s = record s { of_b = stamp_packets w.b (goes false action w).b (stamp w) s.of_b }
 
 -- those of the packets that may be given to this end
 abbrev pub stamps_for : Bool → Stamps → List Stamp
@@ -90,16 +90,16 @@ KeepsWindows (e ∷ es) w s =
 
 abbrev pub resets : EndAction → Bool
 resets (Calls (ResetStreams streams)) = true
-resets turn = false
+resets action = false
 
 -- no stream is reset
 abbrev pub KeepsStreams : List (Bool × EndAction) → Type 0
-KeepsStreams turns = list_any (λ (e : Bool × EndAction). resets e.1) turns ≡ false
+KeepsStreams trace = list_any (λ (e : Bool × EndAction). resets e.1) trace ≡ false
 
 abbrev pub sets_more : EndAction → Bool
 sets_more (Calls (SetMaxMessageSize bytes)) = nat_le (2 ^ 32) bytes
-sets_more turn = false
+sets_more action = false
 
 -- no limit of messages' sizes is set that doesn't fit 32 bits, as `set_max_message_size` asks
 abbrev pub KeepsLimits : List (Bool × EndAction) → Type 0
-KeepsLimits turns = list_any (λ (e : Bool × EndAction). sets_more e.1) turns ≡ false
+KeepsLimits trace = list_any (λ (e : Bool × EndAction). sets_more e.1) trace ≡ false

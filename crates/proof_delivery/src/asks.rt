@@ -71,8 +71,8 @@ pub fn requests_are_told_apart()
 /// Along each trace there is an epoch for each message that an end accepted (`many`), in their order (`goes_on`); and where no stream is
 /// reset, each is 0 (`first`).
 pub fn epochs_are_of_messages()
-    ensures many { (x : Bool) (turns : List (Bool × EndAction)) (w : Pair) → length (message_epochs x turns w all_open) ≡ length (accepted x turns w) }
-    ensures goes_on { (x : Bool) (turns more : List (Bool × EndAction)) (w : Pair) →
-        message_epochs x (turns ++ more) w all_open ≡ message_epochs x turns w all_open ++ message_epochs x more (run turns w) (epochs_along x turns w all_open) }
-    ensures first { (x : Bool) (turns : List (Bool × EndAction)) (w : Pair) → KeepsStreams turns → All (λ (n : ℕ). n ≡ 0) (message_epochs x turns w all_open) }
+    ensures many { (x : Bool) (trace : List (Bool × EndAction)) (w : Pair) → length (message_epochs x trace w all_open) ≡ length (accepted x trace w) }
+    ensures goes_on { (x : Bool) (trace more : List (Bool × EndAction)) (w : Pair) →
+        message_epochs x (trace ++ more) w all_open ≡ message_epochs x trace w all_open ++ message_epochs x more (run trace w) (epochs_along x trace w all_open) }
+    ensures first { (x : Bool) (trace : List (Bool × EndAction)) (w : Pair) → KeepsStreams trace → All (λ (n : ℕ). n ≡ 0) (message_epochs x trace w all_open) }
 {}

@@ -11,7 +11,7 @@ use Rattle.spec_endpoint.specs.Input.{refusal}
 use Rattle.spec_endpoint.specs.Laws.{Call, Connect, Restore, Packet, called, endings}
 use Rattle.proof_endpoint.specs.Mapped.{Carried}
 use Rattle.proof_endpoint.proofs.LawsLemmas.{stays_within}
-use Rattle.proof_pair.specs.Trace.{Side, emitted_packets, EndAction, Calls, Gives, Refuses, as_carried, took, as_received, give, act, MayCall, MayAct, AreValidOptions, state_of}
+use Rattle.proof_pair.specs.Trace.{Side, emitted_packets, EndAction, Calls, Gives, Refuses, as_carried, drain, as_received, give, act, MayCall, MayAct, AreValidOptions, state_of}
 use Rattle.proof_pair.specs.Agreement.{Draw as Drawn, Has, drawn_to_connect, drawn_given, drawn_in}
 use Rattle.proof_pair.proofs.AddedLemmas.{all_get}
 use Rattle.proof_pair.proofs.TraceLemmas.{SaysAll, seen, Half, Halves, none_of, actions}
@@ -73,8 +73,8 @@ pub record Turning (ps : List (Drawn × Drawn)) (x z : Side) (u : State) (a b : 
   pub asked : Bool
   pub both_asked : Bool
   pub same : both_asked ≡ asked
-  pub first_is : a ≡ asked_as asked (took (called call x.end) x)
-  pub second_is : b ≡ asked_as both_asked (took second z)
+  pub first_is : a ≡ asked_as asked (drain (called call x.end) x)
+  pub second_is : b ≡ asked_as both_asked (drain second z)
   pub gone_is : gone ≡ (called call x.end).endpoint_state.context.emitted.given_up
   pub gone_too : too ≡ second.endpoint_state.context.emitted.given_up
   pub outcome : Outcome ps x z u call second
@@ -101,7 +101,7 @@ module _ (ps : List (Drawn × Drawn)) (k : Knows ps) (o q : Options) (own : AreV
   turning_alike a b gone too g =
       let m = mirrors ps k x z (state_of y) g.call g.second (packs g.call) g.outcome in (
         subst (λ (s : Side). AreAlike s b) (sym g.first_is)
-            (subst (λ (s : Side). AreAlike (asked_as g.asked (took (called g.call x.end) x)) s) (sym g.second_is)
+            (subst (λ (s : Side). AreAlike (asked_as g.asked (drain (called g.call x.end) x)) s) (sym g.second_is)
             (alike_after x z alike h.own.quiet (called g.call x.end) g.second g.asked g.both_asked g.same m)),
         g.gone_too ∙ (given_up_after x z alike h.own.quiet (called g.call x.end) g.second m ∙ sym g.gone_is),
       )
@@ -114,19 +114,19 @@ module _ (ps : List (Drawn × Drawn)) (k : Knows ps) (o q : Options) (own : AreV
 
   -- twins, where none has ended
   module _ (tells : EndsEmitEventOwn) where
-    turning_at : (gone too : List GivenUp) (b : Side) (c : Call) (second : Endpoint Carried) (asked both : Bool) → both ≡ asked → b ≡ asked_as both (took second z)
-        → Outcome ps x z (state_of y) c second → ReceivesKind c → Half o q (asked_as asked (took (called c x.end) x)) y
+    turning_at : (gone too : List GivenUp) (b : Side) (c : Call) (second : Endpoint Carried) (asked both : Bool) → both ≡ asked → b ≡ asked_as both (drain second z)
+        → Outcome ps x z (state_of y) c second → ReceivesKind c → Half o q (asked_as asked (drain (called c x.end) x)) y
         → Stand (state_of x) (called c x.end).endpoint_state.state → endings (x.emitted ++ (called c x.end).endpoint_state.context.emitted.events) ≡ 0
-        → Twin ps (asked_as asked (took (called c x.end) x)) y b
+        → Twin ps (asked_as asked (drain (called c x.end) x)) y b
     turning_at gone too b c second asked both same is outcome hears after stand none =
-        subst (λ (s : Side). Twin ps (asked_as asked (took (called c x.end) x)) y s) (sym is)
+        subst (λ (s : Side). Twin ps (asked_as asked (drain (called c x.end) x)) y s) (sym is)
         (twin_after ps k o q x y z c second asked both same t stand (packs c)
         (tells c x.end h.own.packing h.own.quiet hears (none_of x.emitted (called c x.end).endpoint_state.context.emitted.events none)) outcome h.own.quiet after.said)
 
     pub turning_twin : (a b : Side) (gone too : List GivenUp) → Turning ps x z (state_of y) a b gone too → Half o q a y → Stand (state_of x) (state_of a)
         → endings a.emitted ≡ 0 → Twin ps a y b
     turning_twin a b gone too g after stand none =
-        let there : Side = asked_as g.asked (took (called g.call x.end) x) in
+        let there : Side = asked_as g.asked (drain (called g.call x.end) x) in
         subst (λ (s : Side). Twin ps s y b) (sym g.first_is)
         (turning_at gone too b g.call g.second g.asked g.both_asked g.same g.second_is g.outcome g.hears (subst (λ (s : Side). Half o q s y) g.first_is after)
         (subst (λ (s : Side). Stand (state_of x) (state_of s)) g.first_is stand) (subst (λ (s : Side). endings s.emitted ≡ 0) g.first_is none))

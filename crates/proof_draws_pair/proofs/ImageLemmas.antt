@@ -7,7 +7,7 @@ use Rattle.spec_endpoint.specs.Opening.{complains}
 use Rattle.spec_endpoint.specs.Input.{counts, count_packet}
 use Rattle.spec_endpoint.specs.Laws.{Call, called}
 use Rattle.proof_endpoint.specs.Mapped.{Carried, map_event, map_context}
-use Rattle.proof_pair.specs.Trace.{Side, took, state_of}
+use Rattle.proof_pair.specs.Trace.{Side, drain, state_of}
 use Rattle.proof_draws.specs.NamedChunks.{Names, AreNames}
 use Rattle.proof_draws.specs.Names.{named_state, plain, with_random}
 use Rattle.proof_draws.specs.NamedCalls.{named_call, CallIsNamed, EachCallIsNamed}
@@ -81,7 +81,7 @@ error_alike text other (e ∷ es) fs p q = cc
 
 module _ (x y : Side) (alike : AreAlike x y) (quiet : x.end.endpoint_state.context.emitted.events ≡ []) where
   refused_alike : (text other : List ℕ) (a b : Bool) → b ≡ a
-      → AreAlike (asked_as a (took (complains text (counts x.end)) x)) (asked_as b (took (complains other (counts y.end)) y))
+      → AreAlike (asked_as a (drain (complains text (counts x.end)) x)) (asked_as b (drain (complains other (counts y.end)) y))
   refused_alike text other a b asked = record {
     names = alike.names;
     are = alike.are;
@@ -95,7 +95,7 @@ module _ (x y : Side) (alike : AreAlike x y) (quiet : x.end.endpoint_state.conte
   }
 
   -- what was emitted is taken
-  pub alike_after : (e f : Endpoint Carried) (a b : Bool) → b ≡ a → Mirrors x y e f → AreAlike (asked_as a (took e x)) (asked_as b (took f y))
+  pub alike_after : (e f : Endpoint Carried) (a b : Bool) → b ≡ a → Mirrors x y e f → AreAlike (asked_as a (drain e x)) (asked_as b (drain f y))
   alike_after e f a b asked (named n are state is packing) = record {
     names = n;
     are = are;
@@ -109,8 +109,8 @@ module _ (x y : Side) (alike : AreAlike x y) (quiet : x.end.endpoint_state.conte
     asked = asked;
   }
   alike_after e f a b asked (refused text other is so) =
-      subst (λ (z : Endpoint Carried). AreAlike (asked_as a (took z x)) (asked_as b (took f y))) (sym is)
-      (subst (λ (z : Endpoint Carried). AreAlike (asked_as a (took (complains text (counts x.end)) x)) (asked_as b (took z y))) (sym so)
+      subst (λ (z : Endpoint Carried). AreAlike (asked_as a (drain z x)) (asked_as b (drain f y))) (sym is)
+      (subst (λ (z : Endpoint Carried). AreAlike (asked_as a (drain (complains text (counts x.end)) x)) (asked_as b (drain z y))) (sym so)
       (refused_alike text other a b asked))
 
   -- and so were the messages given up

@@ -15,7 +15,7 @@ use Rattle.spec_endpoint.specs.Input.{counts, count_packet}
 use Rattle.spec_endpoint.specs.Laws.{Call, Packet, called, is_closed}
 use Rattle.proof_endpoint.specs.Mapped.{Carried}
 use Rattle.proof_pair.specs.Acts.{is_opened}
-use Rattle.proof_pair.specs.Trace.{Side, packets_in, took, state_of}
+use Rattle.proof_pair.specs.Trace.{Side, packets_in, drain, state_of}
 use Rattle.proof_pair.specs.Agreement.{Draw as Drawn}
 use Rattle.proof_pair.proofs.JoinLemmas.{Draw, Both, view_of, IsInitAck, Says}
 use Rattle.proof_pair.proofs.TraceLemmas.{SaysAll}
@@ -239,7 +239,7 @@ module _ (ps : List (Drawn × Drawn)) (k : Knows ps) where
     e = called c x.end
 
     abbrev after : Side
-    after = asked_as asked (took e x)
+    after = asked_as asked (drain e x)
 
     abbrev SaidAfter : Type 0
     SaidAfter = All (SaysAll o q (view_of e.endpoint_state.state) (view_of (state_of y)) asked) (packets_in (x.emitted ++ e.endpoint_state.context.emitted.events))
@@ -253,7 +253,7 @@ module _ (ps : List (Drawn × Drawn)) (k : Knows ps) where
         state_past n.mine n.peer n.tie n.cookie_tie same_tie e.endpoint_state.state late.past
         ∙ sym (state_by ps n.mine n.peer n.tie e.endpoint_state.state (n.tags stand))
 
-    named_after : Named ps x z (state_of y) c f → SaidAfter → Twin ps after y (asked_as both_asked (took f z))
+    named_after : Named ps x z (state_of y) c f → SaidAfter → Twin ps after y (asked_as both_asked (drain f z))
     named_after n said =
         let es : List (Event Carried) = e.endpoint_state.context.emitted.events in
         let s : State = e.endpoint_state.state in
@@ -282,7 +282,7 @@ module _ (ps : List (Drawn × Drawn)) (k : Knows ps) where
         (ap (λ (d : Context Carried). d.emitted.events) t.context ∙ quiet))
 
     refused_both : (text other : List ℕ) → x.end.endpoint_state.context.emitted.events ≡ []
-        → Twin ps (asked_as asked (took (complains text (counts x.end)) x)) y (asked_as both_asked (took (complains other (counts z.end)) z))
+        → Twin ps (asked_as asked (drain (complains text (counts x.end)) x)) y (asked_as both_asked (drain (complains other (counts z.end)) z))
     refused_both text other quiet = record {
       tie = t.tie;
       state = t.state;
@@ -291,12 +291,12 @@ module _ (ps : List (Drawn × Drawn)) (k : Knows ps) where
       asked = same;
     }
 
-    refused_after : Refused x z c f → x.end.endpoint_state.context.emitted.events ≡ [] → Twin ps after y (asked_as both_asked (took f z))
+    refused_after : Refused x z c f → x.end.endpoint_state.context.emitted.events ≡ [] → Twin ps after y (asked_as both_asked (drain f z))
     refused_after r quiet =
-        subst (λ (w : Endpoint Carried). Twin ps (asked_as asked (took w x)) y (asked_as both_asked (took f z))) (sym r.is)
-        (subst (λ (w : Endpoint Carried). Twin ps (asked_as asked (took (complains r.text (counts x.end)) x)) y (asked_as both_asked (took w z))) (sym r.so)
+        subst (λ (w : Endpoint Carried). Twin ps (asked_as asked (drain w x)) y (asked_as both_asked (drain f z))) (sym r.is)
+        (subst (λ (w : Endpoint Carried). Twin ps (asked_as asked (drain (complains r.text (counts x.end)) x)) y (asked_as both_asked (drain w z))) (sym r.so)
         (refused_both r.text r.other quiet))
 
-    pub twin_after : Outcome ps x z (state_of y) c f → x.end.endpoint_state.context.emitted.events ≡ [] → SaidAfter → Twin ps after y (asked_as both_asked (took f z))
+    pub twin_after : Outcome ps x z (state_of y) c f → x.end.endpoint_state.context.emitted.events ≡ [] → SaidAfter → Twin ps after y (asked_as both_asked (drain f z))
     twin_after (inl n) quiet said = named_after n said
     twin_after (inr r) quiet said = refused_after r quiet

@@ -18,7 +18,7 @@ use Rattle.spec_endpoint.specs.Input.{refusal, counts, taken_if}
 use Rattle.spec_endpoint.specs.Laws.{Call, Packet, called, endings}
 use Rattle.proof_endpoint.specs.Mapped.{Carried}
 use Rattle.proof_pair.specs.Acts.{calm, IsReceived}
-use Rattle.proof_pair.specs.Trace.{Side, Pair, new_side, packets_in, emitted_packets, EndAction, Calls, Gives, Refuses, took, as_received, give, foreign_if, act, goes, run, MayCall, MayAct, side_of, KeepsOpeningRules, NeitherHasEnded, AreValidOptions, start, state_of}
+use Rattle.proof_pair.specs.Trace.{Side, Pair, new_side, packets_in, emitted_packets, EndAction, Calls, Gives, Refuses, drain, as_received, give, foreign_if, act, goes, run, MayCall, MayAct, side_of, KeepsOpeningRules, NeitherHasEnded, AreValidOptions, start, state_of}
 use Rattle.proof_pair.proofs.UntilLemmas.{until_end}
 use Rattle.proof_pair.proofs.AddedLemmas.{all_get}
 use Rattle.proof_pair.proofs.JoinActsLemmas.{packets_both, Setting}
@@ -57,7 +57,7 @@ module _ (o q : Options) (x y : Side) (own : AreValidOptions o) (other : AreVali
   -- and ends
   whole_ends : (asked : Bool) (e : Endpoint Carried)
       → IsWhole q.zero_checksum_method e.endpoint_state.state e.endpoint_state.context.queue e.endpoint_state.context.emitted.events (calm e).packet
-      → SideIsWhole q.zero_checksum_method (record (took e x) { got_init = asked })
+      → SideIsWhole q.zero_checksum_method (record (drain e x) { got_init = asked })
   whole_ends asked e w = record {
     state = w.0;
     queue = w.1;

@@ -10,8 +10,8 @@ use Rattle.proof_draws.specs.Renamed.{rename, Renames}
 -- ---- draws along a trace, of both ends
 
 abbrev pub drawn_at : Bool → EndAction → Pair → List Draw
-drawn_at true turn w = drawn_in turn w.a w.b
-drawn_at false turn w = drawn_in turn w.b w.a
+drawn_at true action w = drawn_in action w.a w.b
+drawn_at false action w = drawn_in action w.b w.a
 
 abbrev pub drawn : List (Bool × EndAction) → Pair → List Draw
 drawn [] w = []

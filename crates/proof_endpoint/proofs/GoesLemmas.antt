@@ -69,10 +69,10 @@ module _ {P : Type 0} where
 
   -- nothing is emitted
   pub goes_silent : (c d : Context P) → d.options.mtu ≡ c.options.mtu → d.pack ≡ c.pack → d.emitted ≡ c.emitted → Goes 0 c d
-  goes_silent c d mtu pack told = record {
+  goes_silent c d mtu pack emitted = record {
     mtu = mtu;
     pack = pack;
-    emits = subst (λ (t : Emitted P). Emits c.pack (most_bytes c) 0 c.emitted t) (sym told) (emits_nothing c.pack (most_bytes c) c.emitted);
+    emits = subst (λ (t : Emitted P). Emits c.pack (most_bytes c) 0 c.emitted t) (sym emitted) (emits_nothing c.pack (most_bytes c) c.emitted);
   }
 
   pub goes_same : (c : Context P) → Goes 0 c c
@@ -109,10 +109,10 @@ module _ {P : Type 0} where
 
   pub goes_said : (n : ℕ) (c d : Context P) (e : Event P) → d.options.mtu ≡ c.options.mtu → d.pack ≡ c.pack → d.emitted ≡ emit_event e c.emitted
       → IsShort c.pack (most_bytes c) e → ending e ≡ n → Goes n c d
-  goes_said n c d e mtu pack told short is = record {
+  goes_said n c d e mtu pack emitted short is = record {
     mtu = mtu;
     pack = pack;
-    emits = subst (λ (t : Emitted P). Emits c.pack (most_bytes c) n c.emitted t) (sym told) (emits_one c.pack (most_bytes c) n e c.emitted short is);
+    emits = subst (λ (t : Emitted P). Emits c.pack (most_bytes c) n c.emitted t) (sym emitted) (emits_one c.pack (most_bytes c) n e c.emitted short is);
   }
 
   pub goes_complained : (kind : ErrorKind) (text : List ℕ) (c : Context P) → Goes 0 c (complain kind text c)

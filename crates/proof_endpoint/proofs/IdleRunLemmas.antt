@@ -39,7 +39,7 @@ none_kept first acked left window = refl
 
 -- ---- nothing is queued
 
-module _ {P : Type 0} (ss : Streams) (time most_payload number : ℕ) (told : Emitted P) where
+module _ {P : Type 0} (ss : Streams) (time most_payload number : ℕ) (emitted : Emitted P) where
   abbrev pub idle_queue : Queue
   idle_queue = record {
     streams = ss;
@@ -49,12 +49,12 @@ module _ {P : Type 0} (ss : Streams) (time most_payload number : ℕ) (told : Em
   }
 
   turned_idle : (now : ℕ) (may : Bool) (s : Sender) (chunks : List (ℕ × FragmentTree)) (left : ℕ)
-      → fragments.turned_if may now (filling s idle_queue told chunks left) ≡ record { filling = filling s idle_queue told chunks left; is_more = false }
+      → fragments.turned_if may now (filling s idle_queue emitted chunks left) ≡ record { filling = filling s idle_queue emitted chunks left; is_more = false }
   turned_idle now true s chunks left = refl
   turned_idle now false s chunks left = refl
 
   pub fill_idle : (turns now : ℕ) (s : Sender) (chunks : List (ℕ × FragmentTree)) (left : ℕ)
-      → fill (suc turns) now (filling s idle_queue told chunks left) ≡ filling s idle_queue told chunks left
+      → fill (suc turns) now (filling s idle_queue emitted chunks left) ≡ filling s idle_queue emitted chunks left
   fill_idle turns now s chunks left =
       ap (λ (t : fragments.Turned P). if t.is_more then fill turns now t.filling else t.filling)
       (turned_idle now (may_send_new s && nat_lt 0 (offered_payload left s)) s chunks left)
@@ -69,23 +69,23 @@ module _ {P : Type 0} (ss : Streams) (time most_payload number : ℕ) (told : Em
     s = still d w t3
 
     module _ (none : (left window : ℕ) → resend false left window d ≡ empty_packet left window d) where
-      send_idle : (now most : ℕ) → send now most s idle_queue told ≡ filling s idle_queue told [] (most - 0)
+      send_idle : (now most : ℕ) → send now most s idle_queue emitted ≡ filling s idle_queue emitted [] (most - 0)
       send_idle now most =
-          let left : Changed P = record { queue = idle_queue; emitted = told } in
+          let left : Changed P = record { queue = idle_queue; emitted = emitted } in
           ap (λ (x : Resent). fragments.fill_all now (filled_with most s x left)) (none _ _)
           ∙ ap (λ (x : fragments.Filling P). timed_filling now x) (fill_idle (most - 0) now (still d (take_payload 0 w) t3) [] (most - 0))
-          ∙ ap (λ (v : Windows). filling (still d v t3) idle_queue told [] (most - 0)) (taken_none w)
+          ∙ ap (λ (v : Windows). filling (still d v t3) idle_queue emitted [] (most - 0)) (taken_none w)
 
       pub data_idle : (p : Packet) (t : Tcb) (c : Context P)
-          → with_data (record { packet = p; tcb = record t { sender = s }; context = record c { queue = idle_queue; emitted = told } })
-          ≡ record { packet = p; tcb = record t { sender = s }; context = record c { queue = idle_queue; emitted = told } }
+          → with_data (record { packet = p; tcb = record t { sender = s }; context = record c { queue = idle_queue; emitted = emitted } })
+          ≡ record { packet = p; tcb = record t { sender = s }; context = record c { queue = idle_queue; emitted = emitted } }
       data_idle p t c =
-          ap (λ (f : fragments.Filling P). fill_packet f (record { packet = p; tcb = record t { sender = s }; context = record c { queue = idle_queue; emitted = told } }))
+          ap (λ (f : fragments.Filling P). fill_packet f (record { packet = p; tcb = record t { sender = s }; context = record c { queue = idle_queue; emitted = emitted } }))
           (send_idle c.now (room p))
 
       -- a further packet of a burst isn't sent
       pub burst_ends : (turns : ℕ) (p : Packet) (t : Tcb) (c : Context P)
-          → burst (suc turns) false false (record { packet = record p { chunks = [] }; tcb = record t { sender = s }; context = record c { queue = idle_queue; emitted = told } })
-          ≡ record { packet = record p { chunks = [] }; tcb = record t { sender = s }; context = record c { queue = idle_queue; emitted = told } }
+          → burst (suc turns) false false (record { packet = record p { chunks = [] }; tcb = record t { sender = s }; context = record c { queue = idle_queue; emitted = emitted } })
+          ≡ record { packet = record p { chunks = [] }; tcb = record t { sender = s }; context = record c { queue = idle_queue; emitted = emitted } }
       burst_ends turns p t c =
           ap (λ (y : Filling P). go_on (burst turns false false) (turned_if (has_chunks y.packet) false y)) (data_idle (record p { chunks = [] }) t c)

@@ -43,12 +43,12 @@ module _ {P : Type 0} (l : ℕ) where
 
   -- nothing is emitted, and what is alive stays so or is forgotten
   pub lives_less : (x : ℕ) (c : Context P) (y : ℕ) (d : Context P) → d.emitted ≡ c.emitted → waits l d + y ≤ waits l c + x → Goes l x c y d
-  lives_less x c y d told h =
+  lives_less x c y d emitted h =
       let same : Spends l c.emitted c.emitted (waits l c + x) (waits l d + y) = spends_nothing l c.emitted (waits l c + x) (waits l d + y) h in
-      record { spends = record { events = same.events; behind = ap (λ (t : Emitted P). t.events) told ∙ same.behind; counted = same.counted } }
+      record { spends = record { events = same.events; behind = ap (λ (t : Emitted P). t.events) emitted ∙ same.behind; counted = same.counted } }
 
   pub lives_silent : (x : ℕ) (c d : Context P) → d.emitted ≡ c.emitted → waits l d ≤ waits l c → Goes l x c x d
-  lives_silent x c d told h = lives_less x c x d told (omega (arith, h))
+  lives_silent x c d emitted h = lives_less x c x d emitted (omega (arith, h))
 
   pub lives_same : (x : ℕ) (c : Context P) → Goes l x c x c
   lives_same x c = lives_less x c x c refl (omega arith)
@@ -65,9 +65,9 @@ module _ {P : Type 0} (l : ℕ) where
   -- ---- what is said
 
   pub lives_said : (x : ℕ) (c d : Context P) (e : Event P) → d.emitted ≡ emit_event e c.emitted → waits l d ≤ waits l c → emitted_end l e ≡ 0 → Goes l x c x d
-  lives_said x c d e told h is =
+  lives_said x c d e emitted h is =
       let one : Spends l c.emitted (emit_event e c.emitted) (waits l c + x) (waits l d + x) = spends_one l e c.emitted (waits l c + x) (waits l d + x) (omega (arith, h, is)) in
-      record { spends = record { events = one.events; behind = ap (λ (t : Emitted P). t.events) told ∙ one.behind; counted = one.counted } }
+      record { spends = record { events = one.events; behind = ap (λ (t : Emitted P). t.events) emitted ∙ one.behind; counted = one.counted } }
 
   pub lives_complained : (x : ℕ) (kind : ErrorKind) (text : List ℕ) (c : Context P) → Goes l x c x (complain kind text c)
   lives_complained x kind text c = lives_said x c (complain kind text c) (OnError kind text) refl (omega arith) refl

@@ -259,12 +259,12 @@ pub calls_number_once : CallsNumberOnce
 calls_number_once = record {
   new = λ o n. none_given n;
   added = added_once;
-  produced = λ now size q told. once_fewer q (produce now size q told).queue (fewer_within (length q.scheduler.times + 2) now size q told);
-  threshold = λ id bytes q told. once_fewer q (set_low_threshold id bytes q told).queue (record { less = λ n. threshold_numbered n id bytes q told; next = refl });
+  produced = λ now size q emitted. once_fewer q (produce now size q emitted).queue (fewer_within (length q.scheduler.times + 2) now size q emitted);
+  threshold = λ id bytes q emitted. once_fewer q (set_low_threshold id bytes q emitted).queue (record { less = λ n. threshold_numbered n id bytes q emitted; next = refl });
   priority = λ id priority q. once_fewer q (set_priority id priority q) (record { less = λ n. priority_numbered n id priority q; next = refl });
   mode = λ is_interleaved q h. h;
-  discarded = λ id message q told. once_fewer q (discard id message q told).queue (fewer_discarded id message q told);
-  prepared = λ id q told. once_fewer q (prepare_reset id q told).queue (record { less = λ n. prepared_numbered n id q told; next = refl });
+  discarded = λ id message q emitted. once_fewer q (discard id message q emitted).queue (fewer_discarded id message q emitted);
+  prepared = λ id q emitted. once_fewer q (prepare_reset id q emitted).queue (record { less = λ n. prepared_numbered n id q emitted; next = refl });
   steps = λ step ids q. once_fewer q (each_stepped step ids q) (fewer_steps step ids q);
   restarted = λ q. once_fewer q (reset q) (fewer_reset q);
 }

@@ -85,15 +85,15 @@ module _ (m : Message) (o : SendOptions) where
     next_number = 1;
   }
 
-module _ (m : Message) (lifetime retransmissions lifecycle : Option ℕ) {P : Type 0} (told : Emitted P) (some : 0 < length m.payload) (few : length m.payload ≤ 1000) where
+module _ (m : Message) (lifetime retransmissions lifecycle : Option ℕ) {P : Type 0} (emitted : Emitted P) (some : 0 < length m.payload) (few : length m.payload ≤ 1000) where
   abbrev options : (is_unordered : Bool) → SendOptions
   options is_unordered = record { unordered = is_unordered; lifetime = lifetime; max_retransmissions = retransmissions; lifecycle_id = lifecycle }
 
-  produces_as : (is_unordered : Bool) → produce 0 1160 (holding m (options is_unordered)) told
-      ≡ record { queue = emptied m (options is_unordered); emitted = emit_events (OnBufferedAmountLow m.stream ∷ fully_sent lifecycle) told; made = Some (produced m (options is_unordered)) }
+  produces_as : (is_unordered : Bool) → produce 0 1160 (holding m (options is_unordered)) emitted
+      ≡ record { queue = emptied m (options is_unordered); emitted = emit_events (OnBufferedAmountLow m.stream ∷ fully_sent lifecycle) emitted; made = Some (produced m (options is_unordered)) }
   produces_as true = simp (not_below_itself, is_itself, not_due, ends_at_once (length m.payload) few, some_to_go (length m.payload) some, few_to_go (length m.payload) few, all_taken m.payload few) refl
   produces_as false = simp (not_below_itself, is_itself, not_due, ends_at_once (length m.payload) few, some_to_go (length m.payload) some, few_to_go (length m.payload) few, all_taken m.payload few) refl
 
-pub produces : (m : Message) (o : SendOptions) {P : Type 0} (told : Emitted P) → 0 < length m.payload → length m.payload ≤ 1000
-    → produce 0 1160 (holding m o) told ≡ record { queue = emptied m o; emitted = emit_events (OnBufferedAmountLow m.stream ∷ fully_sent o.lifecycle_id) told; made = Some (produced m o) }
-produces m o told some few = produces_as m o.lifetime o.max_retransmissions o.lifecycle_id told some few o.unordered
+pub produces : (m : Message) (o : SendOptions) {P : Type 0} (emitted : Emitted P) → 0 < length m.payload → length m.payload ≤ 1000
+    → produce 0 1160 (holding m o) emitted ≡ record { queue = emptied m o; emitted = emit_events (OnBufferedAmountLow m.stream ∷ fully_sent o.lifecycle_id) emitted; made = Some (produced m o) }
+produces m o emitted some few = produces_as m o.lifetime o.max_retransmissions o.lifecycle_id emitted some few o.unordered

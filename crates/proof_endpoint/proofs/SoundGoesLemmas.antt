@@ -123,10 +123,10 @@ module _ {P : Type 0} where
   stays_by n c d mtu pack tells sound = record { mtu = mtu; pack = pack; emits = emits_quiet c.pack (most_bytes c) n c.emitted d.emitted tells; sound = sound }
 
   pub stays_silent : (c d : Context P) → d.options.mtu ≡ c.options.mtu → d.pack ≡ c.pack → d.emitted ≡ c.emitted → HoldsSound d → Stays c d
-  stays_silent c d mtu pack told sound = record {
+  stays_silent c d mtu pack emitted sound = record {
     mtu = mtu;
     pack = pack;
-    emits = subst (λ (t : Emitted P). Emits c.pack (most_bytes c) c.emitted t) (sym told) (emits_nothing c.pack (most_bytes c) c.emitted);
+    emits = subst (λ (t : Emitted P). Emits c.pack (most_bytes c) c.emitted t) (sym emitted) (emits_nothing c.pack (most_bytes c) c.emitted);
     sound = sound;
   }
 
@@ -155,10 +155,10 @@ module _ {P : Type 0} where
 
   pub stays_said : (c d : Context P) (e : Event P) → d.options.mtu ≡ c.options.mtu → d.pack ≡ c.pack → d.emitted ≡ emit_event e c.emitted
       → CanBeRead c.pack (most_bytes c) e → HoldsSound d → Stays c d
-  stays_said c d e mtu pack told can sound = record {
+  stays_said c d e mtu pack emitted can sound = record {
     mtu = mtu;
     pack = pack;
-    emits = subst (λ (t : Emitted P). Emits c.pack (most_bytes c) c.emitted t) (sym told) (emits_one c.pack (most_bytes c) e c.emitted can);
+    emits = subst (λ (t : Emitted P). Emits c.pack (most_bytes c) c.emitted t) (sym emitted) (emits_one c.pack (most_bytes c) e c.emitted can);
     sound = sound;
   }
 

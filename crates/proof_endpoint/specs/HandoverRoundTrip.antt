@@ -206,11 +206,11 @@ NewEndsAreReady =
 pub record CallsNumberOnce : Type 0 where
   pub new : (o : Options) → IsNumberedOnce (queue o)
   pub added : (id : ℕ) (m : Queued) (q : Queue) → m.number ≡ q.next_number → q.next_number + 1 < 2 ^ 32 → IsNumberedOnce q → IsNumberedOnce (add id m q)
-  pub produced : (now size : ℕ) (q : Queue) (told : Emitted (List ℕ)) → IsNumberedOnce q → IsNumberedOnce (produce now size q told).queue
-  pub threshold : (id bytes : ℕ) (q : Queue) (told : Emitted (List ℕ)) → IsNumberedOnce q → IsNumberedOnce (set_low_threshold id bytes q told).queue
+  pub produced : (now size : ℕ) (q : Queue) (emitted : Emitted (List ℕ)) → IsNumberedOnce q → IsNumberedOnce (produce now size q emitted).queue
+  pub threshold : (id bytes : ℕ) (q : Queue) (emitted : Emitted (List ℕ)) → IsNumberedOnce q → IsNumberedOnce (set_low_threshold id bytes q emitted).queue
   pub priority : (id priority : ℕ) (q : Queue) → IsNumberedOnce q → IsNumberedOnce (set_priority id priority q)
   pub mode : (is_interleaved : Bool) (q : Queue) → IsNumberedOnce q → IsNumberedOnce (set_mode is_interleaved q)
-  pub discarded : (id message : ℕ) (q : Queue) (told : Emitted (List ℕ)) → IsNumberedOnce q → IsNumberedOnce (discard id message q told).queue
-  pub prepared : (id : ℕ) (q : Queue) (told : Emitted (List ℕ)) → IsNumberedOnce q → IsNumberedOnce (prepare_reset id q told).queue
+  pub discarded : (id message : ℕ) (q : Queue) (emitted : Emitted (List ℕ)) → IsNumberedOnce q → IsNumberedOnce (discard id message q emitted).queue
+  pub prepared : (id : ℕ) (q : Queue) (emitted : Emitted (List ℕ)) → IsNumberedOnce q → IsNumberedOnce (prepare_reset id q emitted).queue
   pub steps : (step : ResetStep) (ids : List ℕ) (q : Queue) → IsNumberedOnce q → IsNumberedOnce (each_stepped step ids q)
   pub restarted : (q : Queue) → IsNumberedOnce q → IsNumberedOnce (reset q)

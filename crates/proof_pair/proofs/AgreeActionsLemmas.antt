@@ -16,7 +16,7 @@ use Rattle.spec_endpoint.specs.Input.{refusal, counts, taken_if, handle_chunks, 
 use Rattle.spec_endpoint.specs.Laws.{Call, Connect, Packet, NoPacket, called}
 use Rattle.proof_endpoint.specs.Mapped.{Carried}
 use Rattle.proof_pair.specs.Acts.{calm, is_opened, IsReceived}
-use Rattle.proof_pair.specs.Trace.{Side, Pair, as_carried, new_side, packets_in, emitted_packets, has_connected, EndAction, Calls, Gives, Refuses, took, as_received, give, foreign_if, act, goes, AreValidOptions, start, state_of}
+use Rattle.proof_pair.specs.Trace.{Side, Pair, as_carried, new_side, packets_in, emitted_packets, has_connected, EndAction, Calls, Gives, Refuses, drain, as_received, give, foreign_if, act, goes, AreValidOptions, start, state_of}
 use Rattle.proof_pair.specs.Agreement.{Draw, Association, mirrored, Has, History, association_of, held_in, drawn_in, history_by, Histories, no_history, no_histories, histories_after, histories_along, AreDistinct, AreDistinctPerEnd, IsPlainCall, IsAllowed, AreAllowed, emitted_since, Agrees, AgreesAlong, EndsAgree}
 use Rattle.proof_pair.proofs.PacketActsLemmas.{does_complain}
 use Rattle.proof_pair.proofs.ActsLemmas.{keeps_call, does_receive, does_repeats_if}
@@ -66,7 +66,7 @@ negotiated_begins o q x k = record {
   made = All-nil (Emits o q);
 }
 
-negotiated_ends : (o q : Options) (x : Side) (e : Endpoint Carried) (asked : Bool) → InvAt (setting o q x) (calm e) → Negotiated o q (record (took e x) { got_init = asked })
+negotiated_ends : (o q : Options) (x : Side) (e : Endpoint Carried) (asked : Bool) → InvAt (setting o q x) (calm e) → Negotiated o q (record (drain e x) { got_init = asked })
 negotiated_ends o q x e asked i = record { able = i.able; size = i.size; options = i.options; packing = i.packing; quiet = refl; said = i.said }
 
 -- what the other end said, as it is received
@@ -116,7 +116,7 @@ module _ (o q : Options) (x : Side) (own : AreValidOptions o) (other : AreValidO
 
   -- ---- actions
 
-  negotiated_call : (call : Call) → IsPlainCall call → Negotiated o q x → Negotiated o q (took (called call x.end) x)
+  negotiated_call : (call : Call) → IsPlainCall call → Negotiated o q x → Negotiated o q (drain (called call x.end) x)
   negotiated_call call u k =
       negotiated_ends o q x (called call x.end) x.got_init (keeps_call call (negotiates g call (receives_user call u)) x.end (negotiated_begins o q x k))
 
@@ -161,7 +161,7 @@ module _ (x : Side) where
   holds_same n = record { held = λ a h. inl h; stands = λ h. absurd (both_ways true (sym h ∙ ap has_connected silent) refl) }
 
   holds_on : (n m : History) (e : Endpoint Carried) (asked : Bool) → ((a : Association) → Has a m.held → Has a n.held ⊎ (Has a (held_in (state_of x)) ⊎ Has a (held_in e.endpoint_state.state)))
-      → Stands e → Holds x (record (took e x) { got_init = asked }) n m
+      → Stands e → Holds x (record (drain e x) { got_init = asked }) n m
   holds_on n m e asked held stands = record {
     held = held;
     stands = λ h. stands (sym (ap has_connected (drop_emitted x.emitted e.endpoint_state.context.emitted.events)) ∙ h);
@@ -169,7 +169,7 @@ module _ (x : Side) where
 
   -- where no association is taken up
   holds_calm : (n m : History) (e : Endpoint Carried) (asked : Bool) → m.held ≡ n.held → x.end.endpoint_state.context.emitted.events ≡ [] → RestsAt (calm x.end) (calm e)
-      → Holds x (record (took e x) { got_init = asked }) n m
+      → Holds x (record (drain e x) { got_init = asked }) n m
   holds_calm n m e asked same quiet r =
       holds_on n m e asked (λ a h. inl (subst (Has a) same h)) (not_yet x.end e (ap has_connected quiet) r)
 
@@ -181,7 +181,7 @@ held_alike Connect x y n = refl
 held_alike call x y n = refl
 
 module _ (o q : Options) (x y : Side) (own : AreValidOptions o) (other : AreValidOptions q) (k : Negotiated o q x) (l : Negotiated q o y) where
-  holds_call : (call : Call) → IsPlainCall call → (n : History) → Holds x (took (called call x.end) x) n (noted_in (Calls call) x y n)
+  holds_call : (call : Call) → IsPlainCall call → (n : History) → Holds x (drain (called call x.end) x) n (noted_in (Calls call) x y n)
   holds_call call u n =
       holds_calm x n (noted_in (Calls call) x y n) (called call x.end) x.got_init (held_alike call x y n) k.quiet
       (keeps_call call (rests call (calm_user call u)) x.end)
@@ -197,7 +197,7 @@ module _ (o q : Options) (x y : Side) (own : AreValidOptions o) (other : AreVali
       holds_calm x n n e x.got_init refl k.quiet (subst (λ (z : Endpoint Carried). RestsAt (calm x.end) (calm z)) (sym here) (complains_calmly text))
 
   holds_taken : (r : Option (List ℕ)) (p : PacketTree) (asked : Bool) → Shape p.chunks → All (Emits q o) p.chunks → (n : History)
-      → Holds x (record (took (taken_if r p.header.verification_tag p.chunks (counts x.end)) x) { got_init = asked }) n (noted_taking r p x.end n)
+      → Holds x (record (drain (taken_if r p.header.verification_tag p.chunks (counts x.end)) x) { got_init = asked }) n (noted_taking r p x.end n)
   holds_taken (Some text) p asked shape said n = holds_calm x n n (complains text (counts x.end)) asked refl k.quiet (complains_calmly text)
   holds_taken None p asked shape said n =
       let tag : ℕ = p.header.verification_tag in

@@ -84,14 +84,14 @@ module _ (call : Call) (calm : IsCalm call) where
   keeps_closing (shuts_on phase next t m late later) = record { held = λ a h. h; emitted = refl }
 
   keeps_data : (act : DataAct Carried call) → RestsAt (before_data act) (after_data act)
-  keeps_data (takes_data tag tsn is_immediate f phase t m heard right some is) = record { held = λ a h. h; emitted = refl }
-  keeps_data (takes_idata tag tsn is_immediate f phase t m heard right some is) = record { held = λ a h. h; emitted = refl }
-  keeps_data (takes_forward tag tsn skipped phase t m heard right valid) = record { held = λ a h. h; emitted = refl }
-  keeps_data (takes_iforward tag tsn skipped phase t m heard right valid) = record { held = λ a h. h; emitted = refl }
+  keeps_data (takes_data tag tsn is_immediate f phase t m received right some is) = record { held = λ a h. h; emitted = refl }
+  keeps_data (takes_idata tag tsn is_immediate f phase t m received right some is) = record { held = λ a h. h; emitted = refl }
+  keeps_data (takes_forward tag tsn skipped phase t m received right valid) = record { held = λ a h. h; emitted = refl }
+  keeps_data (takes_iforward tag tsn skipped phase t m received right valid) = record { held = λ a h. h; emitted = refl }
 
   keeps_sack : (act : SackAct Carried call) → RestsAt (before_sack act) (after_sack act)
-  keeps_sack (takes_sack tag k phase t m heard valid) =
-      let act : SackAct Carried call = takes_sack tag k phase t m heard valid in
+  keeps_sack (takes_sack tag k phase t m received valid) =
+      let act : SackAct Carried call = takes_sack tag k phase t m received valid in
       lightly (before_sack act).state (after_sack act).state (before_sack act) (after_sack act) (λ a h. h) (light_sack act)
   keeps_sack (samples r phase t m) = record { held = λ a h. h; emitted = refl }
   keeps_sack (counts_errors e m) = record { held = λ a h. h; emitted = refl }

@@ -37,7 +37,7 @@ noted_in (Gives which checksum) x y n = noted_given (slice_get (emitted_packets 
 noted_in (Refuses p) x y n = n
 
 abbrev pub noted_all : EndAction → (x y : Side) → History → History
-noted_all turn x y n = noted [] (state_of (act turn x y)) (noted_in turn x y n)
+noted_all action x y n = noted [] (state_of (act action x y)) (noted_in action x y n)
 
 -- ---- the draws
 
@@ -63,7 +63,7 @@ same_given (Some p) checksum x n =
     let q : PacketTree = as_received p checksum in
     same_taking (refusal q.header.verification_tag q.chunks (state_of x)) q x.end n
 
-pub same_draws : (turn : EndAction) (x y : Side) (n : History) → (noted_all turn x y n).drawn ≡ drawn_in turn x y ++ n.drawn
+pub same_draws : (action : EndAction) (x y : Side) (n : History) → (noted_all action x y n).drawn ≡ drawn_in action x y ++ n.drawn
 same_draws (Calls Connect) x y n = refl
 same_draws (Calls call) x y n = refl
 same_draws (Gives which checksum) x y n = same_given (slice_get (emitted_packets y) which) checksum x n

@@ -156,14 +156,14 @@ module _ (g : Setting) (x y : Past) (call : Call) (own : AreValidOptions g.own) 
   -- ---- what the peer sent
 
   keeps_data : (act : DataAct Carried call) → InvAt g x y (before_data act) → InvAt g x y (after_data act)
-  keeps_data (takes_data tag tsn is_immediate f phase t m heard right some is) inv = inv
-  keeps_data (takes_idata tag tsn is_immediate f phase t m heard right some is) inv = inv
-  keeps_data (takes_forward tag tsn skipped phase t m heard right valid) inv = inv
-  keeps_data (takes_iforward tag tsn skipped phase t m heard right valid) inv = inv
+  keeps_data (takes_data tag tsn is_immediate f phase t m received right some is) inv = inv
+  keeps_data (takes_idata tag tsn is_immediate f phase t m received right some is) inv = inv
+  keeps_data (takes_forward tag tsn skipped phase t m received right valid) inv = inv
+  keeps_data (takes_iforward tag tsn skipped phase t m received right valid) inv = inv
 
   keeps_sack : (act : SackAct Carried call) → InvAt g x y (before_sack act) → InvAt g x y (after_sack act)
-  keeps_sack (takes_sack tag k phase t m heard valid) inv =
-      let act : SackAct Carried call = takes_sack tag k phase t m heard valid in
+  keeps_sack (takes_sack tag k phase t m received valid) inv =
+      let act : SackAct Carried call = takes_sack tag k phase t m received valid in
       emits_all (view_of (Open phase t)) m (after_sack act) m.packet.tag m.packet.chunks (light_sack act) inv
   keeps_sack (samples k phase t m) inv = inv
   keeps_sack (counts_errors e m) inv = inv

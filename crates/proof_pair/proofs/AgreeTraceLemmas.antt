@@ -16,7 +16,7 @@ use Rattle.spec_endpoint.specs.Input.{refusal, counts, taken_if, handle_chunks}
 use Rattle.spec_endpoint.specs.Laws.{Call, Connect, Restore, Packet, called}
 use Rattle.proof_endpoint.specs.Mapped.{Carried}
 use Rattle.proof_pair.specs.Acts.{calm, nothing}
-use Rattle.proof_pair.specs.Trace.{Side, as_carried, new_side, packets_in, emitted_packets, has_connected, EndAction, Calls, Gives, Refuses, took, as_received, give, foreign_if, act, AreValidOptions, state_of}
+use Rattle.proof_pair.specs.Trace.{Side, as_carried, new_side, packets_in, emitted_packets, has_connected, EndAction, Calls, Gives, Refuses, drain, as_received, give, foreign_if, act, AreValidOptions, state_of}
 use Rattle.proof_pair.specs.Agreement.{Association, mirrored, Has, History, held_in, drawn_to_connect, no_history, AreDistinct, IsAllowed, emitted_since}
 use Rattle.proof_pair.proofs.PacketActsLemmas.{does_complain}
 use Rattle.proof_pair.proofs.OpeningActsLemmas.{end_in}
@@ -76,7 +76,7 @@ module _ (o : Options) (x : Side) (y : Past) where
       subst (λ (es : List (Event Carried)). Inv g px y (view_of (state_of x)) c.options c.pack es nothing.tag []) (sym k.quiet) inv
 
   ends : (u : Option ℕ) (n m : History) (e1 : List Association) (asked : Bool) (e : Endpoint Carried) → Goes (bounded o x.emitted u None) y n e1 m e
-      → Turned o x (record (took e x) { got_init = asked }) n e1 m y
+      → Turned o x (record (drain e x) { got_init = asked }) n e1 m y
   ends u n m e1 asked e h = record {
     more = h.more;
     later = h.later;
@@ -149,7 +149,7 @@ module _ (o : Options) (x : Side) (y : Past) (fine : AreValidOptions o) (n : His
   started = begins o x y None (past_of n e1) k tt
 
   user_calls : (call : Call) → IsQuietCall call
-      → Turned o x (took (called call x.end) x) n e1 (noted [] (called call x.end).endpoint_state.state n) y
+      → Turned o x (drain (called call x.end) x) n e1 (noted [] (called call x.end).endpoint_state.state n) y
   user_calls call u =
       let e : Endpoint Carried = called call x.end in
       ends o x y None n (noted [] e.endpoint_state.state n) e1 x.got_init e
@@ -168,7 +168,7 @@ module _ (o : Options) (x : Side) (y : Past) (fine : AreValidOptions o) (n : His
   connects_in (Open phase t) s mine silent inv = goes_held g y n e1 (end_in (Open phase t) s) k.known inv
 
   user_connects : AreDistinct (drawn_to_connect (state_of x) x.end ++ n.drawn)
-      → Turned o x (took (connect x.end) x) n e1 (noted [] (connect x.end).endpoint_state.state (noted (drawn_to_connect (state_of x) x.end) Closed n)) y
+      → Turned o x (drain (connect x.end) x) n e1 (noted [] (connect x.end).endpoint_state.state (noted (drawn_to_connect (state_of x) x.end) Closed n)) y
   user_connects mine =
       ends o x y None n (noted [] (connect x.end).endpoint_state.state (noted (drawn_to_connect (state_of x) x.end) Closed n)) e1 x.got_init (connect x.end)
       (connects_in (state_of x) x.end mine (ap has_connected k.quiet) started)
@@ -198,7 +198,7 @@ module _ (o : Options) (x : Side) (y : Past) (fine : AreValidOptions o) (n : His
     q = as_received p checksum
 
     taken_by : (r : Option (List ℕ)) → refusal q.header.verification_tag q.chunks (state_of x) ≡ r → AreDistinct (noted_taking r q x.end n).drawn
-        → Turned o x (record (took (taken_if r q.header.verification_tag q.chunks (counts x.end)) x) { got_init = asked }) n e1
+        → Turned o x (record (drain (taken_if r q.header.verification_tag q.chunks (counts x.end)) x) { got_init = asked }) n e1
         (noted [] (taken_if r q.header.verification_tag q.chunks (counts x.end)).endpoint_state.state (noted_taking r q x.end n)) y
     taken_by None is mine =
         let tag : ℕ = q.header.verification_tag in

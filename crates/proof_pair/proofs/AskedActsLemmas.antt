@@ -33,10 +33,10 @@ module _ {X : Type 0} (P : X → Type 0) where
   each_among (y ∷ ys) x behind h = each_among ys x behind h.1
 
 pub names : (call : Call) → HandsIn call → (tag : ℕ) (chunk : ChunkTree) → IsReceived call tag chunk → NamesPeer chunk
-names call h tag chunk heard =
-    let p : PacketTree = heard.packet in
-    let all : Each NamesPeer p.chunks = subst HandsIn heard.given h in
-    each_among NamesPeer heard.among.before chunk heard.among.behind (subst (Each NamesPeer) heard.among.split all)
+names call h tag chunk received =
+    let p : PacketTree = received.packet in
+    let all : Each NamesPeer p.chunks = subst HandsIn received.given h in
+    each_among NamesPeer received.among.before chunk received.among.behind (subst (Each NamesPeer) received.among.split all)
 
 pub record IsNamed (k : Cookie) : Type 0 where
   pub my_tag : 0 < k.my_tag

@@ -205,14 +205,14 @@ module _ (once : CallsNumberOnce) (made : MadeConnected) (call : Call) (fits : H
     next = λ q. refl;
   }
   keeps_opening (adds_init tag first t1 m to) = still (CookieWait tag first t1) m.context m.context refl refl
-  keeps_opening (answers_new tag i m heard to) = still Closed m.context m.context refl refl
-  keeps_opening (answers_waiting tag i own first t1 m heard to) = still (CookieWait own first t1) m.context m.context refl refl
-  keeps_opening (answers_echoed tag i t1 cookie t m heard to) = still (Open (CookieEchoed t1 cookie) t) m.context m.context refl refl
-  keeps_opening (answers_again tag i phase t m heard late to) = still (Open phase t) m.context m.context refl refl
-  keeps_opening (echoes tag i cookie own first t1 m heard brought) =
+  keeps_opening (answers_new tag i m received to) = still Closed m.context m.context refl refl
+  keeps_opening (answers_waiting tag i own first t1 m received to) = still (CookieWait own first t1) m.context m.context refl refl
+  keeps_opening (answers_echoed tag i t1 cookie t m received to) = still (Open (CookieEchoed t1 cookie) t) m.context m.context refl refl
+  keeps_opening (answers_again tag i phase t m received late to) = still (Open phase t) m.context m.context refl refl
+  keeps_opening (echoes tag i cookie own first t1 m received brought) =
       let mode : Bool = (opening.agreed_by m.context.options i).message_interleaving in
       let b : Begins mode m.context.queue (opening.queue_anew mode m.context.queue) = begins_anew once mode m.context.queue in
-      let peer : (0 < i.initiate_tag) × (i.initial_tsn < words) = names call fits tag (init_ack_chunk i) heard in
+      let peer : (0 < i.initiate_tag) × (i.initial_tsn < words) = names call fits tag (init_ack_chunk i) received in
       record {
         asked = λ h. record {
           association = made (opening.names i own first (long_word (end_of m))) i.a_rwnd (announced_by i.nbr_outbound_streams i.nbr_inbound_streams i.parameters)
@@ -224,7 +224,7 @@ module _ (once : CallsNumberOnce) (made : MadeConnected) (call : Call) (fits : H
         next = λ q. b.next;
       }
   keeps_opening (adds_cookie t1 cookie t m to) = still (Open (CookieEchoed t1 cookie) t) m.context m.context refl refl
-  keeps_opening (establishes tag t1 cookie t m heard) = block (CookieEchoed t1 cookie) Established t t m.context (connected_context m.context) (lasts_same t) (goes_same m.context.queue) refl
+  keeps_opening (establishes tag t1 cookie t m received) = block (CookieEchoed t1 cookie) Established t t m.context (connected_context m.context) (lasts_same t) (goes_same m.context.queue) refl
   keeps_opening (opens tag k m echoed none own) = opens_by false k (long_word (end_of m)) m.state m.context m.context (echo_named call fits tag k echoed) refl
   keeps_opening (restarts tag k phase t m echoed verdict) =
       opens_by true k _ (Open phase t) m.context (say OnConnectionRestarted m.context) (echo_named call fits tag k echoed) refl
@@ -244,17 +244,17 @@ module _ (once : CallsNumberOnce) (made : MadeConnected) (call : Call) (fits : H
   -- ---- what the peer sent
 
   keeps_data : (act : DataAct (List ℕ) call) → R (before_data act) (after_data act)
-  keeps_data (takes_data tag tsn is_immediate f phase t m heard right some is) =
+  keeps_data (takes_data tag tsn is_immediate f phase t m received right some is) =
       block phase phase t (take_fragment tsn is_immediate f t) m.context m.context (lasts_taken tsn is_immediate f t) (goes_same m.context.queue) refl
-  keeps_data (takes_idata tag tsn is_immediate f phase t m heard right some is) =
+  keeps_data (takes_idata tag tsn is_immediate f phase t m received right some is) =
       block phase phase t (take_fragment tsn is_immediate f t) m.context m.context (lasts_taken tsn is_immediate f t) (goes_same m.context.queue) refl
-  keeps_data (takes_forward tag tsn skipped phase t m heard right valid) =
+  keeps_data (takes_forward tag tsn skipped phase t m received right valid) =
       block phase phase t (forward_to tsn skipped t) m.context m.context (lasts_forwarded tsn skipped t) (goes_same m.context.queue) refl
-  keeps_data (takes_iforward tag tsn skipped phase t m heard right valid) =
+  keeps_data (takes_iforward tag tsn skipped phase t m received right valid) =
       block phase phase t (forward_to tsn skipped t) m.context m.context (lasts_forwarded tsn skipped t) (goes_same m.context.queue) refl
 
   keeps_sack : (act : SackAct (List ℕ) call) → R (before_sack act) (after_sack act)
-  keeps_sack (takes_sack tag k phase t m heard valid) =
+  keeps_sack (takes_sack tag k phase t m received valid) =
       block phase phase t _ m.context _
       (lasts_sent t _ (record { first = refl; items = alike_received (point_of k t) _ _ t.sender.outstanding.items m.context.emitted })) (goes_same m.context.queue) refl
   keeps_sack (samples r phase t m) = block phase phase t (timed_by r t) m.context m.context (lasts_timed r t) (goes_same m.context.queue) refl

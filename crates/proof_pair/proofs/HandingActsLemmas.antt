@@ -135,17 +135,17 @@ module _ (g : Setting) (call : Call) (r : Rules g call) (other : call ≡ TakeMe
   more_closing (shuts_on phase next t m late later) none = record { ready = extends_none t.reassembly.ready; stands = λ a e. e }
 
   more_data : (act : DataAct Carried call) → More (before_data act) (after_data act)
-  more_data (takes_data tag tsn is_immediate f phase t m heard right some is) =
+  more_data (takes_data tag tsn is_immediate f phase t m received right some is) =
       record { ready = more_added t.reassembly (has_seen t.tracker.tracker (tsn_of t.tracker tsn)) tsn f; stands = λ a e. e }
-  more_data (takes_idata tag tsn is_immediate f phase t m heard right some is) =
+  more_data (takes_idata tag tsn is_immediate f phase t m received right some is) =
       record { ready = more_added t.reassembly (has_seen t.tracker.tracker (tsn_of t.tracker tsn)) tsn f; stands = λ a e. e }
-  more_data (takes_forward tag tsn skipped phase t m heard right valid) =
+  more_data (takes_forward tag tsn skipped phase t m received right valid) =
       record { ready = more_skipped t.reassembly (moves_on (tsn_of t.tracker tsn) t.tracker.tracker) tsn skipped; stands = λ a e. e }
-  more_data (takes_iforward tag tsn skipped phase t m heard right valid) =
+  more_data (takes_iforward tag tsn skipped phase t m received right valid) =
       record { ready = more_skipped t.reassembly (moves_on (tsn_of t.tracker tsn) t.tracker.tracker) tsn skipped; stands = λ a e. e }
 
   more_sack : (act : SackAct Carried call) → More (before_sack act) (after_sack act)
-  more_sack (takes_sack tag k phase t m heard valid) = record { ready = extends_none t.reassembly.ready; stands = λ a e. e }
+  more_sack (takes_sack tag k phase t m received valid) = record { ready = extends_none t.reassembly.ready; stands = λ a e. e }
   more_sack (samples k phase t m) = record { ready = extends_none t.reassembly.ready; stands = λ a e. e }
   more_sack (counts_errors e m) = goes_nowhere m.state
 

@@ -45,9 +45,9 @@ stays_turned_if : {P : Type 0} (b : Bool) (now : ℕ) (x : Filling P) → Stays 
 stays_turned_if false now x = stays_same x.sender.outstanding
 stays_turned_if true now x = stays_appended now _ (record x { queue = _; emitted = _ })
 
-stays_fill : {P : Type 0} (turns now : ℕ) (x : Filling P) → Stays x.sender.outstanding (fill turns now x).sender.outstanding
+stays_fill : {P : Type 0} (trace now : ℕ) (x : Filling P) → Stays x.sender.outstanding (fill trace now x).sender.outstanding
 stays_fill zero now x = stays_same x.sender.outstanding
-stays_fill {P} (suc turns) now x = go (next_turn now x).is_more (stays_fill turns now (next_turn now x).filling)
+stays_fill {P} (suc trace) now x = go (next_turn now x).is_more (stays_fill trace now (next_turn now x).filling)
   where
     y : Filling P
     y = (next_turn now x).filling
@@ -55,8 +55,8 @@ stays_fill {P} (suc turns) now x = go (next_turn now x).is_more (stays_fill turn
     once : Stays x.sender.outstanding y.sender.outstanding
     once = stays_turned_if _ now x
 
-    go : (b : Bool) → Stays y.sender.outstanding (fill turns now y).sender.outstanding → Stays x.sender.outstanding (cond b (fill turns now y) y).sender.outstanding
-    go true h = stays_then x.sender.outstanding y.sender.outstanding (fill turns now y).sender.outstanding once h
+    go : (b : Bool) → Stays y.sender.outstanding (fill trace now y).sender.outstanding → Stays x.sender.outstanding (cond b (fill trace now y) y).sender.outstanding
+    go true h = stays_then x.sender.outstanding y.sender.outstanding (fill trace now y).sender.outstanding once h
     go false h = once
 
 stays_sent : {P : Type 0} (now most : ℕ) (s : Sender) (q : Queue) (t : Emitted P) → Stays s.outstanding (send now most s q t).sender.outstanding
@@ -290,14 +290,14 @@ module _ (g : Setting) (call : Call) (r : Receives g call) where
   -- ---- what the peer sent
 
   keeps_data : (act : DataAct Carried call) → InvAt g (before_data act) → InvAt g (after_data act)
-  keeps_data (takes_data tag tsn is_immediate f phase t m heard right some is) inv = inv
-  keeps_data (takes_idata tag tsn is_immediate f phase t m heard right some is) inv = inv
-  keeps_data (takes_forward tag tsn skipped phase t m heard right valid) inv = inv
-  keeps_data (takes_iforward tag tsn skipped phase t m heard right valid) inv = inv
+  keeps_data (takes_data tag tsn is_immediate f phase t m received right some is) inv = inv
+  keeps_data (takes_idata tag tsn is_immediate f phase t m received right some is) inv = inv
+  keeps_data (takes_forward tag tsn skipped phase t m received right valid) inv = inv
+  keeps_data (takes_iforward tag tsn skipped phase t m received right valid) inv = inv
 
   keeps_sack : (act : SackAct Carried call) → InvAt g (before_sack act) → InvAt g (after_sack act)
-  keeps_sack (takes_sack tag k phase t m heard valid) inv =
-      let act : SackAct Carried call = takes_sack tag k phase t m heard valid in
+  keeps_sack (takes_sack tag k phase t m received valid) inv =
+      let act : SackAct Carried call = takes_sack tag k phase t m received valid in
       lightly (view_of (Open phase t)) (view_of (after_sack act).state) m (after_sack act) m.packet.chunks (light_sack act)
       (sends_on phase t (sender_if true m.context.now (point_of k t) k.a_rwnd (clean_blocks k.gap_ack_blocks) t.sender m.context.emitted)
       (record { first = refl; items = alike_received (point_of k t) _ _ t.sender.outstanding.items m.context.emitted }) inv.able) inv

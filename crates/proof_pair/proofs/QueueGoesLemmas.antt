@@ -122,12 +122,12 @@ module _ {P : Type 0} where
   shape_from None q next x f g = g
   shape_from (Some id) q next x f g = f id
 
-  shape_within : (turns now size : ℕ) (q : Queue) (t : Emitted P) → Shape q (produce_within turns now size q t).queue
+  shape_within : (trace now size : ℕ) (q : Queue) (t : Emitted P) → Shape q (produce_within trace now size q t).queue
   shape_within zero now size q t = shape_same q
-  shape_within (suc turns) now size q t =
+  shape_within (suc trace) now size q t =
       shape_from (next_stream q) q _ (idle q t)
       (λ id. let x : Turn P = turn now id size q t in
-      shape_if (is_some x.made) q x (produce_within turns now size x.queue x.emitted) (shape_action now id size q t) (shape_within turns now size x.queue x.emitted))
+      shape_if (is_some x.made) q x (produce_within trace now size x.queue x.emitted) (shape_action now id size q t) (shape_within trace now size x.queue x.emitted))
       (shape_same q)
 
   discard_shape : (id : ℕ) (ss : Streams) (o : Option (Option ℕ)) (q : Queue) (t : Emitted P) → (AreSorted q.streams.entries → AreSorted ss.entries)
@@ -252,15 +252,15 @@ module _ (once : CallsNumberOnce) where
       let n : ℕ = offered_payload x.left x.sender in
       fills_turned_if (may_send_new x.sender && nat_lt 0 n) now x (second_some (may_send_new x.sender) n)
 
-  fills_fill : (turns now : ℕ) (x : Filling (List ℕ)) → Fills x (fill turns now x)
+  fills_fill : (trace now : ℕ) (x : Filling (List ℕ)) → Fills x (fill trace now x)
   fills_fill zero now x = fills_same x
-  fills_fill (suc turns) now x = go (next_turn now x).is_more (fills_fill turns now (next_turn now x).filling)
+  fills_fill (suc trace) now x = go (next_turn now x).is_more (fills_fill trace now (next_turn now x).filling)
     where
       y : Filling (List ℕ)
       y = (next_turn now x).filling
 
-      go : (b : Bool) → Fills y (fill turns now y) → Fills x (cond b (fill turns now y) y)
-      go true h = fills_then x y (fill turns now y) (fills_turned now x) h
+      go : (b : Bool) → Fills y (fill trace now y) → Fills x (cond b (fill trace now y) y)
+      go true h = fills_then x y (fill trace now y) (fills_turned now x) h
       go false h = fills_turned now x
 
   goes_discards : (ds : List Discard) (q : Queue) (t : Emitted (List ℕ)) → Goes q (discard_all ds q t).queue

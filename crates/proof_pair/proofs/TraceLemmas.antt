@@ -19,7 +19,7 @@ use Rattle.spec_endpoint.specs.Laws.{Call, Packet, called, endings}
 use Rattle.proof_endpoint.specs.Mapped.{Carried}
 use Rattle.proof_endpoint.proofs.EmitsLemmas.{endings_append}
 use Rattle.proof_pair.specs.Acts.{calm, nothing, IsReceived}
-use Rattle.proof_pair.specs.Trace.{Side, Pair, as_carried, new_side, packets_in, emitted_packets, has_connected, EndAction, Calls, Gives, Refuses, took, as_received, give, foreign_if, act, goes, run, MayCall, MayAct, side_of, KeepsOpeningRules, NeitherHasEnded, AreValidOptions, start, state_of, AreConsistent}
+use Rattle.proof_pair.specs.Trace.{Side, Pair, as_carried, new_side, packets_in, emitted_packets, has_connected, EndAction, Calls, Gives, Refuses, drain, as_received, give, foreign_if, act, goes, run, MayCall, MayAct, side_of, KeepsOpeningRules, NeitherHasEnded, AreValidOptions, start, state_of, AreConsistent}
 use Rattle.proof_pair.proofs.UntilLemmas.{until_end}
 use Rattle.proof_pair.proofs.AddedLemmas.{all_at, all_get}
 use Rattle.proof_pair.proofs.JoinLemmas.{Draw, View, own_draw, peer_draw, view_of, Says, says_carried, Faces, Can, Stands}
@@ -107,7 +107,7 @@ module _ (o q : Options) (x y : Side) (asked : Bool) where
 
   -- and ends
   abbrev pub after : Endpoint Carried → Side
-  after e = record (took e x) { got_init = asked }
+  after e = record (drain e x) { got_init = asked }
 
   pub ends_own : (e : Endpoint Carried) → InvAt (setting o q x y asked) (calm e) → Half o q (after e) y
   ends_own e inv = record {
@@ -218,7 +218,7 @@ none_past : (past es : List (Event Carried)) → endings (past ++ es) ≡ 0 → 
 none_past past es h = omega (arith, endings_append past es, h)
 
 module _ (o q : Options) (x y : Side) (own : AreValidOptions o) (other : AreValidOptions q) (h : Halves o q x y) where
-  pub ends_action : (asked : Bool) (e : Endpoint Carried) → InvAt (setting o q x y asked) (calm e) → Halves o q (record (took e x) { got_init = asked }) y
+  pub ends_action : (asked : Bool) (e : Endpoint Carried) → InvAt (setting o q x y asked) (calm e) → Halves o q (record (drain e x) { got_init = asked }) y
   ends_action asked e inv = record { own = ends_own o q x y asked e inv; other = ends_other o q x y asked e inv h.other }
 
   pub actions_call : (call : Call) → MayCall call x → endings (act (Calls call) x y).emitted ≡ 0 → Halves o q (act (Calls call) x y) y

@@ -26,13 +26,13 @@ light_outcome (Denied streams) c = emits_all (OnStreamsResetFailed streams ∷ [
 
 module _ {P : Type 0} {call : Call} where
   pub light_data : (act : DataAct P call) → Light (before_data act) (after_data act)
-  light_data (takes_data tag tsn is_immediate f phase t m heard right some is) = emits_same m.context.emitted
-  light_data (takes_idata tag tsn is_immediate f phase t m heard right some is) = emits_same m.context.emitted
-  light_data (takes_forward tag tsn skipped phase t m heard right valid) = emits_same m.context.emitted
-  light_data (takes_iforward tag tsn skipped phase t m heard right valid) = emits_same m.context.emitted
+  light_data (takes_data tag tsn is_immediate f phase t m received right some is) = emits_same m.context.emitted
+  light_data (takes_idata tag tsn is_immediate f phase t m received right some is) = emits_same m.context.emitted
+  light_data (takes_forward tag tsn skipped phase t m received right valid) = emits_same m.context.emitted
+  light_data (takes_iforward tag tsn skipped phase t m received right valid) = emits_same m.context.emitted
 
   pub light_sack : (act : SackAct P call) → Light (before_sack act) (after_sack act)
-  light_sack (takes_sack tag k phase t m heard valid) = emits_sack true (point_of k t) (clean_blocks k.gap_ack_blocks) t.sender m.context.emitted
+  light_sack (takes_sack tag k phase t m received valid) = emits_sack true (point_of k t) (clean_blocks k.gap_ack_blocks) t.sender m.context.emitted
   light_sack (samples r phase t m) = emits_same m.context.emitted
   light_sack (counts_errors e m) = emits_same m.context.emitted
 
@@ -111,13 +111,13 @@ module _ {P : Type 0} {call : Call} where
   grows_opening : (act : OpeningAct P call) → Grows (before_opening act) (after_opening act)
   grows_opening (connects m is) = record { events = []; behind = sym (append-nil m.context.emitted.events) }
   grows_opening (adds_init tag first t1 m to) = record { events = []; behind = sym (append-nil m.context.emitted.events) }
-  grows_opening (answers_new tag i m heard to) = record { events = []; behind = sym (append-nil m.context.emitted.events) }
-  grows_opening (answers_waiting tag i my_tag first t1 m heard to) = record { events = []; behind = sym (append-nil m.context.emitted.events) }
-  grows_opening (answers_echoed tag i t1 cookie t m heard to) = record { events = []; behind = sym (append-nil m.context.emitted.events) }
-  grows_opening (answers_again tag i phase t m heard late to) = record { events = []; behind = sym (append-nil m.context.emitted.events) }
-  grows_opening (echoes tag i cookie my_tag first t1 m heard brought) = record { events = []; behind = sym (append-nil m.context.emitted.events) }
+  grows_opening (answers_new tag i m received to) = record { events = []; behind = sym (append-nil m.context.emitted.events) }
+  grows_opening (answers_waiting tag i my_tag first t1 m received to) = record { events = []; behind = sym (append-nil m.context.emitted.events) }
+  grows_opening (answers_echoed tag i t1 cookie t m received to) = record { events = []; behind = sym (append-nil m.context.emitted.events) }
+  grows_opening (answers_again tag i phase t m received late to) = record { events = []; behind = sym (append-nil m.context.emitted.events) }
+  grows_opening (echoes tag i cookie my_tag first t1 m received brought) = record { events = []; behind = sym (append-nil m.context.emitted.events) }
   grows_opening (adds_cookie t1 cookie t m to) = record { events = []; behind = sym (append-nil m.context.emitted.events) }
-  grows_opening (establishes tag t1 cookie t m heard) = record { events = OnConnected ∷ []; behind = refl }
+  grows_opening (establishes tag t1 cookie t m received) = record { events = OnConnected ∷ []; behind = refl }
   grows_opening (opens tag k m echoed none own) = record { events = OnConnected ∷ []; behind = refl }
   grows_opening (restarts tag k phase t m echoed verdict) = record {
     events = OnConnectionRestarted ∷ OnConnected ∷ [];
@@ -254,13 +254,13 @@ module _ {P : Type 0} {call : Call} {R : Making P → Making P → Type 0} (k : 
       quiet : (act : OpeningAct P call) → endings (grows_opening act).events ≡ 0
       quiet (connects m is) = refl
       quiet (adds_init tag first t1 m to) = refl
-      quiet (answers_new tag i m heard to) = refl
-      quiet (answers_waiting tag i my_tag first t1 m heard to) = refl
-      quiet (answers_echoed tag i t1 cookie t m heard to) = refl
-      quiet (answers_again tag i phase t m heard late to) = refl
-      quiet (echoes tag i cookie my_tag first t1 m heard brought) = refl
+      quiet (answers_new tag i m received to) = refl
+      quiet (answers_waiting tag i my_tag first t1 m received to) = refl
+      quiet (answers_echoed tag i t1 cookie t m received to) = refl
+      quiet (answers_again tag i phase t m received late to) = refl
+      quiet (echoes tag i cookie my_tag first t1 m received brought) = refl
       quiet (adds_cookie t1 cookie t m to) = refl
-      quiet (establishes tag t1 cookie t m heard) = refl
+      quiet (establishes tag t1 cookie t m received) = refl
       quiet (opens tag c m echoed none own) = refl
       quiet (restarts tag c phase t m echoed verdict) = refl
       quiet (opens_again tag c phase t m echoed verdict) = refl

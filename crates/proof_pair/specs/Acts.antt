@@ -272,13 +272,13 @@ pub data OpeningAct (P : Type 0) (call : Call) : Type 0 where
 abbrev pub before_opening : {P : Type 0} {call : Call} → OpeningAct P call → Making P
 before_opening (connects m is) = in_state Closed m
 before_opening (adds_init tag first t1 m to) = in_state (CookieWait tag first t1) m
-before_opening (answers_new tag i m heard to) = in_state Closed m
-before_opening (answers_waiting tag i my_tag first t1 m heard to) = in_state (CookieWait my_tag first t1) m
-before_opening (answers_echoed tag i t1 cookie t m heard to) = in_open (CookieEchoed t1 cookie) t m
-before_opening (answers_again tag i phase t m heard late to) = in_open phase t m
-before_opening (echoes tag i cookie my_tag first t1 m heard brought) = in_state (CookieWait my_tag first t1) m
+before_opening (answers_new tag i m received to) = in_state Closed m
+before_opening (answers_waiting tag i my_tag first t1 m received to) = in_state (CookieWait my_tag first t1) m
+before_opening (answers_echoed tag i t1 cookie t m received to) = in_open (CookieEchoed t1 cookie) t m
+before_opening (answers_again tag i phase t m received late to) = in_open phase t m
+before_opening (echoes tag i cookie my_tag first t1 m received brought) = in_state (CookieWait my_tag first t1) m
 before_opening (adds_cookie t1 cookie t m to) = in_open (CookieEchoed t1 cookie) t m
-before_opening (establishes tag t1 cookie t m heard) = in_open (CookieEchoed t1 cookie) t m
+before_opening (establishes tag t1 cookie t m received) = in_open (CookieEchoed t1 cookie) t m
 before_opening (opens tag k m echoed none own) = m
 before_opening (restarts tag k phase t m echoed verdict) = in_open phase t m
 before_opening (opens_again tag k phase t m echoed verdict) = in_open phase t m
@@ -288,13 +288,13 @@ before_opening (adds_cookie_ack tag back phase t m echoed late) = in_open phase 
 abbrev pub after_opening : {P : Type 0} {call : Call} → OpeningAct P call → Making P
 after_opening (connects m is) = in_state (CookieWait (drawn_tag m) (drawn_first m) (t1_init m.context)) (drew_two m)
 after_opening (adds_init tag first t1 m to) = with_init tag first (in_state (CookieWait tag first t1) m)
-after_opening (answers_new tag i m heard to) = with_init_ack i (drawn_tag m) (drawn_first m) 0 (in_state Closed (drew_two m))
-after_opening (answers_waiting tag i my_tag first t1 m heard to) = with_init_ack i my_tag first 0 (in_state (CookieWait my_tag first t1) m)
-after_opening (answers_echoed tag i t1 cookie t m heard to) = with_init_ack i t.identity.my_tag t.identity.my_first 0 (in_open (CookieEchoed t1 cookie) t m)
-after_opening (answers_again tag i phase t m heard late to) = with_init_ack i (drawn_tag_alone m) (next_first t) t.identity.tie (in_open phase t (drew_one m))
-after_opening (echoes tag i cookie my_tag first t1 m heard brought) = echoing i cookie my_tag first m
+after_opening (answers_new tag i m received to) = with_init_ack i (drawn_tag m) (drawn_first m) 0 (in_state Closed (drew_two m))
+after_opening (answers_waiting tag i my_tag first t1 m received to) = with_init_ack i my_tag first 0 (in_state (CookieWait my_tag first t1) m)
+after_opening (answers_echoed tag i t1 cookie t m received to) = with_init_ack i t.identity.my_tag t.identity.my_first 0 (in_open (CookieEchoed t1 cookie) t m)
+after_opening (answers_again tag i phase t m received late to) = with_init_ack i (drawn_tag_alone m) (next_first t) t.identity.tie (in_open phase t (drew_one m))
+after_opening (echoes tag i cookie my_tag first t1 m received brought) = echoing i cookie my_tag first m
 after_opening (adds_cookie t1 cookie t m to) = with_chunk (cookie_echo_chunk cookie) (in_open (CookieEchoed t1 cookie) t m)
-after_opening (establishes tag t1 cookie t m heard) = in_open Established t (with_context (connected_context m.context) m)
+after_opening (establishes tag t1 cookie t m received) = in_open Established t (with_context (connected_context m.context) m)
 after_opening (opens tag k m echoed none own) = opened_by false k m
 after_opening (restarts tag k phase t m echoed verdict) = opened_by true k (with_context (say OnConnectionRestarted m.context) m)
 after_opening (opens_again tag k phase t m echoed verdict) = opened_by true k m
@@ -340,16 +340,16 @@ pub data DataAct (P : Type 0) (call : Call) : Type 0 where
       → misuse t.capabilities (i_forward_tsn_chunk tsn skipped) ≡ None → is_valid t.tracker.tracker (tracker.number_of t.tracker tsn) ≡ true → DataAct P call
 
 abbrev pub before_data : {P : Type 0} {call : Call} → DataAct P call → Making P
-before_data (takes_data tag tsn is_immediate f phase t m heard right some takes) = in_open phase t m
-before_data (takes_idata tag tsn is_immediate f phase t m heard right some takes) = in_open phase t m
-before_data (takes_forward tag tsn skipped phase t m heard right valid) = in_open phase t m
-before_data (takes_iforward tag tsn skipped phase t m heard right valid) = in_open phase t m
+before_data (takes_data tag tsn is_immediate f phase t m received right some takes) = in_open phase t m
+before_data (takes_idata tag tsn is_immediate f phase t m received right some takes) = in_open phase t m
+before_data (takes_forward tag tsn skipped phase t m received right valid) = in_open phase t m
+before_data (takes_iforward tag tsn skipped phase t m received right valid) = in_open phase t m
 
 abbrev pub after_data : {P : Type 0} {call : Call} → DataAct P call → Making P
-after_data (takes_data tag tsn is_immediate f phase t m heard right some takes) = in_open phase (take_fragment tsn is_immediate f t) m
-after_data (takes_idata tag tsn is_immediate f phase t m heard right some takes) = in_open phase (take_fragment tsn is_immediate f t) m
-after_data (takes_forward tag tsn skipped phase t m heard right valid) = in_open phase (forward_to tsn skipped t) m
-after_data (takes_iforward tag tsn skipped phase t m heard right valid) = in_open phase (forward_to tsn skipped t) m
+after_data (takes_data tag tsn is_immediate f phase t m received right some takes) = in_open phase (take_fragment tsn is_immediate f t) m
+after_data (takes_idata tag tsn is_immediate f phase t m received right some takes) = in_open phase (take_fragment tsn is_immediate f t) m
+after_data (takes_forward tag tsn skipped phase t m received right valid) = in_open phase (forward_to tsn skipped t) m
+after_data (takes_iforward tag tsn skipped phase t m received right valid) = in_open phase (forward_to tsn skipped t) m
 
 -- ---- acknowledging
 
@@ -364,12 +364,12 @@ pub data SackAct (P : Type 0) (call : Call) : Type 0 where
   counts_errors : (e : ErrorCounter) (m : Making P) → SackAct P call
 
 abbrev pub before_sack : {P : Type 0} {call : Call} → SackAct P call → Making P
-before_sack (takes_sack tag k phase t m heard valid) = in_open phase t m
+before_sack (takes_sack tag k phase t m received valid) = in_open phase t m
 before_sack (samples r phase t m) = in_open phase t m
 before_sack (counts_errors e m) = m
 
 abbrev pub after_sack : {P : Type 0} {call : Call} → SackAct P call → Making P
-after_sack (takes_sack tag k phase t m heard valid) =
+after_sack (takes_sack tag k phase t m received valid) =
     in_open phase
     (record t { sender = sender_if true m.context.now (point_of k t) k.a_rwnd (clean_blocks k.gap_ack_blocks) t.sender m.context.emitted })
     (with_context (record m.context { emitted = emitted_if true (point_of k t) (clean_blocks k.gap_ack_blocks) t.sender m.context.emitted }) m)

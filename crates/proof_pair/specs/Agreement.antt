@@ -100,7 +100,7 @@ drawn_in (Refuses p) x y = []
 
 -- of one action: what was drawn in it, and what is held after it
 abbrev pub history_by : EndAction → (x y : Side) → History → History
-history_by turn x y n = record { drawn = drawn_in turn x y ++ n.drawn; held = held_in (state_of (act turn x y)) ++ n.held }
+history_by action x y n = record { drawn = drawn_in action x y ++ n.drawn; held = held_in (state_of (act action x y)) ++ n.held }
 
 -- ---- of both ends, along a trace
 
@@ -115,8 +115,8 @@ abbrev pub no_histories : Histories
 no_histories = record { a = no_history; b = no_history }
 
 abbrev pub histories_after : Bool → EndAction → Pair → Histories → Histories
-histories_after true turn w k = record k { a = history_by turn w.a w.b k.a }
-histories_after false turn w k = record k { b = history_by turn w.b w.a k.b }
+histories_after true action w k = record k { a = history_by action w.a w.b k.a }
+histories_after false action w k = record k { b = history_by action w.b w.a k.b }
 
 abbrev pub histories_along : List (Bool × EndAction) → Pair → Histories → Histories
 histories_along [] w k = k
@@ -140,7 +140,7 @@ IsPlainCall call = ⊤
 
 abbrev pub IsAllowed : EndAction → Type 0
 IsAllowed (Calls call) = IsPlainCall call
-IsAllowed turn = ⊤
+IsAllowed action = ⊤
 
 abbrev pub AreAllowed : List (Bool × EndAction) → Type 0
 AreAllowed [] = ⊤
@@ -158,8 +158,8 @@ Agrees before after other =
     has_connected (emitted_since before after) ≡ true → (a : Association) × Has a (held_in (state_of after)) × Has (mirrored a) other.held
 
 abbrev pub AgreesAt : Bool → EndAction → Pair → Histories → Type 0
-AgreesAt true turn w k = Agrees w.a (act turn w.a w.b) k.b
-AgreesAt false turn w k = Agrees w.b (act turn w.b w.a) k.a
+AgreesAt true action w k = Agrees w.a (act action w.a w.b) k.b
+AgreesAt false action w k = Agrees w.b (act action w.b w.a) k.a
 
 abbrev pub AgreesAlong : List (Bool × EndAction) → Pair → Histories → Type 0
 AgreesAlong [] w k = ⊤
@@ -168,5 +168,5 @@ AgreesAlong (e ∷ es) w k = AgreesAt e.0 e.1 w k × AgreesAlong es (goes e.0 e.
 -- Along each trace in which no end draws a tag twice.
 abbrev pub EndsAgree : Type 0
 EndsAgree =
-    (a b : Options) (words_a words_b : Stream) (turns : List (Bool × EndAction)) → AreValidOptions a → AreValidOptions b → AreAllowed turns
-    → AreDistinctPerEnd (histories_along turns (start a b words_a words_b) no_histories) → AgreesAlong turns (start a b words_a words_b) no_histories
+    (a b : Options) (words_a words_b : Stream) (trace : List (Bool × EndAction)) → AreValidOptions a → AreValidOptions b → AreAllowed trace
+    → AreDistinctPerEnd (histories_along trace (start a b words_a words_b) no_histories) → AgreesAlong trace (start a b words_a words_b) no_histories

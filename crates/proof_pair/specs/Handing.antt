@@ -18,13 +18,13 @@ ready_at x = ready_in (state_of x)
 -- a call for a message hands out the first that is ready
 abbrev pub handed_by : EndAction → Side → List Message
 handed_by (Calls TakeMessage) x = take 1 (ready_at x)
-handed_by turn x = []
+handed_by action x = []
 
 -- true is end a: what end x hands out at an action of this end
 abbrev pub handed_at : (x acts : Bool) → EndAction → Pair → List Message
-handed_at true true turn w = handed_by turn w.a
-handed_at false false turn w = handed_by turn w.b
-handed_at x acts turn w = []
+handed_at true true action w = handed_by action w.a
+handed_at false false action w = handed_by action w.b
+handed_at x acts action w = []
 
 -- what is ready behind the messages that were ready before
 abbrev pub new_behind : (before after : List Message) → List Message
@@ -44,35 +44,35 @@ readied_messages x (e ∷ es) w = new_behind (ready_at (side_of x w)) (ready_at 
 
 -- of one end: what became ready was handed out, or is ready still, in this order
 abbrev pub AreHandedInOrder : (x : Bool) → List (Bool × EndAction) → Pair → Type 0
-AreHandedInOrder x turns w = readied_messages x turns w ≡ handed_messages x turns w ++ ready_at (side_of x (run turns w))
+AreHandedInOrder x trace w = readied_messages x trace w ≡ handed_messages x trace w ++ ready_at (side_of x (run trace w))
 
 -- Along each trace that follows the rules, until an association first ends.
 abbrev pub MessagesAreHandedInOrder : Type 0
 MessagesAreHandedInOrder =
-    (a b : Options) (words_a words_b : Stream) (turns : List (Bool × EndAction)) → AreValidOptions a → AreValidOptions b
-    → KeepsOpeningRules turns (start a b words_a words_b) → NeitherHasEnded (run turns (start a b words_a words_b)) → (x : Bool)
-    → AreHandedInOrder x turns (start a b words_a words_b)
+    (a b : Options) (words_a words_b : Stream) (trace : List (Bool × EndAction)) → AreValidOptions a → AreValidOptions b
+    → KeepsOpeningRules trace (start a b words_a words_b) → NeitherHasEnded (run trace (start a b words_a words_b)) → (x : Bool)
+    → AreHandedInOrder x trace (start a b words_a words_b)
 
 abbrev pub HandedIsAPrefix : Type 0
 HandedIsAPrefix =
-    (a b : Options) (words_a words_b : Stream) (turns : List (Bool × EndAction)) → AreValidOptions a → AreValidOptions b
-    → KeepsOpeningRules turns (start a b words_a words_b) → NeitherHasEnded (run turns (start a b words_a words_b)) → (x : Bool)
-    → Extends (handed_messages x turns (start a b words_a words_b)) (readied_messages x turns (start a b words_a words_b))
+    (a b : Options) (words_a words_b : Stream) (trace : List (Bool × EndAction)) → AreValidOptions a → AreValidOptions b
+    → KeepsOpeningRules trace (start a b words_a words_b) → NeitherHasEnded (run trace (start a b words_a words_b)) → (x : Bool)
+    → Extends (handed_messages x trace (start a b words_a words_b)) (readied_messages x trace (start a b words_a words_b))
 
 -- as actions follow, of any trace
 abbrev pub ReadiedGrows : Type 0
-ReadiedGrows = (x : Bool) (turns more : List (Bool × EndAction)) (w : Pair) → Extends (readied_messages x turns w) (readied_messages x (turns ++ more) w)
+ReadiedGrows = (x : Bool) (trace more : List (Bool × EndAction)) (w : Pair) → Extends (readied_messages x trace w) (readied_messages x (trace ++ more) w)
 
 abbrev pub HandedGrows : Type 0
-HandedGrows = (x : Bool) (turns more : List (Bool × EndAction)) (w : Pair) → Extends (handed_messages x turns w) (handed_messages x (turns ++ more) w)
+HandedGrows = (x : Bool) (trace more : List (Bool × EndAction)) (w : Pair) → Extends (handed_messages x trace w) (handed_messages x (trace ++ more) w)
 
 -- and an association that an end holds, it holds from then on: no other takes its place
 abbrev pub AssociationsStand : Type 0
 AssociationsStand =
-    (a b : Options) (words_a words_b : Stream) (turns more : List (Bool × EndAction)) → AreValidOptions a → AreValidOptions b
-    → KeepsOpeningRules (turns ++ more) (start a b words_a words_b) → NeitherHasEnded (run (turns ++ more) (start a b words_a words_b)) → (x : Bool) (p : Association)
-    → association_in (state_of (side_of x (run turns (start a b words_a words_b)))) ≡ Some p
-    → association_in (state_of (side_of x (run (turns ++ more) (start a b words_a words_b)))) ≡ Some p
+    (a b : Options) (words_a words_b : Stream) (trace more : List (Bool × EndAction)) → AreValidOptions a → AreValidOptions b
+    → KeepsOpeningRules (trace ++ more) (start a b words_a words_b) → NeitherHasEnded (run (trace ++ more) (start a b words_a words_b)) → (x : Bool) (p : Association)
+    → association_in (state_of (side_of x (run trace (start a b words_a words_b)))) ≡ Some p
+    → association_in (state_of (side_of x (run (trace ++ more) (start a b words_a words_b)))) ≡ Some p
 
 -- ---- such a trace, computed: two messages come, and one is handed out
 

@@ -19,12 +19,12 @@ both_connect =
     (true, Calls Connect) ∷ (false, Calls Connect) ∷ (false, Gives 0 0) ∷ (true, Gives 0 0) ∷ (false, Gives 1 0) ∷ (true, Gives 1 0) ∷ (false, Gives 2 0)
     ∷ (true, Gives 2 0) ∷ []
 
-pub record Opens (turns : List (Bool × EndAction)) : Type 0 where
+pub record Opens (trace : List (Bool × EndAction)) : Type 0 where
   pub given : AreValidOptions defaults
-  pub follows : KeepsOpeningRules turns at_first
-  pub not_ended : NeitherHasEnded (run turns at_first)
-  pub a_connected : has_connected (run turns at_first).a.emitted ≡ true
-  pub b_connected : has_connected (run turns at_first).b.emitted ≡ true
+  pub follows : KeepsOpeningRules trace at_first
+  pub not_ended : NeitherHasEnded (run trace at_first)
+  pub a_connected : has_connected (run trace at_first).a.emitted ≡ true
+  pub b_connected : has_connected (run trace at_first).b.emitted ≡ true
 
 abbrev pub OneConnects : Type 0
 OneConnects = Opens one_connects

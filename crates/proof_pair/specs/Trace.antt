@@ -52,8 +52,8 @@ pub data EndAction : Type 0 where
   Refuses : PacketTree → EndAction  -- foreign bytes: a packet that the end refuses; else nothing happens
 
 -- what was emitted is taken
-abbrev pub took : Endpoint Carried → Side → Side
-took e x = record x {
+abbrev pub drain : Endpoint Carried → Side → Side
+drain e x = record x {
   end = record e { endpoint_state = record e.endpoint_state { context = record e.endpoint_state.context { emitted = silent } } };
   emitted = x.emitted ++ e.endpoint_state.context.emitted.events;
 }
@@ -65,22 +65,22 @@ as_received p checksum = record { header = p.header; checksum = checksum; chunks
 -- an INIT goes under tag 0
 abbrev pub give : Option Carried → (checksum : ℕ) → Side → Side
 give None checksum x = x
-give (Some p) checksum x = record (took (called (Packet (as_received p checksum)) x.end) x) { got_init = x.got_init || (p.header.verification_tag == 0) }
+give (Some p) checksum x = record (drain (called (Packet (as_received p checksum)) x.end) x) { got_init = x.got_init || (p.header.verification_tag == 0) }
 
 abbrev pub foreign_if : (refusal : Option (List ℕ)) → PacketTree → Side → Side
 foreign_if None p x = x
-foreign_if (Some text) p x = took (called (Packet p) x.end) x
+foreign_if (Some text) p x = drain (called (Packet p) x.end) x
 
 -- of one end, beside the other
 abbrev pub act : EndAction → (x y : Side) → Side
-act (Calls call) x y = took (called call x.end) x
+act (Calls call) x y = drain (called call x.end) x
 act (Gives which checksum) x y = give (slice_get (emitted_packets y) which) checksum x
 act (Refuses p) x y = foreign_if (refusal p.header.verification_tag p.chunks x.end.endpoint_state.state) p x
 
 -- true is end a
 abbrev pub goes : Bool → EndAction → Pair → Pair
-goes true turn w = record w { a = act turn w.a w.b }
-goes false turn w = record w { b = act turn w.b w.a }
+goes true action w = record w { a = act action w.a w.b }
+goes false action w = record w { b = act action w.b w.a }
 
 abbrev pub run : List (Bool × EndAction) → Pair → Pair
 run [] w = w
@@ -99,7 +99,7 @@ MayCall call x = ⊤
 
 abbrev pub MayAct : EndAction → Side → Type 0
 MayAct (Calls call) x = MayCall call x
-MayAct turn x = ⊤
+MayAct action x = ⊤
 
 abbrev pub side_of : Bool → Pair → Side
 side_of true w = w.a
@@ -149,6 +149,6 @@ pub record AreConsistent (a b : Options) (w : Pair) : Type 0 where
 -- Along each trace that follows the rules, until an association first ends.
 abbrev pub EndsAreConsistent : Type 0
 EndsAreConsistent =
-    (a b : Options) (words_a words_b : Stream) (turns : List (Bool × EndAction)) → AreValidOptions a → AreValidOptions b
-    → KeepsOpeningRules turns (start a b words_a words_b) → NeitherHasEnded (run turns (start a b words_a words_b))
-    → AreConsistent a b (run turns (start a b words_a words_b))
+    (a b : Options) (words_a words_b : Stream) (trace : List (Bool × EndAction)) → AreValidOptions a → AreValidOptions b
+    → KeepsOpeningRules trace (start a b words_a words_b) → NeitherHasEnded (run trace (start a b words_a words_b))
+    → AreConsistent a b (run trace (start a b words_a words_b))

@@ -170,8 +170,8 @@ module _ (is_interleaved : Bool) (shift : ℕ) (decide : Decided is_interleaved)
   skips (x ∷ xs) (e ∷ es) ss ready q h apart mode sorted p = go (does ss e is_interleaved x mode h.0) (skips xs es)
     where
       Rest : Type 0
-      Rest = (new : Streams) (told : List Message) (r : Queue (KeyOf is_interleaved) (next_of is_interleaved)) → StandForAll is_interleaved new xs es → AreApart es → new.is_interleaved ≡ is_interleaved → AreOrdered es new
-          → IsSeenAs is_interleaved shift (pending es (view_with new told)) r → Done r told (skip_each xs new)
+      Rest = (new : Streams) (emitted : List Message) (r : Queue (KeyOf is_interleaved) (next_of is_interleaved)) → StandForAll is_interleaved new xs es → AreApart es → new.is_interleaved ≡ is_interleaved → AreOrdered es new
+          → IsSeenAs is_interleaved shift (pending es (view_with new emitted)) r → Done r emitted (skip_each xs new)
 
       join : (o : Outcome) → skip x ss ≡ o → Done q ready (record { streams = (skip_each xs o.streams).streams; messages = o.messages ++ (skip_each xs o.streams).messages }) → Done q ready (skip_each (x ∷ xs) ss)
       join o is d = subst (λ (z : Outcome). Done q ready (record { streams = (skip_each xs z.streams).streams; messages = z.messages ++ (skip_each xs z.streams).messages })) (sym is) d
@@ -182,10 +182,10 @@ module _ (is_interleaved : Bool) (shift : ℕ) (decide : Decided is_interleaved)
           let l = goes_on e es ss ready apart.0 o s q p in
           let k = like e es ss ready apart.0 o s in
           let n = new e es ss ready apart.0 o s in
-          let told = ready ++ (delivery e es ss ready apart.0 o s).messages in
-          let d = rest n told l.queue (all_still is_interleaved ss n xs es k h.1) apart.1 mode (λ c a b. subst (λ z. AreInOrder z.held) (sym (k.ordered c a b)) (sorted c (inr a) b)) l.seen_as in
+          let emitted = ready ++ (delivery e es ss ready apart.0 o s).messages in
+          let d = rest n emitted l.queue (all_still is_interleaved ss n xs es k h.1) apart.1 mode (λ c a b. subst (λ z. AreInOrder z.held) (sym (k.ordered c a b)) (sorted c (inr a) b)) l.seen_as in
           join (with_ordered e.stream (delivery e es ss ready apart.0 o s) ss) is (record {
-            leads = leads_on is_interleaved shift decide q (pending es (view_with n told)) (view_with (skip_each xs n).streams (ready ++ ((delivery e es ss ready apart.0 o s).messages ++ (skip_each xs n).messages))) l
+            leads = leads_on is_interleaved shift decide q (pending es (view_with n emitted)) (view_with (skip_each xs n).streams (ready ++ ((delivery e es ss ready apart.0 o s).messages ++ (skip_each xs n).messages))) l
                 (subst (λ z. Leads is_interleaved shift l.queue (view_with (skip_each xs n).streams z)) (append_assoc ready (delivery e es ss ready apart.0 o s).messages (skip_each xs n).messages) d.leads);
             mode = d.mode;
           })

@@ -57,10 +57,10 @@ pub filled_by : {P : Type 0} (now m : ℕ) (x : Filling P) → x.left < m → Is
 filled_by now zero x l = absurd (omega (arith, l))
 filled_by now (suc m) x l = one_more_turn now m x l (λ y h. filled_by now m y h)
 
-pub takes_what_is_due : {P : Type 0} (now most : ℕ) (s : Sender) (q : Queue) (told : Emitted P) → TakesWhatIsDue now most s q told
-takes_what_is_due now most s q told = record {
-  filled = fill (suc (began most s q told).left) now (began most s q told);
+pub takes_what_is_due : {P : Type 0} (now most : ℕ) (s : Sender) (q : Queue) (emitted : Emitted P) → TakesWhatIsDue now most s q emitted
+takes_what_is_due now most s q emitted = record {
+  filled = fill (suc (began most s q emitted).left) now (began most s q emitted);
   again = refl;
-  new = filled_by now (suc (began most s q told).left) (began most s q told) (omega arith);
+  new = filled_by now (suc (began most s q emitted).left) (began most s q emitted) (omega arith);
   all = refl;
 }

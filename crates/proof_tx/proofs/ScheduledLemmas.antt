@@ -8,24 +8,24 @@ use Rattle.proof_tx.specs.Scheduled as scheduled
 use Rattle.proof_tx.specs.Scheduled.{IsProduced, none_waits, all_expired}
 
 module _ {P : Type 0} (now size : ℕ) where
-  by_turns : (m : ℕ) (q : Queue) (told : Emitted P) → tries q < m → IsProduced now size q told (produce_within m now size q told)
-  by_turns zero q told few = absurd (omega (arith, few))
-  by_turns (suc m) q told few = go (next_stream q) refl (λ r t. by_turns m r t)
+  by_turns : (m : ℕ) (q : Queue) (emitted : Emitted P) → tries q < m → IsProduced now size q emitted (produce_within m now size q emitted)
+  by_turns zero q emitted few = absurd (omega (arith, few))
+  by_turns (suc m) q emitted few = go (next_stream q) refl (λ r t. by_turns m r t)
     where
       go : (o : Option ℕ) → next_stream q ≡ o → ((r : Queue) (t : Emitted P) → tries r < m → IsProduced now size r t (produce_within m now size r t))
-          → IsProduced now size q told (produce_within (suc m) now size q told)
-      go None e ih = subst (λ (t : Turn P). IsProduced now size q told t) (sym (idles m now size q told e)) (none_waits e)
-      go (Some id) e ih = pick (turn now id size q told).made refl
+          → IsProduced now size q emitted (produce_within (suc m) now size q emitted)
+      go None e ih = subst (λ (t : Turn P). IsProduced now size q emitted t) (sym (idles m now size q emitted e)) (none_waits e)
+      go (Some id) e ih = pick (turn now id size q emitted).made refl
         where
-          pick : (o : Option Produced) → o ≡ (turn now id size q told).made → IsProduced now size q told (produce_within (suc m) now size q told)
-          pick (Some made) is = subst (λ (t : Turn P). IsProduced now size q told t) (sym (gives m now size id q told made e is)) (scheduled.gives id made e (sym is))
+          pick : (o : Option Produced) → o ≡ (turn now id size q emitted).made → IsProduced now size q emitted (produce_within (suc m) now size q emitted)
+          pick (Some made) is = subst (λ (t : Turn P). IsProduced now size q emitted t) (sym (gives m now size id q emitted made e is)) (scheduled.gives id made e (sym is))
           pick None is =
-              subst (λ (t : Turn P). IsProduced now size q told t) (sym (turned m now size id q told e is))
-              (all_expired id (produce_within m now size (turn now id size q told).queue (turn now id size q told).emitted) e (sym is)
-              (ih (turn now id size q told).queue (turn now id size q told).emitted (omega (arith, few, fewer now size id q told e is))))
+              subst (λ (t : Turn P). IsProduced now size q emitted t) (sym (turned m now size id q emitted e is))
+              (all_expired id (produce_within m now size (turn now id size q emitted).queue (turn now id size q emitted).emitted) e (sym is)
+              (ih (turn now id size q emitted).queue (turn now id size q emitted).emitted (omega (arith, few, fewer now size id q emitted e is))))
 
-  pub by_scheduler : (q : Queue) (told : Emitted P) → IsProduced now size q told (produce now size q told)
-  by_scheduler q told = by_turns (length q.scheduler.times + 2) q told (few_tries q)
+  pub by_scheduler : (q : Queue) (emitted : Emitted P) → IsProduced now size q emitted (produce now size q emitted)
+  by_scheduler q emitted = by_turns (length q.scheduler.times + 2) q emitted (few_tries q)
 
-  pub idle_where_none : (q : Queue) (told : Emitted P) → (produce now size q told).made ≡ None → (produce now size q told).queue.scheduler.times ≡ []
-  idle_where_none q told e = produced_idle now size q told (sym e)
+  pub idle_where_none : (q : Queue) (emitted : Emitted P) → (produce now size q emitted).made ≡ None → (produce now size q emitted).queue.scheduler.times ≡ []
+  idle_where_none q emitted e = produced_idle now size q emitted (sym e)

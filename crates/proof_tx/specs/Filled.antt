@@ -30,13 +30,13 @@ pub data IsFilled {P : Type 0} (now : ℕ) : Filling P → Filling P → Type 0 
 -- ---- the law: a packet is what waits to be sent again, then new fragments until none goes
 
 abbrev pub began : {P : Type 0} → (most : ℕ) → Sender → Queue → Emitted P → Filling P
-began most s q told = filled_with most (without_discards s) (resent most (without_discards s)) (discard_all s.outstanding.items.discards q told)
+began most s q emitted = filled_with most (without_discards s) (resent most (without_discards s)) (discard_all s.outstanding.items.discards q emitted)
 
-pub record TakesWhatIsDue {P : Type 0} (now most : ℕ) (s : Sender) (q : Queue) (told : Emitted P) : Type 0 where
+pub record TakesWhatIsDue {P : Type 0} (now most : ℕ) (s : Sender) (q : Queue) (emitted : Emitted P) : Type 0 where
   pub filled : Filling P
-  pub again : (began most s q told).chunks ≡ (resent most (without_discards s)).chunks
-  pub new : IsFilled now (began most s q told) filled
-  pub all : send now most s q told ≡ timed_filling now filled
+  pub again : (began most s q emitted).chunks ≡ (resent most (without_discards s)).chunks
+  pub new : IsFilled now (began most s q emitted) filled
+  pub all : send now most s q emitted ≡ timed_filling now filled
 
 abbrev pub PacketsTakeWhatIsDue : Type 0
-PacketsTakeWhatIsDue = (now most : ℕ) (s : Sender) (q : Queue) (told : Emitted (List ℕ)) → TakesWhatIsDue now most s q told
+PacketsTakeWhatIsDue = (now most : ℕ) (s : Sender) (q : Queue) (emitted : Emitted (List ℕ)) → TakesWhatIsDue now most s q emitted

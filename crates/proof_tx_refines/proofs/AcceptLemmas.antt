@@ -95,13 +95,13 @@ module _ (message : ℕ → Message) (lifecycle : ℕ → Option ℕ) (is_interl
       all : messages_of after ≡ messages_of q
       all = funext (messages_of after) (messages_of q) each
 
-  pub with_settings : {P : Type 0} (id n : ℕ) (told : Emitted P) → SenderRefines message lifecycle is_interleaved x (set_priority id n q) s × SenderRefines message lifecycle is_interleaved x (set_low_threshold id n q told).queue s
-  with_settings id n told =
+  pub with_settings : {P : Type 0} (id n : ℕ) (emitted : Emitted P) → SenderRefines message lifecycle is_interleaved x (set_priority id n q) s × SenderRefines message lifecycle is_interleaved x (set_low_threshold id n q emitted).queue s
+  with_settings id n emitted =
       let next = sh.queue.next id in (
         set id (with_priority n (stream id q.streams)) (set_priority id n q) refl refl (record { ssn = next.ssn; ordered_mid = next.ordered_mid; unordered_mid = next.unordered_mid }) refl refl
             (priority_in_order id n q sh.queue.order) (calls_number.priority id n q sh.queue.rising) (calls_leave_rests.priority id n q sh.queue.rests),
-        set id (with_threshold n (stream id q.streams)) (set_low_threshold id n q told).queue refl refl (record { ssn = next.ssn; ordered_mid = next.ordered_mid; unordered_mid = next.unordered_mid }) refl refl
-            (threshold_in_order id n q told sh.queue.order) (calls_number.threshold id n q silent sh.queue.rising) (calls_leave_rests.threshold id n q silent sh.queue.rests),
+        set id (with_threshold n (stream id q.streams)) (set_low_threshold id n q emitted).queue refl refl (record { ssn = next.ssn; ordered_mid = next.ordered_mid; unordered_mid = next.unordered_mid }) refl refl
+            (threshold_in_order id n q emitted sh.queue.order) (calls_number.threshold id n q silent sh.queue.rising) (calls_leave_rests.threshold id n q silent sh.queue.rests),
       )
 
   -- ---- acceptance

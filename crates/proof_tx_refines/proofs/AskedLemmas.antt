@@ -119,42 +119,42 @@ after_alike size s = go (front_ends size s.messages) refl
     go false e = same_pause s (advance size s) (ap (λ z. pause_after z s.pause) e)
 
 module _ {P : Type 0} where
-  discard_same : (id number : ℕ) (q : Queue) (told : Emitted P) → Same q.streams (discard id number q told).queue.streams
-  discard_same id number q told =
+  discard_same : (id number : ℕ) (q : Queue) (emitted : Emitted P) → Same q.streams (discard id number q emitted).queue.streams
+  discard_same id number q emitted =
       let s : Stream = stream id q.streams in
-      subst (λ (ss : Streams). Same q.streams ss) (sym (discard_streams id (streams_discarded id number q.streams) (front_discarded number s.messages) q told))
+      subst (λ (ss : Streams). Same q.streams ss) (sym (discard_streams id (streams_discarded id number q.streams) (front_discarded number s.messages) q emitted))
       (put_same id (without_front number s.messages s) q.streams (cut_alike number s.messages s))
 
-  discards_same : (ds : List Discard) (q : Queue) (told : Emitted P) → Same q.streams (discard_all ds q told).queue.streams
-  discards_same [] q told = same_all q.streams
-  discards_same (d ∷ ds) q told =
-      let y : Changed P = discard d.stream d.number q told in
-      same_then q.streams y.queue.streams (discard_all ds y.queue y.emitted).queue.streams (discard_same d.stream d.number q told) (discards_same ds y.queue y.emitted)
+  discards_same : (ds : List Discard) (q : Queue) (emitted : Emitted P) → Same q.streams (discard_all ds q emitted).queue.streams
+  discards_same [] q emitted = same_all q.streams
+  discards_same (d ∷ ds) q emitted =
+      let y : Changed P = discard d.stream d.number q emitted in
+      same_then q.streams y.queue.streams (discard_all ds y.queue y.emitted).queue.streams (discard_same d.stream d.number q emitted) (discards_same ds y.queue y.emitted)
 
-  turn_same : (now id size : ℕ) (q : Queue) (told : Emitted P) → Same q.streams (turn now id size q told).queue.streams
-  turn_same now id size q told =
+  turn_same : (now id size : ℕ) (q : Queue) (emitted : Emitted P) → Same q.streams (turn now id size q emitted).queue.streams
+  turn_same now id size q emitted =
       let ss : Streams = streams_without_stale now id q.streams in
       let s : Stream = stream id ss in
       same_then q.streams ss (queue.put_stream id (advance size s) ss) (put_same id (without_stale now (stream id q.streams)) q.streams (same_pause (stream id q.streams) (without_stale now (stream id q.streams)) refl))
       (put_same id (advance size s) ss (after_alike size s))
 
-  within_same : (n now size : ℕ) (q : Queue) (told : Emitted P) → Same q.streams (produce_within n now size q told).queue.streams
-  within_same zero now size q told = same_all q.streams
-  within_same (suc n) now size q told = go (next_stream q) refl (within_same n now size)
+  within_same : (n now size : ℕ) (q : Queue) (emitted : Emitted P) → Same q.streams (produce_within n now size q emitted).queue.streams
+  within_same zero now size q emitted = same_all q.streams
+  within_same (suc n) now size q emitted = go (next_stream q) refl (within_same n now size)
     where
       Rest : Type 0
       Rest = (r : Queue) (later : Emitted P) → Same r.streams (produce_within n now size r later).queue.streams
 
-      given : (id : ℕ) → next_stream q ≡ Some id → Rest → (made : Option Produced) → (turn now id size q told).made ≡ made → Same q.streams (produce_within (suc n) now size q told).queue.streams
+      given : (id : ℕ) → next_stream q ≡ Some id → Rest → (made : Option Produced) → (turn now id size q emitted).made ≡ made → Same q.streams (produce_within (suc n) now size q emitted).queue.streams
       given id next rest None m =
-          let t = turn now id size q told in
-          subst (λ (t : Turn P). Same q.streams t.queue.streams) (sym (turned n now size id q told next (sym m)))
-          (same_then q.streams t.queue.streams (produce_within n now size t.queue t.emitted).queue.streams (turn_same now id size q told) (rest t.queue t.emitted))
-      given id next rest (Some made) m = subst (λ (t : Turn P). Same q.streams t.queue.streams) (sym (gives n now size id q told made next (sym m))) (turn_same now id size q told)
+          let t = turn now id size q emitted in
+          subst (λ (t : Turn P). Same q.streams t.queue.streams) (sym (turned n now size id q emitted next (sym m)))
+          (same_then q.streams t.queue.streams (produce_within n now size t.queue t.emitted).queue.streams (turn_same now id size q emitted) (rest t.queue t.emitted))
+      given id next rest (Some made) m = subst (λ (t : Turn P). Same q.streams t.queue.streams) (sym (gives n now size id q emitted made next (sym m))) (turn_same now id size q emitted)
 
-      go : (o : Option ℕ) → next_stream q ≡ o → Rest → Same q.streams (produce_within (suc n) now size q told).queue.streams
-      go None c rest = subst (λ (t : Turn P). Same q.streams t.queue.streams) (sym (idles n now size q told c)) (same_all q.streams)
-      go (Some id) c rest = given id c rest (turn now id size q told).made refl
+      go : (o : Option ℕ) → next_stream q ≡ o → Rest → Same q.streams (produce_within (suc n) now size q emitted).queue.streams
+      go None c rest = subst (λ (t : Turn P). Same q.streams t.queue.streams) (sym (idles n now size q emitted c)) (same_all q.streams)
+      go (Some id) c rest = given id c rest (turn now id size q emitted).made refl
 
   turned_same : (b : Bool) (now : ℕ) (f : Filling P) → Same f.queue.streams (turned_if b now f).filling.queue.streams
   turned_same false now f = same_all f.queue.streams
@@ -177,29 +177,29 @@ module _ {P : Type 0} where
       by true y z a c = same_then f.queue.streams y.queue.streams z.queue.streams a c
       by false y z a c = a
 
-  pub send_asked : (now most : ℕ) (s : Sender) (q : Queue) (told : Emitted P) → AreSameAsked q (send now most s q told).queue
-  send_asked now most s q told =
-      let left : Changed P = discard_all s.outstanding.items.discards q told in
+  pub send_asked : (now most : ℕ) (s : Sender) (q : Queue) (emitted : Emitted P) → AreSameAsked q (send now most s q emitted).queue
+  send_asked now most s q emitted =
+      let left : Changed P = discard_all s.outstanding.items.discards q emitted in
       let begun : Filling P = filled_with most (without_discards s) (resent most (without_discards s)) left in
-      same_asked q (send now most s q told).queue
-      (same_then q.streams left.queue.streams (fill (suc begun.left) now begun).queue.streams (discards_same s.outstanding.items.discards q told) (fills_same (suc begun.left) now begun))
+      same_asked q (send now most s q emitted).queue
+      (same_then q.streams left.queue.streams (fill (suc begun.left) now begun).queue.streams (discards_same s.outstanding.items.discards q emitted) (fills_same (suc begun.left) now begun))
 
-  pub prepare_asked : (id : ℕ) (q : Queue) (told : Emitted P) → AreSameAsked q (prepare_reset id q told).queue
-  prepare_asked id q told = same_asked q (prepare_reset id q told).queue (opened_same id (prepare_stream (stream id q.streams)) q.streams (prepared_alike (stream id q.streams)))
+  pub prepare_asked : (id : ℕ) (q : Queue) (emitted : Emitted P) → AreSameAsked q (prepare_reset id q emitted).queue
+  prepare_asked id q emitted = same_asked q (prepare_reset id q emitted).queue (opened_same id (prepare_stream (stream id q.streams)) q.streams (prepared_alike (stream id q.streams)))
 
-  pub watch_asked : (id n : ℕ) (q : Queue) (told : Emitted P) → AreSameAsked q (set_low_threshold id n q told).queue
-  watch_asked id n q told =
+  pub watch_asked : (id n : ℕ) (q : Queue) (emitted : Emitted P) → AreSameAsked q (set_low_threshold id n q emitted).queue
+  watch_asked id n q emitted =
       let s : Stream = stream id q.streams in
-      same_asked q (set_low_threshold id n q told).queue (opened_same id (with_threshold n s) q.streams (same_pause s (with_threshold n s) refl))
+      same_asked q (set_low_threshold id n q emitted).queue (opened_same id (with_threshold n s) q.streams (same_pause s (with_threshold n s) refl))
 
 pub calls_keep_asked : CallsKeepAsked
 calls_keep_asked = record {
   accepting = λ id m q. let s : Stream = stream id q.streams in same_asked q (add id m q) (opened_same id (push m s) q.streams (same_pause s (push m s) refl));
-  preparing = λ id q told. prepare_asked id q told;
+  preparing = λ id q emitted. prepare_asked id q emitted;
   prioritised = λ id n q. let s : Stream = stream id q.streams in same_asked q (set_priority id n q) (opened_same id (with_priority n s) q.streams (same_pause s (with_priority n s) refl));
-  watched = λ id n q told. watch_asked id n q told;
+  watched = λ id n q emitted. watch_asked id n q emitted;
   mode = λ is_interleaved q. record { still = λ k e. e; before = λ k e. e };
-  sending = λ now most s q told. send_asked now most s q told;
+  sending = λ now most s q emitted. send_asked now most s q emitted;
 }
 
 -- ---- a request

@@ -215,10 +215,10 @@ goes_sending message is_interleaved (e ∷ es) x all =
     with_epochs : (ℕ → ℕ) → Epochs
     with_epochs f = record x { transfer = run message is_interleaved x.transfer (e ∷ es); epoch = f }
 
-pub queue_begins : {P : Type 0} (message : ℕ → Message) (lifecycle : ℕ → Option ℕ) (is_interleaved : Bool) (x : Epochs) (q r : Queue) (t : Items) (told later : Emitted P) → Invariant message is_interleaved x.transfer
-    → QueueRefines message lifecycle is_interleaved x.transfer.sender q → ArePausedAs x q → WaitsOn q r → (l : LeadsTo message lifecycle is_interleaved x.transfer told r t later)
+pub queue_begins : {P : Type 0} (message : ℕ → Message) (lifecycle : ℕ → Option ℕ) (is_interleaved : Bool) (x : Epochs) (q r : Queue) (t : Items) (emitted later : Emitted P) → Invariant message is_interleaved x.transfer
+    → QueueRefines message lifecycle is_interleaved x.transfer.sender q → ArePausedAs x q → WaitsOn q r → (l : LeadsTo message lifecycle is_interleaved x.transfer emitted r t later)
     → MayAll message is_interleaved x (map transfers l.leads.events) × (go_all message is_interleaved x (map transfers l.leads.events) ≡ record x { transfer = l.after })
-queue_begins message lifecycle is_interleaved x q r t told later k sh h still l =
+queue_begins message lifecycle is_interleaved x q r t emitted later k sh h still l =
     let es = l.leads.events in
     let shown = subst (λ (z : Transfer). SenderRefines message lifecycle is_interleaved z r t) (sym l.leads.leads) l.refines in
     let points : (run message is_interleaved x.transfer es).forward_points ≡ x.transfer.forward_points = ap (λ (z : Transfer). z.forward_points) l.leads.leads ∙ ap (λ (z : Transfer). z.forward_points) l.leads.rest_stays in (
@@ -232,9 +232,9 @@ queue_begins message lifecycle is_interleaved x q r t told later k sh h still l 
 -- ---- a turn of a stream that isn't stopped
 
 pub turn_begins : {P : Type 0} (message : ℕ → Message) (lifecycle : ℕ → Option ℕ) (is_interleaved : Bool) (x : Epochs) (q : Queue) (s : Items) → Invariant message is_interleaved x.transfer
-    → SenderRefines message lifecycle is_interleaved x.transfer q s → ArePausedAs x q → (now id size : ℕ) (told : Emitted P) → is_stopped (stream id q.streams).pause ≡ false
+    → SenderRefines message lifecycle is_interleaved x.transfer q s → ArePausedAs x q → (now id size : ℕ) (emitted : Emitted P) → is_stopped (stream id q.streams).pause ≡ false
     → (es : List Rule) → Happens message is_interleaved x.transfer es → list_all is_sending es ≡ true → (t : Items)
-    → SenderRefines message lifecycle is_interleaved (run message is_interleaved x.transfer es) (turn now id size q told).queue t → (run message is_interleaved x.transfer es).forward_points ≡ x.transfer.forward_points
+    → SenderRefines message lifecycle is_interleaved (run message is_interleaved x.transfer es) (turn now id size q emitted).queue t → (run message is_interleaved x.transfer es).forward_points ≡ x.transfer.forward_points
     → MayAll message is_interleaved x (map transfers es)
-turn_begins message lifecycle is_interleaved x q s k sh h now id size told goes_on es may all t shown points =
-    begins_waiting message lifecycle is_interleaved x q (turn now id size q told).queue t k sh.queue h (turn_waits x q sh.queue.order sh.queue.rising h now id size told goes_on) es may all shown points
+turn_begins message lifecycle is_interleaved x q s k sh h now id size emitted goes_on es may all t shown points =
+    begins_waiting message lifecycle is_interleaved x q (turn now id size q emitted).queue t k sh.queue h (turn_waits x q sh.queue.order sh.queue.rising h now id size emitted goes_on) es may all shown points

@@ -23,18 +23,18 @@ use Rattle.proof_tx_refines.proofs.QueuedLemmas.{queue_given, queue_as, change}
 use Rattle.proof_tx_refines.proofs.FreshLemmas.{put_here}
 use Rattle.proof_tx_refines.proofs.ProduceLemmas.{stream_changed, is_other, behind_waits}
 
-module _ {P : Type 0} (message : ℕ → Message) (lifecycle : ℕ → Option ℕ) (is_interleaved : Bool) (o : Sender) (q : Queue) (id number : ℕ) (told : Emitted P) where
+module _ {P : Type 0} (message : ℕ → Message) (lifecycle : ℕ → Option ℕ) (is_interleaved : Bool) (o : Sender) (q : Queue) (id number : ℕ) (emitted : Emitted P) where
   abbrev s0 : Stream
   s0 = stream id q.streams
 
   abbrev after : Queue
-  after = (discard id number q told).queue
+  after = (discard id number q emitted).queue
 
   abbrev dropped : Stream → Stream
   dropped s = without_front number s.messages s
 
   streams_are : after.streams ≡ queue.put_stream id (dropped s0) q.streams
-  streams_are = discard_streams id (streams_discarded id number q.streams) (front_discarded number s0.messages) q told
+  streams_are = discard_streams id (streams_discarded id number q.streams) (front_discarded number s0.messages) q emitted
 
   pub there : stream id after.streams ≡ dropped s0
   there = ap (λ (z : Streams). stream id z) streams_are ∙ stream_changed id dropped q.streams refl
@@ -45,14 +45,14 @@ module _ {P : Type 0} (message : ℕ → Message) (lifecycle : ℕ → Option �
   mode_stays : after.scheduler.is_interleaved ≡ q.scheduler.is_interleaved
   mode_stays = go (front_discarded number s0.messages)
     where
-      go : (f : Option (Option ℕ)) → (discard_from id (streams_discarded id number q.streams) f q told).queue.scheduler.is_interleaved ≡ q.scheduler.is_interleaved
+      go : (f : Option (Option ℕ)) → (discard_from id (streams_discarded id number q.streams) f q emitted).queue.scheduler.is_interleaved ≡ q.scheduler.is_interleaved
       go None = refl
       go (Some l) = hears_mode id _ _ q.scheduler
 
   count_stays : after.next_number ≡ q.next_number
   count_stays = go (front_discarded number s0.messages)
     where
-      go : (f : Option (Option ℕ)) → (discard_from id (streams_discarded id number q.streams) f q told).queue.next_number ≡ q.next_number
+      go : (f : Option (Option ℕ)) → (discard_from id (streams_discarded id number q.streams) f q emitted).queue.next_number ≡ q.next_number
       go None = refl
       go (Some l) = refl
 
@@ -60,7 +60,7 @@ module _ {P : Type 0} (message : ℕ → Message) (lifecycle : ℕ → Option �
   same_after : (discard id number q (silent {P = List ℕ})).queue ≡ after
   same_after = go (front_discarded number s0.messages)
     where
-      go : (f : Option (Option ℕ)) → (discard_from id (streams_discarded id number q.streams) f q (silent {P = List ℕ})).queue ≡ (discard_from id (streams_discarded id number q.streams) f q told).queue
+      go : (f : Option (Option ℕ)) → (discard_from id (streams_discarded id number q.streams) f q (silent {P = List ℕ})).queue ≡ (discard_from id (streams_discarded id number q.streams) f q emitted).queue
       go None = refl
       go (Some l) = refl
 
@@ -127,7 +127,7 @@ module _ {P : Type 0} (message : ℕ → Message) (lifecycle : ℕ → Option �
     pub discard_queue : QueueRefines message lifecycle is_interleaved o after
     discard_queue = record {
       mode = mode_stays ∙ h.mode;
-      order = discarded_in_order id number q told h.order;
+      order = discarded_in_order id number q emitted h.order;
       rising = subst IsNumbered same_after (calls_number.discarded id number q silent h.rising);
       rests = subst HasRests same_after (calls_leave_rests.discarded id number q silent h.rests);
       accepted = count_stays ∙ h.accepted;
@@ -169,10 +169,10 @@ pub record Discarded (message : ℕ → Message) (lifecycle : ℕ → Option ℕ
   pub queue_is : QueueRefines message lifecycle is_interleaved o q
   pub none_left : AreDiscards o (messages_of q) []
 
-pub discards_all : {P : Type 0} (message : ℕ → Message) (lifecycle : ℕ → Option ℕ) (is_interleaved : Bool) (o : Sender) (ds : List Discard) (q : Queue) (told : Emitted P)
-    → QueueRefines message lifecycle is_interleaved o q → AreDiscards o (messages_of q) ds → Discarded message lifecycle is_interleaved o (discard_all ds q told).queue
-discards_all message lifecycle is_interleaved o [] q told h a = record { queue_is = h; none_left = a }
-discards_all message lifecycle is_interleaved o (d ∷ ds) q told h a =
+pub discards_all : {P : Type 0} (message : ℕ → Message) (lifecycle : ℕ → Option ℕ) (is_interleaved : Bool) (o : Sender) (ds : List Discard) (q : Queue) (emitted : Emitted P)
+    → QueueRefines message lifecycle is_interleaved o q → AreDiscards o (messages_of q) ds → Discarded message lifecycle is_interleaved o (discard_all ds q emitted).queue
+discards_all message lifecycle is_interleaved o [] q emitted h a = record { queue_is = h; none_left = a }
+discards_all message lifecycle is_interleaved o (d ∷ ds) q emitted h a =
     let gone = a.given_up d (inl refl) in
-    let x = discard d.stream d.number q told in
-    discards_all message lifecycle is_interleaved o ds x.queue x.emitted (discard_queue message lifecycle is_interleaved o q d.stream d.number told h gone) (discard_named message lifecycle is_interleaved o q d.stream d.number told h gone ds a)
+    let x = discard d.stream d.number q emitted in
+    discards_all message lifecycle is_interleaved o ds x.queue x.emitted (discard_queue message lifecycle is_interleaved o q d.stream d.number emitted h gone) (discard_named message lifecycle is_interleaved o q d.stream d.number emitted h gone ds a)

@@ -171,9 +171,9 @@ module _ (message : ℕ → Message) (lifecycle : ℕ → Option ℕ) (is_interl
         breaks = breaks_stay x (goes message is_interleaved x (transfers accept)) s s refl (omega arith) refl h.breaks;
       }
 
-  pub settings_follow : {P : Type 0} (id n : ℕ) (told : Emitted P) → FollowsEpochs x (set_priority id n q) s × FollowsEpochs x (set_low_threshold id n q told).queue s
-  settings_follow id n told =
-      let z = settings_pause x q h.paused id n told in (
+  pub settings_follow : {P : Type 0} (id n : ℕ) (emitted : Emitted P) → FollowsEpochs x (set_priority id n q) s × FollowsEpochs x (set_low_threshold id n q emitted).queue s
+  settings_follow id n emitted =
+      let z = settings_pause x q h.paused id n emitted in (
         record {
           paused = z.0;
           line = calls_keep_line.prioritised id n q h.line;
@@ -202,10 +202,10 @@ module _ (message : ℕ → Message) (lifecycle : ℕ → Option ℕ) (is_interl
   opened_requests Paused id y = refl
   opened_requests Resetting id y = refl
 
-  pub preparing_follows : {P : Type 0} (id : ℕ) (told : Emitted P) → PreparesFollow message is_interleaved x q s id told
-  preparing_follows id told =
+  pub preparing_follows : {P : Type 0} (id : ℕ) (emitted : Emitted P) → PreparesFollow message is_interleaved x q s id emitted
+  preparing_follows id emitted =
       let ps = unsent_of q id in
-      let z = preparing_keeps message lifecycle is_interleaved x q s sh h.paused id told (prepares_row message lifecycle is_interleaved x.transfer q s k sh id told).may in
+      let z = preparing_keeps message lifecycle is_interleaved x q s sh h.paused id emitted (prepares_row message lifecycle is_interleaved x.transfer q s k sh id emitted).may in
       record {
         may = z.may;
         transfer_is = ap (λ (w : Epochs). w.transfer) leads ∙ opened_transfer (stream id q.streams).pause id given;

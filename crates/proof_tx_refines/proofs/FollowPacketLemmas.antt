@@ -77,10 +77,10 @@ module _ {P : Type 0} where
       by true y z e = e
       by false y z e = refl
 
-  send_breaks : (now most : ℕ) (s : Sender) (q : Queue) (told : Emitted P) → (send now most s q told).sender.outstanding.items.breaks ≡ s.outstanding.items.breaks
-  send_breaks now most s q told =
+  send_breaks : (now most : ℕ) (s : Sender) (q : Queue) (emitted : Emitted P) → (send now most s q emitted).sender.outstanding.items.breaks ≡ s.outstanding.items.breaks
+  send_breaks now most s q emitted =
       let quiet = without_discards s in
-      let left : Changed P = discard_all s.outstanding.items.discards q told in
+      let left : Changed P = discard_all s.outstanding.items.discards q emitted in
       let begun : Filling P = filled_with most quiet (resent most quiet) left in
       let whole : Filling P = fill (suc begun.left) now begun in
       timed_breaks (nat_lt 0 (length whole.chunks)) now whole.sender
@@ -95,10 +95,10 @@ fast_breaks now most s =
 pub breaks_are_kept : BreaksAreKept
 breaks_are_kept = record {
   message = λ p s. refl;
-  losses = λ at_once fast n s told. nacks_keep at_once fast n (first_step s told);
-  timeout = λ now s told. nacks_keep true false (length s.outstanding.items.kept) (first_step s.outstanding.items told);
-  lifetimes = λ now n s told. expiries_keep now n (first_step s told);
-  expiry = λ now s told. expiries_keep now (length s.outstanding.items.kept) (first_step s.outstanding.items told);
+  losses = λ at_once fast n s emitted. nacks_keep at_once fast n (first_step s emitted);
+  timeout = λ now s emitted. nacks_keep true false (length s.outstanding.items.kept) (first_step s.outstanding.items emitted);
+  lifetimes = λ now n s emitted. expiries_keep now n (first_step s emitted);
+  expiry = λ now s emitted. expiries_keep now (length s.outstanding.items.kept) (first_step s.outstanding.items emitted);
 }
 
 -- ---- what leads there may happen by the rules with epochs
@@ -108,11 +108,11 @@ module _ (message : ℕ → Message) (lifecycle : ℕ → Option ℕ) (is_interl
   abbrev items : Items
   items = s.outstanding.items
 
-  pub items_follow : {P : Type 0} (t : Items) (told later : Emitted P) → t.breaks ≡ items.breaks → (l : LeadsTo message lifecycle is_interleaved x.transfer told q t later)
+  pub items_follow : {P : Type 0} (t : Items) (emitted later : Emitted P) → t.breaks ≡ items.breaks → (l : LeadsTo message lifecycle is_interleaved x.transfer emitted q t later)
       → LeadsInEpochs message is_interleaved x l.leads.events l.after q t
-  items_follow t told later breaks l =
+  items_follow t emitted later breaks l =
       let y : Epochs = record x { transfer = l.after } in
-      let z = queue_begins message lifecycle is_interleaved x q q t told later k sh.queue h.paused (waits_same q) l in
+      let z = queue_begins message lifecycle is_interleaved x q q t emitted later k sh.queue h.paused (waits_same q) l in
       let same : l.after.acknowledged ≡ x.transfer.acknowledged = ap (λ (w : Transfer). w.acknowledged) l.leads.rest_stays in
       record {
         may = z.0;
@@ -125,15 +125,15 @@ module _ (message : ℕ → Message) (lifecycle : ℕ → Option ℕ) (is_interl
         };
       }
 
-  pub sending_follows : {P : Type 0} (now most : ℕ) (told : Emitted P) (l : Sends message lifecycle is_interleaved x.transfer now most s q told)
-      → LeadsInEpochs message is_interleaved x l.leads.leads.events l.leads.after (send now most s q told).queue (send now most s q told).sender.outstanding.items
-  sending_follows now most told l =
-      let r : Queue = (send now most s q told).queue in
-      let t : Items = (send now most s q told).sender.outstanding.items in
+  pub sending_follows : {P : Type 0} (now most : ℕ) (emitted : Emitted P) (l : Sends message lifecycle is_interleaved x.transfer now most s q emitted)
+      → LeadsInEpochs message is_interleaved x l.leads.leads.events l.leads.after (send now most s q emitted).queue (send now most s q emitted).sender.outstanding.items
+  sending_follows now most emitted l =
+      let r : Queue = (send now most s q emitted).queue in
+      let t : Items = (send now most s q emitted).sender.outstanding.items in
       let y : Epochs = record x { transfer = l.leads.after } in
       let stands : Stands x q = record { ordered = sh.queue.order; numbered = sh.queue.rising; line = h.line; paused = h.paused; keyed = h.keyed } in
-      let on = send_stands x now message lifecycle is_interleaved x.transfer.sender most s q told sh.queue sh.discards stands in
-      let z = queue_begins message lifecycle is_interleaved x q r t told (send now most s q told).emitted k sh.queue h.paused on.waits l.leads in
+      let on = send_stands x now message lifecycle is_interleaved x.transfer.sender most s q emitted sh.queue sh.discards stands in
+      let z = queue_begins message lifecycle is_interleaved x q r t emitted (send now most s q emitted).emitted k sh.queue h.paused on.waits l.leads in
       let same : l.leads.after.acknowledged ≡ x.transfer.acknowledged = ap (λ (w : Transfer). w.acknowledged) l.leads.leads.rest_stays in
       record {
         may = z.0;
@@ -142,7 +142,7 @@ module _ (message : ℕ → Message) (lifecycle : ℕ → Option ℕ) (is_interl
           paused = paused_as x y r refl refl refl on.stands.paused;
           line = on.stands.line;
           keyed = on.stands.keyed;
-          breaks = breaks_stay x y items t refl (omega (arith, same)) (send_breaks now most s q told) h.breaks;
+          breaks = breaks_stay x y items t refl (omega (arith, same)) (send_breaks now most s q emitted) h.breaks;
         };
       }
 
@@ -165,9 +165,9 @@ leaves_may message is_interleaved zero c x h = tt
 leaves_may message is_interleaved (suc n) c x h = ((h.0, tt), leaves_may message is_interleaved n c (goes message is_interleaved x (transfers (ack_point_advances c))) h.1)
 
 module _ {P : Type 0} (message : ℕ → Message) (lifecycle : ℕ → Option ℕ) (is_interleaved : Bool) (x : Epochs) (q : Queue) (s : Sender) (k : Invariant message is_interleaved x.transfer)
-    (sh : SenderRefines message lifecycle is_interleaved x.transfer q s.outstanding.items) (h : FollowsEpochs x q s.outstanding.items) (now cumulative c a_rwnd : ℕ) (blocks : List GapAckBlock) (told : Emitted P)
+    (sh : SenderRefines message lifecycle is_interleaved x.transfer q s.outstanding.items) (h : FollowsEpochs x q s.outstanding.items) (now cumulative c a_rwnd : ℕ) (blocks : List GapAckBlock) (emitted : Emitted P)
     (upto : cumulative + 1 ≡ origin + c)
-    (hr : ReceivesSack message lifecycle is_interleaved x.transfer q (leaving cumulative s.outstanding.items) c told (handle_sack now cumulative a_rwnd blocks s told).outstanding.items (step_of cumulative blocks s told).emitted) where
+    (hr : ReceivesSack message lifecycle is_interleaved x.transfer q (leaving cumulative s.outstanding.items) c emitted (handle_sack now cumulative a_rwnd blocks s emitted).outstanding.items (step_of cumulative blocks s emitted).emitted) where
   abbrev n : ℕ
   n = leaving cumulative s.outstanding.items
 
@@ -184,7 +184,7 @@ module _ {P : Type 0} (message : ℕ → Message) (lifecycle : ℕ → Option �
   y = record x { transfer = hr.losses.after }
 
   abbrev to : Items
-  to = (handle_sack now cumulative a_rwnd blocks s told).outstanding.items
+  to = (handle_sack now cumulative a_rwnd blocks s emitted).outstanding.items
 
   gone : go_all message is_interleaved x (map transfers es) ≡ x1
   gone = goes_sending message is_interleaved es x (leaves_send n c) ∙ ap with_transfer hr.leaves
@@ -196,7 +196,7 @@ module _ {P : Type 0} (message : ℕ → Message) (lifecycle : ℕ → Option �
   kept_on = subst (λ (z : Transfer). Invariant message is_interleaved z) hr.leaves (all_kept message is_interleaved es x.transfer k hr.may)
 
   lost : MayAll message is_interleaved x1 (map transfers fs) × (go_all message is_interleaved x1 (map transfers fs) ≡ y)
-  lost = queue_begins message lifecycle is_interleaved x1 q q to told (step_of cumulative blocks s told).emitted kept_on sh.queue (paused_as x x1 q refl refl refl h.paused) (waits_same q) hr.losses
+  lost = queue_begins message lifecycle is_interleaved x1 q q to emitted (step_of cumulative blocks s emitted).emitted kept_on sh.queue (paused_as x x1 q refl refl refl h.paused) (waits_same q) hr.losses
 
   both : map transfers (es ++ fs) ≡ map transfers es ++ map transfers fs
   both = map-append transfers es fs
@@ -221,7 +221,7 @@ module _ {P : Type 0} (message : ℕ → Message) (lifecycle : ℕ → Option �
           keyed = h.keyed;
           breaks =
               breaks_stay y y (staying cumulative s.outstanding.items) to refl (omega arith)
-              (nacks_keep false (not (not (is_open cumulative s.windows))) (reported_below blocks (staying cumulative s.outstanding.items)) (receive_sack_first cumulative blocks s.outstanding.items told))
+              (nacks_keep false (not (not (is_open cumulative s.windows))) (reported_below blocks (staying cumulative s.outstanding.items)) (receive_sack_first cumulative blocks s.outstanding.items emitted))
               (staying_keeps x y s.outstanding.items cumulative c refl (omega (arith, a)) upto (omega (arith, a, b)) h.breaks);
         };
       }

@@ -148,7 +148,7 @@ module _ (message : ℕ → Message) (lifecycle : ℕ → Option ℕ) where
         }
 
   -- all that expired at the front of a stream
-  pub record Freshened {P : Type 0} (is_interleaved : Bool) (x : Transfer) (s : Items) (ms : ℕ → List Queued) (now id : ℕ) (front : List Queued) (told : Emitted P) : Type 0 where
+  pub record Freshened {P : Type 0} (is_interleaved : Bool) (x : Transfer) (s : Items) (ms : ℕ → List Queued) (now id : ℕ) (front : List Queued) (emitted : Emitted P) : Type 0 where
     pub after : Transfer
     pub places : List ℕ
     pub leads : Leads message is_interleaved x after places
@@ -158,12 +158,12 @@ module _ (message : ℕ → Message) (lifecycle : ℕ → Option ℕ) where
     pub discards_are : AreDiscards after.sender (put ms id (fresh now front)) s.discards
     pub counts_stay : after.sender.following ≡ x.sender.following
     pub accepted_stays : after.sender.accepted ≡ x.sender.accepted
-    pub told_of : recorded_places (drop_expired now front told) ≡ recorded_places told ++ places
+    pub told_of : recorded_places (drop_expired now front emitted) ≡ recorded_places emitted ++ places
 
   pub freshens : {P : Type 0} (is_interleaved : Bool) (now id least most : ℕ) (front : List Queued) (x : Transfer) (k : Invariant message is_interleaved x) (s : Items) (ms : ℕ → List Queued) → ms id ≡ front → are_rising least most front ≡ true
-      → AreQueued message lifecycle x.sender ms → AreKept message lifecycle x.sender x.acknowledged s.kept → AreDiscards x.sender ms s.discards → (told : Emitted P)
-      → Freshened is_interleaved x s ms now id front told
-  freshens is_interleaved now id least most [] x k s ms h r a kept d told = record {
+      → AreQueued message lifecycle x.sender ms → AreKept message lifecycle x.sender x.acknowledged s.kept → AreDiscards x.sender ms s.discards → (emitted : Emitted P)
+      → Freshened is_interleaved x s ms now id front emitted
+  freshens is_interleaved now id least most [] x k s ms h r a kept d emitted = record {
     after = x;
     places = [];
     leads = leads_none message is_interleaved x;
@@ -173,19 +173,19 @@ module _ (message : ℕ → Message) (lifecycle : ℕ → Option ℕ) where
     discards_are = subst (λ (z : ℕ → List Queued). AreDiscards x.sender z s.discards) (sym (put_here ms id [] h)) d;
     counts_stay = refl;
     accepted_stays = refl;
-    told_of = sym (append-nil (recorded_places told));
+    told_of = sym (append-nil (recorded_places emitted));
   }
-  freshens {P} is_interleaved now id least most (m ∷ rest) x k s ms h r a kept d told =
-      go (is_stale now m) refl (λ y ky my hy ay ty dy told. freshens is_interleaved now id (m.number + 1) most rest y ky s my hy (rises least most m rest r).behind ay ty dy told)
+  freshens {P} is_interleaved now id least most (m ∷ rest) x k s ms h r a kept d emitted =
+      go (is_stale now m) refl (λ y ky my hy ay ty dy emitted. freshens is_interleaved now id (m.number + 1) most rest y ky s my hy (rises least most m rest r).behind ay ty dy emitted)
     where
       Goal : Bool → Type 0
       Goal b = (after : Transfer) × (places : List ℕ) × Leads message is_interleaved x after places × Invariant message is_interleaved after
           × AreQueued message lifecycle after.sender (put ms id (cond b (fresh now rest) (m ∷ rest))) × AreKept message lifecycle after.sender after.acknowledged s.kept
           × AreDiscards after.sender (put ms id (cond b (fresh now rest) (m ∷ rest))) s.discards
           × (after.sender.following ≡ x.sender.following) × (after.sender.accepted ≡ x.sender.accepted)
-          × (recorded_places (cond b (drop_expired now rest (emit_events (expiry m.lifecycle) (events.give_up m.number Lifetime told))) told) ≡ recorded_places told ++ places)
+          × (recorded_places (cond b (drop_expired now rest (emit_events (expiry m.lifecycle) (events.give_up m.number Lifetime emitted))) emitted) ≡ recorded_places emitted ++ places)
 
-      done : (b : Bool) → is_stale now m ≡ b → Goal b → Freshened is_interleaved x s ms now id (m ∷ rest) told
+      done : (b : Bool) → is_stale now m ≡ b → Goal b → Freshened is_interleaved x s ms now id (m ∷ rest) emitted
       done b e g = record {
         after = g.0;
         places = g.1;
@@ -196,13 +196,13 @@ module _ (message : ℕ → Message) (lifecycle : ℕ → Option ℕ) where
         discards_are = subst (λ z. AreDiscards g.0.sender (put ms id (cond z (fresh now rest) (m ∷ rest))) s.discards) (sym e) g.6;
         counts_stay = g.7;
         accepted_stays = g.8;
-        told_of = ap (λ z. recorded_places (cond z (drop_expired now rest (emit_events (expiry m.lifecycle) (events.give_up m.number Lifetime told))) told)) e ∙ g.9;
+        told_of = ap (λ z. recorded_places (cond z (drop_expired now rest (emit_events (expiry m.lifecycle) (events.give_up m.number Lifetime emitted))) emitted)) e ∙ g.9;
       }
 
       go : (b : Bool) → is_stale now m ≡ b
           → ((y : Transfer) (ky : Invariant message is_interleaved y) (my : ℕ → List Queued) → my id ≡ rest → AreQueued message lifecycle y.sender my → AreKept message lifecycle y.sender y.acknowledged s.kept → AreDiscards y.sender my s.discards
-          → (told : Emitted P) → Freshened is_interleaved y s my now id rest told)
-          → Freshened is_interleaved x s ms now id (m ∷ rest) told
+          → (emitted : Emitted P) → Freshened is_interleaved y s my now id rest emitted)
+          → Freshened is_interleaved x s ms now id (m ∷ rest) emitted
       go false e ih =
           done false e (
             x,
@@ -214,13 +214,13 @@ module _ (message : ℕ → Message) (lifecycle : ℕ → Option ℕ) where
             subst (λ (z : ℕ → List Queued). AreDiscards x.sender z s.discards) (sym (put_here ms id (m ∷ rest) h)) d,
             refl,
             refl,
-            sym (append-nil (recorded_places told)),
+            sym (append-nil (recorded_places emitted)),
           )
       go true e ih =
           let unsent = not-true (is_some m.numbers) (and_parts (not (is_some m.numbers)) (is_due now m.expires) e).0 in
           let one = drops is_interleaved x k ms a s kept d id [] m rest h refl (once least most m rest r) unsent in
           let x1 : Transfer = after message is_interleaved x (give_up m.number) in
-          let later : Emitted P = emit_events (expiry m.lifecycle) (events.give_up m.number Lifetime told) in
+          let later : Emitted P = emit_events (expiry m.lifecycle) (events.give_up m.number Lifetime emitted) in
           let f = ih x1 one.kept_is (put ms id rest) (put_at ms id rest id refl) one.queued one.items one.discards_are later in
           let over = put_over ms id rest (fresh now rest) in
           done true e (
@@ -233,5 +233,5 @@ module _ (message : ℕ → Message) (lifecycle : ℕ → Option ℕ) where
             subst (λ (z : ℕ → List Queued). AreDiscards f.after.sender z s.discards) over f.discards_are,
             f.counts_stay,
             f.accepted_stays,
-            f.told_of ∙ (ap (λ z. z ++ f.places) (map-append (λ g. g.number) told.given_up (record { number = m.number; cause = Lifetime } ∷ [])) ∙ append_assoc (recorded_places told) (m.number ∷ []) f.places),
+            f.told_of ∙ (ap (λ z. z ++ f.places) (map-append (λ g. g.number) emitted.given_up (record { number = m.number; cause = Lifetime } ∷ [])) ∙ append_assoc (recorded_places emitted) (m.number ∷ []) f.places),
           )

@@ -66,14 +66,14 @@ each_restart_keyed (id ∷ ids) q h = each_restart_keyed ids (restarted_one id q
 pub reset_keyed : (q : Queue) → are_ascending 0 q.streams.entries ≡ true → are_ascending 0 (reset q).streams.entries ≡ true
 reset_keyed q h = each_restart_keyed (keys_of q.streams.entries) q h
 
-pub discard_keyed : {P : Type 0} (id number : ℕ) (q : Queue) (told : Emitted P) → are_ascending 0 q.streams.entries ≡ true → are_ascending 0 (discard id number q told).queue.streams.entries ≡ true
-discard_keyed id number q told h =
+pub discard_keyed : {P : Type 0} (id number : ℕ) (q : Queue) (emitted : Emitted P) → are_ascending 0 q.streams.entries ≡ true → are_ascending 0 (discard id number q emitted).queue.streams.entries ≡ true
+discard_keyed id number q emitted h =
     let s : Stream = stream id q.streams in
-    ap (λ (ss : Streams). are_ascending 0 ss.entries) (discard_streams id (streams_discarded id number q.streams) (front_discarded number s.messages) q told)
+    ap (λ (ss : Streams). are_ascending 0 ss.entries) (discard_streams id (streams_discarded id number q.streams) (front_discarded number s.messages) q emitted)
     ∙ put_keyed id (without_front number s.messages s) q.streams h
 
-pub turn_keyed : {P : Type 0} (now id size : ℕ) (q : Queue) (told : Emitted P) → are_ascending 0 q.streams.entries ≡ true → are_ascending 0 (turn now id size q told).queue.streams.entries ≡ true
-turn_keyed now id size q told h =
+pub turn_keyed : {P : Type 0} (now id size : ℕ) (q : Queue) (emitted : Emitted P) → are_ascending 0 q.streams.entries ≡ true → are_ascending 0 (turn now id size q emitted).queue.streams.entries ≡ true
+turn_keyed now id size q emitted h =
     let ss : Streams = streams_without_stale now id q.streams in
     put_keyed id (advance size (stream id ss)) ss (put_keyed id (without_stale now (stream id q.streams)) q.streams h)
 

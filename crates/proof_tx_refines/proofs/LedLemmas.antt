@@ -37,17 +37,17 @@ module _ (message : ℕ → Message) (is_interleaved : Bool) where
       with_sender : Transfer → Transfer
       with_sender w = record w { sender = z.sender }
 
-unfoldable pub led_on : {P : Type 0} (message : ℕ → Message) (lifecycle : ℕ → Option ℕ) (is_interleaved : Bool) (x : Transfer) (told later last : Emitted P) (q r : Queue) (s t : Items)
-    → (a : LeadsTo message lifecycle is_interleaved x told q s later) → LeadsTo message lifecycle is_interleaved a.after later r t last → LeadsTo message lifecycle is_interleaved x told r t last
-led_on message lifecycle is_interleaved x told later last q r s t a b = record {
+unfoldable pub led_on : {P : Type 0} (message : ℕ → Message) (lifecycle : ℕ → Option ℕ) (is_interleaved : Bool) (x : Transfer) (emitted later last : Emitted P) (q r : Queue) (s t : Items)
+    → (a : LeadsTo message lifecycle is_interleaved x emitted q s later) → LeadsTo message lifecycle is_interleaved a.after later r t last → LeadsTo message lifecycle is_interleaved x emitted r t last
+led_on message lifecycle is_interleaved x emitted later last q r s t a b = record {
   after = b.after;
   places = a.places ++ b.places;
   leads = leads_on message is_interleaved x a.after b.after a.places b.places a.leads b.leads;
   kept = b.kept;
   refines = b.refines;
-  recorded = b.recorded ∙ (ap (λ z. z ++ b.places) a.recorded ∙ append_assoc (recorded_places told) a.places b.places);
+  recorded = b.recorded ∙ (ap (λ z. z ++ b.places) a.recorded ∙ append_assoc (recorded_places emitted) a.places b.places);
 }
 
-pub led_none : {P : Type 0} (message : ℕ → Message) (lifecycle : ℕ → Option ℕ) (is_interleaved : Bool) (x : Transfer) (told : Emitted P) (q : Queue) (s : Items) → Invariant message is_interleaved x → SenderRefines message lifecycle is_interleaved x q s
-    → LeadsTo message lifecycle is_interleaved x told q s told
-led_none message lifecycle is_interleaved x told q s k h = record { after = x; places = []; leads = leads_none message is_interleaved x; kept = k; refines = h; recorded = sym (append-nil (recorded_places told)) }
+pub led_none : {P : Type 0} (message : ℕ → Message) (lifecycle : ℕ → Option ℕ) (is_interleaved : Bool) (x : Transfer) (emitted : Emitted P) (q : Queue) (s : Items) → Invariant message is_interleaved x → SenderRefines message lifecycle is_interleaved x q s
+    → LeadsTo message lifecycle is_interleaved x emitted q s emitted
+led_none message lifecycle is_interleaved x emitted q s k h = record { after = x; places = []; leads = leads_none message is_interleaved x; kept = k; refines = h; recorded = sym (append-nil (recorded_places emitted)) }

@@ -68,9 +68,9 @@ added_line id m q h =
     let s : Stream = push m (stream id q.streams) in
     received_line q (add id m q) id s h refl (written id s q.streams) (λ k d. unwritten k id s q.streams d) (λ e. e)
 
-prepared_line : {P : Type 0} (id : ℕ) (told : Emitted P) (q : Queue) → IsInLine q → IsInLine (prepare_reset id q told).queue
-prepared_line id told q h =
-    received_line q (prepare_reset id q told).queue id (stream id (prepare_reset id q told).queue.streams) h refl refl (λ k d. unwritten k id (prepare_stream (stream id q.streams)) q.streams d) (λ e. e)
+prepared_line : {P : Type 0} (id : ℕ) (emitted : Emitted P) (q : Queue) → IsInLine q → IsInLine (prepare_reset id q emitted).queue
+prepared_line id emitted q h =
+    received_line q (prepare_reset id q emitted).queue id (stream id (prepare_reset id q emitted).queue.streams) h refl refl (λ k d. unwritten k id (prepare_stream (stream id q.streams)) q.streams d) (λ e. e)
 
 stepped_line : (step : ResetStep) (id : ℕ) (q : Queue) → IsInLine q → IsInLine (step_stream step id q)
 stepped_line step id q h = received_line q (step_stream step id q) id (stream id (step_stream step id q).streams) h refl refl (off step id q) (λ e. e)
@@ -79,8 +79,8 @@ steps_line : (step : ResetStep) (ids : List ℕ) (q : Queue) → IsInLine q → 
 steps_line step [] q h = h
 steps_line step (id ∷ ids) q h = steps_line step ids (step_stream step id q) (stepped_line step id q h)
 
-pub discarded_line : {P : Type 0} (id number : ℕ) (told : Emitted P) (q : Queue) → IsInLine q → IsInLine (discard id number q told).queue
-discarded_line {P} id number told q h = go (front_discarded number s0.messages) refl
+pub discarded_line : {P : Type 0} (id number : ℕ) (emitted : Emitted P) (q : Queue) → IsInLine q → IsInLine (discard id number q emitted).queue
+discarded_line {P} id number emitted q h = go (front_discarded number s0.messages) refl
   where
     s0 : Stream
     s0 = stream id q.streams
@@ -100,7 +100,7 @@ discarded_line {P} id number told q h = go (front_discarded number s0.messages) 
         by false t = cond-false (m.number == number) (record s0 { messages = rest; pause = settle_pause s0.pause }) s0 t
 
     to : Option (Option ℕ) → Queue
-    to f = (discard_from id ss f q told).queue
+    to f = (discard_from id ss f q emitted).queue
 
     go : (f : Option (Option ℕ)) → front_discarded number s0.messages ≡ f → IsInLine (to (front_discarded number s0.messages))
     go None e = subst (λ f. IsInLine (to f)) (sym e) (same_line q (to None) refl refl each h)
@@ -124,14 +124,14 @@ set_line q r id s sch begun streams pause h = same_line q r sch begun each h
       | inl c ↦ subst (λ j. (stream j r.streams).pause ≡ (stream j q.streams).pause) (sym c) (ap (λ (z : Stream). z.pause) (ap (stream id) streams ∙ written id s q.streams) ∙ pause)
     ]
 
-pub turned_line : {P : Type 0} (now id size : ℕ) (told : Emitted P) (q : Queue) → IsInLine q → IsInLine (turn now id size q told).queue
-turned_line {P} now id size told q h = go (next_fragment id size (stream id ss)) refl
+pub turned_line : {P : Type 0} (now id size : ℕ) (emitted : Emitted P) (q : Queue) → IsInLine q → IsInLine (turn now id size q emitted).queue
+turned_line {P} now id size emitted q h = go (next_fragment id size (stream id ss)) refl
   where
     ss : Streams
     ss = streams_without_stale now id q.streams
 
     r : Queue
-    r = (turn now id size q told).queue
+    r = (turn now id size q emitted).queue
 
     s : Stream
     s = stream id (streams_after id size ss)
@@ -165,12 +165,12 @@ pub calls_keep_line : CallsKeepLine
 calls_keep_line = record {
   new = λ o. record { ascending = refl; flows = λ k t. absurd (cc); whole = λ m. refl };
   accepting = added_line;
-  preparing = λ id told. prepared_line id told;
+  preparing = λ id emitted. prepared_line id emitted;
   resetting = steps_line;
-  discarding = λ id number told. discarded_line id number told;
+  discarding = λ id number emitted. discarded_line id number emitted;
   prioritised = λ id n q h. set_line q (set_priority id n q) id (with_priority n (stream id q.streams)) refl refl refl refl h;
-  watched = λ id n told q h. set_line q (set_low_threshold id n q told).queue id (with_threshold n (stream id q.streams)) refl refl refl refl h;
-  turning = λ now id size told. turned_line now id size told;
+  watched = λ id n emitted q h. set_line q (set_low_threshold id n q emitted).queue id (with_threshold n (stream id q.streams)) refl refl refl refl h;
+  turning = λ now id size emitted. turned_line now id size emitted;
   mode = λ is_interleaved q none h. record { ascending = h.ascending; flows = h.flows; whole = λ m. none };
 }
 
@@ -196,27 +196,27 @@ module _ {P : Type 0} (x : Epochs) (now size : ℕ) (some : 0 < size) where
   abbrev To : Turn P → Type 0
   To t = ArePausedAs x t.queue × IsInLine t.queue
 
-  within : (n : ℕ) (q : Queue) (told : Emitted P) → IsInOrder q → IsNumbered q → IsInLine q → ArePausedAs x q → To (produce_within n now size q told)
-  within zero q told ordered numbered line paused = (paused, line)
-  within (suc n) q told ordered numbered line paused = go (next_stream q) refl (within n)
+  within : (n : ℕ) (q : Queue) (emitted : Emitted P) → IsInOrder q → IsNumbered q → IsInLine q → ArePausedAs x q → To (produce_within n now size q emitted)
+  within zero q emitted ordered numbered line paused = (paused, line)
+  within (suc n) q emitted ordered numbered line paused = go (next_stream q) refl (within n)
     where
       Rest : Type 0
       Rest = (r : Queue) (later : Emitted P) → IsInOrder r → IsNumbered r → IsInLine r → ArePausedAs x r → To (produce_within n now size r later)
 
-      one : (id : ℕ) → next_stream q ≡ Some id → To (turn now id size q told)
-      one id next = (turn_pauses x q ordered numbered paused now id size told (next_flows x q ordered line paused id next), turned_line now id size told q line)
+      one : (id : ℕ) → next_stream q ≡ Some id → To (turn now id size q emitted)
+      one id next = (turn_pauses x q ordered numbered paused now id size emitted (next_flows x q ordered line paused id next), turned_line now id size emitted q line)
 
-      given : (id : ℕ) → next_stream q ≡ Some id → Rest → (made : Option Produced) → (turn now id size q told).made ≡ made → To (produce_within (suc n) now size q told)
+      given : (id : ℕ) → next_stream q ≡ Some id → Rest → (made : Option Produced) → (turn now id size q emitted).made ≡ made → To (produce_within (suc n) now size q emitted)
       given id next rest None e =
-          let t = turn now id size q told in
+          let t = turn now id size q emitted in
           let z = one id next in
-          subst To (sym (turned n now size id q told next (sym e)))
-          (rest t.queue t.emitted (turn_in_order now id size q told some next ordered) (turn_numbered now id size q told numbered) z.1 z.0)
-      given id next rest (Some made) e = subst To (sym (gives n now size id q told made next (sym e))) (one id next)
+          subst To (sym (turned n now size id q emitted next (sym e)))
+          (rest t.queue t.emitted (turn_in_order now id size q emitted some next ordered) (turn_numbered now id size q emitted numbered) z.1 z.0)
+      given id next rest (Some made) e = subst To (sym (gives n now size id q emitted made next (sym e))) (one id next)
 
-      go : (o : Option ℕ) → next_stream q ≡ o → Rest → To (produce_within (suc n) now size q told)
-      go None e rest = subst To (sym (idles n now size q told e)) (paused, line)
-      go (Some id) e rest = given id e rest (turn now id size q told).made refl
+      go : (o : Option ℕ) → next_stream q ≡ o → Rest → To (produce_within (suc n) now size q emitted)
+      go None e rest = subst To (sym (idles n now size q emitted e)) (paused, line)
+      go (Some id) e rest = given id e rest (turn now id size q emitted).made refl
 
-  pub produces_pause : (q : Queue) (told : Emitted P) → IsInOrder q → IsNumbered q → IsInLine q → ArePausedAs x q → To (produce now size q told)
-  produces_pause q told = within (length q.scheduler.times + 2) q told
+  pub produces_pause : (q : Queue) (emitted : Emitted P) → IsInOrder q → IsNumbered q → IsInLine q → ArePausedAs x q → To (produce now size q emitted)
+  produces_pause q emitted = within (length q.scheduler.times + 2) q emitted

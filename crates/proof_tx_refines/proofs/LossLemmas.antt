@@ -72,9 +72,9 @@ module _ (message : ℕ → Message) (lifecycle : ℕ → Option ℕ) where
     messages = messages;
   }
 
-module _ {P : Type 0} (message : ℕ → Message) (lifecycle : ℕ → Option ℕ) (is_interleaved : Bool) (x : Transfer) (told : Emitted P) (q : Queue) where
+module _ {P : Type 0} (message : ℕ → Message) (lifecycle : ℕ → Option ℕ) (is_interleaved : Bool) (x : Transfer) (emitted : Emitted P) (q : Queue) where
   abbrev pub To : Items → Emitted P → Type 0
-  To s later = LeadsTo message lifecycle is_interleaved x told q s later
+  To s later = LeadsTo message lifecycle is_interleaved x emitted q s later
 
   pub abandoned : (p k : ℕ) (s : Items) (later : Emitted P) (cause : GivenUpCause) (i : Item) → slice_get s.kept k ≡ Some i → i.number ≡ p → is_abandoned i ≡ false
       → To s later → To (abandon_message p s) (events.give_up p cause later)
@@ -94,7 +94,7 @@ module _ {P : Type 0} (message : ℕ → Message) (lifecycle : ℕ → Option �
     };
     recorded =
         map-append (λ g. g.number) later.given_up (record { number = p; cause = cause } ∷ [])
-        ∙ (ap (λ w. w ++ p ∷ []) a.recorded ∙ append_assoc (recorded_places told) a.places (p ∷ []));
+        ∙ (ap (λ w. w ++ p ∷ []) a.recorded ∙ append_assoc (recorded_places emitted) a.places (p ∷ []));
   }
     where
       y : Transfer

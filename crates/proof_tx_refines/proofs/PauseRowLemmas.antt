@@ -82,7 +82,7 @@ found_later p m n rest least most r f = found_off p m rest (λ e. none_some (fin
 
 -- ---- settings
 
-module _ {P : Type 0} (x : Epochs) (q : Queue) (h : ArePausedAs x q) (id n : ℕ) (told : Emitted P) where
+module _ {P : Type 0} (x : Epochs) (q : Queue) (h : ArePausedAs x q) (id n : ℕ) (emitted : Emitted P) where
   set_stream : (t : Stream) → t.messages ≡ (stream id q.streams).messages → t.pause ≡ (stream id q.streams).pause → IsPausedAs x id t
   set_stream t ms p =
       let i = h id in
@@ -94,17 +94,17 @@ module _ {P : Type 0} (x : Epochs) (q : Queue) (h : ArePausedAs x q) (id n : ℕ
         newest = λ r m f e. i.newest r m (ap (find r) (sym ms) ∙ f) e;
       }
 
-  pub settings_pause : ArePausedAs x (set_priority id n q) × ArePausedAs x (set_low_threshold id n q told).queue
+  pub settings_pause : ArePausedAs x (set_priority id n q) × ArePausedAs x (set_low_threshold id n q emitted).queue
   settings_pause = (
     keeps_others x q (set_priority id n q) id (λ j d. unwritten j id (with_priority n (stream id q.streams)) q.streams d)
         (subst (λ (z : Stream). IsPausedAs x id z) (sym (written id (with_priority n (stream id q.streams)) q.streams)) (set_stream (with_priority n (stream id q.streams)) refl refl)) h,
-    keeps_others x q (set_low_threshold id n q told).queue id (λ j d. unwritten j id (with_threshold n (stream id q.streams)) q.streams d)
+    keeps_others x q (set_low_threshold id n q emitted).queue id (λ j d. unwritten j id (with_threshold n (stream id q.streams)) q.streams d)
         (subst (λ (z : Stream). IsPausedAs x id z) (sym (written id (with_threshold n (stream id q.streams)) q.streams)) (set_stream (with_threshold n (stream id q.streams)) refl refl)) h,
   )
 
 -- ---- discards
 
-module _ {P : Type 0} (message : ℕ → Message) (lifecycle : ℕ → Option ℕ) (is_interleaved : Bool) (o : Sender) (q : Queue) (id number : ℕ) (told : Emitted P) (h : QueueRefines message lifecycle is_interleaved o q)
+module _ {P : Type 0} (message : ℕ → Message) (lifecycle : ℕ → Option ℕ) (is_interleaved : Bool) (o : Sender) (q : Queue) (id number : ℕ) (emitted : Emitted P) (h : QueueRefines message lifecycle is_interleaved o q)
     (x : Epochs) (a : ArePausedAs x q) where
   abbrev s0 : Stream
   s0 = stream id q.streams
@@ -132,20 +132,20 @@ module _ {P : Type 0} (message : ℕ → Message) (lifecycle : ℕ → Option �
         new = λ p n f g. ap (find p) e ∙ found_later p m n rest 0 q.next_number rising f;
       }
 
-  pub discard_pauses : ArePausedAs x (discard id number q told).queue
+  pub discard_pauses : ArePausedAs x (discard id number q emitted).queue
   discard_pauses =
-      keeps_others x q (discard id number q told).queue id (discards.elsewhere message lifecycle is_interleaved o q id number told)
-      (subst (λ (z : Stream). IsPausedAs x id z) (sym (discards.there message lifecycle is_interleaved o q id number told))
+      keeps_others x q (discard id number q emitted).queue id (discards.elsewhere message lifecycle is_interleaved o q id number emitted)
+      (subst (λ (z : Stream). IsPausedAs x id z) (sym (discards.there message lifecycle is_interleaved o q id number emitted))
       (keeps_paused x id s0 (without_front number s0.messages s0) (dropped_follows s0.messages refl) (a id))) a
 
-pub discards_pause : {P : Type 0} (message : ℕ → Message) (lifecycle : ℕ → Option ℕ) (is_interleaved : Bool) (o : Sender) (x : Epochs) (ds : List Discard) (q : Queue) (told : Emitted P)
-    → QueueRefines message lifecycle is_interleaved o q → AreDiscards o (messages_of q) ds → ArePausedAs x q → ArePausedAs x (discard_all ds q told).queue
-discards_pause message lifecycle is_interleaved o x [] q told h a paused = paused
-discards_pause message lifecycle is_interleaved o x (d ∷ ds) q told h a paused =
+pub discards_pause : {P : Type 0} (message : ℕ → Message) (lifecycle : ℕ → Option ℕ) (is_interleaved : Bool) (o : Sender) (x : Epochs) (ds : List Discard) (q : Queue) (emitted : Emitted P)
+    → QueueRefines message lifecycle is_interleaved o q → AreDiscards o (messages_of q) ds → ArePausedAs x q → ArePausedAs x (discard_all ds q emitted).queue
+discards_pause message lifecycle is_interleaved o x [] q emitted h a paused = paused
+discards_pause message lifecycle is_interleaved o x (d ∷ ds) q emitted h a paused =
     let gone = a.given_up d (inl refl) in
-    let y = discard d.stream d.number q told in
-    discards_pause message lifecycle is_interleaved o x ds y.queue y.emitted (discard_queue message lifecycle is_interleaved o q d.stream d.number told h gone)
-    (discard_named message lifecycle is_interleaved o q d.stream d.number told h gone ds a) (discard_pauses message lifecycle is_interleaved o q d.stream d.number told h x paused)
+    let y = discard d.stream d.number q emitted in
+    discards_pause message lifecycle is_interleaved o x ds y.queue y.emitted (discard_queue message lifecycle is_interleaved o q d.stream d.number emitted h gone)
+    (discard_named message lifecycle is_interleaved o q d.stream d.number emitted h gone ds a) (discard_pauses message lifecycle is_interleaved o q d.stream d.number emitted h x paused)
 
 -- ---- a turn
 
@@ -188,7 +188,7 @@ is_fresh now least most (m ∷ rest) r h =
           begun = λ e. l;
         }
 
-module _ {P : Type 0} (x : Epochs) (q : Queue) (ordered : IsInOrder q) (numbered : IsNumbered q) (h : ArePausedAs x q) (now id size : ℕ) (told : Emitted P)
+module _ {P : Type 0} (x : Epochs) (q : Queue) (ordered : IsInOrder q) (numbered : IsNumbered q) (h : ArePausedAs x q) (now id size : ℕ) (emitted : Emitted P)
     (goes_on : is_stopped (stream id q.streams).pause ≡ false) where
   abbrev t0 : Stream
   t0 = stream id q.streams
@@ -245,15 +245,15 @@ module _ {P : Type 0} (x : Epochs) (q : Queue) (ordered : IsInOrder q) (numbered
         new = λ p n f g. freshened.old p n (ap (find p) e ∙ part_found p n f g);
       }
 
-  pub there : stream id (turn now id size q told).queue.streams ≡ advance size (without_stale now t0)
+  pub there : stream id (turn now id size q emitted).queue.streams ≡ advance size (without_stale now t0)
   there = stream_changed id (advance size) ss1 refl ∙ ap (advance size) (stream_changed id (without_stale now) q.streams refl)
 
-  pub elsewhere : (j : ℕ) → j ≢ id → stream j (turn now id size q told).queue.streams ≡ stream j q.streams
+  pub elsewhere : (j : ℕ) → j ≢ id → stream j (turn now id size q emitted).queue.streams ≡ stream j q.streams
   elsewhere j d = put_elsewhere j id (advance size (stream id ss1)) ss1 (is_other j id d) ∙ put_elsewhere j id (without_stale now t0) q.streams (is_other j id d)
 
-  pub turn_pauses : ArePausedAs x (turn now id size q told).queue
+  pub turn_pauses : ArePausedAs x (turn now id size q emitted).queue
   turn_pauses =
-      keeps_others x q (turn now id size q told).queue id elsewhere
+      keeps_others x q (turn now id size q emitted).queue id elsewhere
       (subst (λ (z : Stream). IsPausedAs x id z) (sym there) (keeps_paused x id t0 (advance size (without_stale now t0)) (turned_follows (fresh now t0.messages) refl) (h id))) h
 
 -- ---- several streams

@@ -167,7 +167,7 @@ module _ (message : ℕ → Message) (is_interleaved : Bool) where
   may_more (e ∷ es) fs x a b = (a.0, may_more es fs (goes message is_interleaved x e) a.1 b)
 
 module _ {P : Type 0} (message : ℕ → Message) (lifecycle : ℕ → Option ℕ) (is_interleaved : Bool) (x : Epochs) (q : Queue) (s : Items) (sh : SenderRefines message lifecycle is_interleaved x.transfer q s) (h : ArePausedAs x q)
-    (id : ℕ) (told : Emitted P) where
+    (id : ℕ) (emitted : Emitted P) where
   abbrev t : Stream
   t = stream id q.streams
 
@@ -182,7 +182,7 @@ module _ {P : Type 0} (message : ℕ → Message) (lifecycle : ℕ → Option �
   raised_to r = record x { transfer = after; raised = r }
 
   -- another stream
-  other : (r : ℕ → ℕ) (k : ℕ) → k ≢ id → r k ≡ x.raised k → IsPausedAs (raised_to r) k (stream k (prepare_reset id q told).queue.streams)
+  other : (r : ℕ → ℕ) (k : ℕ) → k ≢ id → r k ≡ x.raised k → IsPausedAs (raised_to r) k (stream k (prepare_reset id q emitted).queue.streams)
   other r k d same =
       let i = h k in
       subst (λ (z : Stream). IsPausedAs (raised_to r) k z) (sym (unwritten k id (prepare_stream t) q.streams d))
@@ -234,18 +234,18 @@ module _ {P : Type 0} (message : ℕ → Message) (lifecycle : ℕ → Option �
       pends Paused e g = cc
       pends Resetting e g = cc
 
-  all : (r : ℕ → ℕ) → r id ≡ suc (x.opened id) → ((k : ℕ) → k ≢ id → r k ≡ x.raised k) → ArePausedAs (raised_to r) (prepare_reset id q told).queue
+  all : (r : ℕ → ℕ) → r id ≡ suc (x.opened id) → ((k : ℕ) → k ≢ id → r k ≡ x.raised k) → ArePausedAs (raised_to r) (prepare_reset id q emitted).queue
   all r waits off k =
       elim (cases_eq k id) [
         | inr d ↦ other r k d (off k d)
         | inl e ↦
-            subst (λ z. IsPausedAs (raised_to r) z (stream z (prepare_reset id q told).queue.streams)) (sym e)
+            subst (λ z. IsPausedAs (raised_to r) z (stream z (prepare_reset id q emitted).queue.streams)) (sym e)
             (subst (λ (z : Stream). IsPausedAs (raised_to r) id z) (sym (written id (prepare_stream t) q.streams)) (itself r waits))
       ]
 
   module _ (may : Happens message is_interleaved x.transfer (give_ups (unsent_of q id))) where
     -- a stream that was open; one that waits already
-    opens : (p : PauseState) → t.pause ≡ p → MayAll message is_interleaved (raised_to x.raised) (opens_next p id) × ArePausedAs (go_all message is_interleaved (raised_to x.raised) (opens_next p id)) (prepare_reset id q told).queue
+    opens : (p : PauseState) → t.pause ≡ p → MayAll message is_interleaved (raised_to x.raised) (opens_next p id) × ArePausedAs (go_all message is_interleaved (raised_to x.raised) (opens_next p id)) (prepare_reset id q emitted).queue
     opens NotPaused e =
         let was : x.raised id ≡ x.opened id = (h id).flows e in (
           (was, tt),
@@ -264,7 +264,7 @@ module _ {P : Type 0} (message : ℕ → Message) (lifecycle : ℕ → Option �
         resetting_flows : Resetting ≡ NotPaused → ⊥
         resetting_flows e = cc
 
-    pub preparing_keeps : PreparesPause message is_interleaved x q id told
+    pub preparing_keeps : PreparesPause message is_interleaved x q id emitted
     preparing_keeps =
         let es = map transfers (give_ups (unsent_of q id)) in
         let there : go_all message is_interleaved x es ≡ raised_to x.raised = go_given message is_interleaved (unsent_of q id) x in
@@ -272,7 +272,7 @@ module _ {P : Type 0} (message : ℕ → Message) (lifecycle : ℕ → Option �
         record {
           may = may_more message is_interleaved es (opens_next t.pause id) x (may_given message is_interleaved (unsent_of q id) x may)
               (subst (λ (z : Epochs). MayAll message is_interleaved z (opens_next t.pause id)) (sym there) o.0);
-          paused = subst (λ (z : Epochs). ArePausedAs z (prepare_reset id q told).queue)
+          paused = subst (λ (z : Epochs). ArePausedAs z (prepare_reset id q emitted).queue)
               (sym (go_more message is_interleaved es (opens_next t.pause id) x ∙ ap (λ (z : Epochs). go_all message is_interleaved z (opens_next t.pause id)) there)) o.1;
         }
 

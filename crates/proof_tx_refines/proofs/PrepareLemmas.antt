@@ -172,12 +172,12 @@ module _ (message : ℕ → Message) (lifecycle : ℕ → Option ℕ) (is_interl
 -- ---- the row
 
 module _ {P : Type 0} (message : ℕ → Message) (lifecycle : ℕ → Option ℕ) (is_interleaved : Bool) (x : Transfer) (q : Queue) (s : Items) (k : Invariant message is_interleaved x)
-    (sh : SenderRefines message lifecycle is_interleaved x q s) (id : ℕ) (told : Emitted P) where
+    (sh : SenderRefines message lifecycle is_interleaved x q s) (id : ℕ) (emitted : Emitted P) where
   abbrev t : Stream
   t = stream id q.streams
 
   abbrev later : Queue
-  later = (prepare_reset id q told).queue
+  later = (prepare_reset id q emitted).queue
 
   parted : Splits t.messages
   parted = splits t.messages (sh.queue.order.order id)
@@ -203,7 +203,7 @@ module _ {P : Type 0} (message : ℕ → Message) (lifecycle : ℕ → Option �
             | inr d ↦ ap (λ (z : Stream). z.messages) (off j d) ∙ sym (put_off (messages_of q) id (filter is_partly t.messages) j d)
           ]
 
-  pub prepares_row : Prepares message lifecycle is_interleaved x q s id told
+  pub prepares_row : Prepares message lifecycle is_interleaved x q s id emitted
   prepares_row =
       let e = emptied in
       let o' = (run message is_interleaved x (give_ups (unsent_of q id))).sender in
@@ -220,7 +220,7 @@ module _ {P : Type 0} (message : ℕ → Message) (lifecycle : ℕ → Option �
         refines = record {
           queue = record {
             mode = hears_mode id _ _ q.scheduler ∙ sh.queue.mode;
-            order = prepared_in_order id q told sh.queue.order;
+            order = prepared_in_order id q emitted sh.queue.order;
             rising = calls_number.prepared id q silent sh.queue.rising;
             rests = calls_leave_rests.prepared id q silent sh.queue.rests;
             accepted = sh.queue.accepted ∙ sym e.accepted_stays;

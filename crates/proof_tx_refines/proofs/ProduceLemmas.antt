@@ -50,9 +50,9 @@ pub line_mode : (id bytes priority : ℕ) (made : Option Produced) (s : Schedule
 line_mode id bytes priority None s = hears_mode id 0 0 s
 line_mode id bytes priority (Some made) s = hears_mode id bytes priority (accept id s) ∙ accept_mode id s
 
-pub emitted_same : {P : Type 0} (id : ℕ) (a b : Bool) (made : Option Produced) (told : Emitted P) → recorded_places (emitted_made id a b made told) ≡ recorded_places told
-emitted_same id a b None told = refl
-emitted_same id a b (Some made) told = refl
+pub emitted_same : {P : Type 0} (id : ℕ) (a b : Bool) (made : Option Produced) (emitted : Emitted P) → recorded_places (emitted_made id a b made emitted) ≡ recorded_places emitted
+emitted_same id a b None emitted = refl
+emitted_same id a b (Some made) emitted = refl
 
 -- ---- only the first of a stream has its number
 

@@ -75,35 +75,35 @@ module _ (message : ℕ → Message) (is_interleaved : Bool) where
 
 -- ---- records
 
-pub new_row : {P : Type 0} → (told : Emitted P) → told.given_up ≡ [] → OneRecord [] start.sender told
-new_row told none = record { once = ap (λ (gs : List GivenUp). are_distinct (map (λ (g : GivenUp). g.number) gs)) none; exact = λ p. sym (ap (λ (gs : List GivenUp). has p (map (λ (g : GivenUp). g.number) gs)) none) }
+pub new_row : {P : Type 0} → (emitted : Emitted P) → emitted.given_up ≡ [] → OneRecord [] start.sender emitted
+new_row emitted none = record { once = ap (λ (gs : List GivenUp). are_distinct (map (λ (g : GivenUp). g.number) gs)) none; exact = λ p. sym (ap (λ (gs : List GivenUp). has p (map (λ (g : GivenUp). g.number) gs)) none) }
 
-module _ {P : Type 0} (message : ℕ → Message) (lifecycle : ℕ → Option ℕ) (is_interleaved : Bool) (x : Transfer) (q : Queue) (s : Items) (told later : Emitted P) (taken : List ℕ)
-    (l : LeadsTo message lifecycle is_interleaved x told q s later) (one : OneRecord taken x.sender told) where
-  all_more : all_recorded taken later ≡ all_recorded taken told ++ l.places
-  all_more = ap (λ (ps : List ℕ). taken ++ ps) l.recorded ∙ sym (append_assoc taken (recorded_places told) l.places)
+module _ {P : Type 0} (message : ℕ → Message) (lifecycle : ℕ → Option ℕ) (is_interleaved : Bool) (x : Transfer) (q : Queue) (s : Items) (emitted later : Emitted P) (taken : List ℕ)
+    (l : LeadsTo message lifecycle is_interleaved x emitted q s later) (one : OneRecord taken x.sender emitted) where
+  all_more : all_recorded taken later ≡ all_recorded taken emitted ++ l.places
+  all_more = ap (λ (ps : List ℕ). taken ++ ps) l.recorded ∙ sym (append_assoc taken (recorded_places emitted) l.places)
 
   pub sending_row : OneRecord taken l.after.sender later
   sending_row = record {
     once =
         ap are_distinct all_more
-        ∙ (ap (λ (ps : List ℕ). are_distinct (all_recorded taken told ++ ps)) (sym l.leads.given_up)
-        ∙ one_more message is_interleaved (all_recorded taken told) l.leads.events x l.leads.may one.once one.exact);
+        ∙ (ap (λ (ps : List ℕ). are_distinct (all_recorded taken emitted ++ ps)) (sym l.leads.given_up)
+        ∙ one_more message is_interleaved (all_recorded taken emitted) l.leads.events x l.leads.may one.once one.exact);
     exact = λ p.
         records_row message is_interleaved x l.after l.places l.leads p
         ∙ (ap (λ b. has p l.places || b) (one.exact p)
-        ∙ (or_swapped (has p l.places) (has p (all_recorded taken told)) ∙ (sym (has_more p (all_recorded taken told) l.places) ∙ ap (has p) (sym all_more))));
+        ∙ (or_swapped (has p l.places) (has p (all_recorded taken emitted)) ∙ (sym (has_more p (all_recorded taken emitted) l.places) ∙ ap (has p) (sym all_more))));
   }
 
 taken_row_all : (taken : List ℕ) (g : GivenUp) (gone gs : List GivenUp) → gs ≡ g ∷ gone
     → taken ++ map (λ (z : GivenUp). z.number) gs ≡ (taken ++ g.number ∷ []) ++ map (λ (z : GivenUp). z.number) gone
 taken_row_all taken g gone gs e = ap (λ (zs : List GivenUp). taken ++ map (λ (z : GivenUp). z.number) zs) e ∙ sym (append_assoc taken (g.number ∷ []) (map (λ (z : GivenUp). z.number) gone))
 
-pub taking_row : {P : Type 0} → (o : Sender) (taken : List ℕ) (g : GivenUp) (gone : List GivenUp) (told : Emitted P)
-    → told.given_up ≡ g ∷ gone → OneRecord taken o told → OneRecord (taken ++ g.number ∷ []) o (record told { given_up = gone })
-taking_row o taken g gone told e one = record {
-  once = ap are_distinct (sym (taken_row_all taken g gone told.given_up e)) ∙ one.once;
-  exact = λ p. one.exact p ∙ ap (has p) (taken_row_all taken g gone told.given_up e);
+pub taking_row : {P : Type 0} → (o : Sender) (taken : List ℕ) (g : GivenUp) (gone : List GivenUp) (emitted : Emitted P)
+    → emitted.given_up ≡ g ∷ gone → OneRecord taken o emitted → OneRecord (taken ++ g.number ∷ []) o (record emitted { given_up = gone })
+taking_row o taken g gone emitted e one = record {
+  once = ap are_distinct (sym (taken_row_all taken g gone emitted.given_up e)) ∙ one.once;
+  exact = λ p. one.exact p ∙ ap (has p) (taken_row_all taken g gone emitted.given_up e);
 }
 
 -- ---- what the values say
@@ -114,10 +114,10 @@ module _ (message : ℕ → Message) (lifecycle : ℕ → Option ℕ) where
   kept_has o all exact t [] a = tt
   kept_has o all exact t (i ∷ is) a = (a.0.given_up ∙ (ap o.given_up (sym a.0.place) ∙ exact i.number), kept_has o all exact _ is a.1)
 
-  pub values_row : {P : Type 0} → (is_interleaved : Bool) (x : Transfer) (q : Queue) (s : Items) (taken : List ℕ) (told : Emitted P)
-      → SenderRefines message lifecycle is_interleaved x q s → OneRecord taken x.sender told → HasOneRecord taken q s told
-  values_row is_interleaved x q s taken told sh one = record {
+  pub values_row : {P : Type 0} → (is_interleaved : Bool) (x : Transfer) (q : Queue) (s : Items) (taken : List ℕ) (emitted : Emitted P)
+      → SenderRefines message lifecycle is_interleaved x q s → OneRecord taken x.sender emitted → HasOneRecord taken q s emitted
+  values_row is_interleaved x q s taken emitted sh one = record {
     once = one.once;
-    kept = kept_has x.sender (all_recorded taken told) one.exact x.acknowledged s.kept sh.items.kept;
+    kept = kept_has x.sender (all_recorded taken emitted) one.exact x.acknowledged s.kept sh.items.kept;
     queued = λ k p m here none. sym (one.exact p) ∙ false_from_ne_true (x.sender.given_up p) (λ g. none (sh.discards.named k p m here g));
   }

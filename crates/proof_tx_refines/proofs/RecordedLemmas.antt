@@ -19,12 +19,12 @@ use Rattle.proof_tx_refines.specs.Pauses.{unsent_of, give_ups}
 use Rattle.proof_tx_refines.specs.Following.{PreparesLead}
 use Rattle.proof_tx_refines.proofs.PrepareLemmas.{prepares_row}
 
-emitted_dropped : {P : Type 0} (ms : List Queued) (told : Emitted P) → recorded_places (emitted_waiting ms told) ≡ recorded_places told ++ map (λ (m : Queued). m.number) (filter (λ m. not (is_partly m)) ms)
-emitted_dropped [] told = sym (append-nil (recorded_places told))
-emitted_dropped {P} (m ∷ rest) told = go (is_partly m) (emitted_dropped rest)
+emitted_dropped : {P : Type 0} (ms : List Queued) (emitted : Emitted P) → recorded_places (emitted_waiting ms emitted) ≡ recorded_places emitted ++ map (λ (m : Queued). m.number) (filter (λ m. not (is_partly m)) ms)
+emitted_dropped [] emitted = sym (append-nil (recorded_places emitted))
+emitted_dropped {P} (m ∷ rest) emitted = go (is_partly m) (emitted_dropped rest)
   where
     later : Emitted P
-    later = emit_events (expiry m.lifecycle) (events.give_up m.number Reset told)
+    later = emit_events (expiry m.lifecycle) (events.give_up m.number Reset emitted)
 
     behind : List Queued
     behind = filter (λ m. not (is_partly m)) rest
@@ -33,12 +33,12 @@ emitted_dropped {P} (m ∷ rest) told = go (is_partly m) (emitted_dropped rest)
     numbers ms = map (λ (m : Queued). m.number) ms
 
     go : (b : Bool) → ((t : Emitted P) → recorded_places (emitted_waiting rest t) ≡ recorded_places t ++ numbers behind)
-        → recorded_places (emitted_waiting rest (cond b told later)) ≡ recorded_places told ++ numbers (cond (not b) (m ∷ behind) behind)
-    go true ih = ih told
+        → recorded_places (emitted_waiting rest (cond b emitted later)) ≡ recorded_places emitted ++ numbers (cond (not b) (m ∷ behind) behind)
+    go true ih = ih emitted
     go false ih =
         ih later
-        ∙ (ap (λ z. z ++ numbers behind) (map-append (λ g. g.number) told.given_up (record { number = m.number; cause = Reset } ∷ []))
-        ∙ append_assoc (recorded_places told) (m.number ∷ []) (numbers behind))
+        ∙ (ap (λ z. z ++ numbers behind) (map-append (λ g. g.number) emitted.given_up (record { number = m.number; cause = Reset } ∷ []))
+        ∙ append_assoc (recorded_places emitted) (m.number ∷ []) (numbers behind))
 
 all_sending : (ps : List ℕ) → list_all is_sending (give_ups ps) ≡ true
 all_sending [] = refl
@@ -54,9 +54,9 @@ rest_same message is_interleaved [] x = refl
 rest_same message is_interleaved (p ∷ ps) x = rest_same message is_interleaved ps (after message is_interleaved x (give_up p))
 
 pub prepares_lead : {P : Type 0} (message : ℕ → Message) (lifecycle : ℕ → Option ℕ) (is_interleaved : Bool) (x : Transfer) (q : Queue) (s : Items) → Invariant message is_interleaved x → SenderRefines message lifecycle is_interleaved x q s
-    → (id : ℕ) (told : Emitted P) → PreparesLead message lifecycle is_interleaved x q s id told
-prepares_lead message lifecycle is_interleaved x q s k sh id told =
-    let z = prepares_row message lifecycle is_interleaved x q s k sh id told in
+    → (id : ℕ) (emitted : Emitted P) → PreparesLead message lifecycle is_interleaved x q s id emitted
+prepares_lead message lifecycle is_interleaved x q s k sh id emitted =
+    let z = prepares_row message lifecycle is_interleaved x q s k sh id emitted in
     let ps = unsent_of q id in
     record {
       leads = record {
@@ -65,7 +65,7 @@ prepares_lead message lifecycle is_interleaved x q s k sh id told =
         leads = record { events = give_ups ps; may = z.may; leads = refl; sends = all_sending ps; given_up = given_are ps; rest_stays = rest_same message is_interleaved ps x };
         kept = z.kept;
         refines = z.refines;
-        recorded = emitted_dropped (stream id q.streams).messages told;
+        recorded = emitted_dropped (stream id q.streams).messages emitted;
       };
       gives_up = refl;
       leads_to = refl;

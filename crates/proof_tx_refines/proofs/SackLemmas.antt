@@ -94,7 +94,7 @@ module _ (P : Type 0) (message : ℕ → Message) (lifecycle : ℕ → Option �
 
 -- ---- the whole
 
-module _ {P : Type 0} (message : ℕ → Message) (lifecycle : ℕ → Option ℕ) (is_interleaved : Bool) (x : Transfer) (q : Queue) (s : Items) (cumulative c : ℕ) (blocks : List GapAckBlock) (fast : Bool) (told : Emitted P)
+module _ {P : Type 0} (message : ℕ → Message) (lifecycle : ℕ → Option ℕ) (is_interleaved : Bool) (x : Transfer) (q : Queue) (s : Items) (cumulative c : ℕ) (blocks : List GapAckBlock) (fast : Bool) (emitted : Emitted P)
     (k : Invariant message is_interleaved x) (sh : SenderRefines message lifecycle is_interleaved x q s) (valid : is_valid cumulative blocks s ≡ true) (upto : cumulative + 1 ≡ origin + c) (sent : IsAmong c x.sacks) where
   abbrev n : ℕ
   n = leaving cumulative s
@@ -135,18 +135,18 @@ module _ {P : Type 0} (message : ℕ → Message) (lifecycle : ℕ → Option �
   }
 
   abbrev first : Step P
-  first = receive_sack_first cumulative blocks s told
+  first = receive_sack_first cumulative blocks s emitted
 
-  at_first : LeadsTo message lifecycle is_interleaved x1 told q first.items first.emitted
-  at_first = record { after = x1; places = []; leads = leads_none message is_interleaved x1; kept = kept1; refines = shows1; recorded = sym (append-nil (recorded_places told)) }
+  at_first : LeadsTo message lifecycle is_interleaved x1 emitted q first.items first.emitted
+  at_first = record { after = x1; places = []; leads = leads_none message is_interleaved x1; kept = kept1; refines = shows1; recorded = sym (append-nil (recorded_places emitted)) }
 
-  pub sack_row : ReceivesSack message lifecycle is_interleaved x q n c told (receive_sack cumulative blocks fast s told).items (receive_sack cumulative blocks fast s told).emitted
+  pub sack_row : ReceivesSack message lifecycle is_interleaved x q n c emitted (receive_sack cumulative blocks fast s emitted).items (receive_sack cumulative blocks fast s emitted).emitted
   sack_row = record {
     may = gone.0;
     leaves = gone.1;
     upto = point_is;
     reported =
         ap delivered_ids (below_quiet false (not fast) (reported_below blocks (staying cumulative s)) first)
-        ∙ (delivered_more told.events (reports (take n s.kept)) ∙ ap (λ z. delivered_ids told.events ++ z) (all_reports P message lifecycle x.sender x.acknowledged n s.kept enough sh.items.kept));
-    losses = losses message lifecycle is_interleaved x1 told q false (not fast) (reported_below blocks (staying cumulative s)) first at_first;
+        ∙ (delivered_more emitted.events (reports (take n s.kept)) ∙ ap (λ z. delivered_ids emitted.events ++ z) (all_reports P message lifecycle x.sender x.acknowledged n s.kept enough sh.items.kept));
+    losses = losses message lifecycle is_interleaved x1 emitted q false (not fast) (reported_below blocks (staying cumulative s)) first at_first;
   }

@@ -174,9 +174,9 @@ last_there : (i : Item) (is : List Item) → slice_get (is ++ i ∷ []) (length 
 last_there i [] = refl
 last_there i (j ∷ is) = last_there i is
 
-module _ {P : Type 0} (message : ℕ → Message) (lifecycle : ℕ → Option ℕ) (is_interleaved : Bool) (x : Transfer) (told : Emitted P) (now first : ℕ) where
+module _ {P : Type 0} (message : ℕ → Message) (lifecycle : ℕ → Option ℕ) (is_interleaved : Bool) (x : Transfer) (emitted : Emitted P) (now first : ℕ) where
   pub record Filled (f : Filling P) : Type 0 where
-    pub leads : LeadsTo message lifecycle is_interleaved x told f.queue f.sender.outstanding.items f.emitted
+    pub leads : LeadsTo message lifecycle is_interleaved x emitted f.queue f.sender.outstanding.items f.emitted
     pub none_left : f.sender.outstanding.items.discards ≡ []
     pub first_is : f.sender.outstanding.first ≡ first
     pub carried : AllCarry message first x.acknowledged leads.after.sender f.chunks
@@ -213,8 +213,8 @@ module _ {P : Type 0} (message : ℕ → Message) (lifecycle : ℕ → Option �
           produces message lifecycle is_interleaved a.leads.after f.emitted s a.none_left now size some (length f.queue.scheduler.times + 2) f.queue f.emitted
           (led_none message lifecycle is_interleaved a.leads.after f.emitted f.queue s a.leads.kept a.leads.refines)
 
-      one : LeadsTo message lifecycle is_interleaved x told t.queue (with_made now t.made s) t.emitted
-      one = led_on message lifecycle is_interleaved x told f.emitted t.emitted f.queue t.queue s (with_made now t.made s) a.leads b
+      one : LeadsTo message lifecycle is_interleaved x emitted t.queue (with_made now t.made s) t.emitted
+      one = led_on message lifecycle is_interleaved x emitted f.emitted t.emitted f.queue t.queue s (with_made now t.made s) a.leads b
 
       step : Option Produced → Filling P
       step made = append now made (record f { queue = t.queue; emitted = t.emitted })
@@ -262,18 +262,18 @@ module _ {P : Type 0} (message : ℕ → Message) (lifecycle : ℕ → Option �
 
 -- ---- the whole
 
-one_quiet : {P : Type 0} (id number : ℕ) (q : Queue) (told : Emitted P) → recorded_places (discard id number q told).emitted ≡ recorded_places told
-one_quiet id number q told = go (front_discarded number (stream id q.streams).messages)
+one_quiet : {P : Type 0} (id number : ℕ) (q : Queue) (emitted : Emitted P) → recorded_places (discard id number q emitted).emitted ≡ recorded_places emitted
+one_quiet id number q emitted = go (front_discarded number (stream id q.streams).messages)
   where
-    go : (f : Option (Option ℕ)) → recorded_places (discard_from id (streams_discarded id number q.streams) f q told).emitted ≡ recorded_places told
+    go : (f : Option (Option ℕ)) → recorded_places (discard_from id (streams_discarded id number q.streams) f q emitted).emitted ≡ recorded_places emitted
     go None = refl
     go (Some l) = refl
 
-quiet_emitted : {P : Type 0} (ds : List Discard) (q : Queue) (told : Emitted P) → recorded_places (discard_all ds q told).emitted ≡ recorded_places told
-quiet_emitted [] q told = refl
-quiet_emitted (d ∷ ds) q told =
-    let one = discard d.stream d.number q told in
-    quiet_emitted ds one.queue one.emitted ∙ one_quiet d.stream d.number q told
+quiet_emitted : {P : Type 0} (ds : List Discard) (q : Queue) (emitted : Emitted P) → recorded_places (discard_all ds q emitted).emitted ≡ recorded_places emitted
+quiet_emitted [] q emitted = refl
+quiet_emitted (d ∷ ds) q emitted =
+    let one = discard d.stream d.number q emitted in
+    quiet_emitted ds one.queue one.emitted ∙ one_quiet d.stream d.number q emitted
 
 module _ (message : ℕ → Message) (lifecycle : ℕ → Option ℕ) (is_interleaved : Bool) (x : Transfer) (s : Sender) (q : Queue) (sh : SenderRefines message lifecycle is_interleaved x q s.outstanding.items) where
   timed_same : (b : Bool) (now : ℕ) (s : Sender) → (timed_if b now s).outstanding ≡ s.outstanding
@@ -307,37 +307,37 @@ module _ (message : ℕ → Message) (lifecycle : ℕ → Option ℕ) (is_interl
       )
 
   -- what a message that is given up leaves in the queue
-  pub discard_row : {P : Type 0} (told : Emitted P) → SenderRefines message lifecycle is_interleaved x (discard_all s.outstanding.items.discards q told).queue (without_discards s).outstanding.items
-      × (recorded_places (discard_all s.outstanding.items.discards q told).emitted ≡ recorded_places told)
-  discard_row told =
-      let d = discards_all message lifecycle is_interleaved x.sender s.outstanding.items.discards q told sh.queue sh.discards in (
+  pub discard_row : {P : Type 0} (emitted : Emitted P) → SenderRefines message lifecycle is_interleaved x (discard_all s.outstanding.items.discards q emitted).queue (without_discards s).outstanding.items
+      × (recorded_places (discard_all s.outstanding.items.discards q emitted).emitted ≡ recorded_places emitted)
+  discard_row emitted =
+      let d = discards_all message lifecycle is_interleaved x.sender s.outstanding.items.discards q emitted sh.queue sh.discards in (
         record { queue = d.queue_is; items = record { mode = sh.items.mode; point = sh.items.point; kept = sh.items.kept }; discards = d.none_left },
-        quiet_emitted s.outstanding.items.discards q told,
+        quiet_emitted s.outstanding.items.discards q emitted,
       )
 
-  pub send_row : {P : Type 0} → Invariant message is_interleaved x → (now most : ℕ) (told : Emitted P) → Sends message lifecycle is_interleaved x now most s q told
-  send_row {P} k now most told =
+  pub send_row : {P : Type 0} → Invariant message is_interleaved x → (now most : ℕ) (emitted : Emitted P) → Sends message lifecycle is_interleaved x now most s q emitted
+  send_row {P} k now most emitted =
       let quiet = without_discards s in
-      let d = discards_all message lifecycle is_interleaved x.sender s.outstanding.items.discards q told sh.queue sh.discards in
-      let left = discard_all s.outstanding.items.discards q told in
+      let d = discards_all message lifecycle is_interleaved x.sender s.outstanding.items.discards q emitted sh.queue sh.discards in
+      let left = discard_all s.outstanding.items.discards q emitted in
       let again = resent most quiet in
       let begun : Filling P = filled_with most quiet again left in
       let r = resent_again false (min most (quiet.windows.cwnd - flight quiet)) quiet.windows.rwnd quiet.outstanding (record { mode = sh.items.mode; point = sh.items.point; kept = sh.items.kept }) in
       let none = discards_same false (length s.outstanding.items.kept) (empty_packet (min most (quiet.windows.cwnd - flight quiet)) quiet.windows.rwnd quiet.outstanding) in
-      let start : Filled message lifecycle is_interleaved x told now s.outstanding.first begun = record {
+      let start : Filled message lifecycle is_interleaved x emitted now s.outstanding.first begun = record {
         leads = record {
           after = x;
           places = [];
           leads = leads_none message is_interleaved x;
           kept = k;
           refines = record { queue = d.queue_is; items = r.items; discards = subst (λ ds. AreDiscards x.sender (messages_of left.queue) ds) (sym none) d.none_left };
-          recorded = quiet_emitted s.outstanding.items.discards q told ∙ sym (append-nil (recorded_places told));
+          recorded = quiet_emitted s.outstanding.items.discards q emitted ∙ sym (append-nil (recorded_places emitted));
         };
         none_left = none;
         first_is = r.first_is;
         carried = r.chunks_are;
       } in
-      let f = fills message lifecycle is_interleaved x told now s.outstanding.first (suc begun.left) begun start in
+      let f = fills message lifecycle is_interleaved x emitted now s.outstanding.first (suc begun.left) begun start in
       let whole = fill (suc begun.left) now begun in
       let same = timed_same (nat_lt 0 (length whole.chunks)) now whole.sender in
       record {

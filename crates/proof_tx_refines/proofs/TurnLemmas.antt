@@ -34,7 +34,7 @@ use Rattle.proof_tx_refines.proofs.NumberLemmas as rows
 use Rattle.proof_tx_refines.proofs.ProduceLemmas.{stream_changed, is_other, line_mode, emitted_same, begun_first, this_is, next_begun, took_next, took_numbers}
 
 module _ {P : Type 0} (message : ℕ → Message) (lifecycle : ℕ → Option ℕ) (is_interleaved : Bool) (x : Transfer) (k : Invariant message is_interleaved x) (q : Queue) (s : Items) (sh : SenderRefines message lifecycle is_interleaved x q s)
-    (none_given : s.discards ≡ []) (now size id : ℕ) (some : 0 < size) (next : next_stream q ≡ Some id) (told : Emitted P) where
+    (none_given : s.discards ≡ []) (now size id : ℕ) (some : 0 < size) (next : next_stream q ≡ Some id) (emitted : Emitted P) where
   abbrev s0 : Stream
   s0 = stream id q.streams
 
@@ -48,7 +48,7 @@ module _ {P : Type 0} (message : ℕ → Message) (lifecycle : ℕ → Option �
   t1 = without_stale now s0
 
   abbrev after : Queue
-  after = (turn now id size q told).queue
+  after = (turn now id size q emitted).queue
 
   stale_is : stream id ss1 ≡ t1
   stale_is = stream_changed id (without_stale now) q.streams refl
@@ -59,11 +59,11 @@ module _ {P : Type 0} (message : ℕ → Message) (lifecycle : ℕ → Option �
   elsewhere : (j : ℕ) → j ≢ id → stream j after.streams ≡ stream j q.streams
   elsewhere j d = put_elsewhere j id (advance size (stream id ss1)) ss1 (is_other j id d) ∙ put_elsewhere j id t1 q.streams (is_other j id d)
 
-  made_is : (turn now id size q told).made ≡ next_fragment id size t1
+  made_is : (turn now id size q emitted).made ≡ next_fragment id size t1
   made_is = ap (next_fragment id size) stale_is
 
-  f : Freshened message lifecycle is_interleaved x s (messages_of q) now id s0.messages told
-  f = freshens message lifecycle is_interleaved now id 0 q.next_number s0.messages x k s (messages_of q) refl (sh.queue.rising.rising id) sh.queue.messages sh.items.kept sh.discards told
+  f : Freshened message lifecycle is_interleaved x s (messages_of q) now id s0.messages emitted
+  f = freshens message lifecycle is_interleaved now id 0 q.next_number s0.messages x k s (messages_of q) refl (sh.queue.rising.rising id) sh.queue.messages sh.items.kept sh.discards emitted
 
   abbrev y : Transfer
   y = f.after
@@ -71,8 +71,8 @@ module _ {P : Type 0} (message : ℕ → Message) (lifecycle : ℕ → Option �
   abbrev ms1 : ℕ → List Queued
   ms1 = put (messages_of q) id L1
 
-  emitted_is : recorded_places (turn now id size q told).emitted ≡ recorded_places told ++ f.places
-  emitted_is = emitted_same id _ _ (turn now id size q told).made (drop_expired now s0.messages told) ∙ f.told_of
+  emitted_is : recorded_places (turn now id size q emitted).emitted ≡ recorded_places emitted ++ f.places
+  emitted_is = emitted_same id _ _ (turn now id size q emitted).made (drop_expired now s0.messages emitted) ∙ f.told_of
 
   next_y : (j : ℕ) → IsNext y.sender j (stream j q.streams)
   next_y j =
@@ -93,10 +93,10 @@ module _ {P : Type 0} (message : ℕ → Message) (lifecycle : ℕ → Option �
   shown : (o : Sender) → o.accepted ≡ x.sender.accepted → (new : List Queued) → (advance size t1).messages ≡ new → AreQueued message lifecycle o (put ms1 id new)
       → IsNext o id (advance size t1) → ((j : ℕ) → j ≢ id → IsNext o j (stream j q.streams)) → QueueRefines message lifecycle is_interleaved o after
   shown o accepted new new_is a here off = record {
-    mode = line_mode id _ _ (turn now id size q told).made q.scheduler ∙ sh.queue.mode;
-    order = turn_in_order now id size q told some next sh.queue.order;
-    rising = turn_numbered now id size q told sh.queue.rising;
-    rests = turn_rests now id size q told sh.queue.rests;
+    mode = line_mode id _ _ (turn now id size q emitted).made q.scheduler ∙ sh.queue.mode;
+    order = turn_in_order now id size q emitted some next sh.queue.order;
+    rising = turn_numbered now id size q emitted sh.queue.rising;
+    rests = turn_rests now id size q emitted sh.queue.rests;
     accepted = sh.queue.accepted ∙ sym accepted;
     few = subst (λ n. n < 2 ^ 32) (sym accepted) sh.queue.few;
     next = λ j. elim (cases_eq j id) [
@@ -127,7 +127,7 @@ module _ {P : Type 0} (message : ℕ → Message) (lifecycle : ℕ → Option �
           ]
 
   abbrev To : Option Produced → Type 0
-  To made = LeadsTo message lifecycle is_interleaved x told after (with_made now made s) (turn now id size q told).emitted
+  To made = LeadsTo message lifecycle is_interleaved x emitted after (with_made now made s) (turn now id size q emitted).emitted
 
   -- no message is left
   nothing : L1 ≡ [] → To None
@@ -241,7 +241,7 @@ module _ {P : Type 0} (message : ℕ → Message) (lifecycle : ℕ → Option �
               items = record { mode = sh.items.mode; point = point_y; kept = b.items };
               discards = discards_as o' front new_is b.discards_are;
             };
-            recorded = emitted_is ∙ ap (λ w. recorded_places told ++ w) (sym (append-nil f.places));
+            recorded = emitted_is ∙ ap (λ w. recorded_places emitted ++ w) (sym (append-nil f.places));
           }
 
     -- it was begun before
@@ -321,31 +321,31 @@ module _ {P : Type 0} (message : ℕ → Message) (lifecycle : ℕ → Option �
         go None c = begins_now c
         go (Some was) c = goes_on was c
 
-    made_here : (turn now id size q told).made ≡ Some (made_of id size n m)
+    made_here : (turn now id size q emitted).made ≡ Some (made_of id size n m)
     made_here = made_is ∙ ap (next_fragment id size) t_is
 
-  pub turn_row : To (turn now id size q told).made
+  pub turn_row : To (turn now id size q emitted).made
   turn_row = go L1 refl
     where
-      go : (ms : List Queued) → L1 ≡ ms → To (turn now id size q told).made
+      go : (ms : List Queued) → L1 ≡ ms → To (turn now id size q emitted).made
       go [] e = subst (λ made. To made) (sym (made_is ∙ ap (λ (ms : List Queued). let r : Stream = record s0 { messages = ms } in next_fragment id size r) e)) (nothing e)
       go (m ∷ rest) e = subst (λ made. To made) (sym (made_here m rest e)) (fragment m rest e)
 
-module _ {P : Type 0} (message : ℕ → Message) (lifecycle : ℕ → Option ℕ) (is_interleaved : Bool) (x : Transfer) (told : Emitted P) (s : Items) (none_given : s.discards ≡ []) (now size : ℕ) (some : 0 < size) where
+module _ {P : Type 0} (message : ℕ → Message) (lifecycle : ℕ → Option ℕ) (is_interleaved : Bool) (x : Transfer) (emitted : Emitted P) (s : Items) (none_given : s.discards ≡ []) (now size : ℕ) (some : 0 < size) where
   abbrev Given : Queue → Emitted P → Turn P → Type 0
-  Given q later t = LeadsTo message lifecycle is_interleaved x told t.queue (with_made now t.made s) t.emitted
+  Given q later t = LeadsTo message lifecycle is_interleaved x emitted t.queue (with_made now t.made s) t.emitted
 
-  pub produces : (turns : ℕ) (q : Queue) (later : Emitted P) → LeadsTo message lifecycle is_interleaved x told q s later → Given q later (produce_within turns now size q later)
+  pub produces : (turns : ℕ) (q : Queue) (later : Emitted P) → LeadsTo message lifecycle is_interleaved x emitted q s later → Given q later (produce_within turns now size q later)
   produces zero q later a = a
   produces (suc m) q later a = go (next_stream q) refl (λ r t b. produces m r t b)
     where
-      go : (o : Option ℕ) → next_stream q ≡ o → ((r : Queue) (t : Emitted P) → LeadsTo message lifecycle is_interleaved x told r s t → Given r t (produce_within m now size r t)) → Given q later (produce_within (suc m) now size q later)
+      go : (o : Option ℕ) → next_stream q ≡ o → ((r : Queue) (t : Emitted P) → LeadsTo message lifecycle is_interleaved x emitted r s t → Given r t (produce_within m now size r t)) → Given q later (produce_within (suc m) now size q later)
       go None e ih = subst (λ (t : Turn P). Given q later t) (sym (idles m now size q later e)) a
       go (Some id) e ih = pick (turn now id size q later).made refl
         where
           one : Given q later (turn now id size q later)
           one =
-              led_on message lifecycle is_interleaved x told later (turn now id size q later).emitted q (turn now id size q later).queue s (with_made now (turn now id size q later).made s) a
+              led_on message lifecycle is_interleaved x emitted later (turn now id size q later).emitted q (turn now id size q later).queue s (with_made now (turn now id size q later).made s) a
               (turn_row message lifecycle is_interleaved a.after a.kept q s a.refines none_given now size id some e later)
 
           pick : (o : Option Produced) → o ≡ (turn now id size q later).made → Given q later (produce_within (suc m) now size q later)
@@ -353,4 +353,4 @@ module _ {P : Type 0} (message : ℕ → Message) (lifecycle : ℕ → Option �
           pick None is =
               subst (λ (t : Turn P). Given q later t) (sym (turned m now size id q later e is))
               (ih (turn now id size q later).queue (turn now id size q later).emitted
-              (subst (λ made. LeadsTo message lifecycle is_interleaved x told (turn now id size q later).queue (with_made now made s) (turn now id size q later).emitted) (sym is) one))
+              (subst (λ made. LeadsTo message lifecycle is_interleaved x emitted (turn now id size q later).queue (with_made now made s) (turn now id size q later).emitted) (sym is) one))

@@ -55,7 +55,7 @@ waits_by q r id elsewhere flows here = record {
 
 -- ---- a turn of a stream that isn't stopped
 
-module _ {P : Type 0} (x : Epochs) (q : Queue) (ordered : IsInOrder q) (numbered : IsNumbered q) (h : ArePausedAs x q) (now id size : ℕ) (told : Emitted P)
+module _ {P : Type 0} (x : Epochs) (q : Queue) (ordered : IsInOrder q) (numbered : IsNumbered q) (h : ArePausedAs x q) (now id size : ℕ) (emitted : Emitted P)
     (goes_on : is_stopped (stream id q.streams).pause ≡ false) where
   abbrev t0 : Stream
   t0 = stream id q.streams
@@ -80,21 +80,21 @@ module _ {P : Type 0} (x : Epochs) (q : Queue) (ordered : IsInOrder q) (numbered
       by false = found_off p part rest other ∙ behind
 
   still_there : (p : ℕ) (m : Queued) → m.numbers ≡ None → find p t0.messages ≡ Some m → (pause : PauseState) → t0.pause ≡ pause → (t0.pause ≡ NotPaused → ⊥)
-      → find p (messages_of (turn now id size q told).queue id) ≡ Some m
+      → find p (messages_of (turn now id size q emitted).queue id) ≡ Some m
   still_there p m e f NotPaused c n = absurd (n c)
   still_there p m e f Pending c n =
       let b = (h id).pending c in
-      ap (λ (z : Stream). find p z.messages) (there x q ordered numbered h now id size told goes_on)
-      ∙ (ap (λ (ms : List Queued). find p (let z : Stream = advance size (record t0 { messages = ms }) in z).messages) ((freshened x q ordered numbered h now id size told goes_on).begun b)
+      ap (λ (z : Stream). find p z.messages) (there x q ordered numbered h now id size emitted goes_on)
+      ∙ (ap (λ (ms : List Queued). find p (let z : Stream = advance size (record t0 { messages = ms }) in z).messages) ((freshened x q ordered numbered h now id size emitted goes_on).begun b)
       ∙ still_behind p m e t0.messages b f)
   still_there p m e f Paused c n = absurd (not_both (ap is_stopped c) goes_on)
   still_there p m e f Resetting c n = absurd (not_both (ap is_stopped c) goes_on)
 
-  pub turn_waits : WaitsOn q (turn now id size q told).queue
+  pub turn_waits : WaitsOn q (turn now id size q emitted).queue
   turn_waits =
-      waits_by q (turn now id size q told).queue id (elsewhere x q ordered numbered h now id size told goes_on)
-      (λ e. (turned_follows x q ordered numbered h now id size told goes_on (fresh now t0.messages) refl).flows
-      (ap (λ (z : Stream). z.pause) (sym (there x q ordered numbered h now id size told goes_on)) ∙ e))
+      waits_by q (turn now id size q emitted).queue id (elsewhere x q ordered numbered h now id size emitted goes_on)
+      (λ e. (turned_follows x q ordered numbered h now id size emitted goes_on (fresh now t0.messages) refl).flows
+      (ap (λ (z : Stream). z.pause) (sym (there x q ordered numbered h now id size emitted goes_on)) ∙ e))
       (λ p m n f e. still_there p m e f t0.pause refl n)
 
 -- ---- all that a queue keeps
@@ -118,77 +118,77 @@ stands_then : (x : Epochs) (q r t : Queue) → StandsOn x q r → StandsOn x r t
 stands_then x q r t a b = record { stands = b.stands; waits = waits_then q r t a.waits b.waits }
 
 module _ {P : Type 0} (x : Epochs) (now size : ℕ) (some : 0 < size) where
-  one_turn : (q : Queue) (told : Emitted P) (id : ℕ) → next_stream q ≡ Some id → Stands x q → StandsOn x q (turn now id size q told).queue
-  one_turn q told id next h =
+  one_turn : (q : Queue) (emitted : Emitted P) (id : ℕ) → next_stream q ≡ Some id → Stands x q → StandsOn x q (turn now id size q emitted).queue
+  one_turn q emitted id next h =
       let flows = next_flows x q h.ordered h.line h.paused id next in
       record {
         stands = record {
-          ordered = turn_in_order now id size q told some next h.ordered;
-          numbered = turn_numbered now id size q told h.numbered;
-          line = turned_line now id size told q h.line;
-          paused = turn_pauses x q h.ordered h.numbered h.paused now id size told flows;
-          keyed = turn_keyed now id size q told h.keyed;
+          ordered = turn_in_order now id size q emitted some next h.ordered;
+          numbered = turn_numbered now id size q emitted h.numbered;
+          line = turned_line now id size emitted q h.line;
+          paused = turn_pauses x q h.ordered h.numbered h.paused now id size emitted flows;
+          keyed = turn_keyed now id size q emitted h.keyed;
         };
-        waits = turn_waits x q h.ordered h.numbered h.paused now id size told flows;
+        waits = turn_waits x q h.ordered h.numbered h.paused now id size emitted flows;
       }
 
-  within : (n : ℕ) (q : Queue) (told : Emitted P) → Stands x q → StandsOn x q (produce_within n now size q told).queue
-  within zero q told h = stands_same x q h
-  within (suc n) q told h = go (next_stream q) refl (within n)
+  within : (n : ℕ) (q : Queue) (emitted : Emitted P) → Stands x q → StandsOn x q (produce_within n now size q emitted).queue
+  within zero q emitted h = stands_same x q h
+  within (suc n) q emitted h = go (next_stream q) refl (within n)
     where
       Rest : Type 0
       Rest = (r : Queue) (later : Emitted P) → Stands x r → StandsOn x r (produce_within n now size r later).queue
 
-      given : (id : ℕ) → next_stream q ≡ Some id → Rest → (made : Option Produced) → (turn now id size q told).made ≡ made → StandsOn x q (produce_within (suc n) now size q told).queue
+      given : (id : ℕ) → next_stream q ≡ Some id → Rest → (made : Option Produced) → (turn now id size q emitted).made ≡ made → StandsOn x q (produce_within (suc n) now size q emitted).queue
       given id next rest None e =
-          let t = turn now id size q told in
-          let one = one_turn q told id next h in
-          subst (λ (t : Turn P). StandsOn x q t.queue) (sym (turned n now size id q told next (sym e)))
+          let t = turn now id size q emitted in
+          let one = one_turn q emitted id next h in
+          subst (λ (t : Turn P). StandsOn x q t.queue) (sym (turned n now size id q emitted next (sym e)))
           (stands_then x q t.queue (produce_within n now size t.queue t.emitted).queue one (rest t.queue t.emitted one.stands))
-      given id next rest (Some made) e = subst (λ (t : Turn P). StandsOn x q t.queue) (sym (gives n now size id q told made next (sym e))) (one_turn q told id next h)
+      given id next rest (Some made) e = subst (λ (t : Turn P). StandsOn x q t.queue) (sym (gives n now size id q emitted made next (sym e))) (one_turn q emitted id next h)
 
-      go : (o : Option ℕ) → next_stream q ≡ o → Rest → StandsOn x q (produce_within (suc n) now size q told).queue
-      go None e rest = subst (λ (t : Turn P). StandsOn x q t.queue) (sym (idles n now size q told e)) (stands_same x q h)
-      go (Some id) e rest = given id e rest (turn now id size q told).made refl
+      go : (o : Option ℕ) → next_stream q ≡ o → Rest → StandsOn x q (produce_within (suc n) now size q emitted).queue
+      go None e rest = subst (λ (t : Turn P). StandsOn x q t.queue) (sym (idles n now size q emitted e)) (stands_same x q h)
+      go (Some id) e rest = given id e rest (turn now id size q emitted).made refl
 
-  pub produces_stand : (q : Queue) (told : Emitted P) → Stands x q → StandsOn x q (produce now size q told).queue
-  produces_stand q told = within (length q.scheduler.times + 2) q told
+  pub produces_stand : (q : Queue) (emitted : Emitted P) → Stands x q → StandsOn x q (produce now size q emitted).queue
+  produces_stand q emitted = within (length q.scheduler.times + 2) q emitted
 
 -- ---- discards
 
 module _ {P : Type 0} (message : ℕ → Message) (lifecycle : ℕ → Option ℕ) (is_interleaved : Bool) (o : Sender) (x : Epochs) where
-  one_discard : (q : Queue) (id number : ℕ) (told : Emitted P) → QueueRefines message lifecycle is_interleaved o q → o.given_up number ≡ true → Stands x q → StandsOn x q (discard id number q told).queue
-  one_discard q id number told h gone a =
-      let r : Queue = (discard id number q told).queue in
-      let shown = discard_queue message lifecycle is_interleaved o q id number told h gone in
+  one_discard : (q : Queue) (id number : ℕ) (emitted : Emitted P) → QueueRefines message lifecycle is_interleaved o q → o.given_up number ≡ true → Stands x q → StandsOn x q (discard id number q emitted).queue
+  one_discard q id number emitted h gone a =
+      let r : Queue = (discard id number q emitted).queue in
+      let shown = discard_queue message lifecycle is_interleaved o q id number emitted h gone in
       record {
         stands = record {
           ordered = shown.order;
           numbered = shown.rising;
-          line = discarded_line id number told q a.line;
-          paused = discard_pauses message lifecycle is_interleaved o q id number told h x a.paused;
-          keyed = discard_keyed id number q told a.keyed;
+          line = discarded_line id number emitted q a.line;
+          paused = discard_pauses message lifecycle is_interleaved o q id number emitted h x a.paused;
+          keyed = discard_keyed id number q emitted a.keyed;
         };
-        waits = waits_by q r id (discards.elsewhere message lifecycle is_interleaved o q id number told)
-            (λ e. (dropped_follows message lifecycle is_interleaved o q id number told h x a.paused (stream id q.streams).messages refl).flows
-            (ap (λ (z : Stream). z.pause) (sym (discards.there message lifecycle is_interleaved o q id number told)) ∙ e)) still;
+        waits = waits_by q r id (discards.elsewhere message lifecycle is_interleaved o q id number emitted)
+            (λ e. (dropped_follows message lifecycle is_interleaved o q id number emitted h x a.paused (stream id q.streams).messages refl).flows
+            (ap (λ (z : Stream). z.pause) (sym (discards.there message lifecycle is_interleaved o q id number emitted)) ∙ e)) still;
       }
     where
       still : (p : ℕ) (m : Queued) → ((stream id q.streams).pause ≡ NotPaused → ⊥) → find p (messages_of q id) ≡ Some m → m.numbers ≡ None
-          → find p (messages_of (discard id number q told).queue id) ≡ Some m
+          → find p (messages_of (discard id number q emitted).queue id) ≡ Some m
       still p m n f e = elim (cases_eq p number) [
         | inl c ↦ absurd (not_both ((h.messages.entries id number m (ap (λ z. find z (messages_of q id)) (sym c) ∙ f)).partly_sent gone) (ap is_some e))
-        | inr d ↦ discards.same_found message lifecycle is_interleaved o q id number told h gone id p d ∙ f
+        | inr d ↦ discards.same_found message lifecycle is_interleaved o q id number emitted h gone id p d ∙ f
       ]
 
-  pub discards_stand : (ds : List Discard) (q : Queue) (told : Emitted P) → QueueRefines message lifecycle is_interleaved o q → AreDiscards o (messages_of q) ds → Stands x q → StandsOn x q (discard_all ds q told).queue
-  discards_stand [] q told h a s = stands_same x q s
-  discards_stand (d ∷ ds) q told h a s =
+  pub discards_stand : (ds : List Discard) (q : Queue) (emitted : Emitted P) → QueueRefines message lifecycle is_interleaved o q → AreDiscards o (messages_of q) ds → Stands x q → StandsOn x q (discard_all ds q emitted).queue
+  discards_stand [] q emitted h a s = stands_same x q s
+  discards_stand (d ∷ ds) q emitted h a s =
       let gone = a.given_up d (inl refl) in
-      let y : Changed P = discard d.stream d.number q told in
-      let one = one_discard q d.stream d.number told h gone s in
+      let y : Changed P = discard d.stream d.number q emitted in
+      let one = one_discard q d.stream d.number emitted h gone s in
       stands_then x q y.queue (discard_all ds y.queue y.emitted).queue one
-      (discards_stand ds y.queue y.emitted (discard_queue message lifecycle is_interleaved o q d.stream d.number told h gone) (discard_named message lifecycle is_interleaved o q d.stream d.number told h gone ds a) one.stands)
+      (discards_stand ds y.queue y.emitted (discard_queue message lifecycle is_interleaved o q d.stream d.number emitted h gone) (discard_named message lifecycle is_interleaved o q d.stream d.number emitted h gone ds a) one.stands)
 
 -- ---- packets
 
@@ -216,10 +216,10 @@ module _ {P : Type 0} (x : Epochs) (now : ℕ) where
       by true y z a c = stands_then x f.queue y.queue z.queue a c
       by false y z a c = a
 
-  pub send_stands : (message : ℕ → Message) (lifecycle : ℕ → Option ℕ) (is_interleaved : Bool) (o : Sender) (most : ℕ) (s : tx.Sender) (q : Queue) (told : Emitted P) → QueueRefines message lifecycle is_interleaved o q
-      → AreDiscards o (messages_of q) s.outstanding.items.discards → Stands x q → StandsOn x q (send now most s q told).queue
-  send_stands message lifecycle is_interleaved o most s q told h a stands =
-      let left : Changed P = discard_all s.outstanding.items.discards q told in
+  pub send_stands : (message : ℕ → Message) (lifecycle : ℕ → Option ℕ) (is_interleaved : Bool) (o : Sender) (most : ℕ) (s : tx.Sender) (q : Queue) (emitted : Emitted P) → QueueRefines message lifecycle is_interleaved o q
+      → AreDiscards o (messages_of q) s.outstanding.items.discards → Stands x q → StandsOn x q (send now most s q emitted).queue
+  send_stands message lifecycle is_interleaved o most s q emitted h a stands =
+      let left : Changed P = discard_all s.outstanding.items.discards q emitted in
       let begun : Filling P = filled_with most (without_discards s) (resent most (without_discards s)) left in
-      let one = discards_stand message lifecycle is_interleaved o x s.outstanding.items.discards q told h a stands in
+      let one = discards_stand message lifecycle is_interleaved o x s.outstanding.items.discards q emitted h a stands in
       stands_then x q left.queue (fill (suc begun.left) now begun).queue one (fills_stand (suc begun.left) begun one.stands)

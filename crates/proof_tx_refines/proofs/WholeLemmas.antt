@@ -21,19 +21,19 @@ use Rattle.proof_tx_refines.proofs.LossLemmas.{losses, lifetimes}
 use Rattle.proof_tx_refines.proofs.SackLemmas.{sack_row}
 
 module _ {P : Type 0} (message : ℕ → Message) (lifecycle : ℕ → Option ℕ) (is_interleaved : Bool) (x : Transfer) (q : Queue) (s : Sender) (k : Invariant message is_interleaved x)
-    (sh : SenderRefines message lifecycle is_interleaved x q s.outstanding.items) (told : Emitted P) where
-  pub timeout_row : (now : ℕ) → LeadsTo message lifecycle is_interleaved x told q (timed_out_sender now (nack_all s.outstanding.items told).items s).outstanding.items (nack_all s.outstanding.items told).emitted
+    (sh : SenderRefines message lifecycle is_interleaved x q s.outstanding.items) (emitted : Emitted P) where
+  pub timeout_row : (now : ℕ) → LeadsTo message lifecycle is_interleaved x emitted q (timed_out_sender now (nack_all s.outstanding.items emitted).items s).outstanding.items (nack_all s.outstanding.items emitted).emitted
   timeout_row now =
-      losses message lifecycle is_interleaved x told q true false (length s.outstanding.items.kept) (first_step s.outstanding.items told) (led_none message lifecycle is_interleaved x told q s.outstanding.items k sh)
+      losses message lifecycle is_interleaved x emitted q true false (length s.outstanding.items.kept) (first_step s.outstanding.items emitted) (led_none message lifecycle is_interleaved x emitted q s.outstanding.items k sh)
 
-  pub expiry_row : (now : ℕ) → LeadsTo message lifecycle is_interleaved x told q (expire now s told).outstanding.items (expire_outstanding now s.outstanding.items told).emitted
+  pub expiry_row : (now : ℕ) → LeadsTo message lifecycle is_interleaved x emitted q (expire now s emitted).outstanding.items (expire_outstanding now s.outstanding.items emitted).emitted
   expiry_row now =
-      lifetimes message lifecycle is_interleaved x told q now (length s.outstanding.items.kept) (first_step s.outstanding.items told) (led_none message lifecycle is_interleaved x told q s.outstanding.items k sh)
+      lifetimes message lifecycle is_interleaved x emitted q now (length s.outstanding.items.kept) (first_step s.outstanding.items emitted) (led_none message lifecycle is_interleaved x emitted q s.outstanding.items k sh)
 
   pub received_row : (now cumulative c a_rwnd : ℕ) (blocks : List GapAckBlock) → is_valid cumulative blocks s.outstanding.items ≡ true → cumulative + 1 ≡ origin + c → IsAmong c x.sacks
-      → ReceivesSack message lifecycle is_interleaved x q (leaving cumulative s.outstanding.items) c told (handle_sack now cumulative a_rwnd blocks s told).outstanding.items (step_of cumulative blocks s told).emitted
+      → ReceivesSack message lifecycle is_interleaved x q (leaving cumulative s.outstanding.items) c emitted (handle_sack now cumulative a_rwnd blocks s emitted).outstanding.items (step_of cumulative blocks s emitted).emitted
   received_row now cumulative c a_rwnd blocks valid upto sent =
-      sack_row message lifecycle is_interleaved x q s.outstanding.items cumulative c blocks (not (is_open cumulative s.windows)) told k sh valid upto sent
+      sack_row message lifecycle is_interleaved x q s.outstanding.items cumulative c blocks (not (is_open cumulative s.windows)) emitted k sh valid upto sent
 
 -- what the receiver does, and what is under way
 pub shown_again : (message : ℕ → Message) (lifecycle : ℕ → Option ℕ) (is_interleaved : Bool) (x y : Transfer) (q : Queue) (s : Items) → y.sender ≡ x.sender → y.acknowledged ≡ x.acknowledged

@@ -24,11 +24,11 @@ pub record AreSameAsked (q r : Queue) : Type 0 where
 -- all calls but a request and its answer leave them
 pub record CallsKeepAsked : Type 0 where
   pub accepting : (id : ℕ) (m : Queued) (q : Queue) → AreSameAsked q (add id m q)
-  pub preparing : (id : ℕ) (q : Queue) (told : Emitted (List ℕ)) → AreSameAsked q (prepare_reset id q told).queue
+  pub preparing : (id : ℕ) (q : Queue) (emitted : Emitted (List ℕ)) → AreSameAsked q (prepare_reset id q emitted).queue
   pub prioritised : (id n : ℕ) (q : Queue) → AreSameAsked q (set_priority id n q)
-  pub watched : (id n : ℕ) (q : Queue) (told : Emitted (List ℕ)) → AreSameAsked q (set_low_threshold id n q told).queue
+  pub watched : (id n : ℕ) (q : Queue) (emitted : Emitted (List ℕ)) → AreSameAsked q (set_low_threshold id n q emitted).queue
   pub mode : (is_interleaved : Bool) (q : Queue) → AreSameAsked q (set_mode is_interleaved q)
-  pub sending : (now most : ℕ) (s : Sender) (q : Queue) (told : Emitted (List ℕ)) → AreSameAsked q (send now most s q told).queue
+  pub sending : (now most : ℕ) (s : Sender) (q : Queue) (emitted : Emitted (List ℕ)) → AreSameAsked q (send now most s q emitted).queue
 
 -- these streams, which were ready, go into a request
 pub record AreRequested (q r : Queue) (ids : List ℕ) : Type 0 where

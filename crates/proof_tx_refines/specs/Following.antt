@@ -53,9 +53,9 @@ pub record WaitsOn (q r : Queue) : Type 0 where
 
 -- whatever leads to such a queue may happen by the rules with epochs, as it begins no message of a later epoch
 abbrev pub LeadsBegin : Type 0
-LeadsBegin = (message : ℕ → Message) (lifecycle : ℕ → Option ℕ) (is_interleaved : Bool) (x : Epochs) (q r : Queue) (s t : Items) (told later : Emitted (List ℕ))
+LeadsBegin = (message : ℕ → Message) (lifecycle : ℕ → Option ℕ) (is_interleaved : Bool) (x : Epochs) (q r : Queue) (s t : Items) (emitted later : Emitted (List ℕ))
     → Invariant message is_interleaved x.transfer → SenderRefines message lifecycle is_interleaved x.transfer q s → ArePausedAs x q → WaitsOn q r
-    → (l : LeadsTo message lifecycle is_interleaved x.transfer told r t later)
+    → (l : LeadsTo message lifecycle is_interleaved x.transfer emitted r t later)
     → MayAll message is_interleaved x (map transfers l.leads.events) × (go_all message is_interleaved x (map transfers l.leads.events) ≡ record x { transfer = l.after })
 
 -- ---- before anything is sent
@@ -87,25 +87,25 @@ AcceptingFollows = InEachFollowed (λ message lifecycle is_interleaved x q s.
 
 abbrev pub SettingFollows : Type 0
 SettingFollows = InEachFollowed (λ message lifecycle is_interleaved x q s.
-    (id n : ℕ) (told : Emitted (List ℕ)) → FollowsEpochs x (set_priority id n q) s.outstanding.items × FollowsEpochs x (set_low_threshold id n q told).queue s.outstanding.items)
+    (id n : ℕ) (emitted : Emitted (List ℕ)) → FollowsEpochs x (set_priority id n q) s.outstanding.items × FollowsEpochs x (set_low_threshold id n q emitted).queue s.outstanding.items)
 
 -- the messages that a reset drops are given up, each with its record
-pub record PreparesLead {P : Type 0} (message : ℕ → Message) (lifecycle : ℕ → Option ℕ) (is_interleaved : Bool) (x : Transfer) (q : Queue) (s : Items) (id : ℕ) (told : Emitted P) : Type 0 where
-  pub leads : LeadsTo message lifecycle is_interleaved x told (prepare_reset id q told).queue s (prepare_reset id q told).emitted
+pub record PreparesLead {P : Type 0} (message : ℕ → Message) (lifecycle : ℕ → Option ℕ) (is_interleaved : Bool) (x : Transfer) (q : Queue) (s : Items) (id : ℕ) (emitted : Emitted P) : Type 0 where
+  pub leads : LeadsTo message lifecycle is_interleaved x emitted (prepare_reset id q emitted).queue s (prepare_reset id q emitted).emitted
   pub gives_up : leads.leads.events ≡ give_ups (unsent_of q id)
   pub leads_to : leads.after ≡ run message is_interleaved x (give_ups (unsent_of q id))
   pub places_are : leads.places ≡ unsent_of q id
 
 abbrev pub PreparingLeads : Type 0
-PreparingLeads = InEachState (λ message lifecycle is_interleaved x q s. (id : ℕ) (told : Emitted (List ℕ)) → PreparesLead message lifecycle is_interleaved x q s.outstanding.items id told)
+PreparingLeads = InEachState (λ message lifecycle is_interleaved x q s. (id : ℕ) (emitted : Emitted (List ℕ)) → PreparesLead message lifecycle is_interleaved x q s.outstanding.items id emitted)
 
-pub record PreparesFollow {P : Type 0} (message : ℕ → Message) (is_interleaved : Bool) (x : Epochs) (q : Queue) (s : Items) (id : ℕ) (told : Emitted P) : Type 0 where
+pub record PreparesFollow {P : Type 0} (message : ℕ → Message) (is_interleaved : Bool) (x : Epochs) (q : Queue) (s : Items) (id : ℕ) (emitted : Emitted P) : Type 0 where
   pub may : MayAll message is_interleaved x (prepare_events q id)
   pub transfer_is : (go_all message is_interleaved x (prepare_events q id)).transfer ≡ run message is_interleaved x.transfer (give_ups (unsent_of q id))
-  pub follows : FollowsEpochs (go_all message is_interleaved x (prepare_events q id)) (prepare_reset id q told).queue s
+  pub follows : FollowsEpochs (go_all message is_interleaved x (prepare_events q id)) (prepare_reset id q emitted).queue s
 
 abbrev pub PreparingFollows : Type 0
-PreparingFollows = InEachFollowed (λ message lifecycle is_interleaved x q s. (id : ℕ) (told : Emitted (List ℕ)) → PreparesFollow message is_interleaved x q s.outstanding.items id told)
+PreparingFollows = InEachFollowed (λ message lifecycle is_interleaved x q s. (id : ℕ) (emitted : Emitted (List ℕ)) → PreparesFollow message is_interleaved x q s.outstanding.items id emitted)
 
 -- ---- a request, and its answer
 
@@ -142,8 +142,8 @@ AnsweringFollows = InEachFollowed (λ message lifecycle is_interleaved x q s.
 
 abbrev pub SendingFollows : Type 0
 SendingFollows = InEachFollowed (λ message lifecycle is_interleaved x q s.
-    (now most : ℕ) (told : Emitted (List ℕ)) (l : Sends message lifecycle is_interleaved x.transfer now most s q told)
-    → LeadsInEpochs message is_interleaved x l.leads.leads.events l.leads.after (send now most s q told).queue (send now most s q told).sender.outstanding.items)
+    (now most : ℕ) (emitted : Emitted (List ℕ)) (l : Sends message lifecycle is_interleaved x.transfer now most s q emitted)
+    → LeadsInEpochs message is_interleaved x l.leads.leads.events l.leads.after (send now most s q emitted).queue (send now most s q emitted).sender.outstanding.items)
 
 abbrev pub FastFollows : Type 0
 FastFollows = InEachFollowed (λ message lifecycle is_interleaved x q s. (now most : ℕ) → FollowsEpochs x q (send_fast now most s).outstanding.items)
@@ -151,25 +151,25 @@ FastFollows = InEachFollowed (λ message lifecycle is_interleaved x q s. (now mo
 -- a SACK: fragments leave, and then messages may be given up
 abbrev pub ReceivingFollows : Type 0
 ReceivingFollows = InEachFollowed (λ message lifecycle is_interleaved x q s.
-    (now cumulative c a_rwnd : ℕ) (blocks : List GapAckBlock) (told : Emitted (List ℕ))
+    (now cumulative c a_rwnd : ℕ) (blocks : List GapAckBlock) (emitted : Emitted (List ℕ))
     → is_valid cumulative blocks s.outstanding.items ≡ true → cumulative + 1 ≡ origin + c → IsAmong c x.transfer.sacks
-    → (h : ReceivesSack message lifecycle is_interleaved x.transfer q (leaving cumulative s.outstanding.items) c told (handle_sack now cumulative a_rwnd blocks s told).outstanding.items (step_of cumulative blocks s told).emitted)
-    → LeadsInEpochs message is_interleaved x (replicate (leaving cumulative s.outstanding.items) (ack_point_advances c) ++ h.losses.leads.events) h.losses.after q (handle_sack now cumulative a_rwnd blocks s told).outstanding.items)
+    → (h : ReceivesSack message lifecycle is_interleaved x.transfer q (leaving cumulative s.outstanding.items) c emitted (handle_sack now cumulative a_rwnd blocks s emitted).outstanding.items (step_of cumulative blocks s emitted).emitted)
+    → LeadsInEpochs message is_interleaved x (replicate (leaving cumulative s.outstanding.items) (ack_point_advances c) ++ h.losses.leads.events) h.losses.after q (handle_sack now cumulative a_rwnd blocks s emitted).outstanding.items)
 
 -- ---- what changes the items alone
 
 abbrev pub ItemsFollow : Type 0
 ItemsFollow = InEachFollowed (λ message lifecycle is_interleaved x q s.
-    (t : Items) (told later : Emitted (List ℕ)) → t.breaks ≡ s.outstanding.items.breaks → (l : LeadsTo message lifecycle is_interleaved x.transfer told q t later)
+    (t : Items) (emitted later : Emitted (List ℕ)) → t.breaks ≡ s.outstanding.items.breaks → (l : LeadsTo message lifecycle is_interleaved x.transfer emitted q t later)
     → LeadsInEpochs message is_interleaved x l.leads.events l.after q t)
 
 pub record BreaksAreKept : Type 0 where
   pub message : (p : ℕ) (s : Items) → (abandon_message p s).breaks ≡ s.breaks
-  pub losses : (at_once fast : Bool) (n : ℕ) (s : Items) (told : Emitted (List ℕ)) → (nack_below at_once fast n (first_step s told)).items.breaks ≡ s.breaks
-  pub timeout : (now : ℕ) (s : Sender) (told : Emitted (List ℕ))
-      → (timed_out_sender now (nack_all s.outstanding.items told).items s).outstanding.items.breaks ≡ s.outstanding.items.breaks
-  pub lifetimes : (now n : ℕ) (s : Items) (told : Emitted (List ℕ)) → (expire_below now n (first_step s told)).items.breaks ≡ s.breaks
-  pub expiry : (now : ℕ) (s : Sender) (told : Emitted (List ℕ)) → (expire now s told).outstanding.items.breaks ≡ s.outstanding.items.breaks
+  pub losses : (at_once fast : Bool) (n : ℕ) (s : Items) (emitted : Emitted (List ℕ)) → (nack_below at_once fast n (first_step s emitted)).items.breaks ≡ s.breaks
+  pub timeout : (now : ℕ) (s : Sender) (emitted : Emitted (List ℕ))
+      → (timed_out_sender now (nack_all s.outstanding.items emitted).items s).outstanding.items.breaks ≡ s.outstanding.items.breaks
+  pub lifetimes : (now n : ℕ) (s : Items) (emitted : Emitted (List ℕ)) → (expire_below now n (first_step s emitted)).items.breaks ≡ s.breaks
+  pub expiry : (now : ℕ) (s : Sender) (emitted : Emitted (List ℕ)) → (expire now s emitted).outstanding.items.breaks ≡ s.outstanding.items.breaks
 
 -- ---- what the receiver does
 

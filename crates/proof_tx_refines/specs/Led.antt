@@ -48,7 +48,7 @@ given_ups (e ∷ es) = given_up_by e ++ given_ups es
 
 -- the messages of which a record says that they were given up
 abbrev pub recorded_places : {P : Type 0} → Emitted P → List ℕ
-recorded_places told = map (λ g. g.number) told.given_up
+recorded_places emitted = map (λ g. g.number) emitted.given_up
 
 -- rules of a sender, which change it alone, lead from x to y, and give these places up
 pub record Leads (message : ℕ → Message) (is_interleaved : Bool) (x y : Transfer) (places : List ℕ) : Type 0 where
@@ -60,13 +60,13 @@ pub record Leads (message : ℕ → Message) (is_interleaved : Bool) (x y : Tran
   pub rest_stays : y ≡ record x { sender = y.sender }
 
 -- such rules lead from x to a state that the values refine, and each message given up meanwhile has one record
-pub record LeadsTo {P : Type 0} (message : ℕ → Message) (lifecycle : ℕ → Option ℕ) (is_interleaved : Bool) (x : Transfer) (told : Emitted P) (q : Queue) (s : Items) (later : Emitted P) : Type 0 where
+pub record LeadsTo {P : Type 0} (message : ℕ → Message) (lifecycle : ℕ → Option ℕ) (is_interleaved : Bool) (x : Transfer) (emitted : Emitted P) (q : Queue) (s : Items) (later : Emitted P) : Type 0 where
   pub after : Transfer
   pub places : List ℕ
   pub leads : Leads message is_interleaved x after places
   pub kept : Invariant message is_interleaved after
   pub refines : SenderRefines message lifecycle is_interleaved after q s
-  pub recorded : recorded_places later ≡ recorded_places told ++ places
+  pub recorded : recorded_places later ≡ recorded_places emitted ++ places
 
 -- ---- what is emitted of messages that leave
 

@@ -31,12 +31,12 @@ KeepsLine f = (q : Queue) → IsInLine q → IsInLine (f q)
 pub record CallsKeepLine : Type 0 where
   pub new : (o : Options) → IsInLine (queue o)
   pub accepting : (id : ℕ) (m : Queued) → KeepsLine (add id m)
-  pub preparing : (id : ℕ) (told : Emitted (List ℕ)) → KeepsLine (λ q. (prepare_reset id q told).queue)
+  pub preparing : (id : ℕ) (emitted : Emitted (List ℕ)) → KeepsLine (λ q. (prepare_reset id q emitted).queue)
   pub resetting : (step : ResetStep) (ids : List ℕ) → KeepsLine (each_stepped step ids)
-  pub discarding : (id number : ℕ) (told : Emitted (List ℕ)) → KeepsLine (λ q. (discard id number q told).queue)
+  pub discarding : (id number : ℕ) (emitted : Emitted (List ℕ)) → KeepsLine (λ q. (discard id number q emitted).queue)
   pub prioritised : (id n : ℕ) → KeepsLine (set_priority id n)
-  pub watched : (id n : ℕ) (told : Emitted (List ℕ)) → KeepsLine (λ q. (set_low_threshold id n q told).queue)
-  pub turning : (now id size : ℕ) (told : Emitted (List ℕ)) → KeepsLine (λ q. (turn now id size q told).queue)
+  pub watched : (id n : ℕ) (emitted : Emitted (List ℕ)) → KeepsLine (λ q. (set_low_threshold id n q emitted).queue)
+  pub turning : (now id size : ℕ) (emitted : Emitted (List ℕ)) → KeepsLine (λ q. (turn now id size q emitted).queue)
   pub mode : (is_interleaved : Bool) (q : Queue) → q.begun ≡ None → IsInLine q → IsInLine (set_mode is_interleaved q)
 
 -- ---- so no stream that is stopped sends
@@ -50,4 +50,4 @@ NextFlows = InEachLine (λ x q. (id : ℕ) → next_stream q ≡ Some id → is_
 
 -- and a fragment leaves pauses that agree with the epochs
 abbrev pub ProducingPauses : Type 0
-ProducingPauses = InEachLine (λ x q. (now size : ℕ) (told : Emitted (List ℕ)) → 0 < size → ArePausedAs x (produce now size q told).queue × IsInLine (produce now size q told).queue)
+ProducingPauses = InEachLine (λ x q. (now size : ℕ) (emitted : Emitted (List ℕ)) → 0 < size → ArePausedAs x (produce now size q emitted).queue × IsInLine (produce now size q emitted).queue)

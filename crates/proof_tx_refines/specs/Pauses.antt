@@ -34,13 +34,13 @@ abbrev pub give_ups : List ℕ → List Rule
 give_ups ps = map give_up ps
 
 -- each of these is given up, and nothing else
-pub record Prepares {P : Type 0} (message : ℕ → Message) (lifecycle : ℕ → Option ℕ) (is_interleaved : Bool) (x : Transfer) (q : Queue) (s : Items) (id : ℕ) (told : Emitted P) : Type 0 where
+pub record Prepares {P : Type 0} (message : ℕ → Message) (lifecycle : ℕ → Option ℕ) (is_interleaved : Bool) (x : Transfer) (q : Queue) (s : Items) (id : ℕ) (emitted : Emitted P) : Type 0 where
   pub may : Happens message is_interleaved x (give_ups (unsent_of q id))
   pub kept : Invariant message is_interleaved (run message is_interleaved x (give_ups (unsent_of q id)))
-  pub refines : SenderRefines message lifecycle is_interleaved (run message is_interleaved x (give_ups (unsent_of q id))) (prepare_reset id q told).queue s
+  pub refines : SenderRefines message lifecycle is_interleaved (run message is_interleaved x (give_ups (unsent_of q id))) (prepare_reset id q emitted).queue s
 
 abbrev pub PreparesShow : Type 0
-PreparesShow = InEachState (λ message lifecycle is_interleaved x q s. (id : ℕ) (told : Emitted (List ℕ)) → Prepares message lifecycle is_interleaved x q s.outstanding.items id told)
+PreparesShow = InEachState (λ message lifecycle is_interleaved x q s. (id : ℕ) (emitted : Emitted (List ℕ)) → Prepares message lifecycle is_interleaved x q s.outstanding.items id emitted)
 
 -- ---- a stream's pause
 
@@ -89,9 +89,9 @@ opens_next Resetting id = []
 abbrev pub prepare_events : Queue → ℕ → List ResetEvent
 prepare_events q id = map transfers (give_ups (unsent_of q id)) ++ opens_next (stream id q.streams).pause id
 
-pub record PreparesPause {P : Type 0} (message : ℕ → Message) (is_interleaved : Bool) (x : Epochs) (q : Queue) (id : ℕ) (told : Emitted P) : Type 0 where
+pub record PreparesPause {P : Type 0} (message : ℕ → Message) (is_interleaved : Bool) (x : Epochs) (q : Queue) (id : ℕ) (emitted : Emitted P) : Type 0 where
   pub may : MayAll message is_interleaved x (prepare_events q id)
-  pub paused : ArePausedAs (go_all message is_interleaved x (prepare_events q id)) (prepare_reset id q told).queue
+  pub paused : ArePausedAs (go_all message is_interleaved x (prepare_events q id)) (prepare_reset id q emitted).queue
 
 -- ---- each call leaves pauses that agree with the epochs
 
@@ -106,7 +106,7 @@ AcceptingPauses = InEachEpochs (λ message lifecycle is_interleaved x q.
     (add (stream_of message x.transfer.sender.accepted) (offered_entry message lifecycle x.transfer.sender.accepted expires limit) q))
 
 abbrev pub PreparingPauses : Type 0
-PreparingPauses = InEachEpochs (λ message lifecycle is_interleaved x q. (id : ℕ) (told : Emitted (List ℕ)) → PreparesPause message is_interleaved x q id told)
+PreparingPauses = InEachEpochs (λ message lifecycle is_interleaved x q. (id : ℕ) (emitted : Emitted (List ℕ)) → PreparesPause message is_interleaved x q id emitted)
 
 -- a stream that is ready goes into a request
 abbrev pub RequestingPauses : Type 0
@@ -140,17 +140,17 @@ AnswerPauses = InEachEpochs (λ message lifecycle is_interleaved x q.
 -- settings of a stream
 abbrev pub SettingPauses : Type 0
 SettingPauses = InEachEpochs (λ message lifecycle is_interleaved x q.
-    (id n : ℕ) (told : Emitted (List ℕ)) → ArePausedAs x (set_priority id n q) × ArePausedAs x (set_low_threshold id n q told).queue)
+    (id n : ℕ) (emitted : Emitted (List ℕ)) → ArePausedAs x (set_priority id n q) × ArePausedAs x (set_low_threshold id n q emitted).queue)
 
 -- what is left of messages that were given up leaves
 abbrev pub DiscardingPauses : Type 0
-DiscardingPauses = (message : ℕ → Message) (lifecycle : ℕ → Option ℕ) (is_interleaved : Bool) (x : Epochs) (q : Queue) (s : Items) (told : Emitted (List ℕ))
-    → SenderRefines message lifecycle is_interleaved x.transfer q s → ArePausedAs x q → ArePausedAs x (discard_all s.discards q told).queue
+DiscardingPauses = (message : ℕ → Message) (lifecycle : ℕ → Option ℕ) (is_interleaved : Bool) (x : Epochs) (q : Queue) (s : Items) (emitted : Emitted (List ℕ))
+    → SenderRefines message lifecycle is_interleaved x.transfer q s → ArePausedAs x q → ArePausedAs x (discard_all s.discards q emitted).queue
 
 -- a turn of a stream that isn't stopped
 abbrev pub TurningPauses : Type 0
 TurningPauses = InEachEpochs (λ message lifecycle is_interleaved x q.
-    (now id size : ℕ) (told : Emitted (List ℕ)) → is_stopped (stream id q.streams).pause ≡ false → ArePausedAs x (turn now id size q told).queue)
+    (now id size : ℕ) (emitted : Emitted (List ℕ)) → is_stopped (stream id q.streams).pause ≡ false → ArePausedAs x (turn now id size q emitted).queue)
 
 -- the rules of a sender, but for acceptance, leave the epochs
 abbrev pub SendingPauses : Type 0
@@ -160,7 +160,7 @@ SendingPauses = (message : ℕ → Message) (is_interleaved : Bool) (x : Epochs)
 -- what leads to it may happen by the rules with epochs: what it begins is of the epoch in which its stream is open
 abbrev pub TurnsBegin : Type 0
 TurnsBegin = InEachEpochs (λ message lifecycle is_interleaved x q.
-    (now id size : ℕ) (told : Emitted (List ℕ)) (es : List Rule) (t : Items) → is_stopped (stream id q.streams).pause ≡ false
+    (now id size : ℕ) (emitted : Emitted (List ℕ)) (es : List Rule) (t : Items) → is_stopped (stream id q.streams).pause ≡ false
     → Happens message is_interleaved x.transfer es → list_all is_sending es ≡ true → (run message is_interleaved x.transfer es).forward_points ≡ x.transfer.forward_points
-    → SenderRefines message lifecycle is_interleaved (run message is_interleaved x.transfer es) (turn now id size q told).queue t
+    → SenderRefines message lifecycle is_interleaved (run message is_interleaved x.transfer es) (turn now id size q emitted).queue t
     → MayAll message is_interleaved x (map transfers es))

@@ -99,8 +99,8 @@ Accepts = InEachState (λ message lifecycle is_interleaved x q s.
 
 abbrev pub SettingsShow : Type 0
 SettingsShow = InEachState (λ message lifecycle is_interleaved x q s.
-    (id n : ℕ) (told : Emitted (List ℕ))
-    → SenderRefines message lifecycle is_interleaved x (set_priority id n q) s.outstanding.items × SenderRefines message lifecycle is_interleaved x (set_low_threshold id n q told).queue s.outstanding.items)
+    (id n : ℕ) (emitted : Emitted (List ℕ))
+    → SenderRefines message lifecycle is_interleaved x (set_priority id n q) s.outstanding.items × SenderRefines message lifecycle is_interleaved x (set_low_threshold id n q emitted).queue s.outstanding.items)
 
 -- ---- resets of streams
 
@@ -126,8 +126,8 @@ with_made now (Some p) s = insert (item_of now p) s
 -- nothing waits to be discarded
 abbrev pub Produces : Type 0
 Produces = InEachState (λ message lifecycle is_interleaved x q s.
-    (now size : ℕ) (told : Emitted (List ℕ)) → s.outstanding.items.discards ≡ [] → 0 < size
-    → LeadsTo message lifecycle is_interleaved x told (produce now size q told).queue (with_made now (produce now size q told).made s.outstanding.items) (produce now size q told).emitted)
+    (now size : ℕ) (emitted : Emitted (List ℕ)) → s.outstanding.items.discards ≡ [] → 0 < size
+    → LeadsTo message lifecycle is_interleaved x emitted (produce now size q emitted).queue (with_made now (produce now size q emitted).made s.outstanding.items) (produce now size q emitted).emitted)
 
 -- ---- a SACK
 
@@ -136,56 +136,56 @@ abbrev pub leave_places : ℕ → Transfer → Transfer
 leave_places n x = record x { acknowledged = x.acknowledged + n; reports = x.reports ++ reports_of x.sender x.acknowledged n }
 
 -- n fragments leave, up to c, with the reports of the rules; then messages are given up that lost a fragment
-pub record ReceivesSack {P : Type 0} (message : ℕ → Message) (lifecycle : ℕ → Option ℕ) (is_interleaved : Bool) (x : Transfer) (q : Queue) (n c : ℕ) (told : Emitted P) (s : Items) (later : Emitted P) : Type 0 where
+pub record ReceivesSack {P : Type 0} (message : ℕ → Message) (lifecycle : ℕ → Option ℕ) (is_interleaved : Bool) (x : Transfer) (q : Queue) (n c : ℕ) (emitted : Emitted P) (s : Items) (later : Emitted P) : Type 0 where
   pub may : Happens message is_interleaved x (replicate n (ack_point_advances c))
   pub leaves : run message is_interleaved x (replicate n (ack_point_advances c)) ≡ leave_places n x
   pub upto : (leave_places n x).acknowledged ≡ c
-  pub reported : delivered_ids later.events ≡ delivered_ids told.events ++ ids_at lifecycle (reports_of x.sender x.acknowledged n)
-  pub losses : LeadsTo message lifecycle is_interleaved (leave_places n x) told q s later
+  pub reported : delivered_ids later.events ≡ delivered_ids emitted.events ++ ids_at lifecycle (reports_of x.sender x.acknowledged n)
+  pub losses : LeadsTo message lifecycle is_interleaved (leave_places n x) emitted q s later
 
 -- its cumulative point is that of a SACK of the rules
 abbrev pub SacksAreReceived : Type 0
 SacksAreReceived = InEachState (λ message lifecycle is_interleaved x q s.
-    (now cumulative c a_rwnd : ℕ) (blocks : List GapAckBlock) (told : Emitted (List ℕ))
+    (now cumulative c a_rwnd : ℕ) (blocks : List GapAckBlock) (emitted : Emitted (List ℕ))
     → is_valid cumulative blocks s.outstanding.items ≡ true → cumulative + 1 ≡ origin + c → IsAmong c x.sacks
-    → ReceivesSack message lifecycle is_interleaved x q (leaving cumulative s.outstanding.items) c told (handle_sack now cumulative a_rwnd blocks s told).outstanding.items (step_of cumulative blocks s told).emitted)
+    → ReceivesSack message lifecycle is_interleaved x q (leaving cumulative s.outstanding.items) c emitted (handle_sack now cumulative a_rwnd blocks s emitted).outstanding.items (step_of cumulative blocks s emitted).emitted)
 
 -- ---- giving up
 
 -- all that is kept of a message
 abbrev pub GivesUp : Type 0
 GivesUp = InEachState (λ message lifecycle is_interleaved x q s.
-    (p k : ℕ) (i : Item) (cause : GivenUpCause) (told : Emitted (List ℕ)) → slice_get s.outstanding.items.kept k ≡ Some i → i.number ≡ p → is_abandoned i ≡ false
-    → LeadsTo message lifecycle is_interleaved x told q (abandon_message p s.outstanding.items) (give_up p cause told))
+    (p k : ℕ) (i : Item) (cause : GivenUpCause) (emitted : Emitted (List ℕ)) → slice_get s.outstanding.items.kept k ≡ Some i → i.number ≡ p → is_abandoned i ≡ false
+    → LeadsTo message lifecycle is_interleaved x emitted q (abandon_message p s.outstanding.items) (give_up p cause emitted))
 
 -- what is left of it in the queue
 abbrev pub DiscardsShow : Type 0
 DiscardsShow = InEachState (λ message lifecycle is_interleaved x q s.
-    (told : Emitted (List ℕ))
-    → SenderRefines message lifecycle is_interleaved x (discard_all s.outstanding.items.discards q told).queue (without_discards s).outstanding.items
-    × (recorded_places (discard_all s.outstanding.items.discards q told).emitted ≡ recorded_places told))
+    (emitted : Emitted (List ℕ))
+    → SenderRefines message lifecycle is_interleaved x (discard_all s.outstanding.items.discards q emitted).queue (without_discards s).outstanding.items
+    × (recorded_places (discard_all s.outstanding.items.discards q emitted).emitted ≡ recorded_places emitted))
 
 -- missing reports and losses, and lifetimes, of the first n items
 abbrev pub Loses : Type 0
 Loses = InEachState (λ message lifecycle is_interleaved x q s.
-    (at_once fast : Bool) (n : ℕ) (told : Emitted (List ℕ))
-    → LeadsTo message lifecycle is_interleaved x told q (nack_below at_once fast n (first_step s.outstanding.items told)).items (nack_below at_once fast n (first_step s.outstanding.items told)).emitted)
+    (at_once fast : Bool) (n : ℕ) (emitted : Emitted (List ℕ))
+    → LeadsTo message lifecycle is_interleaved x emitted q (nack_below at_once fast n (first_step s.outstanding.items emitted)).items (nack_below at_once fast n (first_step s.outstanding.items emitted)).emitted)
 
 abbrev pub Expires : Type 0
 Expires = InEachState (λ message lifecycle is_interleaved x q s.
-    (now n : ℕ) (told : Emitted (List ℕ))
-    → LeadsTo message lifecycle is_interleaved x told q (expire_below now n (first_step s.outstanding.items told)).items (expire_below now n (first_step s.outstanding.items told)).emitted)
+    (now n : ℕ) (emitted : Emitted (List ℕ))
+    → LeadsTo message lifecycle is_interleaved x emitted q (expire_below now n (first_step s.outstanding.items emitted)).items (expire_below now n (first_step s.outstanding.items emitted)).emitted)
 
 -- a whole timeout, and the test before a forward point
 abbrev pub TimesOut : Type 0
 TimesOut = InEachState (λ message lifecycle is_interleaved x q s.
-    (now : ℕ) (told : Emitted (List ℕ))
-    → LeadsTo message lifecycle is_interleaved x told q (timed_out_sender now (nack_all s.outstanding.items told).items s).outstanding.items (nack_all s.outstanding.items told).emitted)
+    (now : ℕ) (emitted : Emitted (List ℕ))
+    → LeadsTo message lifecycle is_interleaved x emitted q (timed_out_sender now (nack_all s.outstanding.items emitted).items s).outstanding.items (nack_all s.outstanding.items emitted).emitted)
 
 abbrev pub LifetimesEnd : Type 0
 LifetimesEnd = InEachState (λ message lifecycle is_interleaved x q s.
-    (now : ℕ) (told : Emitted (List ℕ))
-    → LeadsTo message lifecycle is_interleaved x told q (expire now s told).outstanding.items (expire_outstanding now s.outstanding.items told).emitted)
+    (now : ℕ) (emitted : Emitted (List ℕ))
+    → LeadsTo message lifecycle is_interleaved x emitted q (expire now s emitted).outstanding.items (expire_outstanding now s.outstanding.items emitted).emitted)
 
 -- the rules give up what they name, and nothing else
 abbrev pub RecordsAreExact : Type 0
@@ -218,13 +218,13 @@ abbrev pub CarryingStays : Type 0
 CarryingStays = (message : ℕ → Message) (is_interleaved : Bool) (first : ℕ) (x : Transfer) (e : Rule) (chunk : ℕ × FragmentTree)
     → Invariant message is_interleaved x → IsAllowed message is_interleaved x e → Carries message first x.sender chunk → Carries message first (after message is_interleaved x e).sender chunk
 
-pub record Sends {P : Type 0} (message : ℕ → Message) (lifecycle : ℕ → Option ℕ) (is_interleaved : Bool) (x : Transfer) (now most : ℕ) (s : Sender) (q : Queue) (told : Emitted P) : Type 0 where
-  pub leads : LeadsTo message lifecycle is_interleaved x told (send now most s q told).queue (send now most s q told).sender.outstanding.items (send now most s q told).emitted
-  pub carried : AllCarry message s.outstanding.first x.acknowledged leads.after.sender (send now most s q told).chunks
+pub record Sends {P : Type 0} (message : ℕ → Message) (lifecycle : ℕ → Option ℕ) (is_interleaved : Bool) (x : Transfer) (now most : ℕ) (s : Sender) (q : Queue) (emitted : Emitted P) : Type 0 where
+  pub leads : LeadsTo message lifecycle is_interleaved x emitted (send now most s q emitted).queue (send now most s q emitted).sender.outstanding.items (send now most s q emitted).emitted
+  pub carried : AllCarry message s.outstanding.first x.acknowledged leads.after.sender (send now most s q emitted).chunks
 
 -- a whole packet: discards, what is sent again, and new fragments
 abbrev pub PacketsAreSent : Type 0
-PacketsAreSent = InEachState (λ message lifecycle is_interleaved x q s. (now most : ℕ) (told : Emitted (List ℕ)) → Sends message lifecycle is_interleaved x now most s q told)
+PacketsAreSent = InEachState (λ message lifecycle is_interleaved x q s. (now most : ℕ) (emitted : Emitted (List ℕ)) → Sends message lifecycle is_interleaved x now most s q emitted)
 
 -- the packet that ignores the congestion window
 abbrev pub FastPacketsAreSent : Type 0

@@ -29,7 +29,7 @@ use Rattle.proof_endpoint.proofs.ReceivedBackLemmas.{is_accepted}
 use Rattle.proof_endpoint.proofs.SoundLawsLemmas.{stays_sound, can_be_read, stays_sound_refused, can_be_read_refused}
 use Rattle.proof_endpoint.proofs.SoundReceivedLemmas.{emitted_fit}
 use Rattle.proof_pair.specs.Trace as traces
-use Rattle.proof_pair.specs.Trace.{EndAction, Calls, Refuses, took, emitted_packets, give, foreign_if, act, as_received}
+use Rattle.proof_pair.specs.Trace.{EndAction, Calls, Refuses, drain, emitted_packets, give, foreign_if, act, as_received}
 use Rattle.proof_delivery.specs.GivenUp as giving
 use Rattle.spec_world.specs.Observations.{End, A, B, same_end, Entry, Given, given_up}
 use Rattle.spec_world.specs.World.{Side, association, ready_at, news_of, take_emitted}
@@ -42,14 +42,14 @@ use Rattle.proof_world.proofs.SidesLemmas.{IsFirst, IsSilentOf, silent_first, si
 -- ---- one action of an end
 
 -- the end is as after this action, its packets and the log have grown, and of the other end nothing is emitted
-pub record Goes (word_of : List ℕ → ℕ) (x : End) (log : List Entry) (others : List (List ℕ)) (side : Side) (end beside : traces.Side) (turn : EndAction) (new : Side) (longer : List Entry) : Type 0 where
+pub record Goes (word_of : List ℕ → ℕ) (x : End) (log : List Entry) (others : List (List ℕ)) (side : Side) (end beside : traces.Side) (action : EndAction) (new : Side) (longer : List Entry) : Type 0 where
   pub more : List Entry
   pub logged : longer ≡ log ++ more
   pub silent : (y : End) → same_end y x ≡ false → IsSilentOf y more
   pub sent : List (List ℕ)
   pub packets : new.packets ≡ side.packets ++ sent
-  pub good : Good word_of x longer others new (act turn end beside)
-  pub given_up : given_up x more ≡ (giving.emitted_by turn end beside).given_up
+  pub good : Good word_of x longer others new (act action end beside)
+  pub given_up : given_up x more ≡ (giving.emitted_by action end beside).given_up
 
 -- ---- what is emitted can be read back
 
@@ -92,29 +92,29 @@ module _ (word_of : List ℕ → ℕ) (x : End) (log : List Entry) (first : Entr
   own = end.end
 
   -- such an end as this went on to
-  goes_by : (turn : EndAction) (s : Endpoint Carried) (asked : Bool) → act turn end beside ≡ record (took s end) { got_init = asked }
-      → s.endpoint_state.context.emitted.given_up ≡ (giving.emitted_by turn end beside).given_up
+  goes_by : (action : EndAction) (s : Endpoint Carried) (asked : Bool) → act action end beside ≡ record (drain s end) { got_init = asked }
+      → s.endpoint_state.context.emitted.given_up ≡ (giving.emitted_by action end beside).given_up
       → IsSound s → s.endpoint_state.context.pack ≡ as_carried → All Readable (traces.packets_in s.endpoint_state.context.emitted.events)
       → (asked ≡ true → list_any (gets_init x others) (log ++ first ∷ news_of x side (map_end written_of s)) ≡ true)
       → (after : Endpoint (List ℕ)) → after ≡ map_end written_of s → new ≡ take_emitted side after → longer ≡ log ++ first ∷ news_of x side after
-      → Goes word_of x log others side end beside turn new longer
-  goes_by turn s asked turns gave_up sound pack readable was after is news logged =
+      → Goes word_of x log others side end beside action new longer
+  goes_by action s asked trace gave_up sound pack readable was after is news logged =
       let there : Endpoint (List ℕ) = map_end written_of s in
       let settles : new ≡ take_emitted side there = news ∙ ap (take_emitted side) is in
       let grows : longer ≡ log ++ first ∷ news_of x side there = logged ∙ ap (λ (z : Endpoint (List ℕ)). log ++ first ∷ news_of x side z) is in
-      let good : Good word_of x (log ++ first ∷ news_of x side there) others (take_emitted side there) (record (took s end) { got_init = asked }) =
+      let good : Good word_of x (log ++ first ∷ news_of x side there) others (take_emitted side there) (record (drain s end) { got_init = asked }) =
       goes_good word_of x log first others side end s asked is_first sound pack readable was g in
-      let moved : Good word_of x longer others (take_emitted side there) (record (took s end) { got_init = asked }) =
-      subst (λ (l : List Entry). Good word_of x l others (take_emitted side there) (record (took s end) { got_init = asked })) (sym grows) good in
-      let here : Good word_of x longer others new (record (took s end) { got_init = asked }) =
-      subst (λ (z : Side). Good word_of x longer others z (record (took s end) { got_init = asked })) (sym settles) moved in
+      let moved : Good word_of x longer others (take_emitted side there) (record (drain s end) { got_init = asked }) =
+      subst (λ (l : List Entry). Good word_of x l others (take_emitted side there) (record (drain s end) { got_init = asked })) (sym grows) good in
+      let here : Good word_of x longer others new (record (drain s end) { got_init = asked }) =
+      subst (λ (z : Side). Good word_of x longer others z (record (drain s end) { got_init = asked })) (sym settles) moved in
       record {
         more = first ∷ news_of x side there;
         logged = grows;
         silent = λ y d. silent_news y x d first is_first side there;
         sent = _;
         packets = ap (λ (z : Side). z.packets) settles;
-        good = subst (λ (z : traces.Side). Good word_of x longer others new z) (sym turns) here;
+        good = subst (λ (z : traces.Side). Good word_of x longer others new z) (sym trace) here;
         given_up =
             ap (λ (l : List GivenUp). l ++ given_up x (news_of x side there)) (is_first.given_up x)
             ∙ (given_up_news x (same_itself x) (length side.packets) (length (ready_at side.socket)) (association side.socket) there ∙ gave_up);
@@ -206,12 +206,12 @@ module _ (word_of : List ℕ → ℕ) (x : End) (log : List Entry) (first : Entr
           let lenient_too : Accepts (policy_of lenient) (word_at word_beside packet) packet (as_received p sum) = is_accepted word_beside p lenient hearable in
           record { packet = lenient_too.packet; short_enough = lenient_too.short_enough; sum = passes_as ∙ e }
 
-      received_action : (turn : EndAction) (b : Bool) → passes ≡ b → turn ≡ receiving b n sum → IsReceiving word_of word_beside n end beside turn
-      received_action turn b e is = record { carried = p; there = there; received = is ∙ ap (λ (c : Bool). receiving c n sum) (sym e) }
+      received_action : (action : EndAction) (b : Bool) → passes ≡ b → action ≡ receiving b n sum → IsReceiving word_of word_beside n end beside action
+      received_action action b e is = record { carried = p; there = there; received = is ∙ ap (λ (c : Bool). receiving c n sum) (sym e) }
 
       pub given_goes : (after : Endpoint (List ℕ)) → Receives by packet side.socket after → new ≡ take_emitted side after
           → longer ≡ log ++ first ∷ news_of x side after
-          → (turn : EndAction) × IsReceiving word_of word_beside n end beside turn × Goes word_of x log others side end beside turn new longer
+          → (action : EndAction) × IsReceiving word_of word_beside n end beside action × Goes word_of x log others side end beside action new longer
       given_goes after (received q accepts is) news logged =
           let same : q ≡ as_received p sum = received_as q accepts.packet in
           let yes_it : passes ≡ true =
@@ -255,7 +255,7 @@ module _ (word_of : List ℕ → ℕ) (x : End) (log : List Entry) (first : Entr
 
   pub foreign_goes : (by : List ℕ → ℕ) (bytes : List ℕ) → Judges by bytes side.socket.endpoint_state.context.options side.socket.endpoint_state.state true
       → (after : Endpoint (List ℕ)) → Receives by bytes side.socket after → new ≡ take_emitted side after → longer ≡ log ++ first ∷ news_of x side after
-      → (turn : EndAction) × IsForeign bytes turn × Goes word_of x log others side end beside turn new longer
+      → (action : EndAction) × IsForeign bytes action × Goes word_of x log others side end beside action new longer
   foreign_goes by bytes judges after (received q accepts is) news logged =
       let why = refused_by by bytes q accepts true refl judges in
       (Refuses q, inl (q, accepts.packet, refl), refused_as q why.0 why.1 after is news logged)
@@ -264,7 +264,7 @@ module _ (word_of : List ℕ → ℕ) (x : End) (log : List Entry) (first : Entr
   -- bytes that the end would take are skipped
   pub skipped_goes : (by : List ℕ → ℕ) (bytes : List ℕ) (is_refused : Bool) → is_refused ≡ false → Judges by bytes side.socket.endpoint_state.context.options side.socket.endpoint_state.state is_refused
       → new ≡ side → longer ≡ log ++ first ∷ []
-      → (turn : EndAction) × IsForeign bytes turn × Goes word_of x log others side end beside turn new longer
+      → (action : EndAction) × IsForeign bytes action × Goes word_of x log others side end beside action new longer
   skipped_goes by bytes is_refused is_false (taken p a why is) same logged =
       let e : refusal p.header.verification_tag p.chunks own.endpoint_state.state ≡ None = ap (refusal p.header.verification_tag p.chunks) (sym state_is) ∙ why in
       let stays : Good word_of x (log ++ first ∷ []) (others ++ []) side end = stays_good word_of x log (first ∷ []) others [] side end (silent_first x first is_first) g in

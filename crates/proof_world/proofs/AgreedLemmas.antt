@@ -20,7 +20,7 @@ use Rattle.proof_pair.proofs.AgreeTraceLemmas.{drop_emitted}
 use Rattle.proof_pair.proofs.AgreeWithinLemmas.{has_either}
 use Rattle.proof_pair.proofs.AgreeActionsLemmas.{ends_agree}
 use Rattle.spec_world.specs.Observations.{End, A, B, same_end, none_unless, same_association, Entry, Associated, EmittedPacket, EmittedEvent, GaveUp, BecameReady, Call, Connect, Shutdown, Close, Send, SendMany, Receive, Reset, SetPriority, SetMaxMessageSize, SetLowThreshold, HandOver, connected_by, times_connected, held_after, held_from, held}
-use Rattle.spec_world.specs.World.{Side, World, Action, CallOf, Give, GiveForeign, AdvanceTime, ComesTo, taken_in, withheld, Happens, Runs, side_of, other, packets_in, news_of, emitted_entries, given_up_entries, ready_entries, ready_before, ready_at, association, associated_if, association_entries, call_entry, after_call, time_entry, after_time, table_call}
+use Rattle.spec_world.specs.World.{Side, World, Action, CallOf, Give, GiveForeign, AdvanceTime, InjectsInto, taken_in, withheld, Happens, Runs, side_of, other, packets_in, news_of, emitted_entries, given_up_entries, ready_entries, ready_before, ready_at, association, associated_if, association_entries, call_entry, after_call, time_entry, after_time, table_call}
 use Rattle.proof_world.specs.Traces.{ActionFits, IsInBytes, is_a, end_of, receiving, IsForeign, IsActionOf, AreActionsOf, emitted_in, origin}
 use Rattle.proof_world.specs.Agreed.{IsAgreed, Agrees, WorldsAgree}
 use Rattle.proof_world.proofs.EventLemmas.{mapped, entries_both, same_itself, connected_emitted}
@@ -86,7 +86,7 @@ data Adds (x : End) (old : Side) (log longer : List Entry) : Type 0 where
   news : (first : Entry) (after : Endpoint (List ℕ)) → IsFirst first → Mute first → longer ≡ log ++ first ∷ news_of x old after → Adds x old log longer
   none : (first : Entry) → IsFirst first → Mute first → longer ≡ log ++ first ∷ [] → Adds x old log longer
 
-comes_adds : (x : End) (bytes : List ℕ) (old new : Side) (log longer : List Entry) → ComesTo x bytes old new log longer → Adds x old log longer
+comes_adds : (x : End) (bytes : List ℕ) (old new : Side) (log longer : List Entry) → InjectsInto x bytes old new log longer → Adds x old log longer
 comes_adds x bytes old new log longer (taken_in t judged) = news _ t.after (record { emitted = λ y. refl; quiet = λ y o. refl; given_up = λ y. refl }) refl t.logged
 comes_adds x bytes old new log longer (withheld judged stays logged) = none _ (record { emitted = λ y. refl; quiet = λ y o. refl; given_up = λ y. refl }) refl logged
 
@@ -401,7 +401,7 @@ allowed_action f g (Give n B) turn c is = subst IsAllowed (sym is.received) (all
 allowed_action f g (GiveForeign x bytes) turn c is = allowed_foreign bytes turn is
 allowed_action f g (AdvanceTime x now) turn c is = subst IsAllowed (sym is) tt
 
-allowed_all : (f g : List ℕ → ℕ) (actions : List Action) (turns : List (Bool × EndAction)) (c : Pair) → AreActionsOf f g actions turns c → AreAllowed turns
+allowed_all : (f g : List ℕ → ℕ) (actions : List Action) (trace : List (Bool × EndAction)) (c : Pair) → AreActionsOf f g actions trace c → AreAllowed trace
 allowed_all f g [] [] c are = tt
 allowed_all f g [] (e ∷ es) c are = absurd are
 allowed_all f g (action ∷ actions) [] c are = absurd are

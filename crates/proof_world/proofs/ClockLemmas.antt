@@ -88,7 +88,7 @@ module _ (call : Call) (still : (now : ℕ) → call ≡ Advance now → ⊥) wh
 
 abbrev pub moves : EndAction → Bool
 moves (Calls (Advance now)) = true
-moves turn = false
+moves action = false
 
 called_still : (call : Call) → moves (Calls call) ≡ false → (e : Endpoint Carried) → (called call e).endpoint_state.context.now ≡ e.endpoint_state.context.now
 called_still call none e = keeps_call call (stays call (λ now is. not_both (ap (λ (c : Call). moves (Calls c)) is) none)) e

@@ -22,7 +22,7 @@ use Rattle.proof_delivery.specs.Justified.{reset_by}
 use Rattle.spec_world.specs.Observations as observations
 use Rattle.spec_world.specs.Observations.{End, A, B, Entry, Given, Foreign, Call, ready_by, handed_out_by, given_up_by}
 use Rattle.spec_world.specs.World as worlds
-use Rattle.spec_world.specs.World.{Side, World, Action, CallOf, Give, GiveForeign, AdvanceTime, ComesTo, taken_in, withheld, Happens, side_of, other, news_of, association, associated_if, association_entries, emitted_entries, given_up_entries, ready_entries, ready_before, calls, call_entry, after_call, advances_time, time_entry, after_time, clock, table_call}
+use Rattle.spec_world.specs.World.{Side, World, Action, CallOf, Give, GiveForeign, AdvanceTime, InjectsInto, taken_in, withheld, Happens, side_of, other, news_of, association, associated_if, association_entries, emitted_entries, given_up_entries, ready_entries, ready_before, calls, call_entry, after_call, advances_time, time_entry, after_time, clock, table_call}
 use Rattle.proof_world.specs.Traces.{is_a, end_of, IsActionOf}
 use Rattle.proof_world.specs.Delivered.{accepted_messages_by, emitted_events_by, reported_by}
 use Rattle.proof_world.specs.Consistent.{ended_by, times_ended, NoneHasEnded}
@@ -107,7 +107,7 @@ module _ (f : Mapping Carried (List ℕ)) (x : End) (own : traces.Side) (w u : W
   give_parted : (packet : ℕ) → turns.accepted_in turn own ≡ [] → handed_by turn own ≡ [] → reset_by turn own ≡ [] → worlds.Gives x packet w u → IsParted x turn own w.log u.log
   give_parted packet h k l g = parted_by (Given x (clock s) packet) (give_begins f x own turn (clock s) packet h k l) (λ y. refl) g.takes_bytes.after g.takes_bytes.logged
 
-  foreign_parted : (bytes : List ℕ) → turns.accepted_in turn own ≡ [] → handed_by turn own ≡ [] → reset_by turn own ≡ [] → ComesTo x bytes (side_of x w) (side_of x u) w.log u.log
+  foreign_parted : (bytes : List ℕ) → turns.accepted_in turn own ≡ [] → handed_by turn own ≡ [] → reset_by turn own ≡ [] → InjectsInto x bytes (side_of x w) (side_of x u) w.log u.log
       → IsParted x turn own w.log u.log
   foreign_parted bytes h k l (taken_in t judged) = parted_by (Foreign x (clock s) (Some bytes)) (foreign_begins f x own turn (clock s) (Some bytes) h k l) (λ y. refl) t.after t.logged
   foreign_parted bytes h k l (withheld judged stays logged) = record {

@@ -28,7 +28,7 @@ use Rattle.proof_tx_refines.specs.Led.{delivered_ids}
 use Rattle.proof_delivery.specs.Ending as ending
 use Rattle.spec_world.specs.Observations as observations
 use Rattle.spec_world.specs.Observations.{End, A, B, same_end, all_unless, unrefused, Entry, Called, Given, Foreign, Answer, Sent, SentMany, accepted_in, accepted_by, Call, Connect, Shutdown, Close, Send, SendMany, Receive, Reset, SetPriority, SetMaxMessageSize, SetLowThreshold, HandOver}
-use Rattle.spec_world.specs.World.{Side, World, Action, CallOf, Give, GiveForeign, AdvanceTime, ComesTo, taken_in, withheld, Gives, Happens, Runs, side_of, take_emitted, news_of, clock, calls, call_entry, after_call, advances_time, time_entry, after_time, table_call}
+use Rattle.spec_world.specs.World.{Side, World, Action, CallOf, Give, GiveForeign, AdvanceTime, InjectsInto, taken_in, withheld, Gives, Happens, Runs, side_of, take_emitted, news_of, clock, calls, call_entry, after_call, advances_time, time_entry, after_time, table_call}
 use Rattle.proof_world.specs.Traces.{ActionFits, IsInBytes, is_a, end_of, receiving, IsActionOf}
 use Rattle.proof_world.specs.Delivered.{given_up_places, reported, AlongRun, SideIsWithin, AreWithin, stamp, stamp_packets, stamps_after, IsTimely, KeepsWindows, asked_after, AreAnswered, KeepsRequests, exceeds_limit, sets_more, accepted_messages_in, accepted_messages_by, accepted_messages, emitted_events, OffersAreAccepted, OffersHaveEpochs}
 use Rattle.proof_world.specs.Consistent.{NoneHasEnded}
@@ -85,7 +85,7 @@ module _ (f : Mapping Carried (List ℕ)) (x : End) (own beside next : traces.Si
   give_emitted : (packet : ℕ) → turns.accepted_in turn own ≡ [] → handed_by turn own ≡ [] → reset_by turn own ≡ [] → Gives x packet w u → IsEmitted x turn own beside next w.log u.log
   give_emitted packet h k l g = goes_emitted (Given x (clock s) packet) (give_begins f x own turn (clock s) packet h k l) g.takes_bytes.after g.takes_bytes.side g.takes_bytes.logged
 
-  foreign_emitted : (bytes : List ℕ) → turns.accepted_in turn own ≡ [] → handed_by turn own ≡ [] → reset_by turn own ≡ [] → ComesTo x bytes (side_of x w) (side_of x u) w.log u.log
+  foreign_emitted : (bytes : List ℕ) → turns.accepted_in turn own ≡ [] → handed_by turn own ≡ [] → reset_by turn own ≡ [] → InjectsInto x bytes (side_of x w) (side_of x u) w.log u.log
       → IsEmitted x turn own beside next w.log u.log
   foreign_emitted bytes h k l (taken_in t judged) = goes_emitted (Foreign x (clock s) (Some bytes)) (foreign_begins f x own turn (clock s) (Some bytes) h k l) t.after t.side t.logged
   foreign_emitted bytes h k l (withheld judged stays logged) =
@@ -263,13 +263,13 @@ module _ (word_of_a word_of_b : List ℕ → ℕ) where
     pub reached : IsReached first early u.log
     pub both : Both word_of_a word_of_b u (run early first)
 
-  pub record Delivering (actions : List Action) (w v : World) (c : Pair) (runs : Runs actions w v) (turns : List (Bool × EndAction)) : Type 0 where
-    pub blocks : block.Stands turns c → AreBlocks turns c w.log v.log
-    pub windows_kept : (s : Stamps) → NoneHasEnded v.log → KeepsWindows actions w v runs s → windows.KeepsWindows turns c s
-    pub stamps : (s : Stamps) → stamps_along actions w v runs s ≡ ending.stamps_along turns c s
-    pub requests_kept : (k : Asked) → NoneHasEnded v.log → KeepsRequests actions w v runs k → requests.KeepsRequests turns c k
-    pub limits : list_any (λ (e : Bool × EndAction). windows.sets_more e.1) turns ≡ list_any sets_more actions
-    pub points : (all done : List (Bool × EndAction)) (first : Pair) → all ≡ done ++ turns → run done first ≡ c → block.Stands turns c → IsReached first done w.log
+  pub record Delivering (actions : List Action) (w v : World) (c : Pair) (runs : Runs actions w v) (trace : List (Bool × EndAction)) : Type 0 where
+    pub blocks : block.Stands trace c → AreBlocks trace c w.log v.log
+    pub windows_kept : (s : Stamps) → NoneHasEnded v.log → KeepsWindows actions w v runs s → windows.KeepsWindows trace c s
+    pub stamps : (s : Stamps) → stamps_along actions w v runs s ≡ ending.stamps_along trace c s
+    pub requests_kept : (k : Asked) → NoneHasEnded v.log → KeepsRequests actions w v runs k → requests.KeepsRequests trace c k
+    pub limits : list_any (λ (e : Bool × EndAction). windows.sets_more e.1) trace ≡ list_any sets_more actions
+    pub points : (all done : List (Bool × EndAction)) (first : Pair) → all ≡ done ++ trace → run done first ≡ c → block.Stands trace c → IsReached first done w.log
         → AlongRun (IsPoint all first) actions w v runs
 
   pub delivering : (actions : List Action) (w v : World) (c : Pair) (fit : All ActionFits actions) (r : Runs actions w v) (small : IsInBytes v) (h : Both word_of_a word_of_b w c)

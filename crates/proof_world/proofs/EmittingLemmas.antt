@@ -117,46 +117,46 @@ receiving_resets : (b : Bool) (n sum : ℕ) (end : traces.Side) → turns.reset_
 receiving_resets true n sum end = refl
 receiving_resets false n sum end = refl
 
-pub given_accepts : (f g : List ℕ → ℕ) (n : ℕ) (own beside end : traces.Side) (turn : EndAction) → IsReceiving f g n own beside turn → accepted_in turn end ≡ []
-given_accepts f g n own beside end turn h = ap (λ (t : EndAction). accepted_in t end) h.received ∙ receiving_accepts _ n _ end
+pub given_accepts : (f g : List ℕ → ℕ) (n : ℕ) (own beside end : traces.Side) (action : EndAction) → IsReceiving f g n own beside action → accepted_in action end ≡ []
+given_accepts f g n own beside end action h = ap (λ (t : EndAction). accepted_in t end) h.received ∙ receiving_accepts _ n _ end
 
-pub given_hands : (f g : List ℕ → ℕ) (n : ℕ) (own beside end : traces.Side) (turn : EndAction) → IsReceiving f g n own beside turn → handed_by turn end ≡ []
-given_hands f g n own beside end turn h = ap (λ (t : EndAction). handed_by t end) h.received ∙ receiving_hands _ n _ end
+pub given_hands : (f g : List ℕ → ℕ) (n : ℕ) (own beside end : traces.Side) (action : EndAction) → IsReceiving f g n own beside action → handed_by action end ≡ []
+given_hands f g n own beside end action h = ap (λ (t : EndAction). handed_by t end) h.received ∙ receiving_hands _ n _ end
 
-pub given_resets : (f g : List ℕ → ℕ) (n : ℕ) (own beside end : traces.Side) (turn : EndAction) → IsReceiving f g n own beside turn → turns.reset_by turn end ≡ []
-given_resets f g n own beside end turn h = ap (λ (t : EndAction). turns.reset_by t end) h.received ∙ receiving_resets _ n _ end
+pub given_resets : (f g : List ℕ → ℕ) (n : ℕ) (own beside end : traces.Side) (action : EndAction) → IsReceiving f g n own beside action → turns.reset_by action end ≡ []
+given_resets f g n own beside end action h = ap (λ (t : EndAction). turns.reset_by t end) h.received ∙ receiving_resets _ n _ end
 
-pub foreign_accepts : (bytes : List ℕ) (end : traces.Side) (turn : EndAction) → IsForeign bytes turn → accepted_in turn end ≡ []
-foreign_accepts bytes end turn (inl h) = ap (λ (t : EndAction). accepted_in t end) h.2
-foreign_accepts bytes end turn (inr h) = ap (λ (t : EndAction). accepted_in t end) h
+pub foreign_accepts : (bytes : List ℕ) (end : traces.Side) (action : EndAction) → IsForeign bytes action → accepted_in action end ≡ []
+foreign_accepts bytes end action (inl h) = ap (λ (t : EndAction). accepted_in t end) h.2
+foreign_accepts bytes end action (inr h) = ap (λ (t : EndAction). accepted_in t end) h
 
-pub foreign_hands : (bytes : List ℕ) (end : traces.Side) (turn : EndAction) → IsForeign bytes turn → handed_by turn end ≡ []
-foreign_hands bytes end turn (inl h) = ap (λ (t : EndAction). handed_by t end) h.2
-foreign_hands bytes end turn (inr h) = ap (λ (t : EndAction). handed_by t end) h
+pub foreign_hands : (bytes : List ℕ) (end : traces.Side) (action : EndAction) → IsForeign bytes action → handed_by action end ≡ []
+foreign_hands bytes end action (inl h) = ap (λ (t : EndAction). handed_by t end) h.2
+foreign_hands bytes end action (inr h) = ap (λ (t : EndAction). handed_by t end) h
 
-pub foreign_resets : (bytes : List ℕ) (end : traces.Side) (turn : EndAction) → IsForeign bytes turn → turns.reset_by turn end ≡ []
-foreign_resets bytes end turn (inl h) = ap (λ (t : EndAction). turns.reset_by t end) h.2
-foreign_resets bytes end turn (inr h) = ap (λ (t : EndAction). turns.reset_by t end) h
+pub foreign_resets : (bytes : List ℕ) (end : traces.Side) (action : EndAction) → IsForeign bytes action → turns.reset_by action end ≡ []
+foreign_resets bytes end action (inl h) = ap (λ (t : EndAction). turns.reset_by t end) h.2
+foreign_resets bytes end action (inr h) = ap (λ (t : EndAction). turns.reset_by t end) h
 
 -- ---- one event at end x, which was `own` in the trace and is `next`, beside the other end
 
-pub record IsEmitted (x : End) (turn : EndAction) (own beside next : traces.Side) (log longer : List Entry) : Type 0 where
+pub record IsEmitted (x : End) (action : EndAction) (own beside next : traces.Side) (log longer : List Entry) : Type 0 where
   pub first : Entry
   pub more : List Entry
   pub logged : longer ≡ log ++ first ∷ more
   pub quiet : (y : End) → flat_map (accepted_messages_by y) more ≡ []
   pub hands_nothing : (y : End) → flat_map (handed_out_by y) more ≡ []
-  pub offers : accepted_messages_by x first ≡ accepted_in turn own
+  pub offers : accepted_messages_by x first ≡ accepted_in action own
   pub no_offers : accepted_messages_by (other x) first ≡ []
   pub ready : flat_map (ready_by x) (first ∷ more) ≡ new_behind (handing.ready_at own) (handing.ready_at next)
   pub none_ready : flat_map (ready_by (other x)) (first ∷ more) ≡ []
-  pub handed : flat_map (handed_out_by x) (first ∷ more) ≡ handed_by turn own
+  pub handed : flat_map (handed_out_by x) (first ∷ more) ≡ handed_by action own
   pub none_handed : flat_map (handed_out_by (other x)) (first ∷ more) ≡ []
-  pub gave_up : given_up_places x longer ≡ given_up_places x log ++ given_up_by turn own beside
+  pub gave_up : given_up_places x longer ≡ given_up_places x log ++ given_up_by action own beside
   pub none_gone : given_up (other x) (first ∷ more) ≡ []
   pub reports : reported x longer ≡ delivered_ids next.emitted
   pub none_reported : reported (other x) (first ∷ more) ≡ []
-  pub resets : reset_by x first ≡ turns.reset_by turn own
+  pub resets : reset_by x first ≡ turns.reset_by action own
   pub no_resets : reset_by (other x) first ≡ []
   pub resets_nothing : (y : End) → flat_map (reset_by y) more ≡ []
   pub emits : emitted_events x longer ≡ bare next.emitted
@@ -167,27 +167,27 @@ pub record IsEmitted (x : End) (turn : EndAction) (own beside next : traces.Side
   pub told_first : IsEmittedFirst more
 
 -- the first entries: what they say of messages and resets
-pub record BeginsWith (x : End) (turn : EndAction) (own : traces.Side) (first : Entry) : Type 0 where
-  pub offers : accepted_messages_by x first ≡ accepted_in turn own
+pub record BeginsWith (x : End) (action : EndAction) (own : traces.Side) (first : Entry) : Type 0 where
+  pub offers : accepted_messages_by x first ≡ accepted_in action own
   pub no_offers : accepted_messages_by (other x) first ≡ []
   pub ready : (y : End) → ready_by y first ≡ []
-  pub handed : handed_out_by x first ≡ handed_by turn own
+  pub handed : handed_out_by x first ≡ handed_by action own
   pub none_handed : handed_out_by (other x) first ≡ []
   pub given_up : (y : End) → observations.given_up_by y first ≡ []
   pub reported : (y : End) → reported_by y first ≡ []
-  pub resets : reset_by x first ≡ turns.reset_by turn own
+  pub resets : reset_by x first ≡ turns.reset_by action own
   pub no_resets : reset_by (other x) first ≡ []
   pub happened : (y : End) → emitted_events_by y first ≡ []
 
-module _ (f : Mapping Carried (List ℕ)) (x : End) (turn : EndAction) (own beside next : traces.Side) (log longer : List Entry) (side new : Side)
+module _ (f : Mapping Carried (List ℕ)) (x : End) (action : EndAction) (own beside next : traces.Side) (log longer : List Entry) (side new : Side)
     (is : side.socket ≡ map_end f own.end) (is_next : new.socket ≡ map_end f next.end)
     (stands : (a : Association) → association_in (traces.state_of own) ≡ Some a → association_in (traces.state_of next) ≡ Some a)
-    (gave_up : given_up_places x longer ≡ given_up_places x log ++ given_up_by turn own beside) (reports : reported x longer ≡ delivered_ids next.emitted)
-    (tells : emitted_events x longer ≡ bare next.emitted) (first : Entry) (b : BeginsWith x turn own first) where
+    (gave_up : given_up_places x longer ≡ given_up_places x log ++ given_up_by action own beside) (reports : reported x longer ≡ delivered_ids next.emitted)
+    (tells : emitted_events x longer ≡ bare next.emitted) (first : Entry) (b : BeginsWith x action own first) where
   state_is : side.socket.endpoint_state.state ≡ traces.state_of own
   state_is = ap (λ (z : Endpoint (List ℕ)). z.endpoint_state.state) is
 
-  pub goes_on_emitted : (after : Endpoint (List ℕ)) → new ≡ take_emitted side after → longer ≡ log ++ first ∷ news_of x side after → IsEmitted x turn own beside next log longer
+  pub goes_on_emitted : (after : Endpoint (List ℕ)) → new ≡ take_emitted side after → longer ≡ log ++ first ∷ news_of x side after → IsEmitted x action own beside next log longer
   goes_on_emitted after at logged =
       let n : ℕ = length side.packets in
       let m : ℕ = length (worlds.ready_at side.socket) in
@@ -213,8 +213,8 @@ module _ (f : Mapping Carried (List ℕ)) (x : End) (turn : EndAction) (own besi
             ∙ ready_news_other (other x) x (not_other x) n m (association side.socket) after;
         handed =
             ap (λ (z : List Message). z ++ flat_map (handed_out_by x) news) b.handed
-            ∙ (ap (λ (z : List Message). handed_by turn own ++ z) (none_in_news (handed_out_by x) x (quiet_handed x x) (λ z. refl) n m (association side.socket) after)
-            ∙ append-nil (handed_by turn own));
+            ∙ (ap (λ (z : List Message). handed_by action own ++ z) (none_in_news (handed_out_by x) x (quiet_handed x x) (λ z. refl) n m (association side.socket) after)
+            ∙ append-nil (handed_by action own));
         none_handed =
             ap (λ (z : List Message). z ++ flat_map (handed_out_by (other x)) news) b.none_handed
             ∙ none_in_news (handed_out_by (other x)) x (quiet_handed (other x) x) (λ z. refl) n m (association side.socket) after;
@@ -240,7 +240,7 @@ module _ (f : Mapping Carried (List ℕ)) (x : End) (turn : EndAction) (own besi
       }
 
   -- where nothing happens
-  pub skipped_emitted : new ≡ side → longer ≡ log ++ first ∷ [] → IsEmitted x turn own beside next log longer
+  pub skipped_emitted : new ≡ side → longer ≡ log ++ first ∷ [] → IsEmitted x action own beside next log longer
   skipped_emitted at logged =
       let then : traces.state_of next ≡ traces.state_of own =
       ap (λ (z : Endpoint (List ℕ)). z.endpoint_state.state) (sym is_next) ∙ (ap (λ (z : Side). z.socket.endpoint_state.state) at ∙ state_is) in
@@ -254,7 +254,7 @@ module _ (f : Mapping Carried (List ℕ)) (x : End) (turn : EndAction) (own besi
         no_offers = b.no_offers;
         ready = ap (λ (z : List Message). z ++ []) (b.ready x) ∙ sym (ap (λ (s : State). new_behind (handing.ready_at own) (ready_in s)) then ∙ none_new (handing.ready_at own));
         none_ready = ap (λ (z : List Message). z ++ []) (b.ready (other x));
-        handed = ap (λ (z : List Message). z ++ []) b.handed ∙ append-nil (handed_by turn own);
+        handed = ap (λ (z : List Message). z ++ []) b.handed ∙ append-nil (handed_by action own);
         none_handed = ap (λ (z : List Message). z ++ []) b.none_handed;
         gave_up = gave_up;
         none_gone = ap (λ (z : List GivenUp). z ++ []) (b.given_up (other x));
@@ -302,8 +302,8 @@ module _ (f : Mapping Carried (List ℕ)) (x : End) (own : traces.Side) where
     happened = λ y. refl;
   }
 
-  pub give_begins : (turn : EndAction) (clock packet : ℕ) → accepted_in turn own ≡ [] → handed_by turn own ≡ [] → turns.reset_by turn own ≡ [] → BeginsWith x turn own (Given x clock packet)
-  give_begins turn clock packet h k l = record {
+  pub give_begins : (action : EndAction) (clock packet : ℕ) → accepted_in action own ≡ [] → handed_by action own ≡ [] → turns.reset_by action own ≡ [] → BeginsWith x action own (Given x clock packet)
+  give_begins action clock packet h k l = record {
     offers = sym h;
     no_offers = refl;
     ready = λ y. refl;
@@ -316,8 +316,8 @@ module _ (f : Mapping Carried (List ℕ)) (x : End) (own : traces.Side) where
     happened = λ y. refl;
   }
 
-  pub foreign_begins : (turn : EndAction) (clock : ℕ) (bytes : Option (List ℕ)) → accepted_in turn own ≡ [] → handed_by turn own ≡ [] → turns.reset_by turn own ≡ [] → BeginsWith x turn own (Foreign x clock bytes)
-  foreign_begins turn clock bytes h k l = record {
+  pub foreign_begins : (action : EndAction) (clock : ℕ) (bytes : Option (List ℕ)) → accepted_in action own ≡ [] → handed_by action own ≡ [] → turns.reset_by action own ≡ [] → BeginsWith x action own (Foreign x clock bytes)
+  foreign_begins action clock bytes h k l = record {
     offers = sym h;
     no_offers = refl;
     ready = λ y. refl;

@@ -11,7 +11,7 @@ use Rattle.spec_endpoint.specs.Receiving.{Receives, received, not_read}
 use Rattle.proof_endpoint.specs.Lifecycles.{emitted_end, ends, alive, hands_lifecycle, is_restore, EndsWithin}
 use Rattle.proof_endpoint.proofs.LifecycleLemmas.{ends_within}
 use Rattle.spec_world.specs.Observations.{End, A, B, Call, Connect, Shutdown, Close, Send, SendMany, Receive, Reset, SetPriority, SetMaxMessageSize, SetLowThreshold, HandOver, Entry, Associated, GaveUp, BecameReady, same_end, same_association}
-use Rattle.spec_world.specs.World.{Side, World, Action, CallOf, Give, GiveForeign, AdvanceTime, TakesBytes, ComesTo, taken_in, withheld, Comes, Gives, Happens, Runs, fresh_world, emitted_entries, given_up_entries, association, associated_if, association_entries, ready_at, ready_before, ready_entries, news, news_of, take_emitted, table_call, after_call, after_time, call_entry, time_entry}
+use Rattle.spec_world.specs.World.{Side, World, Action, CallOf, Give, GiveForeign, AdvanceTime, TakesBytes, InjectsInto, taken_in, withheld, Injects, Gives, Happens, Runs, fresh_world, emitted_entries, given_up_entries, association, associated_if, association_entries, ready_at, ready_before, ready_entries, news, news_of, take_emitted, table_call, after_call, after_time, call_entry, time_entry}
 use Rattle.proof_world.specs.Ended.{only_if, total, handed_by, handed_to, ended_by, ended_at, EndedAreHandedIn, NoLifecycleEndsTwiceHere}
 
 total_append : (f : Entry → ℕ) (xs ys : List Entry) → total f (xs ++ ys) ≡ total f xs + total f ys
@@ -218,13 +218,13 @@ module _ (l : ℕ) where
     few = omega (arith, k.few, handed_in, none, total_append (ended_by l x) log (first ∷ []), total_append (handed_by l x) log (first ∷ []));
   }
 
-  own_came : (x : End) (bytes : List ℕ) (old new : Side) (log longer : List Entry) → ComesTo x bytes old new log longer → Counted l x old log → Counted l x new longer
+  own_came : (x : End) (bytes : List ℕ) (old new : Side) (log longer : List Entry) → InjectsInto x bytes old new log longer → Counted l x old log → Counted l x new longer
   own_came x bytes old new log longer (taken_in t j) k = own_emitted x _ bytes old new log longer t refl refl k
   own_came x bytes old new log longer (withheld j is logged) k =
       subst (λ (side : Side). Counted l x side longer) (sym is)
       (subst (λ (entries : List Entry). Counted l x old entries) (sym logged) (one_more x old _ log refl refl k))
 
-  other_came : (x z : End) → same_end x z ≡ false → (side : Side) (bytes : List ℕ) (old new : Side) (log longer : List Entry) → ComesTo z bytes old new log longer
+  other_came : (x z : End) → same_end x z ≡ false → (side : Side) (bytes : List ℕ) (old new : Side) (log longer : List Entry) → InjectsInto z bytes old new log longer
       → Counted l x side log → Counted l x side longer
   other_came x z apart side bytes old new log longer (taken_in t j) k = other_emitted x z apart side _ bytes old new log longer t refl refl k
   other_came x z apart side bytes old new log longer (withheld j is logged) k =
@@ -246,7 +246,7 @@ module _ (l : ℕ) where
     b = own_emitted B _ g.bytes w.b v.b w.log v.log g.takes_bytes refl refl k.b;
   }
 
-  foreign_counted : (x : End) (bytes : List ℕ) (w v : World) → Comes x bytes w v → AreCounted w → AreCounted v
+  foreign_counted : (x : End) (bytes : List ℕ) (w v : World) → Injects x bytes w v → AreCounted w → AreCounted v
   foreign_counted A bytes w v g k = record {
     a = own_came A bytes w.a v.a w.log v.log g.comes k.a;
     b = subst (λ (side : Side). Counted l B side v.log) (sym g.other_side) (other_came B A refl w.b bytes w.a v.a w.log v.log g.comes k.b);

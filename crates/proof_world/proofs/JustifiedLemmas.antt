@@ -20,7 +20,7 @@ use Rattle.proof_delivery.proofs.JustifiedActsLemmas.{IsJustifiedAt}
 use Rattle.proof_delivery.proofs.JustifiedOffersLemmas.{shorter}
 use Rattle.proof_delivery.proofs.JustifiedTraceLemmas.{Rests, Actions, accepted_now, goes_on, offers_back, at_first}
 use Rattle.spec_world.specs.Observations.{End, A, B, same_end, none_unless, Entry, Called, Given, Foreign, Timed, GaveUp, Call, Connect, given_up_by, given_up}
-use Rattle.spec_world.specs.World.{Side, World, Action, CallOf, Give, GiveForeign, AdvanceTime, ComesTo, taken_in, withheld, Gives, Happens, Runs, side_of, other, take_emitted, news_of, calls, call_entry, after_call, advances_time, time_entry, after_time, table_call, answer_to, association, ready_at, fresh_world}
+use Rattle.spec_world.specs.World.{Side, World, Action, CallOf, Give, GiveForeign, AdvanceTime, InjectsInto, taken_in, withheld, Gives, Happens, Runs, side_of, other, take_emitted, news_of, calls, call_entry, after_call, advances_time, time_entry, after_time, table_call, answer_to, association, ready_at, fresh_world}
 use Rattle.spec_world.specs.World as worlds
 use Rattle.proof_world.specs.Traces.{ActionFits, IsInBytes, is_a, end_of, receiving, IsForeign, IsActionOf}
 use Rattle.proof_world.specs.Delivered.{accepted_messages_by, accepted_messages, reset_in}
@@ -212,7 +212,7 @@ module _ (f : Mapping Carried (List ℕ)) (x : End) (own beside : traces.Side) (
       still_marks (Given x (worlds.clock s) packet) (news_of x (side_of x w) g.takes_bytes.after) still g.takes_bytes.logged (quiet_news g.takes_bytes.after)
       (record { right = λ y all now rs. tt; takes = λ y. refl; ticks = λ y m. refl; clears = cleared_by [] (sym clear); given_up = λ y. refl }) (sym none) refl
 
-  foreign_marks : (bytes : List ℕ) → moves turn ≡ false → accepted_in turn own ≡ [] → reset_by turn own ≡ [] → ComesTo x bytes (side_of x w) (side_of x u) w.log u.log → Marks x turn own next w.log u.log
+  foreign_marks : (bytes : List ℕ) → moves turn ≡ false → accepted_in turn own ≡ [] → reset_by turn own ≡ [] → InjectsInto x bytes (side_of x w) (side_of x u) w.log u.log → Marks x turn own next w.log u.log
   foreign_marks bytes still none clear (taken_in t judged) =
       still_marks (Foreign x (worlds.clock s) (Some bytes)) (news_of x (side_of x w) t.after) still t.logged (quiet_news t.after)
       (record { right = λ y all now rs. tt; takes = λ y. refl; ticks = λ y m. refl; clears = cleared_by [] (sym clear); given_up = λ y. refl }) (sym none) refl

@@ -23,7 +23,7 @@ use Rattle.proof_endpoint.proofs.ReceivedBackLemmas.{is_accepted}
 use Rattle.proof_endpoint.proofs.SoundLawsLemmas.{is_new, stays_sound, stays_sound_refused, can_be_read, can_be_read_refused}
 use Rattle.proof_endpoint.proofs.SoundReceivedLemmas.{emitted_fit}
 use Rattle.spec_world.specs.Observations.{End, A, B, Entry}
-use Rattle.spec_world.specs.World.{Side, World, Action, CallOf, Give, GiveForeign, AdvanceTime, TakesBytes, ComesTo, taken_in, withheld, Comes, Gives, Happens, Runs, fresh_side, packets_in, take_emitted, table_call, after_call, after_time}
+use Rattle.spec_world.specs.World.{Side, World, Action, CallOf, Give, GiveForeign, AdvanceTime, TakesBytes, InjectsInto, taken_in, withheld, Injects, Gives, Happens, Runs, fresh_side, packets_in, take_emitted, table_call, after_call, after_time}
 use Rattle.proof_world.specs.Readable.{CanBeReadBack, IsReadableSide, IsReadable, GivesBytes, NewWorldsAreReadable, EachActionKeepsWorldsReadable, RunsKeepWorldsReadable}
 use Rattle.proof_pair.proofs.AddedLemmas.{all_get}
 
@@ -159,7 +159,7 @@ module _ (word_of : List ℕ → ℕ) where
   emitted_readable sender x first bytes old new log more t r small h =
       subst (IsReadableSide word_of) (sym t.side) (given_to sender old.socket.endpoint_state.context.pack.word_of bytes old t.after t.takes r small h)
 
-  came_readable : (x : End) (bytes : List ℕ) (old new : Side) (log more : List Entry) → ComesTo x bytes old new log more → IsReadableSide word_of old → IsReadableSide word_of new
+  came_readable : (x : End) (bytes : List ℕ) (old new : Side) (log more : List Entry) → InjectsInto x bytes old new log more → IsReadableSide word_of old → IsReadableSide word_of new
   came_readable x bytes old new log more (taken_in t j) h =
       subst (IsReadableSide word_of) (sym t.side) (refused_by old.socket.endpoint_state.context.pack.word_of bytes old t.after t.takes j h)
   came_readable x bytes old new log more (withheld j is logged) h = subst (IsReadableSide word_of) (sym is) h
@@ -188,7 +188,7 @@ module _ (f g : List ℕ → ℕ) where
         (bytes_at w.a packet e.bytes e.there small) h.b;
   }
 
-  foreign_readable : (x : End) (bytes : List ℕ) (w v : World) → Comes x bytes w v → IsReadable f g w → IsReadable f g v
+  foreign_readable : (x : End) (bytes : List ℕ) (w v : World) → Injects x bytes w v → IsReadable f g w → IsReadable f g v
   foreign_readable A bytes w v e h = record { a = came_readable f A bytes w.a v.a w.log v.log e.comes h.a; b = subst (IsReadableSide g) (sym e.other_side) h.b }
   foreign_readable B bytes w v e h = record { a = subst (IsReadableSide f) (sym e.other_side) h.a; b = came_readable g B bytes w.b v.b w.log v.log e.comes h.b }
 
@@ -223,7 +223,7 @@ emitted_before : (x : End) (first : Entry) (bytes : List ℕ) (old new : Side) (
 emitted_before x first bytes old new log more t packet h =
     settled_before old t.after packet (same_before (take_emitted old t.after) new t.side packet h)
 
-came_before : (x : End) (bytes : List ℕ) (old new : Side) (log more : List Entry) → ComesTo x bytes old new log more → WereBytes old new
+came_before : (x : End) (bytes : List ℕ) (old new : Side) (log more : List Entry) → InjectsInto x bytes old new log more → WereBytes old new
 came_before x bytes old new log more (taken_in t j) = emitted_before x _ bytes old new log more t
 came_before x bytes old new log more (withheld j is logged) = same_before old new is
 

@@ -14,7 +14,7 @@ use Rattle.proof_endpoint.proofs.SoundLawsLemmas.{is_new}
 use Rattle.proof_pair.specs.Trace as traces
 use Rattle.proof_pair.specs.Trace.{Pair, EndAction, has_connected, MayCall, MayAct, goes, run, start, new_side}
 use Rattle.spec_world.specs.Observations.{End, A, B, Entry, Answer, Called, Call, Connect, Shutdown, Close, Send, SendMany, Receive, Reset, SetPriority, SetMaxMessageSize, SetLowThreshold, HandOver, connected_by, times_connected}
-use Rattle.spec_world.specs.World.{Side, World, Action, CallOf, Give, GiveForeign, AdvanceTime, ComesTo, taken_in, withheld, Happens, Runs, take_emitted, side_of, news_of, calls, call_entry, after_call, after_time, clock, answer_to, table_call, fresh_side, fresh_world}
+use Rattle.spec_world.specs.World.{Side, World, Action, CallOf, Give, GiveForeign, AdvanceTime, InjectsInto, taken_in, withheld, Happens, Runs, take_emitted, side_of, news_of, calls, call_entry, after_call, after_time, clock, answer_to, table_call, fresh_side, fresh_world}
 use Rattle.proof_world.specs.Traces.{ActionFits, IsInBytes, is_a, end_of, receiving, IsReceiving, IsForeign, IsActionOf, AreActionsOf, WorldsHaveTraces}
 use Rattle.proof_world.specs.Consistent.{gets_init, NoneHasEnded, MayFollow, KeepsOpeningRules}
 use Rattle.proof_world.proofs.EventLemmas.{Readable, connected_emitted}
@@ -56,11 +56,11 @@ grows_log w u more logged a b = record {
   b = ap (λ (z : Side). z.packets) b ∙ sym (append-nil w.b.packets);
 }
 
-comes_a : (bytes : List ℕ) (w u : World) → ComesTo A bytes w.a u.a w.log u.log → u.b ≡ w.b → Extends w u
+comes_a : (bytes : List ℕ) (w u : World) → InjectsInto A bytes w.a u.a w.log u.log → u.b ≡ w.b → Extends w u
 comes_a bytes w u (taken_in t judged) same = grows_a w u _ t.after t.logged t.side same
 comes_a bytes w u (withheld judged stays logged) same = grows_log w u _ logged stays same
 
-comes_b : (bytes : List ℕ) (w u : World) → ComesTo B bytes w.b u.b w.log u.log → u.a ≡ w.a → Extends w u
+comes_b : (bytes : List ℕ) (w u : World) → InjectsInto B bytes w.b u.b w.log u.log → u.a ≡ w.a → Extends w u
 comes_b bytes w u (taken_in t judged) same = grows_b w u _ t.after t.logged t.side same
 comes_b bytes w u (withheld judged stays logged) same = grows_log w u _ logged same stays
 

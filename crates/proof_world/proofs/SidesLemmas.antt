@@ -13,7 +13,7 @@ use Rattle.proof_endpoint.specs.Mapped.{Mapping, Carried, map_end, as_bytes}
 use Rattle.proof_endpoint.specs.Sound.{IsSound}
 use Rattle.proof_endpoint.specs.ReadBack.{as_carried}
 use Rattle.proof_pair.specs.Trace as traces
-use Rattle.proof_pair.specs.Trace.{took, emitted_packets}
+use Rattle.proof_pair.specs.Trace.{drain, emitted_packets}
 use Rattle.proof_pair.proofs.JoinActsLemmas.{packets_both}
 use Rattle.spec_world.specs.Observations.{End, same_end, Entry, Called, Given, Foreign, Timed, Associated, EmittedPacket, EmittedEvent, GaveUp, BecameReady, held_after, held_from, held, given_up_by, given_up}
 use Rattle.spec_world.specs.World.{Side, association, ready_at, packets_in, emitted_entries, news_of, take_emitted}
@@ -130,7 +130,7 @@ module _ (word_of : List ℕ → ℕ) (x : End) (log : List Entry) (first : Entr
   events = s.endpoint_state.context.emitted.events
 
   abbrev now : traces.Side
-  now = record (took s end) { got_init = asked }
+  now = record (drain s end) { got_init = asked }
 
   packets_now : side.packets ≡ map f.of (emitted_packets end) → side.packets ++ packets_in (mapped f events) ≡ map f.of (emitted_packets now)
   packets_now e =

@@ -19,7 +19,7 @@ use Rattle.proof_delivery.specs.GivenUp as giving
 use Rattle.proof_delivery.specs.GivenUp.{given_up_at}
 use Rattle.proof_delivery.specs.Justified.{records_given, records_if, records_by, records_at}
 use Rattle.spec_world.specs.Observations.{End, A, B, Entry, Given, Foreign, Call, given_up_by, given_up}
-use Rattle.spec_world.specs.World.{Side, World, Action, CallOf, Give, GiveForeign, AdvanceTime, ComesTo, taken_in, withheld, Gives, Happens, table_call, calls, call_entry, advances_time, time_entry, Takes}
+use Rattle.spec_world.specs.World.{Side, World, Action, CallOf, Give, GiveForeign, AdvanceTime, InjectsInto, taken_in, withheld, Gives, Happens, table_call, calls, call_entry, advances_time, time_entry, Takes}
 use Rattle.proof_world.specs.Traces.{ActionFits, IsInBytes, is_a, end_of, IsActionOf}
 use Rattle.proof_world.specs.Delivered.{given_up_places}
 use Rattle.proof_world.proofs.EventLemmas.{Readable}
@@ -234,7 +234,7 @@ module _ (word_of_a word_of_b : List ℕ → ℕ) where
 
   -- ---- bytes from elsewhere
 
-  foreign_a : (bytes : List ℕ) (w u : World) (c : Pair) → ComesTo A bytes w.a u.a w.log u.log → u.b ≡ w.b → Both word_of_a word_of_b w c
+  foreign_a : (bytes : List ℕ) (w u : World) (c : Pair) → InjectsInto A bytes w.a u.a w.log u.log → u.b ≡ w.b → Both word_of_a word_of_b w c
       → Stepped word_of_a word_of_b (GiveForeign A bytes) w u c
   foreign_a bytes w u c (taken_in t judged) same h =
       let went = foreign_goes word_of_a A w.log (Foreign A w.a.socket.endpoint_state.context.now (Some bytes)) w.b.packets w.a c.a c.b (record { emitted = λ y. refl; quiet = λ y o. refl; given_up = λ y. refl }) h.a u.a u.log
@@ -245,7 +245,7 @@ module _ (word_of_a word_of_b : List ℕ → ℕ) where
       w.a.socket.endpoint_state.context.pack.word_of bytes false refl judged stays logged in
       stepped_a (GiveForeign A bytes) w u c refl h went.0 went.1 went.2 same
 
-  foreign_b : (bytes : List ℕ) (w u : World) (c : Pair) → ComesTo B bytes w.b u.b w.log u.log → u.a ≡ w.a → Both word_of_a word_of_b w c
+  foreign_b : (bytes : List ℕ) (w u : World) (c : Pair) → InjectsInto B bytes w.b u.b w.log u.log → u.a ≡ w.a → Both word_of_a word_of_b w c
       → Stepped word_of_a word_of_b (GiveForeign B bytes) w u c
   foreign_b bytes w u c (taken_in t judged) same h =
       let went = foreign_goes word_of_b B w.log (Foreign B w.b.socket.endpoint_state.context.now (Some bytes)) w.a.packets w.b c.b c.a (record { emitted = λ y. refl; quiet = λ y o. refl; given_up = λ y. refl }) h.b u.b u.log

@@ -24,8 +24,8 @@ Agrees log = (x : End) (before behind : List Entry) → log ≡ before ++ Emitte
 -- neither end draws a verification tag twice; both may draw the same one
 abbrev pub EachEndDrawsDistinctTags : {w : World} → IsReachable w → Type 0
 EachEndDrawsDistinctTags l =
-    (turns : List (Bool × EndAction)) → AreActionsOf l.word_of_a l.word_of_b l.actions turns (start l.a l.b l.random_a l.random_b)
-    → AreDistinctPerEnd (histories_along turns (start l.a l.b l.random_a l.random_b) no_histories)
+    (trace : List (Bool × EndAction)) → AreActionsOf l.word_of_a l.word_of_b l.actions trace (start l.a l.b l.random_a l.random_b)
+    → AreDistinctPerEnd (histories_along trace (start l.a l.b l.random_a l.random_b) no_histories)
 
 -- Of each reachable world, whatever rules the run follows, and behind the end of an association too.
 abbrev pub WorldsAgree : Type 0

@@ -18,7 +18,7 @@ use Rattle.proof_endpoint.specs.Mapped.{Carried}
 use Rattle.proof_endpoint.proofs.LawsLemmas.{emits_endings}
 use Rattle.proof_endpoint.proofs.EmitsLemmas.{endings_append}
 use Rattle.proof_pair.specs.Trace as traces
-use Rattle.proof_pair.specs.Trace.{Pair, EndAction, Calls, Gives, Refuses, emitted_packets, as_received, took, give, foreign_if, act, run, MayCall, MayAct, NeitherHasEnded, AreValidOptions, KeepsOpeningRules, start, state_of}
+use Rattle.proof_pair.specs.Trace.{Pair, EndAction, Calls, Gives, Refuses, emitted_packets, as_received, drain, give, foreign_if, act, run, MayCall, MayAct, NeitherHasEnded, AreValidOptions, KeepsOpeningRules, start, state_of}
 use Rattle.proof_pair.proofs.AddedLemmas.{all_get}
 use Rattle.proof_draws.specs.Laws.{is_flowing}
 use Rattle.proof_draws_pair.specs.Kinds.{IsKind, an_init, an_answer, an_echo, a_flow, AreOfAKind}
@@ -174,7 +174,7 @@ abbrev Ends : (before after : traces.Side) → Type 0
 Ends x z = (endings z.emitted ≡ 0) ⊎ (ready_in (state_of z) ≡ [])
 
 module _ (x y : traces.Side) (quiet : x.end.endpoint_state.context.emitted.events ≡ []) (none : endings x.emitted ≡ 0) where
-  call_ends : (call : Call) → (ended_in_call call x.end ≡ 0) ⊎ (is_closed (called call x.end).endpoint_state.state ≡ true) → Ends x (took (called call x.end) x)
+  call_ends : (call : Call) → (ended_in_call call x.end ≡ 0) ⊎ (is_closed (called call x.end).endpoint_state.state ≡ true) → Ends x (drain (called call x.end) x)
   call_ends call (inr closed) = inr (none_ready (called call x.end).endpoint_state.state closed)
   call_ends call (inl none_ended) =
       let t : EmitsEndings (ended_in_call call x.end) x.end.endpoint_state.context (called call x.end).endpoint_state.context = emits_endings call x.end in

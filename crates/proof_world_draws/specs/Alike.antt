@@ -52,7 +52,7 @@ is_foreign action = false
 
 -- no verification tag is drawn twice, over both ends together
 abbrev pub DrawsDistinctTags : (word_of : List ℕ → ℕ) → List Action → Pair → Type 0
-DrawsDistinctTags word_of actions c = (turns : List (Bool × EndAction)) → AreActionsOf word_of word_of actions turns c → AllDrawnTagsAreDistinct turns c
+DrawsDistinctTags word_of actions c = (trace : List (Bool × EndAction)) → AreActionsOf word_of word_of actions trace c → AllDrawnTagsAreDistinct trace c
 
 -- Until an end of the first world emits that an association is over it follows the rules, and no bytes come from elsewhere.
 pub record AreComparable {w v : World} (p : ArePaired w v) : Type 0 where

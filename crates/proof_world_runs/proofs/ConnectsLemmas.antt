@@ -5,7 +5,7 @@ use Rattle.std.proofs.lemmas.Grind.{flat_map-append}
 use Rattle.std.proofs.lemmas.Bool.{or_parts}
 use Rattle.spec_endpoint.specs.Association.{Endpoint}
 use Rattle.spec_world.specs.Observations.{End, A, Entry, Called, Given, Foreign, Timed, Associated, EmittedPacket, EmittedEvent, GaveUp, BecameReady, Call, Connect, Shutdown, Close, Send, SendMany, Receive, Reset, SetPriority, SetMaxMessageSize, SetLowThreshold, HandOver}
-use Rattle.spec_world.specs.World.{Side, World, Action, CallOf, Give, GiveForeign, AdvanceTime, ComesTo, taken_in, withheld, Happens, Runs, side_of, association, ready_at, news_of, clock, call_entry, after_call, time_entry, after_time}
+use Rattle.spec_world.specs.World.{Side, World, Action, CallOf, Give, GiveForeign, AdvanceTime, InjectsInto, taken_in, withheld, Happens, Runs, side_of, association, ready_at, news_of, clock, call_entry, after_call, time_entry, after_time}
 use Rattle.proof_world.specs.Consistent.{MayFollow, KeepsOpeningRules}
 use Rattle.proof_world.proofs.LoggedLemmas.{IsQuietOn, none_in_news}
 use Rattle.proof_world.proofs.PrefixLemmas.{none_behind, none_before}
@@ -48,7 +48,7 @@ in_rest x side s = none_in_news ruled_by x (quiet_ruled x) (λ m. refl) (length 
 none_in_block : (x : End) (side : Side) (s : Endpoint (List ℕ)) (first : Entry) → ruled_by first ≡ [] → ruled (first ∷ news_of x side s) ≡ []
 none_in_block x side s first e = ap (λ (l : List Entry). l ++ ruled (news_of x side s)) e ∙ in_rest x side s
 
-comes : (x : End) (bytes : List ℕ) (old new : Side) (log longer : List Entry) → ComesTo x bytes old new log longer → AddsNoRuled log longer
+comes : (x : End) (bytes : List ℕ) (old new : Side) (log longer : List Entry) → InjectsInto x bytes old new log longer → AddsNoRuled log longer
 comes x bytes old new log longer (taken_in t judged) = (_, t.logged, none_in_block x old t.after (Foreign x (clock old.socket) (Some bytes)) refl)
 comes x bytes old new log longer (withheld judged stays logged) = (_, logged, refl)
 

@@ -30,7 +30,7 @@ is_of_none (Calls NoPacket) = true
 is_of_none turn = false
 
 abbrev pub AllAreReceived : List (Bool × EndAction) → Type 0
-AllAreReceived turns = list_any (λ (e : Bool × EndAction). is_of_none e.1) turns ≡ false
+AllAreReceived trace = list_any (λ (e : Bool × EndAction). is_of_none e.1) trace ≡ false
 
 receiving_timely : (b : Bool) (n sum : ℕ) (now : Stamp) (stamps : List Stamp) → is_of_none (receiving b n sum) ≡ false → windows.IsTimely (receiving b n sum) now stamps
     → (old : Stamp) → slice_get stamps n ≡ Some old → IsYoung now old
@@ -63,9 +63,9 @@ module _ (word_of_a word_of_b : List ℕ → ℕ) where
   timely (GiveForeign x bytes) w c turn s h k is t = tt
   timely (AdvanceTime x now) w c turn s h k is t = tt
 
-  pub keeps : (actions : List Action) (turns : List (Bool × EndAction)) (w v : World) (c : Pair) (s : Stamps) → All ActionFits actions → NoneIsForeign actions → AllAreReceived turns
-      → AreActionsOf word_of_a word_of_b actions turns c → (r : Runs actions w v) → IsInBytes v → Both word_of_a word_of_b w c
-      → windows.KeepsWindows turns c s → KeepsWindows actions w v r s
+  pub keeps : (actions : List Action) (trace : List (Bool × EndAction)) (w v : World) (c : Pair) (s : Stamps) → All ActionFits actions → NoneIsForeign actions → AllAreReceived trace
+      → AreActionsOf word_of_a word_of_b actions trace c → (r : Runs actions w v) → IsInBytes v → Both word_of_a word_of_b w c
+      → windows.KeepsWindows trace c s → KeepsWindows actions w v r s
   keeps [] [] w v c s fit none heard are r small h k = λ stands. are_within w c h k
   keeps [] (e ∷ es) w v c s fit none heard are r small h k = absurd are
   keeps (action ∷ actions) [] w v c s fit none heard are r small h k = absurd are
@@ -98,9 +98,9 @@ module _ (word_of_a word_of_b : List ℕ → ℕ) where
     b = answered_of (as_bytes word_of_b) w.b c.b k.b h.b.image.socket i.b;
   }
 
-  pub keeps_requests : (actions : List Action) (turns : List (Bool × EndAction)) (w v : World) (c : Pair) (k : Asked) → All ActionFits actions → NoneIsForeign actions
-      → AreActionsOf word_of_a word_of_b actions turns c → (r : Runs actions w v) → IsInBytes v → Both word_of_a word_of_b w c
-      → requests.KeepsRequests turns c k → KeepsRequests actions w v r k
+  pub keeps_requests : (actions : List Action) (trace : List (Bool × EndAction)) (w v : World) (c : Pair) (k : Asked) → All ActionFits actions → NoneIsForeign actions
+      → AreActionsOf word_of_a word_of_b actions trace c → (r : Runs actions w v) → IsInBytes v → Both word_of_a word_of_b w c
+      → requests.KeepsRequests trace c k → KeepsRequests actions w v r k
   keeps_requests [] [] w v c k fit none are r small h i = λ stands. are_answered w c k h i
   keeps_requests [] (e ∷ es) w v c k fit none are r small h i = absurd are
   keeps_requests (action ∷ actions) [] w v c k fit none are r small h i = absurd are

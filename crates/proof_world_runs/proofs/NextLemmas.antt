@@ -152,8 +152,8 @@ module _ (word_of_a word_of_b : List ℕ → ℕ) where
   one_trace (action ∷ actions) (e ∷ es) [] c none i j = absurd j
   one_trace (action ∷ actions) ((at_a, t) ∷ es) ((at, u) ∷ fs) c none i j =
       let ends : at_a ≡ at = i.0 ∙ sym j.0 in
-      let turns : t ≡ u = one_action action t u c ((or_parts (is_foreign action) (list_any is_foreign actions) none).0) i.1 j.1 in
-      let same : (at_a, t) ≡ (at, u) = ap (λ (z : Bool). (z, t)) ends ∙ ap (λ (z : EndAction). (at, z)) turns in
+      let trace : t ≡ u = one_action action t u c ((or_parts (is_foreign action) (list_any is_foreign actions) none).0) i.1 j.1 in
+      let same : (at_a, t) ≡ (at, u) = ap (λ (z : Bool). (z, t)) ends ∙ ap (λ (z : EndAction). (at, z)) trace in
       let rest : es ≡ fs =
       one_trace actions es fs (goes at_a t c) ((or_parts (is_foreign action) (list_any is_foreign actions) none).1) i.2
       (subst (λ (z : Bool × EndAction). AreActionsOf word_of_a word_of_b actions fs (goes z.0 z.1 c)) (sym same) j.2) in
@@ -202,8 +202,8 @@ module _ (word_of_a word_of_b : List ℕ → ℕ) where
     pub runs : Runs actions w world
     pub both : Both word_of_a word_of_b world c
 
-  pub reaches : (actions : List Action) (turns : List (Bool × EndAction)) (w : World) (c : Pair) → All ActionFits actions → NoneIsForeign actions
-      → AreActionsOf word_of_a word_of_b actions turns c → BothEmitBytes word_of_a word_of_b (run turns c) → Both word_of_a word_of_b w c → Reaches actions w (run turns c)
+  pub reaches : (actions : List Action) (trace : List (Bool × EndAction)) (w : World) (c : Pair) → All ActionFits actions → NoneIsForeign actions
+      → AreActionsOf word_of_a word_of_b actions trace c → BothEmitBytes word_of_a word_of_b (run trace c) → Both word_of_a word_of_b w c → Reaches actions w (run trace c)
   reaches [] [] w c fit none are bytes h = record { world = w; runs = refl; both = h }
   reaches [] (e ∷ es) w c fit none are bytes h = absurd are
   reaches (action ∷ actions) [] w c fit none are bytes h = absurd are
@@ -220,8 +220,8 @@ module _ (word_of_a word_of_b : List ℕ → ℕ) where
       record { world = rest.world; runs = (n.0, n.1, rest.runs); both = rest.both }
 
 pub have_worlds : TracesHaveWorlds
-have_worlds a b words_a words_b word_of_a word_of_b actions turns fits_a fits_b fit none are bytes =
-    let r : Reaches word_of_a word_of_b actions (fresh_world a b words_a words_b word_of_a word_of_b) (run turns (start a b words_a words_b)) =
-    reaches word_of_a word_of_b actions turns (fresh_world a b words_a words_b word_of_a word_of_b) (start a b words_a words_b) fit none are bytes
+have_worlds a b words_a words_b word_of_a word_of_b actions trace fits_a fits_b fit none are bytes =
+    let r : Reaches word_of_a word_of_b actions (fresh_world a b words_a words_b word_of_a word_of_b) (run trace (start a b words_a words_b)) =
+    reaches word_of_a word_of_b actions trace (fresh_world a b words_a words_b word_of_a word_of_b) (start a b words_a words_b) fit none are bytes
     (fresh_both a b words_a words_b word_of_a word_of_b fits_a fits_b) in
     record { world = r.world; runs = r.runs; images = record { a = r.both.a.image; b = r.both.b.image } }

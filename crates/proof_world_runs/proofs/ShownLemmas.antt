@@ -129,9 +129,9 @@ few_performed x log early late n is small =
 
 -- ---- a trace, and its world
 
-module _ (a b : Options) (words_a words_b : Stream) (word_of_a word_of_b : List ℕ → ℕ) (actions : List Action) (turns : List (Bool × EndAction))
+module _ (a b : Options) (words_a words_b : Stream) (word_of_a word_of_b : List ℕ → ℕ) (actions : List Action) (trace : List (Bool × EndAction))
     (valid_a : IsValid a) (valid_b : IsValid b) (fits_a : OptionsFit a) (fits_b : OptionsFit b) (fit : All ActionFits actions) (none : NoneIsForeign actions)
-    (are : AreActionsOf word_of_a word_of_b actions turns (start a b words_a words_b)) (bytes : BothEmitBytes word_of_a word_of_b (run turns (start a b words_a words_b))) where
+    (are : AreActionsOf word_of_a word_of_b actions trace (start a b words_a words_b)) (bytes : BothEmitBytes word_of_a word_of_b (run trace (start a b words_a words_b))) where
   abbrev first_world : World
   first_world = fresh_world a b words_a words_b word_of_a word_of_b
 
@@ -141,14 +141,14 @@ module _ (a b : Options) (words_a words_b : Stream) (word_of_a word_of_b : List 
   first_both : Both word_of_a word_of_b first_world first_pair
   first_both = fresh_both a b words_a words_b word_of_a word_of_b fits_a fits_b
 
-  pub reached : Reaches word_of_a word_of_b actions first_world (run turns first_pair)
-  reached = reaches word_of_a word_of_b actions turns first_world first_pair fit none are bytes first_both
+  pub reached : Reaches word_of_a word_of_b actions first_world (run trace first_pair)
+  reached = reaches word_of_a word_of_b actions trace first_world first_pair fit none are bytes first_both
 
   abbrev pub there : World
   there = reached.world
 
   pub small : IsInBytes there
-  small = in_bytes word_of_a word_of_b there (run turns first_pair) reached.both bytes
+  small = in_bytes word_of_a word_of_b there (run trace first_pair) reached.both bytes
 
   abbrev pub reachable : IsReachable there
   reachable = record {
@@ -168,14 +168,14 @@ module _ (a b : Options) (words_a words_b : Stream) (word_of_a word_of_b : List 
     bytes = small;
   }
 
-  pub at_rest_a : IsAtRest (run turns first_pair).a → is_at_rest A there ≡ true
-  at_rest_a h = rests_as (as_bytes word_of_a) there.a (run turns first_pair).a reached.both.a.image.socket h
+  pub at_rest_a : IsAtRest (run trace first_pair).a → is_at_rest A there ≡ true
+  at_rest_a h = rests_as (as_bytes word_of_a) there.a (run trace first_pair).a reached.both.a.image.socket h
 
   abbrev as_ran : Ran word_of_a word_of_b actions first_world there first_pair
   as_ran = ran word_of_a word_of_b actions first_world there first_pair fit reached.runs small first_both
 
-  same : as_ran.trace ≡ turns
-  same = one_trace word_of_a word_of_b actions as_ran.trace turns first_pair none as_ran.are are
+  same : as_ran.trace ≡ trace
+  same = one_trace word_of_a word_of_b actions as_ran.trace trace first_pair none as_ran.are are
 
   delivers : Delivering word_of_a word_of_b actions first_world there first_pair reached.runs as_ran.trace
   delivers = delivering word_of_a word_of_b actions first_world there first_pair fit reached.runs small first_both
@@ -184,39 +184,39 @@ module _ (a b : Options) (words_a words_b : Stream) (word_of_a word_of_b : List 
   nothing true = refl
   nothing false = refl
 
-  module _ (follows : traces.KeepsOpeningRules turns first_pair) (not_ended : NeitherHasEnded (run turns first_pair)) where
-    stand : block.Stands turns first_pair
-    stand = stands_along a b (given_of a valid_a fits_a) (given_of b valid_b fits_b) turns first_pair follows not_ended (first_halves a b words_a words_b)
+  module _ (follows : traces.KeepsOpeningRules trace first_pair) (not_ended : NeitherHasEnded (run trace first_pair)) where
+    stand : block.Stands trace first_pair
+    stand = stands_along a b (given_of a valid_a fits_a) (given_of b valid_b fits_b) trace first_pair follows not_ended (first_halves a b words_a words_b)
 
-    blocks : AreBlocks turns first_pair [] there.log
+    blocks : AreBlocks trace first_pair [] there.log
     blocks =
         subst (λ (es : List (Bool × EndAction)). AreBlocks es first_pair [] there.log) same
         (delivers.blocks (subst (λ (es : List (Bool × EndAction)). block.Stands es first_pair) (sym same) stand))
 
     -- what the log says is what the trace says
-    pub shows_all : IsReached first_pair turns there.log
-    shows_all = at_the_end turns first_pair [] [] there.log (nothing_yet first_pair nothing) blocks
+    pub shows_all : IsReached first_pair trace there.log
+    shows_all = at_the_end trace first_pair [] [] there.log (nothing_yet first_pair nothing) blocks
 
     pub over : (x : End) → times_ended x there.log ≡ 0
-    over A = none_over word_of_a A there.log there.b.packets there.a (run turns first_pair).a reached.both.a not_ended.a
-    over B = none_over word_of_b B there.log there.a.packets there.b (run turns first_pair).b reached.both.b not_ended.b
+    over A = none_over word_of_a A there.log there.b.packets there.a (run trace first_pair).a reached.both.a not_ended.a
+    over B = none_over word_of_b B there.log there.a.packets there.b (run trace first_pair).b reached.both.b not_ended.b
 
-    few : ((from_a : Bool) → length (accepted from_a turns first_pair) < 2 ^ 32) → (x : End) → length (accepted_messages x there.log) < 2 ^ 32
+    few : ((from_a : Bool) → length (accepted from_a trace first_pair) < 2 ^ 32) → (x : End) → length (accepted_messages x there.log) < 2 ^ 32
     few h A = subst (λ (l : List AcceptedMessage). length l < 2 ^ 32) (sym (shows_all.offers_are A)) (h true)
     few h B = subst (λ (l : List AcceptedMessage). length l < 2 ^ 32) (sym (shows_all.offers_are B)) (h false)
 
-    resets_kept : requests.KeepsResets turns first_pair → KeepsResets actions first_world there reached.runs
+    resets_kept : requests.KeepsResets trace first_pair → KeepsResets actions first_world there reached.runs
     resets_kept k = record {
-      answered = keeps_requests word_of_a word_of_b actions turns first_world there first_pair none_asked fit none are reached.runs small first_both k.answered;
+      answered = keeps_requests word_of_a word_of_b actions trace first_world there first_pair none_asked fit none are reached.runs small first_both k.answered;
       few = λ x early late is stands.
           few_performed x there.log early late (2 ^ 32 - 1) is
           (subst (λ (n : ℕ). n < 2 ^ 32 - 1)
-          (sym (ap (λ (es : List (Event (List ℕ))). performed_in es) (shows_all.told_are x) ∙ bare_performed (traces.side_of (is_a x) (run turns first_pair)).emitted)) (k.few (is_a x)));
+          (sym (ap (λ (es : List (Event (List ℕ))). performed_in es) (shows_all.told_are x) ∙ bare_performed (traces.side_of (is_a x) (run trace first_pair)).emitted)) (k.few (is_a x)));
     }
 
-    pub bounds : AllAreReceived turns → list_any sets_more actions ≡ false → courses.IsInBounds turns first_pair → IsInBounds actions first_world there reached.runs
+    pub bounds : AllAreReceived trace → list_any sets_more actions ≡ false → courses.IsInBounds trace first_pair → IsInBounds actions first_world there reached.runs
     bounds heard limits k = record {
-      windows = keeps word_of_a word_of_b actions turns first_world there first_pair windows.no_stamps fit none heard are reached.runs small first_both k.windows;
+      windows = keeps word_of_a word_of_b actions trace first_world there first_pair windows.no_stamps fit none heard are reached.runs small first_both k.windows;
       resets = resets_kept k.resets;
       few = λ x early late is stands. few_front x there.log early late is (few k.few x);
       limits = none_from sets_more actions first_world there reached.runs limits;
@@ -224,35 +224,35 @@ module _ (a b : Options) (words_a words_b : Stream) (word_of_a word_of_b : List 
 
 -- ---- in one record
 
-pub record Shown (actions : List Action) (turns : List (Bool × EndAction)) (c : Pair) : Type 0 where
+pub record Shown (actions : List Action) (trace : List (Bool × EndAction)) (c : Pair) : Type 0 where
   pub world : World
   pub reachable : IsReachable world
   pub by : reachable.actions ≡ actions
-  pub offers_a : accepted_messages A world.log ≡ accepted true turns c
-  pub ready_b : ready B world.log ≡ readied_messages false turns c
-  pub gone_a : given_up_places A world.log ≡ given_up true turns c
-  pub reported_a : reported A world.log ≡ delivered_ids (run turns c).a.emitted
-  pub epochs_a : message_epochs A world.log all_open ≡ epochs.message_epochs true turns c all_open
-  pub told_a : emitted_events A world.log ≡ bare (run turns c).a.emitted
-  pub told_b : emitted_events B world.log ≡ bare (run turns c).b.emitted
+  pub offers_a : accepted_messages A world.log ≡ accepted true trace c
+  pub ready_b : ready B world.log ≡ readied_messages false trace c
+  pub gone_a : given_up_places A world.log ≡ given_up true trace c
+  pub reported_a : reported A world.log ≡ delivered_ids (run trace c).a.emitted
+  pub epochs_a : message_epochs A world.log all_open ≡ epochs.message_epochs true trace c all_open
+  pub told_a : emitted_events A world.log ≡ bare (run trace c).a.emitted
+  pub told_b : emitted_events B world.log ≡ bare (run trace c).b.emitted
   pub over : (x : End) → times_ended x world.log ≡ 0
   pub follows : (rest : List Action) → actions ≡ CallOf A Connect ∷ rest → list_any asks_rules rest ≡ false → KeepsOpeningRules world
-  pub bounds : AllAreReceived turns → list_any sets_more actions ≡ false → courses.IsInBounds turns c → IsInBounds reachable.actions (origin reachable) world reachable.runs
-  pub rests : IsAtRest (run turns c).a → is_at_rest A world ≡ true
+  pub bounds : AllAreReceived trace → list_any sets_more actions ≡ false → courses.IsInBounds trace c → IsInBounds reachable.actions (origin reachable) world reachable.runs
+  pub rests : IsAtRest (run trace c).a → is_at_rest A world ≡ true
 
-pub shown : (a b : Options) (words_a words_b : Stream) (word_of_a word_of_b : List ℕ → ℕ) (actions : List Action) (turns : List (Bool × EndAction))
+pub shown : (a b : Options) (words_a words_b : Stream) (word_of_a word_of_b : List ℕ → ℕ) (actions : List Action) (trace : List (Bool × EndAction))
     → IsValid a → IsValid b → OptionsFit a → OptionsFit b → All ActionFits actions → NoneIsForeign actions
-    → AreActionsOf word_of_a word_of_b actions turns (start a b words_a words_b) → BothEmitBytes word_of_a word_of_b (run turns (start a b words_a words_b))
-    → traces.KeepsOpeningRules turns (start a b words_a words_b) → NeitherHasEnded (run turns (start a b words_a words_b))
-    → Shown actions turns (start a b words_a words_b)
-shown a b words_a words_b f g actions turns valid_a valid_b fits_a fits_b fit none are bytes follows not_ended =
+    → AreActionsOf word_of_a word_of_b actions trace (start a b words_a words_b) → BothEmitBytes word_of_a word_of_b (run trace (start a b words_a words_b))
+    → traces.KeepsOpeningRules trace (start a b words_a words_b) → NeitherHasEnded (run trace (start a b words_a words_b))
+    → Shown actions trace (start a b words_a words_b)
+shown a b words_a words_b f g actions trace valid_a valid_b fits_a fits_b fit none are bytes follows not_ended =
     let from : World = fresh_world a b words_a words_b f g in
-    let r : Reaches f g actions from (run turns (start a b words_a words_b)) = reached a b words_a words_b f g actions turns valid_a valid_b fits_a fits_b fit none are bytes in
-    let shows : IsReached (start a b words_a words_b) turns r.world.log =
-    shows_all a b words_a words_b f g actions turns valid_a valid_b fits_a fits_b fit none are bytes follows not_ended in
+    let r : Reaches f g actions from (run trace (start a b words_a words_b)) = reached a b words_a words_b f g actions trace valid_a valid_b fits_a fits_b fit none are bytes in
+    let shows : IsReached (start a b words_a words_b) trace r.world.log =
+    shows_all a b words_a words_b f g actions trace valid_a valid_b fits_a fits_b fit none are bytes follows not_ended in
     record {
       world = r.world;
-      reachable = reachable a b words_a words_b f g actions turns valid_a valid_b fits_a fits_b fit none are bytes;
+      reachable = reachable a b words_a words_b f g actions trace valid_a valid_b fits_a fits_b fit none are bytes;
       by = refl;
       offers_a = shows.offers_are A;
       ready_b = shows.ready_are B;
@@ -261,8 +261,8 @@ shown a b words_a words_b f g actions turns valid_a valid_b fits_a fits_b fit no
       epochs_a = (shows.epochs_are A).epochs;
       told_a = shows.told_are A;
       told_b = shows.told_are B;
-      over = over a b words_a words_b f g actions turns valid_a valid_b fits_a fits_b fit none are bytes follows not_ended;
+      over = over a b words_a words_b f g actions trace valid_a valid_b fits_a fits_b fit none are bytes follows not_ended;
       follows = λ rest is quiet. connects_first rest from r.world refl quiet (subst (λ (l : List Action). Runs l from r.world) is r.runs);
-      bounds = bounds a b words_a words_b f g actions turns valid_a valid_b fits_a fits_b fit none are bytes follows not_ended;
-      rests = at_rest_a a b words_a words_b f g actions turns valid_a valid_b fits_a fits_b fit none are bytes;
+      bounds = bounds a b words_a words_b f g actions trace valid_a valid_b fits_a fits_b fit none are bytes follows not_ended;
+      rests = at_rest_a a b words_a words_b f g actions trace valid_a valid_b fits_a fits_b fit none are bytes;
     }

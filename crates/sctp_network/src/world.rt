@@ -5,7 +5,7 @@ ghost use Rattle.sctp_packet.specs.Grammar.{Each};
 ghost use Rattle.sctp_state.specs.Options.{IsValid, options_of};
 ghost use Rattle.sctp_network.specs.declared.world.WorldError.TheVariants.{Memory as no_memory};
 ghost use Rattle.proof_endpoint.specs.ReadBack.{AreBytes};
-ghost use Rattle.spec_world.specs.World.{Comes, Happens, Runs, IsDisabled, RunsUpToDisabled, RunsUpToEnabled, AreShort, fresh_world, side_of, is_at_rest, TakesBytes, clock};
+ghost use Rattle.spec_world.specs.World.{Injects, Happens, Runs, IsDisabled, RunsUpToDisabled, RunsUpToEnabled, AreShort, fresh_world, side_of, is_at_rest, TakesBytes, clock};
 ghost use Rattle.spec_world.specs.FirstRun.{LeadsFirstRun, ContinuesFirstRun};
 ghost use Rattle.spec_world.specs.Observations.{Given};
 ghost use Rattle.proof_world.specs.Agreed.{Agrees, EachEndDrawsDistinctTags};
@@ -253,7 +253,7 @@ impl<R: Rng, C: Checksum> World<R, C> {
 
     /// Bytes from elsewhere come to an end.
     fn come(&mut self, end: End, bytes: &[u8]) -> Result<(), CallError>
-        ensures ok { OnOk result (Comes (end_tree end) bytes.now (world_of R.stream C.word_of self.old) (world_of R.stream C.word_of self.new)) }
+        ensures ok { OnOk result (Injects (end_tree end) bytes.now (world_of R.stream C.word_of self.old) (world_of R.stream C.word_of self.new)) }
         ensures failed { self.new.has_failed ≡ self.old.has_failed }
     {
         match end {

@@ -11,7 +11,7 @@ use Rattle.spec_endpoint.specs.Laws as table
 use Rattle.spec_endpoint.specs.Receiving.{Receives, received, not_read}
 use Rattle.proof_endpoint.proofs.LawsLemmas.{stays_within, sends_at_most}
 use Rattle.spec_world.specs.Observations.{End, Entry, A, B}
-use Rattle.spec_world.specs.World.{Side, World, Action, CallOf, Give, GiveForeign, AdvanceTime, TakesBytes, ComesTo, taken_in, withheld, Comes, Gives, Happens, Runs, IsShort, IsShortSide, AreShort, fresh_side, fresh_world, packets_in, take_emitted, table_call}
+use Rattle.spec_world.specs.World.{Side, World, Action, CallOf, Give, GiveForeign, AdvanceTime, TakesBytes, InjectsInto, taken_in, withheld, Injects, Gives, Happens, Runs, IsShort, IsShortSide, AreShort, fresh_side, fresh_world, packets_in, take_emitted, table_call}
 
 packets_short : (mtu : ℕ) (events : List (Event (List ℕ))) → All (HasAtMost mtu) events → All (IsShort mtu) (packets_in events)
 packets_short mtu [] h = All-nil (IsShort mtu)
@@ -67,7 +67,7 @@ taken_short : (mtu : ℕ) (x : End) (first : Entry) (bytes : List ℕ) (old new 
 taken_short mtu x first bytes old new log longer t h =
     subst (IsShortSide mtu) (sym t.side) (received_short mtu old.socket.endpoint_state.context.pack.word_of bytes old t.after t.takes h)
 
-came_short : (mtu : ℕ) (x : End) (bytes : List ℕ) (old new : Side) (log longer : List Entry) → ComesTo x bytes old new log longer → IsShortSide mtu old → IsShortSide mtu new
+came_short : (mtu : ℕ) (x : End) (bytes : List ℕ) (old new : Side) (log longer : List Entry) → InjectsInto x bytes old new log longer → IsShortSide mtu old → IsShortSide mtu new
 came_short mtu x bytes old new log longer (taken_in t j) h = taken_short mtu x _ bytes old new log longer t h
 came_short mtu x bytes old new log longer (withheld j is l) h = subst (IsShortSide mtu) (sym is) h
 
@@ -83,7 +83,7 @@ given_short mtu_a mtu_b B packet w v g h = record {
   b = taken_short mtu_b B _ g.bytes w.b v.b w.log v.log g.takes_bytes h.b;
 }
 
-foreign_short : (mtu_a mtu_b : ℕ) (x : End) (bytes : List ℕ) (w v : World) → Comes x bytes w v → AreShort mtu_a mtu_b w → AreShort mtu_a mtu_b v
+foreign_short : (mtu_a mtu_b : ℕ) (x : End) (bytes : List ℕ) (w v : World) → Injects x bytes w v → AreShort mtu_a mtu_b w → AreShort mtu_a mtu_b v
 foreign_short mtu_a mtu_b A bytes w v g h = record {
   a = came_short mtu_a A bytes w.a v.a w.log v.log g.comes h.a;
   b = subst (IsShortSide mtu_b) (sym g.other_side) h.b;

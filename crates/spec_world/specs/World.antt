@@ -197,18 +197,18 @@ abbrev pub IsJudged : (bytes : List ℕ) → Endpoint (List ℕ) → (is_refused
 IsJudged bytes s is_refused = Judges s.endpoint_state.context.pack.word_of bytes s.endpoint_state.context.options s.endpoint_state.state is_refused
 
 -- bytes from elsewhere: they are given to an end that refuses them, and else withheld from it
-pub data ComesTo (x : End) (bytes : List ℕ) (old new : Side) (log longer : List Entry) : Type 0 where
-  taken_in : (t : TakesBytes x (Foreign x (clock old.socket) (Some bytes)) bytes old new log longer) → IsJudged bytes old.socket true → ComesTo x bytes old new log longer
-  withheld : IsJudged bytes old.socket false → new ≡ old → longer ≡ log ++ Foreign x (clock old.socket) None ∷ [] → ComesTo x bytes old new log longer
+pub data InjectsInto (x : End) (bytes : List ℕ) (old new : Side) (log longer : List Entry) : Type 0 where
+  taken_in : (t : TakesBytes x (Foreign x (clock old.socket) (Some bytes)) bytes old new log longer) → IsJudged bytes old.socket true → InjectsInto x bytes old new log longer
+  withheld : IsJudged bytes old.socket false → new ≡ old → longer ≡ log ++ Foreign x (clock old.socket) None ∷ [] → InjectsInto x bytes old new log longer
 
-pub record Comes (x : End) (bytes : List ℕ) (w v : World) : Type 0 where
-  pub comes : ComesTo x bytes (side_of x w) (side_of x v) w.log v.log
+pub record Injects (x : End) (bytes : List ℕ) (w v : World) : Type 0 where
+  pub comes : InjectsInto x bytes (side_of x w) (side_of x v) w.log v.log
   pub other_side : side_of (other x) v ≡ side_of (other x) w
 
 abbrev pub Happens : Action → World → World → Type 0
 Happens (CallOf x call) w v = v ≡ calls x call w
 Happens (Give packet x) w v = Gives x packet w v
-Happens (GiveForeign x bytes) w v = Comes x bytes w v
+Happens (GiveForeign x bytes) w v = Injects x bytes w v
 Happens (AdvanceTime x now) w v = v ≡ advances_time x now w
 
 abbrev pub Runs : List Action → World → World → Type 0
