@@ -62,7 +62,7 @@ pub fn a_message_is_skipped()
 /// call that reset its stream (RFC 6525 section 5.1.2). An end accepts fewer than 2^32 messages, so that their numbers don't wrap.
 /// In one such trace, computed, two messages are given up, one for its lifetime, one for its limit.
 pub fn records_are_justified()
-    ensures proper { RecordsAreJustified }
+    ensures justified { RecordsAreJustified }
     ensures accepted { AcceptancesAreAccepted }
     ensures goes { TwoAreGivenUp }
 {}

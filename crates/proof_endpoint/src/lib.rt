@@ -68,7 +68,7 @@ pub fn bytes_are_written_chunks()
 
 /// Bytes that one end writes for a packet are received by another end as this packet, and nothing else.
 pub fn written_packets_are_received()
-    ensures heard { WrittenPacketsAreReceived }
+    ensures received { WrittenPacketsAreReceived }
     ensures alone { WrittenPacketsAreOne }
 {}
 
@@ -100,7 +100,7 @@ pub fn emitted_packets_can_be_read_back()
     ensures as_put_in { EmittedChunksAreReceived }
     ensures bytes { EmittedPacketsCanBeRead }
     ensures refusals { RefusalsCanBeRead }
-    ensures heard { EmittedPacketsCanBeReceived }
+    ensures received { EmittedPacketsCanBeReceived }
 {}
 
 /// A packet that a reader makes of bytes fits as an argument, unless it is an INIT ACK with an empty cookie; and so does

@@ -17,7 +17,7 @@ use proof_endpoint::a_handover_and_its_restore_give_the_end_back;
 /// it emitted that it is connected, an end is asked neither for a shutdown, nor to connect once an INIT was given to it
 /// (RFC 9260 sections 5.1, 5.2).
 pub fn ends_are_consistent()
-    ensures joined { EndsAreConsistent }
+    ensures consistent { EndsAreConsistent }
 {}
 
 /// A DATA or I-DATA chunk that is refused before its TSN is observed leaves tracker and reassembly as they were; of the others

@@ -33,7 +33,7 @@ pub fn lifecycles_are_accounted()
 /// is received as the chunks that were put in, where its reader lets the checksum through, and else as no packet. Each packet that was
 /// emitted is to be bytes, numbers up to 255.
 pub fn worlds_have_traces()
-    ensures courses { WorldsHaveTraces }
+    ensures traces { WorldsHaveTraces }
 {}
 
 /// Until an end emits that an association is over, what each end of a world can do was negotiated of the two option sets, and
@@ -41,7 +41,7 @@ pub fn worlds_have_traces()
 /// nor connect once an INIT was given to it (RFC 9260 sections 5.1, 5.2). The opening of the first run keeps these rules. Each packet
 /// that was emitted is to be bytes.
 pub fn worlds_are_consistent()
-    ensures joined { WorldsAreConsistent }
+    ensures consistent { WorldsAreConsistent }
     ensures can_be_kept { OpeningFollows }
 {}
 
@@ -76,7 +76,7 @@ pub fn worlds_compose()
 /// (RFC 6525 section 5.1.2). Clocks are those of the log: an event has its end's clock, which only moments move. An end accepts fewer
 /// than 2^32 messages, so that their numbers don't wrap. Each packet that was emitted is to be bytes.
 pub fn records_are_justified()
-    ensures proper { WorldsAreJustified }
+    ensures justified { WorldsAreJustified }
     ensures offers { AcceptancesAreOffers }
 {}
 

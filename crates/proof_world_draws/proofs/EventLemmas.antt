@@ -14,7 +14,7 @@ use Rattle.proof_pair.specs.Trace as traces
 use Rattle.proof_pair.specs.Trace.{Pair, EndAction, Calls, Gives, Refuses, emitted_packets, act, goes, state_of}
 use Rattle.proof_pair.proofs.AddedLemmas.{all_get}
 use Rattle.proof_delivery.specs.Justified.{records_by, records_at}
-use Rattle.proof_delivery.specs.Justified as proper
+use Rattle.proof_delivery.specs.Justified as justified
 use Rattle.proof_draws.specs.NamedChunks.{Names}
 use Rattle.proof_draws.specs.Names.{named_state}
 use Rattle.proof_draws_pair.specs.Alike as alike
@@ -114,7 +114,7 @@ own_action f (Give n B) t c own is = subst IsOwn (sym is.received) (own_receivin
 own_action f (GiveForeign x bytes) t c own is = cc
 own_action f (AdvanceTime x now) t c own is = subst IsOwn (sym is) tt
 
-given_up_given_same : (p : Option Carried) (checksum : ℕ) (x : traces.Side) → proper.records_given p checksum x ≡ alike.records_given p checksum x
+given_up_given_same : (p : Option Carried) (checksum : ℕ) (x : traces.Side) → justified.records_given p checksum x ≡ alike.records_given p checksum x
 given_up_given_same None checksum x = refl
 given_up_given_same (Some p) checksum x = refl
 

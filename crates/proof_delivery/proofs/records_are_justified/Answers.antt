@@ -2,8 +2,8 @@ use Rattle.proof_delivery.proofs.JustifiedTraceLemmas.{acceptances_accepted, rec
 use Rattle.proof_delivery.proofs.JustifiedRunLemmas.{two_given_up}
 use Rattle.proof_delivery.proofs.records_are_justified.Goals as goal
 
-pub returns-clause-proper : goal.returns-clause-proper
-returns-clause-proper c = records_justified
+pub returns-clause-justified : goal.returns-clause-justified
+returns-clause-justified c = records_justified
 
 pub returns-clause-accepted : goal.returns-clause-accepted
 returns-clause-accepted c = acceptances_accepted

@@ -14,5 +14,5 @@ returns-clause-bytes c = can_be_read
 pub returns-clause-refusals : goal.returns-clause-refusals
 returns-clause-refusals c = can_be_read_refused
 
-pub returns-clause-heard : goal.returns-clause-heard
-returns-clause-heard c = can_be_received
+pub returns-clause-received : goal.returns-clause-received
+returns-clause-received c = can_be_received
