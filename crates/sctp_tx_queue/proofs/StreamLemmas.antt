@@ -1,10 +1,12 @@
 -- What a fragment takes from its stream.
-use Rattle.std.proofs.Common.{◌≡◌, ℕ, Bool, true, false, cond, List, [], ◌∷◌, refl, arith}
+use Rattle.std.proofs.Common.{◌≡◌, ℕ, Bool, true, false, cond, List, [], ◌∷◌, refl, ap, ◌∙◌, arith}
 use Rattle.std.specs.Prelude.{is_some}
 use Rattle.std.proofs.lemmas.Bool.Decides.{nat_tests}
 use Rattle.sctp_state.specs.Thresholds.{Watched, crosses}
 use Rattle.sctp_tx_queue.specs.Queue.{Queued, Stream}
-use Rattle.sctp_tx_queue.specs.Produced.{took, front_took, count_on, advance}
+use Rattle.sctp_tx_queue.specs.declared.send_queue.message.MessageNumbers.{MessageNumbers}
+use Rattle.sctp_tx_queue.specs.declared.send_queue.stream.PauseState.{PauseState}
+use Rattle.sctp_tx_queue.specs.Produced.{took, front_took, front_numbers, front_ends, moved_front, pause_after, count_on, advance}
 
 took_messages : (m : Queued) (s : Stream) → (took m s).messages ≡ s.messages
 took_messages m s = go (is_some m.numbers) m.is_unordered
@@ -33,9 +35,40 @@ front_took_priority (m ∷ rest) s = took_priority m s
 pub advanced_priority : (size : ℕ) (s : Stream) → (advance size s).priority ≡ s.priority
 advanced_priority size s = front_took_priority s.messages s
 
--- the bytes that are left, and those of the fragment
+took_pause : (m : Queued) (s : Stream) → (took m s).pause ≡ s.pause
+took_pause m s = go (is_some m.numbers) m.is_unordered
+  where
+    go : (a b : Bool) → (cond a s (cond b (record s { next_unordered_mid = count_on s.next_unordered_mid }) (record s { next_ssn = count_on s.next_ssn; next_ordered_mid = count_on s.next_ordered_mid }))).pause ≡ s.pause
+    go true b = refl
+    go false true = refl
+    go false false = refl
 
--- what is left of the message at the front then
+front_took_pause : (ms : List Queued) (s : Stream) → (front_took ms s).pause ≡ s.pause
+front_took_pause [] s = refl
+front_took_pause (m ∷ rest) s = took_pause m s
+
+-- the stream after a fragment, by what became of its parts: `t` has its numbers
+pub advanced_is : (size : ℕ) (n : MessageNumbers) (is_end : Bool) (s t : Stream) (ms : List Queued) (p : PauseState) (threshold : ℕ)
+    → n ≡ front_numbers s.messages s → is_end ≡ front_ends size s.messages → t ≡ front_took s.messages s
+    → ms ≡ moved_front size n t.messages → p ≡ pause_after is_end t.pause → threshold ≡ t.threshold
+    → (let u : Stream = record t { messages = ms; pause = p; threshold = threshold } in u) ≡ advance size s
+advanced_is size n is_end s t ms p threshold is_n ends is_t is_ms is_p is_threshold =
+    ap (λ x. built t x p threshold) is_ms ∙ ap (λ x. built t (moved_front size n t.messages) x threshold) is_p ∙ ap (λ x. built t (moved_front size n t.messages) (pause_after is_end t.pause) x) is_threshold
+    ∙ ap (λ x. made x is_end t) is_n ∙ ap (λ b. made numbers b t) ends ∙ ap (λ x. made numbers (front_ends size s.messages) x) is_t
+    ∙ ap (λ x. built numbered (moved_front size numbers x) (pause_after (front_ends size s.messages) numbered.pause) numbered.threshold) (front_took_messages s.messages s)
+    ∙ ap (λ x. built numbered (moved_front size numbers s.messages) (pause_after (front_ends size s.messages) x) numbered.threshold) (front_took_pause s.messages s)
+  where
+    numbers : MessageNumbers
+    numbers = front_numbers s.messages s
+
+    numbered : Stream
+    numbered = front_took s.messages s
+
+    built : Stream → List Queued → PauseState → ℕ → Stream
+    built x xs y z = record x { messages = xs; pause = y; threshold = z }
+
+    made : MessageNumbers → Bool → Stream → Stream
+    made k b x = built x (moved_front size k x.messages) (pause_after b x.pause) x.threshold
 
 pub crosses_same : (a b c d : Watched) → a.amount ≡ c.amount → a.low_threshold ≡ c.low_threshold → b.amount ≡ d.amount → b.low_threshold ≡ d.low_threshold → crosses a b ≡ crosses c d
 crosses_same a b c d e f g h = rw (e, f, g, h) refl

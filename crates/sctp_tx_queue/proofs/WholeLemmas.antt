@@ -1,6 +1,6 @@
 -- A fragment that is a whole message, and a stream without one.
 use Rattle.std.proofs.Common.{◌≡◌, ℕ, ◌-◌, ◌<◌, ◌≤◌, Bool, true, false, cond, List, [], ◌∷◌, length, Option, Some, None, refl, ap, sym, ◌∙◌, arith}
-use Rattle.std.specs.Prelude.{◌==◌, is_some, nat_le, take, drop}
+use Rattle.std.specs.Prelude.{◌==◌, nat_le, take, drop}
 use Rattle.std.specs.Map.{lookup}
 use Rattle.std.specs.Ordering.{nat_cmp}
 use Rattle.std.specs.BTreeMap.{is_at}
@@ -10,12 +10,11 @@ use Rattle.sctp_state.specs.Events.{Emitted, emit_events, give_up, expiry}
 use Rattle.sctp_state.specs.declared.api.GivenUpCause.TheVariants.{Lifetime}
 use Rattle.sctp_stream_scheduler.specs.Scheduler.{Scheduler, accept, is_active, enter, finish_now, set_bytes_remaining}
 use Rattle.sctp_tx_queue.specs.declared.send_queue.message.MessageNumbers.{MessageNumbers}
-use Rattle.sctp_tx_queue.specs.declared.send_queue.stream.PauseState.{PauseState}
 use Rattle.sctp_tx_queue.specs.Queue.{Queued, Stream, Streams, stream, sendable}
-use Rattle.sctp_tx_queue.specs.Produced.{is_front_stale, fresh, drop_expired, streams_without_stale, without_stale, ends, front_ends, front_made, front_numbers, in_line, move_past, moved_front, took, front_took, count_on, pause_after, next_fragment, production, streams_after, advance, emitted_made}
+use Rattle.sctp_tx_queue.specs.Produced.{is_front_stale, fresh, drop_expired, streams_without_stale, without_stale, ends, front_made, in_line, next_fragment, production, streams_after, advance, emitted_made}
 use Rattle.sctp_tx_queue.specs.Whole.{is_whole, is_front_whole, front_lifecycle}
 use Rattle.sctp_tx_queue.proofs.RestoreLemmas.{both}
-use Rattle.sctp_tx_queue.proofs.StreamLemmas.{advanced_priority, front_took_messages}
+use Rattle.sctp_tx_queue.proofs.StreamLemmas.{advanced_priority}
 use Rattle.sctp_tx_queue.proofs.StreamsLemmas.{put_nowhere, put_same, stream_there, stream_nowhere, changed_there}
 
 -- ---- the whole of a message
@@ -34,10 +33,6 @@ whole_payload size m h =
 
 pub whole_ends : (size : ℕ) (m : Queued) → is_whole size m ≡ true → true ≡ ends size m
 whole_ends size m h = sym (both (m.offset == 0) (ends size m) h).1
-
-pub whole_moved : (size : ℕ) (n : MessageNumbers) (ms : List Queued) → is_front_whole size ms ≡ true → drop 1 ms ≡ moved_front size n ms
-whole_moved size n [] h = absurd (cc)
-whole_moved size n (m ∷ rest) h = ap (λ b. cond b rest (move_past size n m ∷ rest)) (whole_ends size m h)
 
 -- its stream goes in line, with its bytes
 pub whole_line : (id bytes priority size : ℕ) (n : MessageNumbers) (ms : List Queued) (sch : Scheduler) → is_front_whole size ms ≡ true → set_bytes_remaining id bytes priority (accept id sch) ≡ in_line id bytes priority (front_made id size n ms) sch
@@ -93,29 +88,3 @@ pub active_keeps : (id bytes priority : ℕ) (s : Scheduler) → 0 < bytes → i
 active_keeps id bytes priority s some active =
     ap (λ b. cond b (set_bytes_remaining id 0 0 s) (cond (is_active id s) s (enter id (finish_now bytes priority s) s))) (some_bytes bytes some)
     ∙ ap (λ b. cond b s (enter id (finish_now bytes priority s) s)) active
-
--- ---- the stream after a fragment, by its parts
-
-took_pause : (m : Queued) (s : Stream) → (took m s).pause ≡ s.pause
-took_pause m s = go (is_some m.numbers) m.is_unordered
-  where
-    go : (a b : Bool) → (cond a s (cond b (record s { next_unordered_mid = count_on s.next_unordered_mid }) (record s { next_ssn = count_on s.next_ssn; next_ordered_mid = count_on s.next_ordered_mid }))).pause ≡ s.pause
-    go true b = refl
-    go false true = refl
-    go false false = refl
-
-front_took_pause : (ms : List Queued) (s : Stream) → (front_took ms s).pause ≡ s.pause
-front_took_pause [] s = refl
-front_took_pause (m ∷ rest) s = took_pause m s
-
-pub advanced_is : (size : ℕ) (n : MessageNumbers) (s t u : Stream) → n ≡ front_numbers s.messages s → t ≡ front_took s.messages s
-    → u ≡ (let r : Stream = record t { messages = moved_front size n t.messages; pause = pause_after (front_ends size t.messages) t.pause } in r) → u ≡ advance size s
-advanced_is size n s t u is_n is_t is_u =
-    is_u ∙ ap (λ (x : Stream). made n x x.messages x.pause) is_t ∙ ap (λ k. made k numbered numbered.messages numbered.pause) is_n ∙ ap (λ ms. made (front_numbers s.messages s) numbered ms numbered.pause) (front_took_messages s.messages s)
-    ∙ ap (λ p. made (front_numbers s.messages s) numbered s.messages p) (front_took_pause s.messages s)
-  where
-    made : MessageNumbers → Stream → List Queued → PauseState → Stream
-    made k x ms p = record x { messages = moved_front size k ms; pause = pause_after (front_ends size ms) p }
-
-    numbered : Stream
-    numbered = front_took s.messages s

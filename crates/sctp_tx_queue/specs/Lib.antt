@@ -10,6 +10,7 @@ pub mod Readiness
 pub mod Resets
 pub mod Restarted
 pub mod Restored
+pub mod Sent
 pub mod Settings
 pub mod Views
 pub mod Whole

@@ -62,7 +62,7 @@ impl Model for SendQueue {
     ghost view = { λ q. record { streams = q.streams; scheduler = q.scheduler; next_number = q.next_message_id.0; begun = option_map (λ id. id.0) q.begun } };
 }
 
-// Emits that a message was dropped, and sets what its stream has to send then. Without memory nothing changes.
+/// Emits that a message was dropped, and sets what its stream has to send then. Without memory nothing changes.
 fn leave_line(
     scheduler: &mut StreamScheduler,
     events: &mut Events,
@@ -172,7 +172,7 @@ impl SendQueue {
         Err(AllocError)
     }
 
-    // The stream that is next: one whose message was begun, unless messages are interleaved.
+    /// The stream that is next: one whose message was begun, unless messages are interleaved.
     fn next_stream(&self) -> Option<StreamId>
         ensures { option_map (λ id. id.0) result ≡ next_stream self.now }
     {
@@ -182,7 +182,7 @@ impl SendQueue {
         self.scheduler.peek()
     }
 
-    // Drops the messages at the front of a stream that expired before they were begun. Without memory nothing changes.
+    /// Drops the messages at the front of a stream that expired before they were begun. Without memory nothing changes.
     fn drop_stale(
         &mut self,
         now: SocketTime,
@@ -204,7 +204,7 @@ impl SendQueue {
         Ok(())
     }
 
-    // The next fragment of a stream. Without memory nothing changes.
+    /// The next fragment of a stream. Without memory nothing changes.
     fn send_front(
         &mut self,
         id: StreamId,
@@ -224,7 +224,7 @@ impl SendQueue {
         Ok(made)
     }
 
-    // Asks one stream for a fragment.
+    /// Asks one stream for a fragment.
     fn turn(
         &mut self,
         now: SocketTime,
@@ -241,7 +241,7 @@ impl SendQueue {
         self.send_front(id, size, events)
     }
 
-    // Asks streams until one gives a fragment, or none is left.
+    /// Asks streams until one gives a fragment, or none is left.
     fn ask(
         &mut self,
         now: SocketTime,
@@ -420,7 +420,7 @@ impl SendQueue {
         }
     }
 
-    // Takes the memory for a stream that is to be reset, and emits the events of the messages that it drops.
+    /// Takes the memory for a stream that is to be reset, and emits the events of the messages that it drops.
     fn tell_and_open(
         &mut self,
         id: StreamId,
@@ -499,7 +499,7 @@ impl SendQueue {
         Ok(())
     }
 
-    // A new association begins for a stream. Without memory nothing changes.
+    /// A new association begins for a stream. Without memory nothing changes.
     fn restart_one(&mut self, id: StreamId) -> Result<(), AllocError>
         ensures ok { OnOk result (self.new ≡ restarted_one id.0 self.old) }
         ensures err { OnErr result (self.new ≡ self.old) }
@@ -550,7 +550,7 @@ impl SendQueue {
         self.take_steps(ids, ResetStep::Refused)
     }
 
-    // Takes a step of a stream's reset. Without memory nothing changes.
+    /// Takes a step of a stream's reset. Without memory nothing changes.
     fn take_step(&mut self, id: StreamId, step: ResetStep) -> Result<(), AllocError>
         ensures ok { OnOk result (self.new ≡ step_stream step id.0 self.old) }
         ensures err { OnErr result (self.new ≡ self.old) }
@@ -572,7 +572,7 @@ impl SendQueue {
         Ok(())
     }
 
-    // A stream goes into a request, which takes no memory: it has nothing to send from then on.
+    /// A stream goes into a request, which takes no memory: it has nothing to send from then on.
     fn request_one(&mut self, id: StreamId)
         ensures { self.new ≡ step_stream Requested id.0 self.old }
     {

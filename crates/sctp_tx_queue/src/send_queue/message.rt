@@ -5,9 +5,9 @@ ghost use Rattle.std.specs.Duration.{as_nanos};
 ghost use Rattle.sctp_chunk.specs.Written.{key_stream};
 ghost use Rattle.sctp_chunk.specs.Views.{is_unordered_key, fragment_tree};
 ghost use Rattle.sctp_tx_queue.specs.Queue.{left_bytes, expiry_of};
-ghost use Rattle.sctp_tx_queue.specs.Produced.{is_stale, is_due, ends, piece, made_of, move_past};
+ghost use Rattle.sctp_tx_queue.specs.Produced.{is_stale, is_due, ends, made_of, move_past};
 ghost use Rattle.sctp_tx_queue.specs.Resets.{is_partly};
-ghost use Rattle.sctp_tx_queue.specs.Whole.{is_whole};
+ghost use Rattle.sctp_tx_queue.specs.Whole.{is_whole, with_payload};
 ghost use Rattle.sctp_serial.specs.Unwrapped.{words, halves, wire};
 ghost use Rattle.sctp_state.specs.Handover.{stream_message_of};
 ghost use Rattle.sctp_tx_queue.specs.Handover.{queued_message};
@@ -262,31 +262,16 @@ impl QueuedMessage {
         self.next_fsn = Fsn(0);
     }
 
-    // The next fragment, of at most `size` bytes, under these numbers.
-    fn piece(
-        &self,
-        alloc: Global,
-        id: StreamId,
-        numbers: MessageNumbers,
-        size: usize,
-    ) -> Result<Data, AllocError>
-        ensures { IfOk result (λ made. fragment_tree made ≡ piece id.0 size numbers self.now) }
+    /// The bytes of the next fragment, of at most `size`.
+    fn next_payload(&self, alloc: Global, size: usize) -> Result<Vec<u8>, AllocError>
+        ensures { IfOk result (λ bytes. bytes.items ≡ take size (drop self.now.offset self.now.payload)) }
     {
         let left = self.payload.len() - self.offset;
         let end = self.offset + left.min(size);
-        Ok(Data {
-            stream_key: stream_key(self.is_unordered, id),
-            ssn: Ssn::wrapped(Ssn(0), numbers.ssn),
-            mid: Mid::wrapped(Mid(0), numbers.mid),
-            fsn: self.next_fsn,
-            ppid: self.ppid,
-            payload: Vec::from_slice(alloc, &self.payload[self.offset..end])?,
-            is_beginning: self.offset == 0,
-            is_end: left <= size,
-        })
+        Vec::from_slice(alloc, &self.payload[self.offset..end])
     }
 
-    // The lifecycle ends with the last fragment alone.
+    /// The lifecycle ends with the last fragment alone.
     fn lifecycle_ended(&self, size: usize) -> Option<LifecycleId>
         ensures { result ≡ (if ends size self.now then self.now.lifecycle else None) }
     {
@@ -294,6 +279,34 @@ impl QueuedMessage {
             self.lifecycle_id
         } else {
             None
+        }
+    }
+
+    /// The next fragment, of at most `size` bytes, under these numbers, with this payload.
+    fn fragment_with(
+        &self,
+        id: StreamId,
+        numbers: MessageNumbers,
+        size: usize,
+        payload: Vec<u8>,
+    ) -> DataToSend
+        ensures { produced_of result ≡ with_payload payload.items (made_of id.0 size numbers self.now) }
+    {
+        DataToSend {
+            message_id: self.message_id,
+            data: Data {
+                stream_key: stream_key(self.is_unordered, id),
+                ssn: Ssn::wrapped(Ssn(0), numbers.ssn),
+                mid: Mid::wrapped(Mid(0), numbers.mid),
+                fsn: self.next_fsn,
+                ppid: self.ppid,
+                payload,
+                is_beginning: self.offset == 0,
+                is_end: self.left() <= size,
+            },
+            max_retransmissions: self.max_retransmissions,
+            expires_at: self.expires_at,
+            lifecycle_id: self.lifecycle_ended(size),
         }
     }
 
@@ -307,13 +320,8 @@ impl QueuedMessage {
     ) -> Result<DataToSend, AllocError>
         ensures { IfOk result (λ made. produced_of made ≡ made_of id.0 size numbers self.now) }
     {
-        Ok(DataToSend {
-            message_id: self.message_id,
-            data: self.piece(alloc, id, numbers, size)?,
-            max_retransmissions: self.max_retransmissions,
-            expires_at: self.expires_at,
-            lifecycle_id: self.lifecycle_ended(size),
-        })
+        let payload = self.next_payload(alloc, size)?;
+        Ok(self.fragment_with(id, numbers, size, payload))
     }
 
     /// Whether a fragment of this size is all of it.
@@ -323,43 +331,20 @@ impl QueuedMessage {
         self.offset == 0 && self.left() <= size
     }
 
-    // Its payload, of which a fragment of this size is all.
-    fn into_payload(self, _size: usize) -> Vec<u8>
-        requires { IsTrue (is_whole _size self) }
-        ensures { result.items ≡ take _size (drop self.offset self.payload) }
-    {
-        self.payload
-    }
-
     /// The fragment that is all of it, with its payload and not a copy.
-    pub fn into_fragment(self, id: StreamId, numbers: MessageNumbers, size: usize) -> DataToSend
+    pub fn into_fragment(
+        self,
+        alloc: Global,
+        id: StreamId,
+        numbers: MessageNumbers,
+        size: usize,
+    ) -> DataToSend
         requires { IsTrue (is_whole size self) }
         ensures { produced_of result ≡ made_of id.0 size numbers self }
     {
-        let message_id = self.message_id;
-        let max_retransmissions = self.max_retransmissions;
-        let expires_at = self.expires_at;
-        let lifecycle_id = self.lifecycle_ended(size);
-        let key = stream_key(self.is_unordered, id);
-        let (fsn, ppid) = (self.next_fsn, self.ppid);
-        let is_beginning = self.offset == 0;
-        let is_end = self.left() <= size;
-        DataToSend {
-            message_id,
-            data: Data {
-                stream_key: key,
-                ssn: Ssn::wrapped(Ssn(0), numbers.ssn),
-                mid: Mid::wrapped(Mid(0), numbers.mid),
-                fsn,
-                ppid,
-                payload: self.into_payload(size),
-                is_beginning,
-                is_end,
-            },
-            max_retransmissions,
-            expires_at,
-            lifecycle_id,
-        }
+        let mut made = self.fragment_with(id, numbers, size, Vec::new(alloc));
+        made.data.payload = self.payload;
+        made
     }
 
     /// That fragment was sent, and it was not the end.

@@ -14,7 +14,7 @@ use sctp_state::api::handover::{HandoverOutgoingStream, HandoverStreamMessage};
 use sctp_stream_scheduler::StreamScheduler;
 use std::alloc::{AllocError, Global};
 
-// Gives the scheduler what the streams of a record have to send.
+/// Gives the scheduler what the streams of a record have to send.
 fn hear_all(
     scheduler: &mut StreamScheduler,
     streams: &Streams,
@@ -31,7 +31,7 @@ fn hear_all(
     Ok(())
 }
 
-// The same for a new scheduler in place of this one.
+/// The same for a new scheduler in place of this one.
 fn scheduler_from(
     alloc: Global,
     old: &StreamScheduler,
@@ -47,7 +47,7 @@ fn scheduler_from(
     Ok(scheduler)
 }
 
-// The stream of the message that is partly sent.
+/// The stream of the message that is partly sent.
 fn partly_sent(messages: &[HandoverStreamMessage]) -> Option<StreamId>
     ensures { option_map (λ id. id.0) result ≡ partly_sent (map stream_message_of messages.now) }
 {

@@ -1,11 +1,12 @@
 //! What a stream sends in its turn.
 
-ghost use Rattle.std.specs.Prelude.{◌≡◌, ◌≤◌, IsTrue, IfOk, OnOk, OnErr, option_map};
+ghost use Rattle.std.specs.Prelude.{◌≡◌, IsTrue, IfOk, OnOk, OnErr, option_map};
 ghost use Rattle.sctp_state.specs.Events.{Grown, emit_events};
 ghost use Rattle.sctp_state.specs.Thresholds.{crosses};
 ghost use Rattle.sctp_stream_scheduler.specs.Scheduler.{accept, set_bytes_remaining};
-ghost use Rattle.sctp_tx_queue.specs.Queue.{amount_of, sendable, watched_amount};
-ghost use Rattle.sctp_tx_queue.specs.Produced.{advance, in_line, next_fragment, production, emitted_made};
+ghost use Rattle.sctp_tx_queue.specs.Queue.{sendable, watched_amount};
+ghost use Rattle.sctp_tx_queue.specs.Produced.{advance, production};
+ghost use Rattle.sctp_tx_queue.specs.Sent.{Sent, Unsent};
 ghost use Rattle.sctp_tx_queue.specs.Whole.{is_front_whole};
 ghost use Rattle.sctp_tx_queue.specs.Views.{produced_of};
 
@@ -18,7 +19,7 @@ use sctp_state::Events;
 use sctp_stream_scheduler::StreamScheduler;
 use std::alloc::{AllocError, Global};
 
-// What a stream has to send after a fragment, and which amounts are low then.
+/// What a stream has to send after a fragment, and which amounts are low then.
 #[derive(Clone, Copy)]
 struct Next {
     bytes: usize,
@@ -42,7 +43,7 @@ fn next_after(stream: &Stream, size: usize, is_total_low: bool) -> Next
     }
 }
 
-// Emits the events of a fragment, and puts its stream in line for the next one.
+/// Emits the events of a fragment, and puts its stream in line for the next one.
 fn tell_and_queue(
     scheduler: &mut StreamScheduler,
     events: &mut Events,
@@ -59,7 +60,7 @@ fn tell_and_queue(
     scheduler.take_turn(id, next.bytes, next.priority)
 }
 
-// The same. Without memory nothing changes.
+/// The same. Without memory nothing changes.
 fn go_in_line(
     scheduler: &mut StreamScheduler,
     events: &mut Events,
@@ -80,8 +81,9 @@ fn go_in_line(
     done
 }
 
-// The next fragment of a stream is a whole message, which leaves with its payload.
+/// The next fragment of a stream is a whole message, which leaves with its payload.
 fn send_whole(
+    alloc: Global,
     id: StreamId,
     size: usize,
     is_total_low: bool,
@@ -90,21 +92,15 @@ fn send_whole(
     events: &mut Events,
 ) -> Result<Option<DataToSend>, AllocError>
     requires { IsTrue (is_front_whole size stream.old.messages) }
-    ensures stream { OnOk result (stream.new ≡ advance size stream.old) }
-    ensures line { OnOk result (scheduler.new ≡ in_line id.0 (sendable (advance size stream.old)) stream.old.priority (next_fragment id.0 size stream.old) scheduler.old) }
-    ensures emitted { OnOk result (events.new ≡ emitted_made id.0 (crosses (watched_amount stream.old) (watched_amount (advance size stream.old))) is_total_low (next_fragment id.0 size stream.old) events.old) }
-    ensures made { IfOk result (λ found. option_map produced_of found ≡ next_fragment id.0 size stream.old) }
-    ensures less { OnOk result (amount_of stream.new ≤ amount_of stream.old) }
-    ensures err { OnErr result (stream.new ≡ stream.old) }
-    ensures kept { OnErr result (scheduler.new ≡ scheduler.old) }
-    ensures silent { OnErr result (events.new ≡ events.old) }
+    ensures sent { IfOk result (λ found. Sent id.0 size is_total_low (option_map produced_of found) stream.old scheduler.old events.old stream.new scheduler.new events.new) }
+    ensures err { OnErr result (Unsent stream.old scheduler.old events.old stream.new scheduler.new events.new) }
 {
     let next = next_after(stream, size, is_total_low);
     go_in_line(scheduler, events, id, next, stream.front_lifecycle())?;
-    Ok(stream.take_whole(id, size))
+    Ok(stream.take_whole(alloc, id, size))
 }
 
-// The next fragment of a stream is a part of a message, whose payload is copied, or there is none.
+/// The next fragment of a stream is a part of a message, whose payload is copied, or there is none.
 fn send_part(
     alloc: Global,
     id: StreamId,
@@ -114,14 +110,8 @@ fn send_part(
     scheduler: &mut StreamScheduler,
     events: &mut Events,
 ) -> Result<Option<DataToSend>, AllocError>
-    ensures stream { OnOk result (stream.new ≡ advance size stream.old) }
-    ensures line { OnOk result (scheduler.new ≡ in_line id.0 (sendable (advance size stream.old)) stream.old.priority (next_fragment id.0 size stream.old) scheduler.old) }
-    ensures emitted { OnOk result (events.new ≡ emitted_made id.0 (crosses (watched_amount stream.old) (watched_amount (advance size stream.old))) is_total_low (next_fragment id.0 size stream.old) events.old) }
-    ensures made { IfOk result (λ found. option_map produced_of found ≡ next_fragment id.0 size stream.old) }
-    ensures less { OnOk result (amount_of stream.new ≤ amount_of stream.old) }
-    ensures err { OnErr result (stream.new ≡ stream.old) }
-    ensures kept { OnErr result (scheduler.new ≡ scheduler.old) }
-    ensures silent { OnErr result (events.new ≡ events.old) }
+    ensures sent { IfOk result (λ found. Sent id.0 size is_total_low (option_map produced_of found) stream.old scheduler.old events.old stream.new scheduler.new events.new) }
+    ensures err { OnErr result (Unsent stream.old scheduler.old events.old stream.new scheduler.new events.new) }
 {
     match stream.fragment(alloc, id, size)? {
         Some(made) => {
@@ -149,17 +139,11 @@ pub(crate) fn send_from(
     scheduler: &mut StreamScheduler,
     events: &mut Events,
 ) -> Result<Option<DataToSend>, AllocError>
-    ensures stream { OnOk result (stream.new ≡ advance size stream.old) }
-    ensures line { OnOk result (scheduler.new ≡ in_line id.0 (sendable (advance size stream.old)) stream.old.priority (next_fragment id.0 size stream.old) scheduler.old) }
-    ensures emitted { OnOk result (events.new ≡ emitted_made id.0 (crosses (watched_amount stream.old) (watched_amount (advance size stream.old))) is_total_low (next_fragment id.0 size stream.old) events.old) }
-    ensures made { IfOk result (λ found. option_map produced_of found ≡ next_fragment id.0 size stream.old) }
-    ensures less { OnOk result (amount_of stream.new ≤ amount_of stream.old) }
-    ensures err { OnErr result (stream.new ≡ stream.old) }
-    ensures kept { OnErr result (scheduler.new ≡ scheduler.old) }
-    ensures silent { OnErr result (events.new ≡ events.old) }
+    ensures sent { IfOk result (λ found. Sent id.0 size is_total_low (option_map produced_of found) stream.old scheduler.old events.old stream.new scheduler.new events.new) }
+    ensures err { OnErr result (Unsent stream.old scheduler.old events.old stream.new scheduler.new events.new) }
 {
     if stream.is_next_whole(size) {
-        send_whole(id, size, is_total_low, stream, scheduler, events)
+        send_whole(alloc, id, size, is_total_low, stream, scheduler, events)
     } else {
         send_part(alloc, id, size, is_total_low, stream, scheduler, events)
     }

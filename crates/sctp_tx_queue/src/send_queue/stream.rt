@@ -12,7 +12,7 @@ ghost use Rattle.sctp_tx_queue.specs.Handover.{queued_message, messages_of, outg
 ghost use Rattle.sctp_tx_queue.specs.Readiness.{is_waiting};
 ghost use Rattle.sctp_tx_queue.specs.Restarted.{whole_front, restart};
 ghost use Rattle.sctp_tx_queue.specs.Restored.{stream_from};
-ghost use Rattle.sctp_tx_queue.specs.Whole.{is_front_whole, front_lifecycle};
+ghost use Rattle.sctp_tx_queue.specs.Whole.{is_front_whole, front_ended, front_lifecycle};
 ghost use Rattle.sctp_tx_queue.specs.Views.{produced_of};
 
 use crate::data_to_send::DataToSend;
@@ -87,7 +87,7 @@ fn is_front_stale(messages: &VecDeque<QueuedMessage>, now: SocketTime) -> bool
     }
 }
 
-// Emits the events of the messages at the front that expired before they were begun.
+/// Emits the events of the messages at the front that expired before they were begun.
 fn tell_stale_front(
     messages: &VecDeque<QueuedMessage>,
     now: SocketTime,
@@ -106,7 +106,7 @@ fn tell_stale_front(
     Ok(())
 }
 
-// Drops the messages at the front that expired before they were begun.
+/// Drops the messages at the front that expired before they were begun.
 fn drop_stale_front(
     messages: &mut VecDeque<QueuedMessage>,
     buffered: &mut ThresholdWatcher,
@@ -126,20 +126,24 @@ fn drop_stale_front(
     }
 }
 
-fn move_front_on(messages: &mut VecDeque<QueuedMessage>, numbers: MessageNumbers, size: usize)
-    ensures { messages.new.items ≡ moved_front size numbers messages.old.items }
+/// A fragment of the message at the front is sent. The answer is the message, where that ends it.
+fn move_front_on(
+    messages: &mut VecDeque<QueuedMessage>,
+    numbers: MessageNumbers,
+    size: usize,
+) -> Option<QueuedMessage>
+    ensures messages { messages.new.items ≡ moved_front size numbers messages.old.items }
+    ensures ended { result ≡ front_ended size messages.old.items }
 {
-    let Some(message) = messages.front_mut() else {
-        return;
-    };
+    let message = messages.front_mut()?;
     if message.left() > size {
         message.move_on(numbers, size);
-        return;
+        return None;
     }
-    messages.pop_front();
+    messages.pop_front()
 }
 
-// Drops the message at the front.
+/// Drops the message at the front.
 fn pop_front(messages: &mut VecDeque<QueuedMessage>, buffered: &mut ThresholdWatcher)
     requires { buffered.old.amount ≡ sum_by left_bytes messages.old.items }
     ensures messages { messages.new.items ≡ drop 1 messages.old.items }
@@ -152,7 +156,7 @@ fn pop_front(messages: &mut VecDeque<QueuedMessage>, buffered: &mut ThresholdWat
     }
 }
 
-// Emits of the messages of which nothing is sent that they are given up.
+/// Emits of the messages of which nothing is sent that they are given up.
 fn tell_waiting(messages: &VecDeque<QueuedMessage>, events: &mut Events) -> Result<(), AllocError>
     ensures ok { OnOk result (events.new ≡ emitted_waiting messages.now.items events.old) }
     ensures err { OnErr result (Grown events.old events.new) }
@@ -173,7 +177,7 @@ fn bytes_left(messages: &VecDeque<QueuedMessage>) -> usize
     messages.iter().map(|message| message.left()).sum()
 }
 
-// Drops the messages of which nothing is sent.
+/// Drops the messages of which nothing is sent.
 fn keep_partly_sent(messages: &mut VecDeque<QueuedMessage>, buffered: &mut ThresholdWatcher)
     requires { buffered.old.amount ≡ sum_by left_bytes messages.old.items }
     ensures messages { messages.new.items ≡ filter is_partly messages.old.items }
@@ -187,7 +191,7 @@ fn keep_partly_sent(messages: &mut VecDeque<QueuedMessage>, buffered: &mut Thres
     buffered.decrease(before - bytes);
 }
 
-// The pause of a stream that is to be reset.
+/// The pause of a stream that is to be reset.
 fn waiting(is_empty: bool, pause_state: PauseState) -> PauseState
     ensures { result ≡ waiting is_empty pause_state }
 {
@@ -207,7 +211,7 @@ fn is_front(messages: &VecDeque<QueuedMessage>, message_id: OutgoingMessageId) -
     }
 }
 
-// The pause of a stream of which no message is partly sent any more.
+/// The pause of a stream of which no message is partly sent any more.
 fn settled(pause_state: PauseState) -> PauseState
     ensures { result ≡ settle_pause pause_state }
 {
@@ -232,23 +236,6 @@ fn front_fragment(
     }
 }
 
-// The message at the front leaves as the fragment that is all of it.
-fn take_front(
-    messages: &mut VecDeque<QueuedMessage>,
-    id: StreamId,
-    numbers: MessageNumbers,
-    size: usize,
-) -> Option<DataToSend>
-    requires { IsTrue (is_front_whole size messages.old.items) }
-    ensures messages { messages.new.items ≡ moved_front size numbers messages.old.items }
-    ensures made { option_map produced_of result ≡ front_made id.0 size numbers messages.old.items }
-{
-    match messages.pop_front() {
-        Some(message) => Some(message.into_fragment(id, numbers, size)),
-        None => None,
-    }
-}
-
 fn hand_over_all(
     messages: &VecDeque<QueuedMessage>,
     alloc: Global,
@@ -264,7 +251,7 @@ fn hand_over_all(
     Ok(())
 }
 
-// The message at the front is sent from its beginning again. The answer is how many bytes of it were sent.
+/// The message at the front is sent from its beginning again. The answer is how many bytes of it were sent.
 fn make_front_whole(messages: &mut VecDeque<QueuedMessage>) -> usize
     ensures messages { messages.new.items ≡ whole_front messages.old.items }
     ensures sum { sum_by left_bytes messages.new.items ≡ sum_by left_bytes messages.old.items + result }
@@ -277,7 +264,7 @@ fn make_front_whole(messages: &mut VecDeque<QueuedMessage>) -> usize
     sent
 }
 
-// What is left of the message at the front once it is whole.
+/// What is left of the message at the front once it is whole.
 fn front_whole(messages: &VecDeque<QueuedMessage>) -> usize
     ensures { result ≡ front_left (whole_front messages.now.items) }
 {
@@ -287,7 +274,7 @@ fn front_whole(messages: &VecDeque<QueuedMessage>) -> usize
     }
 }
 
-// Whether a fragment of this size is the end of the message at the front.
+/// Whether a fragment of this size is the end of the message at the front.
 fn front_ends(messages: &VecDeque<QueuedMessage>, size: usize) -> bool
     ensures { result ≡ front_ends size messages.now.items }
 {
@@ -306,7 +293,7 @@ fn front_left(messages: &VecDeque<QueuedMessage>) -> usize
     }
 }
 
-// What is left of the message behind the front.
+/// What is left of the message behind the front.
 fn second_left(messages: &VecDeque<QueuedMessage>) -> usize
     ensures { result ≡ front_left (drop 1 messages.now.items) }
 {
@@ -316,7 +303,7 @@ fn second_left(messages: &VecDeque<QueuedMessage>) -> usize
     }
 }
 
-// What is left of the message at the front, after a fragment of this size.
+/// What is left of the message at the front, after a fragment of this size.
 fn left_after(messages: &VecDeque<QueuedMessage>, size: usize) -> usize
     ensures { result ≡ front_left_after size messages.now.items }
 {
@@ -327,7 +314,7 @@ fn left_after(messages: &VecDeque<QueuedMessage>, size: usize) -> usize
     left - size
 }
 
-// What is left of the message at the front, once those of which nothing is sent are dropped.
+/// What is left of the message at the front, once those of which nothing is sent are dropped.
 fn partly_left(messages: &VecDeque<QueuedMessage>) -> usize
     ensures { result ≡ front_left (filter is_partly messages.now.items) }
 {
@@ -348,14 +335,14 @@ fn is_stopped(pause_state: PauseState) -> bool
     }
 }
 
-// What a stream has to send.
+/// What a stream has to send.
 fn sendable(pause_state: PauseState, left: usize) -> usize
     ensures { result ≡ (if is_stopped pause_state then 0 else left) }
 {
     if is_stopped(pause_state) { 0 } else { left }
 }
 
-// The pause after a fragment.
+/// The pause after a fragment.
 fn pause_after(is_end: bool, pause_state: PauseState) -> PauseState
     ensures { result ≡ pause_after is_end pause_state }
 {
@@ -526,7 +513,7 @@ impl Stream {
         }
     }
 
-    // The message at the front takes its numbers, where it has none.
+    /// The message at the front takes its numbers, where it has none.
     fn number_front(&mut self)
         ensures { self.new ≡ front_took self.old.messages self.old }
     {
@@ -572,8 +559,9 @@ impl Stream {
         self.buffered.is_crossed_by(bytes)
     }
 
-    /// The next fragment is sent.
-    pub fn advance(&mut self, size: usize)
+    /// The next fragment is sent. The answer is the message that it ends.
+    fn send_front(&mut self, size: usize) -> Option<QueuedMessage>
+        ensures ended { result ≡ front_ended size self.old.messages }
         ensures after { self.new ≡ advance size self.old }
         ensures less { amount_of self.new ≤ amount_of self.old }
     {
@@ -581,9 +569,18 @@ impl Stream {
         let numbers = self.front_numbers();
         let is_end = front_ends(&self.messages, size);
         self.number_front();
-        move_front_on(&mut self.messages, numbers, size);
+        let ended = move_front_on(&mut self.messages, numbers, size);
         self.pause_state = pause_after(is_end, self.pause_state);
         self.buffered.decrease(bytes);
+        ended
+    }
+
+    /// The next fragment is sent.
+    pub fn advance(&mut self, size: usize)
+        ensures after { self.new ≡ advance size self.old }
+        ensures less { amount_of self.new ≤ amount_of self.old }
+    {
+        drop(self.send_front(size));
     }
 
     /// Whether the next fragment is a whole message.
@@ -607,35 +604,17 @@ impl Stream {
     }
 
     /// The next fragment is sent, which is a whole message: its payload isn't copied.
-    pub fn take_whole(&mut self, id: StreamId, size: usize) -> Option<DataToSend>
+    pub fn take_whole(&mut self, alloc: Global, id: StreamId, size: usize) -> Option<DataToSend>
         requires { IsTrue (is_front_whole size self.old.messages) }
         ensures made { option_map produced_of result ≡ next_fragment id.0 size self.old }
         ensures after { self.new ≡ advance size self.old }
         ensures less { amount_of self.new ≤ amount_of self.old }
     {
         let numbers = self.front_numbers();
-        self.number_front();
-        self.take_numbered(id, numbers, size)
-    }
-
-    // The message at the front, which has its numbers, leaves as the fragment that is all of it.
-    fn take_numbered(
-        &mut self,
-        id: StreamId,
-        numbers: MessageNumbers,
-        size: usize,
-    ) -> Option<DataToSend>
-        requires { IsTrue (is_front_whole size self.old.messages) }
-        ensures made { option_map produced_of result ≡ front_made id.0 size numbers self.old.messages }
-        ensures after { self.new ≡ record self.old { messages = moved_front size numbers self.old.messages; pause = pause_after (front_ends size self.old.messages) self.old.pause } }
-        ensures less { amount_of self.new ≤ amount_of self.old }
-    {
-        let bytes = front_left(&self.messages).min(size);
-        let is_end = front_ends(&self.messages, size);
-        let made = take_front(&mut self.messages, id, numbers, size);
-        self.pause_state = pause_after(is_end, self.pause_state);
-        self.buffered.decrease(bytes);
-        made
+        match self.send_front(size) {
+            Some(message) => Some(message.into_fragment(alloc, id, numbers, size)),
+            None => None,
+        }
     }
 
     /// Whether the message at the front expired before it was begun.

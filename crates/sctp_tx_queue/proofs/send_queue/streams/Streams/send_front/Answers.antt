@@ -47,16 +47,16 @@ invariant_of-self-in_err-made c =
     let written = (c.get_mut.follows.holds w).0 in
     let sums = total_written c.args.id.0 entries v w c.in-Some.ensures.value in
     record {
-      counted = omega (arith, ap total_of written, sums, ap amount_of c.in_err-made.ensures.err, c.self.invariant.counted);
-      few = few_changed c.args.id.0 entries _ v w v c.in-Some.ensures.value written c.in_err-made.ensures.err (keeps_same v.messages) c.self.invariant.few;
-      ready = c.self.invariant.ready ∙ ready_kept c.args.id.0 entries _ v w c.in-Some.ensures.value written (ap (λ (t : Stream). t.pause) c.in_err-made.ensures.err);
+      counted = omega (arith, ap total_of written, sums, ap amount_of c.in_err-made.ensures.err.stream, c.self.invariant.counted);
+      few = few_changed c.args.id.0 entries _ v w v c.in-Some.ensures.value written c.in_err-made.ensures.err.stream (keeps_same v.messages) c.self.invariant.few;
+      ready = c.self.invariant.ready ∙ ready_kept c.args.id.0 entries _ v w c.in-Some.ensures.value written (ap (λ (t : Stream). t.pause) c.in_err-made.ensures.err.stream);
     }
 
 pub returns-in_err-made-clause-err : goal.returns-in_err-made-clause-err
 returns-in_err-made-clause-err c =
     let view : Entries → Streams = λ es. record { entries = es; total_threshold = c.self.inside.total.low_threshold; default_threshold = c.self.inside.default_threshold; default_priority = c.self.inside.default_priority } in
     let entries = c.self.inside.streams.entries in
-    let same = (c.get_mut.follows.holds c.send_from.new.stream).0 ∙ ap (λ w. set_value (is_at (nat_cmp c.args.id.0)) entries w) c.in_err-made.ensures.err ∙ written_same (is_at (nat_cmp c.args.id.0)) c.in-Some.stream.now entries c.in-Some.ensures.value in
+    let same = (c.get_mut.follows.holds c.send_from.new.stream).0 ∙ ap (λ w. set_value (is_at (nat_cmp c.args.id.0)) entries w) c.in_err-made.ensures.err.stream ∙ written_same (is_at (nat_cmp c.args.id.0)) c.in-Some.stream.now entries c.in-Some.ensures.value in
     let all = ap view same ∙ c.self.view_is in
     search (rules, all)
 
@@ -69,8 +69,8 @@ invariant_of-self-2 c =
     let sums = total_written c.args.id.0 entries v w c.in-Some.ensures.value in
     let most = amount_at_most c.args.id.0 entries v c.in-Some.ensures.value in
     record {
-      counted = omega (arith, ap total_of written, sums, most, c.amount-before.ensures, c.amount.ensures, c.in_ok-made.ensures.less, c.self.invariant.counted, ap (λ w. w.amount) c.decrease.ensures.after);
-      few = few_changed c.args.id.0 entries _ v w (advance c.args.size v) c.in-Some.ensures.value written c.in_ok-made.ensures.stream (keeps_moved c.args.size (front_numbers v.messages v) v.messages) c.self.invariant.few;
+      counted = omega (arith, ap total_of written, sums, most, c.amount-before.ensures, c.amount.ensures, c.in_ok-made.ensures.sent.less, c.self.invariant.counted, ap (λ w. w.amount) c.decrease.ensures.after);
+      few = few_changed c.args.id.0 entries _ v w (advance c.args.size v) c.in-Some.ensures.value written c.in_ok-made.ensures.sent.stream (keeps_moved c.args.size (front_numbers v.messages v) v.messages) c.self.invariant.few;
       ready = ready_changed c.args.id.0 c.self.inside.ready_count _ _ _ entries _ v w c.in-Some.ensures.value written c.is_ready-was_ready.ensures c.is_ready.ensures c.self.invariant.ready c.ready_count_after-self-inside.ensures;
     }
 
@@ -84,7 +84,7 @@ pub returns-clause-line : goal.returns-clause-line
 returns-clause-line c =
     let ss = c.args.self.now in
     let at = c.in-Some.ensures.value ∙ ap (λ x. lookup (is_at (nat_cmp c.args.id.0)) x.entries) c.self.view_is in
-    c.in_ok-made.ensures.line ∙ sent_line c.args.id.0 c.args.size c.in-Some.stream.now ss c.args.scheduler.now at
+    c.in_ok-made.ensures.sent.scheduler ∙ sent_line c.args.id.0 c.args.size c.in-Some.stream.now ss c.args.scheduler.now at
 
 pub returns-clause-emitted : goal.returns-clause-emitted
 returns-clause-emitted c =
@@ -101,7 +101,7 @@ returns-clause-emitted c =
     ∙ crosses_same total (lower c.fragment_size.result total) (watched_total ss) (watched_total (streams_after id size ss)) amount threshold
     (total_after id size c.fragment_size.result total.amount v ss at c.fragment_size.ensures amount) threshold in
     let low : Stream → _ = λ t. crosses (watched_amount t) (watched_amount (advance size t)) in
-    c.in_ok-made.ensures.emitted
+    c.in_ok-made.ensures.sent.emitted
     ∙ ap (λ b. emitted_made id (low v) b (next_fragment id size v) c.args.events.now) is_total_low
     ∙ ap (λ (t : Stream). emitted_made id (low t) (crosses (watched_total ss) (watched_total (streams_after id size ss))) (next_fragment id size t) c.args.events.now) (sym (stream_there id v ss at))
 
@@ -109,4 +109,4 @@ pub returns-clause-made : goal.returns-clause-made
 returns-clause-made c =
     let ss = c.args.self.now in
     let at = c.in-Some.ensures.value ∙ ap (λ x. lookup (is_at (nat_cmp c.args.id.0)) x.entries) c.self.view_is in
-    c.in_ok-made.ensures.made ∙ ap (λ (t : Stream). next_fragment c.args.id.0 c.args.size t) (sym (stream_there c.args.id.0 c.in-Some.stream.now ss at))
+    c.in_ok-made.ensures.sent.made ∙ ap (λ (t : Stream). next_fragment c.args.id.0 c.args.size t) (sym (stream_there c.args.id.0 c.in-Some.stream.now ss at))
