@@ -25,6 +25,7 @@ use Rattle.proof_pair.proofs.JoinActsLemmas.{Setting}
 use Rattle.proof_pair.proofs.JoinKeepsLemmas.{Rules}
 use Rattle.proof_pair.proofs.TraceLemmas.{setting, begins, rules_call, rules_given, Halves, swapped, none_of}
 use Rattle.proof_pair.proofs.HandingLemmas.{hands}
+use Rattle.proof_pair.proofs.AskedLemmas.{is_offer}
 use Rattle.proof_delivery.specs.Windows.{Stamp, IsYoung, IsTimely, IsWithin, queue_of, numbered_count, stamp_packets}
 use Rattle.proof_delivery.specs.Answered.{IsAnswered, performed_in}
 use Rattle.proof_delivery.specs.StreamEpochs.{resets_emitted}
@@ -38,7 +39,7 @@ use Rattle.proof_delivery.proofs.DirectionLemmas.{AtStamp, each_at, IsUnderWay, 
 use Rattle.proof_delivery.proofs.PremisesLemmas.{IsNoPacket, receives_no_data, receives_data, receiver_premises, begins_in}
 use Rattle.proof_delivery.proofs.ActionLemmas.{after_action, ends_in}
 use Rattle.proof_delivery.proofs.AccountLemmas.{accounts_still, accounts_in}
-use Rattle.proof_delivery.proofs.GoingLemmas.{goes_bracketed, none_more, is_offer, Parts, Turned, holds, counted, near, mode_back, young_now}
+use Rattle.proof_delivery.proofs.GoingLemmas.{goes_bracketed, none_more, Parts, Turned, holds, counted, near, mode_back, young_now}
 
 module _ (message : ℕ → Message) (lifecycle : ℕ → Option ℕ) (is_interleaved : Bool) (of : Stamp → ℕ) (parts : Parts message lifecycle is_interleaved) (o q : Options) (own : AreValidOptions o)
     (other : AreValidOptions q) (mode : is_interleaved ≡ (agreed o q).message_interleaving) (s r : Side) (h : Halves o q s r) (quiet_s : IsSilent s) (quiet_r : IsSilent r)

@@ -36,6 +36,7 @@ use Rattle.proof_pair.proofs.JoinKeepsLemmas.{Rules}
 use Rattle.proof_pair.proofs.TraceLemmas.{setting, begins, rules_call, rules_given, Halves, none_of}
 use Rattle.proof_pair.proofs.HandingActsLemmas.{Readies, readies}
 use Rattle.proof_pair.proofs.HandingLemmas.{hands}
+use Rattle.proof_pair.proofs.AskedLemmas.{is_offer}
 use Rattle.proof_delivery.specs.Accepted.{AcceptedMessage, accepted_by, accepted_in}
 use Rattle.proof_delivery.specs.GivenUp.{emitted_of, emitted_given, emitted_foreign, emitted_by, given_up_by}
 use Rattle.proof_delivery.specs.Windows.{Stamp, IsYoung, IsTimely, IsWithin, queue_of, numbered_count, stamp_packets}
@@ -61,11 +62,6 @@ module _ (message : ℕ → Message) (is_interleaved : Bool) where
   goes_bracketed kind x y k g = subst (λ (z : Epochs). Bracketed message x.rules z) g.leads (bracketed message is_interleaved g.events x.rules k g.may)
 
 -- ---- what is offered
-
-abbrev pub is_offer : Call → Bool
-is_offer (Send m o) = true
-is_offer (SendMany ms o) = true
-is_offer call = false
 
 -- these are accepted, and fragments go out
 pub record OffersOut (message : ℕ → Message) (lifecycle : ℕ → Option ℕ) (is_interleaved : Bool) (x : Direction) (os : List AcceptedMessage) (m : Making Carried) : Type 0 where

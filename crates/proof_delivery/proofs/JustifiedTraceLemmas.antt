@@ -24,8 +24,9 @@ use Rattle.proof_pair.proofs.RowActsLemmas.{placed, does_where_open}
 use Rattle.proof_pair.proofs.ActsLemmas.{keeps_call}
 use Rattle.proof_delivery.specs.Accepted.{AcceptedMessage, accepted_by, accepted_in, accepted_at, accepted}
 use Rattle.proof_delivery.specs.Justified.{clock, Acceptance, accepted_then, acceptances, records_of, records_given, records_if, records_by, records_at, reset_unless, reset_by, reset_at, dated_record, dated_records, IsJustified, restores, RestoresNone, RecordsAreJustified, AcceptancesAreAccepted}
+use Rattle.proof_delivery.specs.GivenUp.{kept_in}
 use Rattle.proof_delivery.proofs.JustifiedQueueLemmas.{all_behind}
-use Rattle.proof_delivery.proofs.JustifiedActsLemmas.{IsJustifiedAt, SoundAt, kept_in, stays_sound}
+use Rattle.proof_delivery.proofs.JustifiedActsLemmas.{IsJustifiedAt, SoundAt, stays_sound}
 use Rattle.proof_delivery.proofs.JustifiedOffersLemmas.{justified_more, shorter, offers_sound}
 
 -- ---- calls that accept no message

@@ -20,6 +20,7 @@ use Rattle.proof_pair.proofs.CallActsLemmas.{does_offer, does_offer_all, does_se
 use Rattle.proof_pair.proofs.JoinActsLemmas.{Setting, InvAt}
 use Rattle.proof_pair.proofs.JoinKeepsLemmas.{Rules}
 use Rattle.proof_pair.proofs.JoinFrameLemmas.{joins}
+use Rattle.proof_pair.proofs.AskedLemmas.{is_offer}
 use Rattle.proof_delivery.specs.Accepted.{AcceptedMessage, accepted_of, accepted_by}
 use Rattle.proof_delivery.specs.Answered.{performed_in}
 use Rattle.proof_delivery.specs.Asks.{Ask}
@@ -33,7 +34,7 @@ use Rattle.proof_delivery.proofs.SenderToolLemmas.{goes_none, reports_none, Says
 use Rattle.proof_delivery.proofs.DirectionLemmas.{IsSilent}
 use Rattle.proof_delivery.proofs.PremisesLemmas.{AsksSoon}
 use Rattle.proof_delivery.proofs.ActionLemmas.{AreOffered, Offers, Stay}
-use Rattle.proof_delivery.proofs.GoingLemmas.{is_offer, OffersOut}
+use Rattle.proof_delivery.proofs.GoingLemmas.{OffersOut}
 use Rattle.proof_delivery.proofs.OfferingLemmas.{offers_packets, offers_resets, OfferedTo, IsOffering, offers_all}
 
 -- ---- the rest of such a call is like one that says nothing

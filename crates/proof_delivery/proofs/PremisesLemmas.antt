@@ -22,7 +22,7 @@ use Rattle.proof_endpoint.specs.Mapped.{Carried}
 use Rattle.proof_pair.specs.Acts.{calm, IsReceived}
 use Rattle.proof_pair.specs.Trace.{Side, packets_in, as_received, AreValidOptions, state_of}
 use Rattle.proof_pair.proofs.AddedLemmas.{all_at}
-use Rattle.proof_pair.proofs.TraceLemmas.{setting}
+use Rattle.proof_pair.proofs.TraceLemmas.{setting, packet_of}
 use Rattle.proof_delivery.specs.Answered.{waiting_number, IsAnswered, performed_in}
 use Rattle.proof_delivery.specs.Asks.{Ask, number_of}
 use Rattle.proof_delivery.specs.StreamEpochs.{shut_streams, reopen, performed_of, resets_emitted, failed_in}
@@ -39,10 +39,6 @@ all_were_said : (P : ChunkTree → Type 0) (cs : List ChunkTree) → All P cs �
 all_were_said P [] h = All-nil (WasSaid P)
 all_were_said P (c ∷ cs) h =
     All-cons (WasSaid P) (carried c) (map carried cs) (record { said = c; is = refl; says = All-head P c cs h }) (all_were_said P cs (All-tail P c cs h))
-
-abbrev packet_of : Call → PacketTree → PacketTree
-packet_of (Packet p) q = p
-packet_of c q = q
 
 pub received_was_said : (P : ChunkTree → Type 0) (p : Carried) (checksum : ℕ) → All P p.chunks → (tag : ℕ) (chunk : ChunkTree)
     → IsReceived (Packet (as_received p checksum)) tag chunk → WasSaid P chunk

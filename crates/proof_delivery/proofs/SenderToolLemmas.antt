@@ -332,7 +332,7 @@ module _ (message : ℕ → Message) (is_interleaved : Bool) where
 
 pub same_packets : (t u : Emitted Carried) → EmitsLightly t u → packets_in u.events ≡ packets_in t.events
 same_packets t u l =
-    ap packets_in l.behind ∙ (packets_both t.events l.events ∙ (ap (λ (ps : List Carried). packets_in t.events ++ ps) (light_packets l.events l.light) ∙ append-nil (packets_in t.events)))
+    ap packets_in l.behind ∙ (packets_both t.events l.events ∙ (ap (λ (ps : List Carried). packets_in t.events ++ ps) (light_packets l.events l.all) ∙ append-nil (packets_in t.events)))
 
 -- ---- what is reported
 
@@ -343,7 +343,7 @@ quiet_reports (e ∷ es) h = quiet_reports es (and_parts (is_quiet e) (list_all 
 
 pub same_delivered : (t u : Emitted Carried) → EmitsQuietly t u → delivered_ids u.events ≡ delivered_ids t.events
 same_delivered t u l =
-    ap delivered_ids l.behind ∙ (delivered_more t.events l.events ∙ (ap (λ (ids : List ℕ). delivered_ids t.events ++ ids) (quiet_reports l.events l.quiet) ∙ append-nil (delivered_ids t.events)))
+    ap delivered_ids l.behind ∙ (delivered_more t.events l.events ∙ (ap (λ (ids : List ℕ). delivered_ids t.events ++ ids) (quiet_reports l.events l.all) ∙ append-nil (delivered_ids t.events)))
 
 module _ (lifecycle : ℕ → Option ℕ) where
   pub reports_none : (x y : Transfer) (es fs : List (events.Event Carried)) → y.reports ≡ x.reports → delivered_ids fs ≡ delivered_ids es → Reports lifecycle x y es fs

@@ -18,9 +18,7 @@ use Rattle.proof_draws.proofs.TagLemmas.{alone_named}
 use Rattle.proof_draws.proofs.FillingLemmas.{ack_named, send_with_named}
 use Rattle.proof_draws.proofs.SackLemmas.{named_onward, send_shutdown_named, go_on_named}
 use Rattle.proof_draws.proofs.AnswerLemmas.{established_named}
-
-abbrev endpoint_state_in : {P : Type 0} → State → Context P → EndpointState P
-endpoint_state_in st c = record { state = st; context = c }
+use Rattle.proof_endpoint.proofs.RowMapsLemmas.{endpoint_state_in}
 
 -- a row for states with a control block
 abbrev pub OpenIsNamed : {P : Type 0} → Names → Packing P → (row : Phase → Tcb → Context P → EndpointState P) → Type 0

@@ -24,10 +24,7 @@ use Rattle.proof_draws.proofs.WritingLemmas.{Knows, named_add, named_emit}
 use Rattle.proof_draws.proofs.TagLemmas.{judged_named}
 use Rattle.proof_draws.proofs.AnswerLemmas.{answer_named, cookie_ack_named, anew_named, echo_named}
 use Rattle.proof_draws.proofs.ClosingLemmas.{acked_named}
-
--- an end in this state
-abbrev endpoint_state_in : {P : Type 0} → State → Context P → EndpointState P
-endpoint_state_in st c = record { state = st; context = c }
+use Rattle.proof_endpoint.proofs.RowMapsLemmas.{endpoint_state_in}
 
 -- the answer was emitted
 abbrev answered : {P : Type 0} → InitTree → (tag first tie : ℕ) → EndpointState P → EndpointState P

@@ -29,6 +29,7 @@ use Rattle.proof_draws.proofs.MovedLemmas.{moved_wire, sum_moved}
 use Rattle.proof_draws.proofs.SizeLemmas.{sizes_named}
 use Rattle.proof_draws.proofs.WritingLemmas.{Knows, same_fits, named_add, named_add_all, some_in, named_emit, emit_stays}
 use Rattle.proof_draws.proofs.FragmentLemmas.{named_pairs, named_fragments, length_pairs, fast_chunks_named, send_fast_named, send_named}
+use Rattle.proof_endpoint.proofs.SendingMapsLemmas.{filling_with, turned_with}
 
 abbrev pub named_filling : {P : Type 0} → Names → Packing P → Filling P → Filling P
 named_filling n pack x = record { packet = named_packet n x.packet; tcb = named_tcb n x.tcb; context = plain pack x.context }
@@ -38,12 +39,6 @@ named_sent n pack x = record { tcb = named_tcb n x.tcb; context = plain pack x.c
 
 abbrev named_turned : {P : Type 0} → Names → Packing P → Turned P → Turned P
 named_turned n pack x = record { filling = named_filling n pack x.filling; is_more = x.is_more }
-
-abbrev filling_with : {P : Type 0} → Packet → Tcb → Context P → Filling P
-filling_with p t c = record { packet = p; tcb = t; context = c }
-
-abbrev turned_with : {P : Type 0} → Bool → Filling P → Turned P
-turned_with is_more x = record { filling = x; is_more = is_more }
 
 -- ---- chunks
 
@@ -58,7 +53,7 @@ sack_with a_rwnd cumulative t duplicates = sack_chunk (record {
 abbrev tsn_of : ℕ → Tsn
 tsn_of w = record { 0 = w }
 
-abbrev with_requests : Tcb → Requests → Tcb
+abbrev pub with_requests : Tcb → Requests → Tcb
 with_requests t r = record t { requests = r }
 
 -- with this packet, where so many fragments were sent

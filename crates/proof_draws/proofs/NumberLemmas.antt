@@ -34,9 +34,7 @@ use Rattle.spec_endpoint.specs.Opening.{on_cookie_ack, connected_context, tcb_by
 use Rattle.spec_endpoint.specs.StreamReset.{Handling, handling, is_ahead, resets_if, outgoing_by, incoming_if, on_parameter, is_outgoing, Handled, handle_next, handle_all, send_responses, finished_if, on_reconfig}
 use Rattle.spec_endpoint.specs.Input.{violation, on_unknown_if, is_reported, on_heartbeat, on_chunk, received_if, receive, repeats, repeats_if}
 use Rattle.proof_draws.specs.Laws.{NumberFits, NumbersFit, NumbersFitIn, number_fits, is_flowing}
-
-abbrev endpoint_state_in : {P : Type 0} → State → Context P → EndpointState P
-endpoint_state_in st c = record { state = st; context = c }
+use Rattle.proof_endpoint.proofs.RowMapsLemmas.{endpoint_state_in}
 
 pub next_fits : (n : ℕ) → (n + 1) % words < words
 next_fits n = mod_below (n + 1) words (omega arith)

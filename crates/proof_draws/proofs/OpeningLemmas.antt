@@ -13,6 +13,7 @@ use Rattle.proof_draws.specs.NamedChunks.{Names, AreNames, move_by, named_parame
 use Rattle.proof_draws.specs.Names.{named_state, named_endpoint_state, plain, with_random}
 use Rattle.proof_draws.specs.Laws.{DrawsTwo}
 use Rattle.proof_draws.proofs.WritingLemmas.{Knows, named_add, named_emit}
+use Rattle.proof_endpoint.proofs.RowMapsLemmas.{endpoint_state_in}
 
 module _ (n : Names) where
   where_named : (b : Bool) (p : ParameterTree) → named_parameter n p ≡ p → map (named_parameter n) (where_enabled b (p ∷ [])) ≡ where_enabled b (p ∷ [])
@@ -31,9 +32,6 @@ module _ (n : Names) where
       (map-append (named_parameter n) second last
       ∙ ap (λ (ps : List ParameterTree). ps ++ last) (where_named (not (method == 0)) (zero_checksum_acceptable method) refl)))
 
-abbrev waits : {P : Type 0} → State → Context P → EndpointState P
-waits s c = record { state = s; context = c }
-
 module _ {P : Type 0} (n : Names) (are : AreNames n) (pack : Packing P) where
   pub named_send_init : (tag first : ℕ) (c : Context P) → Knows n pack c → send_init (n.tag tag) (move_by n.own first) (plain pack c) ≡ plain pack (send_init tag first c)
   named_send_init tag first c k =
@@ -46,14 +44,14 @@ module _ {P : Type 0} (n : Names) (are : AreNames n) (pack : Packing P) where
 
   named_waiting : (tag first : ℕ) (c : Context P) → Knows n pack c → waiting (n.tag tag) (move_by n.own first) (plain pack c) ≡ named_endpoint_state n pack (waiting tag first c)
   named_waiting tag first c k =
-      ap (λ (d : Context P). waits (CookieWait (n.tag tag) (move_by n.own first) (t1_init c)) d) (named_send_init tag first c k)
+      ap (λ (d : Context P). endpoint_state_in (CookieWait (n.tag tag) (move_by n.own first) (t1_init c)) d) (named_send_init tag first c k)
 
   connect_in_named : (st : State) (c : Context P) (w v : Stream) → Knows n pack c → (st ≡ Closed → DrawsTwo n w v)
-      → (connect_in (named_state n st) (with_random v (waits (named_state n st) (plain pack c)))).endpoint_state ≡ named_endpoint_state n pack (connect_in st (with_random w (waits st c))).endpoint_state
+      → (connect_in (named_state n st) (with_random v (endpoint_state_in (named_state n st) (plain pack c)))).endpoint_state ≡ named_endpoint_state n pack (connect_in st (with_random w (endpoint_state_in st c))).endpoint_state
   connect_in_named Closed c w v k draws =
       let d : DrawsTwo n w v = draws refl in
-      let e : Endpoint P = with_random w (waits Closed c) in
-      ap (λ (tag : ℕ). waiting tag (tsn_from (word (with_random v (waits Closed (plain pack c))))) (plain pack c)) d.tag
+      let e : Endpoint P = with_random w (endpoint_state_in Closed c) in
+      ap (λ (tag : ℕ). waiting tag (tsn_from (word (with_random v (endpoint_state_in Closed (plain pack c))))) (plain pack c)) d.tag
       ∙ (ap (λ (first : ℕ). waiting (n.tag (tag_from (word (drew_word e)))) first (plain pack c)) d.first
       ∙ named_waiting (tag_from (word (drew_word e))) (tsn_from (word e)) c k)
   connect_in_named (CookieWait tag first t1) c w v k draws = refl

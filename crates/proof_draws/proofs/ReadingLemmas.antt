@@ -15,6 +15,7 @@ use Rattle.spec_endpoint.specs.Data.{is_full, takes, added_unless, take_fragment
 use Rattle.proof_draws.specs.NamedChunks.{Names, move_by}
 use Rattle.proof_draws.specs.Names.{named_phase, named_tracker, named_reassembly, named_outstanding, named_tcb, named_state, named_endpoint_state, plain}
 use Rattle.proof_draws.proofs.MovedLemmas.{moved_nearest}
+use Rattle.proof_endpoint.proofs.RowMapsLemmas.{endpoint_state_in}
 
 abbrev takes_at : (number : ℕ) → Tcb → Bool
 takes_at number t = not (is_full t.reassembly) && tracker.is_valid t.tracker.tracker number
@@ -22,11 +23,8 @@ takes_at number t = not (is_full t.reassembly) && tracker.is_valid t.tracker.tra
 abbrev open_state : Names → Phase → Tcb → State
 open_state n phase t = Open (named_phase n phase) t
 
-abbrev endpoint_state_with : {P : Type 0} → State → Context P → EndpointState P
-endpoint_state_with s c = record { state = s; context = c }
-
 abbrev open_endpoint_state : {P : Type 0} → Names → Phase → Tcb → Context P → EndpointState P
-open_endpoint_state n phase t c = endpoint_state_with (open_state n phase t) c
+open_endpoint_state n phase t c = endpoint_state_in (open_state n phase t) c
 
 abbrev came_at : (number first : ℕ) → Reassembly → Reassembly
 came_at number first r = record r { first = Some first; near = max origin number }
@@ -183,4 +181,4 @@ module _ {P : Type 0} (n : Names) (pack : Packing P) where
 
   pub named_forward : (tsn : ℕ) (es : List SkippedStream) (s : EndpointState P)
       → on_forward (move_by n.peer tsn) es (named_endpoint_state n pack s) ≡ named_endpoint_state n pack (on_forward tsn es s)
-  named_forward tsn es s = ap (λ (st : State). endpoint_state_with st (plain pack s.context)) (forwarded_in_named n s.state tsn es)
+  named_forward tsn es s = ap (λ (st : State). endpoint_state_in st (plain pack s.context)) (forwarded_in_named n s.state tsn es)

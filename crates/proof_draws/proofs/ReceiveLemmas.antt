@@ -33,9 +33,7 @@ use Rattle.proof_draws.proofs.SackLemmas.{named_on_sack, go_on_stays}
 use Rattle.proof_draws.proofs.NumberLemmas.{receive_fits, repeats_if_fits}
 use Rattle.proof_draws.proofs.ResetLemmas.{reconfig_stays, reconfig_named}
 use Rattle.proof_draws.proofs.ClosingLemmas.{OpenIsNamed, where_named, on_shutdown_named, shutdown_ack_named, shutdown_complete_named, violated_named, on_abort_named, on_error_named, on_cookie_ack_named, repeats_named, ended_named}
-
-abbrev pub received_as : {P : Type 0} → Bool → Endpoint P → Received P
-received_as on e = record { end = e; goes_on = on }
+use Rattle.proof_endpoint.proofs.InputMapsLemmas.{received_as}
 
 -- ---- who writes stays
 

@@ -29,7 +29,7 @@ use Rattle.proof_draws.proofs.MovedLemmas.{sum_moved, difference_moved}
 use Rattle.proof_draws.proofs.WritingLemmas.{Knows, named_emit_chunk, emit_stays}
 use Rattle.proof_draws.proofs.ReadingLemmas.{received_number, queue_number, first_named}
 use Rattle.proof_draws.proofs.TagLemmas.{alone_named}
-use Rattle.proof_draws.proofs.FillingLemmas.{send_with_stays, send_buffered_named}
+use Rattle.proof_draws.proofs.FillingLemmas.{send_with_stays, send_buffered_named, with_requests}
 use Rattle.proof_draws.proofs.NumberLemmas.{parameter_fits}
 
 -- ---- numbers that are moved are told apart as before
@@ -134,9 +134,6 @@ with_reassembly t r = record t { reassembly = r }
 
 abbrev said : {P : Type 0} → List StreamId → Context P → Context P
 said streams c = say (OnIncomingStreamReset (numbers_of streams)) c
-
-abbrev with_requests : Tcb → Requests → Tcb
-with_requests t r = record t { requests = r }
 
 module _ {P : Type 0} where
   outcome_stays : (o : Outcome) (c : Context P) → (on_outcome o c).pack ≡ c.pack

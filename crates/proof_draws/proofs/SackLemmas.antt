@@ -20,13 +20,10 @@ use Rattle.proof_draws.proofs.WritingLemmas.{Knows, named_emit_chunk, emit_stays
 use Rattle.proof_draws.proofs.ReadingLemmas.{acked_number}
 use Rattle.proof_draws.proofs.TagLemmas.{alone_named}
 use Rattle.proof_draws.proofs.FillingLemmas.{named_sent, send_lost_named, send_buffered_named, send_lost_stays}
+use Rattle.proof_endpoint.proofs.RowMapsLemmas.{received_with}
 
 abbrev pub named_onward : {P : Type 0} → Names → Packing P → Onward P → Onward P
 named_onward n pack o = record { phase = named_phase n o.phase; context = plain pack o.context }
-
--- an answer to a SACK, in a context that emitted it
-abbrev received_with : {P : Type 0} → SackAnswer → Phase → Tcb → Context P → Sender → Emitted P → EndpointState P
-received_with a phase t c s u = after_sack a phase (record t { sender = s }) (record c { emitted = u })
 
 module _ {P : Type 0} where
   pending_stays : (b : Bool) (t : Tcb) (c : Context P) → (pending b t c).context.pack ≡ c.pack

@@ -10,6 +10,8 @@ use Rattle.spec_endpoint.specs.Association.{Tcb, Phase, CookieEchoed, Establishe
 use Rattle.spec_endpoint.specs.Opening.{resolve_cookie}
 use Rattle.spec_endpoint.specs.Input.{refusal, violation, on_chunk, goes_on, Received, received_if, receive, receive_rest, receive_all, has_data, repeats_if, end_packet, handle_chunks, count_packet, counts, taken_if, on_packet}
 use Rattle.proof_endpoint.proofs.OpeningStepsLemmas.{steps_init, steps_init_ack, steps_cookie_echo}
+use Rattle.proof_endpoint.proofs.RowMapsLemmas.{endpoint_state_in}
+use Rattle.proof_endpoint.proofs.InputMapsLemmas.{received_as}
 use Rattle.proof_draws.specs.NamedChunks.{Names, AreNames, flip, named_chunk, named_chunks}
 use Rattle.proof_draws.specs.Names.{named_state, named_endpoint_state, with_random}
 use Rattle.proof_draws.specs.Laws.{TiesTell, NumbersFitIn, is_flowing}
@@ -18,13 +20,10 @@ use Rattle.proof_draws.proofs.WritingLemmas.{Knows}
 use Rattle.proof_draws.proofs.TagLemmas.{data_named, refused_named}
 use Rattle.proof_draws.proofs.ClosingLemmas.{where_named, ended_named}
 use Rattle.proof_draws.proofs.NumberLemmas.{repeats_if_fits, cookie_echo_fits}
-use Rattle.proof_draws.proofs.ReceiveLemmas.{received_as, all_stay, repeats_if_stays, violation_named, all_named, repeats_if_named}
+use Rattle.proof_draws.proofs.ReceiveLemmas.{all_stay, repeats_if_stays, violation_named, all_named, repeats_if_named}
 use Rattle.proof_draws.proofs.ComingLemmas.{init_named, init_ack_named, cookie_echo_named}
 
 -- ---- chunks that open nothing draw nothing
-
-abbrev endpoint_state_in : {P : Type 0} → State → Context P → EndpointState P
-endpoint_state_in st c = record { state = st; context = c }
 
 -- with other words
 abbrev worded : {P : Type 0} → Stream → Endpoint P → Endpoint P

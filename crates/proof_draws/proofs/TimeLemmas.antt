@@ -16,25 +16,20 @@ use Rattle.proof_draws.specs.NamedChunks.{Names, AreNames, move_by}
 use Rattle.proof_draws.specs.Names.{named_request, named_requests, named_phase, named_tcb, named_state, named_endpoint_state, plain}
 use Rattle.proof_draws.proofs.WritingLemmas.{Knows, named_emit, named_emit_chunk, emit_stays}
 use Rattle.proof_draws.proofs.OpeningLemmas.{named_send_init}
-use Rattle.proof_draws.proofs.FillingLemmas.{add_request_named, send_buffered_named, send_with_stays}
+use Rattle.proof_draws.proofs.FillingLemmas.{add_request_named, send_buffered_named, send_with_stays, with_requests}
 use Rattle.proof_draws.proofs.SackLemmas.{send_shutdown_named}
 use Rattle.proof_draws.proofs.AnswerLemmas.{send_cookie_named}
 use Rattle.proof_draws.proofs.ClosingLemmas.{acked_named, too_many_named}
+use Rattle.proof_endpoint.proofs.TimeMapsLemmas.{ticking_as}
 
 abbrev named_ticking : {P : Type 0} → Names → Packing P → Ticking P → Ticking P
 named_ticking n pack x = record { tcb = named_tcb n x.tcb; context = plain pack x.context; has_expired = x.has_expired }
-
-abbrev ticking_as : {P : Type 0} → Tcb → Context P → Bool → Ticking P
-ticking_as t c has_expired = record { tcb = t; context = c; has_expired = has_expired }
 
 abbrev named_left : {P : Type 0} → Names → Packing P → Left P → Left P
 named_left n pack x = record { tcb = named_tcb n x.tcb; context = plain pack x.context; has_ended = x.has_ended }
 
 abbrev plain_waited : {P : Type 0} → Packing P → Waited P → Waited P
 plain_waited pack x = record { context = plain pack x.context; has_ended = x.has_ended }
-
-abbrev with_requests : Tcb → Requests → Tcb
-with_requests t r = record t { requests = r }
 
 -- ---- who writes stays
 

@@ -23,7 +23,7 @@ use Rattle.proof_draws.specs.NamedCalls.{EachCallIsNamed}
 use Rattle.proof_draws_pair.specs.Pairing.{names, pairs_of, Knows}
 use Rattle.proof_draws_pair.specs.Alike.{AreAlike, records_given, records_by, SameAction}
 use Rattle.proof_draws_pair.proofs.NamesLemmas.{names_in, are_names}
-use Rattle.proof_draws_pair.proofs.ImageLemmas.{alike_after, given_up_after}
+use Rattle.proof_draws_pair.proofs.ImageLemmas.{alike_after, given_up_after, asked_as}
 use Rattle.proof_draws_pair.proofs.TwinLemmas.{Stand, Twin, IsNamedBy, Found, twin_found, twin_none, packets_twin, are_alike}
 use Rattle.proof_draws_pair.proofs.ChunkLemmas.{all_flow_carried}
 use Rattle.proof_draws_pair.proofs.StepLemmas.{two_of, EmitsOwn, Named, Outcome, mirrors, twin_after}
@@ -62,9 +62,6 @@ kind_received cs (an_echo cookie rest begins flows) =
 kind_received cs (a_flow flows) = a_flow (all_flow_carried cs ∙ flows)
 
 -- ---- an action, as it goes
-
-abbrev asked_as : Bool → Side → Side
-asked_as b x = record x { got_init = b }
 
 -- one call on both ends, or nothing
 pub record Turning (ps : List (Drawn × Drawn)) (x z : Side) (u : State) (a b : Side) (gone too : List GivenUp) : Type 0 where

@@ -11,11 +11,11 @@ use Rattle.sctp_state.specs.Options.{Options}
 use Rattle.sctp_capabilities.specs.Capabilities.{announce}
 use Rattle.spec_endpoint.specs.Opening.{init_of}
 use Rattle.proof_pair.specs.Agreement.{Draw}
+use Rattle.proof_pair.proofs.AgreeLemmas.{is_load}
 use Rattle.proof_draws.specs.NamedChunks.{Names, flip, move_by, named_parameter, named_init, named_chunk, named_chunks}
 use Rattle.proof_draws.specs.Laws.{is_flowing}
 use Rattle.proof_draws.proofs.OpeningLemmas.{announced_named}
 use Rattle.proof_draws_pair.specs.Pairing.{names}
-use Rattle.proof_draws_pair.proofs.TwinLemmas.{has_numbers}
 use Rattle.proof_draws_pair.proofs.BlankLemmas.{blank, blanks}
 
 -- ---- as it is received
@@ -75,7 +75,7 @@ abbrev pub is_bare : ChunkTree → Bool
 is_bare (init_chunk i) = false
 is_bare (init_ack_chunk i) = false
 is_bare (cookie_echo_chunk c) = false
-is_bare c = not (has_numbers c)
+is_bare c = not (is_load c)
 
 -- but for the TSN of a SHUTDOWN
 bare_named : (m n : Names) (c : ChunkTree) → is_bare c ≡ true → blank (carried (named_chunk m c)) ≡ blank (named_chunk n (carried c))

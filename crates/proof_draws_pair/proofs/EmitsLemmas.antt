@@ -3,13 +3,12 @@ use Rattle.std.proofs.Common.{◌≡◌, ℕ, not, Bool, true, false, Option, So
 use Rattle.std.specs.List.{list_all}
 use Rattle.std.proofs.lemmas.Bool.{both_ways}
 use Rattle.std.proofs.lemmas.List.Elements.{All-nil, All-cons, All-head, All-weaker}
-use Rattle.rand_core.specs.Stream.{Stream}
 use Rattle.sctp_packet.specs.Chunk.{ChunkTree, InitTree, init_chunk, init_ack_chunk, cookie_echo_chunk, cookie_ack_chunk}
 use Rattle.sctp_packet.specs.Packet.{PacketTree, HeaderTree}
 use Rattle.sctp_capabilities.specs.Capabilities.{zero_checksum_enabled}
 use Rattle.sctp_state.specs.Events.{SendPacket, OnError}
 use Rattle.sctp_state.specs.declared.api.ErrorKind.TheVariants.{ParseFailed}
-use Rattle.spec_endpoint.specs.Association.{CookieEchoed, Established, ShutdownPending, ShutdownSent, ShutdownReceived, ShutdownAckSent, State, Closed, CookieWait, Open, Context, Endpoint, Packing}
+use Rattle.spec_endpoint.specs.Association.{State, Closed, CookieWait, Open, Context, Endpoint, Packing}
 use Rattle.spec_endpoint.specs.Packets.{fits, added_if, emit_if, has_chunks, packet_to, header_to}
 use Rattle.spec_endpoint.specs.Opening.{tag_from, tsn_from, word, drew_word, init_ack_of, agreed_by}
 use Rattle.spec_endpoint.specs.Input.{refusal, counts, taken_if, handle_chunks}
@@ -20,7 +19,7 @@ use Rattle.proof_draws.specs.Laws.{is_flowing}
 use Rattle.proof_draws_pair.proofs.StepLemmas.{first_is_init, receives_init, IsOwnIn, EachChunk, EmitsOwn}
 use Rattle.proof_draws_pair.proofs.ReceivedLemmas.{all_received}
 use Rattle.proof_draws_pair.proofs.FlowLemmas.{all_true}
-use Rattle.proof_draws_pair.proofs.InitLemmas.{at_state, ended_stays}
+use Rattle.proof_draws_pair.proofs.InitLemmas.{at_state, init_leaves}
 use Rattle.proof_draws_pair.specs.Kinds.{IsKind, an_init, an_answer, an_echo, a_flow}
 use Rattle.proof_draws_pair.proofs.OwnLemmas.{Receives, May, each_both, each_weaker, emits_may}
 use Rattle.proof_draws_pair.proofs.ActionLemmas.{ReceivesKind, EndsEmitEventOwn}
@@ -95,18 +94,6 @@ module _ (c : Call) (e : Endpoint Carried) (packing : e.endpoint_state.context.p
       each_weaker (May c s) (IsOwnIn c e s) (own_of c e s f) (called c e).endpoint_state.context.emitted.events (emits_may c h e packing quiet none)
 
 -- ---- an INIT alone
-
--- an end that isn't closed isn't closed by it
-init_leaves : (tag : ℕ) (i : InitTree) (s : State) (c : Context Carried) (w : Stream) → is_closed s ≡ false
-    → is_closed (handle_chunks tag (init_chunk i ∷ []) (at_state s c w)).endpoint_state.state ≡ false
-init_leaves tag i Closed c w h = cc
-init_leaves tag i (CookieWait own first t1) c w h = refl
-init_leaves tag i (Open (CookieEchoed t1 cookie) t) c w h = ended_stays _ _ _ _
-init_leaves tag i (Open Established t) c w h = ended_stays _ _ _ _
-init_leaves tag i (Open ShutdownPending t) c w h = ended_stays _ _ _ _
-init_leaves tag i (Open (ShutdownSent t2) t) c w h = ended_stays _ _ _ _
-init_leaves tag i (Open ShutdownReceived t) c w h = ended_stays _ _ _ _
-init_leaves tag i (Open (ShutdownAckSent t2) t) c w h = ended_stays _ _ _ _
 
 -- the answer, where it fits
 answer_emits : (P : ChunkTree → Type 0) (b is_summed : Bool) (tag limit : ℕ) (chunk : ChunkTree) (c : Context Carried) → c.pack ≡ as_carried → c.emitted.events ≡ []

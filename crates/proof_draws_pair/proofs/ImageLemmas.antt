@@ -66,10 +66,10 @@ pub data Mirrors (x y : Side) (e f : Endpoint Carried) : Type 0 where
   refused : (text other : List ℕ) → e ≡ complains text (counts x.end) → f ≡ complains other (counts y.end) → Mirrors x y e f
 
 -- without what was emitted
-abbrev taken : Context Carried → Context Carried
+abbrev pub taken : Context Carried → Context Carried
 taken c = record c { emitted = record { events = []; given_up = [] } }
 
-abbrev asked_as : Bool → Side → Side
+abbrev pub asked_as : Bool → Side → Side
 asked_as b x = record x { got_init = b }
 
 -- an error whose text holds other tags

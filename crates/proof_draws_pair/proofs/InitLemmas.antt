@@ -39,7 +39,7 @@ abbrev pub at_state : State → Context Carried → Stream → Endpoint Carried
 at_state s c w = record { endpoint_state = record { state = s; context = c }; random = w }
 
 module _ (tag : ℕ) (i : InitTree) where
-  init_leaves : (s : State) (c : Context Carried) (w : Stream) → is_closed s ≡ false
+  pub init_leaves : (s : State) (c : Context Carried) (w : Stream) → is_closed s ≡ false
       → is_closed (handle_chunks tag (init_chunk i ∷ []) (at_state s c w)).endpoint_state.state ≡ false
   init_leaves Closed c w h = cc
   init_leaves (CookieWait own first t1) c w h = refl

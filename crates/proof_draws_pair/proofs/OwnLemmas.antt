@@ -24,7 +24,7 @@ use Rattle.proof_pair.specs.Trace.{as_carried}
 use Rattle.proof_pair.proofs.AddedLemmas.{holds_added, holds_all_added}
 use Rattle.proof_pair.proofs.EmittedLemmas.{is_light, EmitsLightly}
 use Rattle.proof_pair.proofs.UntilLemmas.{light_sack, light_sending, light_time, light_call, light_reset, no_end, until_end}
-use Rattle.proof_draws_pair.proofs.TwinLemmas.{has_numbers}
+use Rattle.proof_pair.proofs.AgreeLemmas.{is_load}
 use Rattle.proof_draws_pair.proofs.StepLemmas.{receives_init, is_past, EachChunk}
 use Rattle.sctp_capabilities.specs.Capabilities.{announce}
 use Rattle.spec_endpoint.specs.Opening.{init_of}
@@ -41,7 +41,7 @@ pub record Receives (call : Call) : Type 0 where
 abbrev pub May : Call → State → ChunkTree → Type 0
 May call s (init_ack_chunk i) = receives_init call ≡ true
 May call s (cookie_echo_chunk cookie) = receives_init call ≡ true → is_past s ≡ false
-May call s c = has_numbers c ≡ true → is_opened s ≡ true
+May call s c = is_load c ≡ true → is_opened s ≡ true
 
 pub each_both : (P : ChunkTree → Type 0) (es fs : List (Event Carried)) → EachChunk P es → EachChunk P fs → EachChunk P (es ++ fs)
 each_both P [] fs h k = k
@@ -114,7 +114,7 @@ module _ (P : ChunkTree → Type 0) (pack : Packing Carried) (es : List (Event C
 
   emitted_lightly : (t u : events.Emitted Carried) → t.events ≡ es → EmitsLightly t u → Emitted P pack u.events chunks
   emitted_lightly t u here l =
-      emitted_more P (λ c k. k) l.events u.events (l.behind ∙ ap (λ (z : List (Event Carried)). z ++ l.events) here) (each_light P l.events l.light)
+      emitted_more P (λ c k. k) l.events u.events (l.behind ∙ ap (λ (z : List (Event Carried)). z ++ l.events) here) (each_light P l.events l.all)
 
   emitted_one : (e : Event Carried) → EachChunk P (e ∷ []) → Emitted P pack (es ++ e ∷ []) chunks
   emitted_one e k = emitted_more P (λ c z. z) (e ∷ []) (es ++ e ∷ []) refl k

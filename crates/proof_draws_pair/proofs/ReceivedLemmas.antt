@@ -12,6 +12,7 @@ use Rattle.proof_pair.specs.Acts.{IsReceived}
 use Rattle.proof_pair.specs.Trace.{Side, as_carried, as_received, state_of}
 use Rattle.proof_pair.specs.Agreement.{Draw}
 use Rattle.proof_pair.proofs.AddedLemmas.{all_at}
+use Rattle.proof_pair.proofs.TraceLemmas.{packet_of}
 use Rattle.proof_draws.specs.NamedChunks.{Names, flip, named_chunks}
 use Rattle.proof_draws.specs.Names.{named_state}
 use Rattle.proof_draws.specs.Laws.{NumbersFitIn}
@@ -25,10 +26,6 @@ use Rattle.proof_draws_pair.proofs.ImageLemmas.{mirrored}
 use Rattle.proof_draws_pair.proofs.ChunkLemmas.{all_carried_named}
 use Rattle.proof_draws_pair.proofs.BlankLemmas.{on_chunks}
 use Rattle.proof_draws_pair.proofs.StepLemmas.{Refused}
-
-abbrev packet_of : Call → PacketTree → PacketTree
-packet_of (Packet p) q = p
-packet_of c q = q
 
 -- a fact of each chunk that is received
 pub all_received : (Q : ChunkTree → Type 0) (p : PacketTree) → All Q p.chunks → (tag : ℕ) (c : ChunkTree) → IsReceived (Packet p) tag c → Q c

@@ -19,12 +19,13 @@ use Rattle.proof_pair.specs.Trace.{Side, packets_in, drain, state_of}
 use Rattle.proof_pair.specs.Agreement.{Draw as Drawn}
 use Rattle.proof_pair.proofs.JoinLemmas.{Draw, Both, view_of, IsInitAck, Says}
 use Rattle.proof_pair.proofs.TraceLemmas.{SaysAll}
+use Rattle.proof_pair.proofs.AgreeLemmas.{is_load}
 use Rattle.proof_draws.specs.Names.{named_state}
 use Rattle.proof_draws.specs.Images.{as_carried, image}
 use Rattle.proof_draws_pair.specs.Pairing.{names, Knows}
 use Rattle.proof_draws_pair.proofs.NamesLemmas.{same_tie, names_in, TagsAre, state_by, are_names}
-use Rattle.proof_draws_pair.proofs.ImageLemmas.{Mirrors, named, refused, emitted_under}
-use Rattle.proof_draws_pair.proofs.TwinLemmas.{Holds, HoldsOne, has_numbers, IsTaken, IsEchoing, Numbers, Marked, Stand, Twins, Twin, twins_on, twins_both, AreMarked, twins_under}
+use Rattle.proof_draws_pair.proofs.ImageLemmas.{Mirrors, named, refused, emitted_under, asked_as, taken}
+use Rattle.proof_draws_pair.proofs.TwinLemmas.{Holds, HoldsOne, IsTaken, IsEchoing, Numbers, Marked, Stand, Twins, Twin, twins_on, twins_both, AreMarked, twins_under}
 
 -- ---- what a call emits, by what it receives and leaves
 
@@ -56,7 +57,7 @@ is_past (Open phase t) = not (is_alone phase)
 abbrev pub IsOwnIn : Call → (before : Endpoint Carried) → (after : State) → ChunkTree → Type 0
 IsOwnIn c e s (init_ack_chunk i) = is_closed s ≡ true → (receives_init c ≡ true) × (i.initiate_tag ≡ drawn_tag e)
 IsOwnIn c e s (cookie_echo_chunk cookie) = receives_init c ≡ true → is_past s ≡ false
-IsOwnIn c e s chunk = has_numbers chunk ≡ true → is_opened s ≡ true
+IsOwnIn c e s chunk = is_load chunk ≡ true → is_opened s ≡ true
 
 -- each chunk of each packet
 abbrev pub EachChunk : (ChunkTree → Type 0) → List (Event Carried) → Type 0
@@ -212,7 +213,7 @@ module _ (ps : List (Drawn × Drawn)) (k : Knows ps) where
     marked tag (init_chunk i) h own = ap (λ (j : InitTree). j.initiate_tag) h.is ∙ own_tag s mine peer h.draw h.own tags
     marked tag (init_ack_chunk i) h own = ack_marked tag i h own
     marked tag (cookie_echo_chunk cookie) h own = echo_by (holds_open s mine peer (both_open s h.both h.holds) tags) own ties
-    marked tag chunk h own = numbers_by (has_numbers chunk) own
+    marked tag chunk h own = numbers_by (is_load chunk) own
 
     all_marked : (es : List (Event Carried)) → EachPacket (λ p. All (Says o q (view_of s) (view_of u) asked p.header.verification_tag) p.chunks) es
         → EachChunk (IsOwnIn c e s) es → AreMarked ps s u mine peer cookie_tie es
@@ -225,12 +226,6 @@ module _ (ps : List (Drawn × Drawn)) (k : Knows ps) where
     all_marked (x ∷ es) h own = all_marked es h own
 
   -- ---- both go on
-
-  abbrev taken : Context Carried → Context Carried
-  taken c = record c { emitted = record { events = []; given_up = [] } }
-
-  abbrev asked_as : Bool → Side → Side
-  asked_as b x = record x { got_init = b }
 
   module _ (o q : Options) (x y z : Side) (c : Call) (f : Endpoint Carried) (asked both_asked : Bool) (same : both_asked ≡ asked) (t : Twin ps x y z)
       (stand : Stand (state_of x) (called c x.end).endpoint_state.state) (packing : (called c x.end).endpoint_state.context.pack ≡ as_carried)

@@ -3,13 +3,14 @@
 use Rattle.std.proofs.Common.{◌≡◌, ℕ, zero, suc, Bool, true, false, Some, None, List, [], ◌∷◌, ◌++◌, slice_get, All, ◌⊎◌, inl, inr, refl, sym, subst}
 use Rattle.std.specs.Prelude.{⊤}
 use Rattle.std.proofs.lemmas.List.Elements.{All-weaker}
-use Rattle.sctp_packet.specs.Chunk.{ChunkTree, InitTree, data_chunk, idata_chunk, init_chunk, init_ack_chunk, sack_chunk, cookie_echo_chunk, re_config_chunk, forward_tsn_chunk, i_forward_tsn_chunk}
+use Rattle.sctp_packet.specs.Chunk.{ChunkTree, InitTree, init_chunk, init_ack_chunk, cookie_echo_chunk}
 use Rattle.sctp_state.specs.Events.{Event, SendPacket, OnError, OnAborted}
 use Rattle.spec_endpoint.specs.Association.{State}
 use Rattle.spec_endpoint.specs.Shown.{Association, association_in}
 use Rattle.proof_endpoint.specs.Mapped.{Carried}
 use Rattle.proof_pair.specs.Trace.{Side, packets_in, state_of}
 use Rattle.proof_pair.specs.Agreement.{Draw}
+use Rattle.proof_pair.proofs.AgreeLemmas.{is_load}
 use Rattle.proof_draws.specs.Names.{named_state}
 use Rattle.proof_draws.specs.Images.{named_carried}
 use Rattle.proof_draws_pair.specs.Pairing.{names, Knows}
@@ -30,15 +31,6 @@ pub record HoldsOne (s : State) : Type 0 where
   pub association : Association
   pub held : association_in s ≡ Some association
 
-abbrev pub has_numbers : ChunkTree → Bool
-has_numbers (data_chunk tsn immediate f) = true
-has_numbers (idata_chunk tsn immediate f) = true
-has_numbers (sack_chunk k) = true
-has_numbers (re_config_chunk parameters) = true
-has_numbers (forward_tsn_chunk tsn skipped) = true
-has_numbers (i_forward_tsn_chunk tsn skipped) = true
-has_numbers chunk = false
-
 -- an INIT ACK that may be taken yet
 pub record IsTaken (i : InitTree) (mine : ℕ) (cookie_tie : ℕ → ℕ) : Type 0 where
   pub own : i.initiate_tag ≡ mine
@@ -57,7 +49,7 @@ abbrev pub Marked : (s u : State) (mine peer : ℕ) (cookie_tie : ℕ → ℕ) �
 Marked s u mine peer cookie_tie (init_chunk i) = i.initiate_tag ≡ mine
 Marked s u mine peer cookie_tie (init_ack_chunk i) = HoldsOne u ⊎ IsTaken i mine cookie_tie
 Marked s u mine peer cookie_tie (cookie_echo_chunk c) = IsEchoing s mine peer cookie_tie
-Marked s u mine peer cookie_tie c = Numbers (has_numbers c) s mine peer
+Marked s u mine peer cookie_tie c = Numbers (is_load c) s mine peer
 
 -- what is held stays held
 abbrev pub Stand : (before after : State) → Type 0
@@ -82,7 +74,7 @@ module _ (s t u v : State) (f : Stand s t) (g : Stand u v) (mine peer : ℕ) (co
   marked_on (init_chunk i) h = h
   marked_on (init_ack_chunk i) h = taken_on i h
   marked_on (cookie_echo_chunk c) h = record { holds = holds_on s t mine peer f h.holds; tie = h.tie }
-  marked_on c h = numbers_on (has_numbers c) s t mine peer f h
+  marked_on c h = numbers_on (is_load c) s t mine peer f h
 
 -- ---- packets
 

@@ -85,7 +85,7 @@ module _ (method : ℕ) where
       (sym (ap packets_in behind ∙ (packets_both es more ∙ (ap (λ (ps : List Carried). packets_in es ++ ps) none ∙ append-nil (packets_in es))))) h
 
   pub said_lightly : (t u : Emitted Carried) → EmitsLightly t u → AreSaid t.events → AreSaid u.events
-  said_lightly t u l h = said_none t.events l.events u.events l.behind (light_packets l.events l.light) h
+  said_lightly t u l h = said_none t.events l.events u.events l.behind (light_packets l.events l.all) h
 
   said_emitted : (es : List (Event Carried)) (pack : Packing Carried) (o : Options) (p : Packet) → pack ≡ as_carried → IsKind p.chunks → Passes method p.is_summed
       → AreSaid es → AreSaid (es ++ SendPacket (pack.write (header_to o p.tag) p.is_summed p.chunks) ∷ [])

@@ -22,7 +22,7 @@ use Rattle.proof_pair.specs.Trace.{Side, Pair, new_side, packets_in, emitted_pac
 use Rattle.proof_pair.proofs.UntilLemmas.{until_end}
 use Rattle.proof_pair.proofs.AddedLemmas.{all_get}
 use Rattle.proof_pair.proofs.JoinActsLemmas.{packets_both, Setting}
-use Rattle.proof_pair.proofs.TraceLemmas.{setting, begins, rules_call, rules_given, Halves, swapped, none_of, before_run, goes_consistent}
+use Rattle.proof_pair.proofs.TraceLemmas.{setting, begins, rules_call, rules_given, Halves, swapped, none_of, before_run, goes_consistent, packet_of}
 use Rattle.proof_pair.proofs.HandingLemmas.{first_halves}
 use Rattle.sctp_tx_queue.proofs.RestLemmas.{calls_leave_rests}
 use Rattle.proof_draws_pair.specs.Alike.{PassesAt, PacketsPass}
@@ -38,10 +38,6 @@ pub record SideIsWhole (method : ℕ) (x : Side) : Type 0 where
   pub state : StateIsWhole (state_of x)
   pub queue : HasRests x.end.endpoint_state.context.queue
   pub said : All (IsSaid method) (packets_in x.emitted)
-
-abbrev packet_of : Call → PacketTree → PacketTree
-packet_of (Packet p) q = p
-packet_of c q = q
 
 module _ (o q : Options) (x y : Side) (own : AreValidOptions o) (other : AreValidOptions q) (h : Halves o q x y) (a : SideIsWhole q.zero_checksum_method x) where
   -- an action begins

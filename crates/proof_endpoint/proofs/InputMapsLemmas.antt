@@ -25,7 +25,7 @@ use Rattle.proof_endpoint.proofs.OpeningMapsLemmas.{maps_stands, maps_init, maps
 abbrev map_received : {P Q : Type 0} → Mapping P Q → Received P → Received Q
 map_received f h = record { end = map_end f h.end; goes_on = h.goes_on }
 
-abbrev received_as : {P : Type 0} → Bool → Endpoint P → Received P
+abbrev pub received_as : {P : Type 0} → Bool → Endpoint P → Received P
 received_as on s = record { end = s; goes_on = on }
 
 module _ {P Q : Type 0} (f : Mapping P Q) where

@@ -16,10 +16,7 @@ use Rattle.proof_endpoint.specs.Lifecycles.{kept_in}
 use Rattle.proof_endpoint.proofs.QueueSpendsLemmas.{in_queue, waiting_reset}
 use Rattle.proof_endpoint.proofs.LivesLemmas.{Goes, Lives, EndLives, keeps, Sends, lives_less, lives_same, lives_then, lives_said, lives_complained, lives_emit, lives_send_with, lives_send_buffered, lives_send_cookie}
 use Rattle.proof_endpoint.proofs.RowLivesLemmas.{LivesFrom, OpenLives, Onwards, lives_still, lives_closed, lives_send_shutdown_ack}
-
--- an end in a state
-abbrev end_in : {P : Type 0} → State → Endpoint P → Endpoint P
-end_in st s = record s { endpoint_state = record s.endpoint_state { state = st } }
+use Rattle.proof_endpoint.proofs.OpeningStepsLemmas.{end_in}
 
 module _ (l : ℕ) where
   waiting_queue_if : (b : Bool) (q : Queue) → in_queue l (queue_if b q) ≤ in_queue l q

@@ -18,7 +18,7 @@ use Rattle.proof_endpoint.proofs.SendingStepsLemmas.{goes_send_with, goes_send_b
 use Rattle.proof_endpoint.proofs.RowStepsLemmas.{StepsFrom, OpenSteps, steps_context, steps_same, steps_opened, goes_closed, goes_send_shutdown_ack}
 
 -- an end in a state
-abbrev end_in : {P : Type 0} → State → Endpoint P → Endpoint P
+abbrev pub end_in : {P : Type 0} → State → Endpoint P → Endpoint P
 end_in st s = record s { endpoint_state = record s.endpoint_state { state = st } }
 
 module _ {P : Type 0} where

@@ -33,7 +33,7 @@ abbrev pub OpenMaps : {P Q : Type 0} → Mapping P Q → (Phase → Tcb → Cont
 OpenMaps {P} {Q} f row mapped = (phase : Phase) (t : Tcb) (c : Context P) → mapped phase t (map_context f c) ≡ map_endpoint_state f (row phase t c)
 
 -- an answer to a SACK, in a context that emitted it
-abbrev received_with : {P : Type 0} → SackAnswer → Phase → Tcb → Context P → Sender → Emitted P → EndpointState P
+abbrev pub received_with : {P : Type 0} → SackAnswer → Phase → Tcb → Context P → Sender → Emitted P → EndpointState P
 received_with a phase t c s u = after_sack a phase (record t { sender = s }) (record c { emitted = u })
 
 -- a context with these heartbeats

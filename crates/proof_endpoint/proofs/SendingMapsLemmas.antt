@@ -32,10 +32,10 @@ map_sent f x = record { tcb = x.tcb; context = map_context f x.context }
 abbrev emitting : {P : Type 0} → Context P → Counts → Emitted P → Context P
 emitting c counts t = record c { emitted = t; counts = counts }
 
-abbrev filling_with : {P : Type 0} → Packet → Tcb → Context P → Filling P
+abbrev pub filling_with : {P : Type 0} → Packet → Tcb → Context P → Filling P
 filling_with p t c = record { packet = p; tcb = t; context = c }
 
-abbrev turned_with : {P : Type 0} → Bool → Filling P → Turned P
+abbrev pub turned_with : {P : Type 0} → Bool → Filling P → Turned P
 turned_with is_more x = record { filling = x; is_more = is_more }
 
 -- a forward point's test, by what has expired

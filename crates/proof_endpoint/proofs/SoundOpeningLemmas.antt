@@ -26,6 +26,7 @@ use Rattle.proof_endpoint.proofs.SoundQueueLemmas.{reset_fits}
 use Rattle.proof_endpoint.proofs.SoundGoesLemmas.{IsOwnChunk, good_empty, good_add, good_new, good_whole, HoldsSound, Stays, stays_silent, stays_same, stays_then, stays_said, stays_complained, stays_emit}
 use Rattle.proof_endpoint.proofs.SoundSendingLemmas.{Sends, sends_with, sends_buffered, sends_cookie}
 use Rattle.proof_endpoint.proofs.SoundRowsLemmas.{IsEndpointState, Stands, OpenStands, stands_same, stands_then, stands_closed, own_abort, own_error, own_shutdown_ack, stays_shutdown_ack}
+use Rattle.proof_endpoint.proofs.OpeningStepsLemmas.{end_in}
 
 -- ---- what is drawn, and what is made of it
 
@@ -87,10 +88,6 @@ names_fit i tag first tie p t f = record { my_tag = t; my_first = f; peer_tag = 
 
 cookie_identity : (k : Cookie) (tie : ℕ) → FitsCookie k → FitsIdentity (identity_of k tie)
 cookie_identity k tie h = record { my_tag = h.my_tag; my_first = h.my_first; peer_tag = h.peer_tag }
-
--- an end in a state
-abbrev end_in : {P : Type 0} → State → Endpoint P → Endpoint P
-end_in st s = record s { endpoint_state = record s.endpoint_state { state = st } }
 
 abbrev pub EndStands : {P : Type 0} → (before after : Endpoint P) → Type 0
 EndStands s t = Stands s.endpoint_state.context t.endpoint_state

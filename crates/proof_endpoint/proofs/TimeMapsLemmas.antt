@@ -23,7 +23,7 @@ use Rattle.proof_endpoint.proofs.OpeningMapsLemmas.{maps_send_init}
 abbrev map_ticking : {P Q : Type 0} → Mapping P Q → Ticking P → Ticking Q
 map_ticking f x = record { tcb = x.tcb; context = map_context f x.context; has_expired = x.has_expired }
 
-abbrev ticking_as : {P : Type 0} → Tcb → Context P → Bool → Ticking P
+abbrev pub ticking_as : {P : Type 0} → Tcb → Context P → Bool → Ticking P
 ticking_as t c has_expired = record { tcb = t; context = c; has_expired = has_expired }
 
 abbrev map_left : {P Q : Type 0} → Mapping P Q → Left P → Left Q

@@ -49,7 +49,7 @@ module _ (call : Call) (calm : IsCalm call) where
       → Rests s m.context.emitted.events t n.context.emitted.events
   lightly s t m n held l = record {
     held = held;
-    emitted = ap has_connected l.behind ∙ emitted_more m.context.emitted.events l.events (light_connected l.events l.light);
+    emitted = ap has_connected l.behind ∙ emitted_more m.context.emitted.events l.events (light_connected l.events l.all);
   }
 
   keeps_packets : (act : PacketAct Carried call) → RestsAt (before_packets act) (after_packets act)

@@ -14,12 +14,13 @@ use Rattle.spec_endpoint.specs.Packets.{Packet, new_packet, fits, add, say, emit
 use Rattle.spec_endpoint.specs.Opening.{long_word, connected_context, cookie_ack, tcb_by, establishes, CookieResolution, EstablishNew, RestartDetected, SimultaneousInit, MaintainExisting, Discard, InvalidTag, new_if, resolve_cookie, compare_tags, by_tags, keep_association, too_late, restarts_in, on_verdict}
 use Rattle.spec_endpoint.specs.Laws.{NoPacket}
 use Rattle.proof_endpoint.specs.Mapped.{Carried}
+use Rattle.proof_endpoint.proofs.OpeningStepsLemmas.{end_in}
 use Rattle.proof_pair.specs.Acts.{at, nothing, idle, calm, is_opened, all_along, as_held, adds_plain, Preserves}
 use Rattle.proof_pair.specs.Trace.{AreValidOptions}
 use Rattle.proof_pair.specs.Agreement.{Draw, Association, mirrored, Has, History, association_of, held_in, AreDistinct}
 use Rattle.proof_pair.proofs.BundledLemmas.{added_more, first_more, plain_added}
 use Rattle.proof_pair.proofs.PacketActsLemmas.{does_begin, does_out, does_complain, does_send_with}
-use Rattle.proof_pair.proofs.OpeningActsLemmas.{accepting, end_in}
+use Rattle.proof_pair.proofs.OpeningActsLemmas.{accepting}
 use Rattle.proof_pair.proofs.AgreeLemmas.{Past, View, holds, view_of, own_in, peer_in, SaysEcho, SaysAck, Holds, Tagged, Later, later_same, one_draw}
 use Rattle.proof_pair.proofs.AgreeActsLemmas.{Setting, Inv, InvAt, inv_view, inv_silent, inv_later, inv_grown, inv_bound, adds}
 use Rattle.proof_pair.proofs.AgreeNotesLemmas.{noted}

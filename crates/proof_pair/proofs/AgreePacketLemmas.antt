@@ -90,8 +90,8 @@ by_tag false is_init true tag own cs s h f e refused = record { under = Some tag
 by_tag false is_init false tag own cs s h f e refused = cc
 
 -- the own tag is asked for, or no answer comes
-abbrev Comes_by : List ChunkTree → Type 0
-Comes_by cs = (list_all is_mild cs ≡ true) ⊎ (list_all is_no_answer cs ≡ true)
+abbrev ComesBy : List ChunkTree → Type 0
+ComesBy cs = (list_all is_mild cs ≡ true) ⊎ (list_all is_no_answer cs ≡ true)
 
 silent_answers_nothing : (c : ChunkTree) → is_silent c ≡ true → is_no_answer c ≡ true
 silent_answers_nothing (init_ack_chunk i) e = cc
@@ -110,7 +110,7 @@ load_answers_nothing (init_ack_chunk i) e = cc
 load_answers_nothing cookie_ack_chunk e = cc
 load_answers_nothing c e = refl
 
-comes_by : (cs : List ChunkTree) → Shape cs → Comes_by cs
+comes_by : (cs : List ChunkTree) → Shape cs → ComesBy cs
 comes_by cs (inl h) = inr (all_pass is_silent is_no_answer silent_answers_nothing cs h)
 comes_by [] (inr h) = absurd h
 comes_by (init_ack_chunk i ∷ cs) (inr h) = inl (all_pass is_load is_mild load_is_mild cs h.1)
@@ -118,7 +118,7 @@ comes_by (cookie_ack_chunk ∷ cs) (inr h) = inl (all_pass is_load is_mild load_
 comes_by (cookie_echo_chunk c ∷ cs) (inr h) = inr (all_pass is_load is_no_answer load_answers_nothing cs h.1)
 comes_by (c ∷ cs) (inr h) = let no : is_opening c ≡ true = h.0 in cc
 
-admitted_by : (tag : ℕ) (cs : List ChunkTree) (s : State) → Comes_by cs → refusal tag cs s ≡ None → Admitted tag cs s
+admitted_by : (tag : ℕ) (cs : List ChunkTree) (s : State) → ComesBy cs → refusal tag cs s ≡ None → Admitted tag cs s
 admitted_by tag cs s (inr h) refused = record { under = None; comes = comes_silent tag cs h; fits = tt }
 admitted_by tag cs s (inl h) refused =
     by_tag (tag == 0) (is_single_init cs) (tag == my_tag s) tag (my_tag s) cs s h (λ e. e) (λ e. same_tags tag (my_tag s) e)

@@ -63,7 +63,7 @@ module _ (g : Setting) (x y : Past) (call : Call) (own : AreValidOptions g.own) 
   emits_all : (v : View) (m n : Making Carried) (tag : ℕ) (cs : List ChunkTree) → EmitsLightly m.context.emitted n.context.emitted
       → Inv g x y v m.context.options m.context.pack m.context.emitted.events tag cs → Inv g x y v m.context.options m.context.pack n.context.emitted.events tag cs
   emits_all v m n tag cs l inv =
-      inv_light g x y v m.context.options m.context.pack m.context.emitted.events tag cs inv l.events n.context.emitted.events l.behind l.light
+      inv_light g x y v m.context.options m.context.pack m.context.emitted.events tag cs inv l.events n.context.emitted.events l.behind l.all
 
   loads : (v : View) (m : Making Carried) (c : ChunkTree) → Inv g x y v m.context.options m.context.pack m.context.emitted.events m.packet.tag m.packet.chunks
       → IsLoad g x y v m.context.options m.context.pack m.context.emitted.events c

@@ -19,12 +19,12 @@ use Rattle.spec_endpoint.specs.Opening.{word, drew_word, long_word, tag_from, ts
 use Rattle.spec_endpoint.specs.Input.{receive}
 use Rattle.spec_endpoint.specs.Laws.{Call, Packet as Given, NoPacket}
 use Rattle.proof_endpoint.specs.Mapped.{Carried}
+use Rattle.proof_endpoint.proofs.OpeningStepsLemmas.{end_in}
 use Rattle.proof_pair.specs.Acts.{Making, idle, calm, nothing, echoing, IsReceived, always, Preserves}
 use Rattle.proof_pair.specs.Trace.{AreValidOptions}
 use Rattle.proof_pair.specs.Agreement.{Draw, Association, Has, History, association_of, held_in, two_drawn, one_drawn, drawn_for, AreDistinct}
 use Rattle.proof_pair.proofs.PacketActsLemmas.{does_plain, does_complain, does_send_buffered, does_send_cookie}
 use Rattle.proof_pair.proofs.RowActsLemmas.{does_closed, does_send_shutdown_ack}
-use Rattle.proof_pair.proofs.OpeningActsLemmas.{end_in}
 use Rattle.proof_pair.proofs.ActsLemmas.{does_receive}
 use Rattle.proof_pair.proofs.AddedLemmas.{all_at}
 use Rattle.proof_pair.proofs.AgreeLemmas.{Past, View, view_of, holds, draw_in, SaysInit, SaysInitAck, SaysEcho, SaysAck, Says, waits, Waits, Holds, IsUnder, Tagged, Later}
@@ -33,12 +33,9 @@ use Rattle.proof_pair.proofs.AgreeQuietLemmas.{opens_nothing, Quiet, quiet}
 use Rattle.proof_pair.proofs.AgreeNotesLemmas.{noted}
 use Rattle.proof_pair.proofs.AgreeOpeningLemmas.{Known, kept_quiet, drawn_fits, again_fits, does_answer, does_echo, does_establish}
 use Rattle.proof_pair.proofs.AgreeCookieLemmas.{past_of, bounded, Goes, has_behind, goes_held, does_judged}
+use Rattle.proof_pair.proofs.TraceLemmas.{packet_of}
 
 -- ---- a packet whose chunks don't open an association
-
-abbrev packet_of : Call → PacketTree → PacketTree
-packet_of (Given p) q = p
-packet_of c q = q
 
 pub quiet_packet : (p : PacketTree) → All (λ c. opens_nothing c ≡ true) p.chunks → Quiet (Given p)
 quiet_packet p all = record {
@@ -312,12 +309,12 @@ module _ (o : Options) (past : List (Event Carried)) (y : Past) (fine : AreValid
   receives_echo (Some tag) n e1 cookie e is known mine said inv = cc
 
   module _ (under : Option ℕ) (n : History) (e1 : List Association) (known : Known (past_of n e1)) where
-    abbrev Received_by : ChunkTree → Endpoint Carried → Type 0
-    Received_by c e =
+    abbrev ReceivedBy : ChunkTree → Endpoint Carried → Type 0
+    ReceivedBy c e =
         Goes (bounded o past under None) y n e1 (noted (drawn_for c e) (receive p.header.verification_tag c e).end.endpoint_state.state n) (receive p.header.verification_tag c e).end
 
     pub receives : (c : ChunkTree) (e : Endpoint Carried) → Comes under p.header.verification_tag c → Says y (past_of n e1) p.header.verification_tag c
-        → AreDistinct n.drawn → InvAt (bounded o past under None) (past_of n e1) y (calm e) → Received_by c e
+        → AreDistinct n.drawn → InvAt (bounded o past under None) (past_of n e1) y (calm e) → ReceivedBy c e
     receives (init_chunk i) e comes said mine inv = receives_init o past under y fine theirs p n e1 known i e.endpoint_state.state e said inv
     receives (init_ack_chunk i) e comes said mine inv = receives_init_ack o past under y fine theirs p n e1 known i said (comes.answers refl) mine e.endpoint_state.state e inv
     receives (cookie_echo_chunk c) e comes said mine inv = receives_echo under n e1 c e (comes.cookies refl) known mine said inv

@@ -63,7 +63,7 @@ not_among m (x ∷ before) behind e = cc
 same_list : (o p : SendOptions) (ms : List Message) → SendMany [] o ≡ SendMany ms p → ms ≡ []
 same_list o p ms e = ap (λ (call : Call). elim call [ SendMany xs h ↦ xs | call ↦ ms ]) (sym e)
 
-abbrev is_offer : Call → Bool
+abbrev pub is_offer : Call → Bool
 is_offer (Send m o) = true
 is_offer (SendMany ms o) = true
 is_offer call = false

@@ -40,7 +40,7 @@ module _ (g : Setting) (call : Call) (r : Rules g call) where
 
   emits_all : (v : View) (os : Options) (pack : Packing Carried) (m n : Making Carried) (tag : ℕ) (cs : List ChunkTree) → EmitsLightly m.context.emitted n.context.emitted
       → Inv g v os pack m.context.emitted.events tag cs → Inv g v os pack n.context.emitted.events tag cs
-  emits_all v os pack m n tag cs l inv = inv_light g v os pack m.context.emitted.events tag cs inv l.events n.context.emitted.events l.behind l.light
+  emits_all v os pack m n tag cs l inv = inv_light g v os pack m.context.emitted.events tag cs inv l.events n.context.emitted.events l.behind l.all
 
   -- ---- packets
 

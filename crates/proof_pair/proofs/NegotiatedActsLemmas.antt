@@ -172,7 +172,7 @@ module _ (g : Setting) (call : Call) (r : Receives g call) where
   lightly : (v w : View) (m n : Making Carried) (cs : List ChunkTree) → EmitsLightly m.context.emitted n.context.emitted → Able g.own g.other w
       → Inv g v m.context.options m.context.pack m.context.emitted.events cs → Inv g w m.context.options m.context.pack n.context.emitted.events cs
   lightly v w m n cs l able inv =
-      inv_view g v m.context.options m.context.pack m.context.emitted.events cs inv w l.events n.context.emitted.events l.behind (light_packets l.events l.light) able
+      inv_view g v m.context.options m.context.pack m.context.emitted.events cs inv w l.events n.context.emitted.events l.behind (light_packets l.events l.all) able
 
   -- the sender goes on in the same mode
   sends_on : (phase : Phase) (t : Tcb) (s : Sender) → Stays t.sender.outstanding s.outstanding → Able g.own g.other (view_of (Open phase t))

@@ -19,10 +19,7 @@ use Rattle.proof_pair.specs.Acts.{Making, at, nothing, idle, calm, drawn_first, 
 use Rattle.proof_pair.proofs.BundledLemmas.{added_more, one_bundled, first_more, plain_added}
 use Rattle.proof_pair.proofs.PacketActsLemmas.{does_out, does_begin, does_plain, does_complain, does_send_with, does_send_buffered, does_send_cookie}
 use Rattle.proof_pair.proofs.RowActsLemmas.{placed, OpenActs, does_closed, does_send_shutdown_ack}
-
--- an end in a state
-abbrev pub end_in : {P : Type 0} → State → Endpoint P → Endpoint P
-end_in st s = record s { endpoint_state = record s.endpoint_state { state = st } }
+use Rattle.proof_endpoint.proofs.OpeningStepsLemmas.{end_in}
 
 -- the packet of an INIT ACK, of a COOKIE ACK
 abbrev pub answering : Options → InitTree → Packet

@@ -143,7 +143,7 @@ module _ (o q : Options) (x y : Side) (asked : Bool) where
 
 -- ---- what a call receives
 
-abbrev packet_of : Call → PacketTree → PacketTree
+abbrev pub packet_of : Call → PacketTree → PacketTree
 packet_of (Packet p) q = p
 packet_of c q = q
 

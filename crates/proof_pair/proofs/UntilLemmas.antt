@@ -211,7 +211,7 @@ module _ {P : Type 0} {call : Call} {R : Making P → Making P → Type 0} (k : 
   still a b es e none f h = let n : HasNoEnd b = omega (arith, ap endings e, endings_append a.context.emitted.events es, none, h) in inl (n, f n)
 
   lightly : (a b : Making P) → Light a b → (HasNoEnd b → R a b) → First a b
-  lightly a b l f = still a b l.events l.behind (light_ends l.events l.light) f
+  lightly a b l f = still a b l.events l.behind (light_ends l.events l.all) f
 
   first_through : (a b c : Making P) → Grows b c → First a b → First b c → First a c
   first_through a b c grows f h none = go (f none)
