@@ -38,7 +38,7 @@ some_offered false n e = absurd (cc)
 no_more_lem : (flight after cwnd size room : ℕ) → cwnd < 2 ^ 64 → room ≤ cwnd - cap flight → size ≤ room → 4 ≤ room → after ≡ flight + size → after ≤ max flight cwnd
 no_more_lem flight after cwnd size room small a b c e = omega (arith, small, a, b, c, e)
 
-itself : (s : Sender) → StaysWithin s s
+pub itself : (s : Sender) → StaysWithin s s
 itself s = record { flight = omega arith; cwnd = refl }
 
 on : (s t u : Sender) → StaysWithin s t → StaysWithin t u → StaysWithin s u

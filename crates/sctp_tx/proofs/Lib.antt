@@ -1,4 +1,5 @@
 pub mod FitLemmas
 pub mod FlightLemmas
+pub mod IdleLemmas
 pub mod PartlyLemmas
 pub mod SendingLemmas

@@ -1,10 +1,10 @@
 -- What a packet takes: first what is to be sent again, then new fragments, as far as the windows let them go (RFC 9260
 -- sections 6.1, 7.2).
-use Rattle.std.specs.Prelude.{ℕ, zero, suc, ◌-◌, ◌*◌, ◌/◌, ◌&&◌, nat_lt, min, Bool, true, false, if◌then◌else◌, Option, Some, None, List, [], ◌∷◌, ◌++◌}
+use Rattle.std.specs.Prelude.{ℕ, zero, suc, ◌-◌, ◌*◌, ◌/◌, ◌==◌, ◌&&◌, ◌||◌, not, is_some, length, nat_lt, min, Bool, true, false, if◌then◌else◌, Option, Some, None, List, [], ◌∷◌, ◌++◌}
 use Rattle.sctp_chunk.specs.Chunk.{FragmentTree}
 use Rattle.sctp_state.specs.Events.{Emitted}
 use Rattle.sctp_tx_outstanding.specs.Item.{Item, header_size, size_of}
-use Rattle.sctp_tx_outstanding.specs.Items.{Discard, next_number, wire_tsn, first_sent, insert}
+use Rattle.sctp_tx_outstanding.specs.Items.{Discard, next_number, wire_tsn, waiting_items, first_sent, insert}
 use Rattle.sctp_tx_outstanding.specs.Resending.{Resent}
 use Rattle.sctp_tx_queue.specs.Queue.{Queue}
 use Rattle.sctp_tx_queue.specs.Produced.{Produced, Turn, produce}
@@ -99,3 +99,8 @@ fill_all now x = timed_filling now (fill (suc x.left) now x)
 abbrev pub send : {P : Type 0} → ℕ → (most : ℕ) → Sender → Queue → Emitted P → Filling P
 send now most s q told =
     fill_all now (filled_with most (without_discards s) (resent most (without_discards s)) (discard_all s.outstanding.items.discards q told))
+
+-- nothing is left of messages that were given up, no item waits to be sent again, and the queue has nothing to send
+abbrev pub is_idle : Sender → Queue → Bool
+is_idle s q =
+    length s.outstanding.items.discards == 0 && (not (nat_lt 0 (waiting_items s.outstanding.items)) && not (is_some q.begun || not (length q.scheduler.times == 0)))

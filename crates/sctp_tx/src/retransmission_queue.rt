@@ -17,7 +17,7 @@ ghost use Rattle.sctp_tx.specs.Windows.{cap};
 ghost use Rattle.sctp_tx_queue.specs.Views.{produced_of};
 ghost use Rattle.sctp_tx_outstanding.specs.Item.{size_of};
 ghost use Rattle.sctp_tx.specs.Resent.{sizes, is_interleaved, recounted_by, resent, resent_by, resent_fast, send_fast, start_timer, may_send_new};
-ghost use Rattle.sctp_tx.specs.Sending.{send, fill, filling, next_turn, offered_payload, sent_new, discard_all};
+ghost use Rattle.sctp_tx.specs.Sending.{send, fill, filling, next_turn, offered_payload, sent_new, discard_all, is_idle};
 ghost use Rattle.sctp_tx_outstanding.specs.Views.{chunk_of};
 ghost use Rattle.sctp_chunk.specs.Views.{fragment_tree};
 
@@ -389,6 +389,44 @@ impl RetransmissionQueue {
     /// stand behind them as sent; the windows, but for what the peer's has left, and t3-rtx are as they were; the queue is in
     /// order as before. Events of some of it may be emitted.
     pub fn get_chunks_to_send(
+        &mut self,
+        now: SocketTime,
+        max_bytes: usize,
+        queue: &mut SendQueue,
+        events: &mut Events,
+    ) -> Result<Vec<(Tsn, Data)>, AllocError>
+        requires small { max_bytes < 2 ^ 32 }
+        ensures sender { OnOk result (self.new ≡ (send now max_bytes self.old queue.old events.old).sender) }
+        ensures queue { OnOk result (queue.new ≡ (send now max_bytes self.old queue.old events.old).queue) }
+        ensures told { OnOk result (events.new ≡ (send now max_bytes self.old queue.old events.old).emitted) }
+        ensures chunks { IfOk result (λ chunks. map chunk_of chunks.items ≡ (send now max_bytes self.old queue.old events.old).chunks) }
+        ensures fits { IfOk result (λ chunks. FitWithin max_bytes self.old (map chunk_of chunks.items)) }
+        ensures flight { OnOk result (StaysWithin self.old self.new) }
+        ensures err { OnErr result (PartlySent self.old self.new) }
+        ensures taken { OnErr result (PartlyTaken queue.old queue.new) }
+    {
+        let _count = self.rtx_bytes_count();
+        if self.is_idle(queue) {
+            return Ok(Vec::new(self.alloc));
+        }
+        self.take_chunks(now, max_bytes, queue, events)
+    }
+
+    /// Whether nothing is left of messages that were given up, no item waits to be sent again, and the queue has nothing to send.
+    fn is_idle(&self, queue: &SendQueue) -> bool
+        ensures { result ≡ is_idle self.now queue.now }
+    {
+        if self.outstanding.has_unsent_messages_to_discard() {
+            return false;
+        }
+        if self.outstanding.has_data_to_be_retransmitted() {
+            return false;
+        }
+        !queue.has_next_stream()
+    }
+
+    /// What a packet takes, as `get_chunks_to_send` says, whatever there is to send.
+    fn take_chunks(
         &mut self,
         now: SocketTime,
         max_bytes: usize,

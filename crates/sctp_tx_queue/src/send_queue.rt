@@ -1,6 +1,6 @@
 //! Messages that wait to be sent.
 
-ghost use Rattle.std.specs.Prelude.{◌≡◌, ℕ, ◌<◌, ◌^◌, ◌==◌, [], length, not, is_some, None, Some, IsSome, IfOk, OnOk, OnErr, option_map, map, take};
+ghost use Rattle.std.specs.Prelude.{◌≡◌, ℕ, ◌<◌, ◌^◌, ◌==◌, ◌||◌, [], length, not, is_some, None, Some, IsSome, IfOk, OnOk, OnErr, option_map, map, take};
 ghost use Rattle.std.specs.List.{list_any};
 ghost use Rattle.std.specs.List.Sorted.{IsStrictlySortedBy};
 ghost use Rattle.std.specs.Map.{lookup, keys_of, values_of};
@@ -296,6 +296,13 @@ impl SendQueue {
         ensures { result ≡ not (length self.now.scheduler.times == 0) }
     {
         self.scheduler.active_count() > 0
+    }
+
+    /// Whether `produce` has a stream to ask: one whose message is begun, or one that has anything to send.
+    pub fn has_next_stream(&self) -> bool
+        ensures { result ≡ (is_some self.now.begun || not (length self.now.scheduler.times == 0)) }
+    {
+        self.begun.is_some() || self.scheduler.active_count() > 0
     }
 
     /// The amount at which a stream is low.
