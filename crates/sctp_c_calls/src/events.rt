@@ -1,14 +1,14 @@
 //! What a socket emitted, handed out or lent. What doesn't fit stays.
 
-ghost use Rattle.std.specs.Prelude.{◌≡◌, None, [], ◌∷◌, length, drop, option_map};
+ghost use Rattle.std.specs.Prelude.{◌≡◌, Some, None, [], ◌∷◌, length, drop, option_map};
 ghost use Rattle.sctp_c_calls.specs.Answers.{IsAmong, OnAnswer, OnOthers};
 ghost use Rattle.sctp_c_calls.specs.Waiting.{Needs, Shows, ShowsAll, waiting, with_events};
-ghost use Rattle.sctp_state.specs.Events.{event_of, first_of};
+ghost use Rattle.sctp_state.specs.Events.{SendPacket, event_of, first_of};
 
 use rand_core::Rng;
 use sctp_association::{Checksum, DcSctpSocket, Socket, SocketEvent};
 use sctp_c_records::answers::{NO_ROOM, NOTHING, OK, SHORT_BUFFER};
-use sctp_c_records::{EventParts, EventRecord, hand_out, parts_of};
+use sctp_c_records::{EventParts, EventRecord, hand_out, parts_of, put_bytes};
 use std::alloc::Global;
 
 /// Takes out the event that was emitted first: the one that is kept, or else the socket's.
@@ -21,10 +21,33 @@ fn take_first<R: Rng, C: Checksum>(
     ensures none { kept.new ≡ None }
     ensures rest { socket.new ≡ with_events socket.old socket.new.context.emitted.events }
 {
-    match kept.take() {
-        Some(told) => Some(told),
-        None => socket.poll_event(),
+    if kept.is_none() {
+        return socket.poll_event();
     }
+    kept.take()
+}
+
+/// Hands out a packet, which most events are. Where it doesn't fit its length is told, and it is kept.
+fn hand_out_packet(
+    packet: Vec<u8>,
+    kept: &mut Option<SocketEvent>,
+    head: &mut EventRecord,
+    buffer: &mut [u8],
+) -> u32
+    requires none { kept.old ≡ None }
+    ensures answers { IsAmong (0 ∷ 9 ∷ []) result }
+    ensures taken { OnAnswer 0 result (kept.new ≡ None) }
+    ensures shown { OnAnswer 0 result (Shows head.new buffer.new (SendPacket packet.items ∷ [])) }
+    ensures stays { OnAnswer 9 result (option_map event_of kept.new ≡ Some (SendPacket packet.items)) }
+    ensures needed { OnAnswer 9 result (Needs head.new (length buffer.old) (SendPacket packet.items ∷ [])) }
+{
+    *head = EventRecord::of_packet(packet.len());
+    if put_bytes(&packet, buffer) {
+        drop(packet);
+        return OK;
+    }
+    drop(std::mem::replace(kept, Some(SocketEvent::SendPacket(packet))));
+    SHORT_BUFFER
 }
 
 /// Hands out the event that was emitted first. Where it doesn't fit its length is handed out, and it is kept.
@@ -45,6 +68,7 @@ pub fn poll_event<R: Rng, C: Checksum>(
 {
     match take_first(socket, kept) {
         None => NOTHING,
+        Some(SocketEvent::SendPacket(packet)) => hand_out_packet(packet, kept, head, buffer),
         Some(told) => match hand_out(alloc, &told, head, buffer) {
             Ok(true) => {
                 drop(told);

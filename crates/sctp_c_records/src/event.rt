@@ -58,6 +58,13 @@ impl EventRecord {
             length,
         }
     }
+
+    /// The record of a packet of so many bytes.
+    pub fn of_packet(length: usize) -> EventRecord
+        ensures { result ≡ shown 0 0 0 0 length }
+    {
+        EventRecord::of(0, 0, 0, 0, length)
+    }
 }
 
 /// The record of an event with so many bytes.

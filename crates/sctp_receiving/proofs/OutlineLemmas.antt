@@ -1,18 +1,17 @@
 -- An outline, field by field.
-use Rattle.std.proofs.Common.{◌≡◌, ℕ, Bool, Option, None, Some, List, refl, sym}
-use Rattle.std.specs.Prelude.{MatchOption, is_some, option_map}
+use Rattle.std.proofs.Common.{◌≡◌, ◌⊎◌, inl, inr, ℕ, ◌==◌, Bool, true, false, Option, None, Some, List, [], ◌∷◌, refl, sym, ap, ◌∙◌, arith, nat_tests}
+use Rattle.std.specs.Prelude.{is_some, option_map}
+use Rattle.sctp_wire.specs.Item.{Item}
 use Rattle.sctp_packet.specs.Chunk.{ChunkTree}
-use Rattle.sctp_packet.specs.Written.{flag}
+use Rattle.sctp_packet.specs.Written.{chunk_type, flag}
+use Rattle.sctp_packet.specs.Grammar.{IsChunk}
 use Rattle.spec_endpoint.specs.Input.{abort_flag, complete_flag, has_shutdown_ack, begins_with_cookie, is_single_init, has_data}
 use Rattle.sctp_receiving.specs.declared.validation.Outline.{Outline}
 use Rattle.sctp_receiving.specs.Outlines.{outline_of}
-use Rattle.sctp_receiving.specs.Kinds.{FirstIs, NoneIs}
+use Rattle.sctp_receiving.specs.Kinds.{FirstIs, Found, NoneIs, noted, noted_if}
 use Rattle.sctp_receiving.proofs.KindLemmas.{abort_found, abort_missing, complete_found, complete_missing, shutdown_ack_found, shutdown_ack_missing, data_found, data_missing}
 
 -- ---- what was found says what the table asks
-
-abbrev pub Found : ℕ → List ChunkTree → Option ℕ → Type 0
-Found typ chunks found = MatchOption found (NoneIs typ chunks) (λ flags. FirstIs typ flags chunks)
 
 pub abort_as : (found : Option ℕ) (chunks : List ChunkTree) → Found 6 chunks found → option_map (λ flags. flag flags 1) found ≡ abort_flag chunks
 abort_as None chunks h = sym (abort_missing chunks h)
@@ -36,3 +35,30 @@ pub outlined : (chunks : List ChunkTree) (abort complete : Option Bool) (acks co
     → acks ≡ has_shutdown_ack chunks → cookie ≡ begins_with_cookie chunks → init ≡ is_single_init chunks → carries ≡ has_data chunks
     → record { abort = abort; complete = complete; has_shutdown_ack = acks; begins_with_cookie = cookie; is_single_init = init; has_data = carries } ≡ outline_of chunks
 outlined chunks abort complete acks cookie init carries a b c d e f = rw (a, b, c, d, e, f) refl
+
+-- ---- one walk over the chunks
+
+-- what is known of the first chunk of a type, or what those that are left would say of all
+abbrev pub Goes : ℕ → Option ℕ → (left chunks : List ChunkTree) → Type 0
+Goes typ None left chunks = (NoneIs typ left → NoneIs typ chunks) × ((flags : ℕ) → FirstIs typ flags left → FirstIs typ flags chunks)
+Goes typ (Some flags) left chunks = FirstIs typ flags chunks
+
+equal : (a b : ℕ) → (a == b) ≡ true → a ≡ b
+equal a b e = grind (arith, nat_tests)
+
+goes_past : (typ : ℕ) (i : Item) (t : ChunkTree) (ts chunks : List ChunkTree) (is : Bool) → IsChunk i t → (i.first == typ) ≡ is → Goes typ None (t ∷ ts) chunks
+    → Goes typ (noted_if is i.second) ts chunks
+goes_past typ i t ts chunks true h e g = g.1 i.second (inr (i, h, equal i.first typ e, refl))
+goes_past typ i t ts chunks false h e g = (λ none. g.0 (behind, none)), (λ flags first. g.1 flags (inl (behind, first)))
+  where
+    behind : (chunk_type t == typ) ≡ false
+    behind = ap (λ (n : ℕ). n == typ) (sym h.kind) ∙ e
+
+pub goes_on : (typ : ℕ) (i : Item) (t : ChunkTree) (ts chunks : List ChunkTree) (found : Option ℕ) → IsChunk i t → Goes typ found (t ∷ ts) chunks
+    → Goes typ (noted typ i found) ts chunks
+goes_on typ i t ts chunks None h g = goes_past typ i t ts chunks (i.first == typ) h refl g
+goes_on typ i t ts chunks (Some flags) h g = g
+
+pub walked : (typ : ℕ) (found : Option ℕ) (chunks : List ChunkTree) → Goes typ found [] chunks → Found typ chunks found
+walked typ None chunks g = g.0 tt
+walked typ (Some flags) chunks g = g
