@@ -1,12 +1,12 @@
 -- An outline, field by field.
-use Rattle.std.proofs.Common.{◌≡◌, ◌⊎◌, inl, inr, ℕ, ◌==◌, Bool, true, false, Option, None, Some, List, [], ◌∷◌, refl, sym, ap, ◌∙◌, arith, nat_tests}
+use Rattle.std.proofs.Common.{◌≡◌, inl, inr, ℕ, ◌==◌, Bool, true, false, Option, None, Some, List, [], ◌∷◌, refl, sym, ap, ◌∙◌, arith}
+use Rattle.std.proofs.lemmas.Bool.Decides.{nat_tests}
 use Rattle.std.specs.Prelude.{is_some, option_map}
 use Rattle.sctp_wire.specs.Item.{Item}
 use Rattle.sctp_packet.specs.Chunk.{ChunkTree}
 use Rattle.sctp_packet.specs.Written.{chunk_type, flag}
 use Rattle.sctp_packet.specs.Grammar.{IsChunk}
 use Rattle.spec_endpoint.specs.Input.{abort_flag, complete_flag, has_shutdown_ack, begins_with_cookie, is_single_init, has_data}
-use Rattle.sctp_receiving.specs.declared.validation.Outline.{Outline}
 use Rattle.sctp_receiving.specs.Outlines.{outline_of}
 use Rattle.sctp_receiving.specs.Kinds.{FirstIs, Found, NoneIs, noted, noted_if}
 use Rattle.sctp_receiving.proofs.KindLemmas.{abort_found, abort_missing, complete_found, complete_missing, shutdown_ack_found, shutdown_ack_missing, data_found, data_missing}
@@ -49,16 +49,16 @@ equal a b e = grind (arith, nat_tests)
 goes_past : (typ : ℕ) (i : Item) (t : ChunkTree) (ts chunks : List ChunkTree) (is : Bool) → IsChunk i t → (i.first == typ) ≡ is → Goes typ None (t ∷ ts) chunks
     → Goes typ (noted_if is i.second) ts chunks
 goes_past typ i t ts chunks true h e g = g.1 i.second (inr (i, h, equal i.first typ e, refl))
-goes_past typ i t ts chunks false h e g = (λ none. g.0 (behind, none)), (λ flags first. g.1 flags (inl (behind, first)))
+goes_past typ i t ts chunks false h e g = ((λ none. g.0 (behind, none)), (λ flags first. g.1 flags (inl (behind, first))))
   where
     behind : (chunk_type t == typ) ≡ false
     behind = ap (λ (n : ℕ). n == typ) (sym h.kind) ∙ e
 
-pub goes_on : (typ : ℕ) (i : Item) (t : ChunkTree) (ts chunks : List ChunkTree) (found : Option ℕ) → IsChunk i t → Goes typ found (t ∷ ts) chunks
+goes_from : (typ : ℕ) (i : Item) (t : ChunkTree) (ts chunks : List ChunkTree) (found : Option ℕ) → IsChunk i t → Goes typ found (t ∷ ts) chunks
     → Goes typ (noted typ i found) ts chunks
-goes_on typ i t ts chunks None h g = goes_past typ i t ts chunks (i.first == typ) h refl g
-goes_on typ i t ts chunks (Some flags) h g = g
+goes_from typ i t ts chunks None h g = goes_past typ i t ts chunks (i.first == typ) h refl g
+goes_from typ i t ts chunks (Some flags) h g = g
 
-pub walked : (typ : ℕ) (found : Option ℕ) (chunks : List ChunkTree) → Goes typ found [] chunks → Found typ chunks found
-walked typ None chunks g = g.0 tt
-walked typ (Some flags) chunks g = g
+pub goes_on : (typ : ℕ) (i : Item) (t : ChunkTree) (left ts chunks : List ChunkTree) (found new : Option ℕ) → IsChunk i t → left ≡ t ∷ ts → new ≡ noted typ i found
+    → Goes typ found left chunks → Goes typ new ts chunks
+goes_on typ i t left ts chunks found new h e n g = rw n (goes_from typ i t ts chunks found h (rw e at g))
