@@ -1,9 +1,9 @@
 -- What the program's verdict on a cookie says.
 use Rattle.spec_endpoint.specs.Opening.{CookieResolution, EstablishNew, RestartDetected, SimultaneousInit, MaintainExisting, Discard, InvalidTag}
-use Rattle.sctp_receiving.specs.declared.cookies.Verdict as given_verdict
-use Rattle.sctp_receiving.specs.declared.cookies.Verdict.TheVariants as verdicts
+use Rattle.sctp_receiving.specs.declared.cookies.CookieResolution as given_verdict
+use Rattle.sctp_receiving.specs.declared.cookies.CookieResolution.TheVariants as verdicts
 
-abbrev pub verdict_of : given_verdict.Verdict → CookieResolution
+abbrev pub verdict_of : given_verdict.CookieResolution → CookieResolution
 verdict_of verdicts.EstablishNew = EstablishNew
 verdict_of verdicts.RestartDetected = RestartDetected
 verdict_of verdicts.SimultaneousInit = SimultaneousInit

@@ -14,7 +14,7 @@ use std::alloc::AllocError;
 
 /// What becomes of an echoed cookie (RFC 9260 section 5.2.4).
 #[derive(Clone, Copy, Debug, PartialEq, Eq)]
-pub enum Verdict {
+pub enum CookieResolution {
     /// Establish.
     EstablishNew,
     /// Establish anew, and say so.
@@ -30,7 +30,7 @@ pub enum Verdict {
 }
 
 /// The verdict where there is a control block, by three comparisons.
-fn compared(tag: u32, identity: Identity, cookie: &StateCookie) -> Verdict
+fn compared(tag: u32, identity: Identity, cookie: &StateCookie) -> CookieResolution
     ensures { verdict_of result ≡ table.compare_tags tag (identity_of identity) (cookie_of cookie.now) }
 {
     let is_other_tag = tag != identity.my_verification_tag;
@@ -38,36 +38,36 @@ fn compared(tag: u32, identity: Identity, cookie: &StateCookie) -> Verdict
     match (is_other_tag, is_other_peer) {
         (true, true) => {
             if cookie.tie_tag == identity.tie_tag {
-                Verdict::RestartDetected
+                CookieResolution::RestartDetected
             } else {
-                Verdict::InvalidTag
+                CookieResolution::InvalidTag
             }
         }
-        (false, true) => Verdict::SimultaneousInit,
+        (false, true) => CookieResolution::SimultaneousInit,
         (true, false) => {
             if cookie.tie_tag == 0 {
-                Verdict::Discard
+                CookieResolution::Discard
             } else {
-                Verdict::InvalidTag
+                CookieResolution::InvalidTag
             }
         }
-        (false, false) => Verdict::MaintainExisting,
+        (false, false) => CookieResolution::MaintainExisting,
     }
 }
 
 /// The verdict where there is none: whether the packet's tag is the cookie's.
-fn new_if_own(tag: u32, cookie: &StateCookie) -> Verdict
+fn new_if_own(tag: u32, cookie: &StateCookie) -> CookieResolution
     ensures { verdict_of result ≡ table.new_if (tag == (cookie_of cookie.now).my_tag) }
 {
     if tag == cookie.my_tag {
-        Verdict::EstablishNew
+        CookieResolution::EstablishNew
     } else {
-        Verdict::InvalidTag
+        CookieResolution::InvalidTag
     }
 }
 
 /// The verdict on a cookie in a packet under this tag.
-pub fn judged(tag: u32, cookie: &StateCookie, state: &State) -> Verdict
+pub fn resolve_cookie(tag: u32, cookie: &StateCookie, state: &State) -> CookieResolution
     ensures { verdict_of result ≡ table.resolve_cookie tag (cookie_of cookie.now) (state_of state.now) }
 {
     match state {
