@@ -6,6 +6,7 @@ use crate::{
 };
 use sctp_serial::Tsn;
 use sctp_state::{Events, Options};
+use sctp_stream_scheduler::StreamScheduler;
 use sctp_tx::RetransmissionQueue;
 use sctp_tx_outstanding::kept::Kept;
 use sctp_tx_outstanding::skips::SkipEntry;
@@ -29,6 +30,7 @@ pub struct Bench {
     message: Option<QueuedMessage>,
     stream: Stream,
     streams: Streams,
+    scheduler: StreamScheduler,
 }
 
 /// A sender whose first TSN is 10, to a peer whose window is 5,242,880 bytes.
@@ -50,6 +52,7 @@ impl Bench {
             message: None,
             stream: Stream::new(alloc, 256, 3),
             streams: Streams::new(alloc, &options),
+            scheduler: StreamScheduler::new(alloc, 1168),
         }
     }
 
@@ -73,7 +76,15 @@ impl Bench {
             "skip" => skips::answer(alloc, &mut self.skips, line),
             "message" => message::answer(alloc, &mut self.message, line),
             "stream" => stream::answer(alloc, &mut self.stream, &mut self.events, line),
-            "streams" => streams::answer(alloc, &mut self.streams, &mut self.events, line),
+            "streams" => {
+                streams::answer(
+                    alloc,
+                    &mut self.streams,
+                    &mut self.scheduler,
+                    &mut self.events,
+                    line,
+                )
+            }
             _ => Ok(Answer::Unknown),
         }
     }

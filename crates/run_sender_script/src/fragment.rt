@@ -16,7 +16,7 @@ pub fn bytes(alloc: Global, length: usize) -> Result<Vec<u8>, AllocError> {
     Ok(bytes)
 }
 
-// The first byte, where each one behind it is greater by one, modulo 256.
+/// The first byte, where each one behind it is greater by one, modulo 256.
 fn first_of_run(bytes: &[u8]) -> Option<u8> {
     let first = *bytes.first()?;
     let mut want = first;

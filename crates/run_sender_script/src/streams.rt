@@ -7,6 +7,7 @@ use crate::message::queued;
 use crate::stream::{fragment_text, step_of};
 use sctp_serial::{OutgoingMessageId, SocketTime, StreamId};
 use sctp_state::{Events, Options};
+use sctp_stream_scheduler::StreamScheduler;
 use sctp_tx_queue::send_queue::message::QueuedMessage;
 use sctp_tx_queue::send_queue::streams::Streams;
 use std::alloc::{AllocError, Global};
@@ -86,7 +87,6 @@ fn sizes(streams: &Streams, line: &Line<'_>) -> Answer {
         "total" => streams.total(),
         "amount" => streams.amount(id),
         "sendable" => streams.sendable(id),
-        "sendable-after" => streams.sendable_after(id, line.size(1)),
         "sendable-without" => streams.sendable_without(id, line.message(1)),
         "sendable-prepared" => streams.sendable_prepared(id),
         "sendable-stepped" => streams.sendable_stepped(id, step_of(line.number(1))),
@@ -101,7 +101,6 @@ fn priorities(streams: &Streams, line: &Line<'_>) -> Answer {
     let id = line.stream(0);
     let priority = match line.verb {
         "priority" => streams.priority(id),
-        "priority-after" => streams.priority_after(id, line.size(1)),
         "priority-without" => streams.priority_without(id, line.message(1)),
         "priority-stepped" => streams.priority_stepped(id, step_of(line.number(1))),
         "priority-restarted" => streams.priority_restarted(id),
@@ -110,21 +109,10 @@ fn priorities(streams: &Streams, line: &Line<'_>) -> Answer {
     Answer::Number(u64::from(priority))
 }
 
-fn lows(streams: &Streams, line: &Line<'_>, is_total: bool) -> Answer {
-    let lows = streams.lows_after(line.stream(0), line.size(1));
-    Answer::Is(if is_total {
-        lows.is_total_low
-    } else {
-        lows.is_low
-    })
-}
-
 fn asked(streams: &Streams, line: &Line<'_>) -> Answer {
     let id = line.stream(0);
     match line.verb {
         "is-empty" => Answer::Is(streams.is_empty()),
-        "is-low-after" => lows(streams, line, false),
-        "is-total-low-after" => lows(streams, line, true),
         "is-low-at" => Answer::Is(streams.is_low_at(id, line.size(1))),
         "has-waiting" => Answer::Is(streams.has_waiting()),
         "has-ready" => Answer::Is(streams.has_ready()),
@@ -136,7 +124,6 @@ fn asked(streams: &Streams, line: &Line<'_>) -> Answer {
 fn change(streams: &mut Streams, line: &Line<'_>) -> Answer {
     let id = line.stream(0);
     match line.verb {
-        "advance" => streams.advance(id, line.size(1)),
         "set-threshold" => streams.set_low_threshold(id, line.size(1)),
         "set-priority" => streams.set_priority(id, line.short(1)),
         "prepare" => streams.prepare_reset(id),
@@ -159,10 +146,18 @@ fn tell(streams: &Streams, events: &mut Events, line: &Line<'_>) -> Result<Answe
     Ok(Answer::Done)
 }
 
-fn fragment(alloc: Global, streams: &Streams, line: &Line<'_>) -> Result<Answer, AllocError> {
+/// `send STREAM SIZE`: the next fragment.
+fn send(
+    alloc: Global,
+    streams: &mut Streams,
+    scheduler: &mut StreamScheduler,
+    events: &mut Events,
+    line: &Line<'_>,
+) -> Result<Answer, AllocError> {
+    let (id, size) = (line.stream(0), line.size(1));
     fragment_text(
         alloc,
-        streams.fragment(alloc, line.stream(0), line.size(1))?,
+        streams.send_front(alloc, id, size, scheduler, events)?,
     )
 }
 
@@ -174,6 +169,7 @@ fn open(alloc: Global, streams: &mut Streams, id: StreamId) -> Result<Answer, Al
 pub fn answer(
     alloc: Global,
     streams: &mut Streams,
+    scheduler: &mut StreamScheduler,
     events: &mut Events,
     line: &Line<'_>,
 ) -> Result<Answer, AllocError> {
@@ -185,7 +181,8 @@ pub fn answer(
         "open" => open(alloc, streams, line.stream(0)),
         "push" => push(alloc, streams, line),
         "sendable-with" => with(alloc, streams, line),
-        "fragment" => fragment(alloc, streams, line),
+        "send" => send(alloc, streams, scheduler, events, line),
+        "is-active" => Ok(Answer::Is(scheduler.is_active(line.stream(0)))),
         "ids" | "ready" => listed(alloc, streams, line.verb),
         "records" => records(alloc, streams),
         "messages" => messages(alloc, streams),

@@ -57,7 +57,7 @@ impl InterleavedReassemblyStreams {
         }
     }
 
-    // A forward point names the message.
+    /// A forward point names the message.
     #[tactic(auto, using(crate::proofs::ExtendsLemmas::extends_none))]
     fn skip_message(
         &mut self,
@@ -178,7 +178,7 @@ ghost use Rattle.std.specs.Prelude.{true};
 ghost use Rattle.sctp_chunk.specs.Views.{fragment_tree};
 ghost use Rattle.sctp_reassembly.specs.Streams.{place_of};
 
-// The fragment's place in its message: its FSN, and 0 where it begins the message.
+/// The fragment's place in its message: its FSN, and 0 where it begins the message.
 fn place_of(fragment: &Data) -> u64
     ensures { (tsn : _) → result ≡ place_of true tsn (fragment_tree fragment.now) }
 {

@@ -168,7 +168,7 @@ ghost use Rattle.sctp_fragments.specs.declared.interval.Entry.{Entry};
 ghost use Rattle.sctp_fragments.specs.declared.interval.Interval.{Interval};
 ghost use Rattle.sctp_reassembly.specs.Notes.{BeginsFrom};
 
-// Drops the intervals before the place, and says how many bytes they had.
+/// Drops the intervals before the place, and says how many bytes they had.
 fn drop_front<K: ReassemblyKey>(intervals: &mut VecDeque<Interval<K>>, place: usize) -> usize
     requires place { place ≤ length intervals.old.items }
     requires fits { bytes_of (entries_of (held_of K.number K.index) intervals.old.items) < 2 ^ 64 }
@@ -187,7 +187,7 @@ fn drop_front<K: ReassemblyKey>(intervals: &mut VecDeque<Interval<K>>, place: us
     bytes
 }
 
-// The key of the first fragment.
+/// The key of the first fragment.
 fn first_key<K: ReassemblyKey>(intervals: &VecDeque<Interval<K>>) -> Option<K>
     requires { IsInRuns (lists_of (held_of K.number K.index) intervals.now.items) }
     ensures some { IfSome result (λ k. BeginsFrom (rank_at K.number K.index k) (entries_of (held_of K.number K.index) intervals.now.items)) }
@@ -199,7 +199,7 @@ fn first_key<K: ReassemblyKey>(intervals: &VecDeque<Interval<K>>) -> Option<K>
     Some(intervals[0].first().key)
 }
 
-// Whether the first fragment is before the key.
+/// Whether the first fragment is before the key.
 fn begins_below<K: ReassemblyKey>(intervals: &VecDeque<Interval<K>>, key: K) -> bool
     ensures value { result ≡ first_below (rank_at K.number K.index key) (lists_of (held_of K.number K.index) intervals.now.items) }
     ensures some { IsTrue result → 0 < length intervals.now.items }
@@ -210,7 +210,7 @@ fn begins_below<K: ReassemblyKey>(intervals: &VecDeque<Interval<K>>, key: K) -> 
     is_before(intervals[0].first().key, key)
 }
 
-// Drops the first fragment, and says how many bytes it had.
+/// Drops the first fragment, and says how many bytes it had.
 fn drop_first<K: ReassemblyKey>(intervals: &mut VecDeque<Interval<K>>) -> usize
     requires { 0 < length intervals.old.items }
     ensures { (e : Held) (es : List Held) (rs : List (List Held)) → lists_of (held_of K.number K.index) intervals.old.items ≡ (e ∷ es) ∷ rs → (result ≡ length e.fragment.payload) × (lists_of (held_of K.number K.index) intervals.new.items ≡ without_first es rs) }
@@ -227,7 +227,7 @@ fn drop_first<K: ReassemblyKey>(intervals: &mut VecDeque<Interval<K>>) -> usize
     entry.fragment.payload.len()
 }
 
-// Where the first interval is that is a complete message with the number; their count, where none is.
+/// Where the first interval is that is a complete message with the number; their count, where none is.
 fn place_in_turn<K: ReassemblyKey>(intervals: &VecDeque<Interval<K>>, number: u128) -> usize
     ensures bound { result ≤ length intervals.now.items }
     ensures before { NoneInTurn number (lists_of (held_of K.number K.index) (take result intervals.now.items)) }
@@ -240,7 +240,7 @@ fn place_in_turn<K: ReassemblyKey>(intervals: &VecDeque<Interval<K>>, number: u1
     place
 }
 
-// How many intervals end before the key, found by halves.
+/// How many intervals end before the key, found by halves.
 fn place_for<K: ReassemblyKey>(intervals: &VecDeque<Interval<K>>, key: K) -> usize
     ensures bound { result ≤ length intervals.now.items }
     ensures below { IsBelow rank_of (rank_at K.number K.index key) (end_of None (lists_of (held_of K.number K.index) (take result intervals.now.items))) }
@@ -259,7 +259,7 @@ fn place_for<K: ReassemblyKey>(intervals: &VecDeque<Interval<K>>, key: K) -> usi
     place
 }
 
-// Whether the interval at the place begins at the key or before it.
+/// Whether the interval at the place begins at the key or before it.
 fn begins_upto<K: ReassemblyKey>(intervals: &VecDeque<Interval<K>>, place: usize, key: K) -> bool
     requires { place ≤ length intervals.now.items }
     ensures { result ≡ starts_upto (rank_at K.number K.index key) (lists_of (held_of K.number K.index) (drop place intervals.now.items)) }
@@ -270,7 +270,7 @@ fn begins_upto<K: ReassemblyKey>(intervals: &VecDeque<Interval<K>>, place: usize
     !is_before(key, intervals[place].first().key)
 }
 
-// Whether the entry goes on where the intervals up to the place end.
+/// Whether the entry goes on where the intervals up to the place end.
 fn joins_before<K: ReassemblyKey>(
     intervals: &VecDeque<Interval<K>>,
     place: usize,
@@ -286,7 +286,7 @@ fn joins_before<K: ReassemblyKey>(
     goes_on_to(intervals[place - 1].last(), entry)
 }
 
-// Whether the interval at the place goes on where the entry ends.
+/// Whether the interval at the place goes on where the entry ends.
 fn joins_after<K: ReassemblyKey>(
     intervals: &VecDeque<Interval<K>>,
     place: usize,
@@ -302,7 +302,7 @@ fn joins_after<K: ReassemblyKey>(
     goes_on_to(entry, intervals[place].first())
 }
 
-// Adds the entry behind an interval.
+/// Adds the entry behind an interval.
 fn push_at<K: ReassemblyKey>(
     intervals: &mut VecDeque<Interval<K>>,
     place: usize,
@@ -316,7 +316,7 @@ fn push_at<K: ReassemblyKey>(
     Ok(())
 }
 
-// Adds the entry in front of an interval.
+/// Adds the entry in front of an interval.
 fn put_before<K: ReassemblyKey>(
     intervals: &mut VecDeque<Interval<K>>,
     place: usize,
@@ -330,7 +330,7 @@ fn put_before<K: ReassemblyKey>(
     Ok(())
 }
 
-// Adds the entry and then the others at the back, where there is room.
+/// Adds the entry and then the others at the back, where there is room.
 fn append_to<K: ReassemblyKey>(
     entries: &mut VecDeque<Entry<K>>,
     entry: Entry<K>,
@@ -345,7 +345,7 @@ fn append_to<K: ReassemblyKey>(
     }
 }
 
-// Puts the others and then the entry in front, where there is room.
+/// Puts the others and then the entry in front, where there is room.
 fn prepend_to<K: ReassemblyKey>(
     entries: &mut VecDeque<Entry<K>>,
     entry: Entry<K>,
@@ -360,7 +360,7 @@ fn prepend_to<K: ReassemblyKey>(
     }
 }
 
-// Makes one interval of two with the entry between them, where the second one's entries move to the first.
+/// Makes one interval of two with the entry between them, where the second one's entries move to the first.
 fn join_to_first<K: ReassemblyKey>(
     intervals: &mut VecDeque<Interval<K>>,
     place: usize,
@@ -379,7 +379,7 @@ fn join_to_first<K: ReassemblyKey>(
     Ok(())
 }
 
-// The same, where the first one's entries move to the second.
+/// The same, where the first one's entries move to the second.
 fn join_to_second<K: ReassemblyKey>(
     intervals: &mut VecDeque<Interval<K>>,
     place: usize,
@@ -398,8 +398,8 @@ fn join_to_second<K: ReassemblyKey>(
     Ok(())
 }
 
-// Makes one interval of two with the entry between them. The shorter one's entries move, so that an entry moves no more
-// often than the logarithm of how many there are.
+/// Makes one interval of two with the entry between them. The shorter one's entries move, so that an entry moves no more
+/// often than the logarithm of how many there are.
 fn join<K: ReassemblyKey>(
     intervals: &mut VecDeque<Interval<K>>,
     place: usize,
@@ -415,7 +415,7 @@ fn join<K: ReassemblyKey>(
     join_to_first(intervals, place, entry)
 }
 
-// Puts the entry in front of the interval at the place, and says which interval took it.
+/// Puts the entry in front of the interval at the place, and says which interval took it.
 fn insert_at<K: ReassemblyKey>(
     alloc: Global,
     intervals: &mut VecDeque<Interval<K>>,

@@ -10,7 +10,7 @@ use sctp_serial::{Mid, SerialNumber, Ssn};
 // Numbers from here on are ignored.
 const LIMIT: u64 = FIRST + (1 << 62);
 
-// The number that is nearest to `next`; none where it is too far above the first one.
+/// The number that is nearest to `next`; none where it is too far above the first one.
 pub(crate) fn ssn_near(next: u128, ssn: Ssn) -> Option<u64>
     requires { origin ≤ next }
     ensures { result ≡ number_if_any (nearest halves 0 next ssn.0) }
@@ -25,7 +25,7 @@ pub(crate) fn ssn_near(next: u128, ssn: Ssn) -> Option<u64>
     Some(number)
 }
 
-// The same for a MID.
+/// The same for a MID.
 pub(crate) fn mid_near(next: u128, mid: Mid) -> Option<u64>
     requires { origin ≤ next }
     ensures { result ≡ number_if_any (nearest words 0 next mid.0) }

@@ -42,14 +42,14 @@ impl Model for NotedStreams {
     ghost invariant = { λ s. s.is_noted ≡ true → AreNoted s.notes.keys s.streams };
 }
 
-// A key's rank.
+/// A key's rank.
 fn rank(key: TraditionalKey) -> u128
     ensures { result ≡ pair_rank key.number key.index }
 {
     key.number as u128 * (1 << 64) + key.index as u128
 }
 
-// Takes away the note by the key that was the stream's first one.
+/// Takes away the note by the key that was the stream's first one.
 fn take_note(notes: &mut BTreeSet<(u128, u16)>, id: StreamId, first: Option<TraditionalKey>)
     ensures { KeepsOthers id.0 notes.old.keys notes.new.keys }
 {
@@ -58,7 +58,7 @@ fn take_note(notes: &mut BTreeSet<(u128, u16)>, id: StreamId, first: Option<Trad
     }
 }
 
-// Makes the stream's note, where it holds a fragment. Says whether there was memory.
+/// Makes the stream's note, where it holds a fragment. Says whether there was memory.
 fn make_note(
     streams: &UnorderedStreams<TraditionalKey>,
     notes: &mut BTreeSet<(u128, u16)>,
@@ -73,7 +73,7 @@ fn make_note(
     }
 }
 
-// Makes the note of a stream anew, whose first key was this one. Says whether all have theirs.
+/// Makes the note of a stream anew, whose first key was this one. Says whether all have theirs.
 fn renew_note(
     is_noted: bool,
     streams: &UnorderedStreams<TraditionalKey>,
@@ -90,7 +90,7 @@ fn renew_note(
     make_note(streams, notes, id)
 }
 
-// Makes the notes of all streams anew. Says whether there was memory.
+/// Makes the notes of all streams anew. Says whether there was memory.
 fn make_notes(
     alloc: Global,
     streams: &UnorderedStreams<TraditionalKey>,
@@ -110,7 +110,7 @@ fn make_notes(
     true
 }
 
-// Takes the least note, if it is below the rank.
+/// Takes the least note, if it is below the rank.
 fn take_below(notes: &mut BTreeSet<(u128, u16)>, rank: u128) -> Option<(u128, u16)>
     ensures some { IfSome result (λ note. KeepsOthers note.1 notes.old.keys notes.new.keys) }
     ensures none { IfNone result (NoneBelow rank notes.old.keys) }
@@ -125,7 +125,7 @@ fn take_below(notes: &mut BTreeSet<(u128, u16)>, rank: u128) -> Option<(u128, u1
     notes.pop_first()
 }
 
-// Drops the fragments before the key, of the streams that have a note below it. Says whether these are all, and have theirs.
+/// Drops the fragments before the key, of the streams that have a note below it. Says whether these are all, and have theirs.
 fn forward_noted(
     is_noted: bool,
     streams: &mut UnorderedStreams<TraditionalKey>,
@@ -155,7 +155,7 @@ fn forward_noted(
     false
 }
 
-// Takes away the notes of the streams that are named, or all where none is.
+/// Takes away the notes of the streams that are named, or all where none is.
 fn take_notes(
     streams: &UnorderedStreams<TraditionalKey>,
     notes: &mut BTreeSet<(u128, u16)>,

@@ -40,7 +40,7 @@ impl<K: ReassemblyKey> Model for OrderedStream<K> {
     ghost invariant = { λ s. IsOrdered (record { next = s.next; held = s.list }) s.is_settled };
 }
 
-// Makes the complete messages ready that are in turn, one after the other.
+/// Makes the complete messages ready that are in turn, one after the other.
 #[tactic(auto, using(crate::proofs::ExtendsLemmas::extends_none, crate::proofs::ExtendsLemmas::extends_both))]
 fn deliver<K: ReassemblyKey>(
     alloc: Global,
@@ -66,7 +66,7 @@ fn deliver<K: ReassemblyKey>(
     Ok(())
 }
 
-// Adds a fragment, and says whether the interval that took it is in turn.
+/// Adds a fragment, and says whether the interval that took it is in turn.
 fn add_in<K: ReassemblyKey>(
     list: &mut IntervalList<K>,
     key: K,
@@ -86,7 +86,7 @@ fn add_in<K: ReassemblyKey>(
     }
 }
 
-// Whether the fragment is all of the message with the number.
+/// Whether the fragment is all of the message with the number.
 fn is_whole_at<K: ReassemblyKey>(key: K, fragment: &Data, number: u128) -> bool
     ensures turn { result ≡ is_in_turn number (held_at (K.number key) (K.index key) fragment.now ∷ []) }
     ensures number { result ≡ true → K.number key ≡ number }
@@ -94,7 +94,7 @@ fn is_whole_at<K: ReassemblyKey>(key: K, fragment: &Data, number: u128) -> bool
     fragment.is_beginning && fragment.is_end && key.number() as u128 == number
 }
 
-// Makes a message ready that is one fragment.
+/// Makes a message ready that is one fragment.
 #[tactic(auto, using(crate::proofs::ExtendsLemmas::extends_none))]
 fn hand_on(fragment: Data, ready: &mut ReadyMessages) -> Result<(), AllocError>
     requires { ready_bytes ready.old + length fragment.payload.items < 2 ^ 64 }
@@ -106,7 +106,7 @@ fn hand_on(fragment: Data, ready: &mut ReadyMessages) -> Result<(), AllocError>
     ready.push(Message::new(id, fragment.ppid, fragment.payload))
 }
 
-// Whether nothing is in turn: nothing was before, and no interval came to be.
+/// Whether nothing is in turn: nothing was before, and no interval came to be.
 fn stays_settled(is_settled: bool, is_turn: bool) -> bool
     ensures settled { result ≡ true → is_settled ≡ true }
     ensures turn { result ≡ true → is_turn ≡ false }
@@ -164,7 +164,7 @@ impl<K: ReassemblyKey> OrderedStream<K> {
         self.list.total_bytes()
     }
 
-    // Makes the next message ready, which is one fragment, where none is held.
+    /// Makes the next message ready, which is one fragment, where none is held.
     fn pass_on(
         &mut self,
         key: K,
@@ -187,7 +187,7 @@ impl<K: ReassemblyKey> OrderedStream<K> {
         Ok(())
     }
 
-    // Adds a fragment to those that are held, and makes ready what is then in turn.
+    /// Adds a fragment to those that are held, and makes ready what is then in turn.
     #[tactic(auto, using(crate::proofs::ExtendsLemmas::extends_none))]
     fn keep(&mut self, key: K, fragment: Data, ready: &mut ReadyMessages) -> Result<(), AllocError>
         requires { bytes_of self.old.held + ready_bytes ready.old + length fragment.payload.items < 2 ^ 64 }

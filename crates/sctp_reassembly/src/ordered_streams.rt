@@ -106,7 +106,7 @@ impl<K: ReassemblyKey> OrderedStreams<K> {
         }
     }
 
-    // Makes the stream where there is none. Without memory nothing changes.
+    /// Makes the stream where there is none. Without memory nothing changes.
     fn open(&mut self, id: StreamId) -> Result<(), AllocError>
         ensures ok { OnOk result (self.new ≡ open_stream fresh_ordered id.0 self.old) }
         ensures there { OnOk result (IsSome (lookup (is_at (nat_cmp id.0)) self.new)) }
@@ -122,7 +122,7 @@ impl<K: ReassemblyKey> OrderedStreams<K> {
         Ok(())
     }
 
-    // Adds a fragment to a stream that is there.
+    /// Adds a fragment to a stream that is there.
     #[tactic(auto, using(crate::proofs::ExtendsLemmas::extends_none))]
     fn add_to(
         &mut self,
@@ -166,7 +166,7 @@ impl<K: ReassemblyKey> OrderedStreams<K> {
         self.add_to(id, key, fragment, ready)
     }
 
-    // Forwards a stream that is there.
+    /// Forwards a stream that is there.
     #[tactic(auto, using(crate::proofs::ExtendsLemmas::extends_none))]
     fn forward_in(
         &mut self,
@@ -226,7 +226,7 @@ ghost use Rattle.std.specs.Prelude.{◌==◌, not, filter};
 ghost use Rattle.std.specs.List.{list_any};
 ghost use Rattle.sctp_reassembly.specs.Streams.{ordered_bytes};
 
-// Takes out the streams that are named, each by a look-up, and what they held off the bytes.
+/// Takes out the streams that are named, each by a look-up, and what they held off the bytes.
 fn remove_each<K: ReassemblyKey>(
     streams: &mut BTreeMap<u16, OrderedStream<K>>,
     bytes: &mut usize,
@@ -244,7 +244,7 @@ fn remove_each<K: ReassemblyKey>(
     }
 }
 
-// How the number is written: as an SSN, or with interleaving as a MID.
+/// How the number is written: as an SSN, or with interleaving as a MID.
 fn wire_number(number: u128, is_interleaved: bool) -> u32
     ensures { result ≡ wire (space_of is_interleaved) 0 number }
 {
@@ -256,7 +256,7 @@ fn wire_number(number: u128, is_interleaved: bool) -> u32
     }
 }
 
-// The streams in a handover record.
+/// The streams in a handover record.
 fn records<K: ReassemblyKey>(
     alloc: Global,
     streams: &BTreeMap<u16, OrderedStream<K>>,
@@ -276,7 +276,7 @@ fn records<K: ReassemblyKey>(
     Ok(records)
 }
 
-// The streams of a handover record.
+/// The streams of a handover record.
 fn read<K: ReassemblyKey>(
     alloc: Global,
     records: &[HandoverOrderedStream],

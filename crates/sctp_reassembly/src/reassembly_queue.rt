@@ -136,7 +136,7 @@ impl ReassemblyQueue {
         self.ready.pop()
     }
 
-    // What the TSN stands for.
+    /// What the TSN stands for.
     fn number_of(&self, tsn: Tsn) -> u64
         ensures value { result ≡ number_of self.now tsn.0 }
         ensures bound { result < 2 ^ 63 + 2 ^ 33 }
@@ -147,7 +147,7 @@ impl ReassemblyQueue {
         }
     }
 
-    // A TSN came.
+    /// A TSN came.
     fn come(&mut self, tsn: Tsn, number: u64)
         requires value { number ≡ number_of self.old tsn.0 }
         requires small { number < 2 ^ 63 }
@@ -157,7 +157,7 @@ impl ReassemblyQueue {
         self.near = number.max(FIRST);
     }
 
-    // Counts the messages that became ready since there were so many.
+    /// Counts the messages that became ready since there were so many.
     fn count_from(&mut self, before: usize)
         requires { before ≤ length self.old.ready }
         ensures { self.new ≡ record self.old { ready_count = count_ready self.old.ready_count (length self.old.ready - before) } }
@@ -166,7 +166,7 @@ impl ReassemblyQueue {
         self.ready_count = self.ready_count.saturating_add(more);
     }
 
-    // Adds a fragment to its stream.
+    /// Adds a fragment to its stream.
     fn add_now(&mut self, number: u64, fragment: Data) -> Result<(), AllocError>
         requires room { queued_bytes self.old + length fragment.payload.items < 2 ^ 64 }
         requires small { number < 2 ^ 63 }
@@ -181,7 +181,7 @@ impl ReassemblyQueue {
         added
     }
 
-    // Takes a forward point.
+    /// Takes a forward point.
     fn forward_now(&mut self, number: u64, skipped: &[SkippedStream]) -> Result<(), AllocError>
         requires { number < 2 ^ 63 }
         ensures ok { OnOk result (self.new ≡ forward_now number skipped.now self.old) }
@@ -197,7 +197,7 @@ impl ReassemblyQueue {
         passed
     }
 
-    // Whether a fragment waits for a reset.
+    /// Whether a fragment waits for a reset.
     fn fragment_waits(&self, number: u64, id: StreamId) -> bool
         ensures { result ≡ fragment_waits number id.0 self.now.deferred }
     {
@@ -207,7 +207,7 @@ impl ReassemblyQueue {
         }
     }
 
-    // Whether entries of a forward point do.
+    /// Whether entries of a forward point do.
     fn point_waits(&self, number: u64) -> bool
         ensures value { result ≡ point_waits number self.now.deferred }
         ensures deferred { result ≡ true → is_some self.now.deferred ≡ true }
@@ -218,7 +218,7 @@ impl ReassemblyQueue {
         }
     }
 
-    // Has something wait for the reset.
+    /// Has something wait for the reset.
     #[tactic(auto, using(crate::proofs::ExtendsLemmas::extends_none))]
     fn wait(&mut self, waiting: Waiting) -> Result<(), AllocError>
         requires room { queued_bytes self.old + waiting_bytes (waiting_of waiting) < 2 ^ 64 }
@@ -234,7 +234,7 @@ impl ReassemblyQueue {
         }
     }
 
-    // Has entries of a forward point wait, if it has any, or anything waits before them.
+    /// Has entries of a forward point wait, if it has any, or anything waits before them.
     #[tactic(auto, using(crate::proofs::ExtendsLemmas::extends_none))]
     fn wait_with(&mut self, number: u64, entries: Vec<SkippedStream>) -> Result<(), AllocError>
         requires { number < 2 ^ 63 }
@@ -249,7 +249,7 @@ impl ReassemblyQueue {
         self.wait(Waiting::Point(number, entries))
     }
 
-    // Takes a forward point, but has its entries for the reset's streams wait.
+    /// Takes a forward point, but has its entries for the reset's streams wait.
     #[tactic(auto, using(crate::proofs::ExtendsLemmas::extends_none, crate::proofs::ExtendsLemmas::extends_both, crate::proofs::ExtendsLemmas::counted_none, crate::proofs::ExtendsLemmas::counted_both))]
     fn forward_in_parts(&mut self, number: u64, skipped: &[SkippedStream]) -> Result<(), AllocError>
         requires small { number < 2 ^ 63 }
@@ -340,7 +340,7 @@ impl ReassemblyQueue {
         Ok(())
     }
 
-    // Takes what waited for a reset.
+    /// Takes what waited for a reset.
     fn apply(&mut self, waiting: Waiting) -> Result<(), AllocError>
         requires room { queued_bytes self.old + waiting_bytes (waiting_of waiting) < 2 ^ 64 }
         requires small { waiting_number (waiting_of waiting) < 2 ^ 63 }
@@ -355,7 +355,7 @@ impl ReassemblyQueue {
         }
     }
 
-    // Takes all that waited, in order.
+    /// Takes all that waited, in order.
     #[tactic(auto, using(crate::proofs::ExtendsLemmas::extends_none, crate::proofs::ExtendsLemmas::extends_both, crate::proofs::ExtendsLemmas::counted_none, crate::proofs::ExtendsLemmas::counted_both))]
     fn apply_each(&mut self, mut deferred: Deferred) -> Result<(), AllocError>
         requires { queued_bytes self.old + sum_by waiting_bytes deferred.waiting < 2 ^ 64 }

@@ -99,7 +99,7 @@ pub trait ReassemblyStreams {
         ensures bytes { held_bytes (streams self.new) ≤ held_bytes (streams self.old) };
 }
 
-// Takes entry after entry.
+/// Takes entry after entry.
 #[tactic(auto, using(crate::proofs::ExtendsLemmas::extends_none, crate::proofs::ExtendsLemmas::extends_both))]
 fn skip_each<S: ReassemblyStreams>(
     streams: &mut S,

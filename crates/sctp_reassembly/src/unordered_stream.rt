@@ -35,7 +35,7 @@ ghost use Rattle.sctp_fragments.specs.Held.{rank_of, bytes_of, intervals_of, is_
 ghost use Rattle.sctp_fragments.specs.Intervals.{held_at};
 ghost use Rattle.sctp_reassembly.specs.Delivery.{complete_messages, ready_bytes, Extends};
 
-// Adds a fragment, and makes the message ready that it completes.
+/// Adds a fragment, and makes the message ready that it completes.
 #[tactic(auto, using(crate::proofs::ExtendsLemmas::extends_none))]
 fn take_in<K: ReassemblyKey>(
     alloc: Global,

@@ -126,7 +126,7 @@ impl<K: ReassemblyKey> UnorderedStreams<K> {
         let _count = self.streams.len();
     }
 
-    // Makes the stream where there is none. Without memory nothing changes.
+    /// Makes the stream where there is none. Without memory nothing changes.
     fn open(&mut self, id: StreamId) -> Result<(), AllocError>
         ensures ok { OnOk result (self.new ≡ open_stream fresh_unordered id.0 self.old) }
         ensures there { OnOk result (IsSome (lookup (is_at (nat_cmp id.0)) self.new)) }
@@ -142,7 +142,7 @@ impl<K: ReassemblyKey> UnorderedStreams<K> {
         Ok(())
     }
 
-    // Adds a fragment to a stream that is there.
+    /// Adds a fragment to a stream that is there.
     #[tactic(auto, using(crate::proofs::ExtendsLemmas::extends_none))]
     fn add_to(
         &mut self,
@@ -188,7 +188,7 @@ impl<K: ReassemblyKey> UnorderedStreams<K> {
         self.add_to(id, key, fragment, ready)
     }
 
-    // Forwards a stream that is there.
+    /// Forwards a stream that is there.
     fn forward_in(&mut self, id: StreamId, first: K)
         requires there { IsSome (lookup (is_at (nat_cmp id.0)) self.old) }
         requires some { 0 < K.number first }
@@ -262,7 +262,7 @@ ghost use Rattle.sctp_fragments.specs.Key.{rank_at};
 ghost use Rattle.sctp_fragments.specs.Held.{bytes_of};
 ghost use Rattle.sctp_reassembly.specs.Delivery.{held_from};
 
-// Takes out the streams that are named, each by a look-up, and what they held off the bytes.
+/// Takes out the streams that are named, each by a look-up, and what they held off the bytes.
 fn remove_each<K: ReassemblyKey>(
     streams: &mut BTreeMap<u16, UnorderedStream<K>>,
     bytes: &mut usize,
@@ -287,7 +287,7 @@ fn bytes_in<K: ReassemblyKey>(streams: &BTreeMap<u16, UnorderedStream<K>>) -> us
     streams.values().map(|stream| stream.queued_bytes()).sum()
 }
 
-// The streams in a handover record.
+/// The streams in a handover record.
 fn records<K: ReassemblyKey>(
     alloc: Global,
     streams: &BTreeMap<u16, UnorderedStream<K>>,
@@ -303,7 +303,7 @@ fn records<K: ReassemblyKey>(
     Ok(records)
 }
 
-// The streams of a handover record.
+/// The streams of a handover record.
 fn read<K: ReassemblyKey>(
     alloc: Global,
     records: &[HandoverUnorderedStream],

@@ -213,7 +213,7 @@ impl RetransmissionQueue {
         })
     }
 
-    // A SACK that is valid. The answer is how many bytes are newly acknowledged.
+    /// A SACK that is valid. The answer is how many bytes are newly acknowledged.
     fn hear(
         &mut self,
         now: SocketTime,
@@ -245,7 +245,7 @@ impl RetransmissionQueue {
         Ok(info.bytes_acked)
     }
 
-    // The windows follow what the items received; `before` bytes were unacknowledged.
+    /// The windows follow what the items received; `before` bytes were unacknowledged.
     fn follow(&mut self, number: u64, a_rwnd: u32, moved: bool, before: usize, info: AckInfo)
         ensures { self.new ≡ record self.old {
           windows = windows_after number a_rwnd moved info.has_packet_loss before info.bytes_acked
@@ -264,7 +264,7 @@ impl RetransmissionQueue {
         }
     }
 
-    // t3-rtx begins anew where the cumulative TSN moved, and runs while something is in flight or missing.
+    /// t3-rtx begins anew where the cumulative TSN moved, and runs while something is in flight or missing.
     fn run_timer(&mut self, now: SocketTime, moved: bool)
         ensures { self.new ≡ record self.old { t3 = after_sack moved self.old.outstanding.items now self.old.t3 } }
     {
@@ -457,7 +457,7 @@ impl RetransmissionQueue {
         Ok(chunks)
     }
 
-    // What is sent again, in so much of a packet, and the bytes of the chunks.
+    /// What is sent again, in so much of a packet, and the bytes of the chunks.
     fn resend(&mut self, max_bytes: usize) -> Result<(Vec<(Tsn, Data)>, usize), AllocError>
         ensures sender { OnOk result (self.new ≡ resent_by self.old (resent max_bytes self.old)) }
         ensures chunks { IfOk result (λ r. map chunk_of r.0.items ≡ (resent max_bytes self.old).chunks) }
@@ -472,7 +472,7 @@ impl RetransmissionQueue {
         Ok((chunks, bytes))
     }
 
-    // New fragments, one after the other.
+    /// New fragments, one after the other.
     fn fill(
         &mut self,
         now: SocketTime,
@@ -496,7 +496,7 @@ impl RetransmissionQueue {
         Ok(())
     }
 
-    // One more fragment, where the windows let it go and the queue has one. The answer is what the packet has left then.
+    /// One more fragment, where the windows let it go and the queue has one. The answer is what the packet has left then.
     fn add_new(
         &mut self,
         now: SocketTime,
@@ -527,7 +527,7 @@ impl RetransmissionQueue {
         Ok(Some(left.saturating_sub(size)))
     }
 
-    // The largest payload that a packet with so much left can take: chunks are padded to 4 bytes.
+    /// The largest payload that a packet with so much left can take: chunks are padded to 4 bytes.
     fn offered(&self, left: usize) -> usize
         ensures size { result ≡ offered_payload left self.now }
         ensures small { result ≤ left }
@@ -538,7 +538,7 @@ impl RetransmissionQueue {
         room.saturating_sub(header_size(self.outstanding.is_interleaved()))
     }
 
-    // The fragment takes the next TSN. The answer is the size of its chunk.
+    /// The fragment takes the next TSN. The answer is the size of its chunk.
     fn append(
         &mut self,
         now: SocketTime,
@@ -567,7 +567,7 @@ impl RetransmissionQueue {
         Ok(size)
     }
 
-    // The timer runs once something was handed out.
+    /// The timer runs once something was handed out.
     fn run_for(&mut self, now: SocketTime, chunks: &[(Tsn, Data)])
         ensures { self.new ≡ start_timer now (map chunk_of chunks.now) self.old }
     {
@@ -576,7 +576,7 @@ impl RetransmissionQueue {
         }
     }
 
-    // These were sent again: the peer's window shrinks, and they are counted. The answer is their bytes.
+    /// These were sent again: the peer's window shrinks, and they are counted. The answer is their bytes.
     fn count_resent(&mut self, chunks: &[(Tsn, Data)]) -> usize
         ensures sender { self.new ≡ recounted_by (map chunk_of chunks.now) self.old }
         ensures bytes { result ≡ cap (sizes (is_interleaved self.old) (map chunk_of chunks.now)) }
@@ -591,7 +591,7 @@ impl RetransmissionQueue {
     }
 }
 
-// What is left of messages that were given up leaves the send queue.
+/// What is left of messages that were given up leaves the send queue.
 fn discard_all(
     outstanding: &mut OutstandingData,
     queue: &mut SendQueue,
@@ -609,7 +609,7 @@ fn discard_all(
     Ok(())
 }
 
-// The bytes of the chunks, with headers and padding; at most `usize::MAX`.
+/// The bytes of the chunks, with headers and padding; at most `usize::MAX`.
 fn sizes(chunks: &[(Tsn, Data)], is_interleaved: bool) -> usize
     ensures { result ≡ cap (sizes is_interleaved (map chunk_of chunks.now)) }
 {

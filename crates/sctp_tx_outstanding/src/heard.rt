@@ -82,7 +82,7 @@ impl Heard {
     }
 }
 
-// Whether the block is the same as the earlier one.
+/// Whether the block is the same as the earlier one.
 fn is_same(run: GapAckBlock, offset: usize, block: GapAckBlock) -> bool
     requires { offset < 2 ^ 63 }
     ensures { result ≡ ((run.start + 1 == block.start + offset) && (run.end + 1 == block.end + offset)) }
@@ -91,7 +91,7 @@ fn is_same(run: GapAckBlock, offset: usize, block: GapAckBlock) -> bool
     start == block.start as usize + offset && end == block.end as usize + offset
 }
 
-// How many blocks are the same as earlier ones from `from` on.
+/// How many blocks are the same as earlier ones from `from` on.
 fn same_blocks(runs: &[GapAckBlock], from: usize, offset: usize, blocks: &[GapAckBlock]) -> usize
     requires small { offset < 2 ^ 63 }
     requires begin { AreSame runs.now blocks.now from offset 0 }
@@ -107,7 +107,7 @@ fn same_blocks(runs: &[GapAckBlock], from: usize, offset: usize, blocks: &[GapAc
     at
 }
 
-// How many items, the first of which has this offset, no block from the one at the place on covers.
+/// How many items, the first of which has this offset, no block from the one at the place on covers.
 fn gap(blocks: &[GapAckBlock], at: usize, offset: usize) -> usize
     requires { (lowest : ℕ) × AreRuns lowest (drop at blocks.now) }
     ensures { NoneOf result offset (drop at blocks.now) }
@@ -118,7 +118,7 @@ fn gap(blocks: &[GapAckBlock], at: usize, offset: usize) -> usize
     usize::MAX
 }
 
-// How many items the rest of the blocks cover as the rest of the earlier ones does.
+/// How many items the rest of the blocks cover as the rest of the earlier ones does.
 fn edge(
     runs: &[GapAckBlock],
     from: usize,

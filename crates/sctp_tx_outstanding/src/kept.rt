@@ -80,7 +80,7 @@ impl LastFragment {
     }
 }
 
-// The fragment at the place, where it is one of the message, or else the one found before.
+/// The fragment at the place, where it is one of the message, or else the one found before.
 fn later_at(
     items: &VecDeque<Item>,
     place: usize,
@@ -98,7 +98,7 @@ fn later_at(
     found
 }
 
-// The last fragment of a message.
+/// The last fragment of a message.
 fn find_last(
     items: &VecDeque<Item>,
     messages: &Messages,
@@ -121,7 +121,7 @@ fn find_last(
     last
 }
 
-// The item at the place is one of those that are known.
+/// The item at the place is one of those that are known.
 fn list_at(items: &VecDeque<Item>, messages: &mut Messages, place: usize)
     requires { Finds messages.old (take place items.now.items) }
     ensures { Finds messages.new (take (place + 1) items.now.items) }
@@ -132,7 +132,7 @@ fn list_at(items: &VecDeque<Item>, messages: &mut Messages, place: usize)
     messages.add(item.message_id(), place);
 }
 
-// Makes known which items are of which message, if there is memory for that.
+/// Makes known which items are of which message, if there is memory for that.
 fn list_all(items: &VecDeque<Item>, messages: &mut Messages)
     requires { Finds messages.old items.now.items }
     ensures { Finds messages.new items.now.items }
@@ -146,7 +146,7 @@ fn list_all(items: &VecDeque<Item>, messages: &mut Messages)
     }
 }
 
-// The earliest moment at which an item expires.
+/// The earliest moment at which an item expires.
 fn earliest_of(items: &VecDeque<Item>) -> u128
     ensures { result ≡ earliest_of never items.now.items }
 {
@@ -157,7 +157,7 @@ fn earliest_of(items: &VecDeque<Item>) -> u128
     earliest
 }
 
-// Emits what is due as the first items leave.
+/// Emits what is due as the first items leave.
 fn tell_first(items: &VecDeque<Item>, count: usize, events: &mut Events) -> Result<(), AllocError>
     ensures ok { OnOk result (events.new ≡ emit_events (reports (take count items.now.items)) events.old) }
     ensures err { OnErr result (Grown events.old events.new) }
@@ -186,7 +186,7 @@ fn apply(item: &mut Item, change: Change)
     }
 }
 
-// Changes the item at the place. The answer is what it added to the totals, and what it adds then.
+/// Changes the item at the place. The answer is what it added to the totals, and what it adds then.
 fn change_item(
     items: &mut VecDeque<Item>,
     is_interleaved: bool,
@@ -205,7 +205,7 @@ fn change_item(
     (old, new)
 }
 
-// The bytes of the payload of the item at the place.
+/// The bytes of the payload of the item at the place.
 fn payload_at(items: &VecDeque<Item>, place: usize) -> usize
     ensures { HasSize place result items.now.items }
 {
@@ -215,7 +215,7 @@ fn payload_at(items: &VecDeque<Item>, place: usize) -> usize
     }
 }
 
-// Changes the item at the place, if there is one.
+/// Changes the item at the place, if there is one.
 fn change_one(
     items: &mut VecDeque<Item>,
     totals: &mut Totals,
@@ -240,7 +240,7 @@ fn change_one(
     waiting.follow(place, size, old.queued > 0, new.queued > 0);
 }
 
-// Adds an item behind the others. Without memory nothing changes.
+/// Adds an item behind the others. Without memory nothing changes.
 fn push_item(
     items: &mut VecDeque<Item>,
     totals: &mut Totals,
@@ -266,7 +266,7 @@ fn push_item(
     Ok(())
 }
 
-// The first item is about to leave.
+/// The first item is about to leave.
 fn leave_first(items: &VecDeque<Item>, messages: &mut Messages)
     requires { Finds messages.old items.now.items }
     ensures { Finds messages.new (drop 1 items.now.items) }
@@ -277,7 +277,7 @@ fn leave_first(items: &VecDeque<Item>, messages: &mut Messages)
     messages.leave(item.message_id());
 }
 
-// Takes the first item out.
+/// Takes the first item out.
 fn pop_item(
     items: &mut VecDeque<Item>,
     totals: &mut Totals,
@@ -300,7 +300,7 @@ fn pop_item(
     Some(item)
 }
 
-// Gives up the item at the place, where it is one of the message.
+/// Gives up the item at the place, where it is one of the message.
 fn abandon_at(
     items: &mut VecDeque<Item>,
     totals: &mut Totals,
@@ -328,7 +328,7 @@ fn abandon_at(
     );
 }
 
-// Gives up all items of a message.
+/// Gives up all items of a message.
 fn abandon_all(
     items: &mut VecDeque<Item>,
     totals: &mut Totals,
@@ -356,7 +356,7 @@ fn abandon_all(
     }
 }
 
-// Whether the item at the place is a fragment of the message.
+/// Whether the item at the place is a fragment of the message.
 fn is_of(items: &VecDeque<Item>, place: usize, message_id: OutgoingMessageId) -> bool
     ensures { result ≡ is_of_at message_id.0 place items.now.items }
 {

@@ -21,7 +21,7 @@ pub struct Messages {
     pub is_known: bool,
 }
 
-// The number of the item at the place.
+/// The number of the item at the place.
 fn number_at(first: u32, place: usize) -> Option<u32>
     ensures { IfSome result (λ number. number ≡ first + place) }
 {
@@ -31,14 +31,14 @@ fn number_at(first: u32, place: usize) -> Option<u32>
     first.checked_add(place as u32)
 }
 
-// A message and the number of an item, in one.
+/// A message and the number of an item, in one.
 fn key_of(message_id: OutgoingMessageId, number: u32) -> u64
     ensures { result ≡ key_of message_id.0 number }
 {
     u64::from(message_id.0) * (1 << 32) + u64::from(number)
 }
 
-// The least key from this one on, if it isn't above the last.
+/// The least key from this one on, if it isn't above the last.
 fn least_up_to(keys: &BTreeSet<u64>, from: u64, last: u64) -> u64
     requires { from ≤ last }
     ensures from { from ≤ result }
@@ -68,7 +68,7 @@ impl Messages {
         }
     }
 
-    // Nothing is known any more.
+    /// Nothing is known any more.
     fn forget(&mut self)
         ensures { (is : List Item) → Finds self.new is }
     {

@@ -188,7 +188,7 @@ impl OutstandingData {
         self.tsn_at(self.kept.len() - 1)
     }
 
-    // The TSN of the item at a place.
+    /// The TSN of the item at a place.
     fn tsn_at(&self, place: usize) -> Tsn
         ensures { result.0 ≡ wire_tsn self.now (self.now.items.acked + 1 + place) }
     {
@@ -257,7 +257,7 @@ impl OutstandingData {
         Ok(())
     }
 
-    // A message whose end was not sent gets one. Without memory nothing changes.
+    /// A message whose end was not sent gets one. Without memory nothing changes.
     fn close(&mut self, message_id: OutgoingMessageId) -> Result<(), AllocError>
         ensures ok { OnOk result (self.new ≡ record self.old { items = close_message message_id.0 self.old.items }) }
         ensures err { OnErr result (self.new ≡ self.old) }
@@ -281,7 +281,7 @@ impl OutstandingData {
         Ok(())
     }
 
-    // Gives up all that is kept of a message, with a record. Without memory nothing changes.
+    /// Gives up all that is kept of a message, with a record. Without memory nothing changes.
     fn give_up(
         &mut self,
         message_id: OutgoingMessageId,
@@ -305,7 +305,7 @@ impl OutstandingData {
         Ok(())
     }
 
-    // What a missing report, or a timeout, finds of the item at the place.
+    /// What a missing report, or a timeout, finds of the item at the place.
     fn loss_at(&self, place: usize, at_once: bool) -> Option<Loss>
         ensures { result ≡ option_map (loss_of self.now.items.is_partial at_once) (slice_get self.now.items.kept place) }
     {
@@ -320,7 +320,7 @@ impl OutstandingData {
         })
     }
 
-    // The item at the place is missing. Says whether it is lost. Without memory nothing changes.
+    /// The item at the place is missing. Says whether it is lost. Without memory nothing changes.
     fn nack_item(
         &mut self,
         place: usize,
@@ -346,7 +346,7 @@ impl OutstandingData {
         Ok(loss.is_lost)
     }
 
-    // The items at the places below `count` are missing, in ascending order. Says whether one is lost.
+    /// The items at the places below `count` are missing, in ascending order. Says whether one is lost.
     fn nack_below(
         &mut self,
         count: usize,
@@ -367,7 +367,7 @@ impl OutstandingData {
         Ok(is_lossy)
     }
 
-    // The same of a SACK, by whose blocks the items stand: those that a block covers are passed over.
+    /// The same of a SACK, by whose blocks the items stand: those that a block covers are passed over.
     fn nack_uncovered(
         &mut self,
         count: usize,
@@ -411,14 +411,14 @@ impl OutstandingData {
         Ok(())
     }
 
-    // Whether a lifetime may have ended: with partial reliability, that of an item that is missing or lost.
+    /// Whether a lifetime may have ended: with partial reliability, that of an item that is missing or lost.
     fn may_expire(&self, now: SocketTime) -> bool
         ensures { result ≡ false → (k : ℕ) → expired_at now k self.now.items ≡ None }
     {
         self.is_partial && self.kept.may_expire(now)
     }
 
-    // Whether the item at the place is missing or lost, and its message expired and may be given up.
+    /// Whether the item at the place is missing or lost, and its message expired and may be given up.
     fn expired_at(&self, place: usize, now: SocketTime) -> Option<OutgoingMessageId>
         ensures { option_map (λ id. id.0) result ≡ expired_at now place self.now.items }
     {
@@ -429,7 +429,7 @@ impl OutstandingData {
         None
     }
 
-    // Gives the message of the item at the place up if it expired. Without memory nothing changes.
+    /// Gives the message of the item at the place up if it expired. Without memory nothing changes.
     fn expire_item(
         &mut self,
         place: usize,
@@ -478,7 +478,7 @@ impl OutstandingData {
         }
     }
 
-    // The time since the item at the place was sent, where it was sent once.
+    /// The time since the item at the place was sent, where it was sent once.
     fn rtt_at(&self, place: usize, now: SocketTime) -> Option<Duration>
         ensures { option_map as_nanos result ≡ sample_at now place self.now.items }
     {
@@ -512,7 +512,7 @@ impl OutstandingData {
         self.acked <= number && highest < self.next_number() && number < (1 << 32) + (1 << 62)
     }
 
-    // The items up to the number leave, with their events. The answer is how many bytes are newly acknowledged by that.
+    /// The items up to the number leave, with their events. The answer is how many bytes are newly acknowledged by that.
     fn leave(&mut self, number: u64, events: &mut Events) -> Result<usize, AllocError>
         requires onward { self.old.items.acked ≤ number }
         requires small { number < 2 ^ 63 }
@@ -564,7 +564,7 @@ impl OutstandingData {
         })
     }
 
-    // What the item at the place says of its stream.
+    /// What the item at the place says of its stream.
     fn entry_at(&self, place: usize) -> Option<SkipEntry>
         ensures { result ≡ entry_at self.now.items place }
     {
@@ -584,7 +584,7 @@ impl OutstandingData {
         })
     }
 
-    // Whether a breakpoint stands before the item at the place, and another item before that.
+    /// Whether a breakpoint stands before the item at the place, and another item before that.
     fn stops_at(&self, place: usize) -> bool
         ensures { result ≡ stops place self.now.items }
     {
@@ -592,7 +592,7 @@ impl OutstandingData {
         place > 0 && has_breakpoint(&self.breakpoints, number)
     }
 
-    // Whether a forward point passes the item at the place too.
+    /// Whether a forward point passes the item at the place too.
     fn passes(&self, place: usize, entries: &[SkipEntry], max_size: usize) -> bool
         ensures { result ≡ passes_of max_size self.now.items (record { count = place; entries = entries.now }) (slice_get self.now.items.kept place) }
     {
@@ -606,7 +606,7 @@ impl OutstandingData {
         chunk_size_with(self.kept.is_interleaved(), entry, entries) <= max_size as u128
     }
 
-    // The entries of a forward point, and how many items it passes.
+    /// The entries of a forward point, and how many items it passes.
     fn forward_point(&self, max_size: usize) -> Result<ForwardPoint, AllocError>
         ensures { IfOk result (λ p. point_of p ≡ forward_point max_size self.now.items) }
     {
@@ -653,7 +653,7 @@ impl OutstandingData {
         })
     }
 
-    // The TSN so many items behind the cumulative one.
+    /// The TSN so many items behind the cumulative one.
     fn tsn_behind(&self, count: usize) -> Tsn
         ensures { result.0 ≡ wire_tsn self.now (self.now.items.acked + count) }
     {
@@ -712,7 +712,7 @@ fn has_breakpoint(breakpoints: &VecDeque<u128>, number: u128) -> bool
     breakpoints.contains(&number)
 }
 
-// Leaves the breakpoints above the number.
+/// Leaves the breakpoints above the number.
 fn forget_passed(breakpoints: &mut VecDeque<u128>, number: u64)
     ensures { breakpoints.new.items ≡ filter (λ b. nat_lt number b) breakpoints.old.items }
 {

@@ -22,7 +22,7 @@ pub struct AckInfo {
     pub has_packet_loss: bool,
 }
 
-// The bytes that count as newly acknowledged as an item leaves.
+/// The bytes that count as newly acknowledged as an item leaves.
 fn left_bytes(item: &Item, is_interleaved: bool) -> usize
     ensures { result ≡ left_part is_interleaved item.now }
 {
@@ -62,7 +62,7 @@ pub(crate) fn skip_blocks(blocks: &[GapAckBlock], mut from: usize, offset: usize
     from
 }
 
-// Whether the block covers the offset, which it doesn't end before.
+/// Whether the block covers the offset, which it doesn't end before.
 fn is_covered_at(blocks: &[GapAckBlock], at: usize, offset: usize) -> bool
     requires cursor { IsCursor blocks.now offset at }
     requires ends { (d : GapAckBlock) → at < length blocks.now → offset ≤ (slice_index_or blocks.now at d).end }
@@ -71,15 +71,15 @@ fn is_covered_at(blocks: &[GapAckBlock], at: usize, offset: usize) -> bool
     at < blocks.len() && blocks[at].start as usize <= offset
 }
 
-// Whether one of the blocks covers the offset.
+/// Whether one of the blocks covers the offset.
 fn is_covered(blocks: &[GapAckBlock], offset: usize) -> bool
     ensures { result ≡ is_covered blocks.now offset }
 {
     blocks.iter().any(|block| block.start as usize <= offset && offset <= block.end as usize)
 }
 
-// Whether a block covers the offset, and the first block that may cover the next one. Only in runs is it searched from
-// `from` on.
+/// Whether a block covers the offset, and the first block that may cover the next one. Only in runs is it searched from
+/// `from` on.
 fn look(blocks: &[GapAckBlock], is_in_runs: bool, from: usize, offset: usize) -> (usize, bool)
     requires { IsWalk is_in_runs blocks.now offset from }
     ensures cursor { IsWalk is_in_runs blocks.now offset result.0 }
@@ -92,7 +92,7 @@ fn look(blocks: &[GapAckBlock], is_in_runs: bool, from: usize, offset: usize) ->
     (block, is_covered_at(blocks, block, offset))
 }
 
-// The place behind the items from this one on that the block covers, which doesn't end before it.
+/// The place behind the items from this one on that the block covers, which doesn't end before it.
 fn end_at(blocks: &[GapAckBlock], at: usize, place: usize) -> usize
     requires small { place + 1 < 2 ^ 64 }
     requires cursor { IsCursor blocks.now (place + 1) at }
@@ -139,7 +139,7 @@ pub struct Covered {
     pub below: usize,
 }
 
-// The bytes of the chunk at the place, where it was neither acknowledged nor given up.
+/// The bytes of the chunk at the place, where it was neither acknowledged nor given up.
 fn open_at(kept: &Kept, place: usize) -> Option<usize>
     ensures { result ≡ open_size kept.now.is_interleaved (slice_get kept.now.items place) }
 {
@@ -159,7 +159,7 @@ struct Walk {
     covered: Covered,
 }
 
-// A walk that begins.
+/// A walk that begins.
 fn walk_through(blocks: &[GapAckBlock]) -> Walk
     ensures cursor { IsWalk result.is_in_runs blocks.now 1 result.block }
     ensures bytes { result.covered.bytes ≡ 0 }
@@ -172,7 +172,7 @@ fn walk_through(blocks: &[GapAckBlock]) -> Walk
     }
 }
 
-// Settles the item at the place.
+/// Settles the item at the place.
 fn settle_at(kept: &mut Kept, blocks: &[GapAckBlock], place: usize, walk: Walk) -> Walk
     requires small { place + 1 < 2 ^ 64 }
     requires within { place < length kept.old.items }

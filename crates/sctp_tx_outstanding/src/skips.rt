@@ -63,7 +63,7 @@ pub fn is_named(entries: &[SkipEntry], entry: SkipEntry) -> bool
     entries.iter().any(|other| entry.is_alike(other))
 }
 
-// How many entries stand before the place of this one.
+/// How many entries stand before the place of this one.
 fn place_of(entries: &[SkipEntry], entry: SkipEntry) -> usize
     ensures place { result ≡ entries_before entry entries.now }
     ensures within { result ≤ length entries.now }
@@ -75,7 +75,7 @@ fn place_of(entries: &[SkipEntry], entry: SkipEntry) -> usize
     place
 }
 
-// Whether the entry at the place is of this one's stream and order.
+/// Whether the entry at the place is of this one's stream and order.
 fn is_alike_at(entries: &[SkipEntry], place: usize, entry: SkipEntry) -> bool
     ensures { result ≡ is_alike_at entry place entries.now }
 {

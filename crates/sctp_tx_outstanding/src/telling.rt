@@ -9,7 +9,7 @@ use sctp_serial::LifecycleId;
 use sctp_state::{Events, SocketEvent};
 use std::alloc::AllocError;
 
-// Emits what became of a message.
+/// Emits what became of a message.
 fn tell_ending(
     events: &mut Events,
     is_abandoned: bool,

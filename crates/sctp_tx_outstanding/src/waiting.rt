@@ -29,7 +29,7 @@ pub(crate) fn put(numbers: &mut BTreeSet<u64>, number: u64, waits: bool) -> bool
     true
 }
 
-// A bound of the sizes, if one more waits.
+/// A bound of the sizes, if one more waits.
 fn lesser(least: usize, waits: bool, size: usize) -> usize
     ensures less { result ≤ least }
     ensures size { waits ≡ true → result ≤ size }
@@ -68,7 +68,7 @@ impl Waiting {
         }
     }
 
-    // The item at the place is listed, or taken out.
+    /// The item at the place is listed, or taken out.
     fn mark(&mut self, place: usize, was: bool, waits: bool)
         ensures index { (is js : List Item) → Turns self.old.first place was waits is js → IsIndex self.old is → IsIndex self.new js }
         ensures least { self.new.least ≡ self.old.least }

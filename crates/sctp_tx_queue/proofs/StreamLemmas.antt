@@ -1,7 +1,6 @@
 -- What a fragment takes from its stream.
-use Rattle.std.proofs.Common.{◌≡◌, ℕ, Bool, true, false, cond, List, [], ◌∷◌, refl, ap, ◌∙◌, arith}
+use Rattle.std.proofs.Common.{◌≡◌, ℕ, Bool, true, false, cond, List, [], ◌∷◌, refl, ap, ◌∙◌}
 use Rattle.std.specs.Prelude.{is_some}
-use Rattle.std.proofs.lemmas.Bool.Decides.{nat_tests}
 use Rattle.sctp_state.specs.Thresholds.{Watched, crosses}
 use Rattle.sctp_tx_queue.specs.Queue.{Queued, Stream}
 use Rattle.sctp_tx_queue.specs.declared.send_queue.message.MessageNumbers.{MessageNumbers}
@@ -72,6 +71,3 @@ advanced_is size n is_end s t ms p threshold is_n ends is_t is_ms is_p is_thresh
 
 pub crosses_same : (a b c d : Watched) → a.amount ≡ c.amount → a.low_threshold ≡ c.low_threshold → b.amount ≡ d.amount → b.low_threshold ≡ d.low_threshold → crosses a b ≡ crosses c d
 crosses_same a b c d e f g h = rw (e, f, g, h) refl
-
-pub crosses_itself : (w : Watched) → false ≡ crosses w w
-crosses_itself w = grind (arith, nat_tests)

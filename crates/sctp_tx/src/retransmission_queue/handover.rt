@@ -20,7 +20,7 @@ fn bounded(bytes: usize) -> u32
     bytes.min(u32::MAX as usize) as u32
 }
 
-// The windows of a record. There is no fast recovery.
+/// The windows of a record. There is no fast recovery.
 fn windows_from(tx: &HandoverTransmission, old: Windows) -> Windows
     ensures { result ≡ windows_from (transmission_of tx.now) old }
 {

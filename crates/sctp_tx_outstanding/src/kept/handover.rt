@@ -12,7 +12,7 @@ use sctp_state::api::handover::HandoverOutstandingData;
 use std::alloc::{AllocError, Global};
 use std::collections::VecDeque;
 
-// The items in a record.
+/// The items in a record.
 fn hand_over_all(
     items: &VecDeque<Item>,
     alloc: Global,
@@ -27,7 +27,7 @@ fn hand_over_all(
     Ok(())
 }
 
-// Adds the items of a record.
+/// Adds the items of a record.
 fn restore_all(
     kept: &mut Kept,
     alloc: Global,

@@ -12,8 +12,7 @@ ghost use Rattle.sctp_tx_queue.specs.Views.{produced_of};
 
 use crate::data_to_send::DataToSend;
 use crate::send_queue::stream::Stream;
-use crate::send_queue::streams::Lows;
-use crate::send_queue::telling::tell_production;
+use crate::send_queue::telling::{Lows, tell_production};
 use sctp_serial::{LifecycleId, StreamId};
 use sctp_state::Events;
 use sctp_stream_scheduler::StreamScheduler;

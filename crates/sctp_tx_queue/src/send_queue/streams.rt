@@ -37,13 +37,6 @@ use std::alloc::{AllocError, Global};
 use std::collections::BTreeMap;
 use std::marker::Model;
 
-/// Which amounts fall to their thresholds.
-#[derive(Clone, Copy)]
-pub struct Lows {
-    pub is_low: bool,
-    pub is_total_low: bool,
-}
-
 /// The streams by id. `total` counts the bytes on all of them that are not sent, `ready_count` the streams that can be
 /// reset and are in no request.
 #[derive(Drop)]
@@ -97,7 +90,7 @@ impl Streams {
         Ok(streams)
     }
 
-    // The streams of a record without messages.
+    /// The streams of a record without messages.
     fn without_messages(
         &self,
         alloc: Global,
@@ -188,7 +181,7 @@ impl Streams {
         self.push_first(alloc, id, message)
     }
 
-    // Adds a message to a stream that is there.
+    /// Adds a message to a stream that is there.
     fn push_behind(&mut self, id: StreamId, message: QueuedMessage) -> Result<(), AllocError>
         requires there { IsSome (lookup (is_at (nat_cmp id.0)) self.old.entries) }
         requires room { total_of self.old.entries < 2 ^ 32 }
@@ -204,7 +197,7 @@ impl Streams {
         Ok(())
     }
 
-    // Makes a stream with a message.
+    /// Makes a stream with a message.
     fn push_first(
         &mut self,
         alloc: Global,
@@ -270,73 +263,6 @@ impl Streams {
         let before = stream.amount();
         stream.drop_stale(now);
         self.total.decrease(before - stream.amount());
-    }
-
-    /// The next fragment of a stream, of at most `size` bytes. The stream goes on by `advance`.
-    pub fn fragment(
-        &self,
-        alloc: Global,
-        id: StreamId,
-        size: usize,
-    ) -> Result<Option<DataToSend>, AllocError>
-        ensures { IfOk result (λ found. option_map produced_of found ≡ next_fragment id.0 size (stream id.0 self.now)) }
-    {
-        match self.streams.get(&id.0) {
-            Some(stream) => stream.fragment(alloc, id, size),
-            None => Ok(None),
-        }
-    }
-
-    /// Which amounts fall to their thresholds by the next fragment.
-    pub fn lows_after(&self, id: StreamId, size: usize) -> Lows
-        ensures stream { result.is_low ≡ crosses (watched_amount (stream id.0 self.now)) (watched_amount (advance size (stream id.0 self.now))) }
-        ensures total { result.is_total_low ≡ crosses (watched_total self.now) (watched_total (streams_after id.0 size self.now)) }
-    {
-        match self.streams.get(&id.0) {
-            Some(stream) => {
-                let bytes = stream.fragment_size(size);
-                Lows {
-                    is_low: stream.is_low_after(size),
-                    is_total_low: self.total.is_crossed_by(bytes),
-                }
-            }
-            None => Lows {
-                is_low: false,
-                is_total_low: false,
-            },
-        }
-    }
-
-    /// The bytes that a stream has to send after its next fragment.
-    pub fn sendable_after(&self, id: StreamId, size: usize) -> usize
-        ensures { result ≡ sendable (stream id.0 (streams_after id.0 size self.now)) }
-    {
-        match self.streams.get(&id.0) {
-            Some(stream) => stream.sendable_after(size),
-            None => 0,
-        }
-    }
-
-    /// A stream's priority, which no fragment changes.
-    pub fn priority_after(&self, id: StreamId, _size: usize) -> u16
-        ensures { result ≡ (stream id.0 (streams_after id.0 _size self.now)).priority }
-    {
-        self.priority(id)
-    }
-
-    /// The next fragment of a stream is sent.
-    pub fn advance(&mut self, id: StreamId, size: usize)
-        ensures { self.new ≡ streams_after id.0 size self.old }
-    {
-        let _count = self.streams.len();
-        let Some(stream) = self.streams.get_mut(&id.0) else {
-            return;
-        };
-        let before = stream.amount();
-        let was_ready = stream.is_ready();
-        stream.advance(size);
-        self.total.decrease(before - stream.amount());
-        self.ready_count = ready_count_after(self.ready_count, was_ready, stream.is_ready());
     }
 
     /// A stream sends its next fragment, of at most `size` bytes, with its events: the stream goes in line for the one after
@@ -600,7 +526,7 @@ impl Streams {
     }
 }
 
-// How many streams are ready after a change of one of them.
+/// How many streams are ready after a change of one of them.
 fn ready_count_after(count: usize, was_ready: bool, is_ready: bool) -> usize
     requires least { one was_ready ≤ count }
     requires most { count < 2 ^ 63 }
@@ -663,7 +589,7 @@ fn queued_messages(
     Ok(records)
 }
 
-// The streams of a record without messages.
+/// The streams of a record without messages.
 fn restored_streams(
     alloc: Global,
     low_threshold: usize,
@@ -680,7 +606,7 @@ fn restored_streams(
     Ok(streams)
 }
 
-// Adds the messages of a record to its streams, which are there without messages.
+/// Adds the messages of a record to its streams, which are there without messages.
 fn restore_messages(
     streams: &mut Streams,
     alloc: Global,

@@ -4,12 +4,18 @@ ghost use Rattle.std.specs.Prelude.{◌≡◌, [], ◌∷◌, ◌++◌, OnOk, On
 ghost use Rattle.sctp_state.specs.Events.{event_of, expiry, give_up, emit_events, Grown};
 ghost use Rattle.sctp_tx_queue.specs.Produced.{when, fully_sent, production};
 
-use crate::send_queue::streams::Lows;
 use sctp_serial::{LifecycleId, OutgoingMessageId, StreamId};
 use sctp_state::{Events, GivenUp, GivenUpCause, SocketEvent};
 use std::alloc::AllocError;
 
-// A message was dropped before it was fully sent.
+/// Which amounts fall to their thresholds.
+#[derive(Clone, Copy)]
+pub(crate) struct Lows {
+    pub is_low: bool,
+    pub is_total_low: bool,
+}
+
+/// A message was dropped before it was fully sent.
 pub(crate) fn tell_expired(
     events: &mut Events,
     lifecycle_id: Option<LifecycleId>,
@@ -24,7 +30,7 @@ pub(crate) fn tell_expired(
     Ok(())
 }
 
-// A message was given up before a fragment of it was sent.
+/// A message was given up before a fragment of it was sent.
 pub(crate) fn tell_dropped(
     events: &mut Events,
     number: OutgoingMessageId,
@@ -63,7 +69,7 @@ fn tell_fully_sent(events: &mut Events, lifecycle_id: Option<LifecycleId>) -> Re
     Ok(())
 }
 
-// A fragment was handed out.
+/// A fragment was handed out.
 pub(crate) fn tell_production(
     events: &mut Events,
     id: StreamId,
