@@ -55,7 +55,7 @@ fn maybe_send_sack<C: Checksum>(
     if !tcb.data_tracker.should_send_ack(context.clock, false) {
         return Ok(());
     }
-    let mut packet = tcb.new_packet(context.alloc, &context.options);
+    let mut packet = context.new_packet(tcb);
     let window = tcb.reassembly_queue.remaining_bytes() as u32;
     let sack = tcb.data_tracker.create_selective_ack(window)?;
     packet.add(Chunk::Sack(sack))?;

@@ -5,7 +5,7 @@ ghost use Rattle.sctp_packet.specs.ChunkView.{chunk_tree};
 ghost use Rattle.sctp_state.specs.Events.{OnError, OnAborted, event_of};
 ghost use Rattle.sctp_state.specs.Options.{IsValid, options_of};
 ghost use Rattle.spec_endpoint.specs.Association.{context};
-ghost use Rattle.spec_endpoint.specs.Packets.{complain, emit, emit_chunk, empty_packet, say};
+ghost use Rattle.spec_endpoint.specs.Packets.{complain, emit, emit_chunk, empty_packet, new_packet, say};
 ghost use Rattle.sctp_endpoint.specs.Views.{context_of, tcb_of};
 ghost use Rattle.spec_endpoint.specs.Wire.{writing};
 ghost use Rattle.spec_endpoint.specs.Shutdown as closing;
@@ -46,6 +46,8 @@ pub struct Context<C: Checksum> {
     pub peer_implementation: SctpImplementation,
     pub events: Events,
     pub checksum: C,
+    /// The memory of the last packet's list of chunks, for the next packet.
+    pub chunk_list: Vec<Chunk>,
 }
 
 impl<C: Checksum> Model for Context<C> {
@@ -109,7 +111,18 @@ impl<C: Checksum> Context<C> {
             peer_implementation: SctpImplementation::Unknown,
             events: Events::new(alloc),
             checksum,
+            chunk_list: Vec::new(alloc),
         }
+    }
+
+    /// An empty packet to the peer, in the memory of an earlier one.
+    pub fn new_packet(&mut self, tcb: &TransmissionControlBlock) -> OutgoingPacket
+        ensures packet { result ≡ new_packet self.old.options (tcb_of tcb.now) }
+        ensures context { self.new ≡ self.old }
+    {
+        let mut packet = tcb.new_packet(self.alloc, &self.options);
+        packet.swap_memory(&mut self.chunk_list);
+        packet
     }
 
     /// A packet goes out, where something was put into it; then it is empty again.

@@ -13,6 +13,7 @@ use sctp_packet::{COMMON_HEADER_SIZE, Chunk, SctpPacketBuilder};
 use sctp_wire::{Checksum, SerializableTlv};
 use std::alloc::{AllocError, Global};
 use std::marker::Model;
+use std::mem;
 
 /// A packet that is put together.
 #[derive(Drop)]
@@ -59,6 +60,15 @@ impl OutgoingPacket {
         ensures { self.new ≡ record self.old { is_summed = write_checksum } }
     {
         self.write_checksum = write_checksum;
+    }
+
+    /// Gives the memory of the list of chunks and takes that of this one. The packet is empty then, with the same tag and limit.
+    pub fn swap_memory(&mut self, list: &mut Vec<Chunk>)
+        ensures { self.new ≡ empty_packet self.old }
+    {
+        list.clear();
+        self.body_size = 0;
+        mem::swap(&mut self.chunks, list);
     }
 
     /// Whether nothing was added.

@@ -137,9 +137,10 @@ impl<C: Checksum> Context<C> {
             &mut self.send_queue,
             &mut self.events,
         )?;
-        if !fragments.is_empty() {
-            self.restart_heartbeat_interval();
+        if fragments.is_empty() {
+            return Ok(());
         }
+        self.restart_heartbeat_interval();
         let is_immediate = tcb.retransmission_queue.cwnd() < self.immediate_sack_cwnd();
         add_fragments(packet, tcb, is_immediate, fragments)
     }
@@ -235,7 +236,9 @@ impl<C: Checksum> Context<C> {
     ) -> Result<(), AllocError>
         ensures { OnOk result (sent_of C.word_of tcb.new self.new ≡ send_with is_alone packet (tcb_of tcb.old) (context_of C.word_of self.old)) }
     {
-        self.send_burst(&mut packet, tcb, is_alone)
+        self.send_burst(&mut packet, tcb, is_alone)?;
+        packet.swap_memory(&mut self.chunk_list);
+        Ok(())
     }
 
     /// What may be sent goes out.
@@ -246,7 +249,7 @@ impl<C: Checksum> Context<C> {
     ) -> Result<(), AllocError>
         ensures { OnOk result (sent_of C.word_of tcb.new self.new ≡ send_buffered is_alone (tcb_of tcb.old) (context_of C.word_of self.old)) }
     {
-        let packet = tcb.new_packet(self.alloc, &self.options);
+        let packet = self.new_packet(tcb);
         self.send_buffered_packets_with(tcb, is_alone, packet)
     }
 
