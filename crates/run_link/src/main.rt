@@ -36,7 +36,7 @@ struct End<S> {
     socket: S,
     came: Vec<Vec<u8>>,
     sent: Vec<Vec<u8>>,
-    told: Vec<SocketEvent>,
+    events: Vec<SocketEvent>,
     messages: Vec<Message>,
     sent_count: u32,
     message_count: u32,
@@ -47,7 +47,7 @@ fn new_end<S>(rt: &HostRuntime, socket: S) -> End<S> {
         socket,
         came: Vec::new(rt.alloc()),
         sent: Vec::new(rt.alloc()),
-        told: Vec::new(rt.alloc()),
+        events: Vec::new(rt.alloc()),
         messages: Vec::new(rt.alloc()),
         sent_count: 0,
         message_count: 0,
@@ -64,7 +64,7 @@ fn turn<S: DcSctpSocket>(end: &mut End<S>, now: SocketTime) -> Result<SocketTime
     for _ in 0..MANY {
         match end.socket.poll_event() {
             Some(SocketEvent::SendPacket(bytes)) => end.sent.push(bytes)?,
-            Some(event) => end.told.push(event)?,
+            Some(event) => end.events.push(event)?,
             None => break,
         }
     }
@@ -79,7 +79,7 @@ fn turn<S: DcSctpSocket>(end: &mut End<S>, now: SocketTime) -> Result<SocketTime
 
 /// Prints what the socket emitted and handed out.
 fn show<S>(rt: &HostRuntime, name: &str, end: &mut End<S>) -> Result<()> {
-    for event in end.told.drain(..) {
+    for event in end.events.drain(..) {
         println!(rt; "{name} {event:?}")?;
     }
     for message in end.messages.drain(..) {

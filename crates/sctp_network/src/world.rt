@@ -252,7 +252,7 @@ impl<R: Rng, C: Checksum> World<R, C> {
     }
 
     /// Bytes from elsewhere come to an end.
-    fn come(&mut self, end: End, bytes: &[u8]) -> Result<(), CallError>
+    fn inject(&mut self, end: End, bytes: &[u8]) -> Result<(), CallError>
         ensures ok { OnOk result (Injects (end_tree end) bytes.now (world_of R.stream C.word_of self.old) (world_of R.stream C.word_of self.new)) }
         ensures failed { self.new.has_failed ≡ self.old.has_failed }
     {

@@ -121,7 +121,7 @@ impl<R: Rng, C: Checksum> Side<R, C> {
         let association = self.socket.association();
         let is_same = is_same(before.association, association);
         log_association(end, is_same, association, log)?;
-        take_told(&mut self.socket, &mut self.packets, end, log)?;
+        take_events(&mut self.socket, &mut self.packets, end, log)?;
         take_given_up(&mut self.socket, end, log)?;
         let place = if is_same { before.ready } else { 0 };
         log_ready(alloc, &self.socket, end, place, log)
@@ -157,7 +157,7 @@ impl<R: Rng, C: Checksum> Side<R, C> {
     }
 
     /// The end's time is advanced.
-    pub fn tell_time(
+    pub fn advance_time(
         &mut self,
         alloc: Global,
         end: End,
@@ -194,7 +194,7 @@ impl<R: Rng, C: Checksum> Side<R, C> {
     }
 
     /// The packet of this number, with these bytes, is given to the end.
-    pub fn hear(
+    pub fn receive(
         &mut self,
         alloc: Global,
         end: End,
@@ -210,7 +210,7 @@ impl<R: Rng, C: Checksum> Side<R, C> {
     }
 
     /// Bytes from elsewhere that the end refuses come to it.
-    fn hear_foreign(
+    fn receive_foreign(
         &mut self,
         alloc: Global,
         end: End,
@@ -236,7 +236,7 @@ impl<R: Rng, C: Checksum> Side<R, C> {
     }
 
     /// Bytes from elsewhere come to the end, which are skipped where it wouldn't refuse them.
-    pub fn come(
+    pub fn inject(
         &mut self,
         alloc: Global,
         end: End,
@@ -316,7 +316,7 @@ fn take_event(
 }
 
 /// Takes all events that the end emitted.
-fn take_told<R: Rng, C: Checksum>(
+fn take_events<R: Rng, C: Checksum>(
     socket: &mut Socket<R, C>,
     packets: &mut Vec<Vec<u8>>,
     end: End,

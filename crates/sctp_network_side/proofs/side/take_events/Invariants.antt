@@ -1,7 +1,7 @@
 use Rattle.std.proofs.Common.{◌≡◌, ◌++◌, length, map}
 use Rattle.spec_world.specs.World.{packets_in, emitted_entries}
 use Rattle.sctp_network_side.specs.SideView.{end_tree, entry_tree, without_events}
-use Rattle.sctp_network_side.proofs.side.take_told.Given as goal
+use Rattle.sctp_network_side.proofs.side.take_events.Given as goal
 
 abbrev pub invariant-loop-event : goal.invariant-loop-event
 invariant-loop-event g l = record {

@@ -3,7 +3,7 @@ use Rattle.std.proofs.lemmas.Result.{on_ok_weaker}
 use Rattle.spec_world.specs.Observations.{Given}
 use Rattle.spec_world.specs.World.{TakesBytes}
 use Rattle.sctp_network_side.specs.SideView.{SideValue, end_tree, entry_tree, side_in}
-use Rattle.sctp_network_side.proofs.side.Side.hear.Goals as goal
+use Rattle.sctp_network_side.proofs.side.Side.receive.Goals as goal
 
 pub returns : goal.returns
 returns g c =

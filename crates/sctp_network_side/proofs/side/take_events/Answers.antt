@@ -5,7 +5,7 @@ use Rattle.spec_world.specs.World.{packets_in}
 use Rattle.sctp_network_side.specs.SideView.{end_tree, without_events}
 use Rattle.sctp_association.specs.Socket.{SocketValue}
 use Rattle.sctp_network_side.proofs.EmittedLemmas.{packets_taken, emitted_taken}
-use Rattle.sctp_network_side.proofs.side.take_told.Goals as goal
+use Rattle.sctp_network_side.proofs.side.take_events.Goals as goal
 
 pub loop-event-preserved : goal.loop-event-preserved
 loop-event-preserved g c =
