@@ -241,12 +241,18 @@ impl<R: Rng, C: Checksum> World<R, C> {
                 &self.a,
                 &mut self.log,
             ),
-            Event::Foreign(end, bytes) => Ok(self.come(*end, bytes)?),
+            Event::Foreign(end, bytes) => Ok(self.inject(*end, bytes)?),
             Event::Time(End::A, now) => {
-                Ok(self.a.tell_time(self.alloc, End::A, *now, &mut self.log)?)
+                Ok(
+                    self.a
+                        .advance_time(self.alloc, End::A, *now, &mut self.log)?,
+                )
             }
             Event::Time(End::B, now) => {
-                Ok(self.b.tell_time(self.alloc, End::B, *now, &mut self.log)?)
+                Ok(
+                    self.b
+                        .advance_time(self.alloc, End::B, *now, &mut self.log)?,
+                )
             }
         }
     }
@@ -257,8 +263,8 @@ impl<R: Rng, C: Checksum> World<R, C> {
         ensures failed { self.new.has_failed ≡ self.old.has_failed }
     {
         match end {
-            End::A => self.a.come(self.alloc, end, bytes, &mut self.log),
-            End::B => self.b.come(self.alloc, end, bytes, &mut self.log),
+            End::A => self.a.inject(self.alloc, end, bytes, &mut self.log),
+            End::B => self.b.inject(self.alloc, end, bytes, &mut self.log),
         }
     }
 
@@ -371,5 +377,5 @@ fn give<R: Rng, C: Checksum>(
     let Some(bytes) = from.packet(number) else {
         return Err(WorldError::NoSuchPacket);
     };
-    Ok(to.hear(alloc, end, number, bytes, log)?)
+    Ok(to.receive(alloc, end, number, bytes, log)?)
 }

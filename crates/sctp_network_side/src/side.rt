@@ -247,7 +247,7 @@ impl<R: Rng, C: Checksum> Side<R, C> {
             (map entry_tree log.old.items) (map entry_tree log.new.items)) }
     {
         if self.socket.refuses(bytes)? {
-            self.hear_foreign(alloc, end, bytes, log)
+            self.receive_foreign(alloc, end, bytes, log)
         } else {
             Ok(self.skip(end, log)?)
         }

@@ -138,7 +138,7 @@ fn take_event<S>(end: &mut End<S>, event: SocketEvent) -> Result<()> {
 }
 
 /// Takes all that the socket emits.
-fn take_told<S: Soaked>(end: &mut End<S>) -> Result<()> {
+fn take_events<S: Soaked>(end: &mut End<S>) -> Result<()> {
     for _ in 0..MANY {
         match end.socket.poll_event() {
             Some(event) => take_event(end, event)?,
@@ -170,7 +170,7 @@ pub fn turn<S: Soaked>(end: &mut End<S>, now: SocketTime) -> Result<()> {
     }
     end.socket.advance_time(now)?;
     take_messages(end);
-    take_told(end)
+    take_events(end)
 }
 
 /// Asks for the reset that is due, once all of the stream's messages were sent: what is queued would be given up. Answers whether none is
