@@ -8,8 +8,8 @@ use Rattle.spec_endpoint.specs.Input as table
 use Rattle.sctp_association.proofs.PlaceLemmas.{carries_it, carries_none}
 use Rattle.sctp_association.proofs.input.receive_in_place.Goals as goal
 
-pub hear-requires : goal.hear-requires
-hear-requires g c =
+pub receive-requires : goal.receive-requires
+receive-requires g c =
     carries_none (raw_chunk c.args.raw) (chunk_tree c.in_ok-chunk-in-None.chunk) c.in-None.ensures.no_data c.in-None.ensures.no_idata c.in_ok-chunk-in-None.ensures
 
 pub returns-in-Some : goal.returns-in-Some
