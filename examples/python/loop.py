@@ -39,7 +39,7 @@ def new(seed):
 
 
 def settle(ends):
-    """Hands each packet to the other end, until none is told."""
+    """Hands each packet to the other end, until none is emitted."""
     goes_on = True
     while goes_on:
         goes_on = False
