@@ -405,6 +405,7 @@ impl RetransmissionQueue {
         ensures err { OnErr result (PartlySent self.old self.new) }
         ensures taken { OnErr result (PartlyTaken queue.old queue.new) }
     {
+        // (read for its bound: a sum that is capped stays as it is where nothing is added)
         let _count = self.rtx_bytes_count();
         if self.is_idle(queue) {
             return Ok(Vec::new(self.alloc));
@@ -443,6 +444,7 @@ impl RetransmissionQueue {
         ensures err { OnErr result (PartlySent self.old self.new) }
         ensures taken { OnErr result (PartlyTaken queue.old queue.new) }
     {
+        // (read for its bound: what the window lets go is not capped)
         let _cwnd = self.cwnd();
         discard_all(&mut self.outstanding, queue, events)?;
         let (mut chunks, bytes) = self.resend(max_bytes)?;
