@@ -31,7 +31,7 @@ use Rattle.proof_rx_refines.specs.Resets.{base_now, IsWaitingFor}
 use Rattle.spec_endpoint.specs.Association.{Tcb, State, Closed, CookieWait, Open}
 use Rattle.spec_endpoint.specs.Laws.{Call}
 use Rattle.proof_endpoint.specs.Mapped.{Carried}
-use Rattle.proof_pair.specs.Acts.{Making, IsReceived}
+use Rattle.proof_pair.specs.Acts.{EndWithPacket, IsReceived}
 use Rattle.proof_pair.specs.Trace.{packets_in, AreValidOptions}
 use Rattle.proof_pair.proofs.JoinActsLemmas.{Setting}
 use Rattle.proof_delivery.specs.Asks.{Ask, AreAsked, SaysOutgoing, SaysIncoming, IsAsking, IsAnswering}
@@ -208,7 +208,7 @@ module _ (message : ℕ → Message) (lifecycle : ℕ → Option ℕ) (is_interl
   -- Each chunk that it puts into a packet or emits, now and behind what was emitted before. These streams were to be reset in the action. A
   -- request that waits goes out before 2^30 fragments more are numbered; it waited before, or is of this action. Each answer is emitted, and
   -- none as failed.
-  pub record SenderClaim (from : Direction) (prepared : List ℕ) (m : Making Carried) (x : Direction) : Type 0 where
+  pub record SenderClaim (from : Direction) (prepared : List ℕ) (m : EndWithPacket Carried) (x : Direction) : Type 0 where
     pub kept : IsKept message is_interleaved x
     pub goes : GoesOn message is_interleaved goes_out from x
     pub done : x.done ≡ from.done
@@ -250,7 +250,7 @@ module _ (message : ℕ → Message) (is_interleaved : Bool) where
   ReceivesIn (Open phase t) handed x = IsReceiving handed t x
 
   -- each reset that it performs it emits
-  pub record ReceiverClaim (from : Direction) (handed : List messages.Message) (m : Making Carried) (x : Direction) : Type 0 where
+  pub record ReceiverClaim (from : Direction) (handed : List messages.Message) (m : EndWithPacket Carried) (x : Direction) : Type 0 where
     pub kept : IsKept message is_interleaved x
     pub goes : GoesOn message is_interleaved goes_in from x
     pub stay : AsksStay from x
@@ -283,7 +283,7 @@ pub record ReceivesData (message : ℕ → Message) (is_interleaved : Bool) (cal
 -- ---- where an act leads, and what it may use
 
 module _ (message : ℕ → Message) (lifecycle : ℕ → Option ℕ) (is_interleaved : Bool) where
-  abbrev pub SenderGoes : Direction → (before after : Making Carried) → Type 0
+  abbrev pub SenderGoes : Direction → (before after : EndWithPacket Carried) → Type 0
   SenderGoes from a b =
       (prepared : List ℕ) (x : Direction) → SenderClaim message lifecycle is_interleaved from prepared a x → (y : Direction) × SenderClaim message lifecycle is_interleaved from prepared b y
 
@@ -297,7 +297,7 @@ module _ (message : ℕ → Message) (lifecycle : ℕ → Option ℕ) (is_interl
     pub beside : ReceivesIn message is_interleaved g.beside handed from
     pub hears : ReceivesSacks call (first_in g.beside) from
 
-  abbrev pub ReceiverGoes : Direction → List messages.Message → (before after : Making Carried) → Type 0
+  abbrev pub ReceiverGoes : Direction → List messages.Message → (before after : EndWithPacket Carried) → Type 0
   ReceiverGoes from handed a b = (x : Direction) → ReceiverClaim message is_interleaved from handed a x → (y : Direction) × ReceiverClaim message is_interleaved from handed b y
 
   -- of the sender beside it, its windows, and what comes from there

@@ -18,7 +18,7 @@ use Rattle.spec_endpoint.specs.StreamReset.{reset_refusal}
 use Rattle.spec_endpoint.specs.Input.{refusal, counts, taken_if}
 use Rattle.spec_endpoint.specs.Laws.{Call, Connect, Close, Shutdown, Send, SendMany, ResetStreams, TakeMessage, SetLowThreshold, SetPriority, SetMaxMessageSize, Advance, HandOver, Restore, Packet, NoPacket, called, endings}
 use Rattle.proof_endpoint.specs.Mapped.{Carried}
-use Rattle.proof_pair.specs.Acts.{Making, calm, HasNoEnd}
+use Rattle.proof_pair.specs.Acts.{EndWithPacket, calm, HasNoEnd}
 use Rattle.proof_pair.specs.Trace.{Side, packets_in, emitted_packets, EndAction, Calls, Gives, Refuses, as_received, give, foreign_if, act, MayCall, MayAct, AreValidOptions, state_of}
 use Rattle.proof_pair.specs.Handing.{handed_by}
 use Rattle.proof_pair.proofs.JoinActsLemmas.{Setting}
@@ -83,7 +83,7 @@ module _ (message : ℕ → Message) (lifecycle : ℕ → Option ℕ) (is_interl
     accounts = λ gone a. accounts_in message lifecycle is_interleaved s gone x a y c.goes;
   }
 
-  none_handed : (m : Making Carried) (y : Direction) → ReceiverClaim message is_interleaved x handed m y → ReceiverClaim message is_interleaved x (handed ++ []) m y
+  none_handed : (m : EndWithPacket Carried) (y : Direction) → ReceiverClaim message is_interleaved x handed m y → ReceiverClaim message is_interleaved x (handed ++ []) m y
   none_handed m y c = subst (λ (ms : List messages.Message). ReceiverClaim message is_interleaved x ms m y) (sym same_handed) c
 
   -- nothing is done yet
@@ -115,7 +115,7 @@ module _ (message : ℕ → Message) (lifecycle : ℕ → Option ℕ) (is_interl
       (begins q o r s r.got_init (λ z. z) h.other h.own)) stands
 
   -- nothing happens that the rules see
-  quietly_in : (out : List messages.Message) (m : Making Carried) → ReceivesIn message is_interleaved m.state (handed ++ out) x → packets_in m.context.emitted.events ≡ []
+  quietly_in : (out : List messages.Message) (m : EndWithPacket Carried) → ReceivesIn message is_interleaved m.state (handed ++ out) x → packets_in m.context.emitted.events ≡ []
       → resets_in m.context.emitted.events ≡ [] → m.packet.chunks ≡ [] → ReceiverClaim message is_interleaved x (handed ++ out) m x
   quietly_in out m shown emitted resets made = record {
     kept = f.kept;

@@ -7,7 +7,7 @@ use Rattle.sctp_state.specs.Events.{OnClosed}
 use Rattle.spec_endpoint.specs.Association.{Endpoint}
 use Rattle.spec_endpoint.specs.Laws.{Call, Connect, Close, Shutdown, Send, SendMany, ResetStreams, TakeMessage, SetLowThreshold, SetPriority, SetMaxMessageSize, Advance, HandOver, Restore, Packet, NoPacket, called}
 use Rattle.proof_endpoint.specs.Mapped.{Carried}
-use Rattle.proof_pair.specs.Acts.{Making, calm, alone, among, PacketAct, before_packets, after_packets, OpeningAct, connects, adds_init, answers_new, answers_waiting, answers_echoed, answers_again, echoes, adds_cookie, establishes, opens, restarts, opens_again, maintains, adds_cookie_ack, before_opening, after_opening, ClosingAct, closes, shuts, shuts_on, before_closing, after_closing, DataAct, before_data, after_data, SackAct, before_sack, after_sack, SendingAct, before_sending, after_sending, TimeAct, before_time, after_time, CallAct, accepts, refuses, takes_message, sets_low_threshold, sets_priority, sets_max_message_size, before_call, after_call, ResetAct, prepares, defers, performs, processes, takes_response, adds_responses, before_reset, after_reset, HandoverAct, leaves, takes_up, before_handover, after_handover, InputAct, before_input, after_input, HasNoEnd, PreservesUntilEnd}
+use Rattle.proof_pair.specs.Acts.{EndWithPacket, calm, alone, among, PacketAct, before_packets, after_packets, OpeningAct, connects, adds_init, answers_new, answers_waiting, answers_echoed, answers_again, echoes, adds_cookie, establishes, opens, restarts, opens_again, maintains, adds_cookie_ack, before_opening, after_opening, ClosingAct, closes, shuts, shuts_on, before_closing, after_closing, DataAct, before_data, after_data, SackAct, before_sack, after_sack, SendingAct, before_sending, after_sending, TimeAct, before_time, after_time, CallAct, accepts, refuses, takes_message, sets_low_threshold, sets_priority, sets_max_message_size, before_call, after_call, ResetAct, prepares, defers, performs, processes, takes_response, adds_responses, before_reset, after_reset, HandoverAct, leaves, takes_up, before_handover, after_handover, InputAct, before_input, after_input, HasNoEnd, PreservesUntilEnd}
 use Rattle.proof_pair.proofs.UntilLemmas.{no_end, until_end}
 use Rattle.proof_pair.proofs.JoinActsLemmas.{Setting, InvAt}
 use Rattle.proof_pair.proofs.JoinKeepsLemmas.{Rules, no_restart, no_again, same_verdict}
@@ -51,9 +51,9 @@ IsReceivedReset (prepares stream phase t m asked can) = ⊥
 IsReceivedReset act = ⊤
 
 -- A relation that holds of nothing done, goes on, and holds of each of these acts, where both ends are consistent before and after.
-pub record KeepsJoined (g : Setting) (call : Call) (R : Making Carried → Making Carried → Type 0) : Type 0 where
-  pub same : (m : Making Carried) → R m m
-  pub through : {a b c : Making Carried} → R a b → R b c → R a c
+pub record KeepsJoined (g : Setting) (call : Call) (R : EndWithPacket Carried → EndWithPacket Carried → Type 0) : Type 0 where
+  pub same : (m : EndWithPacket Carried) → R m m
+  pub through : {a b c : EndWithPacket Carried} → R a b → R b c → R a c
   pub packets : (act : PacketAct Carried call) → InvAt g (before_packets act) → InvAt g (after_packets act) → R (before_packets act) (after_packets act)
   pub opening : (act : OpeningAct Carried call) → Lasts act → InvAt g (before_opening act) → InvAt g (after_opening act)
       → R (before_opening act) (after_opening act)
@@ -69,13 +69,13 @@ pub record KeepsJoined (g : Setting) (call : Call) (R : Making Carried → Makin
   pub input : (act : InputAct Carried call) → InvAt g (before_input act) → InvAt g (after_input act) → R (before_input act) (after_input act)
 
 -- with the joint of both ends
-abbrev pub Joined : Setting → (Making Carried → Making Carried → Type 0) → Making Carried → Making Carried → Type 0
+abbrev pub Joined : Setting → (EndWithPacket Carried → EndWithPacket Carried → Type 0) → EndWithPacket Carried → EndWithPacket Carried → Type 0
 Joined g R a b = InvAt g a → InvAt g b × R a b
 
 pub not_other : (call c : Call) → is_other call ≡ true → call ≡ c → is_other c ≡ false → ⊥
 not_other call c other e f = (both_ways (is_other call) (ap is_other e ∙ f) other)
 
-module _ (g : Setting) (call : Call) (r : Rules g call) (other : is_other call ≡ true) {R : Making Carried → Making Carried → Type 0} (k : KeepsJoined g call R) where
+module _ (g : Setting) (call : Call) (r : Rules g call) (other : is_other call ≡ true) {R : EndWithPacket Carried → EndWithPacket Carried → Type 0} (k : KeepsJoined g call R) where
   j : PreservesUntilEnd call (λ a b. InvAt g a → InvAt g b)
   j = joins g call r
 

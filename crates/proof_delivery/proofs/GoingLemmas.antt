@@ -28,7 +28,7 @@ use Rattle.spec_endpoint.specs.StreamReset.{reset_refusal, reset_if}
 use Rattle.proof_endpoint.specs.Mapped.{Carried}
 use Rattle.proof_endpoint.proofs.LawsLemmas.{emits_endings}
 use Rattle.proof_endpoint.proofs.EmitsLemmas.{endings_append}
-use Rattle.proof_pair.specs.Acts.{Making, calm, end_of, HasNoEnd, PreservesUntilEnd}
+use Rattle.proof_pair.specs.Acts.{EndWithPacket, calm, end_of, HasNoEnd, PreservesUntilEnd}
 use Rattle.proof_pair.specs.Trace.{Side, packets_in, emitted_packets, EndAction, Calls, Gives, Refuses, as_received, give, foreign_if, act, MayCall, MayAct, AreValidOptions, state_of}
 use Rattle.proof_pair.proofs.UntilLemmas.{until_first_end}
 use Rattle.proof_pair.proofs.JoinActsLemmas.{Setting, InvAt}
@@ -64,7 +64,7 @@ module _ (message : ℕ → Message) (is_interleaved : Bool) where
 -- ---- what is offered
 
 -- these are accepted, and fragments go out
-pub record OffersOut (message : ℕ → Message) (lifecycle : ℕ → Option ℕ) (is_interleaved : Bool) (x : Direction) (os : List AcceptedMessage) (m : Making Carried) : Type 0 where
+pub record OffersOut (message : ℕ → Message) (lifecycle : ℕ → Option ℕ) (is_interleaved : Bool) (x : Direction) (os : List AcceptedMessage) (m : EndWithPacket Carried) : Type 0 where
   pub mid : Direction
   pub offers : Offers message is_interleaved (length os) x mid
   pub to : Direction
@@ -156,7 +156,7 @@ up_to (g ∷ a) e more (f ∷ early) late h is none =
     (r.0, ap (λ (z : Event Carried). z ∷ a) (same_first g f (a ++ e ∷ more) (early ++ late) h) ∙ ap (λ (es : List (Event Carried)). f ∷ es) r.1)
 
 -- two relations at once
-both_kept : {call : Call} {R S : Making Carried → Making Carried → Type 0} → PreservesUntilEnd call R → PreservesUntilEnd call S → PreservesUntilEnd call (λ a b. R a b × S a b)
+both_kept : {call : Call} {R S : EndWithPacket Carried → EndWithPacket Carried → Type 0} → PreservesUntilEnd call R → PreservesUntilEnd call S → PreservesUntilEnd call (λ a b. R a b × S a b)
 both_kept k l = record {
   same = λ m. (k.same m, l.same m);
   through = λ {a} {b} {c} f g. (k.through f.0 g.0, l.through f.1 g.1);
@@ -302,7 +302,7 @@ module _ (message : ℕ → Message) (lifecycle : ℕ → Option ℕ) (is_interl
       }
 
   -- nothing happens that the rules see
-  quietly_out : (m : Making Carried) → SendsIn message lifecycle is_interleaved m.state m.context.queue x → recorded_places m.context.emitted ≡ []
+  quietly_out : (m : EndWithPacket Carried) → SendsIn message lifecycle is_interleaved m.state m.context.queue x → recorded_places m.context.emitted ≡ []
       → delivered_ids m.context.emitted.events ≡ [] → packets_in m.context.emitted.events ≡ [] → resets_in m.context.emitted.events ≡ [] → m.packet.chunks ≡ [] → SenderClaim message lifecycle is_interleaved x [] m x
   quietly_out m shown gone reports emitted resets made = record {
     kept = f.kept;
@@ -431,7 +431,7 @@ module _ (message : ℕ → Message) (lifecycle : ℕ → Option ℕ) (is_interl
     pub emitted : side.emitted ≡ s.emitted ++ (early ++ rest)
 
   -- the packet that is put together isn't emitted
-  set_aside : (m : Making Carried) (y : Direction) → SenderClaim message lifecycle is_interleaved x [] m y → SenderClaim message lifecycle is_interleaved x [] (calm (end_of m)) y
+  set_aside : (m : EndWithPacket Carried) (y : Direction) → SenderClaim message lifecycle is_interleaved x [] m y → SenderClaim message lifecycle is_interleaved x [] (calm (end_of m)) y
   set_aside m y c = record {
     kept = c.kept;
     goes = c.goes;
@@ -469,7 +469,7 @@ module _ (message : ℕ → Message) (lifecycle : ℕ → Option ℕ) (is_interl
       both : PreservesUntilEnd call (λ m n. Joined g (SenderGoes message lifecycle is_interleaved x) m n × Readies g call rules takes_none m n)
       both = both_kept (frame g call rules other_call (parts.sender_keeps g call x premises)) (readies g call rules takes_none)
 
-      here : (m : Making Carried) → Joined g (SenderGoes message lifecycle is_interleaved x) (calm s.end) m × Readies g call rules takes_none (calm s.end) m
+      here : (m : EndWithPacket Carried) → Joined g (SenderGoes message lifecycle is_interleaved x) (calm s.end) m × Readies g call rules takes_none (calm s.end) m
           → (rest : List (Event Carried)) → m.context.emitted.events ≡ early ++ rest → IsUntil early []
       here m kept rest emitted =
           let inv : InvAt g (calm s.end) = begins o q s r asked le h.own h.other in

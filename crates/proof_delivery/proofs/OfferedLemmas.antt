@@ -12,7 +12,7 @@ use Rattle.spec_endpoint.specs.Sending.{send_in}
 use Rattle.spec_endpoint.specs.Calls.{shown_state, refusal_of, offer, offer_all}
 use Rattle.spec_endpoint.specs.Laws.{Call, Send, SendMany, NoPacket, called}
 use Rattle.proof_endpoint.specs.Mapped.{Carried}
-use Rattle.proof_pair.specs.Acts.{Making, idle, calm, IsReceived, alone, HasNoEnd, PreservesUntilEnd}
+use Rattle.proof_pair.specs.Acts.{EndWithPacket, idle, calm, IsReceived, alone, HasNoEnd, PreservesUntilEnd}
 use Rattle.proof_pair.specs.Trace.{Side, packets_in, state_of}
 use Rattle.proof_pair.proofs.UntilLemmas.{none_before, Until, frame}
 use Rattle.proof_pair.proofs.RowActsLemmas.{does_where_open}
@@ -55,7 +55,7 @@ module _ (g : Setting) (call : Call) (r : Rules g call) where
       no_packet h = let e = h.given in cc
 
 -- where the messages are offered
-abbrev offering : List messages.Message → SendOptions → Endpoint Carried → Making Carried
+abbrev offering : List messages.Message → SendOptions → Endpoint Carried → EndWithPacket Carried
 offering ms how e = idle e.endpoint_state.state (offer_all ms how (shown_state e.endpoint_state.state) e.endpoint_state.context) e.random
 
 -- there are two such calls
@@ -65,7 +65,7 @@ each_offer P one many (Send m how) h = one m how
 each_offer P one many (SendMany ms how) h = many ms how
 each_offer P one many call h = cc
 
-module _ (g : Setting) {R : Making Carried → Making Carried → Type 0} (k : KeepsJoined g NoPacket R) (e : Endpoint Carried) where
+module _ (g : Setting) {R : EndWithPacket Carried → EndWithPacket Carried → Type 0} (k : KeepsJoined g NoPacket R) (e : Endpoint Carried) where
   then_many : (ms : List messages.Message) (how : SendOptions) → Rules g (SendMany ms how) → HasNoEnd (calm (called (SendMany ms how) e)) → InvAt g (calm e)
       → R (offering ms how e) (calm (called (SendMany ms how) e))
   then_many ms how r none inv =

@@ -24,7 +24,7 @@ use Rattle.spec_endpoint.specs.Association.{Tcb, Phase, State, Closed, CookieWai
 use Rattle.spec_endpoint.specs.Requests.{ids}
 use Rattle.spec_endpoint.specs.Laws.{Call}
 use Rattle.proof_endpoint.specs.Mapped.{Carried}
-use Rattle.proof_pair.specs.Acts.{Making, in_open, IsReceived, IsAsked, HasRequest, for_outgoing, for_incoming, AsksNoIncoming}
+use Rattle.proof_pair.specs.Acts.{EndWithPacket, in_open, IsReceived, IsAsked, HasRequest, for_outgoing, for_incoming, AsksNoIncoming}
 use Rattle.proof_pair.proofs.JoinActsLemmas.{Setting, InvAt}
 use Rattle.proof_pair.proofs.JoinLemmas.{Draw, view_of, both_of, Faces}
 use Rattle.proof_pair.proofs.AddedLemmas.{all_at}
@@ -149,7 +149,7 @@ module _ (message : ℕ → Message) (is_interleaved : Bool) (x y : Epochs) (sam
   }
 
 module _ (message : ℕ → Message) (lifecycle : ℕ → Option ℕ) (is_interleaved : Bool) (g : Setting) (call : Call) (from : Direction)
-    (premises : ReceiverPremises message lifecycle is_interleaved g call from) (handed : List messages.Message) (phase : Phase) (t : Tcb) (m : Making Carried)
+    (premises : ReceiverPremises message lifecycle is_interleaved g call from) (handed : List messages.Message) (phase : Phase) (t : Tcb) (m : EndWithPacket Carried)
     (inv : InvAt g (in_open phase t m)) (x : Direction) (kept : IsKept message is_interleaved x) (shown : IsReceiving message is_interleaved handed t x)
     (same : SameSender message is_interleaved from.rules x.rules) (asks : x.asks ≡ from.asks) where
   pub windows_stay : EpochWindows message x.rules

@@ -16,7 +16,7 @@ use Rattle.spec_endpoint.specs.Association.{Tcb, Phase, State, Closed, CookieWai
 use Rattle.spec_endpoint.specs.Requests.{is_final}
 use Rattle.spec_endpoint.specs.Laws.{Call}
 use Rattle.proof_endpoint.specs.Mapped.{Carried}
-use Rattle.proof_pair.specs.Acts.{Making, in_open, IsReceived, IsAsked, point_of}
+use Rattle.proof_pair.specs.Acts.{EndWithPacket, in_open, IsReceived, IsAsked, point_of}
 use Rattle.proof_pair.proofs.AddedLemmas.{all_at}
 use Rattle.proof_pair.proofs.JoinActsLemmas.{Setting, InvAt}
 use Rattle.proof_pair.proofs.JoinLemmas.{Draw, view_of, own_draw, Faces}
@@ -103,7 +103,7 @@ pub record SackReceived (x : Transfer) (t : Tcb) (k : SackTree) : Type 0 where
   pub number_is : point_of k t + 1 ≡ origin + point
 
 module _ (message : ℕ → Message) (lifecycle : ℕ → Option ℕ) (is_interleaved : Bool) (g : Setting) (call : Call) (from : Direction) (premises : SenderPremises message lifecycle is_interleaved g call from)
-    (phase : Phase) (t : Tcb) (m : Making Carried) (inv : InvAt g (in_open phase t m)) where
+    (phase : Phase) (t : Tcb) (m : EndWithPacket Carried) (inv : InvAt g (in_open phase t m)) where
   own : (Said : ℕ → Type 0) → (IsFresh message is_interleaved premises.handed from → Said 0 → ⊥) → Said (first_in g.beside) → Said t.identity.my_first
   own Said none h = own_first message is_interleaved premises.handed from Said none g.beside t premises.beside inv.stands.faced h
 

@@ -24,7 +24,7 @@ use Rattle.spec_endpoint.specs.Data.{is_full, takes, take_fragment, forward_to}
 use Rattle.spec_endpoint.specs.Sending.{selective_ack, count_sack_sent}
 use Rattle.spec_endpoint.specs.Laws.{Call}
 use Rattle.proof_endpoint.specs.Mapped.{Carried}
-use Rattle.proof_pair.specs.Acts.{Making, IsReceived, with_chunk, in_open, in_state, drew_one, drew_two, is_opened, PacketAct, begins, adds_plain, emits, complains, counts, before_packets, after_packets, OpeningAct, connects, adds_init, answers_new, answers_waiting, answers_echoed, answers_again, echoes, adds_cookie, establishes, opens, restarts, opens_again, maintains, adds_cookie_ack, before_opening, after_opening, ClosingAct, closes, shuts, shuts_on, before_closing, after_closing, DataAct, takes_data, takes_idata, takes_forward, takes_iforward, before_data, after_data}
+use Rattle.proof_pair.specs.Acts.{EndWithPacket, IsReceived, with_chunk, in_open, in_state, drew_one, drew_two, is_opened, PacketAct, begins, adds_plain, emits, complains, counts, before_packets, after_packets, OpeningAct, connects, adds_init, answers_new, answers_waiting, answers_echoed, answers_again, echoes, adds_cookie, establishes, opens, restarts, opens_again, maintains, adds_cookie_ack, before_opening, after_opening, ClosingAct, closes, shuts, shuts_on, before_closing, after_closing, DataAct, takes_data, takes_idata, takes_forward, takes_iforward, before_data, after_data}
 use Rattle.proof_pair.specs.Trace.{packets_in}
 use Rattle.proof_pair.proofs.AddedLemmas.{holds_added}
 use Rattle.proof_pair.proofs.JoinActsLemmas.{Setting, InvAt, packets_both}
@@ -67,7 +67,7 @@ module _ (message : ℕ → Message) (is_interleaved : Bool) (handed : List mess
 
 module _ (message : ℕ → Message) (lifecycle : ℕ → Option ℕ) (is_interleaved : Bool) (g : Setting) (call : Call) (from : Direction)
     (p : ReceiverPremises message lifecycle is_interleaved g call from) (handed : List messages.Message) where
-  abbrev Goes : (a b : Making Carried) → Type 0
+  abbrev Goes : (a b : EndWithPacket Carried) → Type 0
   Goes a b = ReceiverGoes message lifecycle is_interleaved from handed a b
 
   -- ---- packets
@@ -85,7 +85,7 @@ module _ (message : ℕ → Message) (lifecycle : ℕ → Option ℕ) (is_interl
   -- ---- opening
 
   -- nothing came before
-  goes_opened : (a b : Making Carried) → is_opened a.state ≡ false
+  goes_opened : (a b : EndWithPacket Carried) → is_opened a.state ≡ false
       → ((x : Direction) → IsFresh message is_interleaved handed x → ReceivesIn message is_interleaved b.state handed x)
       → packets_in b.context.emitted.events ≡ packets_in a.context.emitted.events → resets_in b.context.emitted.events ≡ resets_in a.context.emitted.events
       → b.packet.chunks ≡ a.packet.chunks → Goes a b
@@ -110,7 +110,7 @@ module _ (message : ℕ → Message) (lifecycle : ℕ → Option ℕ) (is_interl
       goes_same message lifecycle is_interleaved from handed (in_state Closed m) (after_opening {call = call} (connects m is)) (λ x h. h) refl refl refl refl
   goes_opening (adds_init tag first t1 m to) lasts inv next = goes_adding message lifecycle is_interleaved from handed (in_state (CookieWait tag first t1) m) _ (λ x claim. tt)
   goes_opening (answers_new tag i m heard to) lasts inv next =
-      let drawn : Making Carried = in_state Closed (drew_two m) in
+      let drawn : EndWithPacket Carried = in_state Closed (drew_two m) in
       let act : OpeningAct Carried call = answers_new tag i m heard to in
       goes_through message lifecycle is_interleaved from handed (in_state Closed m) drawn (after_opening act)
       (goes_same message lifecycle is_interleaved from handed (in_state Closed m) drawn (λ x h. h) refl refl refl refl)
@@ -120,7 +120,7 @@ module _ (message : ℕ → Message) (lifecycle : ℕ → Option ℕ) (is_interl
   goes_opening (answers_echoed tag i t1 cookie t m heard to) lasts inv next =
       goes_adding message lifecycle is_interleaved from handed (in_open (CookieEchoed t1 cookie) t m) _ (λ x claim. tt)
   goes_opening (answers_again tag i phase t m heard late to) lasts inv next =
-      let drawn : Making Carried = in_open phase t (drew_one m) in
+      let drawn : EndWithPacket Carried = in_open phase t (drew_one m) in
       let act : OpeningAct Carried call = answers_again tag i phase t m heard late to in
       goes_through message lifecycle is_interleaved from handed (in_open phase t m) drawn (after_opening act)
       (goes_same message lifecycle is_interleaved from handed (in_open phase t m) drawn (λ x h. h) refl refl refl refl)
@@ -156,7 +156,7 @@ module _ (message : ℕ → Message) (lifecycle : ℕ → Option ℕ) (is_interl
 
   -- ---- what the peer sent
 
-  module _ (phase : Phase) (t : Tcb) (m : Making Carried) (inv : InvAt g (in_open phase t m)) (x : Direction)
+  module _ (phase : Phase) (t : Tcb) (m : EndWithPacket Carried) (inv : InvAt g (in_open phase t m)) (x : Direction)
       (claim : ReceiverClaim message is_interleaved from handed (in_open phase t m) x) where
     same : SameSender message is_interleaved from.rules x.rules
     same = sender_stays message is_interleaved from x claim.goes
@@ -233,6 +233,6 @@ module _ (message : ℕ → Message) (lifecycle : ℕ → Option ℕ) (is_interl
       (λ x claim. ipoint_leads phase t m inv x claim tag tsn skipped heard valid)
 
   -- an acknowledgement is made
-  pub goes_acknowledging : (phase : Phase) (t : Tcb) (m : Making Carried) → InvAt g (in_open phase t m)
+  pub goes_acknowledging : (phase : Phase) (t : Tcb) (m : EndWithPacket Carried) → InvAt g (in_open phase t m)
       → Goes (in_open phase t m) (with_chunk (selective_ack t) (in_open phase (count_sack_sent t) m))
   goes_acknowledging phase t m inv x claim = ack_leads phase t m inv x claim

@@ -24,7 +24,7 @@ use Rattle.spec_endpoint.specs.StreamReset.{is_ahead, on_outcome}
 use Rattle.spec_endpoint.specs.Sending.{is_small, data_chunk_of, data_chunks, fast_most}
 use Rattle.spec_endpoint.specs.Laws.{Call}
 use Rattle.proof_endpoint.specs.Mapped.{Carried}
-use Rattle.proof_pair.specs.Acts.{Making, point_of, IsAsked, IsDue, AsksNoIncoming, Answers, in_open, in_state, with_packet, fragments_of, SackAct, takes_sack, samples, counts_errors, before_sack, after_sack, SendingAct, asks, adds_ack, expires, adds_forward, forwards_later, asks_no_reset, asks_reset, adds_request, sends, sends_fast, before_sending, after_sending, TimeAct, advances, delay_ends, times_out, beats, times_init, times_cookie, times_request, wakes_request, before_time, after_time, CallAct, accepts, refuses, takes_message, sets_low_threshold, sets_priority, sets_max_message_size, before_call, after_call, ResetAct, prepares, defers, performs, processes, takes_response, adds_responses, before_reset, after_reset, InputAct, ends_packet, before_input, after_input}
+use Rattle.proof_pair.specs.Acts.{EndWithPacket, point_of, IsAsked, IsDue, AsksNoIncoming, Answers, in_open, in_state, with_packet, fragments_of, SackAct, takes_sack, samples, counts_errors, before_sack, after_sack, SendingAct, asks, adds_ack, expires, adds_forward, forwards_later, asks_no_reset, asks_reset, adds_request, sends, sends_fast, before_sending, after_sending, TimeAct, advances, delay_ends, times_out, beats, times_init, times_cookie, times_request, wakes_request, before_time, after_time, CallAct, accepts, refuses, takes_message, sets_low_threshold, sets_priority, sets_max_message_size, before_call, after_call, ResetAct, prepares, defers, performs, processes, takes_response, adds_responses, before_reset, after_reset, InputAct, ends_packet, before_input, after_input}
 use Rattle.proof_pair.proofs.UntilLemmas.{light_sack, light_sending, light_time, light_call, light_reset}
 use Rattle.proof_pair.proofs.JoinActsLemmas.{Setting, InvAt}
 use Rattle.proof_pair.proofs.CallActsLemmas.{answers_leave}
@@ -81,7 +81,7 @@ outcome_emits s (Denied streams) c = none_emitted s c.emitted.events (OnStreamsR
 
 module _ (message : ℕ → Message) (lifecycle : ℕ → Option ℕ) (mixed : Bool) (g : Setting) (call : Call) (from : Direction)
     (p : ReceiverPremises message lifecycle mixed g call from) (handed : List messages.Message) where
-  abbrev Goes : (a b : Making Carried) → Type 0
+  abbrev Goes : (a b : EndWithPacket Carried) → Type 0
   Goes a b = ReceiverGoes message lifecycle mixed from handed a b
 
   -- ---- acknowledgements, and what is sent
@@ -129,7 +129,7 @@ module _ (message : ℕ → Message) (lifecycle : ℕ → Option ℕ) (mixed : B
       let act : SendingAct Carried call = sends phase t m in
       let f = fragments_of t m in
       let chunks : List ChunkTree = data_chunks t (is_small m.context.options f.sender) f.chunks in
-      let filled : Making Carried = with_packet (add_all chunks m.packet) (in_open phase t m) in
+      let filled : EndWithPacket Carried = with_packet (add_all chunks m.packet) (in_open phase t m) in
       goes_through message lifecycle mixed from handed (in_open phase t m) filled (after_sending act)
       (goes_adding_all message lifecycle mixed from handed (in_open phase t m) chunks
       (λ x. data_says t.tracker.first (transfer_of from).acknowledged (count (transfer_of from).sender) x t (is_small m.context.options f.sender) f.chunks))
@@ -139,7 +139,7 @@ module _ (message : ℕ → Message) (lifecycle : ℕ → Option ℕ) (mixed : B
   goes_sending (sends_fast phase t m some) inv =
       let act : SendingAct Carried call = sends_fast phase t m some in
       let resent : List (ℕ × FragmentTree) = (resent_fast (fast_most m.context.options) t.sender).chunks in
-      let filled : Making Carried = with_packet (add_all (data_chunks t false resent) m.packet) (in_open phase t m) in
+      let filled : EndWithPacket Carried = with_packet (add_all (data_chunks t false resent) m.packet) (in_open phase t m) in
       goes_through message lifecycle mixed from handed (in_open phase t m) filled (after_sending act)
       (goes_adding_all message lifecycle mixed from handed (in_open phase t m) (data_chunks t false resent)
       (λ x. data_says t.tracker.first (transfer_of from).acknowledged (count (transfer_of from).sender) x t false resent))
@@ -189,7 +189,7 @@ module _ (message : ℕ → Message) (lifecycle : ℕ → Option ℕ) (mixed : B
 
   -- ---- resets of streams
 
-  module _ (phase : Phase) (t : Tcb) (m : Making Carried) (inv : InvAt g (in_open phase t m)) (x : Direction) (claim : ReceiverClaim message mixed from handed (in_open phase t m) x) where
+  module _ (phase : Phase) (t : Tcb) (m : EndWithPacket Carried) (inv : InvAt g (in_open phase t m)) (x : Direction) (claim : ReceiverClaim message mixed from handed (in_open phase t m) x) where
     same : SameSender message mixed from.rules x.rules
     same = sender_stays message mixed from x claim.goes
 

@@ -17,7 +17,7 @@ use Rattle.spec_endpoint.specs.Association.{Tcb, Phase, Packing}
 use Rattle.spec_endpoint.specs.Packets.{Packet, add_all, header_to, emit_if}
 use Rattle.spec_endpoint.specs.Requests.{Requests}
 use Rattle.proof_endpoint.specs.Mapped.{Carried}
-use Rattle.proof_pair.specs.Acts.{Making, is_plain, with_chunk, with_packet, in_open}
+use Rattle.proof_pair.specs.Acts.{EndWithPacket, is_plain, with_chunk, with_packet, in_open}
 use Rattle.proof_pair.specs.Trace.{as_carried, packets_in}
 use Rattle.proof_pair.proofs.AddedLemmas.{holds_added, holds_all_added}
 use Rattle.proof_pair.proofs.JoinActsLemmas.{packets_both}
@@ -90,15 +90,15 @@ module _ (message : ℕ → Message) (lifecycle : ℕ → Option ℕ) (is_interl
   abbrev SaysAll : (first : ℕ) → Direction → List Carried → Type 0
   SaysAll first x ps = All (λ (p : Carried). All (SaysIn first least most x) p.chunks) ps
 
-  abbrev Claim : Making Carried → Direction → Type 0
+  abbrev Claim : EndWithPacket Carried → Direction → Type 0
   Claim m x = ReceiverClaim message is_interleaved from handed m x
 
-  abbrev Goes : (a b : Making Carried) → Type 0
+  abbrev Goes : (a b : EndWithPacket Carried) → Type 0
   Goes a b = ReceiverGoes message lifecycle is_interleaved from handed a b
 
   -- ---- the claim after an act
 
-  pub record ReceiverStep (a b : Making Carried) (x y : Direction) : Type 0 where
+  pub record ReceiverStep (a b : EndWithPacket Carried) (x y : Direction) : Type 0 where
     pub goes : GoesOn message is_interleaved goes_in x y
     pub kept : IsKept message is_interleaved y
     pub stay : AsksStay x y
@@ -107,7 +107,7 @@ module _ (message : ℕ → Message) (lifecycle : ℕ → Option ℕ) (is_interl
     pub emitted : SaysAll (first_in a.state) y (packets_in a.context.emitted.events) → SaysAll (first_in b.state) y (packets_in b.context.emitted.events)
     pub made : Says (first_in a.state) y a.packet.chunks → Says (first_in b.state) y b.packet.chunks
 
-  pub step_claims : (a b : Making Carried) (x y : Direction) → Claim a x → ReceiverStep a b x y → Claim b y
+  pub step_claims : (a b : EndWithPacket Carried) (x y : Direction) → Claim a x → ReceiverStep a b x y → Claim b y
   step_claims a b x y c s =
       let first = first_in a.state in
       record {
@@ -120,11 +120,11 @@ module _ (message : ℕ → Message) (lifecycle : ℕ → Option ℕ) (is_interl
         made = s.made (all_in_stay message is_interleaved goes_in x y c.kept.epochs s.goes first least most a.packet.chunks c.made);
       }
 
-  pub goes_through : (a b c : Making Carried) → Goes a b → Goes b c → Goes a c
+  pub goes_through : (a b c : EndWithPacket Carried) → Goes a b → Goes b c → Goes a c
   goes_through a b c g h x claim = let y = g x claim in h y.0 y.1
 
   -- to the same state of the rules, with chunks in the packet or packets emitted
-  pub stays_by : (a b : Making Carried) (x : Direction) → Claim a x → ReceivesIn message is_interleaved b.state handed x
+  pub stays_by : (a b : EndWithPacket Carried) (x : Direction) → Claim a x → ReceivesIn message is_interleaved b.state handed x
       → ((s : ℕ) → resets_emitted s b.context.emitted.events ≡ resets_emitted s a.context.emitted.events)
       → (SaysAll (first_in a.state) x (packets_in a.context.emitted.events) → SaysAll (first_in b.state) x (packets_in b.context.emitted.events))
       → (Says (first_in a.state) x a.packet.chunks → Says (first_in b.state) x b.packet.chunks) → (y : Direction) × Claim b y
@@ -142,7 +142,7 @@ module _ (message : ℕ → Message) (lifecycle : ℕ → Option ℕ) (is_interl
         }),
   )
 
-  pub goes_same : (a b : Making Carried) → ((x : Direction) → ReceivesIn message is_interleaved a.state handed x → ReceivesIn message is_interleaved b.state handed x)
+  pub goes_same : (a b : EndWithPacket Carried) → ((x : Direction) → ReceivesIn message is_interleaved a.state handed x → ReceivesIn message is_interleaved b.state handed x)
       → first_in b.state ≡ first_in a.state → packets_in b.context.emitted.events ≡ packets_in a.context.emitted.events
       → resets_in b.context.emitted.events ≡ resets_in a.context.emitted.events → b.packet.chunks ≡ a.packet.chunks → Goes a b
   goes_same a b shown first packets resets chunks x claim =
@@ -151,7 +151,7 @@ module _ (message : ℕ → Message) (lifecycle : ℕ → Option ℕ) (is_interl
       (λ h. subst (λ (n : ℕ). Says n x b.packet.chunks) (sym first) (subst (Says (first_in a.state) x) (sym chunks) h))
 
   -- the rules go on, and nothing is emitted or put into the packet
-  pub goes_led : (phase next : Phase) (t u : Tcb) (m : Making Carried) → u.tracker.first ≡ t.tracker.first
+  pub goes_led : (phase next : Phase) (t u : Tcb) (m : EndWithPacket Carried) → u.tracker.first ≡ t.tracker.first
       → ((x : Direction) → Claim (in_open phase t m) x → Leads message is_interleaved handed x u) → Goes (in_open phase t m) (in_open next u m)
   goes_led phase next t u m first leads x claim =
       let l = leads x claim in (
@@ -170,24 +170,24 @@ module _ (message : ℕ → Message) (lifecycle : ℕ → Option ℕ) (is_interl
 
   -- ---- packets
 
-  pub goes_adding : (m : Making Carried) (chunk : ChunkTree)
+  pub goes_adding : (m : EndWithPacket Carried) (chunk : ChunkTree)
       → ((x : Direction) → Claim m x → SaysIn (first_in m.state) least most x chunk) → Goes m (with_chunk chunk m)
   goes_adding m chunk says x claim =
       stays_by m (with_chunk chunk m) x claim claim.shown (λ s. refl) (λ h. h)
       (λ h. holds_added (λ tag. SaysIn (first_in m.state) least most x) m.packet chunk h (says x claim))
 
-  pub goes_adding_all : (m : Making Carried) (chunks : List ChunkTree)
+  pub goes_adding_all : (m : EndWithPacket Carried) (chunks : List ChunkTree)
       → ((x : Direction) → Says (first_in m.state) x chunks) → Goes m (with_packet (add_all chunks m.packet) m)
   goes_adding_all m chunks says x claim =
       stays_by m (with_packet (add_all chunks m.packet) m) x claim claim.shown (λ s. refl) (λ h. h)
       (λ h. holds_all_added (λ tag. SaysIn (first_in m.state) least most x) chunks m.packet h (λ tag. says x))
 
-  pub goes_begun : (p : Packet) (m : Making Carried) → p.chunks ≡ [] → Goes m (with_packet p m)
+  pub goes_begun : (p : Packet) (m : EndWithPacket Carried) → p.chunks ≡ [] → Goes m (with_packet p m)
   goes_begun p m new x claim =
       stays_by m (with_packet p m) x claim claim.shown (λ s. refl) (λ h. h)
       (λ h. subst (Says (first_in m.state) x) (sym new) (All-nil (SaysIn (first_in m.state) least most x)))
 
-  pub goes_emitted : (m : Making Carried) → m.context.pack ≡ as_carried
+  pub goes_emitted : (m : EndWithPacket Carried) → m.context.pack ≡ as_carried
       → Goes m (record m { context = emit_if true m.packet m.context; packet = record m.packet { chunks = [] } })
   goes_emitted m packing x claim =
       let first = first_in m.state in

@@ -11,7 +11,7 @@ use Rattle.spec_endpoint.specs.Input.{on_endpoint_state}
 use Rattle.spec_endpoint.specs.StreamReset.{unless_supported, reset_refusal, prepare_stream, prepare_all, reset_if}
 use Rattle.spec_endpoint.specs.Laws.{Call, ResetStreams, NoPacket}
 use Rattle.proof_endpoint.specs.Mapped.{Carried}
-use Rattle.proof_pair.specs.Acts.{Making, idle, calm, IsReset, prepares, HasNoEnd, Preserves, PreservesUntilEnd}
+use Rattle.proof_pair.specs.Acts.{EndWithPacket, idle, calm, IsReset, prepares, HasNoEnd, Preserves, PreservesUntilEnd}
 use Rattle.proof_pair.specs.Trace.{packets_in}
 use Rattle.proof_pair.proofs.EmittedLemmas.{emits_prepared}
 use Rattle.proof_pair.proofs.UntilLemmas.{none_before, Until, frame}
@@ -29,7 +29,7 @@ use Rattle.proof_delivery.proofs.SenderToolLemmas.{same_packets}
 use Rattle.proof_delivery.proofs.SenderResetLemmas.{prepares_claims, prepared_answers}
 
 -- where these are prepared
-abbrev pub preparing : List ℕ → Endpoint Carried → Making Carried
+abbrev pub preparing : List ℕ → Endpoint Carried → EndWithPacket Carried
 preparing ids e = idle e.endpoint_state.state (prepare_all ids e.endpoint_state.context) e.random
 
 -- the end after the call, unless it refuses
@@ -43,7 +43,7 @@ can_reset false e = cc
 
 -- ---- it is done by acts
 
-module _ {call : Call} {R : Making Carried → Making Carried → Type 0} (k : Preserves call R) (w : Stream) where
+module _ {call : Call} {R : EndWithPacket Carried → EndWithPacket Carried → Type 0} (k : Preserves call R) (w : Stream) where
   prepares_all : (all before ids : List ℕ) (phase : Phase) (t : Tcb) (c : Context Carried) → call ≡ ResetStreams all → all ≡ before ++ ids → t.capabilities.reconfig ≡ true
       → R (idle (Open phase t) c w) (idle (Open phase t) (prepare_all ids c) w)
   prepares_all all before [] phase t c is e can = k.same (idle (Open phase t) c w)
@@ -57,7 +57,7 @@ module _ {call : Call} {R : Making Carried → Making Carried → Type 0} (k : P
   prepares_in (CookieWait tag first t1) ids c is fine = cc
   prepares_in (Open phase t) ids c is fine = prepares_all ids [] ids phase t c is refl (can_reset t.capabilities.reconfig fine)
 
-module _ (g : Setting) (quiet : Rules g NoPacket) {R : Making Carried → Making Carried → Type 0} (k : KeepsJoined g NoPacket R) (e : Endpoint Carried) where
+module _ (g : Setting) (quiet : Rules g NoPacket) {R : EndWithPacket Carried → EndWithPacket Carried → Type 0} (k : KeepsJoined g NoPacket R) (e : Endpoint Carried) where
   pub then_reset : (ids : List ℕ) → Rules g (ResetStreams ids) → reset_refusal e.endpoint_state.state ≡ None → HasNoEnd (calm (reset_by None ids e)) → InvAt g (calm e)
       → R (preparing ids e) (calm (reset_by None ids e))
   then_reset ids r fine none inv =
@@ -77,7 +77,7 @@ module _ (message : ℕ → Message) (lifecycle : ℕ → Option ℕ) (is_interl
   claims_prepared phase t w [] before c x none h =
       (x, subst (λ (ps : List ℕ). SenderClaim message lifecycle is_interleaved from ps (idle (Open phase t) c w) x) (sym (append-nil before)) h)
   claims_prepared phase t w (id ∷ ids) before c x none h =
-      let m : Making Carried = idle (Open phase t) c w in
+      let m : EndWithPacket Carried = idle (Open phase t) c w in
       let a = prepares_claims message lifecycle is_interleaved from before id phase t m x none h in
       let b = claims_prepared phase t w ids (before ++ id ∷ []) (prepare_stream id c) a.0 (prepared_answers message lifecycle is_interleaved from id m none) a.1 in
       (b.0, subst (λ (ps : List ℕ). SenderClaim message lifecycle is_interleaved from ps (idle (Open phase t) (prepare_all ids (prepare_stream id c)) w) b.0) (append_assoc before (id ∷ []) ids) b.1)

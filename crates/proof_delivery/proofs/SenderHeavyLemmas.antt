@@ -43,7 +43,7 @@ use Rattle.spec_endpoint.specs.Sending.{data_chunk_of, data_chunks, is_small, fa
 use Rattle.spec_endpoint.specs.Sack.{clean_blocks}
 use Rattle.spec_endpoint.specs.Laws.{Call}
 use Rattle.proof_endpoint.specs.Mapped.{Carried}
-use Rattle.proof_pair.specs.Acts.{Making, in_open, with_context, IsReceived, timeout_of, point_of, takes_sack, before_sack, after_sack, expires, adds_forward, sends, sends_fast, before_sending, after_sending, times_out, before_time, after_time}
+use Rattle.proof_pair.specs.Acts.{EndWithPacket, in_open, with_context, IsReceived, timeout_of, point_of, takes_sack, before_sack, after_sack, expires, adds_forward, sends, sends_fast, before_sending, after_sending, times_out, before_time, after_time}
 use Rattle.proof_pair.specs.Trace.{packets_in}
 use Rattle.proof_pair.proofs.AddedLemmas.{holds_added, holds_all_added}
 use Rattle.proof_pair.proofs.EmittedLemmas.{EmitsQuietly, lightly, quiet_nack_all, quiet_expired, quiet_sent, emits_sack, emits_sent}
@@ -141,12 +141,12 @@ module _ (message : ℕ → Message) (lifecycle : ℕ → Option ℕ) (is_interl
 -- ---- the acts
 
 module _ (message : ℕ → Message) (lifecycle : ℕ → Option ℕ) (is_interleaved : Bool) (from : Direction) where
-  left_more : (prepared : List ℕ) (m : Making Carried) (x : Direction) → IsKept message is_interleaved from → SenderClaim message lifecycle is_interleaved from prepared m x
+  left_more : (prepared : List ℕ) (m : EndWithPacket Carried) (x : Direction) → IsKept message is_interleaved from → SenderClaim message lifecycle is_interleaved from prepared m x
       → (transfer_of from).acknowledged ≤ (transfer_of x).acknowledged
   left_more prepared m x kept a = (goes_grows message is_interleaved goes_out from x kept.epochs a.goes).left
 
   -- a run of rules, and the packet stays
-  led_claims : (phase : Phase) (t : Tcb) (m : Making Carried) (s : Sender) (later : Emitted Carried) (c : Context Carried) → c.emitted ≡ later → c.queue ≡ m.context.queue → (prepared : List ℕ) (x : Direction)
+  led_claims : (phase : Phase) (t : Tcb) (m : EndWithPacket Carried) (s : Sender) (later : Emitted Carried) (c : Context Carried) → c.emitted ≡ later → c.queue ≡ m.context.queue → (prepared : List ℕ) (x : Direction)
       → SenderClaim message lifecycle is_interleaved from prepared (in_open phase t m) x → LeadsTo message lifecycle is_interleaved (transfer_of x) m.context.emitted m.context.queue s.outstanding.items later
       → s.outstanding.items.breaks ≡ t.sender.outstanding.items.breaks → HasSame t.sender s → EmitsQuietly m.context.emitted later → resets_in later.events ≡ resets_in m.context.emitted.events
       → (y : Direction) × SenderClaim message lifecycle is_interleaved from prepared (in_open phase (record t { sender = s }) (with_context c m)) y
@@ -156,7 +156,7 @@ module _ (message : ℕ → Message) (lifecycle : ℕ → Option ℕ) (is_interl
       let f = items_follow message lifecycle is_interleaved x.rules q t.sender a.kept.epochs.order.kept a.shown.refines a.shown.follows s.outstanding.items m.context.emitted later breaks l in
       let r = moves message lifecycle is_interleaved x l.after l.leads.events q s.outstanding.items a.kept l.leads.sends f in
       let y : Direction = with_transfer message is_interleaved x l.after in
-      let b : Making Carried = in_open phase (record t { sender = s }) (with_context c m) in (
+      let b : EndWithPacket Carried = in_open phase (record t { sender = s }) (with_context c m) in (
         y,
         step_claims message lifecycle is_interleaved from prepared prepared (in_open phase t m) b x y a (record {
           goes = r.goes;
@@ -177,7 +177,7 @@ module _ (message : ℕ → Message) (lifecycle : ℕ → Option ℕ) (is_interl
       )
 
 module _ (message : ℕ → Message) (lifecycle : ℕ → Option ℕ) (is_interleaved : Bool) (from : Direction) (call : Call) where
-  pub expires_keeps : (phase : Phase) (t : Tcb) (m : Making Carried)
+  pub expires_keeps : (phase : Phase) (t : Tcb) (m : EndWithPacket Carried)
       → SenderGoes message lifecycle is_interleaved from (before_sending {call = call} (expires phase t m)) (after_sending {call = call} (expires phase t m))
   expires_keeps phase t m prepared x a =
       led_claims message lifecycle is_interleaved from phase t m (expire m.context.now t.sender m.context.emitted) (expire_outstanding m.context.now t.sender.outstanding.items m.context.emitted).emitted
@@ -187,7 +187,7 @@ module _ (message : ℕ → Message) (lifecycle : ℕ → Option ℕ) (is_interl
       (expired_same m.context.now t.sender m.context.emitted) (quiet_expired m.context.now t.sender.outstanding.items m.context.emitted)
       (resets_expired m.context.now t.sender.outstanding.items m.context.emitted)
 
-  pub times_out_keeps : (phase : Phase) (t : Tcb) (m : Making Carried) (due : is_due m.context.now t.sender.t3 ≡ true)
+  pub times_out_keeps : (phase : Phase) (t : Tcb) (m : EndWithPacket Carried) (due : is_due m.context.now t.sender.t3 ≡ true)
       → SenderGoes message lifecycle is_interleaved from (before_time {call = call} (times_out phase t m due)) (after_time {call = call} (times_out phase t m due))
   times_out_keeps phase t m due prepared x a =
       led_claims message lifecycle is_interleaved from phase t m (timed_out_sender m.context.now (timeout_of t m).items t.sender) (timeout_of t m).emitted
@@ -198,7 +198,7 @@ module _ (message : ℕ → Message) (lifecycle : ℕ → Option ℕ) (is_interl
       (resets_timed_out t.sender.outstanding.items m.context.emitted)
 
   -- the point goes into the packet, where it fits
-  pub adds_forward_keeps : IsKept message is_interleaved from → (phase : Phase) (t : Tcb) (m : Making Carried) (due : is_forward_due t.sender.outstanding.items ≡ true)
+  pub adds_forward_keeps : IsKept message is_interleaved from → (phase : Phase) (t : Tcb) (m : EndWithPacket Carried) (due : is_forward_due t.sender.outstanding.items ≡ true)
       → SenderGoes message lifecycle is_interleaved from (before_sending {call = call} (adds_forward phase t m due)) (after_sending {call = call} (adds_forward phase t m due))
   adds_forward_keeps kept phase t m due prepared x a =
       let q = m.context.queue in
@@ -226,7 +226,7 @@ module _ (message : ℕ → Message) (lifecycle : ℕ → Option ℕ) (is_interl
         apart = s.apart;
         ahead = omega (arith, left, ahead);
       })) in
-      let b : Making Carried = after_sending {call = call} (adds_forward phase t m due) in (
+      let b : EndWithPacket Carried = after_sending {call = call} (adds_forward phase t m due) in (
         y,
         step_claims message lifecycle is_interleaved from prepared prepared (in_open phase t m) b x y a (record {
           goes = r.goes;
@@ -254,10 +254,10 @@ module _ (message : ℕ → Message) (lifecycle : ℕ → Option ℕ) (is_interl
 
 module _ (message : ℕ → Message) (lifecycle : ℕ → Option ℕ) (is_interleaved : Bool) (from : Direction) (g : Setting) (call : Call)
     (premises : SenderPremises message lifecycle is_interleaved g call from) where
-  interleaves : (phase : Phase) (t : Tcb) (m : Making Carried) → InvAt g (in_open phase t m) → is_interleaved ≡ t.capabilities.message_interleaving
+  interleaves : (phase : Phase) (t : Tcb) (m : EndWithPacket Carried) → InvAt g (in_open phase t m) → is_interleaved ≡ t.capabilities.message_interleaving
   interleaves phase t m inv = premises.mode ∙ sym (ap (λ (c : Capabilities). c.message_interleaving) inv.stands.can)
 
-  pub sends_fast_keeps : (phase : Phase) (t : Tcb) (m : Making Carried) (some : nat_lt 0 (fast_items t.sender.outstanding.items) ≡ true) → InvAt g (in_open phase t m)
+  pub sends_fast_keeps : (phase : Phase) (t : Tcb) (m : EndWithPacket Carried) (some : nat_lt 0 (fast_items t.sender.outstanding.items) ≡ true) → InvAt g (in_open phase t m)
       → SenderGoes message lifecycle is_interleaved from (before_sending {call = call} (sends_fast phase t m some)) (after_sending {call = call} (sends_fast phase t m some))
   sends_fast_keeps phase t m some inv prepared x a =
       let q = m.context.queue in
@@ -273,7 +273,7 @@ module _ (message : ℕ → Message) (lifecycle : ℕ → Option ℕ) (is_interl
       let chunks = (resent_fast most t.sender).chunks in
       let says = says_data message is_interleaved first least numbered x t.capabilities.message_interleaving false (interleaves phase t m inv) (transfer_of x).acknowledged
       (left_more message lifecycle is_interleaved from prepared (in_open phase t m) x premises.kept a) chunks s.1 in
-      let b : Making Carried = after_sending {call = call} (sends_fast phase t m some) in (
+      let b : EndWithPacket Carried = after_sending {call = call} (sends_fast phase t m some) in (
         x,
         step_claims message lifecycle is_interleaved from prepared prepared (in_open phase t m) b x x a (record {
           goes = goes_none message is_interleaved goes_out x;
@@ -291,7 +291,7 @@ module _ (message : ℕ → Message) (lifecycle : ℕ → Option ℕ) (is_interl
         }),
       )
 
-  pub sends_keeps : (phase : Phase) (t : Tcb) (m : Making Carried) → InvAt g (in_open phase t m)
+  pub sends_keeps : (phase : Phase) (t : Tcb) (m : EndWithPacket Carried) → InvAt g (in_open phase t m)
       → SenderGoes message lifecycle is_interleaved from (before_sending {call = call} (sends phase t m)) (after_sending {call = call} (sends phase t m))
   sends_keeps phase t m inv prepared x a =
       let now = m.context.now in
@@ -311,7 +311,7 @@ module _ (message : ℕ → Message) (lifecycle : ℕ → Option ℕ) (is_interl
       let is_immediate = is_small m.context.options f.sender in
       let says = says_data message is_interleaved first least numbered y t.capabilities.message_interleaving is_immediate (interleaves phase t m inv) (transfer_of x).acknowledged
       (left_more message lifecycle is_interleaved from prepared (in_open phase t m) x premises.kept a) f.chunks s.carried in
-      let b : Making Carried = after_sending {call = call} (sends phase t m) in (
+      let b : EndWithPacket Carried = after_sending {call = call} (sends phase t m) in (
         y,
         step_claims message lifecycle is_interleaved from prepared prepared (in_open phase t m) b x y a (record {
           goes = r.goes;
@@ -332,7 +332,7 @@ module _ (message : ℕ → Message) (lifecycle : ℕ → Option ℕ) (is_interl
 
   -- ---- SACKs
 
-  pub takes_sack_keeps : (tag : ℕ) (k : SackTree) (phase : Phase) (t : Tcb) (m : Making Carried) (is_heard : IsReceived call tag (sack_chunk k))
+  pub takes_sack_keeps : (tag : ℕ) (k : SackTree) (phase : Phase) (t : Tcb) (m : EndWithPacket Carried) (is_heard : IsReceived call tag (sack_chunk k))
       (valid : sack.is_valid (point_of k t) (clean_blocks k.gap_ack_blocks) t.sender.outstanding.items ≡ true) → InvAt g (in_open phase t m)
       → SenderGoes message lifecycle is_interleaved from (before_sack {call = call} (takes_sack tag k phase t m is_heard valid)) (after_sack {call = call} (takes_sack tag k phase t m is_heard valid))
   takes_sack_keeps tag k phase t m is_heard valid inv prepared x a =
@@ -355,7 +355,7 @@ module _ (message : ℕ → Message) (lifecycle : ℕ → Option ℕ) (is_interl
       let r = moves message lifecycle is_interleaved x z es q s.outstanding.items a.kept (leaves_send n c.point l.leads.events l.leads.sends) leads in
       let stays = received_same true now point k.a_rwnd blocks t.sender emitted in
       let later = (step_of point blocks t.sender emitted).emitted in
-      let b : Making Carried = after_sack {call = call} (takes_sack tag k phase t m is_heard valid) in (
+      let b : EndWithPacket Carried = after_sack {call = call} (takes_sack tag k phase t m is_heard valid) in (
         y,
         step_claims message lifecycle is_interleaved from prepared prepared (in_open phase t m) b x y a (record {
           goes = r.goes;

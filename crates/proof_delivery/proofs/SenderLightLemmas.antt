@@ -32,7 +32,7 @@ use Rattle.spec_endpoint.specs.Data.{take_fragment, forward_to}
 use Rattle.spec_endpoint.specs.Input.{at_end}
 use Rattle.spec_endpoint.specs.Laws.{Call}
 use Rattle.proof_endpoint.specs.Mapped.{Carried}
-use Rattle.proof_pair.specs.Acts.{Making, is_plain, is_response, with_chunk, with_packet, with_context, in_open, PacketAct, begins, adds_plain, emits, complains, counts, before_packets, after_packets, ClosingAct, closes, shuts, shuts_on, before_closing, after_closing, DataAct, takes_data, takes_idata, takes_forward, takes_iforward, before_data, after_data, CallAct, accepts, refuses, takes_message, sets_low_threshold, sets_priority, sets_max_message_size, before_call, after_call, InputAct, ends_packet, before_input, after_input}
+use Rattle.proof_pair.specs.Acts.{EndWithPacket, is_plain, is_response, with_chunk, with_packet, with_context, in_open, PacketAct, begins, adds_plain, emits, complains, counts, before_packets, after_packets, ClosingAct, closes, shuts, shuts_on, before_closing, after_closing, DataAct, takes_data, takes_idata, takes_forward, takes_iforward, before_data, after_data, CallAct, accepts, refuses, takes_message, sets_low_threshold, sets_priority, sets_max_message_size, before_call, after_call, InputAct, ends_packet, before_input, after_input}
 use Rattle.proof_pair.specs.Trace.{packets_in}
 use Rattle.proof_pair.proofs.EmittedLemmas.{EmitsQuietly, lightly, emits_all, quiet_same, quiet_all, quiet_refused, quiet_threshold}
 use Rattle.proof_pair.proofs.AddedLemmas.{holds_added}
@@ -80,12 +80,12 @@ responses_ask_nothing first most asks (p ∷ ps) h =
 module _ (message : ℕ → Message) (lifecycle : ℕ → Option ℕ) (is_interleaved : Bool) (from : Direction) where
   -- ---- where an act leads
 
-  pub goes_through : (a b c : Making Carried) → SenderGoes message lifecycle is_interleaved from a b → SenderGoes message lifecycle is_interleaved from b c
+  pub goes_through : (a b c : EndWithPacket Carried) → SenderGoes message lifecycle is_interleaved from a b → SenderGoes message lifecycle is_interleaved from b c
       → SenderGoes message lifecycle is_interleaved from a c
   goes_through a b c g h prepared x claim = let y = g prepared x claim in h prepared y.0 y.1
 
   -- to the same state of the rules
-  pub goes_same : (a b : Making Carried) → ((x : Direction) → SendsIn message lifecycle is_interleaved a.state a.context.queue x → SendsIn message lifecycle is_interleaved b.state b.context.queue x)
+  pub goes_same : (a b : EndWithPacket Carried) → ((x : Direction) → SendsIn message lifecycle is_interleaved a.state a.context.queue x → SendsIn message lifecycle is_interleaved b.state b.context.queue x)
       → recorded_places b.context.emitted ≡ recorded_places a.context.emitted → first_out b.state ≡ first_out a.state
       → packets_in b.context.emitted.events ≡ packets_in a.context.emitted.events → delivered_ids b.context.emitted.events ≡ delivered_ids a.context.emitted.events
       → EmitsNoAnswer a.context.emitted.events b.context.emitted.events → b.packet.chunks ≡ a.packet.chunks → SenderGoes message lifecycle is_interleaved from a b
@@ -130,7 +130,7 @@ module _ (message : ℕ → Message) (lifecycle : ℕ → Option ℕ) (is_interl
   says_plain chunk e first least most x = tt
 
   -- a chunk that the claim allows
-  pub goes_saying : (m : Making Carried) (chunk : ChunkTree)
+  pub goes_saying : (m : EndWithPacket Carried) (chunk : ChunkTree)
       → ((prepared : List ℕ) (x : Direction) → SenderClaim message lifecycle is_interleaved from prepared m x
       → SaysOut message is_interleaved (first_out m.state) (transfer_of from).acknowledged (count (transfer_of from).sender) x chunk)
       → SenderGoes message lifecycle is_interleaved from m (with_chunk chunk m)
@@ -154,7 +154,7 @@ module _ (message : ℕ → Message) (lifecycle : ℕ → Option ℕ) (is_interl
     },
   )
 
-  pub goes_adding : (m : Making Carried) (chunk : ChunkTree) → SaysNothing chunk → SenderGoes message lifecycle is_interleaved from m (with_chunk chunk m)
+  pub goes_adding : (m : EndWithPacket Carried) (chunk : ChunkTree) → SaysNothing chunk → SenderGoes message lifecycle is_interleaved from m (with_chunk chunk m)
   goes_adding m chunk says =
       goes_saying m chunk (λ prepared x claim. says (first_out m.state) (transfer_of from).acknowledged (count (transfer_of from).sender) x)
 
@@ -172,7 +172,7 @@ module _ (message : ℕ → Message) (lifecycle : ℕ → Option ℕ) (is_interl
     asks = subst (λ (i : Identity). IsAsking i.my_first x.answered x.asks q u.requests) (sym identity) (asks h.asks);
   }
 
-  pub goes_open : (phase next : Phase) (t u : Tcb) (m : Making Carried) → u.sender.outstanding ≡ t.sender.outstanding → u.sender.windows ≡ t.sender.windows → u.identity ≡ t.identity
+  pub goes_open : (phase next : Phase) (t u : Tcb) (m : EndWithPacket Carried) → u.sender.outstanding ≡ t.sender.outstanding → u.sender.windows ≡ t.sender.windows → u.identity ≡ t.identity
       → ((x : Direction) → IsAsking t.identity.my_first x.answered x.asks m.context.queue t.requests → IsAsking t.identity.my_first x.answered x.asks m.context.queue u.requests)
       → SenderGoes message lifecycle is_interleaved from (in_open phase t m) (in_open next u m)
   goes_open phase next t u m items windows identity asks =
@@ -180,7 +180,7 @@ module _ (message : ℕ → Message) (lifecycle : ℕ → Option ℕ) (is_interl
       (ap (λ (d : Outstanding). d.first) items) refl refl (emits_nothing m.context.emitted.events) refl
 
   -- its requests say the same
-  goes_requests : (phase : Phase) (t u : Tcb) (m : Making Carried) → u.sender.outstanding ≡ t.sender.outstanding → u.sender.windows ≡ t.sender.windows → u.identity ≡ t.identity
+  goes_requests : (phase : Phase) (t u : Tcb) (m : EndWithPacket Carried) → u.sender.outstanding ≡ t.sender.outstanding → u.sender.windows ≡ t.sender.windows → u.identity ≡ t.identity
       → u.requests.next ≡ t.requests.next → u.requests.current ≡ t.requests.current → SenderGoes message lifecycle is_interleaved from (in_open phase t m) (in_open phase u m)
   goes_requests phase t u m items windows identity next current =
       goes_open phase phase t u m items windows identity (λ x h. asking_reads t.identity.my_first x.answered x.asks m.context.queue t.requests u.requests next current h)
@@ -188,14 +188,14 @@ module _ (message : ℕ → Message) (lifecycle : ℕ → Option ℕ) (is_interl
   -- ---- packets
 
   -- the packet goes out
-  goes_out : (m : Making Carried) (p : Carried) → p.chunks ≡ m.packet.chunks → (prepared : List ℕ) (x : Direction) → SenderClaim message lifecycle is_interleaved from prepared m x
+  goes_out : (m : EndWithPacket Carried) (p : Carried) → p.chunks ≡ m.packet.chunks → (prepared : List ℕ) (x : Direction) → SenderClaim message lifecycle is_interleaved from prepared m x
       → SaysPackets message lifecycle is_interleaved from (first_out m.state) x (packets_in (m.context.emitted.events ++ SendPacket p ∷ []))
   goes_out m p is prepared x claim =
       let said : Carried → Type 0 = λ p. SaysAll message lifecycle is_interleaved from (first_out m.state) x p.chunks in
       subst (All said) (sym (packets_both m.context.emitted.events (SendPacket p ∷ [])))
       (All-push said (packets_in m.context.emitted.events) p claim.emitted (subst (λ (cs : List ChunkTree). SaysAll message lifecycle is_interleaved from (first_out m.state) x cs) (sym is) claim.made))
 
-  goes_emitting : (g : Setting) (m : Making Carried) → InvAt g m
+  goes_emitting : (g : Setting) (m : EndWithPacket Carried) → InvAt g m
       → SenderGoes message lifecycle is_interleaved from m (record m { context = emit_if true m.packet m.context; packet = empty_packet m.packet })
   goes_emitting g m inv prepared x claim =
       let es = m.context.emitted.events in
@@ -223,7 +223,7 @@ module _ (message : ℕ → Message) (lifecycle : ℕ → Option ℕ) (is_interl
         },
       )
 
-  goes_anew : (m : Making Carried) (p : Packet) → p.chunks ≡ [] → SenderGoes message lifecycle is_interleaved from m (with_packet p m)
+  goes_anew : (m : EndWithPacket Carried) (p : Packet) → p.chunks ≡ [] → SenderGoes message lifecycle is_interleaved from m (with_packet p m)
   goes_anew m p new prepared x claim = (
     x,
     record {
@@ -274,7 +274,7 @@ module _ (message : ℕ → Message) (lifecycle : ℕ → Option ℕ) (is_interl
   -- ---- calls
 
   -- what is emitted quietly, and nothing of resets
-  goes_light : (a b : Making Carried) → EmitsQuietly a.context.emitted b.context.emitted → resets_in b.context.emitted.events ≡ resets_in a.context.emitted.events → b.state ≡ a.state
+  goes_light : (a b : EndWithPacket Carried) → EmitsQuietly a.context.emitted b.context.emitted → resets_in b.context.emitted.events ≡ resets_in a.context.emitted.events → b.state ≡ a.state
       → ((x : Direction) → SendsIn message lifecycle is_interleaved a.state a.context.queue x → SendsIn message lifecycle is_interleaved b.state b.context.queue x)
       → recorded_places b.context.emitted ≡ recorded_places a.context.emitted → b.packet.chunks ≡ a.packet.chunks → SenderGoes message lifecycle is_interleaved from a b
   goes_light a b quiet resets same shown gone chunks =
@@ -352,19 +352,19 @@ module _ (message : ℕ → Message) (lifecycle : ℕ → Option ℕ) (is_interl
 
   -- ---- the peer resets its streams
 
-  pub light_defers : (phase : Phase) (t : Tcb) (m : Making Carried) (number last_tsn : ℕ) (streams : List StreamId)
+  pub light_defers : (phase : Phase) (t : Tcb) (m : EndWithPacket Carried) (number last_tsn : ℕ) (streams : List StreamId)
       → SenderGoes message lifecycle is_interleaved from (in_open phase t m) (in_open phase (record t { reassembly = defer last_tsn streams t.reassembly; requests = process_request number in_progress t.requests }) m)
   light_defers phase t m number last_tsn streams =
       goes_requests phase t (record t { reassembly = defer last_tsn streams t.reassembly; requests = process_request number in_progress t.requests }) m refl refl refl refl refl
 
-  pub light_performs : (phase : Phase) (t : Tcb) (m : Making Carried) (number : ℕ) (streams : List StreamId)
+  pub light_performs : (phase : Phase) (t : Tcb) (m : EndWithPacket Carried) (number : ℕ) (streams : List StreamId)
       → SenderGoes message lifecycle is_interleaved from (in_open phase t m)
       (in_open phase (record t { reassembly = reset streams t.reassembly; requests = process_request number performed t.requests }) (with_context (say (OnIncomingStreamReset (numbers_of streams)) m.context) m))
   light_performs phase t m number streams =
       let u : Tcb = record t { reassembly = reset streams t.reassembly; requests = process_request number performed t.requests } in
       let e : Event Carried = OnIncomingStreamReset (numbers_of streams) in
       let es = m.context.emitted.events in
-      let b : Making Carried = in_open phase u (with_context (say e m.context) m) in
+      let b : EndWithPacket Carried = in_open phase u (with_context (say e m.context) m) in
       let said : EmitsQuietly m.context.emitted b.context.emitted = quiet_all (e ∷ []) m.context.emitted refl in
       let n = performed_both es (e ∷ []) in
       goes_same (in_open phase t m) b
@@ -372,7 +372,7 @@ module _ (message : ℕ → Message) (lifecycle : ℕ → Option ℕ) (is_interl
       (same_packets m.context.emitted b.context.emitted (lightly m.context.emitted b.context.emitted said)) (same_delivered m.context.emitted b.context.emitted said)
       (record { counted = omega (arith, n); named = named_both es (e ∷ []) ∙ append-nil (performed_of es); failed = incoming_fails es (numbers_of streams) }) refl
 
-  pub light_processes : (phase : Phase) (t : Tcb) (m : Making Carried) (number : ℕ)
+  pub light_processes : (phase : Phase) (t : Tcb) (m : EndWithPacket Carried) (number : ℕ)
       → SenderGoes message lifecycle is_interleaved from (in_open phase t m) (in_open phase (record t { requests = process_request number nothing_to_do t.requests }) m)
   light_processes phase t m number = goes_requests phase t (record t { requests = process_request number nothing_to_do t.requests }) m refl refl refl refl refl
 

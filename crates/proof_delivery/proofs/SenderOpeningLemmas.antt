@@ -31,7 +31,7 @@ use Rattle.spec_endpoint.specs.Requests.{requests}
 use Rattle.spec_endpoint.specs.Opening.{long_word, t1_cookie, names, agreed_by, identity_of, queue_if, other_mode, connected_context}
 use Rattle.spec_endpoint.specs.Laws.{Call}
 use Rattle.proof_endpoint.specs.Mapped.{Carried}
-use Rattle.proof_pair.specs.Acts.{Making, end_of, in_open, in_state, with_context, drew_one, drew_two, echoing, opened_by, is_opened, OpeningAct, connects, adds_init, answers_new, answers_waiting, answers_echoed, answers_again, echoes, adds_cookie, establishes, opens, restarts, opens_again, maintains, adds_cookie_ack, before_opening, after_opening}
+use Rattle.proof_pair.specs.Acts.{EndWithPacket, end_of, in_open, in_state, with_context, drew_one, drew_two, echoing, opened_by, is_opened, OpeningAct, connects, adds_init, answers_new, answers_waiting, answers_echoed, answers_again, echoes, adds_cookie, establishes, opens, restarts, opens_again, maintains, adds_cookie_ack, before_opening, after_opening}
 use Rattle.proof_pair.specs.Trace.{packets_in}
 use Rattle.proof_pair.proofs.JoinActsLemmas.{Setting, InvAt, packets_both}
 use Rattle.proof_delivery.specs.Asks.{Ask, SaysOutgoing, IsAsking}
@@ -159,7 +159,7 @@ module _ (message : ℕ → Message) (lifecycle : ℕ → Option ℕ) (is_interl
 
 module _ (message : ℕ → Message) (lifecycle : ℕ → Option ℕ) (is_interleaved : Bool) (from : Direction) where
   -- a control block is made, where there was none
-  goes_opening : (a b : Making Carried) (phase : Phase) (o : Options) (i : Identity) (a_rwnd : ℕ) (k : Capabilities) (q : Queue) → is_opened a.state ≡ false
+  goes_opening : (a b : EndWithPacket Carried) (phase : Phase) (o : Options) (i : Identity) (a_rwnd : ℕ) (k : Capabilities) (q : Queue) → is_opened a.state ≡ false
       → b.state ≡ Open phase (tcb o i a_rwnd k) → b.context.queue ≡ set_mode k.message_interleaving q
       → 256 ≤ o.mtu → i.my_first < 2 ^ 32 → is_interleaved ≡ k.message_interleaving → ((x : Direction) → IsWaiting message lifecycle is_interleaved a.context.queue x → IsWaiting message lifecycle is_interleaved q x)
       → recorded_places b.context.emitted ≡ recorded_places a.context.emitted
@@ -210,7 +210,7 @@ module _ (message : ℕ → Message) (lifecycle : ℕ → Option ℕ) (is_interl
   none_reset es = none_behind es (OnConnected ∷ []) refl
 
   -- the cookie was answered
-  goes_late : (t1 : Timer) (cookie : List ℕ) (t : Tcb) (m : Making Carried)
+  goes_late : (t1 : Timer) (cookie : List ℕ) (t : Tcb) (m : EndWithPacket Carried)
       → SenderGoes message lifecycle is_interleaved from (in_open (CookieEchoed t1 cookie) t m) (in_open Established t (with_context (connected_context m.context) m))
   goes_late t1 cookie t m =
       goes_same message lifecycle is_interleaved from (in_open (CookieEchoed t1 cookie) t m) (in_open Established t (with_context (connected_context m.context) m)) (λ x h. h) refl refl
@@ -225,7 +225,7 @@ module _ (message : ℕ → Message) (lifecycle : ℕ → Option ℕ) (is_interl
     same_mode : (k : Capabilities) → k ≡ agreed g.own g.other → is_interleaved ≡ k.message_interleaving
     same_mode k e = p.mode ∙ sym (ap (λ (z : Capabilities). z.message_interleaving) e)
 
-    goes_echoing : (i : InitTree) (cookie : List ℕ) (my_tag first : ℕ) (t1 : Timer) (m : Making Carried) → InvAt g (in_state (CookieWait my_tag first t1) m)
+    goes_echoing : (i : InitTree) (cookie : List ℕ) (my_tag first : ℕ) (t1 : Timer) (m : EndWithPacket Carried) → InvAt g (in_state (CookieWait my_tag first t1) m)
         → InvAt g (echoing i cookie my_tag first m) → SenderGoes message lifecycle is_interleaved from (in_state (CookieWait my_tag first t1) m) (echoing i cookie my_tag first m)
     goes_echoing i cookie my_tag first t1 m inv later =
         let k : Capabilities = agreed_by m.context.options i in
@@ -234,7 +234,7 @@ module _ (message : ℕ → Message) (lifecycle : ℕ → Option ℕ) (is_interl
         later.stands.draw.first
         (same_mode k later.stands.can) (λ x h. waiting_anew message lifecycle is_interleaved x m.context.queue h) refl refl refl refl refl
 
-    goes_opened : (c : Cookie) (m : Making Carried) → is_opened m.state ≡ false → InvAt g m → InvAt g (opened_by false c m) → SenderGoes message lifecycle is_interleaved from m (opened_by false c m)
+    goes_opened : (c : Cookie) (m : EndWithPacket Carried) → is_opened m.state ≡ false → InvAt g m → InvAt g (opened_by false c m) → SenderGoes message lifecycle is_interleaved from m (opened_by false c m)
     goes_opened c m closed inv later =
         let k : Capabilities = negotiate m.context.options c.peer_capabilities in
         let anew : Bool = false || other_mode k.message_interleaving m.context.queue.scheduler.is_interleaved in

@@ -43,7 +43,7 @@ use Rattle.spec_endpoint.specs.StreamReset.{on_outcome}
 use Rattle.spec_endpoint.specs.Sending.{last_assigned, begin_burst, request_started}
 use Rattle.spec_endpoint.specs.Laws.{Call}
 use Rattle.proof_endpoint.specs.Mapped.{Carried}
-use Rattle.proof_pair.specs.Acts.{Making, in_open, with_context, with_chunk, IsAsked}
+use Rattle.proof_pair.specs.Acts.{EndWithPacket, in_open, with_context, with_chunk, IsAsked}
 use Rattle.proof_pair.specs.Trace.{packets_in}
 use Rattle.proof_pair.proofs.JoinActsLemmas.{Setting, InvAt, packets_both}
 use Rattle.proof_pair.proofs.EmittedLemmas.{emits_prepared}
@@ -172,7 +172,7 @@ module _ (message : ℕ → Message) (lifecycle : ℕ → Option ℕ) (is_interl
       ∙ (ap (λ (es : List RuleEvent). give_ups (unsent_of q id) ++ es) (opens_alone (stream id q.streams).pause id) ∙ append-nil (give_ups (unsent_of q id))))
 
   -- where no answer was emitted in this action
-  pub prepares_claims : (ids : List ℕ) (id : ℕ) (phase : Phase) (t : Tcb) (m : Making Carried) (x : Direction) → performed_of m.context.emitted.events ≡ []
+  pub prepares_claims : (ids : List ℕ) (id : ℕ) (phase : Phase) (t : Tcb) (m : EndWithPacket Carried) (x : Direction) → performed_of m.context.emitted.events ≡ []
       → SenderClaim message lifecycle is_interleaved from ids (in_open phase t m) x
       → (y : Direction) × SenderClaim message lifecycle is_interleaved from (ids ++ id ∷ []) (in_open phase t (with_context (resets.prepare_stream id m.context) m)) y
   prepares_claims ids id phase t m x none a =
@@ -202,7 +202,7 @@ module _ (message : ℕ → Message) (lifecycle : ℕ → Option ℕ) (is_interl
       let given : given_ups (of_transfer (prepare_events q id)) ≡ l.leads.places = ap given_ups (prepare_gives q id ∙ sym l.gives_up) ∙ l.leads.leads.given_up in
       let quiet : EmitsNoAnswer emitted.events later.events = no_answer emitted.events later.events (resets_prepared id q emitted) in
       let counted = quiet.counted in
-      let b : Making Carried = in_open phase t (with_context (resets.prepare_stream id m.context) m) in (
+      let b : EndWithPacket Carried = in_open phase t (with_context (resets.prepare_stream id m.context) m) in (
         y,
         step_claims message lifecycle is_interleaved from ids (ids ++ id ∷ []) (in_open phase t m) b x y a (record {
           goes = goes;
@@ -234,7 +234,7 @@ module _ (message : ℕ → Message) (lifecycle : ℕ → Option ℕ) (is_interl
       )
 
   -- nor is any emitted then
-  pub prepared_answers : (id : ℕ) (m : Making Carried) → performed_of m.context.emitted.events ≡ [] → performed_of (resets.prepare_stream id m.context).emitted.events ≡ []
+  pub prepared_answers : (id : ℕ) (m : EndWithPacket Carried) → performed_of m.context.emitted.events ≡ [] → performed_of (resets.prepare_stream id m.context).emitted.events ≡ []
   prepared_answers id m none = (no_answer m.context.emitted.events (resets.prepare_stream id m.context).emitted.events (resets_prepared id m.context.queue m.context.emitted)).named ∙ none
 
   -- ---- a request
@@ -275,7 +275,7 @@ module _ (message : ℕ → Message) (lifecycle : ℕ → Option ℕ) (is_interl
         );
       }
 
-  pub asks_reset_keeps : IsKept message is_interleaved from → (most first_of : ℕ) (others : List ℕ) (phase : Phase) (t : Tcb) (m : Making Carried) → requested_streams most m.context.queue ≡ first_of ∷ others → t.requests.current ≡ None
+  pub asks_reset_keeps : IsKept message is_interleaved from → (most first_of : ℕ) (others : List ℕ) (phase : Phase) (t : Tcb) (m : EndWithPacket Carried) → requested_streams most m.context.queue ≡ first_of ∷ others → t.requests.current ≡ None
       → SenderGoes message lifecycle is_interleaved from (in_open phase t m)
       (in_open phase (request_started m.context.now (first_of ∷ others) t) (with_context (record m.context { queue = request_resets most m.context.queue }) m))
   asks_reset_keeps before most first_of others phase t m some free prepared x claim =
@@ -314,7 +314,7 @@ module _ (message : ℕ → Message) (lifecycle : ℕ → Option ℕ) (is_interl
       let last : last_assigned (begin_burst t.sender) ≡ wire words first (origin + a.upto - 1) =
       ap (λ (n : ℕ). wire words t.sender.outstanding.first (n - 1)) counted ∙ ap (λ (n : ℕ). wire words n (origin + a.upto - 1)) h.first in
       let u : Tcb = request_started m.context.now (first_of ∷ others) t in
-      let b : Making Carried = in_open phase u (with_context (record m.context { queue = r }) m) in
+      let b : EndWithPacket Carried = in_open phase u (with_context (record m.context { queue = r }) m) in
       let is_it : (c : Ask) → slice_get (x.asks ++ a ∷ []) x.answered ≡ Some c → a ≡ c = λ c e.
       same_Some a c (sym (subst (λ (n : ℕ). slice_get (x.asks ++ a ∷ []) n ≡ Some a) all (get_last x.asks a)) ∙ e) in
       let follows : FollowsEpochs rules r (begin_reset items) = subst (λ (e : Epochs). FollowsEpochs e r (begin_reset items)) same z.follows in
@@ -350,7 +350,7 @@ module _ (message : ℕ → Message) (lifecycle : ℕ → Option ℕ) (is_interl
       some_none n ns e = cc
 
   -- the request goes along in a packet
-  pub adds_request_keeps : (r : Request) (phase : Phase) (t : Tcb) (m : Making Carried) → t.requests.current ≡ Some r
+  pub adds_request_keeps : (r : Request) (phase : Phase) (t : Tcb) (m : EndWithPacket Carried) → t.requests.current ≡ Some r
       → SenderGoes message lifecycle is_interleaved from (in_open phase t m) (with_chunk (request_chunk r) (in_open phase t m))
   adds_request_keeps r phase t m is =
       goes_saying message lifecycle is_interleaved from (in_open phase t m) (request_chunk r) says
@@ -408,7 +408,7 @@ module _ (message : ℕ → Message) (lifecycle : ℕ → Option ℕ) (is_interl
   ]
 
   -- that was performed: its streams go on
-  done_claims : (rto number result : ℕ) (phase : Phase) (t : Tcb) (m : Making Carried) (prepared : List ℕ) (x : Direction) → SenderClaim message lifecycle is_interleaved from prepared (in_open phase t m) x
+  done_claims : (rto number result : ℕ) (phase : Phase) (t : Tcb) (m : EndWithPacket Carried) (prepared : List ℕ) (x : Direction) → SenderClaim message lifecycle is_interleaved from prepared (in_open phase t m) x
       → (a : Ask) → slice_get x.asks x.answered ≡ Some a → x.answered < x.done → outcome number result t.requests.current ≡ Done a.streams
       → (y : Direction) × SenderClaim message lifecycle is_interleaved from prepared
       (in_open phase (record t { requests = answer_request m.context.now rto number result t.requests }) (with_context (on_outcome (Done a.streams) m.context) m)) y
@@ -434,7 +434,7 @@ module _ (message : ℕ → Message) (lifecycle : ℕ → Option ℕ) (is_interl
       let w = answers_open message is_interleaved ss x.rules in
       let y : Direction = record x { rules = go_all message is_interleaved x.rules (map commit ss); answered = suc x.answered } in
       let u : Tcb = record t { requests = answer_request m.context.now rto number result t.requests } in
-      let b : Making Carried = in_open phase u (with_context (on_outcome (Done ss) m.context) m) in
+      let b : EndWithPacket Carried = in_open phase u (with_context (on_outcome (Done ss) m.context) m) in
       let e : Event Carried = OnStreamsResetPerformed ss in
       let ends = done_ends m.context.now rto number result ss t.requests is in
       let counted = performed_both es (e ∷ []) in
@@ -486,7 +486,7 @@ module _ (message : ℕ → Message) (lifecycle : ℕ → Option ℕ) (is_interl
       resetting_flows e = cc
 
   module _ (g : Setting) (call : Call) (premises : SenderPremises message lifecycle is_interleaved g call from) where
-    pub takes_response_keeps : (rto number result : ℕ) (sender receiver : Option Tsn) (phase : Phase) (t : Tcb) (m : Making Carried) → IsAsked call (reset_response number result sender receiver)
+    pub takes_response_keeps : (rto number result : ℕ) (sender receiver : Option Tsn) (phase : Phase) (t : Tcb) (m : EndWithPacket Carried) → IsAsked call (reset_response number result sender receiver)
         → InvAt g (in_open phase t m)
         → SenderGoes message lifecycle is_interleaved from (in_open phase t m)
         (in_open phase (record t { requests = answer_request m.context.now rto number result t.requests }) (with_context (on_outcome (outcome number result t.requests.current) m.context) m))

@@ -21,7 +21,7 @@ use Rattle.proof_tx_refines.proofs.PausedLemmas.{go_more, may_more}
 use Rattle.proof_tx_refines.proofs.SackLemmas.{delivered_more, ids_more}
 use Rattle.proof_tx_refines.proofs.SendLemmas.{carries_along}
 use Rattle.proof_endpoint.specs.Mapped.{Carried}
-use Rattle.proof_pair.specs.Acts.{Making}
+use Rattle.proof_pair.specs.Acts.{EndWithPacket}
 use Rattle.proof_pair.specs.Trace.{packets_in}
 use Rattle.proof_pair.proofs.EmittedLemmas.{is_quiet, EmitsLightly, EmitsQuietly}
 use Rattle.proof_pair.proofs.JoinActsLemmas.{packets_both, light_packets}
@@ -427,7 +427,7 @@ module _ (message : ℕ → Message) (lifecycle : ℕ → Option ℕ) (is_interl
   SaysPackets first x packets = All (λ (p : Carried). All (SaysOut message is_interleaved first (transfer_of from).acknowledged (count (transfer_of from).sender) x) p.chunks) packets
 
   -- where an act leads the rules from x to y, with what it gives up
-  pub record SenderStep (prepared later : List ℕ) (a b : Making Carried) (x y : Direction) : Type 0 where
+  pub record SenderStep (prepared later : List ℕ) (a b : EndWithPacket Carried) (x y : Direction) : Type 0 where
     pub goes : GoesOn message is_interleaved goes_out x y
     pub asked : AreAsked y.rules y.asks y.done y.answered
     pub done : y.done ≡ x.done
@@ -441,7 +441,7 @@ module _ (message : ℕ → Message) (lifecycle : ℕ → Option ℕ) (is_interl
     pub packets : packets_in b.context.emitted.events ≡ packets_in a.context.emitted.events
     pub made : SaysAll (first_out a.state) y a.packet.chunks → SaysAll (first_out a.state) y b.packet.chunks
 
-  pub step_claims : (prepared later : List ℕ) (a b : Making Carried) (x y : Direction) → SenderClaim message lifecycle is_interleaved from prepared a x → SenderStep prepared later a b x y
+  pub step_claims : (prepared later : List ℕ) (a b : EndWithPacket Carried) (x y : Direction) → SenderClaim message lifecycle is_interleaved from prepared a x → SenderStep prepared later a b x y
       → SenderClaim message lifecycle is_interleaved from later b y
   step_claims prepared later a b x y c s =
       let least : ℕ = (transfer_of from).acknowledged in

@@ -6,7 +6,7 @@ use Rattle.sctp_state.specs.Handover.{HandoverState}
 use Rattle.spec_endpoint.specs.Association.{Endpoint}
 use Rattle.spec_endpoint.specs.Laws.{Call, Connect, Restore, called}
 use Rattle.proof_endpoint.specs.Mapped.{Carried}
-use Rattle.proof_pair.specs.Acts.{Making, PacketAct, begins, adds_plain, emits, complains, counts, before_packets, after_packets, OpeningAct, connects, adds_init, answers_new, answers_waiting, answers_echoed, answers_again, echoes, adds_cookie, establishes, opens, restarts, opens_again, maintains, adds_cookie_ack, before_opening, after_opening, ClosingAct, closes, shuts, shuts_on, before_closing, after_closing, DataAct, takes_data, takes_idata, takes_forward, takes_iforward, before_data, after_data, SackAct, takes_sack, samples, counts_errors, before_sack, after_sack, SendingAct, asks, adds_ack, expires, adds_forward, forwards_later, asks_no_reset, asks_reset, adds_request, sends, sends_fast, before_sending, after_sending, TimeAct, advances, delay_ends, times_out, beats, times_init, times_cookie, times_request, wakes_request, before_time, after_time, CallAct, accepts, refuses, takes_message, sets_low_threshold, sets_priority, sets_max_message_size, before_call, after_call, ResetAct, prepares, defers, performs, processes, takes_response, adds_responses, before_reset, after_reset, HandoverAct, leaves, takes_up, before_handover, after_handover, InputAct, ends_packet, before_input, after_input, IsReceived, IsEchoed, Preserves}
+use Rattle.proof_pair.specs.Acts.{EndWithPacket, PacketAct, begins, adds_plain, emits, complains, counts, before_packets, after_packets, OpeningAct, connects, adds_init, answers_new, answers_waiting, answers_echoed, answers_again, echoes, adds_cookie, establishes, opens, restarts, opens_again, maintains, adds_cookie_ack, before_opening, after_opening, ClosingAct, closes, shuts, shuts_on, before_closing, after_closing, DataAct, takes_data, takes_idata, takes_forward, takes_iforward, before_data, after_data, SackAct, takes_sack, samples, counts_errors, before_sack, after_sack, SendingAct, asks, adds_ack, expires, adds_forward, forwards_later, asks_no_reset, asks_reset, adds_request, sends, sends_fast, before_sending, after_sending, TimeAct, advances, delay_ends, times_out, beats, times_init, times_cookie, times_request, wakes_request, before_time, after_time, CallAct, accepts, refuses, takes_message, sets_low_threshold, sets_priority, sets_max_message_size, before_call, after_call, ResetAct, prepares, defers, performs, processes, takes_response, adds_responses, before_reset, after_reset, HandoverAct, leaves, takes_up, before_handover, after_handover, InputAct, ends_packet, before_input, after_input, IsReceived, IsEchoed, Preserves}
 use Rattle.proof_pair.proofs.ActsLemmas.{keeps_call}
 use Rattle.proof_draws_pair.proofs.NamesLemmas.{TagsAre}
 
@@ -19,7 +19,7 @@ pub record Guides (call : Call) (mine peer : ℕ) : Type 0 where
   pub restores : (h : HandoverState) → call ≡ Restore h → ⊥
 
 module _ (call : Call) (mine peer : ℕ) (g : Guides call mine peer) where
-  abbrev Stays : (before after : Making Carried) → Type 0
+  abbrev Stays : (before after : EndWithPacket Carried) → Type 0
   Stays a b = TagsAre mine peer a.state → TagsAre mine peer b.state
 
   stays_packets : (act : PacketAct Carried call) → Stays (before_packets act) (after_packets act)

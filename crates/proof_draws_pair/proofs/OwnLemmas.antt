@@ -19,7 +19,7 @@ use Rattle.proof_endpoint.specs.Mapped.{Carried}
 use Rattle.sctp_tx.specs.Resent.{resent_fast}
 use Rattle.sctp_tx.specs.ForwardPoints.{forward_chunk, chunk_if}
 use Rattle.sctp_tx.specs.Retransmission.{Sender}
-use Rattle.proof_pair.specs.Acts.{Making, PacketAct, begins, adds_plain, emits, complains, counts, before_packets, after_packets, OpeningAct, connects, adds_init, answers_new, answers_waiting, answers_echoed, answers_again, echoes, adds_cookie, establishes, opens, restarts, opens_again, maintains, adds_cookie_ack, before_opening, after_opening, ClosingAct, closes, shuts, shuts_on, before_closing, after_closing, DataAct, takes_data, takes_idata, takes_forward, takes_iforward, before_data, after_data, SackAct, takes_sack, samples, counts_errors, before_sack, after_sack, SendingAct, asks, adds_ack, expires, adds_forward, forwards_later, asks_no_reset, asks_reset, adds_request, sends, sends_fast, before_sending, after_sending, TimeAct, advances, delay_ends, times_out, beats, times_init, times_cookie, times_request, wakes_request, before_time, after_time, CallAct, accepts, refuses, takes_message, sets_low_threshold, sets_priority, sets_max_message_size, before_call, after_call, ResetAct, prepares, defers, performs, processes, takes_response, adds_responses, before_reset, after_reset, HandoverAct, leaves, takes_up, before_handover, after_handover, InputAct, ends_packet, before_input, after_input, calm, is_opened, is_plain, IsReceived, fragments_of, HasNoEnd, PreservesUntilEnd}
+use Rattle.proof_pair.specs.Acts.{EndWithPacket, PacketAct, begins, adds_plain, emits, complains, counts, before_packets, after_packets, OpeningAct, connects, adds_init, answers_new, answers_waiting, answers_echoed, answers_again, echoes, adds_cookie, establishes, opens, restarts, opens_again, maintains, adds_cookie_ack, before_opening, after_opening, ClosingAct, closes, shuts, shuts_on, before_closing, after_closing, DataAct, takes_data, takes_idata, takes_forward, takes_iforward, before_data, after_data, SackAct, takes_sack, samples, counts_errors, before_sack, after_sack, SendingAct, asks, adds_ack, expires, adds_forward, forwards_later, asks_no_reset, asks_reset, adds_request, sends, sends_fast, before_sending, after_sending, TimeAct, advances, delay_ends, times_out, beats, times_init, times_cookie, times_request, wakes_request, before_time, after_time, CallAct, accepts, refuses, takes_message, sets_low_threshold, sets_priority, sets_max_message_size, before_call, after_call, ResetAct, prepares, defers, performs, processes, takes_response, adds_responses, before_reset, after_reset, HandoverAct, leaves, takes_up, before_handover, after_handover, InputAct, ends_packet, before_input, after_input, calm, is_opened, is_plain, IsReceived, fragments_of, HasNoEnd, PreservesUntilEnd}
 use Rattle.proof_pair.specs.Trace.{as_carried}
 use Rattle.proof_pair.proofs.AddedLemmas.{holds_added, holds_all_added}
 use Rattle.proof_pair.proofs.EmittedLemmas.{is_light, EmitsLightly}
@@ -141,40 +141,40 @@ module _ (P : ChunkTree → Type 0) (pack : Packing Carried) (es : List (Event C
   emitted_adds_all cs p h k = emitted_made P pack es p.chunks h (add_all cs p).chunks (holds_all_added (λ tag. P) cs p h.made (λ tag. k))
 
 module _ (call : Call) (g : Receives call) where
-  abbrev pub EmitsAt : Making Carried → Type 0
+  abbrev pub EmitsAt : EndWithPacket Carried → Type 0
   EmitsAt m = Emitted (May call m.state) m.context.pack m.context.emitted.events m.packet.chunks
 
-  abbrev R : Making Carried → Making Carried → Type 0
+  abbrev R : EndWithPacket Carried → EndWithPacket Carried → Type 0
   R a b = EmitsAt a → EmitsAt b
 
   no_init : {A : Type 0} (c : Call) → call ≡ c → receives_init c ≡ false → receives_init call ≡ true → A
   no_init c e f h = absurd (both_ways (receives_init call) (ap receives_init e ∙ f) h)
 
   -- another state, and the same emitted
-  actions_to : (s u : State) (m : Making Carried) → (is_opened s ≡ true → is_opened u ≡ true) → (receives_init call ≡ true → is_past s ≡ false → is_past u ≡ false)
+  actions_to : (s u : State) (m : EndWithPacket Carried) → (is_opened s ≡ true → is_opened u ≡ true) → (receives_init call ≡ true → is_past s ≡ false → is_past u ≡ false)
       → Emitted (May call s) m.context.pack m.context.emitted.events m.packet.chunks → Emitted (May call u) m.context.pack m.context.emitted.events m.packet.chunks
   actions_to s u m f q h = emitted_as (May call s) m.context.pack m.context.emitted.events m.packet.chunks h (May call u) (changes call s u f q)
 
   -- and `OnConnected` is emitted
-  connected_to : (s u : State) (m : Making Carried) → (is_opened s ≡ true → is_opened u ≡ true) → (receives_init call ≡ true → is_past s ≡ false → is_past u ≡ false)
+  connected_to : (s u : State) (m : EndWithPacket Carried) → (is_opened s ≡ true → is_opened u ≡ true) → (receives_init call ≡ true → is_past s ≡ false → is_past u ≡ false)
       → Emitted (May call s) m.context.pack m.context.emitted.events m.packet.chunks
       → Emitted (May call u) m.context.pack (m.context.emitted.events ++ OnConnected ∷ []) m.packet.chunks
   connected_to s u m f q h =
       emitted_more (May call s) m.context.pack m.context.emitted.events m.packet.chunks h (May call u) (changes call s u f q) (OnConnected ∷ [])
       (m.context.emitted.events ++ OnConnected ∷ []) refl tt
 
-  restarted_to : (s u : State) (m : Making Carried) → (is_opened s ≡ true → is_opened u ≡ true) → (receives_init call ≡ true → is_past s ≡ false → is_past u ≡ false)
+  restarted_to : (s u : State) (m : EndWithPacket Carried) → (is_opened s ≡ true → is_opened u ≡ true) → (receives_init call ≡ true → is_past s ≡ false → is_past u ≡ false)
       → Emitted (May call s) m.context.pack m.context.emitted.events m.packet.chunks
       → Emitted (May call u) m.context.pack ((m.context.emitted.events ++ OnConnectionRestarted ∷ []) ++ OnConnected ∷ []) m.packet.chunks
   restarted_to s u m f q h =
       emitted_more (May call s) m.context.pack m.context.emitted.events m.packet.chunks h (May call u) (changes call s u f q) (OnConnectionRestarted ∷ OnConnected ∷ [])
       ((m.context.emitted.events ++ OnConnectionRestarted ∷ []) ++ OnConnected ∷ []) (append_assoc m.context.emitted.events (OnConnectionRestarted ∷ []) (OnConnected ∷ [])) tt
 
-  adds_to : (s : State) (m : Making Carried) (c : ChunkTree) → May call s c → Emitted (May call s) m.context.pack m.context.emitted.events m.packet.chunks
+  adds_to : (s : State) (m : EndWithPacket Carried) (c : ChunkTree) → May call s c → Emitted (May call s) m.context.pack m.context.emitted.events m.packet.chunks
       → Emitted (May call s) m.context.pack m.context.emitted.events (add c m.packet).chunks
   adds_to s m c k h = emitted_adds (May call s) m.context.pack m.context.emitted.events m.packet c h k
 
-  lightly_at : (P : ChunkTree → Type 0) (m n : Making Carried) → EmitsLightly m.context.emitted n.context.emitted
+  lightly_at : (P : ChunkTree → Type 0) (m n : EndWithPacket Carried) → EmitsLightly m.context.emitted n.context.emitted
       → Emitted P m.context.pack m.context.emitted.events m.packet.chunks → Emitted P m.context.pack n.context.emitted.events m.packet.chunks
   lightly_at P m n l h = emitted_lightly P m.context.pack m.context.emitted.events m.packet.chunks h m.context.emitted n.context.emitted refl l
 

@@ -31,7 +31,7 @@ use Rattle.spec_endpoint.specs.Opening.{init_of, init_ack_of, next_first, agreed
 use Rattle.spec_endpoint.specs.Calls.{shown_state, is_shutting_down, is_queue_full, refusal, queue_entry, accept}
 use Rattle.spec_endpoint.specs.Laws.{Call}
 use Rattle.proof_endpoint.specs.Mapped.{Carried}
-use Rattle.proof_pair.specs.Acts.{Making, drawn_tag, drawn_first, drawn_tag_alone, PacketAct, begins, adds_plain, emits, complains, counts, before_packets, after_packets, OpeningAct, connects, adds_init, answers_new, answers_waiting, answers_echoed, answers_again, echoes, adds_cookie, establishes, opens, restarts, opens_again, maintains, adds_cookie_ack, before_opening, after_opening, ClosingAct, closes, shuts, shuts_on, before_closing, after_closing, DataAct, takes_data, takes_idata, takes_forward, takes_iforward, before_data, after_data, SackAct, takes_sack, samples, counts_errors, before_sack, after_sack, SendingAct, asks, adds_ack, expires, adds_forward, forwards_later, asks_no_reset, asks_reset, adds_request, sends, sends_fast, before_sending, after_sending, TimeAct, advances, delay_ends, times_out, beats, times_init, times_cookie, times_request, wakes_request, before_time, after_time, CallAct, accepts, refuses, takes_message, sets_low_threshold, sets_priority, sets_max_message_size, before_call, after_call, ResetAct, prepares, defers, performs, processes, takes_response, adds_responses, before_reset, after_reset, HandoverAct, leaves, takes_up, before_handover, after_handover, InputAct, ends_packet, before_input, after_input, point_of, IsReceived, IsAsked, HasRequest, for_outgoing, for_incoming, IsSummedSo, always, as_held, as_asked, as_before, fragments_of, HasNoEnd, PreservesUntilEnd}
+use Rattle.proof_pair.specs.Acts.{EndWithPacket, drawn_tag, drawn_first, drawn_tag_alone, PacketAct, begins, adds_plain, emits, complains, counts, before_packets, after_packets, OpeningAct, connects, adds_init, answers_new, answers_waiting, answers_echoed, answers_again, echoes, adds_cookie, establishes, opens, restarts, opens_again, maintains, adds_cookie_ack, before_opening, after_opening, ClosingAct, closes, shuts, shuts_on, before_closing, after_closing, DataAct, takes_data, takes_idata, takes_forward, takes_iforward, before_data, after_data, SackAct, takes_sack, samples, counts_errors, before_sack, after_sack, SendingAct, asks, adds_ack, expires, adds_forward, forwards_later, asks_no_reset, asks_reset, adds_request, sends, sends_fast, before_sending, after_sending, TimeAct, advances, delay_ends, times_out, beats, times_init, times_cookie, times_request, wakes_request, before_time, after_time, CallAct, accepts, refuses, takes_message, sets_low_threshold, sets_priority, sets_max_message_size, before_call, after_call, ResetAct, prepares, defers, performs, processes, takes_response, adds_responses, before_reset, after_reset, HandoverAct, leaves, takes_up, before_handover, after_handover, InputAct, ends_packet, before_input, after_input, point_of, IsReceived, IsAsked, HasRequest, for_outgoing, for_incoming, IsSummedSo, always, as_held, as_asked, as_before, fragments_of, HasNoEnd, PreservesUntilEnd}
 use Rattle.proof_pair.specs.Trace.{as_carried, packets_in}
 use Rattle.proof_pair.proofs.EmittedLemmas.{EmitsLightly}
 use Rattle.proof_pair.proofs.UntilLemmas.{light_sack, light_sending, light_time, light_call, light_reset, no_end}
@@ -121,7 +121,7 @@ module _ (g : Setting) (call : Call) (r : Rules g call) (hears : (tag : ℕ) (ch
   abbrev method : ℕ
   method = g.other.zero_checksum_method
 
-  abbrev pub WholeAt : Making Carried → Type 0
+  abbrev pub WholeAt : EndWithPacket Carried → Type 0
   WholeAt m = IsWhole method m.state m.context.queue m.context.emitted.events m.packet
 
   -- ---- packets
@@ -129,13 +129,13 @@ module _ (g : Setting) (call : Call) (r : Rules g call) (hears : (tag : ℕ) (ch
   method_in : (s : State) (phase : Phase) (t : Tcb) → s ≡ Open phase t → Can (agreed g.own g.other) (view_of s).can → t.capabilities ≡ agreed g.own g.other
   method_in s phase t e h = subst (λ (u : State). Can (agreed g.own g.other) (view_of u).can) e h
 
-  asked_for : (m : Making Carried) (tag : ℕ) (i : InitTree) → IsReceived call tag (init_chunk i) → InvAt g m → agreed_by m.context.options i ≡ agreed g.own g.other
+  asked_for : (m : EndWithPacket Carried) (tag : ℕ) (i : InitTree) → IsReceived call tag (init_chunk i) → InvAt g m → agreed_by m.context.options i ≡ agreed g.own g.other
   asked_for m tag i h inv =
       let said : IsInit g.other (view_of g.beside) tag i = init_said g call r tag i m h inv in
       ap (λ (o : Options). agreed_by o i) inv.options
       ∙ (ap (λ (j : InitTree). agreed_by g.own j) said.is ∙ negotiated_told_by_init g.own g.other)
 
-  summed_so : (m : Making Carried) (p : Packet) → InvAt g m → WholeAt m → IsSummedSo call m p → Passes method p.is_summed
+  summed_so : (m : EndWithPacket Carried) (p : Packet) → InvAt g m → WholeAt m → IsSummedSo call m p → Passes method p.is_summed
   summed_so m p inv h (always e) none = absurd (both_ways true (sym e ∙ none) refl)
   summed_so m p inv h (as_held phase t at_s e) none =
       agreed_method g.own g.other t.capabilities (method_in m.state phase t at_s inv.stands.can) (sym e ∙ none)
@@ -156,11 +156,11 @@ module _ (g : Setting) (call : Call) (r : Rules g call) (hears : (tag : ℕ) (ch
   -- ---- opening
 
   -- a chunk of the handshake
-  adds_other : (s : State) (m : Making Carried) (c : ChunkTree) → is_whole c ≡ true → IsWhole method s m.context.queue m.context.emitted.events m.packet
+  adds_other : (s : State) (m : EndWithPacket Carried) (c : ChunkTree) → is_whole c ≡ true → IsWhole method s m.context.queue m.context.emitted.events m.packet
       → IsWhole method s m.context.queue m.context.emitted.events (add c m.packet)
   adds_other s m c e h = whole_added method s m.context.queue m.context.emitted.events c m.packet e h
 
-  connected_said : (m : Making Carried) → All (IsSaid method) (packets_in m.context.emitted.events)
+  connected_said : (m : EndWithPacket Carried) → All (IsSaid method) (packets_in m.context.emitted.events)
       → All (IsSaid method) (packets_in (m.context.emitted.events ++ OnConnected ∷ []))
   connected_said m h = said_none method m.context.emitted.events (OnConnected ∷ []) (m.context.emitted.events ++ OnConnected ∷ []) refl refl h
 
@@ -376,7 +376,7 @@ module _ (g : Setting) (call : Call) (r : Rules g call) (hears : (tag : ℕ) (ch
   w_input (ends_packet phase t m) h = h
 
   -- together with what both ends know of each other
-  abbrev pub Stays : Making Carried → Making Carried → Type 0
+  abbrev pub Stays : EndWithPacket Carried → EndWithPacket Carried → Type 0
   Stays a b = InvAt g a × WholeAt a → InvAt g b × WholeAt b
 
   pub wholes : PreservesUntilEnd call Stays

@@ -16,7 +16,7 @@ use Rattle.spec_endpoint.specs.Opening.{on_cookie_ack}
 use Rattle.spec_endpoint.specs.StreamReset.{on_reconfig}
 use Rattle.spec_endpoint.specs.Input.{refusal, is_reported, echo_unknown, echoed_in, complain_of_unknown, on_unknown_if, on_heartbeat, Received, on_endpoint_state, on_chunk, violation, received_if, receive, receive_rest, receive_all, has_data, repeats, repeats_if, ended_if, at_end, end_packet, handle_chunks, counts as counts_row, taken_if, on_packet, on_no_packet}
 use Rattle.spec_endpoint.specs.Laws.{Call, Connect, Close, Shutdown, Send, SendMany, ResetStreams, TakeMessage, SetLowThreshold, SetPriority, SetMaxMessageSize, Advance, HandOver, Restore, Packet as Given, NoPacket, called}
-use Rattle.proof_pair.specs.Acts.{Making, at, idle, calm, IsReceived, counts, asks, adds_ack, beats, counts_errors, shuts_on, ends_packet, Preserves}
+use Rattle.proof_pair.specs.Acts.{EndWithPacket, at, idle, calm, IsReceived, counts, asks, adds_ack, beats, counts_errors, shuts_on, ends_packet, Preserves}
 use Rattle.proof_pair.proofs.BundledLemmas.{first_more}
 use Rattle.proof_pair.proofs.PacketActsLemmas.{does_begin_new, does_chunk, does_complain, does_send_with}
 use Rattle.proof_pair.proofs.RowActsLemmas.{placed, OpenActs, does_where_open, does_send_shutdown, does_close, does_shutdown, does_shut_by_peer, does_shutdown_ack, does_shutdown_complete, does_violated, does_abort, does_error, does_data_chunk, does_idata_chunk, does_forward_chunk, does_iforward_chunk, does_sack}
@@ -24,7 +24,7 @@ use Rattle.proof_pair.proofs.OpeningActsLemmas.{does_connect, does_init, does_in
 use Rattle.proof_pair.proofs.TimeActsLemmas.{does_advance}
 use Rattle.proof_pair.proofs.CallActsLemmas.{does_send, does_send_many, does_low_threshold, does_priority, does_max_message_size, does_take_message, does_reconfig, does_reset_streams, does_hand_over, does_restore}
 
-module _ {P : Type 0} {call : Call} {R : Making P → Making P → Type 0} (k : Preserves call R) where
+module _ {P : Type 0} {call : Call} {R : EndWithPacket P → EndWithPacket P → Type 0} (k : Preserves call R) where
   -- ---- one chunk
 
   does_echoed_in : (s : State) (typ flags : ℕ) (value : List ℕ) (c : Context P) (w : Stream) → R (idle s c w) (idle s (echoed_in s typ flags value c) w)
@@ -164,7 +164,7 @@ module _ {P : Type 0} {call : Call} {R : Making P → Making P → Type 0} (k : 
 
 -- ---- each call
 
-pub keeps_call : {P : Type 0} (call : Call) {R : Making P → Making P → Type 0} → Preserves call R → (s : Endpoint P) → R (calm s) (calm (called call s))
+pub keeps_call : {P : Type 0} (call : Call) {R : EndWithPacket P → EndWithPacket P → Type 0} → Preserves call R → (s : Endpoint P) → R (calm s) (calm (called call s))
 keeps_call Connect k s = does_connect k s refl
 keeps_call Close k s = does_close k s.random s.endpoint_state
 keeps_call Shutdown k s = does_shutdown k s.random s.endpoint_state refl

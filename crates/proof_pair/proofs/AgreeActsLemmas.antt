@@ -9,7 +9,7 @@ use Rattle.spec_endpoint.specs.Packets.{Packet, fits, added_if, add, add_all, he
 use Rattle.spec_endpoint.specs.Association.{Tcb, Packing}
 use Rattle.spec_endpoint.specs.Sending.{data_chunk_of, data_chunks}
 use Rattle.proof_endpoint.specs.Mapped.{Carried}
-use Rattle.proof_pair.specs.Acts.{Making, is_plain}
+use Rattle.proof_pair.specs.Acts.{EndWithPacket, is_plain}
 use Rattle.proof_pair.specs.Trace.{as_carried, packets_in, has_connected}
 use Rattle.proof_pair.proofs.EmittedLemmas.{is_light}
 use Rattle.proof_pair.proofs.JoinActsLemmas.{packets_both, light_packets, light_connected, connected_both}
@@ -33,7 +33,7 @@ pub record Inv (g : Setting) (x y : Past) (v : View) (o : Options) (pack : Packi
   pub made : All (Says x y tag) chunks
   pub shape : Shape chunks
 
-abbrev pub InvAt : Setting → (x y : Past) → Making Carried → Type 0
+abbrev pub InvAt : Setting → (x y : Past) → EndWithPacket Carried → Type 0
 InvAt g x y m = Inv g x y (view_of m.state) m.context.options m.context.pack m.context.emitted.events m.packet.tag m.packet.chunks
 
 module _ (g : Setting) (x y : Past) (v : View) (o : Options) (pack : Packing Carried) (es : List (Event Carried)) (tag : ℕ) (chunks : List ChunkTree) (i : Inv g x y v o pack es tag chunks) where

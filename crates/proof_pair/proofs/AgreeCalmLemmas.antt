@@ -8,7 +8,7 @@ use Rattle.sctp_state.specs.Events.{Event, SendPacket, OnConnected, OnError, OnC
 use Rattle.spec_endpoint.specs.Association.{State}
 use Rattle.spec_endpoint.specs.Laws.{Call, Restore, ending}
 use Rattle.proof_endpoint.specs.Mapped.{Carried}
-use Rattle.proof_pair.specs.Acts.{Making, IsReceived, IsEchoed, PacketAct, begins, adds_plain, emits, complains, counts, before_packets, after_packets, OpeningAct, connects, adds_init, answers_new, answers_waiting, answers_echoed, answers_again, echoes, adds_cookie, establishes, opens, restarts, opens_again, maintains, adds_cookie_ack, before_opening, after_opening, ClosingAct, closes, shuts, shuts_on, before_closing, after_closing, DataAct, takes_data, takes_idata, takes_forward, takes_iforward, before_data, after_data, SackAct, takes_sack, samples, counts_errors, before_sack, after_sack, SendingAct, asks, adds_ack, expires, adds_forward, forwards_later, asks_no_reset, asks_reset, adds_request, sends, sends_fast, before_sending, after_sending, TimeAct, advances, delay_ends, times_out, beats, times_init, times_cookie, times_request, wakes_request, before_time, after_time, CallAct, takes_message, before_call, after_call, ResetAct, prepares, defers, performs, processes, takes_response, adds_responses, before_reset, after_reset, HandoverAct, leaves, takes_up, before_handover, after_handover, InputAct, ends_packet, before_input, after_input, Preserves}
+use Rattle.proof_pair.specs.Acts.{EndWithPacket, IsReceived, IsEchoed, PacketAct, begins, adds_plain, emits, complains, counts, before_packets, after_packets, OpeningAct, connects, adds_init, answers_new, answers_waiting, answers_echoed, answers_again, echoes, adds_cookie, establishes, opens, restarts, opens_again, maintains, adds_cookie_ack, before_opening, after_opening, ClosingAct, closes, shuts, shuts_on, before_closing, after_closing, DataAct, takes_data, takes_idata, takes_forward, takes_iforward, before_data, after_data, SackAct, takes_sack, samples, counts_errors, before_sack, after_sack, SendingAct, asks, adds_ack, expires, adds_forward, forwards_later, asks_no_reset, asks_reset, adds_request, sends, sends_fast, before_sending, after_sending, TimeAct, advances, delay_ends, times_out, beats, times_init, times_cookie, times_request, wakes_request, before_time, after_time, CallAct, takes_message, before_call, after_call, ResetAct, prepares, defers, performs, processes, takes_response, adds_responses, before_reset, after_reset, HandoverAct, leaves, takes_up, before_handover, after_handover, InputAct, ends_packet, before_input, after_input, Preserves}
 use Rattle.proof_pair.specs.Trace.{has_connected}
 use Rattle.proof_pair.specs.Agreement.{Association, Has, held_in}
 use Rattle.proof_pair.proofs.EmittedLemmas.{EmitsLightly}
@@ -27,7 +27,7 @@ pub record Rests (s : State) (es : List (Event Carried)) (t : State) (fs : List 
   pub held : (a : Association) → Has a (held_in t) → Has a (held_in s)
   pub emitted : has_connected fs ≡ has_connected es
 
-abbrev pub RestsAt : (before after : Making Carried) → Type 0
+abbrev pub RestsAt : (before after : EndWithPacket Carried) → Type 0
 RestsAt a b = Rests a.state a.context.emitted.events b.state b.context.emitted.events
 
 emitted_more : (es more : List (Event Carried)) → has_connected more ≡ false → has_connected (es ++ more) ≡ has_connected es
@@ -45,7 +45,7 @@ ends_unconnected e h = refl
 
 module _ (call : Call) (calm : IsCalm call) where
   -- what stays of the state, and what is emitted is light
-  lightly : (s t : State) (m n : Making Carried) → ((a : Association) → Has a (held_in t) → Has a (held_in s)) → EmitsLightly m.context.emitted n.context.emitted
+  lightly : (s t : State) (m n : EndWithPacket Carried) → ((a : Association) → Has a (held_in t) → Has a (held_in s)) → EmitsLightly m.context.emitted n.context.emitted
       → Rests s m.context.emitted.events t n.context.emitted.events
   lightly s t m n held l = record {
     held = held;

@@ -16,7 +16,7 @@ use Rattle.spec_endpoint.specs.Packets.{Packet, add}
 use Rattle.spec_endpoint.specs.Opening.{tsn_from, tag_from, word, drew_word, t1_init, connect, cookie_for, agreed_by, init_ack_of, answer, next_first, cookie_in}
 use Rattle.spec_endpoint.specs.Laws.{NoPacket, Packet as Given}
 use Rattle.proof_endpoint.specs.Mapped.{Carried}
-use Rattle.proof_pair.specs.Acts.{Making, at, nothing, idle, calm, echoing, an_init_ack_alone, Preserves}
+use Rattle.proof_pair.specs.Acts.{EndWithPacket, at, nothing, idle, calm, echoing, an_init_ack_alone, Preserves}
 use Rattle.proof_pair.specs.Trace.{has_connected, AreValidOptions}
 use Rattle.proof_pair.specs.Agreement.{Draw, Association, mirrored, Has, association_of, two_drawn, AreDistinct}
 use Rattle.proof_pair.proofs.BundledLemmas.{one_bundled}
@@ -122,7 +122,7 @@ module _ (g : Setting) (y : Past) (own : AreValidOptions g.own) where
       let z : Past = record x { drawn = d ∷ x.drawn } in
       let l : Later x z = record { drawn = λ f h. inr h; held = λ a h. h; echoed = λ a h. h } in
       let c : Context Carried = e.endpoint_state.context in
-      let m : Making Carried = idle (CookieWait d.tag d.first (t1_init c)) c (drew_word (drew_word e)).random in
+      let m : EndWithPacket Carried = idle (CookieWait d.tag d.first (t1_init c)) c (drew_word (drew_word e)).random in
       let drew : InvAt g z y m =
       inv_later g x y rests c.options c.pack c.emitted.events nothing.tag [] inv z y l (later_same y) (waits d)
       (record { own = inl refl; fits = drawn_fits (word e) (word (drew_word e)); new = λ b h t. distinct.0 b.mine (known b h) t })

@@ -8,7 +8,7 @@ use Rattle.sctp_capabilities.specs.Cookie.{Cookie, CapabilitiesFit}
 use Rattle.sctp_state.specs.Handover.{HandoverState}
 use Rattle.sctp_state.specs.Options.{Options}
 use Rattle.sctp_state.specs.Events.{Event, OnError, OnClosed}
-use Rattle.sctp_capabilities.proofs.CapabilitiesLemmas.{told_with_options}
+use Rattle.sctp_capabilities.proofs.CapabilitiesLemmas.{announced_with_options}
 use Rattle.spec_endpoint.specs.Association.{Tcb, Phase, CookieEchoed, Established, ShutdownPending, CookieWait, Open, Context}
 use Rattle.spec_endpoint.specs.Packets.{Packet, packet_to, add}
 use Rattle.spec_endpoint.specs.Requests.{Outcome, Unsettled, Done, Denied, outcome, request_chunk}
@@ -21,7 +21,7 @@ use Rattle.sctp_tx.specs.Resent.{resent_fast}
 use Rattle.sctp_tx.specs.ForwardPoints.{chunk_if, forward_chunk}
 use Rattle.sctp_tx.specs.Sending as fragments
 use Rattle.proof_endpoint.specs.Mapped.{Carried}
-use Rattle.proof_pair.specs.Acts.{Making, in_open, may_shut, IsReceived, IsEchoed, fragments_of, PacketAct, begins, adds_plain, emits, complains, counts, before_packets, after_packets, OpeningAct, connects, adds_init, answers_new, answers_waiting, answers_echoed, answers_again, echoes, adds_cookie, establishes, opens, restarts, opens_again, maintains, adds_cookie_ack, before_opening, after_opening, ClosingAct, closes, shuts, shuts_on, before_closing, after_closing, DataAct, takes_data, takes_idata, takes_forward, takes_iforward, before_data, after_data, SackAct, takes_sack, samples, counts_errors, before_sack, after_sack, SendingAct, asks, adds_ack, expires, adds_forward, forwards_later, asks_no_reset, asks_reset, adds_request, sends, sends_fast, before_sending, after_sending, TimeAct, advances, delay_ends, times_out, beats, times_init, times_cookie, times_request, wakes_request, before_time, after_time, CallAct, accepts, refuses, takes_message, sets_low_threshold, sets_priority, sets_max_message_size, before_call, after_call, ResetAct, prepares, defers, performs, processes, takes_response, adds_responses, before_reset, after_reset, HandoverAct, leaves, takes_up, before_handover, after_handover, InputAct, ends_packet, before_input, after_input, Preserves}
+use Rattle.proof_pair.specs.Acts.{EndWithPacket, in_open, may_shut, IsReceived, IsEchoed, fragments_of, PacketAct, begins, adds_plain, emits, complains, counts, before_packets, after_packets, OpeningAct, connects, adds_init, answers_new, answers_waiting, answers_echoed, answers_again, echoes, adds_cookie, establishes, opens, restarts, opens_again, maintains, adds_cookie_ack, before_opening, after_opening, ClosingAct, closes, shuts, shuts_on, before_closing, after_closing, DataAct, takes_data, takes_idata, takes_forward, takes_iforward, before_data, after_data, SackAct, takes_sack, samples, counts_errors, before_sack, after_sack, SendingAct, asks, adds_ack, expires, adds_forward, forwards_later, asks_no_reset, asks_reset, adds_request, sends, sends_fast, before_sending, after_sending, TimeAct, advances, delay_ends, times_out, beats, times_init, times_cookie, times_request, wakes_request, before_time, after_time, CallAct, accepts, refuses, takes_message, sets_low_threshold, sets_priority, sets_max_message_size, before_call, after_call, ResetAct, prepares, defers, performs, processes, takes_response, adds_responses, before_reset, after_reset, HandoverAct, leaves, takes_up, before_handover, after_handover, InputAct, ends_packet, before_input, after_input, Preserves}
 use Rattle.proof_pair.specs.Trace.{AreValidOptions}
 use Rattle.proof_pair.specs.Agreement.{association_of}
 use Rattle.proof_pair.proofs.EmittedLemmas.{EmitsLightly}
@@ -52,7 +52,7 @@ fits_init o os size tag first fine e fits =
     (record {
       draw = fits;
       window = omega (arith, fine.valid.sizes.receiver_window);
-      can = subst CapabilitiesFit (sym (told_with_options o.zero_checksum_method o))
+      can = subst CapabilitiesFit (sym (announced_with_options o.zero_checksum_method o))
           (record { zero_checksum_method = fine.method; incoming = fine.outgoing; outgoing = fine.incoming });
     })
 
@@ -60,12 +60,12 @@ one_alone : (p q : Packet) (c : ChunkTree) → p ≡ q → Shape (q.chunks ++ c 
 one_alone p q c e h = subst (λ (z : Packet). Shape (z.chunks ++ c ∷ [])) (sym e) h
 
 module _ (g : Setting) (x y : Past) (call : Call) (own : AreValidOptions g.own) (q : Quiet call) where
-  emits_all : (v : View) (m n : Making Carried) (tag : ℕ) (cs : List ChunkTree) → EmitsLightly m.context.emitted n.context.emitted
+  emits_all : (v : View) (m n : EndWithPacket Carried) (tag : ℕ) (cs : List ChunkTree) → EmitsLightly m.context.emitted n.context.emitted
       → Inv g x y v m.context.options m.context.pack m.context.emitted.events tag cs → Inv g x y v m.context.options m.context.pack n.context.emitted.events tag cs
   emits_all v m n tag cs l inv =
       inv_light g x y v m.context.options m.context.pack m.context.emitted.events tag cs inv l.events n.context.emitted.events l.behind l.all
 
-  loads : (v : View) (m : Making Carried) (c : ChunkTree) → Inv g x y v m.context.options m.context.pack m.context.emitted.events m.packet.tag m.packet.chunks
+  loads : (v : View) (m : EndWithPacket Carried) (c : ChunkTree) → Inv g x y v m.context.options m.context.pack m.context.emitted.events m.packet.tag m.packet.chunks
       → IsLoad g x y v m.context.options m.context.pack m.context.emitted.events c
       → Inv g x y v m.context.options m.context.pack m.context.emitted.events (add c m.packet).tag (add c m.packet).chunks
   loads v m c inv l = adds_load g x y v m.context.options m.context.pack m.context.emitted.events m.packet c inv l
@@ -129,7 +129,7 @@ module _ (g : Setting) (x y : Past) (call : Call) (own : AreValidOptions g.own) 
 
   -- ---- closing
 
-  closed_from : (v : View) (m : Making Carried) (e : Event Carried) → ending e ≡ 1
+  closed_from : (v : View) (m : EndWithPacket Carried) (e : Event Carried) → ending e ≡ 1
       → Inv g x y v m.context.options m.context.pack m.context.emitted.events m.packet.tag m.packet.chunks
       → Inv g x y rests m.context.options m.context.pack (m.context.emitted.events ++ e ∷ []) m.packet.tag m.packet.chunks
   closed_from v m e is inv =
@@ -137,7 +137,7 @@ module _ (g : Setting) (x y : Past) (call : Call) (own : AreValidOptions g.own) 
       (tagged_rests g.under)
 
   -- the cookie isn't kept any more
-  shuts_from : (phase : Phase) (t : Tcb) (m : Making Carried) → may_shut phase ≡ true → InvAt g x y (in_open phase t m) → InvAt g x y (in_open ShutdownPending t m)
+  shuts_from : (phase : Phase) (t : Tcb) (m : EndWithPacket Carried) → may_shut phase ≡ true → InvAt g x y (in_open phase t m) → InvAt g x y (in_open ShutdownPending t m)
   shuts_from (CookieEchoed t1 cookie) t m early inv =
       let h : Holds x y (association_of t) (Some cookie) = inv.stands in
       inv_later g x y (holds (association_of t) (Some cookie)) m.context.options m.context.pack m.context.emitted.events m.packet.tag m.packet.chunks inv x y (later_same x)
@@ -170,7 +170,7 @@ module _ (g : Setting) (x y : Past) (call : Call) (own : AreValidOptions g.own) 
 
   -- ---- sending
 
-  forward_load : (b : Bool) (v : View) (m : Making Carried) (s : Sender) → IsLoad g x y v m.context.options m.context.pack m.context.emitted.events (chunk_if b s)
+  forward_load : (b : Bool) (v : View) (m : EndWithPacket Carried) (s : Sender) → IsLoad g x y v m.context.options m.context.pack m.context.emitted.events (chunk_if b s)
   forward_load true v m s = record { says = λ tag. tt; load = refl }
   forward_load false v m s = record { says = λ tag. tt; load = refl }
 

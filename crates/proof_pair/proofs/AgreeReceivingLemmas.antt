@@ -20,7 +20,7 @@ use Rattle.spec_endpoint.specs.Input.{receive}
 use Rattle.spec_endpoint.specs.Laws.{Call, Packet as Given, NoPacket}
 use Rattle.proof_endpoint.specs.Mapped.{Carried}
 use Rattle.proof_endpoint.proofs.OpeningStepsLemmas.{end_in}
-use Rattle.proof_pair.specs.Acts.{Making, idle, calm, nothing, echoing, IsReceived, always, Preserves}
+use Rattle.proof_pair.specs.Acts.{EndWithPacket, idle, calm, nothing, echoing, IsReceived, always, Preserves}
 use Rattle.proof_pair.specs.Trace.{AreValidOptions}
 use Rattle.proof_pair.specs.Agreement.{Draw, Association, Has, History, association_of, held_in, two_drawn, one_drawn, drawn_for, AreDistinct}
 use Rattle.proof_pair.proofs.PacketActsLemmas.{does_plain, does_complain, does_send_buffered, does_send_cookie}
@@ -213,7 +213,7 @@ module _ (o : Options) (past : List (Event Carried)) (under : Option ℕ) (y : P
           let d : Draw = record { tag = my_tag; first = first } in
           let a : Association = record { mine = d; peer = draw_in i } in
           let e : Endpoint Carried = end_in (CookieWait my_tag first t1) s in
-          let m : Making Carried = echoing i cookie my_tag first (calm e) in
+          let m : EndWithPacket Carried = echoing i cookie my_tag first (calm e) in
           let t : Tcb = tcb c.options (names i my_tag first (long_word s)) i.a_rwnd (agreed_by c.options i) in
           let z : Past = past_of (record n { held = a ∷ n.held }) (a ∷ e1) in
           let u : my_tag ≡ tag = own_tag under d is inv.tagged.under in

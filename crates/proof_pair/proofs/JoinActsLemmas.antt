@@ -11,7 +11,7 @@ use Rattle.spec_endpoint.specs.Packets.{header_to}
 use Rattle.spec_endpoint.specs.Sending.{data_chunk_of, data_chunks}
 use Rattle.spec_endpoint.specs.Laws.{ending}
 use Rattle.proof_endpoint.specs.Mapped.{Carried}
-use Rattle.proof_pair.specs.Acts.{Making, is_plain}
+use Rattle.proof_pair.specs.Acts.{EndWithPacket, is_plain}
 use Rattle.proof_pair.specs.Trace.{as_carried, packets_in, has_connected}
 use Rattle.proof_pair.proofs.EmittedLemmas.{is_light}
 use Rattle.proof_pair.proofs.JoinLemmas.{View, view_of, Says, Leads, says_leads, received_leads, Stands}
@@ -83,7 +83,7 @@ pub record Inv (g : Setting) (v : View) (o : Options) (pack : Packing Carried) (
   pub received : All (UtteredAll g v) g.others
   pub made : All (Utters g v tag) chunks
 
-abbrev pub InvAt : Setting → Making Carried → Type 0
+abbrev pub InvAt : Setting → EndWithPacket Carried → Type 0
 InvAt g m = Inv g (view_of m.state) m.context.options m.context.pack m.context.emitted.events m.packet.tag m.packet.chunks
 
 module _ (g : Setting) (v : View) (o : Options) (pack : Packing Carried) (es : List (Event Carried)) (tag : ℕ) (chunks : List ChunkTree) (i : Inv g v o pack es tag chunks) where

@@ -11,14 +11,14 @@ use Rattle.sctp_state.specs.Options.{Options}
 use Rattle.sctp_state.specs.Timers.{Timer}
 use Rattle.sctp_capabilities.specs.Capabilities.{where_enabled, announce, announced_by, negotiate, agreed, extensions_in, method_in, is_forward_tsn_supported, has_type, forward_tsn, i_data, re_config}
 use Rattle.sctp_capabilities.specs.Cookie.{Cookie, CapabilitiesFit, CookieFits, cookie_bytes, read_cookie}
-use Rattle.sctp_capabilities.proofs.CapabilitiesLemmas.{told_with_options, negotiated_told_by_init, negotiated_told_by_init_ack}
+use Rattle.sctp_capabilities.proofs.CapabilitiesLemmas.{announced_with_options, negotiated_told_by_init, negotiated_told_by_init_ack}
 use Rattle.sctp_capabilities.proofs.CookieLemmas.{both_tags, read_cookie_bytes}
 use Rattle.sctp_state.specs.Events.{Event, OnConnected}
 use Rattle.spec_endpoint.specs.Association.{Identity, Tcb, Phase, CookieEchoed, Closed, CookieWait, Open, Packing}
 use Rattle.spec_endpoint.specs.Opening.{word, drew_word, init_of, init_ack_of, cookie_for, agreed_by, cookie_in, CookieResolution, RestartDetected, SimultaneousInit, MaintainExisting, by_tags, compare_tags, tcb_by}
 use Rattle.spec_endpoint.specs.Laws.{Call, Connect, Shutdown, Restore}
 use Rattle.proof_endpoint.specs.Mapped.{Carried}
-use Rattle.proof_pair.specs.Acts.{Making, end_of, drawn_tag, drawn_first, IsReceived, IsEchoed, connects, echoes, before_opening, after_opening}
+use Rattle.proof_pair.specs.Acts.{EndWithPacket, end_of, drawn_tag, drawn_first, IsReceived, IsEchoed, connects, echoes, before_opening, after_opening}
 use Rattle.proof_pair.specs.Trace.{has_connected, AreValidOptions}
 use Rattle.proof_pair.proofs.JoinLemmas.{Draw, Both, IsDraw, drawn_is, View, own_draw, peer_draw, both_of, view_of, late_view, init_by, cookie_by, IsInit, IsPlain, IsInitAck, IsEcho, Faces, faces_plain, faced_by, faced_at, faces_at, holds_mine, faced_none}
 use Rattle.proof_pair.proofs.JoinActsLemmas.{Setting, Uttered, UtteredAll, Inv, InvAt, inv_view, connected_both}
@@ -85,7 +85,7 @@ cookie_fits o d e fine fd fe = record {
   my_initial_tsn = fe.first;
   a_rwnd = omega (arith, fine.valid.sizes.receiver_window);
   tie_tag = omega arith;
-  peer_capabilities = subst CapabilitiesFit (sym (told_with_options o.zero_checksum_method o))
+  peer_capabilities = subst CapabilitiesFit (sym (announced_with_options o.zero_checksum_method o))
       (record { zero_checksum_method = fine.method; incoming = fine.outgoing; outgoing = fine.incoming });
 }
 
@@ -133,10 +133,10 @@ module _ (g : Setting) (call : Call) (r : Rules g call) where
   u = view_of g.beside
 
   -- an INIT, a cookie was said by the other end
-  pub init_said : (tag : ℕ) (i : InitTree) (m : Making Carried) → IsReceived call tag (init_chunk i) → InvAt g m → IsInit g.other u tag i
+  pub init_said : (tag : ℕ) (i : InitTree) (m : EndWithPacket Carried) → IsReceived call tag (init_chunk i) → InvAt g m → IsInit g.other u tag i
   init_said tag i m h inv = r.says tag (init_chunk i) h (view_of m.state) inv.received
 
-  pub does_connects : (m : Making Carried) (is : call ≡ Connect) → InvAt g (before_opening {call = call} (connects m is)) → InvAt g (after_opening {call = call} (connects m is))
+  pub does_connects : (m : EndWithPacket Carried) (is : call ≡ Connect) → InvAt g (before_opening {call = call} (connects m is)) → InvAt g (after_opening {call = call} (connects m is))
   does_connects m is inv =
       let d : Draw = record { tag = drawn_tag m; first = drawn_first m } in
       let es : List (Event Carried) = m.context.emitted.events in
@@ -202,7 +202,7 @@ module _ (g : Setting) (call : Call) (r : Rules g call) where
         ∙ (ap (negotiate g.own) (emitted_with_cookie o.announced_maximum_outgoing_streams o.announced_maximum_incoming_streams (announce o method) made)
         ∙ negotiated_told_by_init_ack g.own g.other))
 
-  pub does_echoes : (tag : ℕ) (i : InitTree) (cookie : List ℕ) (my_tag first : ℕ) (t1 : Timer) (m : Making Carried) (h : IsReceived call tag (init_ack_chunk i))
+  pub does_echoes : (tag : ℕ) (i : InitTree) (cookie : List ℕ) (my_tag first : ℕ) (t1 : Timer) (m : EndWithPacket Carried) (h : IsReceived call tag (init_ack_chunk i))
       (brought : cookie_in i.parameters ≡ Some cookie) → InvAt g (before_opening (echoes tag i cookie my_tag first t1 m h brought))
       → InvAt g (after_opening (echoes tag i cookie my_tag first t1 m h brought))
   does_echoes tag i cookie my_tag first t1 m h brought inv =
@@ -285,7 +285,7 @@ module _ (g : Setting) (call : Call) (r : Rules g call) where
       })
 
   -- a cookie that comes to the association that it made
-  pub same_verdict : (tag : ℕ) (k : Cookie) (phase : Phase) (t : Tcb) (m : Making Carried) (h : IsEchoed call tag k)
+  pub same_verdict : (tag : ℕ) (k : Cookie) (phase : Phase) (t : Tcb) (m : EndWithPacket Carried) (h : IsEchoed call tag k)
       → Inv g (view_of (Open phase t)) m.context.options m.context.pack m.context.emitted.events m.packet.tag m.packet.chunks
       → compare_tags tag t.identity k ≡ MaintainExisting
   same_verdict tag k phase t m h inv =

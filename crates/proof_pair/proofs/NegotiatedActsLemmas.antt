@@ -26,7 +26,7 @@ use Rattle.spec_endpoint.specs.Opening.{init_of, init_ack_of, agreed_by, names, 
 use Rattle.spec_endpoint.specs.Input.{misuse}
 use Rattle.spec_endpoint.specs.Laws.{Call, Restore}
 use Rattle.proof_endpoint.specs.Mapped.{Carried}
-use Rattle.proof_pair.specs.Acts.{Making, in_open, end_of, is_plain, may_shut, point_of, IsReceived, IsEchoed, fragments_of, PacketAct, begins, adds_plain, emits, complains, counts, before_packets, after_packets, OpeningAct, connects, adds_init, answers_new, answers_waiting, answers_echoed, answers_again, echoes, adds_cookie, establishes, opens, restarts, opens_again, maintains, adds_cookie_ack, before_opening, after_opening, ClosingAct, closes, shuts, shuts_on, before_closing, after_closing, DataAct, takes_data, takes_idata, takes_forward, takes_iforward, before_data, after_data, SackAct, takes_sack, samples, counts_errors, before_sack, after_sack, SendingAct, asks, adds_ack, expires, adds_forward, forwards_later, asks_no_reset, asks_reset, adds_request, sends, sends_fast, before_sending, after_sending, TimeAct, advances, delay_ends, times_out, beats, times_init, times_cookie, times_request, wakes_request, before_time, timeout_of, after_time, CallAct, accepts, refuses, takes_message, sets_low_threshold, sets_priority, sets_max_message_size, before_call, after_call, ResetAct, prepares, defers, performs, processes, takes_response, adds_responses, before_reset, after_reset, HandoverAct, leaves, takes_up, before_handover, after_handover, InputAct, ends_packet, before_input, after_input, Preserves}
+use Rattle.proof_pair.specs.Acts.{EndWithPacket, in_open, end_of, is_plain, may_shut, point_of, IsReceived, IsEchoed, fragments_of, PacketAct, begins, adds_plain, emits, complains, counts, before_packets, after_packets, OpeningAct, connects, adds_init, answers_new, answers_waiting, answers_echoed, answers_again, echoes, adds_cookie, establishes, opens, restarts, opens_again, maintains, adds_cookie_ack, before_opening, after_opening, ClosingAct, closes, shuts, shuts_on, before_closing, after_closing, DataAct, takes_data, takes_idata, takes_forward, takes_iforward, before_data, after_data, SackAct, takes_sack, samples, counts_errors, before_sack, after_sack, SendingAct, asks, adds_ack, expires, adds_forward, forwards_later, asks_no_reset, asks_reset, adds_request, sends, sends_fast, before_sending, after_sending, TimeAct, advances, delay_ends, times_out, beats, times_init, times_cookie, times_request, wakes_request, before_time, timeout_of, after_time, CallAct, accepts, refuses, takes_message, sets_low_threshold, sets_priority, sets_max_message_size, before_call, after_call, ResetAct, prepares, defers, performs, processes, takes_response, adds_responses, before_reset, after_reset, HandoverAct, leaves, takes_up, before_handover, after_handover, InputAct, ends_packet, before_input, after_input, Preserves}
 use Rattle.proof_pair.specs.Trace.{as_carried, packets_in, AreValidOptions}
 use Rattle.proof_pair.proofs.EmittedLemmas.{EmitsLightly}
 use Rattle.proof_pair.proofs.UntilLemmas.{light_sack, light_sending, light_time, light_call, light_reset}
@@ -89,7 +89,7 @@ pub record Inv (g : Setting) (v : View) (o : Options) (pack : Packing Carried) (
   pub said : All (EmitsAll g.own g.other) (packets_in (g.past ++ es))
   pub made : All (Emits g.own g.other) chunks
 
-abbrev pub InvAt : Setting → Making Carried → Type 0
+abbrev pub InvAt : Setting → EndWithPacket Carried → Type 0
 InvAt g m = Inv g (view_of m.state) m.context.options m.context.pack m.context.emitted.events m.packet.chunks
 
 -- what a call receives of the other end
@@ -169,7 +169,7 @@ module _ (g : Setting) (call : Call) (r : Receives g call) where
       inv_made g v os pack es p.chunks inv (add_all cs p).chunks (holds_all_added (λ tag d. Emits g.own g.other d) cs p inv.made (λ tag. h))
 
   -- what is emitted lightly, and a state that is as able
-  lightly : (v w : View) (m n : Making Carried) (cs : List ChunkTree) → EmitsLightly m.context.emitted n.context.emitted → Able g.own g.other w
+  lightly : (v w : View) (m n : EndWithPacket Carried) (cs : List ChunkTree) → EmitsLightly m.context.emitted n.context.emitted → Able g.own g.other w
       → Inv g v m.context.options m.context.pack m.context.emitted.events cs → Inv g w m.context.options m.context.pack n.context.emitted.events cs
   lightly v w m n cs l able inv =
       inv_view g v m.context.options m.context.pack m.context.emitted.events cs inv w l.events n.context.emitted.events l.behind (light_packets l.events l.all) able
@@ -200,7 +200,7 @@ module _ (g : Setting) (call : Call) (r : Receives g call) where
 
   -- ---- the handshake
 
-  answers : (v : View) (m : Making Carried) (i : InitTree) (tag first tie : ℕ) → Emits g.other g.own (init_chunk i)
+  answers : (v : View) (m : EndWithPacket Carried) (i : InitTree) (tag first tie : ℕ) → Emits g.other g.own (init_chunk i)
       → Inv g v m.context.options m.context.pack m.context.emitted.events m.packet.chunks
       → Inv g v m.context.options m.context.pack m.context.emitted.events (add (init_ack_chunk (init_ack_of m.context.options i tag first tie)) m.packet).chunks
   answers v m i tag first tie said inv =
@@ -210,7 +210,7 @@ module _ (g : Setting) (call : Call) (r : Receives g call) where
       (emits_back g.own g.other i tag first tie r.other said))
 
   -- a control block is made by a cookie
-  opened : (v : View) (m : Making Carried) (tag : ℕ) (k : Cookie) (more : List (Event Carried)) (tie : ℕ) → packets_in more ≡ [] → IsEchoed call tag k
+  opened : (v : View) (m : EndWithPacket Carried) (tag : ℕ) (k : Cookie) (more : List (Event Carried)) (tie : ℕ) → packets_in more ≡ [] → IsEchoed call tag k
       → Inv g v m.context.options m.context.pack m.context.emitted.events m.packet.chunks
       → Inv g (view_of (Open Established (tcb_by m.context.options k tie))) m.context.options m.context.pack (m.context.emitted.events ++ more) m.packet.chunks
   opened v m tag k more tie none h inv =
@@ -219,7 +219,7 @@ module _ (g : Setting) (call : Call) (r : Receives g call) where
       inv_view g v o m.context.pack m.context.emitted.events m.packet.chunks inv (view_of (Open Established (tcb_by o k tie))) more (m.context.emitted.events ++ more) refl none
       (record { agrees = ap (λ (z : Options). negotiate z k.peer_capabilities) inv.options ∙ said k h.reads; partial = refl; mode = refl; is_kept = tt })
 
-  established : (t1 : _) (cookie : List ℕ) (t : Tcb) (m : Making Carried) → InvAt g (in_open (CookieEchoed t1 cookie) t m)
+  established : (t1 : _) (cookie : List ℕ) (t : Tcb) (m : EndWithPacket Carried) → InvAt g (in_open (CookieEchoed t1 cookie) t m)
       → Inv g (view_of (Open Established t)) m.context.options m.context.pack (m.context.emitted.events ++ OnConnected ∷ []) m.packet.chunks
   established t1 cookie t m inv =
       inv_view g (view_of (Open (CookieEchoed t1 cookie) t)) m.context.options m.context.pack m.context.emitted.events m.packet.chunks inv (view_of (Open Established t))
@@ -268,7 +268,7 @@ module _ (g : Setting) (call : Call) (r : Receives g call) where
 
   -- ---- closing
 
-  shuts_from : (phase : Phase) (t : Tcb) (m : Making Carried) → may_shut phase ≡ true → InvAt g (in_open phase t m) → InvAt g (in_open ShutdownPending t m)
+  shuts_from : (phase : Phase) (t : Tcb) (m : EndWithPacket Carried) → may_shut phase ≡ true → InvAt g (in_open phase t m) → InvAt g (in_open ShutdownPending t m)
   shuts_from (CookieEchoed t1 cookie) t m early inv = record {
     able = record { agrees = inv.able.agrees; partial = inv.able.partial; mode = inv.able.mode; is_kept = tt };
     size = inv.size;

@@ -9,7 +9,7 @@ use Rattle.sctp_capabilities.specs.declared.state_cookie.StateCookieError.{State
 use Rattle.sctp_capabilities.specs.Capabilities.{Capabilities, announce, announced_by, negotiate, agreed, announced_with, announced_by_init}
 use Rattle.sctp_capabilities.specs.Cookie.{Cookie, CapabilitiesFit, SpellsCapabilities, flag_byte, is_set, capability_bytes, cookie_bytes, cookie_from, check_cookie, read_cookie}
 use Rattle.sctp_state.specs.Options.{Options}
-use Rattle.sctp_capabilities.proofs.CapabilitiesLemmas.{told_with_options, negotiated_told_by_init, negotiated_told_by_init_ack}
+use Rattle.sctp_capabilities.proofs.CapabilitiesLemmas.{announced_with_options, negotiated_told_by_init, negotiated_told_by_init_ack}
 use Rattle.sctp_capabilities.proofs.CookieLemmas.{cookie_from_spelled}
 use Rattle.sctp_tx.specs.Retransmission.{Sender}
 use Rattle.sctp_tx.specs.ForwardPoints.{chunk_if}
@@ -136,7 +136,7 @@ emits_right o q c h = h
 
 emitted_fits : (o : Options) → AreValidOptions o → CapabilitiesFit (announced_by_init o)
 emitted_fits o fine =
-    subst CapabilitiesFit (sym (told_with_options o.zero_checksum_method o))
+    subst CapabilitiesFit (sym (announced_with_options o.zero_checksum_method o))
     (record { zero_checksum_method = fine.method; incoming = fine.outgoing; outgoing = fine.incoming })
 
 -- an INIT of the other end is answered

@@ -15,7 +15,7 @@ use Rattle.spec_endpoint.specs.Packets.{Packet, fits, add, packet_to, new_packet
 use Rattle.spec_endpoint.specs.Sending.{is_alone}
 use Rattle.spec_endpoint.specs.Opening.{long_word, init_of, init_ack_of, next_first, send_init, t1_init, connect_in, connect, agreed_by, answers, answers_new, answers_again, on_init_open, on_init_in, on_init, cookie_in, without_cookie, t1_cookie, names, echo_cookie, on_init_ack_in, on_init_ack, connected_context, on_cookie_ack, CookieResolution, EstablishNew, RestartDetected, SimultaneousInit, MaintainExisting, Discard, InvalidTag, by_tags, new_if, compare_tags, resolve_cookie, cookie_ack, tcb_by, establishes as establishes_by, keep_association, too_late, restarts as restarts_by, restarts_in, on_verdict, on_read_cookie, on_cookie_echo}
 use Rattle.spec_endpoint.specs.Laws.{Call, Connect}
-use Rattle.proof_pair.specs.Acts.{Making, at, nothing, idle, calm, drawn_first, drawn_tag, drawn_tag_alone, drew_two, drew_one, echoing, opened_by, IsReceived, IsEchoed, IsBundled, an_init_alone, an_init_ack_alone, all_along, always, as_held, as_asked, adds_plain, connects, adds_init, answers_new as answers_new_act, answers_waiting, answers_echoed, answers_again as answers_again_act, echoes, establishes, opens, restarts, opens_again, maintains, adds_cookie_ack, Preserves}
+use Rattle.proof_pair.specs.Acts.{EndWithPacket, at, nothing, idle, calm, drawn_first, drawn_tag, drawn_tag_alone, drew_two, drew_one, echoing, opened_by, IsReceived, IsEchoed, IsBundled, an_init_alone, an_init_ack_alone, all_along, always, as_held, as_asked, adds_plain, connects, adds_init, answers_new as answers_new_act, answers_waiting, answers_echoed, answers_again as answers_again_act, echoes, establishes, opens, restarts, opens_again, maintains, adds_cookie_ack, Preserves}
 use Rattle.proof_pair.proofs.BundledLemmas.{added_more, one_bundled, first_more, plain_added}
 use Rattle.proof_pair.proofs.PacketActsLemmas.{does_out, does_begin, does_plain, does_complain, does_send_with, does_send_buffered, does_send_cookie}
 use Rattle.proof_pair.proofs.RowActsLemmas.{placed, OpenActs, does_closed, does_send_shutdown_ack}
@@ -40,7 +40,7 @@ no_new true false c true e = cc
 no_new true false c false e = cc
 no_new false false c d e = cc
 
-module _ {P : Type 0} {call : Call} {R : Making P → Making P → Type 0} (k : Preserves call R) where
+module _ {P : Type 0} {call : Call} {R : EndWithPacket P → EndWithPacket P → Type 0} (k : Preserves call R) where
   -- ---- INIT
 
   pub does_send_init : (tag first : ℕ) (t1 : Timer) (c : Context P) (w : Stream)
@@ -55,7 +55,7 @@ module _ {P : Type 0} {call : Call} {R : Making P → Making P → Type 0} (k : 
 
   does_opened : (c : Context P) (w : Stream) (s : Endpoint P) → call ≡ Connect → R (calm (end_in Closed s)) (calm (connect_in Closed (end_in Closed s)))
   does_opened c w s is =
-      let m : Making P = calm (end_in Closed s) in
+      let m : EndWithPacket P = calm (end_in Closed s) in
       k.through (k.opening (connects m is)) (does_send_init (drawn_tag m) (drawn_first m) (t1_init m.context) m.context (drew_two m).random)
 
   does_connect_in : (st : State) (s : Endpoint P) → call ≡ Connect → R (calm (end_in st s)) (calm (connect_in st (end_in st s)))
@@ -71,7 +71,7 @@ module _ {P : Type 0} {call : Call} {R : Making P → Making P → Type 0} (k : 
     does_answers_new s =
         let c : Context P = s.endpoint_state.context in
         let p : Packet = answering c.options i in
-        let m : Making P = at Closed c s.random p in
+        let m : EndWithPacket P = at Closed c s.random p in
         k.through (does_begin k Closed c s.random p refl (as_asked tag i h refl))
         (k.through (k.opening (answers_new_act tag i m h refl))
         (does_out k Closed c (drew_two m).random (add (init_ack_chunk (init_ack_of c.options i (drawn_tag m) (drawn_first m) 0)) p)
@@ -83,7 +83,7 @@ module _ {P : Type 0} {call : Call} {R : Making P → Making P → Type 0} (k : 
         let c : Context P = s.endpoint_state.context in
         let st : State = CookieWait my_tag first t1 in
         let p : Packet = answering c.options i in
-        let m : Making P = at st c s.random p in
+        let m : EndWithPacket P = at st c s.random p in
         k.through (does_begin k st c s.random p refl (as_asked tag i h refl))
         (k.through (k.opening (answers_waiting tag i my_tag first t1 m h refl))
         (does_out k st c s.random (add (init_ack_chunk (init_ack_of c.options i my_tag first 0)) p)
@@ -95,7 +95,7 @@ module _ {P : Type 0} {call : Call} {R : Making P → Making P → Type 0} (k : 
         let c : Context P = s.endpoint_state.context in
         let st : State = Open (CookieEchoed t1 cookie) t in
         let p : Packet = answering c.options i in
-        let m : Making P = at st c s.random p in
+        let m : EndWithPacket P = at st c s.random p in
         k.through (does_begin k st c s.random p refl (as_asked tag i h refl))
         (k.through (k.opening (answers_echoed tag i t1 cookie t m h refl))
         (does_out k st c s.random (add (init_ack_chunk (init_ack_of c.options i t.identity.my_tag t.identity.my_first 0)) p)
@@ -107,7 +107,7 @@ module _ {P : Type 0} {call : Call} {R : Making P → Making P → Type 0} (k : 
         let c : Context P = s.endpoint_state.context in
         let st : State = Open phase t in
         let p : Packet = answering c.options i in
-        let m : Making P = at st c s.random p in
+        let m : EndWithPacket P = at st c s.random p in
         k.through (does_begin k st c s.random p refl (as_asked tag i h refl))
         (k.through (k.opening (answers_again_act tag i phase t m h late refl))
         (does_out k st c (drew_one m).random (add (init_ack_chunk (init_ack_of c.options i (drawn_tag_alone m) (next_first t) t.identity.tie)) p)
@@ -147,8 +147,8 @@ module _ {P : Type 0} {call : Call} {R : Making P → Making P → Type 0} (k : 
     does_echoed None my_tag first t1 s is = does_without_cookie i.initiate_tag my_tag first t1 s.endpoint_state.context s.random
     does_echoed (Some cookie) my_tag first t1 s is =
         let c : Context P = s.endpoint_state.context in
-        let m : Making P = at (CookieWait my_tag first t1) c s.random nothing in
-        let n : Making P = echoing i cookie my_tag first m in
+        let m : EndWithPacket P = at (CookieWait my_tag first t1) c s.random nothing in
+        let n : EndWithPacket P = echoing i cookie my_tag first m in
         let t : Tcb = tcb c.options (names i my_tag first (long_word s)) i.a_rwnd (agreed_by c.options i) in
         k.through (k.opening (echoes tag i cookie my_tag first t1 m h is)) (does_send_cookie k (t1_cookie c) cookie n.random t n.context)
 
@@ -184,10 +184,10 @@ module _ {P : Type 0} {call : Call} {R : Making P → Making P → Type 0} (k : 
         (does_send_with k phase w false (add cookie_ack_chunk p) t c (first_more cookie_ack_chunk p refl refl)))
 
     -- a new control block, made from this state and context
-    does_anew : (resets : Bool) (c : Context P) (s : Endpoint P) (m : Making P) → R m (opened_by resets a (idle s.endpoint_state.state c s.random))
+    does_anew : (resets : Bool) (c : Context P) (s : Endpoint P) (m : EndWithPacket P) → R m (opened_by resets a (idle s.endpoint_state.state c s.random))
         → R m (calm (establishes_by resets a c s))
     does_anew resets c s m done =
-        let n : Making P = opened_by resets a (idle s.endpoint_state.state c s.random) in
+        let n : EndWithPacket P = opened_by resets a (idle s.endpoint_state.state c s.random) in
         k.through done (does_accept a.peer_tag Established (tcb_by c.options a (long_word s)) n.context n.random refl)
 
     does_kept : (phase : Phase) (t : Tcb) (c : Context P) (w : Stream) → compare_tags tag t.identity a ≡ MaintainExisting

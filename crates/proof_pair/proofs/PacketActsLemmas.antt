@@ -16,12 +16,12 @@ use Rattle.spec_endpoint.specs.Requests.{Request}
 use Rattle.spec_endpoint.specs.Packets.{Packet, empty_packet, fits, add, has_chunks, packet_to, new_packet, complain, emit_if, emit, emit_chunk}
 use Rattle.spec_endpoint.specs.Sending.{Filling, ask_for_sack, ack_if, goes_along, with_ack, forward_later, forward_added_if, forward_if, test_forward_point, tested_if, with_forward, most_streams, add_request, request_started, request_of, request_if, with_request, with_data, filled_as, Turned, turned_if, next_packet, go_on, burst, send_with, send_buffered, cookie_if, send_cookie, fast_most, fast_packet, fast_if, send_lost}
 use Rattle.spec_endpoint.specs.Laws.{Call}
-use Rattle.proof_pair.specs.Acts.{Making, at, nothing, idle, is_plain, takes_more, IsBundled, all_along, IsSummedSo, always, as_held, as_before, begins, adds_plain, emits, complains, adds_cookie, asks, adds_ack, expires, adds_forward, forwards_later, asks_no_reset, asks_reset, adds_request, sends, sends_fast, Preserves}
+use Rattle.proof_pair.specs.Acts.{EndWithPacket, at, nothing, idle, is_plain, takes_more, IsBundled, all_along, IsSummedSo, always, as_held, as_before, begins, adds_plain, emits, complains, adds_cookie, asks, adds_ack, expires, adds_forward, forwards_later, asks_no_reset, asks_reset, adds_request, sends, sends_fast, Preserves}
 use Rattle.proof_pair.proofs.BundledLemmas.{plain_first, first_more, data_more, TakesMore, filled_more, turned_more}
 
 -- ---- packets
 
-module _ {P : Type 0} {call : Call} {R : Making P → Making P → Type 0} (k : Preserves call R) where
+module _ {P : Type 0} {call : Call} {R : EndWithPacket P → EndWithPacket P → Type 0} (k : Preserves call R) where
   does_emit_if : (b : Bool) (s : State) (c : Context P) (w : Stream) (p : Packet) → has_chunks p ≡ b → IsBundled p.chunks
       → R (at s c w p) (at s (emit_if b p c) w (empty_packet p))
   does_emit_if true s c w p e bundled = k.packets (emits (at s c w p) e bundled)
@@ -62,10 +62,10 @@ module _ {P : Type 0} {call : Call} {R : Making P → Making P → Type 0} (k : 
 -- ---- sending
 
 -- an end that fills a packet
-abbrev pub filling : {P : Type 0} → Phase → Stream → Filling P → Making P
+abbrev pub filling : {P : Type 0} → Phase → Stream → Filling P → EndWithPacket P
 filling phase w x = at (Open phase x.tcb) x.context w x.packet
 
-module _ {P : Type 0} {call : Call} {R : Making P → Making P → Type 0} (k : Preserves call R) (phase : Phase) (w : Stream) where
+module _ {P : Type 0} {call : Call} {R : EndWithPacket P → EndWithPacket P → Type 0} (k : Preserves call R) (phase : Phase) (w : Stream) where
   does_ack_if : (b : Bool) (x : Filling P) → R (filling phase w x) (filling phase w (ack_if b x))
   does_ack_if true x = k.sending (adds_ack phase x.tcb (filling phase w x))
   does_ack_if false x = k.same (filling phase w x)
@@ -78,7 +78,7 @@ module _ {P : Type 0} {call : Call} {R : Making P → Making P → Type 0} (k : 
   does_forward_added : (b : Bool) (x : Filling P) → is_forward_due x.tcb.sender.outstanding.items ≡ true
       → R (filling phase w x) (filling phase w (forward_added_if b x))
   does_forward_added true x due =
-      let m : Making P = at (Open phase x.tcb) x.context w (add (forward_chunk x.tcb.sender) x.packet) in
+      let m : EndWithPacket P = at (Open phase x.tcb) x.context w (add (forward_chunk x.tcb.sender) x.packet) in
       k.through (k.sending (adds_forward phase x.tcb (filling phase w x) due)) (k.sending (forwards_later (forward_later x.tcb x.context).forward_from m))
   does_forward_added false x due = k.same (filling phase w x)
 
@@ -175,7 +175,7 @@ module _ {P : Type 0} {call : Call} {R : Making P → Making P → Type 0} (k : 
   does_send_lost t c = does_fast_if (nat_lt 0 (fast_items t.sender.outstanding.items)) t c refl
 
 -- the cookie goes out, from the phase that keeps it
-module _ {P : Type 0} {call : Call} {R : Making P → Making P → Type 0} (k : Preserves call R) (t1 : Timer) (cookie : List ℕ) (w : Stream) where
+module _ {P : Type 0} {call : Call} {R : EndWithPacket P → EndWithPacket P → Type 0} (k : Preserves call R) (t1 : Timer) (cookie : List ℕ) (w : Stream) where
   does_cookie_if : (b : Bool) (t : Tcb) (c : Context P)
       → R (idle (Open (CookieEchoed t1 cookie) t) c w) (idle (Open (CookieEchoed t1 cookie) (cookie_if b cookie t c).tcb) (cookie_if b cookie t c).context w)
   does_cookie_if true t c =

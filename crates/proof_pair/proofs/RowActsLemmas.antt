@@ -18,18 +18,18 @@ use Rattle.spec_endpoint.specs.Data.{no_data, on_no_data, not_connected, takes, 
 use Rattle.spec_endpoint.specs.Sack.{clean_blocks, sample_rtt, clear_errors_if, send_after, after_sack, no_block, on_sack_in, on_sack}
 use Rattle.spec_endpoint.specs.Input.{misuse, violation}
 use Rattle.spec_endpoint.specs.Laws.{Call, Shutdown, ending, is_closed}
-use Rattle.proof_pair.specs.Acts.{always, Making, idle, in_open, IsReceived, point_of, closes, shuts, shuts_on, takes_data, takes_idata, takes_forward, takes_iforward, takes_sack, samples, counts_errors, Preserves}
+use Rattle.proof_pair.specs.Acts.{always, EndWithPacket, idle, in_open, IsReceived, point_of, closes, shuts, shuts_on, takes_data, takes_idata, takes_forward, takes_iforward, takes_sack, samples, counts_errors, Preserves}
 use Rattle.proof_pair.proofs.PacketActsLemmas.{does_plain, does_chunk, does_complain, does_send_buffered, does_send_lost}
 
 -- an end with this endpoint state and this random stream, and nothing begun
-abbrev pub placed : {P : Type 0} → EndpointState P → Stream → Making P
+abbrev pub placed : {P : Type 0} → EndpointState P → Stream → EndWithPacket P
 placed s w = idle s.state s.context w
 
 -- a row for states with a control block
-abbrev pub OpenActs : {P : Type 0} → (Making P → Making P → Type 0) → Stream → (Phase → Tcb → Context P → EndpointState P) → Type 0
+abbrev pub OpenActs : {P : Type 0} → (EndWithPacket P → EndWithPacket P → Type 0) → Stream → (Phase → Tcb → Context P → EndpointState P) → Type 0
 OpenActs {P} R w row = (phase : Phase) (t : Tcb) (c : Context P) → R (idle (Open phase t) c w) (placed (row phase t c) w)
 
-module _ {P : Type 0} {call : Call} {R : Making P → Making P → Type 0} (k : Preserves call R) (w : Stream) where
+module _ {P : Type 0} {call : Call} {R : EndWithPacket P → EndWithPacket P → Type 0} (k : Preserves call R) (w : Stream) where
   does_where_open_from : (row : Phase → Tcb → Context P → EndpointState P) (s : State) (c : Context P) → OpenActs R w row
       → R (idle s c w) (placed (where_open row (record { state = s; context = c })) w)
   does_where_open_from row Closed c h = k.same (idle Closed c w)
@@ -185,7 +185,7 @@ module _ {P : Type 0} {call : Call} {R : Making P → Making P → Type 0} (k : 
   -- a fragment that came in such a chunk may be taken
   abbrev pub MayTake : (chunk : ChunkTree) (tsn : ℕ) (is_immediate : Bool) (f : FragmentTree) → Type 0
   MayTake chunk tsn is_immediate f =
-      (phase : Phase) (t : Tcb) (m : Making P) → misuse t.capabilities chunk ≡ None → (length f.payload == 0) ≡ false → takes tsn t ≡ true
+      (phase : Phase) (t : Tcb) (m : EndWithPacket P) → misuse t.capabilities chunk ≡ None → (length f.payload == 0) ≡ false → takes tsn t ≡ true
       → R (in_open phase t m) (in_open phase (take_fragment tsn is_immediate f t) m)
 
   does_taken_if : (chunk : ChunkTree) (tsn : ℕ) (is_immediate : Bool) (f : FragmentTree) → MayTake chunk tsn is_immediate f → (b : Bool) (phase : Phase) (t : Tcb)
@@ -221,7 +221,7 @@ module _ {P : Type 0} {call : Call} {R : Making P → Making P → Type 0} (k : 
 
   abbrev pub MayForward : (chunk : ChunkTree) (tsn : ℕ) (skipped : List SkippedStream) → Type 0
   MayForward chunk tsn skipped =
-      (phase : Phase) (t : Tcb) (m : Making P) → misuse t.capabilities chunk ≡ None → tracker.is_valid t.tracker.tracker (tracker.number_of t.tracker tsn) ≡ true
+      (phase : Phase) (t : Tcb) (m : EndWithPacket P) → misuse t.capabilities chunk ≡ None → tracker.is_valid t.tracker.tracker (tracker.number_of t.tracker tsn) ≡ true
       → R (in_open phase t m) (in_open phase (forward_to tsn skipped t) m)
 
   does_forwarded_if : (chunk : ChunkTree) (tsn : ℕ) (skipped : List SkippedStream) → MayForward chunk tsn skipped → (b : Bool) (phase : Phase) (t : Tcb)

@@ -9,14 +9,14 @@ use Rattle.spec_endpoint.specs.Requests.{Outcome, Unsettled, Done, Denied, outco
 use Rattle.spec_endpoint.specs.Packets.{room}
 use Rattle.spec_endpoint.specs.StreamReset.{on_outcome}
 use Rattle.spec_endpoint.specs.Laws.{Call, called, ending, endings}
-use Rattle.proof_pair.specs.Acts.{Making, calm, PacketAct, begins, adds_plain, emits, complains, counts, before_packets, after_packets, OpeningAct, connects, adds_init, answers_new, answers_waiting, answers_echoed, answers_again, echoes, adds_cookie, establishes, opens, restarts, opens_again, maintains, adds_cookie_ack, before_opening, after_opening, ClosingAct, closes, shuts, shuts_on, before_closing, after_closing, DataAct, takes_data, takes_idata, takes_forward, takes_iforward, before_data, after_data, SackAct, takes_sack, samples, counts_errors, point_of, before_sack, after_sack, SendingAct, asks, adds_ack, expires, adds_forward, forwards_later, asks_no_reset, asks_reset, adds_request, sends, sends_fast, before_sending, after_sending, TimeAct, advances, delay_ends, times_out, beats, times_init, times_cookie, times_request, wakes_request, before_time, after_time, CallAct, accepts, refuses, takes_message, sets_low_threshold, sets_priority, sets_max_message_size, before_call, after_call, ResetAct, prepares, defers, performs, processes, takes_response, adds_responses, before_reset, after_reset, HandoverAct, leaves, takes_up, before_handover, after_handover, InputAct, ends_packet, before_input, after_input, Preserves, HasNoEnd, PreservesUntilEnd}
+use Rattle.proof_pair.specs.Acts.{EndWithPacket, calm, PacketAct, begins, adds_plain, emits, complains, counts, before_packets, after_packets, OpeningAct, connects, adds_init, answers_new, answers_waiting, answers_echoed, answers_again, echoes, adds_cookie, establishes, opens, restarts, opens_again, maintains, adds_cookie_ack, before_opening, after_opening, ClosingAct, closes, shuts, shuts_on, before_closing, after_closing, DataAct, takes_data, takes_idata, takes_forward, takes_iforward, before_data, after_data, SackAct, takes_sack, samples, counts_errors, point_of, before_sack, after_sack, SendingAct, asks, adds_ack, expires, adds_forward, forwards_later, asks_no_reset, asks_reset, adds_request, sends, sends_fast, before_sending, after_sending, TimeAct, advances, delay_ends, times_out, beats, times_init, times_cookie, times_request, wakes_request, before_time, after_time, CallAct, accepts, refuses, takes_message, sets_low_threshold, sets_priority, sets_max_message_size, before_call, after_call, ResetAct, prepares, defers, performs, processes, takes_response, adds_responses, before_reset, after_reset, HandoverAct, leaves, takes_up, before_handover, after_handover, InputAct, ends_packet, before_input, after_input, Preserves, HasNoEnd, PreservesUntilEnd}
 use Rattle.proof_pair.proofs.EmittedLemmas.{is_light, EmitsLightly, emits_same, emits_all, emits_nack_all, emits_expired, emits_sack, emits_threshold, emits_sent, emits_prepared, emits_refused}
 use Rattle.proof_pair.proofs.ActsLemmas.{keeps_call}
 use Rattle.proof_endpoint.proofs.EmitsLemmas.{endings_append}
 
 -- ---- acts that emit nothing of how the association stands
 
-abbrev pub Light : {P : Type 0} → (before after : Making P) → Type 0
+abbrev pub Light : {P : Type 0} → (before after : EndWithPacket P) → Type 0
 Light a b = EmitsLightly a.context.emitted b.context.emitted
 
 light_outcome : {P : Type 0} (o : Outcome) (c : Context P) → EmitsLightly c.emitted (on_outcome o c).emitted
@@ -80,21 +80,21 @@ module _ {P : Type 0} {call : Call} where
 
 -- ---- what was emitted stands
 
-pub record Grows {P : Type 0} (before after : Making P) : Type 0 where
+pub record Grows {P : Type 0} (before after : EndWithPacket P) : Type 0 where
   pub events : List (Event P)
   pub behind : after.context.emitted.events ≡ before.context.emitted.events ++ events
 
 module _ {P : Type 0} where
-  pub grows_light : (a b : Making P) → Light a b → Grows a b
+  pub grows_light : (a b : EndWithPacket P) → Light a b → Grows a b
   grows_light a b h = record { events = h.events; behind = h.behind }
 
-  grows_same : (a b : Making P) → b.context.emitted.events ≡ a.context.emitted.events → Grows a b
+  grows_same : (a b : EndWithPacket P) → b.context.emitted.events ≡ a.context.emitted.events → Grows a b
   grows_same a b e = record { events = []; behind = e ∙ sym (append-nil a.context.emitted.events) }
 
-  grows_one : (e : Event P) (a b : Making P) → b.context.emitted.events ≡ a.context.emitted.events ++ e ∷ [] → Grows a b
+  grows_one : (e : Event P) (a b : EndWithPacket P) → b.context.emitted.events ≡ a.context.emitted.events ++ e ∷ [] → Grows a b
   grows_one e a b is = record { events = e ∷ []; behind = is }
 
-  grows_through : (a b c : Making P) → Grows a b → Grows b c → Grows a c
+  grows_through : (a b c : EndWithPacket P) → Grows a b → Grows b c → Grows a c
   grows_through a b c g h = record {
     events = g.events ++ h.events;
     behind = h.behind ∙ (ap (λ (es : List (Event P)). es ++ h.events) g.behind ∙ append_assoc a.context.emitted.events g.events h.events);
@@ -140,19 +140,19 @@ module _ {P : Type 0} {call : Call} where
 
 module _ {P : Type 0} where
   -- none before either
-  pub none_before : (a b : Making P) → Grows a b → HasNoEnd b → HasNoEnd a
+  pub none_before : (a b : EndWithPacket P) → Grows a b → HasNoEnd b → HasNoEnd a
   none_before a b g h = omega (arith, ap endings g.behind, endings_append a.context.emitted.events g.events, h)
 
   -- an end that is emitted is one
-  pub no_end : (a b : Making P) (e : Event P) → b.context.emitted.events ≡ a.context.emitted.events ++ e ∷ [] → ending e ≡ 1 → HasNoEnd b → ⊥
+  pub no_end : (a b : EndWithPacket P) (e : Event P) → b.context.emitted.events ≡ a.context.emitted.events ++ e ∷ [] → ending e ≡ 1 → HasNoEnd b → ⊥
   no_end a b e is one h = omega (arith, ap endings is, endings_append a.context.emitted.events (e ∷ []), one, h)
 
   -- as long as there is none
-  abbrev pub Until : (Making P → Making P → Type 0) → Making P → Making P → Type 0
+  abbrev pub Until : (EndWithPacket P → EndWithPacket P → Type 0) → EndWithPacket P → EndWithPacket P → Type 0
   Until R a b = Grows a b × (HasNoEnd b → R a b)
 
-  module _ {call : Call} {R : Making P → Making P → Type 0} (k : PreservesUntilEnd call R) where
-    goes_through : (a b c : Making P) → Until R a b → Until R b c → Until R a c
+  module _ {call : Call} {R : EndWithPacket P → EndWithPacket P → Type 0} (k : PreservesUntilEnd call R) where
+    goes_through : (a b c : EndWithPacket P) → Until R a b → Until R b c → Until R a c
     goes_through a b c g h = (grows_through a b c g.0 h.0, λ none. k.through (g.1 (none_before b c h.0 none)) (h.1 none))
 
     pub frame : Preserves call (Until R)
@@ -173,15 +173,15 @@ module _ {P : Type 0} where
     }
 
 -- What each act preserves as long as no association has ended, each call preserves that emits no end.
-pub until_end : {P : Type 0} (call : Call) {R : Making P → Making P → Type 0} → PreservesUntilEnd call R → (s : Endpoint P) → HasNoEnd (calm (called call s))
+pub until_end : {P : Type 0} (call : Call) {R : EndWithPacket P → EndWithPacket P → Type 0} → PreservesUntilEnd call R → (s : Endpoint P) → HasNoEnd (calm (called call s))
     → R (calm s) (calm (called call s))
 until_end call k s none = (keeps_call call (frame k) s).1 none
 
 -- ---- where an end is emitted, up to there
 
 -- an end at work that has emitted no association over, and what is emitted then in the same call
-pub record FirstEnd {P : Type 0} (R : Making P → Making P → Type 0) (a b : Making P) : Type 0 where
-  pub here : Making P
+pub record FirstEnd {P : Type 0} (R : EndWithPacket P → EndWithPacket P → Type 0) (a b : EndWithPacket P) : Type 0 where
+  pub here : EndWithPacket P
   pub none : HasNoEnd here
   pub kept : R a here
   pub event : Event P
@@ -190,7 +190,7 @@ pub record FirstEnd {P : Type 0} (R : Making P → Making P → Type 0) (a b : M
   pub emitted : b.context.emitted.events ≡ here.context.emitted.events ++ event ∷ more
 
 -- none is emitted, or there is a first one
-abbrev pub ToFirstEnd : {P : Type 0} → (Making P → Making P → Type 0) → Making P → Making P → Type 0
+abbrev pub ToFirstEnd : {P : Type 0} → (EndWithPacket P → EndWithPacket P → Type 0) → EndWithPacket P → EndWithPacket P → Type 0
 ToFirstEnd R a b = (HasNoEnd b × R a b) ⊎ FirstEnd R a b
 
 light_ends : {P : Type 0} (es : List (Event P)) → list_all is_light es ≡ true → endings es ≡ 0
@@ -202,18 +202,18 @@ light_ends (e ∷ es) h = let parts = and_parts (is_light e) (list_all is_light 
     one (OnAborted kind text) h = cc
     one e h = refl
 
-module _ {P : Type 0} {call : Call} {R : Making P → Making P → Type 0} (k : PreservesUntilEnd call R) where
-  abbrev First : Making P → Making P → Type 0
+module _ {P : Type 0} {call : Call} {R : EndWithPacket P → EndWithPacket P → Type 0} (k : PreservesUntilEnd call R) where
+  abbrev First : EndWithPacket P → EndWithPacket P → Type 0
   First a b = HasNoEnd a → ToFirstEnd R a b
 
   -- an act that emits these, none of them an end
-  still : (a b : Making P) (es : List (Event P)) → b.context.emitted.events ≡ a.context.emitted.events ++ es → endings es ≡ 0 → (HasNoEnd b → R a b) → First a b
+  still : (a b : EndWithPacket P) (es : List (Event P)) → b.context.emitted.events ≡ a.context.emitted.events ++ es → endings es ≡ 0 → (HasNoEnd b → R a b) → First a b
   still a b es e none f h = let n : HasNoEnd b = omega (arith, ap endings e, endings_append a.context.emitted.events es, none, h) in inl (n, f n)
 
-  lightly : (a b : Making P) → Light a b → (HasNoEnd b → R a b) → First a b
+  lightly : (a b : EndWithPacket P) → Light a b → (HasNoEnd b → R a b) → First a b
   lightly a b l f = still a b l.events l.behind (light_ends l.events l.all) f
 
-  first_through : (a b c : Making P) → Grows b c → First a b → First b c → First a c
+  first_through : (a b c : EndWithPacket P) → Grows b c → First a b → First b c → First a c
   first_through a b c grows f h none = go (f none)
     where
       go : ToFirstEnd R a b → ToFirstEnd R a c
@@ -233,7 +233,7 @@ module _ {P : Type 0} {call : Call} {R : Making P → Making P → Type 0} (k : 
       })
 
   -- an act that ends it
-  over_by : (a b : Making P) (e : Event P) → b.context.emitted.events ≡ a.context.emitted.events ++ e ∷ [] → ending e ≡ 1 → First a b
+  over_by : (a b : EndWithPacket P) (e : Event P) → b.context.emitted.events ≡ a.context.emitted.events ++ e ∷ [] → ending e ≡ 1 → First a b
   over_by a b e told is none = inr (record { here = a; none = none; kept = k.same a; event = e; ends = is; more = []; emitted = told })
 
   first_packets : (act : PacketAct P call) → First (before_packets act) (after_packets act)
@@ -299,6 +299,6 @@ module _ {P : Type 0} {call : Call} {R : Making P → Making P → Type 0} (k : 
   }
 
 -- What each act preserves as long as no association has ended, each call preserves up to the first end that it emits.
-pub until_first_end : {P : Type 0} (call : Call) {R : Making P → Making P → Type 0} → PreservesUntilEnd call R → (s : Endpoint P) → HasNoEnd (calm s)
+pub until_first_end : {P : Type 0} (call : Call) {R : EndWithPacket P → EndWithPacket P → Type 0} → PreservesUntilEnd call R → (s : Endpoint P) → HasNoEnd (calm s)
     → ToFirstEnd R (calm s) (calm (called call s))
 until_first_end call k s none = (keeps_call call (first_frame k) s).1 none

@@ -52,44 +52,44 @@ use Rattle.spec_endpoint.specs.Laws.{Call, Connect, Shutdown, Send, SendMany, Re
 
 -- ---- an end at work: with the packet that it puts together
 
-pub record Making (P : Type 0) : Type 0 where
+pub record EndWithPacket (P : Type 0) : Type 0 where
   pub state : State
   pub context : Context P
   pub random : Stream
   pub packet : Packet
 
-abbrev pub at : {P : Type 0} → State → Context P → Stream → Packet → Making P
+abbrev pub at : {P : Type 0} → State → Context P → Stream → Packet → EndWithPacket P
 at s c w p = record { state = s; context = c; random = w; packet = p }
 
 -- no packet is begun
 abbrev pub nothing : Packet
 nothing = packet_to 0 0
 
-abbrev pub idle : {P : Type 0} → State → Context P → Stream → Making P
+abbrev pub idle : {P : Type 0} → State → Context P → Stream → EndWithPacket P
 idle s c w = at s c w nothing
 
-abbrev pub calm : {P : Type 0} → Endpoint P → Making P
+abbrev pub calm : {P : Type 0} → Endpoint P → EndWithPacket P
 calm e = idle e.endpoint_state.state e.endpoint_state.context e.random
 
 -- the end without the packet
-abbrev pub end_of : {P : Type 0} → Making P → Endpoint P
+abbrev pub end_of : {P : Type 0} → EndWithPacket P → Endpoint P
 end_of m = record { endpoint_state = record { state = m.state; context = m.context }; random = m.random }
 
 -- in another state, with another context, with this packet
-abbrev pub in_state : {P : Type 0} → State → Making P → Making P
+abbrev pub in_state : {P : Type 0} → State → EndWithPacket P → EndWithPacket P
 in_state s m = record m { state = s }
 
-abbrev pub in_open : {P : Type 0} → Phase → Tcb → Making P → Making P
+abbrev pub in_open : {P : Type 0} → Phase → Tcb → EndWithPacket P → EndWithPacket P
 in_open phase t m = record m { state = Open phase t }
 
-abbrev pub with_context : {P : Type 0} → Context P → Making P → Making P
+abbrev pub with_context : {P : Type 0} → Context P → EndWithPacket P → EndWithPacket P
 with_context c m = record m { context = c }
 
-abbrev pub with_packet : {P : Type 0} → Packet → Making P → Making P
+abbrev pub with_packet : {P : Type 0} → Packet → EndWithPacket P → EndWithPacket P
 with_packet p m = record m { packet = p }
 
 -- a chunk is put into the packet, where it fits
-abbrev pub with_chunk : {P : Type 0} → ChunkTree → Making P → Making P
+abbrev pub with_chunk : {P : Type 0} → ChunkTree → EndWithPacket P → EndWithPacket P
 with_chunk chunk m = record m { packet = add chunk m.packet }
 
 -- ---- what the call brought
@@ -156,7 +156,7 @@ pub data IsBundled (cs : List ChunkTree) : Type 0 where
 
 -- A packet has a checksum; or it has one as was agreed with the peer, by the association that is held or by the INIT that is answered; or it is
 -- the packet before it, into which nothing was put.
-pub data IsSummedSo {P : Type 0} (call : Call) (m : Making P) (p : Packet) : Type 0 where
+pub data IsSummedSo {P : Type 0} (call : Call) (m : EndWithPacket P) (p : Packet) : Type 0 where
   always : p.is_summed ≡ true → IsSummedSo call m p
   as_held : (phase : Phase) (t : Tcb) → m.state ≡ Open phase t → p.is_summed ≡ not (zero_checksum_enabled t.capabilities) → IsSummedSo call m p
   as_asked : (tag : ℕ) (i : InitTree) → IsReceived call tag (init_chunk i) → p.is_summed ≡ not (zero_checksum_enabled (agreed_by m.context.options i))
@@ -165,20 +165,20 @@ pub data IsSummedSo {P : Type 0} (call : Call) (m : Making P) (p : Packet) : Typ
 
 pub data PacketAct (P : Type 0) (call : Call) : Type 0 where
   -- another packet is begun; one that didn't go out is dropped
-  begins : (p : Packet) (m : Making P) → p.chunks ≡ [] → IsSummedSo call m p → PacketAct P call
-  adds_plain : (chunk : ChunkTree) (m : Making P) → is_plain chunk ≡ true → list_all is_plain m.packet.chunks ≡ true → PacketAct P call
-  emits : (m : Making P) → has_chunks m.packet ≡ true → IsBundled m.packet.chunks → PacketAct P call
-  complains : (kind : ErrorKind) (text : List ℕ) (m : Making P) → PacketAct P call
-  counts : (m : Making P) → PacketAct P call
+  begins : (p : Packet) (m : EndWithPacket P) → p.chunks ≡ [] → IsSummedSo call m p → PacketAct P call
+  adds_plain : (chunk : ChunkTree) (m : EndWithPacket P) → is_plain chunk ≡ true → list_all is_plain m.packet.chunks ≡ true → PacketAct P call
+  emits : (m : EndWithPacket P) → has_chunks m.packet ≡ true → IsBundled m.packet.chunks → PacketAct P call
+  complains : (kind : ErrorKind) (text : List ℕ) (m : EndWithPacket P) → PacketAct P call
+  counts : (m : EndWithPacket P) → PacketAct P call
 
-abbrev pub before_packets : {P : Type 0} {call : Call} → PacketAct P call → Making P
+abbrev pub before_packets : {P : Type 0} {call : Call} → PacketAct P call → EndWithPacket P
 before_packets (begins p m new summed) = m
 before_packets (adds_plain chunk m plain others) = m
 before_packets (emits m some bundled) = m
 before_packets (complains kind text m) = m
 before_packets (counts m) = m
 
-abbrev pub after_packets : {P : Type 0} {call : Call} → PacketAct P call → Making P
+abbrev pub after_packets : {P : Type 0} {call : Call} → PacketAct P call → EndWithPacket P
 after_packets (begins p m new summed) = with_packet p m
 after_packets (adds_plain chunk m plain others) = with_chunk chunk m
 after_packets (emits m some bundled) = record m { context = emit_if true m.packet m.context; packet = empty_packet m.packet }
@@ -188,36 +188,36 @@ after_packets (counts m) = with_context (count_packet m.context) m
 -- ---- opening
 
 -- words are drawn
-abbrev pub drew_two : {P : Type 0} → Making P → Making P
+abbrev pub drew_two : {P : Type 0} → EndWithPacket P → EndWithPacket P
 drew_two m = record m { random = (drew_word (drew_word (end_of m))).random }
 
-abbrev pub drew_one : {P : Type 0} → Making P → Making P
+abbrev pub drew_one : {P : Type 0} → EndWithPacket P → EndWithPacket P
 drew_one m = record m { random = (drew_word (end_of m)).random }
 
-abbrev pub drew_long : {P : Type 0} → Making P → Making P
+abbrev pub drew_long : {P : Type 0} → EndWithPacket P → EndWithPacket P
 drew_long m = record m { random = (drew_long_word (end_of m)).random }
 
 -- the first TSN is drawn, then the tag
-abbrev pub drawn_first : {P : Type 0} → Making P → ℕ
+abbrev pub drawn_first : {P : Type 0} → EndWithPacket P → ℕ
 drawn_first m = tsn_from (word (end_of m))
 
-abbrev pub drawn_tag : {P : Type 0} → Making P → ℕ
+abbrev pub drawn_tag : {P : Type 0} → EndWithPacket P → ℕ
 drawn_tag m = tag_from (word (drew_word (end_of m)))
 
 -- or the tag alone
-abbrev pub drawn_tag_alone : {P : Type 0} → Making P → ℕ
+abbrev pub drawn_tag_alone : {P : Type 0} → EndWithPacket P → ℕ
 drawn_tag_alone m = tag_from (word (end_of m))
 
 -- an INIT, an INIT ACK with these numbers
-abbrev pub with_init : {P : Type 0} → (tag first : ℕ) → Making P → Making P
+abbrev pub with_init : {P : Type 0} → (tag first : ℕ) → EndWithPacket P → EndWithPacket P
 with_init tag first m =
     with_chunk (init_chunk (init_of m.context.options tag first (announce m.context.options m.context.options.zero_checksum_method))) m
 
-abbrev pub with_init_ack : {P : Type 0} → InitTree → (tag first tie : ℕ) → Making P → Making P
+abbrev pub with_init_ack : {P : Type 0} → InitTree → (tag first tie : ℕ) → EndWithPacket P → EndWithPacket P
 with_init_ack i tag first tie m = with_chunk (init_ack_chunk (init_ack_of m.context.options i tag first tie)) m
 
 -- a cookie is kept, and a control block made by the INIT ACK that brought it
-abbrev pub echoing : {P : Type 0} → InitTree → (cookie : List ℕ) → (tag first : ℕ) → Making P → Making P
+abbrev pub echoing : {P : Type 0} → InitTree → (cookie : List ℕ) → (tag first : ℕ) → EndWithPacket P → EndWithPacket P
 echoing i cookie tag first m = record (drew_long m) {
   state = Open (CookieEchoed (t1_cookie m.context) cookie)
       (tcb m.context.options (names i tag first (long_word (end_of m))) i.a_rwnd (agreed_by m.context.options i));
@@ -225,7 +225,7 @@ echoing i cookie tag first m = record (drew_long m) {
 }
 
 -- a control block is made by a cookie that came back
-abbrev pub opened_by : {P : Type 0} → (resets : Bool) → Cookie → Making P → Making P
+abbrev pub opened_by : {P : Type 0} → (resets : Bool) → Cookie → EndWithPacket P → EndWithPacket P
 opened_by resets k m = record (drew_long m) {
   state = Open Established (tcb_by m.context.options k (long_word (end_of m)));
   context = connected_context (record m.context { queue = queue_for resets (negotiate m.context.options k.peer_capabilities).message_interleaving m.context.queue });
@@ -243,33 +243,33 @@ pub record IsEchoed (call : Call) (tag : ℕ) (k : Cookie) : Type 0 where
   pub reads : read_cookie cookie ≡ Ok k
 
 pub data OpeningAct (P : Type 0) (call : Call) : Type 0 where
-  connects : (m : Making P) → call ≡ Connect → OpeningAct P call
-  adds_init : (tag first : ℕ) (t1 : Timer) (m : Making P) → m.packet ≡ packet_to 0 m.context.options.mtu → OpeningAct P call
+  connects : (m : EndWithPacket P) → call ≡ Connect → OpeningAct P call
+  adds_init : (tag first : ℕ) (t1 : Timer) (m : EndWithPacket P) → m.packet ≡ packet_to 0 m.context.options.mtu → OpeningAct P call
   -- an INIT is answered: with a draw that isn't kept, with the own draw, or as one that may take this association's place
-  answers_new : (tag : ℕ) (i : InitTree) (m : Making P) → IsReceived call tag (init_chunk i) → m.packet.tag ≡ i.initiate_tag → OpeningAct P call
-  answers_waiting : (tag : ℕ) (i : InitTree) (my_tag first : ℕ) (t1 : Timer) (m : Making P) → IsReceived call tag (init_chunk i)
+  answers_new : (tag : ℕ) (i : InitTree) (m : EndWithPacket P) → IsReceived call tag (init_chunk i) → m.packet.tag ≡ i.initiate_tag → OpeningAct P call
+  answers_waiting : (tag : ℕ) (i : InitTree) (my_tag first : ℕ) (t1 : Timer) (m : EndWithPacket P) → IsReceived call tag (init_chunk i)
       → m.packet.tag ≡ i.initiate_tag → OpeningAct P call
-  answers_echoed : (tag : ℕ) (i : InitTree) (t1 : Timer) (cookie : List ℕ) (t : Tcb) (m : Making P) → IsReceived call tag (init_chunk i)
+  answers_echoed : (tag : ℕ) (i : InitTree) (t1 : Timer) (cookie : List ℕ) (t : Tcb) (m : EndWithPacket P) → IsReceived call tag (init_chunk i)
       → m.packet.tag ≡ i.initiate_tag → OpeningAct P call
-  answers_again : (tag : ℕ) (i : InitTree) (phase : Phase) (t : Tcb) (m : Making P) → IsReceived call tag (init_chunk i) → is_alone phase ≡ false
+  answers_again : (tag : ℕ) (i : InitTree) (phase : Phase) (t : Tcb) (m : EndWithPacket P) → IsReceived call tag (init_chunk i) → is_alone phase ≡ false
       → m.packet.tag ≡ i.initiate_tag → OpeningAct P call
   -- an INIT ACK is taken, and its cookie sent
-  echoes : (tag : ℕ) (i : InitTree) (cookie : List ℕ) (my_tag first : ℕ) (t1 : Timer) (m : Making P) → IsReceived call tag (init_ack_chunk i)
+  echoes : (tag : ℕ) (i : InitTree) (cookie : List ℕ) (my_tag first : ℕ) (t1 : Timer) (m : EndWithPacket P) → IsReceived call tag (init_ack_chunk i)
       → cookie_in i.parameters ≡ Some cookie → OpeningAct P call
-  adds_cookie : (t1 : Timer) (cookie : List ℕ) (t : Tcb) (m : Making P) → m.packet ≡ packet_to t.identity.peer_tag m.context.options.mtu → OpeningAct P call
+  adds_cookie : (t1 : Timer) (cookie : List ℕ) (t : Tcb) (m : EndWithPacket P) → m.packet ≡ packet_to t.identity.peer_tag m.context.options.mtu → OpeningAct P call
   -- it was taken by the peer
-  establishes : (tag : ℕ) (t1 : Timer) (cookie : List ℕ) (t : Tcb) (m : Making P) → IsReceived call tag cookie_ack_chunk → OpeningAct P call
+  establishes : (tag : ℕ) (t1 : Timer) (cookie : List ℕ) (t : Tcb) (m : EndWithPacket P) → IsReceived call tag cookie_ack_chunk → OpeningAct P call
   -- a cookie came back: under the tag that it has, to an end without a control block; or to one with it
-  opens : (tag : ℕ) (k : Cookie) (m : Making P) → IsEchoed call tag k → is_opened m.state ≡ false → (tag == k.my_tag) ≡ true → OpeningAct P call
-  restarts : (tag : ℕ) (k : Cookie) (phase : Phase) (t : Tcb) (m : Making P) → IsEchoed call tag k → compare_tags tag t.identity k ≡ RestartDetected → OpeningAct P call
-  opens_again : (tag : ℕ) (k : Cookie) (phase : Phase) (t : Tcb) (m : Making P) → IsEchoed call tag k → compare_tags tag t.identity k ≡ SimultaneousInit
+  opens : (tag : ℕ) (k : Cookie) (m : EndWithPacket P) → IsEchoed call tag k → is_opened m.state ≡ false → (tag == k.my_tag) ≡ true → OpeningAct P call
+  restarts : (tag : ℕ) (k : Cookie) (phase : Phase) (t : Tcb) (m : EndWithPacket P) → IsEchoed call tag k → compare_tags tag t.identity k ≡ RestartDetected → OpeningAct P call
+  opens_again : (tag : ℕ) (k : Cookie) (phase : Phase) (t : Tcb) (m : EndWithPacket P) → IsEchoed call tag k → compare_tags tag t.identity k ≡ SimultaneousInit
       → OpeningAct P call
-  maintains : (tag : ℕ) (k : Cookie) (t1 : Timer) (cookie : List ℕ) (t : Tcb) (m : Making P) → IsEchoed call tag k
+  maintains : (tag : ℕ) (k : Cookie) (t1 : Timer) (cookie : List ℕ) (t : Tcb) (m : EndWithPacket P) → IsEchoed call tag k
       → compare_tags tag t.identity k ≡ MaintainExisting → OpeningAct P call
-  adds_cookie_ack : (tag : ℕ) (back : Cookie) (phase : Phase) (t : Tcb) (m : Making P) → IsEchoed call tag back → is_alone phase ≡ false
+  adds_cookie_ack : (tag : ℕ) (back : Cookie) (phase : Phase) (t : Tcb) (m : EndWithPacket P) → IsEchoed call tag back → is_alone phase ≡ false
       → OpeningAct P call
 
-abbrev pub before_opening : {P : Type 0} {call : Call} → OpeningAct P call → Making P
+abbrev pub before_opening : {P : Type 0} {call : Call} → OpeningAct P call → EndWithPacket P
 before_opening (connects m is) = in_state Closed m
 before_opening (adds_init tag first t1 m to) = in_state (CookieWait tag first t1) m
 before_opening (answers_new tag i m received to) = in_state Closed m
@@ -285,7 +285,7 @@ before_opening (opens_again tag k phase t m echoed verdict) = in_open phase t m
 before_opening (maintains tag k t1 cookie t m echoed verdict) = in_open (CookieEchoed t1 cookie) t m
 before_opening (adds_cookie_ack tag back phase t m echoed late) = in_open phase t m
 
-abbrev pub after_opening : {P : Type 0} {call : Call} → OpeningAct P call → Making P
+abbrev pub after_opening : {P : Type 0} {call : Call} → OpeningAct P call → EndWithPacket P
 after_opening (connects m is) = in_state (CookieWait (drawn_tag m) (drawn_first m) (t1_init m.context)) (drew_two m)
 after_opening (adds_init tag first t1 m to) = with_init tag first (in_state (CookieWait tag first t1) m)
 after_opening (answers_new tag i m received to) = with_init_ack i (drawn_tag m) (drawn_first m) 0 (in_state Closed (drew_two m))
@@ -310,17 +310,17 @@ may_shut phase = false
 
 pub data ClosingAct (P : Type 0) (call : Call) : Type 0 where
   -- an association, or the attempt at one, is over
-  closes : (e : Event P) (m : Making P) → is_closed m.state ≡ false → ending e ≡ 1 → ClosingAct P call
-  shuts : (phase : Phase) (t : Tcb) (m : Making P) → call ≡ Shutdown → may_shut phase ≡ true → ClosingAct P call
+  closes : (e : Event P) (m : EndWithPacket P) → is_closed m.state ≡ false → ending e ≡ 1 → ClosingAct P call
+  shuts : (phase : Phase) (t : Tcb) (m : EndWithPacket P) → call ≡ Shutdown → may_shut phase ≡ true → ClosingAct P call
   -- a shutdown goes on, or its timer does
-  shuts_on : (phase next : Phase) (t : Tcb) (m : Making P) → is_alone phase ≡ false → is_alone next ≡ false → ClosingAct P call
+  shuts_on : (phase next : Phase) (t : Tcb) (m : EndWithPacket P) → is_alone phase ≡ false → is_alone next ≡ false → ClosingAct P call
 
-abbrev pub before_closing : {P : Type 0} {call : Call} → ClosingAct P call → Making P
+abbrev pub before_closing : {P : Type 0} {call : Call} → ClosingAct P call → EndWithPacket P
 before_closing (closes e m there is) = m
 before_closing (shuts phase t m is early) = in_open phase t m
 before_closing (shuts_on phase next t m late later) = in_open phase t m
 
-abbrev pub after_closing : {P : Type 0} {call : Call} → ClosingAct P call → Making P
+abbrev pub after_closing : {P : Type 0} {call : Call} → ClosingAct P call → EndWithPacket P
 after_closing (closes e m there is) = in_state Closed (with_context (over e m.context) m)
 after_closing (shuts phase t m is early) = in_open ShutdownPending t m
 after_closing (shuts_on phase next t m late later) = in_open next t m
@@ -328,24 +328,24 @@ after_closing (shuts_on phase next t m late later) = in_open next t m
 -- ---- data and forward points
 
 pub data DataAct (P : Type 0) (call : Call) : Type 0 where
-  takes_data : (tag tsn : ℕ) (is_immediate : Bool) (f : FragmentTree) (phase : Phase) (t : Tcb) (m : Making P)
+  takes_data : (tag tsn : ℕ) (is_immediate : Bool) (f : FragmentTree) (phase : Phase) (t : Tcb) (m : EndWithPacket P)
       → IsReceived call tag (data_chunk tsn is_immediate f) → misuse t.capabilities (data_chunk tsn is_immediate f) ≡ None → (length f.payload == 0) ≡ false
       → takes tsn t ≡ true → DataAct P call
-  takes_idata : (tag tsn : ℕ) (is_immediate : Bool) (f : FragmentTree) (phase : Phase) (t : Tcb) (m : Making P)
+  takes_idata : (tag tsn : ℕ) (is_immediate : Bool) (f : FragmentTree) (phase : Phase) (t : Tcb) (m : EndWithPacket P)
       → IsReceived call tag (idata_chunk tsn is_immediate f) → misuse t.capabilities (idata_chunk tsn is_immediate f) ≡ None → (length f.payload == 0) ≡ false
       → takes tsn t ≡ true → DataAct P call
-  takes_forward : (tag tsn : ℕ) (skipped : List SkippedStream) (phase : Phase) (t : Tcb) (m : Making P) → IsReceived call tag (forward_tsn_chunk tsn skipped)
+  takes_forward : (tag tsn : ℕ) (skipped : List SkippedStream) (phase : Phase) (t : Tcb) (m : EndWithPacket P) → IsReceived call tag (forward_tsn_chunk tsn skipped)
       → misuse t.capabilities (forward_tsn_chunk tsn skipped) ≡ None → is_valid t.tracker.tracker (tracker.number_of t.tracker tsn) ≡ true → DataAct P call
-  takes_iforward : (tag tsn : ℕ) (skipped : List SkippedStream) (phase : Phase) (t : Tcb) (m : Making P) → IsReceived call tag (i_forward_tsn_chunk tsn skipped)
+  takes_iforward : (tag tsn : ℕ) (skipped : List SkippedStream) (phase : Phase) (t : Tcb) (m : EndWithPacket P) → IsReceived call tag (i_forward_tsn_chunk tsn skipped)
       → misuse t.capabilities (i_forward_tsn_chunk tsn skipped) ≡ None → is_valid t.tracker.tracker (tracker.number_of t.tracker tsn) ≡ true → DataAct P call
 
-abbrev pub before_data : {P : Type 0} {call : Call} → DataAct P call → Making P
+abbrev pub before_data : {P : Type 0} {call : Call} → DataAct P call → EndWithPacket P
 before_data (takes_data tag tsn is_immediate f phase t m received right some takes) = in_open phase t m
 before_data (takes_idata tag tsn is_immediate f phase t m received right some takes) = in_open phase t m
 before_data (takes_forward tag tsn skipped phase t m received right valid) = in_open phase t m
 before_data (takes_iforward tag tsn skipped phase t m received right valid) = in_open phase t m
 
-abbrev pub after_data : {P : Type 0} {call : Call} → DataAct P call → Making P
+abbrev pub after_data : {P : Type 0} {call : Call} → DataAct P call → EndWithPacket P
 after_data (takes_data tag tsn is_immediate f phase t m received right some takes) = in_open phase (take_fragment tsn is_immediate f t) m
 after_data (takes_idata tag tsn is_immediate f phase t m received right some takes) = in_open phase (take_fragment tsn is_immediate f t) m
 after_data (takes_forward tag tsn skipped phase t m received right valid) = in_open phase (forward_to tsn skipped t) m
@@ -358,17 +358,17 @@ abbrev pub point_of : SackTree → Tcb → ℕ
 point_of k t = number_of t.sender.outstanding k.cumulative_tsn_ack
 
 pub data SackAct (P : Type 0) (call : Call) : Type 0 where
-  takes_sack : (tag : ℕ) (k : SackTree) (phase : Phase) (t : Tcb) (m : Making P) → IsReceived call tag (sack_chunk k)
+  takes_sack : (tag : ℕ) (k : SackTree) (phase : Phase) (t : Tcb) (m : EndWithPacket P) → IsReceived call tag (sack_chunk k)
       → sack.is_valid (point_of k t) (clean_blocks k.gap_ack_blocks) t.sender.outstanding.items ≡ true → SackAct P call
-  samples : (r : Rtt) (phase : Phase) (t : Tcb) (m : Making P) → SackAct P call
-  counts_errors : (e : ErrorCounter) (m : Making P) → SackAct P call
+  samples : (r : Rtt) (phase : Phase) (t : Tcb) (m : EndWithPacket P) → SackAct P call
+  counts_errors : (e : ErrorCounter) (m : EndWithPacket P) → SackAct P call
 
-abbrev pub before_sack : {P : Type 0} {call : Call} → SackAct P call → Making P
+abbrev pub before_sack : {P : Type 0} {call : Call} → SackAct P call → EndWithPacket P
 before_sack (takes_sack tag k phase t m received valid) = in_open phase t m
 before_sack (samples r phase t m) = in_open phase t m
 before_sack (counts_errors e m) = m
 
-abbrev pub after_sack : {P : Type 0} {call : Call} → SackAct P call → Making P
+abbrev pub after_sack : {P : Type 0} {call : Call} → SackAct P call → EndWithPacket P
 after_sack (takes_sack tag k phase t m received valid) =
     in_open phase
     (record t { sender = sender_if true m.context.now (point_of k t) k.a_rwnd (clean_blocks k.gap_ack_blocks) t.sender m.context.emitted })
@@ -380,22 +380,22 @@ after_sack (counts_errors e m) = with_context (record m.context { errors = e }) 
 
 pub data SendingAct (P : Type 0) (call : Call) : Type 0 where
   -- the tracker is asked whether an acknowledgement is due, and one is made
-  asks : (also_if_delayed : Bool) (phase : Phase) (t : Tcb) (m : Making P) → SendingAct P call
-  adds_ack : (phase : Phase) (t : Tcb) (m : Making P) → SendingAct P call
+  asks : (also_if_delayed : Bool) (phase : Phase) (t : Tcb) (m : EndWithPacket P) → SendingAct P call
+  adds_ack : (phase : Phase) (t : Tcb) (m : EndWithPacket P) → SendingAct P call
   -- what has expired is given up, and a forward point made
-  expires : (phase : Phase) (t : Tcb) (m : Making P) → SendingAct P call
-  adds_forward : (phase : Phase) (t : Tcb) (m : Making P) → is_forward_due t.sender.outstanding.items ≡ true → SendingAct P call
-  forwards_later : (n : ℕ) (m : Making P) → SendingAct P call
+  expires : (phase : Phase) (t : Tcb) (m : EndWithPacket P) → SendingAct P call
+  adds_forward : (phase : Phase) (t : Tcb) (m : EndWithPacket P) → is_forward_due t.sender.outstanding.items ≡ true → SendingAct P call
+  forwards_later : (n : ℕ) (m : EndWithPacket P) → SendingAct P call
   -- streams that are ready are put into a request, or none is
-  asks_no_reset : (most : ℕ) (m : Making P) → requested_streams most m.context.queue ≡ [] → SendingAct P call
-  asks_reset : (most stream : ℕ) (streams : List ℕ) (phase : Phase) (t : Tcb) (m : Making P) → requested_streams most m.context.queue ≡ stream ∷ streams
+  asks_no_reset : (most : ℕ) (m : EndWithPacket P) → requested_streams most m.context.queue ≡ [] → SendingAct P call
+  asks_reset : (most stream : ℕ) (streams : List ℕ) (phase : Phase) (t : Tcb) (m : EndWithPacket P) → requested_streams most m.context.queue ≡ stream ∷ streams
       → t.requests.current ≡ None → SendingAct P call
-  adds_request : (r : Request) (phase : Phase) (t : Tcb) (m : Making P) → t.requests.current ≡ Some r → SendingAct P call
+  adds_request : (r : Request) (phase : Phase) (t : Tcb) (m : EndWithPacket P) → t.requests.current ≡ Some r → SendingAct P call
   -- fragments go out, new ones and again; or those whose loss was reported
-  sends : (phase : Phase) (t : Tcb) (m : Making P) → SendingAct P call
-  sends_fast : (phase : Phase) (t : Tcb) (m : Making P) → nat_lt 0 (fast_items t.sender.outstanding.items) ≡ true → SendingAct P call
+  sends : (phase : Phase) (t : Tcb) (m : EndWithPacket P) → SendingAct P call
+  sends_fast : (phase : Phase) (t : Tcb) (m : EndWithPacket P) → nat_lt 0 (fast_items t.sender.outstanding.items) ≡ true → SendingAct P call
 
-abbrev pub before_sending : {P : Type 0} {call : Call} → SendingAct P call → Making P
+abbrev pub before_sending : {P : Type 0} {call : Call} → SendingAct P call → EndWithPacket P
 before_sending (asks also_if_delayed phase t m) = in_open phase t m
 before_sending (adds_ack phase t m) = in_open phase t m
 before_sending (expires phase t m) = in_open phase t m
@@ -408,10 +408,10 @@ before_sending (sends phase t m) = in_open phase t m
 before_sending (sends_fast phase t m some) = in_open phase t m
 
 -- what goes out of the queue and the items
-abbrev pub fragments_of : {P : Type 0} → Tcb → Making P → fragments.Filling P
+abbrev pub fragments_of : {P : Type 0} → Tcb → EndWithPacket P → fragments.Filling P
 fragments_of t m = send m.context.now (room m.packet) t.sender m.context.queue m.context.emitted
 
-abbrev pub with_fragments : {P : Type 0} → fragments.Filling P → Phase → Tcb → Making P → Making P
+abbrev pub with_fragments : {P : Type 0} → fragments.Filling P → Phase → Tcb → EndWithPacket P → EndWithPacket P
 with_fragments f phase t m = record m {
   state = Open phase (record t { sender = f.sender });
   context = record m.context {
@@ -422,7 +422,7 @@ with_fragments f phase t m = record m {
   packet = add_all (data_chunks t (is_small m.context.options f.sender) f.chunks) m.packet;
 }
 
-abbrev pub after_sending : {P : Type 0} {call : Call} → SendingAct P call → Making P
+abbrev pub after_sending : {P : Type 0} {call : Call} → SendingAct P call → EndWithPacket P
 after_sending (asks also_if_delayed phase t m) = in_open phase (ask_for_sack also_if_delayed t) m
 after_sending (adds_ack phase t m) = with_chunk (selective_ack t) (in_open phase (count_sack_sent t) m)
 after_sending (expires phase t m) =
@@ -443,17 +443,17 @@ after_sending (sends_fast phase t m some) =
 -- ---- time
 
 pub data TimeAct (P : Type 0) (call : Call) : Type 0 where
-  advances : (now : ℕ) (m : Making P) → call ≡ Advance now → nat_lt now m.context.now ≡ false → TimeAct P call
-  delay_ends : (phase : Phase) (t : Tcb) (m : Making P) → TimeAct P call
+  advances : (now : ℕ) (m : EndWithPacket P) → call ≡ Advance now → nat_lt now m.context.now ≡ false → TimeAct P call
+  delay_ends : (phase : Phase) (t : Tcb) (m : EndWithPacket P) → TimeAct P call
   -- T3-rtx
-  times_out : (phase : Phase) (t : Tcb) (m : Making P) → is_due m.context.now t.sender.t3 ≡ true → TimeAct P call
-  beats : (h : Heartbeats) (m : Making P) → TimeAct P call
-  times_init : (tag first : ℕ) (old new : Timer) (m : Making P) → TimeAct P call
-  times_cookie : (old new : Timer) (cookie : List ℕ) (t : Tcb) (m : Making P) → TimeAct P call
-  times_request : (timer : Timer) (phase : Phase) (t : Tcb) (m : Making P) → TimeAct P call
-  wakes_request : (phase : Phase) (t : Tcb) (m : Making P) → TimeAct P call
+  times_out : (phase : Phase) (t : Tcb) (m : EndWithPacket P) → is_due m.context.now t.sender.t3 ≡ true → TimeAct P call
+  beats : (h : Heartbeats) (m : EndWithPacket P) → TimeAct P call
+  times_init : (tag first : ℕ) (old new : Timer) (m : EndWithPacket P) → TimeAct P call
+  times_cookie : (old new : Timer) (cookie : List ℕ) (t : Tcb) (m : EndWithPacket P) → TimeAct P call
+  times_request : (timer : Timer) (phase : Phase) (t : Tcb) (m : EndWithPacket P) → TimeAct P call
+  wakes_request : (phase : Phase) (t : Tcb) (m : EndWithPacket P) → TimeAct P call
 
-abbrev pub before_time : {P : Type 0} {call : Call} → TimeAct P call → Making P
+abbrev pub before_time : {P : Type 0} {call : Call} → TimeAct P call → EndWithPacket P
 before_time (advances now m is on) = m
 before_time (delay_ends phase t m) = in_open phase t m
 before_time (times_out phase t m due) = in_open phase t m
@@ -464,10 +464,10 @@ before_time (times_request timer phase t m) = in_open phase t m
 before_time (wakes_request phase t m) = in_open phase t m
 
 -- what a timeout leaves of the items, and emits
-abbrev pub timeout_of : {P : Type 0} → Tcb → Making P → Step P
+abbrev pub timeout_of : {P : Type 0} → Tcb → EndWithPacket P → Step P
 timeout_of t m = nack_all t.sender.outstanding.items m.context.emitted
 
-abbrev pub after_time : {P : Type 0} {call : Call} → TimeAct P call → Making P
+abbrev pub after_time : {P : Type 0} {call : Call} → TimeAct P call → EndWithPacket P
 after_time (advances now m is on) = with_context (record m.context { now = now }) m
 after_time (delay_ends phase t m) = in_open phase (record t { tracker = record t.tracker { tracker = ack_timeout m.context.now t.tracker.tracker } }) m
 after_time (times_out phase t m due) =
@@ -482,16 +482,16 @@ after_time (wakes_request phase t m) = in_open phase (record t { requests = wake
 -- ---- calls
 
 pub data CallAct (P : Type 0) (call : Call) : Type 0 where
-  accepts : (message : Message) (o : SendOptions) (m : Making P) → IsOffered call message o → refusal message (shown_state m.state) m.context ≡ None
+  accepts : (message : Message) (o : SendOptions) (m : EndWithPacket P) → IsOffered call message o → refusal message (shown_state m.state) m.context ≡ None
       → CallAct P call
-  refuses : (message : Message) (o : SendOptions) (e : SendError) (m : Making P) → IsOffered call message o
+  refuses : (message : Message) (o : SendOptions) (e : SendError) (m : EndWithPacket P) → IsOffered call message o
       → refusal message (shown_state m.state) m.context ≡ Some e → CallAct P call
-  takes_message : (phase : Phase) (t : Tcb) (m : Making P) → call ≡ TakeMessage → CallAct P call
-  sets_low_threshold : (stream bytes : ℕ) (m : Making P) → call ≡ SetLowThreshold stream bytes → CallAct P call
-  sets_priority : (stream priority : ℕ) (m : Making P) → call ≡ SetPriority stream priority → CallAct P call
-  sets_max_message_size : (bytes : ℕ) (m : Making P) → call ≡ SetMaxMessageSize bytes → CallAct P call
+  takes_message : (phase : Phase) (t : Tcb) (m : EndWithPacket P) → call ≡ TakeMessage → CallAct P call
+  sets_low_threshold : (stream bytes : ℕ) (m : EndWithPacket P) → call ≡ SetLowThreshold stream bytes → CallAct P call
+  sets_priority : (stream priority : ℕ) (m : EndWithPacket P) → call ≡ SetPriority stream priority → CallAct P call
+  sets_max_message_size : (bytes : ℕ) (m : EndWithPacket P) → call ≡ SetMaxMessageSize bytes → CallAct P call
 
-abbrev pub before_call : {P : Type 0} {call : Call} → CallAct P call → Making P
+abbrev pub before_call : {P : Type 0} {call : Call} → CallAct P call → EndWithPacket P
 before_call (accepts message o m offered fine) = m
 before_call (refuses message o e m offered refused) = m
 before_call (takes_message phase t m is) = in_open phase t m
@@ -499,7 +499,7 @@ before_call (sets_low_threshold stream bytes m is) = m
 before_call (sets_priority stream priority m is) = m
 before_call (sets_max_message_size bytes m is) = m
 
-abbrev pub after_call : {P : Type 0} {call : Call} → CallAct P call → Making P
+abbrev pub after_call : {P : Type 0} {call : Call} → CallAct P call → EndWithPacket P
 after_call (accepts message o m offered fine) = with_context (accept message o m.context) m
 after_call (refuses message o e m offered is) = with_context (refuse e o.lifecycle_id m.context) m
 after_call (takes_message phase t m is) = in_open phase (calls.taken t) m
@@ -545,24 +545,24 @@ Answers call r (reset_response number result sender receiver) = HasRequest call 
 Answers call r parameter = ⊥
 
 pub data ResetAct (P : Type 0) (call : Call) : Type 0 where
-  prepares : (stream : ℕ) (phase : Phase) (t : Tcb) (m : Making P) → IsReset call stream → t.capabilities.reconfig ≡ true → ResetAct P call
+  prepares : (stream : ℕ) (phase : Phase) (t : Tcb) (m : EndWithPacket P) → IsReset call stream → t.capabilities.reconfig ≡ true → ResetAct P call
   -- a request of the peer for its outgoing streams waits, or is performed
-  defers : (number response : ℕ) (last_tsn : Tsn) (streams : List StreamId) (phase : Phase) (t : Tcb) (m : Making P)
+  defers : (number response : ℕ) (last_tsn : Tsn) (streams : List StreamId) (phase : Phase) (t : Tcb) (m : EndWithPacket P)
       → IsAsked call (outgoing_reset_request number response last_tsn streams) → IsDue number t.requests
       → is_ahead last_tsn.0 t ≡ true → ResetAct P call
-  performs : (number response : ℕ) (last_tsn : Tsn) (streams : List StreamId) (phase : Phase) (t : Tcb) (m : Making P)
+  performs : (number response : ℕ) (last_tsn : Tsn) (streams : List StreamId) (phase : Phase) (t : Tcb) (m : EndWithPacket P)
       → IsAsked call (outgoing_reset_request number response last_tsn streams) → IsDue number t.requests
       → is_ahead last_tsn.0 t ≡ false → ResetAct P call
   -- one for its incoming streams
-  processes : (number : ℕ) (streams : List StreamId) (phase : Phase) (t : Tcb) (m : Making P) → IsAsked call (incoming_reset_request number streams)
+  processes : (number : ℕ) (streams : List StreamId) (phase : Phase) (t : Tcb) (m : EndWithPacket P) → IsAsked call (incoming_reset_request number streams)
       → is_known number t.requests ≡ true → ResetAct P call
   -- an answer to the own request
-  takes_response : (rto number result : ℕ) (sender receiver : Option Tsn) (phase : Phase) (t : Tcb) (m : Making P)
+  takes_response : (rto number result : ℕ) (sender receiver : Option Tsn) (phase : Phase) (t : Tcb) (m : EndWithPacket P)
       → IsAsked call (reset_response number result sender receiver) → ResetAct P call
-  adds_responses : (responses : List ParameterTree) (phase : Phase) (t : Tcb) (m : Making P) → list_all is_response responses ≡ true
+  adds_responses : (responses : List ParameterTree) (phase : Phase) (t : Tcb) (m : EndWithPacket P) → list_all is_response responses ≡ true
       → All (Answers call t.requests) responses → ResetAct P call
 
-abbrev pub before_reset : {P : Type 0} {call : Call} → ResetAct P call → Making P
+abbrev pub before_reset : {P : Type 0} {call : Call} → ResetAct P call → EndWithPacket P
 before_reset (prepares stream phase t m asked can) = in_open phase t m
 before_reset (defers number response last_tsn streams phase t m asked known ahead) = in_open phase t m
 before_reset (performs number response last_tsn streams phase t m asked known there) = in_open phase t m
@@ -570,7 +570,7 @@ before_reset (processes number streams phase t m asked known) = in_open phase t 
 before_reset (takes_response rto number result sender receiver phase t m asked) = in_open phase t m
 before_reset (adds_responses responses phase t m are answers) = in_open phase t m
 
-abbrev pub after_reset : {P : Type 0} {call : Call} → ResetAct P call → Making P
+abbrev pub after_reset : {P : Type 0} {call : Call} → ResetAct P call → EndWithPacket P
 after_reset (prepares stream phase t m asked can) = in_open phase t (with_context (prepare_stream stream m.context) m)
 after_reset (defers number response last_tsn streams phase t m asked known ahead) =
     in_open phase (record t { reassembly = defer last_tsn.0 streams t.reassembly; requests = process_request number in_progress t.requests }) m
@@ -586,14 +586,14 @@ after_reset (adds_responses responses phase t m are answers) = with_chunk (re_co
 -- ---- handover
 
 pub data HandoverAct (P : Type 0) (call : Call) : Type 0 where
-  leaves : (phase : Phase) (t : Tcb) (m : Making P) → call ≡ HandOver → HandoverAct P call
-  takes_up : (h : HandoverState) (m : Making P) → call ≡ Restore h → is_valid_state h ≡ true → HandoverAct P call
+  leaves : (phase : Phase) (t : Tcb) (m : EndWithPacket P) → call ≡ HandOver → HandoverAct P call
+  takes_up : (h : HandoverState) (m : EndWithPacket P) → call ≡ Restore h → is_valid_state h ≡ true → HandoverAct P call
 
-abbrev pub before_handover : {P : Type 0} {call : Call} → HandoverAct P call → Making P
+abbrev pub before_handover : {P : Type 0} {call : Call} → HandoverAct P call → EndWithPacket P
 before_handover (leaves phase t m is) = in_open phase t m
 before_handover (takes_up h m is valid) = in_state Closed m
 
-abbrev pub after_handover : {P : Type 0} {call : Call} → HandoverAct P call → Making P
+abbrev pub after_handover : {P : Type 0} {call : Call} → HandoverAct P call → EndWithPacket P
 after_handover (leaves phase t m is) = in_state Closed (with_context (say OnClosed m.context) m)
 after_handover (takes_up h m is valid) =
     in_open Established (tcb_from m.context.now m.context.options h) (with_context (say OnConnected (queue_taken h m.context)) m)
@@ -601,20 +601,20 @@ after_handover (takes_up h m is valid) =
 -- ---- the end of a packet
 
 pub data InputAct (P : Type 0) (call : Call) : Type 0 where
-  ends_packet : (phase : Phase) (t : Tcb) (m : Making P) → InputAct P call
+  ends_packet : (phase : Phase) (t : Tcb) (m : EndWithPacket P) → InputAct P call
 
-abbrev pub before_input : {P : Type 0} {call : Call} → InputAct P call → Making P
+abbrev pub before_input : {P : Type 0} {call : Call} → InputAct P call → EndWithPacket P
 before_input (ends_packet phase t m) = in_open phase t m
 
-abbrev pub after_input : {P : Type 0} {call : Call} → InputAct P call → Making P
+abbrev pub after_input : {P : Type 0} {call : Call} → InputAct P call → EndWithPacket P
 after_input (ends_packet phase t m) = in_open phase (at_end m.context.now t) m
 
 -- ---- what each act preserves
 
 -- A relation on ends at work that holds of nothing done, goes on, and holds of each act of this call.
-pub record Preserves {P : Type 0} (call : Call) (R : Making P → Making P → Type 0) : Type 0 where
-  pub same : (m : Making P) → R m m
-  pub through : {a b c : Making P} → R a b → R b c → R a c
+pub record Preserves {P : Type 0} (call : Call) (R : EndWithPacket P → EndWithPacket P → Type 0) : Type 0 where
+  pub same : (m : EndWithPacket P) → R m m
+  pub through : {a b c : EndWithPacket P} → R a b → R b c → R a c
   pub packets : (act : PacketAct P call) → R (before_packets act) (after_packets act)
   pub opening : (act : OpeningAct P call) → R (before_opening act) (after_opening act)
   pub closing : (act : ClosingAct P call) → R (before_closing act) (after_closing act)
@@ -630,14 +630,14 @@ pub record Preserves {P : Type 0} (call : Call) (R : Making P → Making P → T
 -- ---- up to the first end of an association
 
 -- no association has ended, of what is emitted and not taken yet
-abbrev pub HasNoEnd : {P : Type 0} → Making P → Type 0
+abbrev pub HasNoEnd : {P : Type 0} → EndWithPacket P → Type 0
 HasNoEnd m = endings m.context.emitted.events ≡ 0
 
 -- The same of a relation that is asked only as long as no association has ended: each act may use that none has after it.
 -- An act that ends one is not asked for.
-pub record PreservesUntilEnd {P : Type 0} (call : Call) (R : Making P → Making P → Type 0) : Type 0 where
-  pub same : (m : Making P) → R m m
-  pub through : {a b c : Making P} → R a b → R b c → R a c
+pub record PreservesUntilEnd {P : Type 0} (call : Call) (R : EndWithPacket P → EndWithPacket P → Type 0) : Type 0 where
+  pub same : (m : EndWithPacket P) → R m m
+  pub through : {a b c : EndWithPacket P} → R a b → R b c → R a c
   pub packets : (act : PacketAct P call) → HasNoEnd (after_packets act) → R (before_packets act) (after_packets act)
   pub opening : (act : OpeningAct P call) → HasNoEnd (after_opening act) → R (before_opening act) (after_opening act)
   pub closing : (act : ClosingAct P call) → HasNoEnd (after_closing act) → R (before_closing act) (after_closing act)

@@ -9,9 +9,9 @@ use sctp_serial::{
 };
 use sctp_state::Events;
 use sctp_tx_outstanding::Item;
+use sctp_tx_outstanding::emitting::emit_left;
 use sctp_tx_outstanding::kept::{Change, Kept, placeholder};
 use sctp_tx_outstanding::sack::{highest_end, settle_all, take_out};
-use sctp_tx_outstanding::telling::tell_left;
 use sctp_tx_outstanding::totals::Totals;
 use std::alloc::{AllocError, Global};
 
@@ -150,7 +150,7 @@ fn totals(alloc: Global) -> Result<Answer, AllocError> {
 fn left(alloc: Global, events: &mut Events) -> Result<Answer, AllocError> {
     match made(alloc, OutgoingMessageId(3), true)? {
         Some(item) => {
-            let told = tell_left(events, &item);
+            let told = emit_left(events, &item);
             drop(item);
             told?;
             Ok(Answer::Done)
@@ -207,7 +207,7 @@ pub fn answer(
         "totals" => totals(alloc),
         "tell-left" => left(alloc, events),
         "tell-leaving" => {
-            kept.tell_leaving(line.size(0), events)?;
+            kept.emit_leaving(line.size(0), events)?;
             Ok(Answer::Done)
         }
         _ => Ok(change(kept, line)),

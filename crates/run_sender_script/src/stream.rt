@@ -132,9 +132,9 @@ fn change(stream: &mut Stream, line: &Line<'_>) -> Answer {
 
 fn tell(stream: &Stream, events: &mut Events, line: &Line<'_>) -> Result<Answer, AllocError> {
     if line.verb == "tell-stale" {
-        stream.tell_stale(line.moment(0), events)?;
+        stream.emit_stale(line.moment(0), events)?;
     } else {
-        stream.tell_waiting(events)?;
+        stream.emit_waiting(events)?;
     }
     Ok(Answer::Done)
 }

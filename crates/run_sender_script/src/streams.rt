@@ -139,9 +139,9 @@ fn change(streams: &mut Streams, line: &Line<'_>) -> Answer {
 fn tell(streams: &Streams, events: &mut Events, line: &Line<'_>) -> Result<Answer, AllocError> {
     let id = line.stream(0);
     if line.verb == "tell-stale" {
-        streams.tell_stale(id, line.moment(1), events)?;
+        streams.emit_stale(id, line.moment(1), events)?;
     } else {
-        streams.tell_waiting(id, events)?;
+        streams.emit_waiting(id, events)?;
     }
     Ok(Answer::Done)
 }

@@ -333,7 +333,7 @@ pub(crate) fn handle_packet<R: Rng, C: Checksum>(
         None => handle_chunks(state, context, rng, tag, outline.has_data, view),
         Some(refusal) => {
             let text = refusal.text(context.alloc)?;
-            context.tell(SocketEvent::OnError(ErrorKind::ParseFailed, text))
+            context.emit_event(SocketEvent::OnError(ErrorKind::ParseFailed, text))
         }
     }
 }

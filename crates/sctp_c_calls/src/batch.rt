@@ -58,7 +58,7 @@ fn note(answers: &mut Vec<u32>, refusals: &[(usize, SendError)])
 }
 
 /// Writes each message's answer.
-fn tell(answers: &mut [u32], mut own: Vec<u32>, refusals: &[(usize, SendError)])
+fn write_answers(answers: &mut [u32], mut own: Vec<u32>, refusals: &[(usize, SendError)])
     requires { length own.items ≤ length answers.old }
     ensures { take (length own.items) answers.new ≡ mark_refused refusals.now own.items }
 {
@@ -96,11 +96,11 @@ pub fn send_many<R: Rng, C: Checksum>(
     };
     match socket.send_many(copies, &options.options()) {
         Ok(()) => {
-            tell(answers, own, &[]);
+            write_answers(answers, own, &[]);
             OK
         }
         Err(BatchFault::Refused(refusals)) => {
-            tell(answers, own, &refusals.0);
+            write_answers(answers, own, &refusals.0);
             SOME_REFUSED
         }
         Err(BatchFault::Memory) => MEMORY,

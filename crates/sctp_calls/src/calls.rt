@@ -57,7 +57,7 @@ fn refuse<C: Checksum>(
     ensures { OnOk result (context_of C.word_of context.new ≡ table.refuse refusal.now lifecycle_id (context_of C.word_of context.old)) }
 {
     if let Some(id) = lifecycle_id {
-        context.tell(SocketEvent::OnLifecycleEnd(id))?;
+        context.emit_event(SocketEvent::OnLifecycleEnd(id))?;
     }
     complain_of(context, refusal)
 }

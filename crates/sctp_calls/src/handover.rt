@@ -134,7 +134,7 @@ fn tcb_from<C: Checksum>(
 fn leave<C: Checksum>(state: &mut State, context: &mut Context<C>) -> Result<(), AllocError>
     ensures { OnOk result (endpoint_state_of C.word_of state.new context.new ≡ record { state = Closed; context = say OnClosed (context_of C.word_of context.old) }) }
 {
-    context.tell(SocketEvent::OnClosed())?;
+    context.emit_event(SocketEvent::OnClosed())?;
     state.enter(State::Closed);
     Ok(())
 }
@@ -171,7 +171,7 @@ fn take_up<C: Checksum>(
     context
         .send_queue
         .restore_from_state(context.clock, handed_over)?;
-    context.tell(SocketEvent::OnConnected())?;
+    context.emit_event(SocketEvent::OnConnected())?;
     let mut tcb = tcb_from(context, handed_over)?;
     if let Err(fault) = context.send_buffered_packets(&mut tcb, false) {
         tcb.let_go();

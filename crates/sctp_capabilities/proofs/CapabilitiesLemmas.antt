@@ -38,13 +38,13 @@ method_in_list_by true i (suc n) = rw (eqb-suc-zero n) refl
 method_in_list_by false i zero = refl
 method_in_list_by false i (suc n) = rw (eqb-suc-zero n) refl
 
-tells_forward_tsn : (p i h : Bool) (method : ℕ) → (list_any is_forward_tsn_supported (list_by p i h method) || has_type forward_tsn (types_by p i)) ≡ p
-tells_forward_tsn true i true method = refl
-tells_forward_tsn true i false method = refl
-tells_forward_tsn false true true method = refl
-tells_forward_tsn false true false method = refl
-tells_forward_tsn false false true method = refl
-tells_forward_tsn false false false method = refl
+announces_forward_tsn : (p i h : Bool) (method : ℕ) → (list_any is_forward_tsn_supported (list_by p i h method) || has_type forward_tsn (types_by p i)) ≡ p
+announces_forward_tsn true i true method = refl
+announces_forward_tsn true i false method = refl
+announces_forward_tsn false true true method = refl
+announces_forward_tsn false true false method = refl
+announces_forward_tsn false false true method = refl
+announces_forward_tsn false false false method = refl
 
 has_i_data : (p i : Bool) → has_type i_data (types_by p i) ≡ i
 has_i_data true true = refl
@@ -56,7 +56,7 @@ has_re_config : (p i : Bool) → has_type re_config (types_by p i) ≡ true
 has_re_config p i = refl
 
 -- an end announces its options, with the method that it announces
-pub told_with_options : (method : ℕ) (o : Options) → announced_with method o ≡ record {
+pub announced_with_options : (method : ℕ) (o : Options) → announced_with method o ≡ record {
   partial_reliability = o.enable_partial_reliability;
   message_interleaving = o.enable_message_interleaving;
   reconfig = true;
@@ -64,12 +64,12 @@ pub told_with_options : (method : ℕ) (o : Options) → announced_with method o
   incoming = o.announced_maximum_outgoing_streams;
   outgoing = o.announced_maximum_incoming_streams;
 }
-told_with_options method o =
+announced_with_options method o =
     let p = o.enable_partial_reliability in
     let i = o.enable_message_interleaving in
     let h = not (method == 0) in
     let types = extensions_in_list_by p i h method in
-    let forward = ap (λ (ts : List ℕ). list_any is_forward_tsn_supported (list_by p i h method) || has_type forward_tsn ts) types ∙ tells_forward_tsn p i h method in
+    let forward = ap (λ (ts : List ℕ). list_any is_forward_tsn_supported (list_by p i h method) || has_type forward_tsn ts) types ∙ announces_forward_tsn p i h method in
     let interleaving = ap (has_type i_data) types ∙ has_i_data p i in
     let reset = ap (has_type re_config) types ∙ has_re_config p i in
     let known = method_in_list_by p i method in
@@ -90,7 +90,7 @@ same_again a b = grind (arith, nat_tests)
 
 -- the end that takes an INIT
 pub negotiated_told_by_init : (own peer : Options) → negotiate own (announced_by_init peer) ≡ agreed own peer
-negotiated_told_by_init own peer = ap (negotiate own) (told_with_options peer.zero_checksum_method peer)
+negotiated_told_by_init own peer = ap (negotiate own) (announced_with_options peer.zero_checksum_method peer)
 
 -- the end that takes the INIT ACK which answers its INIT
 pub negotiated_told_by_init_ack : (own peer : Options) → negotiate own (announced_by_init_ack peer own) ≡ agreed own peer
@@ -98,7 +98,7 @@ negotiated_told_by_init_ack own peer =
     let answer = ap (λ (k : Capabilities). k.zero_checksum_method) (negotiated_told_by_init peer own) in
     let again = same_again own.zero_checksum_method peer.zero_checksum_method in
     ap (λ (method : ℕ). negotiate own (announced_with method peer)) answer
-    ∙ ap (negotiate own) (told_with_options (agreed peer own).zero_checksum_method peer)
+    ∙ ap (negotiate own) (announced_with_options (agreed peer own).zero_checksum_method peer)
     ∙ ap (λ (method : ℕ). record (agreed own peer) { zero_checksum_method = method }) again
 
 -- both ends do the same, with the stream counts exchanged

@@ -33,7 +33,7 @@ fn causes_text(alloc: Global, causes: &[ErrorCause]) -> Result<String, AllocErro
 }
 
 /// The association is emitted as aborted by the peer.
-fn tell_abort<C: Checksum>(
+fn emit_abort<C: Checksum>(
     context: &mut Context<C>,
     causes: &[ErrorCause],
 ) -> Result<(), AllocError>
@@ -44,14 +44,14 @@ fn tell_abort<C: Checksum>(
 }
 
 /// An error that the peer reports.
-fn tell_error<C: Checksum>(
+fn emit_error<C: Checksum>(
     context: &mut Context<C>,
     causes: &[ErrorCause],
 ) -> Result<(), AllocError>
     ensures { OnOk result (context_of C.word_of context.new ≡ complain ErrorKind.PeerReported (closing.causes_text (map cause_tree causes.now)) (context_of C.word_of context.old)) }
 {
     let text = causes_text(context.alloc, causes)?;
-    context.tell(SocketEvent::OnError(ErrorKind::PeerReported, text))
+    context.emit_event(SocketEvent::OnError(ErrorKind::PeerReported, text))
 }
 
 /// An ABORT goes out, since what was negotiated forbids a chunk.
@@ -66,7 +66,7 @@ fn abort_by_violation<C: Checksum>(
     let information = String::from_str(context.alloc, misuse.text())?;
     let cause = ErrorCause::ProtocolViolation(ProtocolViolationErrorCause { information });
     context.send_abort(tcb, cause)?;
-    context.tell_aborted(ErrorKind::ProtocolViolation, misuse.text())
+    context.emit_aborted(ErrorKind::ProtocolViolation, misuse.text())
 }
 
 /// ABORT.
@@ -81,7 +81,7 @@ pub fn handle_abort<C: Checksum>(
         State::Closed => Ok(()),
         State::CookieWait(_) => Ok(()),
         State::Open(_, _) => {
-            tell_abort(context, causes)?;
+            emit_abort(context, causes)?;
             state.enter(State::Closed);
             Ok(())
         }
@@ -99,7 +99,7 @@ pub fn handle_error<C: Checksum>(
     match state {
         State::Closed => Ok(()),
         State::CookieWait(_) => Ok(()),
-        State::Open(_, _) => tell_error(context, causes),
+        State::Open(_, _) => emit_error(context, causes),
     }
 }
 

@@ -157,7 +157,7 @@ fn complain_of_unknown<C: Checksum>(
     ensures { let u = chunk.now in OnOk result (context_of C.word_of context.new ≡ table.complain_of_unknown u.typ u.flags u.value.items (context_of C.word_of context.old)) }
 {
     let text = unknown_text(context.alloc, chunk)?;
-    context.tell(SocketEvent::OnError(ErrorKind::ParseFailed, text))
+    context.emit_event(SocketEvent::OnError(ErrorKind::ParseFailed, text))
 }
 
 /// What is emitted of a chunk of unknown type.

@@ -164,7 +164,7 @@ impl<C: Checksum> Context<C> {
         self.events.add(SocketEvent::OnError(kind, text))
     }
 
-    pub fn tell(&mut self, event: SocketEvent) -> Result<(), AllocError>
+    pub fn emit_event(&mut self, event: SocketEvent) -> Result<(), AllocError>
         ensures { OnOk result (context_of C.word_of self.new ≡ say (event_of event) (context_of C.word_of self.old)) }
     {
         self.events.add(event)
@@ -175,11 +175,11 @@ impl<C: Checksum> Context<C> {
         ensures { OnOk result (context_of C.word_of self.new ≡ closing.over (event_of event) (context_of C.word_of self.old)) }
     {
         self.stop_heartbeats();
-        self.tell(event)
+        self.emit_event(event)
     }
 
     /// The association is over, as aborted.
-    pub fn tell_aborted(&mut self, kind: ErrorKind, text: &str) -> Result<(), AllocError>
+    pub fn emit_aborted(&mut self, kind: ErrorKind, text: &str) -> Result<(), AllocError>
         ensures { OnOk result (context_of C.word_of self.new ≡ closing.over (OnAborted kind text.now) (context_of C.word_of self.old)) }
     {
         let text = String::from_str(self.alloc, text)?;
@@ -187,10 +187,10 @@ impl<C: Checksum> Context<C> {
     }
 
     /// The same, since the peer doesn't answer.
-    pub fn tell_no_answer(&mut self, text: &str) -> Result<(), AllocError>
+    pub fn emit_no_answer(&mut self, text: &str) -> Result<(), AllocError>
         ensures { OnOk result (context_of C.word_of self.new ≡ closing.over (OnAborted ErrorKind.TooManyRetries text.now) (context_of C.word_of self.old)) }
     {
-        self.tell_aborted(ErrorKind::TooManyRetries, text)
+        self.emit_aborted(ErrorKind::TooManyRetries, text)
     }
 
     /// The next heartbeat is an interval away.

@@ -65,7 +65,7 @@ impl<C: Checksum> Context<C> {
     {
         let cause = self.user_abort("Too many retransmissions")?;
         self.send_abort(tcb, cause)?;
-        self.tell_no_answer("Too many retransmissions")
+        self.emit_no_answer("Too many retransmissions")
     }
 
     pub fn t2_shutdown(&self, tcb: &TransmissionControlBlock) -> Timer

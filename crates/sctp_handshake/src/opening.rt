@@ -198,7 +198,7 @@ fn end_without_cookie<C: Checksum>(
     ensures { OnOk result (endpoint_state_of C.word_of state.new context.new ≡ table.without_cookie peer_tag (context_of C.word_of context.old)) }
 {
     send_missing_cookie(context, peer_tag)?;
-    context.tell_aborted(
+    context.emit_aborted(
         ErrorKind::ProtocolViolation,
         "InitAck chunk doesn't contain a cookie",
     )?;

@@ -40,11 +40,11 @@ pub fn handle_outcome<C: Checksum>(
         ResetOutcome::Unsettled => Ok(()),
         ResetOutcome::Done(streams) => {
             context.send_queue.commit_reset_streams(&streams)?;
-            context.tell(SocketEvent::OnStreamsResetPerformed(streams))
+            context.emit_event(SocketEvent::OnStreamsResetPerformed(streams))
         }
         ResetOutcome::Denied(streams) => {
             context.send_queue.rollback_reset_streams(&streams)?;
-            context.tell(SocketEvent::OnStreamsResetFailed(streams))
+            context.emit_event(SocketEvent::OnStreamsResetFailed(streams))
         }
     }
 }

@@ -160,7 +160,7 @@ fn tick_cookie_echoed<C: Checksum>(
         return end_if_expired(context, tcb, has_expired);
     }
     if !echoed.t1_cookie.is_running() {
-        context.tell_no_answer("No COOKIE_ACK received")?;
+        context.emit_no_answer("No COOKIE_ACK received")?;
         return Ok(true);
     }
     context.send_cookie_echo(tcb, &echoed.cookie)?;
@@ -260,7 +260,7 @@ fn tick_cookie_wait<C: Checksum>(
         return Ok(false);
     }
     if !waiting.t1_init.is_running() {
-        context.tell_no_answer("No INIT_ACK received")?;
+        context.emit_no_answer("No INIT_ACK received")?;
         return Ok(true);
     }
     context.send_init(waiting.verification_tag, waiting.initial_tsn)?;

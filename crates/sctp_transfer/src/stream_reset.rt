@@ -68,7 +68,7 @@ fn perform_reset<C: Checksum>(
 {
     tcb.reassembly_queue
         .reset_streams_and_leave_deferred_reset(&request.streams)?;
-    context.tell(SocketEvent::OnIncomingStreamReset(request.streams))?;
+    context.emit_event(SocketEvent::OnIncomingStreamReset(request.streams))?;
     let answer = ReconfigurationResponseResult::SuccessPerformed;
     tcb.reset_requests.process(request.request_seq_nbr, answer);
     respond(responses, request.request_seq_nbr, answer)

@@ -35,10 +35,10 @@ module _ (now : ℕ) where
       let size : size_of m p.fragment ≤ x.left = chunk_within x.left (room_of x.sender) (header_size m) (length p.fragment.payload) some fits in
       omega (arith, sum, size)
 
-  made_load : (x : Filling (List ℕ)) (q : Queue) (told : Emitted (List ℕ)) (made : Option Produced) → 0 < offered_payload x.left x.sender → Fits (offered_payload x.left x.sender) made
-      → load (append now made (record x { queue = q; emitted = told })) ≤ load x
-  made_load x q told None some fits = omega arith
-  made_load x q told (Some p) some fits = new_load (record x { queue = q; emitted = told }) p some fits
+  made_load : (x : Filling (List ℕ)) (q : Queue) (emitted : Emitted (List ℕ)) (made : Option Produced) → 0 < offered_payload x.left x.sender → Fits (offered_payload x.left x.sender) made
+      → load (append now made (record x { queue = q; emitted = emitted })) ≤ load x
+  made_load x q emitted None some fits = omega arith
+  made_load x q emitted (Some p) some fits = new_load (record x { queue = q; emitted = emitted }) p some fits
 
   turn_load : (x : Filling (List ℕ)) → load (next_turn now x).filling ≤ load x
   turn_load x = go (may_send_new x.sender && nat_lt 0 (offered_payload x.left x.sender)) refl where
@@ -76,11 +76,11 @@ module _ (now : ℕ) where
 left_over : (bytes room most : ℕ) → most < 2 ^ 64 → bytes ≤ min most room → bytes + (most - cap bytes) ≤ most
 left_over bytes room most small h = omega (arith, small, h)
 
-pub sent_fits : (now most : ℕ) (s : Sender) (q : Queue) (told : Emitted (List ℕ)) → most < 2 ^ 64 → FitWithin most s (send now most s q told).chunks
-sent_fits now most s q told small =
+pub sent_fits : (now most : ℕ) (s : Sender) (q : Queue) (emitted : Emitted (List ℕ)) → most < 2 ^ 64 → FitWithin most s (send now most s q emitted).chunks
+sent_fits now most s q emitted small =
     let first = without_discards s in
     let r : Resent = again.resent most first in
-    let x = filled_with most first r (discard_all s.outstanding.items.discards q told) in
+    let x = filled_with most first r (discard_all s.outstanding.items.discards q emitted) in
     let y = fill (suc x.left) now x in
     let room : ℕ = first.windows.cwnd - flight first in
     let again_fits : sizes (is_interleaved s) r.chunks ≤ min most room = resend_fits false (min most room) first.windows.rwnd first.outstanding in

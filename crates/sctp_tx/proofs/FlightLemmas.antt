@@ -57,10 +57,10 @@ new_stays now left s p small some fits =
     record { flight = no_more_lem f (flight_bytes (sent_new now p s).outstanding.items) s.windows.cwnd (size_of m p.fragment) (room_of s) small (room_left s) size some_room sum; cwnd = refl }
 
 module _ (now : ℕ) where
-  made_stays : (x : Filling (List ℕ)) (q : Queue) (told : Emitted (List ℕ)) (made : Option Produced) → x.sender.windows.cwnd < 2 ^ 64 → 0 < offered_payload x.left x.sender
-      → Fits (offered_payload x.left x.sender) made → StaysWithin x.sender (append now made (record x { queue = q; emitted = told })).sender
-  made_stays x q told None small some fits = itself x.sender
-  made_stays x q told (Some p) small some fits = new_stays now x.left x.sender p small some fits
+  made_stays : (x : Filling (List ℕ)) (q : Queue) (emitted : Emitted (List ℕ)) (made : Option Produced) → x.sender.windows.cwnd < 2 ^ 64 → 0 < offered_payload x.left x.sender
+      → Fits (offered_payload x.left x.sender) made → StaysWithin x.sender (append now made (record x { queue = q; emitted = emitted })).sender
+  made_stays x q emitted None small some fits = itself x.sender
+  made_stays x q emitted (Some p) small some fits = new_stays now x.left x.sender p small some fits
 
   turn_stays : (x : Filling (List ℕ)) → x.sender.windows.cwnd < 2 ^ 64 → StaysWithin x.sender (next_turn now x).filling.sender
   turn_stays x small = go (may_send_new x.sender && nat_lt 0 (offered_payload x.left x.sender)) refl where
@@ -99,10 +99,10 @@ resent_stays most s small =
       cwnd = refl;
     }
 
-pub stays_within : (now most : ℕ) (s : Sender) (q : Queue) (told : Emitted (List ℕ)) → s.windows.cwnd < 2 ^ 64 → StaysWithin s (send now most s q told).sender
-stays_within now most s q told small =
+pub stays_within : (now most : ℕ) (s : Sender) (q : Queue) (emitted : Emitted (List ℕ)) → s.windows.cwnd < 2 ^ 64 → StaysWithin s (send now most s q emitted).sender
+stays_within now most s q emitted small =
     let first = without_discards s in
-    let x = filled_with most first (again.resent most first) (discard_all s.outstanding.items.discards q told) in
+    let x = filled_with most first (again.resent most first) (discard_all s.outstanding.items.discards q emitted) in
     let y = fill (suc x.left) now x in
     let a : StaysWithin first x.sender = resent_stays most first small in
     let b : StaysWithin x.sender y.sender = fill_stays now (suc x.left) x small in

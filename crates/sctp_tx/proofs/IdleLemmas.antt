@@ -40,8 +40,8 @@ idle_of s q e = of (length s.outstanding.items.discards == 0) (nat_lt 0 (waiting
   of true false false false ea eb ec ed e = absurd (cc)
 
 -- the queue gives none
-none_made : {P : Type 0} (now size : ℕ) (q : Queue) (told : Emitted P) → q.begun ≡ None → q.scheduler.times ≡ [] → produce now size q told ≡ idle q told
-none_made now size q told begun times = rw (begun, times) refl
+none_made : {P : Type 0} (now size : ℕ) (q : Queue) (emitted : Emitted P) → q.begun ≡ None → q.scheduler.times ≡ [] → produce now size q emitted ≡ idle q emitted
+none_made now size q emitted begun times = rw (begun, times) refl
 
 module _ {P : Type 0} (now : ℕ) where
   idle_turn : (b : Bool) (x : Filling P) → x.queue.begun ≡ None → x.queue.scheduler.times ≡ [] → turned_if b now x ≡ record { filling = x; is_more = false }
@@ -59,17 +59,17 @@ resent_none room window s small =
     let rwnd : s.windows.rwnd - 0 ≡ s.windows.rwnd = omega arith in
     ap (λ (n : ℕ). record s { windows = record s.windows { rwnd = s.windows.rwnd - 0 }; rtx_bytes = n }) bytes ∙ ap (λ (n : ℕ). record s { windows = record s.windows { rwnd = n } }) rwnd
 
-module _ {P : Type 0} (now most : ℕ) (s : Sender) (q : Queue) (told : Emitted P) where
-  pub idle_send : s.rtx_bytes < 2 ^ 64 → is_idle s q ≡ true → send now most s q told ≡ filling s q told [] (most - 0)
+module _ {P : Type 0} (now most : ℕ) (s : Sender) (q : Queue) (emitted : Emitted P) where
+  pub idle_send : s.rtx_bytes < 2 ^ 64 → is_idle s q ≡ true → send now most s q emitted ≡ filling s q emitted [] (most - 0)
   idle_send small e =
       let i = idle_of s q e in
       let kept : without_discards s ≡ s = ap (λ ds. record s { outstanding = record s.outstanding { items = record s.outstanding.items { discards = ds } } }) (sym i.discards) in
       let none : again.resent most s ≡ empty_packet (min most (s.windows.cwnd - flight s)) s.windows.rwnd s.outstanding = resend_quiet (min most (s.windows.cwnd - flight s)) s.windows.rwnd s.outstanding i.waiting in
       let same = resent_none (min most (s.windows.cwnd - flight s)) s.windows.rwnd s small in
-      let left : Changed P = record { queue = q; emitted = told } in
-      let x : filled_with most s (again.resent most s) left ≡ filling s q told [] (most - 0) =
-      ap (λ (r : Resent). filled_with most s r left) none ∙ ap (λ (t : Sender). filling t q told [] (most - 0)) same in
-      ap (λ (t : Sender). fill_all now (filled_with most t (again.resent most t) (discard_all s.outstanding.items.discards q told))) kept
-      ∙ ap (λ (ds : List Discard). fill_all now (filled_with most s (again.resent most s) (discard_all ds q told))) i.discards
+      let left : Changed P = record { queue = q; emitted = emitted } in
+      let x : filled_with most s (again.resent most s) left ≡ filling s q emitted [] (most - 0) =
+      ap (λ (r : Resent). filled_with most s r left) none ∙ ap (λ (t : Sender). filling t q emitted [] (most - 0)) same in
+      ap (λ (t : Sender). fill_all now (filled_with most t (again.resent most t) (discard_all s.outstanding.items.discards q emitted))) kept
+      ∙ ap (λ (ds : List Discard). fill_all now (filled_with most s (again.resent most s) (discard_all ds q emitted))) i.discards
       ∙ ap (λ (y : Filling P). fill_all now y) x
-      ∙ ap (λ (y : Filling P). timed_filling now y) (idle_fill now (suc (most - 0)) (filling s q told [] (most - 0)) i.begun i.times)
+      ∙ ap (λ (y : Filling P). timed_filling now y) (idle_fill now (suc (most - 0)) (filling s q emitted [] (most - 0)) i.begun i.times)

@@ -66,24 +66,24 @@ taken_none q = record { order = λ h. h; numbers = λ h. h; rests = λ h. h }
 pub taken_on : (q r t : Queue) → PartlyTaken q r → PartlyTaken r t → PartlyTaken q t
 taken_on q r t a b = record { order = λ h. b.order (a.order h); numbers = λ h. b.numbers (a.numbers h); rests = λ h. b.rests (a.rests h) }
 
-module _ (told : Emitted (List ℕ)) where
-  pub discarded_taken : (id message : ℕ) (q : Queue) → PartlyTaken q (discard id message q told).queue
+module _ (emitted : Emitted (List ℕ)) where
+  pub discarded_taken : (id message : ℕ) (q : Queue) → PartlyTaken q (discard id message q emitted).queue
   discarded_taken id message q = record {
-    order = λ h. discarded_in_order id message q told h;
-    numbers = λ h. calls_number.discarded id message q told h;
-    rests = λ h. calls_leave_rests.discarded id message q told h;
+    order = λ h. discarded_in_order id message q emitted h;
+    numbers = λ h. calls_number.discarded id message q emitted h;
+    rests = λ h. calls_leave_rests.discarded id message q emitted h;
   }
 
-  pub made_taken : (now size : ℕ) (q : Queue) → 0 < size → PartlyTaken q (produce now size q told).queue
+  pub made_taken : (now size : ℕ) (q : Queue) → 0 < size → PartlyTaken q (produce now size q emitted).queue
   made_taken now size q some = record {
-    order = λ h. produced_in_order now size q told some h;
-    numbers = λ h. calls_number.produced now size q told h;
-    rests = λ h. calls_leave_rests.produced now size q told h;
+    order = λ h. produced_in_order now size q emitted some h;
+    numbers = λ h. calls_number.produced now size q emitted h;
+    rests = λ h. calls_leave_rests.produced now size q emitted h;
   }
 
-  pub stopped_taken : (now size : ℕ) (q after : Queue) (later : Emitted (List ℕ)) → 0 < size → Interrupted now size q told after later → PartlyTaken q after
+  pub stopped_taken : (now size : ℕ) (q after : Queue) (later : Emitted (List ℕ)) → 0 < size → Interrupted now size q emitted after later → PartlyTaken q after
   stopped_taken now size q after later some i = record {
-    order = λ h. order_kept.produced now size q told after later some h i;
-    numbers = λ h. numbers_kept.produced now size q told after later some h i;
-    rests = λ h. rests_kept.produced now size q told after later some h i;
+    order = λ h. order_kept.produced now size q emitted after later some h i;
+    numbers = λ h. numbers_kept.produced now size q emitted after later some h i;
+    rests = λ h. rests_kept.produced now size q emitted after later some h i;
   }

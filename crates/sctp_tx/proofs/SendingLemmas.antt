@@ -24,32 +24,32 @@ module _ {P : Type 0} (now size : ℕ) where
   either_fits true t u f g = f
   either_fits false t u f g = g
 
-  turn_fits : (id : ℕ) (q : Queue) (told : Emitted P) → Fits size (turn now id size q told).made
-  turn_fits id q told =
+  turn_fits : (id : ℕ) (q : Queue) (emitted : Emitted P) → Fits size (turn now id size q emitted).made
+  turn_fits id q emitted =
       let s = stream id (streams_without_stale now id q.streams) in
       front_fits id size (front_numbers s.messages s) s.messages
 
-  next_fits : (turns : ℕ) (q : Queue) (told : Emitted P) → ((r : Queue) (t : Emitted P) → Fits size (produce_within turns now size r t).made) → (next : Option ℕ)
+  next_fits : (turns : ℕ) (q : Queue) (emitted : Emitted P) → ((r : Queue) (t : Emitted P) → Fits size (produce_within turns now size r t).made) → (next : Option ℕ)
       → Fits size (unwrap_or (option_map (λ id.
-      let t = turn now id size q told in
-      if is_some t.made then t else produce_within turns now size t.queue t.emitted) next) (idle q told)).made
-  next_fits turns q told others None = tt
-  next_fits turns q told others (Some id) =
-      let t = turn now id size q told in
-      either_fits (is_some t.made) t (produce_within turns now size t.queue t.emitted) (turn_fits id q told) (others t.queue t.emitted)
+      let t = turn now id size q emitted in
+      if is_some t.made then t else produce_within turns now size t.queue t.emitted) next) (idle q emitted)).made
+  next_fits turns q emitted others None = tt
+  next_fits turns q emitted others (Some id) =
+      let t = turn now id size q emitted in
+      either_fits (is_some t.made) t (produce_within turns now size t.queue t.emitted) (turn_fits id q emitted) (others t.queue t.emitted)
 
-  within_fits : (turns : ℕ) (q : Queue) (told : Emitted P) → Fits size (produce_within turns now size q told).made
-  within_fits zero q told = tt
-  within_fits (suc turns) q told = next_fits turns q told (within_fits turns) (next_stream q)
+  within_fits : (turns : ℕ) (q : Queue) (emitted : Emitted P) → Fits size (produce_within turns now size q emitted).made
+  within_fits zero q emitted = tt
+  within_fits (suc turns) q emitted = next_fits turns q emitted (within_fits turns) (next_stream q)
 
-  pub made_fits : (q : Queue) (told : Emitted P) (made : Option Produced) → made ≡ (produce now size q told).made → Fits size made
-  made_fits q told made is = rw is (within_fits (length q.scheduler.times + 2) q told)
+  pub made_fits : (q : Queue) (emitted : Emitted P) (made : Option Produced) → made ≡ (produce now size q emitted).made → Fits size made
+  made_fits q emitted made is = rw is (within_fits (length q.scheduler.times + 2) q emitted)
 
 -- ---- turns
 
-module _ {P : Type 0} (now turns left : ℕ) (s : Sender) (q : Queue) (told : Emitted P) (chunks : List (ℕ × FragmentTree)) (all : Filling P) where
+module _ {P : Type 0} (now turns left : ℕ) (s : Sender) (q : Queue) (emitted : Emitted P) (chunks : List (ℕ × FragmentTree)) (all : Filling P) where
   abbrev pub before : Filling P
-  before = filling s q told chunks left
+  before = filling s q emitted chunks left
 
   -- the last turn
   pub ended : left < turns → fill turns now before ≡ all → (next_turn now before).is_more ≡ false → (next_turn now before).filling ≡ all

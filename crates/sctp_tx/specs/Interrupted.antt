@@ -16,18 +16,18 @@ abbrev pub ItemsAlone : Sender → Sender → Type 0
 ItemsAlone s after = after ≡ record s { outstanding = after.outstanding }
 
 -- of a SACK
-pub record PartlyReceived {P : Type 0} (n : ℕ) (blocks : List GapAckBlock) (s : Sender) (told : Emitted P) (after : Sender) (later : Emitted P) : Type 0 where
-  pub items : Same s.outstanding told after.outstanding later ⊎ SomeReceived n blocks (not (is_open n s.windows)) s.outstanding told after.outstanding later
+pub record PartlyReceived {P : Type 0} (n : ℕ) (blocks : List GapAckBlock) (s : Sender) (emitted : Emitted P) (after : Sender) (later : Emitted P) : Type 0 where
+  pub items : Same s.outstanding emitted after.outstanding later ⊎ SomeReceived n blocks (not (is_open n s.windows)) s.outstanding emitted after.outstanding later
   pub alone : ItemsAlone s after
 
 -- of a timeout: the windows are cut, and the timer's expiry is counted
-pub record PartlyTimedOut {P : Type 0} (now : ℕ) (s : Sender) (told : Emitted P) (after : Sender) (later : Emitted P) : Type 0 where
-  pub items : SomeNacked true false s.outstanding told after.outstanding later
+pub record PartlyTimedOut {P : Type 0} (now : ℕ) (s : Sender) (emitted : Emitted P) (after : Sender) (later : Emitted P) : Type 0 where
+  pub items : SomeNacked true false s.outstanding emitted after.outstanding later
   pub rest : after ≡ record s { outstanding = after.outstanding; windows = timed_out s.windows; t3 = expire now s.t3 }
 
 -- of the lifetimes that passed
-pub record PartlyExpired {P : Type 0} (now : ℕ) (s : Sender) (told : Emitted P) (after : Sender) (later : Emitted P) : Type 0 where
-  pub items : SomeExpired now s.outstanding told after.outstanding later
+pub record PartlyExpired {P : Type 0} (now : ℕ) (s : Sender) (emitted : Emitted P) (after : Sender) (later : Emitted P) : Type 0 where
+  pub items : SomeExpired now s.outstanding emitted after.outstanding later
   pub alone : ItemsAlone s after
 
 -- of the packet that ignores the congestion window

@@ -62,7 +62,7 @@ windows_after n a_rwnd moved is_lossy before acked payload exit w =
 
 -- what the items say to it
 abbrev pub step_of : {P : Type 0} → (cumulative : ℕ) → List GapAckBlock → Sender → Emitted P → Step P
-step_of n blocks s told = receive_sack n blocks (not (is_open n s.windows)) s.outstanding.items told
+step_of n blocks s emitted = receive_sack n blocks (not (is_open n s.windows)) s.outstanding.items emitted
 
 abbrev pub handle_sack_by : {P : Type 0} → ℕ → (cumulative a_rwnd : ℕ) → List GapAckBlock → Sender → Step P → Sender
 handle_sack_by now n a_rwnd blocks s step = record s {
@@ -73,17 +73,17 @@ handle_sack_by now n a_rwnd blocks s step = record s {
 }
 
 abbrev pub handle_sack : {P : Type 0} → ℕ → (cumulative a_rwnd : ℕ) → List GapAckBlock → Sender → Emitted P → Sender
-handle_sack now n a_rwnd blocks s told = handle_sack_by now n a_rwnd blocks s (step_of n blocks s told)
+handle_sack now n a_rwnd blocks s emitted = handle_sack_by now n a_rwnd blocks s (step_of n blocks s emitted)
 
 -- one that is not valid changes nothing
 
 abbrev pub sender_if : {P : Type 0} → (is_valid : Bool) → ℕ → (cumulative a_rwnd : ℕ) → List GapAckBlock → Sender → Emitted P → Sender
-sender_if true now n a_rwnd blocks s told = handle_sack now n a_rwnd blocks s told
-sender_if false now n a_rwnd blocks s told = s
+sender_if true now n a_rwnd blocks s emitted = handle_sack now n a_rwnd blocks s emitted
+sender_if false now n a_rwnd blocks s emitted = s
 
 abbrev pub emitted_if : {P : Type 0} → (is_valid : Bool) → (cumulative : ℕ) → List GapAckBlock → Sender → Emitted P → Emitted P
-emitted_if true n blocks s told = (step_of n blocks s told).emitted
-emitted_if false n blocks s told = told
+emitted_if true n blocks s emitted = (step_of n blocks s emitted).emitted
+emitted_if false n blocks s emitted = emitted
 
 -- the answer: a round trip, and whether something was newly acknowledged
 pub data SackAnswer : Type 0 where

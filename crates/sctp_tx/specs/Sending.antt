@@ -45,7 +45,7 @@ append now (Some p) x = record x {
 }
 
 abbrev pub filling : {P : Type 0} → Sender → Queue → Emitted P → List (ℕ × FragmentTree) → (left : ℕ) → Filling P
-filling s q told chunks left = record { sender = s; queue = q; emitted = told; chunks = chunks; left = left }
+filling s q emitted chunks left = record { sender = s; queue = q; emitted = emitted; chunks = chunks; left = left }
 
 pub record Turned (P : Type 0) : Type 0 where
   pub filling : Filling P
@@ -74,8 +74,8 @@ fill (suc turns) now x = let t = next_turn now x in if t.is_more then fill turns
 -- ---- the whole
 
 abbrev pub discard_all : {P : Type 0} → List Discard → Queue → Emitted P → Changed P
-discard_all [] q told = record { queue = q; emitted = told }
-discard_all (d ∷ ds) q told = let x = discard d.stream d.number q told in discard_all ds x.queue x.emitted
+discard_all [] q emitted = record { queue = q; emitted = emitted }
+discard_all (d ∷ ds) q emitted = let x = discard d.stream d.number q emitted in discard_all ds x.queue x.emitted
 
 abbrev pub without_discards : Sender → Sender
 without_discards s = record s { outstanding = record s.outstanding { items = record s.outstanding.items { discards = [] } } }
@@ -97,8 +97,8 @@ fill_all now x = timed_filling now (fill (suc x.left) now x)
 
 -- messages that were given up leave the queue first
 abbrev pub send : {P : Type 0} → ℕ → (most : ℕ) → Sender → Queue → Emitted P → Filling P
-send now most s q told =
-    fill_all now (filled_with most (without_discards s) (resent most (without_discards s)) (discard_all s.outstanding.items.discards q told))
+send now most s q emitted =
+    fill_all now (filled_with most (without_discards s) (resent most (without_discards s)) (discard_all s.outstanding.items.discards q emitted))
 
 -- nothing is left of messages that were given up, no item waits to be sent again, and the queue has nothing to send
 abbrev pub is_idle : Sender → Queue → Bool

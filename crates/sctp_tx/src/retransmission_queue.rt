@@ -194,7 +194,7 @@ impl RetransmissionQueue {
     ) -> Result<HandleSackResult, AllocError>
         ensures queue { let n = number_of self.old.outstanding sack.now.cumulative_tsn_ack.0 in let blocks = sack.now.gap_ack_blocks.items in
             OnOk result (self.new ≡ sender_if (is_valid n blocks self.old.outstanding.items) now n sack.now.a_rwnd blocks self.old events.old) }
-        ensures told { let n = number_of self.old.outstanding sack.now.cumulative_tsn_ack.0 in let blocks = sack.now.gap_ack_blocks.items in
+        ensures emitted { let n = number_of self.old.outstanding sack.now.cumulative_tsn_ack.0 in let blocks = sack.now.gap_ack_blocks.items in
             OnOk result (events.new ≡ emitted_if (is_valid n blocks self.old.outstanding.items) n blocks self.old events.old) }
         ensures answer { let n = number_of self.old.outstanding sack.now.cumulative_tsn_ack.0 in let blocks = sack.now.gap_ack_blocks.items in
             IfOk result (λ answer. answer_of answer ≡ answer_if (is_valid n blocks self.old.outstanding.items) now n blocks self.old) }
@@ -223,7 +223,7 @@ impl RetransmissionQueue {
         requires valid { IsTrue (is_valid (number_of self.old.outstanding sack.now.cumulative_tsn_ack.0) sack.now.gap_ack_blocks.items self.old.outstanding.items) }
         ensures queue { let n = number_of self.old.outstanding sack.now.cumulative_tsn_ack.0 in let blocks = sack.now.gap_ack_blocks.items in
             OnOk result (self.new ≡ handle_sack now n sack.now.a_rwnd blocks self.old events.old) }
-        ensures told { let n = number_of self.old.outstanding sack.now.cumulative_tsn_ack.0 in let blocks = sack.now.gap_ack_blocks.items in
+        ensures emitted { let n = number_of self.old.outstanding sack.now.cumulative_tsn_ack.0 in let blocks = sack.now.gap_ack_blocks.items in
             OnOk result (events.new ≡ (step_of n blocks self.old events.old).emitted) }
         ensures acked { let n = number_of self.old.outstanding sack.now.cumulative_tsn_ack.0 in let blocks = sack.now.gap_ack_blocks.items in
             IfOk result (λ acked. acked ≡ cap (acked_bytes n blocks self.old.outstanding.items)) }
@@ -297,7 +297,7 @@ impl RetransmissionQueue {
         ensures no { result ≡ Ok false → self.new ≡ self.old }
         ensures silent { result ≡ Ok false → events.new ≡ events.old }
         ensures yes { result ≡ Ok true → self.new ≡ timed_out_sender now (nack_all self.old.outstanding.items events.old).items self.old }
-        ensures told { result ≡ Ok true → events.new ≡ (nack_all self.old.outstanding.items events.old).emitted }
+        ensures emitted { result ≡ Ok true → events.new ≡ (nack_all self.old.outstanding.items events.old).emitted }
         ensures err { OnErr result (PartlyTimedOut now self.old events.old self.new events.new) }
     {
         if !self.t3_rtx.expire(now) {
@@ -325,7 +325,7 @@ impl RetransmissionQueue {
         events: &mut Events,
     ) -> Result<bool, AllocError>
         ensures queue { OnOk result (self.new ≡ expire now self.old events.old) }
-        ensures told { OnOk result (events.new ≡ (expire_outstanding now self.old.outstanding.items events.old).emitted) }
+        ensures emitted { OnOk result (events.new ≡ (expire_outstanding now self.old.outstanding.items events.old).emitted) }
         ensures due { IfOk result (λ due. due ≡ is_forward_due self.new.outstanding.items) }
         ensures err { OnErr result (PartlyExpired now self.old events.old self.new events.new) }
     {
@@ -398,7 +398,7 @@ impl RetransmissionQueue {
         requires small { max_bytes < 2 ^ 32 }
         ensures sender { OnOk result (self.new ≡ (send now max_bytes self.old queue.old events.old).sender) }
         ensures queue { OnOk result (queue.new ≡ (send now max_bytes self.old queue.old events.old).queue) }
-        ensures told { OnOk result (events.new ≡ (send now max_bytes self.old queue.old events.old).emitted) }
+        ensures emitted { OnOk result (events.new ≡ (send now max_bytes self.old queue.old events.old).emitted) }
         ensures chunks { IfOk result (λ chunks. map chunk_of chunks.items ≡ (send now max_bytes self.old queue.old events.old).chunks) }
         ensures fits { IfOk result (λ chunks. FitWithin max_bytes self.old (map chunk_of chunks.items)) }
         ensures flight { OnOk result (StaysWithin self.old self.new) }
@@ -437,7 +437,7 @@ impl RetransmissionQueue {
         requires small { max_bytes < 2 ^ 32 }
         ensures sender { OnOk result (self.new ≡ (send now max_bytes self.old queue.old events.old).sender) }
         ensures queue { OnOk result (queue.new ≡ (send now max_bytes self.old queue.old events.old).queue) }
-        ensures told { OnOk result (events.new ≡ (send now max_bytes self.old queue.old events.old).emitted) }
+        ensures emitted { OnOk result (events.new ≡ (send now max_bytes self.old queue.old events.old).emitted) }
         ensures chunks { IfOk result (λ chunks. map chunk_of chunks.items ≡ (send now max_bytes self.old queue.old events.old).chunks) }
         ensures fits { IfOk result (λ chunks. FitWithin max_bytes self.old (map chunk_of chunks.items)) }
         ensures flight { OnOk result (StaysWithin self.old self.new) }
@@ -486,7 +486,7 @@ impl RetransmissionQueue {
         requires small { left < 2 ^ 32 }
         ensures sender { OnOk result (self.new ≡ (fill (suc left) now (filling self.old queue.old events.old (map chunk_of chunks.old.items) left)).sender) }
         ensures queue { OnOk result (queue.new ≡ (fill (suc left) now (filling self.old queue.old events.old (map chunk_of chunks.old.items) left)).queue) }
-        ensures told { OnOk result (events.new ≡ (fill (suc left) now (filling self.old queue.old events.old (map chunk_of chunks.old.items) left)).emitted) }
+        ensures emitted { OnOk result (events.new ≡ (fill (suc left) now (filling self.old queue.old events.old (map chunk_of chunks.old.items) left)).emitted) }
         ensures chunks { OnOk result (map chunk_of chunks.new.items ≡ (fill (suc left) now (filling self.old queue.old events.old (map chunk_of chunks.old.items) left)).chunks) }
         ensures partly { PartlySent self.old self.new }
         ensures taken { PartlyTaken queue.old queue.new }
@@ -510,7 +510,7 @@ impl RetransmissionQueue {
         requires small { left < 2 ^ 32 }
         ensures sender { OnOk result (self.new ≡ (next_turn now (filling self.old queue.old events.old (map chunk_of chunks.old.items) left)).filling.sender) }
         ensures queue { OnOk result (queue.new ≡ (next_turn now (filling self.old queue.old events.old (map chunk_of chunks.old.items) left)).filling.queue) }
-        ensures told { OnOk result (events.new ≡ (next_turn now (filling self.old queue.old events.old (map chunk_of chunks.old.items) left)).filling.emitted) }
+        ensures emitted { OnOk result (events.new ≡ (next_turn now (filling self.old queue.old events.old (map chunk_of chunks.old.items) left)).filling.emitted) }
         ensures chunks { OnOk result (map chunk_of chunks.new.items ≡ (next_turn now (filling self.old queue.old events.old (map chunk_of chunks.old.items) left)).filling.chunks) }
         ensures left { IfOk result (λ more. IfSome more (λ rest. rest ≡ (next_turn now (filling self.old queue.old events.old (map chunk_of chunks.old.items) left)).filling.left)) }
         ensures more { IfOk result (λ more. is_some more ≡ (next_turn now (filling self.old queue.old events.old (map chunk_of chunks.old.items) left)).is_more) }
@@ -601,7 +601,7 @@ fn discard_all(
 ) -> Result<(), AllocError>
     ensures items { OnOk result (outstanding.new ≡ record outstanding.old { items = record outstanding.old.items { discards = [] } }) }
     ensures queue { OnOk result (queue.new ≡ (discard_all outstanding.old.items.discards queue.old events.old).queue) }
-    ensures told { OnOk result (events.new ≡ (discard_all outstanding.old.items.discards queue.old events.old).emitted) }
+    ensures emitted { OnOk result (events.new ≡ (discard_all outstanding.old.items.discards queue.old events.old).emitted) }
     ensures rest { record outstanding.new { items = record outstanding.new.items { discards = [] } } ≡ record outstanding.old { items = record outstanding.old.items { discards = [] } } }
     ensures taken { PartlyTaken queue.old queue.new }
 {

@@ -17,5 +17,5 @@ quiet_below : {P : Type 0} (now n : ℕ) (x : Step P) → ((k : ℕ) → expired
 quiet_below now zero x h = refl
 quiet_below now (suc n) x h = ap (expire_at now n) (quiet_below now n x h) ∙ ap (λ o. given_up_if o x) (h n)
 
-pub expire_quiet : {P : Type 0} (now : ℕ) (s : Items) (told : Emitted P) → ((k : ℕ) → expired_at now k s ≡ None) → expire_outstanding now s told ≡ first_step s told
-expire_quiet now s told h = quiet_below now (length s.kept) (first_step s told) h
+pub expire_quiet : {P : Type 0} (now : ℕ) (s : Items) (emitted : Emitted P) → ((k : ℕ) → expired_at now k s ≡ None) → expire_outstanding now s emitted ≡ first_step s emitted
+expire_quiet now s emitted h = quiet_below now (length s.kept) (first_step s emitted) h

@@ -188,13 +188,13 @@ module _ (fast : Bool) where
 pub new_items_keep : (i : Item) (s : Items) → Keeps s (insert i s)
 new_items_keep i s = record { acked = refl; items = remain_before s.kept (i ∷ []) }
 
-pub sacks_keep : (cumulative : ℕ) (blocks : List GapAckBlock) (is_in_fast_recovery : Bool) (s : Items) (told : Emitted (List ℕ))
-    → Keeps (staying cumulative s) (receive_sack cumulative blocks is_in_fast_recovery s told).items
-sacks_keep cumulative blocks is_in_fast_recovery s told =
+pub sacks_keep : (cumulative : ℕ) (blocks : List GapAckBlock) (is_in_fast_recovery : Bool) (s : Items) (emitted : Emitted (List ℕ))
+    → Keeps (staying cumulative s) (receive_sack cumulative blocks is_in_fast_recovery s emitted).items
+sacks_keep cumulative blocks is_in_fast_recovery s emitted =
     let left = staying cumulative s in
-    let first : Step (List ℕ) = receive_sack_first cumulative blocks s told in
+    let first : Step (List ℕ) = receive_sack_first cumulative blocks s emitted in
     let settled-keeps : Keeps left first.items = record { acked = refl; items = remain_settled blocks 1 left.kept } in
-    keeps_on left first.items (receive_sack cumulative blocks is_in_fast_recovery s told).items settled-keeps (losses_keep false (not is_in_fast_recovery) (reported_below blocks left) first)
+    keeps_on left first.items (receive_sack cumulative blocks is_in_fast_recovery s emitted).items settled-keeps (losses_keep false (not is_in_fast_recovery) (reported_below blocks left) first)
 
 -- ---- a message that is given up
 

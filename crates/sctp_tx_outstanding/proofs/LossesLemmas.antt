@@ -37,9 +37,9 @@ alike_at at_once fast k x = alike_option at_once fast k x (slice_get x.items.kep
 one_more_lem : (k : ℕ) → suc k ≡ k + 1
 one_more_lem k = omega arith
 
-module _ {P : Type 0} (at_once fast : Bool) (k : ℕ) (s : Items) (told : Emitted P) (now : Outstanding) (later : Emitted P) where
+module _ {P : Type 0} (at_once fast : Bool) (k : ℕ) (s : Items) (emitted : Emitted P) (now : Outstanding) (later : Emitted P) where
   abbrev before : Step P
-  before = nack_below at_once fast k (first_step s told)
+  before = nack_below at_once fast k (first_step s emitted)
 
   abbrev there : Step P
   there = nack_at at_once fast k (first_step now.items later)
@@ -50,19 +50,19 @@ module _ {P : Type 0} (at_once fast : Bool) (k : ℕ) (s : Items) (told : Emitte
         ap (λ (n : Outstanding). nack_at at_once fast k (first_step n.items later)) is_now
         ∙ ap (λ (t : Emitted P). nack_at at_once fast k (first_step before.items t)) is_told
 
-    pub nack_next_items : (next : Outstanding) → next ≡ record now { items = there.items } → next ≡ record d { items = (nack_below at_once fast (k + 1) (first_step s told)).items }
+    pub nack_next_items : (next : Outstanding) → next ≡ record now { items = there.items } → next ≡ record d { items = (nack_below at_once fast (k + 1) (first_step s emitted)).items }
     nack_next_items next is_next =
         is_next ∙ ap (λ (n : Outstanding). record n { items = there.items }) is_now
         ∙ ap (λ (x : Step P). record d { items = x.items }) is_there
         ∙ ap (λ (z : Items). record d { items = z }) (sym (alike_at at_once fast k before).0)
-        ∙ ap (λ n. record d { items = (nack_below at_once fast n (first_step s told)).items }) (one_more_lem k)
+        ∙ ap (λ n. record d { items = (nack_below at_once fast n (first_step s emitted)).items }) (one_more_lem k)
 
-    pub nack_next_emitted : (next : Emitted P) → next ≡ there.emitted → next ≡ (nack_below at_once fast (k + 1) (first_step s told)).emitted
+    pub nack_next_emitted : (next : Emitted P) → next ≡ there.emitted → next ≡ (nack_below at_once fast (k + 1) (first_step s emitted)).emitted
     nack_next_emitted next is_next =
         is_next ∙ ap (λ (x : Step P). x.emitted) is_there ∙ sym (alike_at at_once fast k before).1
-        ∙ ap (λ n. (nack_below at_once fast n (first_step s told)).emitted) (one_more_lem k)
+        ∙ ap (λ n. (nack_below at_once fast n (first_step s emitted)).emitted) (one_more_lem k)
 
-    pub nack_next_lossy : (lossy lost next : Bool) → lossy ≡ before.is_lossy → lost ≡ there.is_lossy → next ≡ (lossy || lost) → next ≡ (nack_below at_once fast (k + 1) (first_step s told)).is_lossy
+    pub nack_next_lossy : (lossy lost next : Bool) → lossy ≡ before.is_lossy → lost ≡ there.is_lossy → next ≡ (lossy || lost) → next ≡ (nack_below at_once fast (k + 1) (first_step s emitted)).is_lossy
     nack_next_lossy lossy lost next is_lossy is_lost is_next =
         is_next ∙ ap (λ b. b || lost) is_lossy ∙ ap (λ b. before.is_lossy || b) (is_lost ∙ ap (λ (x : Step P). x.is_lossy) is_there)
-        ∙ sym (alike_at at_once fast k before).2 ∙ ap (λ n. (nack_below at_once fast n (first_step s told)).is_lossy) (one_more_lem k)
+        ∙ sym (alike_at at_once fast k before).2 ∙ ap (λ n. (nack_below at_once fast n (first_step s emitted)).is_lossy) (one_more_lem k)

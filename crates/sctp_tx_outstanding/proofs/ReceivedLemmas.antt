@@ -14,8 +14,8 @@ use Rattle.sctp_tx_outstanding.specs.Items.{change_at, when, lay_down}
 use Rattle.sctp_tx_outstanding.specs.Change.{apply_change, is_of_sack}
 use Rattle.sctp_tx_outstanding.specs.Sack.{highest_end, settle, ack_or_nack, newly_acked, is_newly_acked, below_highest}
 use Rattle.sctp_tx_outstanding.specs.Passes.{settle_from, acked_from, below_from, IsWalk, IsCursor}
-use Rattle.sctp_tx_outstanding.specs.Heard.{Rests, Rest, RestBelow, RestFrom, Agree, NoneOf, AreSame, IsReceived, Knows}
-use Rattle.sctp_tx_outstanding.specs.declared.heard.Heard.{Heard}
+use Rattle.sctp_tx_outstanding.specs.LastBlocks.{Rests, Rest, RestBelow, RestFrom, Agree, NoneOf, AreSame, IsReceived, Knows}
+use Rattle.sctp_tx_outstanding.specs.declared.last_blocks.LastBlocks.{LastBlocks}
 use Rattle.sctp_tx_outstanding.proofs.TotalsLemmas.{length_change}
 use Rattle.sctp_tx_outstanding.proofs.SackLemmas.{none_below, covered_first}
 
@@ -375,7 +375,7 @@ cursor_begin bs o h = record { within = omega arith; same = λ q le. refl; lowes
 
 -- ---- what is remembered
 
-pub knows_changed : (h : Heard) (x : Change) → is_of_sack x ≡ false → (k : ℕ) (is : List Item) → Knows h is → Knows h (change_at k (apply_change x) is)
+pub knows_changed : (h : LastBlocks) (x : Change) → is_of_sack x ≡ false → (k : ℕ) (is : List Item) → Knows h is → Knows h (change_at k (apply_change x) is)
 knows_changed h x e k is known = λ yes.
     let old : IsReceived h is = known yes in
     let same : length (change_at k (apply_change x) is) ≡ length is = length_change k (apply_change x) is in
@@ -387,7 +387,7 @@ length_more (x ∷ is) i =
     let ih : length (is ++ i ∷ []) ≡ length is + 1 = length_more is i in
     omega (arith, ih)
 
-pub knows_pushed : (h : Heard) (is : List Item) (i : Item) → is_acked i ≡ false → Knows h is → Knows h (is ++ i ∷ [])
+pub knows_pushed : (h : LastBlocks) (is : List Item) (i : Item) → is_acked i ≡ false → Knows h is → Knows h (is ++ i ∷ [])
 knows_pushed h is i e known = λ yes.
     let old : IsReceived h is = known yes in
     let more : length (is ++ i ∷ []) ≡ length is + 1 = length_more is i in
@@ -397,7 +397,7 @@ length_laid : (number : ℕ) (is : List Item) → length (map (lay_down number) 
 length_laid number [] = refl
 length_laid number (i ∷ is) = ap (λ n. suc n) (length_laid number is)
 
-pub knows_laid : (h : Heard) (number : ℕ) (is : List Item) → Knows h is → Knows h (map (lay_down number) is)
+pub knows_laid : (h : LastBlocks) (number : ℕ) (is : List Item) → Knows h is → Knows h (map (lay_down number) is)
 knows_laid h number is known = λ yes.
     let old : IsReceived h is = known yes in
     let same = length_laid number is in

@@ -284,12 +284,12 @@ module _ (before : List GivenUp) where
 
   -- ---- SACKs
 
-  pub sacks_emit_event_once : (cumulative : ℕ) (blocks : List GapAckBlock) (is_in_fast_recovery : Bool) (s : Items) (told : Emitted (List ℕ)) → RecordedOnce before s told.given_up
-      → RecordedOnce before (receive_sack cumulative blocks is_in_fast_recovery s told).items (receive_sack cumulative blocks is_in_fast_recovery s told).emitted.given_up
-  sacks_emit_event_once cumulative blocks is_in_fast_recovery s told h =
+  pub sacks_emit_event_once : (cumulative : ℕ) (blocks : List GapAckBlock) (is_in_fast_recovery : Bool) (s : Items) (emitted : Emitted (List ℕ)) → RecordedOnce before s emitted.given_up
+      → RecordedOnce before (receive_sack cumulative blocks is_in_fast_recovery s emitted).items (receive_sack cumulative blocks is_in_fast_recovery s emitted).emitted.given_up
+  sacks_emit_event_once cumulative blocks is_in_fast_recovery s emitted h =
       let left = staying cumulative s in
-      let x : Step (List ℕ) = receive_sack_first cumulative blocks s told in
-      let gs = before ++ told.given_up in
+      let x : Step (List ℕ) = receive_sack_first cumulative blocks s emitted in
+      let gs = before ++ emitted.given_up in
       let a : RecordedOnce before x.items x.emitted.given_up =
       record { once = h.once; exact = emitted_settled gs blocks 1 left.kept (emitted_behind gs (leaving cumulative s) s.kept h.exact) } in
       losses_emit_event_once false (not is_in_fast_recovery) (reported_below blocks left) x a

@@ -11,7 +11,7 @@ use Rattle.sctp_tx_outstanding.specs.Item.{Item, is_in_flight, ack, nack, is_los
 use Rattle.sctp_tx_outstanding.specs.Items.{Items, Outstanding, change_at, last_of}
 use Rattle.sctp_tx_outstanding.specs.Losses.{Step, first_step, placeholder, placeholders, given_up, gives_up, loses, change_items, nack_item, nack_at, nack_below}
 use Rattle.sctp_tx_outstanding.specs.Passes.{IsWalk, AreCovered}
-use Rattle.sctp_tx_outstanding.specs.Heard.{Rests, Rest}
+use Rattle.sctp_tx_outstanding.specs.LastBlocks.{Rests, Rest}
 use Rattle.sctp_tx_outstanding.proofs.ReceivedLemmas.{still, state_of_lem, nack_still, rest_changed, rest_laid, cursor_later, cursor_begin}
 use Rattle.sctp_tx_outstanding.proofs.LossesLemmas.{or_false}
 
@@ -131,19 +131,19 @@ module _ {P : Type 0} (fast : Bool) (bs : List GapAckBlock) where
 
 -- ---- the walk goes on behind covered items
 
-module _ {P : Type 0} (fast : Bool) (bs : List GapAckBlock) (s : Items) (told : Emitted P) (place next : ℕ) (le : place ≤ next)
-    (rest : Rest bs 1 (nack_below false fast place (first_step s told)).items.kept) (covered : AreCovered bs place next) where
-  same : nack_below false fast next (first_step s told) ≡ nack_below false fast place (first_step s told)
-  same = passed fast bs (first_step s told) place next le rest covered
+module _ {P : Type 0} (fast : Bool) (bs : List GapAckBlock) (s : Items) (emitted : Emitted P) (place next : ℕ) (le : place ≤ next)
+    (rest : Rest bs 1 (nack_below false fast place (first_step s emitted)).items.kept) (covered : AreCovered bs place next) where
+  same : nack_below false fast next (first_step s emitted) ≡ nack_below false fast place (first_step s emitted)
+  same = passed fast bs (first_step s emitted) place next le rest covered
 
-  pub passed_items : (d now : Outstanding) → now ≡ record d { items = (nack_below false fast place (first_step s told)).items } → now ≡ record d { items = (nack_below false fast next (first_step s told)).items }
+  pub passed_items : (d now : Outstanding) → now ≡ record d { items = (nack_below false fast place (first_step s emitted)).items } → now ≡ record d { items = (nack_below false fast next (first_step s emitted)).items }
   passed_items d now is_now = is_now ∙ ap (λ (y : Step P). record d { items = y.items }) (sym same)
 
-  pub passed_emitted : (now : Emitted P) → now ≡ (nack_below false fast place (first_step s told)).emitted → now ≡ (nack_below false fast next (first_step s told)).emitted
+  pub passed_emitted : (now : Emitted P) → now ≡ (nack_below false fast place (first_step s emitted)).emitted → now ≡ (nack_below false fast next (first_step s emitted)).emitted
   passed_emitted now is_now = is_now ∙ ap (λ (y : Step P). y.emitted) (sym same)
 
-  pub passed_lossy : (now : Bool) → now ≡ (nack_below false fast place (first_step s told)).is_lossy → now ≡ (nack_below false fast next (first_step s told)).is_lossy
+  pub passed_lossy : (now : Bool) → now ≡ (nack_below false fast place (first_step s emitted)).is_lossy → now ≡ (nack_below false fast next (first_step s emitted)).is_lossy
   passed_lossy now is_now = is_now ∙ ap (λ (y : Step P). y.is_lossy) (sym same)
 
-  pub passed_rest : Rest bs 1 (nack_below false fast (next + 1) (first_step s told)).items.kept
-  passed_rest = rest_next fast bs next (first_step s told) (subst (λ (y : Step P). Rest bs 1 y.items.kept) (sym same) rest)
+  pub passed_rest : Rest bs 1 (nack_below false fast (next + 1) (first_step s emitted)).items.kept
+  passed_rest = rest_next fast bs next (first_step s emitted) (subst (λ (y : Step P). Rest bs 1 y.items.kept) (sym same) rest)

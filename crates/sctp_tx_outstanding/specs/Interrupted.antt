@@ -12,17 +12,17 @@ pub record Stands {P : Type 0} (first : Outstanding) (x : Step P) (after : Outst
   pub events : later ≡ x.emitted
 
 abbrev pub SomeNacked : {P : Type 0} → (at_once fast : Bool) → Outstanding → Emitted P → Outstanding → Emitted P → Type 0
-SomeNacked at_once fast d told after later = (count : ℕ) × Stands d (nack_below at_once fast count (first_step d.items told)) after later
+SomeNacked at_once fast d emitted after later = (count : ℕ) × Stands d (nack_below at_once fast count (first_step d.items emitted)) after later
 
 abbrev pub SomeExpired : {P : Type 0} → ℕ → Outstanding → Emitted P → Outstanding → Emitted P → Type 0
-SomeExpired now d told after later = (count : ℕ) × Stands d (expire_below now count (first_step d.items told)) after later
+SomeExpired now d emitted after later = (count : ℕ) × Stands d (expire_below now count (first_step d.items emitted)) after later
 
 -- all is as it was
-pub record Same {P : Type 0} (first : Outstanding) (told : Emitted P) (after : Outstanding) (later : Emitted P) : Type 0 where
+pub record Same {P : Type 0} (first : Outstanding) (emitted : Emitted P) (after : Outstanding) (later : Emitted P) : Type 0 where
   pub items : after ≡ first
-  pub events : later ≡ told
+  pub events : later ≡ emitted
 
 -- a SACK is taken, but not all of the missing reports
 abbrev pub SomeReceived : {P : Type 0} → ℕ → List GapAckBlock → (is_in_fast_recovery : Bool) → Outstanding → Emitted P → Outstanding → Emitted P → Type 0
-SomeReceived number blocks is_in_fast_recovery d told after later =
-    (count : ℕ) × Stands d (nack_below false (not is_in_fast_recovery) count (receive_sack_first number blocks d.items told)) after later
+SomeReceived number blocks is_in_fast_recovery d emitted after later =
+    (count : ℕ) × Stands d (nack_below false (not is_in_fast_recovery) count (receive_sack_first number blocks d.items emitted)) after later

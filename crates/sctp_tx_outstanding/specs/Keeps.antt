@@ -41,8 +41,8 @@ NewItemsKeep = (i : Item) (s : Items) → Keeps s (insert i s)
 
 -- a SACK lets the items up to its cumulative TSN leave, and no other
 abbrev pub SacksKeep : Type 0
-SacksKeep = (cumulative : ℕ) (blocks : List GapAckBlock) (is_in_fast_recovery : Bool) (s : Items) (told : Emitted (List ℕ))
-    → Keeps (staying cumulative s) (receive_sack cumulative blocks is_in_fast_recovery s told).items
+SacksKeep = (cumulative : ℕ) (blocks : List GapAckBlock) (is_in_fast_recovery : Bool) (s : Items) (emitted : Emitted (List ℕ))
+    → Keeps (staying cumulative s) (receive_sack cumulative blocks is_in_fast_recovery s emitted).items
 
 -- a fragment of this message is given up
 abbrev pub is_given_up_in : ℕ → Item → Bool

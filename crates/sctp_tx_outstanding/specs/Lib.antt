@@ -3,7 +3,7 @@ pub mod Change
 pub mod Entries
 pub mod Forward
 pub mod Handover
-pub mod Heard
+pub mod LastBlocks
 pub mod Interrupted
 pub mod Item
 pub mod Items

@@ -85,11 +85,11 @@ nack_below at_once fast zero x = x
 nack_below at_once fast (suc n) x = nack_at at_once fast n (nack_below at_once fast n x)
 
 abbrev pub first_step : {P : Type 0} → Items → Emitted P → Step P
-first_step s told = record { items = s; emitted = told; is_lossy = false }
+first_step s emitted = record { items = s; emitted = emitted; is_lossy = false }
 
 -- a timeout: all that is in flight or missing is lost
 abbrev pub nack_all : {P : Type 0} → Items → Emitted P → Step P
-nack_all s told = nack_below true false (length s.kept) (first_step s told)
+nack_all s emitted = nack_below true false (length s.kept) (first_step s emitted)
 
 -- ---- lifetimes
 
@@ -120,4 +120,4 @@ expire_below now zero x = x
 expire_below now (suc n) x = expire_at now n (expire_below now n x)
 
 abbrev pub expire_outstanding : {P : Type 0} → ℕ → Items → Emitted P → Step P
-expire_outstanding now s told = expire_below now (length s.kept) (first_step s told)
+expire_outstanding now s emitted = expire_below now (length s.kept) (first_step s emitted)

@@ -48,8 +48,8 @@ LifetimesRecordOnce = (taken : List GivenUp) (now count : ℕ) (x : Step (List �
 
 abbrev pub SacksRecordOnce : Type 0
 SacksRecordOnce =
-    (taken : List GivenUp) (cumulative : ℕ) (blocks : List GapAckBlock) (is_in_fast_recovery : Bool) (s : Items) (told : Emitted (List ℕ)) → RecordedOnce taken s told.given_up
-    → RecordedOnce taken (receive_sack cumulative blocks is_in_fast_recovery s told).items (receive_sack cumulative blocks is_in_fast_recovery s told).emitted.given_up
+    (taken : List GivenUp) (cumulative : ℕ) (blocks : List GapAckBlock) (is_in_fast_recovery : Bool) (s : Items) (emitted : Emitted (List ℕ)) → RecordedOnce taken s emitted.given_up
+    → RecordedOnce taken (receive_sack cumulative blocks is_in_fast_recovery s emitted).items (receive_sack cumulative blocks is_in_fast_recovery s emitted).emitted.given_up
 
 abbrev pub ResendingRecordsOnce : Type 0
 ResendingRecordsOnce = (taken gone : List GivenUp) (fast : Bool) (count : ℕ) (x : Resent) → RecordedOnce taken x.outstanding.items gone → RecordedOnce taken (resent_below fast count x).outstanding.items gone

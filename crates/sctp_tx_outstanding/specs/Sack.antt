@@ -116,12 +116,12 @@ open_size m (Some i) = if is_open i then Some (chunk_size m i) else None
 
 -- the items that stay, as the blocks say, with what was emitted of those that left
 abbrev pub receive_sack_first : {P : Type 0} → (cumulative : ℕ) → List GapAckBlock → Items → Emitted P → Step P
-receive_sack_first cumulative blocks s told = first_step (acked_by blocks (staying cumulative s)) (emit_events (reports (take (leaving cumulative s) s.kept)) told)
+receive_sack_first cumulative blocks s emitted = first_step (acked_by blocks (staying cumulative s)) (emit_events (reports (take (leaving cumulative s) s.kept)) emitted)
 
 -- and after the missing reports: items below the highest one newly acknowledged get one
 abbrev pub receive_sack : {P : Type 0} → (cumulative : ℕ) → List GapAckBlock → (is_in_fast_recovery : Bool) → Items → Emitted P → Step P
-receive_sack cumulative blocks is_in_fast_recovery s told =
-    nack_below false (not is_in_fast_recovery) (reported_below blocks (staying cumulative s)) (receive_sack_first cumulative blocks s told)
+receive_sack cumulative blocks is_in_fast_recovery s emitted =
+    nack_below false (not is_in_fast_recovery) (reported_below blocks (staying cumulative s)) (receive_sack_first cumulative blocks s emitted)
 
 -- the bytes newly acknowledged
 abbrev pub acked_bytes : (cumulative : ℕ) → List GapAckBlock → Items → ℕ

@@ -7,7 +7,7 @@ ghost use Rattle.sctp_tx_outstanding.specs.Items.{change_at, lay_down, is_of_at,
 ghost use Rattle.sctp_tx_outstanding.specs.Totals.{AreTotals, Exchanges};
 ghost use Rattle.sctp_tx_outstanding.specs.Losses.{expires, placeholder};
 ghost use Rattle.sctp_tx_outstanding.specs.Views.{last_tree};
-ghost use Rattle.sctp_tx_outstanding.specs.Heard.{Rest, RestBelow, RestFrom};
+ghost use Rattle.sctp_tx_outstanding.specs.LastBlocks.{Rest, RestBelow, RestFrom};
 ghost use Rattle.sctp_tx_outstanding.specs.Sack.{reports};
 ghost use Rattle.sctp_tx_outstanding.specs.Messages.{Finds};
 ghost use Rattle.sctp_tx_outstanding.specs.Waiting.{HasSize, Lists, NoneWaits};
@@ -15,11 +15,11 @@ ghost use Rattle.sctp_state.specs.Events.{emit_events, Grown};
 
 mod handover;
 
-use crate::heard::{Heard, alike, reach};
+use crate::emitting::emit_left;
 use crate::item::{Item, header_size};
+use crate::last_blocks::{LastBlocks, alike, reach};
 use crate::messages::Messages;
 use crate::sack::highest_end;
-use crate::telling::tell_left;
 use crate::totals::Totals;
 use crate::waiting::Waiting;
 use sctp_chunk::{Data, GapAckBlock, are_runs};
@@ -158,7 +158,7 @@ fn earliest_of(items: &VecDeque<Item>) -> u128
 }
 
 /// Emits what is due as the first items leave.
-fn tell_first(items: &VecDeque<Item>, count: usize, events: &mut Events) -> Result<(), AllocError>
+fn emit_first(items: &VecDeque<Item>, count: usize, events: &mut Events) -> Result<(), AllocError>
     ensures ok { OnOk result (events.new ≡ emit_events (reports (take count items.now.items)) events.old) }
     ensures err { OnErr result (Grown events.old events.new) }
 {
@@ -167,7 +167,7 @@ fn tell_first(items: &VecDeque<Item>, count: usize, events: &mut Events) -> Resu
         if left == 0 {
             return Ok(());
         }
-        tell_left(events, item)?;
+        emit_left(events, item)?;
         left -= 1;
     }
     Ok(())
@@ -372,7 +372,7 @@ pub struct Kept {
     is_interleaved: bool,
     items: VecDeque<Item>,
     totals: Totals,
-    heard: Heard,
+    last_blocks: LastBlocks,
     waiting: Waiting,
     messages: Messages,
 }
@@ -380,7 +380,7 @@ pub struct Kept {
 impl Model for Kept {
     ghost use Rattle.sctp_tx_outstanding.specs.Items.{Kept};
     ghost use Rattle.sctp_tx_outstanding.specs.Totals.{AreTotals};
-    ghost use Rattle.sctp_tx_outstanding.specs.Heard.{Knows};
+    ghost use Rattle.sctp_tx_outstanding.specs.LastBlocks.{Knows};
     ghost use Rattle.sctp_tx_outstanding.specs.Waiting.{Lists};
     ghost use Rattle.sctp_tx_outstanding.specs.Messages.{Finds};
 
@@ -388,7 +388,7 @@ impl Model for Kept {
 
     ghost view = { λ k. record { is_interleaved = k.is_interleaved; items = k.items.items } };
 
-    ghost invariant = { λ k. AreTotals k.is_interleaved k.items.items k.totals × (Knows k.heard k.items.items × (Lists k.waiting k.items.items × Finds k.messages k.items.items)) };
+    ghost invariant = { λ k. AreTotals k.is_interleaved k.items.items k.totals × (Knows k.last_blocks k.items.items × (Lists k.waiting k.items.items × Finds k.messages k.items.items)) };
 }
 
 impl Kept {
@@ -404,7 +404,7 @@ impl Kept {
             is_interleaved,
             items: VecDeque::new(alloc),
             totals: Totals::nothing(),
-            heard: Heard::new(alloc),
+            last_blocks: LastBlocks::new(alloc),
             waiting: Waiting::new(alloc),
             messages: Messages::new(alloc),
         }
@@ -483,13 +483,13 @@ impl Kept {
     pub fn front_as_in(&self, blocks: &[GapAckBlock]) -> usize
         ensures { RestBelow blocks.now result 1 self.now.items }
     {
-        if !self.heard.is_known {
+        if !self.last_blocks.is_known {
             return 0;
         }
         if !are_runs(0, blocks) {
             return 0;
         }
-        alike(&self.heard.runs, self.heard.offset, blocks)
+        alike(&self.last_blocks.runs, self.last_blocks.offset, blocks)
     }
 
     /// Behind how many of the first items all are already as these blocks say.
@@ -498,10 +498,10 @@ impl Kept {
         ensures within { result ≤ length self.now.items }
     {
         let len = self.items.len();
-        if !self.heard.is_known {
+        if !self.last_blocks.is_known {
             return len;
         }
-        let end = reach(&self.heard.runs, self.heard.offset, blocks);
+        let end = reach(&self.last_blocks.runs, self.last_blocks.offset, blocks);
         if end < len { end } else { len }
     }
 
@@ -511,7 +511,7 @@ impl Kept {
         ensures { self.new ≡ self.old }
     {
         let is_within = highest_end(blocks) as usize <= self.items.len();
-        self.heard.hear(blocks, is_within);
+        self.last_blocks.remember_blocks(blocks, is_within);
     }
 
     /// Whether an item that is missing or lost may have expired.
@@ -540,7 +540,7 @@ impl Kept {
             place,
             how,
         );
-        self.heard.see(how);
+        self.last_blocks.see(how);
         self.waiting.count(self.totals.queued);
     }
 
@@ -559,7 +559,7 @@ impl Kept {
             self.is_interleaved,
             item,
         )?;
-        self.heard.take(acked);
+        self.last_blocks.take(acked);
         self.messages.add(message_id, place);
         Ok(())
     }
@@ -570,7 +570,7 @@ impl Kept {
         ensures none { IfNone result (self.old.items ≡ []) }
         ensures rest { self.new ≡ record self.old { items = drop 1 self.old.items } }
     {
-        self.heard.pass();
+        self.last_blocks.pass();
         leave_first(&self.items, &mut self.messages);
         pop_item(
             &mut self.items,
@@ -581,11 +581,11 @@ impl Kept {
     }
 
     /// Emits what is due as the first items leave.
-    pub fn tell_leaving(&self, count: usize, events: &mut Events) -> Result<(), AllocError>
+    pub fn emit_leaving(&self, count: usize, events: &mut Events) -> Result<(), AllocError>
         ensures ok { OnOk result (events.new ≡ emit_events (reports (take count self.now.items)) events.old) }
         ensures err { OnErr result (Grown events.old events.new) }
     {
-        tell_first(&self.items, count, events)
+        emit_first(&self.items, count, events)
     }
 
     /// The last kept fragment of a message.

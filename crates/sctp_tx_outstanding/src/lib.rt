@@ -1,15 +1,15 @@
 //! Fragments that have their TSN and wait for the peer's acknowledgement.
 #![tactic(auto)]
 
-mod heard;
+pub mod emitting;
 pub mod item;
 pub mod kept;
+mod last_blocks;
 pub mod laws;
 mod messages;
 pub mod outstanding_data;
 pub mod sack;
 pub mod skips;
-pub mod telling;
 pub mod totals;
 mod waiting;
 

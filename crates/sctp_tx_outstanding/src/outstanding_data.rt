@@ -10,7 +10,7 @@ ghost use Rattle.sctp_state.specs.Events.{give_up, emit_events};
 ghost use Rattle.sctp_tx_outstanding.specs.Views.{discard_of, point_of};
 ghost use Rattle.sctp_tx_outstanding.specs.Losses.{loss_of};
 ghost use Rattle.sctp_tx_outstanding.specs.Items.{first_sent, insert, begin_reset, begun_at};
-ghost use Rattle.sctp_tx_outstanding.specs.Heard.{Rest};
+ghost use Rattle.sctp_tx_outstanding.specs.LastBlocks.{Rest};
 ghost use Rattle.sctp_tx_outstanding.specs.Interrupted.{Same, SomeNacked, SomeExpired, SomeReceived};
 ghost use Rattle.sctp_tx_outstanding.specs.Forward.{is_forward_due, entry_at, stops, passes_of, forward_point};
 ghost use Rattle.std.specs.List.{list_any};
@@ -289,7 +289,7 @@ impl OutstandingData {
         events: &mut Events,
     ) -> Result<(), AllocError>
         ensures ok { OnOk result (self.new ≡ record self.old { items = abandon_message message_id.0 self.old.items }) }
-        ensures told { OnOk result (events.new ≡ give_up message_id.0 cause events.old) }
+        ensures emitted { OnOk result (events.new ≡ give_up message_id.0 cause events.old) }
         ensures err { OnErr result (self.new ≡ self.old) }
         ensures silent { OnErr result (events.new ≡ events.old) }
     {
@@ -329,7 +329,7 @@ impl OutstandingData {
         events: &mut Events,
     ) -> Result<bool, AllocError>
         ensures items { OnOk result (self.new ≡ record self.old { items = (nack_at at_once fast place (first_step self.old.items events.old)).items }) }
-        ensures told { OnOk result (events.new ≡ (nack_at at_once fast place (first_step self.old.items events.old)).emitted) }
+        ensures emitted { OnOk result (events.new ≡ (nack_at at_once fast place (first_step self.old.items events.old)).emitted) }
         ensures lossy { IfOk result (λ is_lossy. is_lossy ≡ (nack_at at_once fast place (first_step self.old.items events.old)).is_lossy) }
         ensures err { OnErr result (self.new ≡ self.old) }
         ensures silent { OnErr result (events.new ≡ events.old) }
@@ -355,7 +355,7 @@ impl OutstandingData {
         events: &mut Events,
     ) -> Result<bool, AllocError>
         ensures items { OnOk result (self.new ≡ record self.old { items = (nack_below at_once fast count (first_step self.old.items events.old)).items }) }
-        ensures told { OnOk result (events.new ≡ (nack_below at_once fast count (first_step self.old.items events.old)).emitted) }
+        ensures emitted { OnOk result (events.new ≡ (nack_below at_once fast count (first_step self.old.items events.old)).emitted) }
         ensures lossy { IfOk result (λ is_lossy. is_lossy ≡ (nack_below at_once fast count (first_step self.old.items events.old)).is_lossy) }
         ensures err { OnErr result (SomeNacked at_once fast self.old events.old self.new events.new) }
     {
@@ -377,7 +377,7 @@ impl OutstandingData {
     ) -> Result<bool, AllocError>
         requires { Rest blocks.now 1 self.old.items.kept }
         ensures items { OnOk result (self.new ≡ record self.old { items = (nack_below false fast count (first_step self.old.items events.old)).items }) }
-        ensures told { OnOk result (events.new ≡ (nack_below false fast count (first_step self.old.items events.old)).emitted) }
+        ensures emitted { OnOk result (events.new ≡ (nack_below false fast count (first_step self.old.items events.old)).emitted) }
         ensures lossy { IfOk result (λ is_lossy. is_lossy ≡ (nack_below false fast count (first_step self.old.items events.old)).is_lossy) }
         ensures err { OnErr result (SomeNacked false fast self.old events.old self.new events.new) }
     {
@@ -403,7 +403,7 @@ impl OutstandingData {
     /// memory this is done for some of the first items alone.
     pub fn nack_all(&mut self, events: &mut Events) -> Result<(), AllocError>
         ensures items { OnOk result (self.new ≡ record self.old { items = (nack_all self.old.items events.old).items }) }
-        ensures told { OnOk result (events.new ≡ (nack_all self.old.items events.old).emitted) }
+        ensures emitted { OnOk result (events.new ≡ (nack_all self.old.items events.old).emitted) }
         ensures err { OnErr result (SomeNacked true false self.old events.old self.new events.new) }
     {
         let count = self.kept.len();
@@ -437,7 +437,7 @@ impl OutstandingData {
         events: &mut Events,
     ) -> Result<(), AllocError>
         ensures items { OnOk result (self.new ≡ record self.old { items = (expire_at now place (first_step self.old.items events.old)).items }) }
-        ensures told { OnOk result (events.new ≡ (expire_at now place (first_step self.old.items events.old)).emitted) }
+        ensures emitted { OnOk result (events.new ≡ (expire_at now place (first_step self.old.items events.old)).emitted) }
         ensures err { OnErr result (self.new ≡ self.old) }
         ensures silent { OnErr result (events.new ≡ events.old) }
     {
@@ -455,7 +455,7 @@ impl OutstandingData {
         events: &mut Events,
     ) -> Result<(), AllocError>
         ensures items { OnOk result (self.new ≡ record self.old { items = (expire_outstanding now self.old.items events.old).items }) }
-        ensures told { OnOk result (events.new ≡ (expire_outstanding now self.old.items events.old).emitted) }
+        ensures emitted { OnOk result (events.new ≡ (expire_outstanding now self.old.items events.old).emitted) }
         ensures err { OnErr result (SomeExpired now self.old events.old self.new events.new) }
     {
         if !self.may_expire(now) {
@@ -517,14 +517,14 @@ impl OutstandingData {
         requires onward { self.old.items.acked ≤ number }
         requires small { number < 2 ^ 63 }
         ensures items { OnOk result (self.new ≡ record self.old { items = staying number self.old.items }) }
-        ensures told { OnOk result (events.new ≡ emit_events (reports (take (leaving number self.old.items) self.old.items.kept)) events.old) }
+        ensures emitted { OnOk result (events.new ≡ emit_events (reports (take (leaving number self.old.items) self.old.items.kept)) events.old) }
         ensures bytes { IfOk result (λ bytes. bytes ≡ min (left_bytes number self.old.items) (2 ^ 64 - 1)) }
         ensures err { OnErr result (self.new ≡ self.old) }
         ensures silent { OnErr result (events.new ≡ events.old) }
     {
         let count = (number - self.acked) as usize;
         let mark = events.mark();
-        if self.kept.tell_leaving(count, events).is_err() {
+        if self.kept.emit_leaving(count, events).is_err() {
             events.roll_back(mark);
             return Err(AllocError);
         }
@@ -548,7 +548,7 @@ impl OutstandingData {
     ) -> Result<AckInfo, AllocError>
         requires valid { IsTrue (is_in_range (number_of self.old cumulative_tsn.0) self.old.items) }
         ensures items { let n = number_of self.old cumulative_tsn.0 in OnOk result (self.new ≡ record self.old { items = (receive_sack n blocks.now is_in_fast_recovery self.old.items events.old).items }) }
-        ensures told { let n = number_of self.old cumulative_tsn.0 in OnOk result (events.new ≡ (receive_sack n blocks.now is_in_fast_recovery self.old.items events.old).emitted) }
+        ensures emitted { let n = number_of self.old cumulative_tsn.0 in OnOk result (events.new ≡ (receive_sack n blocks.now is_in_fast_recovery self.old.items events.old).emitted) }
         ensures lossy { let n = number_of self.old cumulative_tsn.0 in IfOk result (λ info. info.has_packet_loss ≡ (receive_sack n blocks.now is_in_fast_recovery self.old.items events.old).is_lossy) }
         ensures bytes { let n = number_of self.old cumulative_tsn.0 in IfOk result (λ info. info.bytes_acked ≡ min (acked_bytes n blocks.now self.old.items) (2 ^ 64 - 1)) }
         ensures err { OnErr result (Same self.old events.old self.new events.new ⊎ SomeReceived (number_of self.old cumulative_tsn.0) blocks.now is_in_fast_recovery self.old events.old self.new events.new) }

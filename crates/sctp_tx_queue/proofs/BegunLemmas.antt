@@ -49,8 +49,8 @@ front_begun id size number n (m ∷ rest) h = (made_of id size n m, (refl, (go (
     go true h = inside m.number number h
     go false h = absurd (differ number h)
 
-pub goes_on : {P : Type 0} (now size : ℕ) (q : Queue) (told : Emitted P) → GoesOn q (produce now size q told).made
-goes_on {P} now size q told id number b = (found.0, (all ∙ found.1.0, found.1.1))
+pub goes_on : {P : Type 0} (now size : ℕ) (q : Queue) (emitted : Emitted P) → GoesOn q (produce now size q emitted).made
+goes_on {P} now size q emitted id number b = (found.0, (all ∙ found.1.0, found.1.1))
   where
     s : Stream
     s = stream id q.streams
@@ -61,7 +61,7 @@ goes_on {P} now size q told id number b = (found.0, (all ∙ found.1.0, found.1.
     kept : streams_without_stale now id q.streams ≡ q.streams
     kept = ap (λ (ms : List Queued). let t : Stream = record s { messages = ms } in put_stream id t q.streams) (fresh_begun now number s.messages b.message) ∙ put_itself id q.streams
 
-    made : (turn now id size q told).made ≡ next_fragment id size s
+    made : (turn now id size q emitted).made ≡ next_fragment id size s
     made = ap (λ ss. next_fragment id size (stream id ss)) kept
 
     next : next_stream q ≡ Some id
@@ -70,10 +70,10 @@ goes_on {P} now size q told id number b = (found.0, (all ∙ found.1.0, found.1.
     one_more : length q.scheduler.times + 2 ≡ suc (length q.scheduler.times + 1)
     one_more = omega arith
 
-    all : (produce now size q told).made ≡ next_fragment id size s
+    all : (produce now size q emitted).made ≡ next_fragment id size s
     all =
-        ap (λ k. (produce_within k now size q told).made) one_more
-        ∙ ap (λ (t : Turn P). t.made) (gives (length q.scheduler.times + 1) now size id q told found.0 next (sym (made ∙ found.1.0))) ∙ made
+        ap (λ k. (produce_within k now size q emitted).made) one_more
+        ∙ ap (λ (t : Turn P). t.made) (gives (length q.scheduler.times + 1) now size id q emitted found.0 next (sym (made ∙ found.1.0))) ∙ made
 
 -- ---- a fragment that isn't an end begins its message
 
@@ -89,9 +89,9 @@ of_stream : (id size : ℕ) (n : MessageNumbers) (ms : List Queued) (p : Produce
 of_stream id size n [] p made = absurd (differ p made)
 of_stream id size n (m ∷ rest) p made = ap (λ (x : Produced). x.fragment.stream_id) (inside _ _ made)
 
-begins_turn : {P : Type 0} (now id size : ℕ) (q : Queue) (told : Emitted P) (p : Produced) → 0 < size → (turn now id size q told).made ≡ Some p → q.scheduler.is_interleaved ≡ false → p.fragment.is_end ≡ false
-    → IsBegun p.fragment.stream_id p.number (turn now id size q told).queue
-begins_turn now id size q told p some made mode e = subst (λ i. IsBegun i p.number (turn now id size q told).queue) (of_stream id size (front_numbers s.messages s) s.messages p made) (record { begun = begun; message = message })
+begins_turn : {P : Type 0} (now id size : ℕ) (q : Queue) (emitted : Emitted P) (p : Produced) → 0 < size → (turn now id size q emitted).made ≡ Some p → q.scheduler.is_interleaved ≡ false → p.fragment.is_end ≡ false
+    → IsBegun p.fragment.stream_id p.number (turn now id size q emitted).queue
+begins_turn now id size q emitted p some made mode e = subst (λ i. IsBegun i p.number (turn now id size q emitted).queue) (of_stream id size (front_numbers s.messages s) s.messages p made) (record { begun = begun; message = message })
   where
     ss : Streams
     ss = streams_without_stale now id q.streams
@@ -113,33 +113,33 @@ begins_turn now id size q told p some made mode e = subst (λ i. IsBegun i p.num
         ap (λ (t : Stream). begun_number t.messages) (stream_put id (advance size s) ss (there (lookup (is_at (nat_cmp id)) ss.entries) refl))
         ∙ unended id size (front_numbers s.messages s) s.messages p some made e
 
-same_mode : {P : Type 0} (now id size : ℕ) (q : Queue) (told : Emitted P) → (turn now id size q told).made ≡ None → (turn now id size q told).queue.scheduler.is_interleaved ≡ q.scheduler.is_interleaved
-same_mode now id size q told none =
+same_mode : {P : Type 0} (now id size : ℕ) (q : Queue) (emitted : Emitted P) → (turn now id size q emitted).made ≡ None → (turn now id size q emitted).queue.scheduler.is_interleaved ≡ q.scheduler.is_interleaved
+same_mode now id size q emitted none =
     let ss = streams_after id size (streams_without_stale now id q.streams) in
     ap (λ (o : Option Produced). (in_line id (sendable (stream id ss)) (stream id ss).priority o q.scheduler).is_interleaved) none
 
-begins_within : {P : Type 0} (turns now size : ℕ) (q : Queue) (told : Emitted P) → 0 < size → Begins q.scheduler.is_interleaved (produce_within turns now size q told).made (produce_within turns now size q told).queue
-begins_within zero now size q told some p made mode e = absurd (differ p made)
-begins_within {P} (suc m) now size q told some p made mode e = go (next_stream q) refl (λ r t. begins_within m now size r t some p)
+begins_within : {P : Type 0} (turns now size : ℕ) (q : Queue) (emitted : Emitted P) → 0 < size → Begins q.scheduler.is_interleaved (produce_within turns now size q emitted).made (produce_within turns now size q emitted).queue
+begins_within zero now size q emitted some p made mode e = absurd (differ p made)
+begins_within {P} (suc m) now size q emitted some p made mode e = go (next_stream q) refl (λ r t. begins_within m now size r t some p)
   where
     Rest : Type 0
     Rest = (r : Queue) (t : Emitted P) → (produce_within m now size r t).made ≡ Some p → r.scheduler.is_interleaved ≡ false → p.fragment.is_end ≡ false → IsBegun p.fragment.stream_id p.number (produce_within m now size r t).queue
 
-    go : (o : Option ℕ) → next_stream q ≡ o → Rest → IsBegun p.fragment.stream_id p.number (produce_within (suc m) now size q told).queue
-    go None h rest = absurd (differ p (sym (ap (λ (t : Turn P). t.made) (idles m now size q told h)) ∙ made))
-    go (Some id) h rest = pick (turn now id size q told).made refl
+    go : (o : Option ℕ) → next_stream q ≡ o → Rest → IsBegun p.fragment.stream_id p.number (produce_within (suc m) now size q emitted).queue
+    go None h rest = absurd (differ p (sym (ap (λ (t : Turn P). t.made) (idles m now size q emitted h)) ∙ made))
+    go (Some id) h rest = pick (turn now id size q emitted).made refl
       where
-        pick : (o : Option Produced) → o ≡ (turn now id size q told).made → IsBegun p.fragment.stream_id p.number (produce_within (suc m) now size q told).queue
+        pick : (o : Option Produced) → o ≡ (turn now id size q emitted).made → IsBegun p.fragment.stream_id p.number (produce_within (suc m) now size q emitted).queue
         pick (Some x) is =
-            let t = gives m now size id q told x h is in
-            subst (λ (u : Turn P). IsBegun p.fragment.stream_id p.number u.queue) (sym t) (begins_turn now id size q told p some (sym (ap (λ (u : Turn P). u.made) t) ∙ made) mode e)
+            let t = gives m now size id q emitted x h is in
+            subst (λ (u : Turn P). IsBegun p.fragment.stream_id p.number u.queue) (sym t) (begins_turn now id size q emitted p some (sym (ap (λ (u : Turn P). u.made) t) ∙ made) mode e)
         pick None is =
-            let t = turned m now size id q told h is in
+            let t = turned m now size id q emitted h is in
             subst (λ (u : Turn P). IsBegun p.fragment.stream_id p.number u.queue) (sym t)
-            (rest (turn now id size q told).queue (turn now id size q told).emitted (sym (ap (λ (u : Turn P). u.made) t) ∙ made) (same_mode now id size q told (sym is) ∙ mode) e)
+            (rest (turn now id size q emitted).queue (turn now id size q emitted).emitted (sym (ap (λ (u : Turn P). u.made) t) ∙ made) (same_mode now id size q emitted (sym is) ∙ mode) e)
 
-pub begins : {P : Type 0} (now size : ℕ) (q : Queue) (told : Emitted P) → 0 < size → Begins q.scheduler.is_interleaved (produce now size q told).made (produce now size q told).queue
-begins now size q told some = begins_within (length q.scheduler.times + 2) now size q told some
+pub begins : {P : Type 0} (now size : ℕ) (q : Queue) (emitted : Emitted P) → 0 < size → Begins q.scheduler.is_interleaved (produce now size q emitted).made (produce now size q emitted).queue
+begins now size q emitted some = begins_within (length q.scheduler.times + 2) now size q emitted some
 
 -- ---- fragments of a message
 

@@ -250,9 +250,9 @@ added_in_order id m q w h =
     kept id (push m s) (open_stream id q.streams) q (add id m q) (λ k. opened_same k id q.streams) refl refl (hears_mode id _ _ q.scheduler)
     (pushed_order s.messages m w (h.order id)) (pushed_first s.messages m w) h
 
-pub threshold_in_order : {P : Type 0} (id bytes : ℕ) (q : Queue) (told : Emitted P) → IsInOrder q → IsInOrder (set_low_threshold id bytes q told).queue
-threshold_in_order id bytes q told h =
-    kept id (with_threshold bytes (stream id q.streams)) (open_stream id q.streams) q (set_low_threshold id bytes q told).queue (λ k. opened_same k id q.streams) refl refl refl (h.order id) refl h
+pub threshold_in_order : {P : Type 0} (id bytes : ℕ) (q : Queue) (emitted : Emitted P) → IsInOrder q → IsInOrder (set_low_threshold id bytes q emitted).queue
+threshold_in_order id bytes q emitted h =
+    kept id (with_threshold bytes (stream id q.streams)) (open_stream id q.streams) q (set_low_threshold id bytes q emitted).queue (λ k. opened_same k id q.streams) refl refl refl (h.order id) refl h
 
 pub priority_in_order : (id priority : ℕ) (q : Queue) → IsInOrder q → IsInOrder (set_priority id priority q)
 priority_in_order id priority q h = kept id (with_priority priority (stream id q.streams)) (open_stream id q.streams) q (set_priority id priority q) (λ k. opened_same k id q.streams) refl refl refl (h.order id) refl h
@@ -261,10 +261,10 @@ pub mode_in_order : (is_interleaved : Bool) (q : Queue) → (q.scheduler.is_inte
 mode_in_order is_interleaved q (inl same) h = record { order = h.order; begun = λ m k. h.begun (same ∙ m) k }
 mode_in_order is_interleaved q (inr u) h = record { order = h.order; begun = λ m k. u.first k ∙ sym (ap (λ b. is_this k b) u.begun) }
 
-pub prepared_in_order : {P : Type 0} (id : ℕ) (q : Queue) (told : Emitted P) → IsInOrder q → IsInOrder (prepare_reset id q told).queue
-prepared_in_order id q told h =
+pub prepared_in_order : {P : Type 0} (id : ℕ) (q : Queue) (emitted : Emitted P) → IsInOrder q → IsInOrder (prepare_reset id q emitted).queue
+prepared_in_order id q emitted h =
     let p = partly_both (stream id q.streams).messages (h.order id) in
-    kept id (prepare_stream (stream id q.streams)) (open_stream id q.streams) q (prepare_reset id q told).queue (λ k. opened_same k id q.streams) refl refl (hears_mode id _ _ q.scheduler) p.0 p.1 h
+    kept id (prepare_stream (stream id q.streams)) (open_stream id q.streams) q (prepare_reset id q emitted).queue (λ k. opened_same k id q.streams) refl refl (hears_mode id _ _ q.scheduler) p.0 p.1 h
 
 pub step_messages : (step : ResetStep) (s : Stream) → (after_step step s).messages ≡ s.messages
 step_messages Requested s = refl
@@ -393,8 +393,8 @@ others_after k id mode (Some made) e = go made.fragment.is_end mode
     go false true = refl
     go false false = e
 
-pub turn_in_order : {P : Type 0} (now id size : ℕ) (q : Queue) (told : Emitted P) → 0 < size → next_stream q ≡ Some id → IsInOrder q → IsInOrder (turn now id size q told).queue
-turn_in_order {P} now id size q told some next h = record { order = ordered; begun = λ m k. begun_on (sym mode ∙ m) k (k == id) refl }
+pub turn_in_order : {P : Type 0} (now id size : ℕ) (q : Queue) (emitted : Emitted P) → 0 < size → next_stream q ≡ Some id → IsInOrder q → IsInOrder (turn now id size q emitted).queue
+turn_in_order {P} now id size q emitted some next h = record { order = ordered; begun = λ m k. begun_on (sym mode ∙ m) k (k == id) refl }
   where
     ss : Streams
     ss = streams_without_stale now id q.streams
@@ -406,7 +406,7 @@ turn_in_order {P} now id size q told some next h = record { order = ordered; beg
     n = front_numbers s.messages s
 
     after : Queue
-    after = (turn now id size q told).queue
+    after = (turn now id size q emitted).queue
 
     mode : after.scheduler.is_interleaved ≡ q.scheduler.is_interleaved
     mode = line_mode id _ _ (next_fragment id size s) q.scheduler
@@ -441,40 +441,40 @@ turn_in_order {P} now id size q told some next h = record { order = ordered; beg
         ap (λ (t : Stream). is_first_begun t.messages) (elsewhere k e) ∙ h.begun m k ∙ others_before k id q.begun (peek q.scheduler) e next
         ∙ sym (others_after k id q.scheduler.is_interleaved (next_fragment id size s) e)
 
-within_in_order : {P : Type 0} (turns now size : ℕ) (q : Queue) (told : Emitted P) → 0 < size → IsInOrder q → IsInOrder (produce_within turns now size q told).queue
-within_in_order zero now size q told some h = h
-within_in_order {P} (suc m) now size q told some h = go (next_stream q) refl (λ r t g. within_in_order m now size r t some g)
+within_in_order : {P : Type 0} (turns now size : ℕ) (q : Queue) (emitted : Emitted P) → 0 < size → IsInOrder q → IsInOrder (produce_within turns now size q emitted).queue
+within_in_order zero now size q emitted some h = h
+within_in_order {P} (suc m) now size q emitted some h = go (next_stream q) refl (λ r t g. within_in_order m now size r t some g)
   where
-    go : (o : Option ℕ) → next_stream q ≡ o → ((r : Queue) (t : Emitted P) → IsInOrder r → IsInOrder (produce_within m now size r t).queue) → IsInOrder (produce_within (suc m) now size q told).queue
-    go None e ih = subst (λ (t : Turn P). IsInOrder t.queue) (sym (idles m now size q told e)) h
-    go (Some id) e ih = pick (turn now id size q told).made refl
+    go : (o : Option ℕ) → next_stream q ≡ o → ((r : Queue) (t : Emitted P) → IsInOrder r → IsInOrder (produce_within m now size r t).queue) → IsInOrder (produce_within (suc m) now size q emitted).queue
+    go None e ih = subst (λ (t : Turn P). IsInOrder t.queue) (sym (idles m now size q emitted e)) h
+    go (Some id) e ih = pick (turn now id size q emitted).made refl
       where
-        pick : (o : Option Produced) → o ≡ (turn now id size q told).made → IsInOrder (produce_within (suc m) now size q told).queue
-        pick (Some made) is = subst (λ (t : Turn P). IsInOrder t.queue) (sym (gives m now size id q told made e is)) (turn_in_order now id size q told some e h)
-        pick None is = subst (λ (t : Turn P). IsInOrder t.queue) (sym (turned m now size id q told e is)) (ih (turn now id size q told).queue (turn now id size q told).emitted (turn_in_order now id size q told some e h))
+        pick : (o : Option Produced) → o ≡ (turn now id size q emitted).made → IsInOrder (produce_within (suc m) now size q emitted).queue
+        pick (Some made) is = subst (λ (t : Turn P). IsInOrder t.queue) (sym (gives m now size id q emitted made e is)) (turn_in_order now id size q emitted some e h)
+        pick None is = subst (λ (t : Turn P). IsInOrder t.queue) (sym (turned m now size id q emitted e is)) (ih (turn now id size q emitted).queue (turn now id size q emitted).emitted (turn_in_order now id size q emitted some e h))
 
-pub produced_in_order : {P : Type 0} (now size : ℕ) (q : Queue) (told : Emitted P) → 0 < size → IsInOrder q → IsInOrder (produce now size q told).queue
-produced_in_order now size q told some h = within_in_order (length q.scheduler.times + 2) now size q told some h
+pub produced_in_order : {P : Type 0} (now size : ℕ) (q : Queue) (emitted : Emitted P) → 0 < size → IsInOrder q → IsInOrder (produce now size q emitted).queue
+produced_in_order now size q emitted some h = within_in_order (length q.scheduler.times + 2) now size q emitted some h
 
 -- ---- a message is discarded
 
-pub discard_streams : {P : Type 0} (id : ℕ) (ss : Streams) (o : Option (Option ℕ)) (q : Queue) (told : Emitted P) → (discard_from id ss o q told).queue.streams ≡ ss
-discard_streams id ss None q told = refl
-discard_streams id ss (Some lifecycle) q told = refl
+pub discard_streams : {P : Type 0} (id : ℕ) (ss : Streams) (o : Option (Option ℕ)) (q : Queue) (emitted : Emitted P) → (discard_from id ss o q emitted).queue.streams ≡ ss
+discard_streams id ss None q emitted = refl
+discard_streams id ss (Some lifecycle) q emitted = refl
 
-discard_mode : {P : Type 0} (id : ℕ) (ss : Streams) (o : Option (Option ℕ)) (q : Queue) (told : Emitted P) → (discard_from id ss o q told).queue.scheduler.is_interleaved ≡ q.scheduler.is_interleaved
-discard_mode id ss None q told = refl
-discard_mode id ss (Some lifecycle) q told = hears_mode id _ _ q.scheduler
+discard_mode : {P : Type 0} (id : ℕ) (ss : Streams) (o : Option (Option ℕ)) (q : Queue) (emitted : Emitted P) → (discard_from id ss o q emitted).queue.scheduler.is_interleaved ≡ q.scheduler.is_interleaved
+discard_mode id ss None q emitted = refl
+discard_mode id ss (Some lifecycle) q emitted = hears_mode id _ _ q.scheduler
 
 -- another message is first, or none: nothing changes
-other_in_order : {P : Type 0} (id message : ℕ) (q : Queue) (told : Emitted P) → front_discarded message (stream id q.streams).messages ≡ None → without_front message (stream id q.streams).messages (stream id q.streams) ≡ stream id q.streams
-    → IsInOrder q → IsInOrder (discard id message q told).queue
-other_in_order id message q told none same h =
+other_in_order : {P : Type 0} (id message : ℕ) (q : Queue) (emitted : Emitted P) → front_discarded message (stream id q.streams).messages ≡ None → without_front message (stream id q.streams).messages (stream id q.streams) ≡ stream id q.streams
+    → IsInOrder q → IsInOrder (discard id message q emitted).queue
+other_in_order id message q emitted none same h =
     let s : Stream = stream id q.streams in
     let ss : Streams = streams_discarded id message q.streams in
     let o = front_discarded message s.messages in
-    kept id (without_front message s.messages s) q.streams q (discard id message q told).queue (λ k. refl) (discard_streams id ss o q told)
-    (ap (λ x. (discard_from id ss x q told).queue.begun) none) (discard_mode id ss o q told) (without_order message s.messages s refl (h.order id)) (ap (λ (t : Stream). is_first_begun t.messages) same) h
+    kept id (without_front message s.messages s) q.streams q (discard id message q emitted).queue (λ k. refl) (discard_streams id ss o q emitted)
+    (ap (λ x. (discard_from id ss x q emitted).queue.begun) none) (discard_mode id ss o q emitted) (without_order message s.messages s refl (h.order id)) (ap (λ (t : Stream). is_first_begun t.messages) same) h
 
 turned_id : (a b : ℕ) → (a == b) ≡ false → (b == a) ≡ false
 turned_id a b e = grind (arith, nat_tests)
@@ -495,8 +495,8 @@ same_there k id (Some b) e = go (b == id) refl
     go true f = ap (λ i. k == i) (same_id b id f) ∙ e
     go false f = refl
 
-front_in_order : {P : Type 0} (id message : ℕ) (q : Queue) (told : Emitted P) (m : Queued) (rest : List Queued) → (stream id q.streams).messages ≡ m ∷ rest → (m.number == message) ≡ true → IsInOrder q → IsInOrder (discard id message q told).queue
-front_in_order {P} id message q told m rest is e h = subst (λ o. IsInOrder (discard_from id ss o q told).queue) (sym found) (record { order = ordered; begun = λ mode k. begun_on (sym (hears_mode id _ _ q.scheduler) ∙ mode) k (k == id) refl })
+front_in_order : {P : Type 0} (id message : ℕ) (q : Queue) (emitted : Emitted P) (m : Queued) (rest : List Queued) → (stream id q.streams).messages ≡ m ∷ rest → (m.number == message) ≡ true → IsInOrder q → IsInOrder (discard id message q emitted).queue
+front_in_order {P} id message q emitted m rest is e h = subst (λ o. IsInOrder (discard_from id ss o q emitted).queue) (sym found) (record { order = ordered; begun = λ mode k. begun_on (sym (hears_mode id _ _ q.scheduler) ∙ mode) k (k == id) refl })
   where
     s : Stream
     s = stream id q.streams
@@ -525,18 +525,18 @@ front_in_order {P} id message q told m rest is e h = subst (λ o. IsInOrder (dis
     begun_on mode k false f =
         ap (λ (t : Stream). is_first_begun t.messages) (put_elsewhere k id (without_front message s.messages s) q.streams f) ∙ h.begun mode k ∙ same_there k id q.begun f
 
-pub discarded_in_order : {P : Type 0} (id message : ℕ) (q : Queue) (told : Emitted P) → IsInOrder q → IsInOrder (discard id message q told).queue
-discarded_in_order {P} id message q told h = by_front (stream id q.streams).messages refl
+pub discarded_in_order : {P : Type 0} (id message : ℕ) (q : Queue) (emitted : Emitted P) → IsInOrder q → IsInOrder (discard id message q emitted).queue
+discarded_in_order {P} id message q emitted h = by_front (stream id q.streams).messages refl
   where
     s : Stream
     s = stream id q.streams
 
-    by_front : (ms : List Queued) → s.messages ≡ ms → IsInOrder (discard id message q told).queue
-    by_front [] is = other_in_order id message q told (ap (λ ms. front_discarded message ms) is) (ap (λ ms. without_front message ms s) is) h
+    by_front : (ms : List Queued) → s.messages ≡ ms → IsInOrder (discard id message q emitted).queue
+    by_front [] is = other_in_order id message q emitted (ap (λ ms. front_discarded message ms) is) (ap (λ ms. without_front message ms s) is) h
     by_front (m ∷ rest) is = by_number (m.number == message) refl
       where
-        by_number : (b : Bool) → (m.number == message) ≡ b → IsInOrder (discard id message q told).queue
-        by_number true e = front_in_order id message q told m rest is e h
+        by_number : (b : Bool) → (m.number == message) ≡ b → IsInOrder (discard id message q emitted).queue
+        by_number true e = front_in_order id message q emitted m rest is e h
         by_number false e =
-            other_in_order id message q told (ap (λ ms. front_discarded message ms) is ∙ ap (λ t. cond t (Some m.lifecycle) None) e)
+            other_in_order id message q emitted (ap (λ ms. front_discarded message ms) is ∙ ap (λ t. cond t (Some m.lifecycle) None) e)
             (ap (λ ms. without_front message ms s) is ∙ ap (λ t. let r : Stream = record s { messages = rest; pause = settle_pause s.pause } in cond t r s) e) h

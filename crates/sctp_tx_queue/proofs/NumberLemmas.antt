@@ -140,8 +140,8 @@ added_numbered id m q e l h = record { rising = risen }
         (λ i. ap (λ (t : Stream). are_rising 0 (q.next_number + 1) t.messages) (opened_same i id q.streams) ∙ widened 0 q.next_number (stream i q.streams).messages (h.rising i))
         (pushed_rising 0 q.next_number s.messages m (omega arith) e (h.rising id)) k
 
-pub turn_numbered : {P : Type 0} (now id size : ℕ) (q : Queue) (told : Emitted P) → IsNumbered q → IsNumbered (turn now id size q told).queue
-turn_numbered now id size q told h = record { rising = risen }
+pub turn_numbered : {P : Type 0} (now id size : ℕ) (q : Queue) (emitted : Emitted P) → IsNumbered q → IsNumbered (turn now id size q emitted).queue
+turn_numbered now id size q emitted h = record { rising = risen }
   where
     T : ℕ → List Queued → Type 0
     T i ms = are_rising 0 q.next_number ms ≡ true
@@ -158,21 +158,21 @@ turn_numbered now id size q told h = record { rising = risen }
     risen : (k : ℕ) → T k (stream k (put_stream id (advance size s) ss)).messages
     risen k = each_put T id (advance size s) ss first (moved_rising 0 q.next_number size (front_numbers s.messages s) s.messages (first id)) k
 
-within_numbered : {P : Type 0} (turns now size : ℕ) (q : Queue) (told : Emitted P) → IsNumbered q → IsNumbered (produce_within turns now size q told).queue
-within_numbered zero now size q told h = h
-within_numbered {P} (suc m) now size q told h = go (next_stream q) refl (λ r t g. within_numbered m now size r t g)
+within_numbered : {P : Type 0} (turns now size : ℕ) (q : Queue) (emitted : Emitted P) → IsNumbered q → IsNumbered (produce_within turns now size q emitted).queue
+within_numbered zero now size q emitted h = h
+within_numbered {P} (suc m) now size q emitted h = go (next_stream q) refl (λ r t g. within_numbered m now size r t g)
   where
-    go : (o : Option ℕ) → next_stream q ≡ o → ((r : Queue) (t : Emitted P) → IsNumbered r → IsNumbered (produce_within m now size r t).queue) → IsNumbered (produce_within (suc m) now size q told).queue
-    go None e ih = subst (λ (t : Turn P). IsNumbered t.queue) (sym (idles m now size q told e)) h
-    go (Some id) e ih = pick (turn now id size q told).made refl
+    go : (o : Option ℕ) → next_stream q ≡ o → ((r : Queue) (t : Emitted P) → IsNumbered r → IsNumbered (produce_within m now size r t).queue) → IsNumbered (produce_within (suc m) now size q emitted).queue
+    go None e ih = subst (λ (t : Turn P). IsNumbered t.queue) (sym (idles m now size q emitted e)) h
+    go (Some id) e ih = pick (turn now id size q emitted).made refl
       where
-        pick : (o : Option Produced) → o ≡ (turn now id size q told).made → IsNumbered (produce_within (suc m) now size q told).queue
-        pick (Some made) is = subst (λ (t : Turn P). IsNumbered t.queue) (sym (gives m now size id q told made e is)) (turn_numbered now id size q told h)
-        pick None is = subst (λ (t : Turn P). IsNumbered t.queue) (sym (turned m now size id q told e is)) (ih (turn now id size q told).queue (turn now id size q told).emitted (turn_numbered now id size q told h))
+        pick : (o : Option Produced) → o ≡ (turn now id size q emitted).made → IsNumbered (produce_within (suc m) now size q emitted).queue
+        pick (Some made) is = subst (λ (t : Turn P). IsNumbered t.queue) (sym (gives m now size id q emitted made e is)) (turn_numbered now id size q emitted h)
+        pick None is = subst (λ (t : Turn P). IsNumbered t.queue) (sym (turned m now size id q emitted e is)) (ih (turn now id size q emitted).queue (turn now id size q emitted).emitted (turn_numbered now id size q emitted h))
 
-discard_count : {P : Type 0} (id : ℕ) (ss : Streams) (o : Option (Option ℕ)) (q : Queue) (told : Emitted P) → (discard_from id ss o q told).queue.next_number ≡ q.next_number
-discard_count id ss None q told = refl
-discard_count id ss (Some lifecycle) q told = refl
+discard_count : {P : Type 0} (id : ℕ) (ss : Streams) (o : Option (Option ℕ)) (q : Queue) (emitted : Emitted P) → (discard_from id ss o q emitted).queue.next_number ≡ q.next_number
+discard_count id ss None q emitted = refl
+discard_count id ss (Some lifecycle) q emitted = refl
 
 pub steps_numbered : (step : ResetStep) (ids : List ℕ) (q : Queue) → IsNumbered q → IsNumbered (each_stepped step ids q)
 steps_numbered step [] q h = h
@@ -191,17 +191,17 @@ pub calls_number : CallsNumber
 calls_number = record {
   new = λ o. record { rising = λ k. refl };
   added = added_numbered;
-  produced = λ now size q told h. within_numbered (length q.scheduler.times + 2) now size q told h;
-  threshold = λ id bytes q told h. kept id (with_threshold bytes (stream id q.streams)) (open_stream id q.streams) q (set_low_threshold id bytes q told).queue (λ k. opened_same k id q.streams) refl refl (h.rising id) h;
+  produced = λ now size q emitted h. within_numbered (length q.scheduler.times + 2) now size q emitted h;
+  threshold = λ id bytes q emitted h. kept id (with_threshold bytes (stream id q.streams)) (open_stream id q.streams) q (set_low_threshold id bytes q emitted).queue (λ k. opened_same k id q.streams) refl refl (h.rising id) h;
   priority = λ id priority q h. kept id (with_priority priority (stream id q.streams)) (open_stream id q.streams) q (set_priority id priority q) (λ k. opened_same k id q.streams) refl refl (h.rising id) h;
   mode = λ is_interleaved q h. record { rising = h.rising };
-  discarded = λ id message q told h.
+  discarded = λ id message q emitted h.
       let s : Stream = stream id q.streams in
       let o = front_discarded message s.messages in
-      kept id (without_front message s.messages s) q.streams q (discard id message q told).queue (λ k. refl) (discard_streams id (streams_discarded id message q.streams) o q told)
-      (discard_count id (streams_discarded id message q.streams) o q told) (without_rising 0 q.next_number message s.messages s refl (h.rising id)) h;
-  prepared = λ id q told h.
-      kept id (prepare_stream (stream id q.streams)) (open_stream id q.streams) q (prepare_reset id q told).queue (λ k. opened_same k id q.streams) refl refl
+      kept id (without_front message s.messages s) q.streams q (discard id message q emitted).queue (λ k. refl) (discard_streams id (streams_discarded id message q.streams) o q emitted)
+      (discard_count id (streams_discarded id message q.streams) o q emitted) (without_rising 0 q.next_number message s.messages s refl (h.rising id)) h;
+  prepared = λ id q emitted h.
+      kept id (prepare_stream (stream id q.streams)) (open_stream id q.streams) q (prepare_reset id q emitted).queue (λ k. opened_same k id q.streams) refl refl
       (filter_rising 0 q.next_number is_partly (stream id q.streams).messages (h.rising id)) h;
   steps = steps_numbered;
   restarted = λ q h. let r = restarted_numbered (keys_of q.streams.entries) q h in record { rising = r.rising };

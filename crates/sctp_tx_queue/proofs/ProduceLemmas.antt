@@ -16,46 +16,46 @@ use Rattle.sctp_tx_queue.specs.Interrupted.{Passed}
 -- ---- one turn
 
 abbrev tried : {P : Type 0} → ℕ → ℕ → ℕ → Queue → Emitted P → ℕ → Turn P
-tried m now size q told i = cond (is_some (turn now i size q told).made) (turn now i size q told) (produce_within m now size (turn now i size q told).queue (turn now i size q told).emitted)
+tried m now size q emitted i = cond (is_some (turn now i size q emitted).made) (turn now i size q emitted) (produce_within m now size (turn now i size q emitted).queue (turn now i size q emitted).emitted)
 
-pub idles : {P : Type 0} (m now size : ℕ) (q : Queue) (told : Emitted P) → next_stream q ≡ None → produce_within (suc m) now size q told ≡ idle q told
-idles m now size q told next = ap (λ (o : Option ℕ). unwrap_or (option_map (tried m now size q told) o) (idle q told)) next
+pub idles : {P : Type 0} (m now size : ℕ) (q : Queue) (emitted : Emitted P) → next_stream q ≡ None → produce_within (suc m) now size q emitted ≡ idle q emitted
+idles m now size q emitted next = ap (λ (o : Option ℕ). unwrap_or (option_map (tried m now size q emitted) o) (idle q emitted)) next
 
-pub gives : {P : Type 0} (m now size id : ℕ) (q : Queue) (told : Emitted P) (made : Produced) → next_stream q ≡ Some id → Some made ≡ (turn now id size q told).made
-    → produce_within (suc m) now size q told ≡ turn now id size q told
-gives m now size id q told made next is =
-    ap (λ (o : Option ℕ). unwrap_or (option_map (tried m now size q told) o) (idle q told)) next
-    ∙ ap (λ (o : Option Produced). cond (is_some o) (turn now id size q told) (produce_within m now size (turn now id size q told).queue (turn now id size q told).emitted)) (sym is)
+pub gives : {P : Type 0} (m now size id : ℕ) (q : Queue) (emitted : Emitted P) (made : Produced) → next_stream q ≡ Some id → Some made ≡ (turn now id size q emitted).made
+    → produce_within (suc m) now size q emitted ≡ turn now id size q emitted
+gives m now size id q emitted made next is =
+    ap (λ (o : Option ℕ). unwrap_or (option_map (tried m now size q emitted) o) (idle q emitted)) next
+    ∙ ap (λ (o : Option Produced). cond (is_some o) (turn now id size q emitted) (produce_within m now size (turn now id size q emitted).queue (turn now id size q emitted).emitted)) (sym is)
 
-pub turned : {P : Type 0} (m now size id : ℕ) (q : Queue) (told : Emitted P) → next_stream q ≡ Some id → None ≡ (turn now id size q told).made
-    → produce_within (suc m) now size q told ≡ produce_within m now size (turn now id size q told).queue (turn now id size q told).emitted
-turned m now size id q told next none =
-    ap (λ (o : Option ℕ). unwrap_or (option_map (tried m now size q told) o) (idle q told)) next
-    ∙ ap (λ (o : Option Produced). cond (is_some o) (turn now id size q told) (produce_within m now size (turn now id size q told).queue (turn now id size q told).emitted)) (sym none)
+pub turned : {P : Type 0} (m now size id : ℕ) (q : Queue) (emitted : Emitted P) → next_stream q ≡ Some id → None ≡ (turn now id size q emitted).made
+    → produce_within (suc m) now size q emitted ≡ produce_within m now size (turn now id size q emitted).queue (turn now id size q emitted).emitted
+turned m now size id q emitted next none =
+    ap (λ (o : Option ℕ). unwrap_or (option_map (tried m now size q emitted) o) (idle q emitted)) next
+    ∙ ap (λ (o : Option Produced). cond (is_some o) (turn now id size q emitted) (produce_within m now size (turn now id size q emitted).queue (turn now id size q emitted).emitted)) (sym none)
 
-pub step : {P : Type 0} (n now size id : ℕ) (q r : Queue) (told later : Emitted P) → 0 < n → next_stream q ≡ Some id → None ≡ (turn now id size q told).made
-    → r ≡ (turn now id size q told).queue → later ≡ (turn now id size q told).emitted → produce_within n now size q told ≡ produce_within (n - 1) now size r later
-step n now size id q r told later more next none is_queue is_told =
+pub step : {P : Type 0} (n now size id : ℕ) (q r : Queue) (emitted later : Emitted P) → 0 < n → next_stream q ≡ Some id → None ≡ (turn now id size q emitted).made
+    → r ≡ (turn now id size q emitted).queue → later ≡ (turn now id size q emitted).emitted → produce_within n now size q emitted ≡ produce_within (n - 1) now size r later
+step n now size id q r emitted later more next none is_queue is_emitted =
     let e : n ≡ suc (n - 1) = omega (arith, more) in
-    ap (λ k. produce_within k now size q told) e ∙ turned (n - 1) now size id q told next none
-    ∙ ap (λ x. produce_within (n - 1) now size x (turn now id size q told).emitted) (sym is_queue) ∙ ap (λ t. produce_within (n - 1) now size r t) (sym is_told)
+    ap (λ k. produce_within k now size q emitted) e ∙ turned (n - 1) now size id q emitted next none
+    ∙ ap (λ x. produce_within (n - 1) now size x (turn now id size q emitted).emitted) (sym is_queue) ∙ ap (λ t. produce_within (n - 1) now size r t) (sym is_emitted)
 
-pub given : {P : Type 0} (n now size id : ℕ) (q : Queue) (told : Emitted P) (made : Produced) → 0 < n → next_stream q ≡ Some id → Some made ≡ (turn now id size q told).made
-    → produce_within n now size q told ≡ turn now id size q told
-given n now size id q told made more next is =
+pub given : {P : Type 0} (n now size id : ℕ) (q : Queue) (emitted : Emitted P) (made : Produced) → 0 < n → next_stream q ≡ Some id → Some made ≡ (turn now id size q emitted).made
+    → produce_within n now size q emitted ≡ turn now id size q emitted
+given n now size id q emitted made more next is =
     let e : n ≡ suc (n - 1) = omega (arith, more) in
-    ap (λ k. produce_within k now size q told) e ∙ gives (n - 1) now size id q told made next is
+    ap (λ k. produce_within k now size q emitted) e ∙ gives (n - 1) now size id q emitted made next is
 
 -- one more turn without a fragment
-pub passed_more : {P : Type 0} (turns now size id : ℕ) (q p : Queue) (told later : Emitted P) → Passed turns now size q told p later → next_stream p ≡ Some id → (turn now id size p later).made ≡ None
-    → Passed (suc turns) now size q told (turn now id size p later).queue (turn now id size p later).emitted
-passed_more {P} zero now size id q p told later h next none =
-    let same : turn now id size p later ≡ turn now id size q told = ap (λ x. turn now id size x later) h.queue ∙ ap (λ t. turn now id size q t) h.events in
+pub passed_more : {P : Type 0} (turns now size id : ℕ) (q p : Queue) (emitted later : Emitted P) → Passed turns now size q emitted p later → next_stream p ≡ Some id → (turn now id size p later).made ≡ None
+    → Passed (suc turns) now size q emitted (turn now id size p later).queue (turn now id size p later).emitted
+passed_more {P} zero now size id q p emitted later h next none =
+    let same : turn now id size p later ≡ turn now id size q emitted = ap (λ x. turn now id size x later) h.queue ∙ ap (λ t. turn now id size q t) h.events in
     (id, (ap next_stream (sym h.queue) ∙ next, (ap (λ (t : Turn P). t.made) (sym same) ∙ none, record { queue = ap (λ (t : Turn P). t.queue) same; events = ap (λ (t : Turn P). t.emitted) same })))
-passed_more (suc turns) now size id q p told later h next none = (h.0, (h.1.0, (h.1.1.0, passed_more turns now size id (turn now h.0 size q told).queue p (turn now h.0 size q told).emitted later h.1.1.1 next none)))
+passed_more (suc turns) now size id q p emitted later h next none = (h.0, (h.1.0, (h.1.1.0, passed_more turns now size id (turn now h.0 size q emitted).queue p (turn now h.0 size q emitted).emitted later h.1.1.1 next none)))
 
-pub passed_as : {P : Type 0} (turns now size : ℕ) (q p r : Queue) (told later last : Emitted P) → Passed turns now size q told p later → r ≡ p → last ≡ later → Passed turns now size q told r last
-passed_as {P} turns now size q p r told later last h is_queue is_told = subst (λ (t : Emitted P). Passed turns now size q told r t) (sym is_told) (subst (λ x. Passed turns now size q told x later) (sym is_queue) h)
+pub passed_as : {P : Type 0} (turns now size : ℕ) (q p r : Queue) (emitted later last : Emitted P) → Passed turns now size q emitted p later → r ≡ p → last ≡ later → Passed turns now size q emitted r last
+passed_as {P} turns now size q p r emitted later last h is_queue is_emitted = subst (λ (t : Emitted P). Passed turns now size q emitted r t) (sym is_emitted) (subst (λ x. Passed turns now size q emitted x later) (sym is_queue) h)
 
 -- ---- the next stream is active
 
@@ -125,13 +125,13 @@ abbrev pub tries : Queue → ℕ
 tries q = length q.scheduler.times + cond (is_some q.begun) 1 0
 
 -- a turn without a fragment leaves fewer
-pub fewer : {P : Type 0} (now size id : ℕ) (q : Queue) (told : Emitted P) → next_stream q ≡ Some id → None ≡ (turn now id size q told).made → tries (turn now id size q told).queue + 1 ≤ tries q
-fewer now size id q told next none = along (sym after) (go q.begun next)
+pub fewer : {P : Type 0} (now size id : ℕ) (q : Queue) (emitted : Emitted P) → next_stream q ≡ Some id → None ≡ (turn now id size q emitted).made → tries (turn now id size q emitted).queue + 1 ≤ tries q
+fewer now size id q emitted next none = along (sym after) (go q.begun next)
   where
     ss : Streams
     ss = streams_after id size (streams_without_stale now id q.streams)
 
-    after : tries (turn now id size q told).queue ≡ length (remove_entry (is_at (nat_cmp id)) q.scheduler.times) + 0
+    after : tries (turn now id size q emitted).queue ≡ length (remove_entry (is_at (nat_cmp id)) q.scheduler.times) + 0
     after = ap (λ (o : Option Produced). length (in_line id (sendable (stream id ss)) (stream id ss).priority o q.scheduler).times + cond (is_some (begun_by id q.scheduler.is_interleaved o)) 1 0) (sym none)
 
     along : {a b c : ℕ} → a ≡ b → a + 1 ≤ c → b + 1 ≤ c
@@ -141,23 +141,23 @@ fewer now size id q told next none = along (sym after) (go q.begun next)
     go None h = omega (arith, shorter (is_at (nat_cmp id)) q.scheduler.times (next_active q.scheduler.times id h))
     go (Some k) h = omega (arith, no_longer (is_at (nat_cmp id)) q.scheduler.times)
 
-enough : {P : Type 0} (n now size : ℕ) (q : Queue) (told : Emitted P) → tries q < n → None ≡ (produce_within n now size q told).made → next_stream (produce_within n now size q told).queue ≡ None
-enough zero now size q told few none = absurd (omega (arith, few))
-enough {P} (suc m) now size q told few none = go (next_stream q) refl (λ r t. enough m now size r t)
+enough : {P : Type 0} (n now size : ℕ) (q : Queue) (emitted : Emitted P) → tries q < n → None ≡ (produce_within n now size q emitted).made → next_stream (produce_within n now size q emitted).queue ≡ None
+enough zero now size q emitted few none = absurd (omega (arith, few))
+enough {P} (suc m) now size q emitted few none = go (next_stream q) refl (λ r t. enough m now size r t)
   where
     go : (o : Option ℕ) → next_stream q ≡ o → ((r : Queue) (t : Emitted P) → tries r < m → None ≡ (produce_within m now size r t).made → next_stream (produce_within m now size r t).queue ≡ None)
-        → next_stream (produce_within (suc m) now size q told).queue ≡ None
-    go None e ih = ap (λ (t : Turn P). next_stream t.queue) (idles m now size q told e) ∙ e
-    go (Some id) e ih = pick (turn now id size q told).made refl
+        → next_stream (produce_within (suc m) now size q emitted).queue ≡ None
+    go None e ih = ap (λ (t : Turn P). next_stream t.queue) (idles m now size q emitted e) ∙ e
+    go (Some id) e ih = pick (turn now id size q emitted).made refl
       where
-        pick : (o : Option Produced) → o ≡ (turn now id size q told).made → next_stream (produce_within (suc m) now size q told).queue ≡ None
-        pick (Some made) is = absurd (differ made (none ∙ ap (λ (t : Turn P). t.made) (gives m now size id q told made e is) ∙ sym is))
+        pick : (o : Option Produced) → o ≡ (turn now id size q emitted).made → next_stream (produce_within (suc m) now size q emitted).queue ≡ None
+        pick (Some made) is = absurd (differ made (none ∙ ap (λ (t : Turn P). t.made) (gives m now size id q emitted made e is) ∙ sym is))
           where
             differ : (made : Produced) → None ≡ Some made → ⊥
             differ made h = cc
         pick None is =
-            let t = turned m now size id q told e is in
-            ap (λ (t : Turn P). next_stream t.queue) t ∙ ih (turn now id size q told).queue (turn now id size q told).emitted (omega (arith, few, fewer now size id q told e is)) (none ∙ ap (λ (t : Turn P). t.made) t)
+            let t = turned m now size id q emitted e is in
+            ap (λ (t : Turn P). next_stream t.queue) t ∙ ih (turn now id size q emitted).queue (turn now id size q emitted).emitted (omega (arith, few, fewer now size id q emitted e is)) (none ∙ ap (λ (t : Turn P). t.made) t)
 
 none_active : (q : Queue) → next_stream q ≡ None → peek q.scheduler ≡ None
 none_active q h = go q.begun h
@@ -178,7 +178,7 @@ nothing None h = refl
 nothing (Some r) h = absurd (cc)
 
 -- where no fragment came, no stream is active
-pub produced_idle : {P : Type 0} (now size : ℕ) (q : Queue) (told : Emitted P) → None ≡ (produce now size q told).made → (produce now size q told).queue.scheduler.times ≡ []
-produced_idle now size q told none =
-    let times = (produce now size q told).queue.scheduler.times in
-    none_is times (nothing (best None times) (none_active (produce now size q told).queue (enough (length q.scheduler.times + 2) now size q told (few_tries q) none)))
+pub produced_idle : {P : Type 0} (now size : ℕ) (q : Queue) (emitted : Emitted P) → None ≡ (produce now size q emitted).made → (produce now size q emitted).queue.scheduler.times ≡ []
+produced_idle now size q emitted none =
+    let times = (produce now size q emitted).queue.scheduler.times in
+    none_is times (nothing (best None times) (none_active (produce now size q emitted).queue (enough (length q.scheduler.times + 2) now size q emitted (few_tries q) none)))

@@ -57,11 +57,11 @@ without_priority number (m ∷ rest) s = go (m.number == number)
     go false = refl
 
 -- a stream is prepared once it is open and the scheduler knows what it has to send
-pub prepared_is : {P : Type 0} (id bytes : ℕ) (ss : Streams) (q mid : Queue) (after : Streams) (told : Emitted P) → ss ≡ q.streams → IsSome (lookup (is_at (nat_cmp id)) mid.streams.entries) → stream id mid.streams ≡ stream id q.streams
+pub prepared_is : {P : Type 0} (id bytes : ℕ) (ss : Streams) (q mid : Queue) (after : Streams) (emitted : Emitted P) → ss ≡ q.streams → IsSome (lookup (is_at (nat_cmp id)) mid.streams.entries) → stream id mid.streams ≡ stream id q.streams
     → mid ≡ (let p : ℕ = (stream id q.streams).priority in record q { streams = open_stream id q.streams; scheduler = set_bytes_remaining id bytes p q.scheduler })
     → (inside : Streams) → after ≡ put_stream id (prepare_stream (stream id inside)) inside → inside ≡ mid.streams → bytes ≡ sendable (prepare_stream (stream id ss))
-    → (let p : ℕ = (stream id q.streams).priority in let r : Queue = record q { streams = after; scheduler = set_bytes_remaining id bytes p q.scheduler } in r) ≡ (prepare_reset id q told).queue
-prepared_is id bytes ss q mid after told is_streams there same is_mid inside is_after is_inside is_bytes =
+    → (let p : ℕ = (stream id q.streams).priority in let r : Queue = record q { streams = after; scheduler = set_bytes_remaining id bytes p q.scheduler } in r) ≡ (prepare_reset id q emitted).queue
+prepared_is id bytes ss q mid after emitted is_streams there same is_mid inside is_after is_inside is_bytes =
     ap (λ x. queue x (set_bytes_remaining id bytes (stream id q.streams).priority q.scheduler)) streams ∙ ap (λ x. queue done x) scheduled
   where
     queue : Streams → Scheduler → Queue

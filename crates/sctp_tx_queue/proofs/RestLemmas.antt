@@ -109,8 +109,8 @@ pub without_stale_rests : (now id : ℕ) (q : Queue) → HasRests q → (k : ℕ
 without_stale_rests now id q h k =
     each_put (λ i ms. list_all has_rest ms ≡ true) id (without_stale now (stream id q.streams)) q.streams h.rests (all_fresh now (stream id q.streams).messages (h.rests id)) k
 
-pub turn_rests : {P : Type 0} (now id size : ℕ) (q : Queue) (told : Emitted P) → HasRests q → HasRests (turn now id size q told).queue
-turn_rests now id size q told h = record { rests = all }
+pub turn_rests : {P : Type 0} (now id size : ℕ) (q : Queue) (emitted : Emitted P) → HasRests q → HasRests (turn now id size q emitted).queue
+turn_rests now id size q emitted h = record { rests = all }
   where
     ss : Streams
     ss = streams_without_stale now id q.streams
@@ -123,8 +123,8 @@ turn_rests now id size q told h = record { rests = all }
         each_put (λ i ms. list_all has_rest ms ≡ true) id (advance size s) ss (without_stale_rests now id q h)
         (all_moved size (front_numbers s.messages s) s.messages (without_stale_rests now id q h id)) k
 
-turn_filled : {P : Type 0} (now id size : ℕ) (q : Queue) (told : Emitted P) → 0 < size → HasRests q → IsFilled size (turn now id size q told).made
-turn_filled now id size q told some h =
+turn_filled : {P : Type 0} (now id size : ℕ) (q : Queue) (emitted : Emitted P) → 0 < size → HasRests q → IsFilled size (turn now id size q emitted).made
+turn_filled now id size q emitted some h =
     let s : Stream = stream id (streams_without_stale now id q.streams) in
     filled_front id size (front_numbers s.messages s) s.messages some (without_stale_rests now id q h id)
 
@@ -133,20 +133,20 @@ pub record Runs {P : Type 0} (size : ℕ) (t : Turn P) : Type 0 where
   pub rests : HasRests t.queue
   pub filled : 0 < size → IsFilled size t.made
 
-turn_runs : {P : Type 0} (now id size : ℕ) (q : Queue) (told : Emitted P) → HasRests q → Runs size (turn now id size q told)
-turn_runs now id size q told h = record { rests = turn_rests now id size q told h; filled = λ some. turn_filled now id size q told some h }
+turn_runs : {P : Type 0} (now id size : ℕ) (q : Queue) (emitted : Emitted P) → HasRests q → Runs size (turn now id size q emitted)
+turn_runs now id size q emitted h = record { rests = turn_rests now id size q emitted h; filled = λ some. turn_filled now id size q emitted some h }
 
-within_runs : {P : Type 0} (turns now size : ℕ) (q : Queue) (told : Emitted P) → HasRests q → Runs size (produce_within turns now size q told)
-within_runs zero now size q told h = record { rests = h; filled = λ some p made. absurd (differ p made) }
-within_runs {P} (suc m) now size q told h = go (next_stream q) refl (λ r t g. within_runs m now size r t g)
+within_runs : {P : Type 0} (turns now size : ℕ) (q : Queue) (emitted : Emitted P) → HasRests q → Runs size (produce_within turns now size q emitted)
+within_runs zero now size q emitted h = record { rests = h; filled = λ some p made. absurd (differ p made) }
+within_runs {P} (suc m) now size q emitted h = go (next_stream q) refl (λ r t g. within_runs m now size r t g)
   where
-    go : (o : Option ℕ) → next_stream q ≡ o → ((r : Queue) (t : Emitted P) → HasRests r → Runs size (produce_within m now size r t)) → Runs size (produce_within (suc m) now size q told)
-    go None e ih = subst (λ (t : Turn P). Runs size t) (sym (idles m now size q told e)) (record { rests = h; filled = λ some p made. absurd (differ p made) })
-    go (Some id) e ih = pick (turn now id size q told).made refl
+    go : (o : Option ℕ) → next_stream q ≡ o → ((r : Queue) (t : Emitted P) → HasRests r → Runs size (produce_within m now size r t)) → Runs size (produce_within (suc m) now size q emitted)
+    go None e ih = subst (λ (t : Turn P). Runs size t) (sym (idles m now size q emitted e)) (record { rests = h; filled = λ some p made. absurd (differ p made) })
+    go (Some id) e ih = pick (turn now id size q emitted).made refl
       where
-        pick : (o : Option Produced) → o ≡ (turn now id size q told).made → Runs size (produce_within (suc m) now size q told)
-        pick (Some made) is = subst (λ (t : Turn P). Runs size t) (sym (gives m now size id q told made e is)) (turn_runs now id size q told h)
-        pick None is = subst (λ (t : Turn P). Runs size t) (sym (turned m now size id q told e is)) (ih (turn now id size q told).queue (turn now id size q told).emitted (turn_rests now id size q told h))
+        pick : (o : Option Produced) → o ≡ (turn now id size q emitted).made → Runs size (produce_within (suc m) now size q emitted)
+        pick (Some made) is = subst (λ (t : Turn P). Runs size t) (sym (gives m now size id q emitted made e is)) (turn_runs now id size q emitted h)
+        pick None is = subst (λ (t : Turn P). Runs size t) (sym (turned m now size id q emitted e is)) (ih (turn now id size q emitted).queue (turn now id size q emitted).emitted (turn_rests now id size q emitted h))
 
 pub steps_rests : (step : ResetStep) (ids : List ℕ) (q : Queue) → HasRests q → HasRests (each_stepped step ids q)
 steps_rests step [] q h = h
@@ -165,17 +165,17 @@ calls_leave_rests = record {
   new = λ o. record { rests = λ k. refl };
   added = λ id m q w h.
       kept id (push m (stream id q.streams)) (open_stream id q.streams) q (add id m q) (λ k. opened_same k id q.streams) refl (all_pushed (stream id q.streams).messages m (h.rests id) w) h;
-  produced = λ now size q told h. (within_runs (length q.scheduler.times + 2) now size q told h).rests;
-  filled = λ now size q told some h. (within_runs (length q.scheduler.times + 2) now size q told h).filled some;
-  threshold = λ id bytes q told h. kept id (with_threshold bytes (stream id q.streams)) (open_stream id q.streams) q (set_low_threshold id bytes q told).queue (λ k. opened_same k id q.streams) refl (h.rests id) h;
+  produced = λ now size q emitted h. (within_runs (length q.scheduler.times + 2) now size q emitted h).rests;
+  filled = λ now size q emitted some h. (within_runs (length q.scheduler.times + 2) now size q emitted h).filled some;
+  threshold = λ id bytes q emitted h. kept id (with_threshold bytes (stream id q.streams)) (open_stream id q.streams) q (set_low_threshold id bytes q emitted).queue (λ k. opened_same k id q.streams) refl (h.rests id) h;
   priority = λ id priority q h. kept id (with_priority priority (stream id q.streams)) (open_stream id q.streams) q (set_priority id priority q) (λ k. opened_same k id q.streams) refl (h.rests id) h;
   mode = λ is_interleaved q h. record { rests = h.rests };
-  discarded = λ id message q told h.
+  discarded = λ id message q emitted h.
       let s : Stream = stream id q.streams in
-      kept id (without_front message s.messages s) q.streams q (discard id message q told).queue (λ k. refl)
-      (discard_streams id (streams_discarded id message q.streams) (front_discarded message s.messages) q told) (all_without message s.messages s refl (h.rests id)) h;
-  prepared = λ id q told h.
-      kept id (prepare_stream (stream id q.streams)) (open_stream id q.streams) q (prepare_reset id q told).queue (λ k. opened_same k id q.streams) refl (all_filter is_partly (stream id q.streams).messages (h.rests id)) h;
+      kept id (without_front message s.messages s) q.streams q (discard id message q emitted).queue (λ k. refl)
+      (discard_streams id (streams_discarded id message q.streams) (front_discarded message s.messages) q emitted) (all_without message s.messages s refl (h.rests id)) h;
+  prepared = λ id q emitted h.
+      kept id (prepare_stream (stream id q.streams)) (open_stream id q.streams) q (prepare_reset id q emitted).queue (λ k. opened_same k id q.streams) refl (all_filter is_partly (stream id q.streams).messages (h.rests id)) h;
   steps = steps_rests;
   restarted = λ q h. let r = restarted_rests (keys_of q.streams.entries) q h in record { rests = r.rests };
 }

@@ -18,7 +18,7 @@ use Rattle.sctp_state.specs.Numbers.{most_u32}
 use Rattle.sctp_state.specs.declared.api.handover.HandoverSocketState.TheVariants.{Connected}
 use Rattle.sctp_stream_scheduler.specs.Scheduler.{Scheduler, set_bytes_remaining}
 use Rattle.sctp_tx_queue.specs.Queue.{Queued, Stream, Streams, Entries, amount_of, total_of, left_bytes, blank, stream, put_stream, open_stream, push, sendable}
-use Rattle.sctp_tx_queue.specs.Restored.{message_from, is_on, messages_from, stream_from, entries_from, each_heard}
+use Rattle.sctp_tx_queue.specs.Restored.{message_from, is_on, messages_from, stream_from, entries_from, each_scheduled}
 use Rattle.sctp_tx_queue.proofs.StreamsLemmas.{total_written, stream_there}
 
 pub both : (a b : Bool) → a && b ≡ true → (a ≡ true) × (b ≡ true)
@@ -263,14 +263,14 @@ inserted_next threshold i recs none es after s l is_s is_after =
     ∙ ap (λ (x : Stream). each_inserted threshold (drop (suc i) recs) (insert_entry nat_cmp es (get_or recs i none).id x)) is_s
     ∙ sym (ap (λ (xs : List HandoverOutgoingStream). each_inserted threshold xs es) (drop-cons recs i none l))
 
-pub heard_next : (i bytes priority : ℕ) (recs : List HandoverOutgoingStream) (none : HandoverOutgoingStream) (ss : Streams) (sch after : Scheduler) → i < length recs
+pub scheduled_next : (i bytes priority : ℕ) (recs : List HandoverOutgoingStream) (none : HandoverOutgoingStream) (ss : Streams) (sch after : Scheduler) → i < length recs
     → bytes ≡ sendable (stream (get_or recs i none).id ss) → priority ≡ (stream (get_or recs i none).id ss).priority → after ≡ set_bytes_remaining (get_or recs i none).id bytes priority sch
-    → each_heard (outgoing_ids (drop (i + 1) recs)) ss after ≡ each_heard (outgoing_ids (drop i recs)) ss sch
-heard_next i bytes priority recs none ss sch after l is_bytes is_priority is_after =
-    ap (λ k. each_heard (outgoing_ids (drop k recs)) ss after) (add-one i) ∙ ap (λ (x : Scheduler). each_heard (outgoing_ids (drop (suc i) recs)) ss x) is_after
-    ∙ ap (λ b. each_heard (outgoing_ids (drop (suc i) recs)) ss (set_bytes_remaining (get_or recs i none).id b priority sch)) is_bytes
-    ∙ ap (λ p. each_heard (outgoing_ids (drop (suc i) recs)) ss (set_bytes_remaining (get_or recs i none).id (sendable (stream (get_or recs i none).id ss)) p sch)) is_priority
-    ∙ sym (ap (λ (xs : List HandoverOutgoingStream). each_heard (outgoing_ids xs) ss sch) (drop-cons recs i none l))
+    → each_scheduled (outgoing_ids (drop (i + 1) recs)) ss after ≡ each_scheduled (outgoing_ids (drop i recs)) ss sch
+scheduled_next i bytes priority recs none ss sch after l is_bytes is_priority is_after =
+    ap (λ k. each_scheduled (outgoing_ids (drop k recs)) ss after) (add-one i) ∙ ap (λ (x : Scheduler). each_scheduled (outgoing_ids (drop (suc i) recs)) ss x) is_after
+    ∙ ap (λ b. each_scheduled (outgoing_ids (drop (suc i) recs)) ss (set_bytes_remaining (get_or recs i none).id b priority sch)) is_bytes
+    ∙ ap (λ p. each_scheduled (outgoing_ids (drop (suc i) recs)) ss (set_bytes_remaining (get_or recs i none).id (sendable (stream (get_or recs i none).id ss)) p sch)) is_priority
+    ∙ sym (ap (λ (xs : List HandoverOutgoingStream). each_scheduled (outgoing_ids xs) ss sch) (drop-cons recs i none l))
 
 -- ---- a valid record's messages have numbers of 32 bits
 

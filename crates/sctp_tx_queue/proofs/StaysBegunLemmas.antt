@@ -128,8 +128,8 @@ added_stays id m q k number b = record {
   message = front_changed k id number (push m (stream id q.streams)) q.streams b.message (λ h. behind m number (stream id q.streams).messages h);
 }
 
-pub threshold_stays : {P : Type 0} (id bytes : ℕ) (q : Queue) (told : Emitted P) → StaysBegun q (set_low_threshold id bytes q told).queue
-threshold_stays id bytes q told k number b = record { begun = b.begun; message = front_changed k id number (with_threshold bytes (stream id q.streams)) q.streams b.message (λ h. h) }
+pub threshold_stays : {P : Type 0} (id bytes : ℕ) (q : Queue) (emitted : Emitted P) → StaysBegun q (set_low_threshold id bytes q emitted).queue
+threshold_stays id bytes q emitted k number b = record { begun = b.begun; message = front_changed k id number (with_threshold bytes (stream id q.streams)) q.streams b.message (λ h. h) }
 
 pub priority_stays : (id priority : ℕ) (q : Queue) → StaysBegun q (set_priority id priority q)
 priority_stays id priority q k number b = record { begun = b.begun; message = front_changed k id number (with_priority priority (stream id q.streams)) q.streams b.message (λ h. h) }
@@ -149,8 +149,8 @@ partly_front number (m ∷ rest) h = go (is_partly m) refl
     go true e = h
     go false e = absurd (not_begun (is_some m.numbers) (is_partly m) m.number number e h)
 
-pub prepared_stays : {P : Type 0} (id : ℕ) (q : Queue) (told : Emitted P) → StaysBegun q (prepare_reset id q told).queue
-prepared_stays id q told k number b = record { begun = b.begun; message = front_changed k id number (prepare_stream (stream id q.streams)) q.streams b.message (λ h. partly_front number (stream id q.streams).messages h) }
+pub prepared_stays : {P : Type 0} (id : ℕ) (q : Queue) (emitted : Emitted P) → StaysBegun q (prepare_reset id q emitted).queue
+prepared_stays id q emitted k number b = record { begun = b.begun; message = front_changed k id number (prepare_stream (stream id q.streams)) q.streams b.message (λ h. partly_front number (stream id q.streams).messages h) }
 
 step_messages : (step : ResetStep) (s : Stream) → (after_step step s).messages ≡ s.messages
 step_messages Requested s = refl
@@ -175,8 +175,8 @@ is_first number m rest h = go (is_some m.numbers && nat_lt 0 m.offset) h
     go true h = inside m.number number h
     go false h = absurd (differ number h)
 
-others_stay : {P : Type 0} (id message k number : ℕ) (o : Option (Option ℕ)) (q : Queue) (told : Emitted P) → (k == id) ≡ false → IsBegun k number q → IsBegun k number (discard_from id (streams_discarded id message q.streams) o q told).queue
-others_stay id message k number o q told e b = go o
+others_stay : {P : Type 0} (id message k number : ℕ) (o : Option (Option ℕ)) (q : Queue) (emitted : Emitted P) → (k == id) ≡ false → IsBegun k number q → IsBegun k number (discard_from id (streams_discarded id message q.streams) o q emitted).queue
+others_stay id message k number o q emitted e b = go o
   where
     s : Stream
     s = without_front message (stream id q.streams).messages (stream id q.streams)
@@ -184,13 +184,13 @@ others_stay id message k number o q told e b = go o
     kept : begun_number (stream k (put_stream id s q.streams)).messages ≡ Some number
     kept = ap (λ o. begun_number (unwrap_or o (blank q.streams)).messages) (written_elsewhere k id s q.streams.entries e) ∙ b.message
 
-    go : (o : Option (Option ℕ)) → IsBegun k number (discard_from id (streams_discarded id message q.streams) o q told).queue
+    go : (o : Option (Option ℕ)) → IsBegun k number (discard_from id (streams_discarded id message q.streams) o q emitted).queue
     go None = record { begun = b.begun; message = kept }
     go (Some lifecycle) = record { begun = ap (λ x. begun_without id x) b.begun ∙ ap (λ t. cond t None (Some k)) e; message = kept }
 
-front_stays : {P : Type 0} (id message number : ℕ) (q : Queue) (told : Emitted P) (m : Queued) (rest : List Queued) → (stream id q.streams).messages ≡ m ∷ rest → (m.number == message) ≡ false → IsBegun id number q
-    → IsBegun id number (discard id message q told).queue
-front_stays {P} id message number q told m rest is e b = subst (λ o. IsBegun id number (discard_from id ss o q told).queue) (sym none) (record { begun = b.begun; message = kept })
+front_stays : {P : Type 0} (id message number : ℕ) (q : Queue) (emitted : Emitted P) (m : Queued) (rest : List Queued) → (stream id q.streams).messages ≡ m ∷ rest → (m.number == message) ≡ false → IsBegun id number q
+    → IsBegun id number (discard id message q emitted).queue
+front_stays {P} id message number q emitted m rest is e b = subst (λ o. IsBegun id number (discard_from id ss o q emitted).queue) (sym none) (record { begun = b.begun; message = kept })
   where
     s : Stream
     s = stream id q.streams
@@ -207,14 +207,14 @@ front_stays {P} id message number q told m rest is e b = subst (λ o. IsBegun id
     kept : begun_number (stream id ss).messages ≡ Some number
     kept = front_put id id number (without_front message s.messages s) q.streams b.message (λ h. ap (λ (t : Stream). begun_number t.messages) same ∙ h)
 
-pub discard_stays : {P : Type 0} (id message : ℕ) (q : Queue) (told : Emitted P) → OthersStayBegun id message q (discard id message q told).queue
-discard_stays {P} id message q told k number b = go (k == id) refl
+pub discard_stays : {P : Type 0} (id message : ℕ) (q : Queue) (emitted : Emitted P) → OthersStayBegun id message q (discard id message q emitted).queue
+discard_stays {P} id message q emitted k number b = go (k == id) refl
   where
     Goal : Type 0
-    Goal = ((k ≡ id) × (number ≡ message)) ⊎ IsBegun k number (discard id message q told).queue
+    Goal = ((k ≡ id) × (number ≡ message)) ⊎ IsBegun k number (discard id message q emitted).queue
 
     go : (t : Bool) → (k == id) ≡ t → Goal
-    go false e = inr (others_stay id message k number (front_discarded message (stream id q.streams).messages) q told e b)
+    go false e = inr (others_stay id message k number (front_discarded message (stream id q.streams).messages) q emitted e b)
     go true e = by_front (stream id q.streams).messages refl
       where
         same : k ≡ id
@@ -229,7 +229,7 @@ discard_stays {P} id message q told k number b = go (k == id) refl
           where
             by_number : (t : Bool) → (m.number == message) ≡ t → Goal
             by_number true f = inl (same, sym (is_first number m rest (ap begun_number (sym is) ∙ here.message)) ∙ same_id m.number message f)
-            by_number false f = inr (subst (λ i. IsBegun i number (discard id message q told).queue) (sym same) (front_stays id message number q told m rest is f here))
+            by_number false f = inr (subst (λ i. IsBegun i number (discard id message q emitted).queue) (sym same) (front_stays id message number q emitted m rest is f here))
 
 -- ---- a new association
 

@@ -17,7 +17,7 @@ use Rattle.sctp_state.specs.Validity.{is_partly_sent, has_partly_sent, first_alo
 use Rattle.sctp_tx_queue.specs.declared.send_queue.message.MessageNumbers.{MessageNumbers}
 use Rattle.sctp_tx_queue.specs.Queue.{Queued, Stream, Streams, Entries, blank, stream}
 use Rattle.sctp_tx_queue.specs.Handover.{queued_message, messages_of, queued_messages}
-use Rattle.sctp_tx_queue.specs.Restored.{numbers_from, message_from, is_on, messages_from, stream_from, entries_from, each_heard, partly_sent, begun_from, streams_from, restore}
+use Rattle.sctp_tx_queue.specs.Restored.{numbers_from, message_from, is_on, messages_from, stream_from, entries_from, each_scheduled, partly_sent, begun_from, streams_from, restore}
 use Rattle.sctp_tx_queue.specs.InOrder.{is_waiting, is_begun_or_waiting, are_in_order, is_first_begun, is_this}
 use Rattle.sctp_tx_queue.specs.TakenUp.{is_numbered_as_sent, RestoredInOrder, WrittenAsSent}
 use Rattle.sctp_tx_queue.proofs.InOrderLemmas.{both, hears_mode, waiting_in_order}
@@ -230,9 +230,9 @@ restored_messages now next k tx ss h = go (is_some here) refl
 
 -- ---- the queue
 
-heard_mode : (ids : List ℕ) (ss : Streams) (s : Scheduler) → (each_heard ids ss s).is_interleaved ≡ s.is_interleaved
-heard_mode [] ss s = refl
-heard_mode (id ∷ ids) ss s = heard_mode ids ss _ ∙ hears_mode id _ _ s
+scheduled_mode : (ids : List ℕ) (ss : Streams) (s : Scheduler) → (each_scheduled ids ss s).is_interleaved ≡ s.is_interleaved
+scheduled_mode [] ss s = refl
+scheduled_mode (id ∷ ids) ss s = scheduled_mode ids ss _ ∙ hears_mode id _ _ s
 
 few : (is_interleaved : Bool) (n : ℕ) → is_interleaved || nat_le n 1 ≡ true → is_interleaved ≡ false → n ≤ 1
 few true n h e = absurd (cc)
@@ -266,7 +266,7 @@ restored_in_order now is_interleaved tx q valid numbered = record { order = λ k
     messages k = restored_messages now tx.next_outgoing_message_id k tx q.streams parts.0
 
     mode : (restore now is_interleaved tx q).scheduler.is_interleaved ≡ is_interleaved
-    mode = heard_mode (outgoing_ids tx.streams) (streams_from now tx q.streams) (enable_message_interleaving is_interleaved (scheduler q.scheduler.most_payload))
+    mode = scheduled_mode (outgoing_ids tx.streams) (streams_from now tx q.streams) (enable_message_interleaving is_interleaved (scheduler q.scheduler.most_payload))
 
     begun_on : (restore now is_interleaved tx q).scheduler.is_interleaved ≡ false → (k : ℕ) → is_first_begun (stream k (streams_from now tx q.streams)).messages ≡ is_this k (begun_from is_interleaved ms)
     begun_on off k =

@@ -22,21 +22,21 @@ use Rattle.sctp_tx_queue.proofs.RestLemmas as rest
 abbrev freed : ℕ → ℕ → Queue → Queue
 freed now id q = record q { streams = streams_without_stale now id q.streams }
 
-module _ (P : Queue → Type 0) (turned : (now id size : ℕ) (q : Queue) (told : Emitted (List ℕ)) → 0 < size → next_stream q ≡ Some id → P q → P (turn now id size q told).queue) where
-  passed : (turns now size : ℕ) (q : Queue) (told : Emitted (List ℕ)) (after : Queue) (later : Emitted (List ℕ)) → 0 < size → P q → Passed turns now size q told after later → P after
-  passed zero now size q told after later some h p = subst P (sym p.queue) h
-  passed (suc turns) now size q told after later some h p =
-      passed turns now size (turn now p.0 size q told).queue (turn now p.0 size q told).emitted after later some (turned now p.0 size q told some p.1.0 h) p.1.1.1
+module _ (P : Queue → Type 0) (turned : (now id size : ℕ) (q : Queue) (emitted : Emitted (List ℕ)) → 0 < size → next_stream q ≡ Some id → P q → P (turn now id size q emitted).queue) where
+  passed : (turns now size : ℕ) (q : Queue) (emitted : Emitted (List ℕ)) (after : Queue) (later : Emitted (List ℕ)) → 0 < size → P q → Passed turns now size q emitted after later → P after
+  passed zero now size q emitted after later some h p = subst P (sym p.queue) h
+  passed (suc turns) now size q emitted after later some h p =
+      passed turns now size (turn now p.0 size q emitted).queue (turn now p.0 size q emitted).emitted after later some (turned now p.0 size q emitted some p.1.0 h) p.1.1.1
 
   module _ (frees : (now id : ℕ) (q : Queue) → P q → P (freed now id q)) where
-    stops : (now id : ℕ) (q : Queue) (told : Emitted (List ℕ)) (after : Queue) (later : Emitted (List ℕ)) → P q → Stopped now id q told after later → P after
-    stops now id q told after later h (inl same) = subst P (sym same.queue) h
-    stops now id q told after later h (inr f) = subst P (sym f.queue) (frees now id q h)
+    stops : (now id : ℕ) (q : Queue) (emitted : Emitted (List ℕ)) (after : Queue) (later : Emitted (List ℕ)) → P q → Stopped now id q emitted after later → P after
+    stops now id q emitted after later h (inl same) = subst P (sym same.queue) h
+    stops now id q emitted after later h (inr f) = subst P (sym f.queue) (frees now id q h)
 
     module _ (steps : (step : ResetStep) (ids : List ℕ) (q : Queue) → P q → P (each_stepped step ids q)) (restarts : (ids : List ℕ) (q : Queue) → P q → P (each_restarted ids q)) where
       kept_so : IsKept P
       kept_so = record {
-        produced = λ now size q told after later some h i. stops now i.id i.queue i.emitted after later (passed i.turns now size q told i.queue i.emitted some h i.passed) i.stopped;
+        produced = λ now size q emitted after later some h i. stops now i.id i.queue i.emitted after later (passed i.turns now size q emitted i.queue i.emitted some h i.passed) i.stopped;
         stepped = λ step ids q after h s. subst P (sym s.1) (steps step (take s.0 ids) q h);
         restarted = λ q after h s. subst P (sym s.1) (restarts (take s.0 (keys_of q.streams.entries)) q h);
       }
@@ -67,7 +67,7 @@ restarts_in_order [] q h = h
 restarts_in_order (id ∷ ids) q h = restarts_in_order ids (restarted_one id q) (one_in_order id q h)
 
 pub order_kept : IsKept IsInOrder
-order_kept = kept_so IsInOrder (λ now id size q told some next h. order.turn_in_order now id size q told some next h) freed_in_order order.steps_in_order restarts_in_order
+order_kept = kept_so IsInOrder (λ now id size q emitted some next h. order.turn_in_order now id size q emitted some next h) freed_in_order order.steps_in_order restarts_in_order
 
 -- ---- numbers, and what is left
 
@@ -77,7 +77,7 @@ freed_numbered now id q h =
     number.kept id (without_stale now s) q.streams q (freed now id q) (λ k. refl) refl refl (number.fresh_rising 0 q.next_number now s.messages (h.rising id)) h
 
 pub numbers_kept : IsKept IsNumbered
-numbers_kept = kept_so IsNumbered (λ now id size q told some next h. number.turn_numbered now id size q told h) freed_numbered number.steps_numbered number.restarted_numbered
+numbers_kept = kept_so IsNumbered (λ now id size q emitted some next h. number.turn_numbered now id size q emitted h) freed_numbered number.steps_numbered number.restarted_numbered
 
 pub rests_kept : IsKept HasRests
-rests_kept = kept_so HasRests (λ now id size q told some next h. rest.turn_rests now id size q told h) (λ now id q h. record { rests = rest.without_stale_rests now id q h }) rest.steps_rests rest.restarted_rests
+rests_kept = kept_so HasRests (λ now id size q emitted some next h. rest.turn_rests now id size q emitted h) (λ now id q h. record { rests = rest.without_stale_rests now id q h }) rest.steps_rests rest.restarted_rests

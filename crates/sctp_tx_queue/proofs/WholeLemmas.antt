@@ -39,10 +39,10 @@ pub whole_line : (id bytes priority size : ℕ) (n : MessageNumbers) (ms : List 
 whole_line id bytes priority size n [] sch h = absurd (cc)
 whole_line id bytes priority size n (m ∷ rest) sch h = refl
 
-pub whole_emitted : {P : Type 0} → (id size : ℕ) (is_low is_total_low : Bool) (n : MessageNumbers) (ms : List Queued) (told : Emitted P) → is_front_whole size ms ≡ true
-    → emit_events (production id is_low is_total_low (front_lifecycle ms)) told ≡ emitted_made id is_low is_total_low (front_made id size n ms) told
-whole_emitted id size is_low is_total_low n [] told h = absurd (cc)
-whole_emitted id size is_low is_total_low n (m ∷ rest) told h = ap (λ b. emit_events (production id is_low is_total_low (cond b m.lifecycle None)) told) (whole_ends size m h)
+pub whole_emitted : {P : Type 0} → (id size : ℕ) (is_low is_total_low : Bool) (n : MessageNumbers) (ms : List Queued) (emitted : Emitted P) → is_front_whole size ms ≡ true
+    → emit_events (production id is_low is_total_low (front_lifecycle ms)) emitted ≡ emitted_made id is_low is_total_low (front_made id size n ms) emitted
+whole_emitted id size is_low is_total_low n [] emitted h = absurd (cc)
+whole_emitted id size is_low is_total_low n (m ∷ rest) emitted h = ap (λ b. emit_events (production id is_low is_total_low (cond b m.lifecycle None)) emitted) (whole_ends size m h)
 
 -- ---- the stream of a fragment among the others
 
@@ -66,9 +66,9 @@ pub fresh_same : (now : ℕ) (ms : List Queued) → is_front_stale now ms ≡ fa
 fresh_same now [] h = refl
 fresh_same now (m ∷ rest) h = ap (λ b. cond b (fresh now rest) (m ∷ rest)) h
 
-pub dropped_none : {P : Type 0} → (now : ℕ) (ms : List Queued) (told : Emitted P) → is_front_stale now ms ≡ false → told ≡ drop_expired now ms told
-dropped_none now [] told h = refl
-dropped_none now (m ∷ rest) told h = sym (ap (λ b. cond b (drop_expired now rest (emit_events (expiry m.lifecycle) (give_up m.number Lifetime told))) told) h)
+pub dropped_none : {P : Type 0} → (now : ℕ) (ms : List Queued) (emitted : Emitted P) → is_front_stale now ms ≡ false → emitted ≡ drop_expired now ms emitted
+dropped_none now [] emitted h = refl
+dropped_none now (m ∷ rest) emitted h = sym (ap (λ b. cond b (drop_expired now rest (emit_events (expiry m.lifecycle) (give_up m.number Lifetime emitted))) emitted) h)
 
 pub streams_fresh : (now id : ℕ) (ss : Streams) → is_front_stale now (stream id ss).messages ≡ false → ss ≡ streams_without_stale now id ss
 streams_fresh now id ss h = go (lookup (is_at (nat_cmp id)) ss.entries) refl

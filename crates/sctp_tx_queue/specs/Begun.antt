@@ -42,7 +42,7 @@ abbrev pub AddedStays : Type 0
 AddedStays = (id : ℕ) (m : Queued) (q : Queue) → StaysBegun q (add id m q)
 
 abbrev pub ThresholdStays : Type 0
-ThresholdStays = (id bytes : ℕ) (q : Queue) (told : Emitted (List ℕ)) → StaysBegun q (set_low_threshold id bytes q told).queue
+ThresholdStays = (id bytes : ℕ) (q : Queue) (emitted : Emitted (List ℕ)) → StaysBegun q (set_low_threshold id bytes q emitted).queue
 
 abbrev pub PriorityStays : Type 0
 PriorityStays = (id priority : ℕ) (q : Queue) → StaysBegun q (set_priority id priority q)
@@ -51,14 +51,14 @@ abbrev pub ModeStays : Type 0
 ModeStays = (is_interleaved : Bool) (q : Queue) → StaysBegun q (set_mode is_interleaved q)
 
 abbrev pub PreparedStays : Type 0
-PreparedStays = (id : ℕ) (q : Queue) (told : Emitted (List ℕ)) → StaysBegun q (prepare_reset id q told).queue
+PreparedStays = (id : ℕ) (q : Queue) (emitted : Emitted (List ℕ)) → StaysBegun q (prepare_reset id q emitted).queue
 
 -- requests, commits and refusals of resets
 abbrev pub StepsStay : Type 0
 StepsStay = (step : ResetStep) (ids : List ℕ) (q : Queue) → StaysBegun q (each_stepped step ids q)
 
 abbrev pub DiscardStays : Type 0
-DiscardStays = (id message : ℕ) (q : Queue) (told : Emitted (List ℕ)) → OthersStayBegun id message q (discard id message q told).queue
+DiscardStays = (id message : ℕ) (q : Queue) (emitted : Emitted (List ℕ)) → OthersStayBegun id message q (discard id message q emitted).queue
 
 -- a new association begins with none
 abbrev pub ResetEnds : Type 0

@@ -70,20 +70,20 @@ abbrev pub AddedInOrder : Type 0
 AddedInOrder = (id : ℕ) (m : Queued) (q : Queue) → is_waiting m ≡ true → IsInOrder q → IsInOrder (add id m q)
 
 abbrev pub ProducedInOrder : Type 0
-ProducedInOrder = (now size : ℕ) (q : Queue) (told : Emitted (List ℕ)) → 0 < size → IsInOrder q → IsInOrder (produce now size q told).queue
+ProducedInOrder = (now size : ℕ) (q : Queue) (emitted : Emitted (List ℕ)) → 0 < size → IsInOrder q → IsInOrder (produce now size q emitted).queue
 
 pub record SettingsInOrder : Type 0 where
-  pub threshold : (id bytes : ℕ) (q : Queue) (told : Emitted (List ℕ)) → IsInOrder q → IsInOrder (set_low_threshold id bytes q told).queue
+  pub threshold : (id bytes : ℕ) (q : Queue) (emitted : Emitted (List ℕ)) → IsInOrder q → IsInOrder (set_low_threshold id bytes q emitted).queue
   pub priority : (id priority : ℕ) (q : Queue) → IsInOrder q → IsInOrder (set_priority id priority q)
   -- the mode is set anew, or nothing is sent
   pub mode : (is_interleaved : Bool) (q : Queue) → (q.scheduler.is_interleaved ≡ is_interleaved) ⊎ IsUnsent q → IsInOrder q → IsInOrder (set_mode is_interleaved q)
 
 pub record ResetsInOrder : Type 0 where
-  pub prepared : (id : ℕ) (q : Queue) (told : Emitted (List ℕ)) → IsInOrder q → IsInOrder (prepare_reset id q told).queue
+  pub prepared : (id : ℕ) (q : Queue) (emitted : Emitted (List ℕ)) → IsInOrder q → IsInOrder (prepare_reset id q emitted).queue
   pub steps : (step : ResetStep) (ids : List ℕ) (q : Queue) → IsInOrder q → IsInOrder (each_stepped step ids q)
 
 abbrev pub DiscardedInOrder : Type 0
-DiscardedInOrder = (id message : ℕ) (q : Queue) (told : Emitted (List ℕ)) → IsInOrder q → IsInOrder (discard id message q told).queue
+DiscardedInOrder = (id message : ℕ) (q : Queue) (emitted : Emitted (List ℕ)) → IsInOrder q → IsInOrder (discard id message q emitted).queue
 
 pub record RestartedInOrder : Type 0 where
   pub order : (q : Queue) → IsInOrder q → IsInOrder (reset q)
@@ -93,24 +93,24 @@ pub record RestartedInOrder : Type 0 where
 pub record CallsNumber : Type 0 where
   pub new : (o : Options) → IsNumbered (queue o)
   pub added : (id : ℕ) (m : Queued) (q : Queue) → m.number ≡ q.next_number → q.next_number + 1 < 2 ^ 32 → IsNumbered q → IsNumbered (add id m q)
-  pub produced : (now size : ℕ) (q : Queue) (told : Emitted (List ℕ)) → IsNumbered q → IsNumbered (produce now size q told).queue
-  pub threshold : (id bytes : ℕ) (q : Queue) (told : Emitted (List ℕ)) → IsNumbered q → IsNumbered (set_low_threshold id bytes q told).queue
+  pub produced : (now size : ℕ) (q : Queue) (emitted : Emitted (List ℕ)) → IsNumbered q → IsNumbered (produce now size q emitted).queue
+  pub threshold : (id bytes : ℕ) (q : Queue) (emitted : Emitted (List ℕ)) → IsNumbered q → IsNumbered (set_low_threshold id bytes q emitted).queue
   pub priority : (id priority : ℕ) (q : Queue) → IsNumbered q → IsNumbered (set_priority id priority q)
   pub mode : (is_interleaved : Bool) (q : Queue) → IsNumbered q → IsNumbered (set_mode is_interleaved q)
-  pub discarded : (id message : ℕ) (q : Queue) (told : Emitted (List ℕ)) → IsNumbered q → IsNumbered (discard id message q told).queue
-  pub prepared : (id : ℕ) (q : Queue) (told : Emitted (List ℕ)) → IsNumbered q → IsNumbered (prepare_reset id q told).queue
+  pub discarded : (id message : ℕ) (q : Queue) (emitted : Emitted (List ℕ)) → IsNumbered q → IsNumbered (discard id message q emitted).queue
+  pub prepared : (id : ℕ) (q : Queue) (emitted : Emitted (List ℕ)) → IsNumbered q → IsNumbered (prepare_reset id q emitted).queue
   pub steps : (step : ResetStep) (ids : List ℕ) (q : Queue) → IsNumbered q → IsNumbered (each_stepped step ids q)
   pub restarted : (q : Queue) → IsNumbered q → IsNumbered (reset q)
 
 pub record CallsLeaveRests : Type 0 where
   pub new : (o : Options) → HasRests (queue o)
   pub added : (id : ℕ) (m : Queued) (q : Queue) → has_rest m ≡ true → HasRests q → HasRests (add id m q)
-  pub produced : (now size : ℕ) (q : Queue) (told : Emitted (List ℕ)) → HasRests q → HasRests (produce now size q told).queue
-  pub filled : (now size : ℕ) (q : Queue) (told : Emitted (List ℕ)) → 0 < size → HasRests q → IsFilled size (produce now size q told).made
-  pub threshold : (id bytes : ℕ) (q : Queue) (told : Emitted (List ℕ)) → HasRests q → HasRests (set_low_threshold id bytes q told).queue
+  pub produced : (now size : ℕ) (q : Queue) (emitted : Emitted (List ℕ)) → HasRests q → HasRests (produce now size q emitted).queue
+  pub filled : (now size : ℕ) (q : Queue) (emitted : Emitted (List ℕ)) → 0 < size → HasRests q → IsFilled size (produce now size q emitted).made
+  pub threshold : (id bytes : ℕ) (q : Queue) (emitted : Emitted (List ℕ)) → HasRests q → HasRests (set_low_threshold id bytes q emitted).queue
   pub priority : (id priority : ℕ) (q : Queue) → HasRests q → HasRests (set_priority id priority q)
   pub mode : (is_interleaved : Bool) (q : Queue) → HasRests q → HasRests (set_mode is_interleaved q)
-  pub discarded : (id message : ℕ) (q : Queue) (told : Emitted (List ℕ)) → HasRests q → HasRests (discard id message q told).queue
-  pub prepared : (id : ℕ) (q : Queue) (told : Emitted (List ℕ)) → HasRests q → HasRests (prepare_reset id q told).queue
+  pub discarded : (id message : ℕ) (q : Queue) (emitted : Emitted (List ℕ)) → HasRests q → HasRests (discard id message q emitted).queue
+  pub prepared : (id : ℕ) (q : Queue) (emitted : Emitted (List ℕ)) → HasRests q → HasRests (prepare_reset id q emitted).queue
   pub steps : (step : ResetStep) (ids : List ℕ) (q : Queue) → HasRests q → HasRests (each_stepped step ids q)
   pub restarted : (q : Queue) → HasRests q → HasRests (reset q)

@@ -7,24 +7,24 @@ use Rattle.sctp_tx_queue.specs.Produced.{turn, next_stream, streams_without_stal
 use Rattle.sctp_tx_queue.specs.Resets.{each_stepped}
 
 -- all is as it was
-pub record Same {P : Type 0} (q : Queue) (told : Emitted P) (after : Queue) (later : Emitted P) : Type 0 where
+pub record Same {P : Type 0} (q : Queue) (emitted : Emitted P) (after : Queue) (later : Emitted P) : Type 0 where
   pub queue : after ≡ q
-  pub events : later ≡ told
+  pub events : later ≡ emitted
 
 -- the expired messages at the front of a stream are dropped, with their events, and nothing else
-pub record Freed {P : Type 0} (now id : ℕ) (q : Queue) (told : Emitted P) (after : Queue) (later : Emitted P) : Type 0 where
+pub record Freed {P : Type 0} (now id : ℕ) (q : Queue) (emitted : Emitted P) (after : Queue) (later : Emitted P) : Type 0 where
   pub queue : after ≡ record q { streams = streams_without_stale now id q.streams }
-  pub events : later ≡ drop_expired now (stream id q.streams).messages told
+  pub events : later ≡ drop_expired now (stream id q.streams).messages emitted
 
 -- so many streams had their turn and gave no fragment: all their messages had expired
 abbrev pub Passed : {P : Type 0} → ℕ → ℕ → ℕ → Queue → Emitted P → Queue → Emitted P → Type 0
-Passed zero now size q told after later = Same q told after later
-Passed (suc turns) now size q told after later =
-    (id : ℕ) × ((next_stream q ≡ Some id) × (((turn now id size q told).made ≡ None) × Passed turns now size (turn now id size q told).queue (turn now id size q told).emitted after later))
+Passed zero now size q emitted after later = Same q emitted after later
+Passed (suc turns) now size q emitted after later =
+    (id : ℕ) × ((next_stream q ≡ Some id) × (((turn now id size q emitted).made ≡ None) × Passed turns now size (turn now id size q emitted).queue (turn now id size q emitted).emitted after later))
 
 -- a turn that was not taken to its end
 abbrev pub Stopped : {P : Type 0} → ℕ → ℕ → Queue → Emitted P → Queue → Emitted P → Type 0
-Stopped now id q told after later = Same q told after later ⊎ Freed now id q told after later
+Stopped now id q emitted after later = Same q emitted after later ⊎ Freed now id q emitted after later
 
 -- `produce` was not taken to its end: no fragment was made
 pub record Interrupted {P : Type 0} (now size : ℕ) (first : Queue) (before : Emitted P) (after : Queue) (later : Emitted P) : Type 0 where

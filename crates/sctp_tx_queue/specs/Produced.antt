@@ -41,8 +41,8 @@ fresh now (m ∷ rest) = if is_stale now m then fresh now rest else m ∷ rest
 
 -- what is emitted of them
 abbrev pub drop_expired : {P : Type 0} → ℕ → List Queued → Emitted P → Emitted P
-drop_expired now [] told = told
-drop_expired now (m ∷ rest) told = if is_stale now m then drop_expired now rest (emit_events (expiry m.lifecycle) (give_up m.number Lifetime told)) else told
+drop_expired now [] emitted = emitted
+drop_expired now (m ∷ rest) emitted = if is_stale now m then drop_expired now rest (emit_events (expiry m.lifecycle) (give_up m.number Lifetime emitted)) else emitted
 
 abbrev pub without_stale : ℕ → Stream → Stream
 without_stale now s = record s { messages = fresh now s.messages }
@@ -173,14 +173,14 @@ abbrev pub streams_after : ℕ → ℕ → Streams → Streams
 streams_after id size ss = put_stream id (advance size (stream id ss)) ss
 
 abbrev pub emitted_made : {P : Type 0} → ℕ → Bool → Bool → Option Produced → Emitted P → Emitted P
-emitted_made id is_low is_total_low None told = told
-emitted_made id is_low is_total_low (Some made) told = emit_events (production id is_low is_total_low made.lifecycle) told
+emitted_made id is_low is_total_low None emitted = emitted
+emitted_made id is_low is_total_low (Some made) emitted = emit_events (production id is_low is_total_low made.lifecycle) emitted
 
 abbrev pub emitted_of : {P : Type 0} → ℕ → ℕ → Streams → Emitted P → Emitted P
-emitted_of id size ss told =
+emitted_of id size ss emitted =
     let s : Stream = stream id ss in
     emitted_made id (crosses (watched_amount s) (watched_amount (advance size s)))
-    (crosses (watched_total ss) (watched_total (streams_after id size ss))) (next_fragment id size s) told
+    (crosses (watched_total ss) (watched_total (streams_after id size ss))) (next_fragment id size s) emitted
 
 -- the stream that sent a fragment goes in line for its next one; one that had none leaves
 abbrev pub in_line : ℕ → ℕ → ℕ → Option Produced → Scheduler → Scheduler
@@ -193,7 +193,7 @@ begun_by id is_interleaved None = None
 begun_by id is_interleaved (Some made) = if made.fragment.is_end then None else (if is_interleaved then None else Some id)
 
 abbrev pub turn_from : {P : Type 0} → ℕ → ℕ → Streams → Queue → Emitted P → Turn P
-turn_from id size ss q told =
+turn_from id size ss q emitted =
     let made : Option Produced = next_fragment id size (stream id ss) in
     let after : Streams = streams_after id size ss in
     record {
@@ -202,12 +202,12 @@ turn_from id size ss q told =
         scheduler = in_line id (sendable (stream id after)) (stream id after).priority made q.scheduler;
         begun = begun_by id q.scheduler.is_interleaved made;
       };
-      emitted = emitted_of id size ss told;
+      emitted = emitted_of id size ss emitted;
       made = made;
     }
 
 abbrev pub turn : {P : Type 0} → ℕ → ℕ → ℕ → Queue → Emitted P → Turn P
-turn now id size q told = turn_from id size (streams_without_stale now id q.streams) q (drop_expired now (stream id q.streams).messages told)
+turn now id size q emitted = turn_from id size (streams_without_stale now id q.streams) q (drop_expired now (stream id q.streams).messages emitted)
 
 -- ---- the next fragment of all
 
@@ -216,16 +216,16 @@ abbrev pub next_stream : Queue → Option ℕ
 next_stream q = if is_some q.begun then q.begun else peek q.scheduler
 
 abbrev pub idle : {P : Type 0} → Queue → Emitted P → Turn P
-idle q told = record { queue = q; emitted = told; made = None }
+idle q emitted = record { queue = q; emitted = emitted; made = None }
 
 -- streams whose messages all expired give none, and the next one is asked
 abbrev pub produce_within : {P : Type 0} → ℕ → ℕ → ℕ → Queue → Emitted P → Turn P
-produce_within zero now size q told = idle q told
-produce_within (suc turns) now size q told =
+produce_within zero now size q emitted = idle q emitted
+produce_within (suc turns) now size q emitted =
     unwrap_or (option_map (λ id.
-    let t = turn now id size q told in
-    if is_some t.made then t else produce_within turns now size t.queue t.emitted) (next_stream q)) (idle q told)
+    let t = turn now id size q emitted in
+    if is_some t.made then t else produce_within turns now size t.queue t.emitted) (next_stream q)) (idle q emitted)
 
 -- each turn without a fragment ends a stream's line, so there are enough
 abbrev pub produce : {P : Type 0} → ℕ → ℕ → Queue → Emitted P → Turn P
-produce now size q told = produce_within (length q.scheduler.times + 2) now size q told
+produce now size q emitted = produce_within (length q.scheduler.times + 2) now size q emitted

@@ -17,8 +17,8 @@ is_partly m = nat_lt 0 m.offset
 
 -- what is emitted of the messages of which nothing is sent: each is given up
 abbrev pub emitted_waiting : {P : Type 0} → List Queued → Emitted P → Emitted P
-emitted_waiting [] told = told
-emitted_waiting (m ∷ rest) told = emitted_waiting rest (if is_partly m then told else emit_events (expiry m.lifecycle) (give_up m.number Reset told))
+emitted_waiting [] emitted = emitted
+emitted_waiting (m ∷ rest) emitted = emitted_waiting rest (if is_partly m then emitted else emit_events (expiry m.lifecycle) (give_up m.number Reset emitted))
 
 -- a stream that flows waits for the end of its partly sent message, if it has one
 abbrev pub waiting : Bool → PauseState → PauseState
@@ -31,11 +31,11 @@ abbrev pub prepare_stream : Stream → Stream
 prepare_stream s = record s { messages = filter is_partly s.messages; pause = waiting (length (filter is_partly s.messages) == 0) s.pause }
 
 abbrev pub prepare_reset : {P : Type 0} → ℕ → Queue → Emitted P → Changed P
-prepare_reset id q told =
+prepare_reset id q emitted =
     let ss : Streams = put_stream id (prepare_stream (stream id q.streams)) (open_stream id q.streams) in
     record {
       queue = record q { streams = ss; scheduler = hears id (stream id ss) q.scheduler };
-      emitted = emitted_waiting (stream id q.streams).messages told;
+      emitted = emitted_waiting (stream id q.streams).messages emitted;
     }
 
 -- ---- streams that wait for a request, are in one, or have its answer

@@ -58,13 +58,13 @@ streams_from now tx ss = record ss { entries = entries_from now ss.default_thres
 -- ---- the queue
 
 -- the scheduler is given what these streams have to send
-abbrev pub each_heard : List ℕ → Streams → Scheduler → Scheduler
-each_heard [] ss sch = sch
-each_heard (id ∷ ids) ss sch = each_heard ids ss (hears id (stream id ss) sch)
+abbrev pub each_scheduled : List ℕ → Streams → Scheduler → Scheduler
+each_scheduled [] ss sch = sch
+each_scheduled (id ∷ ids) ss sch = each_scheduled ids ss (hears id (stream id ss) sch)
 
 -- the virtual time begins at 0
 abbrev pub scheduler_from : Bool → List ℕ → Streams → Scheduler → Scheduler
-scheduler_from is_interleaved ids ss sch = each_heard ids ss (enable_message_interleaving is_interleaved (scheduler sch.most_payload))
+scheduler_from is_interleaved ids ss sch = each_scheduled ids ss (enable_message_interleaving is_interleaved (scheduler sch.most_payload))
 
 -- the stream of the message that is partly sent
 abbrev pub partly_sent : List StreamMessage → Option ℕ

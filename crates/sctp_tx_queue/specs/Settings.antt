@@ -20,11 +20,11 @@ with_priority priority s = record s { priority = priority }
 
 -- an amount that was above the threshold and is at most the new one is low
 abbrev pub set_low_threshold : {P : Type 0} → ℕ → ℕ → Queue → Emitted P → Changed P
-set_low_threshold id bytes q told =
+set_low_threshold id bytes q emitted =
     let s : Stream = stream id q.streams in
     record {
       queue = record q { streams = put_stream id (with_threshold bytes s) (open_stream id q.streams) };
-      emitted = emit_events (when (crosses (watched_amount s) (watched_amount (with_threshold bytes s))) (OnBufferedAmountLow id)) told;
+      emitted = emit_events (when (crosses (watched_amount s) (watched_amount (with_threshold bytes s))) (OnBufferedAmountLow id)) emitted;
     }
 
 -- a finish time that is there stays
@@ -57,11 +57,11 @@ begun_without id None = None
 begun_without id (Some begun) = if begun == id then None else Some begun
 
 abbrev pub discard_from : {P : Type 0} → ℕ → Streams → Option (Option ℕ) → Queue → Emitted P → Changed P
-discard_from id ss None q told = record { queue = record q { streams = ss }; emitted = told }
-discard_from id ss (Some lifecycle) q told = record {
+discard_from id ss None q emitted = record { queue = record q { streams = ss }; emitted = emitted }
+discard_from id ss (Some lifecycle) q emitted = record {
   queue = record q { streams = ss; scheduler = hears id (stream id ss) q.scheduler; begun = begun_without id q.begun };
-  emitted = emit_events (expiry lifecycle) told;
+  emitted = emit_events (expiry lifecycle) emitted;
 }
 
 abbrev pub discard : {P : Type 0} → ℕ → ℕ → Queue → Emitted P → Changed P
-discard id number q told = discard_from id (streams_discarded id number q.streams) (front_discarded number (stream id q.streams).messages) q told
+discard id number q emitted = discard_from id (streams_discarded id number q.streams) (front_discarded number (stream id q.streams).messages) q emitted

@@ -8,6 +8,6 @@ use Rattle.sctp_tx_queue.specs.Interrupted.{Interrupted, SomeStepped}
 use Rattle.sctp_tx_queue.specs.Restarted.{SomeRestarted}
 
 pub record IsKept (P : Queue → Type 0) : Type 0 where
-  pub produced : (now size : ℕ) (q : Queue) (told : Emitted (List ℕ)) (after : Queue) (later : Emitted (List ℕ)) → 0 < size → P q → Interrupted now size q told after later → P after
+  pub produced : (now size : ℕ) (q : Queue) (emitted : Emitted (List ℕ)) (after : Queue) (later : Emitted (List ℕ)) → 0 < size → P q → Interrupted now size q emitted after later → P after
   pub stepped : (step : ResetStep) (ids : List ℕ) (q after : Queue) → P q → SomeStepped step ids q after → P after
   pub restarted : (q after : Queue) → P q → SomeRestarted q after → P after

@@ -22,14 +22,15 @@ ghost use Rattle.sctp_tx_queue.specs.Readiness.{readiness};
 ghost use Rattle.sctp_tx_queue.specs.Restarted.{reset, restarted_one, each_restarted, SomeRestarted, NumbersGoOn};
 ghost use Rattle.sctp_tx_queue.specs.Views.{produced_of, queued_of};
 
+mod emitting;
 pub mod message;
 mod restoring;
 mod sending;
 pub mod stream;
 pub mod streams;
-mod telling;
 
 use crate::data_to_send::DataToSend;
+use emitting::{emit_expired, emit_if};
 use message::QueuedMessage;
 use sctp_serial::{LifecycleId, Message, OutgoingMessageId, SocketTime, StreamId};
 use sctp_state::{
@@ -40,7 +41,6 @@ use std::alloc::{AllocError, Global};
 use std::marker::Model;
 use stream::ResetStep;
 use streams::Streams;
-use telling::{tell_expired, tell_if};
 
 /// The messages of all streams that wait or are partly sent, and which of them goes next.
 #[derive(Drop)]
@@ -77,7 +77,7 @@ fn leave_line(
     ensures silent { OnErr result (events.new ≡ events.old) }
 {
     let mark = events.mark();
-    if tell_expired(events, lifecycle_id).is_err() {
+    if emit_expired(events, lifecycle_id).is_err() {
         events.roll_back(mark);
         return Err(AllocError);
     }
@@ -196,7 +196,7 @@ impl SendQueue {
             return Ok(());
         }
         let mark = events.mark();
-        if self.streams.tell_stale(id, now, events).is_err() {
+        if self.streams.emit_stale(id, now, events).is_err() {
             events.roll_back(mark);
             return Err(AllocError);
         }
@@ -326,7 +326,7 @@ impl SendQueue {
     {
         let mark = events.mark();
         let is_low = self.streams.is_low_at(id, bytes);
-        if tell_if(events, is_low, SocketEvent::OnBufferedAmountLow(id)).is_err() {
+        if emit_if(events, is_low, SocketEvent::OnBufferedAmountLow(id)).is_err() {
             events.roll_back(mark);
             return Err(AllocError);
         }
@@ -415,7 +415,7 @@ impl SendQueue {
     {
         let mark = events.mark();
         let bytes = self.streams.sendable_prepared(id);
-        match self.tell_and_open(id, bytes, events) {
+        match self.emit_and_open(id, bytes, events) {
             Ok(()) => {
                 self.streams.prepare_reset(id);
                 Ok(())
@@ -428,7 +428,7 @@ impl SendQueue {
     }
 
     /// Takes the memory for a stream that is to be reset, and emits the events of the messages that it drops.
-    fn tell_and_open(
+    fn emit_and_open(
         &mut self,
         id: StreamId,
         bytes: usize,
@@ -442,7 +442,7 @@ impl SendQueue {
         ensures err { OnErr result (self.new ≡ self.old) }
         ensures grown { OnErr result (Grown events.old events.new) }
     {
-        self.streams.tell_waiting(id, events)?;
+        self.streams.emit_waiting(id, events)?;
         let priority = self.streams.priority(id);
         self.streams.open(self.alloc, id)?;
         if bytes == 0 {

@@ -5,5 +5,5 @@ pub returns : goal.returns
 returns c = record {
   offered = offer_row;
   accepted = λ message lifecycle mixed x q s k sh expires limit some few. accept_row message lifecycle mixed x q s.outstanding.items sh k expires limit some few;
-  settings = λ message lifecycle mixed x q s k sh id n told. with_settings message lifecycle mixed x q s.outstanding.items sh id n told;
+  settings = λ message lifecycle mixed x q s k sh id n emitted. with_settings message lifecycle mixed x q s.outstanding.items sh id n emitted;
 }

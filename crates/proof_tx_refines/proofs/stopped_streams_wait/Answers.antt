@@ -5,5 +5,5 @@ pub returns : goal.returns
 returns c = record {
   line = calls_keep_line;
   next = λ x q ordered numbered line paused id e. next_flows x q ordered line paused id e;
-  produces = λ x q ordered numbered line paused now size told some. produces_pause x now size some q told ordered numbered line paused;
+  produces = λ x q ordered numbered line paused now size emitted some. produces_pause x now size some q emitted ordered numbered line paused;
 }

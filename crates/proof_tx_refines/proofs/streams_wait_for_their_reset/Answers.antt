@@ -16,5 +16,5 @@ returns c = record {
   raising = λ message mixed x q id. prepared_raises message mixed x q id;
   sending = λ message mixed x ids. requests_sent message mixed ids x;
   opening = λ message mixed x ids. answers_open message mixed ids x;
-  begins = λ message lifecycle mixed x q r s t told later k sh h still l. queue_begins message lifecycle mixed x q r t told later k sh.queue h still l;
+  begins = λ message lifecycle mixed x q r s t emitted later k sh h still l. queue_begins message lifecycle mixed x q r t emitted later k sh.queue h still l;
 }

@@ -4,7 +4,7 @@ ghost use Rattle.std.specs.Prelude.{◌≡◌, ◌%◌, ◌^◌, ◌≤◌, IsTr
 ghost use Rattle.sctp_state.specs.Handover.{transmission_of, handover_state_of, stream_message_of};
 ghost use Rattle.sctp_state.specs.Validity.{is_valid_state, outgoing_ids};
 ghost use Rattle.sctp_state.specs.declared.api.handover.HandoverSocketState.TheVariants.{Connected};
-ghost use Rattle.sctp_tx_queue.specs.Restored.{restore, each_heard, scheduler_from, partly_sent, begun_from};
+ghost use Rattle.sctp_tx_queue.specs.Restored.{restore, each_scheduled, scheduler_from, partly_sent, begun_from};
 
 use crate::send_queue::SendQueue;
 use crate::send_queue::streams::Streams;
@@ -15,12 +15,12 @@ use sctp_stream_scheduler::StreamScheduler;
 use std::alloc::{AllocError, Global};
 
 /// Gives the scheduler what the streams of a record have to send.
-fn hear_all(
+fn schedule_all(
     scheduler: &mut StreamScheduler,
     streams: &Streams,
     records: &[HandoverOutgoingStream],
 ) -> Result<(), AllocError>
-    ensures { OnOk result (scheduler.new ≡ each_heard (outgoing_ids records.now) streams.now scheduler.old) }
+    ensures { OnOk result (scheduler.new ≡ each_scheduled (outgoing_ids records.now) streams.now scheduler.old) }
 {
     for stream in records {
         let id = StreamId(stream.id);
@@ -43,7 +43,7 @@ fn scheduler_from(
 {
     let mut scheduler = StreamScheduler::new(alloc, old.max_payload());
     scheduler.enable_message_interleaving(is_interleaved);
-    hear_all(&mut scheduler, streams, records)?;
+    schedule_all(&mut scheduler, streams, records)?;
     Ok(scheduler)
 }
 

@@ -11,8 +11,8 @@ ghost use Rattle.sctp_tx_queue.specs.Whole.{is_front_whole};
 ghost use Rattle.sctp_tx_queue.specs.Views.{produced_of};
 
 use crate::data_to_send::DataToSend;
+use crate::send_queue::emitting::{Lows, emit_production};
 use crate::send_queue::stream::Stream;
-use crate::send_queue::telling::{Lows, tell_production};
 use sctp_serial::{LifecycleId, StreamId};
 use sctp_state::Events;
 use sctp_stream_scheduler::StreamScheduler;
@@ -43,7 +43,7 @@ fn next_after(stream: &Stream, size: usize, is_total_low: bool) -> Next
 }
 
 /// Emits the events of a fragment, and puts its stream in line for the next one.
-fn tell_and_queue(
+fn emit_and_queue(
     scheduler: &mut StreamScheduler,
     events: &mut Events,
     id: StreamId,
@@ -55,7 +55,7 @@ fn tell_and_queue(
     ensures err { OnErr result (scheduler.new ≡ scheduler.old) }
     ensures grown { OnErr result (Grown events.old events.new) }
 {
-    tell_production(events, id, next.lows, lifecycle_id)?;
+    emit_production(events, id, next.lows, lifecycle_id)?;
     scheduler.take_turn(id, next.bytes, next.priority)
 }
 
@@ -73,7 +73,7 @@ fn go_in_line(
     ensures silent { OnErr result (events.new ≡ events.old) }
 {
     let mark = events.mark();
-    let done = tell_and_queue(scheduler, events, id, next, lifecycle_id);
+    let done = emit_and_queue(scheduler, events, id, next, lifecycle_id);
     if done.is_err() {
         events.roll_back(mark);
     }

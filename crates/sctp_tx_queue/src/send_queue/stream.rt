@@ -16,8 +16,8 @@ ghost use Rattle.sctp_tx_queue.specs.Whole.{is_front_whole, front_ended, front_l
 ghost use Rattle.sctp_tx_queue.specs.Views.{produced_of};
 
 use crate::data_to_send::DataToSend;
+use crate::send_queue::emitting::emit_dropped;
 use crate::send_queue::message::{MessageNumbers, QueuedMessage};
-use crate::send_queue::telling::tell_dropped;
 use sctp_serial::{LifecycleId, Mid, OutgoingMessageId, SerialNumber, SocketTime, Ssn, StreamId};
 use sctp_state::api::handover::{HandoverOutgoingStream, HandoverStreamMessage};
 use sctp_state::{Events, GivenUpCause, ThresholdWatcher};
@@ -88,7 +88,7 @@ fn is_front_stale(messages: &VecDeque<QueuedMessage>, now: SocketTime) -> bool
 }
 
 /// Emits the events of the messages at the front that expired before they were begun.
-fn tell_stale_front(
+fn emit_stale_front(
     messages: &VecDeque<QueuedMessage>,
     now: SocketTime,
     events: &mut Events,
@@ -101,7 +101,7 @@ fn tell_stale_front(
             return Ok(());
         }
         let stale = GivenUpCause::Lifetime;
-        tell_dropped(events, message.message_id(), stale, message.lifecycle_id())?;
+        emit_dropped(events, message.message_id(), stale, message.lifecycle_id())?;
     }
     Ok(())
 }
@@ -157,14 +157,14 @@ fn pop_front(messages: &mut VecDeque<QueuedMessage>, buffered: &mut ThresholdWat
 }
 
 /// Emits of the messages of which nothing is sent that they are given up.
-fn tell_waiting(messages: &VecDeque<QueuedMessage>, events: &mut Events) -> Result<(), AllocError>
+fn emit_waiting(messages: &VecDeque<QueuedMessage>, events: &mut Events) -> Result<(), AllocError>
     ensures ok { OnOk result (events.new ≡ emitted_waiting messages.now.items events.old) }
     ensures err { OnErr result (Grown events.old events.new) }
 {
     for message in messages.iter() {
         if !message.is_partly_sent() {
             let reset = GivenUpCause::Reset;
-            tell_dropped(events, message.message_id(), reset, message.lifecycle_id())?;
+            emit_dropped(events, message.message_id(), reset, message.lifecycle_id())?;
         }
     }
     Ok(())
@@ -479,11 +479,11 @@ impl Stream {
     }
 
     /// Emits the events of the messages at the front that expired before they were begun.
-    pub fn tell_stale(&self, now: SocketTime, events: &mut Events) -> Result<(), AllocError>
+    pub fn emit_stale(&self, now: SocketTime, events: &mut Events) -> Result<(), AllocError>
         ensures ok { OnOk result (events.new ≡ drop_expired now self.now.messages events.old) }
         ensures err { OnErr result (Grown events.old events.new) }
     {
-        tell_stale_front(&self.messages, now, events)
+        emit_stale_front(&self.messages, now, events)
     }
 
     /// Drops these messages.
@@ -714,11 +714,11 @@ impl Stream {
     }
 
     /// Emits of the messages of which nothing is sent that they are given up.
-    pub fn tell_waiting(&self, events: &mut Events) -> Result<(), AllocError>
+    pub fn emit_waiting(&self, events: &mut Events) -> Result<(), AllocError>
         ensures ok { OnOk result (events.new ≡ emitted_waiting self.now.messages events.old) }
         ensures err { OnErr result (Grown events.old events.new) }
     {
-        tell_waiting(&self.messages, events)
+        emit_waiting(&self.messages, events)
     }
 
     /// Drops these messages. The stream can be reset once none is partly sent.

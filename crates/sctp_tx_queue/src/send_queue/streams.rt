@@ -238,7 +238,7 @@ impl Streams {
     }
 
     /// Emits the events of the messages at the front of a stream that expired before they were begun.
-    pub fn tell_stale(
+    pub fn emit_stale(
         &self,
         id: StreamId,
         now: SocketTime,
@@ -248,7 +248,7 @@ impl Streams {
         ensures err { OnErr result (Grown events.old events.new) }
     {
         match self.streams.get(&id.0) {
-            Some(stream) => stream.tell_stale(now, events),
+            Some(stream) => stream.emit_stale(now, events),
             None => Ok(()),
         }
     }
@@ -378,12 +378,12 @@ impl Streams {
     }
 
     /// Emits of the messages of a stream of which nothing is sent that they are given up.
-    pub fn tell_waiting(&self, id: StreamId, events: &mut Events) -> Result<(), AllocError>
+    pub fn emit_waiting(&self, id: StreamId, events: &mut Events) -> Result<(), AllocError>
         ensures ok { OnOk result (events.new ≡ emitted_waiting (stream id.0 self.now).messages events.old) }
         ensures err { OnErr result (Grown events.old events.new) }
     {
         match self.streams.get(&id.0) {
-            Some(stream) => stream.tell_waiting(events),
+            Some(stream) => stream.emit_waiting(events),
             None => Ok(()),
         }
     }

@@ -4,7 +4,7 @@ use Rattle.sctp_tx_outstanding.specs.Items.{Kept, change_at}
 use Rattle.sctp_tx_outstanding.specs.Sack.{settle, ack_or_nack, new_bytes_at}
 use Rattle.sctp_chunk.specs.Covered.{is_covered}
 use Rattle.sctp_tx_outstanding.specs.Passes.{acked_from, below_from}
-use Rattle.sctp_tx_outstanding.specs.Heard.{Rest, RestFrom}
+use Rattle.sctp_tx_outstanding.specs.LastBlocks.{Rest, RestFrom}
 use Rattle.sctp_tx_outstanding.proofs.TotalsLemmas.{length_change}
 use Rattle.sctp_tx_outstanding.proofs.ReceivedLemmas.{settle_begin, acked_begin, below_begin, walk_later, from_changed, from_later, settle_from_lem, acked_from_lem, below_from_lem, rest_settle}
 use Rattle.sctp_tx_outstanding.proofs.SackLemmas.{settle_step, acked_step, below_step, summed, walk_on, kept_as}

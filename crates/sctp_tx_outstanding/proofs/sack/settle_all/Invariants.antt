@@ -1,7 +1,7 @@
 use Rattle.std.proofs.Common.{◌≡◌, ◌+◌, ◌-◌, ◌^◌, ◌<◌, ◌≤◌, min, length}
 use Rattle.sctp_tx_outstanding.specs.Sack.{settle, newly_acked, below_highest}
 use Rattle.sctp_tx_outstanding.specs.Passes.{IsWalk, settle_from, acked_from, below_from}
-use Rattle.sctp_tx_outstanding.specs.Heard.{RestFrom}
+use Rattle.sctp_tx_outstanding.specs.LastBlocks.{RestFrom}
 use Rattle.sctp_tx_outstanding.proofs.sack.settle_all.Given as goal
 
 abbrev pub invariant-loop-place : goal.invariant-loop-place

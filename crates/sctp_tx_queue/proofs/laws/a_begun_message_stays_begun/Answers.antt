@@ -4,11 +4,11 @@ use Rattle.sctp_tx_queue.proofs.laws.a_begun_message_stays_begun.Goals as goal
 pub returns : goal.returns
 returns c = record {
   added = added_stays;
-  threshold = λ id bytes q told. threshold_stays id bytes q told;
+  threshold = λ id bytes q emitted. threshold_stays id bytes q emitted;
   priority = priority_stays;
   mode = mode_stays;
-  prepared = λ id q told. prepared_stays id q told;
+  prepared = λ id q emitted. prepared_stays id q emitted;
   steps = steps_stay;
-  discarded = λ id message q told. discard_stays id message q told;
+  discarded = λ id message q emitted. discard_stays id message q emitted;
   reset = reset_begun;
 }

@@ -5,9 +5,9 @@ pub returns : goal.returns
 returns c = record {
   new = new_in_order;
   added = added_in_order;
-  produced = λ now size q told some h. produced_in_order now size q told some h;
-  settings = record { threshold = λ id bytes q told h. threshold_in_order id bytes q told h; priority = priority_in_order; mode = mode_in_order };
-  discarded = λ id message q told h. discarded_in_order id message q told h;
-  resets = record { prepared = λ id q told h. prepared_in_order id q told h; steps = steps_in_order };
+  produced = λ now size q emitted some h. produced_in_order now size q emitted some h;
+  settings = record { threshold = λ id bytes q emitted h. threshold_in_order id bytes q emitted h; priority = priority_in_order; mode = mode_in_order };
+  discarded = λ id message q emitted h. discarded_in_order id message q emitted h;
+  resets = record { prepared = λ id q emitted h. prepared_in_order id q emitted h; steps = steps_in_order };
   restarted = record { order = reset_in_order; unsent = reset_unsent };
 }

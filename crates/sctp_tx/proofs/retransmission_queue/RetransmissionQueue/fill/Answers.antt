@@ -15,7 +15,7 @@ loop-rest-preserved c =
     let said = c.in_ok-rest.ensures in
     let on = goes_on c.args.now here.invariant.0 here.left here.self here.queue here.events (map chunk_of here.chunks.items) _
     new.self new.queue new.events (map chunk_of new.chunks.items) c.in-Some.rest here.invariant.1 here.invariant.3
-    (sym (rw c.in-Some.is at said.more)) said.sender said.queue said.told said.chunks (rw c.in-Some.is at said.left) (rw c.in-Some.is at said.less) in
+    (sym (rw c.in-Some.is at said.more)) said.sender said.queue said.emitted said.chunks (rw c.in-Some.is at said.left) (rw c.in-Some.is at said.less) in
     (on.0, on.1, omega (arith, here.invariant.2, rw c.in-Some.is at said.less), on.2, sent_on c.args.self.now here.self new.self here.invariant.4 c.add_new.ensures.partly, taken_on c.args.queue.now here.queue new.queue here.invariant.5 c.add_new.ensures.taken)
 
 pub returns-clause-sender : goal.returns-clause-sender
@@ -32,10 +32,10 @@ returns-clause-queue c =
     (ended c.args.now here.invariant.0 here.left here.self here.queue here.events (map chunk_of here.chunks.items) _ here.invariant.1 here.invariant.3
     (sym (rw c.in_default.is at c.in_ok-rest.ensures.more)))
 
-pub returns-clause-told : goal.returns-clause-told
-returns-clause-told c =
+pub returns-clause-emitted : goal.returns-clause-emitted
+returns-clause-emitted c =
     let here = c.loop-rest in
-    c.in_ok-rest.ensures.told ∙ ap (λ (f : Filling (List ℕ)). f.emitted)
+    c.in_ok-rest.ensures.emitted ∙ ap (λ (f : Filling (List ℕ)). f.emitted)
     (ended c.args.now here.invariant.0 here.left here.self here.queue here.events (map chunk_of here.chunks.items) _ here.invariant.1 here.invariant.3
     (sym (rw c.in_default.is at c.in_ok-rest.ensures.more)))
 

@@ -21,8 +21,8 @@ returns-then-is_idle-clause-sender c = let e = idle c in search (rules, e)
 pub returns-then-is_idle-clause-queue : goal.returns-then-is_idle-clause-queue
 returns-then-is_idle-clause-queue c = let e = idle c in search (rules, e)
 
-pub returns-then-is_idle-clause-told : goal.returns-then-is_idle-clause-told
-returns-then-is_idle-clause-told c = let e = idle c in search (rules, e)
+pub returns-then-is_idle-clause-emitted : goal.returns-then-is_idle-clause-emitted
+returns-then-is_idle-clause-emitted c = let e = idle c in search (rules, e)
 
 pub returns-then-is_idle-clause-chunks : goal.returns-then-is_idle-clause-chunks
 returns-then-is_idle-clause-chunks c = let e = idle c in search (rules, e)

@@ -1,6 +1,6 @@
 use Rattle.std.proofs.Common.{List, sym, subst}
 use Rattle.sctp_tx_outstanding.specs.Item.{Item}
-use Rattle.sctp_tx_outstanding.specs.Heard.{Knows}
+use Rattle.sctp_tx_outstanding.specs.LastBlocks.{Knows}
 use Rattle.sctp_tx_outstanding.specs.Messages.{Finds}
 use Rattle.sctp_tx_outstanding.proofs.MessagesLemmas.{finds_changed}
 use Rattle.sctp_tx_outstanding.proofs.kept.Kept.change.Goals as goal

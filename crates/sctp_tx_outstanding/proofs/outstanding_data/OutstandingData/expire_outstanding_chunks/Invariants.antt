@@ -5,5 +5,5 @@ use Rattle.sctp_tx_outstanding.proofs.outstanding_data.OutstandingData.expire_ou
 abbrev pub invariant-loop-place : goal.invariant-loop-place
 invariant-loop-place l = record {
   items : l.self ≡ record l.initial.self { items = (expire_below l.now l.place (first_step l.initial.self.items l.initial.events)).items };
-  told : l.events ≡ (expire_below l.now l.place (first_step l.initial.self.items l.initial.events)).emitted;
+  emitted : l.events ≡ (expire_below l.now l.place (first_step l.initial.self.items l.initial.events)).emitted;
 }

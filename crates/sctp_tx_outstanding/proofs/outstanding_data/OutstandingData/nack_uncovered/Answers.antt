@@ -9,7 +9,7 @@ loop-place-init c = record {
   within = omega arith;
   cursor = walk_begin c.are_runs-is_in_runs.result c.args.blocks.now c.are_runs-is_in_runs.ensures.0;
   items = refl;
-  told = refl;
+  emitted = refl;
   lossy = refl;
   rest = c.requires;
 }
@@ -19,22 +19,22 @@ loop-place-preserved c =
     let bs = c.args.blocks.now in
     let fast = c.args.fast in
     let s = c.args.self.now.items in
-    let told = c.args.events.now in
+    let emitted = c.args.events.now in
     let k = c.loop-place.place in
     let n = c.pass_covered-block.result.1 in
     let le : k ≤ n = c.pass_covered-block.ensures.onward in
     let covered : AreCovered bs k n = c.pass_covered-block.ensures.covered in
     let rest = c.loop-place.invariant.rest in
-    let items = passed_items fast bs s told k n le rest covered c.args.self.now c.loop-place.self c.loop-place.invariant.items in
-    let events = passed_emitted fast bs s told k n le rest covered c.loop-place.events c.loop-place.invariant.told in
-    let lossy = passed_lossy fast bs s told k n le rest covered c.loop-place.is_lossy c.loop-place.invariant.lossy in
+    let items = passed_items fast bs s emitted k n le rest covered c.args.self.now c.loop-place.self c.loop-place.invariant.items in
+    let events = passed_emitted fast bs s emitted k n le rest covered c.loop-place.events c.loop-place.invariant.emitted in
+    let lossy = passed_lossy fast bs s emitted k n le rest covered c.loop-place.is_lossy c.loop-place.invariant.lossy in
     record {
       within = omega (arith, c.if-count-next.false);
       cursor = walk_past c.are_runs-is_in_runs.result bs (n + 1) (n + 1 + 1) c.pass_covered-block.result.0 (omega arith) c.pass_covered-block.ensures.cursor;
-      items = nack_next_items false fast n s told c.loop-place.self c.loop-place.events c.args.self.now items events c.nack_item.new.self c.in_ok-is_lost.ensures.items;
-      told = nack_next_emitted false fast n s told c.loop-place.self c.loop-place.events c.args.self.now items events c.nack_item.new.events c.in_ok-is_lost.ensures.told;
-      lossy = nack_next_lossy false fast n s told c.loop-place.self c.loop-place.events c.args.self.now items events c.loop-place.is_lossy c.in_ok-is_lost.is_lost _ lossy c.in_ok-is_lost.ensures.lossy refl;
-      rest = passed_rest fast bs s told k n le rest covered;
+      items = nack_next_items false fast n s emitted c.loop-place.self c.loop-place.events c.args.self.now items events c.nack_item.new.self c.in_ok-is_lost.ensures.items;
+      emitted = nack_next_emitted false fast n s emitted c.loop-place.self c.loop-place.events c.args.self.now items events c.nack_item.new.events c.in_ok-is_lost.ensures.emitted;
+      lossy = nack_next_lossy false fast n s emitted c.loop-place.self c.loop-place.events c.args.self.now items events c.loop-place.is_lossy c.in_ok-is_lost.is_lost _ lossy c.in_ok-is_lost.ensures.lossy refl;
+      rest = passed_rest fast bs s emitted k n le rest covered;
     }
 
 pub returns-then-count-next-clause-items : goal.returns-then-count-next-clause-items
@@ -43,11 +43,11 @@ returns-then-count-next-clause-items c =
     passed_items c.args.fast c.args.blocks.now c.args.self.now.items c.args.events.now c.loop-place.place c.args.count c.loop-place.invariant.within c.loop-place.invariant.rest covered
     c.args.self.now c.loop-place.self c.loop-place.invariant.items
 
-pub returns-then-count-next-clause-told : goal.returns-then-count-next-clause-told
-returns-then-count-next-clause-told c =
+pub returns-then-count-next-clause-emitted : goal.returns-then-count-next-clause-emitted
+returns-then-count-next-clause-emitted c =
     let covered = covered_less c.args.blocks.now c.loop-place.place c.args.count c.pass_covered-block.result.1 c.if-count-next.true c.pass_covered-block.ensures.covered in
     passed_emitted c.args.fast c.args.blocks.now c.args.self.now.items c.args.events.now c.loop-place.place c.args.count c.loop-place.invariant.within c.loop-place.invariant.rest covered
-    c.loop-place.events c.loop-place.invariant.told
+    c.loop-place.events c.loop-place.invariant.emitted
 
 pub returns-then-count-next-clause-lossy : goal.returns-then-count-next-clause-lossy
 returns-then-count-next-clause-lossy c =
@@ -60,10 +60,10 @@ returns-clause-items c =
     passed_items c.args.fast c.args.blocks.now c.args.self.now.items c.args.events.now c.loop-place.place c.args.count c.loop-place.invariant.within c.loop-place.invariant.rest
     (none_covered c.args.blocks.now c.loop-place.place c.args.count (omega arith)) c.args.self.now c.loop-place.self c.loop-place.invariant.items
 
-pub returns-clause-told : goal.returns-clause-told
-returns-clause-told c =
+pub returns-clause-emitted : goal.returns-clause-emitted
+returns-clause-emitted c =
     passed_emitted c.args.fast c.args.blocks.now c.args.self.now.items c.args.events.now c.loop-place.place c.args.count c.loop-place.invariant.within c.loop-place.invariant.rest
-    (none_covered c.args.blocks.now c.loop-place.place c.args.count (omega arith)) c.loop-place.events c.loop-place.invariant.told
+    (none_covered c.args.blocks.now c.loop-place.place c.args.count (omega arith)) c.loop-place.events c.loop-place.invariant.emitted
 
 pub returns-clause-lossy : goal.returns-clause-lossy
 returns-clause-lossy c =

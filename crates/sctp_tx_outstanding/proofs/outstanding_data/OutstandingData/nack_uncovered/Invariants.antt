@@ -1,6 +1,6 @@
 use Rattle.std.proofs.Common.{◌≡◌, ◌≤◌, ◌+◌, ◌-◌, false}
 use Rattle.sctp_tx_outstanding.specs.Losses.{first_step, nack_below}
-use Rattle.sctp_tx_outstanding.specs.Heard.{Rest}
+use Rattle.sctp_tx_outstanding.specs.LastBlocks.{Rest}
 use Rattle.sctp_tx_outstanding.specs.Passes.{IsWalk}
 use Rattle.sctp_tx_outstanding.proofs.outstanding_data.OutstandingData.nack_uncovered.Given as goal
 
@@ -9,7 +9,7 @@ invariant-loop-place l = record {
   within : l.place ≤ l.count;
   cursor : IsWalk l.is_in_runs l.blocks (l.place + 1) l.from;
   items : l.self ≡ record l.initial.self { items = (nack_below false l.fast l.place (first_step l.initial.self.items l.initial.events)).items };
-  told : l.events ≡ (nack_below false l.fast l.place (first_step l.initial.self.items l.initial.events)).emitted;
+  emitted : l.events ≡ (nack_below false l.fast l.place (first_step l.initial.self.items l.initial.events)).emitted;
   lossy : l.is_lossy ≡ (nack_below false l.fast l.place (first_step l.initial.self.items l.initial.events)).is_lossy;
   rest : Rest l.blocks 1 (nack_below false l.fast l.place (first_step l.initial.self.items l.initial.events)).items.kept;
 }

@@ -8,5 +8,5 @@ returns-in-Ok-clause-queue c =
     let with_streams : Queue → Queue = λ q. record q { streams = c.prepare_reset.new.self } in
     let mid = c.in-Ok.ensures.ok in
     ap with_streams (c.self-2.view_is ∙ mid)
-    ∙ prepared_is c.args.id.0 c.sendable_prepared-bytes.result c.self.inside.streams c.args.self.now c.tell_and_open.new.self c.prepare_reset.new.self c.args.events.now (ap (λ q. q.streams) c.self.view_is) c.in-Ok.ensures.open c.in-Ok.ensures.stream mid
+    ∙ prepared_is c.args.id.0 c.sendable_prepared-bytes.result c.self.inside.streams c.args.self.now c.emit_and_open.new.self c.prepare_reset.new.self c.args.events.now (ap (λ q. q.streams) c.self.view_is) c.in-Ok.ensures.open c.in-Ok.ensures.stream mid
     c.self-2.inside.streams c.prepare_reset.ensures (ap (λ q. q.streams) c.self-2.view_is) c.sendable_prepared-bytes.ensures.value

@@ -1,0 +1,90 @@
+//! What the send queue emits to the socket's user.
+
+ghost use Rattle.std.specs.Prelude.{◌≡◌, [], ◌∷◌, ◌++◌, OnOk, OnErr};
+ghost use Rattle.sctp_state.specs.Events.{event_of, expiry, give_up, emit_events, Grown};
+ghost use Rattle.sctp_tx_queue.specs.Produced.{when, fully_sent, production};
+
+use sctp_serial::{LifecycleId, OutgoingMessageId, StreamId};
+use sctp_state::{Events, GivenUp, GivenUpCause, SocketEvent};
+use std::alloc::AllocError;
+
+/// Which amounts fall to their thresholds.
+#[derive(Clone, Copy)]
+pub(crate) struct Lows {
+    pub is_low: bool,
+    pub is_total_low: bool,
+}
+
+/// A message was dropped before it was fully sent.
+pub(crate) fn emit_expired(
+    events: &mut Events,
+    lifecycle_id: Option<LifecycleId>,
+) -> Result<(), AllocError>
+    ensures ok { OnOk result (events.new ≡ emit_events (expiry lifecycle_id) events.old) }
+    ensures err { OnErr result (Grown events.old events.new) }
+{
+    if let Some(id) = lifecycle_id {
+        events.add(SocketEvent::OnLifecycleMessageExpired(id))?;
+        events.add(SocketEvent::OnLifecycleEnd(id))?;
+    }
+    Ok(())
+}
+
+/// A message was given up before a fragment of it was sent.
+pub(crate) fn emit_dropped(
+    events: &mut Events,
+    number: OutgoingMessageId,
+    cause: GivenUpCause,
+    lifecycle_id: Option<LifecycleId>,
+) -> Result<(), AllocError>
+    ensures ok { OnOk result (events.new ≡ emit_events (expiry lifecycle_id) (give_up number.0 cause events.old)) }
+    ensures err { OnErr result (Grown events.old events.new) }
+{
+    events.add_given_up(GivenUp { number, cause })?;
+    emit_expired(events, lifecycle_id)?;
+    Ok(())
+}
+
+pub(crate) fn emit_if(
+    events: &mut Events,
+    condition: bool,
+    event: SocketEvent,
+) -> Result<(), AllocError>
+    ensures ok { OnOk result (events.new ≡ emit_events (when condition (event_of event)) events.old) }
+    ensures err { OnErr result (Grown events.old events.new) }
+{
+    if condition {
+        events.add(event)?;
+    }
+    Ok(())
+}
+
+fn emit_fully_sent(events: &mut Events, lifecycle_id: Option<LifecycleId>) -> Result<(), AllocError>
+    ensures ok { OnOk result (events.new ≡ emit_events (fully_sent lifecycle_id) events.old) }
+    ensures err { OnErr result (Grown events.old events.new) }
+{
+    if let Some(id) = lifecycle_id {
+        events.add(SocketEvent::OnLifecycleMessageFullySent(id))?;
+    }
+    Ok(())
+}
+
+/// A fragment was handed out.
+pub(crate) fn emit_production(
+    events: &mut Events,
+    id: StreamId,
+    lows: Lows,
+    lifecycle_id: Option<LifecycleId>,
+) -> Result<(), AllocError>
+    ensures ok { OnOk result (events.new ≡ emit_events (production id.0 lows.is_low lows.is_total_low lifecycle_id) events.old) }
+    ensures err { OnErr result (Grown events.old events.new) }
+{
+    emit_if(events, lows.is_low, SocketEvent::OnBufferedAmountLow(id))?;
+    emit_if(
+        events,
+        lows.is_total_low,
+        SocketEvent::OnTotalBufferedAmountLow(),
+    )?;
+    emit_fully_sent(events, lifecycle_id)?;
+    Ok(())
+}
