@@ -49,7 +49,7 @@ pub fn packets_are_within_the_mtu()
 /// A call that ends an association emits so once, by `OnClosed` or `OnAborted`, and no other call does. Of a packet each
 /// chunk counts alone, since after an ABORT a COOKIE ECHO may open another association.
 pub fn an_end_closes_once()
-    ensures told { EachCallEmitsEndings }
+    ensures endings { EachCallEmitsEndings }
     ensures closing { EachClosingEnds }
 {}
 

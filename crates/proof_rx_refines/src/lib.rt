@@ -102,7 +102,7 @@ pub fn acknowledging_changes_nothing()
         ReceiverRefines message is_interleaved base shift x handed t r → ReceiverRefines message is_interleaved base shift x handed (packet_end now t) r }
     ensures timeout { (message : ℕ → Message) (is_interleaved : Bool) (base : Bool → ℕ → ℕ) (shift : ℕ) (x : Transfer) (handed : List messages.Message) (t : Tracker) (r : Reassembly) (now : ℕ) →
         ReceiverRefines message is_interleaved base shift x handed t r → ReceiverRefines message is_interleaved base shift x handed (ack_timeout now t) r }
-    ensures told { (message : ℕ → Message) (is_interleaved : Bool) (base : Bool → ℕ → ℕ) (shift : ℕ) (x : Transfer) (handed : List messages.Message) (t : Tracker) (r : Reassembly) →
+    ensures reported { (message : ℕ → Message) (is_interleaved : Bool) (base : Bool → ℕ → ℕ) (shift : ℕ) (x : Transfer) (handed : List messages.Message) (t : Tracker) (r : Reassembly) →
         ReceiverRefines message is_interleaved base shift x handed t r → ReceiverRefines message is_interleaved base shift x handed (report t) r }
 {}
 

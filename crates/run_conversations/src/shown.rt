@@ -18,8 +18,7 @@ fn message_text(alloc: Global, message: &Message) -> Result<String, AllocError> 
 
 fn answer_text(alloc: Global, answer: &Answer) -> Result<String, AllocError> {
     match answer {
-        Answer::HandedOver(_) => format!(in alloc; "done"),
-        Answer::Done => format!(in alloc; "done"),
+        Answer::HandedOver(_) | Answer::Done => format!(in alloc; "done"),
         Answer::Sent(None) => format!(in alloc; "sent"),
         Answer::Received(Some(message)) => message_text(alloc, message),
         Answer::Received(None) => format!(in alloc; "none"),

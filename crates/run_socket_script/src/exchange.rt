@@ -70,10 +70,8 @@ fn go_on<S: Driven>(
 /// Whether the end has sent nothing else, has nothing to send, and neither opens nor ends an association.
 fn is_quiet<S: Driven>(side: &Side<S>, sent: usize) -> bool {
     let is_settled = match side.socket.state() {
-        SocketState::Closed => true,
-        SocketState::Connected => true,
-        SocketState::Connecting => false,
-        SocketState::ShuttingDown => false,
+        SocketState::Closed | SocketState::Connected => true,
+        SocketState::Connecting | SocketState::ShuttingDown => false,
     };
     is_settled && side.packets.len() == sent && side.socket.rests()
 }

@@ -76,11 +76,11 @@ fn repeat_shutdown<C: Checksum>(
             t2_shutdown.start(context.clock);
             context.send_shutdown(tcb)
         }
-        Phase::CookieEchoed(_) => Ok(()),
-        Phase::Established => Ok(()),
-        Phase::ShutdownPending => Ok(()),
-        Phase::ShutdownReceived => Ok(()),
-        Phase::ShutdownAckSent(_) => Ok(()),
+        Phase::CookieEchoed(_)
+        | Phase::Established
+        | Phase::ShutdownPending
+        | Phase::ShutdownReceived
+        | Phase::ShutdownAckSent(_) => Ok(()),
     }
 }
 
@@ -94,8 +94,7 @@ fn handle_heartbeat<C: Checksum>(
         ≡ where_open (table.on_heartbeat (map parameter_tree parameters.items)) (endpoint_state_of C.word_of state.now context.old)) }
 {
     match state {
-        State::Closed => Ok(()),
-        State::CookieWait(_) => Ok(()),
+        State::Closed | State::CookieWait(_) => Ok(()),
         State::Open(_, tcb) => context.emit_chunk(
             tcb,
             Chunk::HeartbeatAck(HeartbeatAckChunk { parameters }),
@@ -110,8 +109,7 @@ fn handle_acked_cookie<C: Checksum>(
     ensures { OnOk result (endpoint_state_of C.word_of state.new context.new ≡ where_open on_cookie_ack (endpoint_state_of C.word_of state.old context.old)) }
 {
     match state {
-        State::Closed => Ok(()),
-        State::CookieWait(_) => Ok(()),
+        State::Closed | State::CookieWait(_) => Ok(()),
         State::Open(phase, tcb) => handle_cookie_ack(phase, tcb, context),
     }
 }
@@ -129,8 +127,7 @@ fn dispatch<R: Rng, C: Checksum>(
         ≡ table.on_chunk tag (chunk_tree chunk) (endpoint_of R.stream C.word_of state.old context.old rng.old)) }
 {
     match chunk {
-        Chunk::Data(_) => unreachable!(),
-        Chunk::IData(_) => unreachable!(),
+        Chunk::Data(_) | Chunk::IData(_) => unreachable!(),
         Chunk::Init(c) => handle_init(state, context, rng, &c),
         Chunk::InitAck(c) => handle_init_ack(state, context, rng, &c),
         Chunk::Sack(c) => handle_sack(state, context, c),
@@ -197,8 +194,7 @@ fn data_violation(state: &State, is_interleaved: bool) -> Option<Misuse>
     ensures { (v : DataView) → option_map misuse_text result ≡ table.violation (state_of state.now) (carrying is_interleaved v) }
 {
     match state {
-        State::Closed => None,
-        State::CookieWait(_) => None,
+        State::Closed | State::CookieWait(_) => None,
         State::Open(_, tcb) => {
             data_misused(tcb.capabilities.message_interleaving, is_interleaved)
         }
@@ -283,8 +279,7 @@ fn repeat_if<C: Checksum>(
         return Ok(());
     }
     match state {
-        State::Closed => Ok(()),
-        State::CookieWait(_) => Ok(()),
+        State::Closed | State::CookieWait(_) => Ok(()),
         State::Open(phase, tcb) => repeat_shutdown(context, phase, tcb),
     }
 }
@@ -293,8 +288,7 @@ fn end_packet<C: Checksum>(state: &mut State, context: &mut Context<C>) -> Resul
     ensures { OnOk result (endpoint_state_of C.word_of state.new context.new ≡ where_open table.end_packet (endpoint_state_of C.word_of state.old context.old)) }
 {
     match state {
-        State::Closed => Ok(()),
-        State::CookieWait(_) => Ok(()),
+        State::Closed | State::CookieWait(_) => Ok(()),
         State::Open(phase, tcb) => maybe_send_sack(context, phase, tcb),
     }
 }

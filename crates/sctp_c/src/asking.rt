@@ -76,15 +76,15 @@ pub extern "C" fn sctp_buffered_amount(socket: &mut Handle, stream: u32, bytes: 
 pub extern "C" fn sctp_get_metrics(socket: &mut Handle, metrics: &mut MetricsRecord) -> u32
     ensures answers { Answers (λ e n f. IsAmong (0 ∷ 8 ∷ []) n) socket.old.held result socket.new.held }
     ensures stays { Answers (λ e n f. f ≡ e) socket.old.held result socket.new.held }
-    ensures told { Answers (OnSocket (λ s n t. OnAnswer 0 n (option_map shown_metrics (metrics_in s.state s.context) ≡ Some metrics.new))) socket.old.held result socket.new.held }
+    ensures metrics { Answers (OnSocket (λ s n t. OnAnswer 0 n (option_map shown_metrics (metrics_in s.state s.context) ≡ Some metrics.new))) socket.old.held result socket.new.held }
     ensures nothing { Answers (OnSocket (λ s n t. OnAnswer 8 n (option_map shown_metrics (metrics_in s.state s.context) ≡ None))) socket.old.held result socket.new.held }
 {
     match socket.as_mut() {
         None => NO_SOCKET,
         Some(end) => match calls::metrics(&end.socket) {
             None => NOTHING,
-            Some(told) => {
-                *metrics = told;
+            Some(found) => {
+                *metrics = found;
                 OK
             }
         },

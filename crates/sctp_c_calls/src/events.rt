@@ -69,17 +69,17 @@ pub fn poll_event<R: Rng, C: Checksum>(
     match take_first(socket, kept) {
         None => NOTHING,
         Some(SocketEvent::SendPacket(packet)) => hand_out_packet(packet, kept, head, buffer),
-        Some(told) => match hand_out(alloc, &told, head, buffer) {
+        Some(event) => match hand_out(alloc, &event, head, buffer) {
             Ok(true) => {
-                drop(told);
+                drop(event);
                 OK
             }
             Ok(false) => {
-                drop(std::mem::replace(kept, Some(told)));
+                drop(std::mem::replace(kept, Some(event)));
                 SHORT_BUFFER
             }
             Err(_error) => {
-                drop(std::mem::replace(kept, Some(told)));
+                drop(std::mem::replace(kept, Some(event)));
                 NO_ROOM
             }
         },
@@ -108,7 +108,7 @@ pub fn borrow_event<R: Rng, C: Checksum>(
             drop(std::mem::replace(lent, Vec::new(alloc)));
             NOTHING
         }
-        Some(told) => match parts_of(alloc, told) {
+        Some(event) => match parts_of(alloc, event) {
             Ok(
                 EventParts {
                     head: record,
@@ -119,8 +119,8 @@ pub fn borrow_event<R: Rng, C: Checksum>(
                 drop(std::mem::replace(lent, bytes));
                 OK
             }
-            Err(told) => {
-                drop(std::mem::replace(kept, Some(told)));
+            Err(event) => {
+                drop(std::mem::replace(kept, Some(event)));
                 NO_ROOM
             }
         },

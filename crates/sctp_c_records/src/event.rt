@@ -68,10 +68,10 @@ impl EventRecord {
 }
 
 /// The record of an event with so many bytes.
-fn record_of(told: &SocketEvent, length: usize) -> EventRecord
-    ensures { result ≡ with_length (event_of told.now) length }
+fn record_of(event: &SocketEvent, length: usize) -> EventRecord
+    ensures { result ≡ with_length (event_of event.now) length }
 {
-    match told {
+    match event {
         SocketEvent::SendPacket(_) => EventRecord::of(0, 0, 0, 0, length),
         SocketEvent::OnConnected() => EventRecord::of(1, 0, 0, 0, length),
         SocketEvent::OnClosed() => EventRecord::of(2, 0, 0, 0, length),
@@ -112,57 +112,57 @@ pub fn put_bytes(bytes: &[u8], buffer: &mut [u8]) -> bool
 }
 
 /// Writes the record of an event that has these bytes and, where they fit, the bytes.
-fn put(told: &SocketEvent, bytes: &[u8], head: &mut EventRecord, buffer: &mut [u8]) -> bool
-    requires { bytes.now ≡ bytes_of (event_of told.now) }
-    ensures head { head.new ≡ record_of (event_of told.now) }
-    ensures bytes { Copied result (bytes_of (event_of told.now)) buffer.old buffer.new }
+fn put(event: &SocketEvent, bytes: &[u8], head: &mut EventRecord, buffer: &mut [u8]) -> bool
+    requires { bytes.now ≡ bytes_of (event_of event.now) }
+    ensures head { head.new ≡ record_of (event_of event.now) }
+    ensures bytes { Copied result (bytes_of (event_of event.now)) buffer.old buffer.new }
 {
-    *head = record_of(told, bytes.len());
+    *head = record_of(event, bytes.len());
     put_bytes(bytes, buffer)
 }
 
 fn put_streams(
     alloc: Global,
-    told: &SocketEvent,
+    event: &SocketEvent,
     ids: &[StreamId],
     head: &mut EventRecord,
     buffer: &mut [u8],
 ) -> Result<bool, AllocError>
-    requires { flat_map be16 (numbers_of ids.now) ≡ bytes_of (event_of told.now) }
-    ensures head { IfOk result (λ fits. head.new ≡ record_of (event_of told.now)) }
-    ensures bytes { IfOk result (λ fits. Copied fits (bytes_of (event_of told.now)) buffer.old buffer.new) }
+    requires { flat_map be16 (numbers_of ids.now) ≡ bytes_of (event_of event.now) }
+    ensures head { IfOk result (λ fits. head.new ≡ record_of (event_of event.now)) }
+    ensures bytes { IfOk result (λ fits. Copied fits (bytes_of (event_of event.now)) buffer.old buffer.new) }
 {
     let mut bytes = Vec::new(alloc);
     push_entries(&mut bytes, ids)?;
-    Ok(put(told, &bytes, head, buffer))
+    Ok(put(event, &bytes, head, buffer))
 }
 
 /// Writes what an event is and, where they fit, its bytes. Answers whether they do.
 pub fn hand_out(
     alloc: Global,
-    told: &SocketEvent,
+    event: &SocketEvent,
     head: &mut EventRecord,
     buffer: &mut [u8],
 ) -> Result<bool, AllocError>
-    ensures head { IfOk result (λ fits. head.new ≡ record_of (event_of told.now)) }
-    ensures bytes { IfOk result (λ fits. Copied fits (bytes_of (event_of told.now)) buffer.old buffer.new) }
+    ensures head { IfOk result (λ fits. head.new ≡ record_of (event_of event.now)) }
+    ensures bytes { IfOk result (λ fits. Copied fits (bytes_of (event_of event.now)) buffer.old buffer.new) }
 {
-    match told {
-        SocketEvent::SendPacket(bytes) => Ok(put(told, bytes, head, buffer)),
-        SocketEvent::OnAborted(_, text) => Ok(put(told, text.as_bytes(), head, buffer)),
-        SocketEvent::OnError(_, text) => Ok(put(told, text.as_bytes(), head, buffer)),
-        SocketEvent::OnStreamsResetFailed(ids) => put_streams(alloc, told, ids, head, buffer),
-        SocketEvent::OnStreamsResetPerformed(ids) => put_streams(alloc, told, ids, head, buffer),
-        SocketEvent::OnIncomingStreamReset(ids) => put_streams(alloc, told, ids, head, buffer),
-        SocketEvent::OnConnected() => Ok(put(told, &[], head, buffer)),
-        SocketEvent::OnClosed() => Ok(put(told, &[], head, buffer)),
-        SocketEvent::OnConnectionRestarted() => Ok(put(told, &[], head, buffer)),
-        SocketEvent::OnBufferedAmountLow(_) => Ok(put(told, &[], head, buffer)),
-        SocketEvent::OnTotalBufferedAmountLow() => Ok(put(told, &[], head, buffer)),
-        SocketEvent::OnLifecycleMessageFullySent(_) => Ok(put(told, &[], head, buffer)),
-        SocketEvent::OnLifecycleMessageMaybeExpired(_) => Ok(put(told, &[], head, buffer)),
-        SocketEvent::OnLifecycleMessageExpired(_) => Ok(put(told, &[], head, buffer)),
-        SocketEvent::OnLifecycleMessageDelivered(_) => Ok(put(told, &[], head, buffer)),
-        SocketEvent::OnLifecycleEnd(_) => Ok(put(told, &[], head, buffer)),
+    match event {
+        SocketEvent::SendPacket(bytes) => Ok(put(event, bytes, head, buffer)),
+        SocketEvent::OnAborted(_, text) => Ok(put(event, text.as_bytes(), head, buffer)),
+        SocketEvent::OnError(_, text) => Ok(put(event, text.as_bytes(), head, buffer)),
+        SocketEvent::OnStreamsResetFailed(ids) => put_streams(alloc, event, ids, head, buffer),
+        SocketEvent::OnStreamsResetPerformed(ids) => put_streams(alloc, event, ids, head, buffer),
+        SocketEvent::OnIncomingStreamReset(ids) => put_streams(alloc, event, ids, head, buffer),
+        SocketEvent::OnConnected()
+        | SocketEvent::OnClosed()
+        | SocketEvent::OnConnectionRestarted()
+        | SocketEvent::OnBufferedAmountLow(_)
+        | SocketEvent::OnTotalBufferedAmountLow()
+        | SocketEvent::OnLifecycleMessageFullySent(_)
+        | SocketEvent::OnLifecycleMessageMaybeExpired(_)
+        | SocketEvent::OnLifecycleMessageExpired(_)
+        | SocketEvent::OnLifecycleMessageDelivered(_)
+        | SocketEvent::OnLifecycleEnd(_) => Ok(put(event, &[], head, buffer)),
     }
 }

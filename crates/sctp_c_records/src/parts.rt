@@ -50,12 +50,12 @@ fn spelled(alloc: Global, ids: &[StreamId]) -> Result<Vec<u8>, AllocError>
 }
 
 /// Takes an event apart. Where there is no memory for the bytes of streams, it comes back.
-pub fn parts_of(alloc: Global, told: SocketEvent) -> Result<EventParts, SocketEvent>
-    ensures head { IfOk result (λ parts. parts.head ≡ record_of (event_of told)) }
-    ensures bytes { IfOk result (λ parts. parts.bytes.items ≡ bytes_of (event_of told)) }
-    ensures same { IfErr result (λ back. back ≡ told) }
+pub fn parts_of(alloc: Global, event: SocketEvent) -> Result<EventParts, SocketEvent>
+    ensures head { IfOk result (λ parts. parts.head ≡ record_of (event_of event)) }
+    ensures bytes { IfOk result (λ parts. parts.bytes.items ≡ bytes_of (event_of event)) }
+    ensures same { IfErr result (λ back. back ≡ event) }
 {
-    let parts = match told {
+    let parts = match event {
         SocketEvent::SendPacket(bytes) => EventParts::with_bytes(0, 0, bytes),
         SocketEvent::OnConnected() => EventParts::alone(alloc, 1, 0, 0),
         SocketEvent::OnClosed() => EventParts::alone(alloc, 2, 0, 0),

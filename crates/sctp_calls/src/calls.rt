@@ -21,10 +21,10 @@ fn shown_phase(phase: &Phase) -> SocketState
     match phase {
         Phase::CookieEchoed(_) => SocketState::Connecting,
         Phase::Established => SocketState::Connected,
-        Phase::ShutdownPending => SocketState::ShuttingDown,
-        Phase::ShutdownSent(_) => SocketState::ShuttingDown,
-        Phase::ShutdownReceived => SocketState::ShuttingDown,
-        Phase::ShutdownAckSent(_) => SocketState::ShuttingDown,
+        Phase::ShutdownPending
+        | Phase::ShutdownSent(_)
+        | Phase::ShutdownReceived
+        | Phase::ShutdownAckSent(_) => SocketState::ShuttingDown,
     }
 }
 
@@ -83,8 +83,7 @@ fn complain_of<C: Checksum>(context: &mut Context<C>, refusal: &SendError) -> Re
             ErrorKind::ResourceExhaustion,
             "Unable to send message as the send queue is full",
         ),
-        SendError::Memory => Ok(()),
-        SendError::Failed => Ok(()),
+        SendError::Memory | SendError::Failed => Ok(()),
     }
 }
 

@@ -39,11 +39,11 @@ fn phase_readiness<C: Checksum>(
             let queued = context.send_queue.get_handover_readiness(is_strict);
             queued | tcb.get_handover_readiness(is_strict)
         }
-        Phase::CookieEchoed(_) => HandoverReadiness::WRONG_CONNECTION_STATE,
-        Phase::ShutdownPending => HandoverReadiness::WRONG_CONNECTION_STATE,
-        Phase::ShutdownSent(_) => HandoverReadiness::WRONG_CONNECTION_STATE,
-        Phase::ShutdownReceived => HandoverReadiness::WRONG_CONNECTION_STATE,
-        Phase::ShutdownAckSent(_) => HandoverReadiness::WRONG_CONNECTION_STATE,
+        Phase::CookieEchoed(_)
+        | Phase::ShutdownPending
+        | Phase::ShutdownSent(_)
+        | Phase::ShutdownReceived
+        | Phase::ShutdownAckSent(_) => HandoverReadiness::WRONG_CONNECTION_STATE,
     }
 }
 
@@ -148,8 +148,7 @@ pub fn hand_over<C: Checksum>(
     ensures left { OnOk result (endpoint_state_of C.word_of state.new context.new ≡ table.leave (endpoint_state_of C.word_of state.old context.old)) }
 {
     match state {
-        State::Closed => Ok(SocketHandoverState::empty(context.alloc)),
-        State::CookieWait(_) => Ok(SocketHandoverState::empty(context.alloc)),
+        State::Closed | State::CookieWait(_) => Ok(SocketHandoverState::empty(context.alloc)),
         State::Open(_, tcb) => {
             let handed_over = handover_state(context, tcb)?;
             leave(state, context)?;
@@ -215,7 +214,6 @@ pub fn restore<C: Checksum>(
             restore_closed(state, context, handed_over)?;
             Ok(None)
         }
-        State::CookieWait(_) => Ok(Some(RestoreError::SocketNotClosed)),
-        State::Open(_, _) => Ok(Some(RestoreError::SocketNotClosed)),
+        State::CookieWait(_) | State::Open(_, _) => Ok(Some(RestoreError::SocketNotClosed)),
     }
 }

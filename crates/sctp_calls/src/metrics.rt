@@ -52,8 +52,7 @@ pub fn metrics_in<C: Checksum>(context: &Context<C>, state: &State) -> Option<Me
     ensures { option_map metrics_of result ≡ metrics_in (state_of state.now) context.now }
 {
     match state {
-        State::Closed => None,
-        State::CookieWait(_) => None,
+        State::Closed | State::CookieWait(_) => None,
         State::Open(_, tcb) => Some(metrics(context, tcb)),
     }
 }

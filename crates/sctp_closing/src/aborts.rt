@@ -78,8 +78,7 @@ pub fn handle_abort<C: Checksum>(
     ensures { OnOk result (endpoint_state_of C.word_of state.new context.new ≡ where_open (closing.on_abort (map cause_tree causes.now)) (endpoint_state_of C.word_of state.old context.old)) }
 {
     match state {
-        State::Closed => Ok(()),
-        State::CookieWait(_) => Ok(()),
+        State::Closed | State::CookieWait(_) => Ok(()),
         State::Open(_, _) => {
             emit_abort(context, causes)?;
             state.enter(State::Closed);
@@ -97,8 +96,7 @@ pub fn handle_error<C: Checksum>(
     ensures { OnOk result (endpoint_state_of C.word_of state.now context.new ≡ where_open (closing.on_error (map cause_tree causes.now)) (endpoint_state_of C.word_of state.now context.old)) }
 {
     match state {
-        State::Closed => Ok(()),
-        State::CookieWait(_) => Ok(()),
+        State::Closed | State::CookieWait(_) => Ok(()),
         State::Open(_, _) => emit_error(context, causes),
     }
 }
@@ -112,8 +110,7 @@ pub fn handle_misuse<C: Checksum>(
     ensures { OnOk result (endpoint_state_of C.word_of state.new context.new ≡ table.breaks (misuse_text misuse) (endpoint_state_of C.word_of state.old context.old)) }
 {
     match state {
-        State::Closed => Ok(()),
-        State::CookieWait(_) => Ok(()),
+        State::Closed | State::CookieWait(_) => Ok(()),
         State::Open(_, tcb) => {
             abort_by_violation(context, tcb, misuse)?;
             state.enter(State::Closed);

@@ -101,8 +101,7 @@ pub fn violation(state: &State, chunk: &Chunk) -> Option<Misuse>
     ensures { option_map misuse_text result ≡ table.violation (state_of state.now) (chunk_tree chunk.now) }
 {
     match state {
-        State::Closed => None,
-        State::CookieWait(_) => None,
+        State::Closed | State::CookieWait(_) => None,
         State::Open(_, tcb) => misused(&tcb.capabilities, chunk),
     }
 }
@@ -181,8 +180,7 @@ pub fn handle_unknown<C: Checksum>(
     }
     complain_of_unknown(context, chunk)?;
     match state {
-        State::Closed => Ok(()),
-        State::CookieWait(_) => Ok(()),
+        State::Closed | State::CookieWait(_) => Ok(()),
         State::Open(_, tcb) => echo_unknown(context, tcb, chunk),
     }
 }

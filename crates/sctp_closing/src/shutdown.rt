@@ -21,18 +21,14 @@ fn begin_shutdown<C: Checksum>(
     ensures { OnOk result (onward_of C.word_of phase.new context.new ≡ table.shut_down (phase_of phase.old) (tcb_of tcb.now) (context_of C.word_of context.old)) }
 {
     match phase {
-        Phase::CookieEchoed(_) => {
+        Phase::CookieEchoed(_) | Phase::Established => {
             *phase = Phase::ShutdownPending;
             context.maybe_go_on(phase, tcb)
         }
-        Phase::Established => {
-            *phase = Phase::ShutdownPending;
-            context.maybe_go_on(phase, tcb)
-        }
-        Phase::ShutdownPending => Ok(()),
-        Phase::ShutdownSent(_) => Ok(()),
-        Phase::ShutdownReceived => Ok(()),
-        Phase::ShutdownAckSent(_) => Ok(()),
+        Phase::ShutdownPending
+        | Phase::ShutdownSent(_)
+        | Phase::ShutdownReceived
+        | Phase::ShutdownAckSent(_) => Ok(()),
     }
 }
 
@@ -45,11 +41,7 @@ fn take_shutdown<C: Checksum>(
     ensures { OnOk result (onward_of C.word_of phase.new context.new ≡ table.shut_by_peer (phase_of phase.old) (tcb_of tcb.now) (context_of C.word_of context.old)) }
 {
     match phase {
-        Phase::Established => {
-            *phase = Phase::ShutdownReceived;
-            context.maybe_go_on(phase, tcb)
-        }
-        Phase::ShutdownPending => {
+        Phase::Established | Phase::ShutdownPending => {
             *phase = Phase::ShutdownReceived;
             context.maybe_go_on(phase, tcb)
         }
@@ -62,8 +54,7 @@ fn take_shutdown<C: Checksum>(
             t2_shutdown.start(context.clock);
             context.send_shutdown_ack(tcb)
         }
-        Phase::CookieEchoed(_) => Ok(()),
-        Phase::ShutdownReceived => Ok(()),
+        Phase::CookieEchoed(_) | Phase::ShutdownReceived => Ok(()),
     }
 }
 
@@ -142,8 +133,7 @@ pub fn handle_shutdown<C: Checksum>(
     ensures { OnOk result (endpoint_state_of C.word_of state.new context.new ≡ where_open table.on_shutdown (endpoint_state_of C.word_of state.old context.old)) }
 {
     match state {
-        State::Closed => Ok(()),
-        State::CookieWait(_) => Ok(()),
+        State::Closed | State::CookieWait(_) => Ok(()),
         State::Open(phase, tcb) => take_shutdown(context, phase, tcb),
     }
 }
@@ -157,8 +147,7 @@ pub fn handle_shutdown_ack<C: Checksum>(
     ensures { OnOk result (endpoint_state_of C.word_of state.new context.new ≡ table.on_shutdown_ack tag (endpoint_state_of C.word_of state.old context.old)) }
 {
     match state {
-        State::Closed => answer_out_of_the_blue(context, tag),
-        State::CookieWait(_) => answer_out_of_the_blue(context, tag),
+        State::Closed | State::CookieWait(_) => answer_out_of_the_blue(context, tag),
         State::Open(Phase::ShutdownSent(_), tcb) => {
             complete_shutdown(context, tcb)?;
             state.enter(State::Closed);
@@ -181,8 +170,7 @@ pub fn handle_shutdown_complete<C: Checksum>(
     ensures { OnOk result (endpoint_state_of C.word_of state.new context.new ≡ where_open table.on_shutdown_complete (endpoint_state_of C.word_of state.old context.old)) }
 {
     match state {
-        State::Closed => Ok(()),
-        State::CookieWait(_) => Ok(()),
+        State::Closed | State::CookieWait(_) => Ok(()),
         State::Open(Phase::ShutdownAckSent(_), _) => {
             context.internal_close(SocketEvent::OnClosed())?;
             state.enter(State::Closed);

@@ -114,10 +114,10 @@ impl<C: Checksum> Context<C> {
                 *phase = Phase::ShutdownAckSent(self.t2_shutdown(tcb));
                 self.send_shutdown_ack(tcb)
             }
-            Phase::CookieEchoed(_) => Ok(()),
-            Phase::Established => Ok(()),
-            Phase::ShutdownSent(_) => Ok(()),
-            Phase::ShutdownAckSent(_) => Ok(()),
+            Phase::CookieEchoed(_)
+            | Phase::Established
+            | Phase::ShutdownSent(_)
+            | Phase::ShutdownAckSent(_) => Ok(()),
         }
     }
 }

@@ -325,8 +325,7 @@ pub fn send_waiting<C: Checksum>(
     ensures { OnOk result (endpoint_state_of C.word_of state.new context.new ≡ where_open send_in (endpoint_state_of C.word_of state.old context.old)) }
 {
     match state {
-        State::Closed => Ok(()),
-        State::CookieWait(_) => Ok(()),
+        State::Closed | State::CookieWait(_) => Ok(()),
         State::Open(phase, tcb) => context.send_buffered_packets(tcb, phase.is_alone()),
     }
 }

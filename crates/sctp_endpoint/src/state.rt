@@ -77,8 +77,7 @@ impl State {
         ensures { option_map (λ t. tcb_of t.now) result ≡ block_in (state_of self.now) }
     {
         match self {
-            State::Closed => None,
-            State::CookieWait(_) => None,
+            State::Closed | State::CookieWait(_) => None,
             State::Open(_, tcb) => Some(tcb),
         }
     }
@@ -89,8 +88,7 @@ impl State {
         ensures value { option_map (λ t. tcb_of t.now) result ≡ block_in (state_of self.old) }
     {
         match self {
-            State::Closed => None,
-            State::CookieWait(_) => None,
+            State::Closed | State::CookieWait(_) => None,
             State::Open(_, tcb) => Some(tcb),
         }
     }

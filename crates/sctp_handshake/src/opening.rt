@@ -44,8 +44,7 @@ pub fn do_connect<R: Rng, C: Checksum>(
             let tag = tag_from(rng.next_u32());
             wait(state, context, tag, initial_tsn)
         }
-        State::CookieWait(_) => Ok(()),
-        State::Open(_, _) => Ok(()),
+        State::CookieWait(_) | State::Open(_, _) => Ok(()),
     }
 }
 
@@ -119,10 +118,10 @@ fn answer_open<R: Rng, C: Checksum>(
                 0,
             )
         }
-        Phase::Established => answer_again(tcb, context, rng, init),
-        Phase::ShutdownPending => answer_again(tcb, context, rng, init),
-        Phase::ShutdownSent(_) => answer_again(tcb, context, rng, init),
-        Phase::ShutdownReceived => answer_again(tcb, context, rng, init),
+        Phase::Established
+        | Phase::ShutdownPending
+        | Phase::ShutdownSent(_)
+        | Phase::ShutdownReceived => answer_again(tcb, context, rng, init),
         Phase::ShutdownAckSent(_) => context.send_shutdown_ack(tcb),
     }
 }

@@ -22,9 +22,7 @@ pub fn a_call_fits(call: &Call)
     ensures fits { ArgumentFits (table_call (call_tree call.now)) }
 {
     match call {
-        Call::Connect => {}
-        Call::Shutdown => {}
-        Call::Close => {}
+        Call::Connect | Call::Shutdown | Call::Close => {}
         Call::Send(message, _) => a_message_fits(message),
         Call::SendMany(messages, _) => messages_fit(messages),
         Call::Receive => {}
@@ -74,8 +72,7 @@ pub fn an_event_gives_bytes<R: Rng, C: Checksum>(world: &World<R, C>, event: &Ev
                 bytes_fit(bytes);
             }
         }
-        Event::Foreign(_, _) => {}
-        Event::Time(_, _) => {}
+        Event::Foreign(_, _) | Event::Time(_, _) => {}
     }
 }
 

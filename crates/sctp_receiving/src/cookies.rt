@@ -71,8 +71,7 @@ pub fn resolve_cookie(tag: u32, cookie: &StateCookie, state: &State) -> CookieRe
     ensures { verdict_of result ≡ table.resolve_cookie tag (cookie_of cookie.now) (state_of state.now) }
 {
     match state {
-        State::Closed => new_if_own(tag, cookie),
-        State::CookieWait(_) => new_if_own(tag, cookie),
+        State::Closed | State::CookieWait(_) => new_if_own(tag, cookie),
         State::Open(_, tcb) => compared(tag, tcb.identity, cookie),
     }
 }

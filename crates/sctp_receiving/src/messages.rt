@@ -14,8 +14,7 @@ pub fn ready_message(state: &State, place: usize) -> Option<&Message>
     ensures { option_map (λ m. message_of m.now) result ≡ slice_get (table.ready_in (state_of state.now)) place }
 {
     match state {
-        State::Closed => None,
-        State::CookieWait(_) => None,
+        State::Closed | State::CookieWait(_) => None,
         State::Open(_, tcb) => tcb.reassembly_queue.ready(place),
     }
 }
@@ -25,8 +24,7 @@ pub fn ready_count(state: &State) -> usize
     ensures { result ≡ length (table.ready_in (state_of state.now)) }
 {
     match state {
-        State::Closed => 0,
-        State::CookieWait(_) => 0,
+        State::Closed | State::CookieWait(_) => 0,
         State::Open(_, tcb) => tcb.reassembly_queue.messages_ready_count(),
     }
 }
@@ -36,8 +34,7 @@ pub fn keeps_items(state: &State) -> bool
     ensures { result ≡ table.keeps_items (state_of state.now) }
 {
     match state {
-        State::Closed => false,
-        State::CookieWait(_) => false,
+        State::Closed | State::CookieWait(_) => false,
         State::Open(_, tcb) => !tcb.retransmission_queue.is_empty(),
     }
 }
@@ -48,8 +45,7 @@ pub fn get_next_message(state: &mut State) -> Option<Message>
     ensures rest { state_of state.new ≡ table.taken_in (state_of state.old) }
 {
     match state {
-        State::Closed => None,
-        State::CookieWait(_) => None,
+        State::Closed | State::CookieWait(_) => None,
         State::Open(_, tcb) => tcb.reassembly_queue.get_next_message(),
     }
 }

@@ -237,8 +237,7 @@ fn tick_open<C: Checksum>(
 {
     match phase {
         Phase::CookieEchoed(echoed) => tick_cookie_echoed(context, echoed, tcb),
-        Phase::Established => tick_established(context, tcb),
-        Phase::ShutdownPending => tick_established(context, tcb),
+        Phase::Established | Phase::ShutdownPending => tick_established(context, tcb),
         Phase::ShutdownSent(t2_shutdown) => tick_shutdown_sent(context, t2_shutdown, tcb),
         Phase::ShutdownReceived => tick_established(context, tcb),
         Phase::ShutdownAckSent(t2_shutdown) => tick_shutdown_ack_sent(context, t2_shutdown, tcb),
@@ -330,8 +329,7 @@ fn phase_expiry<C: Checksum>(
 {
     match phase {
         Phase::CookieEchoed(echoed) => echoed.t1_cookie.next_expiry(),
-        Phase::Established => running_expiry(context, tcb),
-        Phase::ShutdownPending => running_expiry(context, tcb),
+        Phase::Established | Phase::ShutdownPending => running_expiry(context, tcb),
         Phase::ShutdownSent(t2_shutdown) => {
             t2_shutdown.next_expiry().min(running_expiry(context, tcb))
         }

@@ -31,8 +31,7 @@ pub fn handle_data<C: Checksum>(
         return handle_no_data(state, context, fragment.tsn);
     }
     match state {
-        State::Closed => complain_of_data(context),
-        State::CookieWait(_) => complain_of_data(context),
+        State::Closed | State::CookieWait(_) => complain_of_data(context),
         State::Open(_, tcb) => take_data(tcb, context.alloc, context.clock, fragment),
     }
 }
@@ -59,8 +58,7 @@ fn handle_no_data<C: Checksum>(
         "Received DATA chunk with no user data",
     )?;
     match state {
-        State::Closed => Ok(()),
-        State::CookieWait(_) => Ok(()),
+        State::Closed | State::CookieWait(_) => Ok(()),
         State::Open(_, tcb) => send_no_user_data(context, tcb, tsn),
     }
 }
@@ -89,8 +87,7 @@ pub fn handle_forward_tsn(
     ensures { OnOk result (state_of state.new ≡ table.forwarded_in (state_of state.old) new_cumulative_tsn.0 skipped.now) }
 {
     match state {
-        State::Closed => Ok(()),
-        State::CookieWait(_) => Ok(()),
+        State::Closed | State::CookieWait(_) => Ok(()),
         State::Open(_, tcb) => skip_to(tcb, now, new_cumulative_tsn, skipped),
     }
 }

@@ -45,8 +45,7 @@ pub fn handle_sack<C: Checksum>(
     ensures { OnOk result (endpoint_state_of C.word_of state.new context.new ≡ on_sack (sack_of sack) (endpoint_state_of C.word_of state.old context.old)) }
 {
     match state {
-        State::Closed => context.complain(ErrorKind::NotConnected, "No TCB"),
-        State::CookieWait(_) => context.complain(ErrorKind::NotConnected, "No TCB"),
+        State::Closed | State::CookieWait(_) => context.complain(ErrorKind::NotConnected, "No TCB"),
         State::Open(phase, tcb) => take_sack(phase, tcb, context, sack),
     }
 }

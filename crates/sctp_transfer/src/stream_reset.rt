@@ -312,8 +312,7 @@ pub fn handle_reconfig<C: Checksum>(
         ≡ where_open (table.on_reconfig (map parameter_tree parameters.items)) (endpoint_state_of C.word_of state.old context.old)) }
 {
     match state {
-        State::Closed => Ok(()),
-        State::CookieWait(_) => Ok(()),
+        State::Closed | State::CookieWait(_) => Ok(()),
         State::Open(phase, tcb) => take_reconfig(context, phase, tcb, parameters),
     }
 }
@@ -323,8 +322,7 @@ fn reset_refusal(state: &State) -> Option<ResetStreamsError>
     ensures { result ≡ table.reset_refusal (state_of state.now) }
 {
     match state {
-        State::Closed => Some(ResetStreamsError::NotConnected),
-        State::CookieWait(_) => Some(ResetStreamsError::NotConnected),
+        State::Closed | State::CookieWait(_) => Some(ResetStreamsError::NotConnected),
         State::Open(_, tcb) if tcb.capabilities.reconfig => None,
         State::Open(_, _) => Some(ResetStreamsError::NotSupported),
     }
