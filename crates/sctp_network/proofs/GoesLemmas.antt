@@ -20,11 +20,11 @@ Goes [] w = Unit {0}
 Goes (action ∷ actions) w = (IsDisabled action w → ⊥) × ((u : World) → Happens action w u → Goes actions u)
 
 never_lacks : (before : List Action) (action : Action) (rest : List Action) (w v : World) → Goes (before ++ action ∷ rest) w → Runs before w v → IsDisabled action v → ⊥
-never_lacks [] action rest w v goes e lacks = goes.0 (subst (IsDisabled action) e lacks)
-never_lacks (b ∷ before) action rest w v goes runs lacks = never_lacks before action rest runs.0 v (goes.1 runs.0 runs.1) runs.2 lacks
+never_lacks [] action rest w v goes e disabled = goes.0 (subst (IsDisabled action) e disabled)
+never_lacks (b ∷ before) action rest w v goes runs disabled = never_lacks before action rest runs.0 v (goes.1 runs.0 runs.1) runs.2 disabled
 
 onward : (action : Action) (actions : List Action) (w v : World) → (IsDisabled action w → ⊥) → ((u : World) → Happens action w u → u ≡ v) → Goes actions v → Goes (action ∷ actions) w
-onward action actions w v there leads goes = (there, λ u happens. subst (Goes actions) (sym (leads u happens)) goes)
+onward action actions w v there reachable goes = (there, λ u happens. subst (Goes actions) (sym (reachable u happens)) goes)
 
 lastly : (action : Action) (w : World) → (IsDisabled action w → ⊥) → Goes (action ∷ []) w
 lastly action w there = (there, λ u happens. tt)
@@ -53,9 +53,9 @@ goes_all a b f m o small =
     (lastly (Give 2 A) taken (there _))))))))
 
 pub only_memory : (actions : List Action) (w v : World) (e : WorldError) → (e ≡ errors.NoSuchPacket → RunsUpToDisabled actions w v) → ContinuesFirstRun actions w → e ≡ errors.Memory
-only_memory actions w v errors.Memory lacks c = refl
-only_memory actions w v errors.NoSuchPacket lacks c =
-    let l = lacks refl in
+only_memory actions w v errors.Memory disabled c = refl
+only_memory actions w v errors.NoSuchPacket disabled c =
+    let l = disabled refl in
     let at_action : actions ++ c.rest ≡ l.before ++ l.action ∷ (l.rest ++ c.rest) =
     ap (λ (all : List Action). all ++ c.rest) l.split ∙ append_assoc l.before (l.action ∷ l.rest) c.rest in
     let whole : first_run c.message c.options ≡ (c.before ++ l.before) ++ l.action ∷ (l.rest ++ c.rest) =
@@ -65,7 +65,7 @@ only_memory actions w v errors.NoSuchPacket lacks c =
     subst (Goes (first_run c.message c.options)) (sym fresh.is) (goes_all fresh.a fresh.b fresh.word_of c.message c.options c.small) in
     absurd (never_lacks (c.before ++ l.before) l.action (l.rest ++ c.rest) c.came.origin v
     (subst (λ (all : List Action). Goes all c.came.origin) whole goes)
-    (Runs_append c.before l.before c.came.origin w v c.came.runs l.runs) l.lacks)
+    (Runs_append c.before l.before c.came.origin w v c.came.runs l.runs) l.disabled)
 
 pub leads_on : (actions : List Action) (w v : World) → Runs actions w v → LeadsFirstRun actions w v
 leads_on actions w v runs = record {

@@ -47,11 +47,11 @@ module _ (w v x y : World) (s : SentBytes w x) (t : SentBytes v y) where
   pub paired_by : {X : Type 0} (r : Result X WorldError) (failed too : Bool) (actions : List Action) → OnOk r (Both actions w v x y)
       → IfErr r (λ e. e ≡ errors.NoSuchPacket → BothUpToLack actions w v x y) → IfErr r (λ e. e ≡ errors.Memory → (failed ≡ true) ⊎ (too ≡ true))
       → All ActionFits actions → failed ≡ false → too ≡ false → ArePaired w v → ArePaired x y
-  paired_by (Ok z) failed too actions both lacks memory fit works works_too p = paired actions fit both p
-  paired_by (Err errors.NoSuchPacket) failed too actions both lacks memory fit works works_too p =
-      let k : BothUpToLack actions w v x y = lacks refl in
+  paired_by (Ok z) failed too actions both disabled memory fit works works_too p = paired actions fit both p
+  paired_by (Err errors.NoSuchPacket) failed too actions both disabled memory fit works works_too p =
+      let k : BothUpToLack actions w v x y = disabled refl in
       paired k.before (front_fits actions k.before k.action k.rest k.split fit) k.both p
-  paired_by (Err errors.Memory) failed too actions both lacks memory fit works works_too p = absurd (neither (memory refl))
+  paired_by (Err errors.Memory) failed too actions both disabled memory fit works works_too p = absurd (neither (memory refl))
     where
       neither : (failed ≡ true) ⊎ (too ≡ true) → ⊥
       neither (inl e) = cc

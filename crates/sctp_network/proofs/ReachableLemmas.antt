@@ -68,11 +68,11 @@ module _ (w v : World) (failed : Bool) (a b : ℕ) (sent_a : a ≡ length w.a.pa
 
   pub reachable_by : {X : Type 0} (r : Result X WorldError) (actions : List Action) → OnOk r (Runs actions w v) → IfErr r (λ e. e ≡ errors.NoSuchPacket → RunsUpToDisabled actions w v)
       → IfErr r (λ e. e ≡ errors.Memory → failed ≡ true) → All ActionFits actions → failed ≡ false → IsReachable w → IsReachable v
-  reachable_by (Ok x) actions runs lacks memory fit works l = reachable actions fit runs l
-  reachable_by (Err errors.NoSuchPacket) actions runs lacks memory fit works l =
-      let k : RunsUpToDisabled actions w v = lacks refl in
+  reachable_by (Ok x) actions runs disabled memory fit works l = reachable actions fit runs l
+  reachable_by (Err errors.NoSuchPacket) actions runs disabled memory fit works l =
+      let k : RunsUpToDisabled actions w v = disabled refl in
       reachable k.before (front_fits actions k.before k.action k.rest k.split fit) k.runs l
-  reachable_by (Err errors.Memory) actions runs lacks memory fit works l = absurd (not_both failed (memory refl) works)
+  reachable_by (Err errors.Memory) actions runs disabled memory fit works l = absurd (not_both failed (memory refl) works)
     where
       not_both : (b : Bool) → b ≡ true → b ≡ false → ⊥
       not_both b e f = cc
@@ -80,8 +80,8 @@ module _ (w v : World) (failed : Bool) (a b : ℕ) (sent_a : a ≡ length w.a.pa
 -- a step that finds no packet
 pub lacks_then : {X : Type 0} (r : Result X WorldError) (action : Action) (w v : World) → IfErr r (λ e. e ≡ errors.NoSuchPacket → IsDisabled action w)
     → IfErr r (λ e. e ≡ errors.NoSuchPacket → v ≡ w) → IfErr r (λ e. e ≡ errors.NoSuchPacket → RunsUpToDisabled (action ∷ []) w v)
-lacks_then (Ok x) action w v lacks same = tt
-lacks_then (Err e) action w v lacks same = λ is. lacks_one action w v (lacks is) (same is)
+lacks_then (Ok x) action w v disabled same = tt
+lacks_then (Err e) action w v disabled same = λ is. lacks_one action w v (disabled is) (same is)
 
 -- ---- the events that are left
 
@@ -93,7 +93,7 @@ next_event events i event within is =
 
 -- memory runs out at no event whose packet lacks
 pub there_then : {X : Type 0} (e : WorldError) → e ≡ errors.Memory → ◌≡◌ {A = Result X WorldError} (Err e) (Err errors.NoSuchPacket) → ⊥
-there_then e is missing = cc
+there_then e is no_such_packet = cc
 
 -- a new world
 pub reachable_new : (a b : Options) (words_a words_b : Stream) (word_of_a word_of_b : List ℕ → ℕ) → IsValid a → IsValid b → OptionsFit a → OptionsFit b

@@ -92,7 +92,7 @@ impl<R: Rng + Drop, C: Checksum + Drop> World<R, C> {
             ≡ fresh_world (options_of options_a.now) (options_of options_b.now) (R.stream rng_a) (R.stream rng_b) (C.word_of checksum_a) (C.word_of checksum_b)) }
         ensures works { IfOk result (λ w. w.has_failed ≡ false) }
         ensures short { IfOk result (λ w. AreShort (options_of options_a.now).mtu (options_of options_b.now).mtu (world_of R.stream C.word_of w)) }
-        ensures leads { IfOk result (λ w. IsReachable (world_of R.stream C.word_of w)) }
+        ensures reachable { IfOk result (λ w. IsReachable (world_of R.stream C.word_of w)) }
         ensures memory { IfErr result (λ e. e ≡ CallError.Memory) }
     {
         options_fit(options_a);
@@ -194,10 +194,10 @@ impl<R: Rng, C: Checksum> World<R, C> {
     fn happen(&mut self, event: &Event) -> Result<(), WorldError>
         ensures ok { OnOk result (Happens (action_of event.now) (world_of R.stream C.word_of self.old) (world_of R.stream C.word_of self.new)) }
         ensures works { OnOk result ((self.old.has_failed ≡ false) × (self.new.has_failed ≡ false)) }
-        ensures lacks { IfErr result (λ e. e ≡ WorldError.NoSuchPacket → IsDisabled (action_of event.now) (world_of R.stream C.word_of self.old)) }
-        ensures missing { self.old.has_failed ≡ false → IsDisabled (action_of event.now) (world_of R.stream C.word_of self.old) → result ≡ Err WorldError.NoSuchPacket }
+        ensures disabled { IfErr result (λ e. e ≡ WorldError.NoSuchPacket → IsDisabled (action_of event.now) (world_of R.stream C.word_of self.old)) }
+        ensures no_such_packet { self.old.has_failed ≡ false → IsDisabled (action_of event.now) (world_of R.stream C.word_of self.old) → result ≡ Err WorldError.NoSuchPacket }
         ensures same { IfErr result (λ e. e ≡ WorldError.NoSuchPacket → self.new ≡ self.old) }
-        ensures stands { IfErr result (λ e. e ≡ WorldError.NoSuchPacket → self.new.has_failed ≡ false) }
+        ensures unfailed { IfErr result (λ e. e ≡ WorldError.NoSuchPacket → self.new.has_failed ≡ false) }
         ensures memory { IfErr result (λ e. e ≡ WorldError.Memory → self.new.has_failed ≡ true) }
         ensures failed { self.old.has_failed ≡ true → result ≡ Err WorldError.Memory }
     {
@@ -213,8 +213,8 @@ impl<R: Rng, C: Checksum> World<R, C> {
 
     fn act(&mut self, event: &Event) -> Result<(), WorldError>
         ensures ok { OnOk result (Happens (action_of event.now) (world_of R.stream C.word_of self.old) (world_of R.stream C.word_of self.new)) }
-        ensures lacks { IfErr result (λ e. e ≡ WorldError.NoSuchPacket → IsDisabled (action_of event.now) (world_of R.stream C.word_of self.old)) }
-        ensures missing { IsDisabled (action_of event.now) (world_of R.stream C.word_of self.old) → result ≡ Err WorldError.NoSuchPacket }
+        ensures disabled { IfErr result (λ e. e ≡ WorldError.NoSuchPacket → IsDisabled (action_of event.now) (world_of R.stream C.word_of self.old)) }
+        ensures no_such_packet { IsDisabled (action_of event.now) (world_of R.stream C.word_of self.old) → result ≡ Err WorldError.NoSuchPacket }
         ensures same { IfErr result (λ e. e ≡ WorldError.NoSuchPacket → self.new ≡ self.old) }
         ensures failed { self.new.has_failed ≡ self.old.has_failed }
     {
@@ -271,10 +271,10 @@ impl<R: Rng, C: Checksum> World<R, C> {
     fn proceed(&mut self, events: &[Event]) -> Result<(), WorldError>
         ensures ok { OnOk result (Runs (map action_of events.now) (world_of R.stream C.word_of self.old) (world_of R.stream C.word_of self.new)) }
         ensures works { OnOk result ((self.old.has_failed ≡ false) × (self.new.has_failed ≡ false)) }
-        ensures lacks { IfErr result (λ e. e ≡ WorldError.NoSuchPacket
+        ensures disabled { IfErr result (λ e. e ≡ WorldError.NoSuchPacket
             → RunsUpToDisabled (map action_of events.now) (world_of R.stream C.word_of self.old) (world_of R.stream C.word_of self.new)) }
-        ensures stands { IfErr result (λ e. e ≡ WorldError.NoSuchPacket → self.new.has_failed ≡ false) }
-        ensures wants { IfErr result (λ e. e ≡ WorldError.Memory → self.old.has_failed ≡ false
+        ensures unfailed { IfErr result (λ e. e ≡ WorldError.NoSuchPacket → self.new.has_failed ≡ false) }
+        ensures interrupted { IfErr result (λ e. e ≡ WorldError.Memory → self.old.has_failed ≡ false
             → RunsUpToEnabled (map action_of events.now) (world_of R.stream C.word_of self.old)) }
         ensures memory { IfErr result (λ e. e ≡ WorldError.Memory → self.new.has_failed ≡ true) }
         ensures failed { self.old.has_failed ≡ true → result ≡ Err WorldError.Memory }
@@ -287,11 +287,11 @@ impl<R: Rng, C: Checksum> World<R, C> {
 
     fn run_each(&mut self, events: &[Event]) -> Result<(), WorldError>
         ensures ok { OnOk result (Runs (map action_of events.now) (world_of R.stream C.word_of self.old) (world_of R.stream C.word_of self.new)) }
-        ensures lacks { IfErr result (λ e. e ≡ WorldError.NoSuchPacket
+        ensures disabled { IfErr result (λ e. e ≡ WorldError.NoSuchPacket
             → RunsUpToDisabled (map action_of events.now) (world_of R.stream C.word_of self.old) (world_of R.stream C.word_of self.new)) }
         ensures works { self.old.has_failed ≡ false → OnOk result (self.new.has_failed ≡ false) }
-        ensures stands { IfErr result (λ e. e ≡ WorldError.NoSuchPacket → self.new.has_failed ≡ false) }
-        ensures wants { IfErr result (λ e. e ≡ WorldError.Memory → self.old.has_failed ≡ false
+        ensures unfailed { IfErr result (λ e. e ≡ WorldError.NoSuchPacket → self.new.has_failed ≡ false) }
+        ensures interrupted { IfErr result (λ e. e ≡ WorldError.Memory → self.old.has_failed ≡ false
             → RunsUpToEnabled (map action_of events.now) (world_of R.stream C.word_of self.old)) }
         ensures memory { IfErr result (λ e. e ≡ WorldError.Memory → self.new.has_failed ≡ true) }
     {
@@ -307,17 +307,17 @@ impl<R: Rng, C: Checksum> World<R, C> {
 pub fn step<R: Rng, C: Checksum>(world: &mut World<R, C>, event: &Event) -> Result<(), WorldError>
     ensures ok { OnOk result (Happens (action_of event.now) (world_of R.stream C.word_of world.old) (world_of R.stream C.word_of world.new)) }
     ensures works { OnOk result ((world.old.has_failed ≡ false) × (world.new.has_failed ≡ false)) }
-    ensures lacks { IfErr result (λ e. e ≡ WorldError.NoSuchPacket → IsDisabled (action_of event.now) (world_of R.stream C.word_of world.old)) }
-    ensures missing { world.old.has_failed ≡ false → IsDisabled (action_of event.now) (world_of R.stream C.word_of world.old) → result ≡ Err WorldError.NoSuchPacket }
+    ensures disabled { IfErr result (λ e. e ≡ WorldError.NoSuchPacket → IsDisabled (action_of event.now) (world_of R.stream C.word_of world.old)) }
+    ensures no_such_packet { world.old.has_failed ≡ false → IsDisabled (action_of event.now) (world_of R.stream C.word_of world.old) → result ≡ Err WorldError.NoSuchPacket }
     ensures same { IfErr result (λ e. e ≡ WorldError.NoSuchPacket → world.new ≡ world.old) }
-    ensures stands { IfErr result (λ e. e ≡ WorldError.NoSuchPacket → world.new.has_failed ≡ false) }
+    ensures unfailed { IfErr result (λ e. e ≡ WorldError.NoSuchPacket → world.new.has_failed ≡ false) }
     ensures memory { IfErr result (λ e. e ≡ WorldError.Memory → world.new.has_failed ≡ true) }
     ensures failed { world.old.has_failed ≡ true → result ≡ Err WorldError.Memory }
     ensures short { OnOk result ((mtu_a mtu_b : ℕ) → AreShort mtu_a mtu_b (world_of R.stream C.word_of world.old)
         → AreShort mtu_a mtu_b (world_of R.stream C.word_of world.new)) }
     ensures first_run { OnOk result (LeadsFirstRun (action_of event.now ∷ []) (world_of R.stream C.word_of world.old) (world_of R.stream C.word_of world.new)) }
     ensures nothing_lacks { IfErr result (λ e. ContinuesFirstRun (action_of event.now ∷ []) (world_of R.stream C.word_of world.old) → e ≡ WorldError.Memory) }
-    ensures leads { world.new.has_failed ≡ false → IsReachable (world_of R.stream C.word_of world.old) → IsReachable (world_of R.stream C.word_of world.new) }
+    ensures reachable { world.new.has_failed ≡ false → IsReachable (world_of R.stream C.word_of world.old) → IsReachable (world_of R.stream C.word_of world.new) }
     ensures composes { (l : IsReachable (world_of R.stream C.word_of world.new)) → Composes (world_of R.stream C.word_of world.new) l }
     ensures agrees { (l : IsReachable (world_of R.stream C.word_of world.new)) → EachEndDrawsDistinctTags l → Agrees (world_of R.stream C.word_of world.new).log }
 {
@@ -334,10 +334,10 @@ pub fn step<R: Rng, C: Checksum>(world: &mut World<R, C>, event: &Event) -> Resu
 pub fn run<R: Rng, C: Checksum>(world: &mut World<R, C>, events: &[Event]) -> Result<(), WorldError>
     ensures ok { OnOk result (Runs (map action_of events.now) (world_of R.stream C.word_of world.old) (world_of R.stream C.word_of world.new)) }
     ensures works { OnOk result ((world.old.has_failed ≡ false) × (world.new.has_failed ≡ false)) }
-    ensures lacks { IfErr result (λ e. e ≡ WorldError.NoSuchPacket
+    ensures disabled { IfErr result (λ e. e ≡ WorldError.NoSuchPacket
         → RunsUpToDisabled (map action_of events.now) (world_of R.stream C.word_of world.old) (world_of R.stream C.word_of world.new)) }
-    ensures stands { IfErr result (λ e. e ≡ WorldError.NoSuchPacket → world.new.has_failed ≡ false) }
-    ensures wants { IfErr result (λ e. e ≡ WorldError.Memory → world.old.has_failed ≡ false
+    ensures unfailed { IfErr result (λ e. e ≡ WorldError.NoSuchPacket → world.new.has_failed ≡ false) }
+    ensures interrupted { IfErr result (λ e. e ≡ WorldError.Memory → world.old.has_failed ≡ false
         → RunsUpToEnabled (map action_of events.now) (world_of R.stream C.word_of world.old)) }
     ensures memory { IfErr result (λ e. e ≡ WorldError.Memory → world.new.has_failed ≡ true) }
     ensures failed { world.old.has_failed ≡ true → result ≡ Err WorldError.Memory }
@@ -345,7 +345,7 @@ pub fn run<R: Rng, C: Checksum>(world: &mut World<R, C>, events: &[Event]) -> Re
         → AreShort mtu_a mtu_b (world_of R.stream C.word_of world.new)) }
     ensures first_run { OnOk result (LeadsFirstRun (map action_of events.now) (world_of R.stream C.word_of world.old) (world_of R.stream C.word_of world.new)) }
     ensures nothing_lacks { IfErr result (λ e. ContinuesFirstRun (map action_of events.now) (world_of R.stream C.word_of world.old) → e ≡ WorldError.Memory) }
-    ensures leads { world.new.has_failed ≡ false → IsReachable (world_of R.stream C.word_of world.old) → IsReachable (world_of R.stream C.word_of world.new) }
+    ensures reachable { world.new.has_failed ≡ false → IsReachable (world_of R.stream C.word_of world.old) → IsReachable (world_of R.stream C.word_of world.new) }
     ensures composes { (l : IsReachable (world_of R.stream C.word_of world.new)) → Composes (world_of R.stream C.word_of world.new) l }
     ensures agrees { (l : IsReachable (world_of R.stream C.word_of world.new)) → EachEndDrawsDistinctTags l → Agrees (world_of R.stream C.word_of world.new).log }
 {
@@ -369,8 +369,8 @@ fn give<R: Rng, C: Checksum>(
 ) -> Result<(), WorldError>
     ensures ok { OnOk result ((bytes : List ℕ) × (slice_get from.now.packets number ≡ Some bytes)
         × TakesBytes (end_tree end) (Given (end_tree end) (clock (side_in R.stream C.word_of to.old).socket) number) bytes (side_in R.stream C.word_of to.old) (side_in R.stream C.word_of to.new) (map entry_tree log.old.items) (map entry_tree log.new.items)) }
-    ensures lacks { IfErr result (λ e. e ≡ WorldError.NoSuchPacket → slice_get from.now.packets number ≡ None) }
-    ensures missing { slice_get from.now.packets number ≡ None → result ≡ Err WorldError.NoSuchPacket }
+    ensures disabled { IfErr result (λ e. e ≡ WorldError.NoSuchPacket → slice_get from.now.packets number ≡ None) }
+    ensures no_such_packet { slice_get from.now.packets number ≡ None → result ≡ Err WorldError.NoSuchPacket }
     ensures side { IfErr result (λ e. e ≡ WorldError.NoSuchPacket → to.new ≡ to.old) }
     ensures log { IfErr result (λ e. e ≡ WorldError.NoSuchPacket → log.new ≡ log.old) }
 {

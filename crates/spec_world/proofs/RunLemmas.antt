@@ -15,7 +15,7 @@ pub runs_one : (action : Action) (w v : World) → Happens action w v → Runs (
 runs_one action w v happens = (v, happens, refl)
 
 pub lacks_one : (action : Action) (w v : World) → IsDisabled action w → v ≡ w → RunsUpToDisabled (action ∷ []) w v
-lacks_one action w v lacks same = record { before = []; action = action; rest = []; split = refl; runs = same; lacks = subst (IsDisabled action) (sym same) lacks }
+lacks_one action w v disabled same = record { before = []; action = action; rest = []; split = refl; runs = same; disabled = subst (IsDisabled action) (sym same) disabled }
 
 pub stepped : (all rest more : List Action) (action : Action) (w u v : World)
     → (front : List Action) × (all ≡ front ++ rest) × Runs front w u → rest ≡ action ∷ more → Happens action u v

@@ -229,7 +229,7 @@ pub record RunsUpToDisabled (actions : List Action) (w v : World) : Type 0 where
   pub rest : List Action
   pub split : actions ≡ before ++ action ∷ rest
   pub runs : Runs before w v
-  pub lacks : IsDisabled action v
+  pub disabled : IsDisabled action v
 
 -- a run up to an event that the world can meet: the packet is there, if it names one
 pub record RunsUpToEnabled (actions : List Action) (w : World) : Type 0 where

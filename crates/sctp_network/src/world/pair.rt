@@ -26,10 +26,10 @@ pub fn run_pair<R: Rng, S: Rng, C: Checksum>(
     ensures ok { OnOk result (Both (map action_of events.now) (world_of R.stream C.word_of first.old) (world_of S.stream C.word_of second.old)
         (world_of R.stream C.word_of first.new) (world_of S.stream C.word_of second.new)) }
     ensures works { OnOk result ((first.new.has_failed ≡ false) × (second.new.has_failed ≡ false)) }
-    ensures lacks { IfErr result (λ e. e ≡ WorldError.NoSuchPacket → BothUpToLack (map action_of events.now)
+    ensures disabled { IfErr result (λ e. e ≡ WorldError.NoSuchPacket → BothUpToLack (map action_of events.now)
         (world_of R.stream C.word_of first.old) (world_of S.stream C.word_of second.old)
         (world_of R.stream C.word_of first.new) (world_of S.stream C.word_of second.new)) }
-    ensures stands { IfErr result (λ e. e ≡ WorldError.NoSuchPacket → (first.new.has_failed ≡ false) × (second.new.has_failed ≡ false)) }
+    ensures unfailed { IfErr result (λ e. e ≡ WorldError.NoSuchPacket → (first.new.has_failed ≡ false) × (second.new.has_failed ≡ false)) }
     ensures memory { IfErr result (λ e. e ≡ WorldError.Memory → (first.new.has_failed ≡ true) ⊎ (second.new.has_failed ≡ true)) }
     ensures ran_out { first.old.has_failed ≡ false → second.old.has_failed ≡ false → IfErr result (λ e. e ≡ WorldError.Memory
         → RanOut (map action_of events.now) (world_of R.stream C.word_of first.old) (world_of S.stream C.word_of second.old)
@@ -63,10 +63,10 @@ fn lead<R: Rng, S: Rng, C: Checksum>(
     ensures ok { OnOk result (Both (map action_of events.now) (world_of R.stream C.word_of first.old) (world_of S.stream C.word_of second.old)
         (world_of R.stream C.word_of first.new) (world_of S.stream C.word_of second.new)) }
     ensures works { OnOk result ((first.new.has_failed ≡ false) × (second.new.has_failed ≡ false)) }
-    ensures lacks { IfErr result (λ e. e ≡ WorldError.NoSuchPacket → BothUpToLack (map action_of events.now)
+    ensures disabled { IfErr result (λ e. e ≡ WorldError.NoSuchPacket → BothUpToLack (map action_of events.now)
         (world_of R.stream C.word_of first.old) (world_of S.stream C.word_of second.old)
         (world_of R.stream C.word_of first.new) (world_of S.stream C.word_of second.new)) }
-    ensures stands { IfErr result (λ e. e ≡ WorldError.NoSuchPacket → (first.new.has_failed ≡ false) × (second.new.has_failed ≡ false)) }
+    ensures unfailed { IfErr result (λ e. e ≡ WorldError.NoSuchPacket → (first.new.has_failed ≡ false) × (second.new.has_failed ≡ false)) }
     ensures memory { IfErr result (λ e. e ≡ WorldError.Memory → (first.new.has_failed ≡ true) ⊎ (second.new.has_failed ≡ true)) }
     ensures ran_out { first.old.has_failed ≡ false → second.old.has_failed ≡ false → IfErr result (λ e. e ≡ WorldError.Memory
         → RanOut (map action_of events.now) (world_of R.stream C.word_of first.old) (world_of S.stream C.word_of second.old)
@@ -91,10 +91,10 @@ fn lead_each<R: Rng, S: Rng, C: Checksum>(
     ensures ok { OnOk result (Both (map action_of events.now) (world_of R.stream C.word_of first.old) (world_of S.stream C.word_of second.old)
         (world_of R.stream C.word_of first.new) (world_of S.stream C.word_of second.new)) }
     ensures works { OnOk result ((first.new.has_failed ≡ false) × (second.new.has_failed ≡ false)) }
-    ensures lacks { IfErr result (λ e. e ≡ WorldError.NoSuchPacket → BothUpToLack (map action_of events.now)
+    ensures disabled { IfErr result (λ e. e ≡ WorldError.NoSuchPacket → BothUpToLack (map action_of events.now)
         (world_of R.stream C.word_of first.old) (world_of S.stream C.word_of second.old)
         (world_of R.stream C.word_of first.new) (world_of S.stream C.word_of second.new)) }
-    ensures stands { IfErr result (λ e. e ≡ WorldError.NoSuchPacket → (first.new.has_failed ≡ false) × (second.new.has_failed ≡ false)) }
+    ensures unfailed { IfErr result (λ e. e ≡ WorldError.NoSuchPacket → (first.new.has_failed ≡ false) × (second.new.has_failed ≡ false)) }
     ensures ran_out { IfErr result (λ e. e ≡ WorldError.Memory
         → RanOut (map action_of events.now) (world_of R.stream C.word_of first.old) (world_of S.stream C.word_of second.old)
         (world_of R.stream C.word_of first.new) (world_of S.stream C.word_of second.new) first.new.has_failed second.new.has_failed) }
@@ -116,7 +116,7 @@ fn step_both<R: Rng, S: Rng, C: Checksum>(
     ensures first { OnOk result (Happens (action_of event.now) (world_of R.stream C.word_of first.old) (world_of R.stream C.word_of first.new)) }
     ensures second { OnOk result (Happens (action_of event.now) (world_of S.stream C.word_of second.old) (world_of S.stream C.word_of second.new)) }
     ensures works { OnOk result ((first.new.has_failed ≡ false) × (second.new.has_failed ≡ false)) }
-    ensures lacks { IfErr result (λ e. e ≡ WorldError.NoSuchPacket
+    ensures disabled { IfErr result (λ e. e ≡ WorldError.NoSuchPacket
         → IsDisabled (action_of event.now) (world_of R.stream C.word_of first.old) ⊎ IsDisabled (action_of event.now) (world_of S.stream C.word_of second.old)) }
     ensures same { IfErr result (λ e. e ≡ WorldError.NoSuchPacket → (first.new ≡ first.old) × (second.new ≡ second.old)) }
     ensures ran_out { IfErr result (λ e. e ≡ WorldError.Memory
@@ -133,7 +133,7 @@ fn step_both<R: Rng, S: Rng, C: Checksum>(
 /// Whether the world has the packet that the event names, if it names one.
 fn has_packet<R: Rng, C: Checksum>(world: &World<R, C>, event: &Event) -> bool
     ensures there { result ≡ true → IsDisabled (action_of event.now) (world_of R.stream C.word_of world.now) → ⊥ }
-    ensures lacks { result ≡ false → IsDisabled (action_of event.now) (world_of R.stream C.word_of world.now) }
+    ensures disabled { result ≡ false → IsDisabled (action_of event.now) (world_of R.stream C.word_of world.now) }
 {
     match event {
         Event::Give(number, End::A) => world.packet(End::B, *number).is_some(),

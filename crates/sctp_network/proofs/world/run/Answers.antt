@@ -25,14 +25,14 @@ pub returns-clause-nothing_lacks : goal.returns-clause-nothing_lacks
 returns-clause-nothing_lacks g c =
     let w : World = world_of g.R.Rng.stream g.C.Checksum.word_of c.args.world.now in
     let v : World = world_of g.R.Rng.stream g.C.Checksum.word_of c.proceed-answer.new.self in
-    IfErr-weaker c.proceed-answer.result _ _ (λ e lacks. only_memory (map action_of c.args.events.now) w v e lacks) c.proceed-answer.ensures.lacks
+    IfErr-weaker c.proceed-answer.result _ _ (λ e disabled. only_memory (map action_of c.args.events.now) w v e disabled) c.proceed-answer.ensures.disabled
 
-pub returns-clause-leads : goal.returns-clause-leads
-returns-clause-leads g c =
+pub returns-clause-reachable : goal.returns-clause-reachable
+returns-clause-reachable g c =
     let w : World = world_of g.R.Rng.stream g.C.Checksum.word_of c.args.world.now in
     let v : World = world_of g.R.Rng.stream g.C.Checksum.word_of c.proceed-answer.new.self in
     reachable_by w v c.proceed-answer.new.self.has_failed c.sent-a.result c.sent-b.result c.sent-a.ensures c.sent-b.ensures c.sent_bytes.ensures.bytes c.sent_bytes-2.ensures.bytes c.proceed-answer.result (map action_of c.args.events.now)
-    c.proceed-answer.ensures.ok c.proceed-answer.ensures.lacks c.proceed-answer.ensures.memory c.events_fit.ensures.fit
+    c.proceed-answer.ensures.ok c.proceed-answer.ensures.disabled c.proceed-answer.ensures.memory c.events_fit.ensures.fit
 
 pub returns-clause-composes : goal.returns-clause-composes
 returns-clause-composes g c = λ l. compose delivered refused_none delivered_then _ l

@@ -28,18 +28,18 @@ pub returns-clause-nothing_lacks : goal.returns-clause-nothing_lacks
 returns-clause-nothing_lacks g c =
     let w : World = world_of g.R.Rng.stream g.C.Checksum.word_of c.args.world.now in
     let v : World = world_of g.R.Rng.stream g.C.Checksum.word_of c.happen-answer.new.self in
-    IfErr-weaker c.happen-answer.result _ _ (λ e lacks. only_memory (action_of c.args.event.now ∷ []) w v e lacks)
-    (lacks_then c.happen-answer.result (action_of c.args.event.now) w v c.happen-answer.ensures.lacks
+    IfErr-weaker c.happen-answer.result _ _ (λ e disabled. only_memory (action_of c.args.event.now ∷ []) w v e disabled)
+    (lacks_then c.happen-answer.result (action_of c.args.event.now) w v c.happen-answer.ensures.disabled
     (IfErr-weaker c.happen-answer.result _ _ (λ e same is. ap (world_of g.R.Rng.stream g.C.Checksum.word_of) (same is)) c.happen-answer.ensures.same))
 
-pub returns-clause-leads : goal.returns-clause-leads
-returns-clause-leads g c =
+pub returns-clause-reachable : goal.returns-clause-reachable
+returns-clause-reachable g c =
     let w : World = world_of g.R.Rng.stream g.C.Checksum.word_of c.args.world.now in
     let v : World = world_of g.R.Rng.stream g.C.Checksum.word_of c.happen-answer.new.self in
     reachable_by w v c.happen-answer.new.self.has_failed c.sent-a.result c.sent-b.result c.sent-a.ensures c.sent-b.ensures c.sent_bytes.ensures.bytes c.sent_bytes-2.ensures.bytes
     c.happen-answer.result (action_of c.args.event.now ∷ [])
     (on_ok_weaker c.happen-answer.result (λ happens. runs_one (action_of c.args.event.now) w v happens) c.happen-answer.ensures.ok)
-    (lacks_then c.happen-answer.result (action_of c.args.event.now) w v c.happen-answer.ensures.lacks
+    (lacks_then c.happen-answer.result (action_of c.args.event.now) w v c.happen-answer.ensures.disabled
     (IfErr-weaker c.happen-answer.result _ _ (λ e same is. ap (world_of g.R.Rng.stream g.C.Checksum.word_of) (same is)) c.happen-answer.ensures.same))
     c.happen-answer.ensures.memory (All-cons ActionFits (action_of c.args.event.now) [] c.an_event_fits.ensures.fits (All-nil ActionFits))
 

@@ -10,8 +10,8 @@ returns-clause-short g c =
     (λ w is. new_short (options_of c.args.options_a.now) (options_of c.args.options_b.now) (g.R.Rng.stream c.args.rng_a) (g.R.Rng.stream c.args.rng_b)
     (g.C.Checksum.word_of c.args.checksum_a) (g.C.Checksum.word_of c.args.checksum_b) c.requires.a c.requires.b _ is) c.made.ensures.world
 
-pub returns-clause-leads : goal.returns-clause-leads
-returns-clause-leads g c =
+pub returns-clause-reachable : goal.returns-clause-reachable
+returns-clause-reachable g c =
     IfOk-weaker c.made.result _ _
     (λ w is. reachable_new (options_of c.args.options_a.now) (options_of c.args.options_b.now) (g.R.Rng.stream c.args.rng_a) (g.R.Rng.stream c.args.rng_b)
     (g.C.Checksum.word_of c.args.checksum_a) (g.C.Checksum.word_of c.args.checksum_b) c.requires.a c.requires.b

@@ -15,12 +15,12 @@ loop-event-preserved g c =
       works = λ was. c.in_ok-happen.ensures.works.1;
     }
 
-pub returns-in_err-happen-clause-wants : goal.returns-in_err-happen-clause-wants
-returns-in_err-happen-clause-wants g c =
+pub returns-in_err-happen-clause-interrupted : goal.returns-in_err-happen-clause-interrupted
+returns-in_err-happen-clause-interrupted g c =
     let p = err_from_is_err_and c.from_residual.result c.from_residual.ensures.1 in
     let i = c.loop-event.event-index in
     let events = c.args.events.now in
     rw (p.1, p.2)
     (λ is works. wanting _ (map action_of (drop i events)) (map action_of (drop (i + 1) events)) _ _ _ c.loop-event.invariant.ran
     (next_event events i c.event-item.result c.loop-event-test.true c.event-item.is)
-    (λ lacks. there_then _ is (c.in_err-happen.ensures.missing (c.loop-event.invariant.works works) lacks)))
+    (λ disabled. there_then _ is (c.in_err-happen.ensures.no_such_packet (c.loop-event.invariant.works works) disabled)))

@@ -29,7 +29,7 @@ returns-clause-pairs g c =
       bytes_b = c.sent_bytes-4.ensures.bytes;
     } in
     paired_by w v x y first second c.lead-answer.result c.lead-answer.new.first.has_failed c.lead-answer.new.second.has_failed (map action_of c.args.events.now)
-    c.lead-answer.ensures.ok c.lead-answer.ensures.lacks c.lead-answer.ensures.memory c.events_fit.ensures.fit
+    c.lead-answer.ensures.ok c.lead-answer.ensures.disabled c.lead-answer.ensures.memory c.events_fit.ensures.fit
 
 pub returns-clause-alike : goal.returns-clause-alike
 returns-clause-alike g c = λ p q. worlds_show _ _ p q
