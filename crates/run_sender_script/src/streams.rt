@@ -41,9 +41,9 @@ fn with(alloc: Global, streams: &Streams, line: &Line<'_>) -> Result<Answer, All
     let payload = bytes(alloc, usize::from(line.short(1)))?;
     match queued(OutgoingMessageId(2), payload, false) {
         Some(message) => {
-            let size = streams.sendable_with(line.stream(0), &message);
+            let demand = streams.demand_with(line.stream(0), &message);
             drop(message);
-            Ok(Answer::Number(size as u64))
+            Ok(Answer::Number(demand.bytes as u64))
         }
         None => Ok(Answer::Refused),
     }

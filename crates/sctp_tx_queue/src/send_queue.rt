@@ -150,8 +150,8 @@ impl SendQueue {
         let id = message.stream_id;
         let message_id = self.next_message_id;
         let message = QueuedMessage::new(message_id, now, message, options);
-        let bytes = self.streams.sendable_with(id, &message);
-        if bytes == 0 {
+        let demand = self.streams.demand_with(id, &message);
+        if demand.bytes == 0 {
             self.streams.push(self.alloc, id, message)?;
             self.scheduler.leave(id);
             self.next_message_id += 1;
@@ -162,8 +162,8 @@ impl SendQueue {
             self.next_message_id += 1;
             return Ok(message_id);
         }
-        let priority = self.streams.priority(id);
-        self.scheduler.set_bytes_remaining(id, bytes, priority)?;
+        self.scheduler
+            .set_bytes_remaining(id, demand.bytes, demand.priority)?;
         let Err(_) = self.streams.push(self.alloc, id, message) else {
             self.next_message_id += 1;
             return Ok(message_id);
@@ -302,7 +302,7 @@ impl SendQueue {
     pub fn has_next_stream(&self) -> bool
         ensures { result ≡ (is_some self.now.begun || not (length self.now.scheduler.times == 0)) }
     {
-        self.begun.is_some() || self.scheduler.active_count() > 0
+        self.begun.is_some() || self.has_data_to_send()
     }
 
     /// The amount at which a stream is low.

@@ -59,6 +59,13 @@ impl Model for Streams {
     ghost invariant = { λ s. IsCounted s.total.amount s.ready_count s.streams.entries };
 }
 
+/// The bytes that a stream has to send, and its priority.
+#[derive(Clone, Copy)]
+pub struct Demand {
+    pub bytes: usize,
+    pub priority: u16,
+}
+
 impl Streams {
     /// No streams.
     pub fn new(alloc: Global, options: &Options) -> Streams
@@ -175,21 +182,8 @@ impl Streams {
         ensures ok { OnOk result (self.new ≡ put_stream id.0 (push message (stream id.0 self.old)) (open_stream id.0 self.old)) }
         ensures err { OnErr result (self.new ≡ self.old) }
     {
-        if self.streams.contains_key(&id.0) {
-            return self.push_behind(id, message);
-        }
-        self.push_first(alloc, id, message)
-    }
-
-    /// Adds a message to a stream that is there.
-    fn push_behind(&mut self, id: StreamId, message: QueuedMessage) -> Result<(), AllocError>
-        requires there { IsSome (lookup (is_at (nat_cmp id.0)) self.old.entries) }
-        requires room { total_of self.old.entries < 2 ^ 32 }
-        ensures ok { OnOk result (self.new ≡ put_stream id.0 (push message (stream id.0 self.old)) self.old) }
-        ensures err { OnErr result (self.new ≡ self.old) }
-    {
         let Some(stream) = self.streams.get_mut(&id.0) else {
-            return Err(AllocError);
+            return self.push_first(alloc, id, message);
         };
         let bytes = message.left();
         stream.push(message)?;
@@ -217,13 +211,20 @@ impl Streams {
         Ok(())
     }
 
-    /// The bytes that a stream has to send once a message was added.
-    pub fn sendable_with(&self, id: StreamId, message: &QueuedMessage) -> usize
-        ensures { result ≡ sendable (push message.now (stream id.0 self.now)) }
+    /// What a stream has to send once a message was added.
+    pub fn demand_with(&self, id: StreamId, message: &QueuedMessage) -> Demand
+        ensures bytes { result.bytes ≡ sendable (push message.now (stream id.0 self.now)) }
+        ensures priority { result.priority ≡ (stream id.0 self.now).priority }
     {
         match self.streams.get(&id.0) {
-            Some(stream) => stream.sendable_with(message),
-            None => message.left(),
+            Some(stream) => Demand {
+                bytes: stream.sendable_with(message),
+                priority: stream.priority(),
+            },
+            None => Demand {
+                bytes: message.left(),
+                priority: self.default_priority,
+            },
         }
     }
 
@@ -283,6 +284,7 @@ impl Streams {
         ensures kept { OnErr result (scheduler.new ≡ scheduler.old) }
         ensures silent { OnErr result (events.new ≡ events.old) }
     {
+        // (read for its bound: no more streams are ready)
         let _count = self.streams.len();
         let Some(stream) = self.streams.get_mut(&id.0) else {
             scheduler.leave(id);
@@ -366,6 +368,7 @@ impl Streams {
     pub fn discard(&mut self, id: StreamId, message_id: OutgoingMessageId)
         ensures { self.new ≡ streams_discarded id.0 message_id.0 self.old }
     {
+        // (read for its bound: no more streams are ready)
         let _count = self.streams.len();
         let Some(stream) = self.streams.get_mut(&id.0) else {
             return;
@@ -403,6 +406,7 @@ impl Streams {
     pub fn prepare_reset(&mut self, id: StreamId)
         ensures { self.new ≡ put_stream id.0 (prepare_stream (stream id.0 self.old)) self.old }
     {
+        // (read for its bound: no more streams are ready)
         let _count = self.streams.len();
         let Some(stream) = self.streams.get_mut(&id.0) else {
             return;
@@ -435,6 +439,7 @@ impl Streams {
     pub fn take_step(&mut self, id: StreamId, step: ResetStep)
         ensures { self.new ≡ put_stream id.0 (after_step step (stream id.0 self.old)) self.old }
     {
+        // (read for its bound: no more streams are ready)
         let _count = self.streams.len();
         let Some(stream) = self.streams.get_mut(&id.0) else {
             return;
@@ -465,6 +470,7 @@ impl Streams {
     pub fn restart(&mut self, id: StreamId)
         ensures { self.new ≡ put_stream id.0 (restart (stream id.0 self.old)) self.old }
     {
+        // (read for its bound: no more streams are ready)
         let _count = self.streams.len();
         let Some(stream) = self.streams.get_mut(&id.0) else {
             return;
@@ -567,6 +573,7 @@ fn outgoing_streams(
     ensures records { IfOk result (λ records. records.items ≡ outgoing_streams streams.now.entries) }
     ensures ordered { IsStrictlySortedBy nat_cmp (keys_of streams.now.entries) }
 {
+    // (read for its clause: the ids ascend)
     let _count = streams.len();
     let mut records = Vec::new(alloc);
     for (id, stream) in streams {

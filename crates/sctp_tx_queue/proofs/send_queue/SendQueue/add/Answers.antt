@@ -9,7 +9,7 @@ use Rattle.sctp_tx_queue.proofs.send_queue.SendQueue.add.Goals as goal
 pub returns-then-is_active-clause-ok : goal.returns-then-is_active-clause-ok
 returns-then-is_active-clause-ok c =
     let id = c.args.message.stream_id.0 in
-    let kept = active_keeps id c.sendable_with-bytes.result (stream id c.self.inside.streams).priority c.self.inside.scheduler (omega (arith, c.if-bytes-eq0.false)) (sym c.is_active.ensures ∙ c.if-is_active.true) in
+    let kept = active_keeps id c.demand_with-demand.result.bytes (stream id c.self.inside.streams).priority c.self.inside.scheduler (omega (arith, c.if-demand-eq0.false)) (sym c.is_active.ensures ∙ c.if-is_active.true) in
     search (rules, kept)
 
 pub returns-clause-err : goal.returns-clause-err
@@ -17,5 +17,5 @@ returns-clause-err c =
     let id = c.args.message.stream_id.0 in
     let queue : Streams → Scheduler → Queue = λ ss sch. record { streams = ss; scheduler = sch; next_number = c.self.inside.next_message_id.0; begun = option_map (λ i. i.0) c.self.inside.begun } in
     ap (λ ss. queue ss c.leave-2.new.self) c.in-Err.ensures.err
-    ∙ ap (λ sch. queue c.self.inside.streams sch) (c.leave-2.ensures ∙ ap (leave id) c.in_ok-set_bytes_remaining.ensures.ok ∙ withdraws id c.sendable_with-bytes.result c.priority-priority.result c.self.inside.scheduler (sym c.is_active.ensures ∙ c.if-is_active.false))
+    ∙ ap (λ sch. queue c.self.inside.streams sch) (c.leave-2.ensures ∙ ap (leave id) c.in_ok-set_bytes_remaining.ensures.ok ∙ withdraws id c.demand_with-demand.result.bytes c.demand_with-demand.result.priority c.self.inside.scheduler (sym c.is_active.ensures ∙ c.if-is_active.false))
     ∙ c.self.view_is

@@ -7,7 +7,7 @@ use Rattle.sctp_tx_queue.specs.Queue.{Stream, Streams, Entries, total_of, amount
 use Rattle.sctp_tx_queue.proofs.BoundLemmas.{few_changed, few_pushed, keeps_same, small_one}
 use Rattle.sctp_tx_queue.proofs.ReadyLemmas.{ready_kept}
 use Rattle.sctp_tx_queue.proofs.StreamsLemmas.{total_written, written_same}
-use Rattle.sctp_tx_queue.proofs.send_queue.streams.Streams.push_behind.Goals as goal
+use Rattle.sctp_tx_queue.proofs.send_queue.streams.Streams.push.Goals as goal
 
 pub invariant_of-self-in_err-push : goal.invariant_of-self-in_err-push
 invariant_of-self-in_err-push c =
@@ -42,6 +42,6 @@ invariant_of-self-2 c =
     let small = small_one c.args.message (omega (arith, c.left-bytes.ensures.value, c.left-bytes.ensures.more)) c.left-bytes.ensures.whole in
     record {
       counted = omega (arith, ap total_of written, sums, grown, more, c.left-bytes.ensures.value, c.self.invariant.counted, ap (λ w. w.amount) c.increase.ensures);
-      few = few_pushed c.args.id.0 entries _ v w c.args.message c.in-Some.ensures.value written c.in_ok-push.ensures.ok small (omega (arith, c.requires.room, ap (λ ss. total_of ss.entries) c.self.view_is)) c.self.invariant.few;
+      few = few_pushed c.args.id.0 entries _ v w c.args.message c.in-Some.ensures.value written c.in_ok-push.ensures.ok small (omega (arith, c.requires, ap (λ ss. total_of ss.entries) c.self.view_is)) c.self.invariant.few;
       ready = c.self.invariant.ready ∙ ready_kept c.args.id.0 entries _ v w c.in-Some.ensures.value written (ap (λ (t : Stream). t.pause) c.in_ok-push.ensures.ok);
     }
