@@ -18,7 +18,7 @@ use Rattle.sctp_tx_queue.specs.Settings.{with_threshold, with_priority, set_low_
 use Rattle.sctp_tx_queue.specs.Restarted.{whole_front, restart, restarted_one, each_restarted, reset}
 use Rattle.sctp_tx_queue.specs.Resets.{is_partly, prepare_stream, prepare_reset, is_ready, ready, after_step, step_stream, each_stepped, requested_streams}
 use Rattle.sctp_tx_queue.specs.Restored.{is_on, message_from, entries_from, restore}
-use Rattle.sctp_tx_queue.proofs.InOrderLemmas.{step_messages}
+use Rattle.sctp_tx_queue.proofs.StreamLemmas.{step_messages}
 use Rattle.proof_endpoint.specs.Sound.{FitsQueued, FitsStream, FitsQueue, FitsStreamMessage}
 use Rattle.proof_endpoint.proofs.ReceivedLemmas.{each_push, each_take}
 use Rattle.proof_protocol.proofs.CommonLemmas.{same_at}

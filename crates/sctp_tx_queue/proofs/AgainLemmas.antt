@@ -7,6 +7,7 @@ use Rattle.std.specs.Ordering.{nat_cmp}
 use Rattle.std.proofs.lemmas.Bool.Decides.{nat_tests}
 use Rattle.std.proofs.lemmas.List.{append-nil}
 use Rattle.std.proofs.lemmas.List.Elements.{filter-append}
+use Rattle.std.proofs.lemmas.Bool.{eq-eqb}
 use Rattle.sctp_serial.specs.Unwrapped.{words, halves, wire}
 use Rattle.sctp_state.specs.Handover.{StreamMessage, Transmission}
 use Rattle.sctp_state.specs.HandoverTimes.{ms_from, moment_from, lifecycle_from}
@@ -47,9 +48,6 @@ messages_are now id (m ∷ ms) = ap (λ x. x ∷ map (message_from now) (map (qu
 
 -- ---- the messages of a stream among those of all
 
-itself : (id : ℕ) → (id == id) ≡ true
-itself id = grind (arith, nat_tests)
-
 other : (a b : ℕ) → a < b → (a == b) ≡ false
 other a b l = grind (arith, nat_tests)
 
@@ -60,7 +58,7 @@ all_on : (now id : ℕ) (ms : List Queued) → filter (is_on id) (map (queued_me
 all_on now id [] = refl
 all_on now id (m ∷ ms) =
     let rest : List StreamMessage = filter (is_on id) (map (queued_message now id) ms) in
-    ap (λ t. cond t (queued_message now id m ∷ rest) rest) (itself id) ∙ ap (λ xs. queued_message now id m ∷ xs) (all_on now id ms)
+    ap (λ t. cond t (queued_message now id m ∷ rest) rest) (eq-eqb id id refl) ∙ ap (λ xs. queued_message now id m ∷ xs) (all_on now id ms)
 
 none_on : (now k id : ℕ) (ms : List Queued) → (id == k) ≡ false → filter (is_on k) (map (queued_message now id) ms) ≡ []
 none_on now k id [] e = refl

@@ -7,6 +7,7 @@ use Rattle.std.specs.BTreeMap.{is_at}
 use Rattle.std.proofs.lemmas.Bool.{lt-ltb}
 use Rattle.std.proofs.lemmas.List.{append-nil}
 use Rattle.std.proofs.lemmas.Bool.Decides.{nat_tests}
+use Rattle.std.proofs.lemmas.Option.{none-some, same_Some}
 use Rattle.sctp_state.specs.Events.{Emitted}
 use Rattle.sctp_stream_scheduler.specs.Scheduler.{peek}
 use Rattle.sctp_tx_queue.specs.declared.send_queue.message.MessageNumbers.{MessageNumbers}
@@ -18,12 +19,6 @@ use Rattle.sctp_tx_queue.proofs.ProduceLemmas.{idles, gives, turned}
 
 -- ---- a begun message is next
 
-differ : {X : Type 0} (x : X) → None ≡ Some x → ⊥
-differ x h = cc
-
-inside : {X : Type 0} (x y : X) → Some x ≡ Some y → x ≡ y
-inside x y h = cc
-
 put_itself : (id : ℕ) (ss : Streams) → put_stream id (stream id ss) ss ≡ ss
 put_itself id ss = go (lookup (is_at (nat_cmp id)) ss.entries) refl
   where
@@ -33,21 +28,21 @@ put_itself id ss = go (lookup (is_at (nat_cmp id)) ss.entries) refl
 
 -- a partly sent message does not expire
 fresh_begun : (now number : ℕ) (ms : List Queued) → begun_number ms ≡ Some number → fresh now ms ≡ ms
-fresh_begun now number [] h = absurd (differ number h)
+fresh_begun now number [] h = absurd (none-some number h)
 fresh_begun now number (m ∷ rest) h = go (is_some m.numbers) h
   where
     go : (b : Bool) → cond (b && nat_lt 0 m.offset) (Some m.number) None ≡ Some number → cond (not b && is_due now m.expires) (fresh now rest) (m ∷ rest) ≡ m ∷ rest
     go true h = refl
-    go false h = absurd (differ number h)
+    go false h = absurd (none-some number h)
 
 -- the fragment of the first message, which is partly sent
 front_begun : (id size number : ℕ) (n : MessageNumbers) (ms : List Queued) → begun_number ms ≡ Some number → (p : Produced) × ((front_made id size n ms ≡ Some p) × ((p.number ≡ number) × (p.fragment.stream_id ≡ id)))
-front_begun id size number n [] h = absurd (differ number h)
+front_begun id size number n [] h = absurd (none-some number h)
 front_begun id size number n (m ∷ rest) h = (made_of id size n m, (refl, (go (is_some m.numbers && nat_lt 0 m.offset) h, refl)))
   where
     go : (b : Bool) → cond b (Some m.number) None ≡ Some number → m.number ≡ number
-    go true h = inside m.number number h
-    go false h = absurd (differ number h)
+    go true h = same_Some m.number number h
+    go false h = absurd (none-some number h)
 
 pub goes_on : {P : Type 0} (now size : ℕ) (q : Queue) (emitted : Emitted P) → GoesOn q (produce now size q emitted).made
 goes_on {P} now size q emitted id number b = (found.0, (all ∙ found.1.0, found.1.1))
@@ -78,16 +73,16 @@ goes_on {P} now size q emitted id number b = (found.0, (all ∙ found.1.0, found
 -- ---- a fragment that isn't an end begins its message
 
 unended : (id size : ℕ) (n : MessageNumbers) (ms : List Queued) (p : Produced) → 0 < size → front_made id size n ms ≡ Some p → p.fragment.is_end ≡ false → begun_number (moved_front size n ms) ≡ Some p.number
-unended id size n [] p some made e = absurd (differ p made)
-unended id size n (m ∷ rest) p some made e = go (ends size m) (ap (λ (x : Produced). x.fragment.is_end) (inside _ _ made) ∙ e) ∙ ap (λ (x : Produced). Some x.number) (inside _ _ made)
+unended id size n [] p some made e = absurd (none-some p made)
+unended id size n (m ∷ rest) p some made e = go (ends size m) (ap (λ (x : Produced). x.fragment.is_end) (same_Some _ _ made) ∙ e) ∙ ap (λ (x : Produced). Some x.number) (same_Some _ _ made)
   where
     go : (b : Bool) → b ≡ false → begun_number (cond b rest (move_past size n m ∷ rest)) ≡ Some m.number
     go true h = absurd (cc)
     go false h = ap (λ t. cond t (Some m.number) None) (lt-ltb 0 (m.offset + size) (omega (arith, some)))
 
 of_stream : (id size : ℕ) (n : MessageNumbers) (ms : List Queued) (p : Produced) → front_made id size n ms ≡ Some p → id ≡ p.fragment.stream_id
-of_stream id size n [] p made = absurd (differ p made)
-of_stream id size n (m ∷ rest) p made = ap (λ (x : Produced). x.fragment.stream_id) (inside _ _ made)
+of_stream id size n [] p made = absurd (none-some p made)
+of_stream id size n (m ∷ rest) p made = ap (λ (x : Produced). x.fragment.stream_id) (same_Some _ _ made)
 
 begins_turn : {P : Type 0} (now id size : ℕ) (q : Queue) (emitted : Emitted P) (p : Produced) → 0 < size → (turn now id size q emitted).made ≡ Some p → q.scheduler.is_interleaved ≡ false → p.fragment.is_end ≡ false
     → IsBegun p.fragment.stream_id p.number (turn now id size q emitted).queue
@@ -106,7 +101,7 @@ begins_turn now id size q emitted p some made mode e = subst (λ i. IsBegun i p.
 
     there : (o : Option Stream) → lookup (is_at (nat_cmp id)) ss.entries ≡ o → is_some (lookup (is_at (nat_cmp id)) ss.entries) ≡ true
     there (Some t) h = ap is_some h
-    there None h = absurd (differ p (sym (ap (λ t. next_fragment id size t) (stream_nowhere id ss (sym h))) ∙ made))
+    there None h = absurd (none-some p (sym (ap (λ t. next_fragment id size t) (stream_nowhere id ss (sym h))) ∙ made))
 
     message : begun_number (stream id (put_stream id (advance size s) ss)).messages ≡ Some p.number
     message =
@@ -119,14 +114,14 @@ same_mode now id size q emitted none =
     ap (λ (o : Option Produced). (in_line id (sendable (stream id ss)) (stream id ss).priority o q.scheduler).is_interleaved) none
 
 begins_within : {P : Type 0} (turns now size : ℕ) (q : Queue) (emitted : Emitted P) → 0 < size → Begins q.scheduler.is_interleaved (produce_within turns now size q emitted).made (produce_within turns now size q emitted).queue
-begins_within zero now size q emitted some p made mode e = absurd (differ p made)
+begins_within zero now size q emitted some p made mode e = absurd (none-some p made)
 begins_within {P} (suc m) now size q emitted some p made mode e = go (next_stream q) refl (λ r t. begins_within m now size r t some p)
   where
     Rest : Type 0
     Rest = (r : Queue) (t : Emitted P) → (produce_within m now size r t).made ≡ Some p → r.scheduler.is_interleaved ≡ false → p.fragment.is_end ≡ false → IsBegun p.fragment.stream_id p.number (produce_within m now size r t).queue
 
     go : (o : Option ℕ) → next_stream q ≡ o → Rest → IsBegun p.fragment.stream_id p.number (produce_within (suc m) now size q emitted).queue
-    go None h rest = absurd (differ p (sym (ap (λ (t : Turn P). t.made) (idles m now size q emitted h)) ∙ made))
+    go None h rest = absurd (none-some p (sym (ap (λ (t : Turn P). t.made) (idles m now size q emitted h)) ∙ made))
     go (Some id) h rest = pick (turn now id size q emitted).made refl
       where
         pick : (o : Option Produced) → o ≡ (turn now id size q emitted).made → IsBegun p.fragment.stream_id p.number (produce_within (suc m) now size q emitted).queue

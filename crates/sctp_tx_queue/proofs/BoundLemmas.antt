@@ -11,6 +11,7 @@ use Rattle.std.proofs.lemmas.Bool.Decides.{nat_tests}
 use Rattle.std.proofs.lemmas.Cmp.{nat_cmp_total}
 use Rattle.std.proofs.lemmas.List.Sums.{sum_by-cons}
 use Rattle.std.proofs.lemmas.Map.Entries.{sum_by-set_value, sum_by-insert_entry}
+use Rattle.std.proofs.lemmas.Bool.{and_parts}
 use Rattle.sctp_state.specs.declared.api.handover.HandoverOutgoingStream.{HandoverOutgoingStream}
 use Rattle.sctp_tx_queue.specs.declared.send_queue.message.MessageNumbers.{MessageNumbers}
 use Rattle.sctp_tx_queue.specs.declared.send_queue.stream.ResetStep.{ResetStep}
@@ -22,7 +23,6 @@ use Rattle.sctp_tx_queue.specs.Resets.{is_partly, after_step}
 use Rattle.sctp_tx_queue.specs.Restored.{entries_from}
 use Rattle.sctp_tx_queue.specs.Restarted.{whole_front, whole, restart}
 use Rattle.sctp_tx_queue.specs.Bounded.{is_small, are_small, message_count, AreFew}
-use Rattle.sctp_tx_queue.proofs.RestoreLemmas.{both}
 use Rattle.sctp_tx_queue.proofs.StreamsLemmas.{total_written, amount_at_most}
 
 -- ---- what a change of a stream's messages keeps
@@ -35,17 +35,17 @@ pub keeps_same : (ms : List Queued) → Keeps ms ms
 keeps_same ms = record { small = λ h. h; fewer = omega arith }
 
 behind : (m : Queued) (rest : List Queued) → Keeps (m ∷ rest) rest
-behind m rest = record { small = λ h. (both (is_small m) (list_all is_small rest) h).1; fewer = omega arith }
+behind m rest = record { small = λ h. (and_parts (is_small m) (list_all is_small rest) h).1; fewer = omega arith }
 
 -- a change behind the front
 below : (m : Queued) (rest ns : List Queued) → Keeps rest ns → Keeps (m ∷ rest) ns
-below m rest ns k = record { small = λ h. k.small (both (is_small m) (list_all is_small rest) h).1; fewer = omega (arith, k.fewer) }
+below m rest ns k = record { small = λ h. k.small (and_parts (is_small m) (list_all is_small rest) h).1; fewer = omega (arith, k.fewer) }
 
 -- another front, as small as the old one
 instead : (m n : Queued) (rest : List Queued) → (is_small m ≡ true → is_small n ≡ true) → Keeps (m ∷ rest) (n ∷ rest)
 instead m n rest small =
     record {
-      small = λ h. ap (λ b. b && list_all is_small rest) (small (both (is_small m) (list_all is_small rest) h).0) ∙ (both (is_small m) (list_all is_small rest) h).1;
+      small = λ h. ap (λ b. b && list_all is_small rest) (small (and_parts (is_small m) (list_all is_small rest) h).0) ∙ (and_parts (is_small m) (list_all is_small rest) h).1;
       fewer = omega arith;
     }
 
@@ -75,7 +75,7 @@ keeps_partly (m ∷ rest) = go (is_partly m) (keeps_partly rest)
     go : (b : Bool) → Keeps rest (filter is_partly rest) → Keeps (m ∷ rest) (cond b (m ∷ filter is_partly rest) (filter is_partly rest))
     go true ih =
         record {
-          small = λ h. ap (λ b. b && list_all is_small (filter is_partly rest)) (both (is_small m) (list_all is_small rest) h).0 ∙ ih.small (both (is_small m) (list_all is_small rest) h).1;
+          small = λ h. ap (λ b. b && list_all is_small (filter is_partly rest)) (and_parts (is_small m) (list_all is_small rest) h).0 ∙ ih.small (and_parts (is_small m) (list_all is_small rest) h).1;
           fewer = omega (arith, ih.fewer);
         }
     go false ih = below m rest (filter is_partly rest) ih
@@ -109,7 +109,7 @@ small_one m some h = small_of m.offset (length m.payload) (omega (arith, some)) 
 pub small_pushed : (ms : List Queued) (m : Queued) → list_all is_small ms ≡ true → is_small m ≡ true → list_all is_small (ms ++ m ∷ []) ≡ true
 small_pushed [] m h w = ap (λ b. b && true) w
 small_pushed (x ∷ xs) m h w =
-    let hs = both (is_small x) (list_all is_small xs) h in
+    let hs = and_parts (is_small x) (list_all is_small xs) h in
     ap (λ b. b && list_all is_small (xs ++ m ∷ [])) hs.0 ∙ small_pushed xs m hs.1 w
 
 -- ---- the streams when one of them changes
@@ -119,7 +119,7 @@ small_found test [] v at h = absurd (cc)
 small_found test (e ∷ es) v at h = go (test e.0) at (λ a. small_found test es v a hs.1)
   where
     hs : (are_small e.1 ≡ true) × (list_all are_small (values_of es) ≡ true)
-    hs = both (are_small e.1) (list_all are_small (values_of es)) h
+    hs = and_parts (are_small e.1) (list_all are_small (values_of es)) h
 
     inside : (x : Stream) → Some v ≡ Some x → v ≡ x
     inside x i = cc
@@ -133,7 +133,7 @@ small_written test [] w h s = refl
 small_written test (e ∷ es) w h s = go (test e.0) (small_written test es w hs.1 s)
   where
     hs : (are_small e.1 ≡ true) × (list_all are_small (values_of es) ≡ true)
-    hs = both (are_small e.1) (list_all are_small (values_of es)) h
+    hs = and_parts (are_small e.1) (list_all are_small (values_of es)) h
 
     go : (b : Bool) → list_all are_small (values_of (set_value test es w)) ≡ true → list_all are_small (values_of (cond b ((e.0, w) ∷ es) (e ∷ set_value test es w))) ≡ true
     go true ih = ap (λ b. b && list_all are_small (values_of es)) s ∙ hs.1
@@ -144,7 +144,7 @@ small_inserted id [] w h s = ap (λ b. b && true) s
 small_inserted id (e ∷ es) w h s = go (nat_cmp id e.0) (small_inserted id es w hs.1 s)
   where
     hs : (are_small e.1 ≡ true) × (list_all are_small (values_of es) ≡ true)
-    hs = both (are_small e.1) (list_all are_small (values_of es)) h
+    hs = and_parts (are_small e.1) (list_all are_small (values_of es)) h
 
     go : (o : Ordering) → list_all are_small (values_of (insert_entry nat_cmp es id w)) ≡ true
         → list_all are_small (values_of (match_ordering o ((id, w) ∷ e ∷ es) ((e.0, w) ∷ es) (e ∷ insert_entry nat_cmp es id w))) ≡ true
@@ -210,7 +210,7 @@ IsBetween count amount = (count ≤ amount) × (amount ≤ 4294967295 * count)
 stream_between : (ms : List Queued) → list_all is_small ms ≡ true → IsBetween (length ms) (sum_by left_bytes ms)
 stream_between [] h = (omega arith, omega arith)
 stream_between (m ∷ rest) h =
-    let hs = both (is_small m) (list_all is_small rest) h in
+    let hs = and_parts (is_small m) (list_all is_small rest) h in
     let ih = stream_between rest hs.1 in
     let own = left_between m.offset (length m.payload) hs.0 in
     let sums = sum_by-cons left_bytes m rest in
@@ -219,7 +219,7 @@ stream_between (m ∷ rest) h =
 all_between : (xs : List Stream) → list_all are_small xs ≡ true → IsBetween (sum_by message_count xs) (sum_by amount_of xs)
 all_between [] h = (omega arith, omega arith)
 all_between (s ∷ rest) h =
-    let hs = both (are_small s) (list_all are_small rest) h in
+    let hs = and_parts (are_small s) (list_all are_small rest) h in
     let ih = all_between rest hs.1 in
     let own = stream_between s.messages hs.0 in
     let amounts = sum_by-cons amount_of s rest in
@@ -237,7 +237,7 @@ none_of bytes count others least most = grind (arith, nat_tests)
 all_empty : (xs : List Stream) → list_all are_small xs ≡ true → (sum_by amount_of xs == 0) ≡ list_all has_nothing xs
 all_empty [] h = refl
 all_empty (s ∷ rest) h =
-    let hs = both (are_small s) (list_all are_small rest) h in
+    let hs = and_parts (are_small s) (list_all are_small rest) h in
     let own = stream_between s.messages hs.0 in
     ap (λ n. n == 0) (sum_by-cons amount_of s rest) ∙ none_of (amount_of s) (length s.messages) (sum_by amount_of rest) own.0 own.1 ∙ ap (λ b. has_nothing s && b) (all_empty rest hs.1)
 

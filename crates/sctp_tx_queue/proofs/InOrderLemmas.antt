@@ -6,31 +6,25 @@ use Rattle.std.specs.Map.{lookup, keys_of}
 use Rattle.std.specs.Ordering.{nat_cmp, match_ordering}
 use Rattle.std.specs.declared.cmp.Ordering.{Ordering}
 use Rattle.std.specs.BTreeMap.{is_at, insert_entry}
-use Rattle.std.proofs.lemmas.Bool.{lt-ltb}
+use Rattle.std.proofs.lemmas.Bool.{lt-ltb, and_parts, eq-eqb, eqb-true}
 use Rattle.std.proofs.lemmas.Bool.Decides.{nat_tests}
+use Rattle.std.proofs.lemmas.Option.{same_Some}
+use Rattle.sctp_tx_queue.proofs.StreamLemmas.{step_messages}
 use Rattle.sctp_state.specs.Events.{Emitted}
 use Rattle.sctp_stream_scheduler.specs.Scheduler.{Scheduler, set_bytes_remaining, accept, accepted_at, finish_time, finish_now, is_active, leave, enter, peek}
 use Rattle.sctp_tx_queue.specs.declared.send_queue.message.MessageNumbers.{MessageNumbers}
 use Rattle.sctp_tx_queue.specs.declared.send_queue.stream.ResetStep.{ResetStep}
-use Rattle.sctp_tx_queue.specs.declared.send_queue.stream.ResetStep.TheVariants.{Requested, Performed, Refused}
 use Rattle.sctp_tx_queue.specs.Queue.{Queued, Queue, Stream, Streams, Entries, blank, stream, put_stream, open_stream, push, add}
 use Rattle.sctp_tx_queue.specs.Produced.{Produced, Turn, is_stale, is_due, fresh, without_stale, streams_without_stale, moved_front, move_past, ends, front_numbers, front_made, advance, begun_by, in_line, next_fragment, turn, next_stream, produce_within, produce, settle_pause}
 use Rattle.sctp_tx_queue.specs.Settings.{with_threshold, with_priority, set_low_threshold, set_priority, set_mode, front_discarded, without_front, streams_discarded, begun_without, discard_from, discard}
 use Rattle.sctp_tx_queue.specs.Resets.{is_partly, prepare_stream, prepare_reset, after_step, step_stream, each_stepped}
 use Rattle.sctp_tx_queue.specs.Restarted.{whole_front, restart, restarted_one, each_restarted, reset}
 use Rattle.sctp_tx_queue.specs.InOrder.{is_waiting, is_begun_or_waiting, are_in_order, is_first_begun, is_this, IsInOrder, IsUnsent, NewIsInOrder}
-use Rattle.sctp_tx_queue.proofs.StreamsLemmas.{stream_put, stream_nowhere, put_nowhere}
+use Rattle.sctp_tx_queue.proofs.StreamsLemmas.{stream_put, stream_nowhere, put_nowhere, at_itself}
 use Rattle.sctp_tx_queue.proofs.ProduceLemmas.{idles, gives, turned}
-use Rattle.sctp_tx_queue.proofs.StaysBegunLemmas.{same_id, written_elsewhere, inserted_elsewhere}
-
-pub both : (a b : Bool) → a && b ≡ true → (a ≡ true) × (b ≡ true)
-both true b h = (refl, h)
-both false b h = absurd (cc)
+use Rattle.sctp_tx_queue.proofs.StaysBegunLemmas.{written_elsewhere, inserted_elsewhere}
 
 -- ---- what holds of each stream, where one changes
-
-at_itself : (k : ℕ) → is_at (nat_cmp k) k ≡ true
-at_itself k = grind (arith, nat_tests)
 
 at_equal : (id k : ℕ) → nat_cmp id k ≡ Equal → is_at (nat_cmp id) k ≡ true
 at_equal id k e = grind (arith, nat_tests)
@@ -73,7 +67,7 @@ opened_same k id ss = go (is_some (lookup (is_at (nat_cmp id)) ss.entries)) refl
         pick : (d : Bool) → (k == id) ≡ d → stream k (open_by false) ≡ stream k ss
         pick true same =
             let here : stream id (open_by false) ≡ stream id ss = ap (λ o. unwrap_or o (blank ss)) (inserted_here id (blank ss) ss.entries) ∙ sym (ap (λ o. unwrap_or o (blank ss)) none) in
-            subst (λ i. stream i (open_by false) ≡ stream i ss) (sym (same_id k id same)) here
+            subst (λ i. stream i (open_by false) ≡ stream i ss) (sym (eqb-true k id same)) here
         pick false other = ap (λ o. unwrap_or o (blank ss)) (inserted_elsewhere k id (blank ss) ss.entries other)
 
 module _ (T : ℕ → List Queued → Type 0) where
@@ -85,7 +79,7 @@ module _ (T : ℕ → List Queued → Type 0) where
       at_id (Some t) e = subst (λ (x : Stream). T id x.messages) (sym (stream_put id s ss (ap is_some e))) here
 
       go : (b : Bool) → (k == id) ≡ b → T k (stream k (put_stream id s ss)).messages
-      go true e = subst (λ i. T i (stream i (put_stream id s ss)).messages) (sym (same_id k id e)) (at_id (lookup (is_at (nat_cmp id)) ss.entries) refl)
+      go true e = subst (λ i. T i (stream i (put_stream id s ss)).messages) (sym (eqb-true k id e)) (at_id (lookup (is_at (nat_cmp id)) ss.entries) refl)
       go false e = subst (λ o. T k (unwrap_or o (blank ss)).messages) (sym (written_elsewhere k id s ss.entries e)) (h k)
 
 -- ---- lists of messages
@@ -103,19 +97,19 @@ waiting_in_order m h = ap (λ b. cond b (nat_lt 0 m.offset) (m.offset == 0)) (wa
 rest_in_order : (ms : List Queued) → list_all is_waiting ms ≡ true → (are_in_order ms ≡ true) × (is_first_begun ms ≡ false)
 rest_in_order [] h = (refl, refl)
 rest_in_order (m ∷ rest) h =
-    let hs = both (is_waiting m) (list_all is_waiting rest) h in
+    let hs = and_parts (is_waiting m) (list_all is_waiting rest) h in
     (ap (λ b. b && list_all is_waiting rest) (waiting_in_order m hs.0) ∙ hs.1, (waits m hs.0).0)
 
 more_waiting : (ms : List Queued) (m : Queued) → list_all is_waiting ms ≡ true → is_waiting m ≡ true → list_all is_waiting (ms ++ m ∷ []) ≡ true
 more_waiting [] m h w = ap (λ b. b && true) w
 more_waiting (x ∷ xs) m h w =
-    let hs = both (is_waiting x) (list_all is_waiting xs) h in
+    let hs = and_parts (is_waiting x) (list_all is_waiting xs) h in
     ap (λ b. b && list_all is_waiting (xs ++ m ∷ [])) hs.0 ∙ more_waiting xs m hs.1 w
 
 pushed_order : (ms : List Queued) (m : Queued) → is_waiting m ≡ true → are_in_order ms ≡ true → are_in_order (ms ++ m ∷ []) ≡ true
 pushed_order [] m w h = ap (λ b. b && true) (waiting_in_order m w)
 pushed_order (x ∷ xs) m w h =
-    let hs = both (is_begun_or_waiting x) (list_all is_waiting xs) h in
+    let hs = and_parts (is_begun_or_waiting x) (list_all is_waiting xs) h in
     ap (λ b. b && list_all is_waiting (xs ++ m ∷ [])) hs.0 ∙ more_waiting xs m hs.1 w
 
 pushed_first : (ms : List Queued) (m : Queued) → is_waiting m ≡ true → is_first_begun (ms ++ m ∷ []) ≡ is_first_begun ms
@@ -125,7 +119,7 @@ pushed_first (x ∷ xs) m w = refl
 -- a new association
 pub whole_order : (ms : List Queued) → are_in_order ms ≡ true → are_in_order (whole_front ms) ≡ true
 whole_order [] h = refl
-whole_order (m ∷ rest) h = (both (is_begun_or_waiting m) (list_all is_waiting rest) h).1
+whole_order (m ∷ rest) h = (and_parts (is_begun_or_waiting m) (list_all is_waiting rest) h).1
 
 pub whole_first : (ms : List Queued) → is_first_begun (whole_front ms) ≡ false
 whole_first [] = refl
@@ -138,7 +132,7 @@ zero_is n e = grind (arith, nat_tests)
 none_partly : (ms : List Queued) → list_all is_waiting ms ≡ true → filter is_partly ms ≡ []
 none_partly [] h = refl
 none_partly (m ∷ rest) h =
-    let hs = both (is_waiting m) (list_all is_waiting rest) h in
+    let hs = and_parts (is_waiting m) (list_all is_waiting rest) h in
     ap (λ b. cond b (m ∷ filter is_partly rest) (filter is_partly rest)) (zero_is m.offset (waits m hs.0).1) ∙ none_partly rest hs.1
 
 partly_both : (ms : List Queued) → are_in_order ms ≡ true → (are_in_order (filter is_partly ms) ≡ true) × (is_first_begun (filter is_partly ms) ≡ is_first_begun ms)
@@ -146,7 +140,7 @@ partly_both [] h = (refl, refl)
 partly_both (m ∷ rest) h = subst Both (sym (ap (λ xs. cond (is_partly m) (m ∷ xs) xs) (none_partly rest hs.1))) (go (is_some m.numbers) (is_partly m) refl refl hs.0)
   where
     hs : (is_begun_or_waiting m ≡ true) × (list_all is_waiting rest ≡ true)
-    hs = both (is_begun_or_waiting m) (list_all is_waiting rest) h
+    hs = and_parts (is_begun_or_waiting m) (list_all is_waiting rest) h
 
     Both : List Queued → Type 0
     Both xs = (are_in_order xs ≡ true) × (is_first_begun xs ≡ is_some m.numbers)
@@ -162,7 +156,7 @@ partly_both (m ∷ rest) h = subst Both (sym (ap (λ xs. cond (is_partly m) (m �
 -- expired messages are dropped
 fresh_waiting : (now : ℕ) (ms : List Queued) → list_all is_waiting ms ≡ true → list_all is_waiting (fresh now ms) ≡ true
 fresh_waiting now [] h = refl
-fresh_waiting now (m ∷ rest) h = go (is_stale now m) (fresh_waiting now rest (both (is_waiting m) (list_all is_waiting rest) h).1)
+fresh_waiting now (m ∷ rest) h = go (is_stale now m) (fresh_waiting now rest (and_parts (is_waiting m) (list_all is_waiting rest) h).1)
   where
     go : (b : Bool) → list_all is_waiting (fresh now rest) ≡ true → list_all is_waiting (cond b (fresh now rest) (m ∷ rest)) ≡ true
     go true ih = ih
@@ -177,27 +171,24 @@ fresh_both now [] h = (refl, refl)
 fresh_both now (m ∷ rest) h = go (is_stale now m) refl
   where
     behind : (are_in_order (fresh now rest) ≡ true) × (is_first_begun (fresh now rest) ≡ false)
-    behind = rest_in_order (fresh now rest) (fresh_waiting now rest (both (is_begun_or_waiting m) (list_all is_waiting rest) h).1)
+    behind = rest_in_order (fresh now rest) (fresh_waiting now rest (and_parts (is_begun_or_waiting m) (list_all is_waiting rest) h).1)
 
     go : (b : Bool) → is_stale now m ≡ b → (are_in_order (cond b (fresh now rest) (m ∷ rest)) ≡ true) × (is_first_begun (cond b (fresh now rest) (m ∷ rest)) ≡ is_some m.numbers)
     go true e = (behind.0, behind.1 ∙ sym (unnumbered (is_some m.numbers) (is_due now m.expires) e))
     go false e = (h, refl)
 
 -- a fragment is produced
-itself : (id : ℕ) → (id == id) ≡ true
-itself id = grind (arith, nat_tests)
-
 moved_both : (id size : ℕ) (n : MessageNumbers) (ms : List Queued) → 0 < size → are_in_order ms ≡ true
     → (are_in_order (moved_front size n ms) ≡ true) × (is_first_begun (moved_front size n ms) ≡ is_this id (begun_by id false (front_made id size n ms)))
 moved_both id size n [] some h = (refl, refl)
 moved_both id size n (m ∷ rest) some h = go (ends size m)
   where
     hs : (is_begun_or_waiting m ≡ true) × (list_all is_waiting rest ≡ true)
-    hs = both (is_begun_or_waiting m) (list_all is_waiting rest) h
+    hs = and_parts (is_begun_or_waiting m) (list_all is_waiting rest) h
 
     go : (b : Bool) → (are_in_order (cond b rest (move_past size n m ∷ rest)) ≡ true) × (is_first_begun (cond b rest (move_past size n m ∷ rest)) ≡ is_this id (cond b None (Some id)))
     go true = rest_in_order rest hs.1
-    go false = (ap (λ b. b && list_all is_waiting rest) (lt-ltb 0 (m.offset + size) (omega (arith, some))) ∙ hs.1, sym (itself id))
+    go false = (ap (λ b. b && list_all is_waiting rest) (lt-ltb 0 (m.offset + size) (omega (arith, some))) ∙ hs.1, sym (eq-eqb id id refl))
 
 -- the first message goes
 without_order : (message : ℕ) (ms : List Queued) (s : Stream) → s.messages ≡ ms → are_in_order ms ≡ true → are_in_order (without_front message ms s).messages ≡ true
@@ -205,7 +196,7 @@ without_order message [] s e h = ap are_in_order e
 without_order message (m ∷ rest) s e h = go (m.number == message)
   where
     go : (b : Bool) → are_in_order (cond b (record s { messages = rest; pause = settle_pause s.pause }) s).messages ≡ true
-    go true = (rest_in_order rest (both (is_begun_or_waiting m) (list_all is_waiting rest) h).1).0
+    go true = (rest_in_order rest (and_parts (is_begun_or_waiting m) (list_all is_waiting rest) h).1).0
     go false = ap are_in_order e ∙ h
 
 -- ---- the mode stays
@@ -266,11 +257,6 @@ prepared_in_order id q emitted h =
     let p = partly_both (stream id q.streams).messages (h.order id) in
     kept id (prepare_stream (stream id q.streams)) (open_stream id q.streams) q (prepare_reset id q emitted).queue (λ k. opened_same k id q.streams) refl refl (hears_mode id _ _ q.scheduler) p.0 p.1 h
 
-pub step_messages : (step : ResetStep) (s : Stream) → (after_step step s).messages ≡ s.messages
-step_messages Requested s = refl
-step_messages Performed s = refl
-step_messages Refused s = refl
-
 pub steps_in_order : (step : ResetStep) (ids : List ℕ) (q : Queue) → IsInOrder q → IsInOrder (each_stepped step ids q)
 steps_in_order step [] q h = h
 steps_in_order step (id ∷ ids) q h =
@@ -300,7 +286,7 @@ restarted_unsent (id ∷ ids) k q h = restarted_unsent ids k (restarted_one id q
 
     go : (b : Bool) → (k == id) ≡ b → is_first_begun (stream k (put_stream id s q.streams)).messages ≡ false
     go true e =
-        let same = same_id k id e in
+        let same = eqb-true k id e in
         subst (λ i. is_first_begun (stream i (put_stream id s q.streams)).messages ≡ false) (sym same)
         (at_id (lookup (is_at (nat_cmp id)) q.streams.entries) refl (subst (λ i. is_first_begun (stream i q.streams).messages ≡ false) same h))
     go false e = ap (λ o. is_first_begun (unwrap_or o (blank q.streams)).messages) (written_elsewhere k id s q.streams.entries e) ∙ h
@@ -325,7 +311,7 @@ among_unsent (id ∷ ids) k q h = go (k == id) refl h (λ g. among_unsent ids k 
         → is_first_begun (stream k (each_restarted ids (restarted_one id q)).streams).messages ≡ false
     go true e g ih =
         restarted_unsent ids k (restarted_one id q)
-        (subst (λ i. is_first_begun (stream i (put_stream id s q.streams)).messages ≡ false) (sym (same_id k id e)) (at_id (lookup (is_at (nat_cmp id)) q.streams.entries) refl))
+        (subst (λ i. is_first_begun (stream i (put_stream id s q.streams)).messages ≡ false) (sym (eqb-true k id e)) (at_id (lookup (is_at (nat_cmp id)) q.streams.entries) refl))
     go false e g ih = ih g
 
 is_here : (k id : ℕ) → is_at (nat_cmp k) id ≡ true → (k == id) ≡ true
@@ -376,13 +362,10 @@ put_messages id f ss none = go (lookup (is_at (nat_cmp id)) ss.entries) refl
 pub put_elsewhere : (k id : ℕ) (s : Stream) (ss : Streams) → (k == id) ≡ false → stream k (put_stream id s ss) ≡ stream k ss
 put_elsewhere k id s ss e = ap (λ o. unwrap_or o (blank ss)) (written_elsewhere k id s ss.entries e)
 
-inside : (x y : ℕ) → Some x ≡ Some y → x ≡ y
-inside x y h = cc
-
 -- no other stream is begun than the next one
 others_before : (k id : ℕ) (begun : Option ℕ) (peeked : Option ℕ) → (k == id) ≡ false → cond (is_some begun) begun peeked ≡ Some id → is_this k begun ≡ false
 others_before k id None peeked e next = refl
-others_before k id (Some b) peeked e next = ap (λ i. k == i) (inside b id next) ∙ e
+others_before k id (Some b) peeked e next = ap (λ i. k == i) (same_Some b id next) ∙ e
 
 others_after : (k id : ℕ) (mode : Bool) (made : Option Produced) → (k == id) ≡ false → is_this k (begun_by id mode made) ≡ false
 others_after k id mode None e = refl
@@ -427,7 +410,7 @@ turn_in_order {P} now id size q emitted some next h = record { order = ordered; 
     elsewhere k e = put_elsewhere k id (advance size s) ss e ∙ put_elsewhere k id (without_stale now (stream id q.streams)) q.streams e
 
     by_id : (k : ℕ) (b : Bool) → (k == id) ≡ b → are_in_order (stream k after.streams).messages ≡ true
-    by_id k true e = subst (λ i. are_in_order (stream i after.streams).messages ≡ true) (sym (same_id k id e)) (ap are_in_order moved_is ∙ moves.0)
+    by_id k true e = subst (λ i. are_in_order (stream i after.streams).messages ≡ true) (sym (eqb-true k id e)) (ap are_in_order moved_is ∙ moves.0)
     by_id k false e = ap (λ (t : Stream). are_in_order t.messages) (elsewhere k e) ∙ h.order k
 
     ordered : (k : ℕ) → are_in_order (stream k after.streams).messages ≡ true
@@ -435,7 +418,7 @@ turn_in_order {P} now id size q emitted some next h = record { order = ordered; 
 
     begun_on : q.scheduler.is_interleaved ≡ false → (k : ℕ) (b : Bool) → (k == id) ≡ b → is_first_begun (stream k after.streams).messages ≡ is_this k after.begun
     begun_on m k true e =
-        subst (λ i. is_first_begun (stream i after.streams).messages ≡ is_this i after.begun) (sym (same_id k id e))
+        subst (λ i. is_first_begun (stream i after.streams).messages ≡ is_this i after.begun) (sym (eqb-true k id e))
         (ap is_first_begun moved_is ∙ moves.1 ∙ ap (λ b. is_this id (begun_by id b (front_made id size n s.messages))) (sym m))
     begun_on m k false e =
         ap (λ (t : Stream). is_first_begun t.messages) (elsewhere k e) ∙ h.begun m k ∙ others_before k id q.begun (peek q.scheduler) e next
@@ -492,7 +475,7 @@ same_there k id None e = refl
 same_there k id (Some b) e = go (b == id) refl
   where
     go : (t : Bool) → (b == id) ≡ t → (k == b) ≡ is_this k (cond t None (Some b))
-    go true f = ap (λ i. k == i) (same_id b id f) ∙ e
+    go true f = ap (λ i. k == i) (eqb-true b id f) ∙ e
     go false f = refl
 
 front_in_order : {P : Type 0} (id message : ℕ) (q : Queue) (emitted : Emitted P) (m : Queued) (rest : List Queued) → (stream id q.streams).messages ≡ m ∷ rest → (m.number == message) ≡ true → IsInOrder q → IsInOrder (discard id message q emitted).queue
@@ -513,14 +496,14 @@ front_in_order {P} id message q emitted m rest is e h = subst (λ o. IsInOrder (
         ∙ ap (λ t. let r : Stream = record s { messages = rest; pause = settle_pause s.pause } in (cond t r s).messages) e
 
     behind : (are_in_order rest ≡ true) × (is_first_begun rest ≡ false)
-    behind = rest_in_order rest (both (is_begun_or_waiting m) (list_all is_waiting rest) (ap are_in_order (sym is) ∙ h.order id)).1
+    behind = rest_in_order rest (and_parts (is_begun_or_waiting m) (list_all is_waiting rest) (ap are_in_order (sym is) ∙ h.order id)).1
 
     ordered : (k : ℕ) → are_in_order (stream k ss).messages ≡ true
     ordered k = each_put (λ i ms. are_in_order ms ≡ true) id (without_front message s.messages s) q.streams h.order (ap are_in_order left_is ∙ behind.0) k
 
     begun_on : q.scheduler.is_interleaved ≡ false → (k : ℕ) (b : Bool) → (k == id) ≡ b → is_first_begun (stream k ss).messages ≡ is_this k (begun_without id q.begun)
     begun_on mode k true f =
-        subst (λ i. is_first_begun (stream i ss).messages ≡ is_this i (begun_without id q.begun)) (sym (same_id k id f))
+        subst (λ i. is_first_begun (stream i ss).messages ≡ is_this i (begun_without id q.begun)) (sym (eqb-true k id f))
         (ap is_first_begun (put_messages id (λ (t : Stream). without_front message t.messages t) q.streams refl ∙ left_is) ∙ behind.1 ∙ sym (none_here id q.begun))
     begun_on mode k false f =
         ap (λ (t : Stream). is_first_begun t.messages) (put_elsewhere k id (without_front message s.messages s) q.streams f) ∙ h.begun mode k ∙ same_there k id q.begun f

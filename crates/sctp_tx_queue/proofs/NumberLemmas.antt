@@ -4,6 +4,8 @@ use Rattle.std.specs.Prelude.{nat_lt, nat_le, ◌&&◌, ◌==◌, filter}
 use Rattle.std.specs.Map.{keys_of}
 use Rattle.std.proofs.Math.Nat.{mod-eq_of_lt}
 use Rattle.std.proofs.lemmas.Bool.Decides.{nat_tests}
+use Rattle.std.proofs.lemmas.Bool.{leb-true, ltb-true, and_parts}
+use Rattle.sctp_tx_queue.proofs.StreamLemmas.{step_messages}
 use Rattle.sctp_state.specs.Events.{Emitted}
 use Rattle.sctp_tx_queue.specs.declared.send_queue.message.MessageNumbers.{MessageNumbers}
 use Rattle.sctp_tx_queue.specs.declared.send_queue.stream.ResetStep.{ResetStep}
@@ -13,7 +15,7 @@ use Rattle.sctp_tx_queue.specs.Settings.{with_threshold, with_priority, set_low_
 use Rattle.sctp_tx_queue.specs.Resets.{is_partly, prepare_stream, prepare_reset, after_step, step_stream, each_stepped}
 use Rattle.sctp_tx_queue.specs.Restarted.{whole_front, restart, restarted_one, each_restarted}
 use Rattle.sctp_tx_queue.specs.InOrder.{are_rising, IsNumbered, CallsNumber}
-use Rattle.sctp_tx_queue.proofs.InOrderLemmas.{both, each_put, opened_same, discard_streams, step_messages}
+use Rattle.sctp_tx_queue.proofs.InOrderLemmas.{each_put, opened_same, discard_streams}
 use Rattle.sctp_tx_queue.proofs.ProduceLemmas.{idles, gives, turned}
 
 -- ---- lists of messages
@@ -24,12 +26,6 @@ raise n most e = grind (arith, nat_tests)
 reach : (k least n : ℕ) → k ≤ least → nat_le least n ≡ true → nat_le k n ≡ true
 reach k least n l e = grind (arith, nat_tests)
 
-is_le : (least n : ℕ) → nat_le least n ≡ true → least ≤ n
-is_le least n e = grind (arith, nat_tests)
-
-is_lt : (n most : ℕ) → nat_lt n most ≡ true → n < most
-is_lt n most e = grind (arith, nat_tests)
-
 -- the parts of it
 pub record Rises (least most : ℕ) (m : Queued) (rest : List Queued) : Type 0 where
   pub low : nat_le least m.number ≡ true
@@ -38,8 +34,8 @@ pub record Rises (least most : ℕ) (m : Queued) (rest : List Queued) : Type 0 w
 
 rises : (least most : ℕ) (m : Queued) (rest : List Queued) → are_rising least most (m ∷ rest) ≡ true → Rises least most m rest
 rises least most m rest h =
-    let a = both (nat_le least m.number && nat_lt m.number most) (are_rising (m.number + 1) most rest) h in
-    let b = both (nat_le least m.number) (nat_lt m.number most) a.0 in
+    let a = and_parts (nat_le least m.number && nat_lt m.number most) (are_rising (m.number + 1) most rest) h in
+    let b = and_parts (nat_le least m.number) (nat_lt m.number most) a.0 in
     record { low = b.0; high = b.1; behind = a.1 }
 
 joined : (a b c : Bool) → a ≡ true → b ≡ true → c ≡ true → (a && b) && c ≡ true
@@ -60,7 +56,7 @@ lowered k least most (m ∷ rest) l h =
 behind : (least most : ℕ) (m : Queued) (rest : List Queued) → are_rising least most (m ∷ rest) ≡ true → are_rising least most rest ≡ true
 behind least most m rest h =
     let r = rises least most m rest h in
-    lowered least (m.number + 1) most rest (omega (arith, is_le least m.number r.low)) r.behind
+    lowered least (m.number + 1) most rest (omega (arith, leb-true least m.number r.low)) r.behind
 
 low_end : (least most n : ℕ) → least ≤ most → n ≡ most → nat_le least n ≡ true
 low_end least most n l e = grind (arith, nat_tests)
@@ -72,7 +68,7 @@ pushed_rising : (least most : ℕ) (ms : List Queued) (m : Queued) → least ≤
 pushed_rising least most [] m l e h = joined _ _ _ (low_end least most m.number l e) (high_end most m.number e) refl
 pushed_rising least most (x ∷ xs) m l e h =
     let r = rises least most x xs h in
-    joined _ _ _ r.low (raise x.number most r.high) (pushed_rising (x.number + 1) most xs m (omega (arith, is_lt x.number most r.high)) e r.behind)
+    joined _ _ _ r.low (raise x.number most r.high) (pushed_rising (x.number + 1) most xs m (omega (arith, ltb-true x.number most r.high)) e r.behind)
 
 filter_rising : (least most : ℕ) (p : Queued → Bool) (ms : List Queued) → are_rising least most ms ≡ true → are_rising least most (filter p ms) ≡ true
 filter_rising least most p [] h = refl
@@ -83,7 +79,7 @@ filter_rising least most p (m ∷ rest) h = go (p m) (filter_rising (m.number + 
 
     go : (b : Bool) → are_rising (m.number + 1) most (filter p rest) ≡ true → are_rising least most (cond b (m ∷ filter p rest) (filter p rest)) ≡ true
     go true ih = joined _ _ _ r.low r.high ih
-    go false ih = lowered least (m.number + 1) most (filter p rest) (omega (arith, is_le least m.number r.low)) ih
+    go false ih = lowered least (m.number + 1) most (filter p rest) (omega (arith, leb-true least m.number r.low)) ih
 
 pub fresh_rising : (least most now : ℕ) (ms : List Queued) → are_rising least most ms ≡ true → are_rising least most (fresh now ms) ≡ true
 fresh_rising least most now [] h = refl

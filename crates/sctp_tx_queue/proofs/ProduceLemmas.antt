@@ -5,7 +5,7 @@ use Rattle.std.specs.Map.{lookup, remove_entry}
 use Rattle.std.specs.Ordering.{nat_cmp}
 use Rattle.std.specs.BTreeMap.{is_at}
 use Rattle.std.proofs.lemmas.Bool.{lt-ltb, le-ltb, cases_lt}
-use Rattle.std.proofs.lemmas.Bool.Decides.{nat_tests}
+use Rattle.sctp_tx_queue.proofs.StreamsLemmas.{at_itself}
 use Rattle.sctp_state.specs.Events.{Emitted}
 use Rattle.sctp_stream_scheduler.specs.Scheduler.{Times, best, peek, stream_in, finish_time}
 use Rattle.sctp_stream_scheduler.proofs.SchedulerLemmas.{none_is}
@@ -58,9 +58,6 @@ pub passed_as : {P : Type 0} (turns now size : ℕ) (q p r : Queue) (emitted lat
 passed_as {P} turns now size q p r emitted later last h is_queue is_emitted = subst (λ (t : Emitted P). Passed turns now size q emitted r t) (sym is_emitted) (subst (λ x. Passed turns now size q emitted x later) (sym is_queue) h)
 
 -- ---- the next stream is active
-
-at_itself : (k : ℕ) → is_at (nat_cmp k) k ≡ true
-at_itself k = grind (arith, nat_tests)
 
 found_behind : (b : Bool) (x : Option ℕ) (v : ℕ) → is_some x ≡ true → is_some (cond b (Some v) x) ≡ true
 found_behind true x v h = refl

@@ -5,6 +5,9 @@ use Rattle.std.specs.List.{list_all}
 use Rattle.std.specs.Map.{keys_of}
 use Rattle.std.proofs.lemmas.List.{length-take}
 use Rattle.std.proofs.lemmas.Bool.Decides.{nat_tests}
+use Rattle.std.proofs.lemmas.Option.{none-some, same_Some}
+use Rattle.std.proofs.lemmas.Bool.{ltb-true, and_parts}
+use Rattle.sctp_tx_queue.proofs.StreamLemmas.{step_messages}
 use Rattle.sctp_state.specs.Events.{Emitted}
 use Rattle.sctp_tx_queue.specs.declared.send_queue.message.MessageNumbers.{MessageNumbers}
 use Rattle.sctp_tx_queue.specs.declared.send_queue.stream.ResetStep.{ResetStep}
@@ -14,7 +17,7 @@ use Rattle.sctp_tx_queue.specs.Settings.{with_threshold, with_priority, set_low_
 use Rattle.sctp_tx_queue.specs.Resets.{is_partly, prepare_stream, prepare_reset, after_step, step_stream, each_stepped}
 use Rattle.sctp_tx_queue.specs.Restarted.{whole_front, restart, restarted_one, each_restarted}
 use Rattle.sctp_tx_queue.specs.InOrder.{has_rest, HasRests, IsFilled, CallsLeaveRests}
-use Rattle.sctp_tx_queue.proofs.InOrderLemmas.{both, each_put, opened_same, discard_streams, step_messages}
+use Rattle.sctp_tx_queue.proofs.InOrderLemmas.{each_put, opened_same, discard_streams}
 use Rattle.sctp_tx_queue.proofs.ProduceLemmas.{idles, gives, turned}
 
 -- ---- lists of messages
@@ -22,7 +25,7 @@ use Rattle.sctp_tx_queue.proofs.ProduceLemmas.{idles, gives, turned}
 all_pushed : (ms : List Queued) (m : Queued) → list_all has_rest ms ≡ true → has_rest m ≡ true → list_all has_rest (ms ++ m ∷ []) ≡ true
 all_pushed [] m h w = ap (λ b. b && true) w
 all_pushed (x ∷ xs) m h w =
-    let hs = both (has_rest x) (list_all has_rest xs) h in
+    let hs = and_parts (has_rest x) (list_all has_rest xs) h in
     ap (λ b. b && list_all has_rest (xs ++ m ∷ [])) hs.0 ∙ all_pushed xs m hs.1 w
 
 all_filter : (p : Queued → Bool) (ms : List Queued) → list_all has_rest ms ≡ true → list_all has_rest (filter p ms) ≡ true
@@ -30,14 +33,14 @@ all_filter p [] h = refl
 all_filter p (m ∷ rest) h = go (p m) (all_filter p rest hs.1)
   where
     hs : (has_rest m ≡ true) × (list_all has_rest rest ≡ true)
-    hs = both (has_rest m) (list_all has_rest rest) h
+    hs = and_parts (has_rest m) (list_all has_rest rest) h
 
     go : (b : Bool) → list_all has_rest (filter p rest) ≡ true → list_all has_rest (cond b (m ∷ filter p rest) (filter p rest)) ≡ true
     go true ih = ap (λ b. b && list_all has_rest (filter p rest)) hs.0 ∙ ih
     go false ih = ih
 
 behind : (m : Queued) (rest : List Queued) → list_all has_rest (m ∷ rest) ≡ true → list_all has_rest rest ≡ true
-behind m rest h = (both (has_rest m) (list_all has_rest rest) h).1
+behind m rest h = (and_parts (has_rest m) (list_all has_rest rest) h).1
 
 all_fresh : (now : ℕ) (ms : List Queued) → list_all has_rest ms ≡ true → list_all has_rest (fresh now ms) ≡ true
 all_fresh now [] h = refl
@@ -64,7 +67,7 @@ some_left offset whole e = grind (arith, nat_tests)
 all_whole : (ms : List Queued) → list_all has_rest ms ≡ true → list_all has_rest (whole_front ms) ≡ true
 all_whole [] h = refl
 all_whole (m ∷ rest) h =
-    let hs = both (has_rest m) (list_all has_rest rest) h in
+    let hs = and_parts (has_rest m) (list_all has_rest rest) h in
     ap (λ b. b && list_all has_rest rest) (some_left m.offset (length m.payload) hs.0) ∙ hs.1
 
 all_without : (message : ℕ) (ms : List Queued) (s : Stream) → s.messages ≡ ms → list_all has_rest ms ≡ true → list_all has_rest (without_front message ms s).messages ≡ true
@@ -77,23 +80,14 @@ all_without message (m ∷ rest) s e h = go (m.number == message)
 
 -- ---- a fragment
 
-differ : (p : Produced) → None ≡ Some p → ⊥
-differ p h = cc
-
-inside : (x y : Produced) → Some x ≡ Some y → x ≡ y
-inside x y h = cc
-
-is_less : (a b : ℕ) → nat_lt a b ≡ true → a < b
-is_less a b e = grind (arith, nat_tests)
-
 bytes : (size offset : ℕ) (payload : List ℕ) → 0 < size → offset < length payload → (0 < length (take size (drop offset payload))) × (length (take size (drop offset payload)) ≤ size)
 bytes size offset payload some l = (omega (arith, length-take size (drop offset payload), length-drop offset payload, some, l), omega (arith, length-take size (drop offset payload)))
 
 filled_front : (id size : ℕ) (n : MessageNumbers) (ms : List Queued) → 0 < size → list_all has_rest ms ≡ true → IsFilled size (front_made id size n ms)
-filled_front id size n [] some h p made = absurd (differ p made)
+filled_front id size n [] some h p made = absurd (none-some p made)
 filled_front id size n (m ∷ rest) some h p made =
-    subst (λ (x : Produced). (0 < length x.fragment.payload) × (length x.fragment.payload ≤ size)) (inside (made_of id size n m) p made)
-    (bytes size m.offset m.payload some (is_less m.offset (length m.payload) (both (has_rest m) (list_all has_rest rest) h).0))
+    subst (λ (x : Produced). (0 < length x.fragment.payload) × (length x.fragment.payload ≤ size)) (same_Some (made_of id size n m) p made)
+    (bytes size m.offset m.payload some (ltb-true m.offset (length m.payload) (and_parts (has_rest m) (list_all has_rest rest) h).0))
 
 -- ---- the calls
 
@@ -137,11 +131,11 @@ turn_runs : {P : Type 0} (now id size : ℕ) (q : Queue) (emitted : Emitted P) �
 turn_runs now id size q emitted h = record { rests = turn_rests now id size q emitted h; filled = λ some. turn_filled now id size q emitted some h }
 
 within_runs : {P : Type 0} (turns now size : ℕ) (q : Queue) (emitted : Emitted P) → HasRests q → Runs size (produce_within turns now size q emitted)
-within_runs zero now size q emitted h = record { rests = h; filled = λ some p made. absurd (differ p made) }
+within_runs zero now size q emitted h = record { rests = h; filled = λ some p made. absurd (none-some p made) }
 within_runs {P} (suc m) now size q emitted h = go (next_stream q) refl (λ r t g. within_runs m now size r t g)
   where
     go : (o : Option ℕ) → next_stream q ≡ o → ((r : Queue) (t : Emitted P) → HasRests r → Runs size (produce_within m now size r t)) → Runs size (produce_within (suc m) now size q emitted)
-    go None e ih = subst (λ (t : Turn P). Runs size t) (sym (idles m now size q emitted e)) (record { rests = h; filled = λ some p made. absurd (differ p made) })
+    go None e ih = subst (λ (t : Turn P). Runs size t) (sym (idles m now size q emitted e)) (record { rests = h; filled = λ some p made. absurd (none-some p made) })
     go (Some id) e ih = pick (turn now id size q emitted).made refl
       where
         pick : (o : Option Produced) → o ≡ (turn now id size q emitted).made → Runs size (produce_within (suc m) now size q emitted)

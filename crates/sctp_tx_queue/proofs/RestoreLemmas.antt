@@ -4,7 +4,7 @@ use Rattle.std.specs.Prelude.{is_some, unwrap_or, map, filter, ◌==◌, ◌&&�
 use Rattle.std.specs.Ordering.{nat_cmp, match_ordering}
 use Rattle.std.specs.Map.{lookup, set_value}
 use Rattle.std.specs.BTreeMap.{is_at, insert_entry}
-use Rattle.std.proofs.lemmas.Bool.{lt-ltb}
+use Rattle.std.proofs.lemmas.Bool.{lt-ltb, and_parts, leb-true}
 use Rattle.std.proofs.lemmas.Bool.Decides.{nat_tests}
 use Rattle.std.proofs.lemmas.List.{append-nil, map-append}
 use Rattle.std.proofs.lemmas.List.Elements.{filter-append}
@@ -20,10 +20,6 @@ use Rattle.sctp_stream_scheduler.specs.Scheduler.{Scheduler, set_bytes_remaining
 use Rattle.sctp_tx_queue.specs.Queue.{Queued, Stream, Streams, Entries, amount_of, total_of, left_bytes, blank, stream, put_stream, open_stream, push, sendable}
 use Rattle.sctp_tx_queue.specs.Restored.{message_from, is_on, messages_from, stream_from, entries_from, each_scheduled}
 use Rattle.sctp_tx_queue.proofs.StreamsLemmas.{total_written, stream_there}
-
-pub both : (a b : Bool) → a && b ≡ true → (a ≡ true) × (b ≡ true)
-both true b h = (refl, h)
-both false b h = absurd (cc)
 
 -- ---- the streams
 
@@ -53,25 +49,22 @@ behind id v (e ∷ es) h = go (nat_lt e.0 id) refl h (behind id v es)
 lower : (k m : ℕ) (es : Entries) → k ≤ m → are_below k es ≡ true → are_below m es ≡ true
 lower k m [] l h = refl
 lower k m (e ∷ es) l h =
-    let hs = both (nat_lt e.0 k) (are_below k es) h in
+    let hs = and_parts (nat_lt e.0 k) (are_below k es) h in
     ap (λ b. b && are_below m es) (wider e.0 k m l hs.0) ∙ lower k m es l hs.1
 
 more_below : (k m : ℕ) (v : Stream) (es : Entries) → k ≤ m → are_below k es ≡ true → are_below (m + 1) (es ++ (m, v) ∷ []) ≡ true
 more_below k m v [] l h = ap (λ b. b && true) (lt-ltb m (m + 1) (omega arith))
 more_below k m v (e ∷ es) l h =
-    let hs = both (nat_lt e.0 k) (are_below k es) h in
+    let hs = and_parts (nat_lt e.0 k) (are_below k es) h in
     ap (λ b. b && are_below (m + 1) (es ++ (m, v) ∷ [])) (wider e.0 k (m + 1) (omega (arith, l)) hs.0) ∙ more_below k m v es l hs.1
-
-at_least : (least id : ℕ) → nat_le least id ≡ true → least ≤ id
-at_least least id e = grind (arith, nat_tests)
 
 inserted_behind : (threshold least : ℕ) (ss : List HandoverOutgoingStream) (es : Entries) → are_below least es ≡ true → rises_from least (outgoing_ids ss) ≡ true
     → each_inserted threshold ss es ≡ es ++ entries_from 0 threshold [] ss
 inserted_behind threshold least [] es below h = sym (append-nil es)
 inserted_behind threshold least (s ∷ ss) es below h =
-    let hs = both (nat_le least s.id) (rises_from (s.id + 1) (outgoing_ids ss)) h in
+    let hs = and_parts (nat_le least s.id) (rises_from (s.id + 1) (outgoing_ids ss)) h in
     let v : Stream = stream_from 0 threshold [] s in
-    let l = at_least least s.id hs.0 in
+    let l = leb-true least s.id hs.0 in
     ap (λ x. each_inserted threshold ss x) (behind s.id v es (lower least s.id es l below))
     ∙ inserted_behind threshold (s.id + 1) ss (es ++ (s.id, v) ∷ []) (more_below least s.id v es l below) hs.1
     ∙ append_assoc es ((s.id, v) ∷ []) (entries_from 0 threshold [] ss)
@@ -113,9 +106,9 @@ others : (now threshold least : ℕ) (done : List StreamMessage) (m : StreamMess
     → entries_from now threshold (done ++ m ∷ []) ss ≡ entries_from now threshold done ss
 others now threshold least done m [] l h = refl
 others now threshold least done m (s ∷ ss) l h =
-    let hs = both (nat_le least s.id) (rises_from (s.id + 1) (outgoing_ids ss)) h in
+    let hs = and_parts (nat_le least s.id) (rises_from (s.id + 1) (outgoing_ids ss)) h in
     ap (λ (t : Stream). (s.id, t) ∷ entries_from now threshold (done ++ m ∷ []) ss) (unchanged now threshold done m s (not_on m.stream_id s.id least l hs.0))
-    ∙ ap (λ (es : Entries). (s.id, stream_from now threshold done s) ∷ es) (others now threshold (s.id + 1) done m ss (omega (arith, l, at_least least s.id hs.0)) hs.1)
+    ∙ ap (λ (es : Entries). (s.id, stream_from now threshold done s) ∷ es) (others now threshold (s.id + 1) done m ss (omega (arith, l, leb-true least s.id hs.0)) hs.1)
 
 at_it : (a b : ℕ) → (a == b) ≡ true → is_at (nat_cmp b) a ≡ true
 at_it a b e = grind (arith, nat_tests)
@@ -146,7 +139,7 @@ written : (now threshold least : ℕ) (done : List StreamMessage) (m : StreamMes
     ≡ entries_from now threshold (done ++ m ∷ []) ss
 written now threshold least done m none [] h there = absurd (cc)
 written now threshold least done m none (s ∷ ss) h there =
-    go (s.id == m.stream_id) refl there (written now threshold (s.id + 1) done m none ss (both (nat_le least s.id) (rises_from (s.id + 1) (outgoing_ids ss)) h).1)
+    go (s.id == m.stream_id) refl there (written now threshold (s.id + 1) done m none ss (and_parts (nat_le least s.id) (rises_from (s.id + 1) (outgoing_ids ss)) h).1)
   where
     test : ℕ → Bool
     test = is_at (nat_cmp m.stream_id)
@@ -172,7 +165,7 @@ written now threshold least done m none (s ∷ ss) h there =
         ap put_by (at_it s.id m.stream_id e)
         ∙ ap (λ (t : Stream). (s.id, t) ∷ rest) (sym (grown now threshold done m s (turned s.id m.stream_id true e)))
         ∙ ap (λ (es : Entries). (s.id, stream_from now threshold (done ++ m ∷ []) s) ∷ es)
-        (sym (others now threshold (s.id + 1) done m ss (is_below s.id m.stream_id e) (both (nat_le least s.id) (rises_from (s.id + 1) (outgoing_ids ss)) h).1))
+        (sym (others now threshold (s.id + 1) done m ss (is_below s.id m.stream_id e) (and_parts (nat_le least s.id) (rises_from (s.id + 1) (outgoing_ids ss)) h).1))
     go false e there ih =
         ap put_by (off_it s.id m.stream_id e)
         ∙ ap (λ (es : Entries). (s.id, here) ∷ es) (ih there)
@@ -240,16 +233,16 @@ pub record IsNext (recs : List HandoverOutgoingStream) (ms : List HandoverStream
 
 pub next_is : (recs : List HandoverOutgoingStream) (ms : List HandoverStreamMessage) (i : ℕ) (m : HandoverStreamMessage) → i < length ms → m ≡ get_or ms i m
     → are_valid_messages recs (2 ^ 32) (map stream_message_of (drop i ms)) ≡ true → IsNext recs ms i m
-next_is recs ms i m l at h = record { there = (both (has_stream recs m.stream_id) (nat_lt m.message_id (2 ^ 32)) own.1).0; behind = all.1; bytes = sums }
+next_is recs ms i m l at h = record { there = (and_parts (has_stream recs m.stream_id) (nat_lt m.message_id (2 ^ 32)) own.1).0; behind = all.1; bytes = sums }
   where
     left_over : List StreamMessage
     left_over = map stream_message_of (drop (i + 1) ms)
 
     all : (is_valid_message recs (2 ^ 32) (stream_message_of m) ≡ true) × (are_valid_messages recs (2 ^ 32) left_over ≡ true)
-    all = both _ _ (ap (λ (xs : List StreamMessage). are_valid_messages recs (2 ^ 32) xs) (sym (rest_is ms i m l at)) ∙ h)
+    all = and_parts _ _ (ap (λ (xs : List StreamMessage). are_valid_messages recs (2 ^ 32) xs) (sym (rest_is ms i m l at)) ∙ h)
 
     own : (nat_lt m.remaining_offset (length m.payload.items) ≡ true) × (has_stream recs m.stream_id && nat_lt m.message_id (2 ^ 32) ≡ true)
-    own = both _ _ all.0
+    own = and_parts _ _ all.0
 
     sums : queued_bytes (map stream_message_of (drop i ms)) ≡ length m.payload.items + queued_bytes left_over
     sums = ap (λ (xs : List StreamMessage). queued_bytes xs) (rest_is ms i m l at) ∙ sum_by-cons (λ (x : StreamMessage). length x.payload) (stream_message_of m) left_over
@@ -280,9 +273,9 @@ wide n next l e = grind (arith, nat_tests)
 wider_messages : (recs : List HandoverOutgoingStream) (next : ℕ) (ms : List StreamMessage) → next ≤ 2 ^ 32 → are_valid_messages recs next ms ≡ true → are_valid_messages recs (2 ^ 32) ms ≡ true
 wider_messages recs next [] l h = refl
 wider_messages recs next (m ∷ ms) l h =
-    let all = both (is_valid_message recs next m) (are_valid_messages recs next ms) h in
-    let own = both (nat_lt m.remaining_offset (length m.payload)) (has_stream recs m.stream_id && nat_lt m.message_id next) all.0 in
-    let named = both (has_stream recs m.stream_id) (nat_lt m.message_id next) own.1 in
+    let all = and_parts (is_valid_message recs next m) (are_valid_messages recs next ms) h in
+    let own = and_parts (nat_lt m.remaining_offset (length m.payload)) (has_stream recs m.stream_id && nat_lt m.message_id next) all.0 in
+    let named = and_parts (has_stream recs m.stream_id) (nat_lt m.message_id next) own.1 in
     ap (λ b. (b && (has_stream recs m.stream_id && nat_lt m.message_id (2 ^ 32))) && are_valid_messages recs (2 ^ 32) ms) own.0
     ∙ ap (λ b. (b && nat_lt m.message_id (2 ^ 32)) && are_valid_messages recs (2 ^ 32) ms) named.0
     ∙ ap (λ b. b && are_valid_messages recs (2 ^ 32) ms) (wide m.message_id next l named.1)
@@ -303,15 +296,15 @@ few_bytes n m e = grind (arith, nat_tests)
 pub connection : (s : HandoverState) → s.socket_state ≡ Connected → is_valid_state s ≡ true → IsConnection s
 connection s connected valid =
     let h : is_valid_connection s ≡ true = ap (λ x. is_valid_as x s) (sym connected) ∙ valid in
-    let a = both (nat_lt 0 s.my_verification_tag) _ h in
-    let b = both (nat_lt 0 s.peer_verification_tag) _ a.1 in
-    let c = both (is_valid_reception s.capabilities.message_interleaving s.rx) _ b.1 in
-    let d = both (nat_lt 0 s.tx.cwnd) _ c.1 in
-    let e = both (rises_from 0 (outgoing_ids s.tx.streams)) _ d.1 in
-    let f = both (has_valid_queue s.capabilities.message_interleaving s.tx) _ e.1 in
-    let g = both (nat_le s.tx.next_outgoing_message_id (2 ^ 32)) _ f.0 in
-    let k = both (are_valid_messages s.tx.streams s.tx.next_outgoing_message_id s.tx.queued_messages) _ g.1 in
-    let n = both (has_valid_items s.tx) (payload_fits s.tx) f.1 in
+    let a = and_parts (nat_lt 0 s.my_verification_tag) _ h in
+    let b = and_parts (nat_lt 0 s.peer_verification_tag) _ a.1 in
+    let c = and_parts (is_valid_reception s.capabilities.message_interleaving s.rx) _ b.1 in
+    let d = and_parts (nat_lt 0 s.tx.cwnd) _ c.1 in
+    let e = and_parts (rises_from 0 (outgoing_ids s.tx.streams)) _ d.1 in
+    let f = and_parts (has_valid_queue s.capabilities.message_interleaving s.tx) _ e.1 in
+    let g = and_parts (nat_le s.tx.next_outgoing_message_id (2 ^ 32)) _ f.0 in
+    let k = and_parts (are_valid_messages s.tx.streams s.tx.next_outgoing_message_id s.tx.queued_messages) _ g.1 in
+    let n = and_parts (has_valid_items s.tx) (payload_fits s.tx) f.1 in
     record {
       rises = e.0;
       messages = wider_messages s.tx.streams s.tx.next_outgoing_message_id s.tx.queued_messages (at_most s.tx.next_outgoing_message_id g.0) k.0;

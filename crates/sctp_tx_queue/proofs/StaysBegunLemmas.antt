@@ -6,9 +6,11 @@ use Rattle.std.specs.Ordering.{nat_cmp, match_ordering}
 use Rattle.std.specs.declared.cmp.Ordering.{Ordering}
 use Rattle.std.specs.BTreeMap.{is_at, insert_entry}
 use Rattle.std.proofs.lemmas.Bool.Decides.{nat_tests}
+use Rattle.std.proofs.lemmas.Option.{none-some, same_Some}
+use Rattle.std.proofs.lemmas.Bool.{eqb-true}
+use Rattle.sctp_tx_queue.proofs.StreamLemmas.{step_messages}
 use Rattle.sctp_state.specs.Events.{Emitted}
 use Rattle.sctp_tx_queue.specs.declared.send_queue.stream.ResetStep.{ResetStep}
-use Rattle.sctp_tx_queue.specs.declared.send_queue.stream.ResetStep.TheVariants.{Requested, Performed, Refused}
 use Rattle.sctp_tx_queue.specs.Queue.{Queued, Queue, Stream, Streams, Entries, blank, stream, put_stream, open_stream, push, add}
 use Rattle.sctp_tx_queue.specs.Begun.{begun_number, IsBegun, StaysBegun, OthersStayBegun}
 use Rattle.sctp_tx_queue.specs.Settings.{with_threshold, with_priority, set_low_threshold, set_priority, set_mode, front_discarded, without_front, streams_discarded, begun_without, discard_from, discard}
@@ -16,12 +18,6 @@ use Rattle.sctp_tx_queue.specs.Produced.{settle_pause}
 use Rattle.sctp_tx_queue.specs.Resets.{is_partly, prepare_stream, prepare_reset, after_step, step_stream, each_stepped}
 use Rattle.sctp_tx_queue.specs.Restarted.{reset}
 use Rattle.sctp_tx_queue.proofs.StreamsLemmas.{stream_put, stream_nowhere}
-
-differ : (x : ℕ) → None ≡ Some x → ⊥
-differ x h = cc
-
-inside : (x y : ℕ) → Some x ≡ Some y → x ≡ y
-inside x y h = cc
 
 -- ---- another stream
 
@@ -33,9 +29,6 @@ not_at k id d = grind (arith, nat_tests)
 
 not_here : (k id x : ℕ) → (k == id) ≡ false → nat_cmp id x ≡ Equal → is_at (nat_cmp k) x ≡ false
 not_here k id x d h = grind (arith, nat_tests)
-
-pub same_id : (k id : ℕ) → (k == id) ≡ true → k ≡ id
-same_id k id h = grind (arith, nat_tests)
 
 pub written_elsewhere : (k id : ℕ) (s : Stream) (es : Entries) → (k == id) ≡ false → lookup (is_at (nat_cmp k)) (set_value (is_at (nat_cmp id)) es s) ≡ lookup (is_at (nat_cmp k)) es
 written_elsewhere k id s [] d = refl
@@ -72,7 +65,7 @@ there : (k number : ℕ) (ss : Streams) → IsFront k number ss → is_some (loo
 there k number ss h = go (lookup (is_at (nat_cmp k)) ss.entries) refl
   where
     go : (o : Option Stream) → lookup (is_at (nat_cmp k)) ss.entries ≡ o → is_some (lookup (is_at (nat_cmp k)) ss.entries) ≡ true
-    go None e = absurd (differ number (sym (ap (λ (s : Stream). begun_number s.messages) (stream_nowhere k ss (sym e))) ∙ h))
+    go None e = absurd (none-some number (sym (ap (λ (s : Stream). begun_number s.messages) (stream_nowhere k ss (sym e))) ∙ h))
     go (Some s) e = ap is_some e
 
 front_put : (k id number : ℕ) (s : Stream) (ss : Streams) → IsFront k number ss → (IsFront id number ss → begun_number s.messages ≡ Some number) → IsFront k number (put_stream id s ss)
@@ -80,7 +73,7 @@ front_put k id number s ss h keeps = go (k == id) refl
   where
     go : (b : Bool) → (k == id) ≡ b → IsFront k number (put_stream id s ss)
     go true e =
-        let same = same_id k id e in
+        let same = eqb-true k id e in
         subst (λ i. IsFront i number (put_stream id s ss)) (sym same)
         (ap (λ (t : Stream). begun_number t.messages) (stream_put id s ss (there id number ss (subst (λ i. IsFront i number ss) same h))) ∙ keeps (subst (λ i. IsFront i number ss) same h))
     go false e = ap (λ o. begun_number (unwrap_or o (blank ss)).messages) (written_elsewhere k id s ss.entries e) ∙ h
@@ -99,7 +92,7 @@ stream_opened k id number ss h = go (is_some (lookup (is_at (nat_cmp id)) ss.ent
     go false e = pick (k == id) refl
       where
         pick : (d : Bool) → (k == id) ≡ d → stream k (open_by false) ≡ stream k ss
-        pick true same = absurd (conflict (sym (there k number ss h) ∙ ap (λ i. is_some (lookup (is_at (nat_cmp i)) ss.entries)) (same_id k id same) ∙ e))
+        pick true same = absurd (conflict (sym (there k number ss h) ∙ ap (λ i. is_some (lookup (is_at (nat_cmp i)) ss.entries)) (eqb-true k id same) ∙ e))
           where
             conflict : true ≡ false → ⊥
             conflict x = cc
@@ -113,13 +106,13 @@ front_changed : (k id number : ℕ) (s : Stream) (ss : Streams) → IsFront k nu
 front_changed k id number s ss h keeps = go (k == id) refl
   where
     go : (b : Bool) → (k == id) ≡ b → IsFront k number (put_stream id s (open_stream id ss))
-    go true e = front_put k id number s (open_stream id ss) (front_opened k id number ss h) (λ g. keeps (subst (λ i. IsFront i number ss) (same_id k id e) h))
+    go true e = front_put k id number s (open_stream id ss) (front_opened k id number ss h) (λ g. keeps (subst (λ i. IsFront i number ss) (eqb-true k id e) h))
     go false e = ap (λ o. begun_number (unwrap_or o (blank (open_stream id ss))).messages) (written_elsewhere k id s (open_stream id ss).entries e) ∙ front_opened k id number ss h
 
 -- ---- the calls
 
 behind : (m : Queued) (number : ℕ) (ms : List Queued) → begun_number ms ≡ Some number → begun_number (ms ++ m ∷ []) ≡ Some number
-behind m number [] h = absurd (differ number h)
+behind m number [] h = absurd (none-some number h)
 behind m number (x ∷ rest) h = h
 
 pub added_stays : (id : ℕ) (m : Queued) (q : Queue) → StaysBegun q (add id m q)
@@ -138,11 +131,11 @@ pub mode_stays : (is_interleaved : Bool) (q : Queue) → StaysBegun q (set_mode 
 mode_stays is_interleaved q k number b = record { begun = b.begun; message = b.message }
 
 not_begun : (a b : Bool) (n number : ℕ) → b ≡ false → cond (a && b) (Some n) None ≡ Some number → ⊥
-not_begun true b n number e h = differ number (ap (λ t. cond t (Some n) None) (sym e) ∙ h)
-not_begun false b n number e h = differ number h
+not_begun true b n number e h = none-some number (ap (λ t. cond t (Some n) None) (sym e) ∙ h)
+not_begun false b n number e h = none-some number h
 
 partly_front : (number : ℕ) (ms : List Queued) → begun_number ms ≡ Some number → begun_number (filter is_partly ms) ≡ Some number
-partly_front number [] h = absurd (differ number h)
+partly_front number [] h = absurd (none-some number h)
 partly_front number (m ∷ rest) h = go (is_partly m) refl
   where
     go : (b : Bool) → is_partly m ≡ b → begun_number (cond b (m ∷ filter is_partly rest) (filter is_partly rest)) ≡ Some number
@@ -151,11 +144,6 @@ partly_front number (m ∷ rest) h = go (is_partly m) refl
 
 pub prepared_stays : {P : Type 0} (id : ℕ) (q : Queue) (emitted : Emitted P) → StaysBegun q (prepare_reset id q emitted).queue
 prepared_stays id q emitted k number b = record { begun = b.begun; message = front_changed k id number (prepare_stream (stream id q.streams)) q.streams b.message (λ h. partly_front number (stream id q.streams).messages h) }
-
-step_messages : (step : ResetStep) (s : Stream) → (after_step step s).messages ≡ s.messages
-step_messages Requested s = refl
-step_messages Performed s = refl
-step_messages Refused s = refl
 
 step_stays : (step : ResetStep) (id : ℕ) (q : Queue) → StaysBegun q (step_stream step id q)
 step_stays step id q k number b = record {
@@ -172,8 +160,8 @@ is_first : (number : ℕ) (m : Queued) (rest : List Queued) → begun_number (m 
 is_first number m rest h = go (is_some m.numbers && nat_lt 0 m.offset) h
   where
     go : (b : Bool) → cond b (Some m.number) None ≡ Some number → m.number ≡ number
-    go true h = inside m.number number h
-    go false h = absurd (differ number h)
+    go true h = same_Some m.number number h
+    go false h = absurd (none-some number h)
 
 others_stay : {P : Type 0} (id message k number : ℕ) (o : Option (Option ℕ)) (q : Queue) (emitted : Emitted P) → (k == id) ≡ false → IsBegun k number q → IsBegun k number (discard_from id (streams_discarded id message q.streams) o q emitted).queue
 others_stay id message k number o q emitted e b = go o
@@ -218,17 +206,17 @@ discard_stays {P} id message q emitted k number b = go (k == id) refl
     go true e = by_front (stream id q.streams).messages refl
       where
         same : k ≡ id
-        same = same_id k id e
+        same = eqb-true k id e
 
         here : IsBegun id number q
         here = subst (λ i. IsBegun i number q) same b
 
         by_front : (ms : List Queued) → (stream id q.streams).messages ≡ ms → Goal
-        by_front [] is = absurd (differ number (ap begun_number (sym is) ∙ here.message))
+        by_front [] is = absurd (none-some number (ap begun_number (sym is) ∙ here.message))
         by_front (m ∷ rest) is = by_number (m.number == message) refl
           where
             by_number : (t : Bool) → (m.number == message) ≡ t → Goal
-            by_number true f = inl (same, sym (is_first number m rest (ap begun_number (sym is) ∙ here.message)) ∙ same_id m.number message f)
+            by_number true f = inl (same, sym (is_first number m rest (ap begun_number (sym is) ∙ here.message)) ∙ eqb-true m.number message f)
             by_number false f = inr (subst (λ i. IsBegun i number (discard id message q emitted).queue) (sym same) (front_stays id message number q emitted m rest is f here))
 
 -- ---- a new association

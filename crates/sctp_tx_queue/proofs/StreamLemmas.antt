@@ -5,7 +5,10 @@ use Rattle.sctp_state.specs.Thresholds.{Watched, crosses}
 use Rattle.sctp_tx_queue.specs.Queue.{Queued, Stream}
 use Rattle.sctp_tx_queue.specs.declared.send_queue.message.MessageNumbers.{MessageNumbers}
 use Rattle.sctp_tx_queue.specs.declared.send_queue.stream.PauseState.{PauseState}
+use Rattle.sctp_tx_queue.specs.declared.send_queue.stream.ResetStep.{ResetStep}
+use Rattle.sctp_tx_queue.specs.declared.send_queue.stream.ResetStep.TheVariants.{Requested, Performed, Refused}
 use Rattle.sctp_tx_queue.specs.Produced.{took, front_took, front_numbers, front_ends, moved_front, pause_after, count_on, advance}
+use Rattle.sctp_tx_queue.specs.Resets.{after_step}
 
 took_messages : (m : Queued) (s : Stream) → (took m s).messages ≡ s.messages
 took_messages m s = go (is_some m.numbers) m.is_unordered
@@ -71,3 +74,9 @@ advanced_is size n is_end s t ms p threshold is_n ends is_t is_ms is_p is_thresh
 
 pub crosses_same : (a b c d : Watched) → a.amount ≡ c.amount → a.low_threshold ≡ c.low_threshold → b.amount ≡ d.amount → b.low_threshold ≡ d.low_threshold → crosses a b ≡ crosses c d
 crosses_same a b c d e f g h = rw (e, f, g, h) refl
+
+-- no step of a reset changes a stream's messages
+pub step_messages : (step : ResetStep) (s : Stream) → (after_step step s).messages ≡ s.messages
+step_messages Requested s = refl
+step_messages Performed s = refl
+step_messages Refused s = refl

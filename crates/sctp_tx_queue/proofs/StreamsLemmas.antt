@@ -98,7 +98,7 @@ changed_there id s t ss at = stream_put id t ss (ap is_some (sym at))
 pub changed_nowhere : (id : ℕ) (t : Stream) (ss : Streams) → None ≡ lookup (is_at (nat_cmp id)) ss.entries → stream id (put_stream id t ss) ≡ blank ss
 changed_nowhere id t ss at = ap (λ x. stream id x) (put_nowhere id t ss at) ∙ stream_nowhere id ss at
 
-at_itself : (k : ℕ) → is_at (nat_cmp k) k ≡ true
+pub at_itself : (k : ℕ) → is_at (nat_cmp k) k ≡ true
 at_itself k = grind (arith, nat_tests)
 
 -- a stream that was not there is put there at once

@@ -9,6 +9,8 @@ use Rattle.std.specs.BTreeMap.{is_at}
 use Rattle.std.proofs.lemmas.Bool.Decides.{nat_tests}
 use Rattle.std.proofs.lemmas.List.Folds.{list_all-append}
 use Rattle.std.proofs.lemmas.List.Sums.{sum_by-cons}
+use Rattle.std.proofs.lemmas.Bool.{and_parts, or_parts, not-true}
+use Rattle.sctp_tx_queue.proofs.StreamsLemmas.{at_itself}
 use Rattle.sctp_state.specs.declared.api.handover.HandoverOutgoingStream.{HandoverOutgoingStream}
 use Rattle.sctp_serial.specs.Unwrapped.{words, wire}
 use Rattle.sctp_state.specs.Handover.{StreamMessage, Transmission}
@@ -20,7 +22,7 @@ use Rattle.sctp_tx_queue.specs.Handover.{queued_message, messages_of, queued_mes
 use Rattle.sctp_tx_queue.specs.Restored.{numbers_from, message_from, is_on, messages_from, stream_from, entries_from, each_scheduled, partly_sent, begun_from, streams_from, restore}
 use Rattle.sctp_tx_queue.specs.InOrder.{is_waiting, is_begun_or_waiting, are_in_order, is_first_begun, is_this}
 use Rattle.sctp_tx_queue.specs.TakenUp.{is_numbered_as_sent, RestoredInOrder, WrittenAsSent}
-use Rattle.sctp_tx_queue.proofs.InOrderLemmas.{both, hears_mode, waiting_in_order}
+use Rattle.sctp_tx_queue.proofs.InOrderLemmas.{hears_mode, waiting_in_order}
 use Rattle.sctp_tx_queue.proofs.AgainLemmas.{AreAbove, are_above}
 use Rattle.sctp_tx_queue.proofs.RestoreLemmas.{found}
 
@@ -64,18 +66,14 @@ waits now m h none = ap (λ b. not b && (m.remaining_offset == 0)) (begun_as_sen
 
 -- ---- the messages of a stream
 
-neither : (a b : Bool) → a || b ≡ false → (a ≡ false) × (b ≡ false)
-neither true b h = absurd (cc)
-neither false b h = (refl, h)
-
 all_wait : (now k : ℕ) (ms : List StreamMessage) → has_partly_sent k ms ≡ false → list_all is_numbered_as_sent ms ≡ true → list_all is_waiting (messages_from now k ms) ≡ true
 all_wait now k [] none h = refl
 all_wait now k (m ∷ rest) none h =
-    let apart = neither (is_on k m && is_partly_sent m) (has_partly_sent k rest) none in
-    go (is_on k m) apart (all_wait now k rest apart.1 (both (is_numbered_as_sent m) (list_all is_numbered_as_sent rest) h).1)
+    let apart = or_parts (is_on k m && is_partly_sent m) (has_partly_sent k rest) none in
+    go (is_on k m) apart (all_wait now k rest apart.1 (and_parts (is_numbered_as_sent m) (list_all is_numbered_as_sent rest) h).1)
   where
     hs : (is_numbered_as_sent m ≡ true) × (list_all is_numbered_as_sent rest ≡ true)
-    hs = both (is_numbered_as_sent m) (list_all is_numbered_as_sent rest) h
+    hs = and_parts (is_numbered_as_sent m) (list_all is_numbered_as_sent rest) h
 
     go : (b : Bool) → (b && is_partly_sent m ≡ false) × (has_partly_sent k rest ≡ false) → list_all is_waiting (messages_from now k rest) ≡ true
         → list_all is_waiting (map (message_from now) (cond b (m ∷ filter (is_on k) rest) (filter (is_on k) rest))) ≡ true
@@ -85,22 +83,18 @@ all_wait now k (m ∷ rest) none h =
 same_stream : (a b : ℕ) → (a == b) ≡ true → b ≡ a
 same_stream a b e = grind (arith, nat_tests)
 
-is_not : (b : Bool) → not b ≡ true → b ≡ false
-is_not true h = absurd (cc)
-is_not false h = refl
-
 -- behind a message of the stream none of it is partly sent
 none_behind : (k : ℕ) (m : StreamMessage) (rest : List StreamMessage) → is_on k m ≡ true → first_alone_is_partly_sent (m ∷ rest) ≡ true → has_partly_sent k rest ≡ false
-none_behind k m rest on h = ap (λ i. has_partly_sent i rest) (same_stream m.stream_id k on) ∙ is_not (has_partly_sent m.stream_id rest) (both (not (has_partly_sent m.stream_id rest)) (first_alone_is_partly_sent rest) h).0
+none_behind k m rest on h = ap (λ i. has_partly_sent i rest) (same_stream m.stream_id k on) ∙ not-true (has_partly_sent m.stream_id rest) (and_parts (not (has_partly_sent m.stream_id rest)) (first_alone_is_partly_sent rest) h).0
 
 in_order : (now k : ℕ) (ms : List StreamMessage) → first_alone_is_partly_sent ms ≡ true → list_all is_numbered_as_sent ms ≡ true → are_in_order (messages_from now k ms) ≡ true
 in_order now k [] first h = refl
 in_order now k (m ∷ rest) first h =
     go (is_on k m) refl
-    (in_order now k rest (both (not (has_partly_sent m.stream_id rest)) (first_alone_is_partly_sent rest) first).1 (both (is_numbered_as_sent m) (list_all is_numbered_as_sent rest) h).1)
+    (in_order now k rest (and_parts (not (has_partly_sent m.stream_id rest)) (first_alone_is_partly_sent rest) first).1 (and_parts (is_numbered_as_sent m) (list_all is_numbered_as_sent rest) h).1)
   where
     hs : (is_numbered_as_sent m ≡ true) × (list_all is_numbered_as_sent rest ≡ true)
-    hs = both (is_numbered_as_sent m) (list_all is_numbered_as_sent rest) h
+    hs = and_parts (is_numbered_as_sent m) (list_all is_numbered_as_sent rest) h
 
     go : (b : Bool) → is_on k m ≡ b → are_in_order (messages_from now k rest) ≡ true → are_in_order (map (message_from now) (cond b (m ∷ filter (is_on k) rest) (filter (is_on k) rest))) ≡ true
     go true e ih =
@@ -113,10 +107,10 @@ none_begun : (now k : ℕ) (ms : List StreamMessage) → partly_sent_count ms �
 none_begun now k [] none h = refl
 none_begun now k (m ∷ rest) none h =
     go (is_on k m)
-    (none_begun now k rest (omega (arith, sum_by-cons (λ x. cond (is_partly_sent x) 1 0) m rest, none)) (both (is_numbered_as_sent m) (list_all is_numbered_as_sent rest) h).1)
+    (none_begun now k rest (omega (arith, sum_by-cons (λ x. cond (is_partly_sent x) 1 0) m rest, none)) (and_parts (is_numbered_as_sent m) (list_all is_numbered_as_sent rest) h).1)
   where
     hs : (is_numbered_as_sent m ≡ true) × (list_all is_numbered_as_sent rest ≡ true)
-    hs = both (is_numbered_as_sent m) (list_all is_numbered_as_sent rest) h
+    hs = and_parts (is_numbered_as_sent m) (list_all is_numbered_as_sent rest) h
 
     count : cond (is_partly_sent m) 1 0 + partly_sent_count rest ≡ 0
     count = sym (sum_by-cons (λ x. cond (is_partly_sent x) 1 0) m rest) ∙ none
@@ -135,7 +129,7 @@ other_stream a k e = grind (arith, nat_tests)
 not_this : (k : ℕ) (ms : List StreamMessage) → has_partly_sent k ms ≡ false → is_this k (partly_sent ms) ≡ false
 not_this k [] h = refl
 not_this k (m ∷ rest) h =
-    let apart = neither (is_on k m && is_partly_sent m) (has_partly_sent k rest) h in
+    let apart = or_parts (is_on k m && is_partly_sent m) (has_partly_sent k rest) h in
     go (is_partly_sent m) apart.0 (not_this k rest apart.1)
   where
     go : (b : Bool) → is_on k m && b ≡ false → is_this k (partly_sent rest) ≡ false → is_this k (cond b (Some m.stream_id) (partly_sent rest)) ≡ false
@@ -151,10 +145,10 @@ begun_is : (now k : ℕ) (ms : List StreamMessage) → partly_sent_count ms ≤ 
 begun_is now k [] few first h = refl
 begun_is now k (m ∷ rest) few first h =
     go (is_on k m) (is_partly_sent m) refl refl count
-    (λ l. begun_is now k rest l (both (not (has_partly_sent m.stream_id rest)) (first_alone_is_partly_sent rest) first).1 (both (is_numbered_as_sent m) (list_all is_numbered_as_sent rest) h).1)
+    (λ l. begun_is now k rest l (and_parts (not (has_partly_sent m.stream_id rest)) (first_alone_is_partly_sent rest) first).1 (and_parts (is_numbered_as_sent m) (list_all is_numbered_as_sent rest) h).1)
   where
     hs : (is_numbered_as_sent m ≡ true) × (list_all is_numbered_as_sent rest ≡ true)
-    hs = both (is_numbered_as_sent m) (list_all is_numbered_as_sent rest) h
+    hs = and_parts (is_numbered_as_sent m) (list_all is_numbered_as_sent rest) h
 
     count : cond (is_partly_sent m) 1 0 + partly_sent_count rest ≤ 1
     count = subst (λ n. n ≤ 1) (sum_by-cons (λ x. cond (is_partly_sent x) 1 0) m rest) few
@@ -188,12 +182,12 @@ listed now threshold k ms none (s ∷ ss) h = go (is_at (nat_cmp k) s.id) refl h
 -- one that isn't has none
 unlisted : (next k : ℕ) (ss : List HandoverOutgoingStream) (ms : List StreamMessage) → are_valid_messages ss next ms ≡ true → has_stream ss k ≡ false → filter (is_on k) ms ≡ []
 unlisted next k ss [] h none = refl
-unlisted next k ss (m ∷ rest) h none = go (is_on k m) refl (unlisted next k ss rest (both (is_valid_message ss next m) (are_valid_messages ss next rest) h).1 none)
+unlisted next k ss (m ∷ rest) h none = go (is_on k m) refl (unlisted next k ss rest (and_parts (is_valid_message ss next m) (are_valid_messages ss next rest) h).1 none)
   where
     there : has_stream ss m.stream_id ≡ true
     there =
-        let valid = (both (is_valid_message ss next m) (are_valid_messages ss next rest) h).0 in
-        (both (has_stream ss m.stream_id) (nat_lt m.message_id next) (both (nat_lt m.remaining_offset (length m.payload)) (has_stream ss m.stream_id && nat_lt m.message_id next) valid).1).0
+        let valid = (and_parts (is_valid_message ss next m) (are_valid_messages ss next rest) h).0 in
+        (and_parts (has_stream ss m.stream_id) (nat_lt m.message_id next) (and_parts (nat_lt m.remaining_offset (length m.payload)) (has_stream ss m.stream_id && nat_lt m.message_id next) valid).1).0
 
     clash : true ≡ false → ⊥
     clash h = cc
@@ -246,18 +240,18 @@ restored_in_order now is_interleaved tx q valid numbered = record { order = λ k
 
     queue : has_valid_queue is_interleaved tx ≡ true
     queue =
-        let rest = (both (nat_lt 0 tx.cwnd) (rises_from 0 (outgoing_ids tx.streams) && (has_valid_queue is_interleaved tx && (has_valid_items tx && payload_fits tx))) valid).1 in
-        (both (has_valid_queue is_interleaved tx) (has_valid_items tx && payload_fits tx)
-        (both (rises_from 0 (outgoing_ids tx.streams)) (has_valid_queue is_interleaved tx && (has_valid_items tx && payload_fits tx)) rest).1).0
+        let rest = (and_parts (nat_lt 0 tx.cwnd) (rises_from 0 (outgoing_ids tx.streams) && (has_valid_queue is_interleaved tx && (has_valid_items tx && payload_fits tx))) valid).1 in
+        (and_parts (has_valid_queue is_interleaved tx) (has_valid_items tx && payload_fits tx)
+        (and_parts (rises_from 0 (outgoing_ids tx.streams)) (has_valid_queue is_interleaved tx && (has_valid_items tx && payload_fits tx)) rest).1).0
 
     last : Bool
     last = is_interleaved || nat_le (partly_sent_count ms) 1
 
     parts : (are_valid_messages tx.streams tx.next_outgoing_message_id ms ≡ true) × ((first_alone_is_partly_sent ms ≡ true) × (last ≡ true))
     parts =
-        let valid_ms = both (are_valid_messages tx.streams tx.next_outgoing_message_id ms) (message_ids_differ ms && (first_alone_is_partly_sent ms && last))
-        (both (nat_le tx.next_outgoing_message_id (2 ^ 32)) (are_valid_messages tx.streams tx.next_outgoing_message_id ms && (message_ids_differ ms && (first_alone_is_partly_sent ms && last))) queue).1 in
-        (valid_ms.0, both (first_alone_is_partly_sent ms) last (both (message_ids_differ ms) (first_alone_is_partly_sent ms && last) valid_ms.1).1)
+        let valid_ms = and_parts (are_valid_messages tx.streams tx.next_outgoing_message_id ms) (message_ids_differ ms && (first_alone_is_partly_sent ms && last))
+        (and_parts (nat_le tx.next_outgoing_message_id (2 ^ 32)) (are_valid_messages tx.streams tx.next_outgoing_message_id ms && (message_ids_differ ms && (first_alone_is_partly_sent ms && last))) queue).1 in
+        (valid_ms.0, and_parts (first_alone_is_partly_sent ms) last (and_parts (message_ids_differ ms) (first_alone_is_partly_sent ms && last) valid_ms.1).1)
 
     first : first_alone_is_partly_sent ms ≡ true
     first = parts.1.0
@@ -290,17 +284,14 @@ as_sent now id m h = ap (λ b. cond b (nat_lt 0 m.offset) (not (nat_lt 0 m.offse
 waiting_as_sent : (now id : ℕ) (ms : List Queued) → list_all is_waiting ms ≡ true → list_all is_numbered_as_sent (map (queued_message now id) ms) ≡ true
 waiting_as_sent now id [] h = refl
 waiting_as_sent now id (m ∷ rest) h =
-    let hs = both (is_waiting m) (list_all is_waiting rest) h in
+    let hs = and_parts (is_waiting m) (list_all is_waiting rest) h in
     ap (λ b. b && list_all is_numbered_as_sent (map (queued_message now id) rest)) (as_sent now id m (waiting_in_order m hs.0)) ∙ waiting_as_sent now id rest hs.1
 
 all_as_sent : (now id : ℕ) (ms : List Queued) → are_in_order ms ≡ true → list_all is_numbered_as_sent (map (queued_message now id) ms) ≡ true
 all_as_sent now id [] h = refl
 all_as_sent now id (m ∷ rest) h =
-    let hs = both (is_begun_or_waiting m) (list_all is_waiting rest) h in
+    let hs = and_parts (is_begun_or_waiting m) (list_all is_waiting rest) h in
     ap (λ b. b && list_all is_numbered_as_sent (map (queued_message now id) rest)) (as_sent now id m hs.0) ∙ waiting_as_sent now id rest hs.1
-
-at_itself : (k : ℕ) → is_at (nat_cmp k) k ≡ true
-at_itself k = grind (arith, nat_tests)
 
 above_it : (k m : ℕ) → k < m → is_at (nat_cmp k) m ≡ false
 above_it k m l = grind (arith, nat_tests)

@@ -2,6 +2,7 @@
 use Rattle.std.proofs.Common.{◌≡◌, ℕ, zero, suc, ◌<◌, Bool, true, false, List, [], ◌∷◌, Some, sym, subst, ap, ◌∙◌, refl, inl, inr, take}
 use Rattle.std.specs.Prelude.{◌==◌}
 use Rattle.std.specs.Map.{keys_of}
+use Rattle.std.proofs.lemmas.Bool.{eqb-true}
 use Rattle.sctp_state.specs.Events.{Emitted}
 use Rattle.sctp_tx_queue.specs.declared.send_queue.stream.ResetStep.{ResetStep}
 use Rattle.sctp_tx_queue.specs.Queue.{Queue, Stream, stream, put_stream}
@@ -12,7 +13,6 @@ use Rattle.sctp_tx_queue.specs.Restarted.{restart, restarted_one, each_restarted
 use Rattle.sctp_tx_queue.specs.Interrupted.{Passed, Stopped}
 use Rattle.sctp_tx_queue.specs.InOrder.{are_in_order, is_first_begun, is_this, IsInOrder, IsNumbered, HasRests}
 use Rattle.sctp_tx_queue.specs.Unfinished.{IsKept}
-use Rattle.sctp_tx_queue.proofs.StaysBegunLemmas.{same_id}
 use Rattle.sctp_tx_queue.proofs.InOrderLemmas as order
 use Rattle.sctp_tx_queue.proofs.InOrderLemmas.{each_put, put_messages, put_elsewhere, whole_order, whole_first, none_here, same_there, hears_mode}
 use Rattle.sctp_tx_queue.proofs.NumberLemmas as number
@@ -57,7 +57,7 @@ one_in_order id q h = record {
   where
     begun_on : q.scheduler.is_interleaved ≡ false → (k : ℕ) (b : Bool) → (k == id) ≡ b → is_first_begun (stream k (put_stream id (restart (stream id q.streams)) q.streams)).messages ≡ is_this k (begun_without id q.begun)
     begun_on mode k true e =
-        subst (λ i. is_first_begun (stream i (put_stream id (restart (stream id q.streams)) q.streams)).messages ≡ is_this i (begun_without id q.begun)) (sym (same_id k id e))
+        subst (λ i. is_first_begun (stream i (put_stream id (restart (stream id q.streams)) q.streams)).messages ≡ is_this i (begun_without id q.begun)) (sym (eqb-true k id e))
         (ap is_first_begun (put_messages id restart q.streams refl) ∙ whole_first (stream id q.streams).messages ∙ sym (none_here id q.begun))
     begun_on mode k false e =
         ap (λ (t : Stream). is_first_begun t.messages) (put_elsewhere k id (restart (stream id q.streams)) q.streams e) ∙ h.begun mode k ∙ same_there k id q.begun e

@@ -6,6 +6,7 @@ use Rattle.std.specs.Ordering.{nat_cmp}
 use Rattle.std.specs.BTreeMap.{is_at}
 use Rattle.std.proofs.lemmas.Bool.Decides.{nat_tests}
 use Rattle.std.proofs.lemmas.List.{take_all}
+use Rattle.std.proofs.lemmas.Bool.{and_parts}
 use Rattle.sctp_state.specs.Events.{Emitted, emit_events, give_up, expiry}
 use Rattle.sctp_state.specs.declared.api.GivenUpCause.TheVariants.{Lifetime}
 use Rattle.sctp_stream_scheduler.specs.Scheduler.{Scheduler, accept, is_active, enter, finish_now, set_bytes_remaining}
@@ -13,7 +14,6 @@ use Rattle.sctp_tx_queue.specs.declared.send_queue.message.MessageNumbers.{Messa
 use Rattle.sctp_tx_queue.specs.Queue.{Queued, Stream, Streams, stream, sendable}
 use Rattle.sctp_tx_queue.specs.Produced.{is_front_stale, fresh, drop_expired, streams_without_stale, without_stale, ends, front_made, in_line, next_fragment, production, streams_after, advance, emitted_made}
 use Rattle.sctp_tx_queue.specs.Whole.{is_whole, is_front_whole, front_lifecycle}
-use Rattle.sctp_tx_queue.proofs.RestoreLemmas.{both}
 use Rattle.sctp_tx_queue.proofs.StreamLemmas.{advanced_priority}
 use Rattle.sctp_tx_queue.proofs.StreamsLemmas.{put_nowhere, put_same, stream_there, stream_nowhere, changed_there}
 
@@ -27,12 +27,12 @@ all_fits offset whole size none h = grind (arith, nat_tests)
 
 pub whole_payload : (size : ℕ) (m : Queued) → is_whole size m ≡ true → m.payload ≡ take size (drop m.offset m.payload)
 whole_payload size m h =
-    let hs = both (m.offset == 0) (ends size m) h in
+    let hs = and_parts (m.offset == 0) (ends size m) h in
     let none = none_sent m.offset hs.0 in
     sym (ap (λ n. take size (drop n m.payload)) none ∙ take_all size m.payload (all_fits m.offset (length m.payload) size none hs.1))
 
 pub whole_ends : (size : ℕ) (m : Queued) → is_whole size m ≡ true → true ≡ ends size m
-whole_ends size m h = sym (both (m.offset == 0) (ends size m) h).1
+whole_ends size m h = sym (and_parts (m.offset == 0) (ends size m) h).1
 
 -- its stream goes in line, with its bytes
 pub whole_line : (id bytes priority size : ℕ) (n : MessageNumbers) (ms : List Queued) (sch : Scheduler) → is_front_whole size ms ≡ true → set_bytes_remaining id bytes priority (accept id sch) ≡ in_line id bytes priority (front_made id size n ms) sch
