@@ -1,6 +1,6 @@
 -- The next stream: the best of the finish times is ahead of all, and is the first turn of the index.
 use Rattle.std.proofs.Common.{◌≡◌, ℕ, ◌<◌, ◌≤◌, Bool, true, false, cond, List, [], ◌∷◌, Option, Some, None, is_some, refl, ap, sym, subst, ◌∙◌, inl, inr, arith, ◌⊎◌, Less, Equal, Greater, IsTrue, option_map, ◌==◌}
-use Rattle.std.proofs.lemmas.Bool.{lt-ltb, le-ltb, cases_lt}
+use Rattle.std.proofs.lemmas.Bool.{lt-ltb, le-ltb, eq-eqb, eqb-true, cases_lt}
 use Rattle.std.proofs.lemmas.Bool.Decides.{nat_tests}
 use Rattle.std.specs.Ordering.{nat_cmp, is_gt, is_eq, match_ordering}
 use Rattle.std.specs.declared.cmp.Ordering.{Ordering}
@@ -13,7 +13,7 @@ use Rattle.sctp_stream_scheduler.specs.Scheduler.{Times, Scheduler, best, IsAhea
 above : (m k : ℕ) → nat_cmp m k ≡ Less → m < k
 above m k e = grind (arith, nat_tests)
 
-at_itself : (k : ℕ) → is_at (nat_cmp k) k ≡ true
+pub at_itself : (k : ℕ) → is_at (nat_cmp k) k ≡ true
 at_itself k = grind (arith, nat_tests)
 
 apart : (k q : ℕ) → q < k → is_at (nat_cmp k) q ≡ false
@@ -196,28 +196,19 @@ all_ahead r (e ∷ es) s h = (h e.0 e.1 (at_head e e es refl), all_ahead r es s.
 -- the first turn is that of the next stream
 pub first_is_next : (turns : List (ℕ × ℕ)) (ts : Times) (turn : ℕ × ℕ) → IsStrictlySortedBy nat_cmp (keys_of ts) → Indexes turns ts
     → IsTrue (list_any (is_at (turn_cmp turn)) turns) → ((t : ℕ × ℕ) → IsTrue (list_any (is_at (turn_cmp t)) turns) → is_gt (turn_cmp turn t) ≡ false) → IsNext ts turn.1
-first_is_next turns ts turn sorted index member least = (turn.0, there (finish_time turn.1 ts) (subst IsTrue (index turn) member), all_ahead (turn.1, turn.0) ts sorted (λ id f h. not_greater turn.0 f turn.1 id (least (f, id) (subst IsTrue (sym (index (f, id) ∙ ap (is_time f) h ∙ itself f)) refl))))
+first_is_next turns ts turn sorted index member least = (turn.0, there (finish_time turn.1 ts) (subst IsTrue (index turn) member), all_ahead (turn.1, turn.0) ts sorted (λ id f h. not_greater turn.0 f turn.1 id (least (f, id) (subst IsTrue (sym (index (f, id) ∙ ap (is_time f) h ∙ eq-eqb f f refl)) refl))))
   where
     never_true : false ≡ true → ⊥
     never_true h = cc
 
-    equal : (a b : ℕ) → IsTrue (b == a) → b ≡ a
-    equal a b q = grind (arith, nat_tests)
-
     there : (o : Option ℕ) → IsTrue (is_time turn.0 o) → o ≡ Some turn.0
     there None h = absurd (never_true h)
-    there (Some f) h = ap (λ x. Some x) (equal turn.0 f h)
-
-    itself : (f : ℕ) → (f == f) ≡ true
-    itself f = grind (arith, nat_tests)
+    there (Some f) h = ap (λ x. Some x) (eqb-true f turn.0 h)
 
 pub no_turns : (turns : List (ℕ × ℕ)) (ts : Times) → Indexes turns ts → turns ≡ [] → ts ≡ []
 no_turns turns [] index none = refl
-no_turns turns (e ∷ es) index none = absurd (clash (ap (λ us. list_any (is_at (turn_cmp (e.1, e.0))) us) (sym none) ∙ index (e.1, e.0) ∙ ap (is_time e.1) (at_head e e es refl) ∙ itself e.1))
+no_turns turns (e ∷ es) index none = absurd (clash (ap (λ us. list_any (is_at (turn_cmp (e.1, e.0))) us) (sym none) ∙ index (e.1, e.0) ∙ ap (is_time e.1) (at_head e e es refl) ∙ eq-eqb e.1 e.1 refl))
   where
-    itself : (f : ℕ) → (f == f) ≡ true
-    itself f = grind (arith, nat_tests)
-
     clash : false ≡ true → ⊥
     clash h = cc
 

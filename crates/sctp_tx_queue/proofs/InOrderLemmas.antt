@@ -12,6 +12,7 @@ use Rattle.std.proofs.lemmas.Option.{same_Some}
 use Rattle.sctp_tx_queue.proofs.StreamLemmas.{step_messages}
 use Rattle.sctp_state.specs.Events.{Emitted}
 use Rattle.sctp_stream_scheduler.specs.Scheduler.{Scheduler, set_bytes_remaining, accept, accepted_at, finish_time, finish_now, is_active, leave, enter, peek}
+use Rattle.sctp_stream_scheduler.proofs.SchedulerLemmas.{at_itself}
 use Rattle.sctp_tx_queue.specs.declared.send_queue.message.MessageNumbers.{MessageNumbers}
 use Rattle.sctp_tx_queue.specs.declared.send_queue.stream.ResetStep.{ResetStep}
 use Rattle.sctp_tx_queue.specs.Queue.{Queued, Queue, Stream, Streams, Entries, blank, stream, put_stream, open_stream, push, add}
@@ -20,7 +21,7 @@ use Rattle.sctp_tx_queue.specs.Settings.{with_threshold, with_priority, set_low_
 use Rattle.sctp_tx_queue.specs.Resets.{is_partly, prepare_stream, prepare_reset, after_step, step_stream, each_stepped}
 use Rattle.sctp_tx_queue.specs.Restarted.{whole_front, restart, restarted_one, each_restarted, reset}
 use Rattle.sctp_tx_queue.specs.InOrder.{is_waiting, is_begun_or_waiting, are_in_order, is_first_begun, is_this, IsInOrder, IsUnsent, NewIsInOrder}
-use Rattle.sctp_tx_queue.proofs.StreamsLemmas.{stream_put, stream_nowhere, put_nowhere, at_itself}
+use Rattle.sctp_tx_queue.proofs.StreamsLemmas.{stream_put, stream_nowhere, put_nowhere}
 use Rattle.sctp_tx_queue.proofs.ProduceLemmas.{idles, gives, turned}
 use Rattle.sctp_tx_queue.proofs.StaysBegunLemmas.{written_elsewhere, inserted_elsewhere}
 

@@ -3,12 +3,12 @@ use Rattle.std.proofs.Common.{◌≡◌, ℕ, ◌+◌, ◌-◌, ◌≤◌, Bool,
 use Rattle.std.specs.Prelude.{unwrap_or, is_some, option_map, IsSome}
 use Rattle.std.specs.Ordering.{nat_cmp, is_eq, match_ordering}
 use Rattle.std.specs.declared.cmp.Ordering.{Ordering}
-use Rattle.std.proofs.lemmas.Bool.Decides.{nat_tests}
 use Rattle.std.specs.List.Sorted.{IsStrictlySortedBy}
 use Rattle.std.specs.Map.{lookup, set_value, keys_of}
 use Rattle.std.specs.BTreeMap.{is_at, insert_entry}
 use Rattle.std.proofs.lemmas.Cmp.{nat_cmp_total}
 use Rattle.std.proofs.lemmas.Map.Entries.{sum_by-set_value, sum_by-insert_entry}
+use Rattle.sctp_stream_scheduler.proofs.SchedulerLemmas.{at_itself}
 use Rattle.sctp_tx_queue.specs.Queue.{Stream, Streams, Entries, amount_of, total_of, Queued, blank_stream, blank, put_stream, push, open_stream, stream, sendable}
 use Rattle.sctp_tx_queue.specs.Produced.{advance, streams_after}
 use Rattle.sctp_tx_queue.specs.declared.send_queue.stream.ResetStep.TheVariants.{Requested}
@@ -97,9 +97,6 @@ changed_there id s t ss at = stream_put id t ss (ap is_some (sym at))
 
 pub changed_nowhere : (id : ℕ) (t : Stream) (ss : Streams) → None ≡ lookup (is_at (nat_cmp id)) ss.entries → stream id (put_stream id t ss) ≡ blank ss
 changed_nowhere id t ss at = ap (λ x. stream id x) (put_nowhere id t ss at) ∙ stream_nowhere id ss at
-
-pub at_itself : (k : ℕ) → is_at (nat_cmp k) k ≡ true
-at_itself k = grind (arith, nat_tests)
 
 -- a stream that was not there is put there at once
 pub inserted_written : (id : ℕ) (a b : Stream) (es : Entries) → None ≡ lookup (is_at (nat_cmp id)) es → set_value (is_at (nat_cmp id)) (insert_entry nat_cmp es id a) b ≡ insert_entry nat_cmp es id b
