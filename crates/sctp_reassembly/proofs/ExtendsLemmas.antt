@@ -4,9 +4,6 @@ use Rattle.sctp_serial.specs.Messages.{Message}
 use Rattle.sctp_reassembly.specs.Delivery.{Extends}
 use Rattle.sctp_reassembly.specs.ReassemblyQueue.{Reassembly, count_ready, IsCounted}
 
-pub extends_same : (old new : List Message) → new ≡ old → Extends old new
-extends_same old new same = record { more = []; made = same ∙ sym (append-nil old) }
-
 pub extends_none : (old : List Message) → Extends old old
 extends_none old = record { more = []; made = sym (append-nil old) }
 

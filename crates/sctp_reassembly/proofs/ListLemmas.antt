@@ -1,9 +1,10 @@
 -- What the calls of an interval list leave.
-use Rattle.std.proofs.Common.{◌≡◌, ℕ, zero, suc, ◌+◌, ◌<◌, ◌≤◌, ◌==◌, Bool, true, false, not, ltb, Option, Some, None, List, [], ◌∷◌, ◌++◌, length, take, drop, get_or, refl, ap, sym, subst, ◌∙◌, arith}
+use Rattle.std.proofs.Common.{◌≡◌, ℕ, zero, suc, ◌+◌, ◌<◌, ◌≤◌, ◌==◌, Bool, true, false, not, ltb, Some, None, List, [], ◌∷◌, ◌++◌, length, take, drop, get_or, refl, ap, sym, subst, ◌∙◌, arith}
 use Rattle.std.proofs.lemmas.Bool.Decides.{nat_tests}
 use Rattle.std.specs.List.{remove}
-use Rattle.std.specs.Prelude.{IfSome, IfNone, ◌&&◌}
-use Rattle.std.proofs.lemmas.Bool.{lt-ltb, le-ltb}
+use Rattle.std.specs.Prelude.{◌&&◌}
+use Rattle.std.proofs.lemmas.Bool.{lt-ltb, le-ltb, and_parts}
+use Rattle.std.proofs.Math.Seq.{take-append_seam, drop-append_seam}
 use Rattle.sctp_fragments.specs.Intervals.{StartsInTurn, without_first, first_below, IsInserted, EndsFrom, starts_upto, run_of}
 use Rattle.sctp_fragments.specs.Runs.{from_rank}
 use Rattle.sctp_fragments.proofs.PlaceLemmas.{emitted_less, emitted_not_less}
@@ -28,7 +29,7 @@ module _ {K : Type 0} (f : Entry K → Held) where
   no_entries [] = refl
   no_entries (x ∷ xs) = let c = cons (run_of f x) (some_run f x) in rw c.is (grind (arith, nat_tests))
 
-second_false : (a b c d : Bool) → (a && (b && not c)) ≡ true → (c && d) ≡ false
+pub second_false : (a b c d : Bool) → (a && (b && not c)) ≡ true → (c && d) ≡ false
 second_false true true false d h = refl
 second_false true true true d h = cc
 second_false true false c d h = cc
@@ -42,10 +43,6 @@ at_begin false b h = refl
 at_end : (a b : Bool) → a ≡ true → (not a && b) ≡ false
 at_end true b h = refl
 at_end false b h = cc
-
-and_left : (a b : Bool) → (a && b) ≡ true → a ≡ true
-and_left true b h = refl
-and_left false b h = h
 
 pub read_same : {X : Type 0} (xs : List X) (n : ℕ) (a b : X) → n < length xs → a ≡ get_or xs n a → b ≡ get_or xs n b → a ≡ b
 read_same xs n a b h p q = p ∙ sym (get_or_read xs n b h q a)
@@ -209,6 +206,10 @@ module _ {K : Type 0} (f : Entry K → Held) where
   begins_from xs i e some read first runs n l = sym (drops_none f (lists_of f xs) n runs (sym (first_below_read f xs n i e false some read first (sym (le-ltb _ _ l)))))
 
 -- the run in turn
+pub turn_complete : (n : ℕ) (r : List Held) → is_in_turn n r ≡ true → is_complete r ≡ true
+turn_complete n [] h = h
+turn_complete n (e ∷ es) h = (and_parts (is_complete (e ∷ es)) (e.number == n) h).0
+
 module _ {K : Type 0} (f : Entry K → Held) where
   NoneInTurn_append : (n : ℕ) (xs ys : List (List Held)) → NoneInTurn n xs → NoneInTurn n ys → NoneInTurn n (xs ++ ys)
   NoneInTurn_append n [] ys h k = k
@@ -230,27 +231,15 @@ module _ {K : Type 0} (f : Entry K → Held) where
   lists_drop (x ∷ xs) zero = refl
   lists_drop (x ∷ xs) (suc p) = lists_drop xs p
 
-  take_front : {X : Type 0} (front rest : List X) → take (length front) (front ++ rest) ≡ front
-  take_front [] rest = refl
-  take_front (x ∷ front) rest = ap (λ t. x ∷ t) (take_front front rest)
-
-  drop_front : {X : Type 0} (front rest : List X) → drop (length front) (front ++ rest) ≡ rest
-  drop_front [] rest = refl
-  drop_front (x ∷ front) rest = drop_front front rest
-
   pub none_in_all : (xs : List (Interval K)) (v : List Held) (n p : ℕ) → AreRuns rank_of goes_on None (lists_of f xs) → entries_of f xs ≡ v → length xs ≤ p → NoneInTurn n (lists_of f (take p xs)) → NoneInTurn n (intervals_of v)
   none_in_all xs v n p h is long none = rw (intervals_kept f xs v h is) (subst (λ (t : List (Interval K)). NoneInTurn n (lists_of f t)) (take_all p xs long) none)
 
   pub is_turn : (xs : List (Interval K)) (v run new : List Held) (n p : ℕ) → AreRuns rank_of goes_on None (lists_of f xs) → entries_of f xs ≡ v → NoneInTurn n (lists_of f (take p xs)) → StartsInTurn n (lists_of f (drop p xs)) → IsTaken v run new p → IsTurn n v run new
   is_turn xs v run new n p h is before here t =
       let lists : lists_of f xs ≡ t.front ++ run ∷ t.back = sym (intervals_kept f xs v h is) ∙ t.runs in
-      let front : lists_of f (take p xs) ≡ t.front = lists_take xs p ∙ (ap (λ (z : List (List Held)). take p z) lists ∙ (ap (λ (k : ℕ). take k (t.front ++ run ∷ t.back)) (sym t.at) ∙ take_front t.front (run ∷ t.back))) in
-      let rest : lists_of f (drop p xs) ≡ run ∷ t.back = lists_drop xs p ∙ (ap (λ (z : List (List Held)). drop p z) lists ∙ (ap (λ (k : ℕ). drop k (t.front ++ run ∷ t.back)) (sym t.at) ∙ drop_front t.front (run ∷ t.back))) in
+      let front : lists_of f (take p xs) ≡ t.front = lists_take xs p ∙ (ap (λ (z : List (List Held)). take p z) lists ∙ (ap (λ (k : ℕ). take k (t.front ++ run ∷ t.back)) (sym t.at) ∙ take-append_seam t.front (run ∷ t.back))) in
+      let rest : lists_of f (drop p xs) ≡ run ∷ t.back = lists_drop xs p ∙ (ap (λ (z : List (List Held)). drop p z) lists ∙ (ap (λ (k : ℕ). drop k (t.front ++ run ∷ t.back)) (sym t.at) ∙ drop-append_seam t.front (run ∷ t.back))) in
       record { place = p; taken = t; turn = subst (StartsInTurn n) rest here; first = subst (NoneInTurn n) front before }
-
-  turn_complete : (n : ℕ) (r : List Held) → is_in_turn n r ≡ true → is_complete r ≡ true
-  turn_complete n [] h = h
-  turn_complete n (e ∷ es) h = and_left (is_complete (e ∷ es)) (e.number == n) h
 
   pub must_be : (xs : List (Interval K)) (v : List Held) (n p : ℕ) (Q : Type 0) → AreRuns rank_of goes_on None (lists_of f xs) → entries_of f xs ≡ v → p < length xs → StartsInTurn n (lists_of f (drop p xs))
       → ((front back : List (List Held)) (r : List Held) → intervals_of v ≡ front ++ r ∷ back → length front ≡ p → is_complete r ≡ false) → Q
@@ -260,14 +249,6 @@ module _ {K : Type 0} (f : Entry K → Held) where
       let whole = turn_complete n (run_of f s.here) (subst (λ (t : List (Interval K)). StartsInTurn n (lists_of f t)) s.from here) in
       let no = not_whole (lists_of f s.before) (lists_of f s.after) (run_of f s.here) (intervals_kept f xs v h is ∙ lists) (length_lists_of f s.before ∙ s.at) in
       cc
-
-pub some_so : {X : Type 0} {P Q : X → Type 0} (r : Option X) → ((x : X) → P x → Q x) → IfSome r P → IfSome r Q
-some_so None f h = tt
-some_so (Some x) f h = f x h
-
-pub none_so : {X P Q : Type 0} (r : Option X) → (P → Q) → IfNone r P → IfNone r Q
-none_so None f h = f h
-none_so (Some x) f h = tt
 
 pub first_stops : (e f : Held) → begins f ≡ true → goes_on e f ≡ false
 first_stops e f h = at_begin (not e.fragment.is_end) f.fragment.is_beginning h

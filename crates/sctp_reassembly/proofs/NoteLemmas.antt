@@ -7,7 +7,7 @@ use Rattle.std.specs.Ordering.{nat_cmp, is_gt, match_ordering}
 use Rattle.std.specs.declared.cmp.Ordering.{Ordering}
 use Rattle.std.specs.Map.{lookup, set_value, keys_of}
 use Rattle.std.specs.BTreeMap.{is_at, insert_entry}
-use Rattle.std.proofs.lemmas.Bool.{cases_lt}
+use Rattle.std.proofs.lemmas.Bool.{cases_lt, eqb-true, or_parts}
 use Rattle.std.proofs.lemmas.Bool.Decides.{nat_tests}
 use Rattle.std.proofs.lemmas.Cmp.{nat_cmp_total, eq_by_cmp_equiv}
 use Rattle.std.proofs.lemmas.List.{drop_more, drop_all}
@@ -37,12 +37,6 @@ other_note a c note h = apart a c note.0 note.1 h
     apart : (a c b d : ℕ) → (d == c) ≡ false → is_at (note_cmp (a, c)) (b, d) ≡ false
     apart a c b d h = grind (arith, nat_tests)
 
-pub same_note : (a c : ℕ) → is_at (note_cmp (a, c)) (a, c) ≡ true
-same_note a c = grind (arith, nat_tests)
-
-equal : (a b : ℕ) → (a == b) ≡ true → a ≡ b
-equal a b h = grind (arith, nat_tests)
-
 equal_at : (a b : ℕ) → is_at (nat_cmp a) b ≡ true → b ≡ a
 equal_at a b h = grind (arith, nat_tests)
 
@@ -67,9 +61,6 @@ in_keeps rank id old new made note there = made note ∙ go (is_at (note_cmp (ra
     go true = refl
     go false = there
 
-pub in_there : (rank id : ℕ) (old new : Notes) → ((note : ℕ × ℕ) → is_noted new note ≡ cond (is_at (note_cmp (rank, id)) note) true (is_noted old note)) → is_noted new (rank, id) ≡ true
-in_there rank id old new made = made (rank, id) ∙ ap (λ b. cond b true (is_noted old (rank, id))) (same_note rank id)
-
 -- of a call that may fail, which changes nothing then
 pub either : {T E P Q R : Type 0} (r : Result T E) → OnOk r P → OnErr r Q → (P → R) → (Q → R) → R
 either (Ok x) p q f g = f p
@@ -89,7 +80,7 @@ pub renewed : (id : ℕ) (old less new : Notes) (es : Entries UnorderedStream) �
 renewed id old less new es out more made others q = go (q == id) refl
   where
     go : (b : Bool) → (q == id) ≡ b → HasNote new q (stream_at fresh_unordered q es).held
-    go true h = subst (λ i. HasNote new i (stream_at fresh_unordered i es).held) (sym (equal q id h)) made
+    go true h = subst (λ i. HasNote new i (stream_at fresh_unordered i es).held) (sym (eqb-true q id h)) made
     go false h = still old new q (stream_at fresh_unordered q es).held (λ note is there. more note (out note (ap (λ i. i == id) is ∙ h) there)) (others q h)
 
 module _ {S : Type 0} (fresh : S) (q id : ℕ) (other : (q == id) ≡ false) where
@@ -207,26 +198,14 @@ not_written {S = S} test s (e ∷ es) h = go (test e.0) h (not_written test s es
 
 named_one : (ids : List StreamId) (i n : ℕ) (d : StreamId) → i < length ids → list_any (λ x. x.0 == n) ids ≡ false → ((get_or ids i d).0 == n) ≡ false
 named_one [] i n d l h = absurd (omega arith)
-named_one (x ∷ ids) zero n d l h = left (x.0 == n) (list_any (λ x. x.0 == n) ids) h
-  where
-    left : (a b : Bool) → (a || b) ≡ false → a ≡ false
-    left true b h = h
-    left false b h = refl
-named_one (x ∷ ids) (suc i) n d l h = named_one ids i n d (omega arith) (right (x.0 == n) (list_any (λ x. x.0 == n) ids) h)
-  where
-    right : (a b : Bool) → (a || b) ≡ false → b ≡ false
-    right true b h = absurd (cc)
-    right false b h = h
+named_one (x ∷ ids) zero n d l h = (or_parts (x.0 == n) (list_any (λ x. x.0 == n) ids) h).0
+named_one (x ∷ ids) (suc i) n d l h = named_one ids i n d (omega arith) (or_parts (x.0 == n) (list_any (λ x. x.0 == n) ids) h).1
 
 pub not_named : (ids : List StreamId) (i n : ℕ) (d : StreamId) → i < length ids → is_named ids n ≡ false → (n == (get_or ids i d).0) ≡ false
-not_named ids i n d l h = turn (get_or ids i d).0 n (named_one ids i n d l (right (length ids == 0) (list_any (λ x. x.0 == n) ids) h))
+not_named ids i n d l h = turn (get_or ids i d).0 n (named_one ids i n d l (or_parts (length ids == 0) (list_any (λ x. x.0 == n) ids) h).1)
   where
     turn : (a b : ℕ) → (a == b) ≡ false → (b == a) ≡ false
     turn a b h = grind (arith, nat_tests)
-
-    right : (a b : Bool) → (a || b) ≡ false → b ≡ false
-    right true b h = absurd (cc)
-    right false b h = h
 
 pub forgets : (ids : List StreamId) (old new : Notes) (es left : Entries UnorderedStream) → ((note : ℕ × ℕ) → is_named ids note.1 ≡ false → is_noted old note ≡ true → is_noted new note ≡ true)
     → left ≡ forget ids es → AreNoted old es → AreNoted new left
@@ -263,7 +242,7 @@ notes_one i d old new records es l kept made until id =
     ]
   where
     go : (b : Bool) → ((get_or records i d).id == id) ≡ b → is_listed id (drop i records) ≡ is_listed id records → HasNote new id (stream_at fresh_unordered id es).held ⊎ (is_listed id (drop (i + 1) records) ≡ is_listed id records)
-    go true h same = inl (subst (λ k. HasNote new k (stream_at fresh_unordered k es).held) (equal (get_or records i d).id id h) made)
+    go true h same = inl (subst (λ k. HasNote new k (stream_at fresh_unordered k es).held) (eqb-true (get_or records i d).id id h) made)
     go false h same = inr (sym (ap (is_listed id) (drop_more records i d l) ∙ ap (λ b. b || is_listed id (drop (i + 1) records)) h) ∙ same)
 
 unlisted : (id : ℕ) (es : Entries UnorderedStream) → is_listed id (unordered_records es) ≡ false → stream_at fresh_unordered id es ≡ fresh_unordered

@@ -1,7 +1,8 @@
 -- What becomes ready is made of what was held.
-use Rattle.std.proofs.Common.{◌≡◌, ℕ, zero, suc, ◌&&◌, ◌⊎◌, Bool, true, false, cond, Option, Some, None, List, [], ◌∷◌, ◌++◌, length, refl, ap, sym, subst, ◌∙◌, inl, arith}
+use Rattle.std.proofs.Common.{◌≡◌, ℕ, zero, suc, ◌⊎◌, Bool, true, false, cond, Option, Some, None, List, [], ◌∷◌, ◌++◌, length, refl, ap, sym, subst, ◌∙◌, inl, arith}
 use Rattle.std.specs.Prelude.{nat_lt, max, option_map, option_to_list}
 use Rattle.std.specs.List.{find}
+use Rattle.std.proofs.lemmas.Bool.{and_parts}
 use Rattle.std.proofs.lemmas.List.Elements.{All-nil, All-cons}
 use Rattle.sctp_serial.specs.Unwrapped.{origin}
 use Rattle.sctp_serial.specs.Messages.{Message}
@@ -17,15 +18,12 @@ use Rattle.sctp_reassembly.proofs.FindLemmas.{left_unfound}
 use Rattle.sctp_reassembly.proofs.HeldLemmas.{RisesFrom, rises, parted, parted_twice, inside}
 use Rattle.sctp_reassembly.proofs.SettledRunsLemmas.{left_order, from_order}
 use Rattle.sctp_reassembly.proofs.SettledInsertLemmas.{came_in}
-
-both : (a b : Bool) → (a && b) ≡ true → (a ≡ true) × (b ≡ true)
-both true b h = (refl, h)
-both false b h = absurd (cc)
+use Rattle.sctp_reassembly.proofs.ListLemmas.{turn_complete}
 
 -- a complete interval is a message
 whole_at : (before : Option Held) (r : List Held) (rs : List (List Held)) → AreRuns rank_of goes_on before (r ∷ rs) → is_complete r ≡ true → IsWhole r
 whole_at before [] rs h k = absurd h
-whole_at before (e ∷ es) rs h k = let b = both (begins e) (ends (last_of e es)) k in (b.0, (b.1, h.1.0))
+whole_at before (e ∷ es) rs h k = let b = and_parts (begins e) (ends (last_of e es)) k in (b.0, (b.1, h.1.0))
 
 pub whole_interval : (hs r : List Held) (front back : List (List Held)) → AreInOrder hs → intervals_of hs ≡ front ++ r ∷ back → is_complete r ≡ true → IsWhole r
 whole_interval hs r front back h is k = whole_at (end_of None front) r back (AreRuns_back rank_of goes_on None front (r ∷ back) (subst (AreRuns rank_of goes_on None) is h)) k
@@ -89,10 +87,6 @@ none_ready hs = record { runs = []; made = refl; whole = All-nil IsWhole; parted
 rest_ready : (n : ℕ) (hs : List Held) → AreReadyInTurn n hs (at_rest n hs)
 rest_ready n hs = record { ready = none_ready hs; turns = tt; onward = omega arith }
 
-complete_in_turn : (n : ℕ) (r : List Held) → is_in_turn n r ≡ true → is_complete r ≡ true
-complete_in_turn n [] h = absurd (cc)
-complete_in_turn n (e ∷ es) h = (both (is_complete (e ∷ es)) _ h).0
-
 ready_within : (most n : ℕ) (hs : List Held) → AreInOrder hs → AreReadyInTurn n hs (deliver_within most n hs)
 ready_within zero n hs h = rest_ready n hs
 ready_within (suc most) n hs h = go (ready_within most (suc n) (left_by (is_in_turn n) hs) (left_order (is_in_turn n) hs h)) (find (is_in_turn n) (intervals_of hs)) refl
@@ -109,7 +103,7 @@ ready_within (suc most) n hs h = go (ready_within most (suc n) (left_by (is_in_t
           ready = record {
             runs = r ∷ more.ready.runs;
             made = ap (λ (t : List Message). message_of_run r ∷ t) more.ready.made;
-            whole = All-cons IsWhole r more.ready.runs (out.whole (complete_in_turn n r pass)) more.ready.whole;
+            whole = All-cons IsWhole r more.ready.runs (out.whole (turn_complete n r pass)) more.ready.whole;
             parted = λ m. parted_twice rank_of goes_on m (held_at m hs) (held_at m (left_by (is_in_turn n) hs)) (held_at m later.stream.held) r (flat more.ready.runs) (out.parts m) (more.ready.parted m);
           };
           turns = (pass, more.turns);

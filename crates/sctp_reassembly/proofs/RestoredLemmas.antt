@@ -1,13 +1,13 @@
 -- Streams that are read from a record.
-use Rattle.std.proofs.Common.{◌≡◌, ℕ, zero, suc, ◌+◌, ◌<◌, ◌≤◌, Bool, true, false, List, [], ◌∷◌, ◌++◌, length, take, get_or, refl, ap, sym, ◌∙◌, arith}
-use Rattle.std.specs.Prelude.{◌&&◌, nat_le, map, sum_by}
+use Rattle.std.proofs.Common.{◌≡◌, ℕ, zero, suc, ◌+◌, ◌<◌, ◌≤◌, true, List, [], ◌∷◌, ◌++◌, length, take, get_or, refl, ap, sym, ◌∙◌, arith}
+use Rattle.std.specs.Prelude.{nat_le, map, sum_by}
 use Rattle.std.specs.declared.cmp.Ordering.{Ordering}
 use Rattle.std.specs.declared.cmp.Ordering.TheVariants.{Greater}
 use Rattle.std.specs.Ordering.{nat_cmp, match_ordering}
 use Rattle.std.specs.Cmp.{nat_cmp_is}
 use Rattle.std.specs.Map.{values_of}
 use Rattle.std.specs.BTreeMap.{insert_entry}
-use Rattle.std.proofs.lemmas.Bool.Decides.{nat_tests}
+use Rattle.std.proofs.lemmas.Bool.{leb-true, and_parts}
 use Rattle.std.proofs.lemmas.List.{take_more}
 use Rattle.std.proofs.lemmas.List.Sums.{sum_by-cons}
 use Rattle.sctp_state.specs.Validity.{rises_from}
@@ -24,17 +24,6 @@ module _ {S : Type 0} where
       ap (λ (r : Ordering). match_ordering r ((k, v) ∷ e ∷ es) ((e.0, v) ∷ es) (e ∷ insert_entry nat_cmp es k v)) (sym (nat_cmp_is k e.0 Greater h.0))
       ∙ ap (λ (t : List (ℕ × S)). e ∷ t) (insert_last es k v h.1)
 
-pub first_so : (a b : Bool) → (a && b) ≡ true → a ≡ true
-first_so true b h = refl
-first_so false b h = absurd (cc)
-
-pub second_so : (a b : Bool) → (a && b) ≡ true → b ≡ true
-second_so true b h = h
-second_so false b h = absurd (cc)
-
-at_least : (n m : ℕ) → nat_le n m ≡ true → n ≤ m
-at_least n m h = grind (arith, nat_tests)
-
 module _ {R S : Type 0} (id : R → ℕ) (state : R → S) where
   abbrev entries : List R → List (ℕ × S)
   entries rs = map (λ r. (id r, state r)) rs
@@ -46,10 +35,11 @@ module _ {R S : Type 0} (id : R → ℕ) (state : R → S) where
   -- the ids before one are below it
   below_at : (least : ℕ) (rs : List R) (i : ℕ) (d : R) → rises_from least (map id rs) ≡ true → i < length rs → KeysBelow (id (get_or rs i d)) (entries (take i rs)) × (least ≤ id (get_or rs i d))
   below_at least [] i d h k = absurd (omega arith)
-  below_at least (x ∷ xs) zero d h k = (tt, at_least least (id x) (first_so (nat_le least (id x)) (rises_from (id x + 1) (map id xs)) h))
+  below_at least (x ∷ xs) zero d h k = (tt, leb-true least (id x) (and_parts (nat_le least (id x)) (rises_from (id x + 1) (map id xs)) h).0)
   below_at least (x ∷ xs) (suc i) d h k =
-      let rest = below_at (id x + 1) xs i d (second_so (nat_le least (id x)) (rises_from (id x + 1) (map id xs)) h) (omega arith) in
-      let low = at_least least (id x) (first_so (nat_le least (id x)) (rises_from (id x + 1) (map id xs)) h) in
+      let parts = and_parts (nat_le least (id x)) (rises_from (id x + 1) (map id xs)) h in
+      let rest = below_at (id x + 1) xs i d parts.1 (omega arith) in
+      let low = leb-true least (id x) parts.0 in
       let above : id x < id (get_or xs i d) = omega (arith, rest.1) in
       ((above, rest.0), omega (arith, above, low))
 

@@ -1,7 +1,7 @@
 -- A fragment that comes among fragments in order.
 use Rattle.std.proofs.Common.{◌≡◌, ℕ, Bool, true, false, cond, Option, Some, None, List, [], ◌∷◌, ◌++◌, refl, ap, sym, subst, ◌∙◌, inl, inr, append_assoc}
-use Rattle.std.specs.Prelude.{◌||◌, ◌==◌}
-use Rattle.std.proofs.lemmas.Bool.{cases_lt, cases_Bool}
+use Rattle.std.specs.Prelude.{◌==◌}
+use Rattle.std.proofs.lemmas.Bool.{cases_lt, cases_Bool, or_parts}
 use Rattle.sctp_fragments.specs.Runs.{is_next, is_held, put_in, with_item, last_of, flat, AreRuns, end_of, IsBelow, LeadsTo, joins_left}
 use Rattle.sctp_fragments.specs.Held.{Held, rank_of, goes_on, intervals_of, is_complete, NoneComplete, without_first_of, left_by}
 use Rattle.sctp_fragments.specs.Intervals.{IsInserted}
@@ -13,11 +13,7 @@ use Rattle.sctp_reassembly.proofs.SettledRunsLemmas.{left_intervals, without_one
 
 not_held_back : (n : ℕ) (xs ys : List Held) → is_held rank_of n (xs ++ ys) ≡ false → is_held rank_of n ys ≡ false
 not_held_back n [] ys h = h
-not_held_back n (x ∷ xs) ys h = not_held_back n xs ys (second (rank_of x == n) (is_held rank_of n (xs ++ ys)) h)
-  where
-    second : (a b : Bool) → (a || b) ≡ false → b ≡ false
-    second true b h = absurd (cc)
-    second false b h = h
+not_held_back n (x ∷ xs) ys h = not_held_back n xs ys (or_parts (rank_of x == n) (is_held rank_of n (xs ++ ys)) h).1
 
 -- where x comes
 record Split (before : Option Held) (x : Held) (rs : List (List Held)) : Type 0 where

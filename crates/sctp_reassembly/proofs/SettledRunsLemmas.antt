@@ -1,6 +1,6 @@
 -- What calls leave of the intervals of fragments in order.
 use Rattle.std.proofs.Common.{◌≡◌, ℕ, suc, ◌≤◌, Bool, true, false, cond, Option, Some, None, List, [], ◌∷◌, ◌++◌, length, refl, sym, subst, inl, inr, arith}
-use Rattle.std.specs.Prelude.{◌&&◌, ◌==◌, not}
+use Rattle.std.specs.Prelude.{◌==◌, not}
 use Rattle.std.specs.List.{find}
 use Rattle.std.proofs.lemmas.Bool.{lt-ltb, cases_lt, cases_Bool}
 use Rattle.sctp_fragments.specs.Runs.{is_next, from_rank, last_of, attach, flat, AreRuns}
@@ -8,6 +8,7 @@ use Rattle.sctp_fragments.specs.Held.{Held, rank_of, goes_on, intervals_of, None
 use Rattle.sctp_reassembly.specs.Settled.{AreInOrder}
 use Rattle.sctp_fragments.proofs.RunLemmas.{AreRuns_without, runs_of_flat, flat_runs_of, from_rank_runs}
 use Rattle.sctp_reassembly.proofs.FindLemmas.{without_none}
+use Rattle.sctp_reassembly.proofs.ListLemmas.{second_false}
 
 -- ---- without the first interval that passes a test
 
@@ -77,18 +78,12 @@ tail_runs e ((f ∷ fs) ∷ rs) some h =
       | inr n ↦ let j = rw n at h in (tt, j.1.1.1)
     ]
 
-not_begun : (a b c d : Bool) → (a && (b && not c)) ≡ true → (c && d) ≡ false
-not_begun true true true d h = absurd (cc)
-not_begun true true false d h = refl
-not_begun true false c d h = absurd (cc)
-not_begun false b c d h = absurd (cc)
-
 tail_none : (e : Held) (rs : List (List Held)) → NoEmpty rs → NoneComplete (attach rank_of goes_on e rs) → NoneComplete rs
 tail_none e [] some h = tt
 tail_none e ([] ∷ rs) some h = absurd some
 tail_none e ((f ∷ fs) ∷ rs) some h =
     elim (cases_Bool (is_next rank_of goes_on e f)) [
-      | inl t ↦ let j = rw t at h in (not_begun (rank_of f == suc (rank_of e)) (not e.fragment.is_end) f.fragment.is_beginning (last_of f fs).fragment.is_end t, j.1)
+      | inl t ↦ let j = rw t at h in (second_false (rank_of f == suc (rank_of e)) (not e.fragment.is_end) f.fragment.is_beginning (last_of f fs).fragment.is_end t, j.1)
       | inr n ↦ let j = rw n at h in j.1
     ]
 

@@ -1,6 +1,5 @@
 -- Forward points, entry after entry.
-use Rattle.std.proofs.Common.{◌≡◌, ℕ, suc, ◌+◌, ◌<◌, Bool, true, false, cond, Some, None, List, [], ◌∷◌, ◌++◌, length, drop, get_or, refl, ap, sym, ◌∙◌, arith, append_assoc, drop-cons}
-use Rattle.sctp_serial.specs.Messages.{Message}
+use Rattle.std.proofs.Common.{◌≡◌, ℕ, suc, ◌+◌, ◌<◌, Bool, true, false, cond, Some, None, List, [], ◌∷◌, length, drop, get_or, refl, ap, sym, ◌∙◌, arith, drop-cons}
 use Rattle.sctp_chunk.specs.declared.forward_tsn.SkippedStream.{SkippedStream}
 use Rattle.sctp_fragments.specs.Held.{Held}
 use Rattle.sctp_reassembly.specs.Delivery.{OrderedStream, UnorderedStream, fresh_ordered, fresh_unordered, ordered_arrival, unordered_arrival, ordered_forward, unordered_forward}
@@ -9,10 +8,6 @@ use Rattle.sctp_chunk.specs.Chunk.{FragmentTree}
 use Rattle.sctp_reassembly.specs.Streams.{Entries, Streams, Outcome, add, add_in_order, held_as, place_of, unchanged, number_if_any, is_far, stream_at, change_stream, with_ordered, with_unordered, add_ordered, add_unordered, skip_ordered, skip_unordered, skip, skip_each}
 
 -- what is numbered
-far : (b : Bool) (n : ℕ) → cond b None (Some n) ≡ None → b ≡ true
-far true n h = refl
-far false n h = absurd (cc)
-
 near : (b : Bool) (n m : ℕ) → cond b None (Some n) ≡ Some m → b ≡ false
 near true n m h = absurd (cc)
 near false n m h = refl
@@ -21,29 +16,17 @@ same : (b : Bool) (n m : ℕ) → cond b None (Some n) ≡ Some m → n ≡ m
 same true n m h = absurd (cc)
 same false n m h = cc
 
-pub far_from : (n : ℕ) → number_if_any n ≡ None → is_far n ≡ true
-far_from n h = far (is_far n) n h
-
 pub near_from : (n m : ℕ) → number_if_any n ≡ Some m → is_far n ≡ false
 near_from n m h = near (is_far n) n m h
 
 pub same_from : (n m : ℕ) → number_if_any n ≡ Some m → n ≡ m
 same_from n m h = same (is_far n) n m h
 
-pub add_far : (id : ℕ) (h : Held) (ss : Streams) → number_if_any h.number ≡ None → add_ordered id h ss ≡ unchanged ss
-add_far id h ss none = ap (λ (b : Bool). cond b (unchanged ss) (with_ordered id (ordered_arrival h (stream_at fresh_ordered id ss.ordered)) ss)) (far_from h.number none)
-
 pub add_near : (id m : ℕ) (h : Held) (ss : Streams) → number_if_any h.number ≡ Some m → add_ordered id h ss ≡ with_ordered id (ordered_arrival h (stream_at fresh_ordered id ss.ordered)) ss
 add_near id m h ss some = ap (λ (b : Bool). cond b (unchanged ss) (with_ordered id (ordered_arrival h (stream_at fresh_ordered id ss.ordered)) ss)) (near_from h.number m some)
 
-pub add_far_unordered : (id : ℕ) (h : Held) (ss : Streams) → number_if_any h.number ≡ None → add_unordered id h ss ≡ unchanged ss
-add_far_unordered id h ss none = ap (λ (b : Bool). cond b (unchanged ss) (with_unordered id (unordered_arrival h (stream_at fresh_unordered id ss.unordered)) ss)) (far_from h.number none)
-
 pub add_near_unordered : (id m : ℕ) (h : Held) (ss : Streams) → number_if_any h.number ≡ Some m → add_unordered id h ss ≡ with_unordered id (unordered_arrival h (stream_at fresh_unordered id ss.unordered)) ss
 add_near_unordered id m h ss some = ap (λ (b : Bool). cond b (unchanged ss) (with_unordered id (unordered_arrival h (stream_at fresh_unordered id ss.unordered)) ss)) (near_from h.number m some)
-
-pub skip_far : (id n : ℕ) (ss : Streams) → number_if_any n ≡ None → skip_ordered id n ss ≡ unchanged ss
-skip_far id n ss none = ap (λ (b : Bool). cond b (unchanged ss) (with_ordered id (ordered_forward n (stream_at fresh_ordered id ss.ordered)) ss)) (far_from n none)
 
 pub skip_near : (id n m : ℕ) (ss : Streams) → number_if_any n ≡ Some m → skip_ordered id n ss ≡ with_ordered id (ordered_forward m (stream_at fresh_ordered id ss.ordered)) ss
 skip_near id n m ss some =
@@ -58,13 +41,6 @@ module _ (e : SkippedStream) (es : List SkippedStream) (i : ℕ) (h : i < length
   pub skipped_streams : (ss new : Streams) (whole : Streams) → new ≡ (skip e ss).streams → (skip_each (drop i es) ss).streams ≡ whole → (skip_each (drop (i + 1) es) new).streams ≡ whole
   skipped_streams ss new whole made before =
       ap (λ (t : Streams). (skip_each (drop (i + 1) es) t).streams) made ∙ (ap (λ (t : List SkippedStream). (skip_each t ss).streams) (sym rest_is) ∙ before)
-
-  pub skipped_messages : (ss new : Streams) (ready later whole : List Message) → new ≡ (skip e ss).streams → later ≡ ready ++ (skip e ss).messages → ready ++ (skip_each (drop i es) ss).messages ≡ whole → later ++ (skip_each (drop (i + 1) es) new).messages ≡ whole
-  skipped_messages ss new ready later whole made told before =
-      ap (λ (t : Streams). later ++ (skip_each (drop (i + 1) es) t).messages) made
-      ∙ (ap (λ (t : List Message). t ++ (skip_each (drop (i + 1) es) (skip e ss).streams).messages) told
-      ∙ (append_assoc ready (skip e ss).messages (skip_each (drop (i + 1) es) (skip e ss).streams).messages
-      ∙ (ap (λ (t : List SkippedStream). ready ++ (skip_each t ss).messages) (sym rest_is) ∙ before)))
 
 -- ---- the two forms
 

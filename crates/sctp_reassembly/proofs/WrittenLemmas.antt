@@ -4,7 +4,7 @@ use Rattle.std.specs.Prelude.{◌&&◌, ◌||◌, nat_le}
 use Rattle.std.specs.List.Sorted.{IsStrictlySortedBy}
 use Rattle.std.specs.Map.{keys_of}
 use Rattle.std.specs.Ordering.{nat_cmp}
-use Rattle.std.proofs.lemmas.Bool.Decides.{nat_tests}
+use Rattle.std.proofs.lemmas.Bool.{le-leb}
 use Rattle.std.proofs.lemmas.Map.Keys.{sorted_tail, IsStrictlyIncreasing-from_sorted}
 use Rattle.sctp_serial.specs.Unwrapped.{halves, wire}
 use Rattle.sctp_state.specs.declared.api.handover.HandoverOrderedStream.{HandoverOrderedStream}
@@ -14,19 +14,16 @@ use Rattle.sctp_reassembly.specs.Delivery.{OrderedStream, UnorderedStream}
 use Rattle.sctp_reassembly.specs.Streams.{Entries}
 use Rattle.sctp_reassembly.specs.ReassemblyHandover.{ordered_records, unordered_records}
 
-at_most : (n m : ℕ) → n ≤ m → nat_le n m ≡ true
-at_most n m h = grind (arith, nat_tests)
-
 abbrev StartsFrom : ℕ → List ℕ → Type 0
 StartsFrom least [] = Unit {0}
 StartsFrom least (k ∷ ks) = least ≤ k
 
 rises_keys : (least : ℕ) (ks : List ℕ) → IsStrictlySortedBy nat_cmp ks → StartsFrom least ks → rises_from least ks ≡ true
 rises_keys least [] h from = refl
-rises_keys least (k ∷ []) h from = rw (at_most least k from) refl
+rises_keys least (k ∷ []) h from = rw (le-leb least k from) refl
 rises_keys least (k ∷ (j ∷ ks)) h from =
     let less : k < j = IsStrictlyIncreasing-from_sorted (k ∷ (j ∷ ks)) h 0 (omega arith) in
-    rw (at_most least k from) (rises_keys (k + 1) (j ∷ ks) (sorted_tail nat_cmp k (j ∷ ks) h) (omega (arith, less)))
+    rw (le-leb least k from) (rises_keys (k + 1) (j ∷ ks) (sorted_tail nat_cmp k (j ∷ ks) h) (omega (arith, less)))
 
 from_zero : (ks : List ℕ) → StartsFrom 0 ks
 from_zero [] = tt
@@ -47,7 +44,7 @@ pub rises_unordered : (es : Entries UnorderedStream) → IsStrictlySortedBy nat_
 rises_unordered es h = ap (rises_from 0) (ids_unordered es) ∙ rises_keys 0 (keys_of es) h (from_zero (keys_of es))
 
 small_number : (n : ℕ) → nat_le (wire halves 0 n) 65535 ≡ true
-small_number n = at_most (wire halves 0 n) 65535 (omega arith)
+small_number n = le-leb (wire halves 0 n) 65535 (omega arith)
 
 small_numbers : (es : Entries OrderedStream) → has_small_numbers (ordered_records false es) ≡ true
 small_numbers [] = refl

@@ -123,6 +123,7 @@ impl<K: ReassemblyKey> UnorderedStreams<K> {
     pub fn rises(&self)
         ensures { IsStrictlySortedBy nat_cmp (keys_of self.now) }
     {
+        // what a map keeps is known once it is read
         let _count = self.streams.len();
     }
 

@@ -3,6 +3,7 @@ use Rattle.std.proofs.lemmas.List.{map-append}
 use Rattle.sctp_fragments.proofs.PlaceLemmas.{lists_set_same, lists_joined}
 use Rattle.std.proofs.lemmas.Result.{err_from_is_err_and}
 use Rattle.sctp_fragments.specs.Intervals.{held_of}
+use Rattle.sctp_reassembly.proofs.JoinLemmas.{room_in_first}
 use Rattle.sctp_reassembly.proofs.interval_list.join_to_first.Goals as goal
 
 pub returns-in_err-reserve-clause-err : goal.returns-in_err-reserve-clause-err
@@ -14,3 +15,8 @@ pub returns-clause-ok : goal.returns-clause-ok
 returns-clause-ok g c ps qs i j is at =
     lists_joined (held_of g.K.ReassemblyKey.number g.K.ReassemblyKey.index) c.args.intervals.now.items c.remove.new.self.items ps qs i j c.index_mut.result.now _ c.in-Some.next c.index_mut-2.result.now _ _ c.args.place (c.args.place + 1) is at refl
     c.index_mut.ensures.value (ap (map (held_of g.K.ReassemblyKey.number g.K.ReassemblyKey.index)) c.reserve.ensures.items) c.in-Some.ensures.value c.in-Some.ensures.items c.index_mut-2.ensures.value (ap (map (held_of g.K.ReassemblyKey.number g.K.ReassemblyKey.index)) c.append_to.ensures ∙ map-append (held_of g.K.ReassemblyKey.number g.K.ReassemblyKey.index) _ _)
+
+pub append_to-requires : goal.append_to-requires
+append_to-requires g c =
+    room_in_first c.args.intervals.now.items c.remove.new.self.items _ c.index_mut-2.result.now c.index.result.now c.in-Some.next c.args.place (c.args.place + 1) c.len-more.result refl (omega arith) c.len-more.ensures c.in_ok-reserve.ensures.ok c.index_mut-2.ensures.value
+    c.index.ensures c.in-Some.ensures.value c.in-Some.ensures.items

@@ -1,10 +1,12 @@
-use Rattle.std.proofs.Common.{◌++◌, ◌∷◌, [], ap, sym, subst, ◌∙◌}
+use Rattle.std.proofs.Common.{◌++◌, ◌∷◌, [], ◌+◌, ◌≤◌, length, ap, sym, subst, ◌∙◌, arith}
 use Rattle.std.proofs.lemmas.Result.{on_ok_weaker}
 use Rattle.sctp_fragments.specs.Held.{intervals_of, is_complete, left_by, NoneComplete}
+use Rattle.sctp_serial.specs.Messages.{message_of}
 use Rattle.sctp_fragments.specs.Intervals.{held_at, held_of, run_of}
-use Rattle.sctp_reassembly.specs.Delivery.{complete_messages}
+use Rattle.sctp_reassembly.specs.Delivery.{complete_messages, ready_bytes}
 use Rattle.sctp_reassembly.proofs.FindLemmas.{left_none}
-use Rattle.sctp_reassembly.proofs.DeliverLemmas.{added_none, nothing_more, none_completed, none_incomplete, none_taken, left_taken, found_taken}
+use Rattle.sctp_reassembly.proofs.DeliverLemmas.{added_none, nothing_more, none_completed, none_incomplete, none_taken, left_taken, found_taken, ready_pushed}
+use Rattle.sctp_reassembly.proofs.NoteLemmas.{either}
 use Rattle.sctp_reassembly.proofs.unordered_stream.take_in.Goals as goal
 
 pub returns-in_default-clause-held : goal.returns-in_default-clause-held
@@ -56,3 +58,15 @@ returns-clause-ready g c =
     let placed = rw c.in-Some.is at c.in_ok-added.ensures.place in
     let one = found_taken c.args.list.now c.add.new.self (held_at (g.K.ReassemblyKey.number c.args.key) (g.K.ReassemblyKey.index c.args.key) c.args.fragment) c.in-Some.place c.requires.settled placed (run_of (held_of g.K.ReassemblyKey.number g.K.ReassemblyKey.index) c.in-Some-pop_if_complete.interval) c.pop_if_complete.new.self c.in-Some-pop_if_complete.ensures.taken in
     on_ok_weaker c.push.result (λ e. e ∙ (ap (λ m. c.args.ready.now ++ m ∷ []) c.in_ok-message.ensures.value ∙ ap (λ ms. c.args.ready.now ++ ms) (sym one ∙ ap complete_messages c.in_ok-added.ensures.value))) c.push.ensures.ok
+
+pub returns-in_err-message-clause-bytes : goal.returns-in_err-message-clause-bytes
+returns-in_err-message-clause-bytes g c = omega (arith, c.in_ok-added.ensures.bytes, c.in-Some-pop_if_complete.ensures.bytes)
+
+pub push-requires : goal.push-requires
+push-requires g c = omega (arith, c.requires.room, c.in_ok-added.ensures.bytes, c.in-Some-pop_if_complete.ensures.bytes, c.in_ok-message.ensures.bytes)
+
+pub returns-clause-bytes : goal.returns-clause-bytes
+returns-clause-bytes g c =
+    let ready : ready_bytes c.push.new.self ≤ ready_bytes c.args.ready.now + length c.in_ok-message.message.payload.items =
+    either c.push.result c.push.ensures.ok c.push.ensures.err (λ e. omega (arith, ready_pushed c.args.ready.now c.push.new.self (message_of c.in_ok-message.message) e)) (λ e. omega (arith, ap ready_bytes e)) in
+    omega (arith, ready, c.in_ok-added.ensures.bytes, c.in-Some-pop_if_complete.ensures.bytes, c.in_ok-message.ensures.bytes)
