@@ -2,6 +2,7 @@
 use Rattle.std.proofs.Common.{◌≡◌, ℕ, suc, ◌+◌, ◌*◌, ◌≤◌, ◌<◌, Bool, true, false, cond, Option, Some, None, List, [], ◌∷◌, length, refl, ap, sym, subst, ◌∙◌, arith}
 use Rattle.std.specs.Prelude.{◌&&◌, ◌||◌, ◌==◌, not, nat_lt, nat_le, if◌then◌else◌}
 use Rattle.std.specs.List.{list_all, list_any}
+use Rattle.std.proofs.lemmas.Bool.{eqb-true, leb-true, lt-ltb, ltb-false, ltb-true, or_from}
 use Rattle.std.proofs.lemmas.Bool.Decides.{nat_tests}
 use Rattle.sctp_tx_outstanding.specs.declared.skips.SkipEntry.{SkipEntry}
 use Rattle.sctp_tx_outstanding.specs.Item.{Item, is_abandoned}
@@ -30,20 +31,8 @@ alike_place a b true false = grind (arith, nat_tests)
 alike_place a b false true = grind (arith, nat_tests)
 alike_place a b false false = grind (arith, nat_tests)
 
-is_less : (a b : ℕ) → nat_lt a b ≡ true → a < b
-is_less a b h = grind (arith, nat_tests)
-
-is_not_less : (a b : ℕ) → nat_lt a b ≡ false → b ≤ a
-is_not_less a b h = grind (arith, nat_tests)
-
-is_equal : (a b : ℕ) → (a == b) ≡ true → a ≡ b
-is_equal a b h = grind (arith, nat_tests)
-
 is_other : (a b : ℕ) → a < b → (a == b) ≡ false
 is_other a b h = grind (arith, nat_tests)
-
-is_lower : (a b : ℕ) → a < b → nat_lt a b ≡ true
-is_lower a b h = grind (arith, nat_tests)
 
 is_different : (a b : ℕ) → b < a → (a == b) ≡ false
 is_different a b h = grind (arith, nat_tests)
@@ -65,10 +54,10 @@ Rising lo (e ∷ es) = (lo ≤ rank e) × Rising (suc (rank e)) es
 
 module _ (e d : SkipEntry) (ds : List SkipEntry) (lo : ℕ) (least : lo ≤ rank e) (h : Rising lo (d ∷ ds)) (ih : suc (rank d) ≤ rank e → Rising (suc (rank d)) (name_stream e ds)) where
   put_rises : (before same : Bool) → is_before d e ≡ before → is_alike e d ≡ same → Rising lo (cond before (d ∷ name_stream e ds) (cond same (e ∷ ds) (e ∷ d ∷ ds)))
-  put_rises true same b s = (h.0, ih (is_less (rank d) (rank e) (sym (before_is d e) ∙ b)))
-  put_rises false true b s = (least, subst (λ k. Rising (suc k) ds) (sym (is_equal (rank e) (rank d) (sym (alike_is e d) ∙ s))) h.1)
+  put_rises true same b s = (h.0, ih (ltb-true (rank d) (rank e) (sym (before_is d e) ∙ b)))
+  put_rises false true b s = (least, subst (λ k. Rising (suc k) ds) (sym (eqb-true (rank e) (rank d) (sym (alike_is e d) ∙ s))) h.1)
   put_rises false false b s =
-      let up : rank e ≤ rank d = is_not_less (rank d) (rank e) (sym (before_is d e) ∙ b) in
+      let up : rank e ≤ rank d = ltb-false (rank d) (rank e) (sym (before_is d e) ∙ b) in
       let less : rank e < rank d = is_below (rank e) (rank d) (sym (alike_is e d) ∙ s) up in
       (least, (less, h.1))
 
@@ -82,13 +71,10 @@ with_rises (Some e) ds h = named_rises e 0 ds (omega arith) h
 
 -- ---- one more entry makes the list no longer than it was counted
 
-neither : (a b : Bool) → a ≡ false → b ≡ false → (a || b) ≡ false
-neither a b ea eb = ap (λ x. x || b) ea ∙ eb
-
 none_alike : (e : SkipEntry) (lo : ℕ) (ds : List SkipEntry) → rank e < lo → Rising lo ds → list_any (is_alike e) ds ≡ false
 none_alike e lo [] less h = refl
 none_alike e lo (d ∷ ds) less h =
-    neither (is_alike e d) (list_any (is_alike e) ds) (alike_is e d ∙ is_other (rank e) (rank d) (omega (arith, less, h.0)))
+    or_from (is_alike e d) (list_any (is_alike e) ds) (alike_is e d ∙ is_other (rank e) (rank d) (omega (arith, less, h.0)))
     (none_alike e (suc (rank d)) ds (omega (arith, less, h.0)) h.1)
 
 -- behind an entry that comes before it, what is alike is counted alone
@@ -101,13 +87,13 @@ counts_one b h = ap (λ x. when (not x) 1) h
 module _ (e d : SkipEntry) (ds : List SkipEntry) (lo : ℕ) (h : Rising lo (d ∷ ds)) (ih : length (name_stream e ds) ≤ count_with (Some e) ds) where
   put_length : (before same : Bool) → is_before d e ≡ before → is_alike e d ≡ same → length (cond before (d ∷ name_stream e ds) (cond same (e ∷ ds) (e ∷ d ∷ ds))) ≤ count_with (Some e) (d ∷ ds)
   put_length true same b s =
-      let less : rank d < rank e = is_less (rank d) (rank e) (sym (before_is d e) ∙ b) in
+      let less : rank d < rank e = ltb-true (rank d) (rank e) (sym (before_is d e) ∙ b) in
       let off : is_alike e d ≡ false = alike_is e d ∙ is_different (rank e) (rank d) less in
       let more : when (not (is_alike e d || list_any (is_alike e) ds)) 1 ≡ when (not (list_any (is_alike e) ds)) 1 = counts_on (is_alike e d) (list_any (is_alike e) ds) off in
       omega (arith, ih, more)
   put_length false true b s = omega arith
   put_length false false b s =
-      let up : rank e ≤ rank d = is_not_less (rank d) (rank e) (sym (before_is d e) ∙ b) in
+      let up : rank e ≤ rank d = ltb-false (rank d) (rank e) (sym (before_is d e) ∙ b) in
       let less : rank e < rank d = is_below (rank e) (rank d) (sym (alike_is e d) ∙ s) up in
       let none : list_any (is_alike e) (d ∷ ds) ≡ false = none_alike e (rank d) (d ∷ ds) less (omega arith, h.1) in
       let one : when (not (list_any (is_alike e) (d ∷ ds))) 1 ≡ 1 = counts_one (list_any (is_alike e) (d ∷ ds)) none in
@@ -135,14 +121,11 @@ second true true c h = h
 second true false c h = absurd (cc)
 second false b c h = absurd (cc)
 
-is_most : (a b : ℕ) → nat_le a b ≡ true → a ≤ b
-is_most a b h = grind (arith, nat_tests)
-
 module _ (most : ℕ) (s : Items) where
   has_room : (f : ForwardPoint) (i : Item) → Rising 0 f.entries → passes most s f i ≡ true → room s.is_interleaved (pass_item s f i).entries ≤ most
   has_room f i h e =
       let o : Option SkipEntry = entry_of s.is_interleaved i in
-      let fits : size_with s.is_interleaved o f.entries ≤ most = is_most _ most (second (is_abandoned i) (not (stops f.count s)) (nat_le (size_with s.is_interleaved o f.entries) most) e) in
+      let fits : size_with s.is_interleaved o f.entries ≤ most = leb-true _ most (second (is_abandoned i) (not (stops f.count s)) (nat_le (size_with s.is_interleaved o f.entries) most) e) in
       let less = with_room s.is_interleaved o f.entries h in
       omega (arith, fits, less)
 
@@ -177,7 +160,7 @@ module _ (most : ℕ) (s : Items) where
 all_before : (e : SkipEntry) (lo : ℕ) (ds : List SkipEntry) → rank e < lo → Rising lo ds → list_all (is_before e) ds ≡ true
 all_before e lo [] less h = refl
 all_before e lo (d ∷ ds) less h =
-    ap (λ b. b && list_all (is_before e) ds) (before_is e d ∙ is_lower (rank e) (rank d) (omega (arith, less, h.0)))
+    ap (λ b. b && list_all (is_before e) ds) (before_is e d ∙ lt-ltb (rank e) (rank d) (omega (arith, less, h.0)))
     ∙ all_before e (suc (rank d)) ds (omega (arith, less, h.0)) h.1
 
 ascend : (lo : ℕ) (ds : List SkipEntry) → Rising lo ds → Ascend ds

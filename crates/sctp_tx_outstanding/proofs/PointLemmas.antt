@@ -2,7 +2,7 @@
 use Rattle.std.proofs.Common.{◌≡◌, inl, inr, ℕ, suc, ◌+◌, ◌≤◌, ◌<◌, Bool, true, false, cond, Option, Some, None, List, [], ◌∷◌, length, take, refl, ap, sym, subst, ◌∙◌, arith}
 use Rattle.std.specs.Prelude.{◌&&◌, ◌||◌, ◌==◌, not, nat_lt, nat_le, slice_get, if◌then◌else◌}
 use Rattle.std.specs.List.{list_all}
-use Rattle.std.proofs.lemmas.Bool.{cases_lt}
+use Rattle.std.proofs.lemmas.Bool.{cases_lt, and_from, and_parts, not-true}
 use Rattle.std.proofs.lemmas.Bool.Decides.{nat_tests}
 use Rattle.sctp_tx_outstanding.specs.declared.skips.SkipEntry.{SkipEntry}
 use Rattle.sctp_tx_outstanding.specs.Item.{Item, is_abandoned}
@@ -69,17 +69,6 @@ with_is e (Some d) cs = named_is e d cs
 
 -- ---- the walk
 
-both : (a b : Bool) → a && b ≡ true → (a ≡ true) × (b ≡ true)
-both true b h = (refl, h)
-both false b h = absurd (cc)
-
-is_not : (b : Bool) → not b ≡ true → b ≡ false
-is_not true h = absurd (cc)
-is_not false h = refl
-
-joined : (a b : Bool) → a ≡ true → b ≡ true → a && b ≡ true
-joined a b ea eb = ap (λ x. x && b) ea ∙ eb
-
 module _ (most : ℕ) (s : Items) where
   -- n more items were passed
   record Walked (f : ForwardPoint) (is : List Item) (n : ℕ) (after : ForwardPoint) : Type 0 where
@@ -100,14 +89,14 @@ module _ (most : ℕ) (s : Items) where
 
   goes_on_lem : (f : ForwardPoint) (i : Item) (is : List Item) (n : ℕ) (after : ForwardPoint) → passes most s f i ≡ true → Walked (pass_item s f i) is n after → Walked f (i ∷ is) (suc n) after
   goes_on_lem f i is n after e h =
-      let a = both (is_abandoned i) (not (stops f.count s) && nat_le (size_with s.is_interleaved (entry_of s.is_interleaved i) f.entries) most) e in
-      let b = both (not (stops f.count s)) (nat_le (size_with s.is_interleaved (entry_of s.is_interleaved i) f.entries) most) a.1 in
+      let a = and_parts (is_abandoned i) (not (stops f.count s) && nat_le (size_with s.is_interleaved (entry_of s.is_interleaved i) f.entries) most) e in
+      let b = and_parts (not (stops f.count s)) (nat_le (size_with s.is_interleaved (entry_of s.is_interleaved i) f.entries) most) a.1 in
       record {
         count = omega (arith, h.count);
         within = omega (arith, h.within);
-        given_up = joined (is_abandoned i) (list_all is_abandoned (take n is)) a.0 h.given_up;
+        given_up = and_from (is_abandoned i) (list_all is_abandoned (take n is)) a.0 h.given_up;
         names = λ x. h.names x ∙ ap (λ (o : Option ℕ). last_number s.is_interleaved x o (take n is)) (with_is x (entry_of s.is_interleaved i) f.entries);
-        unbroken = λ k le lt. elim (cases_lt f.count k) [ inl p ↦ h.unbroken k p (omega (arith, lt)) | inr p ↦ here k (omega (arith, le, p)) (is_not (stops f.count s) b.0) ];
+        unbroken = λ k le lt. elim (cases_lt f.count k) [ inl p ↦ h.unbroken k p (omega (arith, lt)) | inr p ↦ here k (omega (arith, le, p)) (not-true (stops f.count s) b.0) ];
       }
     where
       here : (k : ℕ) → f.count ≡ k → stops f.count s ≡ false → stops k s ≡ false
@@ -132,7 +121,7 @@ small_first false None most h = grind (arith, nat_tests)
 small_first false (Some e) most h = grind (arith, nat_tests)
 
 first_passes : (most : ℕ) (s : Items) (i : Item) → is_abandoned i ≡ true → 16 ≤ most → passes most s nothing i ≡ true
-first_passes most s i gone room = joined (is_abandoned i) _ gone (small_first s.is_interleaved (entry_of s.is_interleaved i) most room)
+first_passes most s i gone room = and_from (is_abandoned i) _ gone (small_first s.is_interleaved (entry_of s.is_interleaved i) most room)
 
 at_least_lem : (most : ℕ) (s : Items) (f : ForwardPoint) (is : List Item) → f.count ≤ (walk most s f is).count
 at_least_lem most s f is = let h = walked most s f is in omega (arith, h.1.count)
@@ -155,7 +144,7 @@ points_are_sound most s =
       ascends = point_ascends most s s.kept;
       fits = point_fits most s s.kept;
       unbroken = λ k lt. h.1.unbroken k (omega arith) (omega (arith, lt, n));
-      ahead = λ due room. goes_ahead most s s.kept (both s.is_partial (is_first_given_up s.kept) due).1 room;
+      ahead = λ due room. goes_ahead most s s.kept (and_parts s.is_partial (is_first_given_up s.kept) due).1 room;
     }
 
 -- ---- where it ends

@@ -188,10 +188,6 @@ module _ (bs : List GapAckBlock) where
   rest_laid offset number [] h = tt
   rest_laid offset number (i ∷ is) h = (rests_laid (is_covered bs offset) (is_of number i) i h.0, rest_laid (suc offset) number is h.1)
 
-  pub rest_left : (offset : ℕ) (is : List Item) → Rest bs offset is → Rest bs (offset + 1) (drop 1 is)
-  rest_left offset [] h = tt
-  rest_left offset (i ∷ is) h = subst (λ n. Rest bs n is) (omega arith) h.1
-
   pub rest_settle : (offset : ℕ) (is : List Item) → Rest bs offset (settle bs offset is)
   rest_settle offset [] = tt
   rest_settle offset (i ∷ is) = (settled_again (is_covered bs offset) i, rest_settle (suc offset) is)
@@ -342,9 +338,6 @@ pub gap_none : (bs cs : List GapAckBlock) (n off lowest : ℕ) (b : GapAckBlock)
 gap_none bs cs n off lowest b h e is_n =
     subst (λ (xs : List GapAckBlock). NoneOf n off xs) (sym e)
     (subst (λ k. NoneOf k off (b ∷ cs)) (sym is_n) (none_of lowest off b cs (subst (λ (xs : List GapAckBlock). AreRuns lowest xs) e h)))
-
-pub agree_gaps : (olds bs : List GapAckBlock) (off n x y : ℕ) → NoneOf x off olds → NoneOf y 1 bs → n ≤ x → n ≤ y → Agree n off olds bs
-agree_gaps olds bs off n x y a b nx ny = λ p less. a p (omega (arith, less, nx)) ∙ sym (b p (omega (arith, less, ny)))
 
 agree_heads : (off n : ℕ) (a b : GapAckBlock) (olds bs : List GapAckBlock) (la lb : ℕ) → AreRuns la (a ∷ olds) → AreRuns lb (b ∷ bs) → a.start + 1 ≡ b.start + off → n ≤ a.end + 1 - off → n ≤ b.end
     → Agree n off (a ∷ olds) (b ∷ bs)

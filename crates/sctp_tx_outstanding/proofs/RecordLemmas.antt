@@ -82,9 +82,6 @@ record Alike (i j : Item) : Type 0 where
   number : j.number ≡ i.number
   given_up : is_abandoned j ≡ is_abandoned i
 
-alike_itself : (i : Item) → Alike i i
-alike_itself i = record { number = refl; given_up = refl }
-
 alike_emitted : (gs : List GivenUp) (i j : Item) → Alike i j → IsRecorded gs i → IsRecorded gs j
 alike_emitted gs i j h t = h.given_up ∙ t ∙ ap (λ n. is_recorded n gs) (sym h.number)
 
@@ -173,10 +170,6 @@ module _ (gs : List GivenUp) (g : GivenUp) where
   laid : (i : Item) (b : Bool) → is_of g.number i ≡ b → IsRecorded gs i → IsRecorded more (cond b (abandon i) i)
   laid i true e t = sym (recorded_pushed i.number gs g ∙ same_number i.number g.number true (is_recorded i.number gs) e)
   laid i false e t = t ∙ sym (recorded_pushed i.number gs g ∙ same_number i.number g.number false (is_recorded i.number gs) e)
-
-  all_laid : (is : List Item) → All gs is → All more (map (lay_down g.number) is)
-  all_laid [] a = tt
-  all_laid (i ∷ is) a = (laid i (is_of g.number i) refl a.0, all_laid is a.1)
 
   -- the end that the message gets
   end_laid : (f : FragmentTree) (b : Bool) → IsRecorded more (cond b (abandon (placeholder g.number f)) (placeholder g.number f))

@@ -2,6 +2,7 @@
 use Rattle.std.proofs.Common.{◌≡◌, ℕ, zero, suc, ◌+◌, ◌-◌, ◌≤◌, Bool, true, false, min, Option, Some, None, List, [], ◌∷◌, length, refl, ap, sym, subst, ◌∙◌, arith}
 use Rattle.std.specs.Prelude.{◌&&◌, ◌==◌, nat_lt, nat_le, slice_get, if◌then◌else◌}
 use Rattle.std.specs.List.{sum_by}
+use Rattle.std.proofs.lemmas.Bool.{and_parts, leb-true}
 use Rattle.std.proofs.lemmas.Bool.Decides.{nat_tests}
 use Rattle.std.proofs.lemmas.List.Sums.{sum_by-cons, sum_by_push}
 use Rattle.sctp_tx_outstanding.specs.declared.item.ItemState.{ItemState}
@@ -37,13 +38,6 @@ waiting_lands QueuedFast n e = (refl, refl)
 waiting_lands Acked n e = absurd (cc)
 waiting_lands GivenUp n e = absurd (cc)
 
-both : (a b : Bool) → a && b ≡ true → (a ≡ true) × (b ≡ true)
-both true b h = (refl, h)
-both false b h = absurd (cc)
-
-less : (a b : ℕ) → nat_le a b ≡ true → a ≤ b
-less a b e = grind (arith, nat_tests)
-
 allowed_room : (b : Bool) (room window : ℕ) → (if b then room else min room window) ≤ room
 allowed_room true room window = omega arith
 allowed_room false room window = omega arith
@@ -65,8 +59,8 @@ step_room k x = at-item (slice_get x.outstanding.items.kept k) refl where
   turn-room : (i : Item) → slice_get x.outstanding.items.kept k ≡ Some i → (b : Bool) → should_be_retransmitted i && nat_le (size_in x i) (allowance x) ≡ b
       → flying (take_item (if b then Send else Leave) k x) + (take_item (if b then Send else Leave) k x).room ≤ flying x + x.room
   turn-room i there true e =
-      let t = both (should_be_retransmitted i) (nat_le (size_in x i) (allowance x)) e in
-      let fits : size_in x i ≤ x.room = omega (arith, less (size_in x i) (allowance x) t.1, allowed_room (flight_items x.outstanding.items == 0) x.room x.window) in
+      let t = and_parts (should_be_retransmitted i) (nat_le (size_in x i) (allowance x)) e in
+      let fits : size_in x i ≤ x.room = omega (arith, leb-true (size_in x i) (allowance x) t.1, allowed_room (flight_items x.outstanding.items == 0) x.room x.window) in
       subst (λ (o : Option Item). flying (again_of k o x) + (again_of k o x).room ≤ flying x + x.room) (sym there) (sent_again_lem k x i there t.0 fits)
   turn-room i there false e = omega arith
 
@@ -98,12 +92,12 @@ taken_load k x i there PassOver fits = omega arith
 taken_load k x i there Leave fits = omega arith
 
 fast_sends : (b c : Bool) (size room : ℕ) → nat_le size room ≡ c → (if b then (if c then Send else PassOver) else Leave) ≡ Send → size ≤ room
-fast_sends true true size room e h = less size room e
+fast_sends true true size room e h = leb-true size room e
 fast_sends true false size room e h = absurd (cc)
 fast_sends false c size room e h = absurd (cc)
 
 slow_sends : (b : Bool) (size allowed room : ℕ) → (b && nat_le size allowed) ≡ true → allowed ≤ room → size ≤ room
-slow_sends b size allowed room e h = let t = both b (nat_le size allowed) e in omega (arith, less size allowed t.1, h)
+slow_sends b size allowed room e h = let t = and_parts b (nat_le size allowed) e in omega (arith, leb-true size allowed t.1, h)
 
 sends_only : (b : Bool) → (if b then Send else Leave) ≡ Send → b ≡ true
 sends_only true h = refl
