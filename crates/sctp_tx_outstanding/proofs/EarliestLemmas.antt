@@ -19,7 +19,7 @@ not_due now true None h = refl
 not_due now true (Some moment) h = grind (arith, nat_tests)
 
 -- no item expires before its own moment
-not_before : (earliest : ℕ) (i : Item) → earliest ≤ expiry i → NotBefore earliest i
+pub not_before : (earliest : ℕ) (i : Item) → earliest ≤ expiry i → NotBefore earliest i
 not_before earliest i h = λ now e. not_due now (has_nack i.state) i.expires (omega (arith, h, e))
 
 sooner_too : (a b : ℕ) (i : Item) → b ≤ a → NotBefore a i → NotBefore b i

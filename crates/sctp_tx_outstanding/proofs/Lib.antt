@@ -1,6 +1,7 @@
 pub mod AgainLemmas
 pub mod EntriesLemmas
 pub mod EarliestLemmas
+pub mod ExpiriesLemmas
 pub mod ExpiryLemmas
 pub mod ForwardLemmas
 pub mod ReceivedLemmas

@@ -2,6 +2,7 @@
 use Rattle.std.proofs.Common.{◌≡◌, ℕ, zero, suc, ◌+◌, ◌-◌, ◌^◌, ◌<◌, ◌≤◌, ◌==◌, Bool, true, false, cond, List, [], ◌∷◌, ◌++◌, Option, Some, length, take, drop, slice_index_or, refl, ap, sym, subst, ◌∙◌, inl, inr, arith}
 use Rattle.std.specs.Prelude.{◌&&◌, map}
 use Rattle.std.proofs.lemmas.Bool.{cases_lt}
+use Rattle.std.proofs.lemmas.List.{take_all, take_more, length-take-le}
 use Rattle.sctp_chunk.specs.Chunk.{FragmentTree}
 use Rattle.sctp_tx_outstanding.specs.declared.kept.Change.{Change}
 use Rattle.sctp_tx_outstanding.specs.declared.kept.Change.TheVariants as changes
@@ -62,7 +63,7 @@ came true false w x y e f h = f
 came false true w x y e f h = f ∙ (h ∙ sym e)
 came false false w x y e f h = f
 
-turn_round : (m j : ℕ) → (j == m) ≡ (m == j)
+pub turn_round : (m j : ℕ) → (j == m) ≡ (m == j)
 turn_round m j = elim (cases_lt m j) [
   | inl less ↦ not_same m j less ∙ sym (not_below j m less)
   | inr le ↦ elim (cases_lt j m) [
@@ -82,12 +83,12 @@ taken keys news first number is i place message e at small of put known = λ m n
 
 -- ---- the first one leaves
 
-out : (a b w : Bool) → b ≡ true → w ≡ a → cond (a && b) false w ≡ false
+pub out : (a b w : Bool) → b ≡ true → w ≡ a → cond (a && b) false w ≡ false
 out true true w h e = refl
 out false true w h e = e
 out a false w h e = cc
 
-stays : (a b w : Bool) → b ≡ false → cond (a && b) false w ≡ w
+pub stays : (a b w : Bool) → b ≡ false → cond (a && b) false w ≡ w
 stays true true w h = cc
 stays false true w h = refl
 stays true false w h = refl
@@ -161,32 +162,14 @@ finds_laid f number is known = λ yes m n few. known yes m n few ∙ sym (as_ali
 
 pub finds_next : (old new : Messages) (is : List Item) (k : ℕ) (i : Item) → k < length is → i ≡ slice_index_or is k i
     → ((js : List Item) (j : Item) → length js ≡ k → j.number ≡ i.number → Finds old js → Finds new (js ++ j ∷ [])) → Finds old (take k is) → Finds new (take (k + 1) is)
-finds_next old new is k i h at adds known = subst (λ (xs : List Item). Finds new xs) (sym (ap (λ n. take n is) plus-one ∙ one-more is k h at)) (adds (take k is) i (all is k (omega (arith, h))) refl known)
-  where
-    plus-one : k + 1 ≡ suc k
-    plus-one = omega arith
-
-    all : (is : List Item) (k : ℕ) → k ≤ length is → length (take k is) ≡ k
-    all is zero h = refl
-    all [] (suc k) h = absurd (omega (arith, h))
-    all (x ∷ is) (suc k) h = ap (λ n. suc n) (all is k (omega (arith, h)))
-
-    one-more : (is : List Item) (k : ℕ) → k < length is → i ≡ slice_index_or is k i → take (suc k) is ≡ take k is ++ i ∷ []
-    one-more [] k h at = absurd (omega (arith, h))
-    one-more (x ∷ is) zero h at = ap (λ y. y ∷ []) (sym at)
-    one-more (x ∷ is) (suc k) h at = ap (λ ys. x ∷ ys) (one-more is k (omega (arith, h)) at)
-
-take_all : (is : List Item) (k : ℕ) → length is ≤ k → take k is ≡ is
-take_all [] zero h = refl
-take_all [] (suc k) h = refl
-take_all (x ∷ is) zero h = absurd (omega (arith, h))
-take_all (x ∷ is) (suc k) h = ap (λ ys. x ∷ ys) (take_all is k (omega (arith, h)))
+finds_next old new is k i h at adds known =
+    subst (λ (xs : List Item). Finds new xs) (sym (take_more is k i h ∙ ap (λ y. take k is ++ y ∷ []) (sym at))) (adds (take k is) i (length-take-le k is (omega (arith, h))) refl known)
 
 pub finds_past : (f : Messages) (is : List Item) (k : ℕ) → length is ≤ k → Finds f (take k is) → Finds f (take (k + 1) is)
-finds_past f is k h known = subst (λ (xs : List Item). Finds f xs) (take_all is k h ∙ sym (take_all is (k + 1) (omega (arith, h)))) known
+finds_past f is k h known = subst (λ (xs : List Item). Finds f xs) (take_all k is h ∙ sym (take_all (k + 1) is (omega (arith, h)))) known
 
 pub finds_all : (f : Messages) (is : List Item) (k : ℕ) → length is ≤ k → Finds f (take k is) → Finds f is
-finds_all f is k h known = subst (λ (xs : List Item). Finds f xs) (take_all is k h) known
+finds_all f is k h known = subst (λ (xs : List Item). Finds f xs) (take_all k is h) known
 
 pub finds_empty : (f : Messages) (is : List Item) → length is ≤ 0 → Finds f is → Finds f (drop 1 is)
 finds_empty f [] h known = known

@@ -4,7 +4,7 @@ use Rattle.std.specs.Prelude.{nat_lt, nat_le, ◌&&◌}
 use Rattle.std.specs.List.{sum_by, All}
 use Rattle.std.specs.Ordering.{nat_cmp}
 use Rattle.std.specs.BTreeMap.{is_at}
-use Rattle.std.proofs.lemmas.Bool.{cases_lt}
+use Rattle.std.proofs.lemmas.Bool.{cases_lt, both_ways}
 use Rattle.std.proofs.lemmas.Bool.Decides.{nat_tests}
 use Rattle.std.proofs.lemmas.List.Sums.{sum_by-cons}
 use Rattle.std.proofs.lemmas.List.Elements.{All-head, All-tail, All-cons, All-nil}
@@ -129,7 +129,7 @@ same_next k p = elim (cases_lt k p) [
 pub further : (k p : ℕ) (q r v : Bool) → v ≡ cond (k == p) q r → v ≡ cond (suc k == suc p) q r
 further k p q r v h = h ∙ ap (λ t. cond t q r) (same_next k p)
 
-nowhere : (c q : Bool) → q ≡ false → false ≡ cond c q false
+pub nowhere : (c q : Bool) → q ≡ false → false ≡ cond c q false
 nowhere true q h = sym h
 nowhere false q h = refl
 
@@ -308,15 +308,11 @@ stays_pushed size waits [] i e s least less le w h = All-cons (IsAtLeast less) i
 stays_pushed size waits (x ∷ is) i e s least less le w h =
     All-cons (IsAtLeast less) x (is ++ i ∷ []) (less_too less least x le (All-head (IsAtLeast least) x is h)) (stays_pushed size waits is i e s least less le w (All-tail (IsAtLeast least) x is h))
 
-never : (b : Bool) → b ≡ false → b ≡ true → ⊥
-never true e t = cc
-never false e t = cc
-
 pub none_small : (least : ℕ) (is : List Item) → sum_by queued_part is ≤ 0 → All (IsAtLeast least) is
 none_small least [] h = All-nil (IsAtLeast least)
 none_small least (i ∷ is) h =
     let sum = sum_by-cons queued_part i is in
-    All-cons (IsAtLeast least) i is (λ t. absurd (never (should_be_retransmitted i) (none_of (should_be_retransmitted i) (omega (arith, sum, h))) t)) (none_small least is (omega (arith, sum, h)))
+    All-cons (IsAtLeast least) i is (λ t. absurd (both_ways (should_be_retransmitted i) (none_of (should_be_retransmitted i) (omega (arith, sum, h))) t)) (none_small least is (omega (arith, sum, h)))
 
 chunk_at_least : (m : Bool) (least size : ℕ) (i : Item) → size ≤ header_size m + least → IsAtLeast least i → should_be_retransmitted i ≡ true → size ≤ chunk_size m i
 chunk_at_least m least size i le h = λ t. omega (arith, le, h t)

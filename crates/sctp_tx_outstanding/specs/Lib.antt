@@ -1,6 +1,7 @@
 pub mod Again
 pub mod Change
 pub mod Entries
+pub mod Expiries
 pub mod Forward
 pub mod Handover
 pub mod LastBlocks

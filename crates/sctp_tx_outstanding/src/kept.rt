@@ -2,7 +2,9 @@
 
 ghost use Rattle.std.specs.Prelude.{◌≡◌, ◌==◌, ◌+◌, ℕ, Some, map, min, option_map, slice_get, not, nat_lt, sum_by, ◌<◌, ◌≤◌, ◌^◌, ◌∷◌, ◌++◌, [], length, drop, take, OnOk, OnErr, IfSome, IfNone};
 ghost use Rattle.sctp_tx_outstanding.specs.Change.{apply_change};
-ghost use Rattle.sctp_tx_outstanding.specs.Item.{earliest_of, never};
+ghost use Rattle.std.specs.List.{All};
+ghost use Rattle.sctp_tx_outstanding.specs.Item.{NotBefore, earliest_of, never};
+ghost use Rattle.sctp_tx_outstanding.specs.Expiries.{Expects, FindsDue};
 ghost use Rattle.sctp_tx_outstanding.specs.Items.{change_at, lay_down, is_of_at, last_of, later_of, later_at, without_payload, packet_part, payload_part, flight_part, queued_part, fast_part};
 ghost use Rattle.sctp_tx_outstanding.specs.Totals.{AreTotals, Exchanges};
 ghost use Rattle.sctp_tx_outstanding.specs.Losses.{expires, placeholder};
@@ -16,6 +18,7 @@ ghost use Rattle.sctp_state.specs.Events.{emit_events, Grown};
 mod handover;
 
 use crate::emitting::emit_left;
+use crate::expiries::{Due, Expiries};
 use crate::item::{Item, header_size};
 use crate::last_blocks::{LastBlocks, alike, reach};
 use crate::messages::Messages;
@@ -157,6 +160,42 @@ fn earliest_of(items: &VecDeque<Item>) -> u128
     earliest
 }
 
+/// It is known of the item at the place when it expires.
+fn expect_at(items: &VecDeque<Item>, expiries: &mut Expiries, place: usize)
+    requires { Expects expiries.old (take place items.now.items) }
+    ensures { Expects expiries.new (take (place + 1) items.now.items) }
+{
+    let Some(item) = items.get(place) else {
+        return;
+    };
+    expiries.renew(place, u128::MAX, item.expiry());
+}
+
+/// Makes known which items expire when, if there is memory for that.
+fn expect_all(items: &VecDeque<Item>, expiries: &mut Expiries)
+    requires { Expects expiries.old items.now.items }
+    ensures { Expects expiries.new items.now.items }
+{
+    if expiries.is_known {
+        return;
+    }
+    expiries.begin();
+    for place in 0..items.len() {
+        expect_at(items, expiries, place);
+    }
+}
+
+/// A moment before which no item expires.
+fn first_expiry(items: &VecDeque<Item>, expiries: &Expiries) -> u128
+    requires { Expects expiries.now items.now.items }
+    ensures { All (NotBefore result) items.now.items }
+{
+    match expiries.earliest() {
+        Some(earliest) => earliest,
+        None => earliest_of(items),
+    }
+}
+
 /// Emits what is due as the first items leave.
 fn emit_first(items: &VecDeque<Item>, count: usize, events: &mut Events) -> Result<(), AllocError>
     ensures ok { OnOk result (events.new ≡ emit_events (reports (take count items.now.items)) events.old) }
@@ -220,19 +259,23 @@ fn change_one(
     items: &mut VecDeque<Item>,
     totals: &mut Totals,
     waiting: &mut Waiting,
+    expiries: &mut Expiries,
     is_interleaved: bool,
     place: usize,
     change: Change,
 )
     requires totals { AreTotals is_interleaved items.old.items totals.old }
     requires waiting { Lists waiting.old items.old.items }
+    requires expiries { Expects expiries.old items.old.items }
     ensures items { items.new.items ≡ change_at place (apply_change change) items.old.items }
     ensures totals { AreTotals is_interleaved items.new.items totals.new }
     ensures waiting { Lists waiting.new items.new.items }
+    ensures expiries { Expects expiries.new items.new.items }
 {
     let _count = items.len();
     let (old, new) = change_item(items, is_interleaved, place, change);
     *totals = totals.exchanged(old, new);
+    expiries.renew(place, old.earliest, new.earliest);
     if old.queued == new.queued {
         return;
     }
@@ -245,14 +288,17 @@ fn push_item(
     items: &mut VecDeque<Item>,
     totals: &mut Totals,
     waiting: &mut Waiting,
+    expiries: &mut Expiries,
     is_interleaved: bool,
     item: Item,
 ) -> Result<(), AllocError>
     requires totals { AreTotals is_interleaved items.old.items totals.old }
     requires waiting { Lists waiting.old items.old.items }
+    requires expiries { Expects expiries.old items.old.items }
     ensures ok { OnOk result (items.new.items ≡ items.old.items ++ item ∷ []) }
     ensures totals { AreTotals is_interleaved items.new.items totals.new }
     ensures waiting { Lists waiting.new items.new.items }
+    ensures expiries { Expects expiries.new items.new.items }
     ensures err { OnErr result (items.new.items ≡ items.old.items) }
 {
     let size = item.payload_size();
@@ -261,6 +307,7 @@ fn push_item(
     let place = items.len();
     items.push_back(item)?;
     waiting.follow(place, size, false, waits);
+    expiries.renew(place, u128::MAX, part.earliest);
     let _count = items.len();
     *totals = totals.exchanged(Totals::nothing(), part);
     Ok(())
@@ -282,19 +329,23 @@ fn pop_item(
     items: &mut VecDeque<Item>,
     totals: &mut Totals,
     waiting: &mut Waiting,
+    expiries: &mut Expiries,
     is_interleaved: bool,
 ) -> Option<Item>
     requires totals { AreTotals is_interleaved items.old.items totals.old }
     requires waiting { Lists waiting.old items.old.items }
+    requires expiries { Expects expiries.old items.old.items }
     ensures first { IfSome result (λ i. items.old.items ≡ i ∷ items.new.items) }
     ensures none { IfNone result (items.old.items ≡ []) }
     ensures rest { items.new.items ≡ drop 1 items.old.items }
     ensures totals { AreTotals is_interleaved items.new.items totals.new }
     ensures waiting { Lists waiting.new items.new.items }
+    ensures expiries { Expects expiries.new items.new.items }
 {
     let item = items.pop_front()?;
     waiting.pass(item.should_be_retransmitted());
     let part = Totals::of(&item, is_interleaved);
+    expiries.leave(part.earliest);
     let _count = items.len();
     *totals = totals.exchanged(part, Totals::nothing());
     Some(item)
@@ -305,15 +356,18 @@ fn abandon_at(
     items: &mut VecDeque<Item>,
     totals: &mut Totals,
     waiting: &mut Waiting,
+    expiries: &mut Expiries,
     is_interleaved: bool,
     place: usize,
     message_id: OutgoingMessageId,
 )
     requires totals { AreTotals is_interleaved items.old.items totals.old }
     requires waiting { Lists waiting.old items.old.items }
+    requires expiries { Expects expiries.old items.old.items }
     ensures items { items.new.items ≡ change_at place (lay_down message_id.0) items.old.items }
     ensures totals { AreTotals is_interleaved items.new.items totals.new }
     ensures waiting { Lists waiting.new items.new.items }
+    ensures expiries { Expects expiries.new items.new.items }
 {
     if !is_of(items, place, message_id) {
         return;
@@ -322,6 +376,7 @@ fn abandon_at(
         items,
         totals,
         waiting,
+        expiries,
         is_interleaved,
         place,
         Change::Abandon,
@@ -333,16 +388,19 @@ fn abandon_all(
     items: &mut VecDeque<Item>,
     totals: &mut Totals,
     waiting: &mut Waiting,
+    expiries: &mut Expiries,
     messages: &Messages,
     is_interleaved: bool,
     message_id: OutgoingMessageId,
 )
     requires totals { AreTotals is_interleaved items.old.items totals.old }
     requires waiting { Lists waiting.old items.old.items }
+    requires expiries { Expects expiries.old items.old.items }
     requires messages { Finds messages.now items.old.items }
     ensures items { items.new.items ≡ map (lay_down message_id.0) items.old.items }
     ensures totals { AreTotals is_interleaved items.new.items totals.new }
     ensures waiting { Lists waiting.new items.new.items }
+    ensures expiries { Expects expiries.new items.new.items }
 {
     let count = items.len();
     let mut place = 0;
@@ -351,7 +409,15 @@ fn abandon_all(
         if count <= next {
             return;
         }
-        abandon_at(items, totals, waiting, is_interleaved, next, message_id);
+        abandon_at(
+            items,
+            totals,
+            waiting,
+            expiries,
+            is_interleaved,
+            next,
+            message_id,
+        );
         place = next + 1;
     }
 }
@@ -375,6 +441,7 @@ pub struct Kept {
     last_blocks: LastBlocks,
     waiting: Waiting,
     messages: Messages,
+    expiries: Expiries,
 }
 
 impl Model for Kept {
@@ -383,12 +450,13 @@ impl Model for Kept {
     ghost use Rattle.sctp_tx_outstanding.specs.LastBlocks.{Knows};
     ghost use Rattle.sctp_tx_outstanding.specs.Waiting.{Lists};
     ghost use Rattle.sctp_tx_outstanding.specs.Messages.{Finds};
+    ghost use Rattle.sctp_tx_outstanding.specs.Expiries.{Expects};
 
     ghost Value = { Kept };
 
     ghost view = { λ k. record { is_interleaved = k.is_interleaved; items = k.items.items } };
 
-    ghost invariant = { λ k. AreTotals k.is_interleaved k.items.items k.totals × (Knows k.last_blocks k.items.items × (Lists k.waiting k.items.items × Finds k.messages k.items.items)) };
+    ghost invariant = { λ k. AreTotals k.is_interleaved k.items.items k.totals × (Knows k.last_blocks k.items.items × (Lists k.waiting k.items.items × (Finds k.messages k.items.items × Expects k.expiries k.items.items))) };
 }
 
 impl Kept {
@@ -407,6 +475,7 @@ impl Kept {
             last_blocks: LastBlocks::new(alloc),
             waiting: Waiting::new(alloc),
             messages: Messages::new(alloc),
+            expiries: Expiries::new(alloc),
         }
     }
 
@@ -525,7 +594,15 @@ impl Kept {
     pub(crate) fn find_earliest(&mut self)
         ensures { self.new ≡ self.old }
     {
-        self.totals.earliest = earliest_of(&self.items);
+        expect_all(&self.items, &mut self.expiries);
+        self.totals.earliest = first_expiry(&self.items, &self.expiries);
+    }
+
+    /// The places of the items that expire by now.
+    pub(crate) fn due(&self, alloc: Global, now: SocketTime) -> Due
+        ensures { FindsDue result now self.now.items }
+    {
+        self.expiries.due(alloc, now, self.items.len())
     }
 
     /// Changes the item at the place, if there is one.
@@ -536,6 +613,7 @@ impl Kept {
             &mut self.items,
             &mut self.totals,
             &mut self.waiting,
+            &mut self.expiries,
             self.is_interleaved,
             place,
             how,
@@ -556,6 +634,7 @@ impl Kept {
             &mut self.items,
             &mut self.totals,
             &mut self.waiting,
+            &mut self.expiries,
             self.is_interleaved,
             item,
         )?;
@@ -576,6 +655,7 @@ impl Kept {
             &mut self.items,
             &mut self.totals,
             &mut self.waiting,
+            &mut self.expiries,
             self.is_interleaved,
         )
     }
@@ -611,6 +691,7 @@ impl Kept {
             &mut self.items,
             &mut self.totals,
             &mut self.waiting,
+            &mut self.expiries,
             &self.messages,
             self.is_interleaved,
             message_id,

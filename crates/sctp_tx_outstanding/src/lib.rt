@@ -2,6 +2,7 @@
 #![tactic(auto)]
 
 pub mod emitting;
+mod expiries;
 pub mod item;
 pub mod kept;
 mod last_blocks;

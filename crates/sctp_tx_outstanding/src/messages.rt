@@ -22,7 +22,7 @@ pub struct Messages {
 }
 
 /// The number of the item at the place.
-fn number_at(first: u32, place: usize) -> Option<u32>
+pub(crate) fn number_at(first: u32, place: usize) -> Option<u32>
     ensures { IfSome result (λ number. number ≡ first + place) }
 {
     if place >= 1 << 32 {

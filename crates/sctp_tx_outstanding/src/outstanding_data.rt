@@ -11,6 +11,7 @@ ghost use Rattle.sctp_tx_outstanding.specs.Views.{discard_of, point_of};
 ghost use Rattle.sctp_tx_outstanding.specs.Losses.{loss_of};
 ghost use Rattle.sctp_tx_outstanding.specs.Items.{first_sent, insert, begin_reset, begun_at};
 ghost use Rattle.sctp_tx_outstanding.specs.LastBlocks.{Rest};
+ghost use Rattle.sctp_tx_outstanding.specs.Expiries.{FindsDue};
 ghost use Rattle.sctp_tx_outstanding.specs.Interrupted.{Same, SomeNacked, SomeExpired, SomeReceived};
 ghost use Rattle.sctp_tx_outstanding.specs.Forward.{is_forward_due, entry_at, stops, passes_of, forward_point};
 ghost use Rattle.std.specs.List.{list_any};
@@ -20,6 +21,7 @@ ghost use Rattle.sctp_state.specs.Events.{first_of};
 mod handover;
 mod resending;
 
+use crate::expiries::Due;
 use crate::item::Item;
 use crate::kept::{Change, Kept, placeholder};
 use crate::sack::{AckInfo, highest_end, pass_covered, settle_all, take_out};
@@ -447,6 +449,32 @@ impl OutstandingData {
         Ok(())
     }
 
+    /// Gives up the messages of the items at these places that expired, in ascending order. Without memory this is done for
+    /// some of the first alone.
+    fn expire_due(
+        &mut self,
+        due: &Due,
+        now: SocketTime,
+        events: &mut Events,
+    ) -> Result<(), AllocError>
+        requires { FindsDue due.now now self.old.items.kept }
+        ensures items { OnOk result (self.new ≡ record self.old { items = (expire_outstanding now self.old.items events.old).items }) }
+        ensures emitted { OnOk result (events.new ≡ (expire_outstanding now self.old.items events.old).emitted) }
+        ensures err { OnErr result (SomeExpired now self.old events.old self.new events.new) }
+    {
+        let count = self.kept.len();
+        let mut place = 0;
+        while place < count {
+            let next = due.next(place);
+            if count <= next {
+                return Ok(());
+            }
+            self.expire_item(next, now, events)?;
+            place = next + 1;
+        }
+        Ok(())
+    }
+
     /// With partial reliability, gives up each message that expired and has an item that is missing or lost, with a
     /// record. Without memory this is done for some of the first items alone.
     pub fn expire_outstanding_chunks(
@@ -461,11 +489,10 @@ impl OutstandingData {
         if !self.may_expire(now) {
             return Ok(());
         }
-        for place in 0..self.kept.len() {
-            self.expire_item(place, now, events)?;
-        }
+        let due = self.kept.due(self.alloc, now);
+        let outcome = self.expire_due(&due, now, events);
         self.kept.find_earliest();
-        Ok(())
+        outcome
     }
 
     /// Whether the first item is given up, so that a forward point is due.

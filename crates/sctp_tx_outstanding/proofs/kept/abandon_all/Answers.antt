@@ -15,6 +15,7 @@ loop-place-preserved c =
           c.abandon_at.ensures.items;
       totals = c.abandon_at.ensures.totals;
       waiting = c.abandon_at.ensures.waiting;
+      expiries = c.abandon_at.ensures.expiries;
     }
 
 pub returns-then-count-next-clause-items : goal.returns-then-count-next-clause-items

@@ -1,6 +1,7 @@
 use Rattle.std.proofs.Common.{◌≡◌, ◌≤◌, ◌-◌}
 use Rattle.sctp_tx_outstanding.specs.Totals.{AreTotals}
 use Rattle.sctp_tx_outstanding.specs.Waiting.{Lists}
+use Rattle.sctp_tx_outstanding.specs.Expiries.{Expects}
 use Rattle.sctp_tx_outstanding.proofs.LaidLemmas.{laid}
 use Rattle.sctp_tx_outstanding.proofs.kept.abandon_all.Given as goal
 
@@ -10,6 +11,7 @@ invariant-loop-place l = record {
   items : l.items.items ≡ laid l.place l.message_id.0 l.initial.items.items;
   totals : AreTotals l.is_interleaved l.items.items l.totals;
   waiting : Lists l.waiting l.items.items;
+  expiries : Expects l.expiries l.items.items;
 }
 
 abbrev pub decreases-loop-place : goal.decreases-loop-place

@@ -6,6 +6,8 @@ use Rattle.sctp_tx_outstanding.specs.Totals.{exchange}
 use Rattle.sctp_tx_outstanding.specs.Waiting.{HasSize, Lists}
 use Rattle.sctp_tx_outstanding.proofs.TotalsLemmas.{totals_changed, totals_as}
 use Rattle.sctp_tx_outstanding.proofs.WaitingLemmas.{turns_changed, stays_changed, has_before, lists_still}
+use Rattle.sctp_tx_outstanding.specs.Expiries.{Expects}
+use Rattle.sctp_tx_outstanding.proofs.ExpiriesLemmas.{moves_changed}
 use Rattle.sctp_tx_outstanding.proofs.kept.change_one.Goals as goal
 
 pub returns-then-old-new-clause-totals : goal.returns-then-old-new-clause-totals
@@ -38,3 +40,17 @@ returns-clause-waiting c =
     subst (λ (ks : List Item). Lists c.follow.new.self ks) (sym c.change_item.ensures.items)
     (c.follow.ensures is js (turns_changed c.args.is_interleaved c.args.change c.args.waiting.now.first c.args.place is c.change_item.result.0 c.change_item.result.1 c.change_item.ensures.parts)
     (stays_changed c.args.is_interleaved c.args.change c.args.place c.payload_at-size.result is c.change_item.result.0 c.change_item.result.1 c.change_item.ensures.parts (has_before c.args.change c.args.place c.payload_at-size.result is size)) c.requires.waiting)
+
+pub returns-then-old-new-clause-expiries : goal.returns-then-old-new-clause-expiries
+returns-then-old-new-clause-expiries c =
+    let is = c.args.items.now.items in
+    let js = change_at c.args.place (apply_change c.args.change) is in
+    subst (λ (ks : List Item). Expects c.renew.new.self ks) (sym c.change_item.ensures.items)
+    (c.renew.ensures is js (moves_changed c.args.is_interleaved c.args.change c.args.place is c.change_item.result.0 c.change_item.result.1 c.change_item.ensures.parts) c.requires.expiries)
+
+pub returns-clause-expiries : goal.returns-clause-expiries
+returns-clause-expiries c =
+    let is = c.args.items.now.items in
+    let js = change_at c.args.place (apply_change c.args.change) is in
+    subst (λ (ks : List Item). Expects c.renew.new.self ks) (sym c.change_item.ensures.items)
+    (c.renew.ensures is js (moves_changed c.args.is_interleaved c.args.change c.args.place is c.change_item.result.0 c.change_item.result.1 c.change_item.ensures.parts) c.requires.expiries)

@@ -6,6 +6,7 @@ use Rattle.std.specs.List.{All}
 use Rattle.std.proofs.lemmas.List.Elements.{All-tail}
 use Rattle.sctp_tx_outstanding.specs.Waiting.{IsAtLeast, Lists}
 use Rattle.sctp_tx_outstanding.proofs.TotalsLemmas.{totals_popped, totals_as}
+use Rattle.sctp_tx_outstanding.specs.Expiries.{Expects}
 use Rattle.sctp_tx_outstanding.proofs.kept.pop_item.Goals as goal
 
 pub returns-clause-totals : goal.returns-clause-totals
@@ -24,3 +25,9 @@ returns-clause-waiting c =
       c.pass.ensures.index c.in_ok-item.item c.pop_front.new.self.items (sym c.should_be_retransmitted.ensures) known.0,
       subst (λ l. All (IsAtLeast l) c.pop_front.new.self.items) (sym c.pass.ensures.least) (All-tail (IsAtLeast c.args.waiting.now.least) c.in_ok-item.item c.pop_front.new.self.items known.1),
     )
+
+pub returns-clause-expiries : goal.returns-clause-expiries
+returns-clause-expiries c =
+    let is : c.args.items.now.items ≡ c.in_ok-item.item ∷ c.pop_front.new.self.items = search rules in
+    let known : Expects c.args.expiries.now (c.in_ok-item.item ∷ c.pop_front.new.self.items) = subst (λ (js : List Item). Expects c.args.expiries.now js) is c.requires.expiries in
+    c.leave.ensures c.in_ok-item.item c.pop_front.new.self.items (sym (ap (λ (t : Totals). t.earliest) c.of-part.ensures)) known

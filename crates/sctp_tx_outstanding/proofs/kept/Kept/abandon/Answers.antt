@@ -13,6 +13,12 @@ invariant_of-self c =
       c.abandon_all.ensures.totals,
       (
         subst (λ (js : List Item). Knows c.self.inside.last_blocks js) (sym c.abandon_all.ensures.items) (knows_laid c.self.inside.last_blocks id is c.self.invariant.1.0),
-        (c.abandon_all.ensures.waiting, subst (λ (js : List Item). Finds c.self.inside.messages js) (sym c.abandon_all.ensures.items) (finds_laid c.self.inside.messages id is c.self.invariant.1.1.1)),
+        (
+          c.abandon_all.ensures.waiting,
+          (
+            subst (λ (js : List Item). Finds c.self.inside.messages js) (sym c.abandon_all.ensures.items) (finds_laid c.self.inside.messages id is c.self.invariant.1.1.1.0),
+            c.abandon_all.ensures.expiries,
+          ),
+        ),
       ),
     )

@@ -14,7 +14,10 @@ invariant_of-self c =
         subst (λ (ks : List Item). Knows c.see.new.self ks) (sym c.change_one.ensures.items) (c.see.ensures c.args.place is c.self.invariant.1.0),
         (
           c.count.ensures js c.change_one.ensures.totals.queued c.change_one.ensures.waiting,
-          subst (λ (ks : List Item). Finds c.self.inside.messages ks) (sym c.change_one.ensures.items) (finds_changed c.self.inside.messages c.args.how c.args.place is c.self.invariant.1.1.1),
+          (
+            subst (λ (ks : List Item). Finds c.self.inside.messages ks) (sym c.change_one.ensures.items) (finds_changed c.self.inside.messages c.args.how c.args.place is c.self.invariant.1.1.1.0),
+            c.change_one.ensures.expiries,
+          ),
         ),
       ),
     )

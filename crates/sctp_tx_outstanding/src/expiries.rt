@@ -1,0 +1,229 @@
+//! The moments at which items expire.
+
+ghost use Rattle.std.specs.Prelude.{◌≡◌, ℕ, ◌<◌, ◌≤◌, ◌==◌, true, false, if◌then◌else◌, IfSome};
+ghost use Rattle.sctp_tx_outstanding.specs.Messages.{key_of};
+ghost use Rattle.sctp_tx_outstanding.specs.Waiting.{is_listed};
+ghost use Rattle.sctp_tx_outstanding.specs.Expiries.{ListsUpTo, Replaces, Sets};
+
+use crate::messages::number_at;
+use crate::waiting::{least_from, put};
+use sctp_serial::SocketTime;
+use std::alloc::Global;
+use std::collections::BTreeSet;
+
+/// Which items expire when: those that are missing or lost and have a lifetime, each under its moment and its number. What
+/// has no lifetime isn't listed, and costs a test. Where memory was missing it isn't known, until all items are looked at.
+#[derive(Drop)]
+pub struct Expiries {
+    pub keys: BTreeSet<u128>,
+    /// The first item's number.
+    pub first: u32,
+    pub is_known: bool,
+}
+
+/// The places of the items that expire by a moment, if they are known.
+#[derive(Drop)]
+pub struct Due {
+    pub places: BTreeSet<u64>,
+    pub is_known: bool,
+}
+
+/// A moment and the number of an item, in one.
+fn key_of(moment: u128, number: u32) -> Option<u128>
+    ensures { IfSome result (λ key. key ≡ key_of moment number) }
+{
+    if moment >= 1 << 96 {
+        return None;
+    }
+    Some(moment * (1 << 32) + u128::from(number))
+}
+
+/// Lists the key or takes it out. Says whether there was memory.
+fn put_key(keys: &mut BTreeSet<u128>, key: u128, is_there: bool) -> bool
+    ensures { result ≡ true → (n : ℕ) → is_listed keys.new.keys n ≡ (if n == key then is_there else is_listed keys.old.keys n) }
+{
+    if is_there {
+        return keys.insert(key).is_ok();
+    }
+    keys.remove(&key);
+    true
+}
+
+/// The least key from this one on, if it is below the end.
+fn least_below(keys: &BTreeSet<u128>, from: u128, end: u128) -> u128
+    requires { from ≤ end }
+    ensures from { from ≤ result }
+    ensures end { result ≤ end }
+    ensures none { (n : ℕ) → from ≤ n → n < result → is_listed keys.now.keys n ≡ false }
+{
+    match keys.range(from..).next() {
+        Some(key) => (*key).min(end),
+        None => end,
+    }
+}
+
+/// An item expires at the moment, or no longer does. Says whether that could be listed.
+fn set(keys: &mut BTreeSet<u128>, moment: u128, number: u32, is_there: bool) -> bool
+    ensures { result ≡ true → Sets moment number is_there keys.old.keys keys.new.keys }
+{
+    if moment == u128::MAX {
+        return true;
+    }
+    let Some(key) = key_of(moment, number) else {
+        return false;
+    };
+    put_key(keys, key, is_there)
+}
+
+/// An item expires at another moment. Says whether that could be listed.
+fn replace(keys: &mut BTreeSet<u128>, number: u32, was: u128, will: u128) -> bool
+    ensures { result ≡ true → Replaces number was will keys.old.keys keys.new.keys }
+{
+    set(keys, was, number, false) && set(keys, will, number, true)
+}
+
+/// Lists the places of the keys below the end, at most so many. Says whether these are all, and there was memory.
+fn list_below(
+    keys: &BTreeSet<u128>,
+    first: u32,
+    end: u128,
+    most: usize,
+    places: &mut BTreeSet<u64>,
+) -> bool
+    ensures { result ≡ true → ListsUpTo end first keys.now.keys places.new.keys }
+{
+    let mut from = 0;
+    let mut left = most;
+    while from < end {
+        let next = least_below(keys, from, end);
+        if end <= next {
+            return true;
+        }
+        if left == 0 {
+            return false;
+        }
+        left -= 1;
+        let place = ((next % (1 << 32)) as u64).saturating_sub(u64::from(first));
+        if !put(places, place, true) {
+            return false;
+        }
+        from = next + 1;
+    }
+    true
+}
+
+impl Expiries {
+    ghost use Rattle.std.specs.Prelude.{◌∷◌, ◌++◌, [], List, length};
+    ghost use Rattle.std.specs.List.{All};
+    ghost use Rattle.sctp_tx_outstanding.specs.Item.{Item, NotBefore, expiry};
+    ghost use Rattle.sctp_tx_outstanding.specs.Expiries.{Expects, FindsDue, Moves};
+
+    /// No items. Takes no memory.
+    pub fn new(alloc: Global) -> Expiries
+        ensures { Expects result [] }
+    {
+        Expiries {
+            keys: BTreeSet::new(alloc),
+            first: 0,
+            is_known: true,
+        }
+    }
+
+    /// Nothing is known any more.
+    fn forget(&mut self)
+        ensures { (is : List Item) → Expects self.new is }
+    {
+        self.keys.clear();
+        self.is_known = false;
+    }
+
+    /// It is known of no item.
+    pub fn begin(&mut self)
+        ensures { Expects self.new [] }
+    {
+        self.keys.clear();
+        self.first = 0;
+        self.is_known = true;
+    }
+
+    /// The item at the place expired at one moment, and does at another.
+    fn change(&mut self, place: usize, was: u128, will: u128)
+        ensures { (is js : List Item) → Moves place was will is js → Expects self.old is → Expects self.new js }
+    {
+        if !self.is_known {
+            return;
+        }
+        let Some(number) = number_at(self.first, place) else {
+            self.forget();
+            return;
+        };
+        self.is_known = replace(&mut self.keys, number, was, will);
+    }
+
+    /// The item at the place expired at one moment, and does at another or at the same one.
+    pub fn renew(&mut self, place: usize, was: u128, will: u128)
+        ensures { (is js : List Item) → Moves place was will is js → Expects self.old is → Expects self.new js }
+    {
+        if was != will {
+            self.change(place, was, will);
+        }
+    }
+
+    /// The first item leaves, which expires at this moment.
+    pub fn leave(&mut self, moment: u128)
+        ensures { (i : Item) (is : List Item) → expiry i ≡ moment → Expects self.old (i ∷ is) → Expects self.new is }
+    {
+        if !self.is_known {
+            return;
+        }
+        if self.first == u32::MAX {
+            self.forget();
+            return;
+        }
+        self.is_known = set(&mut self.keys, moment, self.first, false);
+        self.first += 1;
+    }
+
+    /// Before this moment no item expires, if that is known.
+    pub fn earliest(&self) -> Option<u128>
+        ensures { IfSome result (λ earliest. (is : List Item) → Expects self.now is → All (NotBefore earliest) is) }
+    {
+        if !self.is_known {
+            return None;
+        }
+        let least = least_below(&self.keys, 0, u128::MAX);
+        Some(least / (1 << 32))
+    }
+
+    /// The places of the items that expire by now, of so many. Where more than a sixteenth do, a look at all costs less than
+    /// to list them, and none is.
+    pub fn due(&self, alloc: Global, now: SocketTime, count: usize) -> Due
+        ensures { (is : List Item) → Expects self.now is → FindsDue result now is }
+    {
+        let mut places = BTreeSet::new(alloc);
+        let end = (now.as_nanos() + 1) * (1 << 32);
+        let is_known = self.is_known
+            && list_below(&self.keys, self.first, end, count / 16, &mut places);
+        Due { places, is_known }
+    }
+}
+
+impl Due {
+    ghost use Rattle.std.specs.Prelude.{List};
+    ghost use Rattle.sctp_tx_outstanding.specs.Item.{Item};
+    ghost use Rattle.sctp_tx_outstanding.specs.Expiries.{FindsDue, NoneExpires};
+
+    /// The place from this one on up to which no item expires.
+    pub fn next(&self, place: usize) -> usize
+        ensures onward { place ≤ result }
+        ensures none { (now : ℕ) (is : List Item) → FindsDue self.now now is → NoneExpires now place result is }
+    {
+        if !self.is_known {
+            return place;
+        }
+        match least_from(&self.places, place as u64) {
+            Some(next) => next as usize,
+            None => usize::MAX,
+        }
+    }
+}
