@@ -56,6 +56,11 @@ holds_insert n k (m ∷ ms) =
     first : (v : Bool) → (eqb k n || (eqb k m || v)) ≡ ((eqb k m || v) || eqb k n)
     first v = grind (arith, nat_tests)
 
+none : (v w : Bool) → v ≡ (v || (w && false))
+none true w = refl
+none false true = refl
+none false false = refl
+
 -- a number is reported again where it was, or where it is the one that came again and there is room
 holds_with_duplicate : (n k : ℕ) (ns : List ℕ) → holds (with_duplicate n ns) k ≡ (holds ns k || (eqb k n && ltb (length ns) 20))
 holds_with_duplicate n k ns =
@@ -68,17 +73,7 @@ holds_with_duplicate n k ns =
     with_true true = refl
     with_true false = refl
 
-    none : (v w : Bool) → v ≡ (v || (w && false))
-    none true w = refl
-    none false true = refl
-    none false false = refl
-
 -- the same where a number comes that was seen or not
 pub holds_observed : (n k : ℕ) (was : Bool) (ns : List ℕ) → holds (if was then with_duplicate n ns else ns) k ≡ (holds ns k || (eqb k n && (was && ltb (length ns) 20)))
 holds_observed n k true ns = holds_with_duplicate n k ns
 holds_observed n k false ns = none (holds ns k) (eqb k n)
-  where
-    none : (v w : Bool) → v ≡ (v || (w && false))
-    none true w = refl
-    none false true = refl
-    none false false = refl

@@ -4,7 +4,7 @@ use Rattle.std.proofs.lemmas.Bool.{cases_order, both_ways, cases_lt, cases_eq, e
 use Rattle.std.proofs.lemmas.Bool.Decides.{nat_tests}
 use Rattle.sctp_tracker.specs.Seen.{Run, Seen, is_in, in_runs, AreRuns, contains, IsInRuns, join_run, with_number, settle, add, up_to}
 use Rattle.sctp_tracker.proofs.SeenEdits.{run}
-use Rattle.sctp_tracker.proofs.SeenRunsLemmas.{in_runs_below}
+use Rattle.sctp_tracker.proofs.SeenRunsLemmas.{in_runs_below, or_swap}
 
 pub before_first : (p n : ℕ) (c : Run) (qs : List Run) → AreRuns p (c ∷ qs) → n < c.first → in_runs (c ∷ qs) n ≡ false
 before_first p n c qs r h = grind (arith, nat_tests, in_runs_below c.last n qs r.2 (omega arith))
@@ -103,7 +103,7 @@ with_number_in below n m (r ∷ rs) a h =
                 (joined_in r.last m (record { first = r.first; last = n }) rs (let b = a.1 in omega (arith, b, e)) a.2 ∙ longer (in_runs rs m) r.first r.last e a.1)
             | inr d ↦
                 rw (le-ltb n r.first g, ne_eqb n (suc r.last) d)
-                (ap (λ z. is_in m r || z) (with_number_in r.last n m rs a.2 (behind (in_runs rs n) (is_in n r) h)) ∙ swap (is_in m r) (eqb m n) (in_runs rs m))
+                (ap (λ z. is_in m r || z) (with_number_in r.last n m rs a.2 (behind (in_runs rs n) (is_in n r) h)) ∙ or_swap (is_in m r) (eqb m n) (in_runs rs m))
           ]
     ]
   where
@@ -116,11 +116,6 @@ with_number_in below n m (r ∷ rs) a h =
     behind : (y z : Bool) → (z || y) ≡ false → y ≡ false
     behind y true h = cc
     behind y false h = h
-
-    swap : (a b c : Bool) → (a || (b || c)) ≡ (b || (a || c))
-    swap true true c = refl
-    swap true false c = refl
-    swap false b c = refl
 
 with_number_runs : (below n : ℕ) (rs : List Run) → AreRuns below rs → suc below < n → in_runs rs n ≡ false → AreRuns below (with_number n rs)
 with_number_runs below n [] a l h = (omega (arith, l), omega arith, tt)
@@ -195,17 +190,12 @@ contains_add n m s i = go (contains s n) refl
         no : false ≡ true → ⊥
         no e = cc
 
-    swap : (a b c : Bool) → (a || (b || c)) ≡ (b || (a || c))
-    swap true true c = refl
-    swap true false c = refl
-    swap false b c = refl
-
     go : (b : Bool) → contains s n ≡ b → contains (add n s) m ≡ (eqb m n || contains s m)
     go true e = rw e (contains_settle s.front m s.runs ∙ again (contains s m) (λ h. ap (contains s) h ∙ e))
     go false e =
         rw e
         (contains_settle s.front m (with_number n s.runs) ∙ (ap (λ z. leb m s.front || z) (with_number_in s.front n m s.runs i (not_seen s n e).1)
-        ∙ swap (leb m s.front) (eqb m n) (in_runs s.runs m)))
+        ∙ or_swap (leb m s.front) (eqb m n) (in_runs s.runs m)))
 
 pub IsInRuns_add : (n : ℕ) (s : Seen) → IsInRuns s → 0 < s.front → IsInRuns (add n s)
 IsInRuns_add n s i l = go (contains s n) refl

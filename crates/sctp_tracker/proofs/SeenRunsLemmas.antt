@@ -19,7 +19,7 @@ in_runs_add_here point n m b rs r k =
       | inr within ↦ grind (arith, nat_tests)
     ]
 
-or_swap : (a b c : Bool) → (a || (b || c)) ≡ (b || (a || c))
+pub or_swap : (a b c : Bool) → (a || (b || c)) ≡ (b || (a || c))
 or_swap true true c = refl
 or_swap true false c = refl
 or_swap false b c = refl
@@ -56,10 +56,6 @@ AreRuns_add_number point n (b ∷ rs) r h =
 pub le_last_above : (point : ℕ) (rs : List Run) → AreRuns point rs → point ≤ last_above point rs
 le_last_above point [] r = omega arith
 le_last_above point (b ∷ rs) r = omega (arith, le_last_above b.last rs r.2)
-
-last_above_later : (p q : ℕ) (rs : List Run) → p ≤ q → last_above p rs ≤ last_above q rs
-last_above_later p q [] h = omega arith
-last_above_later p q (b ∷ rs) h = omega arith
 
 last_above_grown_to : (p f n e : ℕ) (rs : List Run) → n ≡ e + 1 → AreRuns e rs → last_above p (grown_to f n rs) ≡ max n (last_above e rs)
 last_above_grown_to p f n e [] s r = grind (arith, nat_tests)

@@ -1,7 +1,7 @@
 -- What is true of every tracker, and of what it reports.
 use Rattle.std.proofs.Common.{◌≡◌, inl, inr, ℕ, zero, suc, ◌+◌, ◌-◌, ◌*◌, ◌≤◌, Bool, true, false, leb, ◌||◌, ◌&&◌, List, [], ◌∷◌, length, take, max, refl, subst, arith}
 use Rattle.std.specs.Prelude.{nat_lt}
-use Rattle.std.proofs.lemmas.Bool.{cases_lt, le-leb, lt-leb}
+use Rattle.std.proofs.lemmas.Bool.{cases_lt, le-leb, lt-leb, or_right}
 use Rattle.std.proofs.lemmas.Bool.Decides.{nat_tests}
 use Rattle.sctp_tracker.specs.Seen.{Run, Seen, in_runs, AreRuns, contains, IsInRuns, last_above, highest}
 use Rattle.sctp_tracker.specs.Tracker.{Tracker, IsTracker, is_valid, window, bound}
@@ -45,10 +45,6 @@ covered_in_runs c q (suc n) d (b ∷ rs) h r e =
           near_seen c d b rs (is_covered (blocks_of c (take n rs)) d) (omega arith) r.1 e' (covered_in_runs c b.last n d rs (omega arith) r.2)
     ]
 
-in_either : (a v : Bool) → v ≡ true → (a || v) ≡ true
-in_either true v e = refl
-in_either false v e = e
-
 -- what the blocks of a SACK cover was seen
 pub covered_was_seen : (s : Seen) → IsInRuns s → (offset : ℕ) → is_covered (gap_ack_blocks s) offset ≡ true → contains s (s.front + offset) ≡ true
-covered_was_seen s r offset e = in_either (leb (s.front + offset) s.front) (in_runs s.runs (s.front + offset)) (covered_in_runs s.front s.front 20 offset s.runs (omega arith) r e)
+covered_was_seen s r offset e = or_right (leb (s.front + offset) s.front) (in_runs s.runs (s.front + offset)) (covered_in_runs s.front s.front 20 offset s.runs (omega arith) r e)
