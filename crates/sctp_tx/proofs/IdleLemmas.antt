@@ -59,6 +59,14 @@ resent_none room window s small =
     let rwnd : s.windows.rwnd - 0 ≡ s.windows.rwnd = omega arith in
     ap (λ (n : ℕ). record s { windows = record s.windows { rwnd = s.windows.rwnd - 0 }; rtx_bytes = n }) bytes ∙ ap (λ (n : ℕ). record s { windows = record s.windows { rwnd = n } }) rwnd
 
+-- where no item waits to be sent again, none is, and the sender stays as it is
+module _ (most : ℕ) (s : Sender) where
+  pub none_again : nat_lt 0 (waiting_items s.outstanding.items) ≡ false → again.resent most s ≡ empty_packet (min most (s.windows.cwnd - flight s)) s.windows.rwnd s.outstanding
+  none_again e = resend_quiet (min most (s.windows.cwnd - flight s)) s.windows.rwnd s.outstanding (no_more_lem (waiting_items s.outstanding.items) e)
+
+  pub same_again : s.rtx_bytes < 2 ^ 64 → nat_lt 0 (waiting_items s.outstanding.items) ≡ false → s ≡ resent_by s (again.resent most s)
+  same_again small e = sym (ap (λ (r : Resent). resent_by s r) (none_again e) ∙ resent_none (min most (s.windows.cwnd - flight s)) s.windows.rwnd s small)
+
 module _ {P : Type 0} (now most : ℕ) (s : Sender) (q : Queue) (emitted : Emitted P) where
   pub idle_send : s.rtx_bytes < 2 ^ 64 → is_idle s q ≡ true → send now most s q emitted ≡ filling s q emitted [] (most - 0)
   idle_send small e =

@@ -4,7 +4,7 @@ use Rattle.std.specs.Prelude.{Result, Ok, Err, OnErr}
 use Rattle.sctp_state.specs.Events.{Emitted}
 use Rattle.sctp_tx_outstanding.specs.Item.{Item}
 use Rattle.sctp_tx_outstanding.specs.Items.{Outstanding, insert}
-use Rattle.sctp_tx_outstanding.specs.Resending.{Resent, resent_below, empty_packet}
+use Rattle.sctp_tx_outstanding.specs.Resending.{resent_below, empty_packet}
 use Rattle.sctp_tx_outstanding.specs.Keeps.{Keeps}
 use Rattle.sctp_tx_outstanding.proofs.KeepsLemmas.{keeps_all, keeps_on, resending_keeps, new_items_keep}
 use Rattle.sctp_tx_queue.specs.Queue.{Queue}

@@ -405,12 +405,18 @@ impl RetransmissionQueue {
         ensures err { OnErr result (PartlySent self.old self.new) }
         ensures taken { OnErr result (PartlyTaken queue.old queue.new) }
     {
-        // (read for its bound: a sum that is capped stays as it is where nothing is added)
+        // (read for their bounds: neither a sum that nothing is added to nor what the window lets go is capped)
         let _count = self.rtx_bytes_count();
+        let _cwnd = self.cwnd();
         if self.is_idle(queue) {
             return Ok(Vec::new(self.alloc));
         }
-        self.take_chunks(now, max_bytes, queue, events)
+        discard_all(&mut self.outstanding, queue, events)?;
+        let (mut chunks, bytes) = self.resend(max_bytes)?;
+        let left = max_bytes.saturating_sub(bytes);
+        self.fill(now, left, queue, &mut chunks, events)?;
+        self.run_for(now, &chunks);
+        Ok(chunks)
     }
 
     /// Whether nothing is left of messages that were given up, no item waits to be sent again, and the queue has nothing to send.
@@ -426,39 +432,6 @@ impl RetransmissionQueue {
         !queue.has_next_stream()
     }
 
-    /// What a packet takes, as `get_chunks_to_send` says, whatever there is to send.
-    fn take_chunks(
-        &mut self,
-        now: SocketTime,
-        max_bytes: usize,
-        queue: &mut SendQueue,
-        events: &mut Events,
-    ) -> Result<Vec<(Tsn, Data)>, AllocError>
-        requires small { max_bytes < 2 ^ 32 }
-        ensures sender { OnOk result (self.new ≡ (send now max_bytes self.old queue.old events.old).sender) }
-        ensures queue { OnOk result (queue.new ≡ (send now max_bytes self.old queue.old events.old).queue) }
-        ensures emitted { OnOk result (events.new ≡ (send now max_bytes self.old queue.old events.old).emitted) }
-        ensures chunks { IfOk result (λ chunks. map chunk_of chunks.items ≡ (send now max_bytes self.old queue.old events.old).chunks) }
-        ensures fits { IfOk result (λ chunks. FitWithin max_bytes self.old (map chunk_of chunks.items)) }
-        ensures flight { OnOk result (StaysWithin self.old self.new) }
-        ensures err { OnErr result (PartlySent self.old self.new) }
-        ensures taken { OnErr result (PartlyTaken queue.old queue.new) }
-    {
-        // (read for its bound: what the window lets go is not capped)
-        let _cwnd = self.cwnd();
-        discard_all(&mut self.outstanding, queue, events)?;
-        let (mut chunks, bytes) = self.resend(max_bytes)?;
-        self.fill(
-            now,
-            max_bytes.saturating_sub(bytes),
-            queue,
-            &mut chunks,
-            events,
-        )?;
-        self.run_for(now, &chunks);
-        Ok(chunks)
-    }
-
     /// What is sent again, in so much of a packet, and the bytes of the chunks.
     fn resend(&mut self, max_bytes: usize) -> Result<(Vec<(Tsn, Data)>, usize), AllocError>
         ensures sender { OnOk result (self.new ≡ resent_by self.old (resent max_bytes self.old)) }
@@ -466,6 +439,11 @@ impl RetransmissionQueue {
         ensures bytes { IfOk result (λ r. r.1 ≡ cap (sizes (is_interleaved self.new) (resent max_bytes self.old).chunks)) }
         ensures partly { PartlySent self.old self.new }
     {
+        // (read for its bound: a sum that nothing is added to isn't capped)
+        let _count = self.rtx_bytes_count();
+        if !self.outstanding.has_data_to_be_retransmitted() {
+            return Ok((Vec::new(self.alloc), 0));
+        }
         let flight = self.outstanding.unacked_packet_bytes();
         let room = max_bytes.min(self.windows.cwnd.saturating_sub(flight));
         let rwnd = self.windows.rwnd;
@@ -518,6 +496,9 @@ impl RetransmissionQueue {
         ensures partly { PartlySent self.old self.new }
         ensures taken { PartlyTaken queue.old queue.new }
     {
+        if !queue.has_next_stream() {
+            return Ok(None);
+        }
         let max_payload = self.offered(left);
         if !self.can_send_data() || max_payload == 0 {
             return Ok(None);

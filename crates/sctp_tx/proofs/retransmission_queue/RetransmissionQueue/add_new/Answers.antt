@@ -1,4 +1,4 @@
-use Rattle.std.proofs.Common.{◌≡◌, ◌<◌, Some, sym, subst, arith}
+use Rattle.std.proofs.Common.{◌<◌, Some, sym, subst, arith}
 use Rattle.sctp_tx_queue.specs.Views.{produced_of}
 use Rattle.sctp_tx_queue.specs.Queue.{Queue}
 use Rattle.sctp_tx.specs.Interrupted.{PartlyTaken}
@@ -11,6 +11,12 @@ pub append-requires : goal.append-requires
 append-requires c =
     let fits = made_fits c.args.now c.offered-max_payload.result c.args.queue.now c.args.events.now (Some (produced_of c.in-Some.fragment)) (rw c.in-Some.is at c.in_ok-fragment.ensures.made) in
     record { small = omega (arith, fits, c.offered-max_payload.ensures.small, c.requires.small) }
+
+pub returns-then-not-has_next_stream-clause-partly : goal.returns-then-not-has_next_stream-clause-partly
+returns-then-not-has_next_stream-clause-partly c = sent_none c.args.self.now
+
+pub returns-then-not-has_next_stream-clause-taken : goal.returns-then-not-has_next_stream-clause-taken
+returns-then-not-has_next_stream-clause-taken c = taken_none c.args.queue.now
 
 pub returns-then-not-can_send_data-clause-partly : goal.returns-then-not-can_send_data-clause-partly
 returns-then-not-can_send_data-clause-partly c = sent_none c.args.self.now
