@@ -29,7 +29,7 @@ use Rattle.sctp_tx_outstanding.specs.Again as items_again
 use Rattle.sctp_tx_outstanding.proofs.AgainLemmas.{comes_back}
 use Rattle.sctp_tx_queue.specs.Queue.{Streams, Entries, Queue, blank}
 use Rattle.sctp_tx_queue.specs.Handover.{outgoing_streams, queued_messages}
-use Rattle.sctp_tx_queue.specs.Restored.{streams_from, each_heard}
+use Rattle.sctp_tx_queue.specs.Restored.{streams_from, each_scheduled}
 use Rattle.sctp_tx_queue.specs.InOrder.{are_in_order}
 use Rattle.sctp_tx_queue.specs.TakenUp.{is_numbered_as_sent}
 use Rattle.sctp_tx_queue.specs.Again as queue_again
@@ -193,7 +193,7 @@ reception_back t c k = record {
   mode = sym k.mode_received;
 }
 
-pub received_mode : (ids : List ℕ) (ss : Streams) (s : Scheduler) → (each_heard ids ss s).is_interleaved ≡ s.is_interleaved
+pub received_mode : (ids : List ℕ) (ss : Streams) (s : Scheduler) → (each_scheduled ids ss s).is_interleaved ≡ s.is_interleaved
 received_mode [] ss s = refl
 received_mode (id ∷ ids) ss s = received_mode ids ss _ ∙ hears_mode id _ _ s
 
