@@ -73,6 +73,14 @@ moves_pushed p was will is i e a b = record {
 
 -- ---- the first one leaves
 
+not_such : (a b c w : Bool) → a ≡ false → w ≡ cond (a && b) c w
+not_such true b c w h = cc
+not_such false b c w h = refl
+
+-- what never expires isn't listed
+pub set_never : (moment number : ℕ) (b : Bool) (keys : List ℕ) → moment ≡ never → Sets moment number b keys keys
+set_never moment number b keys h = λ m n less few. not_such (m == moment) (n == number) b (is_listed keys (key_of m n)) (not_below moment m (omega (arith, h, less)))
+
 pub first_left : (keys news : List ℕ) (first next moment : ℕ) (i : Item) (is : List Item) → next ≡ first + 1 → first < 2 ^ 32 → expiry i ≡ moment → Sets moment first false keys news
     → AreMoments keys first (i ∷ is) → AreMoments news next is
 first_left keys news first next moment i is e small of put known = record {

@@ -180,6 +180,10 @@ impl Expiries {
             self.forget();
             return;
         }
+        if moment == u128::MAX {
+            self.first += 1;
+            return;
+        }
         self.is_known = set(&mut self.keys, moment, self.first, false);
         self.first += 1;
     }
