@@ -1,5 +1,5 @@
--- How long the parts of a capture are, and what its interfaces are made of.
-use Rattle.std.proofs.Common.{◌≡◌, ℕ, ◌+◌, ◌/◌, ◌%◌, ◌^◌, ◌≤◌, List, [], ◌∷◌, ◌++◌, length, refl, ap, ◌∙◌, arith, length-append, append_assoc}
+-- How long the parts of a capture are.
+use Rattle.std.proofs.Common.{◌≡◌, ℕ, ◌+◌, ◌/◌, ◌%◌, ◌^◌, ◌≤◌, List, ◌++◌, length, refl, arith, length-append}
 use Rattle.std.proofs.lemmas.Bool.Decides.{nat_tests}
 use Rattle.std.proofs.lemmas.List.{length-replicate, length-take, length-drop}
 use Rattle.std.specs.Prelude.{Bool, true, false, if◌then◌else◌, nat_lt, take, drop, replicate}
@@ -7,11 +7,8 @@ use Rattle.sctp_crc32c.specs.Crc32c.{crc32c_word}
 use Rattle.sctp_wire.specs.Checksum.{with_zero_field}
 use Rattle.sctp_wire.specs.Fields.{be32, length_be32}
 use Rattle.sctp_wire.specs.Item.{padding}
-use Rattle.sctp_trace.specs.declared.rows.End.{End}
-use Rattle.sctp_trace.specs.declared.rows.End.TheVariants as ends
-use Rattle.sctp_trace.specs.Rows.{end_name}
 use Rattle.sctp_trace.specs.Bytes.{le16, le32, with_checksum, with_crc32c}
-use Rattle.sctp_trace.specs.Capture.{pad, option_bytes, block, interface_body, interface, packet_numbers, packet_body}
+use Rattle.sctp_trace.specs.Capture.{pad, option_bytes, packet_numbers, packet_body}
 
 pub length_le16 : (n : ℕ) → length (le16 n) ≡ 2
 unfolding le16
@@ -36,21 +33,6 @@ pub length_option : (code : ℕ) (value : List ℕ) → length (option_bytes cod
 unfolding option_bytes
 length_option code value =
     omega (arith, behind16 code (le16 (length value) ++ pad value), behind16 (length value) (pad value), length_padded value)
-
--- a section's interface, in three parts
-parts : (end : End) → (1 ∷ 0 ∷ 0 ∷ 0 ∷ 40 ∷ 0 ∷ 0 ∷ 0 ∷ 248 ∷ 0 ∷ 0 ∷ 0 ∷ 0 ∷ 0 ∷ 0 ∷ 0 ∷ 2 ∷ 0 ∷ 1 ∷ 0 ∷ [])
-    ++ (end_name end ++ (0 ∷ 0 ∷ 0 ∷ 9 ∷ 0 ∷ 1 ∷ 0 ∷ 9 ∷ 0 ∷ 0 ∷ 0 ∷ 0 ∷ 0 ∷ 0 ∷ 0 ∷ 40 ∷ 0 ∷ 0 ∷ 0 ∷ [])) ≡ interface end
-unfolding le16 le32 pad option_bytes block interface_body
-parts ends.A = refl
-parts ends.B = refl
-
-pub interface_in_parts : (end : End) (old : List ℕ) → ((old ++ (1 ∷ 0 ∷ 0 ∷ 0 ∷ 40 ∷ 0 ∷ 0 ∷ 0 ∷ 248 ∷ 0 ∷ 0 ∷ 0 ∷ 0 ∷ 0 ∷ 0 ∷ 0 ∷ 2 ∷ 0 ∷ 1 ∷ 0 ∷ []))
-    ++ end_name end) ++ (0 ∷ 0 ∷ 0 ∷ 9 ∷ 0 ∷ 1 ∷ 0 ∷ 9 ∷ 0 ∷ 0 ∷ 0 ∷ 0 ∷ 0 ∷ 0 ∷ 0 ∷ 40 ∷ 0 ∷ 0 ∷ 0 ∷ []) ≡ old ++ interface end
-interface_in_parts end old =
-    let front : List ℕ = 1 ∷ 0 ∷ 0 ∷ 0 ∷ 40 ∷ 0 ∷ 0 ∷ 0 ∷ 248 ∷ 0 ∷ 0 ∷ 0 ∷ 0 ∷ 0 ∷ 0 ∷ 0 ∷ 2 ∷ 0 ∷ 1 ∷ 0 ∷ [] in
-    let back : List ℕ = 0 ∷ 0 ∷ 0 ∷ 9 ∷ 0 ∷ 1 ∷ 0 ∷ 9 ∷ 0 ∷ 0 ∷ 0 ∷ 0 ∷ 0 ∷ 0 ∷ 0 ∷ 40 ∷ 0 ∷ 0 ∷ 0 ∷ [] in
-    append_assoc (old ++ front) (end_name end) back
-    ∙ (append_assoc old front (end_name end ++ back) ∙ ap (λ (bytes : List ℕ). old ++ bytes) (parts end))
 
 length_numbers : (interface nanoseconds size : ℕ) → length (packet_numbers interface nanoseconds size) ≡ 20
 length_numbers interface nanoseconds size = omega (

@@ -1,3 +1,4 @@
+pub mod Appended
 pub mod Columns
 pub mod Lengths
 pub mod OneMore

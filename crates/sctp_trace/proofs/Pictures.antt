@@ -3,17 +3,26 @@ use Rattle.std.proofs.Common.{◌≡◌, ℕ, ◌+◌, ◌<◌, List, [], ◌∷
 use Rattle.std.proofs.lemmas.List.{take_more}
 use Rattle.std.proofs.lemmas.Slice.Zip.{all_zipped_more}
 use Rattle.std.specs.List.{AllZip}
+use Rattle.sctp_trace.specs.declared.rows.Row.{Row}
 use Rattle.sctp_trace.specs.declared.svg.Point.{Point}
 use Rattle.sctp_trace.specs.declared.xml.Element.{Element}
 use Rattle.sctp_trace.specs.declared.xml.Element.TheViews.{out-Element}
-use Rattle.sctp_trace.specs.Chart.{IsLineBetween, BeginsWithLine}
+use Rattle.sctp_trace.specs.Chart.{IsLineBetween, BeginsWithLine, AreDrawn, IsPicture}
 
-pub four_pushed : {X : Type 0} (front : List X) (w x y z : X) (a b c d : List X)
-    → a ≡ front ++ (w ∷ []) → b ≡ a ++ (x ∷ []) → c ≡ b ++ (y ∷ []) → d ≡ c ++ (z ∷ []) → d ≡ front ++ (w ∷ x ∷ y ∷ z ∷ [])
-four_pushed {X} front w x y z a b c d p q r s =
-    let two : b ≡ front ++ (w ∷ x ∷ []) = q ∙ (ap (λ (l : List X). l ++ (x ∷ [])) p ∙ append_assoc front (w ∷ []) (x ∷ [])) in
-    let three : c ≡ front ++ (w ∷ x ∷ y ∷ []) = r ∙ (ap (λ (l : List X). l ++ (y ∷ [])) two ∙ append_assoc front (w ∷ x ∷ []) (y ∷ [])) in
-    s ∙ (ap (λ (l : List X). l ++ (z ∷ [])) three ∙ append_assoc front (w ∷ x ∷ y ∷ []) (z ∷ []))
+-- what is drawn before the words, with them, is a picture
+pub pictured : (rows : List Row) (before drawn all : List Element) (words root : Element) → AreDrawn rows before drawn → all ≡ drawn ++ (words ∷ [])
+    → (out-Element root).children.items ≡ all → IsPicture rows root
+pictured rows before drawn all words root is pushed made = record {
+  before = before;
+  given = is.given;
+  lost = is.lost;
+  behind = words ∷ [];
+  within = made
+      ∙ (pushed
+      ∙ (ap (λ (l : List Element). l ++ (words ∷ [])) is.appended ∙ append_assoc before (is.given ∷ is.lost ∷ []) (words ∷ [])));
+  arrows_drawn = is.arrows_drawn;
+  crosses_drawn = is.crosses_drawn;
+}
 
 -- a group that begins with a line, whose ends are known otherwise
 pub begins : (from to p q : Point) (line : Element) (behind : List Element) (group : Element) → from ≡ p → to ≡ q

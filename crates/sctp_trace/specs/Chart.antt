@@ -36,6 +36,9 @@ place_at end row = record { x = lifeline_at end; y = height_at row }
 abbrev pub shown : Attribute → Key × List ℕ
 shown attribute = (attribute.key, string_bytes attribute.value)
 
+abbrev pub number_shown : Key × ℕ → Key × List ℕ
+number_shown number = (number.0, decimal number.1)
+
 abbrev pub class_shown : List ℕ → List (Key × List ℕ)
 class_shown [] = []
 class_shown (byte ∷ bytes) = (keys.Class, byte ∷ bytes) ∷ []
@@ -73,6 +76,14 @@ HasArrows rows group = AllZip IsArrow (arrows rows) (out-Element group).children
 
 abbrev pub HasCrosses : List Row → Element → Type 0
 HasCrosses rows group = AllZip IsCross (crosses rows) (out-Element group).children.items
+
+-- behind elements stand such groups
+pub record AreDrawn (rows : List Row) (before all : List Element) : Type 0 where
+  pub given : Element
+  pub lost : Element
+  pub appended : all ≡ before ++ (given ∷ lost ∷ [])
+  pub arrows_drawn : HasArrows rows given
+  pub crosses_drawn : HasCrosses rows lost
 
 -- two of the element's children are such groups
 pub record IsPicture (rows : List Row) (root : Element) : Type 0 where

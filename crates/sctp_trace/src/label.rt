@@ -36,42 +36,60 @@ fn chunk_name(kind: u8) -> &'static str
 }
 
 /// The TSN that the chunk begins with; behind it the stream of DATA, or how many blocks a SACK has.
-fn chunk_label(alloc: Global, item: RawItem) -> Result<String, AllocError> {
-    let name = chunk_name(item.first);
+fn push_chunk(label: &mut String, item: RawItem) -> Result<(), AllocError> {
+    label.push_str(chunk_name(item.first))?;
     let (tsn, rest) = match (item.first, u32_at(item.value)) {
-        (0 | 3 | 7 | 64 | 192 | 194, Ok((tsn, rest))) => (tsn, rest),
-        _ => return format!(in alloc; "{name}"),
+        (0 | 3 | 7 | 64 | 192 | 194, Ok(parts)) => parts,
+        _ => return Ok(()),
     };
-    let blocks = rest.get(4..).unwrap_or(&[]);
-    match (item.first, u16_at(rest), u16_at(blocks)) {
-        (0 | 64, Ok((stream, _)), _) => format!(in alloc; "{name} {tsn} s{stream}"),
-        (3, _, Ok((count, _))) if count > 0 => format!(in alloc; "{name} {tsn} +{count}"),
-        _ => format!(in alloc; "{name} {tsn}"),
+    write!(label, " {tsn}")?;
+    match item.first {
+        0 | 64 => push_number(label, " s", 0, rest),
+        3 => push_number(label, " +", 1, rest.get(4..).unwrap_or(&[])),
+        _ => Ok(()),
     }
+}
+
+/// The number that the bytes begin with, behind its sign, unless it is below the least one.
+fn push_number(label: &mut String, sign: &str, least: u16, bytes: &[u8]) -> Result<(), AllocError> {
+    match u16_at(bytes) {
+        Ok((number, _)) if number >= least => write!(label, "{sign}{number}"),
+        _ => Ok(()),
+    }
+}
+
+/// Appends the next chunk of those that are left, and answers what is left behind it.
+fn push_next<'a>(label: &mut String, rest: &'a [u8]) -> Result<&'a [u8], AllocError> {
+    if !label.is_empty() {
+        label.push_str(", ")?;
+    }
+    match RawItem::from_bytes(rest) {
+        Ok((item, after)) => {
+            push_chunk(label, item)?;
+            Ok(after)
+        }
+        Err(_) => {
+            label.push_str("?")?;
+            Ok(&[])
+        }
+    }
+}
+
+fn push_chunks(label: &mut String, chunks: &[u8]) -> Result<(), AllocError> {
+    let mut rest = chunks;
+    for _ in 0..chunks.len() {
+        if rest.is_empty() {
+            return Ok(());
+        }
+        rest = push_next(label, rest)?;
+    }
+    Ok(())
 }
 
 /// The chunks of the packet, joined by commas: DATA with its TSN and stream, SACK, SHUTDOWN and forward points with the TSN up to which
 /// they go, and behind `+` how many blocks a SACK has. A question mark stands for what is no chunk.
 pub fn packet_label(alloc: Global, bytes: &[u8]) -> Result<String, AllocError> {
     let mut label = String::new(alloc);
-    let mut rest = bytes.get(HEADER_SIZE..).unwrap_or(&[]);
-    for _ in 0..bytes.len() {
-        if rest.is_empty() {
-            break;
-        }
-        if !label.is_empty() {
-            label.push_str(", ")?;
-        }
-        match RawItem::from_bytes(rest) {
-            Ok((item, after)) => {
-                label.push_str(&chunk_label(alloc, item)?)?;
-                rest = after;
-            }
-            Err(_) => {
-                label.push_str("?")?;
-                rest = &[];
-            }
-        }
-    }
+    push_chunks(&mut label, bytes.get(HEADER_SIZE..).unwrap_or(&[]))?;
     Ok(label)
 }

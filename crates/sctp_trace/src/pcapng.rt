@@ -1,8 +1,9 @@
 //! The packets as a capture that Wireshark reads: pcapng, link type 248 (SCTP without IP).
 
 ghost use Rattle.std.specs.Prelude.{◌≡◌, ℕ, ◌+◌, ◌<◌, ◌≤◌, ◌^◌, ◌++◌, true, false, length, replicate, IfOk, IfErr, OnOk};
+ghost use Rattle.std.specs.List.{flat_map};
 ghost use Rattle.sctp_trace.specs.Bytes.{le16, le32, with_crc32c};
-ghost use Rattle.sctp_trace.specs.Capture.{pad, option_bytes, block, section_header, interface, interface_number, fate, packet_numbers, packet_body, packet_block, IsPacketSize, row_bytes, capture_bytes, is_too_long, has_long_packet};
+ghost use Rattle.sctp_trace.specs.Capture.{pad, option_bytes, section_header, interface, interface_number, fate, packet_body, packet_block, IsPacketSize, row_bytes, capture_bytes, is_too_long, has_long_packet};
 ghost use Rattle.sctp_trace.specs.Followed.{IsFollowed};
 ghost use Rattle.sctp_trace.specs.declared.pcapng.CaptureError.TheVariants.{Memory as no_memory};
 
@@ -16,23 +17,22 @@ use thiserror::Error;
 /// 2^32.
 const UPPER: u64 = 0x1_0000_0000;
 
-/// The whole block: byte order, version 1.0, and a length that isn't given.
-const SECTION_HEADER: [u8; 28] = [
+/// The blocks that come first: a section's header, whose length isn't given, and the interfaces a and b.
+const FRONT: [u8; 108] = [
+    // byte order, version 1.0
     0x0a, 0x0d, 0x0d, 0x0a, 28, 0, 0, 0, 0x4d, 0x3c, 0x2b, 0x1a, 1, 0, 0, 0, 0xff, 0xff, 0xff,
     0xff, 0xff, 0xff, 0xff, 0xff, 28, 0, 0, 0,
+    // link type 248, no limit of a packet's length, a name, and times in nanoseconds: a tenth to the power of 9
+    1, 0, 0, 0, 40, 0, 0, 0, 248, 0, 0, 0, 0, 0, 0, 0, 2, 0, 1, 0, b'a', 0, 0, 0, 9, 0, 1, 0, 9, 0,
+    0, 0, 0, 0, 0, 0, 40, 0, 0, 0, 1, 0, 0, 0, 40, 0, 0, 0, 248, 0, 0, 0, 0, 0, 0, 0, 2, 0, 1, 0,
+    b'b', 0, 0, 0, 9, 0, 1, 0, 9, 0, 0, 0, 0, 0, 0, 0, 40, 0, 0, 0,
 ];
-
-/// An interface up to its name of one byte: link type 248, and no limit of a packet's length.
-const INTERFACE_FRONT: [u8; 20] = [
-    1, 0, 0, 0, 40, 0, 0, 0, 248, 0, 0, 0, 0, 0, 0, 0, 2, 0, 1, 0,
-];
-
-/// And behind it: times in nanoseconds, whose unit is a tenth to the power of 9.
-const INTERFACE_BACK: [u8; 19] = [0, 0, 0, 9, 0, 1, 0, 9, 0, 0, 0, 0, 0, 0, 0, 40, 0, 0, 0];
 
 const ENHANCED_PACKET: u32 = 6;
 
 const OPTION_COMMENT: u16 = 1;
+
+const END_OF_OPTIONS: u32 = 0;
 
 /// Why there is no capture.
 #[derive(Clone, Copy, Debug, PartialEq, Eq, Error)]
@@ -66,6 +66,15 @@ fn push_u32(bytes: &mut Vec<u8>, n: u32) -> Result<(), AllocError>
     bytes.extend_from_slice(&n.to_le_bytes())
 }
 
+fn push_words(bytes: &mut Vec<u8>, words: &[u32]) -> Result<(), AllocError>
+    ensures { OnOk result (bytes.new.items ≡ bytes.old.items ++ flat_map le32 words.now) }
+{
+    for word in words {
+        push_u32(bytes, *word)?;
+    }
+    Ok(())
+}
+
 /// Appends up to three zeros.
 fn push_zeros(bytes: &mut Vec<u8>, count: usize) -> Result<(), AllocError>
     requires { count < 4 }
@@ -92,20 +101,11 @@ fn push_option(bytes: &mut Vec<u8>, code: u16, value: &[u8]) -> Result<(), Alloc
     push_padded(bytes, value)
 }
 
-#[tactic(auto, unfolding(crate::specs::Bytes::le16, crate::specs::Bytes::le32, crate::specs::Capture::block, crate::specs::Capture::section_body))]
-fn push_section_header(bytes: &mut Vec<u8>) -> Result<(), AllocError>
-    ensures { OnOk result (bytes.new.items ≡ bytes.old.items ++ section_header) }
+#[tactic(auto, unfolding(crate::specs::Bytes::le16, crate::specs::Bytes::le32, crate::specs::Capture::pad, crate::specs::Capture::option_bytes, crate::specs::Capture::block, crate::specs::Capture::section_body, crate::specs::Capture::interface_body))]
+fn push_front(bytes: &mut Vec<u8>) -> Result<(), AllocError>
+    ensures { OnOk result (bytes.new.items ≡ bytes.old.items ++ (section_header ++ (interface End.A ++ interface End.B))) }
 {
-    bytes.extend_from_slice(&SECTION_HEADER)
-}
-
-#[tactic(auto, using(crate::proofs::Lengths::interface_in_parts))]
-fn push_interface(bytes: &mut Vec<u8>, end: End) -> Result<(), AllocError>
-    ensures { OnOk result (bytes.new.items ≡ bytes.old.items ++ interface end) }
-{
-    bytes.extend_from_slice(&INTERFACE_FRONT)?;
-    bytes.extend_from_slice(end.name().as_bytes())?;
-    bytes.extend_from_slice(&INTERFACE_BACK)
+    bytes.extend_from_slice(&FRONT)
 }
 
 /// How often a packet was given, in words.
@@ -130,39 +130,6 @@ fn interface_number(end: End) -> u32
     }
 }
 
-fn push_numbers(
-    bytes: &mut Vec<u8>,
-    end: End,
-    nanoseconds: u64,
-    size: u32,
-) -> Result<(), AllocError>
-    ensures { OnOk result (bytes.new.items ≡ bytes.old.items ++ packet_numbers (interface_number end) nanoseconds size) }
-{
-    push_u32(bytes, interface_number(end))?;
-    push_u32(bytes, (nanoseconds / UPPER) as u32)?;
-    push_u32(bytes, (nanoseconds % UPPER) as u32)?;
-    push_u32(bytes, size)?;
-    push_u32(bytes, size)
-}
-
-#[tactic(auto, unfolding(crate::specs::Capture::packet_body))]
-fn push_packet_body(
-    bytes: &mut Vec<u8>,
-    end: End,
-    nanoseconds: u64,
-    packet: &[u8],
-    comment: &str,
-) -> Result<(), AllocError>
-    requires packet { length packet.now < 2 ^ 16 }
-    requires comment { length comment.now < 2 ^ 16 }
-    ensures { OnOk result (bytes.new.items ≡ bytes.old.items ++ packet_body (interface_number end) nanoseconds packet.now comment.now) }
-{
-    push_numbers(bytes, end, nanoseconds, packet.len() as u32)?;
-    push_padded(bytes, packet)?;
-    push_option(bytes, OPTION_COMMENT, comment.as_bytes())?;
-    push_u32(bytes, 0)
-}
-
 /// A packet's block, in bytes: its numbers, the packet and the comment.
 #[tactic(auto, using(crate::proofs::Lengths::length_packet_body))]
 fn packet_size(packet: &[u8], comment: &str) -> u32
@@ -175,7 +142,6 @@ fn packet_size(packet: &[u8], comment: &str) -> u32
     (40 + packet + comment) as u32
 }
 
-#[tactic(auto, unfolding(crate::specs::Capture::block))]
 fn push_packet(
     bytes: &mut Vec<u8>,
     end: End,
@@ -188,10 +154,22 @@ fn push_packet(
     ensures { OnOk result (bytes.new.items ≡ bytes.old.items ++ packet_block end nanoseconds packet.now comment.now) }
 {
     let size = packet_size(packet, comment);
-    push_u32(bytes, ENHANCED_PACKET)?;
-    push_u32(bytes, size)?;
-    push_packet_body(bytes, end, nanoseconds, packet, comment)?;
-    push_u32(bytes, size)
+    let upper = (nanoseconds / UPPER) as u32;
+    let lower = (nanoseconds % UPPER) as u32;
+    let length = packet.len() as u32;
+    let front = [
+        ENHANCED_PACKET,
+        size,
+        interface_number(end),
+        upper,
+        lower,
+        length,
+        length,
+    ];
+    push_words(bytes, &front)?;
+    push_padded(bytes, packet)?;
+    push_option(bytes, OPTION_COMMENT, comment.as_bytes())?;
+    push_words(bytes, &[END_OF_OPTIONS, size])
 }
 
 #[tactic(auto, using(crate::proofs::Lengths::length_with_crc32c))]
@@ -201,17 +179,12 @@ fn push_sent(
     row: &Row,
     packet: &[u8],
     times: usize,
-) -> Result<(), CaptureError>
-    ensures wrote { OnOk result (bytes.new.items ≡ bytes.old.items ++ packet_block row.now.end row.now.nanoseconds (with_crc32c packet.now) (fate times)) }
-    ensures short { OnOk result (length packet.now ≤ 65535) }
-    ensures long { IfErr result (λ e. e ≡ CaptureError.TooLong → 65535 < length packet.now) }
+) -> Result<(), AllocError>
+    requires { length packet.now < 2 ^ 16 }
+    ensures { OnOk result (bytes.new.items ≡ bytes.old.items ++ packet_block row.now.end row.now.nanoseconds (with_crc32c packet.now) (fate times)) }
 {
-    if packet.len() > 65_535 {
-        return Err(CaptureError::TooLong);
-    }
     let packet = with_crc32c(alloc, packet)?;
-    push_packet(bytes, row.end, row.nanoseconds, &packet, fate(times))?;
-    Ok(())
+    push_packet(bytes, row.end, row.nanoseconds, &packet, fate(times))
 }
 
 fn push_row(
@@ -226,26 +199,30 @@ fn push_row(
     ensures long { IfErr result (λ e. e ≡ CaptureError.TooLong → is_too_long row.now.what ≡ true) }
 {
     if let What::Sent(number, packet, _) = &row.what {
+        if packet.len() > 65_535 {
+            return Err(CaptureError::TooLong);
+        }
         let times = conversation.times_given(row.end, *number);
         push_sent(bytes, alloc, row, packet, times)?;
     }
     Ok(())
 }
 
-fn packets(alloc: Global, conversation: &Conversation) -> Result<Vec<u8>, CaptureError>
+fn push_packets(
+    bytes: &mut Vec<u8>,
+    alloc: Global,
+    conversation: &Conversation,
+) -> Result<(), CaptureError>
     requires { IsFollowed conversation.now }
-    ensures wrote { IfOk result (λ bytes. bytes.items ≡ capture_bytes conversation.now.rows.now) }
+    ensures wrote { OnOk result (bytes.new.items ≡ bytes.old.items ++ capture_bytes conversation.now.rows.now) }
     ensures short { OnOk result (has_long_packet conversation.now.rows.now ≡ false) }
     ensures long { IfErr result (λ e. e ≡ CaptureError.TooLong → has_long_packet conversation.now.rows.now ≡ true) }
 {
-    let mut bytes = Vec::new(alloc);
-    push_section_header(&mut bytes)?;
-    push_interface(&mut bytes, End::A)?;
-    push_interface(&mut bytes, End::B)?;
+    push_front(bytes)?;
     for row in conversation.rows {
-        push_row(&mut bytes, alloc, conversation, row)?;
+        push_row(bytes, alloc, conversation, row)?;
     }
-    Ok(bytes)
+    Ok(())
 }
 
 /// The packets in the order in which they were sent, each with its CRC32c, at the clock of its end; its comment says how often it was
@@ -256,7 +233,9 @@ pub fn capture(alloc: Global, rows: &[Row]) -> Result<Vec<u8>, CaptureError>
     ensures long { IfErr result (λ e. e ≡ CaptureError.TooLong → has_long_packet rows.now ≡ true) }
 {
     let conversation = Conversation::of(alloc, rows)?;
-    let bytes = packets(alloc, &conversation);
+    let mut bytes = Vec::new(alloc);
+    let outcome = push_packets(&mut bytes, alloc, &conversation);
     drop(conversation);
-    bytes
+    outcome?;
+    Ok(bytes)
 }

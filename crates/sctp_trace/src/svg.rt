@@ -2,10 +2,9 @@
 //! the ends say.
 
 ghost use Rattle.std.specs.Prelude.{◌≡◌, ◌∷◌, [], ◌++◌, map, string_bytes, IfOk, OnOk};
-ghost use Rattle.std.specs.Fmt.{decimal};
 ghost use Rattle.sctp_trace.specs.declared.xml.Element.TheViews.{out-Element};
 ghost use Rattle.sctp_trace.specs.Followed.{IsFollowed};
-ghost use Rattle.sctp_trace.specs.Chart.{lifeline_at, height_at, place_at, shown, class_shown, IsLineBetween, IsArrow, IsCross, HasArrows, HasCrosses, IsPicture, IsChart};
+ghost use Rattle.sctp_trace.specs.Chart.{lifeline_at, height_at, place_at, shown, number_shown, class_shown, IsLineBetween, IsArrow, IsCross, HasArrows, HasCrosses, AreDrawn, IsPicture, IsChart};
 
 use crate::conversation::Conversation;
 use crate::giving::{Arrow, Cross, arrows, crosses};
@@ -67,16 +66,17 @@ fn push_text(attributes: &mut Vec<Attribute>, key: Key, value: String) -> Result
     Ok(())
 }
 
-fn push_number(
+fn push_numbers(
     alloc: Global,
     attributes: &mut Vec<Attribute>,
-    key: Key,
-    n: u128,
+    numbers: &[(Key, u128)],
 ) -> Result<(), AllocError>
-    ensures { OnOk result (map shown attributes.new.items ≡ map shown attributes.old.items ++ ((key, decimal n) ∷ [])) }
+    ensures { OnOk result (map shown attributes.new.items ≡ map shown attributes.old.items ++ map number_shown numbers.now) }
 {
-    let value = format!(in alloc; "{n}")?;
-    push_text(attributes, key, value)
+    for (key, number) in numbers {
+        push_text(attributes, *key, format!(in alloc; "{number}")?)?;
+    }
+    Ok(())
 }
 
 /// The attribute of a class, and none where it is empty.
@@ -115,10 +115,13 @@ fn line(alloc: Global, class: &str, from: Point, to: Point) -> Result<Element, A
     ensures { IfOk result (IsLineBetween from to) }
 {
     let mut attributes = class_of(alloc, class)?;
-    push_number(alloc, &mut attributes, Key::X1, from.x)?;
-    push_number(alloc, &mut attributes, Key::Y1, from.y)?;
-    push_number(alloc, &mut attributes, Key::X2, to.x)?;
-    push_number(alloc, &mut attributes, Key::Y2, to.y)?;
+    let ends = [
+        (Key::X1, from.x),
+        (Key::Y1, from.y),
+        (Key::X2, to.x),
+        (Key::Y2, to.y),
+    ];
+    push_numbers(alloc, &mut attributes, &ends)?;
     Ok(element(alloc, Tag::Line, attributes, Vec::new(alloc)))
 }
 
@@ -136,23 +139,40 @@ fn front(words: &str) -> &str {
     }
 }
 
-fn words_at(alloc: Global, class: &str, at: Point, words: &str) -> Result<Element, AllocError> {
+/// An element that has no children.
+fn words(
+    alloc: Global,
+    tag: Tag,
+    attributes: Vec<Attribute>,
+    words: &str,
+) -> Result<Element, AllocError> {
+    let text = String::from_str(alloc, words)?;
+    Ok(Element {
+        tag,
+        attributes,
+        text,
+        children: Vec::new(alloc),
+    })
+}
+
+fn words_at(alloc: Global, class: &str, at: Point, text: &str) -> Result<Element, AllocError> {
     let mut attributes = class_of(alloc, class)?;
-    push_number(alloc, &mut attributes, Key::X, at.x)?;
-    push_number(alloc, &mut attributes, Key::Y, at.y)?;
-    let mut text = element(alloc, Tag::Text, attributes, Vec::new(alloc));
-    text.text.push_str(front(words))?;
-    Ok(text)
+    push_numbers(alloc, &mut attributes, &[(Key::X, at.x), (Key::Y, at.y)])?;
+    words(alloc, Tag::Text, attributes, front(text))
 }
 
 /// The triangle at an arrow's end.
 fn head(alloc: Global, arrow: &Arrow, at: Point) -> Result<Element, AllocError> {
     let Point { x, y } = at;
-    let way = match arrow.from {
-        End::A => format!(in alloc; "M{x},{y} l-9,-4 v7 z")?,
-        End::B => format!(in alloc; "M{x},{y} l9,-4 v7 z")?,
+    let back = match arrow.from {
+        End::A => "-9",
+        End::B => "9",
     };
-    path(alloc, "head", way)
+    path(
+        alloc,
+        "head",
+        format!(in alloc; "M{x},{y} l{back},-4 v7 z")?,
+    )
 }
 
 /// A line from the sending to the giving, and its head.
@@ -248,6 +268,18 @@ fn words_of(
     words_at(alloc, class, at, words)
 }
 
+fn push_words(
+    alloc: Global,
+    children: &mut Vec<Element>,
+    end: End,
+    row: usize,
+    is_between: bool,
+    words: &str,
+) -> Result<(), AllocError> {
+    children.push(words_of(alloc, end, row, is_between, words)?)?;
+    Ok(())
+}
+
 fn push_row(
     alloc: Global,
     children: &mut Vec<Element>,
@@ -257,12 +289,11 @@ fn push_row(
     match &row.what {
         What::Sent(number, _, label) => {
             let words = format!(in alloc; "{number}: {label}")?;
-            children.push(words_of(alloc, row.end, at, true, &words)?)?;
+            push_words(alloc, children, row.end, at, true, &words)
         }
-        What::Given(_) => {}
-        What::Told(words) => children.push(words_of(alloc, row.end, at, false, words)?)?,
+        What::Given(_) => Ok(()),
+        What::Told(words) => push_words(alloc, children, row.end, at, false, words),
     }
-    Ok(())
 }
 
 /// One group with what stands beside the lifelines and on the arrows.
@@ -288,15 +319,34 @@ fn root_attributes(alloc: Global, height: u128) -> Result<Vec<Attribute>, AllocE
     push_text(&mut attributes, Key::Xmlns, space)?;
     let view = format!(in alloc; "0 0 {WIDTH} {height}")?;
     push_text(&mut attributes, Key::ViewBox, view)?;
-    push_number(alloc, &mut attributes, Key::Width, WIDTH)?;
-    push_number(alloc, &mut attributes, Key::Height, height)?;
+    push_numbers(
+        alloc,
+        &mut attributes,
+        &[(Key::Width, WIDTH), (Key::Height, height)],
+    )?;
     Ok(attributes)
 }
 
-fn style_element(alloc: Global) -> Result<Element, AllocError> {
-    let mut style = element(alloc, Tag::Style, Vec::new(alloc), Vec::new(alloc));
-    style.text.push_str(STYLE)?;
-    Ok(style)
+/// The style, and the lifelines with their names.
+fn push_ends(alloc: Global, children: &mut Vec<Element>, bottom: u128) -> Result<(), AllocError> {
+    children.push(words(alloc, Tag::Style, Vec::new(alloc), STYLE)?)?;
+    children.push(lifeline(alloc, End::A, bottom)?)?;
+    children.push(lifeline(alloc, End::B, bottom)?)?;
+    Ok(())
+}
+
+/// What became of the packets: arrows and crosses.
+fn push_ways(
+    alloc: Global,
+    children: &mut Vec<Element>,
+    conversation: &Conversation,
+) -> Result<(), AllocError>
+    requires { IsFollowed conversation.now }
+    ensures { OnOk result (AreDrawn conversation.now.rows.now children.old.items children.new.items) }
+{
+    children.push(arrows_group(alloc, conversation)?)?;
+    children.push(crosses_group(alloc, conversation)?)?;
+    Ok(())
 }
 
 fn tree(alloc: Global, conversation: &Conversation) -> Result<Element, AllocError>
@@ -304,14 +354,11 @@ fn tree(alloc: Global, conversation: &Conversation) -> Result<Element, AllocErro
     ensures { IfOk result (IsPicture conversation.now.rows.now) }
 {
     let bottom = height_of(conversation.rows.len());
-    let attributes = root_attributes(alloc, bottom)?;
     let mut children = Vec::new(alloc);
-    children.push(style_element(alloc)?)?;
-    children.push(lifeline(alloc, End::A, bottom)?)?;
-    children.push(lifeline(alloc, End::B, bottom)?)?;
-    children.push(arrows_group(alloc, conversation)?)?;
-    children.push(crosses_group(alloc, conversation)?)?;
+    push_ends(alloc, &mut children, bottom)?;
+    push_ways(alloc, &mut children, conversation)?;
     children.push(words_group(alloc, conversation.rows)?)?;
+    let attributes = root_attributes(alloc, bottom)?;
     Ok(element(alloc, Tag::Svg, attributes, children))
 }
 

@@ -5,7 +5,7 @@ use Rattle.sctp_trace.proofs.pcapng.push_row.Goals as goal
 
 pub returns-in_ok-push_sent-clause-wrote : goal.returns-in_ok-push_sent-clause-wrote
 returns-in_ok-push_sent-clause-wrote c =
-    c.in_ok-push_sent.ensures.wrote
+    c.in_ok-push_sent.ensures
     ∙ ap (λ (x : List ℕ). c.args.bytes.now.items ++ x)
     (ap₂ (λ (packet : List ℕ) (times : ℕ). packet_block c.args.row.now.end c.args.row.now.nanoseconds (with_crc32c packet) (fate times))
     c.deref.ensures.value

@@ -1,0 +1,10 @@
+use Rattle.std.proofs.Common.{◌++◌, ap, ◌∙◌}
+use Rattle.sctp_trace.specs.declared.xml.Attribute.{Attribute}
+use Rattle.sctp_trace.specs.Xml.{attribute_bytes}
+use Rattle.sctp_trace.proofs.Appended.{flat_more}
+use Rattle.sctp_trace.proofs.xml.push_attributes.Goals as goal
+
+pub loop-attribute-preserved : goal.loop-attribute-preserved
+loop-attribute-preserved c = flat_more attribute_bytes c.args.output.now.items c.loop-attribute.output.items _ c.args.attributes.now
+    c.loop-attribute.attribute-index c.attribute-item.result c.loop-attribute-test.true c.loop-attribute.invariant
+    (c.in_ok-push_attribute.ensures ∙ ap (λ (attribute : Attribute). c.loop-attribute.output.items ++ attribute_bytes attribute) c.attribute-item.is)

@@ -1,0 +1,7 @@
+use Rattle.sctp_trace.specs.Xml.{escaped_code}
+use Rattle.sctp_trace.proofs.Appended.{flat_more}
+use Rattle.sctp_trace.proofs.xml.push_escaped.Goals as goal
+
+pub loop-byte-preserved : goal.loop-byte-preserved
+loop-byte-preserved c = flat_more escaped_code c.args.output.now.items c.loop-byte.output.items _ c.args.text.now c.loop-byte.byte-index _
+    c.loop-byte-test.true c.loop-byte.invariant c.in_ok-push_escaped_byte.ensures
