@@ -1,4 +1,4 @@
-//! What commands say and answer, and the loop over the commands of a section.
+//! What commands say and answer, what is printed, and the loop over the commands of a section.
 
 use hex::FromHexError;
 use std::alloc::{AllocError, Global};
@@ -16,6 +16,16 @@ pub enum Answer {
     Refused,
     /// The line is no command.
     Unknown,
+    /// There was no memory for it.
+    NoMemory,
+}
+
+/// Done, unless there was no memory for it.
+pub fn done<T: Drop, E: Drop>(outcome: Result<T, E>) -> Answer {
+    match outcome {
+        Ok(_) => Answer::Done,
+        Err(_) => Answer::NoMemory,
+    }
 }
 
 /// A name, and up to four numbers behind it.
@@ -24,19 +34,14 @@ pub struct Line<'a> {
     pub name: &'a str,
     /// The last word behind the name, where there is one.
     pub last: &'a str,
-    /// 1 for yes and 0 for no; the greatest number for another word.
+    /// 1 for yes, 0 for no and for one that is left out; the greatest number for another word.
     pub numbers: [u64; 4],
 }
 
 /// What is tried in a section.
 pub trait Subject {
     /// Does what the line says. What is printed goes behind the line.
-    fn obey(
-        &mut self,
-        alloc: Global,
-        line: Line<'_>,
-        output: &mut String,
-    ) -> Result<Answer, AllocError>;
+    fn obey(&mut self, alloc: Global, line: Line<'_>, output: &mut Output) -> Answer;
 }
 
 /// The text before the first separator, and that behind it.
@@ -54,31 +59,25 @@ pub fn line_of(text: &str) -> Line<'_> {
         Some((_, last)) => last,
         None => rest,
     };
+    let mut words = rest.split_whitespace();
+    let numbers = [
+        number(words.next()),
+        number(words.next()),
+        number(words.next()),
+        number(words.next()),
+    ];
     Line {
         name,
         last,
-        numbers: numbers_of(rest),
+        numbers,
     }
 }
 
-/// The first four numbers.
-fn numbers_of(words: &str) -> [u64; 4] {
-    let mut numbers = [0; 4];
-    let mut count = 0;
-    for word in words.split_whitespace() {
-        if count < 4 {
-            numbers[count] = number(word);
-            count += 1;
-        }
-    }
-    numbers
-}
-
-fn number(word: &str) -> u64 {
+fn number(word: Option<&str>) -> u64 {
     match word {
-        "yes" => 1,
-        "no" => 0,
-        _ => word.parse::<u64>().unwrap_or(u64::MAX),
+        Some("yes") => 1,
+        Some("no") | None => 0,
+        Some(word) => word.parse::<u64>().unwrap_or(u64::MAX),
     }
 }
 
@@ -92,12 +91,12 @@ pub fn low_half(number: u64) -> u16 {
     u16::try_from(number).unwrap_or(u16::MAX)
 }
 
-/// The bytes that hex digits say, if the word has such digits alone.
-pub fn bytes_of(alloc: Global, digits: &str) -> Result<Option<Vec<u8>>, AllocError> {
+/// The bytes that hex digits say; what the command answers where the word has no such digits alone.
+pub fn bytes_of(alloc: Global, digits: &str) -> Result<Vec<u8>, Answer> {
     match hex::decode(alloc, digits) {
-        Ok(bytes) => Ok(Some(bytes)),
-        Err(FromHexError::OutOfMemory) => Err(AllocError),
-        Err(_) => Ok(None),
+        Ok(bytes) => Ok(bytes),
+        Err(FromHexError::OutOfMemory) => Err(Answer::NoMemory),
+        Err(_) => Err(Answer::Unknown),
     }
 }
 
@@ -105,47 +104,116 @@ pub fn bytes_of(alloc: Global, digits: &str) -> Result<Option<Vec<u8>>, AllocErr
 pub fn run_commands<S: Subject>(
     alloc: Global,
     commands: &str,
-    output: &mut String,
+    output: &mut Output,
     subject: &mut S,
-) -> Result<(), AllocError> {
+) {
     for command in commands.lines() {
-        output.push_str(command)?;
-        let answer = subject.obey(alloc, line_of(command), output)?;
-        finish(output, answer)?;
-    }
-    Ok(())
-}
-
-fn finish(output: &mut String, answer: Answer) -> Result<(), AllocError> {
-    match answer {
-        Answer::Done => output.push_str("\n"),
-        Answer::Flag(true) => output.push_str(": yes\n"),
-        Answer::Flag(false) => output.push_str(": no\n"),
-        Answer::Number(number) => writeln!(output, ": {number}"),
-        Answer::Refused => output.push_str(": refused\n"),
-        Answer::Unknown => output.push_str(" ?\n"),
+        output.push_str(command);
+        let answer = subject.obey(alloc, line_of(command), output);
+        output.finish(answer);
     }
 }
 
-/// Prints a value's text.
-pub fn tell<T: Display>(output: &mut String, value: &T) -> Result<Answer, AllocError> {
-    write!(output, ": {value}")?;
-    Ok(Answer::Done)
+/// What is printed at the end, unless memory was refused before.
+#[derive(Drop)]
+pub struct Output {
+    pub text: String,
+    outcome: Result<(), AllocError>,
 }
 
-/// Prints bytes, in hex.
-pub fn tell_hex(alloc: Global, output: &mut String, bytes: &[u8]) -> Result<Answer, AllocError> {
-    let digits = hex::encode(alloc, bytes)?;
-    let outcome = tell(output, &digits);
-    drop(digits);
-    outcome
-}
-
-/// Prints values, each with its name. A flag is 1 or 0.
-pub fn tell_all(output: &mut String, values: &[(&str, u128)]) -> Result<Answer, AllocError> {
-    output.push_str(":")?;
-    for (name, value) in values {
-        write!(output, " {name} {value}")?;
+impl Output {
+    pub fn new(alloc: Global) -> Output {
+        Output {
+            text: String::new(alloc),
+            outcome: Ok(()),
+        }
     }
-    Ok(Answer::Done)
+
+    /// The whole text.
+    pub fn whole(&self) -> Result<&str, AllocError> {
+        self.outcome?;
+        Ok(self.text.as_str())
+    }
+
+    fn note(&mut self, outcome: Result<(), AllocError>) {
+        if outcome.is_err() {
+            self.outcome = outcome;
+        }
+    }
+
+    pub fn push_str(&mut self, text: &str) {
+        let outcome = self.text.push_str(text);
+        self.note(outcome);
+    }
+
+    /// Ends the line with what the command answers.
+    fn finish(&mut self, answer: Answer) {
+        let text = match answer {
+            Answer::Done => "\n",
+            Answer::Flag(true) => ": yes\n",
+            Answer::Flag(false) => ": no\n",
+            Answer::Number(number) => {
+                let outcome = writeln!(self.text, ": {number}");
+                self.note(outcome);
+                return;
+            }
+            Answer::Refused => ": refused\n",
+            Answer::Unknown => " ?\n",
+            Answer::NoMemory => {
+                self.note(Err(AllocError));
+                return;
+            }
+        };
+        self.push_str(text);
+    }
+
+    /// Prints a value.
+    pub fn tell<T: Display>(&mut self, value: &T) -> Answer {
+        let outcome = write!(self.text, ": {value}");
+        self.note(outcome);
+        Answer::Done
+    }
+
+    /// Prints why a call fails, and the number of that.
+    pub fn tell_error<T: Display>(&mut self, error: &T, number: u8) -> Answer {
+        done(write!(self.text, ": {error} ({number})"))
+    }
+
+    fn push_named(&mut self, name: &str, value: u128) {
+        let outcome = write!(self.text, " {name} {value}");
+        self.note(outcome);
+    }
+
+    /// Prints values, each with its name. A flag is 1 or 0.
+    pub fn tell_all(&mut self, values: &[(&str, u128)]) -> Answer {
+        self.push_str(":");
+        for (name, value) in values {
+            self.push_named(name, *value);
+        }
+        Answer::Done
+    }
+
+    /// Prints bytes, in hex.
+    pub fn tell_hex(&mut self, alloc: Global, bytes: &[u8]) -> Answer {
+        match hex::encode(alloc, bytes) {
+            Ok(digits) => {
+                let answer = self.tell(&digits);
+                drop(digits);
+                answer
+            }
+            Err(_) => Answer::NoMemory,
+        }
+    }
+
+    /// Prints the bytes that a call made, in hex.
+    pub fn tell_made(&mut self, alloc: Global, made: Result<Vec<u8>, AllocError>) -> Answer {
+        match made {
+            Ok(bytes) => {
+                let answer = self.tell_hex(alloc, &bytes);
+                drop(bytes);
+                answer
+            }
+            Err(_) => Answer::NoMemory,
+        }
+    }
 }

@@ -1,15 +1,13 @@
 //! `capabilities`: what two ends announce and negotiate.
 
-use crate::answer::{
-    Answer, Line, Subject, bytes_of, low_half, low_word, run_commands, tell_all, tell_hex,
-};
+use crate::answer::{Answer, Line, Output, Subject, bytes_of, low_half, low_word, run_commands};
 use crate::options::set_option;
 use sctp_capabilities::{Capabilities, announced_parameters};
 use sctp_parameter::{Parameter, parameters_from_bytes};
 use sctp_serial::ZeroChecksumAlternateErrorDetectionMethod;
 use sctp_state::Options;
 use sctp_wire::{ChunkParseError, all_encodable, parameters_serialize_to};
-use std::alloc::{AllocError, Global};
+use std::alloc::Global;
 
 /// What an end has been set to, and what was announced to it last.
 #[derive(Clone, Copy)]
@@ -18,81 +16,71 @@ struct End {
     told: Capabilities,
 }
 
-pub fn run(alloc: Global, commands: &str, output: &mut String) -> Result<(), AllocError> {
+pub fn run(alloc: Global, commands: &str, output: &mut Output) {
     let mut end = End {
         options: Options::default(),
         told: Capabilities::default(),
     };
-    run_commands(alloc, commands, output, &mut end)
+    run_commands(alloc, commands, output, &mut end);
 }
 
 impl Subject for End {
     /// `announce METHOD`: the parameters. `told OUTGOING INCOMING HEX`: by an INIT with these stream counts and parameters; `nothing`:
     /// without parameters. `negotiate`. `default`. `end`: the other end, with the options of a new socket. Or an option.
-    fn obey(
-        &mut self,
-        alloc: Global,
-        line: Line<'_>,
-        output: &mut String,
-    ) -> Result<Answer, AllocError> {
+    fn obey(&mut self, alloc: Global, line: Line<'_>, output: &mut Output) -> Answer {
         match line.name {
             "announce" => announce(alloc, &self.options, line.numbers[0], output),
-            "told" => {
-                read(alloc, &mut self.told, line)?;
-                show(self.told, output)
-            }
+            "told" => told(alloc, &mut self.told, line, output),
             "nothing" => show(Capabilities::from_parameters(0, 0, &[]), output),
             "negotiate" => show(self.told.negotiate(&self.options), output),
             "default" => show(Capabilities::default(), output),
             "end" => {
                 self.options = Options::default();
-                Ok(Answer::Done)
+                Answer::Done
             }
-            name => Ok(set_option(&mut self.options, name, line.numbers[0])),
+            name => set_option(&mut self.options, name, line.numbers[0]),
         }
     }
 }
 
-fn announce(
-    alloc: Global,
-    options: &Options,
-    method: u64,
-    output: &mut String,
-) -> Result<Answer, AllocError> {
+fn announce(alloc: Global, options: &Options, method: u64, output: &mut Output) -> Answer {
     let method = ZeroChecksumAlternateErrorDetectionMethod(low_word(method));
-    let parameters = announced_parameters(alloc, options, method)?;
-    let outcome = write_parameters(alloc, &parameters, output);
-    drop(parameters);
-    outcome
+    match announced_parameters(alloc, options, method) {
+        Ok(parameters) => {
+            let answer = write_parameters(alloc, &parameters, output);
+            drop(parameters);
+            answer
+        }
+        Err(_) => Answer::NoMemory,
+    }
 }
 
-fn write_parameters(
-    alloc: Global,
-    parameters: &[Parameter],
-    output: &mut String,
-) -> Result<Answer, AllocError> {
+fn write_parameters(alloc: Global, parameters: &[Parameter], output: &mut Output) -> Answer {
     if !all_encodable(parameters) {
-        return Ok(Answer::Refused);
+        return Answer::Refused;
     }
     let mut bytes = Vec::new(alloc);
-    parameters_serialize_to(parameters, &mut bytes)?;
-    tell_hex(alloc, output, &bytes)
+    let outcome = parameters_serialize_to(parameters, &mut bytes);
+    output.tell_made(alloc, outcome.map(|_| bytes))
+}
+
+fn told(alloc: Global, told: &mut Capabilities, line: Line<'_>, output: &mut Output) -> Answer {
+    let answer = match bytes_of(alloc, line.last) {
+        Ok(bytes) => {
+            let answer = read(alloc, told, line.numbers, &bytes);
+            drop(bytes);
+            answer
+        }
+        Err(answer) => answer,
+    };
+    match answer {
+        Answer::NoMemory => answer,
+        _ => show(*told, output),
+    }
 }
 
 /// What is no list of parameters announces nothing.
-fn read(alloc: Global, told: &mut Capabilities, line: Line<'_>) -> Result<(), AllocError> {
-    match bytes_of(alloc, line.last)? {
-        Some(bytes) => read_parameters(alloc, told, line.numbers, &bytes),
-        None => Ok(()),
-    }
-}
-
-fn read_parameters(
-    alloc: Global,
-    told: &mut Capabilities,
-    streams: [u64; 4],
-    bytes: &[u8],
-) -> Result<(), AllocError> {
+fn read(alloc: Global, told: &mut Capabilities, streams: [u64; 4], bytes: &[u8]) -> Answer {
     match parameters_from_bytes(alloc, bytes) {
         Ok(parameters) => {
             let [outgoing, incoming, _, _] = streams;
@@ -102,14 +90,14 @@ fn read_parameters(
                 &parameters,
             );
             drop(parameters);
-            Ok(())
+            Answer::Done
         }
-        Err(ChunkParseError::Memory) => Err(AllocError),
-        Err(_) => Ok(()),
+        Err(ChunkParseError::Memory) => Answer::NoMemory,
+        Err(_) => Answer::Unknown,
     }
 }
 
-fn show(told: Capabilities, output: &mut String) -> Result<Answer, AllocError> {
+fn show(told: Capabilities, output: &mut Output) -> Answer {
     let incoming = told.negotiated_maximum_incoming_streams;
     let outgoing = told.negotiated_maximum_outgoing_streams;
     let values = [
@@ -120,5 +108,5 @@ fn show(told: Capabilities, output: &mut String) -> Result<Answer, AllocError> {
         ("incoming", incoming as u128),
         ("outgoing", outgoing as u128),
     ];
-    tell_all(output, &values)
+    output.tell_all(&values)
 }

@@ -1,13 +1,11 @@
 //! `cookie`: what an end keeps of an INIT by sending it to the peer.
 
-use crate::answer::{
-    Answer, Line, Subject, bytes_of, low_half, low_word, run_commands, tell, tell_all, tell_hex,
-};
+use crate::answer::{Answer, Line, Output, Subject, bytes_of, low_half, low_word, run_commands};
 use sctp_capabilities::{Capabilities, StateCookie};
 use sctp_serial::{Tsn, ZeroChecksumAlternateErrorDetectionMethod};
-use std::alloc::{AllocError, Global};
+use std::alloc::Global;
 
-pub fn run(alloc: Global, commands: &str, output: &mut String) -> Result<(), AllocError> {
+pub fn run(alloc: Global, commands: &str, output: &mut Output) {
     let mut cookie = StateCookie {
         peer_tag: 0,
         my_tag: 0,
@@ -17,70 +15,45 @@ pub fn run(alloc: Global, commands: &str, output: &mut String) -> Result<(), All
         tie_tag: 0,
         peer_capabilities: Capabilities::default(),
     };
-    run_commands(alloc, commands, output, &mut cookie)
+    run_commands(alloc, commands, output, &mut cookie);
 }
 
 impl Subject for StateCookie {
     /// `write`: the bytes. `read HEX`: takes the cookie of these bytes, or says why they are none. `show`, `capabilities`, and
     /// what can be set.
-    fn obey(
-        &mut self,
-        alloc: Global,
-        line: Line<'_>,
-        output: &mut String,
-    ) -> Result<Answer, AllocError> {
+    fn obey(&mut self, alloc: Global, line: Line<'_>, output: &mut Output) -> Answer {
         match line.name {
-            "write" => write_cookie(alloc, self, output),
+            "write" => output.tell_made(alloc, self.serialize(alloc)),
             "read" => read(alloc, self, line.last, output),
             "show" => show(self, output),
             "capabilities" => show_capabilities(&self.peer_capabilities, output),
-            name => Ok(set(self, name, line.numbers)),
+            name => set(self, name, line.numbers),
         }
     }
 }
 
-fn write_cookie(
-    alloc: Global,
-    cookie: &StateCookie,
-    output: &mut String,
-) -> Result<Answer, AllocError> {
-    let bytes = cookie.serialize(alloc)?;
-    let outcome = tell_hex(alloc, output, &bytes);
-    drop(bytes);
-    outcome
-}
-
-fn read(
-    alloc: Global,
-    cookie: &mut StateCookie,
-    digits: &str,
-    output: &mut String,
-) -> Result<Answer, AllocError> {
-    match bytes_of(alloc, digits)? {
-        Some(bytes) => {
-            let outcome = read_bytes(cookie, &bytes, output);
+fn read(alloc: Global, cookie: &mut StateCookie, digits: &str, output: &mut Output) -> Answer {
+    match bytes_of(alloc, digits) {
+        Ok(bytes) => {
+            let answer = read_bytes(cookie, &bytes, output);
             drop(bytes);
-            outcome
+            answer
         }
-        None => Ok(Answer::Unknown),
+        Err(answer) => answer,
     }
 }
 
-fn read_bytes(
-    cookie: &mut StateCookie,
-    bytes: &[u8],
-    output: &mut String,
-) -> Result<Answer, AllocError> {
+fn read_bytes(cookie: &mut StateCookie, bytes: &[u8], output: &mut Output) -> Answer {
     match StateCookie::from_bytes(bytes) {
         Ok(read) => {
             *cookie = read;
-            Ok(Answer::Done)
+            Answer::Done
         }
-        Err(error) => tell(output, &error),
+        Err(error) => output.tell(&error),
     }
 }
 
-fn show(cookie: &StateCookie, output: &mut String) -> Result<Answer, AllocError> {
+fn show(cookie: &StateCookie, output: &mut Output) -> Answer {
     let values = [
         ("peer-tag", cookie.peer_tag as u128),
         ("my-tag", cookie.my_tag as u128),
@@ -89,10 +62,10 @@ fn show(cookie: &StateCookie, output: &mut String) -> Result<Answer, AllocError>
         ("window", cookie.a_rwnd as u128),
         ("tie", cookie.tie_tag as u128),
     ];
-    tell_all(output, &values)
+    output.tell_all(&values)
 }
 
-fn show_capabilities(told: &Capabilities, output: &mut String) -> Result<Answer, AllocError> {
+fn show_capabilities(told: &Capabilities, output: &mut Output) -> Answer {
     let incoming = told.negotiated_maximum_incoming_streams;
     let outgoing = told.negotiated_maximum_outgoing_streams;
     let values = [
@@ -103,7 +76,7 @@ fn show_capabilities(told: &Capabilities, output: &mut String) -> Result<Answer,
         ("incoming", incoming as u128),
         ("outgoing", outgoing as u128),
     ];
-    tell_all(output, &values)
+    output.tell_all(&values)
 }
 
 /// `tags PEER MINE`, `tsns PEER MINE`, `window BYTES`, `tie TAG`, and what `set_capability` says.

@@ -2,30 +2,20 @@
 //!
 //! `counter LIMIT`: how often in turn the peer didn't answer; without a limit where that is no number.
 
-use crate::answer::{Answer, Line, Subject, run_commands};
+use crate::answer::{Answer, Line, Output, Subject, run_commands};
 use sctp_state::{ThresholdWatcher, TxErrorCounter};
-use std::alloc::{AllocError, Global};
+use std::alloc::Global;
 
-pub fn run_watcher(
-    alloc: Global,
-    numbers: [u64; 4],
-    commands: &str,
-    output: &mut String,
-) -> Result<(), AllocError> {
-    let mut watcher = ThresholdWatcher::new(numbers[0] as usize);
-    run_commands(alloc, commands, output, &mut watcher)
+pub fn run_watcher(alloc: Global, line: Line<'_>, commands: &str, output: &mut Output) {
+    let mut watcher = ThresholdWatcher::new(line.numbers[0] as usize);
+    run_commands(alloc, commands, output, &mut watcher);
 }
 
 impl Subject for ThresholdWatcher {
     /// `increase BYTES`, `threshold BYTES`, `crossed-at BYTES`, `decrease BYTES`, `crossed-by BYTES`, `amount`, `low`.
-    fn obey(
-        &mut self,
-        _alloc: Global,
-        line: Line<'_>,
-        _output: &mut String,
-    ) -> Result<Answer, AllocError> {
+    fn obey(&mut self, _alloc: Global, line: Line<'_>, _output: &mut Output) -> Answer {
         let bytes = line.numbers[0] as usize;
-        Ok(match line.name {
+        match line.name {
             "increase" => increase(self, bytes),
             "threshold" => Answer::Flag(self.set_low_threshold(bytes)),
             "crossed-at" => Answer::Flag(self.is_crossed_at(bytes)),
@@ -34,7 +24,7 @@ impl Subject for ThresholdWatcher {
             "amount" => Answer::Number(self.amount() as u128),
             "low" => Answer::Number(self.low_threshold() as u128),
             _ => Answer::Unknown,
-        })
+        }
     }
 }
 
@@ -60,31 +50,21 @@ fn is_crossed_by(watcher: &ThresholdWatcher, bytes: usize) -> Answer {
     Answer::Flag(watcher.is_crossed_by(bytes))
 }
 
-pub fn run_counter(
-    alloc: Global,
-    numbers: [u64; 4],
-    commands: &str,
-    output: &mut String,
-) -> Result<(), AllocError> {
-    let mut counter = TxErrorCounter::new(u32::try_from(numbers[0]).ok());
-    run_commands(alloc, commands, output, &mut counter)
+pub fn run_counter(alloc: Global, line: Line<'_>, commands: &str, output: &mut Output) {
+    let mut counter = TxErrorCounter::new(u32::try_from(line.numbers[0]).ok());
+    run_commands(alloc, commands, output, &mut counter);
 }
 
 impl Subject for TxErrorCounter {
     /// `increment`, `reset`, `value`, `exhausted`.
-    fn obey(
-        &mut self,
-        _alloc: Global,
-        line: Line<'_>,
-        _output: &mut String,
-    ) -> Result<Answer, AllocError> {
+    fn obey(&mut self, _alloc: Global, line: Line<'_>, _output: &mut Output) -> Answer {
         match line.name {
             "increment" => self.increment(),
             "reset" => self.reset(),
-            "value" => return Ok(Answer::Number(self.value() as u128)),
-            "exhausted" => return Ok(Answer::Flag(self.is_exhausted())),
-            _ => return Ok(Answer::Unknown),
+            "value" => return Answer::Number(self.value() as u128),
+            "exhausted" => return Answer::Flag(self.is_exhausted()),
+            _ => return Answer::Unknown,
         }
-        Ok(Answer::Done)
+        Answer::Done
     }
 }

@@ -2,7 +2,7 @@
 //! connected one that has sent nothing.
 
 use crate::answer::{
-    Answer, Line, Subject, bytes_of, low_half, low_word, run_commands, tell, tell_hex,
+    Answer, Line, Output, Subject, bytes_of, done, low_half, low_word, run_commands,
 };
 use sctp_handover::{RecordFault, from_bytes, to_bytes};
 use sctp_state::SocketHandoverState;
@@ -10,19 +10,13 @@ use sctp_state::api::handover::{
     HandoverOrderedStream, HandoverOutgoingStream, HandoverOutstandingData, HandoverSocketState,
     HandoverStreamMessage, HandoverTransmission,
 };
-use std::alloc::{AllocError, Global};
+use std::alloc::Global;
 
-pub fn run(
-    alloc: Global,
-    made_of: &str,
-    commands: &str,
-    output: &mut String,
-) -> Result<(), AllocError> {
+pub fn run(alloc: Global, line: Line<'_>, commands: &str, output: &mut Output) {
     let mut state = SocketHandoverState::empty(alloc);
-    connect(&mut state, made_of);
-    let outcome = run_commands(alloc, commands, output, &mut state);
+    connect(&mut state, line.last);
+    run_commands(alloc, commands, output, &mut state);
     drop(state);
-    outcome
 }
 
 fn connect(state: &mut SocketHandoverState, made_of: &str) {
@@ -38,51 +32,35 @@ fn connect(state: &mut SocketHandoverState, made_of: &str) {
 impl Subject for SocketHandoverState {
     /// `valid`; `written`: its bytes, in hex; `read HEX`: the record that these bytes are, in place of it; `peer-tag TAG`;
     /// `interleaving FLAG`; `ordered STREAM NEXT`: a stream on which messages came; `ordered-count`; and what this end sends.
-    fn obey(
-        &mut self,
-        alloc: Global,
-        line: Line<'_>,
-        output: &mut String,
-    ) -> Result<Answer, AllocError> {
-        let [first, _, _, _] = line.numbers;
+    fn obey(&mut self, alloc: Global, line: Line<'_>, output: &mut Output) -> Answer {
+        let first = line.numbers[0];
         match line.name {
-            "valid" => return Ok(Answer::Flag(self.is_valid())),
-            "written" => return show_bytes(alloc, self, output),
+            "valid" => return Answer::Flag(self.is_valid()),
+            "written" => return output.tell_made(alloc, to_bytes(alloc, self)),
             "read" => return read(alloc, self, line.last, output),
             "peer-tag" => self.peer_verification_tag = low_word(first),
             "interleaving" => self.capabilities.message_interleaving = first == 1,
-            "ordered" => add_ordered(&mut self.rx.ordered_streams, line.numbers)?,
-            "ordered-count" => return Ok(Answer::Number(self.rx.ordered_streams.len() as u128)),
+            "ordered" => return add_ordered(&mut self.rx.ordered_streams, line.numbers),
+            "ordered-count" => return Answer::Number(self.rx.ordered_streams.len() as u128),
             _ => return send(alloc, &mut self.tx, line),
         }
-        Ok(Answer::Done)
+        Answer::Done
     }
-}
-
-fn show_bytes(
-    alloc: Global,
-    state: &SocketHandoverState,
-    output: &mut String,
-) -> Result<Answer, AllocError> {
-    let bytes = to_bytes(alloc, state)?;
-    let outcome = tell_hex(alloc, output, &bytes);
-    drop(bytes);
-    outcome
 }
 
 fn read(
     alloc: Global,
     state: &mut SocketHandoverState,
     digits: &str,
-    output: &mut String,
-) -> Result<Answer, AllocError> {
-    match bytes_of(alloc, digits)? {
-        Some(bytes) => {
-            let outcome = read_bytes(alloc, state, &bytes, output);
+    output: &mut Output,
+) -> Answer {
+    match bytes_of(alloc, digits) {
+        Ok(bytes) => {
+            let answer = read_bytes(alloc, state, &bytes, output);
             drop(bytes);
-            outcome
+            answer
         }
-        None => Ok(Answer::Unknown),
+        Err(answer) => answer,
     }
 }
 
@@ -90,94 +68,90 @@ fn read_bytes(
     alloc: Global,
     state: &mut SocketHandoverState,
     bytes: &[u8],
-    output: &mut String,
-) -> Result<Answer, AllocError> {
+    output: &mut Output,
+) -> Answer {
     match from_bytes(alloc, bytes) {
         Ok(read) => {
             drop(std::mem::replace(state, read));
-            Ok(Answer::Done)
+            Answer::Done
         }
-        Err(RecordFault::Memory) => Err(AllocError),
-        Err(fault) => tell(output, &fault),
+        Err(RecordFault::Memory) => Answer::NoMemory,
+        Err(fault) => output.tell(&fault),
     }
 }
 
-fn add_ordered(
-    streams: &mut Vec<HandoverOrderedStream>,
-    numbers: [u64; 4],
-) -> Result<(), AllocError> {
+fn add_ordered(streams: &mut Vec<HandoverOrderedStream>, numbers: [u64; 4]) -> Answer {
     let [id, next_ssn, _, _] = numbers;
-    streams.push(HandoverOrderedStream {
+    done(streams.push(HandoverOrderedStream {
         id: low_half(id),
         next_ssn: low_word(next_ssn),
-    })?;
-    Ok(())
+    }))
 }
 
 /// `next-tsn N`; `next-message N`; `stream ID`; `message STREAM ID OFFSET`: a queued message of three bytes; `acked`: a fragment
 /// that a selective acknowledgement covers; `stream-count`; and a change of the last message or fragment.
-fn send(
-    alloc: Global,
-    tx: &mut HandoverTransmission,
-    line: Line<'_>,
-) -> Result<Answer, AllocError> {
-    let [first, _, _, _] = line.numbers;
+fn send(alloc: Global, tx: &mut HandoverTransmission, line: Line<'_>) -> Answer {
+    let first = line.numbers[0];
     match line.name {
         "next-tsn" => tx.next_tsn = low_word(first),
         "next-message" => tx.next_outgoing_message_id = first,
-        "stream" => add_stream(&mut tx.streams, first)?,
-        "message" => add_message(alloc, &mut tx.queued_messages, line.numbers)?,
-        "acked" => add_acked(alloc, &mut tx.outstanding_data)?,
-        "stream-count" => return Ok(Answer::Number(tx.streams.len() as u128)),
-        "abandoned" | "sent-later" => {
-            return Ok(change_item(&mut tx.outstanding_data, line.name, first == 1));
-        }
-        name => return Ok(change_last(&mut tx.queued_messages, name, first)),
+        "stream" => return add_stream(&mut tx.streams, first),
+        "message" => return add_message(alloc, &mut tx.queued_messages, line.numbers),
+        "acked" => return add_acked(alloc, &mut tx.outstanding_data),
+        "stream-count" => return Answer::Number(tx.streams.len() as u128),
+        name => return change_last(tx, name, first),
     }
-    Ok(Answer::Done)
+    Answer::Done
 }
 
-fn add_stream(streams: &mut Vec<HandoverOutgoingStream>, id: u64) -> Result<(), AllocError> {
+fn add_stream(streams: &mut Vec<HandoverOutgoingStream>, id: u64) -> Answer {
     let mut stream = HandoverOutgoingStream::default();
     stream.id = low_half(id);
-    streams.push(stream)?;
-    Ok(())
+    done(streams.push(stream))
 }
 
 fn add_message(
     alloc: Global,
     messages: &mut Vec<HandoverStreamMessage>,
     numbers: [u64; 4],
-) -> Result<(), AllocError> {
-    messages.push(HandoverStreamMessage::empty(alloc))?;
+) -> Answer {
+    let outcome = messages.push(HandoverStreamMessage::empty(alloc));
     match messages.last_mut() {
-        Some(message) => fill(message, numbers),
-        None => Ok(()),
+        Some(message) if outcome.is_ok() => fill(message, numbers),
+        _ => Answer::NoMemory,
     }
 }
 
-fn fill(message: &mut HandoverStreamMessage, numbers: [u64; 4]) -> Result<(), AllocError> {
+fn fill(message: &mut HandoverStreamMessage, numbers: [u64; 4]) -> Answer {
     let [stream, id, offset, _] = numbers;
     message.stream_id = low_half(stream);
     message.message_id = id;
     message.remaining_offset = offset as usize;
-    message.payload.extend_from_slice(&[1, 2, 3])
+    done(message.payload.extend_from_slice(&[1, 2, 3]))
 }
 
-fn add_acked(alloc: Global, items: &mut Vec<HandoverOutstandingData>) -> Result<(), AllocError> {
-    items.push(HandoverOutstandingData::empty(alloc))?;
-    if let Some(item) = items.last_mut() {
-        item.acked = true;
-    }
-    Ok(())
+fn add_acked(alloc: Global, items: &mut Vec<HandoverOutstandingData>) -> Answer {
+    let mut item = HandoverOutstandingData::empty(alloc);
+    item.acked = true;
+    done(items.push(item))
 }
 
 /// `abandoned FLAG`, `sent-later FLAG`: whether the message of the last fragment was given up, and whether that fragment was
-/// first sent after the handover.
-fn change_item(items: &mut Vec<HandoverOutstandingData>, name: &str, flag: bool) -> Answer {
-    let Some(item) = items.last_mut() else {
-        return Answer::Refused;
-    };
+/// first sent after the handover. Or of the last queued message.
+fn change_last(tx: &mut HandoverTransmission, name: &str, number: u64) -> Answer {
+    match name {
+        "abandoned" | "sent-later" => match tx.outstanding_data.last_mut() {
+            Some(item) => change_item(item, name, number == 1),
+            None => Answer::Refused,
+        },
+        _ => match tx.queued_messages.last_mut() {
+            Some(message) => change_message(message, name, number),
+            None => Answer::Unknown,
+        },
+    }
+}
+
+fn change_item(item: &mut HandoverOutstandingData, name: &str, flag: bool) -> Answer {
     match name {
         "abandoned" => item.is_abandoned = flag,
         _ => item.time_since_sent_ms = if flag { -1 } else { 0 },
@@ -185,15 +159,8 @@ fn change_item(items: &mut Vec<HandoverOutstandingData>, name: &str, flag: bool)
     Answer::Done
 }
 
-/// `last-offset OFFSET`, `last-id ID`: of the last queued message.
-fn change_last(messages: &mut Vec<HandoverStreamMessage>, name: &str, number: u64) -> Answer {
-    match messages.last_mut() {
-        Some(message) => change(message, name, number),
-        None => Answer::Unknown,
-    }
-}
-
-fn change(message: &mut HandoverStreamMessage, name: &str, number: u64) -> Answer {
+/// `last-offset OFFSET`, `last-id ID`
+fn change_message(message: &mut HandoverStreamMessage, name: &str, number: u64) -> Answer {
     match name {
         "last-offset" => message.remaining_offset = number as usize,
         "last-id" => message.message_id = number,

@@ -1,27 +1,22 @@
 //! `options`: what a socket is made with, and which of it is valid.
 
-use crate::answer::{Answer, Line, Subject, low_half, low_word, run_commands, tell_all};
+use crate::answer::{Answer, Line, Output, Subject, done, low_half, low_word, run_commands};
 use sctp_serial::{LifecycleId, ZeroChecksumAlternateErrorDetectionMethod};
 use sctp_state::Options;
 use sctp_state::api::laws;
-use std::alloc::{AllocError, Global};
+use std::alloc::Global;
 use std::time::Duration;
 
-pub fn run(alloc: Global, commands: &str, output: &mut String) -> Result<(), AllocError> {
+pub fn run(alloc: Global, commands: &str, output: &mut Output) {
     let mut options = Options::default();
-    run_commands(alloc, commands, output, &mut options)
+    run_commands(alloc, commands, output, &mut options);
 }
 
 impl Subject for Options {
     /// `valid`; `copy`; `send ID`: the options of a message, with this lifecycle; what is shown below, and what can be set.
-    fn obey(
-        &mut self,
-        _alloc: Global,
-        line: Line<'_>,
-        output: &mut String,
-    ) -> Result<Answer, AllocError> {
+    fn obey(&mut self, _alloc: Global, line: Line<'_>, output: &mut Output) -> Answer {
         match line.name {
-            "valid" => Ok(Answer::Flag(self.is_valid())),
+            "valid" => Answer::Flag(self.is_valid()),
             "sizes" => sizes(self, output),
             "limits" => limits(self, output),
             "windows" => windows(self, output),
@@ -29,16 +24,23 @@ impl Subject for Options {
             "intervals" => intervals(self, output),
             "switches" => switches(self, output),
             "send" => send_options(line.numbers[0], output),
-            "copy" => {
-                *self = laws::copy_of_options(self)?;
-                Ok(Answer::Done)
-            }
-            name => Ok(set_option(self, name, line.numbers[0])),
+            "copy" => copy(self),
+            name => set_option(self, name, line.numbers[0]),
         }
     }
 }
 
-fn sizes(o: &Options, output: &mut String) -> Result<Answer, AllocError> {
+fn copy(options: &mut Options) -> Answer {
+    match laws::copy_of_options(options) {
+        Ok(copy) => {
+            *options = copy;
+            Answer::Done
+        }
+        Err(_) => Answer::NoMemory,
+    }
+}
+
+fn sizes(o: &Options, output: &mut Output) -> Answer {
     let values = [
         ("local-port", o.local_port as u128),
         ("remote-port", o.remote_port as u128),
@@ -48,10 +50,10 @@ fn sizes(o: &Options, output: &mut String) -> Result<Answer, AllocError> {
         ("message", o.max_message_size as u128),
         ("priority", o.default_stream_priority as u128),
     ];
-    tell_all(output, &values)
+    output.tell_all(&values)
 }
 
-fn limits(o: &Options, output: &mut String) -> Result<Answer, AllocError> {
+fn limits(o: &Options, output: &mut Output) -> Answer {
     let low = o.default_stream_buffered_amount_low_threshold;
     let values = [
         ("receiver-window", o.max_receiver_window_buffer_size as u128),
@@ -60,27 +62,26 @@ fn limits(o: &Options, output: &mut String) -> Result<Answer, AllocError> {
         ("total-low", o.total_buffered_amount_low_threshold as u128),
         ("stream-low", low as u128),
     ];
-    tell_all(output, &values)
+    output.tell_all(&values)
 }
 
-fn windows(o: &Options, output: &mut String) -> Result<Answer, AllocError> {
+fn windows(o: &Options, output: &mut Output) -> Answer {
     let values = [
         ("initial", o.cwnd_mtus_initial as u128),
         ("least", o.cwnd_mtus_min as u128),
         ("no-fragments", o.avoid_fragmentation_cwnd_mtus as u128),
         ("immediate-sack", o.immediate_sack_under_cwnd_mtus as u128),
     ];
-    tell_all(output, &values)?;
-    write!(
-        output,
+    output.tell_all(&values);
+    done(write!(
+        output.text,
         " burst {} retransmissions {:?} {:?}",
         o.max_burst, o.max_retransmissions, o.max_init_retransmits
-    )?;
-    Ok(Answer::Done)
+    ))
 }
 
 /// In milliseconds, as `intervals`.
-fn timeouts(o: &Options, output: &mut String) -> Result<Answer, AllocError> {
+fn timeouts(o: &Options, output: &mut Output) -> Answer {
     let values = [
         ("rtt-most", o.rtt_max.as_millis()),
         ("rto-initial", o.rto_initial.as_millis()),
@@ -90,10 +91,10 @@ fn timeouts(o: &Options, output: &mut String) -> Result<Answer, AllocError> {
         ("t1-cookie", o.t1_cookie_timeout.as_millis()),
         ("t2-shutdown", o.t2_shutdown_timeout.as_millis()),
     ];
-    tell_all(output, &values)
+    output.tell_all(&values)
 }
 
-fn intervals(o: &Options, output: &mut String) -> Result<Answer, AllocError> {
+fn intervals(o: &Options, output: &mut Output) -> Answer {
     let is_bounded = o.max_timer_backoff_duration.is_some();
     let values = [
         ("backoff-is-bounded", is_bounded as u128),
@@ -101,10 +102,10 @@ fn intervals(o: &Options, output: &mut String) -> Result<Answer, AllocError> {
         ("delayed-ack", o.delayed_ack_max_timeout.as_millis()),
         ("variance", o.min_rtt_variance.as_millis()),
     ];
-    tell_all(output, &values)
+    output.tell_all(&values)
 }
 
-fn switches(o: &Options, output: &mut String) -> Result<Answer, AllocError> {
+fn switches(o: &Options, output: &mut Output) -> Answer {
     let method = o.zero_checksum_alternate_error_detection_method;
     let handover = o.enable_handover_with_outstanding_data;
     let values = [
@@ -118,14 +119,13 @@ fn switches(o: &Options, output: &mut String) -> Result<Answer, AllocError> {
         ("handover-with-data", handover as u128),
         ("method", method.0 as u128),
     ];
-    tell_all(output, &values)
+    output.tell_all(&values)
 }
 
-fn send_options(id: u64, output: &mut String) -> Result<Answer, AllocError> {
+fn send_options(id: u64, output: &mut Output) -> Answer {
     let mut options = laws::plain_send_options();
     options.lifecycle_id = LifecycleId::new(id);
-    write!(output, ": {options:?}")?;
-    Ok(Answer::Done)
+    done(write!(output.text, ": {options:?}"))
 }
 
 /// Sets the option of this name.

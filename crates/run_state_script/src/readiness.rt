@@ -1,48 +1,32 @@
 //! `readiness`: what stands in the way of a handover. A readiness is the sum of its reasons' numbers.
 
-use crate::answer::{Answer, Line, Subject, low_word, run_commands};
+use crate::answer::{Answer, Line, Output, Subject, done, low_word, run_commands};
 use sctp_state::HandoverReadiness;
-use std::alloc::{AllocError, Global};
+use std::alloc::Global;
 
-pub fn run(alloc: Global, commands: &str, output: &mut String) -> Result<(), AllocError> {
+pub fn run(alloc: Global, commands: &str, output: &mut Output) {
     let mut readiness = HandoverReadiness::READY;
-    run_commands(alloc, commands, output, &mut readiness)
+    run_commands(alloc, commands, output, &mut readiness);
 }
 
 impl Subject for HandoverReadiness {
     /// `is REASON`, `and REASON`, `has REASON`, `if FLAG`, `number`, `ready`, and its two texts, `show` and `debug`.
-    fn obey(
-        &mut self,
-        _alloc: Global,
-        line: Line<'_>,
-        output: &mut String,
-    ) -> Result<Answer, AllocError> {
+    fn obey(&mut self, _alloc: Global, line: Line<'_>, output: &mut Output) -> Answer {
         let number = line.numbers[0];
         let other = reason(line.last, number);
         match line.name {
             "is" => *self = other,
             "and" => *self = *self | other,
             "if" => *self = *self & (number == 1),
-            "has" => return Ok(Answer::Flag(self.contains(other))),
-            "number" => return Ok(Answer::Number(self.0 as u128)),
-            "ready" => return Ok(Answer::Flag(self.is_ready())),
-            name => return show(*self, name, output),
+            "has" => return Answer::Flag(self.contains(other)),
+            "number" => return Answer::Number(self.0 as u128),
+            "ready" => return Answer::Flag(self.is_ready()),
+            "show" => return done(write!(output.text, ": [{self}]")),
+            "debug" => return done(write!(output.text, ": [{self:?}]")),
+            _ => return Answer::Unknown,
         }
-        Ok(Answer::Done)
+        Answer::Done
     }
-}
-
-fn show(
-    readiness: HandoverReadiness,
-    name: &str,
-    output: &mut String,
-) -> Result<Answer, AllocError> {
-    match name {
-        "show" => write!(output, ": [{readiness}]")?,
-        "debug" => write!(output, ": [{readiness:?}]")?,
-        _ => return Ok(Answer::Unknown),
-    }
-    Ok(Answer::Done)
 }
 
 /// A reason by its name or its number.

@@ -1,38 +1,26 @@
 //! `scheduler BYTES`: which stream sends next, with fragments of so many bytes at most.
 
-use crate::answer::{Answer, Line, Subject, low_half, run_commands};
+use crate::answer::{Answer, Line, Output, Subject, done, low_half, run_commands};
 use sctp_serial::StreamId;
 use sctp_stream_scheduler::StreamScheduler;
-use std::alloc::{AllocError, Global};
+use std::alloc::Global;
 
-pub fn run(
-    alloc: Global,
-    numbers: [u64; 4],
-    commands: &str,
-    output: &mut String,
-) -> Result<(), AllocError> {
-    let mut scheduler = StreamScheduler::new(alloc, numbers[0] as usize);
-    let outcome = run_commands(alloc, commands, output, &mut scheduler);
+pub fn run(alloc: Global, line: Line<'_>, commands: &str, output: &mut Output) {
+    let mut scheduler = StreamScheduler::new(alloc, line.numbers[0] as usize);
+    run_commands(alloc, commands, output, &mut scheduler);
     drop(scheduler);
-    outcome
 }
 
 impl Subject for StreamScheduler {
     /// `bytes STREAM BYTES PRIORITY`, `turn STREAM BYTES PRIORITY`, and what `change` and `ask` say.
-    fn obey(
-        &mut self,
-        _alloc: Global,
-        line: Line<'_>,
-        _output: &mut String,
-    ) -> Result<Answer, AllocError> {
+    fn obey(&mut self, _alloc: Global, line: Line<'_>, _output: &mut Output) -> Answer {
         let [stream, bytes, priority, _] = line.numbers;
         let id = StreamId(low_half(stream));
         match line.name {
-            "bytes" => self.set_bytes_remaining(id, bytes as usize, low_half(priority))?,
-            "turn" => self.take_turn(id, bytes as usize, low_half(priority))?,
-            name => return Ok(change(self, name, id)),
+            "bytes" => done(self.set_bytes_remaining(id, bytes as usize, low_half(priority))),
+            "turn" => done(self.take_turn(id, bytes as usize, low_half(priority))),
+            name => change(self, name, id),
         }
-        Ok(Answer::Done)
     }
 }
 

@@ -3,11 +3,11 @@
 //!
 //! `timeout`: the retransmission timeout, by the samples of a round trip time.
 
-use crate::answer::{Answer, Line, Subject, run_commands};
+use crate::answer::{Answer, Line, Output, Subject, run_commands};
 use crate::options::set_option;
 use sctp_serial::SocketTime;
 use sctp_state::{BackoffAlgorithm, Options, RetransmissionTimeout, Timer};
-use std::alloc::{AllocError, Global};
+use std::alloc::Global;
 use std::time::Duration;
 
 fn timer(line: Line<'_>) -> Timer {
@@ -26,33 +26,23 @@ fn timer(line: Line<'_>) -> Timer {
     Timer::new(Duration::from_millis(duration), backoff, restarts, longest)
 }
 
-pub fn run(
-    alloc: Global,
-    line: Line<'_>,
-    commands: &str,
-    output: &mut String,
-) -> Result<(), AllocError> {
+pub fn run(alloc: Global, line: Line<'_>, commands: &str, output: &mut Output) {
     let mut timer = timer(line);
-    run_commands(alloc, commands, output, &mut timer)
+    run_commands(alloc, commands, output, &mut timer);
 }
 
 impl Subject for Timer {
     /// `start MS`, `expire MS`, `duration MS`, `stop`, `running`, `next`, `lasts`.
-    fn obey(
-        &mut self,
-        _alloc: Global,
-        line: Line<'_>,
-        _output: &mut String,
-    ) -> Result<Answer, AllocError> {
+    fn obey(&mut self, _alloc: Global, line: Line<'_>, _output: &mut Output) -> Answer {
         let time = Duration::from_millis(line.numbers[0]);
         match line.name {
             "start" => self.start(SocketTime::zero() + time),
-            "expire" => return Ok(Answer::Flag(self.expire(SocketTime::zero() + time))),
+            "expire" => return Answer::Flag(self.expire(SocketTime::zero() + time)),
             "duration" => self.set_duration(time),
             "stop" => self.stop(),
-            name => return Ok(ask(self, name)),
+            name => return ask(self, name),
         }
-        Ok(Answer::Done)
+        Answer::Done
     }
 }
 
@@ -81,22 +71,17 @@ struct Estimate {
     timeout: RetransmissionTimeout,
 }
 
-pub fn run_timeout(alloc: Global, commands: &str, output: &mut String) -> Result<(), AllocError> {
+pub fn run_timeout(alloc: Global, commands: &str, output: &mut Output) {
     let options = Options::default();
     let timeout = RetransmissionTimeout::new(&options);
     let mut estimate = Estimate { options, timeout };
-    run_commands(alloc, commands, output, &mut estimate)
+    run_commands(alloc, commands, output, &mut estimate);
 }
 
 impl Subject for Estimate {
     /// `rto` and `srtt`, in whole milliseconds; `sample MS`; or an option, with which the timeout begins anew.
-    fn obey(
-        &mut self,
-        _alloc: Global,
-        line: Line<'_>,
-        _output: &mut String,
-    ) -> Result<Answer, AllocError> {
-        Ok(match line.name {
+    fn obey(&mut self, _alloc: Global, line: Line<'_>, _output: &mut Output) -> Answer {
+        match line.name {
             "rto" => Answer::Number(self.timeout.rto().as_millis()),
             "srtt" => Answer::Number(self.timeout.srtt().as_millis()),
             "sample" => {
@@ -109,6 +94,6 @@ impl Subject for Estimate {
                 self.timeout = RetransmissionTimeout::new(&self.options);
                 answer
             }
-        })
+        }
     }
 }
