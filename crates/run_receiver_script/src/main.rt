@@ -42,9 +42,11 @@ fn begin(alloc: Global, words: &[&str], script: &str, output: &mut String) -> To
 fn run_section(alloc: Global, section: &str, output: &mut String) -> Told {
     let (title, rest) = section.split_once('\n').unwrap_or((section, ""));
     let (head, script) = rest.split_once('\n').unwrap_or((rest, ""));
-    let words: Vec<&str> = head.split_whitespace().collect(alloc)?;
     writeln!(output, "#{title}")?;
-    begin(alloc, &words, script, output)
+    let words: Vec<&str> = head.split_whitespace().collect(alloc)?;
+    let outcome = begin(alloc, &words, script, output);
+    drop(words);
+    outcome
 }
 
 fn run_sections(alloc: Global, sections: &str, output: &mut String) -> Told {

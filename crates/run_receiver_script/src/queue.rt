@@ -11,7 +11,9 @@ use sctp_packet::{Data, SkippedStream};
 use sctp_rx::ReassemblyQueue;
 use sctp_serial::{Message, StreamId, Tsn};
 use sctp_state::SocketHandoverState;
-use sctp_state::api::handover::{HandoverReceive, HandoverSocketState};
+use sctp_state::api::handover::{
+    HandoverOrderedStream, HandoverReceive, HandoverSocketState, HandoverUnorderedStream,
+};
 use std::alloc::{AllocError, Global};
 
 /// A queue, and what it wrote for a handover.
@@ -117,8 +119,11 @@ impl Player for Queue {
 impl Queue {
     fn defer(&mut self, alloc: Global, words: &[&str], output: &mut String) -> Told {
         let ids = stream_ids(alloc, words, 2)?;
-        self.queue
-            .enter_deferred_reset(Tsn(whole(word(words, 1))), &ids)?;
+        let outcome = self
+            .queue
+            .enter_deferred_reset(Tsn(whole(word(words, 1))), &ids);
+        drop(ids);
+        outcome?;
         tell_sums(&self.queue, output)
     }
 
@@ -144,11 +149,20 @@ impl Queue {
 /// The streams with their next numbers, then those of unordered messages.
 fn tell_record(rx: &HandoverReceive, output: &mut String) -> Told {
     output.push_str("ordered")?;
-    for stream in &rx.ordered_streams {
+    tell_ordered(&rx.ordered_streams, output)?;
+    output.push_str(" unordered")?;
+    tell_unordered(&rx.unordered_streams, output)
+}
+
+fn tell_ordered(streams: &[HandoverOrderedStream], output: &mut String) -> Told {
+    for stream in streams {
         write!(output, " {}:{}", stream.id, stream.next_ssn)?;
     }
-    output.push_str(" unordered")?;
-    for stream in &rx.unordered_streams {
+    Ok(())
+}
+
+fn tell_unordered(streams: &[HandoverUnorderedStream], output: &mut String) -> Told {
+    for stream in streams {
         write!(output, " {}", stream.id)?;
     }
     Ok(())

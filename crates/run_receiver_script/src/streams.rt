@@ -3,7 +3,7 @@
 use crate::player::{Player, play_each};
 use crate::receiver::{Receiver, take, tell_next, tell_sums};
 use crate::stream::have_room;
-use crate::words::{Told, bytes_of, entry, fragment, half, number, stream_key, value, word};
+use crate::words::{Told, bytes_of, entry, fragment, half, number, rest, stream_key, value, word};
 use sctp_packet::{Data, SkippedStream};
 use sctp_rx::{
     InterleavedReassemblyStreams, ReadyMessages, ReassemblyStreams, TraditionalReassemblyStreams,
@@ -134,6 +134,7 @@ impl<S: ReassemblyStreams> Streams<S> {
     fn push(&mut self, alloc: Global, words: &[&str], output: &mut String) -> Told {
         let payload = bytes_of(alloc, word(words, 2))?;
         if !have_room(self.streams.queued_bytes(), &self.ready) || payload.len() >= 1 << 40 {
+            drop(payload);
             return output.push_str("refused");
         }
         let id = StreamId(half(word(words, 1)));
@@ -148,11 +149,15 @@ impl<S: ReassemblyStreams> Streams<S> {
 
     /// Fragments come: prints, for each, which messages become ready, and how many bytes are held then.
     fn come(&mut self, alloc: Global, words: &[&str], output: &mut String) -> Told {
-        for word in words.iter().skip(1) {
-            self.take_one(alloc, value(word))?;
-            self.tell_all(alloc, output)?;
+        for word in rest(words, 1) {
+            self.come_once(alloc, value(word), output)?;
         }
         Ok(())
+    }
+
+    fn come_once(&mut self, alloc: Global, tsn: u64, output: &mut String) -> Told {
+        self.take_one(alloc, tsn)?;
+        self.tell_all(alloc, output)
     }
 
     fn take_one(&mut self, alloc: Global, tsn: u64) -> Result<(), AllocError> {
@@ -164,10 +169,14 @@ impl<S: ReassemblyStreams> Streams<S> {
 
     fn tell_all(&mut self, alloc: Global, output: &mut String) -> Told {
         for _ in 0..self.ready.len() {
-            output.push_str(" ")?;
-            tell_next(alloc, self.ready.pop(), output)?;
+            self.tell_one(alloc, output)?;
         }
         write!(output, " {}", self.streams.queued_bytes())
+    }
+
+    fn tell_one(&mut self, alloc: Global, output: &mut String) -> Told {
+        output.push_str(" ")?;
+        tell_next(alloc, self.ready.pop(), output)
     }
 }
 

@@ -1,8 +1,8 @@
 //! Which TSNs came, and when they are acknowledged.
 
 use crate::player::{Player, play_each};
-use crate::words::{Told, value, whole, word, yes_or_no};
-use sctp_packet::SackChunk;
+use crate::words::{Told, rest, value, whole, word, yes_or_no};
+use sctp_packet::{GapAckBlock, SackChunk};
 use sctp_rx::DataTracker;
 use sctp_serial::{SocketTime, Tsn};
 use sctp_state::{Options, SocketHandoverState};
@@ -41,12 +41,9 @@ impl Player for Tracker {
             "twice" => self.come(words, 2, false, output),
             "urgent" => self.come(words, 1, true, output),
             "sack" => self.sack(whole(word(words, 1)), output),
-            "front" => write!(output, "{}", self.tracker.last_cumulative_acked_tsn().0),
-            "readiness" => write!(output, "[{}]", self.tracker.get_handover_readiness()),
-            "timer" => tell_timer(self.tracker.next_timeout(), output),
             "write" => self.write(output),
             "restore" => self.restore(alloc, Tsn(whole(word(words, 1))), output),
-            name => self.answer(name, word(words, 1), output),
+            name => self.tell(name, word(words, 1), output),
         }
     }
 }
@@ -59,13 +56,27 @@ impl Tracker {
         }
     }
 
-    /// TSNs come, each so many times: `+` is printed where it is new, else `-`.
+    /// `front`, `readiness`, `timer`; tests and changes.
+    fn tell(&mut self, name: &str, word: &str, output: &mut String) -> Told {
+        match name {
+            "front" => write!(output, "{}", self.tracker.last_cumulative_acked_tsn().0),
+            "readiness" => write!(output, "[{}]", self.tracker.get_handover_readiness()),
+            "timer" => tell_timer(self.tracker.next_timeout(), output),
+            _ => self.answer(name, word, output),
+        }
+    }
+
+    /// A TSN comes: `+` is printed where it is new, else `-`.
+    fn come_once(&mut self, tsn: Tsn, is_immediate: bool, output: &mut String) -> Told {
+        let is_new = self.tracker.observe(self.now, tsn, is_immediate)?;
+        output.push_str(if is_new { "+" } else { "-" })
+    }
+
+    /// TSNs come, each so many times.
     fn come(&mut self, words: &[&str], times: u8, is_immediate: bool, output: &mut String) -> Told {
-        for word in words.iter().skip(1) {
+        for word in rest(words, 1) {
             for _ in 0..times {
-                let tsn = self.tsn(word);
-                let is_new = self.tracker.observe(self.now, tsn, is_immediate)?;
-                output.push_str(if is_new { "+" } else { "-" })?;
+                self.come_once(self.tsn(word), is_immediate, output)?;
             }
         }
         Ok(())
@@ -146,11 +157,20 @@ fn tell_timer(expiry: SocketTime, output: &mut String) -> Told {
 /// The cumulative TSN, the window, then the blocks, then the duplicates.
 fn tell_sack(sack: &SackChunk, output: &mut String) -> Told {
     write!(output, "{} {}", sack.cumulative_tsn_ack.0, sack.a_rwnd)?;
-    for block in &sack.gap_ack_blocks {
+    tell_blocks(&sack.gap_ack_blocks, output)?;
+    output.push_str(" again")?;
+    tell_duplicates(&sack.duplicate_tsns, output)
+}
+
+fn tell_blocks(blocks: &[GapAckBlock], output: &mut String) -> Told {
+    for block in blocks {
         write!(output, " {}-{}", block.start, block.end)?;
     }
-    output.push_str(" again")?;
-    for tsn in &sack.duplicate_tsns {
+    Ok(())
+}
+
+fn tell_duplicates(duplicates: &[Tsn], output: &mut String) -> Told {
+    for tsn in duplicates {
         write!(output, " {}", tsn.0)?;
     }
     Ok(())

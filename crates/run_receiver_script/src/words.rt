@@ -16,6 +16,11 @@ pub fn word<'a>(words: &[&'a str], place: usize) -> &'a str {
     }
 }
 
+/// The words from the place on.
+pub fn rest<'w, 'a>(words: &'w [&'a str], place: usize) -> &'w [&'a str] {
+    &words[place.min(words.len())..]
+}
+
 /// The number of 64 bits that a word says.
 pub fn value(word: &str) -> u64 {
     word.parse::<u64>().unwrap_or(0)
@@ -57,7 +62,7 @@ pub fn entry(word: &str) -> SkippedStream {
 /// The entries behind the first two words.
 pub fn entries(alloc: Global, words: &[&str]) -> Result<Vec<SkippedStream>, AllocError> {
     let mut entries = Vec::new(alloc);
-    for word in words.iter().skip(2) {
+    for word in rest(words, 2) {
         entries.push(entry(word))?;
     }
     Ok(entries)
@@ -70,7 +75,7 @@ pub fn stream_ids(
     place: usize,
 ) -> Result<Vec<StreamId>, AllocError> {
     let mut ids = Vec::new(alloc);
-    for word in words.iter().skip(place) {
+    for word in rest(words, place) {
         ids.push(StreamId(half(word)))?;
     }
     Ok(ids)
