@@ -2,33 +2,11 @@
 
 ghost use Rattle.std.specs.Prelude.{◌≡◌, OnOk, OnErr};
 ghost use Rattle.sctp_state.specs.Events.{emit_events, Grown};
-ghost use Rattle.sctp_tx_outstanding.specs.Sack.{report, ending};
+ghost use Rattle.sctp_tx_outstanding.specs.Sack.{report};
 
 use crate::item::Item;
-use sctp_serial::LifecycleId;
 use sctp_state::{Events, SocketEvent};
 use std::alloc::AllocError;
-
-/// Emits what became of a message.
-fn emit_ending(
-    events: &mut Events,
-    is_abandoned: bool,
-    lifecycle_id: Option<LifecycleId>,
-) -> Result<(), AllocError>
-    ensures ok { OnOk result (events.new ≡ emit_events (ending is_abandoned lifecycle_id) events.old) }
-    ensures err { OnErr result (Grown events.old events.new) }
-{
-    let Some(id) = lifecycle_id else {
-        return Ok(());
-    };
-    if is_abandoned {
-        events.add(SocketEvent::OnLifecycleMessageMaybeExpired(id))?;
-    } else {
-        events.add(SocketEvent::OnLifecycleMessageDelivered(id))?;
-    }
-    events.add(SocketEvent::OnLifecycleEnd(id))?;
-    Ok(())
-}
 
 /// Emits what is due as an item leaves.
 pub fn emit_left(events: &mut Events, item: &Item) -> Result<(), AllocError>
@@ -38,5 +16,14 @@ pub fn emit_left(events: &mut Events, item: &Item) -> Result<(), AllocError>
     if !item.data().is_end {
         return Ok(());
     }
-    emit_ending(events, item.is_abandoned(), item.lifecycle_id())
+    let Some(id) = item.lifecycle_id() else {
+        return Ok(());
+    };
+    if item.is_abandoned() {
+        events.add(SocketEvent::OnLifecycleMessageMaybeExpired(id))?;
+    } else {
+        events.add(SocketEvent::OnLifecycleMessageDelivered(id))?;
+    }
+    events.add(SocketEvent::OnLifecycleEnd(id))?;
+    Ok(())
 }

@@ -3,7 +3,7 @@
 ghost use Rattle.std.specs.Prelude.{◌≡◌, ℕ, ◌<◌, ◌≤◌, ◌==◌, true, false, if◌then◌else◌, IfSome};
 ghost use Rattle.sctp_tx_outstanding.specs.Messages.{key_of};
 ghost use Rattle.sctp_tx_outstanding.specs.Waiting.{is_listed};
-ghost use Rattle.sctp_tx_outstanding.specs.Expiries.{ListsUpTo, Replaces, Sets};
+ghost use Rattle.sctp_tx_outstanding.specs.Expiries.{ListsUpTo, Sets};
 
 use crate::messages::number_at;
 use crate::waiting::{least_from, put};
@@ -38,17 +38,6 @@ fn key_of(moment: u128, number: u32) -> Option<u128>
     Some(moment * (1 << 32) + u128::from(number))
 }
 
-/// Lists the key or takes it out. Says whether there was memory.
-fn put_key(keys: &mut BTreeSet<u128>, key: u128, is_there: bool) -> bool
-    ensures { result ≡ true → (n : ℕ) → is_listed keys.new.keys n ≡ (if n == key then is_there else is_listed keys.old.keys n) }
-{
-    if is_there {
-        return keys.insert(key).is_ok();
-    }
-    keys.remove(&key);
-    true
-}
-
 /// The least key from this one on, if it is below the end.
 fn least_below(keys: &BTreeSet<u128>, from: u128, end: u128) -> u128
     requires { from ≤ end }
@@ -72,14 +61,11 @@ fn set(keys: &mut BTreeSet<u128>, moment: u128, number: u32, is_there: bool) -> 
     let Some(key) = key_of(moment, number) else {
         return false;
     };
-    put_key(keys, key, is_there)
-}
-
-/// An item expires at another moment. Says whether that could be listed.
-fn replace(keys: &mut BTreeSet<u128>, number: u32, was: u128, will: u128) -> bool
-    ensures { result ≡ true → Replaces number was will keys.old.keys keys.new.keys }
-{
-    set(keys, was, number, false) && set(keys, will, number, true)
+    if is_there {
+        return keys.insert(key).is_ok();
+    }
+    keys.remove(&key);
+    true
 }
 
 /// Lists the places of the keys below the end, at most so many. Says whether these are all, and there was memory.
@@ -157,7 +143,8 @@ impl Expiries {
             self.forget();
             return;
         };
-        self.is_known = replace(&mut self.keys, number, was, will);
+        self.is_known = set(&mut self.keys, was, number, false)
+            && set(&mut self.keys, will, number, true);
     }
 
     /// The item at the place expired at one moment, and does at another or at the same one.

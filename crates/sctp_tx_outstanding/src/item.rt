@@ -3,7 +3,7 @@
 ghost use Rattle.std.specs.Prelude.{◌≡◌, ℕ, ◌-◌, ◌<◌, ◌≤◌, ◌^◌, ◌&&◌, Bool, length, min, max, false, true, None, IfOk};
 ghost use Rattle.std.specs.Duration.{as_nanos};
 ghost use Rattle.sctp_chunk.specs.Views.{fragment_tree};
-ghost use Rattle.sctp_tx_outstanding.specs.Item.{is_due, header_size, size_of, chunk_size, acked, uncovered, nack_state, resent, slow};
+ghost use Rattle.sctp_tx_outstanding.specs.Item.{header_size, size_of, chunk_size, acked, uncovered, nack_state, resent, slow};
 
 mod handover;
 
@@ -17,7 +17,7 @@ use std::time::Duration;
 const MOST_SENDINGS: u32 = 65_536;
 
 /// What is known of a fragment that was sent.
-#[derive(Clone, Copy, Debug, PartialEq, Eq)]
+#[derive(Clone, Copy)]
 pub enum ItemState {
     /// It was sent, and nothing was received of it.
     InFlight,
@@ -82,15 +82,6 @@ impl ItemState {
             ItemState::QueuedFast => ItemState::Queued,
             _ => self,
         }
-    }
-}
-
-fn is_due(expires_at: Option<SocketTime>, now: SocketTime) -> bool
-    ensures { result ≡ is_due now expires_at }
-{
-    match expires_at {
-        Some(moment) => moment <= now,
-        None => false,
     }
 }
 
@@ -243,7 +234,10 @@ impl Item {
     pub fn has_expired(&self, now: SocketTime) -> bool
         ensures { result ≡ has_expired now self.now }
     {
-        is_due(self.expires_at, now)
+        match self.expires_at {
+            Some(moment) => moment <= now,
+            None => false,
+        }
     }
 
     /// From which nanosecond on its message isn't worth sending, where it is missing or lost; `u128::MAX` is never.

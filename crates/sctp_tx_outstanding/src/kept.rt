@@ -5,7 +5,7 @@ ghost use Rattle.sctp_tx_outstanding.specs.Change.{apply_change};
 ghost use Rattle.std.specs.List.{All};
 ghost use Rattle.sctp_tx_outstanding.specs.Item.{NotBefore, earliest_of, never};
 ghost use Rattle.sctp_tx_outstanding.specs.Expiries.{Expects, FindsDue};
-ghost use Rattle.sctp_tx_outstanding.specs.Items.{change_at, lay_down, is_of_at, last_of, later_of, later_at, without_payload, packet_part, payload_part, flight_part, queued_part, fast_part};
+ghost use Rattle.sctp_tx_outstanding.specs.Items.{change_at, lay_down, last_of, later_of, later_at, without_payload, packet_part, payload_part, flight_part, queued_part, fast_part};
 ghost use Rattle.sctp_tx_outstanding.specs.Totals.{AreTotals, Exchanges};
 ghost use Rattle.sctp_tx_outstanding.specs.Losses.{expires, placeholder};
 ghost use Rattle.sctp_tx_outstanding.specs.Views.{last_tree};
@@ -369,7 +369,10 @@ fn abandon_at(
     ensures waiting { Lists waiting.new items.new.items }
     ensures expiries { Expects expiries.new items.new.items }
 {
-    if !is_of(items, place, message_id) {
+    let Some(item) = items.get(place) else {
+        return;
+    };
+    if item.message_id().0 != message_id.0 {
         return;
     }
     change_one(
@@ -419,16 +422,6 @@ fn abandon_all(
             message_id,
         );
         place = next + 1;
-    }
-}
-
-/// Whether the item at the place is a fragment of the message.
-fn is_of(items: &VecDeque<Item>, place: usize, message_id: OutgoingMessageId) -> bool
-    ensures { result ≡ is_of_at message_id.0 place items.now.items }
-{
-    match items.get(place) {
-        Some(item) => item.message_id().0 == message_id.0,
-        None => false,
     }
 }
 

@@ -14,8 +14,7 @@ ghost use Rattle.sctp_tx_outstanding.specs.LastBlocks.{Rest};
 ghost use Rattle.sctp_tx_outstanding.specs.Expiries.{FindsDue};
 ghost use Rattle.sctp_tx_outstanding.specs.Interrupted.{Same, SomeNacked, SomeExpired, SomeReceived};
 ghost use Rattle.sctp_tx_outstanding.specs.Forward.{is_forward_due, entry_at, stops, passes_of, forward_point};
-ghost use Rattle.std.specs.List.{list_any};
-ghost use Rattle.sctp_tx_outstanding.specs.Sack.{sample, sample_at, is_in_range, is_valid, staying, leaving, left_bytes, reports, receive_sack, acked_bytes, highest_end};
+ghost use Rattle.sctp_tx_outstanding.specs.Sack.{sample, is_in_range, is_valid, staying, leaving, left_bytes, reports, receive_sack, acked_bytes, highest_end};
 ghost use Rattle.sctp_state.specs.Events.{first_of};
 
 mod handover;
@@ -36,7 +35,7 @@ use std::mem;
 use std::time::Duration;
 
 /// A message of which the send queue is to drop what is left.
-#[derive(Clone, Copy, Debug, PartialEq, Eq)]
+#[derive(Clone, Copy)]
 pub struct Discarded {
     pub stream_id: StreamId,
     pub message_id: OutgoingMessageId,
@@ -505,17 +504,6 @@ impl OutstandingData {
         }
     }
 
-    /// The time since the item at the place was sent, where it was sent once.
-    fn rtt_at(&self, place: usize, now: SocketTime) -> Option<Duration>
-        ensures { option_map as_nanos result ≡ sample_at now place self.now.items }
-    {
-        let item = self.kept.get(place)?;
-        if item.sendings() == 1 {
-            return Some(item.get_rtt_from(now));
-        }
-        None
-    }
-
     /// The number that the TSN stands for: the nearest to the peer's cumulative TSN.
     pub fn unwrapped(&self, tsn: Tsn) -> u64
         ensures value { result ≡ number_of self.now tsn.0 }
@@ -616,7 +604,7 @@ impl OutstandingData {
         ensures { result ≡ stops place self.now.items }
     {
         let number = self.acked as u128 + 1 + place as u128;
-        place > 0 && has_breakpoint(&self.breakpoints, number)
+        place > 0 && self.breakpoints.contains(&number)
     }
 
     /// Whether a forward point passes the item at the place too.
@@ -697,7 +685,11 @@ impl OutstandingData {
         if number <= self.acked {
             return None;
         }
-        self.rtt_at((number - self.acked - 1) as usize, now)
+        let item = self.kept.get((number - self.acked - 1) as usize)?;
+        if item.sendings() == 1 {
+            return Some(item.get_rtt_from(now));
+        }
+        None
     }
 
     /// Begins behind this TSN, as a socket does that is restored. For data of which nothing is outstanding.
@@ -731,12 +723,6 @@ struct Filling {
 struct ForwardPoint {
     count: usize,
     entries: Vec<SkipEntry>,
-}
-
-fn has_breakpoint(breakpoints: &VecDeque<u128>, number: u128) -> bool
-    ensures { result ≡ list_any (λ b. b == number) breakpoints.now.items }
-{
-    breakpoints.contains(&number)
 }
 
 /// Leaves the breakpoints above the number.

@@ -14,7 +14,7 @@ use crate::kept::{Change, Kept};
 use sctp_chunk::{GapAckBlock, are_runs};
 
 /// What a SACK acknowledged.
-#[derive(Clone, Copy, Debug, PartialEq, Eq)]
+#[derive(Clone, Copy)]
 pub struct AckInfo {
     /// The bytes of the chunks newly acknowledged, with headers and padding; at most `usize::MAX`.
     pub bytes_acked: usize,
@@ -62,15 +62,6 @@ pub(crate) fn skip_blocks(blocks: &[GapAckBlock], mut from: usize, offset: usize
     from
 }
 
-/// Whether the block covers the offset, which it doesn't end before.
-fn is_covered_at(blocks: &[GapAckBlock], at: usize, offset: usize) -> bool
-    requires cursor { IsCursor blocks.now offset at }
-    requires ends { (d : GapAckBlock) → at < length blocks.now → offset ≤ (slice_index_or blocks.now at d).end }
-    ensures { result ≡ is_covered blocks.now offset }
-{
-    at < blocks.len() && blocks[at].start as usize <= offset
-}
-
 /// Whether one of the blocks covers the offset.
 fn is_covered(blocks: &[GapAckBlock], offset: usize) -> bool
     ensures { result ≡ is_covered blocks.now offset }
@@ -89,21 +80,8 @@ fn look(blocks: &[GapAckBlock], is_in_runs: bool, from: usize, offset: usize) ->
         return (from, is_covered(blocks, offset));
     }
     let block = skip_blocks(blocks, from, offset);
-    (block, is_covered_at(blocks, block, offset))
-}
-
-/// The place behind the items from this one on that the block covers, which doesn't end before it.
-fn end_at(blocks: &[GapAckBlock], at: usize, place: usize) -> usize
-    requires small { place + 1 < 2 ^ 64 }
-    requires cursor { IsCursor blocks.now (place + 1) at }
-    requires ends { (d : GapAckBlock) → at < length blocks.now → place + 1 ≤ (slice_index_or blocks.now at d).end }
-    ensures onward { place ≤ result }
-    ensures covered { AreCovered blocks.now place result }
-{
-    if at < blocks.len() && blocks[at].start as usize <= place + 1 {
-        return blocks[at].end as usize;
-    }
-    place
+    let is_covered = block < blocks.len() && blocks[block].start as usize <= offset;
+    (block, is_covered)
 }
 
 /// The first block that may cover items behind those that blocks cover from the place on, and the place behind these. In
@@ -127,7 +105,10 @@ pub fn pass_covered(
         return (from, place);
     }
     let block = skip_blocks(blocks, from, place + 1);
-    (block, end_at(blocks, block, place))
+    if block < blocks.len() && blocks[block].start as usize <= place + 1 {
+        return (block, blocks[block].end as usize);
+    }
+    (block, place)
 }
 
 /// What blocks newly acknowledged.

@@ -2,7 +2,7 @@
 
 ghost use Rattle.std.specs.Prelude.{◌≡◌, ℕ, ◌+◌, ◌<◌, ◌≤◌, not, nat_lt, length, map, IfOk, OnOk, OnErr, ◌&&◌};
 ghost use Rattle.std.specs.List.{list_any};
-ghost use Rattle.sctp_tx_outstanding.specs.Forward.{is_before, is_same, is_alike, is_alike_at, name_stream, entries_before, size_with, with_entry};
+ghost use Rattle.sctp_tx_outstanding.specs.Forward.{is_before, is_alike, name_stream, entries_before, size_with, with_entry};
 ghost use Rattle.sctp_tx_outstanding.specs.Entries.{ssn_skip, mid_skip};
 
 use sctp_chunk::SkippedStream;
@@ -10,7 +10,7 @@ use sctp_serial::{Mid, Ssn, StreamId, StreamKey};
 use std::alloc::{AllocError, Global};
 
 /// The number of the last message of a stream, among its ordered or its unordered ones, that a forward point touches.
-#[derive(Clone, Copy, Debug)]
+#[derive(Clone, Copy)]
 pub struct SkipEntry {
     pub stream_id: StreamId,
     pub is_unordered: bool,
@@ -46,14 +46,8 @@ impl SkipEntry {
     fn is_alike(&self, other: &SkipEntry) -> bool
         ensures { result ≡ is_alike self.now other.now }
     {
-        self.stream_id.0 == other.stream_id.0 && is_same(self.is_unordered, other.is_unordered)
+        self.stream_id.0 == other.stream_id.0 && self.is_unordered == other.is_unordered
     }
-}
-
-fn is_same(first: bool, second: bool) -> bool
-    ensures { result ≡ is_same first second }
-{
-    if first { second } else { !second }
 }
 
 /// Whether an entry of the same stream and order is among these.
@@ -75,29 +69,17 @@ fn place_of(entries: &[SkipEntry], entry: SkipEntry) -> usize
     place
 }
 
-/// Whether the entry at the place is of this one's stream and order.
-fn is_alike_at(entries: &[SkipEntry], place: usize, entry: SkipEntry) -> bool
-    ensures { result ≡ is_alike_at entry place entries.now }
-{
-    if place >= entries.len() {
-        return false;
-    }
-    entry.is_alike(&entries[place])
-}
-
 /// Puts the entry at its place, or in the place of the one of its stream and order. Without memory nothing changes.
 pub fn put(entries: &mut Vec<SkipEntry>, entry: SkipEntry) -> Result<(), AllocError>
     ensures ok { OnOk result (entries.new.items ≡ name_stream entry entries.old.items) }
     ensures err { OnErr result (entries.new.items ≡ entries.old.items) }
 {
     let place = place_of(entries, entry);
-    if !is_alike_at(entries, place, entry) {
-        entries.insert(place, entry)?;
+    if place < entries.len() && entry.is_alike(&entries[place]) {
+        entries[place] = entry;
         return Ok(());
     }
-    if place < entries.len() {
-        entries[place] = entry;
-    }
+    entries.insert(place, entry)?;
     Ok(())
 }
 

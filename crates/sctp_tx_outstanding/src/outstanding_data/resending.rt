@@ -1,9 +1,8 @@
 //! Items that are sent again.
 
-ghost use Rattle.std.specs.Prelude.{◌≡◌, ◌≤◌, nat_lt, length, map, true, false, IfOk, OnOk, OnErr, if◌then◌else◌};
+ghost use Rattle.std.specs.Prelude.{◌≡◌, ◌≤◌, nat_lt, length, map, true, false, IfOk, OnOk, OnErr};
 ghost use Rattle.sctp_tx_outstanding.specs.Views.{resent_of, chunk_of};
 ghost use Rattle.sctp_tx_outstanding.specs.Resending.{again_at, allowance, waiting_for, turn_at, step_at, resent_below, resend, empty_packet, chunk_bytes, IsFull, SomeResent};
-ghost use Rattle.sctp_tx_outstanding.specs.declared.outstanding_data.Turn.TheVariants.{Send, PassOver, Leave};
 
 use crate::item::copy_of;
 use crate::kept::Change;
@@ -50,7 +49,13 @@ impl OutstandingData {
         };
         let size = item.chunk_size(self.kept.is_interleaved());
         if fast {
-            return fast_turn(item.is_fast(), size <= filling.room);
+            if !item.is_fast() {
+                return Turn::Leave;
+            }
+            if size <= filling.room {
+                return Turn::Send;
+            }
+            return Turn::PassOver;
         }
         if item.should_be_retransmitted() && size <= self.allowed(filling) {
             return Turn::Send;
@@ -168,13 +173,4 @@ impl OutstandingData {
         self.resend(false, &mut filling)?;
         Ok(filling.chunks)
     }
-}
-
-fn fast_turn(is_fast: bool, fits: bool) -> Turn
-    ensures { result ≡ (if is_fast then (if fits then Send else PassOver) else Leave) }
-{
-    if !is_fast {
-        return Turn::Leave;
-    }
-    if fits { Turn::Send } else { Turn::PassOver }
 }
