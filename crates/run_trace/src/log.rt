@@ -57,7 +57,11 @@ impl Clocks {
             Entry::Give(end, clock, _) => self.set(*end, *clock),
             Entry::Foreign(end, clock, _) => self.set(*end, *clock),
             Entry::Time(end, clock, _) => self.set(*end, *clock),
-            Entry::Packet(_, _) | Entry::Association(_, _) | Entry::Event(_, _) | Entry::GivenUp(_, _) | Entry::Ready(_, _) => {}
+            Entry::Packet(_, _)
+            | Entry::Association(_, _)
+            | Entry::Event(_, _)
+            | Entry::GivenUp(_, _)
+            | Entry::Ready(_, _) => {}
         }
     }
 

@@ -120,7 +120,8 @@ fn count_event<S>(end: &mut End<S>, event: &SocketEvent) {
         SocketEvent::OnStreamsResetPerformed(_streams) => {
             end.reset_events = end.reset_events.saturating_add(1)
         }
-        SocketEvent::OnError(_kind, _text) | SocketEvent::OnAborted(_kind, _text) => end.errors = end.errors.saturating_add(1),
+        SocketEvent::OnError(_kind, _text) | SocketEvent::OnAborted(_kind, _text) => end.errors =
+            end.errors.saturating_add(1),
         _event => (),
     }
 }
