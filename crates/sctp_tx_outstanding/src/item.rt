@@ -3,7 +3,7 @@
 ghost use Rattle.std.specs.Prelude.{◌≡◌, ℕ, ◌-◌, ◌<◌, ◌≤◌, ◌^◌, ◌&&◌, Bool, length, min, max, false, true, None, IfOk};
 ghost use Rattle.std.specs.Duration.{as_nanos};
 ghost use Rattle.sctp_chunk.specs.Views.{fragment_tree};
-ghost use Rattle.sctp_tx_outstanding.specs.Item.{header_size, size_of, chunk_size, acked, uncovered, nack_state, resent, slow};
+ghost use Rattle.sctp_tx_outstanding.specs.Item.{header_size, size_of, chunk_size, acked, nack_state, resent};
 
 mod handover;
 
@@ -43,15 +43,6 @@ impl ItemState {
         }
     }
 
-    fn uncovered(self) -> ItemState
-        ensures { result ≡ uncovered self }
-    {
-        match self {
-            ItemState::Acked => ItemState::InFlight,
-            _ => self,
-        }
-    }
-
     fn nacked(is_lost: bool, fast: bool) -> ItemState
         ensures { result ≡ nack_state is_lost fast }
     {
@@ -71,15 +62,6 @@ impl ItemState {
         match self {
             ItemState::Queued => ItemState::InFlight,
             ItemState::QueuedFast => ItemState::InFlight,
-            _ => self,
-        }
-    }
-
-    fn slowed(self) -> ItemState
-        ensures { result ≡ slow self }
-    {
-        match self {
-            ItemState::QueuedFast => ItemState::Queued,
             _ => self,
         }
     }
@@ -319,7 +301,9 @@ impl Item {
     pub fn uncover(&mut self)
         ensures { self.new ≡ uncover self.old }
     {
-        self.state = self.state.uncovered();
+        if matches!(self.state, ItemState::Acked) {
+            self.state = ItemState::InFlight;
+        }
     }
 
     /// Whether it is lost by one more report, or at once.
@@ -354,7 +338,9 @@ impl Item {
     pub fn miss_fast(&mut self)
         ensures { self.new ≡ miss_fast self.old }
     {
-        self.state = self.state.slowed();
+        if matches!(self.state, ItemState::QueuedFast) {
+            self.state = ItemState::Queued;
+        }
     }
 
     /// Its message is given up, for good.
