@@ -107,6 +107,8 @@ impl OutgoingPacket {
             let size = chunk.serialized_size();
             self.chunks.push(chunk)?;
             self.body_size += size;
+        } else {
+            drop(chunk);
         }
         Ok(())
     }
