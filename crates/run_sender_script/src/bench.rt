@@ -1,9 +1,8 @@
 //! One of each thing that commands are for.
 
+use crate::answer::{Answer, written};
 use crate::line::Line;
-use crate::{
-    Answer, data, handover, item, kept, message, queue, skips, stream, streams, transmission,
-};
+use crate::{data, handover, item, kept, message, queue, skips, stream, streams, transmission};
 use sctp_serial::Tsn;
 use sctp_state::{Events, Options};
 use sctp_stream_scheduler::StreamScheduler;
@@ -15,7 +14,7 @@ use sctp_tx_queue::SendQueue;
 use sctp_tx_queue::send_queue::message::QueuedMessage;
 use sctp_tx_queue::send_queue::stream::Stream;
 use sctp_tx_queue::send_queue::streams::Streams;
-use std::alloc::{AllocError, Global};
+use std::alloc::Global;
 
 /// What a message of the send queue, and a fragment with its TSN, are until they are made.
 #[derive(Drop)]
@@ -56,70 +55,72 @@ impl Bench {
         }
     }
 
-    pub fn answer(&mut self, alloc: Global, line: &Line<'_>) -> Result<Answer, AllocError> {
+    pub fn answer(&mut self, alloc: Global, line: &Line<'_>, output: &mut String) -> Answer {
+        let events = &mut self.events;
         match line.part {
-            "queue" => queue::answer(alloc, &mut self.queue, &mut self.events, line),
+            "queue" => queue::answer(alloc, &mut self.queue, events, line, output),
             "sender" => {
                 transmission::answer(
                     alloc,
                     &mut self.sender,
                     &mut self.queue,
-                    &mut self.events,
+                    events,
                     line,
+                    output,
                 )
             }
             "both" => handover::answer(alloc, &mut self.queue, &mut self.sender, line),
-            "event" => event(alloc, &mut self.events, line),
-            "data" => data::answer(alloc, &mut self.data, &mut self.events, line),
-            "item" => item::answer(alloc, &mut self.item, line),
-            "kept" => kept::answer(alloc, &mut self.kept, &mut self.events, line),
-            "skip" => skips::answer(alloc, &mut self.skips, line),
-            "message" => message::answer(alloc, &mut self.message, line),
-            "stream" => stream::answer(alloc, &mut self.stream, &mut self.events, line),
+            "event" => event(events, line.verb, output),
+            "data" => data::answer(alloc, &mut self.data, events, line, output),
+            "item" => item::answer(alloc, &mut self.item, line, output),
+            "kept" => kept::answer(alloc, &mut self.kept, events, line, output),
+            "skip" => skips::answer(alloc, &mut self.skips, line, output),
+            "message" => message::answer(alloc, &mut self.message, line, output),
+            "stream" => stream::answer(alloc, &mut self.stream, events, line, output),
             "streams" => {
                 streams::answer(
                     alloc,
                     &mut self.streams,
                     &mut self.scheduler,
-                    &mut self.events,
+                    events,
                     line,
+                    output,
                 )
             }
-            _ => Ok(Answer::Unknown),
+            _ => Answer::Unknown,
         }
     }
 }
 
-fn next_event(alloc: Global, events: &mut Events) -> Result<Answer, AllocError> {
+fn next_event(events: &mut Events, output: &mut String) -> Answer {
     match events.next_event() {
         Some(event) => {
-            let text = format!(in alloc; "{event:?}");
+            let answer = written(write!(output, "{event:?}"));
             drop(event);
-            Ok(Answer::Text(text?))
+            answer
         }
-        None => Ok(Answer::Nothing),
+        None => Answer::Nothing,
     }
 }
 
-fn next_given_up(alloc: Global, events: &mut Events) -> Result<Answer, AllocError> {
+fn next_given_up(events: &mut Events, output: &mut String) -> Answer {
     match events.next_given_up() {
         Some(record) => {
-            let text = format!(in alloc; "message {} {:?}", record.number.0, record.cause)?;
-            Ok(Answer::Text(text))
+            written(write!(output, "message {} {:?}", record.number.0, record.cause))
         }
-        None => Ok(Answer::Nothing),
+        None => Answer::Nothing,
     }
 }
 
 /// `next`, `given-up` · `counts`: how many events, and records of messages given up, wait.
-fn event(alloc: Global, events: &mut Events, line: &Line<'_>) -> Result<Answer, AllocError> {
-    match line.verb {
-        "next" => next_event(alloc, events),
-        "given-up" => next_given_up(alloc, events),
+fn event(events: &mut Events, verb: &str, output: &mut String) -> Answer {
+    match verb {
+        "next" => next_event(events, output),
+        "given-up" => next_given_up(events, output),
         "counts" => {
             let mark = events.mark();
-            Ok(Answer::Two(mark.events as u64, mark.given_up as u64))
+            Answer::Two(mark.events as u64, mark.given_up as u64)
         }
-        _ => Ok(Answer::Unknown),
+        _ => Answer::Unknown,
     }
 }

@@ -1,21 +1,37 @@
 //! The fragments that have their TSN.
 
-use crate::Answer;
-use crate::fragment::{bytes, chunks_text, point_text, sack};
+use crate::answer::{Answer, done, written};
+use crate::fragment::{bytes, sack, tell_chunks, tell_skips};
 use crate::line::Line;
-use sctp_packet::Data;
+use sctp_packet::{Data, SackChunk};
 use sctp_serial::{Fsn, Mid, PpId, SocketTime, Ssn, StreamKey};
 use sctp_state::{Events, SocketHandoverState};
-use sctp_tx_outstanding::OutstandingData;
+use sctp_tx_outstanding::{Discarded, OutstandingData};
 use std::alloc::{AllocError, Global};
+use std::collections::VecDeque;
 use std::mem;
+
+fn due(line: &Line<'_>) -> Option<SocketTime> {
+    if line.flag(7) {
+        Some(line.moment(7))
+    } else {
+        None
+    }
+}
 
 /// `send STREAM SSN MESSAGE BYTES LIMIT END LIFECYCLE DUE`: an ordered fragment that is sent at moment 0, with its limit of
 /// retransmissions, and the moment from which it isn't worth sending, 0 if there is none.
-fn send(alloc: Global, data: &mut OutstandingData, line: &Line<'_>) -> Result<Answer, AllocError> {
-    let payload = bytes(alloc, usize::from(line.short(3)))?;
+fn send(alloc: Global, data: &mut OutstandingData, line: &Line<'_>) -> Answer {
+    match bytes(alloc, usize::from(line.short(3))) {
+        Ok(payload) => insert(data, payload, line),
+        Err(_) => Answer::NoMemory,
+    }
+}
+
+fn insert(data: &mut OutstandingData, payload: Vec<u8>, line: &Line<'_>) -> Answer {
     if payload.len() >= 100 {
-        return Ok(Answer::Refused);
+        drop(payload);
+        return Answer::Refused;
     }
     let fragment = Data {
         stream_key: StreamKey::Ordered(line.stream(0)),
@@ -27,20 +43,18 @@ fn send(alloc: Global, data: &mut OutstandingData, line: &Line<'_>) -> Result<An
         is_beginning: true,
         is_end: line.flag(5),
     };
-    let due = if line.flag(7) {
-        Some(line.moment(7))
-    } else {
-        None
-    };
-    let tsn = data.insert(
+    let sent = data.insert(
         line.message(2),
         fragment,
         SocketTime::zero(),
         line.short(4),
-        due,
+        due(line),
         line.lifecycle(6),
-    )?;
-    Ok(Answer::Number(u64::from(tsn.0)))
+    );
+    match sent {
+        Ok(tsn) => Answer::Number(u64::from(tsn.0)),
+        Err(_) => Answer::NoMemory,
+    }
 }
 
 /// `sack TSN FIRST LAST`
@@ -49,109 +63,159 @@ fn hear(
     data: &mut OutstandingData,
     events: &mut Events,
     line: &Line<'_>,
-) -> Result<Answer, AllocError> {
-    let tsn = line.tsn(0);
-    let chunk = sack(alloc, tsn, line.short(1), line.short(2))?;
-    let blocks = chunk.gap_ack_blocks.as_slice();
-    if !data.is_sack_valid(tsn, blocks) {
-        return Ok(Answer::Refused);
+    output: &mut String,
+) -> Answer {
+    match sack(alloc, line.tsn(0), line.short(1), line.short(2)) {
+        Ok(chunk) => {
+            let answer = handle(data, &chunk, events, output);
+            drop(chunk);
+            answer
+        }
+        Err(_) => Answer::NoMemory,
     }
-    let info = data.handle_sack(tsn, blocks, false, events)?;
-    Ok(Answer::Text(format!(in alloc; "{info:?}")?))
+}
+
+fn handle(
+    data: &mut OutstandingData,
+    chunk: &SackChunk,
+    events: &mut Events,
+    output: &mut String,
+) -> Answer {
+    let (tsn, blocks) = (chunk.cumulative_tsn_ack, chunk.gap_ack_blocks.as_slice());
+    if !data.is_sack_valid(tsn, blocks) {
+        return Answer::Refused;
+    }
+    match data.handle_sack(tsn, blocks, false, events) {
+        Ok(info) => written(write!(
+            output,
+            "AckInfo {{ bytes_acked: {}, has_packet_loss: {} }}",
+            info.bytes_acked, info.has_packet_loss
+        )),
+        Err(_) => Answer::NoMemory,
+    }
 }
 
 /// `point SIZE`: the forward point whose chunk has at most so many bytes.
-fn point(alloc: Global, data: &OutstandingData, size: usize) -> Result<Answer, AllocError> {
-    let text = if data.is_interleaved() {
-        let chunk = data.create_iforward_tsn(size)?;
-        point_text(alloc, chunk.new_cumulative_tsn, &chunk.skipped_streams)?
+fn point(data: &OutstandingData, size: usize, output: &mut String) -> Answer {
+    if data.is_interleaved() {
+        match data.create_iforward_tsn(size) {
+            Ok(chunk) => {
+                let tsn = u64::from(chunk.new_cumulative_tsn.0);
+                let answer = tell_skips(output, tsn, &chunk.skipped_streams);
+                drop(chunk);
+                answer
+            }
+            Err(_) => Answer::NoMemory,
+        }
     } else {
-        let chunk = data.create_forward_tsn(size)?;
-        point_text(alloc, chunk.new_cumulative_tsn, &chunk.skipped_streams)?
-    };
-    Ok(Answer::Text(text))
+        match data.create_forward_tsn(size) {
+            Ok(chunk) => {
+                let tsn = u64::from(chunk.new_cumulative_tsn.0);
+                let answer = tell_skips(output, tsn, &chunk.skipped_streams);
+                drop(chunk);
+                answer
+            }
+            Err(_) => Answer::NoMemory,
+        }
+    }
 }
 
-/// `resend SIZE WINDOW` · `resend-fast SIZE`: the chunks that are sent again.
-fn resend(
-    alloc: Global,
-    data: &mut OutstandingData,
-    line: &Line<'_>,
-) -> Result<Answer, AllocError> {
-    let chunks = if line.verb == "resend" {
-        data.get_chunks_to_be_retransmitted(line.size(0), line.size(1))?
-    } else {
-        data.get_chunks_to_be_fast_retransmitted(line.size(0))?
-    };
-    Ok(Answer::Text(chunks_text(alloc, &chunks)?))
+fn push_discarded(output: &mut String, message: Discarded) -> Result<(), AllocError> {
+    write!(
+        output,
+        "Discarded {{ stream_id: {}, message_id: {} }}",
+        message.stream_id.0, message.message_id.0
+    )
 }
 
-/// `rest` · `rests`: the message, or all messages, whose rest the send queue is to drop.
-fn rests(alloc: Global, data: &mut OutstandingData, line: &Line<'_>) -> Result<Answer, AllocError> {
-    let text = if line.verb == "rest" {
-        let rest = data.get_unsent_message_to_discard();
-        format!(in alloc; "{rest:?}")?
-    } else {
-        let rests = data.get_unsent_messages_to_discard();
-        format!(in alloc; "{rests:?}")?
-    };
-    Ok(Answer::Text(text))
+fn push_rests(output: &mut String, rests: &VecDeque<Discarded>) -> Result<(), AllocError> {
+    output.push_str("[")?;
+    for place in 0..rests.len() {
+        if place > 0 {
+            output.push_str(", ")?;
+        }
+        if let Some(message) = rests.get(place) {
+            push_discarded(output, *message)?;
+        }
+    }
+    output.push_str("]")
+}
+
+/// `rests`: the messages whose rest the send queue is to drop.
+fn rests(data: &mut OutstandingData, output: &mut String) -> Answer {
+    let rests = data.get_unsent_messages_to_discard();
+    let answer = written(push_rests(output, &rests));
+    drop(rests);
+    answer
+}
+
+/// `rest`: the message whose rest the send queue is to drop.
+fn rest(data: &mut OutstandingData, output: &mut String) -> Answer {
+    match data.get_unsent_message_to_discard() {
+        Some(message) => written(push_some(output, message)),
+        None => written(output.push_str("None")),
+    }
+}
+
+fn push_some(output: &mut String, message: Discarded) -> Result<(), AllocError> {
+    output.push_str("Some(")?;
+    push_discarded(output, message)?;
+    output.push_str(")")
 }
 
 fn write(
-    alloc: Global,
     data: &OutstandingData,
     now: SocketTime,
     state: &mut SocketHandoverState,
-) -> Result<Answer, AllocError> {
-    data.add_to_handover_state(now, state)?;
+    output: &mut String,
+) -> Answer {
+    if data.add_to_handover_state(now, state).is_err() {
+        return Answer::NoMemory;
+    }
     let tx = &state.tx;
-    let text = format!(in alloc;
+    written(write!(
+        output,
         "{} {} {:?}",
         tx.next_tsn, tx.last_cumulative_tsn_ack, tx.outstanding_data
-    )?;
-    Ok(Answer::Text(text))
+    ))
 }
 
 /// `record MICROSECONDS`: what is handed over at this moment.
-fn record(alloc: Global, data: &OutstandingData, line: &Line<'_>) -> Result<Answer, AllocError> {
+fn record(alloc: Global, data: &OutstandingData, now: SocketTime, output: &mut String) -> Answer {
     let mut state = SocketHandoverState::empty(alloc);
-    let answer = write(alloc, data, line.fine_moment(0), &mut state);
+    let answer = write(data, now, &mut state, output);
     drop(state);
     answer
 }
 
 /// `rtt MOMENT TSN`
-fn round_trip(
-    alloc: Global,
-    data: &OutstandingData,
-    line: &Line<'_>,
-) -> Result<Answer, AllocError> {
+fn round_trip(data: &OutstandingData, line: &Line<'_>, output: &mut String) -> Answer {
     match data.measure_rtt(line.moment(0), line.tsn(1)) {
-        Some(rtt) => Ok(Answer::Text(format!(in alloc; "{}", rtt.as_millis())?)),
-        None => Ok(Answer::Nothing),
+        Some(rtt) => written(write!(output, "{}", rtt.as_millis())),
+        None => Answer::Nothing,
     }
 }
 
 /// `counts`: how many fragments are in flight or missing, the bytes of their chunks, and of their payloads. `tsns`: the next,
 /// the highest outstanding, and the last that all are acknowledged to. `numbers`: the next and the last acknowledged one.
-fn counts(alloc: Global, data: &OutstandingData, verb: &str) -> Result<Answer, AllocError> {
-    let text = match verb {
-        "counts" => format!(in alloc;
+fn told(data: &OutstandingData, verb: &str, output: &mut String) -> Answer {
+    written(match verb {
+        "counts" => write!(
+            output,
             "{} {} {}",
             data.unacked_items(),
             data.unacked_packet_bytes(),
             data.unacked_payload_bytes()
-        )?,
-        "tsns" => format!(in alloc;
+        ),
+        "tsns" => write!(
+            output,
             "{} {} {}",
             data.next_tsn().0,
             data.highest_outstanding_tsn().0,
             data.last_cumulative_acked_tsn().0
-        )?,
-        _ => format!(in alloc; "{} {}", data.next_number(), data.acked_number())?,
-    };
-    Ok(Answer::Text(text))
+        ),
+        _ => write!(output, "{} {}", data.next_number(), data.acked_number()),
+    })
 }
 
 fn asked(data: &OutstandingData, line: &Line<'_>) -> Answer {
@@ -168,55 +232,56 @@ fn asked(data: &OutstandingData, line: &Line<'_>) -> Answer {
 }
 
 /// `new TSN INTERLEAVED`: with no fragments, the first of which takes this TSN.
-fn renew(alloc: Global, data: &mut OutstandingData, line: &Line<'_>) {
+fn renew(alloc: Global, data: &mut OutstandingData, line: &Line<'_>) -> Answer {
     let other = OutstandingData::new(alloc, line.tsn(0), true, line.flag(1));
     drop(mem::replace(data, other));
+    Answer::Done
 }
 
 /// `restored TSN LAST`: the same, and all was acknowledged to the last TSN.
-fn restore(alloc: Global, data: &mut OutstandingData, line: &Line<'_>) {
+fn restore(alloc: Global, data: &mut OutstandingData, line: &Line<'_>) -> Answer {
     let mut other = OutstandingData::new(alloc, line.tsn(0), true, false);
     other.reset_sequence_numbers(line.tsn(1));
     drop(mem::replace(data, other));
+    Answer::Done
 }
 
-fn change(
-    data: &mut OutstandingData,
-    events: &mut Events,
-    line: &Line<'_>,
-) -> Result<Answer, AllocError> {
+fn change(data: &mut OutstandingData, events: &mut Events, line: &Line<'_>) -> Answer {
     match line.verb {
-        "time-out" => data.nack_all(events)?,
-        "expire" => data.expire_outstanding_chunks(line.moment(0), events)?,
-        _ => data.begin_reset_streams()?,
+        "time-out" => done(data.nack_all(events)),
+        "expire" => done(data.expire_outstanding_chunks(line.moment(0), events)),
+        "begin-reset" => done(data.begin_reset_streams()),
+        _ => asked(data, line),
     }
-    Ok(Answer::Done)
 }
 
+/// `resend SIZE WINDOW` · `resend-fast SIZE`: the chunks that are sent again.
 pub fn answer(
     alloc: Global,
     data: &mut OutstandingData,
     events: &mut Events,
     line: &Line<'_>,
-) -> Result<Answer, AllocError> {
+    output: &mut String,
+) -> Answer {
     match line.verb {
-        "new" => {
-            renew(alloc, data, line);
-            Ok(Answer::Done)
-        }
-        "restored" => {
-            restore(alloc, data, line);
-            Ok(Answer::Done)
-        }
+        "new" => renew(alloc, data, line),
+        "restored" => restore(alloc, data, line),
         "send" => send(alloc, data, line),
-        "sack" => hear(alloc, data, events, line),
-        "time-out" | "expire" | "begin-reset" => change(data, events, line),
-        "point" => point(alloc, data, line.size(0)),
-        "resend" | "resend-fast" => resend(alloc, data, line),
-        "rest" | "rests" => rests(alloc, data, line),
-        "record" => record(alloc, data, line),
-        "rtt" => round_trip(alloc, data, line),
-        "counts" | "tsns" | "numbers" => counts(alloc, data, line.verb),
-        _ => Ok(asked(data, line)),
+        "sack" => hear(alloc, data, events, line, output),
+        "point" => point(data, line.size(0), output),
+        "resend" => {
+            let chunks = data.get_chunks_to_be_retransmitted(line.size(0), line.size(1));
+            tell_chunks(output, chunks)
+        }
+        "resend-fast" => {
+            let chunks = data.get_chunks_to_be_fast_retransmitted(line.size(0));
+            tell_chunks(output, chunks)
+        }
+        "rest" => rest(data, output),
+        "rests" => rests(data, output),
+        "record" => record(alloc, data, line.fine_moment(0), output),
+        "rtt" => round_trip(data, line, output),
+        "counts" | "tsns" | "numbers" => told(data, line.verb, output),
+        _ => change(data, events, line),
     }
 }

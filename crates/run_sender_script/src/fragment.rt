@@ -1,7 +1,8 @@
 //! Bytes and fragments: how they are made, and printed.
 
+use crate::answer::{Answer, written};
 use sctp_packet::{Data, GapAckBlock, SackChunk, SkippedStream};
-use sctp_serial::{SocketTime, StreamKey, Tsn};
+use sctp_serial::{LifecycleId, SocketTime, StreamKey, Tsn};
 use sctp_tx_queue::DataToSend;
 use std::alloc::{AllocError, Global};
 
@@ -29,32 +30,41 @@ fn first_of_run(bytes: &[u8]) -> Option<u8> {
     Some(first)
 }
 
-fn payload_text(alloc: Global, bytes: &[u8]) -> Result<String, AllocError> {
+fn push_payload(output: &mut String, bytes: &[u8]) -> Result<(), AllocError> {
     if bytes.is_empty() {
-        return format!(in alloc; "no bytes");
+        return output.push_str(" no bytes");
     }
     match first_of_run(bytes) {
-        Some(first) => format!(in alloc; "{} bytes from {first}", bytes.len()),
-        None => hex::encode(alloc, bytes),
+        Some(first) => write!(output, " {} bytes from {first}", bytes.len()),
+        None => push_hex(output, bytes),
     }
 }
 
-pub fn data_text(alloc: Global, data: &Data) -> Result<String, AllocError> {
-    let payload = payload_text(alloc, &data.payload)?;
+fn push_hex(output: &mut String, bytes: &[u8]) -> Result<(), AllocError> {
+    output.push_str(" ")?;
+    for byte in bytes {
+        write!(output, "{byte:02x}")?;
+    }
+    Ok(())
+}
+
+pub fn push_data(output: &mut String, data: &Data) -> Result<(), AllocError> {
     let order = match data.stream_key {
         StreamKey::Ordered(_) => "ordered",
         StreamKey::Unordered(_) => "unordered",
     };
-    format!(in alloc;
-        "{order} {} ssn {} mid {} fsn {} ppid {}{}{} {payload}",
+    write!(
+        output,
+        "{order} {} ssn {} mid {} fsn {} ppid {}",
         data.stream_key.id().0,
         data.ssn.0,
         data.mid.0,
         data.fsn.0,
-        data.ppid.0,
-        if data.is_beginning { " beginning" } else { "" },
-        if data.is_end { " end" } else { "" }
-    )
+        data.ppid.0
+    )?;
+    output.push_str(if data.is_beginning { " beginning" } else { "" })?;
+    output.push_str(if data.is_end { " end" } else { "" })?;
+    push_payload(output, &data.payload)
 }
 
 /// Milliseconds; 0 where there is no such moment.
@@ -65,65 +75,86 @@ pub fn millis_of(moment: Option<SocketTime>) -> u128 {
     }
 }
 
-pub fn sent_text(alloc: Global, sent: &DataToSend) -> Result<String, AllocError> {
-    let data = data_text(alloc, &sent.data)?;
-    let lifecycle = match sent.lifecycle_id {
+/// The number of a lifecycle; 0 where there is none.
+pub fn number_of(lifecycle: Option<LifecycleId>) -> u64 {
+    match lifecycle {
         Some(id) => id.value(),
         None => 0,
-    };
-    format!(in alloc;
-        "message {} {data} limit {} until {} lifecycle {lifecycle}",
-        sent.message_id.0,
+    }
+}
+
+pub fn push_sent(output: &mut String, sent: &DataToSend) -> Result<(), AllocError> {
+    write!(output, "message {} ", sent.message_id.0)?;
+    push_data(output, &sent.data)?;
+    write!(
+        output,
+        " limit {} until {} lifecycle {}",
         sent.max_retransmissions,
-        millis_of(sent.expires_at)
+        millis_of(sent.expires_at),
+        number_of(sent.lifecycle_id)
     )
 }
 
-/// The chunks of a packet, each with its TSN and its payload's length.
-pub fn chunks_text(alloc: Global, chunks: &[(Tsn, Data)]) -> Result<String, AllocError> {
-    let mut text = String::new(alloc);
-    if chunks.is_empty() {
-        text.push_str("nothing")?;
-    }
-    for chunk in chunks {
-        if !text.is_empty() {
-            text.push(' ')?;
+/// The fragment, where there is one.
+pub fn tell_sent(output: &mut String, sent: Result<Option<DataToSend>, AllocError>) -> Answer {
+    match sent {
+        Ok(Some(sent)) => {
+            let answer = written(push_sent(output, &sent));
+            drop(sent);
+            answer
         }
-        let one = format!(in alloc; "{} with {}", chunk.0.0, chunk.1.payload.len())?;
-        text.push_str(&one)?;
+        Ok(None) => Answer::Nothing,
+        Err(_) => Answer::NoMemory,
     }
-    Ok(text)
 }
 
-fn skip_text(alloc: Global, skip: &SkippedStream) -> Result<String, AllocError> {
+fn push_chunks(output: &mut String, chunks: &[(Tsn, Data)]) -> Result<(), AllocError> {
+    if chunks.is_empty() {
+        return output.push_str("nothing");
+    }
+    let mut space = "";
+    for chunk in chunks {
+        write!(output, "{space}{} with {}", chunk.0.0, chunk.1.payload.len())?;
+        space = " ";
+    }
+    Ok(())
+}
+
+/// The chunks of a packet, each with its TSN and its payload's length.
+pub fn tell_chunks(output: &mut String, chunks: Result<Vec<(Tsn, Data)>, AllocError>) -> Answer {
+    match chunks {
+        Ok(chunks) => {
+            let answer = written(push_chunks(output, &chunks));
+            drop(chunks);
+            answer
+        }
+        Err(_) => Answer::NoMemory,
+    }
+}
+
+fn push_skip(output: &mut String, skip: &SkippedStream) -> Result<(), AllocError> {
     match skip {
-        SkippedStream::ForwardTsn(id, ssn) => format!(in alloc; " {} to ssn {}", id.0, ssn.0),
+        SkippedStream::ForwardTsn(id, ssn) => write!(output, " {} to ssn {}", id.0, ssn.0),
         SkippedStream::IForwardTsn(StreamKey::Ordered(id), mid) => {
-            format!(in alloc; " ordered {} to mid {}", id.0, mid.0)
+            write!(output, " ordered {} to mid {}", id.0, mid.0)
         }
         SkippedStream::IForwardTsn(StreamKey::Unordered(id), mid) => {
-            format!(in alloc; " unordered {} to mid {}", id.0, mid.0)
+            write!(output, " unordered {} to mid {}", id.0, mid.0)
         }
     }
 }
 
-/// The streams that a forward point names, and the number that it goes to on each.
-pub fn skips_text(alloc: Global, skips: &[SkippedStream]) -> Result<String, AllocError> {
-    let mut text = String::new(alloc);
-    for skip in skips {
-        let one = skip_text(alloc, skip)?;
-        text.push_str(&one)?;
-    }
-    Ok(text)
+/// A number, and the streams that a forward point names, with the number that it goes to on each.
+pub fn tell_skips(output: &mut String, number: u64, skips: &[SkippedStream]) -> Answer {
+    written(push_skips(output, number, skips))
 }
 
-pub fn point_text(
-    alloc: Global,
-    tsn: Tsn,
-    streams: &[SkippedStream],
-) -> Result<String, AllocError> {
-    let skips = skips_text(alloc, streams)?;
-    format!(in alloc; "{}:{skips}", tsn.0)
+fn push_skips(output: &mut String, number: u64, skips: &[SkippedStream]) -> Result<(), AllocError> {
+    write!(output, "{number}:")?;
+    for skip in skips {
+        push_skip(output, skip)?;
+    }
+    Ok(())
 }
 
 /// A SACK with a block from one offset to another, none where the first is 0.

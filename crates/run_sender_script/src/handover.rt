@@ -1,6 +1,6 @@
 //! A send queue and a sender that others take up.
 
-use crate::Answer;
+use crate::answer::{Answer, done};
 use crate::bench::sender as fresh;
 use crate::line::Line;
 use sctp_serial::SocketTime;
@@ -29,16 +29,17 @@ fn take_up(
     sender: &mut RetransmissionQueue,
     now: SocketTime,
     state: &SocketHandoverState,
-) -> Result<Answer, AllocError> {
+) -> Answer {
     if !state.is_valid() {
-        return Ok(Answer::Refused);
+        return Answer::Refused;
     }
     if let HandoverSocketState::Closed = state.socket_state {
-        return Ok(Answer::Refused);
+        return Answer::Refused;
     }
-    queue.restore_from_state(now, state)?;
-    sender.restore_from_state(now, state)?;
-    Ok(Answer::Done)
+    if queue.restore_from_state(now, state).is_err() {
+        return Answer::NoMemory;
+    }
+    done(sender.restore_from_state(now, state))
 }
 
 fn pass_on(
@@ -47,8 +48,10 @@ fn pass_on(
     sender: &mut RetransmissionQueue,
     now: SocketTime,
     state: &mut SocketHandoverState,
-) -> Result<Answer, AllocError> {
-    write(queue, sender, now, state)?;
+) -> Answer {
+    if write(queue, sender, now, state).is_err() {
+        return Answer::NoMemory;
+    }
     drop(mem::replace(queue, SendQueue::new(alloc, &Options::default())));
     drop(mem::replace(sender, fresh(alloc)));
     take_up(queue, sender, now, state)
@@ -60,9 +63,9 @@ pub fn answer(
     queue: &mut SendQueue,
     sender: &mut RetransmissionQueue,
     line: &Line<'_>,
-) -> Result<Answer, AllocError> {
+) -> Answer {
     if line.verb != "hand-over" {
-        return Ok(Answer::Unknown);
+        return Answer::Unknown;
     }
     let mut state = SocketHandoverState::empty(alloc);
     let answer = pass_on(alloc, queue, sender, line.moment(0), &mut state);

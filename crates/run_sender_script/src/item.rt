@@ -1,7 +1,7 @@
 //! One fragment that has its TSN.
 
-use crate::Answer;
-use crate::fragment::data_text;
+use crate::answer::{Answer, written};
+use crate::fragment::{number_of, push_data};
 use crate::line::Line;
 use sctp_packet::Data;
 use sctp_serial::{
@@ -50,23 +50,22 @@ fn limited(alloc: Global, limit: u16, is_short: bool) -> Result<Option<Item>, Al
     Ok(Some(Item::new(MESSAGE, fragment, at(100), limit, due, id)))
 }
 
-fn word(is_so: bool, word: &'static str) -> &'static str {
-    if is_so { word } else { "" }
+fn push_if(output: &mut String, is_so: bool, word: &str) -> Result<(), AllocError> {
+    if is_so {
+        output.push_str(word)?;
+    }
+    Ok(())
 }
 
 /// What holds of the item.
-fn look(alloc: Global, item: &Item) -> Result<Answer, AllocError> {
-    let text = format!(in alloc;
-        "{}{}{}{}{}{}sendings {}",
-        word(item.is_outstanding(), "outstanding "),
-        word(item.is_nacked(), "nacked "),
-        word(item.should_be_retransmitted(), "lost "),
-        word(item.is_fast(), "fast "),
-        word(item.is_acked(), "acked "),
-        word(item.is_abandoned(), "abandoned "),
-        item.sendings()
-    )?;
-    Ok(Answer::Text(text))
+fn push_look(output: &mut String, item: &Item) -> Result<(), AllocError> {
+    push_if(output, item.is_outstanding(), "outstanding ")?;
+    push_if(output, item.is_nacked(), "nacked ")?;
+    push_if(output, item.should_be_retransmitted(), "lost ")?;
+    push_if(output, item.is_fast(), "fast ")?;
+    push_if(output, item.is_acked(), "acked ")?;
+    push_if(output, item.is_abandoned(), "abandoned ")?;
+    write!(output, "sendings {}", item.sendings())
 }
 
 fn put(kept: &mut Option<Item>, item: Option<Item>) -> Answer {
@@ -74,68 +73,65 @@ fn put(kept: &mut Option<Item>, item: Option<Item>) -> Answer {
     Answer::Done
 }
 
-/// `new LIMIT SHORT` · `placeholder`
-fn made(alloc: Global, kept: &mut Option<Item>, line: &Line<'_>) -> Result<Answer, AllocError> {
-    let item = if line.verb == "new" {
-        limited(alloc, line.short(0), line.flag(1))?
-    } else {
-        Some(Item::placeholder(MESSAGE, Data::empty(alloc)))
-    };
-    Ok(put(kept, item))
+/// `new LIMIT SHORT`
+fn renew(alloc: Global, kept: &mut Option<Item>, line: &Line<'_>) -> Answer {
+    match limited(alloc, line.short(0), line.flag(1)) {
+        Ok(item) => put(kept, item),
+        Err(_) => Answer::NoMemory,
+    }
 }
 
 /// `names`: the message, and its lifecycle id where its end has one.
 fn names(item: &Item) -> Answer {
-    let lifecycle = match item.lifecycle_id() {
-        Some(id) => id.value(),
-        None => 0,
-    };
-    Answer::Two(u64::from(item.message_id().0), lifecycle)
+    Answer::Two(
+        u64::from(item.message_id().0),
+        number_of(item.lifecycle_id()),
+    )
 }
 
-fn copied(alloc: Global, item: &Item) -> Result<Answer, AllocError> {
-    let copy = copy_of(alloc, item.data())?;
-    Ok(Answer::Text(data_text(alloc, &copy)?))
+fn copied(alloc: Global, item: &Item, output: &mut String) -> Answer {
+    match copy_of(alloc, item.data()) {
+        Ok(copy) => {
+            let answer = written(push_data(output, &copy));
+            drop(copy);
+            answer
+        }
+        Err(_) => Answer::NoMemory,
+    }
 }
 
 /// `sizes INTERLEAVED`: of the header, of the chunk, and of a chunk of the same fragment.
-fn sizes(alloc: Global, item: &Item, is_interleaved: bool) -> Result<Answer, AllocError> {
-    let text = format!(in alloc;
+fn sizes(item: &Item, is_interleaved: bool, output: &mut String) -> Answer {
+    written(write!(
+        output,
         "{} {} {}",
         header_size(is_interleaved),
         item.chunk_size(is_interleaved),
         chunk_size(item.data(), is_interleaved)
-    )?;
-    Ok(Answer::Text(text))
+    ))
 }
 
-fn text_asked(alloc: Global, item: &Item, line: &Line<'_>) -> Result<Answer, AllocError> {
+fn asked(alloc: Global, item: &Item, line: &Line<'_>, output: &mut String) -> Answer {
     match line.verb {
-        "data" => Ok(Answer::Text(data_text(alloc, item.data())?)),
-        "copy" => copied(alloc, item),
-        "sizes" => sizes(alloc, item, line.flag(0)),
+        "is-lost" => Answer::Is(item.is_lost(line.flag(0))),
+        "is-used-up" => Answer::Is(item.is_used_up()),
+        "has-expired" => Answer::Is(item.has_expired(line.moment(0))),
+        "was-resent" => Answer::Is(item.has_been_retransmitted()),
+        "payload-size" => Answer::Number(item.payload_size() as u64),
+        "names" => names(item),
+        "data" => written(push_data(output, item.data())),
+        "copy" => copied(alloc, item, output),
+        "sizes" => sizes(item, line.flag(0), output),
         "rtt" => {
             let rtt = item.get_rtt_from(line.moment(0)).as_millis();
-            Ok(Answer::Text(format!(in alloc; "{rtt}")?))
+            written(write!(output, "{rtt}"))
         }
-        "look" => look(alloc, item),
-        _ => Ok(Answer::Unknown),
+        "look" => written(push_look(output, item)),
+        _ => Answer::Unknown,
     }
 }
 
-fn asked(alloc: Global, item: &Item, line: &Line<'_>) -> Result<Answer, AllocError> {
-    match line.verb {
-        "is-lost" => Ok(Answer::Is(item.is_lost(line.flag(0)))),
-        "is-used-up" => Ok(Answer::Is(item.is_used_up())),
-        "has-expired" => Ok(Answer::Is(item.has_expired(line.moment(0)))),
-        "was-resent" => Ok(Answer::Is(item.has_been_retransmitted())),
-        "payload-size" => Ok(Answer::Number(item.payload_size() as u64)),
-        "names" => Ok(names(item)),
-        _ => text_asked(alloc, item, line),
-    }
-}
-
-fn change(alloc: Global, item: &mut Item, line: &Line<'_>) -> Result<Answer, AllocError> {
+fn change(alloc: Global, item: &mut Item, line: &Line<'_>, output: &mut String) -> Answer {
     match line.verb {
         "nack" => item.nack(line.flag(0), line.flag(1)),
         "ack" => item.ack(),
@@ -143,45 +139,59 @@ fn change(alloc: Global, item: &mut Item, line: &Line<'_>) -> Result<Answer, All
         "resend" => item.mark_as_retransmitted(),
         "miss-fast" => item.miss_fast(),
         "abandon" => item.abandon(),
-        _ => return asked(alloc, item, line),
+        _ => return asked(alloc, item, line, output),
     }
-    look(alloc, item)
+    written(push_look(output, item))
 }
 
-fn restored(
+fn restore(
     alloc: Global,
     item: &mut Item,
     now: SocketTime,
     record: &HandoverOutstandingData,
-) -> Result<Answer, AllocError> {
+    output: &mut String,
+) -> Answer {
     if record.payload.len() >= 100 {
-        return Ok(Answer::Refused);
+        return Answer::Refused;
     }
-    let text = format!(in alloc; "{record:?}")?;
-    let other = Item::restored(alloc, now, record)?;
-    drop(mem::replace(item, other));
-    Ok(Answer::Text(text))
+    match Item::restored(alloc, now, record) {
+        Ok(other) => drop(mem::replace(item, other)),
+        Err(_) => return Answer::NoMemory,
+    }
+    written(write!(output, "{record:?}"))
 }
 
 /// `hand-over MOMENT LATER`: the record of one moment, which is taken up at another.
-fn hand_over(alloc: Global, item: &mut Item, line: &Line<'_>) -> Result<Answer, AllocError> {
-    let record = item.handed_over(alloc, line.moment(0))?;
-    let answer = restored(alloc, item, line.moment(1), &record);
-    drop(record);
-    answer
+fn hand_over(alloc: Global, item: &mut Item, line: &Line<'_>, output: &mut String) -> Answer {
+    match item.handed_over(alloc, line.moment(0)) {
+        Ok(record) => {
+            let answer = restore(alloc, item, line.moment(1), &record, output);
+            drop(record);
+            answer
+        }
+        Err(_) => Answer::NoMemory,
+    }
+}
+
+fn answered(alloc: Global, item: &mut Item, line: &Line<'_>, output: &mut String) -> Answer {
+    match line.verb {
+        "hand-over" => hand_over(alloc, item, line, output),
+        _ => change(alloc, item, line, output),
+    }
 }
 
 pub fn answer(
     alloc: Global,
     kept: &mut Option<Item>,
     line: &Line<'_>,
-) -> Result<Answer, AllocError> {
-    if line.verb == "new" || line.verb == "placeholder" {
-        return made(alloc, kept, line);
-    }
-    match kept {
-        Some(item) if line.verb == "hand-over" => hand_over(alloc, item, line),
-        Some(item) => change(alloc, item, line),
-        None => Ok(Answer::Nothing),
+    output: &mut String,
+) -> Answer {
+    match line.verb {
+        "new" => renew(alloc, kept, line),
+        "placeholder" => put(kept, Some(Item::placeholder(MESSAGE, Data::empty(alloc)))),
+        _ => match kept {
+            Some(item) => answered(alloc, item, line, output),
+            None => Answer::Nothing,
+        },
     }
 }

@@ -1,7 +1,7 @@
 //! Fragments with their totals, and what a SACK makes of them.
 
-use crate::Answer;
-use crate::fragment::{data_text, sack};
+use crate::answer::{Answer, done, written};
+use crate::fragment::{push_data, sack};
 use crate::line::Line;
 use sctp_packet::{Data, GapAckBlock};
 use sctp_serial::{
@@ -37,13 +37,11 @@ fn made(alloc: Global, id: OutgoingMessageId, is_end: bool) -> Result<Option<Ite
 }
 
 /// `push MESSAGE END`
-fn push(alloc: Global, kept: &mut Kept, line: &Line<'_>) -> Result<Answer, AllocError> {
-    match made(alloc, line.message(0), line.flag(1))? {
-        Some(item) => {
-            kept.push(item)?;
-            Ok(Answer::Done)
-        }
-        None => Ok(Answer::Refused),
+fn push(alloc: Global, kept: &mut Kept, line: &Line<'_>) -> Answer {
+    match made(alloc, line.message(0), line.flag(1)) {
+        Ok(Some(item)) => done(kept.push(item)),
+        Ok(None) => Answer::Refused,
+        Err(_) => Answer::NoMemory,
     }
 }
 
@@ -61,22 +59,27 @@ fn acked(kept: &Kept) -> u64 {
 }
 
 /// `counts`: how many are in flight or missing, and acknowledged; the bytes of the former's chunks, and of their payloads.
-fn counts(alloc: Global, kept: &Kept) -> Result<Answer, AllocError> {
-    let text = format!(in alloc;
+fn counts(kept: &Kept, output: &mut String) -> Answer {
+    written(write!(
+        output,
         "{} {} {} {}",
         kept.flights(),
         acked(kept),
         kept.flight_bytes(),
         kept.flight_payload()
-    )?;
-    Ok(Answer::Text(text))
+    ))
 }
 
 /// `settle FIRST LAST`: a block covers these places, from 1 on. The bytes newly covered, and how many items stand below.
-fn settle(alloc: Global, kept: &mut Kept, line: &Line<'_>) -> Result<Answer, AllocError> {
-    let chunk = sack(alloc, Tsn(0), line.short(0), line.short(1))?;
-    let covered = settle_all(kept, &chunk.gap_ack_blocks);
-    Ok(Answer::Two(covered.bytes as u64, covered.below as u64))
+fn settle(alloc: Global, kept: &mut Kept, line: &Line<'_>) -> Answer {
+    match sack(alloc, Tsn(0), line.short(0), line.short(1)) {
+        Ok(chunk) => {
+            let covered = settle_all(kept, &chunk.gap_ack_blocks);
+            drop(chunk);
+            Answer::Two(covered.bytes as u64, covered.below as u64)
+        }
+        Err(_) => Answer::NoMemory,
+    }
 }
 
 /// `highest-end FIRST LAST FIRST LAST`: of two blocks. With no numbers of none.
@@ -101,61 +104,54 @@ fn sendings(kept: &Kept, place: usize) -> Answer {
     }
 }
 
-fn end_text(alloc: Global, end: &Item) -> Result<Answer, AllocError> {
-    let data = data_text(alloc, end.data())?;
-    let state = if end.is_abandoned() {
-        "abandoned"
+fn push_end(output: &mut String, end: &Item) -> Result<(), AllocError> {
+    output.push_str(if end.is_abandoned() {
+        "abandoned "
     } else {
-        "outstanding"
-    };
-    Ok(Answer::Text(format!(in alloc; "{state} {data}")?))
+        "outstanding "
+    })?;
+    push_data(output, end.data())
 }
 
 /// `end MESSAGE`: the end that stands behind the message's last fragment.
-fn ended(alloc: Global, kept: &Kept, id: OutgoingMessageId) -> Result<Answer, AllocError> {
-    let Some(last) = kept.last_of(id) else {
-        return Ok(Answer::Nothing);
-    };
-    let end = placeholder(alloc, id, last);
-    let answer = end_text(alloc, &end);
-    drop(end);
-    answer
-}
-
-/// `totals`: the bytes of the I-DATA chunk of an item that comes, of its payload, how many are in flight, and that once it
-/// leaves.
-fn totals_of(alloc: Global, item: &Item) -> Result<Answer, AllocError> {
-    let part = Totals::of(item, true);
-    let sum = Totals::nothing().exchanged(Totals::nothing(), part);
-    let none = sum.exchanged(part, Totals::nothing());
-    let text = format!(in alloc;
-        "{} {} {} {}",
-        sum.packet_bytes, sum.payload_bytes, sum.flights, none.flights
-    )?;
-    Ok(Answer::Text(text))
-}
-
-fn totals(alloc: Global) -> Result<Answer, AllocError> {
-    match made(alloc, OutgoingMessageId(0), true)? {
-        Some(item) => {
-            let answer = totals_of(alloc, &item);
-            drop(item);
+fn ended(alloc: Global, kept: &Kept, id: OutgoingMessageId, output: &mut String) -> Answer {
+    match kept.last_of(id) {
+        Some(last) => {
+            let end = placeholder(alloc, id, last);
+            let answer = written(push_end(output, &end));
+            drop(end);
             answer
         }
-        None => Ok(Answer::Refused),
+        None => Answer::Nothing,
     }
 }
 
-/// `tell-left`: an end with lifecycle id 4 leaves.
-fn left(alloc: Global, events: &mut Events) -> Result<Answer, AllocError> {
-    match made(alloc, OutgoingMessageId(3), true)? {
-        Some(item) => {
-            let told = emit_left(events, &item);
+/// The bytes of the I-DATA chunk of an item that comes, of its payload, how many are in flight, and that once it
+/// leaves.
+fn totals_of(item: &Item, output: &mut String) -> Answer {
+    let part = Totals::of(item, true);
+    let sum = Totals::nothing().exchanged(Totals::nothing(), part);
+    let none = sum.exchanged(part, Totals::nothing());
+    written(write!(
+        output,
+        "{} {} {} {}",
+        sum.packet_bytes, sum.payload_bytes, sum.flights, none.flights
+    ))
+}
+
+/// `totals`; `tell-left`: an end with lifecycle id 4 leaves.
+fn alone(alloc: Global, events: &mut Events, verb: &str, output: &mut String) -> Answer {
+    match made(alloc, OutgoingMessageId(3), true) {
+        Ok(Some(item)) => {
+            let answer = match verb {
+                "totals" => totals_of(&item, output),
+                _ => done(emit_left(events, &item)),
+            };
             drop(item);
-            told?;
-            Ok(Answer::Done)
+            answer
         }
-        None => Ok(Answer::Refused),
+        Ok(None) => Answer::Refused,
+        Err(_) => Answer::NoMemory,
     }
 }
 
@@ -198,18 +194,15 @@ pub fn answer(
     kept: &mut Kept,
     events: &mut Events,
     line: &Line<'_>,
-) -> Result<Answer, AllocError> {
+    output: &mut String,
+) -> Answer {
     match line.verb {
         "push" => push(alloc, kept, line),
-        "counts" => counts(alloc, kept),
+        "counts" => counts(kept, output),
         "settle" => settle(alloc, kept, line),
-        "end" => ended(alloc, kept, line.message(0)),
-        "totals" => totals(alloc),
-        "tell-left" => left(alloc, events),
-        "tell-leaving" => {
-            kept.emit_leaving(line.size(0), events)?;
-            Ok(Answer::Done)
-        }
-        _ => Ok(change(kept, line)),
+        "end" => ended(alloc, kept, line.message(0), output),
+        "totals" | "tell-left" => alone(alloc, events, line.verb, output),
+        "tell-leaving" => done(kept.emit_leaving(line.size(0), events)),
+        _ => change(kept, line),
     }
 }

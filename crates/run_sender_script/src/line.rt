@@ -14,24 +14,19 @@ pub struct Line<'a> {
     numbers: [u32; MOST],
 }
 
-fn numbers_of(words: &[&str]) -> Option<[u32; MOST]> {
-    let mut numbers = [0; MOST];
-    for place in 0..MOST {
-        if let Some(word) = words.get(place) {
-            match word.parse::<u32>() {
-                Ok(number) => numbers[place] = number,
-                Err(_) => return None,
+impl<'a> Line<'a> {
+    pub fn read(text: &'a str) -> Option<Line<'a>> {
+        let mut words = text.split_whitespace();
+        let part = words.next()?;
+        let verb = words.next()?;
+        let mut numbers = [0; MOST];
+        let mut count = 0;
+        for word in words {
+            if count < MOST {
+                numbers[count] = word.parse::<u32>().ok()?;
+                count += 1;
             }
         }
-    }
-    Some(numbers)
-}
-
-impl<'a> Line<'a> {
-    pub fn read(words: &[&'a str]) -> Option<Line<'a>> {
-        let (part, rest) = words.split_first()?;
-        let (verb, rest) = rest.split_first()?;
-        let numbers = numbers_of(rest)?;
         Some(Line {
             part,
             verb,

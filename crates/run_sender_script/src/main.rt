@@ -6,10 +6,13 @@
 //! answered by a line; one that isn't understood by `?` and itself. Moments are in milliseconds.
 #![tactic(auto)]
 
+use answer::{Answer, finish};
 use bench::Bench;
 use line::Line;
-use std::mem;
+use std::alloc::{AllocError, Global};
+use std::{io, mem};
 
+mod answer;
 mod bench;
 mod data;
 mod fragment;
@@ -24,58 +27,46 @@ mod stream;
 mod streams;
 mod transmission;
 
-/// What a command is answered with.
-#[derive(Drop)]
-enum Answer {
-    Unknown,
-    Done,
-    Refused,
-    Nothing,
-    Is(bool),
-    Number(u64),
-    Two(u64, u64),
-    Text(String),
-}
-
-fn show(rt: &HostRuntime, line: &str, answer: &Answer) -> anyhow::Result<()> {
-    match answer {
-        Answer::Unknown => println!(rt; "? {line}")?,
-        Answer::Done => println!(rt; "done")?,
-        Answer::Refused => println!(rt; "refused")?,
-        Answer::Nothing => println!(rt; "nothing")?,
-        Answer::Is(is_so) => println!(rt; "{}", if *is_so { "yes" } else { "no" })?,
-        Answer::Number(number) => println!(rt; "{number}")?,
-        Answer::Two(first, second) => println!(rt; "{first} {second}")?,
-        Answer::Text(text) => println!(rt; "{text}")?,
-    }
-    Ok(())
-}
-
-fn respond(rt: &HostRuntime, bench: &mut Bench, text: &str) -> anyhow::Result<()> {
-    let words: Vec<&str> = text.split_whitespace().collect(rt.alloc())?;
-    let answer = match Line::read(&words) {
-        Some(line) => bench.answer(rt.alloc(), &line)?,
+fn answer_of(alloc: Global, bench: &mut Bench, text: &str, output: &mut String) -> Answer {
+    match Line::read(text) {
+        Some(line) => bench.answer(alloc, &line, output),
         None => Answer::Unknown,
-    };
-    show(rt, text, &answer)
+    }
 }
 
-fn run(rt: &HostRuntime, bench: &mut Bench) -> anyhow::Result<()> {
-    for line in rt.lines(rt.alloc()) {
-        let line = line?;
-        if line.starts_with('#') {
-            drop(mem::replace(bench, Bench::new(rt.alloc())));
-            println!(rt; "{line}")?;
-        } else {
-            respond(rt, bench, &line)?;
-        }
+fn respond(
+    alloc: Global,
+    bench: &mut Bench,
+    text: &str,
+    output: &mut String,
+) -> Result<(), AllocError> {
+    if text.starts_with('#') {
+        drop(mem::replace(bench, Bench::new(alloc)));
+        return writeln!(output, "{text}");
+    }
+    let answer = answer_of(alloc, bench, text, output);
+    finish(output, text, answer)
+}
+
+fn run(
+    alloc: Global,
+    bench: &mut Bench,
+    script: &str,
+    output: &mut String,
+) -> Result<(), AllocError> {
+    for text in script.lines() {
+        respond(alloc, bench, text, output)?;
     }
     Ok(())
 }
 
 fn main(rt: HostRuntime) -> anyhow::Result<()> {
+    let script = io::read_to_string(rt.alloc(), rt.reader())?;
+    let mut output = String::new(rt.alloc());
     let mut bench = Bench::new(rt.alloc());
-    let outcome = run(&rt, &mut bench);
+    let outcome = run(rt.alloc(), &mut bench, &script, &mut output);
     drop(bench);
-    outcome
+    outcome?;
+    print!(rt; "{output}")?;
+    Ok(())
 }

@@ -1,7 +1,7 @@
 //! A message of the send queue.
 
-use crate::Answer;
-use crate::fragment::sent_text;
+use crate::answer::{Answer, written};
+use crate::fragment::{number_of, push_sent};
 use crate::line::Line;
 use sctp_serial::{LifecycleId, Message, OutgoingMessageId, PpId, SocketTime, StreamId};
 use sctp_state::SendOptions;
@@ -42,48 +42,44 @@ pub fn queued(
 }
 
 /// `new NUMBER`: an unordered message of eleven bytes.
-fn renew(
-    alloc: Global,
-    kept: &mut Option<QueuedMessage>,
-    line: &Line<'_>,
-) -> Result<Answer, AllocError> {
-    let payload = Vec::from_slice(alloc, b"hello world".as_slice())?;
-    let message = queued(line.message(0), payload, true);
-    drop(mem::replace(kept, message));
-    Ok(Answer::Done)
+fn renew(alloc: Global, kept: &mut Option<QueuedMessage>, id: OutgoingMessageId) -> Answer {
+    match Vec::from_slice(alloc, b"hello world".as_slice()) {
+        Ok(payload) => {
+            drop(mem::replace(kept, queued(id, payload, true)));
+            Answer::Done
+        }
+        Err(_) => Answer::NoMemory,
+    }
 }
 
 /// `fragment SIZE`
-fn fragment(alloc: Global, message: &QueuedMessage, size: usize) -> Result<Answer, AllocError> {
-    let sent = message.fragment(alloc, StreamId(1), NUMBERS, size)?;
-    let text = sent_text(alloc, &sent);
-    drop(sent);
-    Ok(Answer::Text(text?))
+fn fragment(alloc: Global, message: &QueuedMessage, size: usize, output: &mut String) -> Answer {
+    match message.fragment(alloc, StreamId(1), NUMBERS, size) {
+        Ok(sent) => {
+            let answer = written(push_sent(output, &sent));
+            drop(sent);
+            answer
+        }
+        Err(_) => Answer::NoMemory,
+    }
 }
 
-/// `look`: the number, what is left, what was sent, the lifecycle id, and what else holds.
-fn look(alloc: Global, message: &QueuedMessage) -> Result<Answer, AllocError> {
-    let lifecycle = match message.lifecycle_id() {
-        Some(id) => id.value(),
-        None => 0,
-    };
-    let text = format!(in alloc;
-        "message {} left {} sent {} lifecycle {lifecycle}{}{}",
+fn push_look(output: &mut String, message: &QueuedMessage) -> Result<(), AllocError> {
+    write!(
+        output,
+        "message {} left {} sent {} lifecycle {}",
         message.message_id().0,
         message.left(),
         message.sent(),
-        if message.is_unordered() {
-            " unordered"
-        } else {
-            ""
-        },
-        if message.is_partly_sent() {
-            " begun"
-        } else {
-            ""
-        }
+        number_of(message.lifecycle_id())
     )?;
-    Ok(Answer::Text(text))
+    if message.is_unordered() {
+        output.push_str(" unordered")?;
+    }
+    if message.is_partly_sent() {
+        output.push_str(" begun")?;
+    }
+    Ok(())
 }
 
 /// `numbers`: the SSN and the MID, once it was begun.
@@ -103,20 +99,22 @@ fn move_on(message: &mut QueuedMessage, size: usize) -> Answer {
     Answer::Done
 }
 
-fn restored(
+fn restore(
     alloc: Global,
     message: &mut QueuedMessage,
     now: SocketTime,
     record: &HandoverStreamMessage,
-) -> Result<Answer, AllocError> {
+    output: &mut String,
+) -> Answer {
     let length = record.payload.len();
     if record.remaining_offset >= length || length > 1000 || record.message_id > 1000 {
-        return Ok(Answer::Refused);
+        return Answer::Refused;
     }
-    let text = format!(in alloc; "{record:?}")?;
-    let other = QueuedMessage::restored(alloc, now, record)?;
-    drop(mem::replace(message, other));
-    Ok(Answer::Text(text))
+    match QueuedMessage::restored(alloc, now, record) {
+        Ok(other) => drop(mem::replace(message, other)),
+        Err(_) => return Answer::NoMemory,
+    }
+    written(write!(output, "{record:?}"))
 }
 
 /// `hand-over MOMENT LATER`: the record of one moment, which is taken up at another.
@@ -124,30 +122,37 @@ fn hand_over(
     alloc: Global,
     message: &mut QueuedMessage,
     line: &Line<'_>,
-) -> Result<Answer, AllocError> {
-    let record = message.handed_over(alloc, line.moment(0), StreamId(1))?;
-    let answer = restored(alloc, message, line.moment(1), &record);
-    drop(record);
-    answer
+    output: &mut String,
+) -> Answer {
+    match message.handed_over(alloc, line.moment(0), StreamId(1)) {
+        Ok(record) => {
+            let answer = restore(alloc, message, line.moment(1), &record, output);
+            drop(record);
+            answer
+        }
+        Err(_) => Answer::NoMemory,
+    }
 }
 
+/// `look`: the number, what is left, what was sent, the lifecycle id, and what else holds.
 fn answered(
     alloc: Global,
     message: &mut QueuedMessage,
     line: &Line<'_>,
-) -> Result<Answer, AllocError> {
+    output: &mut String,
+) -> Answer {
     match line.verb {
-        "fragment" => fragment(alloc, message, line.size(0)),
-        "look" => look(alloc, message),
-        "hand-over" => hand_over(alloc, message, line),
-        "numbers" => Ok(numbers(message)),
-        "move-on" => Ok(move_on(message, line.size(0))),
-        "is-stale" => Ok(Answer::Is(message.is_stale(line.moment(0)))),
+        "fragment" => fragment(alloc, message, line.size(0), output),
+        "look" => written(push_look(output, message)),
+        "hand-over" => hand_over(alloc, message, line, output),
+        "numbers" => numbers(message),
+        "move-on" => move_on(message, line.size(0)),
+        "is-stale" => Answer::Is(message.is_stale(line.moment(0))),
         "make-whole" => {
             message.make_whole();
-            Ok(Answer::Done)
+            Answer::Done
         }
-        _ => Ok(Answer::Unknown),
+        _ => Answer::Unknown,
     }
 }
 
@@ -155,12 +160,13 @@ pub fn answer(
     alloc: Global,
     kept: &mut Option<QueuedMessage>,
     line: &Line<'_>,
-) -> Result<Answer, AllocError> {
+    output: &mut String,
+) -> Answer {
     if line.verb == "new" {
-        return renew(alloc, kept, line);
+        return renew(alloc, kept, line.message(0));
     }
     match kept {
-        Some(message) => answered(alloc, message, line),
-        None => Ok(Answer::Nothing),
+        Some(message) => answered(alloc, message, line, output),
+        None => Answer::Nothing,
     }
 }

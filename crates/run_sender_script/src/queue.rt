@@ -1,12 +1,12 @@
 //! The send queue.
 
-use crate::Answer;
-use crate::fragment::{bytes, sent_text};
+use crate::answer::{Answer, done, written};
+use crate::fragment::{bytes, tell_sent};
 use crate::line::Line;
 use sctp_serial::{Message, PpId, SocketTime, StreamId};
 use sctp_state::{Events, Options, SendOptions, SocketHandoverState};
 use sctp_tx_queue::SendQueue;
-use std::alloc::{AllocError, Global};
+use std::alloc::Global;
 use std::mem;
 
 /// More bytes are not accepted.
@@ -14,98 +14,88 @@ const MANY: usize = 20_000;
 
 /// `accept STREAM BYTES` at moment 0, and behind these: `accept-named` a lifecycle id, `accept-short` that and a lifetime,
 /// `accept-once` that and no retransmission.
-fn accept(
-    alloc: Global,
-    queue: &mut SendQueue,
-    line: &Line<'_>,
-    options: &SendOptions,
-) -> Result<Answer, AllocError> {
-    let payload = bytes(alloc, line.size(1))?;
+fn accept(alloc: Global, queue: &mut SendQueue, line: &Line<'_>) -> Answer {
+    match bytes(alloc, line.size(1)) {
+        Ok(payload) => add(queue, line.stream(0), payload, &options_of(line)),
+        Err(_) => Answer::NoMemory,
+    }
+}
+
+fn add(queue: &mut SendQueue, id: StreamId, payload: Vec<u8>, options: &SendOptions) -> Answer {
     if payload.is_empty() || payload.len() > MANY || queue.total_buffered_amount() > MANY {
-        return Ok(Answer::Refused);
+        drop(payload);
+        return Answer::Refused;
     }
-    let message = Message::new(line.stream(0), PpId(53), payload);
-    let id = queue.add(SocketTime::zero(), message, options)?;
-    Ok(Answer::Number(u64::from(id.0)))
-}
-
-fn named(line: &Line<'_>) -> SendOptions {
-    SendOptions {
-        lifecycle_id: line.lifecycle(2),
-        ..SendOptions::default()
+    let message = Message::new(id, PpId(53), payload);
+    match queue.add(SocketTime::zero(), message, options) {
+        Ok(id) => Answer::Number(u64::from(id.0)),
+        Err(_) => Answer::NoMemory,
     }
 }
 
-fn short(line: &Line<'_>) -> SendOptions {
-    SendOptions {
-        lifetime: Some(line.millis(3)),
-        ..named(line)
+fn options_of(line: &Line<'_>) -> SendOptions {
+    let mut options = SendOptions::default();
+    options.lifecycle_id = line.lifecycle(2);
+    match line.verb {
+        "accept-short" => options.lifetime = Some(line.millis(3)),
+        "accept-once" => options.max_retransmissions = Some(0),
+        _ => {}
     }
-}
-
-fn once(line: &Line<'_>) -> SendOptions {
-    SendOptions {
-        max_retransmissions: Some(0),
-        ..named(line)
-    }
+    options
 }
 
 /// `produce MOMENT MOST`: the next fragment.
 fn produce(
-    alloc: Global,
     queue: &mut SendQueue,
     events: &mut Events,
     line: &Line<'_>,
-) -> Result<Answer, AllocError> {
+    output: &mut String,
+) -> Answer {
     let most = line.size(1);
     if most == 0 {
-        return Ok(Answer::Refused);
+        return Answer::Refused;
     }
-    match queue.produce(line.moment(0), most, events)? {
-        Some(sent) => {
-            let text = sent_text(alloc, &sent);
-            drop(sent);
-            Ok(Answer::Text(text?))
-        }
-        None => Ok(Answer::Nothing),
-    }
+    tell_sent(output, queue.produce(line.moment(0), most, events))
 }
 
 /// `request MOST`: the streams that go into a request.
-fn request(alloc: Global, queue: &mut SendQueue, most: usize) -> Result<Answer, AllocError> {
-    let ids = queue.get_streams_ready_to_reset(most)?;
-    Ok(Answer::Text(format!(in alloc; "{ids:?}")?))
+fn request(queue: &mut SendQueue, most: usize, output: &mut String) -> Answer {
+    match queue.get_streams_ready_to_reset(most) {
+        Ok(ids) => written(write!(output, "{ids:?}")),
+        Err(_) => Answer::NoMemory,
+    }
 }
 
 /// `options TOTAL STREAM`: another queue, with these low thresholds.
-fn restart(alloc: Global, queue: &mut SendQueue, line: &Line<'_>) {
-    let options = Options {
-        total_buffered_amount_low_threshold: line.size(0),
-        default_stream_buffered_amount_low_threshold: line.size(1),
-        ..Options::default()
-    };
+fn restart(alloc: Global, queue: &mut SendQueue, line: &Line<'_>) -> Answer {
+    let mut options = Options::default();
+    options.total_buffered_amount_low_threshold = line.size(0);
+    options.default_stream_buffered_amount_low_threshold = line.size(1);
     drop(mem::replace(queue, SendQueue::new(alloc, &options)));
+    Answer::Done
 }
 
 fn write(
-    alloc: Global,
     queue: &SendQueue,
     now: SocketTime,
     state: &mut SocketHandoverState,
-) -> Result<Answer, AllocError> {
-    queue.add_to_handover_state(now, state)?;
+    output: &mut String,
+) -> Answer {
+    if queue.add_to_handover_state(now, state).is_err() {
+        return Answer::NoMemory;
+    }
     let tx = &state.tx;
-    let text = format!(in alloc;
+    written(write!(
+        output,
         "{} {:?} {:?}",
         tx.next_outgoing_message_id, tx.streams, tx.queued_messages
-    )?;
-    Ok(Answer::Text(text))
+    ))
 }
 
 /// `record MICROSECONDS`: what is handed over at this moment.
-fn record(alloc: Global, queue: &SendQueue, line: &Line<'_>) -> Result<Answer, AllocError> {
+fn record(alloc: Global, queue: &SendQueue, line: &Line<'_>, output: &mut String) -> Answer {
     let mut state = SocketHandoverState::empty(alloc);
-    let answer = write(alloc, queue, line.fine_moment(0), &mut state);
+    let answer = write(queue, line.fine_moment(0), &mut state, output);
     drop(state);
     answer
 }
@@ -139,28 +129,20 @@ fn asked(queue: &SendQueue, line: &Line<'_>) -> Answer {
     }
 }
 
-fn step(queue: &mut SendQueue, verb: &str, id: StreamId) -> Result<Answer, AllocError> {
-    match verb {
-        "commit" => queue.commit_reset_streams(&[id])?,
-        "roll-back" => queue.rollback_reset_streams(&[id])?,
-        _ => queue.reset()?,
-    }
-    Ok(Answer::Done)
-}
-
-fn tell(queue: &mut SendQueue, events: &mut Events, line: &Line<'_>) -> Result<Answer, AllocError> {
+fn change(queue: &mut SendQueue, events: &mut Events, line: &Line<'_>) -> Answer {
     let id = line.stream(0);
     match line.verb {
-        "set-threshold" => queue.set_buffered_amount_low_threshold(id, line.size(1), events)?,
-        "discard" => queue.discard(id, line.message(1), events)?,
-        _ => queue.prepare_reset_stream(id, events)?,
+        "set-threshold" => {
+            done(queue.set_buffered_amount_low_threshold(id, line.size(1), events))
+        }
+        "set-priority" => done(queue.set_priority(id, line.short(1))),
+        "discard" => done(queue.discard(id, line.message(1), events)),
+        "prepare" => done(queue.prepare_reset_stream(id, events)),
+        "commit" => done(queue.commit_reset_streams(&[id])),
+        "roll-back" => done(queue.rollback_reset_streams(&[id])),
+        "reset" => done(queue.reset()),
+        _ => asked(queue, line),
     }
-    Ok(Answer::Done)
-}
-
-fn set_priority(queue: &mut SendQueue, line: &Line<'_>) -> Result<Answer, AllocError> {
-    queue.set_priority(line.stream(0), line.short(1))?;
-    Ok(Answer::Done)
 }
 
 pub fn answer(
@@ -168,26 +150,18 @@ pub fn answer(
     queue: &mut SendQueue,
     events: &mut Events,
     line: &Line<'_>,
-) -> Result<Answer, AllocError> {
+    output: &mut String,
+) -> Answer {
     match line.verb {
-        "accept" => accept(alloc, queue, line, &SendOptions::default()),
-        "accept-named" => accept(alloc, queue, line, &named(line)),
-        "accept-short" => accept(alloc, queue, line, &short(line)),
-        "accept-once" => accept(alloc, queue, line, &once(line)),
-        "produce" => produce(alloc, queue, events, line),
-        "set-priority" => set_priority(queue, line),
-        "set-threshold" | "discard" | "prepare" => tell(queue, events, line),
-        "request" => request(alloc, queue, line.size(0)),
-        "commit" | "roll-back" | "reset" => step(queue, line.verb, line.stream(0)),
-        "record" => record(alloc, queue, line),
+        "accept" | "accept-named" | "accept-short" | "accept-once" => accept(alloc, queue, line),
+        "produce" => produce(queue, events, line, output),
+        "request" => request(queue, line.size(0), output),
+        "record" => record(alloc, queue, line, output),
         "interleave" => {
             queue.enable_message_interleaving(true);
-            Ok(Answer::Done)
+            Answer::Done
         }
-        "options" => {
-            restart(alloc, queue, line);
-            Ok(Answer::Done)
-        }
-        _ => Ok(asked(queue, line)),
+        "options" => restart(alloc, queue, line),
+        _ => change(queue, events, line),
     }
 }

@@ -1,8 +1,9 @@
 //! Entries of forward points.
 
-use crate::Answer;
-use crate::fragment::skips_text;
+use crate::answer::{Answer, done, written};
+use crate::fragment::tell_skips;
 use crate::line::Line;
+use sctp_packet::SkippedStream;
 use sctp_tx_outstanding::skips::{
     SkipEntry, chunk_size_with, is_named, mid_skips, put, put_if, ssn_skips,
 };
@@ -18,49 +19,44 @@ fn entry(line: &Line<'_>) -> SkipEntry {
 }
 
 /// `sizes STREAM UNORDERED NUMBER`: of a chunk with the entries, and with this one too, and both with interleaving.
-fn sizes(alloc: Global, entries: &[SkipEntry], line: &Line<'_>) -> Result<Answer, AllocError> {
+fn sizes(entries: &[SkipEntry], line: &Line<'_>, output: &mut String) -> Answer {
     let more = Some(entry(line));
-    let text = format!(in alloc;
+    written(write!(
+        output,
         "{} {} {} {}",
         chunk_size_with(false, None, entries),
         chunk_size_with(false, more, entries),
         chunk_size_with(true, None, entries),
         chunk_size_with(true, more, entries)
-    )?;
-    Ok(Answer::Text(text))
+    ))
 }
 
 /// `ssns` · `mids`: the entries as FORWARD-TSN and I-FORWARD-TSN have them.
-fn listed(alloc: Global, entries: &[SkipEntry], verb: &str) -> Result<Answer, AllocError> {
-    let skips = if verb == "ssns" {
-        ssn_skips(alloc, entries)?
-    } else {
-        mid_skips(alloc, entries)?
-    };
-    let text = skips_text(alloc, &skips)?;
-    Ok(Answer::Text(format!(in alloc; "{}:{text}", skips.len())?))
-}
-
-/// `put`, `put-if`, `put-none`
-fn add(entries: &mut Vec<SkipEntry>, line: &Line<'_>) -> Result<Answer, AllocError> {
-    match line.verb {
-        "put" => put(entries, entry(line))?,
-        "put-if" => put_if(entries, Some(entry(line)))?,
-        _ => put_if(entries, None)?,
+fn listed(skips: Result<Vec<SkippedStream>, AllocError>, output: &mut String) -> Answer {
+    match skips {
+        Ok(skips) => {
+            let answer = tell_skips(output, skips.len() as u64, &skips);
+            drop(skips);
+            answer
+        }
+        Err(_) => Answer::NoMemory,
     }
-    Ok(Answer::Done)
 }
 
 pub fn answer(
     alloc: Global,
     entries: &mut Vec<SkipEntry>,
     line: &Line<'_>,
-) -> Result<Answer, AllocError> {
+    output: &mut String,
+) -> Answer {
     match line.verb {
-        "put" | "put-if" | "put-none" => add(entries, line),
-        "ssns" | "mids" => listed(alloc, entries, line.verb),
-        "is-named" => Ok(Answer::Is(is_named(entries, entry(line)))),
-        "sizes" => sizes(alloc, entries, line),
-        _ => Ok(Answer::Unknown),
+        "put" => done(put(entries, entry(line))),
+        "put-if" => done(put_if(entries, Some(entry(line)))),
+        "put-none" => done(put_if(entries, None)),
+        "ssns" => listed(ssn_skips(alloc, entries), output),
+        "mids" => listed(mid_skips(alloc, entries), output),
+        "is-named" => Answer::Is(is_named(entries, entry(line))),
+        "sizes" => sizes(entries, line, output),
+        _ => Answer::Unknown,
     }
 }

@@ -1,15 +1,14 @@
 //! A stream of the send queue: stream 1, with priority 256 and a low threshold of 3 at first.
 
-use crate::Answer;
-use crate::fragment::{bytes, sent_text};
+use crate::answer::{Answer, done, written};
+use crate::fragment::{bytes, tell_sent};
 use crate::line::Line;
 use crate::message::queued;
 use sctp_serial::{OutgoingMessageId, SocketTime, StreamId};
 use sctp_state::Events;
-use sctp_tx_queue::DataToSend;
 use sctp_tx_queue::send_queue::message::QueuedMessage;
 use sctp_tx_queue::send_queue::stream::{ResetStep, Stream};
-use std::alloc::{AllocError, Global};
+use std::alloc::Global;
 use std::mem;
 
 const ONE: StreamId = StreamId(1);
@@ -23,68 +22,62 @@ pub fn step_of(number: u32) -> ResetStep {
     }
 }
 
-/// The fragment, where there is one.
-pub fn fragment_text(alloc: Global, fragment: Option<DataToSend>) -> Result<Answer, AllocError> {
-    match fragment {
-        Some(sent) => {
-            let text = sent_text(alloc, &sent);
-            drop(sent);
-            Ok(Answer::Text(text?))
-        }
-        None => Ok(Answer::Nothing),
-    }
-}
-
-fn put(stream: &mut Stream, message: QueuedMessage) -> Result<Answer, AllocError> {
+fn put(stream: &mut Stream, message: QueuedMessage) -> Answer {
     if stream.amount() > 1000 {
         drop(message);
-        return Ok(Answer::Refused);
+        return Answer::Refused;
     }
-    stream.push(message)?;
-    Ok(Answer::Done)
+    done(stream.push(message))
 }
 
 /// `push MESSAGE BYTES`
-fn push(alloc: Global, stream: &mut Stream, line: &Line<'_>) -> Result<Answer, AllocError> {
-    let payload = bytes(alloc, usize::from(line.short(1)))?;
-    match queued(line.message(0), payload, false) {
-        Some(message) => put(stream, message),
-        None => Ok(Answer::Refused),
+fn push(alloc: Global, stream: &mut Stream, line: &Line<'_>) -> Answer {
+    match bytes(alloc, usize::from(line.short(1))) {
+        Ok(payload) => match queued(line.message(0), payload, false) {
+            Some(message) => put(stream, message),
+            None => Answer::Refused,
+        },
+        Err(_) => Answer::NoMemory,
     }
 }
 
 /// `sendable-with BYTES`: with another message.
-fn with(alloc: Global, stream: &Stream, length: u16) -> Result<Answer, AllocError> {
-    let payload = bytes(alloc, usize::from(length))?;
-    match queued(OutgoingMessageId(2), payload, false) {
-        Some(message) => {
-            let size = stream.sendable_with(&message);
-            drop(message);
-            Ok(Answer::Number(size as u64))
-        }
-        None => Ok(Answer::Refused),
+fn with(alloc: Global, stream: &Stream, length: u16) -> Answer {
+    match bytes(alloc, usize::from(length)) {
+        Ok(payload) => match queued(OutgoingMessageId(2), payload, false) {
+            Some(message) => {
+                let size = stream.sendable_with(&message);
+                drop(message);
+                Answer::Number(size as u64)
+            }
+            None => Answer::Refused,
+        },
+        Err(_) => Answer::NoMemory,
     }
 }
 
-fn written(alloc: Global, stream: &Stream) -> Result<Answer, AllocError> {
+fn record(stream: &Stream, output: &mut String) -> Answer {
     let record = stream.handed_over(ONE);
-    Ok(Answer::Text(format!(in alloc; "{record:?}")?))
+    written(write!(output, "{record:?}"))
 }
 
 /// `messages`: how many are handed over.
-fn messages(alloc: Global, stream: &Stream) -> Result<Answer, AllocError> {
+fn messages(alloc: Global, stream: &Stream) -> Answer {
     let mut records = Vec::new(alloc);
     let outcome = stream.hand_messages_over(alloc, SocketTime::zero(), ONE, &mut records);
     let count = records.len();
     drop(records);
-    outcome?;
-    Ok(Answer::Number(count as u64))
+    match outcome {
+        Ok(()) => Answer::Number(count as u64),
+        Err(_) => Answer::NoMemory,
+    }
 }
 
 /// `hand-over`: the stream of another socket, without its messages.
-fn hand_over(alloc: Global, stream: &mut Stream) {
+fn hand_over(alloc: Global, stream: &mut Stream) -> Answer {
     let record = stream.handed_over(ONE);
     drop(mem::replace(stream, Stream::restored(alloc, 3, &record)));
+    Answer::Done
 }
 
 fn sendable(stream: &Stream, line: &Line<'_>) -> Answer {
@@ -130,32 +123,22 @@ fn change(stream: &mut Stream, line: &Line<'_>) -> Answer {
     Answer::Done
 }
 
-fn tell(stream: &Stream, events: &mut Events, line: &Line<'_>) -> Result<Answer, AllocError> {
-    if line.verb == "tell-stale" {
-        stream.emit_stale(line.moment(0), events)?;
-    } else {
-        stream.emit_waiting(events)?;
-    }
-    Ok(Answer::Done)
-}
-
 pub fn answer(
     alloc: Global,
     stream: &mut Stream,
     events: &mut Events,
     line: &Line<'_>,
-) -> Result<Answer, AllocError> {
+    output: &mut String,
+) -> Answer {
     match line.verb {
         "push" => push(alloc, stream, line),
         "sendable-with" => with(alloc, stream, line.short(0)),
-        "fragment" => fragment_text(alloc, stream.fragment(alloc, ONE, line.size(0))?),
-        "record" => written(alloc, stream),
+        "fragment" => tell_sent(output, stream.fragment(alloc, ONE, line.size(0))),
+        "record" => record(stream, output),
         "messages" => messages(alloc, stream),
-        "tell-stale" | "tell-waiting" => tell(stream, events, line),
-        "hand-over" => {
-            hand_over(alloc, stream);
-            Ok(Answer::Done)
-        }
-        _ => Ok(change(stream, line)),
+        "tell-stale" => done(stream.emit_stale(line.moment(0), events)),
+        "tell-waiting" => done(stream.emit_waiting(events)),
+        "hand-over" => hand_over(alloc, stream),
+        _ => change(stream, line),
     }
 }

@@ -1,10 +1,10 @@
 //! The streams of a send queue. A command's first number is the stream, unless it asks for all.
 
-use crate::Answer;
-use crate::fragment::bytes;
+use crate::answer::{Answer, done, written};
+use crate::fragment::{bytes, tell_sent};
 use crate::line::Line;
 use crate::message::queued;
-use crate::stream::{fragment_text, step_of};
+use crate::stream::step_of;
 use sctp_serial::{OutgoingMessageId, SocketTime, StreamId};
 use sctp_state::{Events, Options};
 use sctp_stream_scheduler::StreamScheduler;
@@ -13,72 +13,76 @@ use sctp_tx_queue::send_queue::streams::Streams;
 use std::alloc::{AllocError, Global};
 use std::mem;
 
-fn put(
-    alloc: Global,
-    streams: &mut Streams,
-    id: StreamId,
-    message: QueuedMessage,
-) -> Result<Answer, AllocError> {
+fn put(alloc: Global, streams: &mut Streams, id: StreamId, message: QueuedMessage) -> Answer {
     if streams.total() > 1000 {
         drop(message);
-        return Ok(Answer::Refused);
+        return Answer::Refused;
     }
-    streams.push(alloc, id, message)?;
-    Ok(Answer::Done)
+    done(streams.push(alloc, id, message))
 }
 
 /// `push STREAM MESSAGE BYTES`
-fn push(alloc: Global, streams: &mut Streams, line: &Line<'_>) -> Result<Answer, AllocError> {
-    let payload = bytes(alloc, usize::from(line.short(2)))?;
-    match queued(line.message(1), payload, false) {
-        Some(message) => put(alloc, streams, line.stream(0), message),
-        None => Ok(Answer::Refused),
+fn push(alloc: Global, streams: &mut Streams, line: &Line<'_>) -> Answer {
+    match bytes(alloc, usize::from(line.short(2))) {
+        Ok(payload) => match queued(line.message(1), payload, false) {
+            Some(message) => put(alloc, streams, line.stream(0), message),
+            None => Answer::Refused,
+        },
+        Err(_) => Answer::NoMemory,
     }
 }
 
 /// `sendable-with STREAM BYTES`: with another message.
-fn with(alloc: Global, streams: &Streams, line: &Line<'_>) -> Result<Answer, AllocError> {
-    let payload = bytes(alloc, usize::from(line.short(1)))?;
-    match queued(OutgoingMessageId(2), payload, false) {
-        Some(message) => {
-            let demand = streams.demand_with(line.stream(0), &message);
-            drop(message);
-            Ok(Answer::Number(demand.bytes as u64))
-        }
-        None => Ok(Answer::Refused),
+fn with(alloc: Global, streams: &Streams, id: StreamId, length: u16) -> Answer {
+    match bytes(alloc, usize::from(length)) {
+        Ok(payload) => match queued(OutgoingMessageId(2), payload, false) {
+            Some(message) => {
+                let demand = streams.demand_with(id, &message);
+                drop(message);
+                Answer::Number(demand.bytes as u64)
+            }
+            None => Answer::Refused,
+        },
+        Err(_) => Answer::NoMemory,
     }
 }
 
 /// `options TOTAL STREAM PRIORITY`: no streams, with these low thresholds and this priority.
-fn renew(alloc: Global, streams: &mut Streams, line: &Line<'_>) {
-    let options = Options {
-        total_buffered_amount_low_threshold: line.size(0),
-        default_stream_buffered_amount_low_threshold: line.size(1),
-        default_stream_priority: line.short(2),
-        ..Options::default()
-    };
+fn renew(alloc: Global, streams: &mut Streams, line: &Line<'_>) -> Answer {
+    let mut options = Options::default();
+    options.total_buffered_amount_low_threshold = line.size(0);
+    options.default_stream_buffered_amount_low_threshold = line.size(1);
+    options.default_stream_priority = line.short(2);
     drop(mem::replace(streams, Streams::new(alloc, &options)));
+    Answer::Done
 }
 
-/// `ids` · `ready`: all streams, or those that go into a request. `records`: what is handed over.
-fn listed(alloc: Global, streams: &Streams, verb: &str) -> Result<Answer, AllocError> {
-    let ids = if verb == "ids" {
-        streams.ids(alloc)?
-    } else {
-        streams.ready(alloc)?
-    };
-    Ok(Answer::Text(format!(in alloc; "{ids:?}")?))
+/// `ids` · `ready`: all streams, or those that go into a request.
+fn listed(ids: Result<Vec<StreamId>, AllocError>, output: &mut String) -> Answer {
+    match ids {
+        Ok(ids) => written(write!(output, "{ids:?}")),
+        Err(_) => Answer::NoMemory,
+    }
 }
 
-fn records(alloc: Global, streams: &Streams) -> Result<Answer, AllocError> {
-    let records = streams.handed_over(alloc)?;
-    Ok(Answer::Text(format!(in alloc; "{records:?}")?))
+/// `records`: what is handed over.
+fn records(alloc: Global, streams: &Streams, output: &mut String) -> Answer {
+    match streams.handed_over(alloc) {
+        Ok(records) => written(write!(output, "{records:?}")),
+        Err(_) => Answer::NoMemory,
+    }
 }
 
 /// `messages`: how many are handed over.
-fn messages(alloc: Global, streams: &Streams) -> Result<Answer, AllocError> {
-    let records = streams.messages_handed_over(alloc, SocketTime::zero())?;
-    Ok(Answer::Number(records.len() as u64))
+fn messages(alloc: Global, streams: &Streams) -> Answer {
+    match streams.messages_handed_over(alloc, SocketTime::zero()) {
+        Ok(records) => {
+            let count = records.len();
+            drop(records);
+            Answer::Number(count as u64)
+        }
+        Err(_) => Answer::NoMemory,
+    }
 }
 
 fn sizes(streams: &Streams, line: &Line<'_>) -> Answer {
@@ -136,57 +140,32 @@ fn change(streams: &mut Streams, line: &Line<'_>) -> Answer {
     Answer::Done
 }
 
-fn tell(streams: &Streams, events: &mut Events, line: &Line<'_>) -> Result<Answer, AllocError> {
-    let id = line.stream(0);
-    if line.verb == "tell-stale" {
-        streams.emit_stale(id, line.moment(1), events)?;
-    } else {
-        streams.emit_waiting(id, events)?;
-    }
-    Ok(Answer::Done)
-}
-
 /// `send STREAM SIZE`: the next fragment.
-fn send(
-    alloc: Global,
-    streams: &mut Streams,
-    scheduler: &mut StreamScheduler,
-    events: &mut Events,
-    line: &Line<'_>,
-) -> Result<Answer, AllocError> {
-    let (id, size) = (line.stream(0), line.size(1));
-    fragment_text(
-        alloc,
-        streams.send_front(alloc, id, size, scheduler, events)?,
-    )
-}
-
-fn open(alloc: Global, streams: &mut Streams, id: StreamId) -> Result<Answer, AllocError> {
-    streams.open(alloc, id)?;
-    Ok(Answer::Done)
-}
-
 pub fn answer(
     alloc: Global,
     streams: &mut Streams,
     scheduler: &mut StreamScheduler,
     events: &mut Events,
     line: &Line<'_>,
-) -> Result<Answer, AllocError> {
+    output: &mut String,
+) -> Answer {
+    let id = line.stream(0);
     match line.verb {
-        "options" => {
-            renew(alloc, streams, line);
-            Ok(Answer::Done)
-        }
-        "open" => open(alloc, streams, line.stream(0)),
+        "options" => renew(alloc, streams, line),
+        "open" => done(streams.open(alloc, id)),
         "push" => push(alloc, streams, line),
-        "sendable-with" => with(alloc, streams, line),
-        "send" => send(alloc, streams, scheduler, events, line),
-        "is-active" => Ok(Answer::Is(scheduler.is_active(line.stream(0)))),
-        "ids" | "ready" => listed(alloc, streams, line.verb),
-        "records" => records(alloc, streams),
+        "sendable-with" => with(alloc, streams, id, line.short(1)),
+        "send" => {
+            let sent = streams.send_front(alloc, id, line.size(1), scheduler, events);
+            tell_sent(output, sent)
+        }
+        "is-active" => Answer::Is(scheduler.is_active(id)),
+        "tell-stale" => done(streams.emit_stale(id, line.moment(1), events)),
+        "tell-waiting" => done(streams.emit_waiting(id, events)),
+        "ids" => listed(streams.ids(alloc), output),
+        "ready" => listed(streams.ready(alloc), output),
+        "records" => records(alloc, streams, output),
         "messages" => messages(alloc, streams),
-        "tell-stale" | "tell-waiting" => tell(streams, events, line),
-        _ => Ok(change(streams, line)),
+        _ => change(streams, line),
     }
 }

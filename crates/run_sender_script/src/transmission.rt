@@ -1,7 +1,7 @@
 //! A sender: the fragments that have their TSN, under the windows, and the send queue that more come from.
 
-use crate::Answer;
-use crate::fragment::{chunks_text, millis_of, point_text, sack};
+use crate::answer::{Answer, done, written};
+use crate::fragment::{millis_of, sack, tell_chunks, tell_skips};
 use crate::line::Line;
 use sctp_packet::Chunk;
 use sctp_state::Events;
@@ -9,57 +9,54 @@ use sctp_tx::RetransmissionQueue;
 use sctp_tx_queue::SendQueue;
 use std::alloc::{AllocError, Global};
 
-/// `send MOMENT ROOM`: the chunks of a packet.
-fn send(
-    alloc: Global,
-    sender: &mut RetransmissionQueue,
-    queue: &mut SendQueue,
-    events: &mut Events,
-    line: &Line<'_>,
-) -> Result<Answer, AllocError> {
-    let room = usize::from(line.short(1));
-    let chunks = sender.get_chunks_to_send(line.moment(0), room, queue, events)?;
-    Ok(Answer::Text(chunks_text(alloc, &chunks)?))
-}
-
-/// `fast MOMENT ROOM`: the chunks of the packet that ignores the congestion window.
-fn send_fast(
-    alloc: Global,
-    sender: &mut RetransmissionQueue,
-    line: &Line<'_>,
-) -> Result<Answer, AllocError> {
-    let chunks = sender.get_chunks_for_fast_retransmit(line.moment(0), line.size(1))?;
-    Ok(Answer::Text(chunks_text(alloc, &chunks)?))
-}
-
 /// `sack MOMENT TSN FIRST LAST`: a block from one offset to another, none where they are 0.
 fn hear(
     alloc: Global,
     sender: &mut RetransmissionQueue,
     events: &mut Events,
     line: &Line<'_>,
-) -> Result<Answer, AllocError> {
-    let chunk = sack(alloc, line.tsn(1), line.short(2), line.short(3))?;
-    let result = sender.handle_sack(line.moment(0), &chunk, events)?;
-    Ok(Answer::Text(format!(in alloc; "{result:?}")?))
+    output: &mut String,
+) -> Answer {
+    match sack(alloc, line.tsn(1), line.short(2), line.short(3)) {
+        Ok(chunk) => {
+            let result = sender.handle_sack(line.moment(0), &chunk, events);
+            drop(chunk);
+            match result {
+                Ok(result) => written(write!(output, "{result:?}")),
+                Err(_) => Answer::NoMemory,
+            }
+        }
+        Err(_) => Answer::NoMemory,
+    }
 }
 
-fn shown(alloc: Global, chunk: &Chunk) -> Result<Answer, AllocError> {
+fn shown(chunk: &Chunk, output: &mut String) -> Answer {
     match chunk {
         Chunk::ForwardTsn(chunk) => {
-            let text = point_text(alloc, chunk.new_cumulative_tsn, &chunk.skipped_streams)?;
-            Ok(Answer::Text(text))
+            let tsn = u64::from(chunk.new_cumulative_tsn.0);
+            tell_skips(output, tsn, &chunk.skipped_streams)
         }
-        _ => Ok(Answer::Nothing),
+        _ => Answer::Nothing,
     }
 }
 
 /// `point`: the forward point.
-fn point(alloc: Global, sender: &RetransmissionQueue) -> Result<Answer, AllocError> {
-    let chunk = sender.create_forward_tsn()?;
-    let answer = shown(alloc, &chunk);
-    drop(chunk);
-    answer
+fn point(sender: &RetransmissionQueue, output: &mut String) -> Answer {
+    match sender.create_forward_tsn() {
+        Ok(chunk) => {
+            let answer = shown(&chunk, output);
+            drop(chunk);
+            answer
+        }
+        Err(_) => Answer::NoMemory,
+    }
+}
+
+fn is(outcome: Result<bool, AllocError>) -> Answer {
+    match outcome {
+        Ok(is_so) => Answer::Is(is_so),
+        Err(_) => Answer::NoMemory,
+    }
 }
 
 fn asked(sender: &RetransmissionQueue, line: &Line<'_>) -> Answer {
@@ -83,43 +80,45 @@ fn asked(sender: &RetransmissionQueue, line: &Line<'_>) -> Answer {
 }
 
 /// `expires`: when t3-rtx does.
-fn expires(alloc: Global, sender: &RetransmissionQueue) -> Result<Answer, AllocError> {
+fn expires(sender: &RetransmissionQueue, output: &mut String) -> Answer {
     let millis = millis_of(Some(sender.next_timeout()));
-    Ok(Answer::Text(format!(in alloc; "{millis}")?))
+    written(write!(output, "{millis}"))
 }
 
-fn settle(
-    alloc: Global,
-    sender: &mut RetransmissionQueue,
-    line: &Line<'_>,
-) -> Result<Answer, AllocError> {
+fn settle(sender: &mut RetransmissionQueue, line: &Line<'_>, output: &mut String) -> Answer {
     match line.verb {
         "rto" => sender.update_rto(line.millis(0)),
         "set-window" => sender.set_cwnd(line.size(0)),
-        "begin-reset" => sender.begin_reset_streams()?,
-        "expires" => return expires(alloc, sender),
-        "point" => return point(alloc, sender),
-        _ => return Ok(asked(sender, line)),
+        "begin-reset" => return done(sender.begin_reset_streams()),
+        "expires" => return expires(sender, output),
+        "point" => return point(sender, output),
+        _ => return asked(sender, line),
     }
-    Ok(Answer::Done)
+    Answer::Done
 }
 
+/// `send MOMENT ROOM`: the chunks of a packet. `fast MOMENT ROOM`: of one that ignores the congestion window.
 pub fn answer(
     alloc: Global,
     sender: &mut RetransmissionQueue,
     queue: &mut SendQueue,
     events: &mut Events,
     line: &Line<'_>,
-) -> Result<Answer, AllocError> {
+    output: &mut String,
+) -> Answer {
+    let now = line.moment(0);
     match line.verb {
-        "send" => send(alloc, sender, queue, events, line),
-        "fast" => send_fast(alloc, sender, line),
-        "sack" => hear(alloc, sender, events, line),
-        "timeout" => Ok(Answer::Is(sender.handle_timeout(line.moment(0), events)?)),
-        "is-due" => {
-            let is_due = sender.should_send_forward_tsn(line.moment(0), events)?;
-            Ok(Answer::Is(is_due))
+        "send" => {
+            let room = usize::from(line.short(1));
+            tell_chunks(output, sender.get_chunks_to_send(now, room, queue, events))
         }
-        _ => settle(alloc, sender, line),
+        "fast" => {
+            let chunks = sender.get_chunks_for_fast_retransmit(now, line.size(1));
+            tell_chunks(output, chunks)
+        }
+        "sack" => hear(alloc, sender, events, line, output),
+        "timeout" => is(sender.handle_timeout(now, events)),
+        "is-due" => is(sender.should_send_forward_tsn(now, events)),
+        _ => settle(sender, line, output),
     }
 }
