@@ -4,26 +4,31 @@ use crate::setup::EndSetup;
 use crate::words::Known;
 use sctp_association::{Association, DcSctpSocket, Socket};
 use sctp_serial::{Message, SocketTime};
-use sctp_state::{CallError, GivenUp, Options};
+use sctp_state::{CallError, GivenUp};
 use sctp_wire::Checksum;
 use std::alloc::Global;
 
+/// What a socket shows of itself, beside what the calls of its trait answer.
+#[derive(Clone, Copy)]
+pub struct Shown {
+    /// Whether it has nothing queued and keeps no item.
+    pub rests: bool,
+    pub own_tag: u32,
+    /// The moment to which its time was advanced.
+    pub clock: SocketTime,
+    pub association: Option<Association>,
+}
+
 /// What is asked of a socket beside the calls of its trait.
 pub trait Driven: DcSctpSocket {
-    /// A new one with the same options.
-    fn renewed(&self, alloc: Global) -> Result<Self, CallError>;
+    /// A new socket, where the options are valid.
+    fn made(alloc: Global, name: &str, setup: &EndSetup) -> Result<Self, CallError>;
 
     fn let_go(self);
 
     fn next_gone(&mut self) -> Option<GivenUp>;
 
-    fn rests(&self) -> bool;
-
-    fn own_tag(&self) -> u32;
-
-    fn moment(&self) -> SocketTime;
-
-    fn joined(&self) -> Option<Association>;
+    fn shown(&self) -> Shown;
 
     fn would_refuse(&self, bytes: &[u8]) -> Result<bool, CallError>;
 
@@ -31,8 +36,12 @@ pub trait Driven: DcSctpSocket {
 }
 
 impl<R: Known + Drop, C: Checksum + Default + Drop> Driven for Socket<R, C> {
-    fn renewed(&self, alloc: Global) -> Result<Socket<R, C>, CallError> {
-        made_with(alloc, "new", &self.options(), R::known(3, 3))
+    fn made(alloc: Global, name: &str, setup: &EndSetup) -> Result<Socket<R, C>, CallError> {
+        if !setup.options.is_valid() {
+            return Err(CallError::Failed);
+        }
+        let words = R::known(setup.first, setup.stride);
+        Socket::new(alloc, name, &setup.options, words, C::default())
     }
 
     fn let_go(self) {
@@ -43,20 +52,13 @@ impl<R: Known + Drop, C: Checksum + Default + Drop> Driven for Socket<R, C> {
         self.next_given_up()
     }
 
-    fn rests(&self) -> bool {
-        self.is_at_rest()
-    }
-
-    fn own_tag(&self) -> u32 {
-        self.verification_tag()
-    }
-
-    fn moment(&self) -> SocketTime {
-        self.clock()
-    }
-
-    fn joined(&self) -> Option<Association> {
-        self.association()
+    fn shown(&self) -> Shown {
+        Shown {
+            rests: self.is_at_rest(),
+            own_tag: self.verification_tag(),
+            clock: self.clock(),
+            association: self.association(),
+        }
     }
 
     fn would_refuse(&self, bytes: &[u8]) -> Result<bool, CallError> {
@@ -66,30 +68,4 @@ impl<R: Known + Drop, C: Checksum + Default + Drop> Driven for Socket<R, C> {
     fn first_ready(&self) -> Option<&Message> {
         self.ready_message(0)
     }
-}
-
-/// A new socket, where the options are valid.
-pub fn made<R: Known + Drop, C: Checksum + Default + Drop>(
-    alloc: Global,
-    name: &str,
-    setup: &EndSetup,
-) -> Result<Socket<R, C>, CallError> {
-    made_with(
-        alloc,
-        name,
-        &setup.options,
-        R::known(setup.first, setup.stride),
-    )
-}
-
-fn made_with<R: Known + Drop, C: Checksum + Default + Drop>(
-    alloc: Global,
-    name: &str,
-    options: &Options,
-    words: R,
-) -> Result<Socket<R, C>, CallError> {
-    if !options.is_valid() {
-        return Err(CallError::Failed);
-    }
-    Socket::new(alloc, name, options, words, C::default())
 }

@@ -1,6 +1,7 @@
 //! The loop in which an owner drives sockets, over a link that loses packets.
 
 use crate::driven::Driven;
+use crate::output::Output;
 use crate::side::Side;
 use crate::told::take_told;
 use sctp_state::SocketState;
@@ -26,45 +27,44 @@ fn hand_over<S: Driven>(
     packets: &[Vec<u8>],
     first: usize,
     lost: usize,
-) -> anyhow::Result<()> {
+    output: &mut Output,
+) {
     for (number, bytes) in packets.iter().enumerate() {
         if number >= first && !is_lost(number, lost) {
-            to.socket.handle_input(bytes)?;
+            output.note(to.socket.handle_input(bytes));
         }
     }
-    Ok(())
 }
 
 /// Time passes up to the moment at which the first of the sockets has something to do.
-fn pass_time<S: Driven>(rt: &HostRuntime, a: &mut Side<S>, b: &mut Side<S>) -> anyhow::Result<()> {
+fn pass_time<S: Driven>(a: &mut Side<S>, b: &mut Side<S>, output: &mut Output) {
     let now = a.socket.poll_timeout().min(b.socket.poll_timeout());
-    println!(rt; "{} ms", now.as_nanos() / 1_000_000)?;
-    a.socket.advance_time(now)?;
-    b.socket.advance_time(now)?;
-    Ok(())
+    writeln!(output, "{} ms", now.as_nanos() / 1_000_000);
+    output.note(a.socket.advance_time(now));
+    output.note(b.socket.advance_time(now));
 }
 
 /// Hands over what each end sent; where nothing is on its way, time passes. Then what the sockets emit is taken.
 fn go_on<S: Driven>(
-    rt: &HostRuntime,
     a: &mut Side<S>,
     b: &mut Side<S>,
     course: Course,
-) -> anyhow::Result<Course> {
+    output: &mut Output,
+) -> Course {
     let next = Course {
         a: a.packets.len(),
         b: b.packets.len(),
         ..course
     };
     if next.a == course.a && next.b == course.b {
-        pass_time(rt, a, b)?;
+        pass_time(a, b, output);
     } else {
-        hand_over(b, &a.packets, course.a, course.lost)?;
-        hand_over(a, &b.packets, course.b, course.lost)?;
+        hand_over(b, &a.packets, course.a, course.lost, output);
+        hand_over(a, &b.packets, course.b, course.lost, output);
     }
-    take_told(rt, a, true)?;
-    take_told(rt, b, true)?;
-    Ok(next)
+    take_told(a, true, output);
+    take_told(b, true, output);
+    next
 }
 
 /// Whether the end has sent nothing else, has nothing to send, and neither opens nor ends an association.
@@ -73,7 +73,7 @@ fn is_quiet<S: Driven>(side: &Side<S>, sent: usize) -> bool {
         SocketState::Closed | SocketState::Connected => true,
         SocketState::Connecting | SocketState::ShuttingDown => false,
     };
-    is_settled && side.packets.len() == sent && side.socket.rests()
+    is_settled && side.packets.len() == sent && side.socket.shown().rests
 }
 
 fn longest(packets: &[Vec<u8>]) -> usize {
@@ -85,20 +85,19 @@ fn longest(packets: &[Vec<u8>]) -> usize {
 }
 
 /// How many packets an end sent, and the size of the longest.
-fn tell_packets(rt: &HostRuntime, name: &str, packets: &[Vec<u8>]) -> anyhow::Result<bool> {
+fn tell_packets(name: &str, packets: &[Vec<u8>], output: &mut Output) {
     let (count, size) = (packets.len(), longest(packets));
-    println!(rt; "{name} sent {count} packets of at most {size}")?;
-    Ok(true)
+    writeln!(output, "{name} sent {count} packets of at most {size}");
 }
 
 /// Hands over the packets of both ends from this number on, but of so many the last one, until all is quiet.
 pub fn exchange<S: Driven>(
-    rt: &HostRuntime,
     a: &mut Side<S>,
     b: &mut Side<S>,
     first: usize,
     lost: usize,
-) -> anyhow::Result<bool> {
+    output: &mut Output,
+) {
     let mut course = Course {
         a: first,
         b: first,
@@ -106,11 +105,11 @@ pub fn exchange<S: Driven>(
     };
     for _ in 0..TURNS {
         if is_quiet(a, course.a) && is_quiet(b, course.b) {
-            println!(rt; "all is quiet")?;
+            writeln!(output, "all is quiet");
             break;
         }
-        course = go_on(rt, a, b, course)?;
+        course = go_on(a, b, course, output);
     }
-    tell_packets(rt, a.name, &a.packets)?;
-    tell_packets(rt, b.name, &b.packets)
+    tell_packets(a.name, &a.packets, output);
+    tell_packets(b.name, &b.packets, output);
 }

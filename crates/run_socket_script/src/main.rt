@@ -1,13 +1,14 @@
 //! Two sockets that are driven by lines: runs each script of standard input on two new sockets, and prints what the calls answer
 //! and what the sockets emit.
 //!
-//! A script is what stands behind a line that begins with `#`, which says what the script shows and is printed too. Lines that begin
-//! with `make` say what the sockets are made with (`setup`), the others what happens to them (`moves`).
+//! A script is what stands behind a `#`. Its first line says what the script shows and is printed too. Lines that begin with `make`
+//! say what the sockets are made with (`setup`), the others what happens to them (`moves`).
 #![tactic(auto)]
 
 mod driven;
 mod exchange;
 mod moves;
+mod output;
 mod payload;
 mod questions;
 mod setup;
@@ -15,49 +16,32 @@ mod side;
 mod told;
 mod words;
 
-use driven::made;
+use output::Output;
+use sctp_association::Socket;
 use sctp_probe::ByteSum;
-use setup::Setup;
 use side::converse;
-use std::alloc::{AllocError, Global};
+use std::alloc::Global;
+use std::io;
 use words::Words;
 
-/// Runs a script on two new sockets.
-fn answer(rt: &HostRuntime, setup: &Setup, script: &str) -> anyhow::Result<()> {
-    if script.is_empty() {
-        return Ok(());
-    }
-    let a = made::<Words, ByteSum>(rt.alloc(), "a", &setup.a);
-    converse(rt, a, made(rt.alloc(), "b", &setup.b), script)
+fn run_script(alloc: Global, script: &str, output: &mut Output) {
+    let (title, lines) = script.split_once('\n').unwrap_or((script, ""));
+    writeln!(output, "#{title}");
+    converse::<Socket<Words, ByteSum>>(alloc, lines, output);
 }
 
-/// A line behind a title: it is for the two sockets of the script, or says what they are made with.
-fn take_line(
-    alloc: Global,
-    setup: &mut Setup,
-    script: &mut String,
-    line: &str,
-) -> Result<(), AllocError> {
-    if !setup.takes(alloc, line)? {
-        script.push_str(line)?;
-        script.push('\n')?;
+fn run_scripts(alloc: Global, scripts: &str, output: &mut Output) {
+    for script in scripts.split('#') {
+        if !script.is_empty() {
+            run_script(alloc, script, output);
+        }
     }
-    Ok(())
 }
 
 fn main(rt: HostRuntime) -> anyhow::Result<()> {
-    let mut setup = Setup::new();
-    let mut script = String::new(rt.alloc());
-    for line in rt.lines(rt.alloc()) {
-        let line = line?;
-        if line.starts_with('#') {
-            answer(&rt, &setup, &script)?;
-            script.clear();
-            setup = Setup::new();
-            println!(rt; "{line}")?;
-        } else {
-            take_line(rt.alloc(), &mut setup, &mut script, &line)?;
-        }
-    }
-    answer(&rt, &setup, &script)
+    let scripts = io::read_to_string(rt.alloc(), rt.reader())?;
+    let mut output = Output::new(rt.alloc());
+    run_scripts(rt.alloc(), &scripts, &mut output);
+    print!(rt; "{}", output.text)?;
+    Ok(output.outcome?)
 }

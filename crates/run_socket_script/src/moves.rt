@@ -2,28 +2,19 @@
 
 use crate::driven::Driven;
 use crate::exchange::exchange;
-use crate::payload::{are_numbers, half_at, number_at, number_behind, number_of, payload, word_at};
+use crate::output::Output;
+use crate::payload::{
+    are_numbers, half_at, number_at, number_behind, payload, text_at, word_at, words_of,
+};
 use crate::questions::{ask, ask_with, tell_judgement};
+use crate::setup::{EndSetup, Setup};
 use crate::side::Side;
 use crate::told::{take_told, tell_message, tell_refusal};
 use sctp_serial::{LifecycleId, Message, PpId, SocketTime, StreamId};
 use sctp_state::api::handover::HandoverSocketState;
 use sctp_state::{HandoverError, SendOptions, SocketHandoverState};
-use std::alloc::{AllocError, Global};
+use std::alloc::Global;
 use std::time::Duration;
-
-/// Gives the socket a packet of the other end.
-pub fn give<S: Driven>(
-    rt: &HostRuntime,
-    side: &mut Side<S>,
-    packets: &[Vec<u8>],
-    number: usize,
-) -> anyhow::Result<bool> {
-    match packets.get(number) {
-        Some(bytes) => tell_refusal(rt, side.name, side.socket.handle_input(bytes)),
-        None => Ok(println!(rt; "no packet").is_ok()),
-    }
-}
 
 /// `[rtx N] [id N]`
 fn options_of(words: &[&str]) -> SendOptions {
@@ -38,298 +29,300 @@ fn options_of(words: &[&str]) -> SendOptions {
 }
 
 /// `S P` and the word of a payload.
-fn message_of(alloc: Global, words: &[&str], word: &str) -> anyhow::Result<Message> {
-    let payload = payload(alloc, word)?;
-    let (stream, ppid) = (StreamId(half_at(words, 0)), PpId(word_at(words, 1)));
-    Ok(Message::new(stream, ppid, payload))
+fn message_of(alloc: Global, words: &[&str], word: &str, output: &mut Output) -> Message {
+    let payload = payload(alloc, word, output);
+    Message::new(
+        StreamId(half_at(words, 0)),
+        PpId(word_at(words, 1)),
+        payload,
+    )
 }
 
 /// `S P PAYLOAD [rtx N] [id N]`
-fn send<S: Driven>(rt: &HostRuntime, side: &mut Side<S>, words: &[&str]) -> anyhow::Result<bool> {
-    let options = options_of(words);
-    match words.get(2) {
-        Some(word) => {
-            let message = message_of(rt.alloc(), words, word)?;
-            tell_refusal(rt, side.name, side.socket.send(message, &options))
-        }
-        None => Ok(false),
-    }
+fn send<S: Driven>(alloc: Global, side: &mut Side<S>, words: &[&str], output: &mut Output) {
+    let message = message_of(alloc, words, text_at(words, 2), output);
+    let answer = side.socket.send(message, &options_of(words));
+    tell_refusal(side.name, answer, output);
 }
 
-fn messages_of(alloc: Global, words: &[&str]) -> anyhow::Result<Vec<Message>> {
+fn messages_of(alloc: Global, words: &[&str], output: &mut Output) -> Vec<Message> {
     let mut messages = Vec::new(alloc);
     for word in words.iter().skip(2) {
-        let message = message_of(alloc, words, word)?;
-        messages.push(message)?;
+        let message = message_of(alloc, words, word, output);
+        output.note(messages.push(message));
     }
-    Ok(messages)
+    messages
 }
 
 /// `S P PAYLOAD ..`: many messages at once.
-fn send_many<S: Driven>(
-    rt: &HostRuntime,
-    side: &mut Side<S>,
-    words: &[&str],
-) -> anyhow::Result<bool> {
-    let messages = messages_of(rt.alloc(), words)?;
+fn send_many<S: Driven>(alloc: Global, side: &mut Side<S>, words: &[&str], output: &mut Output) {
+    let messages = messages_of(alloc, words, output);
     let answer = side.socket.send_many(messages, &SendOptions::default());
-    tell_refusal(rt, side.name, answer)
+    tell_refusal(side.name, answer, output);
 }
 
-fn streams_of(alloc: Global, first: u16, count: u16) -> Result<Vec<StreamId>, AllocError> {
+fn streams_of(alloc: Global, first: u16, count: u16, output: &mut Output) -> Vec<StreamId> {
     let mut streams = Vec::new(alloc);
     let mut stream = first;
     for _ in 0..count {
-        streams.push(StreamId(stream))?;
+        output.note(streams.push(StreamId(stream)));
         stream = stream.wrapping_add(1);
     }
-    Ok(streams)
+    streams
 }
 
 /// `S COUNT`: so many streams, from this one on.
-fn reset<S: Driven>(rt: &HostRuntime, side: &mut Side<S>, words: &[&str]) -> anyhow::Result<bool> {
-    let streams = streams_of(rt.alloc(), half_at(words, 0), half_at(words, 1))?;
-    tell_refusal(rt, side.name, side.socket.reset_streams(&streams))
+fn reset<S: Driven>(alloc: Global, side: &mut Side<S>, words: &[&str], output: &mut Output) {
+    let streams = streams_of(alloc, half_at(words, 0), half_at(words, 1), output);
+    let answer = side.socket.reset_streams(&streams);
+    drop(streams);
+    tell_refusal(side.name, answer, output);
 }
 
-fn receive<S: Driven>(rt: &HostRuntime, side: &mut Side<S>) -> anyhow::Result<bool> {
+fn receive<S: Driven>(side: &mut Side<S>, output: &mut Output) {
     let message = side.socket.get_next_message();
-    tell_message(rt, side.name, "message", message.as_ref())
+    tell_message(side.name, "message", message.as_ref(), output);
 }
 
-/// A new socket takes the place of this one, with its record.
+/// A new socket takes the place of this one, with its options and its record.
 fn renew<S: Driven>(
-    rt: &HostRuntime,
+    alloc: Global,
     side: &mut Side<S>,
     state: &SocketHandoverState,
-) -> anyhow::Result<bool> {
-    take_told(rt, side, false)?;
-    let new = side.socket.renewed(rt.alloc())?;
-    std::mem::replace(&mut side.socket, new).let_go();
-    tell_refusal(rt, side.name, side.socket.restore_from_state(state))
+    output: &mut Output,
+) {
+    take_told(side, false, output);
+    let setup = EndSetup {
+        options: side.socket.options(),
+        first: 3,
+        stride: 3,
+    };
+    match S::made(alloc, "new", &setup) {
+        Ok(new) => {
+            std::mem::replace(&mut side.socket, new).let_go();
+            tell_refusal(side.name, side.socket.restore_from_state(state), output);
+        }
+        Err(fault) => output.note(Err(fault)),
+    }
 }
 
 /// The socket is handed over to a new one; where it isn't ready, it says why.
-fn replace<S: Driven>(rt: &HostRuntime, side: &mut Side<S>) -> anyhow::Result<bool> {
+fn replace<S: Driven>(alloc: Global, side: &mut Side<S>, output: &mut Output) {
     match side.socket.get_handover_state_and_close() {
         Ok(state) => {
-            let outcome = renew(rt, side, &state);
+            renew(alloc, side, &state, output);
             drop(state);
-            outcome
         }
         Err(HandoverError::NotReady(readiness)) => {
-            Ok(println!(rt; "{} is not ready: {readiness}", side.name).is_ok())
+            writeln!(output, "{} is not ready: {readiness}", side.name);
         }
-        Err(fault) => tell_refusal(rt, side.name, Err(fault)),
+        Err(fault) => writeln!(output, "{} refused {fault:?}", side.name),
     }
 }
 
 /// The record of a closed socket, or one that says that it is connected and nothing more.
 fn restore<S: Driven>(
-    rt: &HostRuntime,
+    alloc: Global,
     side: &mut Side<S>,
-    is_connected: bool,
-) -> anyhow::Result<bool> {
-    let mut state = SocketHandoverState::empty(rt.alloc());
-    if is_connected {
-        state.socket_state = HandoverSocketState::Connected;
-    }
+    socket_state: HandoverSocketState,
+    output: &mut Output,
+) {
+    let mut state = SocketHandoverState::empty(alloc);
+    state.socket_state = socket_state;
     let answer = side.socket.restore_from_state(&state);
     drop(state);
-    tell_refusal(rt, side.name, answer)
+    tell_refusal(side.name, answer, output);
 }
 
 /// A call without further words. Answers whether it was understood.
-fn call<S: Driven>(rt: &HostRuntime, side: &mut Side<S>, verb: &str) -> anyhow::Result<bool> {
+fn call<S: Driven>(alloc: Global, side: &mut Side<S>, verb: &str, output: &mut Output) -> bool {
     match verb {
-        "connect" => tell_refusal(rt, side.name, side.socket.connect()),
-        "shutdown" => tell_refusal(rt, side.name, side.socket.shutdown()),
-        "close" => tell_refusal(rt, side.name, side.socket.close()),
-        "recv" => receive(rt, side),
-        "replace" => replace(rt, side),
-        "restore-closed" => restore(rt, side, false),
-        "restore-connected" => restore(rt, side, true),
-        _ => ask(rt, side, verb),
+        "connect" => tell_refusal(side.name, side.socket.connect(), output),
+        "shutdown" => tell_refusal(side.name, side.socket.shutdown(), output),
+        "close" => tell_refusal(side.name, side.socket.close(), output),
+        "recv" => receive(side, output),
+        "replace" => replace(alloc, side, output),
+        "restore-closed" => restore(alloc, side, HandoverSocketState::Closed, output),
+        "restore-connected" => restore(alloc, side, HandoverSocketState::Connected, output),
+        _ => return ask(side, verb, output),
     }
+    true
 }
 
 /// `S P`
-fn set_priority<S: Driven>(
-    rt: &HostRuntime,
-    side: &mut Side<S>,
-    words: &[&str],
-) -> anyhow::Result<bool> {
+fn set_priority<S: Driven>(side: &mut Side<S>, words: &[&str], output: &mut Output) {
     let stream = StreamId(half_at(words, 0));
     let answer = side.socket.set_stream_priority(stream, half_at(words, 1));
-    tell_refusal(rt, side.name, answer)
+    tell_refusal(side.name, answer, output);
 }
 
 /// `S BYTES`
-fn set_threshold<S: Driven>(
-    rt: &HostRuntime,
-    side: &mut Side<S>,
-    words: &[&str],
-) -> anyhow::Result<bool> {
+fn set_threshold<S: Driven>(side: &mut Side<S>, words: &[&str], output: &mut Output) {
     let (stream, bytes) = (StreamId(half_at(words, 0)), word_at(words, 1) as usize);
     let answer = side.socket.set_buffered_amount_low_threshold(stream, bytes);
-    tell_refusal(rt, side.name, answer)
+    tell_refusal(side.name, answer, output);
 }
 
 /// `BYTES`
-fn set_limit<S: Driven>(rt: &HostRuntime, side: &mut Side<S>, bytes: u32) -> anyhow::Result<bool> {
+fn set_limit<S: Driven>(side: &mut Side<S>, bytes: u32, output: &mut Output) {
     side.socket.set_max_message_size(bytes as usize);
     let limit = side.socket.options().max_message_size;
-    println!(rt; "{} limit {limit}", side.name)?;
-    Ok(true)
+    writeln!(output, "{} limit {limit}", side.name);
 }
 
 /// A call with numbers. Answers whether it was understood.
 fn call_with<S: Driven>(
-    rt: &HostRuntime,
+    alloc: Global,
     side: &mut Side<S>,
     verb: &str,
     words: &[&str],
-) -> anyhow::Result<bool> {
+    output: &mut Output,
+) -> bool {
     match verb {
-        "reset" => reset(rt, side, words),
-        "priority" => set_priority(rt, side, words),
-        "threshold" => set_threshold(rt, side, words),
-        "limit" => set_limit(rt, side, word_at(words, 0)),
-        _ => ask_with(rt, side, verb, words),
+        "reset" => reset(alloc, side, words, output),
+        "priority" => set_priority(side, words, output),
+        "threshold" => set_threshold(side, words, output),
+        "limit" => set_limit(side, word_at(words, 0), output),
+        _ => return ask_with(side, verb, words, output),
     }
+    true
 }
 
 /// `HEX`: gives the socket these bytes.
-fn take<S: Driven>(rt: &HostRuntime, side: &mut Side<S>, words: &[&str]) -> anyhow::Result<bool> {
-    match words.first() {
-        Some(word) => {
-            let bytes = payload(rt.alloc(), word)?;
-            tell_refusal(rt, side.name, side.socket.handle_input(&bytes))
-        }
-        None => Ok(false),
-    }
+fn take<S: Driven>(alloc: Global, side: &mut Side<S>, words: &[&str], output: &mut Output) {
+    let bytes = payload(alloc, text_at(words, 0), output);
+    let answer = side.socket.handle_input(&bytes);
+    drop(bytes);
+    tell_refusal(side.name, answer, output);
 }
 
 /// `HEX`
-fn judge<S: Driven>(rt: &HostRuntime, side: &Side<S>, words: &[&str]) -> anyhow::Result<bool> {
-    match words.first() {
-        Some(word) => {
-            let bytes = payload(rt.alloc(), word)?;
-            tell_judgement(rt, side, &bytes)
-        }
-        None => Ok(false),
-    }
+fn judge<S: Driven>(alloc: Global, side: &Side<S>, words: &[&str], output: &mut Output) {
+    let bytes = payload(alloc, text_at(words, 0), output);
+    tell_judgement(side, &bytes, output);
+    drop(bytes);
 }
 
 fn act_with<S: Driven>(
-    rt: &HostRuntime,
+    alloc: Global,
     side: &mut Side<S>,
     verb: &str,
     words: &[&str],
-) -> anyhow::Result<bool> {
+    output: &mut Output,
+) -> bool {
     match verb {
-        "send" => send(rt, side, words),
-        "send-many" => send_many(rt, side, words),
-        "take" => take(rt, side, words),
-        "judge" => judge(rt, side, words),
-        _ if are_numbers(words) => call_with(rt, side, verb, words),
-        _ => Ok(false),
+        "send" => send(alloc, side, words, output),
+        "send-many" => send_many(alloc, side, words, output),
+        "take" => take(alloc, side, words, output),
+        "judge" => judge(alloc, side, words, output),
+        _ => return are_numbers(words) && call_with(alloc, side, verb, words, output),
     }
+    true
 }
 
 /// What happens at an end, and what it emits of it.
 fn act<S: Driven>(
-    rt: &HostRuntime,
+    alloc: Global,
     side: &mut Side<S>,
     verb: &str,
     words: &[&str],
-) -> anyhow::Result<bool> {
+    output: &mut Output,
+) -> bool {
     let is_known = if words.is_empty() {
-        call(rt, side, verb)?
+        call(alloc, side, verb, output)
     } else {
-        act_with(rt, side, verb, words)?
+        act_with(alloc, side, verb, words, output)
     };
-    take_told(rt, side, false)?;
-    Ok(is_known)
+    take_told(side, false, output);
+    is_known
 }
 
 /// `K`: gives the packet of this number of the other end.
-fn give_and_tell<S: Driven>(
-    rt: &HostRuntime,
+fn give<S: Driven>(
     side: &mut Side<S>,
     packets: &[Vec<u8>],
     words: &[&str],
-) -> anyhow::Result<bool> {
-    give(rt, side, packets, number_at(words, 0) as usize)?;
-    take_told(rt, side, false)?;
-    Ok(true)
+    output: &mut Output,
+) -> bool {
+    match packets.get(number_at(words, 0) as usize) {
+        Some(bytes) => tell_refusal(side.name, side.socket.handle_input(bytes), output),
+        None => writeln!(output, "no packet"),
+    }
+    take_told(side, false, output);
+    true
 }
 
 /// Time is advanced to a moment, in milliseconds.
-fn tell_time<S: Driven>(
-    rt: &HostRuntime,
-    side: &mut Side<S>,
-    milliseconds: u64,
-) -> anyhow::Result<bool> {
+fn advance<S: Driven>(side: &mut Side<S>, milliseconds: u64, output: &mut Output) {
     let now = SocketTime::zero() + Duration::from_millis(milliseconds);
-    tell_refusal(rt, side.name, side.socket.advance_time(now))?;
-    take_told(rt, side, false)?;
-    Ok(true)
+    tell_refusal(side.name, side.socket.advance_time(now), output);
+    take_told(side, false, output);
 }
 
 /// `time MS`, `exchange FIRST LOST`: what happens at both ends.
 fn act_at_both<S: Driven>(
-    rt: &HostRuntime,
     a: &mut Side<S>,
     b: &mut Side<S>,
     verb: &str,
     words: &[&str],
-) -> anyhow::Result<bool> {
+    output: &mut Output,
+) -> bool {
+    let (first, second) = (number_at(words, 0), number_at(words, 1));
     match verb {
         "time" => {
-            tell_time(rt, a, number_at(words, 0))?;
-            tell_time(rt, b, number_at(words, 0))
+            advance(a, first, output);
+            advance(b, first, output);
         }
-        "exchange" => exchange(
-            rt,
-            a,
-            b,
-            number_at(words, 0) as usize,
-            number_at(words, 1) as usize,
-        ),
-        _ => Ok(false),
+        "exchange" => exchange(a, b, first as usize, second as usize, output),
+        _ => return false,
     }
+    true
 }
 
 /// `VERB X ..`, `give X K Y`, and what happens at both.
 fn run_words<S: Driven>(
-    rt: &HostRuntime,
+    alloc: Global,
     a: &mut Side<S>,
     b: &mut Side<S>,
     words: &[&str],
-) -> anyhow::Result<bool> {
+    output: &mut Output,
+) -> bool {
     let [verb, end, rest @ ..] = words else {
-        return Ok(false);
+        return false;
     };
     match (*verb == "give", *end == "a", *end == "b") {
-        (true, true, _) => give_and_tell(rt, b, &a.packets, rest),
-        (true, false, _) => give_and_tell(rt, a, &b.packets, rest),
-        (false, true, _) => act(rt, a, verb, rest),
-        (false, false, true) => act(rt, b, verb, rest),
-        (false, false, false) => act_at_both(rt, a, b, verb, &words[1..]),
+        (true, true, _) => give(b, &a.packets, rest, output),
+        (true, false, _) => give(a, &b.packets, rest, output),
+        (false, true, _) => act(alloc, a, verb, rest, output),
+        (false, false, true) => act(alloc, b, verb, rest, output),
+        (false, false, false) => act_at_both(a, b, verb, &words[1..], output),
     }
 }
 
-/// Runs a line. One that isn't understood is printed behind a `?`.
-pub fn run_line<S: Driven>(
-    rt: &HostRuntime,
+/// Runs a line, unless the setup has taken it. One that isn't understood is printed behind a `?`.
+fn run_line<S: Driven>(
+    alloc: Global,
     a: &mut Side<S>,
     b: &mut Side<S>,
     line: &str,
-) -> anyhow::Result<()> {
-    let words: Vec<&str> = line.split(' ').collect(rt.alloc())?;
-    if !run_words(rt, a, b, &words)? {
-        println!(rt; "? {line}")?;
+    output: &mut Output,
+) {
+    let words = words_of(alloc, line, output);
+    let is_known = Setup::new().takes(&words) || run_words(alloc, a, b, &words, output);
+    drop(words);
+    if !is_known {
+        writeln!(output, "? {line}");
     }
-    Ok(())
+}
+
+pub fn run_lines<S: Driven>(
+    alloc: Global,
+    a: &mut Side<S>,
+    b: &mut Side<S>,
+    lines: &str,
+    output: &mut Output,
+) {
+    for line in lines.lines() {
+        run_line(alloc, a, b, line, output);
+    }
 }

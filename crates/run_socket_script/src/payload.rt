@@ -1,6 +1,8 @@
 //! Numbers and payloads, as words say them. A payload is hex digits, or `COUNT:FIRST` for so many bytes, each 7 above the one
 //! before.
 
+use crate::output::Output;
+use hex::FromHexError;
 use std::alloc::{AllocError, Global};
 
 /// Payloads of more bytes are printed as a count, where they can be.
@@ -9,8 +11,27 @@ const FEW: usize = 64;
 /// How much a byte of a row is above the one before.
 const STRIDE: u8 = 7;
 
+/// The words of a line.
+pub fn words_of<'a>(alloc: Global, line: &'a str, output: &mut Output) -> Vec<&'a str> {
+    match line.split(' ').collect(alloc) {
+        Ok(words) => words,
+        Err(fault) => {
+            output.note(Err(fault));
+            Vec::new(alloc)
+        }
+    }
+}
+
+/// The word at this place; an empty one where there is none.
+pub fn text_at<'a>(words: &[&'a str], place: usize) -> &'a str {
+    match words.get(place) {
+        Some(word) => word,
+        None => "",
+    }
+}
+
 /// The number that a word says; 0 where it says none.
-pub fn number_of(word: &str) -> u64 {
+fn number_of(word: &str) -> u64 {
     word.parse::<u64>().unwrap_or(0)
 }
 
@@ -43,24 +64,34 @@ pub fn are_numbers(words: &[&str]) -> bool {
     words.iter().all(|word| word.parse::<u64>().is_ok())
 }
 
-fn row(alloc: Global, count: u64, first: u8) -> Result<Vec<u8>, AllocError> {
+/// So many bytes, from this one on.
+fn row(alloc: Global, count: u64, first: u8, output: &mut Output) -> Vec<u8> {
     let mut bytes = Vec::new(alloc);
     let mut byte = first;
     for _ in 0..count {
-        bytes.push(byte)?;
+        output.note(bytes.push(byte));
         byte = byte.wrapping_add(STRIDE);
     }
-    Ok(bytes)
+    bytes
 }
 
-/// The bytes that a word says.
-pub fn payload(alloc: Global, word: &str) -> anyhow::Result<Vec<u8>> {
+fn bytes_of(alloc: Global, digits: &str, output: &mut Output) -> Vec<u8> {
+    match hex::decode(alloc, digits) {
+        Ok(bytes) => return bytes,
+        Err(FromHexError::OutOfMemory) => output.note(Err(AllocError)),
+        Err(_) => {}
+    }
+    Vec::new(alloc)
+}
+
+/// The bytes that a word says; none where it says none.
+pub fn payload(alloc: Global, word: &str, output: &mut Output) -> Vec<u8> {
     match word.split_once(':') {
         Some((count, first)) => {
             let first = u8::try_from(number_of(first)).unwrap_or(u8::MAX);
-            Ok(row(alloc, number_of(count), first)?)
+            row(alloc, number_of(count), first, output)
         }
-        None => Ok(hex::decode(alloc, word)?),
+        None => bytes_of(alloc, word, output),
     }
 }
 
@@ -75,12 +106,19 @@ fn is_row(bytes: &[u8], first: u8) -> bool {
     true
 }
 
-/// The word that says the bytes.
-pub fn payload_text(alloc: Global, bytes: &[u8]) -> Result<String, AllocError> {
+/// Prints bytes in hex.
+pub fn tell_hex(bytes: &[u8], output: &mut Output) {
+    for byte in bytes {
+        write!(output, "{byte:02x}");
+    }
+}
+
+/// Prints the word that says the bytes.
+pub fn tell_payload(bytes: &[u8], output: &mut Output) {
     let first = bytes.first().copied().unwrap_or(0);
     if bytes.len() > FEW && is_row(bytes, first) {
-        let count = bytes.len();
-        return format!(in alloc; "{count}:{first}");
+        write!(output, "{}:{first}", bytes.len());
+    } else {
+        tell_hex(bytes, output);
     }
-    hex::encode(alloc, bytes)
 }

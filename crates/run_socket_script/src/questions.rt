@@ -1,7 +1,8 @@
 //! What a socket says of itself.
 
 use crate::driven::Driven;
-use crate::payload::{half_at, number_at};
+use crate::output::Output;
+use crate::payload::{half_at, number_at, tell_hex};
 use crate::side::Side;
 use crate::told::tell_message;
 use sctp_serial::{SocketTime, StreamId};
@@ -12,110 +13,87 @@ fn milliseconds_of(moment: SocketTime) -> u64 {
 }
 
 /// Its state and own tag; how many messages are ready, and whether it has nothing queued and keeps no item.
-fn tell_state<S: Driven>(rt: &HostRuntime, side: &Side<S>) -> anyhow::Result<bool> {
-    let (name, state, tag) = (side.name, side.socket.state(), side.socket.own_tag());
-    let (count, rests) = (side.socket.messages_ready_count(), side.socket.rests());
-    println!(rt; "{name} {state:?} tag {tag} ready {count} rests {rests}")?;
-    Ok(true)
+fn tell_state<S: Driven>(side: &Side<S>, output: &mut Output) {
+    let (name, shown) = (side.name, side.socket.shown());
+    let (state, count) = (side.socket.state(), side.socket.messages_ready_count());
+    writeln!(
+        output,
+        "{name} {state:?} tag {} ready {count} rests {}",
+        shown.own_tag, shown.rests
+    );
 }
 
 /// The moment to which its time was advanced, and the one at which it has something to do, in milliseconds.
-fn tell_moments<S: Driven>(rt: &HostRuntime, side: &Side<S>) -> anyhow::Result<bool> {
-    let clock = milliseconds_of(side.socket.moment());
+fn tell_moments<S: Driven>(side: &Side<S>, output: &mut Output) {
+    let clock = milliseconds_of(side.socket.shown().clock);
     let timeout = milliseconds_of(side.socket.poll_timeout());
-    println!(rt; "{} clock {clock} timeout {timeout}", side.name)?;
-    Ok(true)
+    writeln!(output, "{} clock {clock} timeout {timeout}", side.name);
 }
 
 /// `S`: its priority, the threshold and the buffered amount.
-fn tell_stream<S: Driven>(rt: &HostRuntime, side: &Side<S>, id: u16) -> anyhow::Result<bool> {
+fn tell_stream<S: Driven>(side: &Side<S>, id: u16, output: &mut Output) {
     let priority = side.socket.get_stream_priority(StreamId(id));
     let threshold = side.socket.buffered_amount_low_threshold(StreamId(id));
     let amount = side.socket.buffered_amount(StreamId(id));
-    println!(rt;
+    writeln!(
+        output,
         "{} stream {id} priority {priority} threshold {threshold} amount {amount}",
         side.name
-    )?;
-    Ok(true)
-}
-
-fn tell_association<S: Driven>(rt: &HostRuntime, side: &Side<S>) -> anyhow::Result<bool> {
-    let association = side.socket.joined();
-    println!(rt; "{} {association:?}", side.name)?;
-    Ok(true)
-}
-
-fn tell_metrics<S: Driven>(rt: &HostRuntime, side: &Side<S>) -> anyhow::Result<bool> {
-    let metrics = side.socket.get_metrics();
-    println!(rt; "{} {metrics:?}", side.name)?;
-    Ok(true)
+    );
 }
 
 /// `HEX`: whether these bytes would be refused.
-pub fn tell_judgement<S: Driven>(
-    rt: &HostRuntime,
-    side: &Side<S>,
-    bytes: &[u8],
-) -> anyhow::Result<bool> {
+pub fn tell_judgement<S: Driven>(side: &Side<S>, bytes: &[u8], output: &mut Output) {
     let answer = side.socket.would_refuse(bytes);
-    println!(rt; "{} refuses: {answer:?}", side.name)?;
-    Ok(true)
+    writeln!(output, "{} refuses: {answer:?}", side.name);
 }
 
-/// `K`: the packet of this number, from 0 on.
-fn tell_packet(
-    rt: &HostRuntime,
-    name: &str,
-    packets: &[Vec<u8>],
-    number: u64,
-) -> anyhow::Result<bool> {
-    let packet = match packets.get(number as usize) {
+/// The packet of this number, from 0 on; an empty one where there is none.
+fn packet_at(packets: &[Vec<u8>], number: u64) -> &[u8] {
+    match packets.get(number as usize) {
         Some(bytes) => bytes.as_slice(),
         None => &[],
-    };
-    let digits = hex::encode(rt.alloc(), packet)?;
-    println!(rt; "{name} bytes {number} {digits}")?;
-    Ok(true)
+    }
+}
+
+/// `K`: this packet.
+fn tell_packet<S>(side: &Side<S>, number: u64, output: &mut Output) {
+    write!(output, "{} bytes {number} ", side.name);
+    tell_hex(packet_at(&side.packets, number), output);
+    writeln!(output, "");
 }
 
 /// `K`: the type of the first chunk of this packet.
-fn tell_type(
-    rt: &HostRuntime,
-    name: &str,
-    packets: &[Vec<u8>],
-    number: u64,
-) -> anyhow::Result<bool> {
-    let kind = match packets.get(number as usize) {
-        Some(bytes) => bytes.get(12).copied(),
-        None => None,
-    };
-    println!(rt; "{name} type {number} {kind:?}")?;
-    Ok(true)
+fn tell_type<S>(side: &Side<S>, number: u64, output: &mut Output) {
+    let kind = packet_at(&side.packets, number).get(12).copied();
+    writeln!(output, "{} type {number} {kind:?}", side.name);
 }
 
 /// Prints what is asked in one word. Answers whether it was understood.
-pub fn ask<S: Driven>(rt: &HostRuntime, side: &Side<S>, verb: &str) -> anyhow::Result<bool> {
+pub fn ask<S: Driven>(side: &Side<S>, verb: &str, output: &mut Output) -> bool {
     match verb {
-        "state" => tell_state(rt, side),
-        "clock" => tell_moments(rt, side),
-        "association" => tell_association(rt, side),
-        "metrics" => tell_metrics(rt, side),
-        "ready" => tell_message(rt, side.name, "ready", side.socket.first_ready()),
-        _ => Ok(false),
+        "state" => tell_state(side, output),
+        "clock" => tell_moments(side, output),
+        "association" => writeln!(
+            output,
+            "{} {:?}",
+            side.name,
+            side.socket.shown().association
+        ),
+        "metrics" => writeln!(output, "{} {:?}", side.name, side.socket.get_metrics()),
+        "ready" => tell_message(side.name, "ready", side.socket.first_ready(), output),
+        _ => return false,
     }
+    true
 }
 
 /// Prints what is asked with numbers. Answers whether it was understood.
-pub fn ask_with<S: Driven>(
-    rt: &HostRuntime,
-    side: &Side<S>,
-    verb: &str,
-    rest: &[&str],
-) -> anyhow::Result<bool> {
+pub fn ask_with<S: Driven>(side: &Side<S>, verb: &str, rest: &[&str], output: &mut Output) -> bool {
     match verb {
-        "stream" => tell_stream(rt, side, half_at(rest, 0)),
-        "show" => tell_packet(rt, side.name, &side.packets, number_at(rest, 0)),
-        "type" => tell_type(rt, side.name, &side.packets, number_at(rest, 0)),
-        _ => Ok(false),
+        "stream" => tell_stream(side, half_at(rest, 0), output),
+        "show" => tell_packet(side, number_at(rest, 0), output),
+        "type" => tell_type(side, number_at(rest, 0), output),
+        _ => return false,
     }
+    true
 }

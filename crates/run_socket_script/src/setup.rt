@@ -1,8 +1,9 @@
 //! What the two sockets of a script are made with.
 
-use crate::payload::{number_at, word_at};
+use crate::output::Output;
+use crate::payload::{number_at, word_at, words_of};
 use sctp_state::Options;
-use std::alloc::{AllocError, Global};
+use std::alloc::Global;
 
 /// The options of an end, and the words that it draws: the first one, and how much each is above the one before.
 #[derive(Clone, Copy)]
@@ -54,7 +55,8 @@ impl Setup {
         }
     }
 
-    fn takes_words(&mut self, words: &[&str]) -> bool {
+    /// `make X` and what `sets` takes. Answers whether the words are such ones.
+    pub fn takes(&mut self, words: &[&str]) -> bool {
         match words {
             ["make", end, verb, rest @ ..] => {
                 if *end == "a" {
@@ -67,9 +69,18 @@ impl Setup {
         }
     }
 
-    /// `make X` and what `sets` takes. Answers whether the line is such a one.
-    pub fn takes(&mut self, alloc: Global, line: &str) -> Result<bool, AllocError> {
-        let words: Vec<&str> = line.split(' ').collect(alloc)?;
-        Ok(self.takes_words(&words))
+    fn take_line(&mut self, alloc: Global, line: &str, output: &mut Output) {
+        let words = words_of(alloc, line, output);
+        self.takes(&words);
+        drop(words);
     }
+}
+
+/// What the lines say that begin with `make`.
+pub fn setup_of(alloc: Global, lines: &str, output: &mut Output) -> Setup {
+    let mut setup = Setup::new();
+    for line in lines.lines() {
+        setup.take_line(alloc, line, output);
+    }
+    setup
 }

@@ -1,8 +1,11 @@
 //! An end, and a script that is run on two of them.
 
 use crate::driven::Driven;
-use crate::moves::run_line;
+use crate::moves::run_lines;
+use crate::output::Output;
+use crate::setup::setup_of;
 use sctp_state::CallError;
+use std::alloc::Global;
 
 /// A socket, and all packets that it emitted.
 pub struct Side<S> {
@@ -11,11 +14,11 @@ pub struct Side<S> {
     pub packets: Vec<Vec<u8>>,
 }
 
-fn new_side<S>(rt: &HostRuntime, name: &'static str, socket: S) -> Side<S> {
+fn new_side<S>(alloc: Global, name: &'static str, socket: S) -> Side<S> {
     Side {
         name,
         socket,
-        packets: Vec::new(rt.alloc()),
+        packets: Vec::new(alloc),
     }
 }
 
@@ -28,24 +31,11 @@ fn close<S: Driven>(side: Side<S>) {
     socket.let_go();
 }
 
-fn run_lines<S: Driven>(
-    rt: &HostRuntime,
-    a: &mut Side<S>,
-    b: &mut Side<S>,
-    script: &str,
-) -> anyhow::Result<()> {
-    for line in script.lines() {
-        run_line(rt, a, b, line)?;
-    }
-    Ok(())
-}
-
-fn converse_as<S: Driven>(rt: &HostRuntime, a: S, b: S, script: &str) -> anyhow::Result<()> {
-    let (mut a, mut b) = (new_side(rt, "a", a), new_side(rt, "b", b));
-    let outcome = run_lines(rt, &mut a, &mut b, script);
+fn converse_as<S: Driven>(alloc: Global, a: S, b: S, lines: &str, output: &mut Output) {
+    let (mut a, mut b) = (new_side(alloc, "a", a), new_side(alloc, "b", b));
+    run_lines(alloc, &mut a, &mut b, lines, output);
     close(a);
     close(b);
-    outcome
 }
 
 fn let_go<S: Driven>(socket: Result<S, CallError>) {
@@ -55,19 +45,17 @@ fn let_go<S: Driven>(socket: Result<S, CallError>) {
     }
 }
 
-/// Runs the lines on the sockets, where both could be made.
-pub fn converse<S: Driven>(
-    rt: &HostRuntime,
-    a: Result<S, CallError>,
-    b: Result<S, CallError>,
-    script: &str,
-) -> anyhow::Result<()> {
+/// Runs the lines on two new sockets, where both could be made.
+pub fn converse<S: Driven>(alloc: Global, lines: &str, output: &mut Output) {
+    let setup = setup_of(alloc, lines, output);
+    let a: Result<S, CallError> = S::made(alloc, "a", &setup.a);
+    let b: Result<S, CallError> = S::made(alloc, "b", &setup.b);
     match (a, b) {
-        (Ok(a), Ok(b)) => converse_as(rt, a, b, script),
+        (Ok(a), Ok(b)) => converse_as(alloc, a, b, lines, output),
         (a, b) => {
             let_go(a);
             let_go(b);
-            Ok(println!(rt; "no sockets")?)
+            writeln!(output, "no sockets");
         }
     }
 }

@@ -1,11 +1,11 @@
 //! What a socket emits, and what it answers, is printed.
 
 use crate::driven::Driven;
-use crate::payload::payload_text;
+use crate::output::Output;
+use crate::payload::tell_payload;
 use crate::side::Side;
 use sctp_serial::{Message, StreamId};
-use sctp_state::{GivenUp, SocketEvent};
-use std::alloc::{AllocError, Global};
+use sctp_state::SocketEvent;
 use std::fmt::Debug;
 
 /// More events are not looked for at once.
@@ -13,28 +13,17 @@ const MANY: u32 = 10_000;
 
 /// Keeps a packet, and prints its number and length unless `is_quiet`.
 fn keep_packet(
-    rt: &HostRuntime,
     name: &str,
     packets: &mut Vec<Vec<u8>>,
     bytes: Vec<u8>,
     is_quiet: bool,
-) -> anyhow::Result<()> {
-    let (number, size) = (packets.len(), bytes.len());
-    packets.push(bytes)?;
+    output: &mut Output,
+) {
     if !is_quiet {
-        println!(rt; "{name} packet {number} {size}")?;
+        let (number, size) = (packets.len(), bytes.len());
+        writeln!(output, "{name} packet {number} {size}");
     }
-    Ok(())
-}
-
-/// The numbers of streams, those of a row of streams as its first and last one.
-fn streams_text(alloc: Global, streams: &[StreamId]) -> Result<String, AllocError> {
-    match (streams.first(), streams.last()) {
-        (Some(first), Some(last)) if is_row(first.0, streams) => {
-            format!(in alloc; "{first}-{last}")
-        }
-        _ => format!(in alloc; "{streams:?}"),
-    }
+    output.note(packets.push(bytes));
 }
 
 /// Whether each stream is the one behind the one before.
@@ -49,99 +38,87 @@ fn is_row(first: u16, streams: &[StreamId]) -> bool {
     true
 }
 
-fn tell_streams(
-    rt: &HostRuntime,
-    name: &str,
-    what: &str,
-    streams: &[StreamId],
-) -> anyhow::Result<()> {
-    let streams = streams_text(rt.alloc(), streams)?;
-    println!(rt; "{name} {what} {streams}")?;
-    Ok(())
+/// The numbers of streams, those of a row of streams as its first and last one.
+fn tell_streams(name: &str, what: &str, streams: &[StreamId], output: &mut Output) {
+    match (streams.first(), streams.last()) {
+        (Some(first), Some(last)) if is_row(first.0, streams) => {
+            writeln!(output, "{name} {what} {first}-{last}");
+        }
+        _ => writeln!(output, "{name} {what} {streams:?}"),
+    }
 }
 
-fn tell_event(rt: &HostRuntime, name: &str, event: &SocketEvent) -> anyhow::Result<()> {
+fn tell_event(name: &str, event: &SocketEvent, output: &mut Output) {
     match event {
         SocketEvent::OnStreamsResetPerformed(streams) => {
-            tell_streams(rt, name, "OnStreamsResetPerformed", streams)
+            tell_streams(name, "OnStreamsResetPerformed", streams, output);
         }
         SocketEvent::OnIncomingStreamReset(streams) => {
-            tell_streams(rt, name, "OnIncomingStreamReset", streams)
+            tell_streams(name, "OnIncomingStreamReset", streams, output);
         }
-        event => Ok(println!(rt; "{name} {event:?}")?),
+        event => writeln!(output, "{name} {event:?}"),
     }
 }
 
 fn take_event(
-    rt: &HostRuntime,
     name: &str,
     packets: &mut Vec<Vec<u8>>,
     event: SocketEvent,
     is_quiet: bool,
-) -> anyhow::Result<()> {
+    output: &mut Output,
+) {
     match event {
-        SocketEvent::SendPacket(bytes) => keep_packet(rt, name, packets, bytes, is_quiet),
+        SocketEvent::SendPacket(bytes) => keep_packet(name, packets, bytes, is_quiet, output),
         event => {
-            let outcome = tell_event(rt, name, &event);
+            tell_event(name, &event, output);
             drop(event);
-            outcome
         }
     }
 }
 
-fn tell_given_up(rt: &HostRuntime, name: &str, gone: GivenUp) -> anyhow::Result<()> {
-    println!(rt; "{name} given-up {} {:?}", gone.number, gone.cause)?;
-    Ok(())
+fn take_events<S: Driven>(side: &mut Side<S>, is_quiet: bool, output: &mut Output) {
+    for _ in 0..MANY {
+        match side.socket.poll_event() {
+            Some(event) => take_event(side.name, &mut side.packets, event, is_quiet, output),
+            None => break,
+        }
+    }
+}
+
+fn take_given_up<S: Driven>(side: &mut Side<S>, output: &mut Output) {
+    for _ in 0..MANY {
+        match side.socket.next_gone() {
+            Some(gone) => writeln!(
+                output,
+                "{} given-up {} {:?}",
+                side.name, gone.number, gone.cause
+            ),
+            None => break,
+        }
+    }
 }
 
 /// What a socket has emitted since it was looked at last. Packets are kept, and not printed where `is_quiet`.
-pub fn take_told<S: Driven>(
-    rt: &HostRuntime,
-    side: &mut Side<S>,
-    is_quiet: bool,
-) -> anyhow::Result<()> {
-    for _ in 0..MANY {
-        match side.socket.poll_event() {
-            Some(event) => take_event(rt, side.name, &mut side.packets, event, is_quiet)?,
-            None => break,
-        }
-    }
-    for _ in 0..MANY {
-        match side.socket.next_gone() {
-            Some(gone) => tell_given_up(rt, side.name, gone)?,
-            None => break,
-        }
-    }
-    Ok(())
+pub fn take_told<S: Driven>(side: &mut Side<S>, is_quiet: bool, output: &mut Output) {
+    take_events(side, is_quiet, output);
+    take_given_up(side, output);
 }
 
 /// Prints why a call was refused.
-pub fn tell_refusal<E: Debug + Drop>(
-    rt: &HostRuntime,
-    name: &str,
-    answer: Result<(), E>,
-) -> anyhow::Result<bool> {
+pub fn tell_refusal<E: Debug + Drop>(name: &str, answer: Result<(), E>, output: &mut Output) {
     if let Err(refusal) = answer {
-        println!(rt; "{name} refused {refusal:?}")?;
+        writeln!(output, "{name} refused {refusal:?}");
     }
-    Ok(true)
 }
 
-pub fn tell_message(
-    rt: &HostRuntime,
-    name: &str,
-    what: &str,
-    message: Option<&Message>,
-) -> anyhow::Result<bool> {
+pub fn tell_message(name: &str, what: &str, message: Option<&Message>, output: &mut Output) {
     match message {
         Some(message) => {
-            let text = payload_text(rt.alloc(), &message.payload)?;
-            println!(rt;
-                "{name} {what} {} {} {text}",
-                message.stream_id, message.ppid
-            )?;
+            let (stream, ppid) = (message.stream_id, message.ppid);
+            write!(output, "{name} {what} {stream} {ppid} ");
+            tell_payload(&message.payload, output);
+            writeln!(output, "");
         }
-        None => println!(rt; "{name} {what} none")?,
+        None => writeln!(output, "{name} {what} none"),
     }
-    Ok(true)
 }
