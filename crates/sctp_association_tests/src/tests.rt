@@ -17,7 +17,7 @@ use sctp_wire::Checksum;
 use std::alloc::{AllocError, Global};
 
 /// The word 7, whatever the bytes are.
-#[derive(Clone, Copy, Drop)]
+#[derive(Clone, Copy, Default, Drop)]
 struct Seven;
 
 impl Checksum for Seven {
@@ -44,48 +44,54 @@ fn built(packet: &mut OutgoingPacket) -> Result<Option<Vec<u8>>, AllocError> {
     Ok(Some(packet.build(5000, 5000, &Seven)?))
 }
 
+/// Whether these are the bytes of `COOKIE_ACK`.
+fn is_cookie_ack(bytes: Option<Vec<u8>>) -> bool {
+    match bytes {
+        Some(bytes) => bytes.as_slice() == COOKIE_ACK,
+        None => false,
+    }
+}
+
 /// The packet is handed out once, and is empty then.
-fn is_handed_out_once(alloc: Global) -> Result<bool, AllocError> {
-    let mut packet = OutgoingPacket::new(alloc, 321, 1188);
+fn is_handed_out_once(packet: &mut OutgoingPacket) -> Result<bool, AllocError> {
     let before = packet.is_empty() && packet.bytes_remaining() == 1176;
     packet.add(cookie_ack())?;
     let between = !packet.is_empty() && packet.bytes_remaining() == 1172;
-    let bytes = built(&mut packet)?;
-    let right = match &bytes {
-        Some(bytes) => bytes.as_slice() == COOKIE_ACK,
-        None => false,
-    };
-    Ok(before && between && right && packet.is_empty())
+    let is_right = is_cookie_ack(built(packet)?);
+    Ok(before && between && is_right && packet.is_empty())
 }
 
 #[test]
-fn a_packet_is_handed_out_once(rt: HostRuntime) -> Result<(), AllocError> {
-    assert!(rt; is_handed_out_once(rt.alloc())?);
-    Ok(())
+fn a_packet_is_handed_out_once(rt: HostRuntime) {
+    let mut packet = OutgoingPacket::new(rt.alloc(), 321, 1188);
+    let outcome = is_handed_out_once(&mut packet);
+    drop(packet);
+    assert!(rt; outcome == Ok(true));
 }
 
 /// Without a checksum the field is zero.
-fn goes_unsummed(alloc: Global) -> Result<bool, AllocError> {
-    let mut packet = OutgoingPacket::new(alloc, 321, 1188);
+fn goes_unsummed(packet: &mut OutgoingPacket) -> Result<bool, AllocError> {
     packet.write_checksum(false);
     packet.add(cookie_ack())?;
-    match built(&mut packet)? {
+    match built(packet)? {
         Some(bytes) => Ok(bytes.len() == 16 && bytes[8..12] == [0, 0, 0, 0]),
         None => Ok(false),
     }
 }
 
 #[test]
-fn a_packet_goes_without_a_checksum(rt: HostRuntime) -> Result<(), AllocError> {
-    assert!(rt; goes_unsummed(rt.alloc())?);
-    Ok(())
+fn a_packet_goes_without_a_checksum(rt: HostRuntime) {
+    let mut packet = OutgoingPacket::new(rt.alloc(), 321, 1188);
+    let outcome = goes_unsummed(&mut packet);
+    drop(packet);
+    assert!(rt; outcome == Ok(true));
 }
 
 /// A cookie of 300 bytes fits no packet of 256.
-fn leaves_out_what_does_not_fit(alloc: Global) -> Result<bool, AllocError> {
-    let mut packet = OutgoingPacket::new(alloc, 321, 256);
-    let mut cookie = Vec::new(alloc);
-    cookie.resize(300, 0)?;
+fn leaves_out_what_does_not_fit(
+    packet: &mut OutgoingPacket,
+    cookie: Vec<u8>,
+) -> Result<bool, AllocError> {
     let chunk = Chunk::CookieEcho(CookieEchoChunk { cookie });
     let fits = packet.fits(&chunk);
     packet.add(chunk)?;
@@ -94,7 +100,11 @@ fn leaves_out_what_does_not_fit(alloc: Global) -> Result<bool, AllocError> {
 
 #[test]
 fn what_does_not_fit_is_left_out(rt: HostRuntime) -> Result<(), AllocError> {
-    assert!(rt; leaves_out_what_does_not_fit(rt.alloc())?);
+    let cookie = vec![in rt.alloc(); 0; 300]?;
+    let mut packet = OutgoingPacket::new(rt.alloc(), 321, 256);
+    let outcome = leaves_out_what_does_not_fit(&mut packet, cookie);
+    drop(packet);
+    assert!(rt; outcome == Ok(true));
     Ok(())
 }
 
@@ -117,22 +127,25 @@ fn block(alloc: Global, capabilities: Capabilities) -> TransmissionControlBlock
     )
 }
 
-/// Packets to the peer have its tag, and 1,188 bytes with default options.
-fn addresses(alloc: Global, tcb: &TransmissionControlBlock) -> Result<bool, AllocError> {
-    let mut packet = tcb.new_packet(alloc, &Options::default());
-    let room = packet.bytes_remaining() == 1176;
+/// The packet has 1,188 bytes, and the tag of `COOKIE_ACK`.
+fn is_addressed(packet: &mut OutgoingPacket) -> Result<bool, AllocError> {
+    let has_room = packet.bytes_remaining() == 1176;
     packet.add(cookie_ack())?;
-    let right = match built(&mut packet)? {
-        Some(bytes) => bytes.as_slice() == COOKIE_ACK,
-        None => false,
-    };
-    Ok(room && right)
+    Ok(is_cookie_ack(built(packet)?) && has_room)
+}
+
+/// Packets to the peer have its tag, and 1,188 bytes with default options.
+fn addresses(alloc: Global, tcb: &TransmissionControlBlock) -> bool {
+    let mut packet = tcb.new_packet(alloc, &Options::default());
+    let outcome = is_addressed(&mut packet);
+    drop(packet);
+    outcome == Ok(true)
 }
 
 /// TSNs begin at the first ones.
 fn begins(alloc: Global) -> bool {
     let tcb = block(alloc, Capabilities::default());
-    let begins = addresses(alloc, &tcb) == Ok(true)
+    let begins = addresses(alloc, &tcb)
         && tcb.retransmission_queue.next_tsn() == Tsn(10)
         && tcb.data_tracker.last_cumulative_acked_tsn() == Tsn(19);
     tcb.let_go();

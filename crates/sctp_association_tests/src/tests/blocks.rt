@@ -26,22 +26,15 @@ fn is_changed(alloc: Global) -> bool {
     is_changed
 }
 
+/// A state without a control block lends none.
 fn lends_nothing(mut state: State) -> bool {
     let lends_nothing = state.tcb().is_none() && state.tcb_mut().is_none();
     state.let_go();
     lends_nothing
 }
 
-fn lends(alloc: Global) -> bool {
-    let state = opened(alloc);
-    let lends = state.tcb().is_some();
-    state.let_go();
-    lends
-}
-
 #[test]
 fn a_state_lends_its_control_block(rt: HostRuntime) {
-    assert!(rt; lends(rt.alloc()));
     assert!(rt; lends_nothing(State::Closed));
     assert!(rt; is_changed(rt.alloc()));
 }
@@ -120,16 +113,6 @@ fn streams_are_asked_for(rt: HostRuntime) {
     assert!(rt; is_asked_again(rt.alloc()));
 }
 
-/// The record of an idle block.
-fn record_of(
-    alloc: Global,
-    tcb: &TransmissionControlBlock,
-) -> Result<SocketHandoverState, AllocError> {
-    let mut state = SocketHandoverState::empty(alloc);
-    tcb.add_to_handover_state(SocketTime::zero(), &mut state)?;
-    Ok(state)
-}
-
 /// A new block takes up the record.
 fn takes_up(alloc: Global, state: &SocketHandoverState) -> bool {
     if !state.is_valid() {
@@ -153,15 +136,16 @@ fn takes_up(alloc: Global, state: &SocketHandoverState) -> bool {
     goes_on
 }
 
+/// The record of an idle block is taken up.
 fn is_taken_up(alloc: Global) -> bool {
+    let mut state = SocketHandoverState::empty(alloc);
     let tcb = block(alloc, Capabilities::default());
-    let record = record_of(alloc, &tcb);
     let is_ready = tcb.get_handover_readiness(true).is_ready();
+    let outcome = tcb.add_to_handover_state(SocketTime::zero(), &mut state);
     tcb.let_go();
-    match record {
-        Ok(state) => is_ready && takes_up(alloc, &state),
-        Err(_) => false,
-    }
+    let is_taken_up = is_ready && outcome.is_ok() && takes_up(alloc, &state);
+    drop(state);
+    is_taken_up
 }
 
 #[test]

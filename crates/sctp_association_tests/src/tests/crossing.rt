@@ -1,8 +1,10 @@
 //! A message that crosses, and the SACK that comes back.
 
-use crate::tests::opening::{Fault, Watched, answers, hears, lacks, packet, right};
+use crate::tests::opening::{
+    Fault, Told, Watched, answers, hears, lacks, next_told, packet, right,
+};
 use sctp_association::{DcSctpSocket, Message, PpId, SendOptions, StreamId};
-use sctp_state::{SendError, SocketEvent};
+use sctp_state::SendError;
 use std::alloc::Global;
 
 const PAYLOAD: &[u8] = &[1, 2, 3];
@@ -16,10 +18,8 @@ fn message(alloc: Global) -> Result<Message, Fault> {
 
 /// All of the stream's bytes have left, and the packet that they left in.
 fn tells_sent<S: Watched>(socket: &mut S) -> Result<Vec<u8>, Fault> {
-    match socket.poll_event() {
-        Some(SocketEvent::OnBufferedAmountLow(StreamId(1))) => packet(socket),
-        _ => Err(Fault::Wrong),
-    }
+    right(matches!(next_told(socket), Told::Sent))?;
+    packet(socket)
 }
 
 fn sends<S: Watched>(socket: &mut S, message: Message) -> Result<Vec<u8>, Fault> {

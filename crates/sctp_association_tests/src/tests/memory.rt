@@ -3,7 +3,9 @@
 
 use crate::tests::Seven;
 use crate::tests::crossing::crosses;
-use crate::tests::opening::{Fault, Watched, lacks, opens, right, tells_closed, tells_connected};
+use crate::tests::opening::{
+    Fault, Told, Watched, is_mute, lacks, next_told, opens, right, tells_connected,
+};
 use rand_core::Rng;
 use rand_pcg::Pcg32;
 use sctp_association::{Association, DcSctpSocket, Socket};
@@ -13,7 +15,28 @@ use sctp_state::{
 use sctp_wire::Checksum;
 use std::alloc::Global;
 
-impl<R: Rng + Drop, C: Checksum + Drop> Watched for Socket<R, C> {
+/// A generator that is made of one number.
+trait Seeded: Rng {
+    fn seeded(words: u64) -> Self;
+}
+
+impl Seeded for Pcg32 {
+    fn seeded(words: u64) -> Pcg32 {
+        Pcg32::new(words, words)
+    }
+}
+
+impl<R: Seeded + Drop, C: Checksum + Default + Drop> Watched for Socket<R, C> {
+    fn made(alloc: Global, name: &str, words: u64) -> Result<Socket<R, C>, CallError> {
+        Socket::new(
+            alloc,
+            name,
+            &Options::default(),
+            R::seeded(words),
+            C::default(),
+        )
+    }
+
     fn joined(&self) -> Option<Association> {
         self.association()
     }
@@ -27,43 +50,10 @@ impl<R: Rng + Drop, C: Checksum + Drop> Watched for Socket<R, C> {
     }
 }
 
-/// A new one with default options, which draws the words that begin so.
-fn made(alloc: Global, name: &str, words: u64) -> Result<Socket<Pcg32, Seven>, CallError> {
-    Socket::new(
-        alloc,
-        name,
-        &Options::default(),
-        Pcg32::new(words, words),
-        Seven,
-    )
-}
-
-/// The record of an idle end, which emits that it is closed, and nothing else.
-fn hands_over<S: Watched>(socket: &mut S) -> Result<SocketHandoverState, Fault> {
-    right(socket.get_handover_readiness().is_ready())?;
-    match socket.get_handover_state_and_close() {
-        Ok(state) => is_over(socket, state),
-        Err(HandoverError::Memory) => Err(lacks(socket)),
-        Err(_) => Err(Fault::Wrong),
-    }
-}
-
+/// A socket that was handed over emits that it is closed, and nothing else.
 fn tells_its_end<S: Watched>(socket: &mut S) -> Result<(), Fault> {
-    tells_closed(socket)?;
-    right(socket.poll_event().is_none() && socket.joined().is_none())
-}
-
-fn is_over<S: Watched>(
-    socket: &mut S,
-    state: SocketHandoverState,
-) -> Result<SocketHandoverState, Fault> {
-    match tells_its_end(socket) {
-        Ok(()) => Ok(state),
-        Err(fault) => {
-            drop(state);
-            Err(fault)
-        }
-    }
+    right(matches!(next_told(socket), Told::Closed))?;
+    right(is_mute(socket) && socket.joined().is_none())
 }
 
 fn takes<S: Watched>(socket: &mut S, state: &SocketHandoverState) -> Result<(), Fault> {
@@ -82,7 +72,7 @@ fn refuses<S: Watched>(
 ) -> Result<(), Fault> {
     let association = socket.joined();
     right(socket.restore_from_state(state) == Err(reason))?;
-    right(socket.joined() == association && socket.poll_event().is_none())
+    right(socket.joined() == association && is_mute(socket))
 }
 
 /// An invalid record is refused by a new socket, and any by the connected `b`.
@@ -100,15 +90,32 @@ fn refuse<S: Watched>(
     refuses(b, state, RestoreError::SocketNotClosed)
 }
 
-/// The new socket takes the record, and emits that it is connected.
+/// The new socket takes the record of `a`, and emits that it is connected.
 fn takes_over<S: Watched>(
+    a: &mut S,
     b: &mut S,
     new: &mut S,
     state: &mut SocketHandoverState,
 ) -> Result<(), Fault> {
+    tells_its_end(a)?;
     refuse(b, new, state)?;
     takes(new, state)?;
     tells_connected(new)
+}
+
+/// The idle `a` is handed over.
+fn hands_over<S: Watched>(a: &mut S, b: &mut S, new: &mut S) -> Result<(), Fault> {
+    right(a.get_handover_readiness().is_ready())?;
+    match a.get_handover_state_and_close() {
+        Ok(state) => {
+            let mut state = state;
+            let outcome = takes_over(a, b, new, &mut state);
+            drop(state);
+            outcome
+        }
+        Err(HandoverError::Memory) => Err(lacks(a)),
+        Err(_) => Err(Fault::Wrong),
+    }
 }
 
 /// The new socket takes the place of `a`, whose message has crossed.
@@ -116,11 +123,8 @@ fn goes_on<S: Watched>(alloc: Global, a: &mut S, b: &mut S, new: &mut S) -> Resu
     opens(a, b)?;
     crosses(alloc, a, b)?;
     let association = a.joined();
-    let mut state = hands_over(a)?;
-    let outcome = takes_over(b, new, &mut state);
-    drop(state);
-    outcome?;
-    right(new.poll_event().is_none() && new.joined() == association)
+    hands_over(a, b, new)?;
+    right(is_mute(new) && new.joined() == association)
 }
 
 fn let_go<S: Watched>(socket: Result<S, CallError>) {
@@ -130,12 +134,10 @@ fn let_go<S: Watched>(socket: Result<S, CallError>) {
     }
 }
 
-fn three_go_on<S: Watched>(
-    alloc: Global,
-    mut a: Result<S, CallError>,
-    mut b: Result<S, CallError>,
-    mut new: Result<S, CallError>,
-) -> Result<(), Fault> {
+fn three_go_on<S: Watched>(alloc: Global) -> Result<(), Fault> {
+    let mut a: Result<S, CallError> = S::made(alloc, "a", 1);
+    let mut b: Result<S, CallError> = S::made(alloc, "b", 2);
+    let mut new: Result<S, CallError> = S::made(alloc, "new", 3);
     let outcome = match (&mut a, &mut b, &mut new) {
         (Ok(a), Ok(b), Ok(new)) => goes_on(alloc, a, b, new),
         _ => Err(Fault::Memory),
@@ -147,9 +149,7 @@ fn three_go_on<S: Watched>(
 }
 
 fn is_handed_over(alloc: Global) -> Result<(), Fault> {
-    let a = made(alloc, "a", 1);
-    let b = made(alloc, "b", 2);
-    three_go_on(alloc, a, b, made(alloc, "new", 3))
+    three_go_on::<Socket<Pcg32, Seven>>(alloc)
 }
 
 #[test]
