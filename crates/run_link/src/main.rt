@@ -14,6 +14,7 @@ use sctp_association::{
     SocketState, SocketTime, StreamId,
 };
 use soak::{Plan, Soaked, plan_of, soak};
+use std::io;
 
 /// More turns, or events of one turn, are not looked for.
 const MANY: u32 = 1000;
@@ -54,6 +55,12 @@ fn new_end<S>(rt: &HostRuntime, socket: S) -> End<S> {
     }
 }
 
+impl<S: Soaked> End<S> {
+    fn let_go(self) {
+        self.socket.let_go();
+    }
+}
+
 /// One turn: what came is handed in, the time is advanced, and all that the socket emits and has ready is taken. Answers by which moment
 /// the time is to be advanced again.
 fn turn<S: DcSctpSocket>(end: &mut End<S>, now: SocketTime) -> Result<SocketTime> {
@@ -79,13 +86,15 @@ fn turn<S: DcSctpSocket>(end: &mut End<S>, now: SocketTime) -> Result<SocketTime
 
 /// Prints what the socket emitted and handed out.
 fn show<S>(rt: &HostRuntime, name: &str, end: &mut End<S>) -> Result<()> {
-    for event in end.events.drain(..) {
+    for event in &end.events {
         println!(rt; "{name} {event:?}")?;
     }
-    for message in end.messages.drain(..) {
+    end.events.clear();
+    for message in &end.messages {
         println!(rt; "{name} has {:?}", message.payload)?;
         end.message_count = end.message_count.wrapping_add(1);
     }
+    end.messages.clear();
     Ok(())
 }
 
@@ -144,43 +153,49 @@ fn meet<S: Soaked>(rt: &HostRuntime, a: S, b: S, plan: Option<Plan>) -> Result<(
     }
     let (mut a, mut b) = (new_end(rt, a), new_end(rt, b));
     let outcome = talk(rt, &mut a, &mut b);
-    a.socket.let_go();
-    b.socket.let_go();
+    a.let_go();
+    b.let_go();
     outcome
 }
 
 type Linked = Socket<Pcg32, OneWord>;
 
-fn sockets(rt: &HostRuntime) -> Result<(Linked, Linked), CallError> {
-    let options = Options::default();
-    let a = Socket::new(rt.alloc(), "a", &options, Pcg32::new(1, 1), OneWord)?;
-    match Socket::new(rt.alloc(), "b", &options, Pcg32::new(2, 2), OneWord) {
-        Ok(b) => Ok((a, b)),
-        Err(fault) => {
-            a.let_go();
-            Err(fault)
-        }
-    }
+fn new_socket(rt: &HostRuntime, name: &str, seed: u64) -> Result<Linked, CallError> {
+    let rng = Pcg32::new(seed, seed);
+    Socket::new(rt.alloc(), name, &Options::default(), rng, OneWord)
 }
 
 fn converse(rt: &HostRuntime, plan: Option<Plan>) -> Result<()> {
-    let (a, b) = sockets(rt)?;
-    meet(rt, a, b, plan)
+    let a = new_socket(rt, "a", 1)?;
+    match new_socket(rt, "b", 2) {
+        Ok(b) => meet(rt, a, b, plan),
+        Err(fault) => {
+            a.let_go();
+            Err(fault.into())
+        }
+    }
 }
 
 fn answer(rt: &HostRuntime, line: &str) -> Result<()> {
     if line.starts_with('#') {
         return Ok(println!(rt; "{line}")?);
     }
-    match plan_of(rt.alloc(), line)? {
+    match plan_of(line) {
         None if line != "talk" => Ok(println!(rt; "? {line}")?),
         plan => converse(rt, plan),
     }
 }
 
-fn main(rt: HostRuntime) -> Result<()> {
-    for line in rt.lines(rt.alloc()) {
-        answer(&rt, &line?)?;
+fn answer_all(rt: &HostRuntime, input: &str) -> Result<()> {
+    for line in input.lines() {
+        answer(rt, line)?;
     }
     Ok(())
+}
+
+fn main(rt: HostRuntime) -> Result<()> {
+    let input = io::read_to_string(rt.alloc(), rt.reader())?;
+    let outcome = answer_all(&rt, &input);
+    drop(input);
+    outcome
 }

@@ -15,34 +15,33 @@ pub use end::Soaked;
 use link::Link;
 pub use messages::Plan;
 use rand_pcg::Pcg32;
-use std::alloc::{AllocError, Global};
 
-fn numbers_of(alloc: Global, words: &str) -> Result<Vec<u32>, AllocError> {
-    let mut numbers = Vec::new(alloc);
-    for word in words.split(' ') {
-        numbers.push(word.parse::<u32>().unwrap_or(0))?;
+fn number(word: Option<&str>) -> u32 {
+    match word {
+        Some(word) => word.parse::<u32>().unwrap_or(0),
+        None => 0,
     }
-    Ok(numbers)
 }
 
 /// `[packets] COUNT SEED LOST TWICE LATE RESET FIRST`: how many messages each end sends, the seed of the link, of how many packets one is
 /// lost, one is given twice and one comes late (0: none), after how many messages a stream is reset (0: never), and after how many messages
 /// the sockets are looked at first.
-pub fn plan_of(alloc: Global, line: &str) -> Result<Option<Plan>, AllocError> {
-    let numbers = numbers_of(alloc, line.strip_prefix("packets ").unwrap_or(line))?;
-    Ok(match numbers.as_slice() {
-        [count, seed, lost, twice, late, reset, first] => Some(Plan {
-            count: *count,
-            seed: *seed,
-            lost: *lost,
-            twice: *twice,
-            late: *late,
-            reset: *reset,
-            first: *first,
-            shows_packets: line.starts_with("packets "),
-        }),
-        _ => None,
-    })
+pub fn plan_of(line: &str) -> Option<Plan> {
+    let mut words = line.strip_prefix("packets ").unwrap_or(line).split(' ');
+    let plan = Plan {
+        count: number(words.next()),
+        seed: number(words.next()),
+        lost: number(words.next()),
+        twice: number(words.next()),
+        late: number(words.next()),
+        reset: number(words.next()),
+        first: number(Some(words.next()?)),
+        shows_packets: line.starts_with("packets "),
+    };
+    match words.next() {
+        Some(_) => None,
+        None => Some(plan),
+    }
 }
 
 /// Runs a conversation of two new sockets.

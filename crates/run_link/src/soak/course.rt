@@ -1,43 +1,43 @@
 //! The course of a conversation.
 
-use crate::soak::end::{End, Soaked, expect_all, new_end, send, turn};
+use crate::soak::end::{Counts, Soaked, Talker, act, new_talker};
 use crate::soak::link::{Link, carry};
 use crate::soak::messages::{Plan, STREAMS};
 use anyhow::Result;
 use rand_core::Rng;
-use sctp_association::{HandoverReadiness, SocketTime, StreamId};
+use sctp_association::{DcSctpSocket, HandoverReadiness, SocketTime, StreamId};
 use std::time::Duration;
 
 /// A turn takes so many milliseconds.
 const TURN: u64 = 5;
 
 /// The time passes by a turn; where nothing is under way, up to the moment at which a socket has something to do.
-fn pass<S: Soaked>(a: &End<S>, b: &End<S>, now: SocketTime) -> SocketTime {
+fn pass<S: Soaked>(a: &Talker<S>, b: &Talker<S>, now: SocketTime) -> SocketTime {
     let soon = now + Duration::from_millis(TURN);
     if is_empty(a) && is_empty(b) {
-        soon.max(a.socket.poll_timeout().min(b.socket.poll_timeout()))
+        soon.max(a.end.socket.poll_timeout().min(b.end.socket.poll_timeout()))
     } else {
         soon
     }
 }
 
-fn is_empty<S>(end: &End<S>) -> bool {
-    end.came.is_empty() && end.late.is_empty()
+fn is_empty<S>(talker: &Talker<S>) -> bool {
+    talker.end.came.is_empty() && talker.late.is_empty()
 }
 
 /// Whether the end has sent so many messages, and holds nothing of them or of the other's.
-fn is_quiet<S: Soaked>(end: &End<S>, count: u32) -> bool {
-    end.accepted == count
-        && end.due.is_none()
-        && is_empty(end)
-        && end.socket.rests()
-        && end.socket.get_handover_readiness() == HandoverReadiness::READY
+fn is_quiet<S: Soaked>(talker: &Talker<S>, count: u32) -> bool {
+    talker.counts.accepted == count
+        && talker.due.is_none()
+        && is_empty(talker)
+        && talker.end.socket.rests()
+        && talker.end.socket.get_handover_readiness() == HandoverReadiness::READY
 }
 
 /// Goes on until each end has sent so many messages and all is quiet. Answers what time it is then.
 fn go_on<S: Soaked, R: Rng>(
-    a: &mut End<S>,
-    b: &mut End<S>,
+    a: &mut Talker<S>,
+    b: &mut Talker<S>,
     link: &mut Link<R>,
     start: SocketTime,
     plan: Plan,
@@ -45,10 +45,8 @@ fn go_on<S: Soaked, R: Rng>(
     let mut now = start;
     let turns = u64::from(plan.count) * 20 + 100_000;
     for _ in 0..turns {
-        send(a, plan.count, plan.reset)?;
-        send(b, plan.count, plan.reset)?;
-        turn(a, now)?;
-        turn(b, now)?;
+        act(a, now, plan)?;
+        act(b, now, plan)?;
         carry(link, a, b)?;
         carry(link, b, a)?;
         if is_quiet(a, plan.count) && is_quiet(b, plan.count) {
@@ -59,22 +57,26 @@ fn go_on<S: Soaked, R: Rng>(
     Ok(now)
 }
 
-fn queued<S: Soaked>(end: &End<S>) -> usize {
+fn queued<S: DcSctpSocket>(socket: &S) -> usize {
     let mut bytes = 0usize;
     for stream in 0..STREAMS {
-        bytes = bytes.saturating_add(end.socket.buffered_amount(StreamId(stream)));
+        bytes = bytes.saturating_add(socket.buffered_amount(StreamId(stream as u16)));
     }
     bytes
 }
 
-/// What the socket holds: of its own messages and of the peer's.
-fn tell_held<S: Soaked>(rt: &HostRuntime, name: &str, end: &End<S>) -> Result<()> {
-    let (bytes, ready) = (queued(end), end.socket.messages_ready_count());
-    let outstanding = match end.socket.get_metrics() {
+fn outstanding<S: DcSctpSocket>(socket: &S) -> usize {
+    match socket.get_metrics() {
         Some(metrics) => metrics.unack_data_count,
         None => 0,
-    };
-    let (rests, readiness) = (end.socket.rests(), end.socket.get_handover_readiness());
+    }
+}
+
+/// What the socket holds: of its own messages and of the peer's.
+fn tell_held<S: Soaked>(rt: &HostRuntime, name: &str, socket: &S) -> Result<()> {
+    let (bytes, ready) = (queued(socket), socket.messages_ready_count());
+    let outstanding = outstanding(socket);
+    let (rests, readiness) = (socket.rests(), socket.get_handover_readiness());
     println!(rt;
         "{name} holds {bytes} bytes queued, {outstanding} outstanding, {ready} ready; at rest: {rests} ({readiness})"
     )?;
@@ -82,25 +84,25 @@ fn tell_held<S: Soaked>(rt: &HostRuntime, name: &str, end: &End<S>) -> Result<()
 }
 
 /// What has to hold of each conversation.
-fn tell_counts<S>(rt: &HostRuntime, name: &str, end: &End<S>, peer: &End<S>) -> Result<()> {
+fn tell_counts(rt: &HostRuntime, name: &str, own: &Counts, peer: &Counts) -> Result<()> {
     println!(rt;
         "{name} sent {} messages and reset {} streams, of which it was told {} times; {} errors",
-        end.accepted, end.resets, end.reset_events, end.errors
+        own.accepted, own.resets, own.reset_events, own.errors
     )?;
-    let others = u64::from(end.partial) + u64::from(peer.gone);
+    let others = u64::from(own.partial) + u64::from(peer.gone);
     let is_whole = others >= u64::from(peer.accepted / 3);
     println!(rt;
         "{name} has {} reliable messages, {} out of place; each other one came or was given up: {is_whole}",
-        end.reliable, end.wrong
+        own.reliable, own.wrong
     )?;
     Ok(())
 }
 
 /// What differs from one way of sending to another.
-fn tell_packets<S>(rt: &HostRuntime, name: &str, end: &End<S>) -> Result<()> {
+fn tell_packets(rt: &HostRuntime, name: &str, own: &Counts) -> Result<()> {
     println!(rt;
         "{name} sent {} packets, of which {} were lost, and gave up {} messages; it has {} partially reliable ones",
-        end.packets, end.lost, end.gone, end.partial
+        own.packets, own.lost, own.gone, own.partial
     )?;
     Ok(())
 }
@@ -108,35 +110,47 @@ fn tell_packets<S>(rt: &HostRuntime, name: &str, end: &End<S>) -> Result<()> {
 fn tell<S: Soaked>(
     rt: &HostRuntime,
     name: &str,
-    end: &End<S>,
-    peer: &End<S>,
+    talker: &Talker<S>,
+    peer: &Counts,
     plan: Plan,
 ) -> Result<()> {
-    tell_counts(rt, name, end, peer)?;
+    tell_counts(rt, name, &talker.counts, peer)?;
     if plan.shows_packets {
-        tell_packets(rt, name, end)?;
+        tell_packets(rt, name, &talker.counts)?;
     }
-    tell_held(rt, name, end)
+    tell_held(rt, name, &talker.end.socket)
+}
+
+/// Both ends send so many messages; then what they hold is printed. Answers what time it is then.
+fn go_on_and_tell<S: Soaked, R: Rng>(
+    rt: &HostRuntime,
+    a: &mut Talker<S>,
+    b: &mut Talker<S>,
+    link: &mut Link<R>,
+    start: SocketTime,
+    plan: Plan,
+) -> Result<SocketTime> {
+    let now = go_on(a, b, link, start, plan)?;
+    tell(rt, "a", a, &b.counts, plan)?;
+    tell(rt, "b", b, &a.counts, plan)?;
+    Ok(now)
 }
 
 /// Both ends send; when they have sent as many as are to be looked at first, and at the end, what they hold is printed.
 fn converse_as<S: Soaked, R: Rng>(
     rt: &HostRuntime,
-    a: &mut End<S>,
-    b: &mut End<S>,
+    a: &mut Talker<S>,
+    b: &mut Talker<S>,
     link: &mut Link<R>,
     plan: Plan,
 ) -> Result<()> {
-    expect_all(a)?;
-    expect_all(b)?;
-    a.socket.connect()?;
-    let mut now = SocketTime::zero();
-    for count in [plan.first.min(plan.count), plan.count] {
-        let part = Plan { count, ..plan };
-        now = go_on(a, b, link, now, part)?;
-        tell(rt, "a", a, b, part)?;
-        tell(rt, "b", b, a, part)?;
-    }
+    a.end.socket.connect()?;
+    let first = Plan {
+        count: plan.first.min(plan.count),
+        ..plan
+    };
+    let now = go_on_and_tell(rt, a, b, link, SocketTime::zero(), first)?;
+    go_on_and_tell(rt, a, b, link, now, plan)?;
     Ok(())
 }
 
@@ -149,9 +163,9 @@ pub fn converse<S: Soaked, R: Rng + Drop>(
     plan: Plan,
 ) -> Result<()> {
     let mut link = link;
-    let (mut a, mut b) = (new_end(rt.alloc(), a), new_end(rt.alloc(), b));
+    let (mut a, mut b) = (new_talker(rt, a), new_talker(rt, b));
     let outcome = converse_as(rt, &mut a, &mut b, &mut link, plan);
-    a.socket.let_go();
-    b.socket.let_go();
+    a.let_go();
+    b.let_go();
     outcome
 }

@@ -1,9 +1,9 @@
 //! The link between the ends.
 
-use crate::soak::end::End;
+use crate::soak::end::Talker;
 use crate::soak::messages::Plan;
-use anyhow::Result;
 use rand_core::Rng;
+use std::alloc::AllocError;
 
 /// What becomes of packets is drawn from `rng`.
 #[derive(Drop)]
@@ -41,37 +41,40 @@ impl<R: Rng> Link<R> {
 }
 
 /// A packet comes at once, or behind those that the next turn brings.
-fn put<S>(to: &mut End<S>, bytes: Vec<u8>, is_late: bool) -> Result<()> {
-    if is_late {
-        to.late.push(bytes)?;
+fn put<S>(to: &mut Talker<S>, bytes: Vec<u8>, is_late: bool) -> Result<(), AllocError> {
+    let place = if is_late {
+        &mut to.later
     } else {
-        to.came.push(bytes)?;
-    }
+        &mut to.end.came
+    };
+    place.push(bytes)?;
     Ok(())
 }
 
-fn put_twice<S>(to: &mut End<S>, bytes: Vec<u8>, fate: Fate) -> Result<()> {
+fn put_twice<S>(to: &mut Talker<S>, bytes: &Vec<u8>, fate: Fate) -> Result<(), AllocError> {
     if fate.is_twice {
-        let copy = bytes.clone()?;
-        to.came.push(copy)?;
+        put(to, bytes.clone()?, false)?;
     }
-    put(to, bytes, fate.is_late)
+    put(to, bytes.clone()?, fate.is_late)
 }
 
 /// What one end sent goes to the other, and then what was late.
-pub fn carry<S, R: Rng>(link: &mut Link<R>, from: &mut End<S>, to: &mut End<S>) -> Result<()> {
-    let late = std::mem::replace(&mut to.late, Vec::new(from.alloc));
-    for bytes in from.sent.drain(..) {
-        from.packets = from.packets.saturating_add(1);
+pub fn carry<S, R: Rng>(
+    link: &mut Link<R>,
+    from: &mut Talker<S>,
+    to: &mut Talker<S>,
+) -> Result<(), AllocError> {
+    for bytes in &from.end.sent {
+        from.counts.packets = from.counts.packets.saturating_add(1);
         let fate = link.fate();
         if fate.is_lost {
-            from.lost = from.lost.saturating_add(1);
+            from.counts.lost = from.counts.lost.saturating_add(1);
         } else {
             put_twice(to, bytes, fate)?;
         }
     }
-    for bytes in late {
-        to.came.push(bytes)?;
-    }
+    from.end.sent.clear();
+    to.end.came.append(&mut to.late)?;
+    std::mem::swap(&mut to.late, &mut to.later);
     Ok(())
 }

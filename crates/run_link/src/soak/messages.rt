@@ -4,7 +4,7 @@ use sctp_association::{Message, PpId, SendOptions, StreamId};
 use std::alloc::{AllocError, Global};
 
 /// Messages go on so many streams in turn.
-pub const STREAMS: u16 = 5;
+pub const STREAMS: usize = 5;
 
 /// Every so many messages one takes several packets.
 const LONG_EACH: u32 = 64;
@@ -44,7 +44,7 @@ pub fn wanted_label(number: u32) -> Label {
 
 /// The stream that the message of this number goes on.
 pub fn stream(number: u32) -> u16 {
-    (number % u32::from(STREAMS)) as u16
+    (number % STREAMS as u32) as u16
 }
 
 /// Whether the message of this number may not be given up.
