@@ -40,7 +40,7 @@ struct End<S> {
     events: Vec<SocketEvent>,
     messages: Vec<Message>,
     sent_count: u32,
-    message_count: u32,
+    message_count: usize,
 }
 
 fn new_end<S>(rt: &HostRuntime, socket: S) -> End<S> {
@@ -84,16 +84,26 @@ fn turn<S: DcSctpSocket>(end: &mut End<S>, now: SocketTime) -> Result<SocketTime
     Ok(end.socket.poll_timeout())
 }
 
-/// Prints what the socket emitted and handed out.
-fn show<S>(rt: &HostRuntime, name: &str, end: &mut End<S>) -> Result<()> {
-    for event in &end.events {
+fn show_events(rt: &HostRuntime, name: &str, events: &[SocketEvent]) -> Result<()> {
+    for event in events {
         println!(rt; "{name} {event:?}")?;
     }
-    end.events.clear();
-    for message in &end.messages {
+    Ok(())
+}
+
+fn show_messages(rt: &HostRuntime, name: &str, messages: &[Message]) -> Result<()> {
+    for message in messages {
         println!(rt; "{name} has {:?}", message.payload)?;
-        end.message_count = end.message_count.wrapping_add(1);
     }
+    Ok(())
+}
+
+/// Prints what the socket emitted and handed out.
+fn show<S>(rt: &HostRuntime, name: &str, end: &mut End<S>) -> Result<()> {
+    show_events(rt, name, &end.events)?;
+    show_messages(rt, name, &end.messages)?;
+    end.message_count = end.message_count.saturating_add(end.messages.len());
+    end.events.clear();
     end.messages.clear();
     Ok(())
 }

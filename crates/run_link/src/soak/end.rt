@@ -71,11 +71,23 @@ impl Counts {
         }
     }
 
+    fn events(&mut self, events: &[SocketEvent]) {
+        for event in events {
+            self.event(event);
+        }
+    }
+
     fn message(&mut self, next: &mut [u32], message: &Message) {
         match takes(next, message.stream_id, &message.payload) {
             Some(number) if is_reliable(number) => self.reliable = self.reliable.saturating_add(1),
             Some(_number) => self.partial = self.partial.saturating_add(1),
             None => self.wrong = self.wrong.saturating_add(1),
+        }
+    }
+
+    fn messages(&mut self, next: &mut [u32], messages: &[Message]) {
+        for message in messages {
+            self.message(next, message);
         }
     }
 }
@@ -85,8 +97,9 @@ impl Counts {
 pub struct Talker<S> {
     alloc: Global,
     pub end: End<S>,
-    /// Packets that come behind those of the next turn, and of the turn after it.
+    /// Packets that come behind those of the next turn.
     pub late: Vec<Vec<u8>>,
+    /// Packets that come behind those of the turn after the next.
     pub later: Vec<Vec<u8>>,
     /// Of each stream the lowest number that may come next.
     pub next: [u32; STREAMS],
@@ -137,14 +150,13 @@ fn takes(next: &mut [u32], id: StreamId, payload: &[u8]) -> Option<u32> {
     Some(number)
 }
 
+/// Counts what the socket emitted and handed out.
 fn count<S>(talker: &mut Talker<S>) {
-    for event in &talker.end.events {
-        talker.counts.event(event);
-    }
+    talker.counts.events(&talker.end.events);
     talker.end.events.clear();
-    for message in &talker.end.messages {
-        talker.counts.message(&mut talker.next, message);
-    }
+    talker
+        .counts
+        .messages(&mut talker.next, &talker.end.messages);
     talker.end.messages.clear();
 }
 
@@ -166,19 +178,26 @@ pub fn act<S: Soaked>(talker: &mut Talker<S>, now: SocketTime, plan: Plan) -> Re
     Ok(())
 }
 
-/// Asks for the reset that is due, once all of the stream's messages were sent: what is queued would be given up. Answers whether none is
-/// due then.
+/// Asks for a reset of the stream, unless messages of it are queued, which would be given up. Answers whether it asked.
+fn ask_reset<S: Soaked>(socket: &mut S, stream: StreamId) -> Result<bool> {
+    if socket.buffered_amount(stream) > 0 {
+        return Ok(false);
+    }
+    socket.reset_streams(&[stream])?;
+    Ok(true)
+}
+
+/// Asks for the reset that is due. Answers whether none is due then.
 fn reset_if_due<S: Soaked>(talker: &mut Talker<S>) -> Result<bool> {
     let Some(stream) = talker.due else {
         return Ok(true);
     };
-    if talker.end.socket.buffered_amount(stream) > 0 {
-        return Ok(false);
+    let is_asked = ask_reset(&mut talker.end.socket, stream)?;
+    if is_asked {
+        talker.due = None;
+        talker.counts.resets = talker.counts.resets.saturating_add(1);
     }
-    talker.end.socket.reset_streams(&[stream])?;
-    talker.due = None;
-    talker.counts.resets = talker.counts.resets.saturating_add(1);
-    Ok(true)
+    Ok(is_asked)
 }
 
 /// Sends the message of this number. Behind so many one its stream is to be reset.
