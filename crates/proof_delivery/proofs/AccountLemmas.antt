@@ -10,7 +10,7 @@ use Rattle.proof_tx_refines.proofs.RestLemmas.{has_more, all_records}
 use Rattle.proof_tx_refines.proofs.SackLemmas.{delivered_more, ids_more}
 use Rattle.spec_endpoint.specs.Association.{Endpoint}
 use Rattle.proof_endpoint.specs.Mapped.{Carried}
-use Rattle.proof_pair.specs.Acts.{calm}
+use Rattle.proof_endpoint.specs.Acts.{calm}
 use Rattle.proof_pair.specs.Trace.{Side}
 use Rattle.proof_delivery.specs.GivenUp.{emitted_of}
 use Rattle.proof_delivery.proofs.ClaimLemmas.{Direction, transfer_of, of_transfer, goes_in, GoesOn, SenderClaim}

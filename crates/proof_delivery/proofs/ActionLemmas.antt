@@ -14,7 +14,7 @@ use Rattle.proof_protocol.specs.Resets.{Epochs, ResetEvent, transfers, reset_str
 use Rattle.sctp_tx_queue.specs.Queue.{Queue}
 use Rattle.spec_endpoint.specs.Association.{State, Endpoint}
 use Rattle.proof_endpoint.specs.Mapped.{Carried}
-use Rattle.proof_pair.specs.Acts.{calm}
+use Rattle.proof_endpoint.specs.Acts.{calm}
 use Rattle.proof_pair.specs.Trace.{Side, packets_in, emitted_packets, drain, state_of}
 use Rattle.proof_pair.proofs.JoinActsLemmas.{packets_both}
 use Rattle.proof_delivery.specs.Accepted.{AcceptedMessage}

@@ -31,7 +31,7 @@ use Rattle.proof_rx_refines.specs.Resets.{base_now, IsWaitingFor}
 use Rattle.spec_endpoint.specs.Association.{Tcb, State, Closed, CookieWait, Open}
 use Rattle.spec_endpoint.specs.Laws.{Call}
 use Rattle.proof_endpoint.specs.Mapped.{Carried}
-use Rattle.proof_pair.specs.Acts.{EndWithPacket, IsReceived}
+use Rattle.proof_endpoint.specs.Acts.{EndWithPacket, IsReceived}
 use Rattle.proof_pair.specs.Trace.{packets_in, AreValidOptions}
 use Rattle.proof_pair.proofs.JoinActsLemmas.{Setting}
 use Rattle.proof_delivery.specs.Asks.{Ask, AreAsked, SaysOutgoing, SaysIncoming, IsAsking, IsAnswering}

@@ -18,7 +18,7 @@ use Rattle.spec_endpoint.specs.StreamReset.{reset_refusal}
 use Rattle.spec_endpoint.specs.Input.{refusal, counts, taken_if}
 use Rattle.spec_endpoint.specs.Laws.{Call, Connect, Close, Shutdown, Send, SendMany, ResetStreams, TakeMessage, SetLowThreshold, SetPriority, SetMaxMessageSize, Advance, HandOver, Restore, Packet, NoPacket, called, endings}
 use Rattle.proof_endpoint.specs.Mapped.{Carried}
-use Rattle.proof_pair.specs.Acts.{EndWithPacket, calm, HasNoEnd}
+use Rattle.proof_endpoint.specs.Acts.{EndWithPacket, calm, HasNoEnd}
 use Rattle.proof_pair.specs.Trace.{Side, packets_in, emitted_packets, EndAction, Calls, Gives, Refuses, as_received, give, foreign_if, act, MayCall, MayAct, AreValidOptions, state_of}
 use Rattle.proof_pair.specs.Handing.{handed_by}
 use Rattle.proof_pair.proofs.JoinActsLemmas.{Setting}

@@ -28,7 +28,7 @@ use Rattle.spec_endpoint.specs.StreamReset.{reset_refusal, reset_if}
 use Rattle.proof_endpoint.specs.Mapped.{Carried}
 use Rattle.proof_endpoint.proofs.LawsLemmas.{emits_endings}
 use Rattle.proof_endpoint.proofs.EmitsLemmas.{endings_append}
-use Rattle.proof_pair.specs.Acts.{EndWithPacket, calm, end_of, HasNoEnd, PreservesUntilEnd}
+use Rattle.proof_endpoint.specs.Acts.{EndWithPacket, calm, end_of, HasNoEnd, PreservesUntilEnd}
 use Rattle.proof_pair.specs.Trace.{Side, packets_in, emitted_packets, EndAction, Calls, Gives, Refuses, as_received, give, foreign_if, act, MayCall, MayAct, AreValidOptions, state_of}
 use Rattle.proof_pair.proofs.UntilLemmas.{until_first_end}
 use Rattle.proof_pair.proofs.JoinActsLemmas.{Setting, InvAt}

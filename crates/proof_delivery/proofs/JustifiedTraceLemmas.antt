@@ -17,11 +17,11 @@ use Rattle.spec_endpoint.specs.Calls.{shown_state, refusal_of, offer, offer_all,
 use Rattle.spec_endpoint.specs.Input.{refusal, on_endpoint_state}
 use Rattle.spec_endpoint.specs.Laws.{Call, Connect, Close, Shutdown, Send, SendMany, ResetStreams, TakeMessage, SetLowThreshold, SetPriority, SetMaxMessageSize, Advance, HandOver, Restore, Packet, NoPacket, called}
 use Rattle.proof_endpoint.specs.Mapped.{Carried}
-use Rattle.proof_pair.specs.Acts.{idle, calm, IsOffered, alone, among}
+use Rattle.proof_endpoint.specs.Acts.{idle, calm, IsOffered, alone, among}
 use Rattle.proof_pair.specs.Trace.{Side, Pair, emitted_packets, EndAction, Calls, Gives, Refuses, as_received, drain, give, foreign_if, act, goes, side_of, start, state_of}
-use Rattle.proof_pair.proofs.PacketActsLemmas.{does_send_buffered}
-use Rattle.proof_pair.proofs.RowActsLemmas.{placed, does_where_open}
-use Rattle.proof_pair.proofs.ActsLemmas.{keeps_call}
+use Rattle.proof_endpoint.proofs.PacketActsLemmas.{does_send_buffered}
+use Rattle.proof_endpoint.proofs.RowActsLemmas.{placed, does_where_open}
+use Rattle.proof_endpoint.proofs.ActsLemmas.{keeps_call}
 use Rattle.proof_delivery.specs.Accepted.{AcceptedMessage, accepted_by, accepted_in, accepted_at, accepted}
 use Rattle.proof_delivery.specs.Justified.{clock, Acceptance, accepted_then, acceptances, records_of, records_given, records_if, records_by, records_at, reset_unless, reset_by, reset_at, dated_record, dated_records, IsJustified, restores, RestoresNone, RecordsAreJustified, AcceptancesAreAccepted}
 use Rattle.proof_delivery.specs.GivenUp.{kept_in}

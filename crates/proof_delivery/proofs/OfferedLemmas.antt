@@ -12,11 +12,11 @@ use Rattle.spec_endpoint.specs.Sending.{send_in}
 use Rattle.spec_endpoint.specs.Calls.{shown_state, refusal_of, offer, offer_all}
 use Rattle.spec_endpoint.specs.Laws.{Call, Send, SendMany, NoPacket, called}
 use Rattle.proof_endpoint.specs.Mapped.{Carried}
-use Rattle.proof_pair.specs.Acts.{EndWithPacket, idle, calm, IsReceived, alone, HasNoEnd, PreservesUntilEnd}
+use Rattle.proof_endpoint.specs.Acts.{EndWithPacket, idle, calm, IsReceived, alone, HasNoEnd, PreservesUntilEnd}
 use Rattle.proof_pair.specs.Trace.{Side, packets_in, state_of}
 use Rattle.proof_pair.proofs.UntilLemmas.{none_before, Until, frame}
-use Rattle.proof_pair.proofs.RowActsLemmas.{does_where_open}
-use Rattle.proof_pair.proofs.CallActsLemmas.{does_offer, does_offer_all, does_send_in, does_sent_if}
+use Rattle.proof_endpoint.proofs.RowActsLemmas.{does_where_open}
+use Rattle.proof_endpoint.proofs.CallActsLemmas.{does_offer, does_offer_all, does_send_in, does_sent_if}
 use Rattle.proof_pair.proofs.JoinActsLemmas.{Setting, InvAt}
 use Rattle.proof_pair.proofs.JoinKeepsLemmas.{Rules}
 use Rattle.proof_pair.proofs.JoinFrameLemmas.{joins}

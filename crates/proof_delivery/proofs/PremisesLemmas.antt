@@ -19,7 +19,7 @@ use Rattle.spec_endpoint.specs.Requests.{Request}
 use Rattle.proof_tx_refines.specs.Led.{recorded_places, delivered_ids}
 use Rattle.spec_endpoint.specs.Laws.{Call, Packet}
 use Rattle.proof_endpoint.specs.Mapped.{Carried}
-use Rattle.proof_pair.specs.Acts.{calm, IsReceived}
+use Rattle.proof_endpoint.specs.Acts.{calm, IsReceived}
 use Rattle.proof_pair.specs.Trace.{Side, packets_in, as_received, AreValidOptions, state_of}
 use Rattle.proof_pair.proofs.AddedLemmas.{all_at}
 use Rattle.proof_pair.proofs.TraceLemmas.{setting, packet_of}

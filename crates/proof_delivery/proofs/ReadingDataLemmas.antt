@@ -24,7 +24,7 @@ use Rattle.spec_endpoint.specs.Association.{Tcb, Phase, State, Closed, CookieWai
 use Rattle.spec_endpoint.specs.Requests.{ids}
 use Rattle.spec_endpoint.specs.Laws.{Call}
 use Rattle.proof_endpoint.specs.Mapped.{Carried}
-use Rattle.proof_pair.specs.Acts.{EndWithPacket, in_open, IsReceived, IsAsked, HasRequest, for_outgoing, for_incoming, AsksNoIncoming}
+use Rattle.proof_endpoint.specs.Acts.{EndWithPacket, in_open, IsReceived, IsAsked, HasRequest, for_outgoing, for_incoming, AsksNoIncoming}
 use Rattle.proof_pair.proofs.JoinActsLemmas.{Setting, InvAt}
 use Rattle.proof_pair.proofs.JoinLemmas.{Draw, view_of, both_of, Faces}
 use Rattle.proof_pair.proofs.AddedLemmas.{all_at}

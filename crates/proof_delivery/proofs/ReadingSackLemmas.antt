@@ -16,7 +16,7 @@ use Rattle.spec_endpoint.specs.Association.{Tcb, Phase, State, Closed, CookieWai
 use Rattle.spec_endpoint.specs.Requests.{is_final}
 use Rattle.spec_endpoint.specs.Laws.{Call}
 use Rattle.proof_endpoint.specs.Mapped.{Carried}
-use Rattle.proof_pair.specs.Acts.{EndWithPacket, in_open, IsReceived, IsAsked, point_of}
+use Rattle.proof_endpoint.specs.Acts.{EndWithPacket, in_open, IsReceived, IsAsked, point_of}
 use Rattle.proof_pair.proofs.AddedLemmas.{all_at}
 use Rattle.proof_pair.proofs.JoinActsLemmas.{Setting, InvAt}
 use Rattle.proof_pair.proofs.JoinLemmas.{Draw, view_of, own_draw, Faces}

@@ -24,7 +24,7 @@ use Rattle.spec_endpoint.specs.Data.{is_full, takes, take_fragment, forward_to}
 use Rattle.spec_endpoint.specs.Sending.{selective_ack, count_sack_sent}
 use Rattle.spec_endpoint.specs.Laws.{Call}
 use Rattle.proof_endpoint.specs.Mapped.{Carried}
-use Rattle.proof_pair.specs.Acts.{EndWithPacket, IsReceived, with_chunk, in_open, in_state, drew_one, drew_two, is_opened, PacketAct, begins, adds_plain, emits, complains, counts, before_packets, after_packets, OpeningAct, connects, adds_init, answers_new, answers_waiting, answers_echoed, answers_again, echoes, adds_cookie, establishes, opens, restarts, opens_again, maintains, adds_cookie_ack, before_opening, after_opening, ClosingAct, closes, shuts, shuts_on, before_closing, after_closing, DataAct, takes_data, takes_idata, takes_forward, takes_iforward, before_data, after_data}
+use Rattle.proof_endpoint.specs.Acts.{EndWithPacket, IsReceived, with_chunk, in_open, in_state, drew_one, drew_two, is_opened, PacketAct, begins, adds_plain, emits, complains, counts, before_packets, after_packets, OpeningAct, connects, adds_init, answers_new, answers_waiting, answers_echoed, answers_again, echoes, adds_cookie, establishes, opens, restarts, opens_again, maintains, adds_cookie_ack, before_opening, after_opening, ClosingAct, closes, shuts, shuts_on, before_closing, after_closing, DataAct, takes_data, takes_idata, takes_forward, takes_iforward, before_data, after_data}
 use Rattle.proof_pair.specs.Trace.{packets_in}
 use Rattle.proof_pair.proofs.AddedLemmas.{holds_added}
 use Rattle.proof_pair.proofs.JoinActsLemmas.{Setting, InvAt, packets_both}

@@ -24,10 +24,10 @@ use Rattle.spec_endpoint.specs.StreamReset.{is_ahead, on_outcome}
 use Rattle.spec_endpoint.specs.Sending.{is_small, data_chunk_of, data_chunks, fast_most}
 use Rattle.spec_endpoint.specs.Laws.{Call}
 use Rattle.proof_endpoint.specs.Mapped.{Carried}
-use Rattle.proof_pair.specs.Acts.{EndWithPacket, point_of, IsAsked, IsDue, AsksNoIncoming, Answers, in_open, in_state, with_packet, fragments_of, SackAct, takes_sack, samples, counts_errors, before_sack, after_sack, SendingAct, asks, adds_ack, expires, adds_forward, forwards_later, asks_no_reset, asks_reset, adds_request, sends, sends_fast, before_sending, after_sending, TimeAct, advances, delay_ends, times_out, beats, times_init, times_cookie, times_request, wakes_request, before_time, after_time, CallAct, accepts, refuses, takes_message, sets_low_threshold, sets_priority, sets_max_message_size, before_call, after_call, ResetAct, prepares, defers, performs, processes, takes_response, adds_responses, before_reset, after_reset, InputAct, ends_packet, before_input, after_input}
+use Rattle.proof_endpoint.specs.Acts.{EndWithPacket, point_of, IsAsked, IsDue, AsksNoIncoming, Answers, in_open, in_state, with_packet, fragments_of, SackAct, takes_sack, samples, counts_errors, before_sack, after_sack, SendingAct, asks, adds_ack, expires, adds_forward, forwards_later, asks_no_reset, asks_reset, adds_request, sends, sends_fast, before_sending, after_sending, TimeAct, advances, delay_ends, times_out, beats, times_init, times_cookie, times_request, wakes_request, before_time, after_time, CallAct, accepts, refuses, takes_message, sets_low_threshold, sets_priority, sets_max_message_size, before_call, after_call, ResetAct, prepares, defers, performs, processes, takes_response, adds_responses, before_reset, after_reset, InputAct, ends_packet, before_input, after_input}
 use Rattle.proof_pair.proofs.UntilLemmas.{light_sack, light_sending, light_time, light_call, light_reset}
 use Rattle.proof_pair.proofs.JoinActsLemmas.{Setting, InvAt}
-use Rattle.proof_pair.proofs.CallActsLemmas.{answers_leave}
+use Rattle.proof_endpoint.proofs.CallActsLemmas.{answers_leave}
 use Rattle.proof_delivery.specs.Asks.{Ask, SaysIncoming}
 use Rattle.proof_delivery.specs.StreamEpochs.{are_named, resets_emitted}
 use Rattle.proof_delivery.proofs.ClaimLemmas.{Direction, transfer_of, SaysIn, ReceiverClaim, ReceiverPremises, ReceiverGoes}

@@ -29,7 +29,7 @@ use Rattle.spec_endpoint.specs.Requests.{Requests, ids, in_progress, performed, 
 use Rattle.spec_endpoint.specs.StreamReset.{is_ahead}
 use Rattle.spec_endpoint.specs.Laws.{Call}
 use Rattle.proof_endpoint.specs.Mapped.{Carried}
-use Rattle.proof_pair.specs.Acts.{IsDue, HasRequest, AsksNoIncoming, Answers}
+use Rattle.proof_endpoint.specs.Acts.{IsDue, HasRequest, AsksNoIncoming, Answers}
 use Rattle.proof_delivery.specs.Asks as asks
 use Rattle.proof_delivery.specs.Asks.{named_in, request_for, AreAsked, SaysDone, SaysIncoming, HasPerformed, HasDeferred, IsAnswering}
 use Rattle.proof_delivery.specs.StreamEpochs.{are_named, resets_emitted}

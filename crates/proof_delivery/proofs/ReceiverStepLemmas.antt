@@ -17,7 +17,7 @@ use Rattle.spec_endpoint.specs.Association.{Tcb, Phase, Packing}
 use Rattle.spec_endpoint.specs.Packets.{Packet, add_all, header_to, emit_if}
 use Rattle.spec_endpoint.specs.Requests.{Requests}
 use Rattle.proof_endpoint.specs.Mapped.{Carried}
-use Rattle.proof_pair.specs.Acts.{EndWithPacket, is_plain, with_chunk, with_packet, in_open}
+use Rattle.proof_endpoint.specs.Acts.{EndWithPacket, is_plain, with_chunk, with_packet, in_open}
 use Rattle.proof_pair.specs.Trace.{as_carried, packets_in}
 use Rattle.proof_pair.proofs.AddedLemmas.{holds_added, holds_all_added}
 use Rattle.proof_pair.proofs.JoinActsLemmas.{packets_both}

@@ -11,12 +11,12 @@ use Rattle.spec_endpoint.specs.Input.{on_endpoint_state}
 use Rattle.spec_endpoint.specs.StreamReset.{unless_supported, reset_refusal, prepare_stream, prepare_all, reset_if}
 use Rattle.spec_endpoint.specs.Laws.{Call, ResetStreams, NoPacket}
 use Rattle.proof_endpoint.specs.Mapped.{Carried}
-use Rattle.proof_pair.specs.Acts.{EndWithPacket, idle, calm, IsReset, prepares, HasNoEnd, Preserves, PreservesUntilEnd}
+use Rattle.proof_endpoint.specs.Acts.{EndWithPacket, idle, calm, IsReset, prepares, HasNoEnd, Preserves, PreservesUntilEnd}
 use Rattle.proof_pair.specs.Trace.{packets_in}
 use Rattle.proof_pair.proofs.EmittedLemmas.{emits_prepared}
 use Rattle.proof_pair.proofs.UntilLemmas.{none_before, Until, frame}
-use Rattle.proof_pair.proofs.RowActsLemmas.{does_where_open}
-use Rattle.proof_pair.proofs.CallActsLemmas.{does_send_in}
+use Rattle.proof_endpoint.proofs.RowActsLemmas.{does_where_open}
+use Rattle.proof_endpoint.proofs.CallActsLemmas.{does_send_in}
 use Rattle.proof_pair.proofs.JoinActsLemmas.{Setting, InvAt}
 use Rattle.proof_pair.proofs.JoinKeepsLemmas.{Rules}
 use Rattle.proof_pair.proofs.JoinFrameLemmas.{joins}

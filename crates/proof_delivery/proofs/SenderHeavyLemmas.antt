@@ -43,7 +43,7 @@ use Rattle.spec_endpoint.specs.Sending.{data_chunk_of, data_chunks, is_small, fa
 use Rattle.spec_endpoint.specs.Sack.{clean_blocks}
 use Rattle.spec_endpoint.specs.Laws.{Call}
 use Rattle.proof_endpoint.specs.Mapped.{Carried}
-use Rattle.proof_pair.specs.Acts.{EndWithPacket, in_open, with_context, IsReceived, timeout_of, point_of, takes_sack, before_sack, after_sack, expires, adds_forward, sends, sends_fast, before_sending, after_sending, times_out, before_time, after_time}
+use Rattle.proof_endpoint.specs.Acts.{EndWithPacket, in_open, with_context, IsReceived, timeout_of, point_of, takes_sack, before_sack, after_sack, expires, adds_forward, sends, sends_fast, before_sending, after_sending, times_out, before_time, after_time}
 use Rattle.proof_pair.specs.Trace.{packets_in}
 use Rattle.proof_pair.proofs.AddedLemmas.{holds_added, holds_all_added}
 use Rattle.proof_pair.proofs.EmittedLemmas.{EmitsQuietly, lightly, quiet_nack_all, quiet_expired, quiet_sent, emits_sack, emits_sent}

@@ -32,7 +32,7 @@ use Rattle.spec_endpoint.specs.Data.{take_fragment, forward_to}
 use Rattle.spec_endpoint.specs.Input.{at_end}
 use Rattle.spec_endpoint.specs.Laws.{Call}
 use Rattle.proof_endpoint.specs.Mapped.{Carried}
-use Rattle.proof_pair.specs.Acts.{EndWithPacket, is_plain, is_response, with_chunk, with_packet, with_context, in_open, PacketAct, begins, adds_plain, emits, complains, counts, before_packets, after_packets, ClosingAct, closes, shuts, shuts_on, before_closing, after_closing, DataAct, takes_data, takes_idata, takes_forward, takes_iforward, before_data, after_data, CallAct, accepts, refuses, takes_message, sets_low_threshold, sets_priority, sets_max_message_size, before_call, after_call, InputAct, ends_packet, before_input, after_input}
+use Rattle.proof_endpoint.specs.Acts.{EndWithPacket, is_plain, is_response, with_chunk, with_packet, with_context, in_open, PacketAct, begins, adds_plain, emits, complains, counts, before_packets, after_packets, ClosingAct, closes, shuts, shuts_on, before_closing, after_closing, DataAct, takes_data, takes_idata, takes_forward, takes_iforward, before_data, after_data, CallAct, accepts, refuses, takes_message, sets_low_threshold, sets_priority, sets_max_message_size, before_call, after_call, InputAct, ends_packet, before_input, after_input}
 use Rattle.proof_pair.specs.Trace.{packets_in}
 use Rattle.proof_pair.proofs.EmittedLemmas.{EmitsQuietly, lightly, emits_all, quiet_same, quiet_all, quiet_refused, quiet_threshold}
 use Rattle.proof_pair.proofs.AddedLemmas.{holds_added}

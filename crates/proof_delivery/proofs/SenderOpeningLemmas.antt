@@ -31,7 +31,7 @@ use Rattle.spec_endpoint.specs.Requests.{requests}
 use Rattle.spec_endpoint.specs.Opening.{long_word, t1_cookie, names, agreed_by, identity_of, queue_if, other_mode, connected_context}
 use Rattle.spec_endpoint.specs.Laws.{Call}
 use Rattle.proof_endpoint.specs.Mapped.{Carried}
-use Rattle.proof_pair.specs.Acts.{EndWithPacket, end_of, in_open, in_state, with_context, drew_one, drew_two, echoing, opened_by, is_opened, OpeningAct, connects, adds_init, answers_new, answers_waiting, answers_echoed, answers_again, echoes, adds_cookie, establishes, opens, restarts, opens_again, maintains, adds_cookie_ack, before_opening, after_opening}
+use Rattle.proof_endpoint.specs.Acts.{EndWithPacket, end_of, in_open, in_state, with_context, drew_one, drew_two, echoing, opened_by, is_opened, OpeningAct, connects, adds_init, answers_new, answers_waiting, answers_echoed, answers_again, echoes, adds_cookie, establishes, opens, restarts, opens_again, maintains, adds_cookie_ack, before_opening, after_opening}
 use Rattle.proof_pair.specs.Trace.{packets_in}
 use Rattle.proof_pair.proofs.JoinActsLemmas.{Setting, InvAt, packets_both}
 use Rattle.proof_delivery.specs.Asks.{Ask, SaysOutgoing, IsAsking}

@@ -43,7 +43,7 @@ use Rattle.spec_endpoint.specs.StreamReset.{on_outcome}
 use Rattle.spec_endpoint.specs.Sending.{last_assigned, begin_burst, request_started}
 use Rattle.spec_endpoint.specs.Laws.{Call}
 use Rattle.proof_endpoint.specs.Mapped.{Carried}
-use Rattle.proof_pair.specs.Acts.{EndWithPacket, in_open, with_context, with_chunk, IsAsked}
+use Rattle.proof_endpoint.specs.Acts.{EndWithPacket, in_open, with_context, with_chunk, IsAsked}
 use Rattle.proof_pair.specs.Trace.{packets_in}
 use Rattle.proof_pair.proofs.JoinActsLemmas.{Setting, InvAt, packets_both}
 use Rattle.proof_pair.proofs.EmittedLemmas.{emits_prepared}

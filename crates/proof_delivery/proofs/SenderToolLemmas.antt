@@ -21,7 +21,7 @@ use Rattle.proof_tx_refines.proofs.PausedLemmas.{go_more, may_more}
 use Rattle.proof_tx_refines.proofs.SackLemmas.{delivered_more, ids_more}
 use Rattle.proof_tx_refines.proofs.SendLemmas.{carries_along}
 use Rattle.proof_endpoint.specs.Mapped.{Carried}
-use Rattle.proof_pair.specs.Acts.{EndWithPacket}
+use Rattle.proof_endpoint.specs.Acts.{EndWithPacket}
 use Rattle.proof_pair.specs.Trace.{packets_in}
 use Rattle.proof_pair.proofs.EmittedLemmas.{is_quiet, EmitsLightly, EmitsQuietly}
 use Rattle.proof_pair.proofs.JoinActsLemmas.{packets_both, light_packets}

@@ -15,7 +15,7 @@ use Rattle.spec_endpoint.specs.Opening.{init_ack_of, agreed_by, cookie_for, cook
 use Rattle.spec_endpoint.specs.Input.{my_tag, refusal, counts, taken_if}
 use Rattle.spec_endpoint.specs.Laws.{Call, Packet, called}
 use Rattle.proof_endpoint.specs.Mapped.{Carried}
-use Rattle.proof_pair.specs.Acts.{is_opened}
+use Rattle.proof_endpoint.specs.Acts.{is_opened}
 use Rattle.proof_pair.specs.Trace.{Side, as_carried, as_received, state_of}
 use Rattle.proof_pair.specs.Agreement.{Draw as Drawn}
 use Rattle.proof_pair.proofs.JoinLemmas.{init_by, IsInitAck}

@@ -16,7 +16,7 @@ use Rattle.spec_endpoint.specs.Opening.{by_tags, compare_tags, resolve_cookie}
 use Rattle.spec_endpoint.specs.Input.{my_tag, refusal}
 use Rattle.spec_endpoint.specs.Laws.{Call, Packet, called}
 use Rattle.proof_endpoint.specs.Mapped.{Carried}
-use Rattle.proof_pair.specs.Acts.{IsEchoed}
+use Rattle.proof_endpoint.specs.Acts.{IsEchoed}
 use Rattle.proof_pair.specs.Trace.{Side, AreValidOptions, as_carried, as_received, state_of}
 use Rattle.proof_pair.specs.Agreement.{Draw as Drawn}
 use Rattle.proof_pair.proofs.JoinLemmas.{Draw, Both, IsDraw, view_of, cookie_by, IsEcho}

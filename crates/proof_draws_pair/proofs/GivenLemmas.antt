@@ -10,7 +10,7 @@ use Rattle.spec_endpoint.specs.Sending.{is_alone}
 use Rattle.spec_endpoint.specs.Input.{refusal, counts, on_endpoint_state, repeats_if, has_data}
 use Rattle.spec_endpoint.specs.Laws.{Call, Packet, called}
 use Rattle.proof_endpoint.specs.Mapped.{Carried}
-use Rattle.proof_pair.specs.Acts.{is_opened}
+use Rattle.proof_endpoint.specs.Acts.{is_opened}
 use Rattle.proof_pair.specs.Trace.{Side, AreValidOptions, as_received, state_of}
 use Rattle.proof_pair.specs.Agreement.{Draw as Drawn, Has, drawn_receiving, drawn_taking, drawn_given}
 use Rattle.proof_pair.proofs.JoinLemmas.{Draw, IsDraw, view_of, IsInit, IsInitAck, IsEcho, Says, Drawn as IsDrawn, Faces}

@@ -8,7 +8,7 @@ use Rattle.spec_endpoint.specs.Opening.{complains}
 use Rattle.spec_endpoint.specs.Input.{my_tag, has_tag_in, abort_flag, complete_flag, has_shutdown_ack, begins_with_cookie, is_single_init, is_early, unless, plain_refusal, refusal_by, refusal, counts, taken_if}
 use Rattle.spec_endpoint.specs.Laws.{Call, Packet, called}
 use Rattle.proof_endpoint.specs.Mapped.{Carried}
-use Rattle.proof_pair.specs.Acts.{IsReceived}
+use Rattle.proof_endpoint.specs.Acts.{IsReceived}
 use Rattle.proof_pair.specs.Trace.{Side, as_carried, as_received, state_of}
 use Rattle.proof_pair.specs.Agreement.{Draw}
 use Rattle.proof_pair.proofs.AddedLemmas.{all_at}

@@ -14,7 +14,7 @@ use Rattle.spec_endpoint.specs.Opening.{tsn_from, tag_from, word, drew_word, com
 use Rattle.spec_endpoint.specs.Input.{counts, count_packet}
 use Rattle.spec_endpoint.specs.Laws.{Call, Packet, called, is_closed}
 use Rattle.proof_endpoint.specs.Mapped.{Carried}
-use Rattle.proof_pair.specs.Acts.{is_opened}
+use Rattle.proof_endpoint.specs.Acts.{is_opened}
 use Rattle.proof_pair.specs.Trace.{Side, packets_in, drain, state_of}
 use Rattle.proof_pair.specs.Agreement.{Draw as Drawn}
 use Rattle.proof_pair.proofs.JoinLemmas.{Draw, Both, view_of, IsInitAck, Says}

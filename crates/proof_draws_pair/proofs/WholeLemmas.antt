@@ -24,7 +24,7 @@ use Rattle.spec_endpoint.specs.Requests.{Request, Requests, requests, request_ch
 use Rattle.spec_endpoint.specs.Sending.{data_chunk_of, data_chunks}
 use Rattle.spec_endpoint.specs.Opening.{queue_if, other_mode, queue_for, queue_anew}
 use Rattle.spec_endpoint.specs.Laws.{Call}
-use Rattle.proof_pair.specs.Acts.{is_plain, goes_along, takes_more, IsBundled, an_init_alone, an_init_ack_alone, all_along, HasRequest, Answers}
+use Rattle.proof_endpoint.specs.Acts.{is_plain, goes_along, takes_more, IsBundled, an_init_alone, an_init_ack_alone, all_along, HasRequest, Answers}
 use Rattle.proof_draws.specs.Laws.{NumberFits, NumbersFit, number_fits, is_flowing}
 use Rattle.proof_draws.proofs.NumberLemmas.{next_fits}
 use Rattle.proof_draws_pair.specs.Kinds.{IsKind, an_init, an_answer, an_echo, a_flow}

@@ -17,7 +17,7 @@ use Rattle.spec_endpoint.specs.Opening.{complains}
 use Rattle.spec_endpoint.specs.Input.{refusal, counts, taken_if}
 use Rattle.spec_endpoint.specs.Laws.{Call, Packet, called, endings}
 use Rattle.proof_endpoint.specs.Mapped.{Carried}
-use Rattle.proof_pair.specs.Acts.{calm, IsReceived}
+use Rattle.proof_endpoint.specs.Acts.{calm, IsReceived}
 use Rattle.proof_pair.specs.Trace.{Side, Pair, new_side, packets_in, emitted_packets, EndAction, Calls, Gives, Refuses, drain, as_received, give, foreign_if, act, goes, run, MayCall, MayAct, side_of, KeepsOpeningRules, NeitherHasEnded, AreValidOptions, start, state_of}
 use Rattle.proof_pair.proofs.UntilLemmas.{until_end}
 use Rattle.proof_pair.proofs.AddedLemmas.{all_get}

@@ -66,3 +66,10 @@ mod HandoverValidLemmas
 pub mod HandoverAgainLemmas
 mod NumberedOnceLemmas
 mod NewEndLemmas
+pub mod BundledLemmas
+pub mod PacketActsLemmas
+pub mod RowActsLemmas
+pub mod OpeningActsLemmas
+pub mod TimeActsLemmas
+pub mod CallActsLemmas
+pub mod ActsLemmas

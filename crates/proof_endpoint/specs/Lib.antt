@@ -5,3 +5,4 @@ pub mod Sound
 pub mod ReadBack
 pub mod Lifecycles
 pub mod HandoverRoundTrip
+pub mod Acts

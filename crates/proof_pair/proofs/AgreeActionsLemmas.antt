@@ -15,11 +15,11 @@ use Rattle.spec_endpoint.specs.Opening.{complains}
 use Rattle.spec_endpoint.specs.Input.{refusal, counts, taken_if, handle_chunks, receive, misuse, violation, on_endpoint_state, repeats_if, has_data}
 use Rattle.spec_endpoint.specs.Laws.{Call, Connect, Packet, NoPacket, called}
 use Rattle.proof_endpoint.specs.Mapped.{Carried}
-use Rattle.proof_pair.specs.Acts.{calm, is_opened, IsReceived}
+use Rattle.proof_endpoint.specs.Acts.{calm, is_opened, IsReceived}
 use Rattle.proof_pair.specs.Trace.{Side, Pair, as_carried, new_side, packets_in, emitted_packets, has_connected, EndAction, Calls, Gives, Refuses, drain, as_received, give, foreign_if, act, goes, AreValidOptions, start, state_of}
 use Rattle.proof_pair.specs.Agreement.{Draw, Association, mirrored, Has, History, association_of, held_in, drawn_in, history_by, Histories, no_history, no_histories, histories_after, histories_along, AreDistinct, AreDistinctPerEnd, IsPlainCall, IsAllowed, AreAllowed, emitted_since, Agrees, AgreesAlong, EndsAgree}
-use Rattle.proof_pair.proofs.PacketActsLemmas.{does_complain}
-use Rattle.proof_pair.proofs.ActsLemmas.{keeps_call, does_receive, does_repeats_if}
+use Rattle.proof_endpoint.proofs.PacketActsLemmas.{does_complain}
+use Rattle.proof_endpoint.proofs.ActsLemmas.{keeps_call, does_receive, does_repeats_if}
 use Rattle.proof_pair.proofs.AddedLemmas.{all_at, all_get}
 use Rattle.proof_pair.proofs.NegotiatedLemmas.{Emits, emits_carried, emits_right, Able}
 use Rattle.proof_pair.proofs.NegotiatedLemmas as negotiated

@@ -9,7 +9,7 @@ use Rattle.spec_endpoint.specs.Packets.{Packet, fits, added_if, add, add_all, he
 use Rattle.spec_endpoint.specs.Association.{Tcb, Packing}
 use Rattle.spec_endpoint.specs.Sending.{data_chunk_of, data_chunks}
 use Rattle.proof_endpoint.specs.Mapped.{Carried}
-use Rattle.proof_pair.specs.Acts.{EndWithPacket, is_plain}
+use Rattle.proof_endpoint.specs.Acts.{EndWithPacket, is_plain}
 use Rattle.proof_pair.specs.Trace.{as_carried, packets_in, has_connected}
 use Rattle.proof_pair.proofs.EmittedLemmas.{is_light}
 use Rattle.proof_pair.proofs.JoinActsLemmas.{packets_both, light_packets, light_connected, connected_both}

@@ -15,12 +15,12 @@ use Rattle.spec_endpoint.specs.Opening.{long_word, connected_context, cookie_ack
 use Rattle.spec_endpoint.specs.Laws.{NoPacket}
 use Rattle.proof_endpoint.specs.Mapped.{Carried}
 use Rattle.proof_endpoint.proofs.OpeningStepsLemmas.{end_in}
-use Rattle.proof_pair.specs.Acts.{at, nothing, idle, calm, is_opened, all_along, as_held, adds_plain, Preserves}
+use Rattle.proof_endpoint.specs.Acts.{at, nothing, idle, calm, is_opened, all_along, as_held, adds_plain, Preserves}
 use Rattle.proof_pair.specs.Trace.{AreValidOptions}
 use Rattle.proof_pair.specs.Agreement.{Draw, Association, mirrored, Has, History, association_of, held_in, AreDistinct}
-use Rattle.proof_pair.proofs.BundledLemmas.{added_more, first_more, plain_added}
-use Rattle.proof_pair.proofs.PacketActsLemmas.{does_begin, does_out, does_complain, does_send_with}
-use Rattle.proof_pair.proofs.OpeningActsLemmas.{accepting}
+use Rattle.proof_endpoint.proofs.BundledLemmas.{added_more, first_more, plain_added}
+use Rattle.proof_endpoint.proofs.PacketActsLemmas.{does_begin, does_out, does_complain, does_send_with}
+use Rattle.proof_endpoint.proofs.OpeningActsLemmas.{accepting}
 use Rattle.proof_pair.proofs.AgreeLemmas.{Past, View, holds, view_of, own_in, peer_in, SaysEcho, SaysAck, Holds, Tagged, Later, later_same, one_draw}
 use Rattle.proof_pair.proofs.AgreeActsLemmas.{Setting, Inv, InvAt, inv_view, inv_silent, inv_later, inv_grown, inv_bound, adds}
 use Rattle.proof_pair.proofs.AgreeNotesLemmas.{noted}

@@ -12,7 +12,7 @@ use Rattle.spec_endpoint.specs.Association.{Tcb, Phase, CookieEchoed, Establishe
 use Rattle.spec_endpoint.specs.Sending.{is_alone}
 use Rattle.spec_endpoint.specs.Opening.{cookie_in}
 use Rattle.proof_endpoint.specs.Mapped.{Carried}
-use Rattle.proof_pair.specs.Acts.{is_plain}
+use Rattle.proof_endpoint.specs.Acts.{is_plain}
 use Rattle.proof_pair.specs.Agreement.{Draw, Association, mirrored, Has, association_of, AreDistinct}
 use Rattle.proof_pair.proofs.JoinLemmas.{kept_in}
 

@@ -16,12 +16,12 @@ use Rattle.spec_endpoint.specs.Packets.{Packet, add}
 use Rattle.spec_endpoint.specs.Opening.{tsn_from, tag_from, word, drew_word, t1_init, connect, cookie_for, agreed_by, init_ack_of, answer, next_first, cookie_in}
 use Rattle.spec_endpoint.specs.Laws.{NoPacket, Packet as Given}
 use Rattle.proof_endpoint.specs.Mapped.{Carried}
-use Rattle.proof_pair.specs.Acts.{EndWithPacket, at, nothing, idle, calm, echoing, an_init_ack_alone, Preserves}
+use Rattle.proof_endpoint.specs.Acts.{EndWithPacket, at, nothing, idle, calm, echoing, an_init_ack_alone, Preserves}
 use Rattle.proof_pair.specs.Trace.{has_connected, AreValidOptions}
 use Rattle.proof_pair.specs.Agreement.{Draw, Association, mirrored, Has, association_of, two_drawn, AreDistinct}
-use Rattle.proof_pair.proofs.BundledLemmas.{one_bundled}
-use Rattle.proof_pair.proofs.PacketActsLemmas.{does_out}
-use Rattle.proof_pair.proofs.OpeningActsLemmas.{answering, does_send_init}
+use Rattle.proof_endpoint.proofs.BundledLemmas.{one_bundled}
+use Rattle.proof_endpoint.proofs.PacketActsLemmas.{does_out}
+use Rattle.proof_endpoint.proofs.OpeningActsLemmas.{answering, does_send_init}
 use Rattle.proof_pair.proofs.JoinKeepsLemmas.{cookie_found}
 use Rattle.proof_pair.proofs.AgreeLemmas.{Past, rests, waits, holds, view_of, own_in, peer_in, Names, draw_in, FitsDraw, FitsInit, SaysInit, SaysInitAck, SaysAck, Says, Waits, Holds, Tagged, tagged_holds, Later, later_same, one_draw}
 use Rattle.proof_pair.proofs.AgreeActsLemmas.{Setting, Inv, InvAt, inv_made, inv_view, inv_later, adds}

@@ -13,11 +13,11 @@ use Rattle.spec_endpoint.specs.Association.{State, Closed, CookieWait, Open, End
 use Rattle.spec_endpoint.specs.Input.{my_tag, abort_flag, complete_flag, has_shutdown_ack, begins_with_cookie, is_single_init, plain_refusal, refusal_by, refusal, Received, receive, receive_all, receive_rest, has_data, repeats_if, on_endpoint_state, end_packet, handle_chunks, counts}
 use Rattle.spec_endpoint.specs.Laws.{NoPacket}
 use Rattle.proof_endpoint.specs.Mapped.{Carried}
-use Rattle.proof_pair.specs.Acts.{calm, Preserves}
+use Rattle.proof_endpoint.specs.Acts.{calm, Preserves}
 use Rattle.proof_pair.specs.Trace.{AreValidOptions}
 use Rattle.proof_pair.specs.Agreement.{Draw, Association, History, drawn_for, AreDistinct}
-use Rattle.proof_pair.proofs.RowActsLemmas.{does_where_open}
-use Rattle.proof_pair.proofs.ActsLemmas.{does_repeats_if, does_ended}
+use Rattle.proof_endpoint.proofs.RowActsLemmas.{does_where_open}
+use Rattle.proof_endpoint.proofs.ActsLemmas.{does_repeats_if, does_ended}
 use Rattle.proof_pair.proofs.AgreeLemmas.{Past, view_of, IsUnder, is_opening, is_silent, is_load, all_pass, Shape, Says, says_later, Later, later_same}
 use Rattle.proof_pair.proofs.AgreeActsLemmas.{Setting, InvAt}
 use Rattle.proof_pair.proofs.AgreeNotesLemmas.{noted, noted_after, noted_receiving, noted_taking}

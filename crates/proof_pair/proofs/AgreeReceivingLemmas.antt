@@ -20,12 +20,12 @@ use Rattle.spec_endpoint.specs.Input.{receive}
 use Rattle.spec_endpoint.specs.Laws.{Call, Packet as Given, NoPacket}
 use Rattle.proof_endpoint.specs.Mapped.{Carried}
 use Rattle.proof_endpoint.proofs.OpeningStepsLemmas.{end_in}
-use Rattle.proof_pair.specs.Acts.{EndWithPacket, idle, calm, nothing, echoing, IsReceived, always, Preserves}
+use Rattle.proof_endpoint.specs.Acts.{EndWithPacket, idle, calm, nothing, echoing, IsReceived, always, Preserves}
 use Rattle.proof_pair.specs.Trace.{AreValidOptions}
 use Rattle.proof_pair.specs.Agreement.{Draw, Association, Has, History, association_of, held_in, two_drawn, one_drawn, drawn_for, AreDistinct}
-use Rattle.proof_pair.proofs.PacketActsLemmas.{does_plain, does_complain, does_send_buffered, does_send_cookie}
-use Rattle.proof_pair.proofs.RowActsLemmas.{does_closed, does_send_shutdown_ack}
-use Rattle.proof_pair.proofs.ActsLemmas.{does_receive}
+use Rattle.proof_endpoint.proofs.PacketActsLemmas.{does_plain, does_complain, does_send_buffered, does_send_cookie}
+use Rattle.proof_endpoint.proofs.RowActsLemmas.{does_closed, does_send_shutdown_ack}
+use Rattle.proof_endpoint.proofs.ActsLemmas.{does_receive}
 use Rattle.proof_pair.proofs.AddedLemmas.{all_at}
 use Rattle.proof_pair.proofs.AgreeLemmas.{Past, View, view_of, holds, draw_in, SaysInit, SaysInitAck, SaysEcho, SaysAck, Says, waits, Waits, Holds, IsUnder, Tagged, Later}
 use Rattle.proof_pair.proofs.AgreeActsLemmas.{Setting, Inv, InvAt, inv_grown, inv_bound}

@@ -16,11 +16,11 @@ use Rattle.spec_endpoint.specs.Input.{refusal, counts, taken_if, handle_chunks}
 use Rattle.spec_endpoint.specs.Laws.{Call, Connect, Restore, Packet, called}
 use Rattle.proof_endpoint.specs.Mapped.{Carried}
 use Rattle.proof_endpoint.proofs.OpeningStepsLemmas.{end_in}
-use Rattle.proof_pair.specs.Acts.{calm, nothing}
+use Rattle.proof_endpoint.specs.Acts.{calm, nothing}
 use Rattle.proof_pair.specs.Trace.{Side, as_carried, new_side, packets_in, emitted_packets, has_connected, EndAction, Calls, Gives, Refuses, drain, as_received, give, foreign_if, act, AreValidOptions, state_of}
 use Rattle.proof_pair.specs.Agreement.{Association, mirrored, Has, History, held_in, drawn_to_connect, no_history, AreDistinct, IsAllowed, emitted_since}
-use Rattle.proof_pair.proofs.PacketActsLemmas.{does_complain}
-use Rattle.proof_pair.proofs.ActsLemmas.{keeps_call}
+use Rattle.proof_endpoint.proofs.PacketActsLemmas.{does_complain}
+use Rattle.proof_endpoint.proofs.ActsLemmas.{keeps_call}
 use Rattle.proof_pair.proofs.AddedLemmas.{all_get}
 use Rattle.proof_pair.proofs.AgreeLemmas.{Past, view_of, IsUnder, Says, says_carried, Stands, stands_later, Agreed, Later, later_same, Said, said_later}
 use Rattle.proof_pair.proofs.AgreeActsLemmas.{Setting, Inv, InvAt}

@@ -22,12 +22,12 @@ use Rattle.spec_endpoint.specs.Input.{Received, receive, received_if, receive_al
 use Rattle.spec_endpoint.specs.Laws.{Packet as Given, NoPacket}
 use Rattle.proof_endpoint.specs.Mapped.{Carried}
 use Rattle.proof_endpoint.proofs.OpeningStepsLemmas.{end_in}
-use Rattle.proof_pair.specs.Acts.{idle, calm, is_opened, IsReceived, always, Preserves}
+use Rattle.proof_endpoint.specs.Acts.{idle, calm, is_opened, IsReceived, always, Preserves}
 use Rattle.proof_pair.specs.Trace.{has_connected}
 use Rattle.proof_pair.specs.Agreement.{Association, Has, History, association_of, held_in, drawn_for}
-use Rattle.proof_pair.proofs.PacketActsLemmas.{does_plain}
-use Rattle.proof_pair.proofs.RowActsLemmas.{does_closed, does_where_open}
-use Rattle.proof_pair.proofs.ActsLemmas.{does_receive, does_ended}
+use Rattle.proof_endpoint.proofs.PacketActsLemmas.{does_plain}
+use Rattle.proof_endpoint.proofs.RowActsLemmas.{does_closed, does_where_open}
+use Rattle.proof_endpoint.proofs.ActsLemmas.{does_receive, does_ended}
 use Rattle.proof_pair.proofs.AddedLemmas.{all_at}
 use Rattle.proof_pair.proofs.JoinActsLemmas.{connected_both}
 use Rattle.proof_pair.proofs.AgreeLemmas.{is_opening, is_silent, is_load, load_is_silent, all_pass, Shape}

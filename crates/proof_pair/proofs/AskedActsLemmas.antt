@@ -20,7 +20,7 @@ use Rattle.spec_endpoint.specs.Opening.{queue_anew, queue_if, other_mode, queue_
 use Rattle.spec_endpoint.specs.Laws.{Call}
 use Rattle.proof_endpoint.specs.HandoverRoundTrip.{IsConnected, IsNumberedOnce, CallsNumberOnce}
 use Rattle.proof_endpoint.proofs.ReceivedLemmas.{IsByte, word_in_fits}
-use Rattle.proof_pair.specs.Acts.{IsReceived, IsEchoed}
+use Rattle.proof_endpoint.specs.Acts.{IsReceived, IsEchoed}
 use Rattle.proof_pair.specs.HandoverInvariants.{IsAssociated, IsOrdered, HandoverInvariantOf, NamesPeer, HandsIn}
 use Rattle.proof_pair.proofs.StayLemmas.{Lasts, lasts_same}
 use Rattle.proof_pair.proofs.QueueGoesLemmas.{Goes, goes_same, reset_sorted, reset_next}

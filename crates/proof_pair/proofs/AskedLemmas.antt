@@ -20,9 +20,9 @@ use Rattle.spec_endpoint.specs.Handover.{refusal_in, taken_as, restored_unless}
 use Rattle.spec_endpoint.specs.Laws.{Call, Connect, Close, Shutdown, Send, SendMany, ResetStreams, TakeMessage, SetLowThreshold, SetPriority, SetMaxMessageSize, Advance, HandOver, Restore, Packet, NoPacket, called}
 use Rattle.proof_endpoint.specs.HandoverRoundTrip.{IsNumberedOnce, endpoint_state, HandoverGoesOn, MadeConnected, CallsNumberOnce}
 use Rattle.proof_endpoint.specs.Lifecycles.{is_restore}
-use Rattle.proof_pair.specs.Acts.{IsOffered, alone, among}
+use Rattle.proof_endpoint.specs.Acts.{IsOffered, alone, among}
 use Rattle.proof_pair.specs.HandoverInvariants.{IsOrdered, HandoverInvariantOf, HandoverInvariant, HandsIn, offers, NewEndsMeetHandoverInvariant, EachCallPreservesHandoverInvariant, NumbersOn, EachCallNumbersOnce, Use, Calls, Takes, after_use, after_uses, MayUse, offers_in, offers_along, EachEndGoesOn}
-use Rattle.proof_pair.proofs.ActsLemmas.{keeps_call}
+use Rattle.proof_endpoint.proofs.ActsLemmas.{keeps_call}
 use Rattle.proof_pair.proofs.AskedActsLemmas.{Leads, associated_on}
 use Rattle.proof_pair.proofs.AskedKeepsLemmas.{IsQuiet, keeps}
 use Rattle.proof_pair.proofs.AskedRestoreLemmas.{takes_up}

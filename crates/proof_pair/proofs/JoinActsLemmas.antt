@@ -11,7 +11,7 @@ use Rattle.spec_endpoint.specs.Packets.{header_to}
 use Rattle.spec_endpoint.specs.Sending.{data_chunk_of, data_chunks}
 use Rattle.spec_endpoint.specs.Laws.{ending}
 use Rattle.proof_endpoint.specs.Mapped.{Carried}
-use Rattle.proof_pair.specs.Acts.{EndWithPacket, is_plain}
+use Rattle.proof_endpoint.specs.Acts.{EndWithPacket, is_plain}
 use Rattle.proof_pair.specs.Trace.{as_carried, packets_in, has_connected}
 use Rattle.proof_pair.proofs.EmittedLemmas.{is_light}
 use Rattle.proof_pair.proofs.JoinLemmas.{View, view_of, Says, Leads, says_leads, received_leads, Stands}

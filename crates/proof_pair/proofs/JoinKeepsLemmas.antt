@@ -18,7 +18,7 @@ use Rattle.spec_endpoint.specs.Association.{Identity, Tcb, Phase, CookieEchoed, 
 use Rattle.spec_endpoint.specs.Opening.{word, drew_word, init_of, init_ack_of, cookie_for, agreed_by, cookie_in, CookieResolution, RestartDetected, SimultaneousInit, MaintainExisting, by_tags, compare_tags, tcb_by}
 use Rattle.spec_endpoint.specs.Laws.{Call, Connect, Shutdown, Restore}
 use Rattle.proof_endpoint.specs.Mapped.{Carried}
-use Rattle.proof_pair.specs.Acts.{EndWithPacket, end_of, drawn_tag, drawn_first, IsReceived, IsEchoed, connects, echoes, before_opening, after_opening}
+use Rattle.proof_endpoint.specs.Acts.{EndWithPacket, end_of, drawn_tag, drawn_first, IsReceived, IsEchoed, connects, echoes, before_opening, after_opening}
 use Rattle.proof_pair.specs.Trace.{has_connected, AreValidOptions}
 use Rattle.proof_pair.proofs.JoinLemmas.{Draw, Both, IsDraw, drawn_is, View, own_draw, peer_draw, both_of, view_of, late_view, init_by, cookie_by, IsInit, IsPlain, IsInitAck, IsEcho, Faces, faces_plain, faced_by, faced_at, faces_at, holds_mine, faced_none}
 use Rattle.proof_pair.proofs.JoinActsLemmas.{Setting, Uttered, UtteredAll, Inv, InvAt, inv_view, connected_both}

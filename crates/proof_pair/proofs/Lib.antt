@@ -1,13 +1,6 @@
-pub mod PacketActsLemmas
-pub mod RowActsLemmas
-pub mod OpeningActsLemmas
-pub mod TimeActsLemmas
-pub mod CallActsLemmas
-pub mod ActsLemmas
 pub mod EmittedLemmas
 pub mod UntilLemmas
 pub mod AddedLemmas
-pub mod BundledLemmas
 pub mod JoinLemmas
 pub mod JoinActsLemmas
 pub mod JoinKeepsLemmas

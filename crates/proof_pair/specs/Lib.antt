@@ -1,4 +1,3 @@
-pub mod Acts
 pub mod Trace
 pub mod Taking
 pub mod Opens

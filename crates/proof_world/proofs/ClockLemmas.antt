@@ -7,9 +7,9 @@ use Rattle.spec_endpoint.specs.Requests.{Outcome, Unsettled, Done, Denied, outco
 use Rattle.spec_endpoint.specs.StreamReset.{on_outcome}
 use Rattle.spec_endpoint.specs.Laws.{Call, Advance, Packet, called}
 use Rattle.proof_endpoint.specs.Mapped.{Carried}
-use Rattle.proof_pair.specs.Acts.{EndWithPacket, PacketAct, begins, before_packets, after_packets, OpeningAct, connects, before_opening, after_opening, ClosingAct, closes, before_closing, after_closing, DataAct, takes_data, before_data, after_data, SackAct, takes_sack, before_sack, after_sack, SendingAct, asks, before_sending, after_sending, TimeAct, advances, before_time, after_time, CallAct, accepts, before_call, after_call, ResetAct, takes_response, before_reset, after_reset, HandoverAct, leaves, before_handover, after_handover, InputAct, ends_packet, before_input, after_input, Preserves}
+use Rattle.proof_endpoint.specs.Acts.{EndWithPacket, PacketAct, begins, before_packets, after_packets, OpeningAct, connects, before_opening, after_opening, ClosingAct, closes, before_closing, after_closing, DataAct, takes_data, before_data, after_data, SackAct, takes_sack, before_sack, after_sack, SendingAct, asks, before_sending, after_sending, TimeAct, advances, before_time, after_time, CallAct, accepts, before_call, after_call, ResetAct, takes_response, before_reset, after_reset, HandoverAct, leaves, before_handover, after_handover, InputAct, ends_packet, before_input, after_input, Preserves}
 use Rattle.proof_pair.specs.Trace.{Side, emitted_packets, EndAction, Calls, Gives, Refuses, as_received, give, foreign_if, act, state_of}
-use Rattle.proof_pair.proofs.ActsLemmas.{keeps_call}
+use Rattle.proof_endpoint.proofs.ActsLemmas.{keeps_call}
 use Rattle.proof_delivery.specs.Justified.{clock}
 use Rattle.proof_protocol.proofs.ToolsLemmas.{not_both}
 

@@ -14,11 +14,11 @@ use Rattle.spec_endpoint.specs.Shutdown.{send_shutdown, send_shutdown_ack}
 use Rattle.spec_endpoint.specs.Heartbeats.{counted_on, heartbeat, beat_if, unanswered_if}
 use Rattle.spec_endpoint.specs.Timers.{Ticking, tick_ack, t3_if, tick_t3, tick_interval, tick_timeout, request_again, errs_if, heartbeat_timeout, requests_if, ticking, tick_timers, Left, endpoint_state_left, ended_if, end_association, ended_or_sent, goes_on, settled_if, settle_ticks, t2_expired, t2_if, tick_t2, waits_if, t1_expired, t1_if, endpoint_state_waited, init_expired, init_if, tick_open, tick_in, advance_if, advance}
 use Rattle.spec_endpoint.specs.Laws.{Call, Advance}
-use Rattle.proof_pair.specs.Acts.{all_along, EndWithPacket, idle, advances, delay_ends, times_out, beats, times_init, times_cookie, times_request, wakes_request, counts_errors, Preserves}
-use Rattle.proof_pair.proofs.BundledLemmas.{request_more}
-use Rattle.proof_pair.proofs.PacketActsLemmas.{does_out, does_begin_new, does_chunk, does_add_request, does_send_buffered, does_send_cookie}
-use Rattle.proof_pair.proofs.RowActsLemmas.{placed, OpenActs, does_closed, does_shut_on, does_too_many, does_send_shutdown, does_send_shutdown_ack}
-use Rattle.proof_pair.proofs.OpeningActsLemmas.{does_send_init}
+use Rattle.proof_endpoint.specs.Acts.{all_along, EndWithPacket, idle, advances, delay_ends, times_out, beats, times_init, times_cookie, times_request, wakes_request, counts_errors, Preserves}
+use Rattle.proof_endpoint.proofs.BundledLemmas.{request_more}
+use Rattle.proof_endpoint.proofs.PacketActsLemmas.{does_out, does_begin_new, does_chunk, does_add_request, does_send_buffered, does_send_cookie}
+use Rattle.proof_endpoint.proofs.RowActsLemmas.{placed, OpenActs, does_closed, does_shut_on, does_too_many, does_send_shutdown, does_send_shutdown_ack}
+use Rattle.proof_endpoint.proofs.OpeningActsLemmas.{does_send_init}
 
 module _ {P : Type 0} {call : Call} {R : EndWithPacket P → EndWithPacket P → Type 0} (k : Preserves call R) (w : Stream) where
   -- ---- the timers of a control block, in this phase

@@ -18,8 +18,8 @@ use Rattle.spec_endpoint.specs.Data.{no_data, on_no_data, not_connected, takes, 
 use Rattle.spec_endpoint.specs.Sack.{clean_blocks, sample_rtt, clear_errors_if, send_after, after_sack, no_block, on_sack_in, on_sack}
 use Rattle.spec_endpoint.specs.Input.{misuse, violation}
 use Rattle.spec_endpoint.specs.Laws.{Call, Shutdown, ending, is_closed}
-use Rattle.proof_pair.specs.Acts.{always, EndWithPacket, idle, in_open, IsReceived, point_of, closes, shuts, shuts_on, takes_data, takes_idata, takes_forward, takes_iforward, takes_sack, samples, counts_errors, Preserves}
-use Rattle.proof_pair.proofs.PacketActsLemmas.{does_plain, does_chunk, does_complain, does_send_buffered, does_send_lost}
+use Rattle.proof_endpoint.specs.Acts.{always, EndWithPacket, idle, in_open, IsReceived, point_of, closes, shuts, shuts_on, takes_data, takes_idata, takes_forward, takes_iforward, takes_sack, samples, counts_errors, Preserves}
+use Rattle.proof_endpoint.proofs.PacketActsLemmas.{does_plain, does_chunk, does_complain, does_send_buffered, does_send_lost}
 
 -- an end with this endpoint state and this random stream, and nothing begun
 abbrev pub placed : {P : Type 0} → EndpointState P → Stream → EndWithPacket P

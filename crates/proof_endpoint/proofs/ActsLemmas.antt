@@ -16,13 +16,13 @@ use Rattle.spec_endpoint.specs.Opening.{on_cookie_ack}
 use Rattle.spec_endpoint.specs.StreamReset.{on_reconfig}
 use Rattle.spec_endpoint.specs.Input.{refusal, is_reported, echo_unknown, echoed_in, complain_of_unknown, on_unknown_if, on_heartbeat, Received, on_endpoint_state, on_chunk, violation, received_if, receive, receive_rest, receive_all, has_data, repeats, repeats_if, ended_if, at_end, end_packet, handle_chunks, counts as counts_row, taken_if, on_packet, on_no_packet}
 use Rattle.spec_endpoint.specs.Laws.{Call, Connect, Close, Shutdown, Send, SendMany, ResetStreams, TakeMessage, SetLowThreshold, SetPriority, SetMaxMessageSize, Advance, HandOver, Restore, Packet as Given, NoPacket, called}
-use Rattle.proof_pair.specs.Acts.{EndWithPacket, at, idle, calm, IsReceived, counts, asks, adds_ack, beats, counts_errors, shuts_on, ends_packet, Preserves}
-use Rattle.proof_pair.proofs.BundledLemmas.{first_more}
-use Rattle.proof_pair.proofs.PacketActsLemmas.{does_begin_new, does_chunk, does_complain, does_send_with}
-use Rattle.proof_pair.proofs.RowActsLemmas.{placed, OpenActs, does_where_open, does_send_shutdown, does_close, does_shutdown, does_shut_by_peer, does_shutdown_ack, does_shutdown_complete, does_violated, does_abort, does_error, does_data_chunk, does_idata_chunk, does_forward_chunk, does_iforward_chunk, does_sack}
-use Rattle.proof_pair.proofs.OpeningActsLemmas.{does_connect, does_init, does_init_ack, does_cookie_ack, does_cookie_echo}
-use Rattle.proof_pair.proofs.TimeActsLemmas.{does_advance}
-use Rattle.proof_pair.proofs.CallActsLemmas.{does_send, does_send_many, does_low_threshold, does_priority, does_max_message_size, does_take_message, does_reconfig, does_reset_streams, does_hand_over, does_restore}
+use Rattle.proof_endpoint.specs.Acts.{EndWithPacket, at, idle, calm, IsReceived, counts, asks, adds_ack, beats, counts_errors, shuts_on, ends_packet, Preserves}
+use Rattle.proof_endpoint.proofs.BundledLemmas.{first_more}
+use Rattle.proof_endpoint.proofs.PacketActsLemmas.{does_begin_new, does_chunk, does_complain, does_send_with}
+use Rattle.proof_endpoint.proofs.RowActsLemmas.{placed, OpenActs, does_where_open, does_send_shutdown, does_close, does_shutdown, does_shut_by_peer, does_shutdown_ack, does_shutdown_complete, does_violated, does_abort, does_error, does_data_chunk, does_idata_chunk, does_forward_chunk, does_iforward_chunk, does_sack}
+use Rattle.proof_endpoint.proofs.OpeningActsLemmas.{does_connect, does_init, does_init_ack, does_cookie_ack, does_cookie_echo}
+use Rattle.proof_endpoint.proofs.TimeActsLemmas.{does_advance}
+use Rattle.proof_endpoint.proofs.CallActsLemmas.{does_send, does_send_many, does_low_threshold, does_priority, does_max_message_size, does_take_message, does_reconfig, does_reset_streams, does_hand_over, does_restore}
 
 module _ {P : Type 0} {call : Call} {R : EndWithPacket P → EndWithPacket P → Type 0} (k : Preserves call R) where
   -- ---- one chunk

@@ -27,10 +27,10 @@ use Rattle.spec_endpoint.specs.Calls.{shown_state, refusal, refusal_of, offered,
 use Rattle.spec_endpoint.specs.StreamReset.{Handling, handling, is_ahead, resets_if, resets, outgoing_by, on_outgoing, incoming_if, is_outgoing, on_parameter, Handled, handle_next, handle_all, send_responses, finished_if, on_reconfig, unless_supported, reset_refusal, prepare_stream, prepare_all, reset_if, reset_streams}
 use Rattle.spec_endpoint.specs.Handover.{readiness, left_in, left_if, hand_over, tcb_from, queue_taken, take_up, invalid_unless, refusal_in, taken_as, restored_unless, restore}
 use Rattle.spec_endpoint.specs.Laws.{Call, SendMany, ResetStreams, TakeMessage, SetLowThreshold, SetPriority, SetMaxMessageSize, HandOver, Restore, Send}
-use Rattle.proof_pair.specs.Acts.{EndWithPacket, at, idle, IsReceived, IsOffered, alone, among, IsReset, IsAsked, is_response, all_along, HasRequest, for_outgoing, for_incoming, AsksNoIncoming, IsDue, IsAnswer, Answers, accepts, refuses, takes_message, sets_low_threshold, sets_priority, sets_max_message_size, prepares, defers, performs, processes, takes_response, adds_responses, leaves, takes_up, Preserves}
-use Rattle.proof_pair.proofs.BundledLemmas.{first_more}
-use Rattle.proof_pair.proofs.PacketActsLemmas.{does_out, does_begin_new, does_complain, does_send_buffered}
-use Rattle.proof_pair.proofs.RowActsLemmas.{placed, OpenActs, does_where_open}
+use Rattle.proof_endpoint.specs.Acts.{EndWithPacket, at, idle, IsReceived, IsOffered, alone, among, IsReset, IsAsked, is_response, all_along, HasRequest, for_outgoing, for_incoming, AsksNoIncoming, IsDue, IsAnswer, Answers, accepts, refuses, takes_message, sets_low_threshold, sets_priority, sets_max_message_size, prepares, defers, performs, processes, takes_response, adds_responses, leaves, takes_up, Preserves}
+use Rattle.proof_endpoint.proofs.BundledLemmas.{first_more}
+use Rattle.proof_endpoint.proofs.PacketActsLemmas.{does_out, does_begin_new, does_complain, does_send_buffered}
+use Rattle.proof_endpoint.proofs.RowActsLemmas.{placed, OpenActs, does_where_open}
 
 -- the next one of a list stands behind one more
 next_among : {A : Type 0} (before : List A) (x : A) (xs all : List A) → all ≡ before ++ x ∷ xs → all ≡ (before ++ x ∷ []) ++ xs

@@ -15,10 +15,10 @@ use Rattle.spec_endpoint.specs.Packets.{Packet, fits, add, packet_to, new_packet
 use Rattle.spec_endpoint.specs.Sending.{is_alone}
 use Rattle.spec_endpoint.specs.Opening.{long_word, init_of, init_ack_of, next_first, send_init, t1_init, connect_in, connect, agreed_by, answers, answers_new, answers_again, on_init_open, on_init_in, on_init, cookie_in, without_cookie, t1_cookie, names, echo_cookie, on_init_ack_in, on_init_ack, connected_context, on_cookie_ack, CookieResolution, EstablishNew, RestartDetected, SimultaneousInit, MaintainExisting, Discard, InvalidTag, by_tags, new_if, compare_tags, resolve_cookie, cookie_ack, tcb_by, establishes as establishes_by, keep_association, too_late, restarts as restarts_by, restarts_in, on_verdict, on_read_cookie, on_cookie_echo}
 use Rattle.spec_endpoint.specs.Laws.{Call, Connect}
-use Rattle.proof_pair.specs.Acts.{EndWithPacket, at, nothing, idle, calm, drawn_first, drawn_tag, drawn_tag_alone, drew_two, drew_one, echoing, opened_by, IsReceived, IsEchoed, IsBundled, an_init_alone, an_init_ack_alone, all_along, always, as_held, as_asked, adds_plain, connects, adds_init, answers_new as answers_new_act, answers_waiting, answers_echoed, answers_again as answers_again_act, echoes, establishes, opens, restarts, opens_again, maintains, adds_cookie_ack, Preserves}
-use Rattle.proof_pair.proofs.BundledLemmas.{added_more, one_bundled, first_more, plain_added}
-use Rattle.proof_pair.proofs.PacketActsLemmas.{does_out, does_begin, does_plain, does_complain, does_send_with, does_send_buffered, does_send_cookie}
-use Rattle.proof_pair.proofs.RowActsLemmas.{placed, OpenActs, does_closed, does_send_shutdown_ack}
+use Rattle.proof_endpoint.specs.Acts.{EndWithPacket, at, nothing, idle, calm, drawn_first, drawn_tag, drawn_tag_alone, drew_two, drew_one, echoing, opened_by, IsReceived, IsEchoed, IsBundled, an_init_alone, an_init_ack_alone, all_along, always, as_held, as_asked, adds_plain, connects, adds_init, answers_new as answers_new_act, answers_waiting, answers_echoed, answers_again as answers_again_act, echoes, establishes, opens, restarts, opens_again, maintains, adds_cookie_ack, Preserves}
+use Rattle.proof_endpoint.proofs.BundledLemmas.{added_more, one_bundled, first_more, plain_added}
+use Rattle.proof_endpoint.proofs.PacketActsLemmas.{does_out, does_begin, does_plain, does_complain, does_send_with, does_send_buffered, does_send_cookie}
+use Rattle.proof_endpoint.proofs.RowActsLemmas.{placed, OpenActs, does_closed, does_send_shutdown_ack}
 use Rattle.proof_endpoint.proofs.OpeningStepsLemmas.{end_in}
 
 -- the packet of an INIT ACK, of a COOKIE ACK

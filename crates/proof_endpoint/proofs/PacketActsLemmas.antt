@@ -16,8 +16,8 @@ use Rattle.spec_endpoint.specs.Requests.{Request}
 use Rattle.spec_endpoint.specs.Packets.{Packet, empty_packet, fits, add, has_chunks, packet_to, new_packet, complain, emit_if, emit, emit_chunk}
 use Rattle.spec_endpoint.specs.Sending.{Filling, ask_for_sack, ack_if, goes_along, with_ack, forward_later, forward_added_if, forward_if, test_forward_point, tested_if, with_forward, most_streams, add_request, request_started, request_of, request_if, with_request, with_data, filled_as, Turned, turned_if, next_packet, go_on, burst, send_with, send_buffered, cookie_if, send_cookie, fast_most, fast_packet, fast_if, send_lost}
 use Rattle.spec_endpoint.specs.Laws.{Call}
-use Rattle.proof_pair.specs.Acts.{EndWithPacket, at, nothing, idle, is_plain, takes_more, IsBundled, all_along, IsSummedSo, always, as_held, as_before, begins, adds_plain, emits, complains, adds_cookie, asks, adds_ack, expires, adds_forward, forwards_later, asks_no_reset, asks_reset, adds_request, sends, sends_fast, Preserves}
-use Rattle.proof_pair.proofs.BundledLemmas.{plain_first, first_more, data_more, TakesMore, filled_more, turned_more}
+use Rattle.proof_endpoint.specs.Acts.{EndWithPacket, at, nothing, idle, is_plain, takes_more, IsBundled, all_along, IsSummedSo, always, as_held, as_before, begins, adds_plain, emits, complains, adds_cookie, asks, adds_ack, expires, adds_forward, forwards_later, asks_no_reset, asks_reset, adds_request, sends, sends_fast, Preserves}
+use Rattle.proof_endpoint.proofs.BundledLemmas.{plain_first, first_more, data_more, TakesMore, filled_more, turned_more}
 
 -- ---- packets
 

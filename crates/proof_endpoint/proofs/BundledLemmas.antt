@@ -16,7 +16,7 @@ use Rattle.spec_endpoint.specs.Packets.{Packet, room, fits, added_if, add, add_a
 use Rattle.spec_endpoint.specs.Requests.{Request, request_chunk}
 use Rattle.spec_endpoint.specs.Sending as sending
 use Rattle.spec_endpoint.specs.Sending.{Filling, selective_ack, test_forward_point, most_streams, request_started, is_small, ack_if, with_ack, forward_added_if, forward_if, tested_if, with_forward, add_request, request_of, request_if, with_request, data_chunk_of, data_chunks, with_data, filled_as, turned_if, next_packet}
-use Rattle.proof_pair.specs.Acts.{is_plain, goes_along, goes_first, takes_more, IsBundled, all_along}
+use Rattle.proof_endpoint.specs.Acts.{is_plain, goes_along, goes_first, takes_more, IsBundled, all_along}
 
 -- ---- chunks
 
