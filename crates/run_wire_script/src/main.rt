@@ -2,7 +2,9 @@
 //!
 //! Standard input has a command a line, and each is answered on standard output; a line that is no command is answered by `?`
 //! and itself. A line that begins with `#` says what the rows below it show; it is printed too, and begins a new builder.
-//! HEX is bytes as hex digits, other words are decimal numbers of 32 bits.
+//! HEX is bytes as hex digits, other words are decimal numbers of 32 bits. `cut` and `lengths` answer twice, with any checksum let through, and
+//! with the packet's own alone, which is the sum of its bytes; readings that follow one another and are equal are printed once, behind the first
+//! and the last of what they are of.
 //!
 //! | command | answers |
 //! |---|---|
@@ -12,6 +14,9 @@
 //! | `fields HEX` | all fields of a chunk |
 //! | `packet HEX`, `sum-0 HEX`, `sum-376 HEX` | what its chunks say, and whether it is written alike: whatever its checksum, and by the default policy where its bytes have the checksum 0 or 376 |
 //! | `in-place HEX` | the chunks of a packet where they lie, whatever its checksum |
+//! | `usrsctp-0.9.5.0 HEX`, `pion-1.8.6 HEX`, `aiortc-1.4.0 HEX` | of a packet that this stack emitted, the same as of `packet`, and whether its chunks where they lie are those that were copied |
+//! | `cut HEX` | what the first bytes of a packet are read as, for each number of them from 0 on |
+//! | `lengths HEX PLACE VALUE ..` | what a packet is read as where the two bytes behind so many have each of the values |
 //! | `text HEX`, `word HEX` | a cause's text; a number of eight bytes |
 //! | `crc32c HEX` | the CRC32c of the bytes, and its own bytes as they are written, the lowest first |
 //! | `default WORD FIELD`, `dtls WORD FIELD`, `disabled WORD FIELD` | whether the policy lets the checksum in the field through, where the bytes have the word |
@@ -26,11 +31,14 @@
 
 mod building;
 mod chunks;
+mod damage;
 mod items;
 mod numbers;
 mod packets;
+mod readings;
 mod sacks;
 mod show;
+mod vectors;
 
 use numbers::number;
 use sctp_packet::SctpPacketBuilder;
@@ -53,6 +61,8 @@ fn answer_bytes(
         "sum-0" => packets::read(rt, bytes, 0, &Policy::default())?,
         "sum-376" => packets::read(rt, bytes, 376, &Policy::default())?,
         "in-place" => packets::look(rt, bytes, 0, &packets::unchecked())?,
+        "usrsctp-0.9.5.0" | "pion-1.8.6" | "aiortc-1.4.0" => vectors::read(rt, bytes)?,
+        "cut" => damage::cut(rt, bytes)?,
         "crc32c" => packets::crc32c(rt, bytes)?,
         "add" => building::add(rt, builder, bytes)?,
         _ => return Ok(items::answer(rt, name, bytes)? || chunks::answer(rt, name, bytes)?),
@@ -100,7 +110,11 @@ fn answer_words(
 
 fn answer(rt: &HostRuntime, builder: &mut SctpPacketBuilder, line: &str) -> io::Result<bool> {
     let (name, rest) = line.split_once(' ').unwrap_or((line, ""));
-    Ok(answer_hex(rt, builder, name, rest)? || answer_words(rt, builder, name, rest)?)
+    Ok(
+        answer_hex(rt, builder, name, rest)?
+            || answer_words(rt, builder, name, rest)?
+            || damage::answer(rt, name, rest)?,
+    )
 }
 
 fn answer_line(rt: &HostRuntime, builder: &mut SctpPacketBuilder, line: &str) -> io::Result<()> {

@@ -69,7 +69,8 @@ fn result(rt: &HostRuntime, code: u32) -> io::Result<()> {
     println!(rt; "{:?}", ReconfigurationResponseResult::try_from(code))
 }
 
-fn half(number: u32) -> u16 {
+/// Its lower half.
+pub fn half(number: u32) -> u16 {
     (number & 0xffff) as u16
 }
 

@@ -1,8 +1,6 @@
-//! What packets are read as.
+//! What packets are read as whose checksum is the sum of their bytes.
 
-use sctp_endpoint::outgoing_packet::word_of;
 use sctp_packet::{Chunk, SctpPacket};
-use sctp_probe::ByteSum;
 use sctp_wire::Policy;
 use std::alloc::{AllocError, Global};
 use std::fmt;
@@ -32,6 +30,17 @@ impl Look {
     }
 }
 
+/// The sum of the packet's bytes, with the checksum's field as zeros.
+fn sum_of(packet: &[u8]) -> u32 {
+    let mut sum: u32 = 0;
+    for (place, byte) in packet.iter().enumerate() {
+        if place < 8 || place >= 12 {
+            sum = sum.wrapping_add(u32::from(*byte));
+        }
+    }
+    sum
+}
+
 /// What each chunk says.
 fn texts(alloc: Global, chunks: &[Chunk]) -> Result<String, AllocError> {
     let mut text = String::new(alloc);
@@ -49,7 +58,7 @@ fn texts(alloc: Global, chunks: &[Chunk]) -> Result<String, AllocError> {
 
 /// What the chunks of the packet say, or why it is refused.
 fn reading(alloc: Global, bytes: &[u8], look: Look) -> Result<String, AllocError> {
-    match SctpPacket::from_bytes(alloc, bytes, word_of(&ByteSum, bytes), &look.policy()) {
+    match SctpPacket::from_bytes(alloc, bytes, sum_of(bytes), &look.policy()) {
         Ok(packet) => {
             let text = texts(alloc, &packet.chunks);
             drop(packet);
@@ -101,19 +110,19 @@ impl Runs {
         }
     }
 
-    pub fn told(&self) -> Result<String, AllocError> {
+    pub fn text(&self) -> Result<String, AllocError> {
         let mut text = String::new(self.alloc);
         for run in &self.runs {
             if !text.is_empty() {
                 text.push_str("; ")?;
             }
-            tell(&mut text, run)?;
+            write_run(&mut text, run)?;
         }
         Ok(text)
     }
 }
 
-fn tell(text: &mut String, run: &Run) -> Result<(), AllocError> {
+fn write_run(text: &mut String, run: &Run) -> Result<(), AllocError> {
     let (first, last, answer) = (run.first, run.last, &run.answer);
     if first == last {
         write!(text, "{first} {answer}")

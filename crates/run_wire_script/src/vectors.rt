@@ -1,0 +1,50 @@
+//! Packets that other stacks emitted.
+
+use crate::packets;
+use crate::show::refuse;
+use sctp_packet::{Chunk, PacketView, RawChunk, SctpPacket};
+use std::alloc::Global;
+use std::io;
+
+/// Reads the packet, and compares what was copied with what is in place. The checksum is not looked at.
+pub fn read(rt: &HostRuntime, bytes: &[u8]) -> io::Result<()> {
+    packets::read(rt, bytes, 0, &packets::unchecked())?;
+    match is_alike(rt.alloc(), bytes) {
+        Ok(alike) => println!(rt; "in place alike: {alike}"),
+        Err(fault) => refuse(rt, fault),
+    }
+}
+
+fn is_alike(alloc: Global, bytes: &[u8]) -> anyhow::Result<bool> {
+    let view = PacketView::new(bytes, 0, &packets::unchecked())?;
+    let packet = SctpPacket::from_bytes(alloc, bytes, 0, &packets::unchecked())?;
+    let alike = are_alike(alloc, &packet.chunks, view);
+    drop(packet);
+    alike
+}
+
+/// Whether the chunks in place are these, as they are shown, with these payloads.
+fn are_alike(alloc: Global, chunks: &[Chunk], mut view: PacketView<'_>) -> anyhow::Result<bool> {
+    for chunk in chunks {
+        let Some(raw) = view.next_chunk() else {
+            return Ok(false);
+        };
+        let again = Chunk::try_from(alloc, raw)?;
+        let text = format!(in alloc; "{again}")?;
+        drop(again);
+        if text != format!(in alloc; "{chunk}")? || !has_payload(chunk, raw) {
+            return Ok(false);
+        }
+    }
+    Ok(view.next_chunk().is_none())
+}
+
+/// Whether the payload in place is the one that was copied, where the chunk has one.
+fn has_payload(chunk: &Chunk, raw: RawChunk<'_>) -> bool {
+    match (chunk, raw.data_view()) {
+        (Chunk::Data(c), Some(fragment)) => fragment.payload == c.data.payload.as_slice(),
+        (Chunk::IData(c), Some(fragment)) => fragment.payload == c.data.payload.as_slice(),
+        (_, Some(_)) => false,
+        (_, None) => true,
+    }
+}
