@@ -60,7 +60,8 @@ fn walk(rt: &HostRuntime, mut view: PacketView<'_>) -> io::Result<()> {
     Ok(())
 }
 
-fn tell(rt: &HostRuntime, packet: &SctpPacket, bytes: &[u8]) -> io::Result<()> {
+/// What the packet's chunks say, and whether it is written alike.
+pub fn tell(rt: &HostRuntime, packet: &SctpPacket, bytes: &[u8]) -> io::Result<()> {
     println!(rt; "{} chunks", packet.chunks.len())?;
     for chunk in &packet.chunks {
         println!(rt; "{chunk}")?;

@@ -8,23 +8,27 @@ use std::io;
 
 /// Reads the packet, and compares what was copied with what is in place. The checksum is not looked at.
 pub fn read(rt: &HostRuntime, bytes: &[u8]) -> io::Result<()> {
-    packets::read(rt, bytes, 0, &packets::unchecked())?;
-    match is_alike(rt.alloc(), bytes) {
+    match SctpPacket::from_bytes(rt.alloc(), bytes, 0, &packets::unchecked()) {
+        Ok(packet) => {
+            let outcome = compare(rt, &packet, bytes);
+            drop(packet);
+            outcome
+        }
+        Err(fault) => refuse(rt, fault),
+    }
+}
+
+fn compare(rt: &HostRuntime, packet: &SctpPacket, bytes: &[u8]) -> io::Result<()> {
+    packets::tell(rt, packet, bytes)?;
+    match is_alike(rt.alloc(), &packet.chunks, bytes) {
         Ok(alike) => println!(rt; "in place alike: {alike}"),
         Err(fault) => refuse(rt, fault),
     }
 }
 
-fn is_alike(alloc: Global, bytes: &[u8]) -> anyhow::Result<bool> {
-    let view = PacketView::new(bytes, 0, &packets::unchecked())?;
-    let packet = SctpPacket::from_bytes(alloc, bytes, 0, &packets::unchecked())?;
-    let alike = are_alike(alloc, &packet.chunks, view);
-    drop(packet);
-    alike
-}
-
 /// Whether the chunks in place are these, as they are shown, with these payloads.
-fn are_alike(alloc: Global, chunks: &[Chunk], mut view: PacketView<'_>) -> anyhow::Result<bool> {
+fn is_alike(alloc: Global, chunks: &[Chunk], bytes: &[u8]) -> anyhow::Result<bool> {
+    let mut view = PacketView::new(bytes, 0, &packets::unchecked())?;
     for chunk in chunks {
         let Some(raw) = view.next_chunk() else {
             return Ok(false);
