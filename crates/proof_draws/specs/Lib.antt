@@ -5,3 +5,6 @@ pub mod Renamed
 pub mod NamedCookies
 pub mod Images
 pub mod NamedCalls
+pub mod Pairing
+pub mod Alike
+pub mod Kinds

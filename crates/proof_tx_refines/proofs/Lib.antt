@@ -33,3 +33,6 @@ pub mod SendLemmas
 pub mod StartLemmas
 pub mod RestLemmas
 pub mod RecordLemmas
+pub mod FilledLemmas
+pub mod PickedLemmas
+pub mod ScheduledLemmas

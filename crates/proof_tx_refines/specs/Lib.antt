@@ -7,3 +7,6 @@ pub mod Pauses
 pub mod Line
 pub mod Following
 pub mod Asked
+pub mod Filled
+pub mod Picked
+pub mod Scheduled

@@ -27,3 +27,17 @@ pub mod ClockLemmas
 pub mod JustifiedLemmas
 pub mod ComposedLemmas
 pub mod AgreedLemmas
+pub mod VisibleLemmas
+pub mod AnswerLemmas
+pub mod SeenLemmas
+pub mod AlikeEventLemmas
+pub mod EndingLemmas
+pub mod AlongLemmas
+pub mod PairLemmas
+pub mod NextLemmas
+pub mod KeepsLemmas
+pub mod ConnectsLemmas
+pub mod ShownLemmas
+pub mod ComputedLemmas
+pub mod SkippingLemmas
+pub mod ResettingLemmas

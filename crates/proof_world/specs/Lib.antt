@@ -6,3 +6,9 @@ pub mod Delivered
 pub mod Composed
 pub mod Justified
 pub mod Agreed
+pub mod Visible
+pub mod Pairs
+pub mod Alike
+pub mod Worlds
+pub mod Skipping
+pub mod Resetting

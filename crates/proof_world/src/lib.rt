@@ -1,4 +1,6 @@
-//! Laws of two ends and all packets between them: each run of a new world is a trace of two ends, which the theorem is read off.
+//! Laws of two ends and all packets between them. Each run of a new world is a trace of two ends, which the theorem is read off, and each
+//! trace is that of a world, where no bytes come from elsewhere; two runs are computed. Two worlds that the same events lead on, and
+//! whose ends draw other words, show the same.
 #![tactic(auto)]
 
 ghost use Rattle.proof_world.specs.Agreed.{WorldsAgree};
@@ -9,6 +11,10 @@ ghost use Rattle.proof_world.specs.Ended.{EndedAreHandedIn, NoLifecycleEndsTwice
 ghost use Rattle.proof_world.specs.Consistent.{OpeningFollows, WorldsAreConsistent};
 ghost use Rattle.proof_world.specs.Justified.{AcceptancesAreOffers, WorldsAreJustified};
 ghost use Rattle.proof_world.specs.Readable.{EachActionKeepsWorldsReadable, NewWorldsAreReadable, RunsKeepWorldsReadable};
+ghost use Rattle.proof_world.specs.Resetting.{OneIsReset};
+ghost use Rattle.proof_world.specs.Skipping.{OneIsSkipped};
+ghost use Rattle.proof_world.specs.Worlds.{TracesHaveWorlds};
+ghost use Rattle.proof_world.specs.Alike.{NewWorldsArePaired, WorldsShowTheSame};
 
 /// Each packet that one of two ends ever sent can be read back, as the chunks that were put together and as nothing else: of a
 /// new world whose options fit, and along each run of actions that fit. A packet that is given is one of the other end's, so
@@ -87,4 +93,35 @@ pub fn records_are_justified()
 /// It doesn't say that two ends ever connect, or anything of a sender that knows the tags.
 pub fn worlds_agree()
     ensures agree { WorldsAgree }
+{}
+
+/// Each trace of two new ends is that of a world, as long as no bytes come from elsewhere: a new world runs by these actions, and
+/// its sockets are the trace's ends with each packet written. So what a trace shows can happen, happens in bytes. Each packet
+/// that is emitted is to be bytes.
+pub fn traces_have_worlds()
+    ensures worlds { TracesHaveWorlds }
+{}
+
+/// All that `worlds_compose` of `proof_world` asks can be had. In one run of a new world, computed, the rules are followed,
+/// no association is over and the bounds are kept, while of three messages that are sent on one stream the packet of the second is
+/// lost, and it may not be sent again. It is given up, the others become ready, the first is reported as delivered, and in the end the
+/// sender is at rest.
+pub fn a_message_is_skipped()
+    ensures { OneIsSkipped }
+{}
+
+/// It can be had with resets, too. In one run of a new world, computed, a message is sent, its stream is reset, twice, and another message
+/// is accepted before the answer comes. The first is of epoch 0, the second of epoch 1; both become ready, and each end emits once
+/// that the stream was reset.
+pub fn a_stream_is_reset()
+    ensures { OneIsReset }
+{}
+
+/// Two new worlds with the same options in pairs, one checksum function for all four sockets and the same events show the same, whatever
+/// words were drawn: until an end of the first emits that an association is over, and up to and with the event in which it does. Asked
+/// for is that the first follows the rules until then, that in neither a verification tag is drawn twice, and that no bytes come from
+/// elsewhere; and each packet that was emitted is to be bytes.
+pub fn worlds_show_the_same()
+    ensures anew { NewWorldsArePaired }
+    ensures show { WorldsShowTheSame }
 {}

@@ -2,8 +2,8 @@
 
 ghost use Rattle.std.specs.Prelude.{◌≡◌, ◌⊎◌, true, false, [], ◌∷◌, map, IfErr, OnOk, Err};
 ghost use Rattle.spec_world.specs.World.{Happens, IsDisabled};
-ghost use Rattle.proof_world_draws.specs.Alike.{ArePaired, AreComparable, ShowAlong, first_new, second_new};
-ghost use Rattle.proof_world_draws.specs.Pairs.{Both, BothUpToLack, RanOut};
+ghost use Rattle.proof_world.specs.Alike.{ArePaired, AreComparable, ShowAlong, first_new, second_new};
+ghost use Rattle.proof_world.specs.Pairs.{Both, BothUpToLack, RanOut};
 ghost use Rattle.sctp_network_side.specs.SideView.{action_of};
 ghost use Rattle.sctp_network.specs.WorldView.{world_of};
 

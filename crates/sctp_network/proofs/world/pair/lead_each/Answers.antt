@@ -1,7 +1,7 @@
 use Rattle.std.proofs.Common.{map, drop, ◌+◌}
 use Rattle.std.proofs.lemmas.Result.{err_from_is_err_and}
 use Rattle.sctp_network_side.specs.SideView.{action_of}
-use Rattle.proof_world_draws.proofs.PairLemmas.{both_on, both_ran_out}
+use Rattle.proof_world.proofs.PairLemmas.{both_on, both_ran_out}
 use Rattle.sctp_network.proofs.ReachableLemmas.{next_event}
 use Rattle.sctp_network.proofs.world.pair.lead_each.Goals as goal
 

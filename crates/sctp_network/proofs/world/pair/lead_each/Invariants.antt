@@ -1,7 +1,7 @@
 use Rattle.std.proofs.Common.{◌≡◌, false, map, drop}
 use Rattle.sctp_network_side.specs.SideView.{action_of}
 use Rattle.sctp_network.specs.WorldView.{world_of}
-use Rattle.proof_world_draws.proofs.PairLemmas.{SoFar}
+use Rattle.proof_world.proofs.PairLemmas.{SoFar}
 use Rattle.sctp_network.proofs.world.pair.lead_each.Given as goal
 
 abbrev pub invariant-loop-event : goal.invariant-loop-event

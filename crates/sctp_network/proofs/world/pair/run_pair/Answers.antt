@@ -1,6 +1,6 @@
 use Rattle.std.proofs.Common.{map}
 use Rattle.spec_world.specs.World.{World}
-use Rattle.proof_world_draws.proofs.AlongLemmas.{worlds_show}
+use Rattle.proof_world.proofs.AlongLemmas.{worlds_show}
 use Rattle.sctp_network_side.specs.SideView.{action_of}
 use Rattle.sctp_network.specs.WorldView.{world_of}
 use Rattle.sctp_network.proofs.PairedLemmas.{SentBytes, paired_by}

@@ -1,6 +1,6 @@
 use Rattle.std.proofs.Common.{refl}
 use Rattle.std.proofs.lemmas.Result.{err_from_is_err_and, IfErr-weaker}
-use Rattle.proof_world_draws.proofs.PairLemmas.{first_ran_out, second_ran_out}
+use Rattle.proof_world.proofs.PairLemmas.{first_ran_out, second_ran_out}
 use Rattle.sctp_network.proofs.world.pair.step_both.Goals as goal
 
 pub returns-in_err-happen-clause-ran_out : goal.returns-in_err-happen-clause-ran_out

@@ -1,5 +1,0 @@
-use Rattle.proof_draws_pair.proofs.PairingLemmas.{pairs_know}
-use Rattle.proof_draws_pair.proofs.draws_have_names.Goals as goal
-
-pub returns : goal.returns
-returns c = record { names = pairs_know }

@@ -1,5 +1,0 @@
-use Rattle.proof_draws_pair.proofs.LawLemmas.{are_always_alike}
-use Rattle.proof_draws_pair.proofs.traces_are_alike.Goals as goal
-
-pub returns : goal.returns
-returns c = record { alike = are_always_alike }

@@ -1,3 +1,0 @@
-pub mod FilledLemmas
-pub mod PickedLemmas
-pub mod ScheduledLemmas

@@ -1,5 +1,0 @@
-use Rattle.proof_world_draws.proofs.AlongLemmas.{worlds_show, new_paired}
-use Rattle.proof_world_draws.proofs.worlds_show_the_same.Goals as goal
-
-pub returns : goal.returns
-returns c = record { anew = new_paired; show = worlds_show }

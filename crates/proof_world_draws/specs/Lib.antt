@@ -1,3 +1,0 @@
-pub mod Visible
-pub mod Pairs
-pub mod Alike

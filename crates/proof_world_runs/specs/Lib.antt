@@ -1,3 +1,0 @@
-pub mod Worlds
-pub mod Skipping
-pub mod Resetting
