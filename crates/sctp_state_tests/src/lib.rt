@@ -1,5 +1,7 @@
-//! Tests of `sctp_state` that are no rows of the script of `run_state_script`: what derives mean.
+//! Tests of `sctp_serial` and of `sctp_state` that are no rows of a script: numbers that wrap, and what derives mean.
 #![tactic(auto)]
 
 #[cfg(test)]
-mod tests;
+mod serial;
+#[cfg(test)]
+mod state;

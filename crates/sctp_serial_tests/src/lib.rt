@@ -1,5 +1,0 @@
-//! Tests of `sctp_serial` over its public items, apart so that it is proved once.
-#![tactic(auto)]
-
-#[cfg(test)]
-mod tests;
