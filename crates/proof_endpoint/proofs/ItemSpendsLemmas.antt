@@ -5,7 +5,7 @@ use Rattle.sctp_packet.specs.Covered.{is_covered}
 use Rattle.sctp_packet.specs.Chunk.{FragmentTree}
 use Rattle.sctp_state.specs.declared.api.GivenUpCause.{GivenUpCause}
 use Rattle.sctp_state.specs.declared.api.GivenUpCause.TheVariants.{Lifetime, Retransmissions}
-use Rattle.sctp_state.specs.Events.{Emitted, give_up}
+use Rattle.sctp_state.specs.Events.{Emitted}
 use Rattle.sctp_tx_outstanding.specs.Item.{Item, is_of, is_fast, should_be_retransmitted, abandon, mark_as_retransmitted, miss_fast}
 use Rattle.sctp_tx_outstanding.specs.Item as item
 use Rattle.sctp_tx_outstanding.specs.Items.{Items, change_at, lay_down, last_of}
@@ -21,7 +21,7 @@ use Rattle.sctp_tx.specs.Resent.{resent_by, resent, resent_fast, may_send_new, t
 use Rattle.sctp_tx.specs.Sending.{Filling, offered_payload, item_of, append, Turned, turned_if, next_turn, fill, discard_all, without_discards, filled_with, fill_all, send}
 use Rattle.proof_endpoint.specs.Lifecycles.{names_lifecycle, where_end, kept_ends}
 use Rattle.proof_endpoint.proofs.SpendsLemmas.{Spends, kept_append, kept_split, ends_reports, spends_nothing, spends_given_up, spends_all, spends_then, spends_within}
-use Rattle.proof_endpoint.proofs.QueueSpendsLemmas.{made_end, in_queue, after_turn, spends_produced, spends_discards}
+use Rattle.proof_endpoint.proofs.QueueSpendsLemmas.{made_end, in_queue, spends_produced, spends_discards}
 
 module _ (l : ℕ) where
   -- what the end of an item counts
@@ -79,18 +79,14 @@ module _ (l : ℕ) where
 
     given_up_too : (number : ℕ) (cause : GivenUpCause) (x : Step P) → Reaches x → Reaches (given_up number cause x)
     given_up_too number cause x h =
-        let n : ℕ = kept_ends l x.items.kept in
-        let m : ℕ = kept_ends l (abandon_message number x.items).kept in
-        spends_then l t x.emitted (give_up number cause x.emitted) w n m h
-        (spends_given_up l number cause x.emitted n m (omega (arith, kept_abandoned number x.items)))
+        spends_then l h
+        (spends_given_up l number cause x.emitted (kept_ends l x.items.kept) (kept_ends l (abandon_message number x.items).kept) (omega (arith, kept_abandoned number x.items)))
 
     nacks_item : (b at_once fast is_lossy : Bool) (k : ℕ) (i : Item) (x : Step P) → Reaches x
         → Reaches (cond b (given_up i.number (Retransmissions (i.sent - 1)) x) (record x { items = change_items k (item.nack at_once fast) x.items; is_lossy = is_lossy }))
     nacks_item true at_once fast is_lossy k i x h = given_up_too i.number (Retransmissions (i.sent - 1)) x h
     nacks_item false at_once fast is_lossy k i x h =
-        let n : ℕ = kept_ends l x.items.kept in
-        let m : ℕ = kept_ends l (change_items k (item.nack at_once fast) x.items).kept in
-        spends_within l t x.emitted w n w m h (omega (arith, kept_changed k (item.nack at_once fast) x.items.kept (λ j. refl)))
+        spends_within l w (kept_ends l (change_items k (item.nack at_once fast) x.items).kept) h (omega (arith, kept_changed k (item.nack at_once fast) x.items.kept (λ j. refl)))
 
     nacks_at : (o : Option Item) (at_once fast : Bool) (k : ℕ) (x : Step P) → Reaches x
         → Reaches (unwrap_or (option_map (λ i. nack_item at_once fast k i x) o) x)
@@ -198,23 +194,21 @@ module _ (l : ℕ) where
 
     appends : (now w : ℕ) (o : Option queued.Produced) (t : Emitted P) (x : Filling P) → Spends l t x.emitted w (in_filling x + made_end l o)
         → Spends l t (append now o x).emitted w (in_filling (append now o x))
-    appends now w None t x h = spends_within l t x.emitted w (in_filling x + 0) w (in_filling x) h (omega arith)
+    appends now w None t x h = spends_within l w (in_filling x) h (omega arith)
     appends now w (Some p) t x h =
-        spends_within l t x.emitted w (in_filling x + made_end l (Some p)) w (in_filling (append now (Some p) x)) h
-        (omega (arith, kept_append l x.sender.outstanding.items.kept (item_of now p ∷ [])))
+        spends_within l w (in_filling (append now (Some p) x)) h (omega (arith, kept_append l x.sender.outstanding.items.kept (item_of now p ∷ [])))
 
     turns_if : (b : Bool) (now : ℕ) (x : Filling P) → Spends l x.emitted (turned_if b now x).filling.emitted (in_filling x) (in_filling (turned_if b now x).filling)
     turns_if true now x =
         let y : queued.Turn P = queued.produce now (offered_payload x.left x.sender) x.queue x.emitted in
         let z : Filling P = record x { queue = y.queue; emitted = y.emitted } in
         appends now (in_filling x) y.made x.emitted z
-        (spends_within l x.emitted y.emitted (in_queue l x.queue) (after_turn l y) (in_filling x) (in_filling z + made_end l y.made)
-        (spends_produced l now (offered_payload x.left x.sender) x.queue x.emitted) (omega arith))
+        (spends_within l (in_filling x) (in_filling z + made_end l y.made) (spends_produced l now (offered_payload x.left x.sender) x.queue x.emitted) (omega arith))
     turns_if false now x = spends_nothing l x.emitted (in_filling x) (in_filling x) (omega arith)
 
     fills_if : (b : Bool) (w : ℕ) (t : Emitted P) (x y : Filling P) → Spends l t x.emitted w (in_filling x) → Spends l x.emitted y.emitted (in_filling x) (in_filling y)
         → Spends l t (cond b y x).emitted w (in_filling (cond b y x))
-    fills_if true w t x y h k = spends_then l t x.emitted y.emitted w (in_filling x) (in_filling y) h k
+    fills_if true w t x y h k = spends_then l h k
     fills_if false w t x y h k = h
 
     fills : (n now : ℕ) (x : Filling P) → Spends l x.emitted (fill n now x).emitted (in_filling x) (in_filling (fill n now x))
@@ -229,8 +223,6 @@ module _ (l : ℕ) where
         let left : Changed P = discard_all s.outstanding.items.discards q t in
         let x : Filling P = filled_with most (without_discards s) (resent most (without_discards s)) left in
         let y : Filling P = fill (suc x.left) now x in
-        let first : Spends l t left.emitted (in_queue l q + kept_of s) (in_filling x) = spends_within l t left.emitted (in_queue l q) (in_queue l left.queue) (in_queue l q + kept_of s)
-        (in_filling x) (spends_discards l s.outstanding.items.discards q t) (omega (arith, kept_after most (without_discards s))) in
-        spends_then l t left.emitted y.emitted (in_queue l q + kept_of s) (in_filling x) (in_filling (fill_all now x)) first
-        (spends_within l left.emitted y.emitted (in_filling x) (in_filling y) (in_filling x) (in_filling (fill_all now x)) (fills (suc x.left) now x)
-        (omega (arith, kept_timed (nat_lt 0 (length y.chunks)) now y.sender)))
+        spends_then l
+        (spends_within l (in_queue l q + kept_of s) (in_filling x) (spends_discards l s.outstanding.items.discards q t) (omega (arith, kept_after most (without_discards s))))
+        (spends_within l (in_filling x) (in_filling (fill_all now x)) (fills (suc x.left) now x) (omega (arith, kept_timed (nat_lt 0 (length y.chunks)) now y.sender)))

@@ -56,11 +56,6 @@ mod SpendsLemmas
 mod QueueSpendsLemmas
 mod ItemSpendsLemmas
 mod LivesLemmas
-mod RowLivesLemmas
-mod OpeningLivesLemmas
-mod TimeLivesLemmas
-mod CallLivesLemmas
-mod InputLivesLemmas
 pub mod LifecycleLemmas
 mod HandoverValidLemmas
 pub mod HandoverAgainLemmas

@@ -1,52 +1,76 @@
 -- A lifecycle ends at most once: each call, and all calls from a new end on.
-use Rattle.std.proofs.Common.{◌≡◌, ℕ, ◌+◌, ◌≤◌, false, List, [], ◌∷◌, take, drop, refl, sym, ap, ◌∙◌, take-append-drop, arith}
+use Rattle.std.proofs.Common.{◌≡◌, ℕ, suc, ◌+◌, ◌*◌, ◌≤◌, false, Option, Some, None, List, [], ◌∷◌, ◌++◌, length, take, drop, suc-mul, refl, sym, ap, ◌∙◌, take-append-drop, arith}
 use Rattle.rand_core.specs.Stream.{Stream}
-use Rattle.sctp_state.specs.Options.{Options}
+use Rattle.sctp_serial.specs.Messages.{Message}
+use Rattle.sctp_state.specs.declared.api.SocketState.{SocketState}
+use Rattle.sctp_state.specs.declared.api.errors.SendError.{SendError}
+use Rattle.sctp_state.specs.Options.{Options, SendOptions}
 use Rattle.sctp_state.specs.Events.{Event}
-use Rattle.spec_endpoint.specs.Association.{EndpointState, Endpoint, fresh, Packing}
-use Rattle.spec_endpoint.specs.Laws.{Call, Connect, Close, Shutdown, Send, SendMany, ResetStreams, TakeMessage, SetLowThreshold, SetPriority, SetMaxMessageSize, Advance, HandOver, Restore, Packet, NoPacket, called}
-use Rattle.proof_endpoint.specs.Lifecycles.{ends, kept_in, alive, hands_lifecycle, is_restore, EndsWithin, Use, Calls, TakesEvent, after_use, taken_events, emitted_along, handed_by, handed_along, restores, NoneRestores}
-use Rattle.proof_endpoint.proofs.SpendsLemmas.{ends_append}
-use Rattle.proof_endpoint.proofs.LivesLemmas.{Goes, Lives, lives_less, lives_then}
-use Rattle.proof_endpoint.proofs.RowLivesLemmas.{lives_close, lives_shutdown}
-use Rattle.proof_endpoint.proofs.OpeningLivesLemmas.{lives_connect}
-use Rattle.proof_endpoint.proofs.TimeLivesLemmas.{lives_advance}
-use Rattle.proof_endpoint.proofs.CallLivesLemmas.{lives_send, lives_send_many, lives_threshold, lives_priority, lives_max_message_size, lives_take_message, lives_reset_streams, lives_hand_over}
-use Rattle.proof_endpoint.proofs.InputLivesLemmas.{lives_packet, lives_no_packet}
+use Rattle.spec_endpoint.specs.Association.{EndpointState, Endpoint, fresh, Packing, with_context}
+use Rattle.spec_endpoint.specs.Sending.{send_in}
+use Rattle.spec_endpoint.specs.Calls.{shown_state, refusal, refusal_of, refusal_events, lifecycle_end, queue_entry, accept, offered, offer, send, offer_all, send_many}
+use Rattle.spec_endpoint.specs.Laws.{Call, Send, SendMany, NoPacket, called}
+use Rattle.proof_endpoint.specs.Lifecycles.{ends, names_lifecycle, alive, hands_lifecycle, is_restore, EndsWithin, Use, Calls, TakesEvent, after_use, taken_events, emitted_along, handed_by, handed_along, restores, NoneRestores}
+use Rattle.proof_endpoint.specs.Acts.{Preserves}
+use Rattle.proof_endpoint.proofs.RowActsLemmas.{does_where_open}
+use Rattle.proof_endpoint.proofs.CallActsLemmas.{does_send_in, does_sent_if}
+use Rattle.proof_endpoint.proofs.ActsLemmas.{keeps_call}
+use Rattle.proof_endpoint.proofs.SpendsLemmas.{Spends, ends_append, ends_ended, ends_refusal, spends_nothing, spends_all, spends_then, spends_within}
+use Rattle.proof_endpoint.proofs.QueueSpendsLemmas.{waiting_added}
+use Rattle.proof_endpoint.proofs.LivesLemmas.{Lives, lives}
 
 module _ {P : Type 0} (l : ℕ) where
-  -- with what is handed in
-  abbrev Hands : ℕ → EndpointState P → EndpointState P → Type 0
-  Hands n s t = Goes l (kept_in l s.state + n) s.context (kept_in l t.state) t.context
+  -- ---- messages that are handed in
 
-  -- nothing is
-  none_handed : (s t : EndpointState P) → Lives l s t → Hands 0 s t
-  none_handed s t g =
-      let x : ℕ = kept_in l s.state in
-      lives_then l (x + 0) s.context x s.context (kept_in l t.state) t.context (lives_less l (x + 0) s.context x s.context refl (omega arith)) g
+  abbrev Hands : (handed : ℕ) → (before after : EndpointState P) → Type 0
+  Hands n s t = Spends l s.context.emitted t.context.emitted (alive l s + n) (alive l t)
 
-  lives_call : (call : Call) (s : Endpoint P) → is_restore call ≡ false → Hands (hands_lifecycle l call) s.endpoint_state (called call s).endpoint_state
-  lives_call Connect s h = none_handed s.endpoint_state (called Connect s).endpoint_state (lives_connect l s)
-  lives_call Close s h = none_handed s.endpoint_state (called Close s).endpoint_state (lives_close l s.endpoint_state)
-  lives_call Shutdown s h = none_handed s.endpoint_state (called Shutdown s).endpoint_state (lives_shutdown l s.endpoint_state)
-  lives_call (Send m o) s h = lives_send l m o s.endpoint_state
-  lives_call (SendMany ms o) s h = lives_send_many l ms o s.endpoint_state
-  lives_call (ResetStreams streams) s h = none_handed s.endpoint_state (called (ResetStreams streams) s).endpoint_state (lives_reset_streams l streams s.endpoint_state)
-  lives_call TakeMessage s h = none_handed s.endpoint_state (called TakeMessage s).endpoint_state (lives_take_message l s.endpoint_state)
-  lives_call (SetLowThreshold stream bytes) s h = none_handed s.endpoint_state (called (SetLowThreshold stream bytes) s).endpoint_state (lives_threshold l stream bytes s.endpoint_state)
-  lives_call (SetPriority stream priority) s h = none_handed s.endpoint_state (called (SetPriority stream priority) s).endpoint_state (lives_priority l stream priority s.endpoint_state)
-  lives_call (SetMaxMessageSize bytes) s h = none_handed s.endpoint_state (called (SetMaxMessageSize bytes) s).endpoint_state (lives_max_message_size l bytes s.endpoint_state)
-  lives_call (Advance now) s h = none_handed s.endpoint_state (called (Advance now) s).endpoint_state (lives_advance l now s.endpoint_state)
-  lives_call HandOver s h = none_handed s.endpoint_state (called HandOver s).endpoint_state (lives_hand_over l s.endpoint_state)
-  lives_call (Restore record_of) s h = absurd (cc)
-  lives_call (Packet p) s h = none_handed s.endpoint_state (called (Packet p) s).endpoint_state (lives_packet l p s)
-  lives_call NoPacket s h = none_handed s.endpoint_state (called NoPacket s).endpoint_state (lives_no_packet l s)
+  hands_one : (o : Option SendError) (m : Message) (how : SendOptions) (s : EndpointState P)
+      → Hands (names_lifecycle l how.lifecycle_id) s (with_context s (offered o m how s.context))
+  hands_one None m how s =
+      spends_nothing l s.context.emitted (alive l s + names_lifecycle l how.lifecycle_id) (alive l (with_context s (accept m how s.context)))
+      (omega (arith, waiting_added l m.stream (queue_entry s.context.queue.next_number s.context.now m how) s.context.queue))
+  hands_one (Some e) m how s =
+      let first : List (Event P) = lifecycle_end how.lifecycle_id in
+      let rest : List (Event P) = refusal_events e in
+      spends_all l (first ++ rest) s.context.emitted (alive l s + names_lifecycle l how.lifecycle_id) (alive l s)
+      (omega (arith, ends_append l first rest, ends_ended P l how.lifecycle_id, ends_refusal P l e))
 
-  within_of : (n : ℕ) (s t : EndpointState P) → Hands n s t → EndsWithin l n s t
-  within_of n s t g = record { events = g.spends.events; behind = g.spends.behind; counted = omega (arith, g.spends.counted) }
+  hands_all : (ms : List Message) (how : SendOptions) (shown : SocketState) (s : EndpointState P)
+      → Hands (length ms * names_lifecycle l how.lifecycle_id) s (with_context s (offer_all ms how shown s.context))
+  hands_all [] how shown s = spends_nothing l s.context.emitted (alive l s + 0 * names_lifecycle l how.lifecycle_id) (alive l s) (omega arith)
+  hands_all (m ∷ ms) how shown s =
+      let n : ℕ = names_lifecycle l how.lifecycle_id in
+      let t : EndpointState P = with_context s (offer m how shown s.context) in
+      spends_then l
+      (spends_within l (alive l s + suc (length ms) * n) (alive l t + length ms * n) (hands_one (refusal m shown s.context) m how s) (omega (arith, suc-mul (length ms) n)))
+      (hands_all ms how shown t)
+
+  -- ---- each call
+
+  -- messages are handed in, and then acts follow
+  handed : (n : ℕ) (s t u : EndpointState P) → Hands n s t → Spends l t.context.emitted u.context.emitted (alive l t) (alive l u) → EndsWithin l n s u
+  handed n s t u g h =
+      let k : Hands n s u = spends_then l g h in
+      record { events = k.events; behind = k.behind; counted = omega (arith, k.counted) }
+
+  -- of a call that hands in none
+  acts : Preserves NoPacket (Lives {P = P} l)
+  acts = lives l NoPacket refl refl
 
   pub ends_within : (call : Call) (s : Endpoint P) → is_restore call ≡ false → EndsWithin l (hands_lifecycle l call) s.endpoint_state (called call s).endpoint_state
-  ends_within call s h = within_of (hands_lifecycle l call) s.endpoint_state (called call s).endpoint_state (lives_call call s h)
+  ends_within (Send m o) s h =
+      let e : EndpointState P = s.endpoint_state in
+      let t : EndpointState P = with_context e (offer m o (shown_state e.state) e.context) in
+      handed (names_lifecycle l o.lifecycle_id) e t (send m o e) (hands_one (refusal_of m e) m o e) (does_sent_if acts s.random (refusal_of m e) t)
+  ends_within (SendMany ms o) s h =
+      let e : EndpointState P = s.endpoint_state in
+      let t : EndpointState P = with_context e (offer_all ms o (shown_state e.state) e.context) in
+      handed (length ms * names_lifecycle l o.lifecycle_id) e t (send_many ms o e) (hands_all ms o (shown_state e.state) e)
+      (does_where_open acts s.random send_in t (does_send_in acts s.random))
+  ends_within call s h =
+      let e : EndpointState P = s.endpoint_state in
+      handed 0 e e (called call s).endpoint_state (spends_nothing l e.context.emitted (alive l e + 0) (alive l e) (omega arith)) (keeps_call call (lives l call refl h) s)
 
   -- ---- along calls
 

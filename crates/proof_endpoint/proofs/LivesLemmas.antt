@@ -1,212 +1,181 @@
--- Lifecycles of an end: what is said and sent.
-use Rattle.std.proofs.Common.{◌≡◌, ℕ, zero, suc, ◌+◌, ◌≤◌, nat_lt, nat_le, is_some, Bool, true, false, List, [], ◌∷◌, refl, ap, ◌∙◌, arith}
-use Rattle.sctp_packet.specs.Chunk.{ChunkTree, cookie_echo_chunk}
-use Rattle.sctp_rx.specs.Tracker.{is_ack_due}
-use Rattle.sctp_state.specs.declared.api.ErrorKind.{ErrorKind}
-use Rattle.sctp_state.specs.Events.{Event, SendPacket, OnError, Emitted, emit_event}
-use Rattle.sctp_tx_outstanding.specs.Forward.{is_forward_due}
-use Rattle.sctp_tx_outstanding.specs.Items.{fast_items}
-use Rattle.sctp_tx_queue.specs.declared.send_queue.stream.ResetStep.TheVariants.{Requested}
+-- Lifecycles across each act of a call that hands in no message: each end that is emitted is taken from what is alive.
+use Rattle.std.proofs.Common.{◌≡◌, ℕ, ◌+◌, ◌≤◌, ◌||◌, Bool, true, false, refl, ap, arith}
+use Rattle.std.proofs.lemmas.Bool.{both_ways}
+use Rattle.sctp_serial.specs.Messages.{Message}
+use Rattle.sctp_capabilities.specs.Capabilities.{negotiate}
+use Rattle.sctp_capabilities.specs.Cookie.{Cookie}
+use Rattle.sctp_state.specs.Options.{SendOptions}
+use Rattle.sctp_state.specs.Events.{Event, SendPacket, OnError, OnConnected, OnConnectionRestarted, OnClosed, OnIncomingStreamReset, OnStreamsResetPerformed, OnStreamsResetFailed, OnLifecycleEnd, Emitted, numbers_of}
+use Rattle.sctp_tx_queue.specs.declared.send_queue.stream.ResetStep.TheVariants.{Requested, Performed, Refused}
 use Rattle.sctp_tx_queue.specs.Queue.{Queue}
 use Rattle.sctp_tx_queue.specs.Resets.{requested_streams, request_resets}
-use Rattle.sctp_tx.specs.Sending as fragments
-use Rattle.sctp_tx.specs.Sending.{send}
-use Rattle.sctp_tx.specs.ForwardPoints.{forward_chunk}
-use Rattle.spec_endpoint.specs.Association.{Tcb, Context, EndpointState, Endpoint}
-use Rattle.spec_endpoint.specs.Packets.{Packet, room, fits, add, has_chunks, packet_to, new_packet, complain, header_to, emit_if, emit, emit_chunk}
-use Rattle.spec_endpoint.specs.Sending.{Filling, ask_for_sack, ack_if, goes_along, with_ack, forward_added_if, forward_if, test_forward_point, tested_if, with_forward, most_streams, request_of, request_at_most, request_if, with_request, fill_packet, with_data, filled_as, emit_packet, Turned, turned_if, next_packet, go_on, burst, Sent, send_with, send_buffered, cookie_if, send_cookie, fast_most, fast_packet, fast_if, send_lost}
-use Rattle.proof_endpoint.specs.Lifecycles.{emitted_end, kept_in, waits}
+use Rattle.sctp_tx_queue.specs.Settings.{set_priority}
+use Rattle.spec_endpoint.specs.Association.{Closed, Established}
+use Rattle.spec_endpoint.specs.Packets.{room, header_to, say}
+use Rattle.spec_endpoint.specs.Requests.{Outcome, Unsettled, Done, Denied, outcome}
+use Rattle.spec_endpoint.specs.Sending.{fast_most}
+use Rattle.spec_endpoint.specs.Opening.{agreed_by, queue_anew, queue_if, other_mode}
+use Rattle.spec_endpoint.specs.Sack.{clean_blocks}
+use Rattle.spec_endpoint.specs.StreamReset.{on_outcome}
+use Rattle.spec_endpoint.specs.Laws.{Call, Send, SendMany, ending}
+use Rattle.proof_endpoint.specs.Lifecycles.{emitted_end, kept_in, waits, alive, is_restore}
+use Rattle.proof_endpoint.specs.Acts.{EndWithPacket, end_of, in_state, in_open, with_context, opened_by, point_of, IsOffered, alone, among, PacketAct, emits, complains, before_packets, after_packets, OpeningAct, echoes, establishes, opens, restarts, opens_again, maintains, before_opening, after_opening, ClosingAct, closes, before_closing, after_closing, DataAct, takes_data, before_data, after_data, SackAct, takes_sack, before_sack, after_sack, SendingAct, expires, asks_no_reset, asks_reset, sends, sends_fast, before_sending, after_sending, TimeAct, times_out, before_time, after_time, CallAct, accepts, refuses, sets_low_threshold, sets_priority, before_call, after_call, ResetAct, prepares, performs, takes_response, before_reset, after_reset, HandoverAct, leaves, takes_up, before_handover, after_handover, InputAct, ends_packet, before_input, after_input, Preserves}
 use Rattle.proof_endpoint.proofs.SpendsLemmas.{Spends, spends_nothing, spends_one, spends_then, spends_within}
-use Rattle.proof_endpoint.proofs.QueueSpendsLemmas.{waiting_each_stepped}
-use Rattle.proof_endpoint.proofs.ItemSpendsLemmas.{kept_of, kept_fast, spends_expired, spends_sent}
+use Rattle.proof_endpoint.proofs.QueueSpendsLemmas.{in_queue, waiting_priority, waiting_each_stepped, waiting_reset, spends_prepared, spends_threshold}
+use Rattle.proof_endpoint.proofs.ItemSpendsLemmas.{kept_fast, spends_nack_all, spends_expired, spends_sack, spends_sent}
 
--- from one context, and so many kept ends, to another
-pub record Goes {P : Type 0} (l x : ℕ) (c : Context P) (y : ℕ) (d : Context P) : Type 0 where
-  pub spends : Spends l c.emitted d.emitted (waits l c + x) (waits l d + y)
+-- messages are handed in
+abbrev pub offers : Call → Bool
+offers (Send m o) = true
+offers (SendMany ms o) = true
+offers call = false
 
--- one row
-abbrev pub Lives : {P : Type 0} → (l : ℕ) → (before after : EndpointState P) → Type 0
-Lives l s t = Goes l (kept_in l s.state) s.context (kept_in l t.state) t.context
+not_offered : (call : Call) (message : Message) (o : SendOptions) → IsOffered call message o → offers call ≡ false → ⊥
+not_offered call message o (alone is) none = both_ways (offers call) none (ap offers is)
+not_offered call message o (among messages is at) none = both_ways (offers call) none (ap offers is)
 
-abbrev pub EndLives : {P : Type 0} → (l : ℕ) → (before after : Endpoint P) → Type 0
-EndLives l s t = Lives l s.endpoint_state t.endpoint_state
-
--- ends that a control block keeps
-abbrev pub keeps : (l : ℕ) → Tcb → ℕ
-keeps l t = kept_of l t.sender
+waiting_if : (l : ℕ) (b : Bool) (q : Queue) → in_queue l (queue_if b q) ≤ in_queue l q
+waiting_if l true q = waiting_reset l q
+waiting_if l false q = omega arith
 
 module _ {P : Type 0} (l : ℕ) where
-  -- ---- contexts
+  abbrev living : EndWithPacket P → ℕ
+  living m = alive l (end_of m).endpoint_state
 
-  pub lives_by : (x : ℕ) (c : Context P) (y : ℕ) (d : Context P) → Spends l c.emitted d.emitted (waits l c + x) (waits l d + y) → Goes l x c y d
-  lives_by x c y d h = record { spends = h }
+  abbrev pub Lives : (before after : EndWithPacket P) → Type 0
+  Lives m n = Spends l m.context.emitted n.context.emitted (living m) (living n)
 
-  -- nothing is emitted, and what is alive stays so or is forgotten
-  pub lives_less : (x : ℕ) (c : Context P) (y : ℕ) (d : Context P) → d.emitted ≡ c.emitted → waits l d + y ≤ waits l c + x → Goes l x c y d
-  lives_less x c y d emitted h =
-      let same : Spends l c.emitted c.emitted (waits l c + x) (waits l d + y) = spends_nothing l c.emitted (waits l c + x) (waits l d + y) h in
-      record { spends = record { events = same.events; behind = ap (λ (t : Emitted P). t.events) emitted ∙ same.behind; counted = same.counted } }
+  same : (m : EndWithPacket P) → Lives m m
+  same m = spends_nothing l m.context.emitted (living m) (living m) (omega arith)
 
-  pub lives_silent : (x : ℕ) (c d : Context P) → d.emitted ≡ c.emitted → waits l d ≤ waits l c → Goes l x c x d
-  lives_silent x c d emitted h = lives_less x c x d emitted (omega (arith, h))
+  -- what waits goes on, or what is kept
+  waiting_on : {t u : Emitted P} {x y : ℕ} (kept : ℕ) → Spends l t u x y → Spends l t u (x + kept) (y + kept)
+  waiting_on {t} {u} {x} {y} kept h = spends_within l (x + kept) (y + kept) h (omega arith)
 
-  pub lives_same : (x : ℕ) (c : Context P) → Goes l x c x c
-  lives_same x c = lives_less x c x c refl (omega arith)
+  kept_on : {t u : Emitted P} {x y : ℕ} (waiting : ℕ) → Spends l t u x y → Spends l t u (waiting + x) (waiting + y)
+  kept_on {t} {u} {x} {y} waiting h = spends_within l (waiting + x) (waiting + y) h (omega arith)
 
-  pub lives_then : (x : ℕ) (c : Context P) (y : ℕ) (d : Context P) (z : ℕ) (e : Context P) → Goes l x c y d → Goes l y d z e → Goes l x c z e
-  lives_then x c y d z e g h = record { spends = spends_then l c.emitted d.emitted e.emitted (waits l c + x) (waits l d + y) (waits l e + z) g.spends h.spends }
+  -- another queue, in which no more waits
+  requeued : (q : Queue) (m : EndWithPacket P) → in_queue l q ≤ in_queue l m.context.queue → Lives m (with_context (record m.context { queue = q }) m)
+  requeued q m h = spends_nothing l m.context.emitted (living m) (in_queue l q + kept_in l m.state) (omega (arith, h))
 
-  -- fewer are kept at last
-  pub lives_dropped : (x : ℕ) (c : Context P) (y z : ℕ) (d : Context P) → z ≤ y → Goes l x c y d → Goes l x c z d
-  lives_dropped x c y z d h g = record {
-    spends = spends_within l c.emitted d.emitted (waits l c + x) (waits l d + y) (waits l c + x) (waits l d + z) g.spends (omega (arith, h));
-  }
+  -- an event of something else
+  said : (e : Event P) (m : EndWithPacket P) → emitted_end l e ≡ 0 → Lives m (with_context (say e m.context) m)
+  said e m is = spends_one l e m.context.emitted (living m) (living m) (omega (arith, is))
 
-  -- ---- what is said
+  -- what is kept is forgotten
+  ended : (e : Event P) (m : EndWithPacket P) → emitted_end l e ≡ 0 → Lives m (in_state Closed (with_context (say e m.context) m))
+  ended e m is = spends_one l e m.context.emitted (living m) (waits l m.context + 0) (omega (arith, is))
 
-  pub lives_said : (x : ℕ) (c d : Context P) (e : Event P) → d.emitted ≡ emit_event e c.emitted → waits l d ≤ waits l c → emitted_end l e ≡ 0 → Goes l x c x d
-  lives_said x c d e emitted h is =
-      let one : Spends l c.emitted (emit_event e c.emitted) (waits l c + x) (waits l d + x) = spends_one l e c.emitted (waits l c + x) (waits l d + x) (omega (arith, h, is)) in
-      record { spends = record { events = one.events; behind = ap (λ (t : Emitted P). t.events) emitted ∙ one.behind; counted = one.counted } }
+  no_lifecycle : (e : Event P) → ending e ≡ 1 → emitted_end l e ≡ 0
+  no_lifecycle (OnLifecycleEnd id) is = cc
+  no_lifecycle e is = refl
 
-  pub lives_complained : (x : ℕ) (kind : ErrorKind) (text : List ℕ) (c : Context P) → Goes l x c x (complain kind text c)
-  lives_complained x kind text c = lives_said x c (complain kind text c) (OnError kind text) refl (omega arith) refl
+  opened : (resets : Bool) (k : Cookie) (m : EndWithPacket P) → Lives m (opened_by resets k m)
+  opened resets k m =
+      let q : Queue = m.context.queue in
+      let mode : Bool = (negotiate m.context.options k.peer_capabilities).message_interleaving in
+      spends_one l OnConnected m.context.emitted (living m) (living (opened_by resets k m))
+      (omega (arith, waiting_if l (resets || other_mode mode q.scheduler.is_interleaved) q))
 
-  lives_emitted : (x : ℕ) (b : Bool) (p : Packet) (c : Context P) → Goes l x c x (emit_if b p c)
-  lives_emitted x true p c = lives_said x c (emit_if true p c) (SendPacket (c.pack.write (header_to c.options p.tag) p.is_summed p.chunks)) refl (omega arith) refl
-  lives_emitted x false p c = lives_same x c
+  answered : (o : Outcome) (m : EndWithPacket P) → Lives m (with_context (on_outcome o m.context) m)
+  answered Unsettled m = same m
+  answered (Done streams) m =
+      spends_one l (OnStreamsResetPerformed streams) m.context.emitted (living m) (living (with_context (on_outcome (Done streams) m.context) m))
+      (omega (arith, waiting_each_stepped l Performed streams m.context.queue))
+  answered (Denied streams) m =
+      spends_one l (OnStreamsResetFailed streams) m.context.emitted (living m) (living (with_context (on_outcome (Denied streams) m.context) m))
+      (omega (arith, waiting_each_stepped l Refused streams m.context.queue))
 
-  pub lives_emit : (x : ℕ) (p : Packet) (c : Context P) → Goes l x c x (emit p c)
-  lives_emit x p c = lives_emitted x (has_chunks p) p c
+  -- ---- each act
 
-  pub lives_emit_chunk : (x : ℕ) (chunk : ChunkTree) (t : Tcb) (c : Context P) → Goes l x c x (emit_chunk chunk t c)
-  lives_emit_chunk x chunk t c = lives_emit x (add chunk (new_packet c.options t)) c
+  module _ (call : Call) (none : offers call ≡ false) (goes_on : is_restore call ≡ false) where
+    lives_packets : (act : PacketAct P call) → Lives (before_packets act) (after_packets act)
+    lives_packets (emits m some bundled) =
+        said (SendPacket (m.context.pack.write (header_to m.context.options m.packet.tag) m.packet.is_summed m.packet.chunks)) m refl
+    lives_packets (complains kind text m) = said (OnError kind text) m refl
+    lives_packets act = same (before_packets act)
 
-  -- ---- packets that are filled
+    lives_opening : (act : OpeningAct P call) → Lives (before_opening act) (after_opening act)
+    lives_opening (echoes tag i cookie my_tag first t1 m heard brought) =
+        requeued (queue_anew (agreed_by m.context.options i).message_interleaving m.context.queue) (in_state Closed m) (waiting_reset l m.context.queue)
+    lives_opening (establishes tag t1 cookie t m heard) = said OnConnected (in_open Established t m) refl
+    lives_opening (opens tag k m echoed none own) = opened false k m
+    lives_opening (restarts tag k phase t m echoed verdict) =
+        let a : EndWithPacket P = in_open phase t m in
+        spends_then l (said OnConnectionRestarted a refl) (opened true k (with_context (say OnConnectionRestarted m.context) a))
+    lives_opening (opens_again tag k phase t m echoed verdict) = opened true k (in_open phase t m)
+    lives_opening (maintains tag k t1 cookie t m echoed verdict) = said OnConnected (in_open Established t m) refl
+    lives_opening act = same (before_opening act)
 
-  module _ (x : ℕ) (c : Context P) where
-    abbrev Fills : Filling P → Type 0
-    Fills f = Goes l x c (keeps l f.tcb) f.context
+    lives_closing : (act : ClosingAct P call) → Lives (before_closing act) (after_closing act)
+    lives_closing (closes e m there is) = ended e m (no_lifecycle e is)
+    lives_closing act = same (before_closing act)
 
-    fills_ack_if : (b : Bool) (f : Filling P) → Fills f → Fills (ack_if b f)
-    fills_ack_if true f h = h
-    fills_ack_if false f h = h
+    lives_data : (act : DataAct P call) → Lives (before_data act) (after_data act)
+    lives_data (takes_data tag tsn is_immediate f phase t m heard right some takes) = same (in_open phase t m)
+    lives_data act = same (before_data act)
 
-    fills_ack : (f : Filling P) → Fills f → Fills (with_ack f)
-    fills_ack f h = fills_ack_if (is_ack_due (goes_along f) f.tcb.tracker.tracker.ack) (record f { tcb = ask_for_sack (goes_along f) f.tcb }) h
+    lives_sack : (act : SackAct P call) → Lives (before_sack act) (after_sack act)
+    lives_sack (takes_sack tag k phase t m heard valid) =
+        kept_on (waits l m.context) (spends_sack l true m.context.now (point_of k t) k.a_rwnd (clean_blocks k.gap_ack_blocks) t.sender m.context.emitted)
+    lives_sack act = same (before_sack act)
 
-    fills_forward_added : (b : Bool) (f : Filling P) → Fills f → Fills (forward_added_if b f)
-    fills_forward_added true f h =
-        let g : Filling P = forward_added_if true f in
-        lives_then x c (keeps l f.tcb) f.context (keeps l g.tcb) g.context h (lives_silent (keeps l f.tcb) f.context g.context refl (omega arith))
-    fills_forward_added false f h = h
+    lives_sending : (act : SendingAct P call) → Lives (before_sending act) (after_sending act)
+    lives_sending (expires phase t m) = kept_on (waits l m.context) (spends_expired l m.context.now t.sender.outstanding.items m.context.emitted)
+    lives_sending (asks_no_reset most m some) =
+        let q : Queue = m.context.queue in
+        requeued (request_resets most q) m (waiting_each_stepped l Requested (requested_streams most q) q)
+    lives_sending (asks_reset most stream streams phase t m some free) =
+        let q : Queue = m.context.queue in
+        requeued (request_resets most q) (in_open phase t m) (waiting_each_stepped l Requested (requested_streams most q) q)
+    lives_sending (sends phase t m) = spends_sent l m.context.now (room m.packet) t.sender m.context.queue m.context.emitted
+    lives_sending (sends_fast phase t m some) =
+        spends_nothing l m.context.emitted (living (in_open phase t m)) (living (after_sending {call = call} (sends_fast phase t m some)))
+        (omega (arith, kept_fast l m.context.now (fast_most m.context.options) t.sender))
+    lives_sending act = same (before_sending act)
 
-    fills_forward_if : (b : Bool) (f : Filling P) → Fills f → Fills (forward_if b f)
-    fills_forward_if true f h = fills_forward_added (fits f.packet (forward_chunk f.tcb.sender)) f h
-    fills_forward_if false f h = h
+    lives_time : (act : TimeAct P call) → Lives (before_time act) (after_time act)
+    lives_time (times_out phase t m due) = kept_on (waits l m.context) (spends_nack_all l t.sender.outstanding.items m.context.emitted)
+    lives_time act = same (before_time act)
 
-    fills_tested : (f : Filling P) → Fills f → Fills (test_forward_point f)
-    fills_tested f h =
-        let g : Filling P = test_forward_point f in
-        let n : ℕ = keeps l f.tcb in
-        let m : ℕ = keeps l g.tcb in
-        let w : ℕ = waits l f.context in
-        lives_then x c n f.context m g.context h
-        (lives_by n f.context m g.context (spends_within l f.context.emitted g.context.emitted n m (w + n) (w + m)
-        (spends_expired l f.context.now f.tcb.sender.outstanding.items f.context.emitted) (omega arith)))
+    lives_calls : (act : CallAct P call) → Lives (before_call act) (after_call act)
+    lives_calls (accepts message o m offered fine) = absurd (not_offered call message o offered none)
+    lives_calls (refuses message o e m offered is) = absurd (not_offered call message o offered none)
+    lives_calls (sets_low_threshold stream bytes m is) =
+        waiting_on (kept_in l m.state) (spends_threshold l stream bytes m.context.queue m.context.emitted)
+    lives_calls (sets_priority stream priority m is) =
+        requeued (set_priority stream priority m.context.queue) m (waiting_priority l stream priority m.context.queue)
+    lives_calls act = same (before_call act)
 
-    fills_tested_if : (b : Bool) (f : Filling P) → Fills f → Fills (tested_if b f)
-    fills_tested_if true f h =
-        let g : Filling P = test_forward_point f in
-        fills_forward_if (is_forward_due g.tcb.sender.outstanding.items) g (fills_tested f h)
-    fills_tested_if false f h = h
+    lives_resets : (act : ResetAct P call) → Lives (before_reset act) (after_reset act)
+    lives_resets (prepares stream phase t m asked can) =
+        waiting_on (kept_in l (in_open phase t m).state) (spends_prepared l stream m.context.queue m.context.emitted)
+    lives_resets (performs number response last_tsn streams phase t m asked known there) =
+        said (OnIncomingStreamReset (numbers_of streams)) (in_open phase t m) refl
+    lives_resets (takes_response rto number result sender receiver phase t m asked) = answered (outcome number result t.requests.current) (in_open phase t m)
+    lives_resets act = same (before_reset act)
 
-    fills_forward : (f : Filling P) → Fills f → Fills (with_forward f)
-    fills_forward f h = fills_tested_if (nat_le f.context.forward_from f.context.now) f h
+    lives_handover : (act : HandoverAct P call) → Lives (before_handover act) (after_handover act)
+    lives_handover (leaves phase t m is) = ended OnClosed (in_open phase t m) refl
+    lives_handover (takes_up h m is valid) = absurd (both_ways (is_restore call) goes_on (ap is_restore is))
 
-    fills_request_of : (streams : List ℕ) (f : Filling P) → Fills f → Fills (request_of streams f)
-    fills_request_of [] f h = h
-    fills_request_of (id ∷ ids) f h = h
+    lives_input : (act : InputAct P call) → Lives (before_input act) (after_input act)
+    lives_input (ends_packet phase t m) = same (in_open phase t m)
 
-    fills_request_at_most : (most : ℕ) (f : Filling P) → Fills f → Fills (request_at_most most f)
-    fills_request_at_most most f h =
-        let q : Queue = f.context.queue in
-        let d : Context P = record f.context { queue = request_resets most q } in
-        fills_request_of (requested_streams most q) (record f { context = d })
-        (lives_then x c (keeps l f.tcb) f.context (keeps l f.tcb) d h
-        (lives_silent (keeps l f.tcb) f.context d refl (waiting_each_stepped l Requested (requested_streams most q) q)))
-
-    fills_request_if : (b : Bool) (f : Filling P) → Fills f → Fills (request_if b f)
-    fills_request_if true f h = h
-    fills_request_if false f h = fills_request_at_most (most_streams f.packet) f h
-
-    fills_request : (f : Filling P) → Fills f → Fills (with_request f)
-    fills_request f h = fills_request_if (is_some f.tcb.requests.current) f h
-
-    fills_data : (f : Filling P) → Fills f → Fills (with_data f)
-    fills_data f h =
-        let d : Context P = f.context in
-        let y : fragments.Filling P = send d.now (room f.packet) f.tcb.sender d.queue d.emitted in
-        let g : Filling P = fill_packet y f in
-        lives_then x c (keeps l f.tcb) d (keeps l g.tcb) g.context h
-        (lives_by (keeps l f.tcb) d (keeps l g.tcb) g.context (spends_sent l d.now (room f.packet) f.tcb.sender d.queue d.emitted))
-
-    fills_as : (is_first : Bool) (f : Filling P) → Fills f → Fills (filled_as is_first f)
-    fills_as true f h =
-        let y : Filling P = with_forward (with_ack f) in
-        fills_data (with_request y) (fills_request y (fills_forward (with_ack f) (fills_ack f h)))
-    fills_as false f h = fills_data f h
-
-    fills_emitted : (f : Filling P) → Fills f → Fills (emit_packet f)
-    fills_emitted f h =
-        lives_then x c (keeps l f.tcb) f.context (keeps l f.tcb) (emit f.packet f.context) h (lives_emit (keeps l f.tcb) f.packet f.context)
-
-    fills_turned_if : (b is_alone : Bool) (f : Filling P) → Fills f → Fills (turned_if b is_alone f).filling
-    fills_turned_if true is_alone f h = fills_emitted f h
-    fills_turned_if false is_alone f h = h
-
-    fills_turned : (is_first is_alone : Bool) (f : Filling P) → Fills f → Fills (next_packet is_first is_alone f).filling
-    fills_turned is_first is_alone f h =
-        let y : Filling P = filled_as is_first f in
-        fills_turned_if (has_chunks y.packet) is_alone y (fills_as is_first f h)
-
-    fills_go_on : (rest : Filling P → Filling P) (b : Bool) (f : Filling P) → ((g : Filling P) → Fills g → Fills (rest g)) → Fills f
-        → Fills (go_on rest (record { filling = f; is_more = b }))
-    fills_go_on rest true f k h = k f h
-    fills_go_on rest false f k h = h
-
-    fills_burst : (most : ℕ) (is_first is_alone : Bool) (f : Filling P) → Fills f → Fills (burst most is_first is_alone f)
-    fills_burst zero is_first is_alone f h = h
-    fills_burst (suc most) is_first is_alone f h =
-        let t : Turned P = next_packet is_first is_alone f in
-        fills_go_on (burst most false is_alone) t.is_more t.filling (fills_burst most false is_alone) (fills_turned is_first is_alone f h)
-
-  -- ---- the sendings
-
-  -- a control block and a context go on
-  abbrev pub Sends : Tcb → Context P → Sent P → Type 0
-  Sends t c s = Goes l (keeps l t) c (keeps l s.tcb) s.context
-
-  pub lives_send_with : (is_alone : Bool) (p : Packet) (t : Tcb) (c : Context P) → Sends t c (send_with is_alone p t c)
-  lives_send_with is_alone p t c =
-      fills_burst (keeps l t) c c.options.max_burst true is_alone (record { packet = p; tcb = t; context = c }) (lives_same (keeps l t) c)
-
-  pub lives_send_buffered : (is_alone : Bool) (t : Tcb) (c : Context P) → Sends t c (send_buffered is_alone t c)
-  lives_send_buffered is_alone t c = lives_send_with is_alone (new_packet c.options t) t c
-
-  lives_cookie_if : (b : Bool) (cookie : List ℕ) (t : Tcb) (c : Context P) → Sends t c (cookie_if b cookie t c)
-  lives_cookie_if true cookie t c = lives_send_with true (add (cookie_echo_chunk cookie) (packet_to t.identity.peer_tag c.options.mtu)) t c
-  lives_cookie_if false cookie t c = lives_same (keeps l t) c
-
-  pub lives_send_cookie : (cookie : List ℕ) (t : Tcb) (c : Context P) → Sends t c (send_cookie cookie t c)
-  lives_send_cookie cookie t c = lives_cookie_if (fits (packet_to t.identity.peer_tag c.options.mtu) (cookie_echo_chunk cookie)) cookie t c
-
-  lives_fast_if : (b : Bool) (t : Tcb) (c : Context P) → Sends t c (fast_if b t c)
-  lives_fast_if true t c =
-      let s : Sent P = fast_if true t c in
-      lives_dropped (keeps l t) c (keeps l t) (keeps l s.tcb) s.context (omega (arith, kept_fast l c.now (fast_most c.options) t.sender))
-      (lives_emit (keeps l t) (fast_packet c.options t) c)
-  lives_fast_if false t c = lives_same (keeps l t) c
-
-  pub lives_send_lost : (t : Tcb) (c : Context P) → Sends t c (send_lost t c)
-  lives_send_lost t c = lives_fast_if (nat_lt 0 (fast_items t.sender.outstanding.items)) t c
+    pub lives : Preserves call Lives
+    lives = record {
+      same = same;
+      through = λ {a} {b} {c} f g. spends_then l f g;
+      packets = lives_packets;
+      opening = lives_opening;
+      closing = lives_closing;
+      data_acts = lives_data;
+      acknowledging = lives_sack;
+      sending = lives_sending;
+      time = lives_time;
+      calls = lives_calls;
+      resets = lives_resets;
+      handover = lives_handover;
+      input = lives_input;
+    }

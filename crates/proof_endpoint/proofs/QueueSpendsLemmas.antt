@@ -171,9 +171,8 @@ module _ (l : ℕ) where
             → Spends l t (cond b (drop_expired now ms said) t) (names_lifecycle l m.lifecycle + waiting l ms) (waiting l (cond b (fresh now ms) (m ∷ ms)))
         go true ih =
             let x : ℕ = names_lifecycle l m.lifecycle + waiting l ms in
-            spends_then l t gone (drop_expired now ms said) x x (waiting l (fresh now ms)) (spends_given_up l m.number Lifetime t x x (omega arith))
-            (spends_then l gone said (drop_expired now ms said) x (waiting l ms) (waiting l (fresh now ms))
-            (spends_all l (expiry m.lifecycle) gone x (waiting l ms) (omega (arith, ends_expiry P l m.lifecycle))) ih)
+            spends_then l (spends_given_up l m.number Lifetime t x x (omega arith))
+            (spends_then l (spends_all l (expiry m.lifecycle) gone x (waiting l ms) (omega (arith, ends_expiry P l m.lifecycle))) ih)
         go false ih = spends_nothing l t (names_lifecycle l m.lifecycle + waiting l ms) (names_lifecycle l m.lifecycle + waiting l ms) (omega arith)
 
     drops_waiting : (ms : List Queued) (t : Emitted P) → Spends l t (emitted_waiting ms t) (waiting l ms) (waiting l (filter is_partly ms))
@@ -189,19 +188,16 @@ module _ (l : ℕ) where
         go : (b : Bool) → ((u : Emitted P) → Spends l u (emitted_waiting ms u) (waiting l ms) (waiting l (filter is_partly ms)))
             → Spends l t (emitted_waiting ms (cond b t said)) (names_lifecycle l m.lifecycle + waiting l ms) (waiting l (cond b (m ∷ filter is_partly ms) (filter is_partly ms)))
         go true ih =
-            spends_within l t (emitted_waiting ms t) (waiting l ms) (waiting l (filter is_partly ms)) (names_lifecycle l m.lifecycle + waiting l ms)
-            (waiting l (m ∷ filter is_partly ms)) (ih t) (omega arith)
+            spends_within l (names_lifecycle l m.lifecycle + waiting l ms) (waiting l (m ∷ filter is_partly ms)) (ih t) (omega arith)
         go false ih =
             let x : ℕ = names_lifecycle l m.lifecycle + waiting l ms in
-            spends_then l t gone (emitted_waiting ms said) x x (waiting l (filter is_partly ms)) (spends_given_up l m.number Reset t x x (omega arith))
-            (spends_then l gone said (emitted_waiting ms said) x (waiting l ms) (waiting l (filter is_partly ms))
-            (spends_all l (expiry m.lifecycle) gone x (waiting l ms) (omega (arith, ends_expiry P l m.lifecycle))) (ih said))
+            spends_then l (spends_given_up l m.number Reset t x x (omega arith))
+            (spends_then l (spends_all l (expiry m.lifecycle) gone x (waiting l ms) (omega (arith, ends_expiry P l m.lifecycle))) (ih said))
 
     pub spends_prepared : (id : ℕ) (q : Queue) (t : Emitted P) → Spends l t (prepare_reset id q t).emitted (in_queue q) (in_queue (prepare_reset id q t).queue)
     spends_prepared id q t =
         let s : Stream = stream id q.streams in
-        spends_within l t (emitted_waiting s.messages t) (waiting l s.messages) (waiting l (filter is_partly s.messages)) (in_queue q)
-        (in_queue (prepare_reset id q t).queue) (drops_waiting s.messages t) (omega (arith, waiting_put_opened id (prepare_stream s) q.streams))
+        spends_within l (in_queue q) (in_queue (prepare_reset id q t).queue) (drops_waiting s.messages t) (omega (arith, waiting_put_opened id (prepare_stream s) q.streams))
 
     pub spends_threshold : (id bytes : ℕ) (q : Queue) (t : Emitted P)
         → Spends l t (set_low_threshold id bytes q t).emitted (in_queue q) (in_queue (set_low_threshold id bytes q t).queue)
@@ -226,8 +222,7 @@ module _ (l : ℕ) where
     spends_discards [] q t = spends_nothing l t (in_queue q) (in_queue q) (omega arith)
     spends_discards (d ∷ ds) q t =
         let x : Changed P = discard d.stream d.number q t in
-        let y : Changed P = discard_all ds x.queue x.emitted in
-        spends_then l t x.emitted y.emitted (in_queue q) (in_queue x.queue) (in_queue y.queue) (spends_discard d.stream d.number q t) (spends_discards ds x.queue x.emitted)
+        spends_then l (spends_discard d.stream d.number q t) (spends_discards ds x.queue x.emitted)
 
     -- ---- fragments
 
@@ -246,10 +241,8 @@ module _ (l : ℕ) where
         let first : Emitted P = drop_expired now s.messages t in
         let ss : Streams = streams_without_stale now id q.streams in
         let r : Stream = stream id ss in
-        let dropping : Spends l t first (in_queue q) (waiting_in l ss.entries) = spends_within l t first (waiting l s.messages) (waiting l (fresh now s.messages)) (in_queue q)
-        (waiting_in l ss.entries) (drops_stale now s.messages t) (omega (arith, waiting_put id (without_stale now s) q.streams)) in
         let x : Turn P = turn now id size q t in
-        spends_then l t first x.emitted (in_queue q) (waiting_in l ss.entries) (after_turn x) dropping
+        spends_then l (spends_within l (in_queue q) (waiting_in l ss.entries) (drops_stale now s.messages t) (omega (arith, waiting_put id (without_stale now s) q.streams)))
         (makes id (crosses (watched_amount r) (watched_amount (advance size r))) (crosses (watched_total ss) (watched_total (streams_after id size ss)))
         (next_fragment id size r) first (waiting_in l ss.entries) (after_turn x) (omega (arith, waiting_put id (advance size r) ss, waiting_advanced id size r)))
 
@@ -257,8 +250,7 @@ module _ (l : ℕ) where
         → Spends l t (cond b x y).emitted (in_queue q) (after_turn (cond b x y))
     produces_if true q t x y h k = h
     produces_if false q t x y h k =
-        spends_then l t x.emitted y.emitted (in_queue q) (after_turn x) (after_turn y) h
-        (spends_within l x.emitted y.emitted (in_queue x.queue) (after_turn y) (after_turn x) (after_turn y) k (omega arith))
+        spends_then l h (spends_within l (after_turn x) (after_turn y) k (omega arith))
 
     produces_from : (o : Option ℕ) (q : Queue) (t : Emitted P) (next : ℕ → Turn P) (x : Turn P) → ((id : ℕ) → Spends l t (next id).emitted (in_queue q) (after_turn (next id)))
         → Spends l t x.emitted (in_queue q) (after_turn x) → Spends l t (unwrap_or (option_map next o) x).emitted (in_queue q) (after_turn (unwrap_or (option_map next o) x))

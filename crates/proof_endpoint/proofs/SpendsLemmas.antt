@@ -108,13 +108,13 @@ module _ {P : Type 0} (l : ℕ) where
   pub spends_all : (es : List (Event P)) (t : Emitted P) (x y : ℕ) → ends l es + y ≤ x → Spends l t (emit_events es t) x y
   spends_all es t x y h = record { events = es; behind = refl; counted = h }
 
-  pub spends_then : (t u v : Emitted P) (x y z : ℕ) → Spends l t u x y → Spends l u v y z → Spends l t v x z
-  spends_then t u v x y z a b = record {
+  pub spends_then : {t u v : Emitted P} {x y z : ℕ} → Spends l t u x y → Spends l u v y z → Spends l t v x z
+  spends_then {t} a b = record {
     events = a.events ++ b.events;
     behind = b.behind ∙ (ap (λ (es : List (Event P)). es ++ b.events) a.behind ∙ append_assoc t.events a.events b.events);
     counted = omega (arith, ends_append l a.events b.events, a.counted, b.counted);
   }
 
   -- with as much less spent, or more alive on both sides
-  pub spends_within : (t u : Emitted P) (x y z w : ℕ) → Spends l t u x y → x + w ≤ z + y → Spends l t u z w
-  spends_within t u x y z w a h = record { events = a.events; behind = a.behind; counted = omega (arith, a.counted, h) }
+  pub spends_within : {t u : Emitted P} {x y : ℕ} (z w : ℕ) → Spends l t u x y → x + w ≤ z + y → Spends l t u z w
+  spends_within z w a h = record { events = a.events; behind = a.behind; counted = omega (arith, a.counted, h) }
