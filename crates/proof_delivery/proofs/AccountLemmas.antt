@@ -19,8 +19,8 @@ use Rattle.proof_delivery.proofs.ActionLemmas.{Offers, after_action}
 
 -- ---- what rules give up
 
-has_behind : (p : ℕ) (gone more : List ℕ) → has p (gone ++ more) ≡ (has p more || has p gone)
-has_behind p gone more = has_more p gone more ∙ swapped (has p gone) (has p more)
+has_behind : (p : ℕ) (abandoned more : List ℕ) → has p (abandoned ++ more) ≡ (has p more || has p abandoned)
+has_behind p abandoned more = has_more p abandoned more ∙ swapped (has p abandoned) (has p more)
   where
     swapped : (a b : Bool) → (a || b) ≡ (b || a)
     swapped true true = refl
@@ -29,73 +29,73 @@ has_behind p gone more = has_more p gone more ∙ swapped (has p gone) (has p mo
     swapped false false = refl
 
 module _ (message : ℕ → Message) (is_interleaved : Bool) where
-  given_up_once : (e : Rule) (x : Epochs) (p : ℕ) (gone : List ℕ) → x.transfer.sender.given_up p ≡ has p gone
-      → (goes message is_interleaved x (transfers e)).transfer.sender.given_up p ≡ has p (gone ++ given_up_by e)
-  given_up_once e x p gone is =
+  given_up_once : (e : Rule) (x : Epochs) (p : ℕ) (abandoned : List ℕ) → x.transfer.sender.given_up p ≡ has p abandoned
+      → (goes message is_interleaved x (transfers e)).transfer.sender.given_up p ≡ has p (abandoned ++ given_up_by e)
+  given_up_once e x p abandoned is =
       all_records message is_interleaved (e ∷ []) x.transfer p
       ∙ (ap (λ (ps : List ℕ). has p ps || x.transfer.sender.given_up p) (append-nil (given_up_by e))
-      ∙ (ap (λ (b : Bool). has p (given_up_by e) || b) is ∙ sym (has_behind p gone (given_up_by e))))
+      ∙ (ap (λ (b : Bool). has p (given_up_by e) || b) is ∙ sym (has_behind p abandoned (given_up_by e))))
 
-  given_up_along : (es : List ResetEvent) (x : Epochs) (p : ℕ) (gone : List ℕ) → x.transfer.sender.given_up p ≡ has p gone
-      → (go_all message is_interleaved x es).transfer.sender.given_up p ≡ has p (gone ++ given_ups (of_transfer es))
-  given_up_along [] x p gone is = is ∙ ap (λ (ps : List ℕ). has p ps) (sym (append-nil gone))
-  given_up_along (transfers e ∷ es) x p gone is =
-      given_up_along es (goes message is_interleaved x (transfers e)) p (gone ++ given_up_by e) (given_up_once e x p gone is)
-      ∙ ap (λ (ps : List ℕ). has p ps) (append_assoc gone (given_up_by e) (given_ups (of_transfer es)))
-  given_up_along (reset_stream s ∷ es) x p gone is = given_up_along es (goes message is_interleaved x (reset_stream s)) p gone is
-  given_up_along (send_request s ∷ es) x p gone is = given_up_along es (goes message is_interleaved x (send_request s)) p gone is
-  given_up_along (perform r ∷ es) x p gone is = given_up_along es (goes message is_interleaved x (perform r)) p gone is
-  given_up_along (commit s ∷ es) x p gone is = given_up_along es (goes message is_interleaved x (commit s)) p gone is
+  given_up_along : (es : List ResetEvent) (x : Epochs) (p : ℕ) (abandoned : List ℕ) → x.transfer.sender.given_up p ≡ has p abandoned
+      → (go_all message is_interleaved x es).transfer.sender.given_up p ≡ has p (abandoned ++ given_ups (of_transfer es))
+  given_up_along [] x p abandoned is = is ∙ ap (λ (ps : List ℕ). has p ps) (sym (append-nil abandoned))
+  given_up_along (transfers e ∷ es) x p abandoned is =
+      given_up_along es (goes message is_interleaved x (transfers e)) p (abandoned ++ given_up_by e) (given_up_once e x p abandoned is)
+      ∙ ap (λ (ps : List ℕ). has p ps) (append_assoc abandoned (given_up_by e) (given_ups (of_transfer es)))
+  given_up_along (reset_stream s ∷ es) x p abandoned is = given_up_along es (goes message is_interleaved x (reset_stream s)) p abandoned is
+  given_up_along (send_request s ∷ es) x p abandoned is = given_up_along es (goes message is_interleaved x (send_request s)) p abandoned is
+  given_up_along (perform r ∷ es) x p abandoned is = given_up_along es (goes message is_interleaved x (perform r)) p abandoned is
+  given_up_along (commit s ∷ es) x p abandoned is = given_up_along es (goes message is_interleaved x (commit s)) p abandoned is
 
-  once_along : (es : List ResetEvent) (x : Epochs) (gone : List ℕ) → MayAll message is_interleaved x es → are_distinct gone ≡ true → ((p : ℕ) → x.transfer.sender.given_up p ≡ has p gone)
-      → are_distinct (gone ++ given_ups (of_transfer es)) ≡ true
-  once_along [] x gone may once is = ap are_distinct (append-nil gone) ∙ once
-  once_along (transfers e ∷ es) x gone may once is =
-      let first : are_distinct (gone ++ given_up_by e) ≡ true =
-      sym (ap (λ (ps : List ℕ). are_distinct (gone ++ ps)) (append-nil (given_up_by e))) ∙ one_more message is_interleaved gone (e ∷ []) x.transfer (may.0.0, tt) once is in
-      sym (ap are_distinct (append_assoc gone (given_up_by e) (given_ups (of_transfer es))))
-      ∙ once_along es (goes message is_interleaved x (transfers e)) (gone ++ given_up_by e) may.1 first (λ p. given_up_once e x p gone (is p))
-  once_along (reset_stream s ∷ es) x gone may once is = once_along es (goes message is_interleaved x (reset_stream s)) gone may.1 once is
-  once_along (send_request s ∷ es) x gone may once is = once_along es (goes message is_interleaved x (send_request s)) gone may.1 once is
-  once_along (perform r ∷ es) x gone may once is = once_along es (goes message is_interleaved x (perform r)) gone may.1 once is
-  once_along (commit s ∷ es) x gone may once is = once_along es (goes message is_interleaved x (commit s)) gone may.1 once is
+  once_along : (es : List ResetEvent) (x : Epochs) (abandoned : List ℕ) → MayAll message is_interleaved x es → are_distinct abandoned ≡ true → ((p : ℕ) → x.transfer.sender.given_up p ≡ has p abandoned)
+      → are_distinct (abandoned ++ given_ups (of_transfer es)) ≡ true
+  once_along [] x abandoned may once is = ap are_distinct (append-nil abandoned) ∙ once
+  once_along (transfers e ∷ es) x abandoned may once is =
+      let first : are_distinct (abandoned ++ given_up_by e) ≡ true =
+      sym (ap (λ (ps : List ℕ). are_distinct (abandoned ++ ps)) (append-nil (given_up_by e))) ∙ one_more message is_interleaved abandoned (e ∷ []) x.transfer (may.0.0, tt) once is in
+      sym (ap are_distinct (append_assoc abandoned (given_up_by e) (given_ups (of_transfer es))))
+      ∙ once_along es (goes message is_interleaved x (transfers e)) (abandoned ++ given_up_by e) may.1 first (λ p. given_up_once e x p abandoned (is p))
+  once_along (reset_stream s ∷ es) x abandoned may once is = once_along es (goes message is_interleaved x (reset_stream s)) abandoned may.1 once is
+  once_along (send_request s ∷ es) x abandoned may once is = once_along es (goes message is_interleaved x (send_request s)) abandoned may.1 once is
+  once_along (perform r ∷ es) x abandoned may once is = once_along es (goes message is_interleaved x (perform r)) abandoned may.1 once is
+  once_along (commit s ∷ es) x abandoned may once is = once_along es (goes message is_interleaved x (commit s)) abandoned may.1 once is
 
 -- ---- what an end emits
 
 -- where its records named these so far
-pub record Accounted (lifecycle : ℕ → Option ℕ) (s : Side) (gone : List ℕ) (x : Direction) : Type 0 where
-  pub gone_is : (p : ℕ) → (transfer_of x).sender.given_up p ≡ has p gone
-  pub once : are_distinct gone ≡ true
-  pub told_is : delivered_ids s.emitted ≡ ids_at lifecycle (transfer_of x).reports
+pub record Accounted (lifecycle : ℕ → Option ℕ) (s : Side) (abandoned : List ℕ) (x : Direction) : Type 0 where
+  pub given_up_is : (p : ℕ) → (transfer_of x).sender.given_up p ≡ has p abandoned
+  pub once : are_distinct abandoned ≡ true
+  pub emitted_is : delivered_ids s.emitted ≡ ids_at lifecycle (transfer_of x).reports
 
-pub accounts_still : (lifecycle : ℕ → Option ℕ) (s : Side) (gone : List ℕ) (x : Direction) → Accounted lifecycle s gone x → Accounted lifecycle s (gone ++ []) x
-accounts_still lifecycle s gone x a = subst (λ (ps : List ℕ). Accounted lifecycle s ps x) (sym (append-nil gone)) a
+pub accounts_still : (lifecycle : ℕ → Option ℕ) (s : Side) (abandoned : List ℕ) (x : Direction) → Accounted lifecycle s abandoned x → Accounted lifecycle s (abandoned ++ []) x
+accounts_still lifecycle s abandoned x a = subst (λ (ps : List ℕ). Accounted lifecycle s ps x) (sym (append-nil abandoned)) a
 
-module _ (message : ℕ → Message) (lifecycle : ℕ → Option ℕ) (is_interleaved : Bool) (s : Side) (gone : List ℕ) (x : Direction) (a : Accounted lifecycle s gone x) where
+module _ (message : ℕ → Message) (lifecycle : ℕ → Option ℕ) (is_interleaved : Bool) (s : Side) (abandoned : List ℕ) (x : Direction) (a : Accounted lifecycle s abandoned x) where
   -- an action of the sender
   pub accounts_out : (n : ℕ) (prepared : List ℕ) (mid y : Direction) (e : Endpoint Carried) (asked : Bool) → Offers message is_interleaved n x mid
-      → SenderClaim message lifecycle is_interleaved mid prepared (calm e) y → Accounted lifecycle (after_action asked e s) (gone ++ recorded_places (emitted_of e)) y
+      → SenderClaim message lifecycle is_interleaved mid prepared (calm e) y → Accounted lifecycle (after_action asked e s) (abandoned ++ recorded_places (emitted_of e)) y
   accounts_out n prepared mid y e asked offers c =
-      let before : (p : ℕ) → mid.rules.transfer.sender.given_up p ≡ has p gone = λ p. ap (λ (f : ℕ → Bool). f p) offers.given_up ∙ a.gone_is p in
+      let before : (p : ℕ) → mid.rules.transfer.sender.given_up p ≡ has p abandoned = λ p. ap (λ (f : ℕ → Bool). f p) offers.given_up ∙ a.given_up_is p in
       record {
-        gone_is = λ p.
+        given_up_is = λ p.
             ap (λ (z : Epochs). z.transfer.sender.given_up p) (sym c.goes.leads)
-            ∙ (given_up_along message is_interleaved c.goes.events mid.rules p gone (before p) ∙ ap (λ (ps : List ℕ). has p (gone ++ ps)) (sym c.given_up));
-        once = ap (λ (ps : List ℕ). are_distinct (gone ++ ps)) c.given_up ∙ once_along message is_interleaved c.goes.events mid.rules gone c.goes.may a.once before;
-        told_is =
+            ∙ (given_up_along message is_interleaved c.goes.events mid.rules p abandoned (before p) ∙ ap (λ (ps : List ℕ). has p (abandoned ++ ps)) (sym c.given_up));
+        once = ap (λ (ps : List ℕ). are_distinct (abandoned ++ ps)) c.given_up ∙ once_along message is_interleaved c.goes.events mid.rules abandoned c.goes.may a.once before;
+        emitted_is =
             delivered_more s.emitted (emitted_of e).events
-            ∙ (ap (λ (ids : List ℕ). ids ++ delivered_ids (emitted_of e).events) a.told_is
-            ∙ (ap (λ (ids : List ℕ). ids_at lifecycle (transfer_of x).reports ++ ids) c.reported.told_of
+            ∙ (ap (λ (ids : List ℕ). ids ++ delivered_ids (emitted_of e).events) a.emitted_is
+            ∙ (ap (λ (ids : List ℕ). ids_at lifecycle (transfer_of x).reports ++ ids) c.reported.delivered_are
             ∙ (sym (ids_more lifecycle (transfer_of x).reports c.reported.places)
             ∙ ap (λ (ps : List ℕ). ids_at lifecycle ps) (ap (λ (ps : List ℕ). ps ++ c.reported.places) (sym offers.reports) ∙ sym c.reported.more))));
       }
 
   -- an action of the receiver
-  pub accounts_in : (y : Direction) → GoesOn message is_interleaved goes_in x y → Accounted lifecycle s (gone ++ []) y
+  pub accounts_in : (y : Direction) → GoesOn message is_interleaved goes_in x y → Accounted lifecycle s (abandoned ++ []) y
   accounts_in y g =
       let same : SameSender message is_interleaved x.rules y.rules = sender_stays message is_interleaved x y g in
-      accounts_still lifecycle s gone y (record {
-        gone_is = λ p. ap (λ o. o.given_up p) same.sender ∙ a.gone_is p;
+      accounts_still lifecycle s abandoned y (record {
+        given_up_is = λ p. ap (λ o. o.given_up p) same.sender ∙ a.given_up_is p;
         once = a.once;
-        told_is = a.told_is ∙ ap (λ (ps : List ℕ). ids_at lifecycle ps) (sym same.reports);
+        emitted_is = a.emitted_is ∙ ap (λ (ps : List ℕ). ids_at lifecycle ps) (sym same.reports);
       })

@@ -45,7 +45,7 @@ module _ (first answered done : ℕ) (asks : List Ask) (q : Queue) (r : Requests
           let s = said (ap not (ne_eqb result in_progress d)) in
           let at_below = s.below in
           let at_is : s.at ≡ answered = number_once first s.at answered (omega (arith, at_below, few)) (omega (arith, below, few)) (sym s.number_is ∙ sym same) in
-          elim s.told [
+          elim s.performed_or_older [
             | inl p ↦ inr (c.ask, c.there, omega (arith, at_below, at_is), whole ∙ (ap by_result p ∙ ap Done c.says.streams))
             | inr m ↦ absurd (omega (arith, m, at_is, long))
           ]

@@ -265,5 +265,5 @@ pub answers_said : (first done asked more further : ℕ) (p : ParameterTree) →
 answers_said first done asked more further (reset_response number result sender receiver) h = λ final.
     let s = h final in
     let l = s.below in
-    record { at = s.at; number_is = s.number_is; below = omega (arith, l); told = elim s.told [ inl e ↦ inl e | inr b ↦ inr (omega (arith, b)) ] }
+    record { at = s.at; number_is = s.number_is; below = omega (arith, l); performed_or_older = elim s.performed_or_older [ inl e ↦ inl e | inr b ↦ inr (omega (arith, b)) ] }
 answers_said first done asked more further p h = tt

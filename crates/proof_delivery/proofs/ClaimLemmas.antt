@@ -174,7 +174,7 @@ AreShort o = (t : ℕ) → t < count o → (fragment o t).placeholder ≡ false 
 pub record Reports (lifecycle : ℕ → Option ℕ) (x y : Transfer) (before after : List (events.Event Carried)) : Type 0 where
   pub places : List ℕ
   pub more : y.reports ≡ x.reports ++ places
-  pub told_of : delivered_ids after ≡ delivered_ids before ++ ids_at lifecycle places
+  pub delivered_are : delivered_ids after ≡ delivered_ids before ++ ids_at lifecycle places
 
 -- how the streams stand for what is accepted next: their epochs, and which are open
 abbrev pub AreSo : (ℕ → StreamEpoch) → Epochs → Type 0
@@ -295,7 +295,7 @@ module _ (message : ℕ → Message) (lifecycle : ℕ → Option ℕ) (is_interl
     pub few : length from.asks < 2 ^ 32
     pub handed : List messages.Message
     pub beside : ReceivesIn message is_interleaved g.beside handed from
-    pub hears : ReceivesSacks call (first_in g.beside) from
+    pub receives : ReceivesSacks call (first_in g.beside) from
 
   abbrev pub ReceiverGoes : Direction → List messages.Message → (before after : EndWithPacket Carried) → Type 0
   ReceiverGoes from handed a b = (x : Direction) → ReceiverClaim message is_interleaved from handed a x → (y : Direction) × ReceiverClaim message is_interleaved from handed b y
@@ -311,4 +311,4 @@ module _ (message : ℕ → Message) (lifecycle : ℕ → Option ℕ) (is_interl
     pub windows : EpochWindows message from.rules
     pub few : AreFew (transfer_of from).sender
     pub short : AreShort (transfer_of from).sender
-    pub hears : ReceivesData message is_interleaved call (first_out g.beside) from
+    pub receives : ReceivesData message is_interleaved call (first_out g.beside) from

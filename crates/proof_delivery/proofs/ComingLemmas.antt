@@ -44,19 +44,19 @@ use Rattle.proof_delivery.proofs.GoingLemmas.{goes_bracketed, none_more, Parts, 
 module _ (message : ℕ → Message) (lifecycle : ℕ → Option ℕ) (is_interleaved : Bool) (of : Stamp → ℕ) (parts : Parts message lifecycle is_interleaved) (o q : Options) (own : AreValidOptions o)
     (other : AreValidOptions q) (mode : is_interleaved ≡ (agreed o q).message_interleaving) (s r : Side) (h : Halves o q s r) (quiet_s : IsSilent s) (quiet_r : IsSilent r)
     (within : IsWithin (state_of s) (queue_of s)) (accepted : ℕ) (handed : List messages.Message) (stamps_s stamps_r : List Stamp) (so_far : SoFar) (x : Direction)
-    (f : Flows message lifecycle is_interleaved of s r accepted handed stamps_s stamps_r so_far x) (soon : IsAnswered (state_of s) so_far.asked) (few_told : performed_in s.emitted < 2 ^ 32 - 1)
+    (f : Flows message lifecycle is_interleaved of s r accepted handed stamps_s stamps_r so_far x) (soon : IsAnswered (state_of s) so_far.asked) (few_performed : performed_in s.emitted < 2 ^ 32 - 1)
     (now : Stamp) (at_now : of now ≡ numbered_count (state_of s)) (young : (old : Stamp) → IsYoung now old → of now < of old + 2 ^ 30) where
   hold : Holds message lifecycle is_interleaved x (queue_of s) f.kept
-  hold = holds message lifecycle is_interleaved of parts o q own other mode s r h quiet_s quiet_r within accepted handed stamps_s stamps_r so_far x f soon few_told now at_now young
+  hold = holds message lifecycle is_interleaved of parts o q own other mode s r h quiet_s quiet_r within accepted handed stamps_s stamps_r so_far x f soon few_performed now at_now young
 
   back : is_interleaved ≡ (agreed q o).message_interleaving
-  back = mode_back message lifecycle is_interleaved of parts o q own other mode s r h quiet_s quiet_r within accepted handed stamps_s stamps_r so_far x f soon few_told now at_now young
+  back = mode_back message lifecycle is_interleaved of parts o q own other mode s r h quiet_s quiet_r within accepted handed stamps_s stamps_r so_far x f soon few_performed now at_now young
 
   numbered_now : of now ≡ count (transfer_of x).sender
-  numbered_now = counted message lifecycle is_interleaved of parts o q own other mode s r h quiet_s quiet_r within accepted handed stamps_s stamps_r so_far x f soon few_told now at_now young
+  numbered_now = counted message lifecycle is_interleaved of parts o q own other mode s r h quiet_s quiet_r within accepted handed stamps_s stamps_r so_far x f soon few_performed now at_now young
 
   in_near : count (transfer_of x).sender ≤ (transfer_of x).acknowledged + 2 ^ 30
-  in_near = near message lifecycle is_interleaved of parts o q own other mode s r h quiet_s quiet_r within accepted handed stamps_s stamps_r so_far x f soon few_told now at_now young
+  in_near = near message lifecycle is_interleaved of parts o q own other mode s r h quiet_s quiet_r within accepted handed stamps_s stamps_r so_far x f soon few_performed now at_now young
 
   -- hands out these
   abbrev pub In : Side → List messages.Message → Type 0
@@ -71,7 +71,7 @@ module _ (message : ℕ → Message) (lifecycle : ℕ → Option ℕ) (is_interl
     flows = subst (λ (ss : List Stamp). Flows message lifecycle is_interleaved of s r accepted (handed ++ []) stamps_s ss so_far x) (sym (none_more (emitted_packets r) now stamps_r))
         (subst (λ (ms : List messages.Message). Flows message lifecycle is_interleaved of s r accepted ms stamps_s stamps_r so_far x) (sym same_handed) f);
     bracketed = goes_bracketed message is_interleaved goes_in x x f.kept.epochs (goes_none message is_interleaved goes_in x);
-    accounts = λ gone a. accounts_still lifecycle s gone x a;
+    accounts = λ abandoned a. accounts_still lifecycle s abandoned x a;
   }
 
   claim_in : (asked : Bool) (out : List messages.Message) (e : Endpoint Carried) (y : Direction) → ReceiverClaim message is_interleaved x (handed ++ out) (calm e) y
@@ -80,7 +80,7 @@ module _ (message : ℕ → Message) (lifecycle : ℕ → Option ℕ) (is_interl
     to = y;
     flows = ends_in message lifecycle is_interleaved of parts.stay s r accepted handed stamps_s stamps_r so_far x f now numbered_now in_near asked out y e c stands;
     bracketed = goes_bracketed message is_interleaved goes_in x y f.kept.epochs c.goes;
-    accounts = λ gone a. accounts_in message lifecycle is_interleaved s gone x a y c.goes;
+    accounts = λ abandoned a. accounts_in message lifecycle is_interleaved s abandoned x a y c.goes;
   }
 
   none_handed : (m : EndWithPacket Carried) (y : Direction) → ReceiverClaim message is_interleaved x handed m y → ReceiverClaim message is_interleaved x (handed ++ []) m y
@@ -97,14 +97,14 @@ module _ (message : ℕ → Message) (lifecycle : ℕ → Option ℕ) (is_interl
       claim_in asked [] (called call r.end) c.0 (none_handed (calm (called call r.end)) c.0 c.1) stands
 
   premises : (asked : Bool) (call : Call) → ReceivesData message is_interleaved call (first_out (state_of s)) x → ReceiverPremises message lifecycle is_interleaved (setting q o r s asked) call x
-  premises asked call hears = receiver_premises message lifecycle is_interleaved of o q s r accepted handed stamps_s stamps_r so_far x f asked call other back few_told hold hears
+  premises asked call receives = receiver_premises message lifecycle is_interleaved of o q s r accepted handed stamps_s stamps_r so_far x f asked call other back few_performed hold receives
 
   joined_in : (asked : Bool) (call : Call) → Rules (setting q o r s asked) call → is_other call ≡ true → (r.got_init ≡ true → asked ≡ true)
       → HasNoEnd (calm (called call r.end)) → ReceivesData message is_interleaved call (first_out (state_of s)) x → Stands (state_of r) (called call r.end).endpoint_state.state
       → In (after_action asked (called call r.end) r) []
-  joined_in asked call rules other_call le none hears stands =
+  joined_in asked call rules other_call le none receives stands =
       let g : Setting = setting q o r s asked in
-      leads_in asked call (joined_call g call rules other_call (parts.receiver_keeps g call x handed (premises asked call hears)) r.end none (begins q o r s asked le h.other h.own)).1 stands
+      leads_in asked call (joined_call g call rules other_call (parts.receiver_keeps g call x handed (premises asked call receives)) r.end none (begins q o r s asked le h.other h.own)).1 stands
 
   offered_in : (call : Call) → Rules (setting q o r s r.got_init) call → is_offer call ≡ true → IsNoPacket call → HasNoEnd (calm (called call r.end))
       → Stands (state_of r) (called call r.end).endpoint_state.state → In (after_action r.got_init (called call r.end) r) []
@@ -194,7 +194,7 @@ module _ (message : ℕ → Message) (lifecycle : ℕ → Option ℕ) (is_interl
       joined_in (r.got_init || (p.header.verification_tag == 0)) (Packet (as_received p checksum)) (rules_given q o r s other own p checksum n there) refl
       (or_left r.got_init (p.header.verification_tag == 0)) (none_of r.emitted (called (Packet (as_received p checksum)) r.end).endpoint_state.context.emitted.events none)
       (receives_data message is_interleaved (first_out (state_of s)) x (of a.stamp) p checksum a.holds
-      (young_now message lifecycle is_interleaved of parts o q own other mode s r h quiet_s quiet_r within accepted handed stamps_s stamps_r so_far x f soon few_told now at_now young a.stamp (timely a.stamp a.there))) stands
+      (young_now message lifecycle is_interleaved of parts o q own other mode s r h quiet_s quiet_r within accepted handed stamps_s stamps_r so_far x f soon few_performed now at_now young a.stamp (timely a.stamp a.there))) stands
 
   foreign_in : (text : Option (List ℕ)) (p : PacketTree) → refusal p.header.verification_tag p.chunks (state_of r) ≡ text → In (foreign_if text p r) []
   foreign_in None p is = still_in

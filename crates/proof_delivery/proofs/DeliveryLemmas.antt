@@ -89,7 +89,7 @@ pub record Stepped (message : ℕ → Message) (lifecycle : ℕ → Option ℕ) 
   pub to : Direction
   pub flows : FlowsFrom message lifecycle is_interleaved from_a w stamps n handed said to
   pub bracketed : Bracketed message x.rules to.rules
-  pub accounts : (gone : List ℕ) → Accounted lifecycle (side_of from_a before) gone x → Accounted lifecycle (side_of from_a w) (gone ++ by) to
+  pub accounts : (abandoned : List ℕ) → Accounted lifecycle (side_of from_a before) abandoned x → Accounted lifecycle (side_of from_a w) (abandoned ++ by) to
 
 -- fewer resets were performed than numbers tell apart
 abbrev pub AreFewPerformed : Pair → Type 0
@@ -172,14 +172,14 @@ module _ (all : List AcceptedMessage) (all_epochs : List ℕ) (is_interleaved : 
   From w stamps n handed said x = FlowsFrom (message_of all) (lifecycle_of all) is_interleaved from_a w stamps n handed said x
 
   -- where such a trace leads, whose places are all that became ready
-  pub record Leads (w : Pair) (stamps : Stamps) (done : List AcceptedMessage) (ready : List messages.Message) (gone places : List ℕ) : Type 0 where
+  pub record Leads (w : Pair) (stamps : Stamps) (done : List AcceptedMessage) (ready : List messages.Message) (abandoned places : List ℕ) : Type 0 where
     pub handed : List messages.Message
     pub ready_are : ready ≡ handed ++ ready_at (side_of (not from_a) w)
     pub last : Direction
     pub said : SoFar
     pub flows : From w stamps (length done) handed said last
     pub soon : IsAnswered (state_of (side_of from_a w)) said.asked
-    pub accounts : Accounted (lifecycle_of all) (side_of from_a w) gone last
+    pub accounts : Accounted (lifecycle_of all) (side_of from_a w) abandoned last
     pub places_are : places ≡ (transfer_of last).receiver.places
 
   -- what becomes ready at this action behind these
@@ -189,14 +189,14 @@ module _ (all : List AcceptedMessage) (all_epochs : List ℕ) (is_interleaved : 
       (length (ready ++ readied_messages (not from_a) (early ++ e ∷ []) w))
 
   -- where this was accepted, became ready and was given up before, one list of places serves all along
-  pub record DeliversOn (es : List (Bool × EndAction)) (w : Pair) (stamps : Stamps) (done : List AcceptedMessage) (ready : List messages.Message) (gone : List ℕ) (x : Direction) : Type 0 where
+  pub record DeliversOn (es : List (Bool × EndAction)) (w : Pair) (stamps : Stamps) (done : List AcceptedMessage) (ready : List messages.Message) (abandoned : List ℕ) (x : Direction) : Type 0 where
     pub places : List ℕ
     pub more : List ℕ
     pub grown : places ≡ (transfer_of x).receiver.places ++ more
     pub points : (early late : List (Bool × EndAction)) → es ≡ early ++ late
-        → Point (side_of from_a (run early w)) (done ++ accepted from_a early w) (ready ++ readied_messages (not from_a) early w) (gone ++ given_up from_a early w) places
+        → Point (side_of from_a (run early w)) (done ++ accepted from_a early w) (ready ++ readied_messages (not from_a) early w) (abandoned ++ given_up from_a early w) places
     pub in_epochs : (early late : List (Bool × EndAction)) (e : Bool × EndAction) → es ≡ early ++ e ∷ late → BecomeReadyAt places w ready early e
-    pub leads : Leads (run es w) (stamps_along es w stamps) (done ++ accepted from_a es w) (ready ++ readied_messages (not from_a) es w) (gone ++ given_up from_a es w) places
+    pub leads : Leads (run es w) (stamps_along es w stamps) (done ++ accepted from_a es w) (ready ++ readied_messages (not from_a) es w) (abandoned ++ given_up from_a es w) places
 
   -- what is ready is what the rules made ready
   ready_now : (w : Pair) (handed ready : List messages.Message) → ready ≡ handed ++ ready_at (side_of (not from_a) w) → (stamps : Stamps) (n : ℕ) (said : SoFar) (x : Direction)
@@ -207,19 +207,19 @@ module _ (all : List AcceptedMessage) (all_epochs : List ℕ) (is_interleaved : 
 
   -- now
   point_now : (w : Pair) (stamps : Stamps) (done later : List AcceptedMessage) → all ≡ done ++ later → (handed ready : List messages.Message)
-      → ready ≡ handed ++ ready_at (side_of (not from_a) w) → (gone : List ℕ) (said : SoFar) (x : Direction) → From w stamps (length done) handed said x
-      → Accounted (lifecycle_of all) (side_of from_a w) gone x → (places more : List ℕ) → places ≡ (transfer_of x).receiver.places ++ more → Point (side_of from_a w) done ready gone places
-  point_now w stamps done later e handed ready r gone said x f a places more grown =
-      point (message_of all) (lifecycle_of all) is_interleaved done (accepted_there all done later e) (lifecycle_accepted all done later e) (side_of from_a w) x f.kept.epochs.order.kept f.accepted_is gone a
+      → ready ≡ handed ++ ready_at (side_of (not from_a) w) → (abandoned : List ℕ) (said : SoFar) (x : Direction) → From w stamps (length done) handed said x
+      → Accounted (lifecycle_of all) (side_of from_a w) abandoned x → (places more : List ℕ) → places ≡ (transfer_of x).receiver.places ++ more → Point (side_of from_a w) done ready abandoned places
+  point_now w stamps done later e handed ready r abandoned said x f a places more grown =
+      point (message_of all) (lifecycle_of all) is_interleaved done (accepted_there all done later e) (lifecycle_accepted all done later e) (side_of from_a w) x f.kept.epochs.order.kept f.accepted_is abandoned a
       f.sends ready (ready_now w handed ready r stamps (length done) said x f) places more grown
 
   -- behind nothing more
-  here : (w : Pair) (done : List AcceptedMessage) (ready : List messages.Message) (gone places : List ℕ) → Point (side_of from_a w) done ready gone places
-      → Point (side_of from_a w) (done ++ []) (ready ++ []) (gone ++ []) places
-  here w done ready gone places p =
-      subst (λ (os : List AcceptedMessage). Point (side_of from_a w) os (ready ++ []) (gone ++ []) places) (sym (append-nil done))
-      (subst (λ (ms : List messages.Message). Point (side_of from_a w) done ms (gone ++ []) places) (sym (append-nil ready))
-      (subst (λ (ps : List ℕ). Point (side_of from_a w) done ready ps places) (sym (append-nil gone)) p))
+  here : (w : Pair) (done : List AcceptedMessage) (ready : List messages.Message) (abandoned places : List ℕ) → Point (side_of from_a w) done ready abandoned places
+      → Point (side_of from_a w) (done ++ []) (ready ++ []) (abandoned ++ []) places
+  here w done ready abandoned places p =
+      subst (λ (os : List AcceptedMessage). Point (side_of from_a w) os (ready ++ []) (abandoned ++ []) places) (sym (append-nil done))
+      (subst (λ (ms : List messages.Message). Point (side_of from_a w) done ms (abandoned ++ []) places) (sym (append-nil ready))
+      (subst (λ (ps : List ℕ). Point (side_of from_a w) done ready ps places) (sym (append-nil abandoned)) p))
 
   -- at one action
   timed_now : (w v : Pair) (done : List AcceptedMessage) (handed ready : List messages.Message) → ready ≡ handed ++ ready_at (side_of (not from_a) w)
@@ -235,15 +235,15 @@ module _ (all : List AcceptedMessage) (all_epochs : List ℕ) (is_interleaved : 
       all_epochs (g.many ∙ sym g.accepted_is) g.epochs split places more grown k p o (omega (arith, l, from)) (omega (arith, h, to))
 
   -- one action, then the others
-  on_then : (e : Bool × EndAction) (es : List (Bool × EndAction)) (w : Pair) (stamps : Stamps) (done : List AcceptedMessage) (ready : List messages.Message) (gone : List ℕ) (x y : Direction)
+  on_then : (e : Bool × EndAction) (es : List (Bool × EndAction)) (w : Pair) (stamps : Stamps) (done : List AcceptedMessage) (ready : List messages.Message) (abandoned : List ℕ) (x y : Direction)
       → Bracketed (message_of all) x.rules y.rules
-      → ((places more : List ℕ) → places ≡ (transfer_of x).receiver.places ++ more → Point (side_of from_a w) done ready gone places)
+      → ((places more : List ℕ) → places ≡ (transfer_of x).receiver.places ++ more → Point (side_of from_a w) done ready abandoned places)
       → ((places more : List ℕ) → places ≡ (transfer_of y).receiver.places ++ more → BecomeReady all all_epochs places (side_of (not from_a) w).emitted (side_of (not from_a) (goes e.0 e.1 w)).emitted
       (length ready) (length (ready ++ new_behind (ready_at (side_of (not from_a) w)) (ready_at (side_of (not from_a) (goes e.0 e.1 w))))))
       → DeliversOn es (goes e.0 e.1 w) (stamps_after e.0 e.1 w stamps) (done ++ accepted_at from_a e.0 e.1 w)
-      (ready ++ new_behind (ready_at (side_of (not from_a) w)) (ready_at (side_of (not from_a) (goes e.0 e.1 w)))) (gone ++ given_up_at from_a e.0 e.1 w) y
-      → DeliversOn (e ∷ es) w stamps done ready gone x
-  on_then e es w stamps done ready gone x y b now timed d = record {
+      (ready ++ new_behind (ready_at (side_of (not from_a) w)) (ready_at (side_of (not from_a) (goes e.0 e.1 w)))) (abandoned ++ given_up_at from_a e.0 e.1 w) y
+      → DeliversOn (e ∷ es) w stamps done ready abandoned x
+  on_then e es w stamps done ready abandoned x y b now timed d = record {
     places = d.places;
     more = b.more ++ d.more;
     grown = grown;
@@ -268,26 +268,26 @@ module _ (all : List AcceptedMessage) (all_epochs : List ℕ) (is_interleaved : 
       grown : d.places ≡ (transfer_of x).receiver.places ++ (b.more ++ d.more)
       grown = d.grown ∙ (ap (λ (l : List ℕ). l ++ d.more) b.places ∙ append_assoc (transfer_of x).receiver.places b.more d.more)
 
-      later : (s : Side) (os2 : List AcceptedMessage) (ms2 : List messages.Message) (ps2 : List ℕ) → Point s ((done ++ os) ++ os2) ((ready ++ new) ++ ms2) ((gone ++ left) ++ ps2) d.places
-          → Point s (done ++ (os ++ os2)) (ready ++ (new ++ ms2)) (gone ++ (left ++ ps2)) d.places
+      later : (s : Side) (os2 : List AcceptedMessage) (ms2 : List messages.Message) (ps2 : List ℕ) → Point s ((done ++ os) ++ os2) ((ready ++ new) ++ ms2) ((abandoned ++ left) ++ ps2) d.places
+          → Point s (done ++ (os ++ os2)) (ready ++ (new ++ ms2)) (abandoned ++ (left ++ ps2)) d.places
       later s os2 ms2 ps2 p =
-          subst (λ (o : List AcceptedMessage). Point s o (ready ++ (new ++ ms2)) (gone ++ (left ++ ps2)) d.places) (append_assoc done os os2)
-          (subst (λ (m : List messages.Message). Point s ((done ++ os) ++ os2) m (gone ++ (left ++ ps2)) d.places) (append_assoc ready new ms2)
-          (subst (λ (l : List ℕ). Point s ((done ++ os) ++ os2) ((ready ++ new) ++ ms2) l d.places) (append_assoc gone left ps2) p))
+          subst (λ (o : List AcceptedMessage). Point s o (ready ++ (new ++ ms2)) (abandoned ++ (left ++ ps2)) d.places) (append_assoc done os os2)
+          (subst (λ (m : List messages.Message). Point s ((done ++ os) ++ os2) m (abandoned ++ (left ++ ps2)) d.places) (append_assoc ready new ms2)
+          (subst (λ (l : List ℕ). Point s ((done ++ os) ++ os2) ((ready ++ new) ++ ms2) l d.places) (append_assoc abandoned left ps2) p))
 
       regrouped : (u : Pair) (z : Stamps) (os2 : List AcceptedMessage) (ms2 : List messages.Message) (ps2 : List ℕ)
-          → Leads u z ((done ++ os) ++ os2) ((ready ++ new) ++ ms2) ((gone ++ left) ++ ps2) d.places → Leads u z (done ++ (os ++ os2)) (ready ++ (new ++ ms2)) (gone ++ (left ++ ps2)) d.places
+          → Leads u z ((done ++ os) ++ os2) ((ready ++ new) ++ ms2) ((abandoned ++ left) ++ ps2) d.places → Leads u z (done ++ (os ++ os2)) (ready ++ (new ++ ms2)) (abandoned ++ (left ++ ps2)) d.places
       regrouped u z os2 ms2 ps2 l =
-          subst (λ (o : List AcceptedMessage). Leads u z o (ready ++ (new ++ ms2)) (gone ++ (left ++ ps2)) d.places) (append_assoc done os os2)
-          (subst (λ (m : List messages.Message). Leads u z ((done ++ os) ++ os2) m (gone ++ (left ++ ps2)) d.places) (append_assoc ready new ms2)
-          (subst (λ (p : List ℕ). Leads u z ((done ++ os) ++ os2) ((ready ++ new) ++ ms2) p d.places) (append_assoc gone left ps2) l))
+          subst (λ (o : List AcceptedMessage). Leads u z o (ready ++ (new ++ ms2)) (abandoned ++ (left ++ ps2)) d.places) (append_assoc done os os2)
+          (subst (λ (m : List messages.Message). Leads u z ((done ++ os) ++ os2) m (abandoned ++ (left ++ ps2)) d.places) (append_assoc ready new ms2)
+          (subst (λ (p : List ℕ). Leads u z ((done ++ os) ++ os2) ((ready ++ new) ++ ms2) p d.places) (append_assoc abandoned left ps2) l))
 
       points : (early late : List (Bool × EndAction)) → (e ∷ es) ≡ early ++ late
-          → Point (side_of from_a (run early w)) (done ++ accepted from_a early w) (ready ++ readied_messages (not from_a) early w) (gone ++ given_up from_a early w) d.places
-      points [] late is = here w done ready gone d.places (now d.places (b.more ++ d.more) grown)
+          → Point (side_of from_a (run early w)) (done ++ accepted from_a early w) (ready ++ readied_messages (not from_a) early w) (abandoned ++ given_up from_a early w) d.places
+      points [] late is = here w done ready abandoned d.places (now d.places (b.more ++ d.more) grown)
       points (f ∷ early) late is =
           subst (λ (z : Bool × EndAction). Point (side_of from_a (run (z ∷ early) w)) (done ++ accepted from_a (z ∷ early) w) (ready ++ readied_messages (not from_a) (z ∷ early) w)
-          (gone ++ given_up from_a (z ∷ early) w) d.places) (ap (λ (z : List (Bool × EndAction)). first_action z e) is)
+          (abandoned ++ given_up from_a (z ∷ early) w) d.places) (ap (λ (z : List (Bool × EndAction)). first_action z e) is)
           (later (side_of from_a (run early v)) (accepted from_a early v) (readied_messages (not from_a) early v) (given_up from_a early v) (d.points early late (ap other_actions is)))
 
       first : BecomeReadyAt d.places w ready [] e
@@ -311,21 +311,21 @@ module _ (all : List AcceptedMessage) (all_epochs : List ℕ) (is_interleaved : 
       → (k : Asked) → KeepsRequests es w k → AreFewPerformed (run es w) → Halves a b w.a w.b → AreSilent w
       → (done more : List AcceptedMessage) → all ≡ done ++ (accepted from_a es w ++ more)
       → (f : ℕ → StreamEpoch) (epochs more_epochs : List ℕ) → all_epochs ≡ epochs ++ (message_epochs from_a es w f ++ more_epochs) → (handed ready : List messages.Message)
-      → ready ≡ handed ++ ready_at (side_of (not from_a) w) → (gone : List ℕ) (x : Direction) → From w stamps (length done) handed (so_far from_a f epochs k) x
-      → Accounted (lifecycle_of all) (side_of from_a w) gone x → DeliversOn es w stamps done ready gone x
-  delivers_on [] w stamps follows none windows k soon emitted h quiet done more is f epochs more_epochs are handed ready r gone x flows accounts = record {
+      → ready ≡ handed ++ ready_at (side_of (not from_a) w) → (abandoned : List ℕ) (x : Direction) → From w stamps (length done) handed (so_far from_a f epochs k) x
+      → Accounted (lifecycle_of all) (side_of from_a w) abandoned x → DeliversOn es w stamps done ready abandoned x
+  delivers_on [] w stamps follows none windows k soon emitted h quiet done more is f epochs more_epochs are handed ready r abandoned x flows accounts = record {
     places = (transfer_of x).receiver.places;
     more = [];
     grown = sym (append-nil (transfer_of x).receiver.places);
     points = points;
     in_epochs = in_epochs;
     leads =
-        subst (λ (os : List AcceptedMessage). Leads w stamps os (ready ++ []) (gone ++ []) (transfer_of x).receiver.places) (sym (append-nil done))
-        (subst (λ (ms : List messages.Message). Leads w stamps done ms (gone ++ []) (transfer_of x).receiver.places) (sym (append-nil ready))
-        (subst (λ (ps : List ℕ). Leads w stamps done ready ps (transfer_of x).receiver.places) (sym (append-nil gone)) now));
+        subst (λ (os : List AcceptedMessage). Leads w stamps os (ready ++ []) (abandoned ++ []) (transfer_of x).receiver.places) (sym (append-nil done))
+        (subst (λ (ms : List messages.Message). Leads w stamps done ms (abandoned ++ []) (transfer_of x).receiver.places) (sym (append-nil ready))
+        (subst (λ (ps : List ℕ). Leads w stamps done ready ps (transfer_of x).receiver.places) (sym (append-nil abandoned)) now));
   }
     where
-      now : Leads w stamps done ready gone (transfer_of x).receiver.places
+      now : Leads w stamps done ready abandoned (transfer_of x).receiver.places
       now = record {
         handed = handed;
         ready_are = r;
@@ -338,16 +338,16 @@ module _ (all : List AcceptedMessage) (all_epochs : List ℕ) (is_interleaved : 
       }
 
       points : (early late : List (Bool × EndAction)) → [] ≡ early ++ late
-          → Point (side_of from_a (run early w)) (done ++ accepted from_a early w) (ready ++ readied_messages (not from_a) early w) (gone ++ given_up from_a early w) (transfer_of x).receiver.places
+          → Point (side_of from_a (run early w)) (done ++ accepted from_a early w) (ready ++ readied_messages (not from_a) early w) (abandoned ++ given_up from_a early w) (transfer_of x).receiver.places
       points [] late e =
-          here w done ready gone (transfer_of x).receiver.places
-          (point_now w stamps done more is handed ready r gone (so_far from_a f epochs k) x flows accounts (transfer_of x).receiver.places [] (sym (append-nil (transfer_of x).receiver.places)))
+          here w done ready abandoned (transfer_of x).receiver.places
+          (point_now w stamps done more is handed ready r abandoned (so_far from_a f epochs k) x flows accounts (transfer_of x).receiver.places [] (sym (append-nil (transfer_of x).receiver.places)))
       points (e ∷ early) late is = cc
 
       in_epochs : (early late : List (Bool × EndAction)) (e : Bool × EndAction) → [] ≡ early ++ e ∷ late → BecomeReadyAt (transfer_of x).receiver.places w ready early e
       in_epochs [] late e is = cc
       in_epochs (g ∷ early) late e is = cc
-  delivers_on (e ∷ es) w stamps follows none windows k soon emitted h quiet done more is f epochs more_epochs are handed ready r gone x flows accounts =
+  delivers_on (e ∷ es) w stamps follows none windows k soon emitted h quiet done more is f epochs more_epochs are handed ready r abandoned x flows accounts =
       let v : Pair = goes e.0 e.1 w in
       let os : List AcceptedMessage = accepted_at from_a e.0 e.1 w in
       let later : List AcceptedMessage = accepted from_a es v ++ more in
@@ -370,13 +370,13 @@ module _ (all : List AcceptedMessage) (all_epochs : List ℕ) (is_interleaved : 
       ∙ (append_assoc handed (ready_at (side_of (not from_a) w)) new
       ∙ (ap (λ (ms : List messages.Message). handed ++ ms) hand.all ∙ sym (append_assoc handed (handed_at (not from_a) e.0 e.1 w) (ready_at (side_of (not from_a) v))))) in
       let said : SoFar = so_far from_a g (epochs ++ ns) (asked_after e.0 e.1 w k) in
-      on_then e es w stamps done ready gone x s.to s.bracketed (point_now w stamps done (accepted from_a (e ∷ es) w ++ more) is handed ready r gone (so_far from_a f epochs k) x flows accounts)
+      on_then e es w stamps done ready abandoned x s.to s.bracketed (point_now w stamps done (accepted from_a (e ∷ es) w ++ more) is handed ready r abandoned (so_far from_a f epochs k) x flows accounts)
       (timed_now w v done handed ready r (done ++ os) handed_then new now_ready stamps (stamps_after e.0 e.1 w stamps) (length done) (length done + length os) (so_far from_a f epochs k) said x s.to flows
       s.flows s.bracketed later_epochs split_epochs)
       (delivers_on es v (stamps_after e.0 e.1 w stamps) follows.1 none windows.2 (asked_after e.0 e.1 w k) soon.1 emitted (goes_consistent a b own other e.0 e.1 w follows.0 not_yet h)
       (silent_goes e.0 e.1 w quiet) (done ++ os) more (split ∙ sym (append_assoc done os later)) g (epochs ++ ns) more_epochs split_epochs handed_then (ready ++ new) now_ready
-      (gone ++ given_up_at from_a e.0 e.1 w) s.to
-      (subst (λ (n : ℕ). From v (stamps_after e.0 e.1 w stamps) n handed_then said s.to) (sym (length-append done os)) s.flows) (s.accounts gone accounts))
+      (abandoned ++ given_up_at from_a e.0 e.1 w) s.to
+      (subst (λ (n : ℕ). From v (stamps_after e.0 e.1 w stamps) n handed_then said s.to) (sym (length-append done os)) s.flows) (s.accounts abandoned accounts))
     where
       below : (done os later : List AcceptedMessage) → all ≡ done ++ (os ++ later) → length done + length os < 2 ^ 32
       below done os later e =
@@ -391,30 +391,30 @@ module _ (all : List AcceptedMessage) (all_epochs : List ℕ) (is_interleaved : 
   emitted_both : (side : Side) (past early rest : List (Event Carried)) → side.emitted ≡ past ++ (early ++ rest) → (offers : List AcceptedMessage) (places : List ℕ)
       → ReportsAreTrue offers side.emitted places → ReportsAreTrue offers (past ++ early) places
   emitted_both side past early rest e offers places true_of id is =
-      let all_told : delivered_ids side.emitted ≡ delivered_ids (past ++ early) ++ delivered_ids rest =
+      let all_emitted : delivered_ids side.emitted ≡ delivered_ids (past ++ early) ++ delivered_ids rest =
       ap (λ (es : List (Event Carried)). delivered_ids es) (e ∙ sym (append_assoc past early rest)) ∙ delivered_more (past ++ early) rest in
-      true_of id (ap (λ (ids : List ℕ). has id ids) all_told ∙ has_keeps id (delivered_ids (past ++ early)) (delivered_ids rest) is)
+      true_of id (ap (λ (ids : List ℕ). has id ids) all_emitted ∙ has_keeps id (delivered_ids (past ++ early)) (delivered_ids rest) is)
 
   -- nor does it emit that a reset failed
   none_both : (side : Side) (past early rest : List (Event Carried)) → side.emitted ≡ past ++ (early ++ rest) → failed_in side.emitted ≡ false → failed_in (past ++ early) ≡ false
   none_both side past early rest e none =
-      let all_told : failed_in side.emitted ≡ (failed_in (past ++ early) || failed_in rest) =
+      let all_emitted : failed_in side.emitted ≡ (failed_in (past ++ early) || failed_in rest) =
       ap (λ (es : List (Event Carried)). failed_in es) (e ∙ sym (append_assoc past early rest)) ∙ failed_more (past ++ early) rest in
-      (or_parts (failed_in (past ++ early)) (failed_in rest) (sym all_told ∙ none)).0
+      (or_parts (failed_in (past ++ early)) (failed_in rest) (sym all_emitted ∙ none)).0
 
   until_then : (s r side : Side) (of : Stamp → ℕ) (stamps_s stamps_r : List Stamp) (done os : List AcceptedMessage) → all ≡ done ++ os → (handed ready : List messages.Message)
       → ready ≡ handed ++ ready_at r → (x : Direction) → Invariant (message_of all) is_interleaved (transfer_of x) → ReceivesIn (message_of all) is_interleaved (state_of r) handed x
-      → (gone by : List ℕ) → Accounted (lifecycle_of all) s gone x → (then : SoFar)
+      → (abandoned by : List ℕ) → Accounted (lifecycle_of all) s abandoned x → (then : SoFar)
       → Turned (message_of all) (lifecycle_of all) is_interleaved of side r (length done + length os) handed stamps_s stamps_r then x s by
       → ReportsAreTrue (done ++ os) side.emitted (take (length ready) (transfer_of x).receiver.places)
-  until_then s r side of stamps_s stamps_r done os is handed ready ready_are x kept receives gone by emitted then t =
+  until_then s r side of stamps_s stamps_r done os is handed ready ready_are x kept receives abandoned by emitted then t =
       let whole : all ≡ (done ++ os) ++ [] = is ∙ sym (append-nil (done ++ os)) in
       let shown = λ (y : Direction) (h : ReceivesIn (message_of all) is_interleaved (state_of r) handed y).
       subst (λ (ms : List messages.Message). (transfer_of y).receiver.ready ≡ map ready_of ms) (sym ready_are) (ready_is (message_of all) is_interleaved (state_of r) handed y h) in
       let to : List ℕ = (transfer_of t.to).receiver.places in
-      let p : Point side (done ++ os) ready (gone ++ by) to =
+      let p : Point side (done ++ os) ready (abandoned ++ by) to =
       point (message_of all) (lifecycle_of all) is_interleaved (done ++ os) (accepted_there all (done ++ os) [] whole) (lifecycle_accepted all (done ++ os) [] whole) side t.to
-      t.flows.kept.epochs.order.kept (t.flows.accepted_is ∙ sym (length-append done os)) (gone ++ by) (t.accounts gone emitted) t.flows.sends ready (shown t.to t.flows.refines) to []
+      t.flows.kept.epochs.order.kept (t.flows.accepted_is ∙ sym (length-append done os)) (abandoned ++ by) (t.accounts abandoned emitted) t.flows.sends ready (shown t.to t.flows.refines) to []
       (sym (append-nil to)) in
       let there = accepted_there all (done ++ os) [] whole in
       let now : take (length ready) to ≡ (transfer_of x).receiver.places =
@@ -437,11 +437,11 @@ module _ (all : List AcceptedMessage) (all_epochs : List ℕ) (is_interleaved : 
 
   pub emits_then : (from_a : Bool) (a b : Options) (own : AreValidOptions a) (other : AreValidOptions b) (mode : is_interleaved ≡ (agreed a b).message_interleaving) (w : Pair) (stamps : Stamps)
       → Halves a b w.a w.b → AreSilent w → AreWithin w → AreFewPerformed w → NeitherHasEnded w → (t : EndAction) → MayAct t (side_of from_a w)
-      → IsTimely t (stamp w) (stamps_for from_a stamps) → (done : List AcceptedMessage) → all ≡ done ++ accepted_in t (side_of from_a w) → (ready : List messages.Message) (gone places : List ℕ)
-      → Leads all all_epochs is_interleaved parts a b own other mode few from_a w stamps done ready gone places
+      → IsTimely t (stamp w) (stamps_for from_a stamps) → (done : List AcceptedMessage) → all ≡ done ++ accepted_in t (side_of from_a w) → (ready : List messages.Message) (abandoned places : List ℕ)
+      → Leads all all_epochs is_interleaved parts a b own other mode few from_a w stamps done ready abandoned places
       → (early late : List (Event Carried)) → (emitted_by t (side_of from_a w) (side_of (not from_a) w)).events ≡ early ++ late → endings early ≡ 0
       → EmitsThen (side_of from_a w).emitted early (done ++ accepted_in t (side_of from_a w)) (take (length ready) places)
-  emits_then true a b own other mode w stamps h quiet within performed none t may timely done is ready gone places l early late emitted before =
+  emits_then true a b own other mode w stamps h quiet within performed none t may timely done is ready abandoned places l early late emitted before =
       let offered = offered_from all done (accepted_in t w.a) [] (is ∙ ap (λ (os : List AcceptedMessage). done ++ os) (sym (append-nil (accepted_in t w.a)))) in
       let u = action_until (message_of all) (lifecycle_of all) is_interleaved (of_end true) parts a b own other mode w.a w.b h quiet.a quiet.b within.a (length done) l.handed stamps.of_a stamps.of_b
       l.said l.last l.flows l.soon (performed true) (stamp w) refl (λ old y. y.a) t may timely none.a offered (below_all done (accepted_in t w.a) is) early late emitted before in
@@ -449,10 +449,10 @@ module _ (all : List AcceptedMessage) (all_epochs : List ℕ) (is_interleaved : 
         reports = emitted_both all all_epochs is_interleaved parts a b own other mode few true u.side w.a.emitted early u.rest u.emitted (done ++ accepted_in t w.a) (take (length ready) places)
             (subst (λ (ps : List ℕ). ReportsAreTrue (done ++ accepted_in t w.a) u.side.emitted (take (length ready) ps)) (sym l.places_are)
             (until_then all all_epochs is_interleaved parts a b own other mode few true w.a w.b u.side (of_end true) _ _ done (accepted_in t w.a) is l.handed ready l.ready_are l.last
-            l.flows.kept.epochs.order.kept l.flows.refines gone u.by l.accounts u.then u.out));
+            l.flows.kept.epochs.order.kept l.flows.refines abandoned u.by l.accounts u.then u.out));
         none_refused = none_both all all_epochs is_interleaved parts a b own other mode few true u.side w.a.emitted early u.rest u.emitted u.out.flows.none_failed;
       }
-  emits_then false a b own other mode w stamps h quiet within performed none t may timely done is ready gone places l early late emitted before =
+  emits_then false a b own other mode w stamps h quiet within performed none t may timely done is ready abandoned places l early late emitted before =
       let offered = offered_from all done (accepted_in t w.b) [] (is ∙ ap (λ (os : List AcceptedMessage). done ++ os) (sym (append-nil (accepted_in t w.b)))) in
       let u = action_until (message_of all) (lifecycle_of all) is_interleaved (of_end false) parts b a other own (mode_back (message_of all) (lifecycle_of all) is_interleaved parts a b own other mode) w.b w.a (swapped a b w.a w.b h)
       quiet.b quiet.a within.b (length done) l.handed stamps.of_b stamps.of_a
@@ -461,6 +461,6 @@ module _ (all : List AcceptedMessage) (all_epochs : List ℕ) (is_interleaved : 
         reports = emitted_both all all_epochs is_interleaved parts a b own other mode few false u.side w.b.emitted early u.rest u.emitted (done ++ accepted_in t w.b) (take (length ready) places)
             (subst (λ (ps : List ℕ). ReportsAreTrue (done ++ accepted_in t w.b) u.side.emitted (take (length ready) ps)) (sym l.places_are)
             (until_then all all_epochs is_interleaved parts a b own other mode few false w.b w.a u.side (of_end false) _ _ done (accepted_in t w.b) is l.handed ready l.ready_are l.last
-            l.flows.kept.epochs.order.kept l.flows.refines gone u.by l.accounts u.then u.out));
+            l.flows.kept.epochs.order.kept l.flows.refines abandoned u.by l.accounts u.then u.out));
         none_refused = none_both all all_epochs is_interleaved parts a b own other mode few false u.side w.b.emitted early u.rest u.emitted u.out.flows.none_failed;
       }

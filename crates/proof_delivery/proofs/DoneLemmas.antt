@@ -25,12 +25,12 @@ use Rattle.proof_delivery.proofs.ActionLemmas.{message_in}
 use Rattle.proof_delivery.proofs.FitsLemmas.{places_fit, first_places}
 
 -- where these were accepted at an end, became ready beyond, and were given up
-pub record Point (s : Side) (offers : List AcceptedMessage) (ready : List messages.Message) (gone places : List ℕ) : Type 0 where
+pub record Point (s : Side) (offers : List AcceptedMessage) (ready : List messages.Message) (abandoned places : List ℕ) : Type 0 where
   pub fits : Fits offers ready (take (length ready) places)
-  pub skipped : SkippedAreGivenUp offers gone (take (length ready) places)
+  pub skipped : SkippedAreGivenUp offers abandoned (take (length ready) places)
   pub reports : ReportsAreTrue offers s.emitted (take (length ready) places)
-  pub once : are_distinct gone ≡ true
-  pub rest : IsAtRest s → AllAreDone offers gone (take (length ready) places)
+  pub once : are_distinct abandoned ≡ true
+  pub rest : IsAtRest s → AllAreDone offers abandoned (take (length ready) places)
 
 -- ---- ids and places
 
@@ -82,38 +82,38 @@ module _ (message : ℕ → Message) (lifecycle : ℕ → Option ℕ) (is_interl
   its_id : (p : ℕ) (o : AcceptedMessage) (id : ℕ) → slice_get offers p ≡ Some o → lifecycle p ≡ Some id → o.options.lifecycle_id ≡ Some id
   its_id p o id at_p e = sym (ids p o at_p) ∙ e
 
-  module _ (gone : List ℕ) (a : Accounted lifecycle s gone x) where
-    skipped_now : SkippedAreGivenUp offers gone (transfer_of x).receiver.places
+  module _ (abandoned : List ℕ) (a : Accounted lifecycle s abandoned x) where
+    skipped_now : SkippedAreGivenUp offers abandoned (transfer_of x).receiver.places
     skipped_now p q o r at_p at_q line l is not_yet =
         let first : message p ≡ message_in o = there p o at_p in
         let second : message q ≡ message_in r = there q r at_q in
-        sym (a.gone_is p)
+        sym (a.given_up_is p)
         ∙ claims.skipped p q (ap (λ (z : Message). z.ordered) first ∙ ap not line.first) (ap (λ (z : Message). z.ordered) second ∙ ap not line.second)
         (ap (λ (z : Message). z.stream) first ∙ (line.stream ∙ sym (ap (λ (z : Message). z.stream) second))) l is not_yet
 
     reports_now : ReportsAreTrue offers s.emitted (transfer_of x).receiver.places
     reports_now id h =
-        let r : Reported lifecycle (transfer_of x).reports id = reported_at lifecycle (transfer_of x).reports id (sym (ap (λ (z : List ℕ). has id z) a.told_is) ∙ h) in
+        let r : Reported lifecycle (transfer_of x).reports id = reported_at lifecycle (transfer_of x).reports id (sym (ap (λ (z : List ℕ). has id z) a.emitted_is) ∙ h) in
         let ready : has r.place (transfer_of x).receiver.places ≡ true = claims.reports r.place r.among in
         let below = kept.outgoing.begun_below r.place (kept.incoming.ready_begun r.place ready) in
         let o : (o : AcceptedMessage) × (slice_get offers r.place ≡ Some o) = offer_at offers r.place (omega (arith, below, few)) in
         record { place = r.place; offer = o.0; there = o.1; its_id = its_id r.place o.0 id o.1 r.its_id; is_ready = ready }
 
-    rest_now : AtRest (transfer_of x) → AllAreDone offers gone (transfer_of x).receiver.places
+    rest_now : AtRest (transfer_of x) → AllAreDone offers abandoned (transfer_of x).receiver.places
     rest_now rest p l =
         elim (claims.rest rest p (omega (arith, l, few))) [
           | inl ready ↦ inl ready
-          | inr given ↦ inr (sym (a.gone_is p) ∙ given)
+          | inr given ↦ inr (sym (a.given_up_is p) ∙ given)
         ]
 
     pub point : SendsIn message lifecycle is_interleaved (state_of s) (queue_of s) x → (ready : List messages.Message) → (transfer_of x).receiver.ready ≡ map ready_of ready
-        → (places more : List ℕ) → places ≡ (transfer_of x).receiver.places ++ more → Point s offers ready gone places
+        → (places more : List ℕ) → places ≡ (transfer_of x).receiver.places ++ more → Point s offers ready abandoned places
     point sends ready is places more e =
         let first : take (length ready) places ≡ (transfer_of x).receiver.places = first_places message offers there is_interleaved (transfer_of x) ready kept is places more e in
         record {
           fits = subst (λ (ps : List ℕ). Fits offers ready ps) (sym first) (places_fit message offers there is_interleaved (transfer_of x) ready kept few is);
-          skipped = subst (λ (ps : List ℕ). SkippedAreGivenUp offers gone ps) (sym first) skipped_now;
+          skipped = subst (λ (ps : List ℕ). SkippedAreGivenUp offers abandoned ps) (sym first) skipped_now;
           reports = subst (λ (ps : List ℕ). ReportsAreTrue offers s.emitted ps) (sym first) reports_now;
           once = a.once;
-          rest = λ r. subst (λ (ps : List ℕ). AllAreDone offers gone ps) (sym first) (rest_now (rests message lifecycle is_interleaved (state_of s) (queue_of s) x kept sends r.none_waits r.none_kept));
+          rest = λ r. subst (λ (ps : List ℕ). AllAreDone offers abandoned ps) (sym first) (rest_now (rests message lifecycle is_interleaved (state_of s) (queue_of s) x kept sends r.none_waits r.none_kept));
         }

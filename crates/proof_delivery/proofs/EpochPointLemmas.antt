@@ -36,7 +36,7 @@ BecomeReady offers epochs places before after from to =
 
 module _ (message : ℕ → Message) (is_interleaved : Bool) (offers : List AcceptedMessage) (there : (p : ℕ) (o : AcceptedMessage) → slice_get offers p ≡ Some o → message p ≡ message_in o)
     (x y : Direction) (b : Bracketed message x.rules y.rules) (kept : Invariant message is_interleaved (transfer_of y)) (before after : List (Event Carried))
-    (told_before : (s : ℕ) → x.rules.performed s ≡ resets_emitted s before) (told_after : (s : ℕ) → y.rules.performed s ≡ resets_emitted s after)
+    (emitted_before : (s : ℕ) → x.rules.performed s ≡ resets_emitted s before) (emitted_after : (s : ℕ) → y.rules.performed s ≡ resets_emitted s after)
     (epochs later all_epochs : List ℕ) (many : length epochs ≡ (transfer_of y).sender.accepted) (epochs_are : (p n : ℕ) → slice_get epochs p ≡ Some n → y.rules.epoch p ≡ n)
     (split : all_epochs ≡ epochs ++ later) where
   one_ready : (p n : ℕ) (o : AcceptedMessage) → has p b.more ≡ true → slice_get offers p ≡ Some o → slice_get all_epochs p ≡ Some n
@@ -50,8 +50,8 @@ module _ (message : ℕ → Message) (is_interleaved : Bool) (offers : List Acce
       let is = epochs_are p n now in
       let least = b.least p h in
       let most = b.most p h in
-      let first = told_before (stream_of message p) ∙ ap (λ (s : ℕ). resets_emitted s before) on in
-      let last = told_after (stream_of message p) ∙ ap (λ (s : ℕ). resets_emitted s after) on in
+      let first = emitted_before (stream_of message p) ∙ ap (λ (s : ℕ). resets_emitted s before) on in
+      let last = emitted_after (stream_of message p) ∙ ap (λ (s : ℕ). resets_emitted s after) on in
       (omega (arith, least, is, first), omega (arith, most, is, last))
 
   pub become_ready : (places more : List ℕ) → places ≡ (transfer_of y).receiver.places ++ more

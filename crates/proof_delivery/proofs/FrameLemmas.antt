@@ -83,20 +83,20 @@ module _ (g : Setting) (call : Call) (r : Rules g call) (other : is_other call â
   frame_opening (connects m is) none inv = let a : OpeningAct Carried call = connects m is in let n = j.opening a none inv in (n, k.opening a tt inv n)
   frame_opening (adds_init tag first t1 m to) none inv =
       let a : OpeningAct Carried call = adds_init tag first t1 m to in let n = j.opening a none inv in (n, k.opening a tt inv n)
-  frame_opening (answers_new tag i m heard to) none inv =
-      let a : OpeningAct Carried call = answers_new tag i m heard to in let n = j.opening a none inv in (n, k.opening a tt inv n)
-  frame_opening (answers_waiting tag i my_tag first t1 m heard to) none inv =
-      let a : OpeningAct Carried call = answers_waiting tag i my_tag first t1 m heard to in let n = j.opening a none inv in (n, k.opening a tt inv n)
-  frame_opening (answers_echoed tag i t1 cookie t m heard to) none inv =
-      let a : OpeningAct Carried call = answers_echoed tag i t1 cookie t m heard to in let n = j.opening a none inv in (n, k.opening a tt inv n)
-  frame_opening (answers_again tag i phase t m heard late to) none inv =
-      let a : OpeningAct Carried call = answers_again tag i phase t m heard late to in let n = j.opening a none inv in (n, k.opening a tt inv n)
-  frame_opening (echoes tag i cookie my_tag first t1 m heard brought) none inv =
-      let a : OpeningAct Carried call = echoes tag i cookie my_tag first t1 m heard brought in let n = j.opening a none inv in (n, k.opening a tt inv n)
+  frame_opening (answers_new tag i m received to) none inv =
+      let a : OpeningAct Carried call = answers_new tag i m received to in let n = j.opening a none inv in (n, k.opening a tt inv n)
+  frame_opening (answers_waiting tag i my_tag first t1 m received to) none inv =
+      let a : OpeningAct Carried call = answers_waiting tag i my_tag first t1 m received to in let n = j.opening a none inv in (n, k.opening a tt inv n)
+  frame_opening (answers_echoed tag i t1 cookie t m received to) none inv =
+      let a : OpeningAct Carried call = answers_echoed tag i t1 cookie t m received to in let n = j.opening a none inv in (n, k.opening a tt inv n)
+  frame_opening (answers_again tag i phase t m received late to) none inv =
+      let a : OpeningAct Carried call = answers_again tag i phase t m received late to in let n = j.opening a none inv in (n, k.opening a tt inv n)
+  frame_opening (echoes tag i cookie my_tag first t1 m received brought) none inv =
+      let a : OpeningAct Carried call = echoes tag i cookie my_tag first t1 m received brought in let n = j.opening a none inv in (n, k.opening a tt inv n)
   frame_opening (adds_cookie t1 cookie t m to) none inv =
       let a : OpeningAct Carried call = adds_cookie t1 cookie t m to in let n = j.opening a none inv in (n, k.opening a tt inv n)
-  frame_opening (establishes tag t1 cookie t m heard) none inv =
-      let a : OpeningAct Carried call = establishes tag t1 cookie t m heard in let n = j.opening a none inv in (n, k.opening a tt inv n)
+  frame_opening (establishes tag t1 cookie t m received) none inv =
+      let a : OpeningAct Carried call = establishes tag t1 cookie t m received in let n = j.opening a none inv in (n, k.opening a tt inv n)
   frame_opening (opens tag c m echoed closed own) none inv =
       let a : OpeningAct Carried call = opens tag c m echoed closed own in let n = j.opening a none inv in (n, k.opening a tt inv n)
   frame_opening (restarts tag c phase t m echoed verdict) none inv = absurd (no_restart _ (same_verdict g call r tag c phase t m echoed inv) verdict)

@@ -99,7 +99,7 @@ pub record Turned (message : ℕ → Message) (lifecycle : ℕ → Option ℕ) (
   pub to : Direction
   pub flows : Flows message lifecycle is_interleaved of s r accepted handed stamps_s stamps_r so_far to
   pub bracketed : Bracketed message x.rules to.rules
-  pub accounts : (gone : List ℕ) → Accounted lifecycle before gone x → Accounted lifecycle s (gone ++ by) to
+  pub accounts : (abandoned : List ℕ) → Accounted lifecycle before abandoned x → Accounted lifecycle s (abandoned ++ by) to
 
 -- what the trace says then
 abbrev pub so_far_turned : EndAction → (s r : Side) → SoFar → SoFar
@@ -214,7 +214,7 @@ none_fails es none = sym (failed_still es) ∙ ap (λ (fs : List (Event Carried)
 module _ (message : ℕ → Message) (lifecycle : ℕ → Option ℕ) (is_interleaved : Bool) (of : Stamp → ℕ) (parts : Parts message lifecycle is_interleaved) (o q : Options) (own : AreValidOptions o)
     (other : AreValidOptions q) (mode : is_interleaved ≡ (agreed o q).message_interleaving) (s r : Side) (h : Halves o q s r) (quiet_s : IsSilent s) (quiet_r : IsSilent r)
     (within : IsWithin (state_of s) (queue_of s)) (accepted : ℕ) (handed : List messages.Message) (stamps_s stamps_r : List Stamp) (so_far : SoFar) (x : Direction)
-    (f : Flows message lifecycle is_interleaved of s r accepted handed stamps_s stamps_r so_far x) (soon : IsAnswered (state_of s) so_far.asked) (few_told : performed_in s.emitted < 2 ^ 32 - 1)
+    (f : Flows message lifecycle is_interleaved of s r accepted handed stamps_s stamps_r so_far x) (soon : IsAnswered (state_of s) so_far.asked) (few_performed : performed_in s.emitted < 2 ^ 32 - 1)
     (now : Stamp) (at_now : of now ≡ numbered_count (state_of s)) (young : (old : Stamp) → IsYoung now old → of now < of old + 2 ^ 30) where
   pub holds : Holds message lifecycle is_interleaved x (queue_of s) f.kept
   holds = holds_of message lifecycle is_interleaved of o q s r accepted handed stamps_s stamps_r so_far x f within
@@ -241,7 +241,7 @@ module _ (message : ℕ → Message) (lifecycle : ℕ → Option ℕ) (is_interl
   start = begins_out message lifecycle is_interleaved of o q s r accepted handed stamps_s stamps_r so_far x f quiet_s soon
 
   premises_out : (asked : Bool) (call : Call) → ReceivesSacks call (first_in (state_of r)) x → SenderPremises message lifecycle is_interleaved (setting o q s r asked) call x
-  premises_out asked call hears = sender_premises message lifecycle is_interleaved of o q s r accepted handed stamps_s stamps_r so_far x f asked call own mode few_told hears
+  premises_out asked call receives = sender_premises message lifecycle is_interleaved of o q s r accepted handed stamps_s stamps_r so_far x f asked call own mode few_performed receives
 
   none_received : (call : Call) → IsNoPacket call → ReceivesSacks call (first_in (state_of r)) x
   none_received call plain = receives_no_sacks message is_interleaved (first_in (state_of r)) x call plain holds.windows
@@ -254,7 +254,7 @@ module _ (message : ℕ → Message) (lifecycle : ℕ → Option ℕ) (is_interl
         (subst (λ (ss : List Stamp). Flows message lifecycle is_interleaved of s r (accepted + 0) handed ss stamps_r so_far x) (sym (none_more (emitted_packets s) now stamps_s))
         (subst (λ (n : ℕ). Flows message lifecycle is_interleaved of s r n handed stamps_s stamps_r so_far x) (plus_none accepted) f));
     bracketed = goes_bracketed message is_interleaved is_outgoing x x f.kept.epochs (goes_none message is_interleaved is_outgoing x);
-    accounts = λ gone a. accounts_still lifecycle s gone x a;
+    accounts = λ abandoned a. accounts_still lifecycle s abandoned x a;
   }
     where
       plus_none : (n : ℕ) → n ≡ n + 0
@@ -269,16 +269,16 @@ module _ (message : ℕ → Message) (lifecycle : ℕ → Option ℕ) (is_interl
         to = y;
         flows = ends_out message lifecycle is_interleaved of parts.stay s r accepted handed stamps_s stamps_r so_far x f now counted near asked [] prepared x y e none tt c stands;
         bracketed = goes_bracketed message is_interleaved goes_out x y f.kept.epochs c.goes;
-        accounts = λ gone a. accounts_out message lifecycle is_interleaved s gone x a 0 prepared x y e asked none c;
+        accounts = λ abandoned a. accounts_out message lifecycle is_interleaved s abandoned x a 0 prepared x y e asked none c;
       }
 
   joined_out : (asked : Bool) (call : Call) → Rules (setting o q s r asked) call → is_other call ≡ true → (s.got_init ≡ true → asked ≡ true)
       → HasNoEnd (calm (called call s.end)) → ReceivesSacks call (first_in (state_of r)) x → Stands (state_of s) (called call s.end).endpoint_state.state
       → Out (after_action asked (called call s.end) s) [] (so_far_then so_far s (called call s.end) [] []) (recorded_places (emitted_of (called call s.end)))
-  joined_out asked call rules other_call le none hears stands =
+  joined_out asked call rules other_call le none receives stands =
       let g : Setting = setting o q s r asked in
       let goes : SenderGoes message lifecycle is_interleaved x (calm s.end) (calm (called call s.end)) =
-      (joined_call g call rules other_call (parts.sender_keeps g call x (premises_out asked call hears)) s.end none (begins o q s r asked le h.own h.other)).1 in
+      (joined_call g call rules other_call (parts.sender_keeps g call x (premises_out asked call receives)) s.end none (begins o q s r asked le h.own h.other)).1 in
       let c = goes [] x start in
       claim_out asked [] (called call s.end) c.0 c.1 stands
 
@@ -298,20 +298,20 @@ module _ (message : ℕ → Message) (lifecycle : ℕ → Option ℕ) (is_interl
         flows = ends_out message lifecycle is_interleaved of parts.stay s r accepted handed stamps_s stamps_r so_far x f now counted near s.got_init os [] c.mid c.to (called call s.end)
             c.offers are c.claim stands;
         bracketed = goes_bracketed message is_interleaved is_outgoing x c.to f.kept.epochs (goes_on message is_interleaved is_outgoing x c.mid c.to c.offers.goes (outgoing message is_interleaved c.mid c.to c.claim.goes));
-        accounts = λ gone a. accounts_out message lifecycle is_interleaved s gone x a (length os) [] c.mid c.to (called call s.end) s.got_init c.offers c.claim;
+        accounts = λ abandoned a. accounts_out message lifecycle is_interleaved s abandoned x a (length os) [] c.mid c.to (called call s.end) s.got_init c.offers c.claim;
       }
 
   -- nothing happens that the rules see
   quietly_out : (m : EndWithPacket Carried) → SendsIn message lifecycle is_interleaved m.state m.context.queue x → recorded_places m.context.emitted ≡ []
       → delivered_ids m.context.emitted.events ≡ [] → packets_in m.context.emitted.events ≡ [] → resets_in m.context.emitted.events ≡ [] → m.packet.chunks ≡ [] → SenderClaim message lifecycle is_interleaved x [] m x
-  quietly_out m shown gone reports emitted resets made = record {
+  quietly_out m shown given_up_is reports emitted resets made = record {
     kept = f.kept;
     goes = goes_none message is_interleaved goes_out x;
     done = refl;
     shown = shown;
     near = start.near;
     since = start.since;
-    given_up = gone;
+    given_up = given_up_is;
     reported = reports_none lifecycle (transfer_of x) (transfer_of x) [] m.context.emitted.events refl reports;
     performed = let none = none_performed m.context.emitted.events resets in omega (arith, none);
     epochs = λ k so. subst (λ (ns : List ℕ). AreSo (reopen ns (shut_streams [] k)) x.rules) (sym (none_named m.context.emitted.events resets)) so;
@@ -451,7 +451,7 @@ module _ (message : ℕ → Message) (lifecycle : ℕ → Option ℕ) (is_interl
   joined_until : (asked : Bool) (call : Call) → Rules (setting o q s r asked) call → is_other call ≡ true → (s.got_init ≡ true → asked ≡ true)
       → ReceivesSacks call (first_in (state_of r)) x → (early late : List (Event Carried)) → (emitted_of (called call s.end)).events ≡ early ++ late → endings early ≡ 0
       → IsUntil early []
-  joined_until asked call rules other_call le hears early late is none =
+  joined_until asked call rules other_call le receives early late is none =
       elim (until_first_end call both s.end (ap (λ (t : Emitted Carried). endings t.events) quiet_s.emitted)) [
         | inl whole ↦ here (calm (called call s.end)) whole.1 late is
         | inr first ↦ let rest = up_to first.here.context.emitted.events first.event first.more early late (sym first.emitted ∙ is) first.ends none in here first.here first.kept rest.0 rest.1
@@ -461,7 +461,7 @@ module _ (message : ℕ → Message) (lifecycle : ℕ → Option ℕ) (is_interl
       g = setting o q s r asked
 
       premises : SenderPremises message lifecycle is_interleaved g call x
-      premises = premises_out asked call hears
+      premises = premises_out asked call receives
 
       takes_none : call ≡ TakeMessage → ⊥
       takes_none e = not_other call TakeMessage other_call e refl

@@ -102,10 +102,10 @@ module _ (accepted : List Acceptance) (resets : List ℕ) where
 -- ---- an end at work
 
 -- after these acceptances: the queue, the kept items, and the records that were emitted
-pub record Sound (accepted : List Acceptance) (resets : List ℕ) (kept : List Item) (now : ℕ) (q : Queue) (gone : List GivenUp) : Type 0 where
+pub record Sound (accepted : List Acceptance) (resets : List ℕ) (kept : List Item) (now : ℕ) (q : Queue) (records : List GivenUp) : Type 0 where
   pub holds : Holds (Known accepted) (length accepted) q
   pub stay : AllStay (Known accepted) kept
-  pub justified : AllByRecursion (IsJustifiedAt accepted resets now) gone
+  pub justified : AllByRecursion (IsJustifiedAt accepted resets now) records
 
 abbrev pub SoundAt : List Acceptance → (resets : List ℕ) → EndWithPacket Carried → Type 0
 SoundAt accepted resets m = Sound accepted resets (kept_in m.state) m.context.now m.context.queue m.context.emitted.given_up
@@ -132,11 +132,11 @@ module _ (accepted : List Acceptance) (resets : List ℕ) where
       holds_mode K (length accepted) is_interleaved (queue_if (resets || other_mode is_interleaved old) q) (reset_if (resets || other_mode is_interleaved old) q h)
 
   -- another queue, and no items or the same
-  with_queue : (kept : List Item) (now : ℕ) (q next : Queue) (gone : List GivenUp) → (Q q → Q next) → Sound accepted resets kept now q gone → Sound accepted resets kept now next gone
-  with_queue kept now q next gone f h = record { holds = f h.holds; stay = h.stay; justified = h.justified }
+  with_queue : (kept : List Item) (now : ℕ) (q next : Queue) (records : List GivenUp) → (Q q → Q next) → Sound accepted resets kept now q records → Sound accepted resets kept now next records
+  with_queue kept now q next records f h = record { holds = f h.holds; stay = h.stay; justified = h.justified }
 
-  anew : (kept : List Item) (now : ℕ) (q next : Queue) (gone : List GivenUp) → (Q q → Q next) → Sound accepted resets kept now q gone → Sound accepted resets [] now next gone
-  anew kept now q next gone f h = record { holds = f h.holds; stay = tt; justified = h.justified }
+  anew : (kept : List Item) (now : ℕ) (q next : Queue) (records : List GivenUp) → (Q q → Q next) → Sound accepted resets kept now q records → Sound accepted resets [] now next records
+  anew kept now q next records f h = record { holds = f h.holds; stay = tt; justified = h.justified }
 
   -- what a sender goes on to, with the same queue
   onward : (s t : Sender) (now : ℕ) (q : Queue) (emitted more : Emitted Carried)
@@ -166,15 +166,15 @@ module _ (accepted : List Acceptance) (resets : List ℕ) where
     sound_opening : (act : OpeningAct Carried call) → Onward (before_opening act) (after_opening act)
     sound_opening (connects m is) h = h
     sound_opening (adds_init tag first t1 m to) h = h
-    sound_opening (answers_new tag i m heard to) h = h
-    sound_opening (answers_waiting tag i my_tag first t1 m heard to) h = h
-    sound_opening (answers_echoed tag i t1 cookie t m heard to) h = h
-    sound_opening (answers_again tag i phase t m heard late to) h = h
-    sound_opening (echoes tag i cookie my_tag first t1 m heard brought) h =
+    sound_opening (answers_new tag i m received to) h = h
+    sound_opening (answers_waiting tag i my_tag first t1 m received to) h = h
+    sound_opening (answers_echoed tag i t1 cookie t m received to) h = h
+    sound_opening (answers_again tag i phase t m received late to) h = h
+    sound_opening (echoes tag i cookie my_tag first t1 m received brought) h =
         anew [] m.context.now m.context.queue _ m.context.emitted.given_up
         (λ k. holds_mode K (length accepted) (agreed_by m.context.options i).message_interleaving (reset m.context.queue) (holds_reset K (length accepted) m.context.queue k)) h
     sound_opening (adds_cookie t1 cookie t m to) h = h
-    sound_opening (establishes tag t1 cookie t m heard) h = h
+    sound_opening (establishes tag t1 cookie t m received) h = h
     sound_opening (opens tag k m echoed none own) h =
         anew (kept_in m.state) m.context.now m.context.queue _ m.context.emitted.given_up
         (holds_for false (negotiate m.context.options k.peer_capabilities).message_interleaving m.context.queue) h
@@ -193,13 +193,13 @@ module _ (accepted : List Acceptance) (resets : List ℕ) where
     sound_closing (shuts_on phase next t m late later) h = h
 
     sound_data : (act : DataAct Carried call) → Onward (before_data act) (after_data act)
-    sound_data (takes_data tag tsn is_immediate f phase t m heard right some takes) h = h
-    sound_data (takes_idata tag tsn is_immediate f phase t m heard right some takes) h = h
-    sound_data (takes_forward tag tsn skipped phase t m heard right valid) h = h
-    sound_data (takes_iforward tag tsn skipped phase t m heard right valid) h = h
+    sound_data (takes_data tag tsn is_immediate f phase t m received right some takes) h = h
+    sound_data (takes_idata tag tsn is_immediate f phase t m received right some takes) h = h
+    sound_data (takes_forward tag tsn skipped phase t m received right valid) h = h
+    sound_data (takes_iforward tag tsn skipped phase t m received right valid) h = h
 
     sound_sack : (act : SackAct Carried call) → Onward (before_sack act) (after_sack act)
-    sound_sack (takes_sack tag k phase t m heard valid) h =
+    sound_sack (takes_sack tag k phase t m received valid) h =
         onward t.sender _ m.context.now m.context.queue m.context.emitted _
         (goes_sack K (IsJustifiedAt accepted resets m.context.now) m.context.now (late accepted resets m.context.now) (used accepted resets m.context.now) true (point_of k t) k.a_rwnd
         (clean_blocks k.gap_ack_blocks) t.sender m.context.emitted) h

@@ -130,9 +130,9 @@ module _ (old : List Acceptance) (x : Side) where
 -- ---- actions
 
 -- after one that resets these streams, with its records
-pub record Actions (all : List Acceptance) (resets : List ℕ) (x : Side) (gone : List GivenUp) : Type 0 where
+pub record Actions (all : List Acceptance) (resets : List ℕ) (x : Side) (records : List GivenUp) : Type 0 where
   pub rests : Rests all x
-  pub justified : AllByRecursion (IsJustifiedAt all resets (clock x)) gone
+  pub justified : AllByRecursion (IsJustifiedAt all resets (clock x)) records
 
 actions_took : (all : List Acceptance) (resets : List ℕ) (e : Endpoint Carried) (x : Side) → SoundAt all resets (calm e) → Actions all resets (drain e x) (records_of e)
 actions_took all resets e x h = record { rests = λ later. record { holds = h.holds; stay = h.stay; justified = tt }; justified = h.justified }
@@ -140,8 +140,8 @@ actions_took all resets e x h = record { rests = λ later. record { holds = h.ho
 actions_none : (all : List Acceptance) (resets : List ℕ) (x : Side) → Rests all x → Actions all resets x []
 actions_none all resets x h = record { rests = h; justified = tt }
 
-no_more : (old : List Acceptance) (x : Side) (gone : List GivenUp) → Actions old [] x gone → Actions (old ++ []) [] x gone
-no_more old x gone t = subst (λ (xs : List Acceptance). Actions xs [] x gone) (sym (append-nil old)) t
+no_more : (old : List Acceptance) (x : Side) (records : List GivenUp) → Actions old [] x records → Actions (old ++ []) [] x records
+no_more old x records t = subst (λ (xs : List Acceptance). Actions xs [] x records) (sym (append-nil old)) t
 
 module _ (old : List Acceptance) (x y : Side) (h : Rests old x) where
   actions_given : (p : Option Carried) (checksum : ℕ) → Actions old [] (give p checksum x) (records_given p checksum x)

@@ -100,8 +100,8 @@ at_first message lifecycle is_interleaved false short a b words_a words_b = firs
 -- nor was anything emitted
 accounted_first : (lifecycle : ℕ → Option ℕ) (from_a : Bool) (a b : Options) (words_a words_b : Stream)
     → Accounted lifecycle (side_of from_a (traces.start a b words_a words_b)) [] first
-accounted_first lifecycle true a b words_a words_b = record { gone_is = λ p. refl; once = refl; told_is = refl }
-accounted_first lifecycle false a b words_a words_b = record { gone_is = λ p. refl; once = refl; told_is = refl }
+accounted_first lifecycle true a b words_a words_b = record { given_up_is = λ p. refl; once = refl; emitted_is = refl }
+accounted_first lifecycle false a b words_a words_b = record { given_up_is = λ p. refl; once = refl; emitted_is = refl }
 
 -- ---- what each act preserves
 

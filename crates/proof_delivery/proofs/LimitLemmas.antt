@@ -48,13 +48,13 @@ module _ (call : Call) (fits : (bytes : ℕ) → call ≡ SetMaxMessageSize byte
   stays_opening : (act : OpeningAct Carried call) → Stays (before_opening act) (after_opening act)
   stays_opening (connects m is) l = l
   stays_opening (adds_init tag first t1 m to) l = l
-  stays_opening (answers_new tag i m heard to) l = l
-  stays_opening (answers_waiting tag i my_tag first t1 m heard to) l = l
-  stays_opening (answers_echoed tag i t1 cookie t m heard to) l = l
-  stays_opening (answers_again tag i phase t m heard late to) l = l
-  stays_opening (echoes tag i cookie my_tag first t1 m heard brought) l = l
+  stays_opening (answers_new tag i m received to) l = l
+  stays_opening (answers_waiting tag i my_tag first t1 m received to) l = l
+  stays_opening (answers_echoed tag i t1 cookie t m received to) l = l
+  stays_opening (answers_again tag i phase t m received late to) l = l
+  stays_opening (echoes tag i cookie my_tag first t1 m received brought) l = l
   stays_opening (adds_cookie t1 cookie t m to) l = l
-  stays_opening (establishes tag t1 cookie t m heard) l = l
+  stays_opening (establishes tag t1 cookie t m received) l = l
   stays_opening (opens tag k m echoed none own) l = l
   stays_opening (restarts tag k phase t m echoed verdict) l = l
   stays_opening (opens_again tag k phase t m echoed verdict) l = l
@@ -67,13 +67,13 @@ module _ (call : Call) (fits : (bytes : ℕ) → call ≡ SetMaxMessageSize byte
   stays_closing (shuts_on phase next t m late later) l = l
 
   stays_data : (act : DataAct Carried call) → Stays (before_data act) (after_data act)
-  stays_data (takes_data tag tsn is_immediate f phase t m heard right some takes) l = l
-  stays_data (takes_idata tag tsn is_immediate f phase t m heard right some takes) l = l
-  stays_data (takes_forward tag tsn skipped phase t m heard right valid) l = l
-  stays_data (takes_iforward tag tsn skipped phase t m heard right valid) l = l
+  stays_data (takes_data tag tsn is_immediate f phase t m received right some takes) l = l
+  stays_data (takes_idata tag tsn is_immediate f phase t m received right some takes) l = l
+  stays_data (takes_forward tag tsn skipped phase t m received right valid) l = l
+  stays_data (takes_iforward tag tsn skipped phase t m received right valid) l = l
 
   stays_sack : (act : SackAct Carried call) → Stays (before_sack act) (after_sack act)
-  stays_sack (takes_sack tag k phase t m heard valid) l = l
+  stays_sack (takes_sack tag k phase t m received valid) l = l
   stays_sack (samples r phase t m) l = l
   stays_sack (counts_errors e m) l = l
 

@@ -165,7 +165,7 @@ module _ (message : ℕ → Message) (lifecycle : ℕ → Option ℕ) (is_interl
       few = subst (λ (l : List Ask). length l < 2 ^ 32) (sym o.offers.asks) p.few;
       handed = p.handed;
       beside = stay.refines g.beside p.handed x o.mid p.kept o.offers.goes o.offers.done p.beside;
-      hears = sacks_of_none call (first_in g.beside) x o.mid o.offers.acknowledged o.offers.counted p.hears;
+      receives = sacks_of_none call (first_in g.beside) x o.mid o.offers.acknowledged o.offers.counted p.receives;
     }
 
     claim_then : (ms : List messages.Message) (how : SendOptions) (n : ℕ) → IsSilent s → AsksSoon x
@@ -246,7 +246,7 @@ module _ (message : ℕ → Message) (lifecycle : ℕ → Option ℕ) (is_interl
       windows = p.windows;
       few = p.few;
       short = p.short;
-      hears = data_of_none message is_interleaved call (first_out g.beside) x p.hears;
+      receives = data_of_none message is_interleaved call (first_out g.beside) x p.receives;
     }
 
     -- the offers themselves are nothing to it

@@ -166,20 +166,20 @@ module _ (message : ℕ → Message) (lifecycle : ℕ → Option ℕ) (is_interl
 
   pub sender_premises : (asked : Bool) (call : Call) → AreValidOptions own → is_interleaved ≡ (agreed own other).message_interleaving → performed_in s.emitted < 2 ^ 32 - 1
       → ReceivesSacks call (first_in (state_of r)) x → SenderPremises message lifecycle is_interleaved (setting own other s r asked) call x
-  sender_premises asked call given mode few hears = record {
+  sender_premises asked call given mode few receives = record {
     kept = f.kept;
     own = given;
     mode = mode;
     few = few_asks few;
     handed = handed;
     beside = f.refines;
-    hears = hears;
+    receives = receives;
   }
 
   pub receiver_premises : (asked : Bool) (call : Call) → AreValidOptions other → is_interleaved ≡ (agreed other own).message_interleaving → performed_in s.emitted < 2 ^ 32 - 1
       → Holds message lifecycle is_interleaved x (queue_of s) f.kept → ReceivesData message is_interleaved call (first_out (state_of s)) x
       → ReceiverPremises message lifecycle is_interleaved (setting other own r s asked) call x
-  receiver_premises asked call given mode few holds hears = record {
+  receiver_premises asked call given mode few holds receives = record {
     kept = f.kept;
     own = given;
     mode = mode;
@@ -189,7 +189,7 @@ module _ (message : ℕ → Message) (lifecycle : ℕ → Option ℕ) (is_interl
     windows = holds.windows;
     few = holds.few;
     short = short_index message (2 ^ 32) (transfer_of x).sender f.filled (λ t below. f.short (place_of (transfer_of x).sender t));
-    hears = hears;
+    receives = receives;
   }
 
   -- nothing is done yet

@@ -162,17 +162,17 @@ module _ (message : ℕ → Message) (lifecycle : ℕ → Option ℕ) (is_interl
   short_stays = subst AreShort (sym same.sender) premises.short
 
   abbrev least : ℕ
-  least = premises.hears.least
+  least = premises.receives.least
 
   abbrev most : ℕ
-  most = premises.hears.most
+  most = premises.receives.most
 
   abbrev Says : ChunkTree → Type 0
   Says = SaysOut message is_interleaved t.tracker.first least most x
 
   received_here : (tag : ℕ) (chunk : ChunkTree) → IsReceived call tag chunk → WasSaid Says chunk
-  received_here tag chunk heard =
-      let h : WasSaid (SaysOut message is_interleaved (first_out g.beside) least most from) chunk = premises.hears.says tag chunk heard in
+  received_here tag chunk received =
+      let h : WasSaid (SaysOut message is_interleaved (first_out g.beside) least most from) chunk = premises.receives.says tag chunk received in
       record {
         said = h.said;
         is = h.is;
@@ -185,7 +185,7 @@ module _ (message : ℕ → Message) (lifecycle : ℕ → Option ℕ) (is_interl
 
   number_here : (k tsn : ℕ) → k < count (transfer_of x).sender → least ≤ k → tsn ≡ wire words t.tracker.first (origin + k) → tracker.number_of t.tracker tsn ≡ origin + k
   number_here k tsn below past tsn_is =
-      let h = premises.hears in
+      let h = premises.receives in
       let numbered : h.most ≤ count (transfer_of from).sender = h.below in
       let young : count (transfer_of from).sender < h.most + 2 ^ 30 = h.young in
       let e = count_same in
@@ -217,26 +217,26 @@ module _ (message : ℕ → Message) (lifecycle : ℕ → Option ℕ) (is_interl
 
   pub data_is_received : (tag tsn : ℕ) (is_immediate : Bool) (f : FragmentTree) → IsReceived call tag (data_chunk tsn is_immediate f)
       → (is_interleaved ≡ false) × DataReceived message is_interleaved (transfer_of x) t.tracker tsn f
-  data_is_received tag tsn is_immediate f heard =
-      let s = data_was_said message is_interleaved x t.tracker.first least most tsn is_immediate f (received_here tag (data_chunk tsn is_immediate f) heard) in
+  data_is_received tag tsn is_immediate f received =
+      let s = data_was_said message is_interleaved x t.tracker.first least most tsn is_immediate f (received_here tag (data_chunk tsn is_immediate f) received) in
       (s.0, data_here tsn f s.1)
 
   pub idata_is_received : (tag tsn : ℕ) (is_immediate : Bool) (f : FragmentTree) → IsReceived call tag (idata_chunk tsn is_immediate f)
       → (is_interleaved ≡ true) × DataReceived message is_interleaved (transfer_of x) t.tracker tsn f
-  idata_is_received tag tsn is_immediate f heard =
-      let s = idata_was_said message is_interleaved x t.tracker.first least most short_stays tsn is_immediate f (received_here tag (idata_chunk tsn is_immediate f) heard) in
+  idata_is_received tag tsn is_immediate f received =
+      let s = idata_was_said message is_interleaved x t.tracker.first least most short_stays tsn is_immediate f (received_here tag (idata_chunk tsn is_immediate f) received) in
       (s.0, data_here tsn f s.1)
 
   pub point_is_received : (tag tsn : ℕ) (skipped : List SkippedStream) → IsReceived call tag (forward_tsn_chunk tsn skipped)
       → (is_interleaved ≡ false) × PointReceived is_interleaved (transfer_of x) t.tracker tsn skipped
-  point_is_received tag tsn skipped heard =
-      let s = point_was_said message is_interleaved x kept.epochs.order.kept t.tracker.first least most tsn skipped (received_here tag (forward_tsn_chunk tsn skipped) heard) in
+  point_is_received tag tsn skipped received =
+      let s = point_was_said message is_interleaved x kept.epochs.order.kept t.tracker.first least most tsn skipped (received_here tag (forward_tsn_chunk tsn skipped) received) in
       (s.0, point_here tsn skipped s.1)
 
   pub ipoint_is_received : (tag tsn : ℕ) (skipped : List SkippedStream) → IsReceived call tag (i_forward_tsn_chunk tsn skipped)
       → (is_interleaved ≡ true) × PointReceived is_interleaved (transfer_of x) t.tracker tsn skipped
-  ipoint_is_received tag tsn skipped heard =
-      let s = ipoint_was_said message is_interleaved x kept.epochs.order.kept t.tracker.first least most tsn skipped (received_here tag (i_forward_tsn_chunk tsn skipped) heard) in
+  ipoint_is_received tag tsn skipped received =
+      let s = ipoint_was_said message is_interleaved x kept.epochs.order.kept t.tracker.first least most tsn skipped (received_here tag (i_forward_tsn_chunk tsn skipped) received) in
       (s.0, point_here tsn skipped s.1)
 
   -- ---- requests
@@ -250,7 +250,7 @@ module _ (message : ℕ → Message) (lifecycle : ℕ → Option ℕ) (is_interl
       → RequestReceived x t.tracker n last_tsn.0 streams
   request_is_received n response last_tsn streams asked =
       let s : SaysAsk t.tracker.first most x.asks n last_tsn.0 streams = parameter_here (outgoing_reset_request n response last_tsn streams) asked in
-      let h = premises.hears in
+      let h = premises.receives in
       let young : count (transfer_of from).sender < h.most + 2 ^ 30 = h.young in
       let e = count_same in
       let within = (kept.asked.fine s.at s.ask s.there).within in

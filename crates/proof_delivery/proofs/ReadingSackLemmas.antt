@@ -110,9 +110,9 @@ module _ (message : ℕ → Message) (lifecycle : ℕ → Option ℕ) (is_interl
   pub sack_is_received : (q : Queue) (x : Direction) → IsKept message is_interleaved x → IsSending message lifecycle is_interleaved t q x
       → (transfer_of x).receiver ≡ (transfer_of from).receiver → (transfer_of x).sacks ≡ (transfer_of from).sacks → (transfer_of from).acknowledged ≤ (transfer_of x).acknowledged
       → (tag : ℕ) (k : SackTree) → IsReceived call tag (sack_chunk k) → SackReceived (transfer_of x) t k
-  sack_is_received q x kept shown receiver sacks grows tag k heard =
-      let h = premises.hears in
-      let said = sack_was_said (first_in g.beside) h.least h.most from k (h.says tag (sack_chunk k) heard) in
+  sack_is_received q x kept shown receiver sacks grows tag k is_received =
+      let h = premises.receives in
+      let said = sack_was_said (first_in g.beside) h.least h.most from k (h.says tag (sack_chunk k) is_received) in
       let s : SaysSack t.identity.my_first h.least h.most (transfer_of from) k =
       own (λ n. SaysSack n h.least h.most (transfer_of from) k) (λ fresh s. subst (IsAmong s.point) fresh.no_sacks s.sent) said in
       record {
@@ -126,7 +126,7 @@ module _ (message : ℕ → Message) (lifecycle : ℕ → Option ℕ) (is_interl
   pub answer_is_received : (number result : ℕ) (sender receiver : Option Tsn) → IsAsked call (reset_response number result sender receiver) → is_final result ≡ true
       → SaysDone t.identity.my_first from.done (length from.asks) number result
   answer_is_received number result sender receiver asked final =
-      let h = premises.hears in
+      let h = premises.receives in
       let p : ParameterTree = reset_response number result sender receiver in
       let said = answers_were_said (first_in g.beside) h.least h.most from asked.parameters (h.says asked.tag (re_config_chunk asked.parameters) asked.received) in
       let one : SaysIncoming (first_in g.beside) from.done (length from.asks) p =

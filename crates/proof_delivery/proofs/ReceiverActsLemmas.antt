@@ -109,30 +109,30 @@ module _ (message : ℕ → Message) (lifecycle : ℕ → Option ℕ) (is_interl
   goes_opening (connects m is) lasts inv next =
       goes_same message lifecycle is_interleaved from handed (in_state Closed m) (after_opening {call = call} (connects m is)) (λ x h. h) refl refl refl refl
   goes_opening (adds_init tag first t1 m to) lasts inv next = goes_adding message lifecycle is_interleaved from handed (in_state (CookieWait tag first t1) m) _ (λ x claim. tt)
-  goes_opening (answers_new tag i m heard to) lasts inv next =
+  goes_opening (answers_new tag i m received to) lasts inv next =
       let drawn : EndWithPacket Carried = in_state Closed (drew_two m) in
-      let act : OpeningAct Carried call = answers_new tag i m heard to in
+      let act : OpeningAct Carried call = answers_new tag i m received to in
       goes_through message lifecycle is_interleaved from handed (in_state Closed m) drawn (after_opening act)
       (goes_same message lifecycle is_interleaved from handed (in_state Closed m) drawn (λ x h. h) refl refl refl refl)
       (goes_adding message lifecycle is_interleaved from handed drawn _ (λ x claim. tt))
-  goes_opening (answers_waiting tag i my_tag first t1 m heard to) lasts inv next =
+  goes_opening (answers_waiting tag i my_tag first t1 m received to) lasts inv next =
       goes_adding message lifecycle is_interleaved from handed (in_state (CookieWait my_tag first t1) m) _ (λ x claim. tt)
-  goes_opening (answers_echoed tag i t1 cookie t m heard to) lasts inv next =
+  goes_opening (answers_echoed tag i t1 cookie t m received to) lasts inv next =
       goes_adding message lifecycle is_interleaved from handed (in_open (CookieEchoed t1 cookie) t m) _ (λ x claim. tt)
-  goes_opening (answers_again tag i phase t m heard late to) lasts inv next =
+  goes_opening (answers_again tag i phase t m received late to) lasts inv next =
       let drawn : EndWithPacket Carried = in_open phase t (drew_one m) in
-      let act : OpeningAct Carried call = answers_again tag i phase t m heard late to in
+      let act : OpeningAct Carried call = answers_again tag i phase t m received late to in
       goes_through message lifecycle is_interleaved from handed (in_open phase t m) drawn (after_opening act)
       (goes_same message lifecycle is_interleaved from handed (in_open phase t m) drawn (λ x h. h) refl refl refl refl)
       (goes_adding message lifecycle is_interleaved from handed drawn _ (λ x claim. tt))
-  goes_opening (echoes tag i cookie my_tag first t1 m heard brought) lasts inv next =
-      goes_opened (in_state (CookieWait my_tag first t1) m) (after_opening {call = call} (echoes tag i cookie my_tag first t1 m heard brought)) refl
+  goes_opening (echoes tag i cookie my_tag first t1 m received brought) lasts inv next =
+      goes_opened (in_state (CookieWait my_tag first t1) m) (after_opening {call = call} (echoes tag i cookie my_tag first t1 m received brought)) refl
       (λ x h. fresh_receives message is_interleaved handed x m.context.options _ _ _ (mode_is _ next.stands.can) h)
       refl refl refl
   goes_opening (adds_cookie t1 cookie t m to) lasts inv next =
       goes_adding message lifecycle is_interleaved from handed (in_open (CookieEchoed t1 cookie) t m) (cookie_echo_chunk cookie) (λ x claim. tt)
-  goes_opening (establishes tag t1 cookie t m heard) lasts inv next =
-      goes_same message lifecycle is_interleaved from handed (in_open (CookieEchoed t1 cookie) t m) (after_opening {call = call} (establishes tag t1 cookie t m heard))
+  goes_opening (establishes tag t1 cookie t m received) lasts inv next =
+      goes_same message lifecycle is_interleaved from handed (in_open (CookieEchoed t1 cookie) t m) (after_opening {call = call} (establishes tag t1 cookie t m received))
       (λ x h. h) refl (one_more m.context.emitted.events OnConnected refl) (none_behind m.context.emitted.events (OnConnected ∷ []) refl) refl
   goes_opening (opens tag k m echoed closed own) lasts inv next =
       goes_opened m (after_opening {call = call} (opens tag k m echoed closed own)) closed
@@ -169,32 +169,32 @@ module _ (message : ℕ → Message) (lifecycle : ℕ → Option ℕ) (is_interl
 
     data_leads : (tag tsn : ℕ) (is_immediate : Bool) (f : FragmentTree) → IsReceived call tag (data_chunk tsn is_immediate f) → takes tsn t ≡ true
         → Leads message is_interleaved handed x (take_fragment tsn is_immediate f t)
-    data_leads tag tsn is_immediate f heard may =
+    data_leads tag tsn is_immediate f received may =
         let h = data_is_received message lifecycle is_interleaved g call from p handed phase t m inv x claim.kept claim.shown same claim.stay.0
-        tag tsn is_immediate f heard in
+        tag tsn is_immediate f received in
         let valid = and_parts (not (is_full t.reassembly)) (is_valid t.tracker.tracker (tracker.number_of t.tracker tsn)) may in
         taken_leads message is_interleaved handed x t claim.shown claim.kept windows few tsn is_immediate f h.1 valid.1
 
     idata_leads : (tag tsn : ℕ) (is_immediate : Bool) (f : FragmentTree) → IsReceived call tag (idata_chunk tsn is_immediate f) → takes tsn t ≡ true
         → Leads message is_interleaved handed x (take_fragment tsn is_immediate f t)
-    idata_leads tag tsn is_immediate f heard may =
+    idata_leads tag tsn is_immediate f received may =
         let h = idata_is_received message lifecycle is_interleaved g call from p handed phase t m inv x claim.kept claim.shown same claim.stay.0
-        tag tsn is_immediate f heard in
+        tag tsn is_immediate f received in
         let valid = and_parts (not (is_full t.reassembly)) (is_valid t.tracker.tracker (tracker.number_of t.tracker tsn)) may in
         taken_leads message is_interleaved handed x t claim.shown claim.kept windows few tsn is_immediate f h.1 valid.1
 
     point_leads : (tag tsn : ℕ) (skipped : List SkippedStream) → IsReceived call tag (forward_tsn_chunk tsn skipped)
         → is_valid t.tracker.tracker (tracker.number_of t.tracker tsn) ≡ true → Leads message is_interleaved handed x (forward_to tsn skipped t)
-    point_leads tag tsn skipped heard valid =
+    point_leads tag tsn skipped received valid =
         let h = point_is_received message lifecycle is_interleaved g call from p handed phase t m inv x claim.kept claim.shown same claim.stay.0
-        tag tsn skipped heard in
+        tag tsn skipped received in
         passed_leads message is_interleaved handed x t claim.shown claim.kept windows few tsn skipped h.1 valid
 
     ipoint_leads : (tag tsn : ℕ) (skipped : List SkippedStream) → IsReceived call tag (i_forward_tsn_chunk tsn skipped)
         → is_valid t.tracker.tracker (tracker.number_of t.tracker tsn) ≡ true → Leads message is_interleaved handed x (forward_to tsn skipped t)
-    ipoint_leads tag tsn skipped heard valid =
+    ipoint_leads tag tsn skipped received valid =
         let h = ipoint_is_received message lifecycle is_interleaved g call from p handed phase t m inv x claim.kept claim.shown same claim.stay.0
-        tag tsn skipped heard in
+        tag tsn skipped received in
         passed_leads message is_interleaved handed x t claim.shown claim.kept windows few tsn skipped h.1 valid
 
     ack_leads : (y : Direction) × ReceiverClaim message is_interleaved from handed (with_chunk (selective_ack t) (in_open phase (count_sack_sent t) m)) y
@@ -219,18 +219,18 @@ module _ (message : ℕ → Message) (lifecycle : ℕ → Option ℕ) (is_interl
         )
 
   pub goes_data : (act : DataAct Carried call) → InvAt g (before_data act) → Goes (before_data act) (after_data act)
-  goes_data (takes_data tag tsn is_immediate f phase t m heard right some may) inv =
+  goes_data (takes_data tag tsn is_immediate f phase t m received right some may) inv =
       goes_led message lifecycle is_interleaved from handed phase phase t (take_fragment tsn is_immediate f t) m refl
-      (λ x claim. data_leads phase t m inv x claim tag tsn is_immediate f heard may)
-  goes_data (takes_idata tag tsn is_immediate f phase t m heard right some may) inv =
+      (λ x claim. data_leads phase t m inv x claim tag tsn is_immediate f received may)
+  goes_data (takes_idata tag tsn is_immediate f phase t m received right some may) inv =
       goes_led message lifecycle is_interleaved from handed phase phase t (take_fragment tsn is_immediate f t) m refl
-      (λ x claim. idata_leads phase t m inv x claim tag tsn is_immediate f heard may)
-  goes_data (takes_forward tag tsn skipped phase t m heard right valid) inv =
+      (λ x claim. idata_leads phase t m inv x claim tag tsn is_immediate f received may)
+  goes_data (takes_forward tag tsn skipped phase t m received right valid) inv =
       goes_led message lifecycle is_interleaved from handed phase phase t (forward_to tsn skipped t) m refl
-      (λ x claim. point_leads phase t m inv x claim tag tsn skipped heard valid)
-  goes_data (takes_iforward tag tsn skipped phase t m heard right valid) inv =
+      (λ x claim. point_leads phase t m inv x claim tag tsn skipped received valid)
+  goes_data (takes_iforward tag tsn skipped phase t m received right valid) inv =
       goes_led message lifecycle is_interleaved from handed phase phase t (forward_to tsn skipped t) m refl
-      (λ x claim. ipoint_leads phase t m inv x claim tag tsn skipped heard valid)
+      (λ x claim. ipoint_leads phase t m inv x claim tag tsn skipped received valid)
 
   -- an acknowledgement is made
   pub goes_acknowledging : (phase : Phase) (t : Tcb) (m : EndWithPacket Carried) → InvAt g (in_open phase t m)

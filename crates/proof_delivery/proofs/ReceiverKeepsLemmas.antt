@@ -87,8 +87,8 @@ module _ (message : ℕ → Message) (lifecycle : ℕ → Option ℕ) (mixed : B
   -- ---- acknowledgements, and what is sent
 
   goes_sack : (act : SackAct Carried call) → Goes (before_sack act) (after_sack act)
-  goes_sack (takes_sack tag k phase t m heard valid) =
-      let act : SackAct Carried call = takes_sack tag k phase t m heard valid in
+  goes_sack (takes_sack tag k phase t m received valid) =
+      let act : SackAct Carried call = takes_sack tag k phase t m received valid in
       goes_same message lifecycle mixed from handed (in_open phase t m) (after_sack act)
       (λ x h. rest_changes message mixed handed t _ t.rtt t.requests x refl refl h) refl (same_packets m.context.emitted (after_sack act).context.emitted (light_sack act))
       (resets_sack true (point_of k t) (clean_blocks k.gap_ack_blocks) t.sender m.context.emitted) refl
@@ -235,15 +235,15 @@ module _ (message : ℕ → Message) (lifecycle : ℕ → Option ℕ) (mixed : B
         )
 
   goes_resets : (act : ResetAct Carried call) → IsReceivedReset act → InvAt g (before_reset act) → Goes (before_reset act) (after_reset act)
-  goes_resets (prepares stream phase t m asked can) heard inv = absurd heard
-  goes_resets (defers n response last_tsn streams phase t m asked due ahead) heard inv =
+  goes_resets (prepares stream phase t m asked can) received inv = absurd received
+  goes_resets (defers n response last_tsn streams phase t m asked due ahead) received inv =
       goes_led message lifecycle mixed from handed phase phase t (record t { reassembly = defer last_tsn.0 streams t.reassembly; requests = process_request n in_progress t.requests }) m refl
       (λ x claim. deferred_leads message mixed handed x claim.kept t claim.shown (few phase t m inv x claim) n last_tsn.0 streams
       (asked_is phase t m inv x claim n response last_tsn streams asked) due (windows phase t m inv x claim).items ahead)
-  goes_resets (performs n response last_tsn streams phase t m asked due there) heard inv =
+  goes_resets (performs n response last_tsn streams phase t m asked due there) received inv =
       λ x claim. performs_claims phase t m inv x claim n response last_tsn streams asked due there
-  goes_resets (processes n streams phase t m asked known) heard inv = λ x claim. absurd (no_incoming phase t m inv x claim n streams asked)
-  goes_resets (takes_response wait n result sender receiver phase t m asked) heard inv =
+  goes_resets (processes n streams phase t m asked known) received inv = λ x claim. absurd (no_incoming phase t m inv x claim n streams asked)
+  goes_resets (takes_response wait n result sender receiver phase t m asked) received inv =
       let act : ResetAct Carried call = takes_response wait n result sender receiver phase t m asked in
       let same = answers_leave t.requests.current m.context.now wait n result t.requests in
       λ x claim.
@@ -253,7 +253,7 @@ module _ (message : ℕ → Message) (lifecycle : ℕ → Option ℕ) (mixed : B
       (λ h. subst (λ (ps : List Carried). All (λ (q : Carried). All (SaysIn t.tracker.first (transfer_of from).acknowledged (count (transfer_of from).sender) x) q.chunks) ps)
       (sym (same_packets m.context.emitted (after_reset act).context.emitted (light_reset act))) h)
       (λ h. h)
-  goes_resets (adds_responses responses phase t m are answers) heard inv =
+  goes_resets (adds_responses responses phase t m are answers) received inv =
       goes_adding message lifecycle mixed from handed (in_open phase t m) (re_config_chunk responses) (λ x claim. responses_true phase t m inv x claim responses answers)
 
   goes_input : (act : InputAct Carried call) → Goes (before_input act) (after_input act)
@@ -275,6 +275,6 @@ module _ (message : ℕ → Message) (lifecycle : ℕ → Option ℕ) (mixed : B
     sending = λ act inv next. goes_sending act inv;
     time = λ act inv next. goes_time act;
     calls = λ act set inv next. goes_calls act set;
-    resets = λ act heard inv next. goes_resets act heard inv;
+    resets = λ act received inv next. goes_resets act received inv;
     input = λ act inv next. goes_input act;
   }

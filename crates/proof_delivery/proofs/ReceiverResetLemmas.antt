@@ -115,7 +115,7 @@ module _ (message : ℕ → Message) (is_interleaved : Bool) (handed : List mess
           elim (last_is_ask t.tracker.first x.done x.asks t.requests t.reassembly.deferred answering below order few at there is) [
             | inl e ↦
                 let l = e.0 in
-                record { at = at; number_is = number_is; below = omega (arith, l); told = inl (same ∙ e.1 (ap is_final (sym same) ∙ final)) }
+                record { at = at; number_is = number_is; below = omega (arith, l); performed_or_older = inl (same ∙ e.1 (ap is_final (sym same) ∙ final)) }
             | inr e ↦ absurd (final_not result (same ∙ e.1) final)
           ]
 
@@ -124,7 +124,7 @@ module _ (message : ℕ → Message) (is_interleaved : Bool) (handed : List mess
           let is : is_known (asks.number_of t.tracker.first at) t.requests ≡ false = subst (λ (m : ℕ). is_known m t.requests ≡ false) number_is unknown in
           let parts = neither (is_last (asks.number_of t.tracker.first at) t.requests) (is_next (asks.number_of t.tracker.first at) t.requests) is in
           let e = other_is_older t.tracker.first x.done x.asks t.requests t.reassembly.deferred answering below order few at there parts.0 parts.1 in
-          record { at = at; number_is = number_is; below = e.0; told = inr e.1 }
+          record { at = at; number_is = number_is; below = e.0; performed_or_older = inr e.1 }
         where
           neither : (a b : Bool) → (a || b) ≡ false → (a ≡ false) × (b ≡ false)
           neither true b e = cc

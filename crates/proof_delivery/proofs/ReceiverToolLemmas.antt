@@ -139,7 +139,7 @@ module _ (x y : Epochs) (performed : y.performed ≡ x.performed) (sent : (r : R
     names = h.names;
     last = h.last;
     idle = h.idle;
-    told = h.told;
+    counts_from = h.counts_from;
     begun = h.begun;
   }
 

@@ -150,7 +150,7 @@ module _ (message : ℕ → Message) (lifecycle : ℕ → Option ℕ) (is_interl
       → SenderClaim message lifecycle is_interleaved from prepared (in_open phase t m) x → LeadsTo message lifecycle is_interleaved (transfer_of x) m.context.emitted m.context.queue s.outstanding.items later
       → s.outstanding.items.breaks ≡ t.sender.outstanding.items.breaks → HasSame t.sender s → EmitsQuietly m.context.emitted later → resets_in later.events ≡ resets_in m.context.emitted.events
       → (y : Direction) × SenderClaim message lifecycle is_interleaved from prepared (in_open phase (record t { sender = s }) (with_context c m)) y
-  led_claims phase t m s later c told_is queue_is prepared x a l breaks e light resets =
+  led_claims phase t m s later c emitted_is queue_is prepared x a l breaks e light resets =
       let q = m.context.queue in
       let es = m.context.emitted.events in
       let f = items_follow message lifecycle is_interleaved x.rules q t.sender a.kept.epochs.order.kept a.shown.refines a.shown.follows s.outstanding.items m.context.emitted later breaks l in
@@ -166,12 +166,12 @@ module _ (message : ℕ → Message) (lifecycle : ℕ → Option ℕ) (is_interl
               (shown_on message lifecycle is_interleaved t q q s x l.after a.shown e l.refines f.follows (same_queue message lifecycle is_interleaved q));
           near = λ n. n;
           since = λ n. n;
-          given_up = ap recorded_places told_is ∙ recorded_given message lifecycle is_interleaved x l.after l.leads.events r (recorded_places later) (recorded_places m.context.emitted) l.places l.leads.given_up l.recorded;
+          given_up = ap recorded_places emitted_is ∙ recorded_given message lifecycle is_interleaved x l.after l.leads.events r (recorded_places later) (recorded_places m.context.emitted) l.places l.leads.given_up l.recorded;
           reported = reports_none lifecycle (transfer_of x) l.after es c.emitted.events (ap (λ (z : Transfer). z.reports) l.leads.rest_stays)
-              (ap (λ (z : Emitted Carried). delivered_ids z.events) told_is ∙ same_delivered m.context.emitted later light);
-          resets = emits_no_answer prepared es c.emitted.events x y (no_answer es c.emitted.events (ap (λ (z : Emitted Carried). resets_in z.events) told_is ∙ resets)) refl refl refl;
+              (ap (λ (z : Emitted Carried). delivered_ids z.events) emitted_is ∙ same_delivered m.context.emitted later light);
+          resets = emits_no_answer prepared es c.emitted.events x y (no_answer es c.emitted.events (ap (λ (z : Emitted Carried). resets_in z.events) emitted_is ∙ resets)) refl refl refl;
           first = e.first;
-          packets = ap (λ (z : Emitted Carried). packets_in z.events) told_is ∙ same_packets m.context.emitted later (lightly m.context.emitted later light);
+          packets = ap (λ (z : Emitted Carried). packets_in z.events) emitted_is ∙ same_packets m.context.emitted later (lightly m.context.emitted later light);
           made = λ h. h;
         }),
       )
@@ -332,10 +332,10 @@ module _ (message : ℕ → Message) (lifecycle : ℕ → Option ℕ) (is_interl
 
   -- ---- SACKs
 
-  pub takes_sack_keeps : (tag : ℕ) (k : SackTree) (phase : Phase) (t : Tcb) (m : EndWithPacket Carried) (is_heard : IsReceived call tag (sack_chunk k))
+  pub takes_sack_keeps : (tag : ℕ) (k : SackTree) (phase : Phase) (t : Tcb) (m : EndWithPacket Carried) (is_received : IsReceived call tag (sack_chunk k))
       (valid : sack.is_valid (point_of k t) (clean_blocks k.gap_ack_blocks) t.sender.outstanding.items ≡ true) → InvAt g (in_open phase t m)
-      → SenderGoes message lifecycle is_interleaved from (before_sack {call = call} (takes_sack tag k phase t m is_heard valid)) (after_sack {call = call} (takes_sack tag k phase t m is_heard valid))
-  takes_sack_keeps tag k phase t m is_heard valid inv prepared x a =
+      → SenderGoes message lifecycle is_interleaved from (before_sack {call = call} (takes_sack tag k phase t m is_received valid)) (after_sack {call = call} (takes_sack tag k phase t m is_received valid))
+  takes_sack_keeps tag k phase t m is_received valid inv prepared x a =
       let now = m.context.now in
       let q = m.context.queue in
       let emitted = m.context.emitted in
@@ -343,7 +343,7 @@ module _ (message : ℕ → Message) (lifecycle : ℕ → Option ℕ) (is_interl
       let blocks = clean_blocks k.gap_ack_blocks in
       let same = receiver_stays message is_interleaved from x a.goes in
       let c = sack_is_received message lifecycle is_interleaved g call from premises phase t m inv q x a.kept a.shown same.receiver same.sacks
-      (left_more message lifecycle is_interleaved from prepared (in_open phase t m) x premises.kept a) tag k is_heard in
+      (left_more message lifecycle is_interleaved from prepared (in_open phase t m) x premises.kept a) tag k is_received in
       let h = received_row message lifecycle is_interleaved (transfer_of x) q t.sender a.kept.epochs.order.kept a.shown.refines emitted now point c.point k.a_rwnd blocks valid c.number_is c.sent in
       let n = leaving point t.sender.outstanding.items in
       let l = h.losses in
@@ -355,7 +355,7 @@ module _ (message : ℕ → Message) (lifecycle : ℕ → Option ℕ) (is_interl
       let r = moves message lifecycle is_interleaved x z es q s.outstanding.items a.kept (leaves_send n c.point l.leads.events l.leads.sends) leads in
       let stays = received_same true now point k.a_rwnd blocks t.sender emitted in
       let later = (step_of point blocks t.sender emitted).emitted in
-      let b : EndWithPacket Carried = after_sack {call = call} (takes_sack tag k phase t m is_heard valid) in (
+      let b : EndWithPacket Carried = after_sack {call = call} (takes_sack tag k phase t m is_received valid) in (
         y,
         step_claims message lifecycle is_interleaved from prepared prepared (in_open phase t m) b x y a (record {
           goes = r.goes;
@@ -365,7 +365,7 @@ module _ (message : ℕ → Message) (lifecycle : ℕ → Option ℕ) (is_interl
           near = λ n. n;
           since = λ n. n;
           given_up = recorded_given message lifecycle is_interleaved x z es r (recorded_places later) (recorded_places emitted) l.places (leaves_given message is_interleaved n c.point l.places l.leads.events l.leads.given_up) l.recorded;
-          reported = record { places = reports_of (transfer_of x).sender (transfer_of x).acknowledged n; more = ap (λ (z : Transfer). z.reports) l.leads.rest_stays; told_of = h.reported };
+          reported = record { places = reports_of (transfer_of x).sender (transfer_of x).acknowledged n; more = ap (λ (z : Transfer). z.reports) l.leads.rest_stays; delivered_are = h.reported };
           resets = emits_no_answer prepared emitted.events later.events x y (no_answer emitted.events later.events (resets_sack true point blocks t.sender emitted)) refl refl refl;
           first = stays.first;
           packets = same_packets emitted later (emits_sack true point blocks t.sender emitted);

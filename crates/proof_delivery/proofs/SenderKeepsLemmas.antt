@@ -34,7 +34,7 @@ module _ (message : ℕ → Message) (lifecycle : ℕ → Option ℕ) (is_interl
 
   module _ (g : Setting) (call : Call) (p : SenderPremises message lifecycle is_interleaved g call from) where
     keeps_sack : (act : SackAct Carried call) → InvAt g (before_sack act) → InvAt g (after_sack act) → SenderGoes message lifecycle is_interleaved from (before_sack act) (after_sack act)
-    keeps_sack (takes_sack tag k phase t m heard valid) inv later = takes_sack_keeps message lifecycle is_interleaved from g call p tag k phase t m heard valid inv
+    keeps_sack (takes_sack tag k phase t m received valid) inv later = takes_sack_keeps message lifecycle is_interleaved from g call p tag k phase t m received valid inv
     keeps_sack (samples r phase t m) inv later = goes_open message lifecycle is_interleaved from phase phase t (timed_by r t) m refl refl refl (λ x h. h)
     keeps_sack (counts_errors e m) inv later =
         goes_same message lifecycle is_interleaved from m (after_sack {call = call} (counts_errors e m)) (λ x h. h) refl refl refl refl (emits_nothing m.context.emitted.events) refl

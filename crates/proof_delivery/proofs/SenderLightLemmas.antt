@@ -89,7 +89,7 @@ module _ (message : ℕ → Message) (lifecycle : ℕ → Option ℕ) (is_interl
       → recorded_places b.context.emitted ≡ recorded_places a.context.emitted → first_out b.state ≡ first_out a.state
       → packets_in b.context.emitted.events ≡ packets_in a.context.emitted.events → delivered_ids b.context.emitted.events ≡ delivered_ids a.context.emitted.events
       → EmitsNoAnswer a.context.emitted.events b.context.emitted.events → b.packet.chunks ≡ a.packet.chunks → SenderGoes message lifecycle is_interleaved from a b
-  goes_same a b shown gone first packets reports resets chunks prepared x claim =
+  goes_same a b shown given_up_is first packets reports resets chunks prepared x claim =
       let es = a.context.emitted.events in
       let fs = b.context.emitted.events in
       let r = emits_no_answer prepared es fs x x resets refl refl refl in
@@ -103,7 +103,7 @@ module _ (message : ℕ → Message) (lifecycle : ℕ → Option ℕ) (is_interl
           shown = shown x claim.shown;
           near = claim.near;
           since = claim.since;
-          given_up = gone ∙ claim.given_up;
+          given_up = given_up_is ∙ claim.given_up;
           reported = reports_then lifecycle (transfer_of from) (transfer_of x) (transfer_of x) [] es fs claim.reported
               (reports_none lifecycle (transfer_of x) (transfer_of x) es fs refl reports);
           performed = omega (arith, so_far, now);
@@ -266,10 +266,10 @@ module _ (message : ℕ → Message) (lifecycle : ℕ → Option ℕ) (is_interl
   -- ---- what the peer sent
 
   pub light_data_act : {call : Call} (act : DataAct Carried call) → SenderGoes message lifecycle is_interleaved from (before_data act) (after_data act)
-  light_data_act (takes_data tag tsn is_immediate f phase t m heard right some is) = goes_open phase phase t (take_fragment tsn is_immediate f t) m refl refl refl (λ x h. h)
-  light_data_act (takes_idata tag tsn is_immediate f phase t m heard right some is) = goes_open phase phase t (take_fragment tsn is_immediate f t) m refl refl refl (λ x h. h)
-  light_data_act (takes_forward tag tsn skipped phase t m heard right valid) = goes_open phase phase t (forward_to tsn skipped t) m refl refl refl (λ x h. h)
-  light_data_act (takes_iforward tag tsn skipped phase t m heard right valid) = goes_open phase phase t (forward_to tsn skipped t) m refl refl refl (λ x h. h)
+  light_data_act (takes_data tag tsn is_immediate f phase t m received right some is) = goes_open phase phase t (take_fragment tsn is_immediate f t) m refl refl refl (λ x h. h)
+  light_data_act (takes_idata tag tsn is_immediate f phase t m received right some is) = goes_open phase phase t (take_fragment tsn is_immediate f t) m refl refl refl (λ x h. h)
+  light_data_act (takes_forward tag tsn skipped phase t m received right valid) = goes_open phase phase t (forward_to tsn skipped t) m refl refl refl (λ x h. h)
+  light_data_act (takes_iforward tag tsn skipped phase t m received right valid) = goes_open phase phase t (forward_to tsn skipped t) m refl refl refl (λ x h. h)
 
   -- ---- calls
 
@@ -277,8 +277,8 @@ module _ (message : ℕ → Message) (lifecycle : ℕ → Option ℕ) (is_interl
   goes_light : (a b : EndWithPacket Carried) → EmitsQuietly a.context.emitted b.context.emitted → resets_in b.context.emitted.events ≡ resets_in a.context.emitted.events → b.state ≡ a.state
       → ((x : Direction) → SendsIn message lifecycle is_interleaved a.state a.context.queue x → SendsIn message lifecycle is_interleaved b.state b.context.queue x)
       → recorded_places b.context.emitted ≡ recorded_places a.context.emitted → b.packet.chunks ≡ a.packet.chunks → SenderGoes message lifecycle is_interleaved from a b
-  goes_light a b quiet resets same shown gone chunks =
-      goes_same a b shown gone (ap first_out same) (same_packets a.context.emitted b.context.emitted (lightly a.context.emitted b.context.emitted quiet))
+  goes_light a b quiet resets same shown given_up_is chunks =
+      goes_same a b shown given_up_is (ap first_out same) (same_packets a.context.emitted b.context.emitted (lightly a.context.emitted b.context.emitted quiet))
       (same_delivered a.context.emitted b.context.emitted quiet) (no_answer a.context.emitted.events b.context.emitted.events resets) chunks
 
   -- streams' settings

@@ -165,7 +165,7 @@ module _ (message : ℕ → Message) (lifecycle : ℕ → Option ℕ) (is_interl
       → recorded_places b.context.emitted ≡ recorded_places a.context.emitted
       → packets_in b.context.emitted.events ≡ packets_in a.context.emitted.events → delivered_ids b.context.emitted.events ≡ delivered_ids a.context.emitted.events
       → resets_in b.context.emitted.events ≡ resets_in a.context.emitted.events → b.packet.chunks ≡ a.packet.chunks → SenderGoes message lifecycle is_interleaved from a b
-  goes_opening a b phase o i a_rwnd k q closed state queue least small mode waits gone packets reports resets chunks prepared x claim =
+  goes_opening a b phase o i a_rwnd k q closed state queue least small mode waits given_up_is packets reports resets chunks prepared x claim =
       let es = a.context.emitted.events in
       let fs = b.context.emitted.events in
       let now = first_out a.state in
@@ -187,7 +187,7 @@ module _ (message : ℕ → Message) (lifecycle : ℕ → Option ℕ) (is_interl
               (subst (λ (r : Queue). IsSending message lifecycle is_interleaved (tcb o i a_rwnd k) r x) (sym queue) shown);
           near = claim.near;
           since = claim.since;
-          given_up = gone ∙ claim.given_up;
+          given_up = given_up_is ∙ claim.given_up;
           reported = reports_then lifecycle (transfer_of from) (transfer_of x) (transfer_of x) [] es fs claim.reported
               (reports_none lifecycle (transfer_of x) (transfer_of x) es fs refl reports);
           performed = omega (arith, so_far, counted);
@@ -248,25 +248,25 @@ module _ (message : ℕ → Message) (lifecycle : ℕ → Option ℕ) (is_interl
     light_opening (connects m is) on inv later =
         goes_same message lifecycle is_interleaved from (in_state Closed m) (after_opening {call = call} (connects m is)) (λ x h. h) refl refl refl refl (emits_nothing m.context.emitted.events) refl
     light_opening (adds_init tag first t1 m to) on inv later = goes_adding message lifecycle is_interleaved from (in_state (CookieWait tag first t1) m) _ (λ first least most x. tt)
-    light_opening (answers_new tag i m heard to) on inv later =
-        goes_through message lifecycle is_interleaved from (in_state Closed m) (in_state Closed (drew_two m)) (after_opening {call = call} (answers_new tag i m heard to))
+    light_opening (answers_new tag i m received to) on inv later =
+        goes_through message lifecycle is_interleaved from (in_state Closed m) (in_state Closed (drew_two m)) (after_opening {call = call} (answers_new tag i m received to))
         (goes_same message lifecycle is_interleaved from (in_state Closed m) (in_state Closed (drew_two m)) (λ x h. h) refl refl refl refl (emits_nothing m.context.emitted.events) refl)
         (goes_adding message lifecycle is_interleaved from (in_state Closed (drew_two m)) _ (λ first least most x. tt))
-    light_opening (answers_waiting tag i own first t1 m heard to) on inv later =
+    light_opening (answers_waiting tag i own first t1 m received to) on inv later =
         goes_adding message lifecycle is_interleaved from (in_state (CookieWait own first t1) m) _ (λ first least most x. tt)
-    light_opening (answers_echoed tag i t1 cookie t m heard to) on inv later =
+    light_opening (answers_echoed tag i t1 cookie t m received to) on inv later =
         goes_adding message lifecycle is_interleaved from (in_open (CookieEchoed t1 cookie) t m) _ (λ first least most x. tt)
-    light_opening (answers_again tag i phase t m heard late to) on inv later =
-        goes_through message lifecycle is_interleaved from (in_open phase t m) (in_open phase t (drew_one m)) (after_opening {call = call} (answers_again tag i phase t m heard late to))
+    light_opening (answers_again tag i phase t m received late to) on inv later =
+        goes_through message lifecycle is_interleaved from (in_open phase t m) (in_open phase t (drew_one m)) (after_opening {call = call} (answers_again tag i phase t m received late to))
         (goes_same message lifecycle is_interleaved from (in_open phase t m) (in_open phase t (drew_one m)) (λ x h. h) refl refl refl refl (emits_nothing m.context.emitted.events) refl)
         (goes_adding message lifecycle is_interleaved from (in_open phase t (drew_one m)) _ (λ first least most x. tt))
-    light_opening (echoes tag i cookie own first t1 m heard brought) on inv later = goes_echoing i cookie own first t1 m inv later
+    light_opening (echoes tag i cookie own first t1 m received brought) on inv later = goes_echoing i cookie own first t1 m inv later
     light_opening (adds_cookie t1 cookie t m to) on inv later =
         goes_adding message lifecycle is_interleaved from (in_open (CookieEchoed t1 cookie) t m) (cookie_echo_chunk cookie) (λ first least most x. tt)
-    light_opening (establishes tag t1 cookie t m heard) on inv later = goes_late t1 cookie t m
-    light_opening (opens tag c m heard closed own) on inv later = goes_opened c m closed inv later
-    light_opening (restarts tag c phase t m heard verdict) on inv later = absurd on
-    light_opening (opens_again tag c phase t m heard verdict) on inv later = absurd on
-    light_opening (maintains tag c t1 cookie t m heard verdict) on inv later = goes_late t1 cookie t m
+    light_opening (establishes tag t1 cookie t m received) on inv later = goes_late t1 cookie t m
+    light_opening (opens tag c m received closed own) on inv later = goes_opened c m closed inv later
+    light_opening (restarts tag c phase t m received verdict) on inv later = absurd on
+    light_opening (opens_again tag c phase t m received verdict) on inv later = absurd on
+    light_opening (maintains tag c t1 cookie t m received verdict) on inv later = goes_late t1 cookie t m
     light_opening (adds_cookie_ack tag back phase t m echoed late) on inv later =
         goes_adding message lifecycle is_interleaved from (in_open phase t m) cookie_ack_chunk (λ first least most x. tt)

@@ -507,7 +507,7 @@ module _ (message : ℕ → Message) (lifecycle : ℕ → Option ℕ) (is_interl
           at = s.at;
           number_is = s.number_is;
           below = omega (arith, at_below, same);
-          told = elim s.told [ inl e ↦ inl e | inr l ↦ inr (omega (arith, l, more)) ];
+          performed_or_older = elim s.performed_or_older [ inl e ↦ inl e | inr l ↦ inr (omega (arith, l, more)) ];
         } in
         let Led : Outcome → Type 0 = λ o. (y : Direction) × SenderClaim message lifecycle is_interleaved from prepared (in_open phase u (with_context (on_outcome o m.context) m)) y in
         elim (response_settles first x.answered x.done x.asks q t.requests claim.shown.asks order.0 (omega (arith, same, below, few)) number result said) [

@@ -347,13 +347,13 @@ same_delivered t u l =
 
 module _ (lifecycle : ℕ → Option ℕ) where
   pub reports_none : (x y : Transfer) (es fs : List (events.Event Carried)) → y.reports ≡ x.reports → delivered_ids fs ≡ delivered_ids es → Reports lifecycle x y es fs
-  reports_none x y es fs same emitted = record { places = []; more = same ∙ sym (append-nil x.reports); told_of = emitted ∙ sym (append-nil (delivered_ids es)) }
+  reports_none x y es fs same emitted = record { places = []; more = same ∙ sym (append-nil x.reports); delivered_are = emitted ∙ sym (append-nil (delivered_ids es)) }
 
   pub reports_then : (x y z : Transfer) (es fs gs : List (events.Event Carried)) → Reports lifecycle x y es fs → Reports lifecycle y z fs gs → Reports lifecycle x z es gs
   reports_then x y z es fs gs a b = record {
     places = a.places ++ b.places;
     more = b.more ∙ (ap (λ (ps : List ℕ). ps ++ b.places) a.more ∙ append_assoc x.reports a.places b.places);
-    told_of = b.told_of ∙ (ap (λ (ids : List ℕ). ids ++ ids_at lifecycle b.places) a.told_of ∙ (append_assoc (delivered_ids es) (ids_at lifecycle a.places) (ids_at lifecycle b.places)
+    delivered_are = b.delivered_are ∙ (ap (λ (ids : List ℕ). ids ++ ids_at lifecycle b.places) a.delivered_are ∙ (append_assoc (delivered_ids es) (ids_at lifecycle a.places) (ids_at lifecycle b.places)
         ∙ ap (λ (ids : List ℕ). delivered_ids es ++ ids) (sym (ids_more lifecycle a.places b.places))));
   }
 

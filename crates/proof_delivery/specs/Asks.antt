@@ -68,7 +68,7 @@ pub record SaysDone (first done asked number result : ℕ) : Type 0 where
   pub at : ℕ
   pub number_is : number ≡ number_of first at
   pub below : at < done
-  pub told : (result ≡ performed) ⊎ (suc at < asked)
+  pub performed_or_older : (result ≡ performed) ⊎ (suc at < asked)
 
 -- A parameter says something of both directions: requests of the one that its end sends, answers of the other. No end asks for
 -- incoming streams to be reset.

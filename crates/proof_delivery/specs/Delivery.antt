@@ -38,10 +38,10 @@ pub record Fits (offers : List AcceptedMessage) (ready : List Message) (places :
       → slice_get offers (slice_index places k) ≡ Some p → AreOrderedOnOneStream o p → slice_index places j < slice_index places k
 
 -- an ordered message that isn't ready, while a later one of its stream is, was given up
-abbrev pub SkippedAreGivenUp : List AcceptedMessage → (gone places : List ℕ) → Type 0
-SkippedAreGivenUp offers gone places =
+abbrev pub SkippedAreGivenUp : List AcceptedMessage → (abandoned places : List ℕ) → Type 0
+SkippedAreGivenUp offers abandoned places =
     (p q : ℕ) (o r : AcceptedMessage) → slice_get offers p ≡ Some o → slice_get offers q ≡ Some r → AreOrderedOnOneStream o r → p < q → has q places ≡ true
-    → has p places ≡ false → has p gone ≡ true
+    → has p places ≡ false → has p abandoned ≡ true
 
 -- a message with this lifecycle id is ready
 pub record IsReady (offers : List AcceptedMessage) (places : List ℕ) (id : ℕ) : Type 0 where
@@ -56,8 +56,8 @@ abbrev pub ReportsAreTrue : List AcceptedMessage → List (Event Carried) → (p
 ReportsAreTrue offers emitted places = (id : ℕ) → has id (delivered_ids emitted) ≡ true → IsReady offers places id
 
 -- each message is ready, or was given up
-abbrev pub AllAreDone : List AcceptedMessage → (gone places : List ℕ) → Type 0
-AllAreDone offers gone places = (p : ℕ) → p < length offers → (has p places ≡ true) ⊎ (has p gone ≡ true)
+abbrev pub AllAreDone : List AcceptedMessage → (abandoned places : List ℕ) → Type 0
+AllAreDone offers abandoned places = (p : ℕ) → p < length offers → (has p places ≡ true) ⊎ (has p abandoned ≡ true)
 
 -- One list of places serves all along the trace: at each point its beginning fits, and says what became of the other messages.
 -- True is the direction from a to b.

@@ -105,7 +105,7 @@ module _ (ps : List (Drawn × Drawn)) (k : Knows ps) (law : EachCallIsNamed) (o 
 
     echo_of : (c : Option (List ℕ)) → EchoIsNamed m c x.end.random z.end.random
     echo_of None = tt
-    echo_of (Some cookie) = record { maker = (cookies_named (cookie_under ps same_tie)).tells cookie; draws = record { tie = refl } }
+    echo_of (Some cookie) = record { maker = (cookies_named (cookie_under ps same_tie)).same_maker cookie; draws = record { tie = refl } }
 
     ack_is : InitAckIsNamed m i (state_of x) x.end.random z.end.random
     ack_is = subst (λ (s : State). InitAckIsNamed m i s x.end.random z.end.random) (sym waits) (echo_of (cookie_in i.parameters))
@@ -121,7 +121,7 @@ module _ (ps : List (Drawn × Drawn)) (k : Knows ps) (law : EachCallIsNamed) (o 
           state chunks (init_ack i received_alone ack_is);
       tags = λ stand. tags_after call tag i.initiate_tag (guides tag) x.end (subst (TagsAre tag i.initiate_tag) (sym waits) refl);
       ties = inl refl;
-      drew = λ hears closed. absurd (both_ways (receives_init call) silent hears);
+      drew = λ receives closed. absurd (both_ways (receives_init call) silent receives);
     }
 
 -- ---- an end with a control block does nothing with it
@@ -171,12 +171,12 @@ module _ (ps : List (Drawn × Drawn)) (k : Knows ps) (law : EachCallIsNamed) (x 
       let l : Names = names ps n.mine n.peer n.tie n.cookie_tie in
       let m : Names = names_in ps s t.tie in
       let e : Endpoint Carried = z.end in
-      let heard : map carried p.chunks ≡ init_ack_chunk i ∷ [] = ap (λ (cs : List ChunkTree). map carried cs) alone in
+      let is_received : map carried p.chunks ≡ init_ack_chunk i ∷ [] = ap (λ (cs : List ChunkTree). map carried cs) alone in
       let open_too : is_opened (state_of z) ≡ true = ap is_opened t.state ∙ (opened_named m s ∙ opened) in
       let first : map carried (named_chunks l p.chunks) ≡ init_ack_chunk (named_init l i) ∷ [] =
       ap (λ (cs : List ChunkTree). map carried (named_chunks l cs)) alone in
       let second : named_chunks (flip m) (map carried p.chunks) ≡ init_ack_chunk (named_init (flip m) i) ∷ [] =
-      ap (λ (cs : List ChunkTree). named_chunks (flip m) cs) heard in
+      ap (λ (cs : List ChunkTree). named_chunks (flip m) cs) is_received in
       let does : (on_chunks (l.tag tag) (map carried (named_chunks l p.chunks)) e).endpoint_state ≡ (on_chunks (l.tag tag) (named_chunks (flip m) (map carried p.chunks)) e).endpoint_state =
       ap (λ (cs : List ChunkTree). (on_chunks (l.tag tag) cs e).endpoint_state) first
       ∙ (ap (λ (f : Endpoint Carried). f.endpoint_state) (any_ack (l.tag tag) (named_init l i) (named_init (flip m) i) (state_of z) e.endpoint_state.context e.random open_too)
@@ -188,11 +188,11 @@ module _ (ps : List (Drawn × Drawn)) (k : Knows ps) (law : EachCallIsNamed) (x 
         cookie_tie = same_tie;
         before = t.state;
         is = taken_as ps k x z p r checksum other n.mine n.peer n.tie n.cookie_tie n.is t.tie t.state law packing quiet t.context none numbers (my_tag s) (peer_in s) t.tie same_tie
-            t.state does (init_ack i heard (does_nothing m i s x.end.random z.end.random opened));
+            t.state does (init_ack i is_received (does_nothing m i s x.end.random z.end.random opened));
         tags = λ stand. stand_tags s (called (Packet (as_received p checksum)) x.end).endpoint_state.state stand opened;
         ties = inl refl;
-        drew = λ hears closed.
+        drew = λ receives closed.
             let silent : receives_init (Packet (as_received p checksum)) ≡ false =
-            ap (λ (cs : List ChunkTree). receives_init (Packet (record (as_received p checksum) { chunks = cs }))) heard in
-            absurd (both_ways (receives_init (Packet (as_received p checksum))) silent hears);
+            ap (λ (cs : List ChunkTree). receives_init (Packet (record (as_received p checksum) { chunks = cs }))) is_received in
+            absurd (both_ways (receives_init (Packet (as_received p checksum))) silent receives);
       }

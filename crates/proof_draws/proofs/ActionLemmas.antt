@@ -64,7 +64,7 @@ kind_received cs (a_flow flows) = a_flow (all_flow_carried cs ∙ flows)
 -- ---- an action, as it goes
 
 -- one call on both ends, or nothing
-pub record Turning (ps : List (Drawn × Drawn)) (x z : Side) (u : State) (a b : Side) (gone too : List GivenUp) : Type 0 where
+pub record Turning (ps : List (Drawn × Drawn)) (x z : Side) (u : State) (a b : Side) (records too : List GivenUp) : Type 0 where
   pub call : Call
   pub second : Endpoint Carried
   pub asked : Bool
@@ -72,16 +72,16 @@ pub record Turning (ps : List (Drawn × Drawn)) (x z : Side) (u : State) (a b : 
   pub same : both_asked ≡ asked
   pub first_is : a ≡ asked_as asked (drain (called call x.end) x)
   pub second_is : b ≡ asked_as both_asked (drain second z)
-  pub gone_is : gone ≡ (called call x.end).endpoint_state.context.emitted.given_up
-  pub gone_too : too ≡ second.endpoint_state.context.emitted.given_up
+  pub records_are : records ≡ (called call x.end).endpoint_state.context.emitted.given_up
+  pub records_too : too ≡ second.endpoint_state.context.emitted.given_up
   pub outcome : Outcome ps x z u call second
-  pub hears : ReceivesKind call
+  pub receives : ReceivesKind call
 
-pub record Idle (x z a b : Side) (gone too : List GivenUp) : Type 0 where
+pub record Idle (x z a b : Side) (records too : List GivenUp) : Type 0 where
   pub first_is : a ≡ x
   pub second_is : b ≡ z
-  pub gone_is : gone ≡ []
-  pub gone_too : too ≡ []
+  pub records_are : records ≡ []
+  pub records_too : too ≡ []
 
 module _ (ps : List (Drawn × Drawn)) (k : Knows ps) (o q : Options) (own : AreValidOptions o) (x y z : Side) (h : Halves o q x y) (t : Twin ps x y z) where
   least : 12 ≤ x.end.endpoint_state.context.options.mtu
@@ -94,42 +94,42 @@ module _ (ps : List (Drawn × Drawn)) (k : Knows ps) (o q : Options) (own : AreV
   alike = are_alike ps k x y z t
 
   -- alike, whatever ended
-  pub turning_alike : (a b : Side) (gone too : List GivenUp) → Turning ps x z (state_of y) a b gone too → AreAlike a b × (too ≡ gone)
-  turning_alike a b gone too g =
+  pub turning_alike : (a b : Side) (records too : List GivenUp) → Turning ps x z (state_of y) a b records too → AreAlike a b × (too ≡ records)
+  turning_alike a b records too g =
       let m = mirrors ps k x z (state_of y) g.call g.second (packs g.call) g.outcome in (
         subst (λ (s : Side). AreAlike s b) (sym g.first_is)
             (subst (λ (s : Side). AreAlike (asked_as g.asked (drain (called g.call x.end) x)) s) (sym g.second_is)
             (alike_after x z alike h.own.quiet (called g.call x.end) g.second g.asked g.both_asked g.same m)),
-        g.gone_too ∙ (given_up_after x z alike h.own.quiet (called g.call x.end) g.second m ∙ sym g.gone_is),
+        g.records_too ∙ (given_up_after x z alike h.own.quiet (called g.call x.end) g.second m ∙ sym g.records_are),
       )
 
-  pub idle_alike : (a b : Side) (gone too : List GivenUp) → Idle x z a b gone too → AreAlike a b × (too ≡ gone)
-  idle_alike a b gone too g = (
+  pub idle_alike : (a b : Side) (records too : List GivenUp) → Idle x z a b records too → AreAlike a b × (too ≡ records)
+  idle_alike a b records too g = (
     subst (λ (s : Side). AreAlike s b) (sym g.first_is) (subst (λ (s : Side). AreAlike x s) (sym g.second_is) alike),
-    g.gone_too ∙ sym g.gone_is,
+    g.records_too ∙ sym g.records_are,
   )
 
   -- twins, where none has ended
-  module _ (tells : EndsEmitEventOwn) where
-    turning_at : (gone too : List GivenUp) (b : Side) (c : Call) (second : Endpoint Carried) (asked both : Bool) → both ≡ asked → b ≡ asked_as both (drain second z)
+  module _ (emits : EndsEmitEventOwn) where
+    turning_at : (records too : List GivenUp) (b : Side) (c : Call) (second : Endpoint Carried) (asked both : Bool) → both ≡ asked → b ≡ asked_as both (drain second z)
         → Outcome ps x z (state_of y) c second → ReceivesKind c → Half o q (asked_as asked (drain (called c x.end) x)) y
         → Stand (state_of x) (called c x.end).endpoint_state.state → endings (x.emitted ++ (called c x.end).endpoint_state.context.emitted.events) ≡ 0
         → Twin ps (asked_as asked (drain (called c x.end) x)) y b
-    turning_at gone too b c second asked both same is outcome hears after stand none =
+    turning_at records too b c second asked both same is outcome receives after stand none =
         subst (λ (s : Side). Twin ps (asked_as asked (drain (called c x.end) x)) y s) (sym is)
         (twin_after ps k o q x y z c second asked both same t stand (packs c)
-        (tells c x.end h.own.packing h.own.quiet hears (none_of x.emitted (called c x.end).endpoint_state.context.emitted.events none)) outcome h.own.quiet after.said)
+        (emits c x.end h.own.packing h.own.quiet receives (none_of x.emitted (called c x.end).endpoint_state.context.emitted.events none)) outcome h.own.quiet after.said)
 
-    pub turning_twin : (a b : Side) (gone too : List GivenUp) → Turning ps x z (state_of y) a b gone too → Half o q a y → Stand (state_of x) (state_of a)
+    pub turning_twin : (a b : Side) (records too : List GivenUp) → Turning ps x z (state_of y) a b records too → Half o q a y → Stand (state_of x) (state_of a)
         → endings a.emitted ≡ 0 → Twin ps a y b
-    turning_twin a b gone too g after stand none =
+    turning_twin a b records too g after stand none =
         let there : Side = asked_as g.asked (drain (called g.call x.end) x) in
         subst (λ (s : Side). Twin ps s y b) (sym g.first_is)
-        (turning_at gone too b g.call g.second g.asked g.both_asked g.same g.second_is g.outcome g.hears (subst (λ (s : Side). Half o q s y) g.first_is after)
+        (turning_at records too b g.call g.second g.asked g.both_asked g.same g.second_is g.outcome g.receives (subst (λ (s : Side). Half o q s y) g.first_is after)
         (subst (λ (s : Side). Stand (state_of x) (state_of s)) g.first_is stand) (subst (λ (s : Side). endings s.emitted ≡ 0) g.first_is none))
 
-    pub idle_twin : (a b : Side) (gone too : List GivenUp) → Idle x z a b gone too → Twin ps a y b
-    idle_twin a b gone too g = subst (λ (s : Side). Twin ps s y b) (sym g.first_is) (subst (λ (s : Side). Twin ps x y s) (sym g.second_is) t)
+    pub idle_twin : (a b : Side) (records too : List GivenUp) → Idle x z a b records too → Twin ps a y b
+    idle_twin a b records too g = subst (λ (s : Side). Twin ps s y b) (sym g.first_is) (subst (λ (s : Side). Twin ps x y s) (sym g.second_is) t)
 
 -- ---- the actions
 
@@ -171,10 +171,10 @@ module _ (ps : List (Drawn × Drawn)) (k : Knows ps) (law : EachCallIsNamed) (la
     same = t.asked;
     first_is = refl;
     second_is = refl;
-    gone_is = refl;
-    gone_too = refl;
+    records_are = refl;
+    records_too = refl;
     outcome = inl (call_named ps k law x y z t h.own.packing h.own.quiet c may (connect_pair c drew));
-    hears = receives_call x c may;
+    receives = receives_call x c may;
   }
 
   -- ---- packets
@@ -200,11 +200,11 @@ module _ (ps : List (Drawn × Drawn)) (k : Knows ps) (law : EachCallIsNamed) (la
         same = ap (λ (a : Bool). a || (r.header.verification_tag == 0)) t.asked ∙ ap (λ (a : Bool). x.got_init || a) (asked_too p r n);
         first_is = refl;
         second_is = refl;
-        gone_is = refl;
-        gone_too = refl;
+        records_are = refl;
+        records_too = refl;
         outcome = given_outcome ps k law o q other x y z v h t p r checksum other_checksum n says numbers
             (λ i alone none phase u is l. late o q x y z p r checksum other_checksum other h t n says pair i alone none numbers phase u is l) pair kind;
-        hears = kind_received p.chunks kind;
+        receives = kind_received p.chunks kind;
       }
 
   abbrev pub Goes : (t u : EndAction) → Type 0
@@ -224,7 +224,7 @@ module _ (ps : List (Drawn × Drawn)) (k : Knows ps) (law : EachCallIsNamed) (la
       twin_none ps (state_of y) (state_of x) (emitted_packets y) (emitted_packets v) which (packets_twin ps (state_of y) (state_of x) y.emitted v.emitted b.emitted) there in
       subst (λ (a : Option Carried). GoesAs a (slice_get (emitted_packets v) which) checksum other_checksum) (sym there)
       (subst (λ (a : Option Carried). GoesAs None a checksum other_checksum) (sym none)
-      (inr (record { first_is = refl; second_is = refl; gone_is = refl; gone_too = refl })))
+      (inr (record { first_is = refl; second_is = refl; records_are = refl; records_too = refl })))
   give_by (Some p) which checksum other_checksum there drew =
       let f : Found ps (state_of y) (state_of x) p (emitted_packets v) which =
       twin_found ps (state_of y) (state_of x) (emitted_packets y) (emitted_packets v) which p (packets_twin ps (state_of y) (state_of x) y.emitted v.emitted b.emitted) there in
@@ -251,12 +251,12 @@ module _ (ps : List (Drawn × Drawn)) (k : Knows ps) (law : EachCallIsNamed) (la
   action_alike a c (inl g) = turning_alike ps k o q own x y z h t (act a x y) (act c z v) (records_by a x y) (records_by c z v) g
   action_alike a c (inr g) = idle_alike ps k o q own x y z h t (act a x y) (act c z v) (records_by a x y) (records_by c z v) g
 
-  action_twin_by : (tells : EndsEmitEventOwn) (a c : EndAction) → Goes a c → Half o q (act a x y) y → Stand (state_of x) (state_of (act a x y))
+  action_twin_by : (emits : EndsEmitEventOwn) (a c : EndAction) → Goes a c → Half o q (act a x y) y → Stand (state_of x) (state_of (act a x y))
       → endings (act a x y).emitted ≡ 0 → Twin ps (act a x y) y (act c z v)
-  action_twin_by tells a c (inl g) after stand none =
-      turning_twin ps k o q own x y z h t tells (act a x y) (act c z v) (records_by a x y) (records_by c z v) g after stand none
-  action_twin_by tells a c (inr g) after stand none =
-      idle_twin ps k o q own x y z h t tells (act a x y) (act c z v) (records_by a x y) (records_by c z v) g
+  action_twin_by emits a c (inl g) after stand none =
+      turning_twin ps k o q own x y z h t emits (act a x y) (act c z v) (records_by a x y) (records_by c z v) g after stand none
+  action_twin_by emits a c (inr g) after stand none =
+      idle_twin ps k o q own x y z h t emits (act a x y) (act c z v) (records_by a x y) (records_by c z v) g
 
   pub action_stands : (a : EndAction) → MayAct a x → endings (act a x y).emitted ≡ 0 → Stand (state_of x) (state_of (act a x y))
   action_stands a may none = (hands o q x y own other h a may none).stands
@@ -264,5 +264,5 @@ module _ (ps : List (Drawn × Drawn)) (k : Knows ps) (law : EachCallIsNamed) (la
   pub action_halves : (a : EndAction) → MayAct a x → endings (act a x y).emitted ≡ 0 → Halves o q (act a x y) y
   action_halves a may none = actions o q x y own other h a may none
 
-  pub action_twin : (tells : EndsEmitEventOwn) (a c : EndAction) → Goes a c → MayAct a x → endings (act a x y).emitted ≡ 0 → Twin ps (act a x y) y (act c z v)
-  action_twin tells a c g may none = action_twin_by tells a c g (action_halves a may none).own (action_stands a may none) none
+  pub action_twin : (emits : EndsEmitEventOwn) (a c : EndAction) → Goes a c → MayAct a x → endings (act a x y).emitted ≡ 0 → Twin ps (act a x y) y (act c z v)
+  action_twin emits a c g may none = action_twin_by emits a c g (action_halves a may none).own (action_stands a may none) none

@@ -110,10 +110,10 @@ chunks_bare m n (c ∷ cs) h =
 pub init_received : (m n : Names) (o : Options) (tag first method : ℕ) → m.tag tag ≡ n.tag tag → m.own ≡ n.own
     → named_init m (init_of o tag first (announce o method)) ≡ named_init n (init_of o tag first (announce o method))
 init_received m n o tag first method e f =
-    let told : (z own : ℕ) → List ParameterTree → InitTree = λ z own ps. init_of o z (move_by own first) ps in
-    ap (λ (z : ℕ). told z m.own (map (named_parameter m) (announce o method))) e
-    ∙ (ap (λ (own : ℕ). told (n.tag tag) own (map (named_parameter m) (announce o method))) f
-    ∙ ap (λ (ps : List ParameterTree). told (n.tag tag) n.own ps) (announced_named m o method ∙ sym (announced_named n o method)))
+    let init_with : (z own : ℕ) → List ParameterTree → InitTree = λ z own ps. init_of o z (move_by own first) ps in
+    ap (λ (z : ℕ). init_with z m.own (map (named_parameter m) (announce o method))) e
+    ∙ (ap (λ (own : ℕ). init_with (n.tag tag) own (map (named_parameter m) (announce o method))) f
+    ∙ ap (λ (ps : List ParameterTree). init_with (n.tag tag) n.own ps) (announced_named m o method ∙ sym (announced_named n o method)))
 
 with_cookie : (n : Names) (o : Options) (method : ℕ) (cookie : List ℕ)
     → map (named_parameter n) (announce o method ++ state_cookie cookie ∷ []) ≡ announce o method ++ state_cookie (n.cookie cookie) ∷ []
@@ -125,11 +125,11 @@ pub init_ack_received : (m n : Names) (o : Options) (tag first method : ℕ) (co
     → named_init m (init_of o tag first (announce o method ++ state_cookie cookie ∷ []))
     ≡ named_init n (init_of o tag first (announce o method ++ state_cookie cookie ∷ []))
 init_ack_received m n o tag first method cookie e f g =
-    let told : (z own : ℕ) → List ParameterTree → InitTree = λ z own ps. init_of o z (move_by own first) ps in
+    let init_with : (z own : ℕ) → List ParameterTree → InitTree = λ z own ps. init_of o z (move_by own first) ps in
     let all : List ParameterTree = announce o method ++ state_cookie cookie ∷ [] in
-    ap (λ (z : ℕ). told z m.own (map (named_parameter m) all)) e
-    ∙ (ap (λ (own : ℕ). told (n.tag tag) own (map (named_parameter m) all)) f
-    ∙ ap (λ (ps : List ParameterTree). told (n.tag tag) n.own ps)
+    ap (λ (z : ℕ). init_with z m.own (map (named_parameter m) all)) e
+    ∙ (ap (λ (own : ℕ). init_with (n.tag tag) own (map (named_parameter m) all)) f
+    ∙ ap (λ (ps : List ParameterTree). init_with (n.tag tag) n.own ps)
     (with_cookie m o method cookie
     ∙ (ap (λ (c : List ℕ). announce o method ++ state_cookie c ∷ []) g ∙ sym (with_cookie n o method cookie))))
 

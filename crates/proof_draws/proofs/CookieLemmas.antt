@@ -64,5 +64,5 @@ cookies_named name = record {
       ap (λ (bytes : List ℕ). read_cookie bytes) (made_by name k fits tags) ∙ read_cookie_bytes (name k) named_fits named_tags;
   read = λ bytes k e named_fits named_tags. read_again name bytes (Ok k) e ∙ read_cookie_bytes (name k) named_fits named_tags;
   refused = λ bytes fault e. read_again name bytes (Err fault) e ∙ e;
-  tells = λ bytes. maker_by_named name bytes (read_cookie bytes) refl;
+  same_maker = λ bytes. maker_by_named name bytes (read_cookie bytes) refl;
 }

@@ -202,5 +202,5 @@ module _ (ps : List (Drawn × Drawn)) (k : Knows ps) (law : EachCallIsNamed) (o 
           state (chunks_received ps n.mine n.peer n.tie new_tie n.cookie_tie p.chunks) (cookie_echo cookie (map carried rest) received_begins echo_is rest_flows);
       tags = λ stand. tags_after call n.peer n.mine guides x.end tags;
       ties = inl echoing.tie;
-      drew = λ hears closed. absurd (both_ways (receives_init call) silent hears);
+      drew = λ receives closed. absurd (both_ways (receives_init call) silent receives);
     }

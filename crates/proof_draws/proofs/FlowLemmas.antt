@@ -204,7 +204,7 @@ module _ (ps : List (Drawn × Drawn)) (k : Knows ps) (law : EachCallIsNamed) (x 
             (flow flow_received);
         tags = λ stand. tags_after call n.peer n.mine (guides n.peer n.mine) x.end tags;
         ties = inl refl;
-        drew = λ hears closed. absurd (both_ways (receives_init call) silent hears);
+        drew = λ receives closed. absurd (both_ways (receives_init call) silent receives);
       }
 
   -- the TSN of a SHUTDOWN aside
@@ -232,7 +232,7 @@ module _ (ps : List (Drawn × Drawn)) (k : Knows ps) (law : EachCallIsNamed) (x 
             t.state (does bare) (flow flow_received);
         tags = λ stand. tags_after call (my_tag s) (peer_in s) (guides (my_tag s) (peer_in s)) x.end (own_tags s);
         ties = inl refl;
-        drew = λ hears closed. absurd (both_ways (receives_init call) silent hears);
+        drew = λ receives closed. absurd (both_ways (receives_init call) silent receives);
       }
 
   pub flow_named : Faces (view_of (state_of y)).holds (view_of (state_of x)).mine → Faces (view_of (state_of x)).holds (view_of (state_of y)).mine

@@ -169,10 +169,10 @@ module _ {P : Type 0} (n : Names) where
   filled_named now x =
       ap (λ (y : Filling P). timed_filling now y) (fill_named (suc x.left) now x) ∙ timed_filling_named now (fill (suc x.left) now x)
 
-  pub send_named : (now most : ℕ) (s : Sender) (q : Queue) (told : Emitted P)
-      → send now most (named_sender n s) q told ≡ named_fragments n (send now most s q told)
-  send_named now most s q told =
+  pub send_named : (now most : ℕ) (s : Sender) (q : Queue) (emitted : Emitted P)
+      → send now most (named_sender n s) q emitted ≡ named_fragments n (send now most s q emitted)
+  send_named now most s q emitted =
       let r : Sender = without_discards s in
-      let left : Changed P = discard_all s.outstanding.items.discards q told in
+      let left : Changed P = discard_all s.outstanding.items.discards q emitted in
       ap (λ (x : Resent). fill_all now (filled_with most (named_sender n r) x left)) (resend_named n false _ r.windows.rwnd r.outstanding)
       ∙ (ap (λ (y : Filling P). fill_all now y) (begun_named most r (resent most r) left) ∙ filled_named now (filled_with most r (resent most r) left))

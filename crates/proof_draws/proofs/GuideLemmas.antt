@@ -32,13 +32,13 @@ module _ (call : Call) (mine peer : ℕ) (g : Guides call mine peer) where
   stays_opening : (act : OpeningAct Carried call) → Stays (before_opening act) (after_opening act)
   stays_opening (connects m is) = absurd (g.connects is)
   stays_opening (adds_init tag first t1 m to) = λ h. h
-  stays_opening (answers_new tag i m heard to) = λ h. h
-  stays_opening (answers_waiting tag i my_tag first t1 m heard to) = λ h. h
-  stays_opening (answers_echoed tag i t1 cookie t m heard to) = λ h. h
-  stays_opening (answers_again tag i phase t m heard late to) = λ h. h
-  stays_opening (echoes tag i cookie my_tag first t1 m heard brought) = λ h. (h, g.answers tag i heard)
+  stays_opening (answers_new tag i m received to) = λ h. h
+  stays_opening (answers_waiting tag i my_tag first t1 m received to) = λ h. h
+  stays_opening (answers_echoed tag i t1 cookie t m received to) = λ h. h
+  stays_opening (answers_again tag i phase t m received late to) = λ h. h
+  stays_opening (echoes tag i cookie my_tag first t1 m received brought) = λ h. (h, g.answers tag i received)
   stays_opening (adds_cookie t1 cookie t m to) = λ h. h
-  stays_opening (establishes tag t1 cookie t m heard) = λ h. h
+  stays_opening (establishes tag t1 cookie t m received) = λ h. h
   stays_opening (opens tag k m echoed none own) = λ h. (g.own tag k echoed, g.other tag k echoed)
   stays_opening (restarts tag k phase t m echoed verdict) = λ h. (g.own tag k echoed, g.other tag k echoed)
   stays_opening (opens_again tag k phase t m echoed verdict) = λ h. (g.own tag k echoed, g.other tag k echoed)
@@ -51,13 +51,13 @@ module _ (call : Call) (mine peer : ℕ) (g : Guides call mine peer) where
   stays_closing (shuts_on phase next t m late later) = λ h. h
 
   stays_data_acts : (act : DataAct Carried call) → Stays (before_data act) (after_data act)
-  stays_data_acts (takes_data tag tsn is_immediate f phase t m heard right some is) = λ h. h
-  stays_data_acts (takes_idata tag tsn is_immediate f phase t m heard right some is) = λ h. h
-  stays_data_acts (takes_forward tag tsn skipped phase t m heard right valid) = λ h. h
-  stays_data_acts (takes_iforward tag tsn skipped phase t m heard right valid) = λ h. h
+  stays_data_acts (takes_data tag tsn is_immediate f phase t m received right some is) = λ h. h
+  stays_data_acts (takes_idata tag tsn is_immediate f phase t m received right some is) = λ h. h
+  stays_data_acts (takes_forward tag tsn skipped phase t m received right valid) = λ h. h
+  stays_data_acts (takes_iforward tag tsn skipped phase t m received right valid) = λ h. h
 
   stays_acknowledging : (act : SackAct Carried call) → Stays (before_sack act) (after_sack act)
-  stays_acknowledging (takes_sack tag k phase t m heard valid) = λ h. h
+  stays_acknowledging (takes_sack tag k phase t m received valid) = λ h. h
   stays_acknowledging (samples k phase t m) = λ h. h
   stays_acknowledging (counts_errors e m) = λ h. h
 

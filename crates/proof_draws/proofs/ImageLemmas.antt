@@ -25,10 +25,10 @@ pub is_image : (n : Names) (s t : EndpointState Carried) → s.context.pack ≡ 
     → t.context ≡ s.context → t ≡ image n s
 is_image n s t packing quiet state context =
     let c : Context Carried = s.context in
-    let told : emitted_under n c.emitted.events ≡ c.emitted.events = ap (λ (es : List (Event Carried)). emitted_under n es) quiet ∙ sym quiet in
+    let emitted_is : emitted_under n c.emitted.events ≡ c.emitted.events = ap (λ (es : List (Event Carried)). emitted_under n es) quiet ∙ sym quiet in
     let back : c ≡ plain as_carried (map_context (as_named n) c) =
     ap (λ (w : Packing Carried). record c { pack = w }) packing
-    ∙ ap (λ (es : List (Event Carried)). record c { emitted = record { events = es; given_up = c.emitted.given_up }; pack = as_carried }) (sym told) in
+    ∙ ap (λ (es : List (Event Carried)). record c { emitted = record { events = es; given_up = c.emitted.given_up }; pack = as_carried }) (sym emitted_is) in
     ap (λ (st : State). endpoint_state st t.context) state ∙ ap (λ (d : Context Carried). endpoint_state (named_state n s.state) d) (context ∙ back)
 
 module _ (named : EachCallIsNamed) where

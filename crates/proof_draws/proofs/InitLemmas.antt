@@ -134,7 +134,7 @@ module _ (ps : List (Drawn × Drawn)) (k : Knows ps) (law : EachCallIsNamed) (o 
           state chunks (init i received_alone is);
       tags = λ stand. tags_after call own.tag i.initiate_tag (guides own.tag i.initiate_tag) x.end tags;
       ties = inl refl;
-      drew = λ hears closed. drew_before closed (is_closed (state_of x)) refl;
+      drew = λ receives closed. drew_before closed (is_closed (state_of x)) refl;
     }
       where
         drew_before : is_closed (called call x.end).endpoint_state.state ≡ true → (b : Bool) → is_closed (state_of x) ≡ b → drawn_tag x.end ≡ own.tag

@@ -152,7 +152,7 @@ module _ (ps : List (Drawn × Drawn)) (k : Knows ps) (law : EachCallIsNamed) whe
   pub late_named : LateInitsAreNamed ps
   late_named o q x y z p r checksum other given h t n says pair i alone none numbers phase u is late =
       let tag : ℕ = p.header.verification_tag in
-      let heard : map carried p.chunks ≡ init_chunk i ∷ [] = ap (λ (cs : List ChunkTree). map carried cs) alone in
+      let received : map carried p.chunks ≡ init_chunk i ∷ [] = ap (λ (cs : List ChunkTree). map carried cs) alone in
       let s : State = state_of x in
       let call : Call = Packet (as_received p checksum) in
       let l : Names = names ps n.mine n.peer n.tie n.cookie_tie in
@@ -172,13 +172,13 @@ module _ (ps : List (Drawn × Drawn)) (k : Knows ps) (law : EachCallIsNamed) whe
       t.state
       ∙ (state_by ps own peer t.tie s tags
       ∙ subst (λ (a : State). named_state (names ps own peer t.tie same_tie) a ≡ named_state m a) (sym is) (late_state ps own peer t.tie phase u late)) in
-      let heard_as : (j : InitTree) → j ≡ init_by q said.draw → far ps n.mine ≡ far ps peer → named_init l j ≡ named_init (flip m) j =
+      let received_as : (j : InitTree) → j ≡ init_by q said.draw → far ps n.mine ≡ far ps peer → named_init l j ≡ named_init (flip m) j =
       λ j e far_is. subst (λ (a : InitTree). named_init l a ≡ named_init (flip m) a) (sym e)
       (init_received l (flip m) q said.draw.tag said.draw.first q.zero_checksum_method refl far_is) in
       let chunks : map carried (named_chunks l p.chunks) ≡ named_chunks (flip m) (map carried p.chunks) =
       ap (λ (cs : List ChunkTree). map carried (named_chunks l cs)) alone
-      ∙ (ap (λ (j : InitTree). init_chunk j ∷ []) (heard_as i said.is (ap (λ (a : ℕ). far ps a) (sym mark)))
-      ∙ sym (ap (λ (cs : List ChunkTree). named_chunks (flip m) cs) heard)) in
+      ∙ (ap (λ (j : InitTree). init_chunk j ∷ []) (received_as i said.is (ap (λ (a : ℕ). far ps a) (sym mark)))
+      ∙ sym (ap (λ (cs : List ChunkTree). named_chunks (flip m) cs) received)) in
       let again : answers phase ≡ true → AnswersAgain m i u x.end.random z.end.random =
       λ answering.
       let before : Names = names_in ps s t.tie in
@@ -188,7 +188,7 @@ module _ (ps : List (Drawn × Drawn)) (k : Knows ps) (law : EachCallIsNamed) whe
       let mine : Drawn = one_of u x.end in
       let its : Drawn = one_of (named_tcb before u) z.end in
       let there : Has (mine, its) ps =
-      two_paired ps (drawn_given (Some p) checksum x) (drawn_given (Some r) other z) mine its (drew_one p checksum x i heard none phase u is answering)
+      two_paired ps (drawn_given (Some p) checksum x) (drawn_given (Some r) other z) mine its (drew_one p checksum x i received none phase u is answering)
       (drew_one r other z (named_init l i) second (refused_as_well ps k x z p r checksum other n.mine n.peer n.tie n.cookie_tie n.is t.tie t.state none) phase
       (named_tcb before u) open_too answering) pair in
       let drawn : Draw = record { tag = mine.tag; first = mine.first } in
@@ -209,7 +209,7 @@ module _ (ps : List (Drawn × Drawn)) (k : Knows ps) (law : EachCallIsNamed) whe
       ∙ makes ps k own peer tie tie (low_tie made) (record { own = own_far; other = refl })
       (record { fits = fits; some_peer = some; some_own = own_is.some }) in
       record { draws = record { tag = sym (k.tags mine its there) }; knows = record { makes = knows; cookie_tie = refl } } in
-      let all : All IsThat (map carried p.chunks) = subst (All IsThat) (sym heard) (All-cons IsThat (init_chunk i) [] tt (All-nil IsThat)) in
+      let all : All IsThat (map carried p.chunks) = subst (All IsThat) (sym received) (All-cons IsThat (init_chunk i) [] tt (All-nil IsThat)) in
       let guides : Guides call own peer = record {
         answers = λ a j e. absurd (all_received IsThat (as_received p checksum) all a (init_ack_chunk j) e);
         own = λ a c e. absurd (all_received IsThat (as_received p checksum) all a (cookie_echo_chunk e.cookie) e.received);
@@ -220,7 +220,7 @@ module _ (ps : List (Drawn × Drawn)) (k : Knows ps) (law : EachCallIsNamed) whe
       let e : Endpoint Carried = counts x.end in
       let after : (P : State → Bool) → P (called call x.end).endpoint_state.state ≡ P (handle_chunks tag (init_chunk i ∷ []) (at_state (Open phase u) e.endpoint_state.context e.random)).endpoint_state.state =
       λ P. ap (λ (a : Option (List ℕ)). P (taken_if a tag (map carried p.chunks) e).endpoint_state.state) none
-      ∙ (ap (λ (cs : List ChunkTree). P (handle_chunks tag cs e).endpoint_state.state) heard
+      ∙ (ap (λ (cs : List ChunkTree). P (handle_chunks tag cs e).endpoint_state.state) received
       ∙ ap (λ (a : State). P (handle_chunks tag (init_chunk i ∷ []) (at_state a e.endpoint_state.context e.random)).endpoint_state.state) is) in
       record {
         mine = own;
@@ -229,13 +229,13 @@ module _ (ps : List (Drawn × Drawn)) (k : Knows ps) (law : EachCallIsNamed) whe
         cookie_tie = tie;
         before = state;
         is = taken_too ps k x z p r checksum other n.mine n.peer n.tie n.cookie_tie n.is t.tie t.state law h.own.packing h.own.quiet t.context none numbers own peer tie tie state
-            chunks (init i heard (subst (λ (a : State). InitIsNamed m i a x.end.random z.end.random) (sym is) (open_is m i phase u x.end.random z.end.random late again)));
+            chunks (init i received (subst (λ (a : State). InitIsNamed m i a x.end.random z.end.random) (sym is) (open_is m i phase u x.end.random z.end.random late again)));
         tags = λ stand. tags_after call own peer guides x.end tags;
         ties = inr (record {
-          hears = ap (λ (cs : List ChunkTree). receives_init (Packet (record (as_received p checksum) { chunks = cs }))) heard;
+          receives = ap (λ (cs : List ChunkTree). receives_init (Packet (record (as_received p checksum) { chunks = cs }))) received;
           held = one_held (state_of y) (opened_late s (state_of y) phase u is late h.own.stands.late);
           past = after is_past ∙ init_leaves_past tag i phase u e.endpoint_state.context e.random late;
         });
-        drew = λ hears closed.
+        drew = λ receives closed.
             absurd (both_ways (is_closed (called call x.end).endpoint_state.state) (after is_closed ∙ init_leaves_open tag i phase u e.endpoint_state.context e.random late) closed);
       }

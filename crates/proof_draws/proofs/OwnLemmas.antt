@@ -197,13 +197,13 @@ module _ (call : Call) (g : Receives call) where
   own_opening : (act : OpeningAct Carried call) → R (before_opening act) (after_opening act)
   own_opening (connects m is) = actions_to Closed (after_opening {call = call} (connects m is)).state m (λ e. cc) (λ e. no_init Connect is refl e)
   own_opening (adds_init tag first t1 m to) = adds_to (CookieWait tag first t1) m (init_chunk (init_of m.context.options tag first (announce m.context.options m.context.options.zero_checksum_method))) (init_may call (CookieWait tag first t1) (init_of m.context.options tag first (announce m.context.options m.context.options.zero_checksum_method)))
-  own_opening (answers_new tag i m heard to) = adds_to Closed m (init_ack_chunk _) (g.inits tag i heard)
-  own_opening (answers_waiting tag i my_tag first t1 m heard to) = adds_to (CookieWait my_tag first t1) m (init_ack_chunk _) (g.inits tag i heard)
-  own_opening (answers_echoed tag i t1 cookie t m heard to) = adds_to (Open (CookieEchoed t1 cookie) t) m (init_ack_chunk _) (g.inits tag i heard)
-  own_opening (answers_again tag i phase t m heard late to) = adds_to (Open phase t) m (init_ack_chunk _) (g.inits tag i heard)
-  own_opening (echoes tag i cookie my_tag first t1 m heard brought) = actions_to (CookieWait my_tag first t1) (after_opening {call = call} (echoes tag i cookie my_tag first t1 m heard brought)).state m (λ e. refl) (λ e f. cc)
+  own_opening (answers_new tag i m received to) = adds_to Closed m (init_ack_chunk _) (g.inits tag i received)
+  own_opening (answers_waiting tag i my_tag first t1 m received to) = adds_to (CookieWait my_tag first t1) m (init_ack_chunk _) (g.inits tag i received)
+  own_opening (answers_echoed tag i t1 cookie t m received to) = adds_to (Open (CookieEchoed t1 cookie) t) m (init_ack_chunk _) (g.inits tag i received)
+  own_opening (answers_again tag i phase t m received late to) = adds_to (Open phase t) m (init_ack_chunk _) (g.inits tag i received)
+  own_opening (echoes tag i cookie my_tag first t1 m received brought) = actions_to (CookieWait my_tag first t1) (after_opening {call = call} (echoes tag i cookie my_tag first t1 m received brought)).state m (λ e. refl) (λ e f. cc)
   own_opening (adds_cookie t1 cookie t m to) = adds_to (Open (CookieEchoed t1 cookie) t) m (cookie_echo_chunk cookie) (λ e. refl)
-  own_opening (establishes tag t1 cookie t m heard) = connected_to (Open (CookieEchoed t1 cookie) t) (Open Established t) m (λ e. e) (λ e. absurd (both_ways (receives_init call) (g.acks tag heard) e))
+  own_opening (establishes tag t1 cookie t m received) = connected_to (Open (CookieEchoed t1 cookie) t) (Open Established t) m (λ e. e) (λ e. absurd (both_ways (receives_init call) (g.acks tag received) e))
   own_opening (opens tag k m echoed none own) = connected_to m.state (after_opening {call = call} (opens tag k m echoed none own)).state m (λ e. refl) (λ e. absurd (both_ways (receives_init call) (g.echoes tag echoed.cookie echoed.received) e))
   own_opening (restarts tag k phase t m echoed verdict) = restarted_to (Open phase t) (after_opening {call = call} (restarts tag k phase t m echoed verdict)).state m (λ e. refl) (λ e. absurd (both_ways (receives_init call) (g.echoes tag echoed.cookie echoed.received) e))
   own_opening (opens_again tag k phase t m echoed verdict) = connected_to (Open phase t) (after_opening {call = call} (opens_again tag k phase t m echoed verdict)).state m (λ e. refl) (λ e. absurd (both_ways (receives_init call) (g.echoes tag echoed.cookie echoed.received) e))
@@ -216,13 +216,13 @@ module _ (call : Call) (g : Receives call) where
   own_closing (shuts_on phase next t m late later) none = actions_to (Open phase t) (Open next t) m (λ e. e) (λ e f. late_on phase late f)
 
   own_data_acts : (act : DataAct Carried call) → R (before_data act) (after_data act)
-  own_data_acts (takes_data tag tsn is_immediate f phase t m heard right some is) = λ z. z
-  own_data_acts (takes_idata tag tsn is_immediate f phase t m heard right some is) = λ z. z
-  own_data_acts (takes_forward tag tsn skipped phase t m heard right valid) = λ z. z
-  own_data_acts (takes_iforward tag tsn skipped phase t m heard right valid) = λ z. z
+  own_data_acts (takes_data tag tsn is_immediate f phase t m received right some is) = λ z. z
+  own_data_acts (takes_idata tag tsn is_immediate f phase t m received right some is) = λ z. z
+  own_data_acts (takes_forward tag tsn skipped phase t m received right valid) = λ z. z
+  own_data_acts (takes_iforward tag tsn skipped phase t m received right valid) = λ z. z
 
   own_acknowledging : (act : SackAct Carried call) → R (before_sack act) (after_sack act)
-  own_acknowledging (takes_sack tag k phase t m heard valid) = lightly_at (May call (Open phase t)) m (after_sack {call = call} (takes_sack tag k phase t m heard valid)) (light_sack {call = call} (takes_sack tag k phase t m heard valid))
+  own_acknowledging (takes_sack tag k phase t m received valid) = lightly_at (May call (Open phase t)) m (after_sack {call = call} (takes_sack tag k phase t m received valid)) (light_sack {call = call} (takes_sack tag k phase t m received valid))
   own_acknowledging (samples k phase t m) = λ z. z
   own_acknowledging (counts_errors e m) = λ z. z
 

@@ -69,7 +69,7 @@ module _ (ps : List (Draw × Draw)) (k : Knows ps) (law : EachCallIsNamed) (x y 
               (call_is x n c x.end.random z.end.random may (λ e f. absurd (other e f)));
           tags = λ stand. tags;
           ties = inl refl;
-          drew = λ hears closed. absurd (both_ways (receives_init c) (silent_call x c may) hears);
+          drew = λ receives closed. absurd (both_ways (receives_init c) (silent_call x c may) receives);
         }
 
     pub other_named : (c ≡ Connect → ⊥) → Named ps x z (state_of y) c (called c z.end)
@@ -106,7 +106,7 @@ module _ (ps : List (Draw × Draw)) (k : Knows ps) (law : EachCallIsNamed) (x y 
             (λ closed. record { first = sym (k.firsts own theirs there); tag = sym (k.tags own theirs there) });
         tags = λ stand. subst (λ (s : State). TagsAre own.tag 0 (connect_in s x.end).endpoint_state.state) (sym is) refl;
         ties = inl refl;
-        drew = λ hears closed. let never : false ≡ true = hears in cc;
+        drew = λ receives closed. let never : false ≡ true = receives in cc;
       }
 
   connect_by : (s : State) → state_of x ≡ s → MayCall Connect x → (state_of x ≡ Closed → Has (two_of x.end, two_of z.end) ps)

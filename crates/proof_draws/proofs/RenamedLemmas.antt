@@ -29,7 +29,7 @@ swap_twice a b x =
       ]
     ]
 
--- what can be undone tells numbers apart
+-- what can be undone keeps numbers apart
 test_same : (f g : ℕ → ℕ) → ((x : ℕ) → g (f x) ≡ x) → (a b : ℕ) → (f a == f b) ≡ (a == b)
 test_same f g back a b =
     elim (cases_eq a b) [

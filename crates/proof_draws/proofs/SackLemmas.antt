@@ -54,14 +54,14 @@ module _ (n : Names) where
   sampled_named (Some sample) t = refl
 
 module _ {P : Type 0} (n : Names) where
-  sender_named : (valid : Bool) (now k a_rwnd : ℕ) (bs : List GapAckBlock) (s : Sender) (told : Emitted P)
-      → sender_if valid now k a_rwnd bs (named_sender n s) told ≡ named_sender n (sender_if valid now k a_rwnd bs s told)
-  sender_named true now k a_rwnd bs s told = refl
-  sender_named false now k a_rwnd bs s told = refl
+  sender_named : (valid : Bool) (now k a_rwnd : ℕ) (bs : List GapAckBlock) (s : Sender) (emitted : Emitted P)
+      → sender_if valid now k a_rwnd bs (named_sender n s) emitted ≡ named_sender n (sender_if valid now k a_rwnd bs s emitted)
+  sender_named true now k a_rwnd bs s emitted = refl
+  sender_named false now k a_rwnd bs s emitted = refl
 
-  emitted_named : (valid : Bool) (k : ℕ) (bs : List GapAckBlock) (s : Sender) (told : Emitted P) → emitted_if valid k bs (named_sender n s) told ≡ emitted_if valid k bs s told
-  emitted_named true k bs s told = refl
-  emitted_named false k bs s told = refl
+  emitted_named : (valid : Bool) (k : ℕ) (bs : List GapAckBlock) (s : Sender) (emitted : Emitted P) → emitted_if valid k bs (named_sender n s) emitted ≡ emitted_if valid k bs s emitted
+  emitted_named true k bs s emitted = refl
+  emitted_named false k bs s emitted = refl
 
 -- ---- the row
 

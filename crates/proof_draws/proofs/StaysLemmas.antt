@@ -52,7 +52,7 @@ module _ (n : Names) (s u r w : State) (first : r ≡ named_state n s) (second :
   stayed : Stand s u → Same r w → Same s u
   stayed stand h = stayed_by stand (association_in s) refl h
 
-module _ (ps : List (Drawn × Drawn)) (x z : Side) (u : State) (a b : Side) (gone too : List GivenUp) where
+module _ (ps : List (Drawn × Drawn)) (x z : Side) (u : State) (a b : Side) (records too : List GivenUp) where
   outcome_stays : (c : Call) (f : Endpoint Carried) → Outcome ps x z u c f → Same (state_of x) (called c x.end).endpoint_state.state → Same (state_of z) f.endpoint_state.state
   outcome_stays c f (inl n) h =
       stays (names ps n.mine n.peer n.tie n.cookie_tie) (state_of x) (called c x.end).endpoint_state.state (state_of z) f.endpoint_state.state n.before
@@ -66,19 +66,19 @@ module _ (ps : List (Drawn × Drawn)) (x z : Side) (u : State) (a b : Side) (gon
       (ap (λ (s : EndpointState Carried). s.state) n.is) stand h
   outcome_stayed c f (inr r) stand h = ap (λ (e : Endpoint Carried). association_in e.endpoint_state.state) r.is
 
-  pub turning_stays : Turning ps x z u a b gone too → Same (state_of x) (state_of a) → Same (state_of z) (state_of b)
+  pub turning_stays : Turning ps x z u a b records too → Same (state_of x) (state_of a) → Same (state_of z) (state_of b)
   turning_stays g h =
       ap (λ (s : Side). association_in (state_of s)) g.second_is
       ∙ outcome_stays g.call g.second g.outcome (sym (ap (λ (s : Side). association_in (state_of s)) g.first_is) ∙ h)
 
-  pub turning_stayed : Turning ps x z u a b gone too → Stand (state_of x) (state_of a) → Same (state_of z) (state_of b) → Same (state_of x) (state_of a)
+  pub turning_stayed : Turning ps x z u a b records too → Stand (state_of x) (state_of a) → Same (state_of z) (state_of b) → Same (state_of x) (state_of a)
   turning_stayed g stand h =
       ap (λ (s : Side). association_in (state_of s)) g.first_is
       ∙ outcome_stayed g.call g.second g.outcome (subst (λ (s : Side). Stand (state_of x) (state_of s)) g.first_is stand)
       (sym (ap (λ (s : Side). association_in (state_of s)) g.second_is) ∙ h)
 
-  pub idle_stays : Idle x z a b gone too → Same (state_of x) (state_of a) → Same (state_of z) (state_of b)
+  pub idle_stays : Idle x z a b records too → Same (state_of x) (state_of a) → Same (state_of z) (state_of b)
   idle_stays g h = ap (λ (s : Side). association_in (state_of s)) g.second_is
 
-  pub idle_stayed : Idle x z a b gone too → Same (state_of z) (state_of b) → Same (state_of x) (state_of a)
+  pub idle_stayed : Idle x z a b records too → Same (state_of z) (state_of b) → Same (state_of x) (state_of a)
   idle_stayed g h = ap (λ (s : Side). association_in (state_of s)) g.first_is

@@ -132,7 +132,7 @@ error_twin ps s u text other (e ∷ es) fs p q = cc
 
 -- an established end answers an INIT with its tie, for an end that holds an association
 pub record IsLate (c : Call) (u after : State) : Type 0 where
-  pub hears : receives_init c ≡ true
+  pub receives : receives_init c ≡ true
   pub held : HoldsOne u
   pub past : is_past after ≡ true
 
@@ -203,7 +203,7 @@ module _ (ps : List (Drawn × Drawn)) (k : Knows ps) where
 
     echo_by : Holds s mine peer → (receives_init c ≡ true → is_past s ≡ false) → TieIs c u s cookie_tie → IsEchoing s mine peer cookie_tie
     echo_by h kept (inl tie) = record { holds = h; tie = tie }
-    echo_by h kept (inr late) = absurd (both_ways (is_past s) (kept late.hears) late.past)
+    echo_by h kept (inr late) = absurd (both_ways (is_past s) (kept late.receives) late.past)
 
     numbers_by : (b : Bool) → (b ≡ true → is_opened s ≡ true) → Numbers b s mine peer
     numbers_by true f = holds_open s mine peer (f refl) tags

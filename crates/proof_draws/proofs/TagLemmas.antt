@@ -250,6 +250,6 @@ module _ (n : Names) (are : AreNames n) where
 
   pub judged_named : (tag : ℕ) (k : Cookie) (s : State) → ((phase : Phase) (t : Tcb) → s ≡ Open phase t → TiesTell n tag t.identity k)
       → resolve_cookie (n.tag tag) (named_cookie n k) (named_state n s) ≡ resolve_cookie tag k s
-  judged_named tag k Closed tells = ap (λ (b : Bool). new_if b) (are.apart tag k.my_tag)
-  judged_named tag k (CookieWait my first t1) tells = ap (λ (b : Bool). new_if b) (are.apart tag k.my_tag)
-  judged_named tag k (Open phase t) tells = compared_named tag t.identity k (tells phase t refl)
+  judged_named tag k Closed ties = ap (λ (b : Bool). new_if b) (are.apart tag k.my_tag)
+  judged_named tag k (CookieWait my first t1) ties = ap (λ (b : Bool). new_if b) (are.apart tag k.my_tag)
+  judged_named tag k (Open phase t) ties = compared_named tag t.identity k (ties phase t refl)

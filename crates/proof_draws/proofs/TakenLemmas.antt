@@ -132,7 +132,7 @@ module _ {P : Type 0} where
 
 ties_from : (n : Names) (tag : ℕ) (k : Cookie) (before after : State) → HasBlockOf before after
     → ((phase : Phase) (t : Tcb) → before ≡ Open phase t → TiesTell n tag t.identity k) → (phase : Phase) (t : Tcb) → after ≡ Open phase t → TiesTell n tag t.identity k
-ties_from n tag k before after same tell phase t e = let had = same phase t e in tell had.0 t had.1
+ties_from n tag k before after same ties_before phase t e = let had = same phase t e in ties_before had.0 t had.1
 
 -- ---- packets
 

@@ -42,7 +42,7 @@ twin_beside ps x y next v stand t = record {
   asked = t.asked;
 }
 
-module _ (ps : List (Drawn × Drawn)) (k : Knows ps) (law : EachCallIsNamed) (late : LateInitsAreNamed ps) (tells : EndsEmitEventOwn) where
+module _ (ps : List (Drawn × Drawn)) (k : Knows ps) (law : EachCallIsNamed) (late : LateInitsAreNamed ps) (emits : EndsEmitEventOwn) where
   module _ (o q : Options) (own : AreValidOptions o) (other : AreValidOptions q) (x y z v : Side) (b : Beside ps o q x y z v)
       (kinds : All (λ (p : Carried). IsKind p.chunks) (emitted_packets y)) (numbers : NumbersFitIn (state_of x)) (t u : EndAction) (same : SameAction t u) (may : MayAct t x)
       (drew : Drew ps k law late o q own other x y z v b.halves b.own b.other kinds numbers t u) where
@@ -52,7 +52,7 @@ module _ (ps : List (Drawn × Drawn)) (k : Knows ps) (law : EachCallIsNamed) (la
     pub beside_after : endings (act t x y).emitted ≡ 0 → Beside ps o q (act t x y) y (act u z v) v
     beside_after none = record {
       halves = action_halves ps k law late o q own other x y z v b.halves b.own b.other kinds numbers t may none;
-      own = action_twin ps k law late o q own other x y z v b.halves b.own b.other kinds numbers tells t u goes_so may none;
+      own = action_twin ps k law late o q own other x y z v b.halves b.own b.other kinds numbers emits t u goes_so may none;
       other = twin_beside ps x y (act t x y) v (action_stands ps k law late o q own other x y z v b.halves b.own b.other kinds numbers t may none) b.other;
     }
 
@@ -164,13 +164,13 @@ first_twin ps o q w v s = record { tie = same_tie; state = refl; context = refl;
 
 -- The first trace follows the rules, so that its packets are of a kind.
 pub traces_alike : EachCallIsNamed → EndsEmitEventOwn → ((ps : List (Drawn × Drawn)) → Knows ps → LateInitsAreNamed ps) → TracesAreAlike
-traces_alike law tells late a b words_a words_b others_a others_b es fs e f given_a given_b same follows none once once_too =
+traces_alike law emits late a b words_a words_b others_a others_b es fs e f given_a given_b same follows none once once_too =
     let w : Pair = start a b words_a words_b in
     let v : Pair = start a b others_a others_b in
     let ps : List (Drawn × Drawn) = pairs (es ++ e ∷ []) (fs ++ f ∷ []) w v in
     let k : Knows ps = pairs_know (es ++ e ∷ []) (fs ++ f ∷ []) w v once once_too in
     let kinds : KindsAlong es w = along_of_a_kind a b words_a words_b es given_a given_b (follows_front es (e ∷ []) w follows) none in
-    along ps k law (late ps k) tells a b given_a given_b es fs e f w v same follows none kinds (λ d c m. m)
+    along ps k law (late ps k) emits a b given_a given_b es fs e f w v same follows none kinds (λ d c m. m)
     (record {
       halves = first_halves a b words_a words_b;
       own = first_twin ps a b words_a others_a words_b;

@@ -117,7 +117,7 @@ accepted_rests m o s c fine h =
 
 -- ---- act by act
 
-module _ (g : Setting) (call : Call) (r : Rules g call) (hears : (tag : ℕ) (chunk : ChunkTree) → IsReceived call tag chunk → is_whole chunk ≡ true) where
+module _ (g : Setting) (call : Call) (r : Rules g call) (receives : (tag : ℕ) (chunk : ChunkTree) → IsReceived call tag chunk → is_whole chunk ≡ true) where
   abbrev method : ℕ
   method = g.other.zero_checksum_method
 
@@ -139,8 +139,8 @@ module _ (g : Setting) (call : Call) (r : Rules g call) (hears : (tag : ℕ) (ch
   summed_so m p inv h (always e) none = absurd (both_ways true (sym e ∙ none) refl)
   summed_so m p inv h (as_held phase t at_s e) none =
       agreed_method g.own g.other t.capabilities (method_in m.state phase t at_s inv.stands.can) (sym e ∙ none)
-  summed_so m p inv h (as_asked tag i heard e) none =
-      agreed_method g.own g.other (agreed_by m.context.options i) (asked_for m tag i heard inv) (sym e ∙ none)
+  summed_so m p inv h (as_asked tag i received e) none =
+      agreed_method g.own g.other (agreed_by m.context.options i) (asked_for m tag i received inv) (sym e ∙ none)
   summed_so m p inv h (as_before e) none = h.3 (sym e ∙ none)
 
   w_packets : (act : PacketAct Carried call) → InvAt g (before_packets act) → WholeAt (before_packets act) → WholeAt (after_packets act)
@@ -168,15 +168,15 @@ module _ (g : Setting) (call : Call) (r : Rules g call) (hears : (tag : ℕ) (ch
   w_opening (connects m is) inv next h = (tt, h.1, h.2, h.3, h.4)
   w_opening (adds_init tag first t1 m to) inv next h =
       adds_other (CookieWait tag first t1) m (init_chunk (init_of m.context.options tag first (announce m.context.options m.context.options.zero_checksum_method))) refl h
-  w_opening (answers_new tag i m heard to) inv next h =
+  w_opening (answers_new tag i m received to) inv next h =
       adds_other Closed m (init_ack_chunk (init_ack_of m.context.options i (drawn_tag m) (drawn_first m) 0)) refl h
-  w_opening (answers_waiting tag i my_tag first t1 m heard to) inv next h =
+  w_opening (answers_waiting tag i my_tag first t1 m received to) inv next h =
       adds_other (CookieWait my_tag first t1) m (init_ack_chunk (init_ack_of m.context.options i my_tag first 0)) refl h
-  w_opening (answers_echoed tag i t1 cookie t m heard to) inv next h =
+  w_opening (answers_echoed tag i t1 cookie t m received to) inv next h =
       adds_other (Open (CookieEchoed t1 cookie) t) m (init_ack_chunk (init_ack_of m.context.options i t.identity.my_tag t.identity.my_first 0)) refl h
-  w_opening (answers_again tag i phase t m heard late to) inv next h =
+  w_opening (answers_again tag i phase t m received late to) inv next h =
       adds_other (Open phase t) m (init_ack_chunk (init_ack_of m.context.options i (drawn_tag_alone m) (next_first t) t.identity.tie)) refl h
-  w_opening (echoes tag i cookie my_tag first t1 m heard brought) inv next h = (
+  w_opening (echoes tag i cookie my_tag first t1 m received brought) inv next h = (
     (new_numbers m.context.options first i.initial_tsn inv.stands.draw.first, tt),
     rests_anew (agreed_by m.context.options i).message_interleaving m.context.queue h.1,
     h.2,
@@ -184,7 +184,7 @@ module _ (g : Setting) (call : Call) (r : Rules g call) (hears : (tag : ℕ) (ch
     h.4,
   )
   w_opening (adds_cookie t1 cookie t m to) inv next h = adds_other (Open (CookieEchoed t1 cookie) t) m (cookie_echo_chunk cookie) refl h
-  w_opening (establishes tag t1 cookie t m heard) inv next h = (h.0, h.1, h.2, h.3, connected_said m h.4)
+  w_opening (establishes tag t1 cookie t m received) inv next h = (h.0, h.1, h.2, h.3, connected_said m h.4)
   w_opening (opens tag k m echoed none own) inv next h = (
     (new_numbers m.context.options k.my_initial_tsn k.peer_initial_tsn next.stands.draw.first, tt),
     rests_for false (negotiate m.context.options k.peer_capabilities).message_interleaving m.context.queue h.1,
@@ -207,14 +207,14 @@ module _ (g : Setting) (call : Call) (r : Rules g call) (hears : (tag : ℕ) (ch
   -- ---- what the peer sent
 
   w_data : (act : DataAct Carried call) → WholeAt (before_data act) → WholeAt (after_data act)
-  w_data (takes_data tag tsn is_immediate f phase t m heard right some is) h = h
-  w_data (takes_idata tag tsn is_immediate f phase t m heard right some is) h = h
-  w_data (takes_forward tag tsn skipped phase t m heard right valid) h = h
-  w_data (takes_iforward tag tsn skipped phase t m heard right valid) h = h
+  w_data (takes_data tag tsn is_immediate f phase t m received right some is) h = h
+  w_data (takes_idata tag tsn is_immediate f phase t m received right some is) h = h
+  w_data (takes_forward tag tsn skipped phase t m received right valid) h = h
+  w_data (takes_iforward tag tsn skipped phase t m received right valid) h = h
 
   w_sack : (act : SackAct Carried call) → WholeAt (before_sack act) → WholeAt (after_sack act)
-  w_sack (takes_sack tag k phase t m heard valid) h =
-      let act : SackAct Carried call = takes_sack tag k phase t m heard valid in (
+  w_sack (takes_sack tag k phase t m received valid) h =
+      let act : SackAct Carried call = takes_sack tag k phase t m received valid in (
         (h.0.0, received_filled true m.context.now (point_of k t) k.a_rwnd (clean_blocks k.gap_ack_blocks) t.sender m.context.emitted h.0.1),
         h.1,
         h.2,
@@ -309,7 +309,7 @@ module _ (g : Setting) (call : Call) (r : Rules g call) (hears : (tag : ℕ) (ch
 
   parameter_fits : (p : ParameterTree) → IsAsked call p → number_fits p ≡ true
   parameter_fits p a =
-      let all : list_all number_fits a.parameters ≡ true = hears a.tag (re_config_chunk a.parameters) a.received in
+      let all : list_all number_fits a.parameters ≡ true = receives a.tag (re_config_chunk a.parameters) a.received in
       let split : list_all number_fits (a.among.before ++ p ∷ a.among.behind) ≡ true = sym (ap (list_all number_fits) a.among.split) ∙ all in
       let behind : list_all number_fits (p ∷ a.among.behind) ≡ true =
       (and_parts (list_all number_fits a.among.before) (list_all number_fits (p ∷ a.among.behind))

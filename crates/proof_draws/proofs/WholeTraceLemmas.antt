@@ -66,18 +66,18 @@ module _ (o q : Options) (x y : Side) (own : AreValidOptions o) (other : AreVali
       let g : Setting = setting o q x y x.got_init in
       let e : Endpoint Carried = called call x.end in
       whole_ends x.got_init e
-      (until_end call (wholes g call (rules_call o q x y own other call may) (λ tag chunk heard. absurd (subst (λ (c : Call). MayCall c x) heard.given may))) x.end
+      (until_end call (wholes g call (rules_call o q x y own other call may) (λ tag chunk received. absurd (subst (λ (c : Call). MayCall c x) received.given may))) x.end
       (none_of x.emitted e.endpoint_state.context.emitted.events none) (begins o q x y x.got_init (λ z. z) h.own h.other, whole_begins x.got_init)).1
 
   -- each chunk of a packet of a kind is whole
   received_whole : (p : Carried) (checksum : ℕ) → IsKind p.chunks → (tag : ℕ) (chunk : ChunkTree) → IsReceived (Packet (as_received p checksum)) tag chunk
       → is_whole chunk ≡ true
-  received_whole p checksum kind tag chunk heard =
-      let same : as_received p checksum ≡ heard.packet = ap (λ (c : Call). packet_of c (as_received p checksum)) heard.given in
-      let before : List ChunkTree = heard.among.before in
-      let behind : List ChunkTree = heard.among.behind in
+  received_whole p checksum kind tag chunk received =
+      let same : as_received p checksum ≡ received.packet = ap (λ (c : Call). packet_of c (as_received p checksum)) received.given in
+      let before : List ChunkTree = received.among.before in
+      let behind : List ChunkTree = received.among.behind in
       let all : list_all is_whole (before ++ chunk ∷ behind) ≡ true =
-      sym (ap (λ (z : PacketTree). list_all is_whole z.chunks) same ∙ ap (list_all is_whole) heard.among.split)
+      sym (ap (λ (z : PacketTree). list_all is_whole z.chunks) same ∙ ap (list_all is_whole) received.among.split)
       ∙ kind_whole (map carried p.chunks) (kind_received p.chunks kind) in
       let rest : list_all is_whole (chunk ∷ behind) ≡ true =
       (and_parts (list_all is_whole before) (list_all is_whole (chunk ∷ behind)) (sym (list_all-append is_whole before (chunk ∷ behind)) ∙ all)).1 in

@@ -20,7 +20,7 @@ pub record NamesCookies (name : Cookie → Cookie) : Type 0 where
       → read_cookie (cookie_named name (cookie_bytes k)) ≡ Ok (name k)
   pub read : (bytes : List ℕ) (k : Cookie) → read_cookie bytes ≡ Ok k → CookieFits (name k) → has_tags (name k) ≡ true → read_cookie (cookie_named name bytes) ≡ Ok (name k)
   pub refused : (bytes : List ℕ) (fault : StateCookieError) → read_cookie bytes ≡ Err fault → read_cookie (cookie_named name bytes) ≡ Err fault
-  pub tells : (bytes : List ℕ) → maker (cookie_named name bytes) ≡ maker bytes
+  pub same_maker : (bytes : List ℕ) → maker (cookie_named name bytes) ≡ maker bytes
 
 abbrev pub CookiesAreNamed : Type 0
 CookiesAreNamed = (name : Cookie → Cookie) → NamesCookies name

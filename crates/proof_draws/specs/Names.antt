@@ -1,4 +1,4 @@
--- An end under other names. The table tells tags by equality alone and numbers by their differences alone, so the end does the
+-- An end under other names. The table knows tags by equality alone and numbers by their differences alone, so the end does the
 -- same; and its packets are the same, written under these names by the one who writes them.
 use Rattle.std.specs.Prelude.{option_map}
 use Rattle.rand_core.specs.Stream.{Stream}

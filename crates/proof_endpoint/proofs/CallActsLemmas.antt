@@ -185,7 +185,7 @@ stayed : (call : Call) (r s : Requests) (rs : List ParameterTree) → s.last ≡
 stayed call r s rs last result h = All-weaker (Answers call r) (Answers call s) one rs h
   where
     one : (q : ParameterTree) → Answers call r q → Answers call s q
-    one (reset_response number told sender receiver) a = (
+    one (reset_response number outcome sender receiver) a = (
       a.0,
       λ asks. elim (a.1 asks) [
         | inl e ↦ inl (ap (λ (n : ℕ). number == n) last ∙ e.0, e.1 ∙ sym result)

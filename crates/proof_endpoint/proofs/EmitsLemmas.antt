@@ -178,10 +178,10 @@ module _ {P : Type 0} (pack : Packing P) (most : ℕ) where
   drops : (now : ℕ) (ms : List Queued) (t : Emitted P) → Emits pack most 0 t (drop_expired now ms t)
   drops now [] t = emits_nothing t
   drops now (m ∷ ms) t =
-      let gone : Emitted P = give_up m.number Lifetime t in
-      let said : Emitted P = emit_events (expiry m.lifecycle) gone in
+      let recorded : Emitted P = give_up m.number Lifetime t in
+      let said : Emitted P = emit_events (expiry m.lifecycle) recorded in
       drops_if (is_stale now m) t said (drop_expired now ms said)
-      (emits_then t gone said (emits_given_up m.number Lifetime t) (emits_all (expiry m.lifecycle) gone (quiet_expiry P m.lifecycle)))
+      (emits_then t recorded said (emits_given_up m.number Lifetime t) (emits_all (expiry m.lifecycle) recorded (quiet_expiry P m.lifecycle)))
       (drops now ms said)
 
   makes : (id : ℕ) (is_low is_total_low : Bool) (o : Option Produced) (t : Emitted P) → Emits pack most 0 t (emitted_made id is_low is_total_low o t)

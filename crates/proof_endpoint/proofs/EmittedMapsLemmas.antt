@@ -40,7 +40,7 @@ map_turned f x = record { filling = map_fragments f x.filling; is_more = x.is_mo
 
 -- with other events
 abbrev with_events : {P : Type 0} → List GivenUp → List (Event P) → Emitted P
-with_events gone es = record { events = es; given_up = gone }
+with_events records es = record { events = es; given_up = records }
 
 abbrev turn_with : {P : Type 0} → Queue → Option Produced → Emitted P → Turn P
 turn_with q made t = record { queue = q; emitted = t; made = made }
@@ -170,10 +170,10 @@ module _ {P Q : Type 0} (f : Mapping P Q) where
   maps_dropped : (now : ℕ) (ms : List Queued) (t : Emitted P) → drop_expired now ms (map_emitted f t) ≡ map_emitted f (drop_expired now ms t)
   maps_dropped now [] t = refl
   maps_dropped now (m ∷ ms) t =
-      let gone : Emitted P = give_up m.number Lifetime t in
-      let said : Emitted P = emit_events (expiry m.lifecycle) gone in
+      let recorded : Emitted P = give_up m.number Lifetime t in
+      let said : Emitted P = emit_events (expiry m.lifecycle) recorded in
       maps_cond (map_emitted f) (is_stale now m) (drop_expired now ms said) t _ (map_emitted f t)
-      (ap (λ (u : Emitted Q). drop_expired now ms u) (maps_emit_event_all (expiry m.lifecycle) (expiry m.lifecycle) gone (maps_expiry m.lifecycle)) ∙ maps_dropped now ms said) refl
+      (ap (λ (u : Emitted Q). drop_expired now ms u) (maps_emit_event_all (expiry m.lifecycle) (expiry m.lifecycle) recorded (maps_expiry m.lifecycle)) ∙ maps_dropped now ms said) refl
 
   maps_made : (id : ℕ) (is_low is_total_low : Bool) (o : Option Produced) (t : Emitted P)
       → emitted_made id is_low is_total_low o (map_emitted f t) ≡ map_emitted f (emitted_made id is_low is_total_low o t)

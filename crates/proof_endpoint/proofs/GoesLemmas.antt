@@ -65,7 +65,7 @@ module _ {P : Type 0} where
 
   -- one with the same options and packing
   pub goes_by : (n : ℕ) (c d : Context P) → d.options.mtu ≡ c.options.mtu → d.pack ≡ c.pack → Emits c.pack (most_bytes c) n c.emitted d.emitted → Goes n c d
-  goes_by n c d mtu pack tells = record { mtu = mtu; pack = pack; emits = tells }
+  goes_by n c d mtu pack emits = record { mtu = mtu; pack = pack; emits = emits }
 
   -- nothing is emitted
   pub goes_silent : (c d : Context P) → d.options.mtu ≡ c.options.mtu → d.pack ≡ c.pack → d.emitted ≡ c.emitted → Goes 0 c d

@@ -126,12 +126,12 @@ module _ (l : ℕ) where
     spends_received : (n : ℕ) (blocks : List GapAckBlock) (fast : Bool) (s : Items) (t : Emitted P)
         → Spends l t (receive_sack n blocks fast s t).emitted (kept_ends l s.kept) (kept_ends l (receive_sack n blocks fast s t).items.kept)
     spends_received n blocks fast s t =
-        let gone : List Item = take (leaving n s) s.kept in
+        let removed : List Item = take (leaving n s) s.kept in
         let stay : List Item = drop (leaving n s) s.kept in
         let x : Step P = receive_sack_first n blocks s t in
         nacks_below t (kept_ends l s.kept) false (not fast) (reported_below blocks (staying n s)) x
-        (spends_all l (reports gone) t (kept_ends l s.kept) (kept_ends l x.items.kept)
-        (omega (arith, ends_reports P l gone, kept_settle blocks 1 stay, kept_split l (leaving n s) s.kept)))
+        (spends_all l (reports removed) t (kept_ends l s.kept) (kept_ends l x.items.kept)
+        (omega (arith, ends_reports P l removed, kept_settle blocks 1 stay, kept_split l (leaving n s) s.kept)))
 
     pub spends_sack : (is_valid : Bool) (now n a_rwnd : ℕ) (blocks : List GapAckBlock) (s : Sender) (t : Emitted P)
         → Spends l t (emitted_if is_valid n blocks s t) (kept_of s) (kept_of (sender_if is_valid now n a_rwnd blocks s t))

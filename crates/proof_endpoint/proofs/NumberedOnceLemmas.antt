@@ -64,8 +64,8 @@ module _ (n : ℕ) where
       go : (o : Option Stream) → lookup (is_at (nat_cmp id)) ss.entries ≡ o
           → numbered_in n (put_stream id s (open_stream id ss)).entries + numbered_count n (stream id ss).messages ≤ numbered_in n ss.entries + numbered_count n s.messages
       go None e =
-          let gone : numbered_count n (stream id ss).messages ≡ 0 = ap (λ (o : Option Stream). numbered_count n (unwrap_or o (blank ss)).messages) e in
-          omega (arith, gone, put_numbered id s (open_stream id ss), opened_numbered id ss)
+          let none_numbered : numbered_count n (stream id ss).messages ≡ 0 = ap (λ (o : Option Stream). numbered_count n (unwrap_or o (blank ss)).messages) e in
+          omega (arith, none_numbered, put_numbered id s (open_stream id ss), opened_numbered id ss)
       go (Some v) e =
           let same : open_stream id ss ≡ ss = ap (λ (o : Option Stream). cond (is_some o) ss more) e in
           subst (λ (r : Streams). numbered_in n (put_stream id s r).entries + numbered_count n (stream id ss).messages ≤ numbered_in n ss.entries + numbered_count n s.messages)

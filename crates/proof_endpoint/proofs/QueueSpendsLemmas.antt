@@ -68,8 +68,8 @@ module _ (l : ℕ) where
       go : (o : Option Stream) → lookup (is_at (nat_cmp id)) ss.entries ≡ o
           → waiting_in l (put_stream id s (open_stream id ss)).entries + waiting l (stream id ss).messages ≤ waiting_in l ss.entries + waiting l s.messages
       go None e =
-          let gone : waiting l (stream id ss).messages ≡ 0 = ap (λ (o : Option Stream). waiting l (unwrap_or o (blank ss)).messages) e in
-          omega (arith, gone, waiting_put id s (open_stream id ss), waiting_opened id ss)
+          let none_waits : waiting l (stream id ss).messages ≡ 0 = ap (λ (o : Option Stream). waiting l (unwrap_or o (blank ss)).messages) e in
+          omega (arith, none_waits, waiting_put id s (open_stream id ss), waiting_opened id ss)
       go (Some v) e =
           let same : open_stream id ss ≡ ss = ap (λ (o : Option Stream). cond (is_some o) ss more) e in
           subst (λ (r : Streams). waiting_in l (put_stream id s r).entries + waiting l (stream id ss).messages ≤ waiting_in l ss.entries + waiting l s.messages)
@@ -161,29 +161,29 @@ module _ (l : ℕ) where
     drops_stale now [] t = spends_nothing l t 0 0 (omega arith)
     drops_stale now (m ∷ ms) t = go (is_stale now m) (drops_stale now ms said)
       where
-        gone : Emitted P
-        gone = give_up m.number Lifetime t
+        given_up : Emitted P
+        given_up = give_up m.number Lifetime t
 
         said : Emitted P
-        said = emit_events (expiry m.lifecycle) gone
+        said = emit_events (expiry m.lifecycle) given_up
 
         go : (b : Bool) → Spends l said (drop_expired now ms said) (waiting l ms) (waiting l (fresh now ms))
             → Spends l t (cond b (drop_expired now ms said) t) (names_lifecycle l m.lifecycle + waiting l ms) (waiting l (cond b (fresh now ms) (m ∷ ms)))
         go true ih =
             let x : ℕ = names_lifecycle l m.lifecycle + waiting l ms in
             spends_then l (spends_given_up l m.number Lifetime t x x (omega arith))
-            (spends_then l (spends_all l (expiry m.lifecycle) gone x (waiting l ms) (omega (arith, ends_expiry P l m.lifecycle))) ih)
+            (spends_then l (spends_all l (expiry m.lifecycle) given_up x (waiting l ms) (omega (arith, ends_expiry P l m.lifecycle))) ih)
         go false ih = spends_nothing l t (names_lifecycle l m.lifecycle + waiting l ms) (names_lifecycle l m.lifecycle + waiting l ms) (omega arith)
 
     drops_waiting : (ms : List Queued) (t : Emitted P) → Spends l t (emitted_waiting ms t) (waiting l ms) (waiting l (filter is_partly ms))
     drops_waiting [] t = spends_nothing l t 0 0 (omega arith)
     drops_waiting (m ∷ ms) t = go (is_partly m) (drops_waiting ms)
       where
-        gone : Emitted P
-        gone = give_up m.number Reset t
+        given_up : Emitted P
+        given_up = give_up m.number Reset t
 
         said : Emitted P
-        said = emit_events (expiry m.lifecycle) gone
+        said = emit_events (expiry m.lifecycle) given_up
 
         go : (b : Bool) → ((u : Emitted P) → Spends l u (emitted_waiting ms u) (waiting l ms) (waiting l (filter is_partly ms)))
             → Spends l t (emitted_waiting ms (cond b t said)) (names_lifecycle l m.lifecycle + waiting l ms) (waiting l (cond b (m ∷ filter is_partly ms) (filter is_partly ms)))
@@ -192,7 +192,7 @@ module _ (l : ℕ) where
         go false ih =
             let x : ℕ = names_lifecycle l m.lifecycle + waiting l ms in
             spends_then l (spends_given_up l m.number Reset t x x (omega arith))
-            (spends_then l (spends_all l (expiry m.lifecycle) gone x (waiting l ms) (omega (arith, ends_expiry P l m.lifecycle))) (ih said))
+            (spends_then l (spends_all l (expiry m.lifecycle) given_up x (waiting l ms) (omega (arith, ends_expiry P l m.lifecycle))) (ih said))
 
     pub spends_prepared : (id : ℕ) (q : Queue) (t : Emitted P) → Spends l t (prepare_reset id q t).emitted (in_queue q) (in_queue (prepare_reset id q t).queue)
     spends_prepared id q t =

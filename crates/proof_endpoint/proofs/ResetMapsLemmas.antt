@@ -45,11 +45,11 @@ module _ {P Q : Type 0} (f : Mapping P Q) where
   maps_waiting : (ms : List Queued) (t : Emitted P) → emitted_waiting ms (map_emitted f t) ≡ map_emitted f (emitted_waiting ms t)
   maps_waiting [] t = refl
   maps_waiting (m ∷ ms) t =
-      let gone : Emitted P = give_up m.number Reset t in
-      let said : Emitted P = emit_events (expiry m.lifecycle) gone in
+      let given_up : Emitted P = give_up m.number Reset t in
+      let said : Emitted P = emit_events (expiry m.lifecycle) given_up in
       ap (λ (u : Emitted Q). emitted_waiting ms u)
-      (maps_cond (map_emitted f) (is_partly m) t said (map_emitted f t) (emit_events (expiry m.lifecycle) (map_emitted f gone)) refl
-      (maps_emit_event_all f (expiry m.lifecycle) (expiry m.lifecycle) gone (maps_expiry f m.lifecycle)))
+      (maps_cond (map_emitted f) (is_partly m) t said (map_emitted f t) (emit_events (expiry m.lifecycle) (map_emitted f given_up)) refl
+      (maps_emit_event_all f (expiry m.lifecycle) (expiry m.lifecycle) given_up (maps_expiry f m.lifecycle)))
       ∙ maps_waiting ms (cond (is_partly m) t said)
 
   maps_prepare_reset : (id : ℕ) (q : Queue) (t : Emitted P) → prepare_reset id q (map_emitted f t) ≡ map_changed f (prepare_reset id q t)

@@ -30,11 +30,11 @@ module _ {P : Type 0} (pack : Packing P) (most : ℕ) where
   drops : (ms : List Queued) (t : Emitted P) → Emits pack most 0 t (emitted_waiting ms t)
   drops [] t = emits_nothing pack most t
   drops (m ∷ ms) t =
-      let gone : Emitted P = give_up m.number Reset t in
-      let said : Emitted P = emit_events (expiry m.lifecycle) gone in
+      let given_up : Emitted P = give_up m.number Reset t in
+      let said : Emitted P = emit_events (expiry m.lifecycle) given_up in
       let u : Emitted P = cond (is_partly m) t said in
       emits_then pack most t u (emitted_waiting ms u)
-      (drops_if (is_partly m) t said (emits_then pack most t gone said (emits_given_up pack most m.number Reset t) (emits_all pack most (expiry m.lifecycle) gone (quiet_expiry P m.lifecycle))))
+      (drops_if (is_partly m) t said (emits_then pack most t given_up said (emits_given_up pack most m.number Reset t) (emits_all pack most (expiry m.lifecycle) given_up (quiet_expiry P m.lifecycle))))
       (drops ms u)
 
   emits_prepared : (id : ℕ) (q : Queue) (t : Emitted P) → Emits pack most 0 t (prepare_reset id q t).emitted

@@ -58,8 +58,8 @@ IsGiven word_of p = (s t : Endpoint (List ℕ)) → s.endpoint_state.context.opt
 
 -- such a chunk alone in a packet, of which all is carried
 is_given : (word_of : List ℕ → ℕ) (tag : ℕ) (c : ChunkTree) → carried c ≡ c → tag < 2 ^ 32 → IsShort c → IsGiven word_of (packet tag c)
-is_given word_of tag c whole fits h s t e hears =
-    written_alone word_of (packet tag c) s t (subst (λ (o : Options). IsHearable o (packet tag c)) (sym e) (hearable tag c fits h)) hears
+is_given word_of tag c whole fits h s t e receives =
+    written_alone word_of (packet tag c) s t (subst (λ (o : Options). IsHearable o (packet tag c)) (sym e) (hearable tag c fits h)) receives
     ∙ ap (λ (x : ChunkTree). give (packet tag x) s) whole
 
 -- ---- what INIT and INIT ACK announce

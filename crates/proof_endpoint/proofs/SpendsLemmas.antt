@@ -81,9 +81,9 @@ ends_ending P l b None = refl
 ends_ending P l true (Some id) = omega arith
 ends_ending P l false (Some id) = omega arith
 
-ends_report : (P : Type 0) (l : ℕ) (is_end is_gone : Bool) (o : Option ℕ) → ends l (cond is_end (ending {P = P} is_gone o) []) ≡ where_end is_end (names_lifecycle l o)
-ends_report P l true is_gone o = ends_ending P l is_gone o
-ends_report P l false is_gone o = refl
+ends_report : (P : Type 0) (l : ℕ) (is_end is_given_up : Bool) (o : Option ℕ) → ends l (cond is_end (ending {P = P} is_given_up o) []) ≡ where_end is_end (names_lifecycle l o)
+ends_report P l true is_given_up o = ends_ending P l is_given_up o
+ends_report P l false is_given_up o = refl
 
 -- what leaves has its event
 pub ends_reports : (P : Type 0) (l : ℕ) (is : List Item) → ends l (reports {P = P} is) ≡ kept_ends l is

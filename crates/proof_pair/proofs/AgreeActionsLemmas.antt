@@ -174,7 +174,7 @@ module _ (x : Side) where
       holds_on n m e asked (λ a h. inl (subst (Has a) same h)) (not_yet x.end e (ap has_connected quiet) r)
 
 calm_user : (call : Call) → IsPlainCall call → IsCalm call
-calm_user call u = record { hears = λ tag chunk h. absurd (subst IsPlainCall h.given u); restores = λ h e. subst IsPlainCall e u }
+calm_user call u = record { on_received = λ tag chunk h. absurd (subst IsPlainCall h.given u); restores = λ h e. subst IsPlainCall e u }
 
 held_alike : (call : Call) (x y : Side) (n : History) → (noted_in (Calls call) x y n).held ≡ n.held
 held_alike Connect x y n = refl

@@ -19,7 +19,7 @@ use Rattle.proof_protocol.proofs.CommonLemmas.{or_none}
 
 -- what a call may receive and do
 pub record IsCalm (call : Call) : Type 0 where
-  pub hears : (tag : ℕ) (chunk : ChunkTree) → IsReceived call tag chunk → is_opening chunk ≡ false
+  pub on_received : (tag : ℕ) (chunk : ChunkTree) → IsReceived call tag chunk → is_opening chunk ≡ false
   pub restores : (h : HandoverState) → call ≡ Restore h → ⊥
 
 -- what is held was held, and no `OnConnected` is emitted
@@ -60,7 +60,7 @@ module _ (call : Call) (calm : IsCalm call) where
   keeps_packets (counts m) = rests_same m.state m.context.emitted.events
 
   no_echo : {A : Type 0} (tag : ℕ) (k : Cookie) → IsEchoed call tag k → A
-  no_echo tag k h = absurd (both_ways true (calm.hears tag (cookie_echo_chunk h.cookie) h.received) refl)
+  no_echo tag k h = absurd (both_ways true (calm.on_received tag (cookie_echo_chunk h.cookie) h.received) refl)
 
   keeps_opening : (act : OpeningAct Carried call) → RestsAt (before_opening act) (after_opening act)
   keeps_opening (connects m is) = record { held = λ a h. h; emitted = refl }
@@ -69,9 +69,9 @@ module _ (call : Call) (calm : IsCalm call) where
   keeps_opening (answers_waiting tag i my_tag first t1 m h to) = record { held = λ a h. h; emitted = refl }
   keeps_opening (answers_echoed tag i t1 cookie t m h to) = record { held = λ a h. h; emitted = refl }
   keeps_opening (answers_again tag i phase t m h late to) = record { held = λ a h. h; emitted = refl }
-  keeps_opening (echoes tag i cookie my_tag first t1 m h brought) = absurd (both_ways true (calm.hears tag (init_ack_chunk i) h) refl)
+  keeps_opening (echoes tag i cookie my_tag first t1 m h brought) = absurd (both_ways true (calm.on_received tag (init_ack_chunk i) h) refl)
   keeps_opening (adds_cookie t1 cookie t m to) = record { held = λ a h. h; emitted = refl }
-  keeps_opening (establishes tag t1 cookie t m h) = absurd (both_ways true (calm.hears tag cookie_ack_chunk h) refl)
+  keeps_opening (establishes tag t1 cookie t m h) = absurd (both_ways true (calm.on_received tag cookie_ack_chunk h) refl)
   keeps_opening (opens tag k m h none is) = no_echo tag k h
   keeps_opening (restarts tag k phase t m h verdict) = no_echo tag k h
   keeps_opening (opens_again tag k phase t m h verdict) = no_echo tag k h

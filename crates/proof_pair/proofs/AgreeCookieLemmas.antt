@@ -146,11 +146,11 @@ module _ (o : Options) (past : List (Event Carried)) (y : Past) (fine : AreValid
         is_kept = tt;
       })
       (λ h. there) free in
-      let told : Inv g z y (holds a None) c.options c.pack (c.emitted.events ++ OnConnected ∷ []) nothing.tag [] =
+      let connected : Inv g z y (holds a None) c.options c.pack (c.emitted.events ++ OnConnected ∷ []) nothing.tag [] =
       inv_view g z y (holds a None) c.options c.pack c.emitted.events nothing.tag [] opened (holds a None) (OnConnected ∷ []) refl opened.stands (λ h. there) free in
       let h : Setting = bounded o past None (Some a) in
       let bound : Inv h z y (holds a None) c.options c.pack (c.emitted.events ++ OnConnected ∷ []) nothing.tag [] =
-      inv_bound g z y (holds a None) c.options c.pack (c.emitted.events ++ OnConnected ∷ []) nothing.tag [] told h.under (record { under = tt; same = refl }) in
+      inv_bound g z y (holds a None) c.options c.pack (c.emitted.events ++ OnConnected ∷ []) nothing.tag [] connected h.under (record { under = tt; same = refl }) in
       let done : InvAt h z y (calm e) = accepts h z Established (tcb_by c.options k (long_word s)) _ e.random refl (inl refl) bound in
       ended_as e.endpoint_state.state e.endpoint_state.context e.random done refl
 
@@ -184,11 +184,11 @@ module _ (o : Options) (past : List (Event Carried)) (y : Past) (fine : AreValid
         let b : Association = association_of t in
         let h : Holds x y b (Some held) = inv.stands in
         let is : a ≡ b = is_own t (Some held) mine theirs verdict h in
-        let told : Inv g x y (holds b None) c.options c.pack (c.emitted.events ++ OnConnected ∷ []) nothing.tag [] =
+        let connected : Inv g x y (holds b None) c.options c.pack (c.emitted.events ++ OnConnected ∷ []) nothing.tag [] =
         inv_view g x y (holds b (Some held)) c.options c.pack c.emitted.events nothing.tag [] inv (holds b None) (OnConnected ∷ []) refl
         (record { own = h.own; other = h.other; held = h.held; is_kept = tt }) (λ e. subst (λ (z : Association). Has (mirrored z) y.held) is there)
         (record { under = tt; same = tt }) in
-        kept_late Established t (connected_context c) w is h.held told
+        kept_late Established t (connected_context c) w is h.held connected
     keeps Established t c w verdict inv =
         kept_late Established t c w (is_own t None mine theirs verdict inv.stands) inv.stands.held inv
     keeps ShutdownPending t c w verdict inv =

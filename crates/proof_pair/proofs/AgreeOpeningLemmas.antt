@@ -71,7 +71,7 @@ again_fits t w = record { some = λ e. omega (arith, e); tag = omega arith; firs
 -- ---- rows
 
 quiet_call : Quiet NoPacket
-quiet_call = record { hears = λ tag chunk h. no_packet h.given; connects = λ e. cc; restores = λ h e. cc }
+quiet_call = record { on_received = λ tag chunk h. no_packet h.given; connects = λ e. cc; restores = λ h e. cc }
   where
     no_packet : {A : Type 0} {p : PacketTree} → NoPacket ≡ Given p → A
     no_packet e = cc

@@ -39,7 +39,7 @@ opens_nothing cookie_ack_chunk = false
 opens_nothing chunk = true
 
 pub record Quiet (call : Call) : Type 0 where
-  pub hears : (tag : ℕ) (chunk : ChunkTree) → IsReceived call tag chunk → opens_nothing chunk ≡ true
+  pub on_received : (tag : ℕ) (chunk : ChunkTree) → IsReceived call tag chunk → opens_nothing chunk ≡ true
   pub connects : call ≡ Connect → ⊥
   pub restores : (h : HandoverState) → call ≡ Restore h → ⊥
 
@@ -89,7 +89,7 @@ module _ (g : Setting) (x y : Past) (call : Call) (own : AreValidOptions g.own) 
   -- ---- the handshake
 
   no_echo : {A : Type 0} (tag : ℕ) (k : Cookie) → IsEchoed call tag k → A
-  no_echo tag k h = absurd (both_ways (opens_nothing (cookie_echo_chunk h.cookie)) refl (q.hears tag (cookie_echo_chunk h.cookie) h.received))
+  no_echo tag k h = absurd (both_ways (opens_nothing (cookie_echo_chunk h.cookie)) refl (q.on_received tag (cookie_echo_chunk h.cookie) h.received))
 
   keeps_opening : (act : OpeningAct Carried call) → InvAt g x y (before_opening act) → InvAt g x y (after_opening act)
   keeps_opening (connects m is) inv = absurd (q.connects is)
@@ -100,11 +100,11 @@ module _ (g : Setting) (x y : Past) (call : Call) (own : AreValidOptions g.own) 
       adds g x y v o m.context.pack m.context.emitted.events m.packet (init_chunk i) inv
       (record { own = inv.stands.own; fits = fits_init g.own o inv.size tag first own inv.options inv.stands.fits })
       (one_alone m.packet (packet_to 0 o.mtu) (init_chunk i) to (inl refl))
-  keeps_opening (answers_new tag i m h to) inv = absurd (both_ways false refl (q.hears tag (init_chunk i) h))
-  keeps_opening (answers_waiting tag i my_tag first t1 m h to) inv = absurd (both_ways false refl (q.hears tag (init_chunk i) h))
-  keeps_opening (answers_echoed tag i t1 cookie t m h to) inv = absurd (both_ways false refl (q.hears tag (init_chunk i) h))
-  keeps_opening (answers_again tag i phase t m h late to) inv = absurd (both_ways false refl (q.hears tag (init_chunk i) h))
-  keeps_opening (echoes tag i cookie my_tag first t1 m h brought) inv = absurd (both_ways false refl (q.hears tag (init_ack_chunk i) h))
+  keeps_opening (answers_new tag i m h to) inv = absurd (both_ways false refl (q.on_received tag (init_chunk i) h))
+  keeps_opening (answers_waiting tag i my_tag first t1 m h to) inv = absurd (both_ways false refl (q.on_received tag (init_chunk i) h))
+  keeps_opening (answers_echoed tag i t1 cookie t m h to) inv = absurd (both_ways false refl (q.on_received tag (init_chunk i) h))
+  keeps_opening (answers_again tag i phase t m h late to) inv = absurd (both_ways false refl (q.on_received tag (init_chunk i) h))
+  keeps_opening (echoes tag i cookie my_tag first t1 m h brought) inv = absurd (both_ways false refl (q.on_received tag (init_ack_chunk i) h))
   keeps_opening (adds_cookie t1 cookie t m to) inv =
       let v : View = view_of (Open (CookieEchoed t1 cookie) t) in
       let o : Options = m.context.options in
@@ -120,7 +120,7 @@ module _ (g : Setting) (x y : Past) (call : Call) (own : AreValidOptions g.own) 
         under = ap (λ (p : Packet). p.tag) to;
       })
       (one_alone m.packet (packet_to t.identity.peer_tag o.mtu) (cookie_echo_chunk cookie) to (inr (refl, refl)))
-  keeps_opening (establishes tag t1 cookie t m h) inv = absurd (both_ways false refl (q.hears tag cookie_ack_chunk h))
+  keeps_opening (establishes tag t1 cookie t m h) inv = absurd (both_ways false refl (q.on_received tag cookie_ack_chunk h))
   keeps_opening (opens tag k m h none is) inv = no_echo tag k h
   keeps_opening (restarts tag k phase t m h verdict) inv = no_echo tag k h
   keeps_opening (opens_again tag k phase t m h verdict) inv = no_echo tag k h

@@ -39,7 +39,7 @@ use Rattle.proof_pair.proofs.TraceLemmas.{packet_of}
 
 pub quiet_packet : (p : PacketTree) → All (λ c. opens_nothing c ≡ true) p.chunks → Quiet (Given p)
 quiet_packet p all = record {
-  hears = λ tag chunk h.
+  on_received = λ tag chunk h.
       let same : p ≡ h.packet = ap (λ (c : Call). packet_of c p) h.given in
       let there : All (λ c. opens_nothing c ≡ true) h.packet.chunks = subst (λ (q : PacketTree). All (λ c. opens_nothing c ≡ true) q.chunks) same all in
       all_at (λ c. opens_nothing c ≡ true) h.among.before h.among.behind chunk (subst (All (λ c. opens_nothing c ≡ true)) h.among.split there);

@@ -136,7 +136,7 @@ IsQuietCall call = ⊤
 
 quiet_user : (call : Call) → IsQuietCall call → Quiet call
 quiet_user call u = record {
-  hears = λ tag chunk h. absurd (subst IsQuietCall h.given u);
+  on_received = λ tag chunk h. absurd (subst IsQuietCall h.given u);
   connects = λ e. subst IsQuietCall e u;
   restores = λ h e. subst IsQuietCall e u;
 }

@@ -47,7 +47,7 @@ packet_of p c = record p { chunks = c ∷ [] }
 
 calm_packet : (p : PacketTree) → All (λ c. is_opening c ≡ false) p.chunks → IsCalm (Given p)
 calm_packet p all = record {
-  hears = λ tag chunk h.
+  on_received = λ tag chunk h.
       let same : p ≡ h.packet = ap (λ call. elim call [ Given q ↦ q | call ↦ p ]) h.given in
       let there : All (λ c. is_opening c ≡ false) h.packet.chunks = subst (λ (q : PacketTree). All (λ c. is_opening c ≡ false) q.chunks) same all in
       all_at (λ c. is_opening c ≡ false) h.among.before h.among.behind chunk (subst (All (λ c. is_opening c ≡ false)) h.among.split there);
@@ -55,7 +55,7 @@ calm_packet p all = record {
 }
 
 pub calm_nothing : IsCalm NoPacket
-calm_nothing = record { hears = λ tag chunk h. no_packet h.given; restores = λ h e. cc }
+calm_nothing = record { on_received = λ tag chunk h. no_packet h.given; restores = λ h e. cc }
   where
     no_packet : {A : Type 0} {p : PacketTree} → NoPacket ≡ Given p → A
     no_packet e = cc

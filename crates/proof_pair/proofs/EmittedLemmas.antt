@@ -183,10 +183,10 @@ module _ {P : Type 0} (kind : Event P → Bool) (k : Kind kind) where
   drops : (now : ℕ) (ms : List Queued) (t : Emitted P) → Emits kind t (drop_expired now ms t)
   drops now [] t = same t
   drops now (m ∷ ms) t =
-      let gone : Emitted P = give_up m.number Lifetime t in
-      let said : Emitted P = emit_events (expiry m.lifecycle) gone in
+      let recorded : Emitted P = give_up m.number Lifetime t in
+      let said : Emitted P = emit_events (expiry m.lifecycle) recorded in
       drops_if (is_stale now m) t said (drop_expired now ms said)
-      (onto t gone said (given m.number Lifetime t) (these (expiry m.lifecycle) gone (all_expiry m.lifecycle)))
+      (onto t recorded said (given m.number Lifetime t) (these (expiry m.lifecycle) recorded (all_expiry m.lifecycle)))
       (drops now ms said)
 
   makes : (id : ℕ) (is_low is_total_low : Bool) (o : Option Produced) (t : Emitted P) → Emits kind t (emitted_made id is_low is_total_low o t)
@@ -275,11 +275,11 @@ module _ {P : Type 0} (kind : Event P → Bool) (k : Kind kind) where
   waits : (ms : List Queued) (t : Emitted P) → Emits kind t (emitted_waiting ms t)
   waits [] t = same t
   waits (m ∷ ms) t =
-      let gone : Emitted P = give_up m.number Reset t in
-      let said : Emitted P = emit_events (expiry m.lifecycle) gone in
+      let recorded : Emitted P = give_up m.number Reset t in
+      let said : Emitted P = emit_events (expiry m.lifecycle) recorded in
       let u : Emitted P = cond (is_partly m) t said in
       onto t u (emitted_waiting ms u)
-      (waits_if (is_partly m) t said (onto t gone said (given m.number Reset t) (these (expiry m.lifecycle) gone (all_expiry m.lifecycle))))
+      (waits_if (is_partly m) t said (onto t recorded said (given m.number Reset t) (these (expiry m.lifecycle) recorded (all_expiry m.lifecycle))))
       (waits ms u)
 
   pub prepares : (id : ℕ) (q : Queue) (t : Emitted P) → Emits kind t (prepare_reset id q t).emitted

@@ -160,7 +160,7 @@ module _ (g : Setting) (v : View) (o : Options) (pack : Packing Carried) (es : L
       → Stands g.own g.other w (view_of g.beside) g.asked g.other_asked → Inv g w o pack now tag chunks
   inv_view w more now behind none as_before at_last l stands =
       let u : View = view_of g.beside in
-      let told : All (UttersAll g v) (packets_in (g.past ++ now)) =
+      let all_utter : All (UttersAll g v) (packets_in (g.past ++ now)) =
       subst (All (UttersAll g v)) (sym (packets_later g.past es more now behind [] none ∙ append-nil (packets_in (g.past ++ es)))) i.said in
       record {
         stands = stands;
@@ -170,7 +170,7 @@ module _ (g : Setting) (v : View) (o : Options) (pack : Packing Carried) (es : L
         connected = late_by (has_connected more) w more now behind refl as_before at_last;
         said = All-weaker (UttersAll g v) (UttersAll g w)
             (λ p. All-weaker (Utters g v p.header.verification_tag) (Utters g w p.header.verification_tag)
-            (says_leads g.own g.other u v w g.asked l p.header.verification_tag) p.chunks) (packets_in (g.past ++ now)) told;
+            (says_leads g.own g.other u v w g.asked l p.header.verification_tag) p.chunks) (packets_in (g.past ++ now)) all_utter;
         received = All-weaker (UtteredAll g v) (UtteredAll g w)
             (λ p. All-weaker (Uttered g v p.header.verification_tag) (Uttered g w p.header.verification_tag)
             (received_leads g.own g.other u v w g.asked l g.other_asked p.header.verification_tag) p.chunks) g.others i.received;

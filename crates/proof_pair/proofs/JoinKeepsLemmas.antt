@@ -143,8 +143,8 @@ module _ (g : Setting) (call : Call) (r : Rules g call) where
       let v : View = view_of Closed in
       let w : View = record v { mine = Some d } in
       let yet : has_connected (g.past ++ es) ≡ true → ⊥ = λ e. not_both (inv.connected e) refl in
-      let told : has_connected g.past ≡ true → ⊥ = λ e. yet (connected_both g.past es ∙ ap (λ (b : Bool). b || has_connected es) e) in
-      let not_asked : g.asked ≡ false = elim (r.connects is) [ inl e ↦ absurd (told e) | inr e ↦ e ] in
+      let not_connected : has_connected g.past ≡ true → ⊥ = λ e. yet (connected_both g.past es ∙ ap (λ (b : Bool). b || has_connected es) e) in
+      let not_asked : g.asked ≡ false = elim (r.connects is) [ inl e ↦ absurd (not_connected e) | inr e ↦ e ] in
       let alone : u.is_opened ≡ true → ⊥ = λ e. not_both (inv.stands.was e refl) not_asked in
       inv_view g v m.context.options m.context.pack es m.packet.tag m.packet.chunks inv w [] es (sym (append-nil es)) refl (λ e. refl) (λ e. cc)
       (record { mine = λ x e. cc; holds = λ b e. e; opened = λ e. e; none = λ e. inr (inr not_asked) })

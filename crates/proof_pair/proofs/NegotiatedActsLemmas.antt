@@ -410,14 +410,14 @@ module _ (g : Setting) (call : Call) (r : Receives g call) where
   keeps_resets (takes_response rto number result sender receiver phase t m asked) inv =
       let act : ResetAct Carried call = takes_response rto number result sender receiver phase t m asked in
       let o : Outcome = outcome number result t.requests.current in
-      let told = lightly (view_of (Open phase t)) (view_of (Open phase t)) m (after_reset act) m.packet.chunks (light_reset act) inv.able inv in
+      let still = lightly (view_of (Open phase t)) (view_of (Open phase t)) m (after_reset act) m.packet.chunks (light_reset act) inv.able inv in
       record {
-        able = told.able;
-        size = told.size;
-        options = outcome_options o m.context ∙ told.options;
-        packing = outcome_pack o m.context ∙ told.packing;
-        said = told.said;
-        made = told.made;
+        able = still.able;
+        size = still.size;
+        options = outcome_options o m.context ∙ still.options;
+        packing = outcome_pack o m.context ∙ still.packing;
+        said = still.said;
+        made = still.made;
       }
   keeps_resets (adds_responses responses phase t m are answers) inv =
       adds (view_of (Open phase t)) m.context.options m.context.pack m.context.emitted.events m.packet (re_config_chunk responses) inv refl

@@ -21,7 +21,7 @@ use Rattle.proof_pair.specs.Trace.{AreValidOptions}
 use Rattle.proof_pair.proofs.JoinLemmas.{kept_in}
 use Rattle.proof_pair.proofs.JoinKeepsLemmas.{emitted_with_cookie, cookie_found}
 
--- ---- a cookie says what its maker was told, whatever else it says
+-- ---- a cookie says what was announced to its maker, whatever else it says
 
 be32_wraps : (n : ℕ) → be32 (n % 2 ^ 32) ≡ be32 n
 unfolding be32

@@ -77,7 +77,7 @@ module _ (o q : Options) (x y : Side) (asked : Bool) where
       let v : View = seen x in
       let u : View = seen y in
       let n : List (Event Carried) = [] in
-      let told : x.emitted ++ n ≡ x.emitted = append-nil x.emitted in
+      let emitted_same : x.emitted ++ n ≡ x.emitted = append-nil x.emitted in
       let said : All (SaysAll o q v u asked) (packets_in x.emitted) =
       All-weaker (SaysAll o q v u x.got_init) (SaysAll o q v u asked)
       (λ p. All-weaker (Says o q v u x.got_init p.header.verification_tag) (Says o q v u asked p.header.verification_tag)
@@ -98,8 +98,8 @@ module _ (o q : Options) (x y : Side) (asked : Bool) where
         size = h.size;
         options = h.options;
         packing = h.packing;
-        connected = λ e. h.connected (sym (ap has_connected told) ∙ e);
-        said = subst (λ (es : List (Event Carried)). All (SaysAll o q v u asked) (packets_in es)) (sym told) said;
+        connected = λ e. h.connected (sym (ap has_connected emitted_same) ∙ e);
+        said = subst (λ (es : List (Event Carried)). All (SaysAll o q v u asked) (packets_in es)) (sym emitted_same) said;
         received = k.said;
         made = All-nil (Says o q v u asked nothing.tag);
       } in

@@ -234,7 +234,7 @@ module _ {P : Type 0} {call : Call} {R : EndWithPacket P → EndWithPacket P →
 
   -- an act that ends it
   over_by : (a b : EndWithPacket P) (e : Event P) → b.context.emitted.events ≡ a.context.emitted.events ++ e ∷ [] → ending e ≡ 1 → First a b
-  over_by a b e told is none = inr (record { here = a; none = none; kept = k.same a; event = e; ends = is; more = []; emitted = told })
+  over_by a b e emitted_is is none = inr (record { here = a; none = none; kept = k.same a; event = e; ends = is; more = []; emitted = emitted_is })
 
   first_packets : (act : PacketAct P call) → First (before_packets act) (after_packets act)
   unfolding grows_packets grows_same grows_one

@@ -22,12 +22,12 @@ module _ (message : ℕ → Message) (is_interleaved : Bool) (o : Sender) (i : O
   number_at q e = put_at o.number p (o.counts (ordered_of message p) (stream_of message p)) q e
 
   pub unsettled : IsSettled o p → ⊥
-  unsettled x = elim x.gone [ inl b ↦ not_both b w.not_begun | inr g ↦ not_both g w.not_given_up ]
+  unsettled x = elim x.begun_or_given_up [ inl b ↦ not_both b w.not_begun | inr g ↦ not_both g w.not_given_up ]
 
   pub moved : (q : ℕ) → q ≢ p → IsSettled o q → IsSettled new q
   moved q d x = record {
     not_partly = put_off o.partly p true q d ∙ x.not_partly;
-    gone = elim x.gone [ inl b ↦ inl (put_keeps o.begun p q b) | inr g ↦ inr g ];
+    begun_or_given_up = elim x.begun_or_given_up [ inl b ↦ inl (put_keeps o.begun p q b) | inr g ↦ inr g ];
   }
 
   pub grows : (kind : Bool) (s : ℕ) → o.counts kind s ≤ new.counts kind s

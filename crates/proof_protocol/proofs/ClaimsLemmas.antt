@@ -11,7 +11,7 @@ module _ (message : ℕ → Message) (is_interleaved : Bool) (x : Transfer) (k :
   skipped : (p q : ℕ) → ordered_of message p ≡ true → ordered_of message q ≡ true → stream_of message p ≡ stream_of message q → p < q → has q x.receiver.places ≡ true → has p x.receiver.places ≡ false → x.sender.given_up p ≡ true
   skipped p q kp kq s l rq np =
       let bq = k.incoming.ready_begun q rq in
-      elim (k.outgoing.settled q p bq l s).gone [
+      elim (k.outgoing.settled q p bq l s).begun_or_given_up [
         | inr g ↦ g
         | inl bp ↦
             let n = k.outgoing.rises p q bp bq (kp ∙ sym kq) s l in

@@ -275,7 +275,7 @@ module _ (message : ℕ → Message) (is_interleaved : Bool) (x : Epochs) (k : E
   }
     where
       again : (p : ℕ) → IsSettled x.transfer.sender p → IsSettled (restarts x.transfer.sender s) p
-      again p y = record { not_partly = y.not_partly; gone = y.gone }
+      again p y = record { not_partly = y.not_partly; begun_or_given_up = y.begun_or_given_up }
 
   pub keeps_order : (e : ResetEvent) → MayReset message is_interleaved x e → EpochInvariant message is_interleaved (goes message is_interleaved x e)
   keeps_order (transfers e) a = transfer_rule e a.0 a.1

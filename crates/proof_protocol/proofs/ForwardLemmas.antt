@@ -11,14 +11,14 @@ module _ (message : ℕ → Message) (is_interleaved : Bool) (o : Sender) (out :
   abbrev new : Receiver
   new = skips message is_interleaved o i f
 
-  abbrev Gone : ℕ → Type 0
-  Gone p = (has p i.places ≡ true) ⊎ ((o.given_up p ≡ true) × (ordered_of message p ≡ true → o.number p < new.next (stream_of message p)))
+  abbrev IsOver : ℕ → Type 0
+  IsOver p = (has p i.places ≡ true) ⊎ ((o.given_up p ≡ true) × (ordered_of message p ≡ true → o.number p < new.next (stream_of message p)))
 
   next_up : (s : ℕ) → i.next s ≤ new.next s
   next_up s = raised_up f.entries true s (i.next s)
 
   -- it was dropped
-  dropped : (t : ℕ) → t < count o → drops message is_interleaved o f t ≡ true → Gone (place_of o t)
+  dropped : (t : ℕ) → t < count o → drops message is_interleaved o f t ≡ true → IsOver (place_of o t)
   dropped t h d =
       let p = place_of o t in
       let b = out.place_begun t h in
@@ -39,14 +39,14 @@ module _ (message : ℕ → Message) (is_interleaved : Bool) (o : Sender) (out :
       ]
 
   -- it was no longer held before
-  before : (t : ℕ) → i.seen t ≡ true → i.held t ≡ false → Gone (place_of o t)
+  before : (t : ℕ) → i.seen t ≡ true → i.held t ≡ false → IsOver (place_of o t)
   before t s h =
       elim (inc.passed t s h) [
         | inl r ↦ inl r
         | inr x ↦ inr (x.0, λ k. let b = x.1 k in let u = next_up (stream_of message (place_of o t)) in omega (arith, b, u))
       ]
 
-  passed : (t : ℕ) → new.seen t ≡ true → new.held t ≡ false → Gone (place_of o t)
+  passed : (t : ℕ) → new.seen t ≡ true → new.held t ≡ false → IsOver (place_of o t)
   passed t s h =
       elim (and_cases (i.held t) (not (drops message is_interleaved o f t)) h) [
         | inr d ↦
@@ -57,7 +57,7 @@ module _ (message : ℕ → Message) (is_interleaved : Bool) (o : Sender) (out :
         | inl a ↦ unheld t s a
       ]
     where
-      unheld : (t : ℕ) → new.seen t ≡ true → i.held t ≡ false → Gone (place_of o t)
+      unheld : (t : ℕ) → new.seen t ≡ true → i.held t ≡ false → IsOver (place_of o t)
       unheld t s a =
           elim (or_cases (ltb t f.upto) (i.seen t) s) [
             | inr b ↦ before t b a

@@ -10,7 +10,7 @@ module _ (message : ℕ → Message) (o : Sender) (i : Outgoing message o) where
   pub settled_given : (p q : ℕ) → IsSettled o q → IsSettled (gives_up o p) q
   settled_given p q x = record {
     not_partly = x.not_partly;
-    gone = elim x.gone [ inl b ↦ inl b | inr g ↦ inr (put_keeps o.given_up p q g) ];
+    begun_or_given_up = elim x.begun_or_given_up [ inl b ↦ inl b | inr g ↦ inr (put_keeps o.given_up p q g) ];
   }
 
   pub gives_outgoing : (p : ℕ) → p < o.accepted → o.partly p ≡ false → Outgoing message (gives_up o p)
@@ -42,7 +42,7 @@ module _ (message : ℕ → Message) (o : Sender) (i : Outgoing message o) where
     given_up_below = λ p b. let l = i.given_up_below p b in omega (arith, l);
     partly_begun = i.partly_begun;
     fifo = i.fifo;
-    settled = λ a q b l s. let x = i.settled a q b l s in record { not_partly = x.not_partly; gone = x.gone };
+    settled = λ a q b l s. let x = i.settled a q b l s in record { not_partly = x.not_partly; begun_or_given_up = x.begun_or_given_up };
     rises = i.rises;
     counted = i.counted;
     following_counts = i.following_counts;

@@ -140,7 +140,7 @@ module _ (base : Bool → ℕ → ℕ) (is_interleaved : Bool) (q r : Queue (Key
   pub taken_up : (κ : KeyOf is_interleaved) (n : ℕ) (w : ℕ → Chunk) → RunTaken (KeyOf is_interleaved) (next_of is_interleaved) q r κ n w
       → RunTaken (KeyOf is_interleaved) (next_of is_interleaved) (lift base is_interleaved q) (lift base is_interleaved r) (up_key base is_interleaved κ) n (λ j. up_chunk base is_interleaved (w j))
   taken_up κ n w a = record {
-    gone = λ j h. ap (lift base is_interleaved r).chunks (up_nth base is_interleaved κ j) ∙ (lift_at base is_interleaved r (nth (KeyOf is_interleaved) (next_of is_interleaved) κ j) ∙ ap (up_some base is_interleaved) (a.gone j h));
+    removed = λ j h. ap (lift base is_interleaved r).chunks (up_nth base is_interleaved κ j) ∙ (lift_at base is_interleaved r (nth (KeyOf is_interleaved) (next_of is_interleaved) κ j) ∙ ap (up_some base is_interleaved) (a.removed j h));
     kept = λ μ d. by μ d (is_from base is_interleaved μ) refl;
     next = λ s. ap (λ z. base true s + z) (a.next s) ∙ next_is s (w 0).ordered refl (eqb s (w 0).stream) refl;
     passed = λ s. ap (λ z. base false s + z) (a.passed s);

@@ -47,7 +47,7 @@ module _ (message : ℕ → Message) (o : Sender) (i : Outgoing message o) (f : 
   settled a q b l s =
       let x = i.settled a q b l s in
       let d : q ≢ f.place = λ e. not_both is_partly (sym (ap o.partly e) ∙ x.not_partly) in
-      record { not_partly = put_off o.partly f.place (not f.is_end) q d ∙ x.not_partly; gone = x.gone }
+      record { not_partly = put_off o.partly f.place (not f.is_end) q d ∙ x.not_partly; begun_or_given_up = x.begun_or_given_up }
 
   ended : (a : ℕ) → o.begun a ≡ true → new.partly a ≡ false → (t : ℕ) × (t < count new) × (place_of new t ≡ a) × ((fragment new t).is_end ≡ true)
   ended a b np =

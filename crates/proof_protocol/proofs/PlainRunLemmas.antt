@@ -86,7 +86,7 @@ may_begin_zero = (record { below = omega arith; not_begun = refl; not_given_up =
 may_begin_one : IsAllowed three false (before 6) (begin 1)
 may_begin_one = (
   record { below = omega arith; not_begun = refl; not_given_up = refl },
-  (λ q l s. let z : 0 ≡ q = omega (arith, l) in subst (λ n. IsSettled (before 6).sender n) z (record { not_partly = refl; gone = inl refl })),
+  (λ q l s. let z : 0 ≡ q = omega (arith, l) in subst (λ n. IsSettled (before 6).sender n) z (record { not_partly = refl; begun_or_given_up = inl refl })),
   (λ m q. idle q),
 )
   where

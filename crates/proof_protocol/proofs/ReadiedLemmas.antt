@@ -16,7 +16,7 @@ module _ (Key : Type 0) (succ : Key → Key) (message : ℕ → Message) (is_int
   in_count : (t : ℕ) → x.receiver.held t ≡ true → t < count x.sender
   in_count t h = k.incoming.seen_below t (k.incoming.held_seen t h)
 
-  -- an ordered chunk tells its message's number
+  -- an ordered chunk has its message's number
   own_number : (t : ℕ) → ordered_of message (place_of x.sender t) ≡ true → (chunk_of message is_interleaved x.sender t).number ≡ x.sender.number (place_of x.sender t)
   own_number t h = cond-true (ordered_of message (place_of x.sender t) || is_interleaved) (x.sender.number (place_of x.sender t)) 0 (or_left (ordered_of message (place_of x.sender t)) is_interleaved h)
 
@@ -82,12 +82,12 @@ module _ (Key : Type 0) (succ : Key → Key) (message : ℕ → Message) (is_int
           not_both (eq-eqb (place_of x.sender t) (place_of x.sender (ts 0)) (ap (place_of x.sender) same ∙ (place_at j le).0)) ne)
           ∙ s.holds t p.0;
       held = λ κ' w' e.
-          let old = sym (z.kept κ' (λ j le f. absurd (none_some (r.chunks κ') w' e (ap r.chunks f ∙ z.gone j le)))) ∙ e in
+          let old = sym (z.kept κ' (λ j le f. absurd (none_some (r.chunks κ') w' e (ap r.chunks f ∙ z.removed j le)))) ∙ e in
           let f = s.held κ' w' old in
           let ne = false_from_ne_true (eqb (place_of x.sender f.0) (place_of x.sender (ts 0))) (λ b.
           let one = which message is_interleaved x.sender k.outgoing k.indexed x.receiver k.incoming (place_of x.sender (ts 0)) n ts pieces f.0 (in_count f.0 f.1) (eqb-true (place_of x.sender f.0) (place_of x.sender (ts 0)) b) in
           let kk = sym f.2 ∙ (ap key one.2 ∙ key_at one.0 one.1) in
-          none_some (r.chunks κ') w' e (ap r.chunks kk ∙ z.gone one.0 one.1)) in
+          none_some (r.chunks κ') w' e (ap r.chunks kk ∙ z.removed one.0 one.1)) in
           (f.0, and_from (x.receiver.held f.0) (not (eqb (place_of x.sender f.0) (place_of x.sender (ts 0)))) f.1 (not_from_false (eqb (place_of x.sender f.0) (place_of x.sender (ts 0))) ne), f.2, f.3);
       next_is = λ a.
           z.next a ∙ (ap (λ c. cond (c.ordered && eqb a c.stream) (suc c.number) (q.next a)) chunk_zero

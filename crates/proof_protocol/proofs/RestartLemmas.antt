@@ -22,7 +22,7 @@ module _ (message : ℕ → Message) (o : Sender) (i : Outgoing message o) (s : 
     partly_begun = i.partly_begun;
     partly_kept = i.partly_kept;
     fifo = i.fifo;
-    settled = λ p q b l e. let z = i.settled p q b l e in record { not_partly = z.not_partly; gone = z.gone };
+    settled = λ p q b l e. let z = i.settled p q b l e in record { not_partly = z.not_partly; begun_or_given_up = z.begun_or_given_up };
     rises = i.rises;
     counted = i.counted;
     following_counts = following_counts;

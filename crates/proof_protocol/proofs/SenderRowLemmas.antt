@@ -13,7 +13,7 @@ use Rattle.proof_protocol.proofs.SendingLemmas.{queued_accept, may_begin, queued
 -- a queue that says the same of each place
 queued_same : (message : ℕ → Message) (x : Transfer) (f g : ℕ → Option Waiting) → ((p : ℕ) → g p ≡ f p) → Queued message x.sender f → Queued message x.sender g
 queued_same message x f g same q = record {
-  gone = λ p h e. q.gone p h (sym (same p) ∙ e);
+  dequeued = λ p h e. q.dequeued p h (sym (same p) ∙ e);
   waits = λ p w e b. q.waits p w (sym (same p) ∙ e) b;
   partly = λ p w e b. q.partly p w (sym (same p) ∙ e) b;
   rest = λ p w e. q.rest p w (sym (same p) ∙ e);
@@ -78,4 +78,4 @@ module _ (message : ℕ → Message) (is_interleaved : Bool) (x : Transfer) (k :
 
   -- a message whose end has its TSN is given up, once
   pub sent_given_up : (p : ℕ) → p < x.sender.accepted → x.sender.given_up p ≡ false → queue p ≡ None → Sends message is_interleaved x (give_up p ∷ []) queue
-  sent_given_up p h live e = sends (give_up p ∷ []) queue ((h, (q.gone p h e).not_partly, live), tt) (queued_give message is_interleaved x.sender k.outgoing queue q p e) refl
+  sent_given_up p h live e = sends (give_up p ∷ []) queue ((h, (q.dequeued p h e).not_partly, live), tt) (queued_give message is_interleaved x.sender k.outgoing queue q p e) refl

@@ -21,12 +21,12 @@ module _ (message : ℕ → Message) (is_interleaved : Bool) (o : Sender) (out :
   queued_accept =
       let w0 : Waiting = record { begun = false; rest = (message o.accepted).payload } in
       record {
-        gone = λ p h e.
+        dequeued = λ p h e.
             elim (cases_eq p o.accepted) [
               | inl s ↦ absurd (none_some (put queue o.accepted (Some w0) p) w0 (put_at queue o.accepted (Some w0) p s) e)
               | inr d ↦
-                  let x = q.gone p (omega (arith, h, d)) (sym (put_off queue o.accepted (Some w0) p d) ∙ e) in
-                  record { not_partly = x.not_partly; gone = x.gone }
+                  let x = q.dequeued p (omega (arith, h, d)) (sym (put_off queue o.accepted (Some w0) p d) ∙ e) in
+                  record { not_partly = x.not_partly; begun_or_given_up = x.begun_or_given_up }
             ];
         waits = λ p w e b.
             elim (cases_eq p o.accepted) [
@@ -65,14 +65,14 @@ module _ (message : ℕ → Message) (is_interleaved : Bool) (o : Sender) (out :
       let x = q.waits p w e b in
       let l = x.below in (
         x,
-        (λ a h s. q.gone a (omega (arith, h, l)) (first a h s)),
+        (λ a h s. q.dequeued a (omega (arith, h, l)) (first a h s)),
         (λ m a. false_from_ne_true (o.partly a) (λ y.
             let ha = out.begun_below a (out.partly_begun a y) in
             by_entry a (queue a) refl ha y m)),
       )
     where
       by_entry : (a : ℕ) (c : Option Waiting) → queue a ≡ c → a < o.accepted → o.partly a ≡ true → is_interleaved ≡ false → ⊥
-      by_entry a None f ha y m = not_both y (q.gone a ha f).not_partly
+      by_entry a None f ha y m = not_both y (q.dequeued a ha f).not_partly
       by_entry a (Some v) f ha y m = not_both (out.partly_begun a y) (q.waits a v f (none m a v f)).not_begun
 
   pub queued_begin : (p : ℕ) (w : Waiting) → queue p ≡ Some w → w.begun ≡ false → Queued message (begins message o p) (put queue p (Some (record { begun = true; rest = w.rest })))
@@ -82,12 +82,12 @@ module _ (message : ℕ → Message) (is_interleaved : Bool) (o : Sender) (out :
       let off : ((a : ℕ) → a ≢ p → put queue p (Some w1) a ≡ queue a) = (λ a d. put_off queue p (Some w1) a d) in
       let here : ((a : ℕ) (v : Waiting) → a ≡ p → put queue p (Some w1) a ≡ Some v → w1 ≡ v) = (λ a v s f. let c = put_at queue p (Some w1) a s in cc) in
       record {
-        gone = λ a h f.
+        dequeued = λ a h f.
             elim (cases_eq a p) [
               | inl s ↦ absurd (none_some (put queue p (Some w1) a) w1 (put_at queue p (Some w1) a s) f)
               | inr d ↦
-                  let x = q.gone a h (sym (off a d) ∙ f) in
-                  record { not_partly = put_off o.partly p true a d ∙ x.not_partly; gone = elim x.gone [ inl y ↦ inl (put_keeps o.begun p a y) | inr g ↦ inr g ] }
+                  let x = q.dequeued a h (sym (off a d) ∙ f) in
+                  record { not_partly = put_off o.partly p true a d ∙ x.not_partly; begun_or_given_up = elim x.begun_or_given_up [ inl y ↦ inl (put_keeps o.begun p a y) | inr g ↦ inr g ] }
             ];
         waits = λ a v f n.
             elim (cases_eq a p) [
@@ -124,14 +124,14 @@ module _ (message : ℕ → Message) (is_interleaved : Bool) (o : Sender) (out :
       let some : ((a : ℕ) (v : Waiting) → a ≡ p → put queue p entry a ≡ Some v → (is_empty more ≡ false) × (w1 ≡ v)) =
       (λ a v s g. left_some (is_empty more) w1 v (sym (put_at queue p entry a s) ∙ g)) in
       record {
-        gone = λ a h g.
+        dequeued = λ a h g.
             elim (cases_eq a p) [
               | inl s ↦
                   let c = left_none (is_empty more) w1 (sym (put_at queue p entry a s) ∙ g) in
-                  record { not_partly = put_at o.partly p (not (is_empty more)) a s ∙ ap not c; gone = inl (ap o.begun s ∙ begun) }
+                  record { not_partly = put_at o.partly p (not (is_empty more)) a s ∙ ap not c; begun_or_given_up = inl (ap o.begun s ∙ begun) }
               | inr d ↦
-                  let x = q.gone a h (sym (off a d) ∙ g) in
-                  record { not_partly = put_off o.partly p (not (is_empty more)) a d ∙ x.not_partly; gone = x.gone }
+                  let x = q.dequeued a h (sym (off a d) ∙ g) in
+                  record { not_partly = put_off o.partly p (not (is_empty more)) a d ∙ x.not_partly; begun_or_given_up = x.begun_or_given_up }
             ];
         waits = λ a v g n.
             elim (cases_eq a p) [
@@ -177,15 +177,15 @@ module _ (message : ℕ → Message) (is_interleaved : Bool) (o : Sender) (out :
       let never : ((a : ℕ) (v : Waiting) → put queue p None a ≡ Some v → a ≢ p) = (λ a v g s. none_some (put queue p None a) v g (put_at queue p None a s)) in
       let x = q.waits p w e b in
       record {
-        gone = λ a h g.
+        dequeued = λ a h g.
             elim (cases_eq a p) [
               | inl s ↦ record {
                 not_partly = false_from_ne_true (o.partly a) (λ y. not_both (sym (ap o.begun s) ∙ out.partly_begun a y) x.not_begun);
-                gone = inr (put_at o.given_up p true a s);
+                begun_or_given_up = inr (put_at o.given_up p true a s);
               }
               | inr d ↦
-                  let y = q.gone a h (sym (off a d) ∙ g) in
-                  record { not_partly = y.not_partly; gone = elim y.gone [ inl z ↦ inl z | inr z ↦ inr (put_keeps o.given_up p a z) ] }
+                  let y = q.dequeued a h (sym (off a d) ∙ g) in
+                  record { not_partly = y.not_partly; begun_or_given_up = elim y.begun_or_given_up [ inl z ↦ inl z | inr z ↦ inr (put_keeps o.given_up p a z) ] }
             ];
         waits = λ a v g n.
             let d = never a v g in
@@ -202,12 +202,12 @@ module _ (message : ℕ → Message) (is_interleaved : Bool) (o : Sender) (out :
       let never : ((a : ℕ) (v : Waiting) → put queue p None a ≡ Some v → a ≢ p) = (λ a v g s. none_some (put queue p None a) v g (put_at queue p None a s)) in
       let begun = out.partly_begun p (q.partly p w e b) in
       record {
-        gone = λ a h g.
+        dequeued = λ a h g.
             elim (cases_eq a p) [
-              | inl s ↦ record { not_partly = put_at o.partly p false a s; gone = inr (put_at o.given_up p true a s) }
+              | inl s ↦ record { not_partly = put_at o.partly p false a s; begun_or_given_up = inr (put_at o.given_up p true a s) }
               | inr d ↦
-                  let y = q.gone a h (sym (off a d) ∙ g) in
-                  record { not_partly = put_off o.partly p false a d ∙ y.not_partly; gone = elim y.gone [ inl z ↦ inl z | inr z ↦ inr (put_keeps o.given_up p a z) ] }
+                  let y = q.dequeued a h (sym (off a d) ∙ g) in
+                  record { not_partly = put_off o.partly p false a d ∙ y.not_partly; begun_or_given_up = elim y.begun_or_given_up [ inl z ↦ inl z | inr z ↦ inr (put_keeps o.given_up p a z) ] }
             ];
         waits = λ a v g n.
             let d = never a v g in
@@ -223,7 +223,7 @@ module _ (message : ℕ → Message) (is_interleaved : Bool) (o : Sender) (out :
   -- a message that is fully numbered is given up
   pub queued_give : (p : ℕ) → queue p ≡ None → Queued message (gives_up o p) queue
   queued_give p e = record {
-    gone = λ a h g. let y = q.gone a h g in record { not_partly = y.not_partly; gone = elim y.gone [ inl z ↦ inl z | inr z ↦ inr (put_keeps o.given_up p a z) ] };
+    dequeued = λ a h g. let y = q.dequeued a h g in record { not_partly = y.not_partly; begun_or_given_up = elim y.begun_or_given_up [ inl z ↦ inl z | inr z ↦ inr (put_keeps o.given_up p a z) ] };
     waits = λ a v g n.
         let d : a ≢ p = λ s. none_some (queue a) v g (ap queue s ∙ e) in
         let y = q.waits a v g n in

@@ -35,11 +35,11 @@ module _ (message : ℕ → Message) (is_interleaved : Bool) (x : Transfer) (k :
   numbered_settled : (f : Fragment) → x.sender.partly f.place ≡ true → (q : ℕ) → IsSettled x.sender q → IsSettled (numbers x.sender f) q
   numbered_settled f partly q y =
       let d : q ≢ f.place = λ e. not_both (ap x.sender.partly e ∙ partly) y.not_partly in
-      record { not_partly = put_off x.sender.partly f.place (not f.is_end) q d ∙ y.not_partly; gone = y.gone }
+      record { not_partly = put_off x.sender.partly f.place (not f.is_end) q d ∙ y.not_partly; begun_or_given_up = y.begun_or_given_up }
 
   -- what is out of the send queue stays out
   pub settled_stays : (e : Rule) → IsAllowed message is_interleaved x e → (q : ℕ) → IsSettled x.sender q → IsSettled (after message is_interleaved x e).sender q
-  settled_stays accept a q y = record { not_partly = y.not_partly; gone = y.gone }
+  settled_stays accept a q y = record { not_partly = y.not_partly; begun_or_given_up = y.begun_or_given_up }
   settled_stays (begin p) a q y =
       moved message is_interleaved x.sender k.outgoing p a.0 a.1 q
       (λ e. unsettled message is_interleaved x.sender k.outgoing p a.0 a.1 (subst (λ z. IsSettled x.sender z) e y)) y

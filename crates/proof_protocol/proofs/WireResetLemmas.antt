@@ -103,16 +103,16 @@ module _ (message : ℕ → Message) (base new : Bool → ℕ → ℕ) (x : Tran
   chunks_left true q r shows z κ = go (eqb κ.stream s) refl
     where
       go : (b : Bool) → eqb κ.stream s ≡ b → (lift new true r).chunks κ ≡ keep_other_streams MessageKey (next_of true) s ((lift base true q).chunks κ)
-      go true e = gone (is_from new true κ) refl ∙ sym (none_left true ((lift base true q).chunks κ) (λ w h.
+      go true e = none_here (is_from new true κ) refl ∙ sym (none_left true ((lift base true q).chunks κ) (λ w h.
           let y = shows.held κ w h in
           ap (λ (v : Chunk). v.stream) y.3 ∙ (ap (λ (c : MessageKey). c.stream) y.2 ∙ eqb-true κ.stream s e)))
         where
-          gone : (c : Bool) → is_from new true κ ≡ c → (lift new true r).chunks κ ≡ None
-          gone true f =
+          none_here : (c : Bool) → is_from new true κ ≡ c → (lift new true r).chunks κ ≡ None
+          none_here true f =
               ap (λ b. cond b (up_some new true (r.chunks (down_key new true κ))) None) f
               ∙ (ap (up_some new true) (z.chunks (down_key new true κ))
               ∙ ap (up_some new true) (none_left true (q.chunks (down_key new true κ)) (λ w h. stream_at message base x q shows (down_key new true κ) w h ∙ eqb-true κ.stream s e)))
-          gone false f = ap (λ b. cond b (up_some new true (r.chunks (down_key new true κ))) None) f
+          none_here false f = ap (λ b. cond b (up_some new true (r.chunks (down_key new true κ))) None) f
       go false e =
           let n : new κ.ordered κ.stream ≡ base κ.ordered κ.stream = off_stream κ.ordered κ.stream e in
           at_base n ∙ by (is_from base true κ) refl

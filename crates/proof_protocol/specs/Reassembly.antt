@@ -87,7 +87,7 @@ module _ (Key : Type 0) (succ : Key → Key) where
 
   -- a run became ready
   pub record RunTaken (q r : Queue) (κ : Key) (n : ℕ) (w : ℕ → Chunk) : Type 0 where
-    pub gone : (j : ℕ) → j ≤ n → r.chunks (nth κ j) ≡ None
+    pub removed : (j : ℕ) → j ≤ n → r.chunks (nth κ j) ≡ None
     pub kept : (κ' : Key) → ((j : ℕ) → j ≤ n → κ' ≡ nth κ j → ⊥) → r.chunks κ' ≡ q.chunks κ'
     pub next : (s : ℕ) → r.next s ≡ cond ((w 0).ordered && (s == (w 0).stream)) (suc (w 0).number) (q.next s)
     pub passed : (s : ℕ) → r.passed_below s ≡ q.passed_below s

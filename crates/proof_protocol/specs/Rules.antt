@@ -27,7 +27,7 @@ pub record Waits (o : Sender) (p : ℕ) : Type 0 where
 -- out of the send queue
 pub record IsSettled (o : Sender) (p : ℕ) : Type 0 where
   pub not_partly : o.partly p ≡ false
-  pub gone : (o.begun p ≡ true) ⊎ (o.given_up p ≡ true)
+  pub begun_or_given_up : (o.begun p ≡ true) ⊎ (o.given_up p ≡ true)
 
 abbrev pub same : Bool → Bool → Bool
 same true b = b

@@ -9,7 +9,7 @@ pub record Waiting : Type 0 where
 
 -- the queue is that of the sender of the rules. Messages given up and not yet discarded are not counted in
 pub record Queued (message : ℕ → Message) (o : Sender) (queue : ℕ → Option Waiting) : Type 0 where
-  pub gone : (p : ℕ) → p < o.accepted → queue p ≡ None → IsSettled o p
+  pub dequeued : (p : ℕ) → p < o.accepted → queue p ≡ None → IsSettled o p
   pub waits : (p : ℕ) (w : Waiting) → queue p ≡ Some w → w.begun ≡ false → Waits o p
   pub partly : (p : ℕ) (w : Waiting) → queue p ≡ Some w → w.begun ≡ true → o.partly p ≡ true
   pub rest : (p : ℕ) (w : Waiting) → queue p ≡ Some w → gather p o.numbered ++ w.rest ≡ (message p).payload

@@ -1,6 +1,6 @@
 //! What the transfer of one direction of an SCTP association rests on, and resets of streams over it, as laws that know no
 //! code. Each law is the contract of a function with an empty body. The definitions stand in `specs/`, and docs/PROOF.md
-//! tells them in words.
+//! says them in words.
 #![tactic(auto)]
 
 pub mod receiver;

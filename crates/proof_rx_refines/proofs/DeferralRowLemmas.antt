@@ -46,32 +46,32 @@ all_ready [] = refl
 all_ready (p ∷ ps) = all_ready ps
 
 module _ (message : ℕ → Message) (is_interleaved : Bool) where
-  one_gone : (x : Epochs) (e : Rule) → is_arrival e ≡ true → IsAllowed message is_interleaved x.transfer e
+  one_arrives : (x : Epochs) (e : Rule) → is_arrival e ≡ true → IsAllowed message is_interleaved x.transfer e
       → MayReset message is_interleaved x (transfers e) × (goes message is_interleaved x (transfers e) ≡ record x { transfer = after message is_interleaved x.transfer e })
-  one_gone x (data_comes t) is may = ((may, tt), refl)
-  one_gone x (late_comes t) is may = ((may, tt), refl)
-  one_gone x (become_ready p) is may = ((may, tt), refl)
-  one_gone x (forward_comes f) is may = ((may, tt), refl)
-  one_gone x accept is may = cc
-  one_gone x (begin p) is may = cc
-  one_gone x (number p bytes more) is may = cc
-  one_gone x (end_with_placeholder p) is may = cc
-  one_gone x (give_up p) is may = cc
-  one_gone x (send_sack c) is may = cc
-  one_gone x (ack_point_advances c) is may = cc
-  one_gone x (send_forward f) is may = cc
-  one_gone x (perform_reset s c) is may = cc
+  one_arrives x (data_comes t) is may = ((may, tt), refl)
+  one_arrives x (late_comes t) is may = ((may, tt), refl)
+  one_arrives x (become_ready p) is may = ((may, tt), refl)
+  one_arrives x (forward_comes f) is may = ((may, tt), refl)
+  one_arrives x accept is may = cc
+  one_arrives x (begin p) is may = cc
+  one_arrives x (number p bytes more) is may = cc
+  one_arrives x (end_with_placeholder p) is may = cc
+  one_arrives x (give_up p) is may = cc
+  one_arrives x (send_sack c) is may = cc
+  one_arrives x (ack_point_advances c) is may = cc
+  one_arrives x (send_forward f) is may = cc
+  one_arrives x (perform_reset s c) is may = cc
 
-  record Gone (x : Epochs) (es : List Rule) : Type 0 where
+  record Arrived (x : Epochs) (es : List Rule) : Type 0 where
     may : MayAll message is_interleaved x (map transfers es)
     is : go_all message is_interleaved x (map transfers es) ≡ record x { transfer = run message is_interleaved x.transfer es }
 
-  gone : (es : List Rule) (x : Epochs) → list_all is_arrival es ≡ true → Happens message is_interleaved x.transfer es → Gone x es
-  gone [] x all h = record { may = tt; is = refl }
-  gone (e ∷ es) x all h =
+  all_arrive : (es : List Rule) (x : Epochs) → list_all is_arrival es ≡ true → Happens message is_interleaved x.transfer es → Arrived x es
+  all_arrive [] x all h = record { may = tt; is = refl }
+  all_arrive (e ∷ es) x all h =
       let a = and_parts (is_arrival e) (list_all is_arrival es) all in
-      let s = one_gone x e a.0 h.0 in
-      let g = gone es (record x { transfer = after message is_interleaved x.transfer e }) a.1 h.1 in
+      let s = one_arrives x e a.0 h.0 in
+      let g = all_arrive es (record x { transfer = after message is_interleaved x.transfer e }) a.1 h.1 in
       record {
         may = (s.0, subst (λ (z : Epochs). MayAll message is_interleaved z (map transfers es)) (sym s.1) g.may);
         is = ap (λ (z : Epochs). go_all message is_interleaved z (map transfers es)) s.1 ∙ g.is;
@@ -88,7 +88,7 @@ waits_later : (x : Epochs) (y : Transfer) (shift later : ℕ) (first new : Optio
     → IsWaitingFor shift x first d → IsWaitingFor later (record x { transfer = y }) new d
 waits_later x y shift later first new None same h = tt
 waits_later x y shift later first new (Some d) same h =
-    let s = same h.told h.begun in
+    let s = same h.counts_from h.begun in
     let e = s.0 in
     let last = h.last in
     record {
@@ -99,7 +99,7 @@ waits_later x y shift later first new (Some d) same h =
       names = h.names;
       last = omega (arith, last, e);
       idle = h.idle;
-      told = h.told;
+      counts_from = h.counts_from;
       begun = s.1;
     }
 
@@ -126,7 +126,7 @@ module _ (message : ℕ → Message) (is_interleaved : Bool) (first shift : ℕ)
       → GoesNear message is_interleaved (base_now x) first later x.transfer es handed r.deferred u s → Comes message is_interleaved first later x es handed u s
   comes later es u s all same n =
       let y = run message is_interleaved x.transfer es in
-      let g = gone message is_interleaved es x all n.goes.may in
+      let g = all_arrive message is_interleaved es x all n.goes.may in
       let w : IsWaitingFor later (record x { transfer = y }) s.first r.deferred = waits_later x y shift later r.first s.first r.deferred same waiting in
       record {
         may = g.may;
@@ -157,7 +157,7 @@ module _ (message : ℕ → Message) (is_interleaved : Bool) (first shift : ℕ)
         go None e w = ap (fragment_waits (number_of r tsn) f.stream_id) e
         go (Some d) e w =
             let here = as_read.tsn_is in
-            let same = same_shift at w.told w.begun in
+            let same = same_shift at w.counts_from w.begun in
             ap (fragment_waits (number_of r tsn) f.stream_id) e
             ∙ fragment_at_once message is_interleaved x k shift r.first d w (number_of r tsn) at f.stream_id (omega (arith, here, same)) carries.numbered carries.stream
 
@@ -202,7 +202,7 @@ module _ (message : ℕ → Message) (is_interleaved : Bool) (first shift : ℕ)
         go None e w = called message is_interleaved (base_now x) first shift x.transfer kept windows handed t r shown near is_tracker at tsn f sent last moves are_now tsn_is apart e few xs
         go (Some d) e w =
             let here = there in
-            let same = same_shift at w.told w.begun in
+            let same = same_shift at w.counts_from w.begun in
             point_called message is_interleaved x k shift r.first d w r e tsn at xs f (omega (arith, here, same)) (point_below message is_interleaved x.transfer kept few at f sent last) last sent stand
 
     pub point_while : (ps : List ℕ) × Comes message is_interleaved first (shift_after r.first shift at) x (forward_comes f ∷ map become_ready ps) handed (tracker.forward (origin + at) t) (forward tsn xs r)
@@ -283,7 +283,7 @@ module _ (message : ℕ → Message) (is_interleaved : Bool) (first shift : ℕ)
             names = refl;
             last = omega (arith, here);
             idle = refl;
-            told = unwrap_or r.first tsn;
+            counts_from = unwrap_or r.first tsn;
             begun = begins;
           });
     }

@@ -204,7 +204,7 @@ module _ (is_interleaved : Bool) (shift : ℕ) (decide : Decided is_interleaved)
 
     pub run_taken : RunTaken (KeyOf is_interleaved) (next_of is_interleaved) q without_run (key_of_held is_interleaved shift e) (length es) chunk_at
     run_taken = record {
-      gone = λ j l. without_among is_interleaved shift decide (e ∷ es) q.chunks (nth (KeyOf is_interleaved) (next_of is_interleaved) (key_of_held is_interleaved shift e) j) (item j) (at_among e e es j l) (key_at j l);
+      removed = λ j l. without_among is_interleaved shift decide (e ∷ es) q.chunks (nth (KeyOf is_interleaved) (next_of is_interleaved) (key_of_held is_interleaved shift e) j) (item j) (at_among e e es j l) (key_at j l);
       kept = λ κ apart. without_apart is_interleaved shift decide (e ∷ es) q.chunks κ
           (λ h y k. let i = place_among h e e es y in apart i.0 i.1 (k ∙ (ap (key_of_held is_interleaved shift) i.2 ∙ sym (key_at i.0 i.1))));
       next = λ a. refl;

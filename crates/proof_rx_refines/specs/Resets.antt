@@ -62,8 +62,8 @@ pub record IsDeferral (shift : ℕ) (x : Epochs) (first : Option ℕ) (d : Defer
   pub names : d.streams ≡ named_by (request ∷ more)
   pub last : d.last + shift + 1 ≡ origin + upto
   pub idle : d.waiting ≡ []
-  pub told : ℕ  -- a TSN that the queue counts from
-  pub begun : first ≡ Some told
+  pub counts_from : ℕ  -- a TSN that the queue counts from
+  pub begun : first ≡ Some counts_from
 
 -- no reset is deferred, or such a one
 abbrev pub IsWaitingFor : (shift : ℕ) → Epochs → (first : Option ℕ) → Option Deferred → Type 0

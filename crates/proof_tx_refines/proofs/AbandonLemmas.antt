@@ -254,7 +254,7 @@ module _ (message : ℕ → Message) (lifecycle : ℕ → Option ℕ) (is_interl
     queued = go waits refl
       where
         go : (w : Option Waiting) → waits ≡ w → (w : Waiting) × (waits ≡ Some w) × (w.begun ≡ true)
-        go None e = absurd (not_both partly (queue.queued.gone p below e).not_partly)
+        go None e = absurd (not_both partly (queue.queued.dequeued p below e).not_partly)
         go (Some w) e = (w, e, by_begun w.begun refl)
           where
             by_begun : (b : Bool) → w.begun ≡ b → w.begun ≡ true
@@ -338,7 +338,7 @@ module _ (message : ℕ → Message) (lifecycle : ℕ → Option ℕ) (is_interl
         entry : (k : ℕ) (m : Queued) → find p (ms k) ≡ Some m → IsEntry message lifecycle o2 k p m
         entry k m h =
             let e = queue.entries k p m h in
-            let gone = put_at o.given_up p true p refl in
+            let is_given_up = put_at o.given_up p true p refl in
             record {
               accepted = e.accepted;
               on_stream = e.on_stream;
@@ -346,9 +346,9 @@ module _ (message : ℕ → Message) (lifecycle : ℕ → Option ℕ) (is_interl
               protocol_id = e.protocol_id;
               payload = e.payload;
               lifecycle_id = e.lifecycle_id;
-              numbers = λ g. absurd (not_both gone g);
-              index = λ g. absurd (not_both gone g);
-              begins = λ g. absurd (not_both gone g);
+              numbers = λ g. absurd (not_both is_given_up g);
+              index = λ g. absurd (not_both is_given_up g);
+              begins = λ g. absurd (not_both is_given_up g);
               partly_sent = λ g. partly_sent k m h;
             }
 

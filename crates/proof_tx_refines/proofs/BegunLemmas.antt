@@ -190,7 +190,7 @@ module _ (message : ℕ → Message) (lifecycle : ℕ → Option ℕ) (is_interl
 
       go : (w : Option Waiting) → queue_of message o (messages_of q) p ≡ w → x.epoch p ≤ x.opened (stream_of message p)
       go None e =
-          absurd (elim ((sh.messages.queued.gone p below e).gone) [
+          absurd (elim ((sh.messages.queued.dequeued p below e).begun_or_given_up) [
             | inl c ↦ not_both c n
             | inr g ↦ not_both b (unbegun message is_interleaved es x.transfer k may p g n)
           ])

@@ -85,10 +85,10 @@ module _ {P : Type 0} (message : ℕ → Message) (lifecycle : ℕ → Option �
       by false h = ap (find r) e
 
   -- it isn't there any more, where only the first of a stream has its numbers
-  front_gone : (ms : List Queued) → s0.messages ≡ ms → (least most : ℕ) → are_rising least most ms ≡ true → are_in_order ms ≡ true
+  front_removed : (ms : List Queued) → s0.messages ≡ ms → (least most : ℕ) → are_rising least most ms ≡ true → are_in_order ms ≡ true
       → ((m : Queued) → find number ms ≡ Some m → is_some m.numbers ≡ true) → find number (without_front number ms s0).messages ≡ None
-  front_gone [] e least most r h has = ap (find number) e
-  front_gone (m ∷ rest) e least most r h has = by (cases_eq m.number number)
+  front_removed [] e least most r h has = ap (find number) e
+  front_removed (m ∷ rest) e least most r h has = by (cases_eq m.number number)
     where
       left : Bool → Stream
       left b = cond b (record s0 { messages = rest; pause = settle_pause s0.pause }) s0
@@ -104,7 +104,7 @@ module _ {P : Type 0} (message : ℕ → Message) (lifecycle : ℕ → Option �
           ap (λ b. find number (left b).messages) (ne_eqb m.number number d)
           ∙ (ap (find number) e ∙ (found_off number m rest d ∙ behind_none (find number rest) refl d))
 
-  module _ (h : QueueRefines message lifecycle is_interleaved o q) (gone : o.given_up number ≡ true) where
+  module _ (h : QueueRefines message lifecycle is_interleaved o q) (is_given_up : o.given_up number ≡ true) where
     pub same_found : (k r : ℕ) → r ≢ number → find r (messages_of after k) ≡ find r (messages_of q k)
     same_found k r d =
         elim (cases_eq k id) [
@@ -115,7 +115,7 @@ module _ {P : Type 0} (message : ℕ → Message) (lifecycle : ℕ → Option �
     not_there : find number (messages_of after id) ≡ None
     not_there =
         ap (λ (t : Stream). find number t.messages) there
-        ∙ front_gone s0.messages refl 0 q.next_number (h.rising.rising id) (h.order.order id) (λ m f. (h.messages.entries id number m f).partly_sent gone)
+        ∙ front_removed s0.messages refl 0 q.next_number (h.rising.rising id) (h.order.order id) (λ m f. (h.messages.entries id number m f).partly_sent is_given_up)
 
     was_found : (k : ℕ) (m : Queued) → find number (messages_of after k) ≡ Some m → find number (messages_of q k) ≡ Some m
     was_found k m f =
@@ -138,12 +138,12 @@ module _ {P : Type 0} (message : ℕ → Message) (lifecycle : ℕ → Option �
       ];
       messages =
           change message lifecycle o o (messages_of q) (messages_of after) number same_found (λ r d. record { number = refl; given_up = refl; parts_are = refl }) (omega arith)
-          (λ k m f. h.messages.entries k number m (was_found k m f)) None (queue_given message o (messages_of after) number gone)
+          (λ k m f. h.messages.entries k number m (was_found k m f)) None (queue_given message o (messages_of after) number is_given_up)
           (queue_as message o (queue_of message o (messages_of q)) (put (queue_of message o (messages_of q)) number None) out h.messages.queued) h.messages;
     }
       where
         out : (r : ℕ) → put (queue_of message o (messages_of q)) number None r ≡ queue_of message o (messages_of q) r
-        out r = ap (λ f. f r) (put_here (queue_of message o (messages_of q)) number None (queue_given message o (messages_of q) number gone))
+        out r = ap (λ f. f r) (put_here (queue_of message o (messages_of q)) number None (queue_given message o (messages_of q) number is_given_up))
 
     -- one less is to be discarded
     pub discard_named : (ds : List Discard) → AreDiscards o (messages_of q) (record { stream = id; number = number } ∷ ds) → AreDiscards o (messages_of after) ds
@@ -154,7 +154,7 @@ module _ {P : Type 0} (message : ℕ → Message) (lifecycle : ℕ → Option �
             elim (cases_eq p number) [
               | inl e ↦
                   let fn : find number (messages_of after k) ≡ Some m = ap (λ z. find z (messages_of after k)) (sym e) ∙ f in
-                  elim (a.named k number m (was_found k m fn) gone) [
+                  elim (a.named k number m (was_found k m fn) is_given_up) [
                     | inl c ↦ absurd (none_some (find number (messages_of after id)) m (ap (λ (d : Discard). find number (messages_of after d.stream)) (sym c) ∙ fn) not_there)
                     | inr b ↦ subst (λ z. IsAmong (record { stream = k; number = z }) ds) (sym e) b
                   ]
@@ -173,6 +173,6 @@ pub discards_all : {P : Type 0} (message : ℕ → Message) (lifecycle : ℕ →
     → QueueRefines message lifecycle is_interleaved o q → AreDiscards o (messages_of q) ds → Discarded message lifecycle is_interleaved o (discard_all ds q emitted).queue
 discards_all message lifecycle is_interleaved o [] q emitted h a = record { queue_is = h; none_left = a }
 discards_all message lifecycle is_interleaved o (d ∷ ds) q emitted h a =
-    let gone = a.given_up d (inl refl) in
+    let is_given_up = a.given_up d (inl refl) in
     let x = discard d.stream d.number q emitted in
-    discards_all message lifecycle is_interleaved o ds x.queue x.emitted (discard_queue message lifecycle is_interleaved o q d.stream d.number emitted h gone) (discard_named message lifecycle is_interleaved o q d.stream d.number emitted h gone ds a)
+    discards_all message lifecycle is_interleaved o ds x.queue x.emitted (discard_queue message lifecycle is_interleaved o q d.stream d.number emitted h is_given_up) (discard_named message lifecycle is_interleaved o q d.stream d.number emitted h is_given_up ds a)

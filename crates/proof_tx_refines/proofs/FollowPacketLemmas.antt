@@ -186,8 +186,8 @@ module _ {P : Type 0} (message : ℕ → Message) (lifecycle : ℕ → Option �
   abbrev to : Items
   to = (handle_sack now cumulative a_rwnd blocks s emitted).outstanding.items
 
-  gone : go_all message is_interleaved x (map transfers es) ≡ x1
-  gone = goes_sending message is_interleaved es x (leaves_send n c) ∙ ap with_transfer hr.leaves
+  reached : go_all message is_interleaved x (map transfers es) ≡ x1
+  reached = goes_sending message is_interleaved es x (leaves_send n c) ∙ ap with_transfer hr.leaves
     where
       with_transfer : Transfer → Epochs
       with_transfer z = record x { transfer = z }
@@ -207,14 +207,14 @@ module _ {P : Type 0} (message : ℕ → Message) (lifecycle : ℕ → Option �
   pub receiving_follows : LeadsInEpochs message is_interleaved x (es ++ fs) hr.losses.after q to
   receiving_follows =
       let first = leaves_may message is_interleaved n c x hr.may in
-      let lossy = subst (λ (z : Epochs). MayAll message is_interleaved z (map transfers fs)) (sym gone) lost.0 in
+      let lossy = subst (λ (z : Epochs). MayAll message is_interleaved z (map transfers fs)) (sym reached) lost.0 in
       let a = stays in
       let b = hr.upto in
       record {
         may = subst (λ (z : List ResetEvent). MayAll message is_interleaved x z) (sym both) (may_more message is_interleaved (map transfers es) (map transfers fs) x first lossy);
         goes_to =
             ap (λ (z : List ResetEvent). go_all message is_interleaved x z) both
-            ∙ (go_more message is_interleaved (map transfers es) (map transfers fs) x ∙ (ap (λ (z : Epochs). go_all message is_interleaved z (map transfers fs)) gone ∙ lost.1));
+            ∙ (go_more message is_interleaved (map transfers es) (map transfers fs) x ∙ (ap (λ (z : Epochs). go_all message is_interleaved z (map transfers fs)) reached ∙ lost.1));
         follows = record {
           paused = paused_as x y q refl refl refl h.paused;
           line = h.line;

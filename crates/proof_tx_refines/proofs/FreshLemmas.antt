@@ -125,8 +125,8 @@ module _ (message : ℕ → Message) (lifecycle : ℕ → Option ℕ) where
     elsewhere : (k r : ℕ) → r ≢ p → find r (put ms id (front ++ rest) k) ≡ find r (ms k)
     elsewhere = put_without ms id front m rest h
 
-    gone : (k : ℕ) (n : Queued) → find p (put ms id (front ++ rest) k) ≡ Some n → ⊥
-    gone k n f =
+    none_left : (k : ℕ) (n : Queued) → find p (put ms id (front ++ rest) k) ≡ Some n → ⊥
+    none_left k n f =
         none_some (find p (front ++ rest)) n (sym (ap (find p) (put_at ms id (front ++ rest) k (behind_there x.sender ms a id front m rest h before (front ++ rest) k n f))) ∙ f)
         (found_behind p front rest before ∙ none)
 
@@ -138,13 +138,13 @@ module _ (message : ℕ → Message) (lifecycle : ℕ → Option ℕ) where
           leads = record { events = give_up p ∷ []; may = r.may; leads = refl; sends = refl; given_up = refl; rest_stays = refl };
           kept_is = r.kept;
           queued =
-              change message lifecycle x.sender (gives_up x.sender p) ms (put ms id (front ++ rest)) p elsewhere frame (omega arith) (λ k n f. absurd (gone k n f)) None
+              change message lifecycle x.sender (gives_up x.sender p) ms (put ms id (front ++ rest)) p elsewhere frame (omega arith) (λ k n f. absurd (none_left k n f)) None
               (queue_given message (gives_up x.sender p) (put ms id (front ++ rest)) p (put_at x.sender.given_up p true p refl)) r.queued a;
           items =
               kept_moves message lifecycle x.sender (gives_up x.sender p)
               (record { same = λ t l. refl; number = λ t l. refl; given_up = λ t l. put_off x.sender.given_up p true (place_of x.sender t) (λ e. not_both (sym (ap x.sender.begun e) ∙ k.outgoing.place_begun t l) waits.not_begun) })
               refl x.acknowledged s.kept kept;
-          discards_are = change_discards message lifecycle x.sender (gives_up x.sender p) ms (put ms id (front ++ rest)) p elsewhere frame s.discards discards (λ k n f g. absurd (gone k n f)) (λ r g. put_keeps x.sender.given_up p r g);
+          discards_are = change_discards message lifecycle x.sender (gives_up x.sender p) ms (put ms id (front ++ rest)) p elsewhere frame s.discards discards (λ k n f g. absurd (none_left k n f)) (λ r g. put_keeps x.sender.given_up p r g);
         }
 
   -- all that expired at the front of a stream
@@ -158,7 +158,7 @@ module _ (message : ℕ → Message) (lifecycle : ℕ → Option ℕ) where
     pub discards_are : AreDiscards after.sender (put ms id (fresh now front)) s.discards
     pub counts_stay : after.sender.following ≡ x.sender.following
     pub accepted_stays : after.sender.accepted ≡ x.sender.accepted
-    pub told_of : recorded_places (drop_expired now front emitted) ≡ recorded_places emitted ++ places
+    pub recorded_are : recorded_places (drop_expired now front emitted) ≡ recorded_places emitted ++ places
 
   pub freshens : {P : Type 0} (is_interleaved : Bool) (now id least most : ℕ) (front : List Queued) (x : Transfer) (k : Invariant message is_interleaved x) (s : Items) (ms : ℕ → List Queued) → ms id ≡ front → are_rising least most front ≡ true
       → AreQueued message lifecycle x.sender ms → AreKept message lifecycle x.sender x.acknowledged s.kept → AreDiscards x.sender ms s.discards → (emitted : Emitted P)
@@ -173,7 +173,7 @@ module _ (message : ℕ → Message) (lifecycle : ℕ → Option ℕ) where
     discards_are = subst (λ (z : ℕ → List Queued). AreDiscards x.sender z s.discards) (sym (put_here ms id [] h)) d;
     counts_stay = refl;
     accepted_stays = refl;
-    told_of = sym (append-nil (recorded_places emitted));
+    recorded_are = sym (append-nil (recorded_places emitted));
   }
   freshens {P} is_interleaved now id least most (m ∷ rest) x k s ms h r a kept d emitted =
       go (is_stale now m) refl (λ y ky my hy ay ty dy emitted. freshens is_interleaved now id (m.number + 1) most rest y ky s my hy (rises least most m rest r).behind ay ty dy emitted)
@@ -196,7 +196,7 @@ module _ (message : ℕ → Message) (lifecycle : ℕ → Option ℕ) where
         discards_are = subst (λ z. AreDiscards g.0.sender (put ms id (cond z (fresh now rest) (m ∷ rest))) s.discards) (sym e) g.6;
         counts_stay = g.7;
         accepted_stays = g.8;
-        told_of = ap (λ z. recorded_places (cond z (drop_expired now rest (emit_events (expiry m.lifecycle) (events.give_up m.number Lifetime emitted))) emitted)) e ∙ g.9;
+        recorded_are = ap (λ z. recorded_places (cond z (drop_expired now rest (emit_events (expiry m.lifecycle) (events.give_up m.number Lifetime emitted))) emitted)) e ∙ g.9;
       }
 
       go : (b : Bool) → is_stale now m ≡ b
@@ -233,5 +233,5 @@ module _ (message : ℕ → Message) (lifecycle : ℕ → Option ℕ) where
             subst (λ (z : ℕ → List Queued). AreDiscards f.after.sender z s.discards) over f.discards_are,
             f.counts_stay,
             f.accepted_stays,
-            f.told_of ∙ (ap (λ z. z ++ f.places) (map-append (λ g. g.number) emitted.given_up (record { number = m.number; cause = Lifetime } ∷ [])) ∙ append_assoc (recorded_places emitted) (m.number ∷ []) f.places),
+            f.recorded_are ∙ (ap (λ z. z ++ f.places) (map-append (λ g. g.number) emitted.given_up (record { number = m.number; cause = Lifetime } ∷ [])) ∙ append_assoc (recorded_places emitted) (m.number ∷ []) f.places),
           )

@@ -36,11 +36,11 @@ absent id least (e ∷ es) l h =
 -- one that leaves
 record Leaves (id least : ℕ) (es : Times) : Type 0 where
   ascending : are_ascending least (remove_entry (is_at (nat_cmp id)) es) ≡ true
-  gone : finish_time id (remove_entry (is_at (nat_cmp id)) es) ≡ None
+  removed : finish_time id (remove_entry (is_at (nat_cmp id)) es) ≡ None
   others : (k : ℕ) → k ≢ id → finish_time k (remove_entry (is_at (nat_cmp id)) es) ≡ finish_time k es
 
 leaves : (id least : ℕ) (es : Times) → are_ascending least es ≡ true → Leaves id least es
-leaves id least [] h = record { ascending = refl; gone = refl; others = λ k d. refl }
+leaves id least [] h = record { ascending = refl; removed = refl; others = λ k d. refl }
 leaves id least (e ∷ es) h =
     go (is_at (nat_cmp id) e.0) refl (and_parts (nat_le least e.0) (are_ascending (e.0 + 1) es) h)
     (leaves id (e.0 + 1) es (and_parts (nat_le least e.0) (are_ascending (e.0 + 1) es) h).1)
@@ -52,14 +52,14 @@ leaves id least (e ∷ es) h =
         let same = same_id id e.0 t in
         record {
           ascending = ap (are_ascending least) l ∙ from_less least (e.0 + 1) es (omega (arith, low)) a.1;
-          gone = ap (finish_time id) l ∙ absent id (e.0 + 1) es (omega (arith, same)) a.1;
+          removed = ap (finish_time id) l ∙ absent id (e.0 + 1) es (omega (arith, same)) a.1;
           others = λ k d. ap (finish_time k) l ∙ sym (cond-false (is_at (nat_cmp k) e.0) (Some e.1) (finish_time k es) (at_other k e.0 (λ c. d (c ∙ same))));
         }
     go false t a z =
         let l : remove_entry (is_at (nat_cmp id)) (e ∷ es) ≡ e ∷ remove_entry (is_at (nat_cmp id)) es = cond-false (is_at (nat_cmp id) e.0) es (e ∷ remove_entry (is_at (nat_cmp id)) es) t in
         record {
           ascending = ap (are_ascending least) l ∙ and_from (nat_le least e.0) (are_ascending (e.0 + 1) (remove_entry (is_at (nat_cmp id)) es)) a.0 z.ascending;
-          gone = ap (finish_time id) l ∙ (cond-false (is_at (nat_cmp id) e.0) (Some e.1) (finish_time id (remove_entry (is_at (nat_cmp id)) es)) t ∙ z.gone);
+          removed = ap (finish_time id) l ∙ (cond-false (is_at (nat_cmp id) e.0) (Some e.1) (finish_time id (remove_entry (is_at (nat_cmp id)) es)) t ∙ z.removed);
           others = λ k d. ap (finish_time k) l ∙ ap (λ o. cond (is_at (nat_cmp k) e.0) (Some e.1) o) (z.others k d);
         }
 
@@ -132,7 +132,7 @@ after_set_bytes id bytes priority sch h = go (bytes == 0) refl (is_active id sch
         subst (λ b. AfterSetBytes id bytes sch (to b (is_active id sch))) (sym e) (record {
           ascending = z.ascending;
           active = λ k t. elim (cases_eq k id) [
-            | inl s ↦ absurd (not_both (ap (λ n. is_some (finish_time n (remove_entry (is_at (nat_cmp id)) sch.times))) (sym s) ∙ t) (ap is_some z.gone))
+            | inl s ↦ absurd (not_both (ap (λ n. is_some (finish_time n (remove_entry (is_at (nat_cmp id)) sch.times))) (sym s) ∙ t) (ap is_some z.removed))
             | inr d ↦ inl (d, ap is_some (sym (z.others k d)) ∙ t)
           ];
         })

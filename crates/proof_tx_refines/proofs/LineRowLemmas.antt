@@ -38,9 +38,9 @@ sendable_flows s h = go (is_stopped s.pause) refl
 in_line_by : (q r : Queue) (id bytes : ℕ) (sch : Scheduler) → IsInLine q → AfterSetBytes id bytes sch r.scheduler → ((k : ℕ) → k ≢ id → is_active k sch ≡ true → is_active k q.scheduler ≡ true)
     → ((k : ℕ) → k ≢ id → stream k r.streams ≡ stream k q.streams) → ((bytes == 0) ≡ false → is_stopped (stream id r.streams).pause ≡ false)
     → (r.scheduler.is_interleaved ≡ true → r.begun ≡ None) → IsInLine r
-in_line_by q r id bytes sch h heard still elsewhere here whole = record {
-  ascending = heard.ascending;
-  flows = λ k t. elim (heard.active k t) [
+in_line_by q r id bytes sch h after_set still elsewhere here whole = record {
+  ascending = after_set.ascending;
+  flows = λ k t. elim (after_set.active k t) [
     | inl c ↦ ap (λ (s : Stream). is_stopped s.pause) (elsewhere k c.0) ∙ h.flows k (still k c.0 c.1)
     | inr c ↦ subst (λ j. is_stopped (stream j r.streams).pause ≡ false) (sym c.0) (here c.1)
   ];

@@ -142,10 +142,10 @@ pub discards_pause : {P : Type 0} (message : ℕ → Message) (lifecycle : ℕ �
     → QueueRefines message lifecycle is_interleaved o q → AreDiscards o (messages_of q) ds → ArePausedAs x q → ArePausedAs x (discard_all ds q emitted).queue
 discards_pause message lifecycle is_interleaved o x [] q emitted h a paused = paused
 discards_pause message lifecycle is_interleaved o x (d ∷ ds) q emitted h a paused =
-    let gone = a.given_up d (inl refl) in
+    let given_up = a.given_up d (inl refl) in
     let y = discard d.stream d.number q emitted in
-    discards_pause message lifecycle is_interleaved o x ds y.queue y.emitted (discard_queue message lifecycle is_interleaved o q d.stream d.number emitted h gone)
-    (discard_named message lifecycle is_interleaved o q d.stream d.number emitted h gone ds a) (discard_pauses message lifecycle is_interleaved o q d.stream d.number emitted h x paused)
+    discards_pause message lifecycle is_interleaved o x ds y.queue y.emitted (discard_queue message lifecycle is_interleaved o q d.stream d.number emitted h given_up)
+    (discard_named message lifecycle is_interleaved o q d.stream d.number emitted h given_up ds a) (discard_pauses message lifecycle is_interleaved o q d.stream d.number emitted h x paused)
 
 -- ---- a turn
 

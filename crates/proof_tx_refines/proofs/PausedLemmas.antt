@@ -291,7 +291,7 @@ module _ (message : ℕ → Message) (lifecycle : ℕ → Option ℕ) (is_interl
     settled p below on earlier = go (queue_of message x.transfer.sender (messages_of q) p) refl
       where
         go : (o : Option Waiting) → queue_of message x.transfer.sender (messages_of q) p ≡ o → IsSettled x.transfer.sender p
-        go None e = sh.queue.messages.queued.gone p below e
+        go None e = sh.queue.messages.queued.dequeued p below e
         go (Some w) e =
             let z = queued_is message x.transfer.sender (messages_of q) p w e in
             let there : find p (messages_of q id) ≡ Some z.entry = ap (λ k. find p (messages_of q k)) (sym on) ∙ z.found_there in

@@ -308,8 +308,8 @@ module _ (message : ℕ → Message) (lifecycle : ℕ → Option ℕ) (is_interl
           → Walked s n f (cond b (walk most s (pass_item s f i) is) f)
       go false e ih = stands s n f es (omega (arith, below)) p w
       go true e ih =
-          let gone = (and_parts (is_abandoned i) (not (stops f.count s) && nat_le (size_with s.is_interleaved (entry_of s.is_interleaved i) f.entries) most) e).0 in
-          let r = ih (step n es (omega (arith, below)) (sym a.0.given_up ∙ gone) p) written1 in
+          let given_up = (and_parts (is_abandoned i) (not (stops f.count s) && nat_le (size_with s.is_interleaved (entry_of s.is_interleaved i) f.entries) most) e).0 in
+          let r = ih (step n es (omega (arith, below)) (sym a.0.given_up ∙ given_up) p) written1 in
           let c = r.count_is in
           let l = r.within in
           record {

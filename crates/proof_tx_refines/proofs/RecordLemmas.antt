@@ -95,15 +95,15 @@ module _ {P : Type 0} (message : ℕ → Message) (lifecycle : ℕ → Option �
         ∙ (or_swapped (has p l.places) (has p (all_recorded taken emitted)) ∙ (sym (has_more p (all_recorded taken emitted) l.places) ∙ ap (has p) (sym all_more))));
   }
 
-taken_row_all : (taken : List ℕ) (g : GivenUp) (gone gs : List GivenUp) → gs ≡ g ∷ gone
-    → taken ++ map (λ (z : GivenUp). z.number) gs ≡ (taken ++ g.number ∷ []) ++ map (λ (z : GivenUp). z.number) gone
-taken_row_all taken g gone gs e = ap (λ (zs : List GivenUp). taken ++ map (λ (z : GivenUp). z.number) zs) e ∙ sym (append_assoc taken (g.number ∷ []) (map (λ (z : GivenUp). z.number) gone))
+taken_row_all : (taken : List ℕ) (g : GivenUp) (rest gs : List GivenUp) → gs ≡ g ∷ rest
+    → taken ++ map (λ (z : GivenUp). z.number) gs ≡ (taken ++ g.number ∷ []) ++ map (λ (z : GivenUp). z.number) rest
+taken_row_all taken g rest gs e = ap (λ (zs : List GivenUp). taken ++ map (λ (z : GivenUp). z.number) zs) e ∙ sym (append_assoc taken (g.number ∷ []) (map (λ (z : GivenUp). z.number) rest))
 
-pub taking_row : {P : Type 0} → (o : Sender) (taken : List ℕ) (g : GivenUp) (gone : List GivenUp) (emitted : Emitted P)
-    → emitted.given_up ≡ g ∷ gone → OneRecord taken o emitted → OneRecord (taken ++ g.number ∷ []) o (record emitted { given_up = gone })
-taking_row o taken g gone emitted e one = record {
-  once = ap are_distinct (sym (taken_row_all taken g gone emitted.given_up e)) ∙ one.once;
-  exact = λ p. one.exact p ∙ ap (has p) (taken_row_all taken g gone emitted.given_up e);
+pub taking_row : {P : Type 0} → (o : Sender) (taken : List ℕ) (g : GivenUp) (rest : List GivenUp) (emitted : Emitted P)
+    → emitted.given_up ≡ g ∷ rest → OneRecord taken o emitted → OneRecord (taken ++ g.number ∷ []) o (record emitted { given_up = rest })
+taking_row o taken g rest emitted e one = record {
+  once = ap are_distinct (sym (taken_row_all taken g rest emitted.given_up e)) ∙ one.once;
+  exact = λ p. one.exact p ∙ ap (has p) (taken_row_all taken g rest emitted.given_up e);
 }
 
 -- ---- what the values say

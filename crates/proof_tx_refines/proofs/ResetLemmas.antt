@@ -155,7 +155,7 @@ module _ (message : ℕ → Message) (lifecycle : ℕ → Option ℕ) (is_interl
     queued_again ms a = record {
       entries = λ k p m f. entry_again k p m (a.entries k p m f);
       queued = record {
-        gone = λ p h e. let z = a.queued.gone p h e in record { not_partly = z.not_partly; gone = z.gone };
+        dequeued = λ p h e. let z = a.queued.dequeued p h e in record { not_partly = z.not_partly; begun_or_given_up = z.begun_or_given_up };
         waits = λ p w e b. let z = a.queued.waits p w e b in record { below = z.below; not_begun = z.not_begun; not_given_up = z.not_given_up };
         partly = a.queued.partly;
         rest = a.queued.rest;

@@ -41,14 +41,14 @@ none_anywhere k (e ∷ es) d b h = go (is_at (nat_cmp k) e.0) (none_anywhere k e
 pub rest_outgoing : (message : ℕ → Message) (lifecycle : ℕ → Option ℕ) (is_interleaved : Bool) (x : Transfer) (q : Queue) (s : Items) → Outgoing message x.sender → SenderRefines message lifecycle is_interleaved x q s
     → is_empty q ≡ true → s.kept ≡ [] → AtRest x
 rest_outgoing message lifecycle is_interleaved x q s out sh empty none = record {
-  no_queue = λ p l. (settled p l).gone;
+  no_queue = λ p l. (settled p l).begun_or_given_up;
   no_part = λ p. false_from_ne_true (x.sender.partly p) (λ y. not_both y (settled p (out.begun_below p (out.partly_begun p y))).not_partly);
   no_item = subst (λ is. AreKept message lifecycle x.sender x.acknowledged is) none sh.items.kept;
 }
   where
     settled : (p : ℕ) → p < x.sender.accepted → IsSettled x.sender p
     settled p l =
-        sh.queue.messages.queued.gone p l
+        sh.queue.messages.queued.dequeued p l
         (queue_lacks message x.sender (messages_of q) p (ap (find p) (none_anywhere (stream_of message p) q.streams.entries (blank q.streams) refl empty)))
 
 pub rest_row : (message : ℕ → Message) (lifecycle : ℕ → Option ℕ) (is_interleaved : Bool) (x : Transfer) (q : Queue) (s : Items) → Invariant message is_interleaved x → SenderRefines message lifecycle is_interleaved x q s

@@ -60,7 +60,7 @@ ids_more lifecycle (p ∷ ps) qs = ap (λ z. id_of (lifecycle p) ++ z) (ids_more
 
 module _ (P : Type 0) (message : ℕ → Message) (lifecycle : ℕ → Option ℕ) (o : Sender) where
   abbrev emitted_of : Bool → Bool → Option ℕ → List (Event P)
-  emitted_of is_end gone id = cond is_end (ending gone id) []
+  emitted_of is_end given_up id = cond is_end (ending given_up id) []
 
   one_report : (t : ℕ) (i : Item) → StandsFor message lifecycle o (fragment o t) i → delivered_ids (report {P = P} i) ≡ ids_at lifecycle (laws.report o t)
   one_report t i a =
@@ -117,11 +117,11 @@ module _ {P : Type 0} (message : ℕ → Message) (lifecycle : ℕ → Option �
   point_is : x.acknowledged + n ≡ c
   point_is = let a = sh.items.point in omega (arith, a, upto, ahead)
 
-  gone : Happens message is_interleaved x (replicate n (ack_point_advances c)) × (run message is_interleaved x (replicate n (ack_point_advances c)) ≡ x1)
-  gone = leave_all message is_interleaved n c x sent (omega (arith, point_is))
+  all_leave : Happens message is_interleaved x (replicate n (ack_point_advances c)) × (run message is_interleaved x (replicate n (ack_point_advances c)) ≡ x1)
+  all_leave = leave_all message is_interleaved n c x sent (omega (arith, point_is))
 
   kept1 : Invariant message is_interleaved x1
-  kept1 = subst (λ (w : Transfer). Invariant message is_interleaved w) gone.1 (all_kept message is_interleaved (replicate n (ack_point_advances c)) x k gone.0)
+  kept1 = subst (λ (w : Transfer). Invariant message is_interleaved w) all_leave.1 (all_kept message is_interleaved (replicate n (ack_point_advances c)) x k all_leave.0)
 
   shows1 : SenderRefines message lifecycle is_interleaved x1 q (acked_by blocks (staying cumulative s))
   shows1 = record {
@@ -142,8 +142,8 @@ module _ {P : Type 0} (message : ℕ → Message) (lifecycle : ℕ → Option �
 
   pub sack_row : ReceivesSack message lifecycle is_interleaved x q n c emitted (receive_sack cumulative blocks fast s emitted).items (receive_sack cumulative blocks fast s emitted).emitted
   sack_row = record {
-    may = gone.0;
-    leaves = gone.1;
+    may = all_leave.0;
+    leaves = all_leave.1;
     upto = point_is;
     reported =
         ap delivered_ids (below_quiet false (not fast) (reported_below blocks (staying cumulative s)) first)

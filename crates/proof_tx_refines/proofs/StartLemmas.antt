@@ -38,7 +38,7 @@ module _ (message : ℕ → Message) (lifecycle : ℕ → Option ℕ) where
       messages = record {
         entries = λ k p m f. absurd (none_some (find p []) m f refl);
         queued = record {
-          gone = λ p l e. absurd (omega (arith, l));
+          dequeued = λ p l e. absurd (omega (arith, l));
           waits = λ p w e b. absurd (none_some (queue_of message new_sender (messages_of (queue.queue o)) p) w e refl);
           partly = λ p w e b. absurd (none_some (queue_of message new_sender (messages_of (queue.queue o)) p) w e refl);
           rest = λ p w e. absurd (none_some (queue_of message new_sender (messages_of (queue.queue o)) p) w e refl);

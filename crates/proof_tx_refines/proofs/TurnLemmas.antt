@@ -72,7 +72,7 @@ module _ {P : Type 0} (message : ℕ → Message) (lifecycle : ℕ → Option �
   ms1 = put (messages_of q) id L1
 
   emitted_is : recorded_places (turn now id size q emitted).emitted ≡ recorded_places emitted ++ f.places
-  emitted_is = emitted_same id _ _ (turn now id size q emitted).made (drop_expired now s0.messages emitted) ∙ f.told_of
+  emitted_is = emitted_same id _ _ (turn now id size q emitted).made (drop_expired now s0.messages emitted) ∙ f.recorded_are
 
   next_y : (j : ℕ) → IsNext y.sender j (stream j q.streams)
   next_y j =

@@ -158,9 +158,9 @@ module _ {P : Type 0} (x : Epochs) (now size : ℕ) (some : 0 < size) where
 
 module _ {P : Type 0} (message : ℕ → Message) (lifecycle : ℕ → Option ℕ) (is_interleaved : Bool) (o : Sender) (x : Epochs) where
   one_discard : (q : Queue) (id number : ℕ) (emitted : Emitted P) → QueueRefines message lifecycle is_interleaved o q → o.given_up number ≡ true → Stands x q → StandsOn x q (discard id number q emitted).queue
-  one_discard q id number emitted h gone a =
+  one_discard q id number emitted h given_up a =
       let r : Queue = (discard id number q emitted).queue in
-      let shown = discard_queue message lifecycle is_interleaved o q id number emitted h gone in
+      let shown = discard_queue message lifecycle is_interleaved o q id number emitted h given_up in
       record {
         stands = record {
           ordered = shown.order;
@@ -177,18 +177,18 @@ module _ {P : Type 0} (message : ℕ → Message) (lifecycle : ℕ → Option �
       still : (p : ℕ) (m : Queued) → ((stream id q.streams).pause ≡ NotPaused → ⊥) → find p (messages_of q id) ≡ Some m → m.numbers ≡ None
           → find p (messages_of (discard id number q emitted).queue id) ≡ Some m
       still p m n f e = elim (cases_eq p number) [
-        | inl c ↦ absurd (not_both ((h.messages.entries id number m (ap (λ z. find z (messages_of q id)) (sym c) ∙ f)).partly_sent gone) (ap is_some e))
-        | inr d ↦ discards.same_found message lifecycle is_interleaved o q id number emitted h gone id p d ∙ f
+        | inl c ↦ absurd (not_both ((h.messages.entries id number m (ap (λ z. find z (messages_of q id)) (sym c) ∙ f)).partly_sent given_up) (ap is_some e))
+        | inr d ↦ discards.same_found message lifecycle is_interleaved o q id number emitted h given_up id p d ∙ f
       ]
 
   pub discards_stand : (ds : List Discard) (q : Queue) (emitted : Emitted P) → QueueRefines message lifecycle is_interleaved o q → AreDiscards o (messages_of q) ds → Stands x q → StandsOn x q (discard_all ds q emitted).queue
   discards_stand [] q emitted h a s = stands_same x q s
   discards_stand (d ∷ ds) q emitted h a s =
-      let gone = a.given_up d (inl refl) in
+      let given_up = a.given_up d (inl refl) in
       let y : Changed P = discard d.stream d.number q emitted in
-      let one = one_discard q d.stream d.number emitted h gone s in
+      let one = one_discard q d.stream d.number emitted h given_up s in
       stands_then x q y.queue (discard_all ds y.queue y.emitted).queue one
-      (discards_stand ds y.queue y.emitted (discard_queue message lifecycle is_interleaved o q d.stream d.number emitted h gone) (discard_named message lifecycle is_interleaved o q d.stream d.number emitted h gone ds a) one.stands)
+      (discards_stand ds y.queue y.emitted (discard_queue message lifecycle is_interleaved o q d.stream d.number emitted h given_up) (discard_named message lifecycle is_interleaved o q d.stream d.number emitted h given_up ds a) one.stands)
 
 -- ---- packets
 

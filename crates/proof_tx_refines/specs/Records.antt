@@ -44,8 +44,8 @@ LeavingKeepsOne = (n : ℕ) (x : Transfer) (taken : List ℕ) (emitted : Emitted
 
 -- the user takes the first record
 abbrev pub TakingKeepsOne : Type 0
-TakingKeepsOne = (o : rules.Sender) (taken : List ℕ) (g : GivenUp) (gone : List GivenUp) (emitted : Emitted (List ℕ))
-    → emitted.given_up ≡ g ∷ gone → OneRecord taken o emitted → OneRecord (taken ++ g.number ∷ []) o (record emitted { given_up = gone })
+TakingKeepsOne = (o : rules.Sender) (taken : List ℕ) (g : GivenUp) (rest : List GivenUp) (emitted : Emitted (List ℕ))
+    → emitted.given_up ≡ g ∷ rest → OneRecord taken o emitted → OneRecord (taken ++ g.number ∷ []) o (record emitted { given_up = rest })
 
 -- ---- what it says of the values
 

@@ -158,8 +158,8 @@ plain_behind y head rest front behind mute plain e = elim (one_is_longer head re
     split (b ∷ bs) made is =
         let same : b ≡ connection y = ap (λ (l : List Entry). elim l [ [] ↦ b | z ∷ zs ↦ z ]) (sym is) in
         let there : All Mute (b ∷ bs) = all_back Mute front (b ∷ bs) (subst (All Mute) made mute) in
-        let told : is_happened (connection y) ≡ false = subst Mute same (All-head Mute b bs there) in
-        absurd (both_ways true told refl)
+        let not_connected : is_happened (connection y) ≡ false = subst Mute same (All-head Mute b bs there) in
+        absurd (both_ways true not_connected refl)
 
 -- ---- one end, and its action
 
@@ -291,16 +291,16 @@ module _ (word_of : List ℕ → ℕ) (x : End) (log longer more : List Entry) (
       agreed_at front behind is (plain_behind x (first ∷ []) [] front behind (All-cons Mute first [] mute (All-nil Mute)) (All-nil Plain) here)
   by_own front behind is (news first after k mute e) =
       let same : Bool = same_association (association side.socket) (association after) in
-      let gone : List Entry = given_up_entries x after.endpoint_state.context.emitted.given_up in
+      let given_up_part : List Entry = given_up_entries x after.endpoint_state.context.emitted.given_up in
       let ready : List Entry = ready_entries x (ready_before same (length (ready_at side.socket))) (ready_at after) in
-      let told : List Entry = emitted_entries x (length side.packets) after.endpoint_state.context.emitted.events in
-      let here : (first ∷ association_entries x (association side.socket) (association after)) ++ (told ++ (gone ++ ready)) ≡ front ++ connection x ∷ behind =
+      let emitted_part : List Entry = emitted_entries x (length side.packets) after.endpoint_state.context.emitted.events in
+      let here : (first ∷ association_entries x (association side.socket) (association after)) ++ (emitted_part ++ (given_up_part ++ ready)) ≡ front ++ connection x ∷ behind =
       same_front log (first ∷ news_of x side after) more (sym e ∙ logged) ∙ is in
       agreed_at front behind is
-      (plain_behind x (first ∷ association_entries x (association side.socket) (association after)) (told ++ (gone ++ ready)) front behind
+      (plain_behind x (first ∷ association_entries x (association side.socket) (association after)) (emitted_part ++ (given_up_part ++ ready)) front behind
       (All-cons Mute first _ mute (mute_associated same x (association after)))
-      (All-append Plain told (gone ++ ready) (plain_emitted x (length side.packets) after.endpoint_state.context.emitted.events)
-      (All-append Plain gone ready (plain_given_up x after.endpoint_state.context.emitted.given_up) (plain_ready x (drop (ready_before same (length (ready_at side.socket))) (ready_at after)))))
+      (All-append Plain emitted_part (given_up_part ++ ready) (plain_emitted x (length side.packets) after.endpoint_state.context.emitted.events)
+      (All-append Plain given_up_part ready (plain_given_up x after.endpoint_state.context.emitted.given_up) (plain_ready x (drop (ready_before same (length (ready_at side.socket))) (ready_at after)))))
       here)
 
   silent_more : (y : End) → same_end y x ≡ false → Adds x side log longer → emitted_in y more ≡ []

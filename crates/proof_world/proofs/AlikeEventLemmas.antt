@@ -228,17 +228,17 @@ module _ (f : List ℕ → ℕ) where
         let b : AreAlike (act s.turn end beside) (act r.turn end_too beside_too) = alike_after x s.turn r.turn c d after in
         let m : Grows end (act s.turn end beside) = emitted_grows s.turn end beside in
         let n : Grows end_too (act r.turn end_too beside_too) = emitted_grows r.turn end_too beside_too in
-        let told : AreEmitted m.since n.since =
+        let emitted : AreEmitted m.since n.since =
         emitted_behind end.emitted end_too.emitted m.since n.since a.emitted
         (subst (λ (es : List (Event Carried)). AreEmitted es (end_too.emitted ++ n.since)) m.is (subst (λ (es : List (Event Carried)). AreEmitted (act s.turn end beside).emitted es) n.is b.emitted)) in
         let firsts : shown_by (first_of action v) ≡ shown_by (first_of action w) =
         first_alike action w u v z own a.names (states x _ _ _ _ _ _ _ _ g1 g2 a) (contexts x _ _ _ _ _ _ _ _ g1 g2 a) (contexts x _ _ _ _ _ _ _ _ h1 h2 b) first_happens second_happens in
-        let gone : records_by r.turn end_too beside_too ≡ records_by s.turn end beside =
+        let records : records_by r.turn end_too beside_too ≡ records_by s.turn end beside =
         given_up_same r.turn end_too beside_too (own_action f action r.turn d own r.is) ∙ (acts.given_up ∙ sym (given_up_same s.turn end beside (own_action f action s.turn c own s.is))) in
         shown_is f x v.log z.log _ _ (side_of x v) (side_of x z) end_too beside_too r.turn g2 h2 (first_of action v) (first_is action v) q.after q.settles q.logged (records_of v z d r q) n.since n.is
         ∙ (same_shown (as_bytes f) x w.log v.log (shown_by (first_of action w)) (shown_by (first_of action v)) (sent (as_bytes f) end) (sent (as_bytes f) end_too) m.since n.since
         (records_by s.turn end beside) (records_by r.turn end_too beside_too) (state_of end) (state_of (act s.turn end beside)) (state_of end_too) (state_of (act r.turn end_too beside_too))
-        shown firsts (ap (λ (i : ℕ). 0 + i) (packets_emitted (as_bytes f) end.emitted end_too.emitted a.emitted)) told gone
+        shown firsts (ap (λ (i : ℕ). 0 + i) (packets_emitted (as_bytes f) end.emitted end_too.emitted a.emitted)) emitted records
         (ready_alike x (state_of end) (state_of (act s.turn end beside)) (state_of end_too) (state_of (act r.turn end_too beside_too))
         (ap ready_in a.state ∙ ready_named a.names (state_of end)) (ap ready_in b.state ∙ ready_named b.names (state_of (act s.turn end beside))) acts.stays
         (elim closes [ inl none ↦ inl (acts.stayed none) | inr none ↦ inr none ]))

@@ -11,9 +11,9 @@ use Rattle.proof_delivery.specs.Delivery.{message_at, Fits, SkippedAreGivenUp, I
 use Rattle.proof_world.proofs.PrefixLemmas.{split_head, split_tail, length_front, index_front, fits_front}
 
 -- so far: what is offered, ready, given up and reported, by the beginning of these places
-pub record IsDelivered (offers : List AcceptedMessage) (ready : List Message) (gone reported places : List ℕ) : Type 0 where
+pub record IsDelivered (offers : List AcceptedMessage) (ready : List Message) (given_up reported places : List ℕ) : Type 0 where
   pub fits : Fits offers ready (take (length ready) places)
-  pub skipped : SkippedAreGivenUp offers gone (take (length ready) places)
+  pub skipped : SkippedAreGivenUp offers given_up (take (length ready) places)
   pub reports : (id : ℕ) → has id reported ≡ true → IsReady offers (take (length ready) places) id
 
 pub same_delivered : (o p : List AcceptedMessage) (m n : List Message) (g h r s places : List ℕ) → p ≡ o → n ≡ m → h ≡ g → s ≡ r → IsDelivered o m g r places → IsDelivered p n h s places
@@ -50,9 +50,9 @@ has_front p (suc m) (suc n) (x ∷ xs) l h =
 -- ---- fewer are ready
 
 -- of one stream, a place that comes later is larger
-skipped_shorter : (offers : List AcceptedMessage) (ready : List Message) (gone places : List ℕ) (m n : ℕ) → m ≤ n → Fits offers ready (take n places) → SkippedAreGivenUp offers gone (take n places)
-    → SkippedAreGivenUp offers gone (take m places)
-skipped_shorter offers ready gone places m n small f skipped p q o r first second line less is_ready not_ready = go (has p (take n places)) refl
+skipped_shorter : (offers : List AcceptedMessage) (ready : List Message) (given_up places : List ℕ) (m n : ℕ) → m ≤ n → Fits offers ready (take n places) → SkippedAreGivenUp offers given_up (take n places)
+    → SkippedAreGivenUp offers given_up (take m places)
+skipped_shorter offers ready given_up places m n small f skipped p q o r first second line less is_ready not_ready = go (has p (take n places)) refl
   where
     k : IsAt q (take m places)
     k = found q (take m places) is_ready
@@ -73,7 +73,7 @@ skipped_shorter offers ready gone places m n small f skipped p q o r first secon
         let there = j.there in
         omega (arith, up, at_k, there, less)
 
-    go : (b : Bool) → has p (take n places) ≡ b → has p gone ≡ true
+    go : (b : Bool) → has p (take n places) ≡ b → has p given_up ≡ true
     go false e = skipped p q o r first second line less (has_front q m n places small is_ready) e
     go true e = let j = found p (take n places) e in absurd (later j (cases_lt j.index (length (take m places))))
 
@@ -82,12 +82,12 @@ ready_longer offers places m n id small i =
     record { place = i.place; offer = i.offer; there = i.there; its_id = i.its_id; is_ready = has_front i.place m n places small i.is_ready }
 
 -- in a block of the end at which they become ready
-pub ready_between : (offers : List AcceptedMessage) (before here after more behind : List Message) (gone reported places : List ℕ) → here ≡ before ++ more → after ≡ here ++ behind
-    → IsDelivered offers before gone reported places → IsDelivered offers after gone reported places → IsDelivered offers here gone reported places
-ready_between offers before here after more behind gone reported places e f h k = record {
+pub ready_between : (offers : List AcceptedMessage) (before here after more behind : List Message) (given_up reported places : List ℕ) → here ≡ before ++ more → after ≡ here ++ behind
+    → IsDelivered offers before given_up reported places → IsDelivered offers after given_up reported places → IsDelivered offers here given_up reported places
+ready_between offers before here after more behind given_up reported places e f h k = record {
   fits = fits_front offers after here behind places f k.fits;
-  skipped = skipped_shorter offers after gone places (length here) (length after) (shorter here after behind f) k.fits k.skipped;
-  reports = λ id told. ready_longer offers places (length before) (length here) id (shorter before here more e) (h.reports id told);
+  skipped = skipped_shorter offers after given_up places (length here) (length after) (shorter here after behind f) k.fits k.skipped;
+  reports = λ id is_reported. ready_longer offers places (length before) (length here) id (shorter before here more e) (h.reports id is_reported);
 }
   where
     shorter : (short long rest : List Message) → long ≡ short ++ rest → length short ≤ length long
@@ -121,19 +121,19 @@ placed offers (p ∷ places) (m ∷ ready) e q h =
     rest : {x y : Option Message} {xs ys : List (Option Message)} → x ∷ xs ≡ y ∷ ys → xs ≡ ys
     rest {x} {y} {xs} {ys} e = ap (λ (l : List (Option Message)). elim l [ [] ↦ xs | z ∷ zs ↦ zs ]) e
 
-skipped_more : (offers more : List AcceptedMessage) (ready : List Message) (gone new places : List ℕ) → Fits offers ready places → SkippedAreGivenUp offers gone places
-    → SkippedAreGivenUp (offers ++ more) (gone ++ new) places
-skipped_more offers more ready gone new places f skipped p q o r first second line less is_ready not_ready =
+skipped_more : (offers more : List AcceptedMessage) (ready : List Message) (given_up new places : List ℕ) → Fits offers ready places → SkippedAreGivenUp offers given_up places
+    → SkippedAreGivenUp (offers ++ more) (given_up ++ new) places
+skipped_more offers more ready given_up new places f skipped p q o r first second line less is_ready not_ready =
     let l = placed offers places ready f.alike q is_ready in
-    has_keeps p gone new
+    has_keeps p given_up new
     (skipped p q o r (sym (get_front offers more p (omega (arith, l, less))) ∙ first) (sym (get_front offers more q l) ∙ second) line less is_ready not_ready)
 
 -- in a block of the end that offers
-pub emitted_between : (offers more after : List AcceptedMessage) (ready : List Message) (gone new last reported later told places : List ℕ) → after ≡ offers ++ more → told ≡ reported ++ later
-    → {earlier : List ℕ} → IsDelivered offers ready gone earlier places → IsDelivered after ready last told places → IsDelivered after ready (gone ++ new) reported places
-emitted_between offers more after ready gone new last reported later told places e f h k = record {
+pub emitted_between : (offers more after : List AcceptedMessage) (ready : List Message) (given_up new last reported later all_reported places : List ℕ) → after ≡ offers ++ more → all_reported ≡ reported ++ later
+    → {earlier : List ℕ} → IsDelivered offers ready given_up earlier places → IsDelivered after ready last all_reported places → IsDelivered after ready (given_up ++ new) reported places
+emitted_between offers more after ready given_up new last reported later all_reported places e f h k = record {
   fits = k.fits;
-  skipped = subst (λ (o : List AcceptedMessage). SkippedAreGivenUp o (gone ++ new) (take (length ready) places)) (sym e) (skipped_more offers more ready gone new (take (length ready) places) h.fits h.skipped);
+  skipped = subst (λ (o : List AcceptedMessage). SkippedAreGivenUp o (given_up ++ new) (take (length ready) places)) (sym e) (skipped_more offers more ready given_up new (take (length ready) places) h.fits h.skipped);
   reports = λ id is. k.reports id (ap (has id) f ∙ has_keeps id reported later is);
 }
 
@@ -162,12 +162,12 @@ fits_more offers more ready places f = record {
     same : (k : ℕ) → k < length places → slice_get (offers ++ more) (slice_index places k) ≡ slice_get offers (slice_index places k)
     same k h = get_front offers more (slice_index places k) (placed offers places ready f.alike (slice_index places k) (has_at places k h))
 
-pub offered_between : (offers more : List AcceptedMessage) (ready : List Message) (gone reported told places : List ℕ) → IsDelivered offers ready gone reported places
-    → ((id : ℕ) → has id told ≡ true → IsReady (offers ++ more) (take (length ready) places) id) → IsDelivered (offers ++ more) ready gone told places
-offered_between offers more ready gone reported told places h reports = record {
+pub offered_between : (offers more : List AcceptedMessage) (ready : List Message) (given_up reported all_reported places : List ℕ) → IsDelivered offers ready given_up reported places
+    → ((id : ℕ) → has id all_reported ≡ true → IsReady (offers ++ more) (take (length ready) places) id) → IsDelivered (offers ++ more) ready given_up all_reported places
+offered_between offers more ready given_up reported all_reported places h reports = record {
   fits = fits_more offers more ready (take (length ready) places) h.fits;
   skipped =
-      subst (λ (g : List ℕ). SkippedAreGivenUp (offers ++ more) g (take (length ready) places)) (append-nil gone)
-      (skipped_more offers more ready gone [] (take (length ready) places) h.fits h.skipped);
+      subst (λ (g : List ℕ). SkippedAreGivenUp (offers ++ more) g (take (length ready) places)) (append-nil given_up)
+      (skipped_more offers more ready given_up [] (take (length ready) places) h.fits h.skipped);
   reports = reports;
 }

@@ -140,8 +140,8 @@ none_more x log longer b e h = given_up_places_more x log longer b [] e (numbers
 
 given_up_action : (x : End) (e : Bool × EndAction) (c : Pair) (log mid : List Entry) → IsBlock e c log mid → given_up_places x mid ≡ given_up_places x log ++ given_up_at (is_a x) e.0 e.1 c
 given_up_action A (true, t) c log mid b = b.gave_up
-given_up_action B (true, t) c log mid b = none_more B log mid (b.first ∷ b.more) b.logged b.none_gone
-given_up_action A (false, t) c log mid b = none_more A log mid (b.first ∷ b.more) b.logged b.none_gone
+given_up_action B (true, t) c log mid b = none_more B log mid (b.first ∷ b.more) b.logged b.none_given_up
+given_up_action A (false, t) c log mid b = none_more A log mid (b.first ∷ b.more) b.logged b.none_given_up
 given_up_action B (false, t) c log mid b = b.gave_up
 
 -- where it was so before
@@ -165,8 +165,8 @@ AreEmitted x log c = emitted_events x log ≡ bare (side_of (is_a x) c).emitted
 
 emitted_action : (x : End) (e : Bool × EndAction) (c : Pair) (log mid : List Entry) → IsBlock e c log mid → AreEmitted x log c → AreEmitted x mid (goes e.0 e.1 c)
 emitted_action A (true, t) c log mid b h = b.emits
-emitted_action B (true, t) c log mid b h = more_of (emitted_events_by B) log mid (b.first ∷ b.more) [] b.logged b.tells_none ∙ (append-nil (emitted_events B log) ∙ h)
-emitted_action A (false, t) c log mid b h = more_of (emitted_events_by A) log mid (b.first ∷ b.more) [] b.logged b.tells_none ∙ (append-nil (emitted_events A log) ∙ h)
+emitted_action B (true, t) c log mid b h = more_of (emitted_events_by B) log mid (b.first ∷ b.more) [] b.logged b.emits_none ∙ (append-nil (emitted_events B log) ∙ h)
+emitted_action A (false, t) c log mid b h = more_of (emitted_events_by A) log mid (b.first ∷ b.more) [] b.logged b.emits_none ∙ (append-nil (emitted_events A log) ∙ h)
 emitted_action B (false, t) c log mid b h = b.emits
 
 -- what it emits
@@ -189,7 +189,7 @@ pub record HasEpochs (x : End) (log : List Entry) (done : List (Bool × EndActio
 
 epochs_action : (x : End) (done : List (Bool × EndAction)) (e : Bool × EndAction) (c : Pair) (log mid : List Entry) → IsBlock e (run done c) log mid → AreEmitted x log (run done c)
     → HasEpochs x log done c → HasEpochs x mid (done ++ e ∷ []) c
-epochs_action x done e c log mid b told h =
+epochs_action x done e c log mid b emitted h =
     let d : Pair = run done c in
     let here : ℕ → StreamEpoch = epochs_along x log all_open in
     let there : ℕ → StreamEpoch = courses.epochs_along (is_a x) done c all_open in
@@ -206,7 +206,7 @@ epochs_action x done e c log mid b told h =
           ap (λ (l : List Entry). epochs_along x l all_open s) b.logged
           ∙ (ap (λ (f : ℕ → StreamEpoch). f s) (along_both x log (b.first ∷ b.more) all_open)
           ∙ (event_along x b.first b.more here s (b.resets_nothing x)
-          ∙ (ap (λ (ids : List ℕ). reopen ids (shut_streams (reset_by x b.first) here) s) (ap (λ (es : List (Event (List ℕ))). performed_of es) (block_emitted x e d log mid b told) ∙ bare_names (emitted_at (is_a x) e.0 e.1 d))
+          ∙ (ap (λ (ids : List ℕ). reopen ids (shut_streams (reset_by x b.first) here) s) (ap (λ (es : List (Event (List ℕ))). performed_of es) (block_emitted x e d log mid b emitted) ∙ bare_names (emitted_at (is_a x) e.0 e.1 d))
           ∙ (ap (λ (ids : List ℕ). reopen (performed_of (emitted_at (is_a x) e.0 e.1 d)) (shut_streams ids here) s) (first_resets x e d log mid b)
           ∙ (ap (λ (z : StreamEpoch). opened_if (are_named (performed_of (emitted_at (is_a x) e.0 e.1 d)) s) (shut_if (are_named (reset_at (is_a x) e.0 e.1 d) s && z.is_open) z)) (h.streams s)
           ∙ sym (along_more (is_a x) done e c all_open s))))));
@@ -242,9 +242,9 @@ pub record IsReached (c : Pair) (done : List (Bool × EndAction)) (log : List En
   pub offers_are : (x : End) → accepted_messages x log ≡ accepted (is_a x) done c
   pub ready_are : (x : End) → ready x log ≡ readied_messages (is_a x) done c
   pub handed_are : (x : End) → handed_out x log ≡ handed_messages (is_a x) done c
-  pub gone_are : (x : End) → given_up_places x log ≡ given_up (is_a x) done c
+  pub given_up_are : (x : End) → given_up_places x log ≡ given_up (is_a x) done c
   pub reported_are : (x : End) → reported x log ≡ delivered_ids (side_of (is_a x) (run done c)).emitted
-  pub told_are : (x : End) → AreEmitted x log (run done c)
+  pub emitted_are : (x : End) → AreEmitted x log (run done c)
   pub epochs_are : (x : End) → HasEpochs x log done c
 
 -- nothing was emitted yet
@@ -253,9 +253,9 @@ nothing_yet c none = record {
   offers_are = λ x. refl;
   ready_are = λ x. refl;
   handed_are = λ x. refl;
-  gone_are = λ x. refl;
+  given_up_are = λ x. refl;
   reported_are = λ x. sym (ap (λ (es : List (Event Carried)). delivered_ids es) (none (is_a x)));
-  told_are = λ x. sym (ap (λ (es : List (Event Carried)). bare es) (none (is_a x)));
+  emitted_are = λ x. sym (ap (λ (es : List (Event Carried)). bare es) (none (is_a x)));
   epochs_are = λ x. record { epochs = refl; streams = λ s. refl };
 }
 
@@ -264,10 +264,10 @@ reached_more c done e log mid r b = record {
   offers_are = λ x. offers_action x e (run done c) log mid b ∙ (ap (λ (z : List AcceptedMessage). z ++ accepted_at (is_a x) e.0 e.1 (run done c)) (r.offers_are x) ∙ sym (accepted_more (is_a x) done e c));
   ready_are = λ x. ready_action x e (run done c) log mid b ∙ (ap (λ (z : List Message). z ++ readied_at (is_a x) e (run done c)) (r.ready_are x) ∙ sym (readied_more (is_a x) done e c));
   handed_are = λ x. handed_action x e (run done c) log mid b ∙ (ap (λ (z : List Message). z ++ handed_at (is_a x) e.0 e.1 (run done c)) (r.handed_are x) ∙ sym (handed_more (is_a x) done e c));
-  gone_are = λ x. given_up_action x e (run done c) log mid b ∙ (ap (λ (z : List ℕ). z ++ given_up_at (is_a x) e.0 e.1 (run done c)) (r.gone_are x) ∙ sym (given_up_more (is_a x) done e c));
+  given_up_are = λ x. given_up_action x e (run done c) log mid b ∙ (ap (λ (z : List ℕ). z ++ given_up_at (is_a x) e.0 e.1 (run done c)) (r.given_up_are x) ∙ sym (given_up_more (is_a x) done e c));
   reported_are = λ x. reported_action x e (run done c) log mid b (r.reported_are x) ∙ sym (ap (λ (z : Pair). delivered_ids (side_of (is_a x) z).emitted) (run_more done e c));
-  told_are = λ x. emitted_action x e (run done c) log mid b (r.told_are x) ∙ sym (ap (λ (z : Pair). bare (side_of (is_a x) z).emitted) (run_more done e c));
-  epochs_are = λ x. epochs_action x done e c log mid b (r.told_are x) (r.epochs_are x);
+  emitted_are = λ x. emitted_action x e (run done c) log mid b (r.emitted_are x) ∙ sym (ap (λ (z : Pair). bare (side_of (is_a x) z).emitted) (run_more done e c));
+  epochs_are = λ x. epochs_action x done e c log mid b (r.emitted_are x) (r.epochs_are x);
 }
 
 -- What holds after each action, and within each block where it holds before and behind it, holds of each beginning.

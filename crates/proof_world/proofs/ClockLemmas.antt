@@ -32,11 +32,11 @@ module _ (call : Call) (still : (now : ℕ) → call ≡ Advance now → ⊥) wh
   on_closing act = refl
 
   on_data : (act : DataAct Carried call) → SameClock (before_data act) (after_data act)
-  on_data (takes_data tag tsn is_immediate f phase t m heard right some takes) = refl
+  on_data (takes_data tag tsn is_immediate f phase t m received right some takes) = refl
   on_data act = refl
 
   on_sack : (act : SackAct Carried call) → SameClock (before_sack act) (after_sack act)
-  on_sack (takes_sack tag k phase t m heard valid) = refl
+  on_sack (takes_sack tag k phase t m received valid) = refl
   on_sack act = refl
 
   on_sending : (act : SendingAct Carried call) → SameClock (before_sending act) (after_sending act)

@@ -72,7 +72,7 @@ module _ (f : Mapping Carried (List ℕ)) (x : End) (own : traces.Side) (w u : W
       let old = association s in
       let es : List (Event (List ℕ)) = after.endpoint_state.context.emitted.events in
       let start : List Entry = association_entries x old (association after) in
-      let gone : List Entry = given_up_entries x after.endpoint_state.context.emitted.given_up in
+      let given_up_part : List Entry = given_up_entries x after.endpoint_state.context.emitted.given_up in
       let last : List Entry = ready_entries x (ready_before (observations.same_association old (association after)) (length (worlds.ready_at s))) (worlds.ready_at after) in
       let same : Bool = observations.same_association old (association after) in
       record {
@@ -80,16 +80,16 @@ module _ (f : Mapping Carried (List ℕ)) (x : End) (own : traces.Side) (w u : W
         begins = begins;
         no_end = no_end;
         rest = start ++ emitted_entries x n es;
-        behind = gone ++ last;
-        logged = logged ∙ ap (λ (l : List Entry). w.log ++ first ∷ l) (sym (append_assoc start (emitted_entries x n es) (gone ++ last)));
-        offers = λ y. none_front (accepted_messages_by y) x (quiet_offers y x).telling same (association after) n es;
-        hands = λ y. none_front (handed_out_by y) x (quiet_handed y x).telling same (association after) n es;
-        ready = λ y. none_front (ready_by y) x (quiet_ready y x).telling same (association after) n es;
+        behind = given_up_part ++ last;
+        logged = logged ∙ ap (λ (l : List Entry). w.log ++ first ∷ l) (sym (append_assoc start (emitted_entries x n es) (given_up_part ++ last)));
+        offers = λ y. none_front (accepted_messages_by y) x (quiet_offers y x).on_emitted same (association after) n es;
+        hands = λ y. none_front (handed_out_by y) x (quiet_handed y x).on_emitted same (association after) n es;
+        ready = λ y. none_front (ready_by y) x (quiet_ready y x).on_emitted same (association after) n es;
         given_up = λ y. none_front (given_up_by y) x (record { associated = λ a. refl; emitted = λ k. refl; happened = λ e. refl }) same (association after) n es;
-        reported = none_front (reported_by (other x)) x (quiet_reported (other x) x (not_other x)).telling same (association after) n es;
-        happened = none_front (emitted_events_by (other x)) x (quiet_happened (other x) x (not_other x)).telling same (association after) n es;
+        reported = none_front (reported_by (other x)) x (quiet_reported (other x) x (not_other x)).on_emitted same (association after) n es;
+        happened = none_front (emitted_events_by (other x)) x (quiet_happened (other x) x (not_other x)).on_emitted same (association after) n es;
         ended = λ y.
-            flat_map-append (ended_by y) gone last
+            flat_map-append (ended_by y) given_up_part last
             ∙ (ap (λ (l : List End). l ++ flat_map (ended_by y) last) (none_over x y after.endpoint_state.context.emitted.given_up)
             ∙ none_ready (ended_by y) x (λ m. refl) (drop (ready_before (observations.same_association old (association after)) (length (worlds.ready_at s))) (worlds.ready_at after)));
       }

@@ -35,7 +35,7 @@ abbrev ruled : List Entry → List Entry
 ruled log = flat_map ruled_by log
 
 quiet_ruled : (y : End) → IsQuietOn ruled_by y
-quiet_ruled y = record { telling = record { associated = λ a. refl; emitted = λ n. refl; happened = λ e. refl }; gave_up = λ g. refl }
+quiet_ruled y = record { on_emitted = record { associated = λ a. refl; emitted = λ n. refl; happened = λ e. refl }; gave_up = λ g. refl }
 
 -- ---- what a run adds
 

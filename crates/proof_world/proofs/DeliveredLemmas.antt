@@ -64,13 +64,13 @@ time_log B now w = refl
 module _ (f : Mapping Carried (List ℕ)) (x : End) (own beside next : traces.Side) (w u : World) (is : (side_of x w).socket ≡ map_end f own.end) (is_next : (side_of x u).socket ≡ map_end f next.end)
     (stands : (a : Association) → association_in (state_of own) ≡ Some a → association_in (state_of next) ≡ Some a) (turn : EndAction)
     (gave_up : given_up_places x u.log ≡ given_up_places x w.log ++ given_up_by turn own beside) (reports : reported x u.log ≡ delivered_ids next.emitted)
-    (tells : emitted_events x u.log ≡ bare next.emitted) where
+    (emits : emitted_events x u.log ≡ bare next.emitted) where
   abbrev s : Endpoint (List ℕ)
   s = (side_of x w).socket
 
   goes_emitted : (first : Entry) → BeginsWith x turn own first → (after : Endpoint (List ℕ)) → side_of x u ≡ take_emitted (side_of x w) after → u.log ≡ w.log ++ first ∷ news_of x (side_of x w) after
       → IsEmitted x turn own beside next w.log u.log
-  goes_emitted first b after at logged = goes_on_emitted f x turn own beside next w.log u.log (side_of x w) (side_of x u) is is_next stands gave_up reports tells first b after at logged
+  goes_emitted first b after at logged = goes_on_emitted f x turn own beside next w.log u.log (side_of x w) (side_of x u) is is_next stands gave_up reports emits first b after at logged
 
   call_emitted : (call : Call) → turn ≡ Calls (table_call call) → u ≡ calls x call w → IsEmitted x turn own beside next w.log u.log
   call_emitted call t e =
@@ -89,7 +89,7 @@ module _ (f : Mapping Carried (List ℕ)) (x : End) (own beside next : traces.Si
       → IsEmitted x turn own beside next w.log u.log
   foreign_emitted bytes h k l (taken_in t judged) = goes_emitted (Foreign x (clock s) (Some bytes)) (foreign_begins f x own turn (clock s) (Some bytes) h k l) t.after t.side t.logged
   foreign_emitted bytes h k l (withheld judged stays logged) =
-      skipped_emitted f x turn own beside next w.log u.log (side_of x w) (side_of x u) is is_next stands gave_up reports tells (Foreign x (clock s) None)
+      skipped_emitted f x turn own beside next w.log u.log (side_of x w) (side_of x u) is is_next stands gave_up reports emits (Foreign x (clock s) None)
       (foreign_begins f x own turn (clock s) None h k l) stays logged
 
 module _ (word_of_a word_of_b : List ℕ → ℕ) where

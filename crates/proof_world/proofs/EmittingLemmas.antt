@@ -153,18 +153,18 @@ pub record IsEmitted (x : End) (action : EndAction) (own beside next : traces.Si
   pub handed : flat_map (handed_out_by x) (first ∷ more) ≡ handed_by action own
   pub none_handed : flat_map (handed_out_by (other x)) (first ∷ more) ≡ []
   pub gave_up : given_up_places x longer ≡ given_up_places x log ++ given_up_by action own beside
-  pub none_gone : given_up (other x) (first ∷ more) ≡ []
+  pub none_given_up : given_up (other x) (first ∷ more) ≡ []
   pub reports : reported x longer ≡ delivered_ids next.emitted
   pub none_reported : reported (other x) (first ∷ more) ≡ []
   pub resets : reset_by x first ≡ turns.reset_by action own
   pub no_resets : reset_by (other x) first ≡ []
   pub resets_nothing : (y : End) → flat_map (reset_by y) more ≡ []
   pub emits : emitted_events x longer ≡ bare next.emitted
-  pub tells_none : emitted_events (other x) (first ∷ more) ≡ []
-  pub first_tells : (y : End) → emitted_events_by y first ≡ []
+  pub emits_none : emitted_events (other x) (first ∷ more) ≡ []
+  pub first_emits : (y : End) → emitted_events_by y first ≡ []
   pub none_ready_first : (y : End) → ready_by y first ≡ []
   pub none_begins : flat_map begun_by more ≡ []
-  pub told_first : IsEmittedFirst more
+  pub emitted_first : IsEmittedFirst more
 
 -- the first entries: what they say of messages and resets
 pub record BeginsWith (x : End) (action : EndAction) (own : traces.Side) (first : Entry) : Type 0 where
@@ -183,7 +183,7 @@ module _ (f : Mapping Carried (List ℕ)) (x : End) (action : EndAction) (own be
     (is : side.socket ≡ map_end f own.end) (is_next : new.socket ≡ map_end f next.end)
     (stands : (a : Association) → association_in (traces.state_of own) ≡ Some a → association_in (traces.state_of next) ≡ Some a)
     (gave_up : given_up_places x longer ≡ given_up_places x log ++ given_up_by action own beside) (reports : reported x longer ≡ delivered_ids next.emitted)
-    (tells : emitted_events x longer ≡ bare next.emitted) (first : Entry) (b : BeginsWith x action own first) where
+    (emitted_is : emitted_events x longer ≡ bare next.emitted) (first : Entry) (b : BeginsWith x action own first) where
   state_is : side.socket.endpoint_state.state ≡ traces.state_of own
   state_is = ap (λ (z : Endpoint (List ℕ)). z.endpoint_state.state) is
 
@@ -219,7 +219,7 @@ module _ (f : Mapping Carried (List ℕ)) (x : End) (action : EndAction) (own be
             ap (λ (z : List Message). z ++ flat_map (handed_out_by (other x)) news) b.none_handed
             ∙ none_in_news (handed_out_by (other x)) x (quiet_handed (other x) x) (λ z. refl) n m (association side.socket) after;
         gave_up = gave_up;
-        none_gone =
+        none_given_up =
             ap (λ (z : List GivenUp). z ++ given_up (other x) news) (b.given_up (other x))
             ∙ none_in_news (observations.given_up_by (other x)) x (quiet_given_up (other x) x (not_other x)) (λ z. refl) n m (association side.socket) after;
         reports = reports;
@@ -229,14 +229,14 @@ module _ (f : Mapping Carried (List ℕ)) (x : End) (action : EndAction) (own be
         resets = b.resets;
         no_resets = b.no_resets;
         resets_nothing = λ y. none_in_news (reset_by y) x (quiet_resets y x) (λ z. refl) n m (association side.socket) after;
-        emits = tells;
-        tells_none =
+        emits = emitted_is;
+        emits_none =
             ap (λ (z : List (Event (List ℕ))). z ++ emitted_events (other x) news) (b.happened (other x))
             ∙ none_in_news (emitted_events_by (other x)) x (quiet_happened (other x) x (not_other x)) (λ z. refl) n m (association side.socket) after;
-        first_tells = b.happened;
+        first_emits = b.happened;
         none_ready_first = b.ready;
         none_begins = none_in_news begun_by x (quiet_begun x) (λ z. refl) n m (association side.socket) after;
-        told_first = news_emitted_first x n m (association side.socket) after;
+        emitted_first = news_emitted_first x n m (association side.socket) after;
       }
 
   -- where nothing happens
@@ -257,18 +257,18 @@ module _ (f : Mapping Carried (List ℕ)) (x : End) (action : EndAction) (own be
         handed = ap (λ (z : List Message). z ++ []) b.handed ∙ append-nil (handed_by action own);
         none_handed = ap (λ (z : List Message). z ++ []) b.none_handed;
         gave_up = gave_up;
-        none_gone = ap (λ (z : List GivenUp). z ++ []) (b.given_up (other x));
+        none_given_up = ap (λ (z : List GivenUp). z ++ []) (b.given_up (other x));
         reports = reports;
         none_reported = ap (λ (z : List ℕ). z ++ []) (b.reported (other x));
         resets = b.resets;
         no_resets = b.no_resets;
         resets_nothing = λ y. refl;
-        emits = tells;
-        tells_none = ap (λ (z : List (Event (List ℕ))). z ++ []) (b.happened (other x));
-        first_tells = b.happened;
+        emits = emitted_is;
+        emits_none = ap (λ (z : List (Event (List ℕ))). z ++ []) (b.happened (other x));
+        first_emits = b.happened;
         none_ready_first = b.ready;
         none_begins = refl;
-        told_first = none_emitted_first;
+        emitted_first = none_emitted_first;
       }
 
 -- ---- first entries

@@ -81,9 +81,9 @@ module _ (l : ℕ) (x z : End) where
     none_associated h true a = refl
     none_associated h false a = omega (arith, h a)
 
-    none_given_up : ((g : GivenUp) → f (GaveUp z g) ≡ 0) → (gone : List GivenUp) → total f (given_up_entries z gone) ≡ 0
+    none_given_up : ((g : GivenUp) → f (GaveUp z g) ≡ 0) → (records : List GivenUp) → total f (given_up_entries z records) ≡ 0
     none_given_up h [] = refl
-    none_given_up h (g ∷ gone) = omega (arith, h g, none_given_up h gone)
+    none_given_up h (g ∷ records) = omega (arith, h g, none_given_up h records)
 
     none_ready : ((m : Message) → f (BecameReady z m) ≡ 0) → (ms : List Message) → total f (map (BecameReady z) ms) ≡ 0
     none_ready h [] = refl
@@ -95,13 +95,13 @@ module _ (l : ℕ) (x z : End) where
     total_news n r old s of_a of_g of_m =
         let held : List Entry = association_entries z old (association s) in
         let es : List Entry = emitted_entries z n s.endpoint_state.context.emitted.events in
-        let gone : List Entry = given_up_entries z s.endpoint_state.context.emitted.given_up in
+        let given_up_part : List Entry = given_up_entries z s.endpoint_state.context.emitted.given_up in
         let ready : List Entry = ready_entries z (ready_before (same_association old (association s)) r) (ready_at s) in
         omega (
           arith,
-          total_append f held (es ++ (gone ++ ready)),
-          total_append f es (gone ++ ready),
-          total_append f gone ready,
+          total_append f held (es ++ (given_up_part ++ ready)),
+          total_append f es (given_up_part ++ ready),
+          total_append f given_up_part ready,
           none_associated of_a (same_association old (association s)) (association s),
           none_given_up of_g s.endpoint_state.context.emitted.given_up,
           none_ready of_m (drop (ready_before (same_association old (association s)) r) (ready_at s)),
@@ -132,7 +132,7 @@ module _ (l : ℕ) where
   own_goes : (x : End) (side : Side) (first : Entry) (s : Endpoint (List ℕ)) (n : ℕ) (log : List Entry) → EndsWithin l n side.socket.endpoint_state s.endpoint_state
       → handed_by l x first ≡ n → ended_by l x first ≡ 0 → Counted l x side log → Counted l x (take_emitted side s) (log ++ first ∷ news_of x side s)
   own_goes x side first s n log w handed_in none k =
-      let told_now : ends l s.endpoint_state.context.emitted.events ≡ ends l w.events
+      let emitted_now : ends l s.endpoint_state.context.emitted.events ≡ ends l w.events
       = ap (ends l) (w.behind ∙ ap (λ (es : List (Event (List ℕ))). es ++ w.events) k.taken) in
       record {
         taken = refl;
@@ -142,7 +142,7 @@ module _ (l : ℕ) where
           w.counted,
           handed_in,
           none,
-          told_now,
+          emitted_now,
           own_if x (ends l s.endpoint_state.context.emitted.events),
           total_append (ended_by l x) log (first ∷ news_of x side s),
           total_append (handed_by l x) log (first ∷ news_of x side s),

@@ -178,8 +178,8 @@ module _ (x y : traces.Side) (quiet : x.end.endpoint_state.context.emitted.event
   call_ends call (inr closed) = inr (none_ready (called call x.end).endpoint_state.state closed)
   call_ends call (inl none_ended) =
       let t : EmitsEndings (ended_in_call call x.end) x.end.endpoint_state.context (called call x.end).endpoint_state.context = emits_endings call x.end in
-      let told : (called call x.end).endpoint_state.context.emitted.events ≡ t.events = t.behind ∙ ap (λ (es : List (Event Carried)). es ++ t.events) quiet in
-      inl (sum (called call x.end).endpoint_state.context.emitted.events (ap endings told ∙ (t.counted ∙ none_ended)))
+      let emitted_is : (called call x.end).endpoint_state.context.emitted.events ≡ t.events = t.behind ∙ ap (λ (es : List (Event Carried)). es ++ t.events) quiet in
+      inl (sum (called call x.end).endpoint_state.context.emitted.events (ap endings emitted_is ∙ (t.counted ∙ none_ended)))
     where
       sum : (es : List (Event Carried)) → endings es ≡ 0 → endings (x.emitted ++ es) ≡ 0
       sum es e = omega (arith, endings_append x.emitted es, none, e)
@@ -217,5 +217,5 @@ ended_or_none a b words_a words_b f w es t x given_a given_b follows none may h 
   where
     go : (x : End) (c : Pair) → NeitherHasEnded c → MayAct t (traces.side_of (is_a x) c) → Both f f w c → AreOfAKind c
         → Ends (traces.side_of (is_a x) c) (act t (traces.side_of (is_a x) c) (traces.side_of (not (is_a x)) c))
-    go A c none may h kinds = action_ends c.a c.b (ap (λ told. told.events) h.a.image.quiet) none.a t may kinds.b
-    go B c none may h kinds = action_ends c.b c.a (ap (λ told. told.events) h.b.image.quiet) none.b t may kinds.a
+    go A c none may h kinds = action_ends c.a c.b (ap (λ emitted. emitted.events) h.a.image.quiet) none.a t may kinds.b
+    go B c none may h kinds = action_ends c.b c.a (ap (λ emitted. emitted.events) h.b.image.quiet) none.b t may kinds.a

@@ -139,14 +139,14 @@ abbrev pub begun_by : Entry → List Entry
 begun_by e = none_unless (begins_event e) e
 
 pub quiet_resets : (x y : End) → IsQuietOn (reset_by x) y
-quiet_resets x y = record { telling = record { associated = λ a. refl; emitted = λ n. refl; happened = λ e. refl }; gave_up = λ g. refl }
+quiet_resets x y = record { on_emitted = record { associated = λ a. refl; emitted = λ n. refl; happened = λ e. refl }; gave_up = λ g. refl }
 
 pub quiet_begun : (y : End) → IsQuietOn begun_by y
-quiet_begun y = record { telling = record { associated = λ a. refl; emitted = λ n. refl; happened = λ e. refl }; gave_up = λ g. refl }
+quiet_begun y = record { on_emitted = record { associated = λ a. refl; emitted = λ n. refl; happened = λ e. refl }; gave_up = λ g. refl }
 
 pub quiet_happened : (x y : End) → same_end x y ≡ false → IsQuietOn (emitted_events_by x) y
 quiet_happened x y h = record {
-  telling = record { associated = λ a. refl; emitted = λ n. refl; happened = λ e. ap (λ (b : Bool). none_unless b e) h };
+  on_emitted = record { associated = λ a. refl; emitted = λ n. refl; happened = λ e. ap (λ (b : Bool). none_unless b e) h };
   gave_up = λ g. refl;
 }
 
@@ -207,11 +207,11 @@ pub news_emitted_first : (x : End) (n ready : ℕ) (old : Option Association) (s
 news_emitted_first x n ready old s =
     let same : Bool = same_association old (association s) in
     let start : List Entry = associated_if same x (association s) in
-    let told : List Entry = emitted_entries x n s.endpoint_state.context.emitted.events in
-    let gone : List Entry = given_up_entries x s.endpoint_state.context.emitted.given_up in
+    let emitted_part : List Entry = emitted_entries x n s.endpoint_state.context.emitted.events in
+    let given_up_part : List Entry = given_up_entries x s.endpoint_state.context.emitted.given_up in
     let ms : List Message = drop (ready_before same ready) (ready_at s) in
-    subst IsEmittedFirst (append_assoc start told (gone ++ map (BecameReady x) ms))
-    (emitted_before (start ++ told) (gone ++ map (BecameReady x) ms)
-    (λ y. behind_none (ready_by y) x start told (none_associated (ready_by y) x (quiet_ready y x).telling same (association s))
-    ∙ none_emitted (ready_by y) x (quiet_ready y x).telling n s.endpoint_state.context.emitted.events)
+    subst IsEmittedFirst (append_assoc start emitted_part (given_up_part ++ map (BecameReady x) ms))
+    (emitted_before (start ++ emitted_part) (given_up_part ++ map (BecameReady x) ms)
+    (λ y. behind_none (ready_by y) x start emitted_part (none_associated (ready_by y) x (quiet_ready y x).on_emitted same (association s))
+    ∙ none_emitted (ready_by y) x (quiet_ready y x).on_emitted n s.endpoint_state.context.emitted.events)
     (λ y. quiet_last y x s.endpoint_state.context.emitted.given_up ms))

@@ -251,7 +251,7 @@ module _ (x : End) (all : List (Bool × EndAction)) (c : Pair) (from : courses.D
   counts done log r =
       ap (λ (z : Message). resets_emitted z.stream (emitted_of (not (is_a x)) done c)) offer.2
       ∙ (ap (λ (z : Bool). resets_emitted stream (emitted_of z done c)) (sym (is_a_other x))
-      ∙ (sym (bare_resets stream (emitted_of (is_a y) done c)) ∙ ap (λ (es : List (Event (List ℕ))). resets_emitted stream es) (sym (r.told_are y))))
+      ∙ (sym (bare_resets stream (emitted_of (is_a y) done c)) ∙ ap (λ (es : List (Event (List ℕ))). resets_emitted stream es) (sym (r.emitted_are y))))
 
   more_emitted : (before between log : List Entry) → log ≡ before ++ between → resets_emitted stream (emitted_events y before) ≤ resets_emitted stream (emitted_events y log)
   more_emitted before between log is =
@@ -292,7 +292,7 @@ module _ (x : End) (all : List (Bool × EndAction)) (c : Pair) (from : courses.D
       go [] is =
           absurd (ready_among y m [] [] (at.block.first ∷ []) (append-nil (ready_by y at.block.first) ∙ at.block.none_ready_first y)
           (ap (λ (e : Entry). e ∷ []) (split_head at.block.first (BecameReady y m) at.block.more at.behind is)))
-      go (z ∷ front) is = at.block.told_first y y m front at.behind (split_tail at.block.first z at.block.more (front ++ BecameReady y m ∷ at.behind) is)
+      go (z ∷ front) is = at.block.emitted_first y y m front at.behind (split_tail at.block.first z at.block.more (front ++ BecameReady y m ∷ at.behind) is)
 
   all_emitted : resets_emitted stream (emitted_events y at.mid) ≡ resets_emitted stream (emitted_events y early)
   all_emitted =
@@ -305,8 +305,8 @@ module _ (x : End) (all : List (Bool × EndAction)) (c : Pair) (from : courses.D
   after_action =
       let high = from.epochs.most at.done at.rest at.turn at.split (length (ready y early)) its_epoch.0 offer.0 from_here to_there offer_of_all epoch_of_all in
       let same = counts (at.done ++ at.turn ∷ []) at.mid then in
-      let told = all_emitted in
-      omega (arith, high, same, told)
+      let emitted = all_emitted in
+      omega (arith, high, same, emitted)
 
   pub in_its_epoch : IsInItsEpoch x early m.stream place
   in_its_epoch = record {

@@ -83,7 +83,7 @@ firsts (Timed y clock now) = Timed y clock now ∷ []
 firsts entry = []
 
 none_first : (y : End) → IsQuietOn firsts y
-none_first y = record { telling = record { associated = λ a. refl; emitted = λ n. refl; happened = λ e. refl }; gave_up = λ g. refl }
+none_first y = record { on_emitted = record { associated = λ a. refl; emitted = λ n. refl; happened = λ e. refl }; gave_up = λ g. refl }
 
 accept_none : (x : End) (more : List Entry) → flat_map firsts more ≡ [] → acceptances x more ≡ []
 accept_none x [] h = refl
@@ -304,7 +304,7 @@ clock_both x now (e ∷ log) more = clock_both x (clock_after x now e) log more
 
 module _ (x y : End) (turn : EndAction) (c : Pair) (log longer : List Entry)
     (m : Marks y turn (traces.side_of (is_a y) c) (traces.side_of (is_a y) (goes (is_a y) turn c)) log longer)
-    (gone : given_up x (m.first ∷ m.more) ≡ records_at (is_a x) (is_a y) turn c) (none : restores turn ≡ false)
+    (records : given_up x (m.first ∷ m.more) ≡ records_at (is_a x) (is_a y) turn c) (none : restores turn ≡ false)
     (few : length (acceptances x longer) < 2 ^ 32) (k : Known x log (traces.side_of (is_a x) c)) where
   abbrev old : List Acceptance
   old = acceptances x log
@@ -330,7 +330,7 @@ module _ (x y : End) (turn : EndAction) (c : Pair) (log longer : List Entry)
   ticked = ap (λ (n : ℕ). clock_after x n m.first) k.time ∙ ticks_at x y turn c log longer m
 
   given_up_more : given_up x m.more ≡ records_at (is_a x) (is_a y) turn c
-  given_up_more = sym (ap (λ (l : List GivenUp). l ++ given_up x m.more) (m.given_up x)) ∙ gone
+  given_up_more = sym (ap (λ (l : List GivenUp). l ++ given_up x m.more) (m.given_up x)) ∙ records
 
   abbrev reset_now : List ℕ
   reset_now = resets_after x (resets x log) m.first
@@ -363,13 +363,13 @@ module _ (word_of_a word_of_b : List ℕ → ℕ) (x : End) where
       let step : Stepped word_of_a word_of_b action w u c =
       steps word_of_a word_of_b action w u c (All-head ActionFits action actions fit) (in_bytes_before w v (extends_then w u v first later) small) r.1 h in
       let m = marks_of word_of_a word_of_b action w u c step.turn r.1 step.is h step.both in
-      let told : step.extends.more ≡ m.first ∷ m.more = same_front w.log step.extends.more (m.first ∷ m.more) (sym step.extends.logged ∙ m.logged) in
+      let more_is : step.extends.more ≡ m.first ∷ m.more = same_front w.log step.extends.more (m.first ∷ m.more) (sym step.extends.logged ∙ m.logged) in
       let both : acceptances x v.log ≡ acceptances x u.log ++ acceptances x later.more =
       ap (acceptances x) later.logged ∙ flat_map-append (acceptances_by x) u.log later.more in
       let few_yet : length (acceptances x u.log) < 2 ^ 32 =
       shorter (acceptances x u.log) (acceptances x later.more) (subst (λ (l : List Acceptance). length l < 2 ^ 32) both few) in
       along actions u v (goes (is_a (end_of action)) step.turn c) (All-tail ActionFits action actions fit) r.2 small step.both few
-      (known_on x (end_of action) step.turn c w.log u.log m (ap (given_up x) (sym told) ∙ step.records x)
+      (known_on x (end_of action) step.turn c w.log u.log m (ap (given_up x) (sym more_is) ∙ step.records x)
       (action_restores word_of_a word_of_b action step.turn c step.is) few_yet k)
 
 -- ---- the laws

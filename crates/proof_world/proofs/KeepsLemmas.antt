@@ -66,14 +66,14 @@ module _ (word_of_a word_of_b : List ℕ → ℕ) where
   pub keeps : (actions : List Action) (trace : List (Bool × EndAction)) (w v : World) (c : Pair) (s : Stamps) → All ActionFits actions → NoneIsForeign actions → AllAreReceived trace
       → AreActionsOf word_of_a word_of_b actions trace c → (r : Runs actions w v) → IsInBytes v → Both word_of_a word_of_b w c
       → windows.KeepsWindows trace c s → KeepsWindows actions w v r s
-  keeps [] [] w v c s fit none heard are r small h k = λ stands. are_within w c h k
-  keeps [] (e ∷ es) w v c s fit none heard are r small h k = absurd are
-  keeps (action ∷ actions) [] w v c s fit none heard are r small h k = absurd are
-  keeps (action ∷ actions) ((at_a, turn) ∷ es) w v c s fit none heard are r small h k =
+  keeps [] [] w v c s fit none received are r small h k = λ stands. are_within w c h k
+  keeps [] (e ∷ es) w v c s fit none received are r small h k = absurd are
+  keeps (action ∷ actions) [] w v c s fit none received are r small h k = absurd are
+  keeps (action ∷ actions) ((at_a, turn) ∷ es) w v c s fit none received are r small h k =
       let u : World = r.0 in
       let here : IsInBytes w = in_bytes_before w v (extends_then w u v (happens_extends action w u r.1) (runs_extends actions u v r.2)) small in
       let own : is_foreign action ≡ false = (or_parts (is_foreign action) (list_any is_foreign actions) none).0 in
-      let some : is_of_none turn ≡ false = (or_parts (is_of_none turn) (list_any (λ (e : Bool × EndAction). is_of_none e.1) es) heard).0 in
+      let some : is_of_none turn ≡ false = (or_parts (is_of_none turn) (list_any (λ (e : Bool × EndAction). is_of_none e.1) es) received).0 in
       let both : Both word_of_a word_of_b u (goes at_a turn c) =
       subst (λ (b : Bool). Both word_of_a word_of_b u (goes b turn c)) (sym are.0)
       (goes_next word_of_a word_of_b action w u c turn own (All-head ActionFits action actions fit) here r.1 are.1 h) in (
@@ -82,7 +82,7 @@ module _ (word_of_a word_of_b : List ℕ → ℕ) where
           timely action w c turn s h some are.1 (subst (λ (b : Bool). windows.IsTimely turn (windows.stamp c) (windows.stamps_for b s)) are.0 k.1),
         )),
         keeps actions es u v (goes at_a turn c) (stamps_after w u s) (All-tail ActionFits action actions fit)
-            ((or_parts (is_foreign action) (list_any is_foreign actions) none).1) ((or_parts (is_of_none turn) (list_any (λ (e : Bool × EndAction). is_of_none e.1) es) heard).1)
+            ((or_parts (is_foreign action) (list_any is_foreign actions) none).1) ((or_parts (is_of_none turn) (list_any (λ (e : Bool × EndAction). is_of_none e.1) es) received).1)
             are.2 r.2 small both
             (subst (λ (z : Stamps). windows.KeepsWindows es (goes at_a turn c) z) (sym (stamps_same word_of_a word_of_b at_a turn w u c s h both)) k.2),
       )

@@ -28,7 +28,7 @@ pub record IsQuietOnEmitted {X : Type 0} (f : Entry → List X) (y : End) : Type
   pub happened : (e : Event (List ℕ)) → f (EmittedEvent y e) ≡ []
 
 pub record IsQuietOn {X : Type 0} (f : Entry → List X) (y : End) : Type 0 where
-  pub telling : IsQuietOnEmitted f y
+  pub on_emitted : IsQuietOnEmitted f y
   pub gave_up : (g : GivenUp) → f (GaveUp y g) ≡ []
 
 module _ {X : Type 0} (f : Entry → List X) (y : End) where
@@ -76,10 +76,10 @@ module _ {X : Type 0} (f : Entry → List X) (y : End) (q : IsQuietOn f y) where
       → flat_map f (news y n ready old s) ≡ flat_map f (ready_entries y (ready_before (same_association old (association s)) ready) (ready_at s))
   in_news n ready old s =
       let last : List Entry = ready_entries y (ready_before (same_association old (association s)) ready) (ready_at s) in
-      let gone : List Entry = given_up_entries y s.endpoint_state.context.emitted.given_up in
-      let told : List Entry = emitted_entries y n s.endpoint_state.context.emitted.events in
-      behind_none f y (association_entries y old (association s)) (told ++ (gone ++ last)) (none_associated f y q.telling (same_association old (association s)) (association s))
-      ∙ (behind_none f y told (gone ++ last) (none_emitted f y q.telling n s.endpoint_state.context.emitted.events) ∙ behind_none f y gone last (none_given_up s.endpoint_state.context.emitted.given_up))
+      let given_up_part : List Entry = given_up_entries y s.endpoint_state.context.emitted.given_up in
+      let emitted_part : List Entry = emitted_entries y n s.endpoint_state.context.emitted.events in
+      behind_none f y (association_entries y old (association s)) (emitted_part ++ (given_up_part ++ last)) (none_associated f y q.on_emitted (same_association old (association s)) (association s))
+      ∙ (behind_none f y emitted_part (given_up_part ++ last) (none_emitted f y q.on_emitted n s.endpoint_state.context.emitted.events) ∙ behind_none f y given_up_part last (none_given_up s.endpoint_state.context.emitted.given_up))
 
   pub none_in_news : ((m : Message) → f (BecameReady y m) ≡ []) → (n ready : ℕ) (old : Option Association) (s : Endpoint (List ℕ))
       → flat_map f (news y n ready old s) ≡ []
@@ -88,21 +88,21 @@ module _ {X : Type 0} (f : Entry → List X) (y : End) (q : IsQuietOn f y) where
 -- ---- readings of the log
 
 pub quiet_offers : (x y : End) → IsQuietOn (accepted_messages_by x) y
-quiet_offers x y = record { telling = record { associated = λ a. refl; emitted = λ n. refl; happened = λ e. refl }; gave_up = λ g. refl }
+quiet_offers x y = record { on_emitted = record { associated = λ a. refl; emitted = λ n. refl; happened = λ e. refl }; gave_up = λ g. refl }
 
 pub quiet_ready : (x y : End) → IsQuietOn (ready_by x) y
-quiet_ready x y = record { telling = record { associated = λ a. refl; emitted = λ n. refl; happened = λ e. refl }; gave_up = λ g. refl }
+quiet_ready x y = record { on_emitted = record { associated = λ a. refl; emitted = λ n. refl; happened = λ e. refl }; gave_up = λ g. refl }
 
 pub quiet_handed : (x y : End) → IsQuietOn (handed_out_by x) y
-quiet_handed x y = record { telling = record { associated = λ a. refl; emitted = λ n. refl; happened = λ e. refl }; gave_up = λ g. refl }
+quiet_handed x y = record { on_emitted = record { associated = λ a. refl; emitted = λ n. refl; happened = λ e. refl }; gave_up = λ g. refl }
 
 -- of what an end emits, the other one gave up and reported nothing
 pub quiet_given_up : (x y : End) → same_end x y ≡ false → IsQuietOn (given_up_by x) y
-quiet_given_up x y h = record { telling = record { associated = λ a. refl; emitted = λ n. refl; happened = λ e. refl }; gave_up = λ g. ap (λ (b : Bool). none_unless b g) h }
+quiet_given_up x y h = record { on_emitted = record { associated = λ a. refl; emitted = λ n. refl; happened = λ e. refl }; gave_up = λ g. ap (λ (b : Bool). none_unless b g) h }
 
 pub quiet_reported : (x y : End) → same_end x y ≡ false → IsQuietOn (reported_by x) y
 quiet_reported x y h = record {
-  telling = record { associated = λ a. refl; emitted = λ n. refl; happened = λ e. ap (λ (b : Bool). all_unless b (delivered_by e)) h };
+  on_emitted = record { associated = λ a. refl; emitted = λ n. refl; happened = λ e. ap (λ (b : Bool). all_unless b (delivered_by e)) h };
   gave_up = λ g. refl;
 }
 
@@ -132,15 +132,15 @@ pub given_up_news : (x : End) → same_end x x ≡ true → (n ready : ℕ) (old
     → given_up x (news x n ready old s) ≡ s.endpoint_state.context.emitted.given_up
 given_up_news x h n ready old s =
     let last : List Entry = ready_entries x (ready_before (same_association old (association s)) ready) (ready_at s) in
-    let gone : List Entry = given_up_entries x s.endpoint_state.context.emitted.given_up in
-    let told : List Entry = emitted_entries x n s.endpoint_state.context.emitted.events in
+    let given_up_part : List Entry = given_up_entries x s.endpoint_state.context.emitted.given_up in
+    let emitted_part : List Entry = emitted_entries x n s.endpoint_state.context.emitted.events in
     let quiet : IsQuietOnEmitted (given_up_by x) x = record { associated = λ a. refl; emitted = λ k. refl; happened = λ e. refl } in
-    behind_none (given_up_by x) x (association_entries x old (association s)) (told ++ (gone ++ last))
+    behind_none (given_up_by x) x (association_entries x old (association s)) (emitted_part ++ (given_up_part ++ last))
     (none_associated (given_up_by x) x quiet (same_association old (association s)) (association s))
-    ∙ (behind_none (given_up_by x) x told (gone ++ last) (none_emitted (given_up_by x) x quiet n s.endpoint_state.context.emitted.events)
-    ∙ (flat_map-append (given_up_by x) gone last
-    ∙ (ap (λ (z : List GivenUp). given_up x gone ++ z) (none_ready (given_up_by x) x (λ m. refl) (drop (ready_before (same_association old (association s)) ready) (ready_at s)))
-    ∙ (append-nil (given_up x gone) ∙ given_up_own x h s.endpoint_state.context.emitted.given_up))))
+    ∙ (behind_none (given_up_by x) x emitted_part (given_up_part ++ last) (none_emitted (given_up_by x) x quiet n s.endpoint_state.context.emitted.events)
+    ∙ (flat_map-append (given_up_by x) given_up_part last
+    ∙ (ap (λ (z : List GivenUp). given_up x given_up_part ++ z) (none_ready (given_up_by x) x (λ m. refl) (drop (ready_before (same_association old (association s)) ready) (ready_at s)))
+    ∙ (append-nil (given_up x given_up_part) ∙ given_up_own x h s.endpoint_state.context.emitted.given_up))))
 
 -- ---- calls
 

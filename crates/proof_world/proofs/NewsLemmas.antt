@@ -18,9 +18,9 @@ use Rattle.proof_world.proofs.EventLemmas.{emitted_own, emitted_other}
 pub emitted_both : (x : End) (k l : List Entry) → emitted_in x (k ++ l) ≡ emitted_in x k ++ emitted_in x l
 emitted_both x k l = flat_map-append (emitted_by x) k l
 
-emitted_given_up : (x y : End) (gone : List GivenUp) → emitted_in x (given_up_entries y gone) ≡ []
+emitted_given_up : (x y : End) (records : List GivenUp) → emitted_in x (given_up_entries y records) ≡ []
 emitted_given_up x y [] = refl
-emitted_given_up x y (g ∷ gone) = emitted_given_up x y gone
+emitted_given_up x y (g ∷ records) = emitted_given_up x y records
 
 emitted_ready_all : (x y : End) (ms : List Message) → emitted_in x (map (BecameReady y) ms) ≡ []
 emitted_ready_all x y [] = refl
@@ -83,9 +83,9 @@ quiet_emitted y n (OnLifecycleMessageExpired id ∷ es) x h = quiet_emitted y n 
 quiet_emitted y n (OnLifecycleMessageDelivered id ∷ es) x h = quiet_emitted y n es x h
 quiet_emitted y n (OnLifecycleEnd id ∷ es) x h = quiet_emitted y n es x h
 
-quiet_given_up : (y : End) (gone : List GivenUp) → AreQuiet (given_up_entries y gone)
+quiet_given_up : (y : End) (records : List GivenUp) → AreQuiet (given_up_entries y records)
 quiet_given_up y [] x h = refl
-quiet_given_up y (g ∷ gone) x h = quiet_given_up y gone x h
+quiet_given_up y (g ∷ records) x h = quiet_given_up y records x h
 
 quiet_ready : (y : End) (ms : List Message) → AreQuiet (map (BecameReady y) ms)
 quiet_ready y [] x h = refl
@@ -94,11 +94,11 @@ quiet_ready y (m ∷ ms) x h = quiet_ready y ms x h
 pub quiet_both : (k l : List Entry) → AreQuiet k → AreQuiet l → AreQuiet (k ++ l)
 quiet_both k l a b x h = held_both x h k l ∙ ap (λ (o : Option Association). held_from x o l) (a x h) ∙ b x h
 
-quiet_tail : (y : End) (n k : ℕ) (events : List (Event (List ℕ))) (gone : List GivenUp) (ms : List Message)
-    → AreQuiet (emitted_entries y n events ++ (given_up_entries y gone ++ ready_entries y k ms))
-quiet_tail y n k events gone ms =
-    quiet_both (emitted_entries y n events) (given_up_entries y gone ++ ready_entries y k ms) (quiet_emitted y n events)
-    (quiet_both (given_up_entries y gone) (ready_entries y k ms) (quiet_given_up y gone) (quiet_ready y (drop k ms)))
+quiet_tail : (y : End) (n k : ℕ) (events : List (Event (List ℕ))) (records : List GivenUp) (ms : List Message)
+    → AreQuiet (emitted_entries y n events ++ (given_up_entries y records ++ ready_entries y k ms))
+quiet_tail y n k events records ms =
+    quiet_both (emitted_entries y n events) (given_up_entries y records ++ ready_entries y k ms) (quiet_emitted y n events)
+    (quiet_both (given_up_entries y records) (ready_entries y k ms) (quiet_given_up y records) (quiet_ready y (drop k ms)))
 
 abbrev pub of_numbers : (i j k l : ℕ) → Association
 of_numbers i j k l = record { my_tag = i; my_initial_tsn = j; peer_tag = k; peer_initial_tsn = l }

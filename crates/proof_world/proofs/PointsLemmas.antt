@@ -42,9 +42,9 @@ pub own_or_beside : (x : End) (e : Bool × EndAction) (d : Pair) (log mid : List
 own_or_beside A (true, t) d log mid b = inl b.none_ready
 own_or_beside B (false, t) d log mid b = inl b.none_ready
 own_or_beside A (false, t) d log mid b =
-    inr (record { offers = ap (λ (l : List AcceptedMessage). l ++ accepted_messages A b.more) b.no_offers ∙ b.quiet A; given_up = b.none_gone; reported = b.none_reported })
+    inr (record { offers = ap (λ (l : List AcceptedMessage). l ++ accepted_messages A b.more) b.no_offers ∙ b.quiet A; given_up = b.none_given_up; reported = b.none_reported })
 own_or_beside B (true, t) d log mid b =
-    inr (record { offers = ap (λ (l : List AcceptedMessage). l ++ accepted_messages B b.more) b.no_offers ∙ b.quiet B; given_up = b.none_gone; reported = b.none_reported })
+    inr (record { offers = ap (λ (l : List AcceptedMessage). l ++ accepted_messages B b.more) b.no_offers ∙ b.quiet B; given_up = b.none_given_up; reported = b.none_reported })
 
 abbrev pub IsDeliveredAt : End → (places : List ℕ) → List Entry → Type 0
 IsDeliveredAt x places log = IsDelivered (accepted_messages x log) (ready (other x) log) (given_up_places x log) (reported x log) places
@@ -65,13 +65,13 @@ module _ (x : End) (places : List ℕ) (e : Bool × EndAction) (d : Pair) (log m
       let after : IsDelivered (accepted_messages x here) (ready (other x) here) (given_up_places x mid) (reported x mid) places =
       same_delivered (accepted_messages x mid) (accepted_messages x here) (ready (other x) mid) (ready (other x) here) (given_up_places x mid) (given_up_places x mid) (reported x mid) (reported x mid) places
       (sym offered_first) (sym same.1) refl refl k in
-      let told : reported x mid ≡ reported x here ++ reported x behind =
+      let reported_is : reported x mid ≡ reported x here ++ reported x behind =
       ap (reported x) (whole e d log mid front behind b split) ∙ flat_map-append (reported_by x) here behind in
       let given : given_up_places x here ≡ given_up_places x log ++ given_up_places x (b.first ∷ front) =
       given_up_places_more x log here (b.first ∷ front) (given_up_places x (b.first ∷ front)) refl refl in
       subst (λ (g : List ℕ). IsDelivered (accepted_messages x here) (ready (other x) here) g (reported x here) places) (sym given)
       (emitted_between (accepted_messages x log) (accepted_messages x (b.first ∷ front)) (accepted_messages x here) (ready (other x) here) (given_up_places x log) (given_up_places x (b.first ∷ front)) (given_up_places x mid)
-      (reported x here) (reported x behind) (reported x mid) places (flat_map-append (accepted_messages_by x) log (b.first ∷ front)) told before after)
+      (reported x here) (reported x behind) (reported x mid) places (flat_map-append (accepted_messages_by x) log (b.first ∷ front)) reported_is before after)
 
   beside : IsBeside x (b.first ∷ b.more) → IsDeliveredAt x places here
   beside n =
@@ -125,11 +125,11 @@ module _ (x : End) (all : List (Bool × EndAction)) (c : Pair) (from : courses.D
   delivered_action : (done rest : List (Bool × EndAction)) (log : List Entry) → all ≡ done ++ rest → IsReached c done log → IsDeliveredAt x from.places log
   delivered_action done rest log e r =
       same_delivered (accepted (is_a x) done c) (accepted_messages x log) (readied_messages (not (is_a x)) done c) (ready (other x) log) (given_up (is_a x) done c) (given_up_places x log)
-      (delivered_ids (traces.side_of (is_a x) (run done c)).emitted) (reported x log) from.places (r.offers_are x) (ready_so_far done log r) (r.gone_are x) (r.reported_are x)
+      (delivered_ids (traces.side_of (is_a x) (run done c)).emitted) (reported x log) from.places (r.offers_are x) (ready_so_far done log r) (r.given_up_are x) (r.reported_are x)
       (record { fits = from.fits done rest e; skipped = from.skipped done rest e; reports = from.reports done rest e })
 
   pub once_at : (done rest : List (Bool × EndAction)) (log : List Entry) → all ≡ done ++ rest → IsReached c done log → are_distinct (given_up_places x log) ≡ true
-  once_at done rest log e r = ap are_distinct (r.gone_are x) ∙ from.once done rest e
+  once_at done rest log e r = ap are_distinct (r.given_up_are x) ∙ from.once done rest e
 
   pub delivered_each : (log early late : List Entry) → IsReached c [] [] → AreBlocks all c [] log → log ≡ early ++ late → IsDeliveredAt x from.places early
   delivered_each log early late r h is =
@@ -146,6 +146,6 @@ module _ (word_of_a word_of_b : List ℕ → ℕ) where
       → IsReached c done u.log → Both word_of_a word_of_b u (run done c) → is_at_rest x u ≡ true → AllAreDone (accepted_messages x u.log) (given_up_places x u.log) (ready_places x u.log from.places)
   at_rest x all c from done rest u e r h still =
       subst (λ (o : List AcceptedMessage). AllAreDone o (given_up_places x u.log) (ready_places x u.log from.places)) (sym (r.offers_are x))
-      (subst (λ (g : List ℕ). AllAreDone (accepted (is_a x) done c) g (ready_places x u.log from.places)) (sym (r.gone_are x))
+      (subst (λ (g : List ℕ). AllAreDone (accepted (is_a x) done c) g (ready_places x u.log from.places)) (sym (r.given_up_are x))
       (subst (λ (m : List Message). AllAreDone (accepted (is_a x) done c) (given_up (is_a x) done c) (take (length m) from.places)) (sym (ready_so_far x all c from done u.log r))
       (from.rest done rest e (rests_at x u (run done c) h still))))

@@ -86,6 +86,6 @@ one_reset_there =
       accepts = offers_accepted A s.world.log ∙ (ap (map (λ (o : AcceptedMessage). o.message)) s.offers_a ∙ ap (map (λ (o : AcceptedMessage). o.message)) two_accepted);
       epochs = s.epochs_a ∙ one_reset.epochs;
       readies = s.ready_b ∙ one_reset.readies;
-      emitted = ap (λ (es : List (Event (List ℕ))). resets_emitted 1 es) s.told_b ∙ (bare_resets 1 last.b.emitted ∙ one_reset.emitted);
-      performed = ap (λ (es : List (Event (List ℕ))). performed_of es) s.told_a ∙ (bare_names last.a.emitted ∙ one_reset.performed);
+      emitted = ap (λ (es : List (Event (List ℕ))). resets_emitted 1 es) s.emitted_b ∙ (bare_resets 1 last.b.emitted ∙ one_reset.emitted);
+      performed = ap (λ (es : List (Event (List ℕ))). performed_of es) s.emitted_a ∙ (bare_names last.a.emitted ∙ one_reset.performed);
     }

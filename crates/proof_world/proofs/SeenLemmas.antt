@@ -49,8 +49,8 @@ emitted_grows (Refuses p) x y = by (refusal p.header.verification_tag p.chunks (
 abbrev pub ready_part : End → (before after : State) → List Entry
 ready_part x s u = ready_entries x (ready_before (same_association (association_in s) (association_in u)) (length (ready_in s))) (ready_in u)
 
-abbrev pub shows : (log first told gone ready : List Entry) → List Entry
-shows log first told gone ready = log ++ (first ++ (told ++ (gone ++ ready)))
+abbrev pub shows : (log first emitted_part given_up_part ready : List Entry) → List Entry
+shows log first emitted_part given_up_part ready = log ++ (first ++ (emitted_part ++ (given_up_part ++ ready)))
 
 -- so many packets were emitted before
 abbrev pub sent : (f : Mapping Carried (List ℕ)) → traces.Side → ℕ
@@ -95,17 +95,17 @@ module _ (word_of : List ℕ → ℕ) (x : End) (log longer : List Entry) (other
   pub shown_is : visible longer ≡ shows (visible log) (shown_by first) (visible (emitted_entries x (sent f end) (mapped f since))) (visible (given_up_entries x (records_by t end beside)))
       (visible (ready_part x (state_of end) (state_of (act t end beside))))
   shown_is =
-      let told : List Entry = emitted_entries x (length side.packets) after.endpoint_state.context.emitted.events in
-      let gone : List Entry = given_up_entries x after.endpoint_state.context.emitted.given_up in
+      let emitted_part : List Entry = emitted_entries x (length side.packets) after.endpoint_state.context.emitted.events in
+      let given_up_part : List Entry = given_up_entries x after.endpoint_state.context.emitted.given_up in
       let ready : List Entry = ready_part x side.socket.endpoint_state.state after.endpoint_state.state in
       let start : List Entry = association_entries x (association side.socket) (association after) in
       ap visible logged
       ∙ (visible_both log (first ∷ news_of x side after)
       ∙ (ap (λ (l : List Entry). visible log ++ (shown_by first ++ l))
-      (visible_both start (told ++ (gone ++ ready))
-      ∙ (ap (λ (l : List Entry). l ++ visible (told ++ (gone ++ ready))) (none_associated (same_association (association side.socket) (association after)) x (association after))
-      ∙ (visible_both told (gone ++ ready) ∙ ap (λ (l : List Entry). visible told ++ l) (visible_both gone ready))))
-      ∙ (ap (λ (l : List Entry). shows (visible log) (shown_by first) (visible l) (visible gone) (visible ready)) emitted_is
+      (visible_both start (emitted_part ++ (given_up_part ++ ready))
+      ∙ (ap (λ (l : List Entry). l ++ visible (emitted_part ++ (given_up_part ++ ready))) (none_associated (same_association (association side.socket) (association after)) x (association after))
+      ∙ (visible_both emitted_part (given_up_part ++ ready) ∙ ap (λ (l : List Entry). visible emitted_part ++ l) (visible_both given_up_part ready))))
+      ∙ (ap (λ (l : List Entry). shows (visible log) (shown_by first) (visible l) (visible given_up_part) (visible ready)) emitted_is
       ∙ (ap (λ (gs : List GivenUp). shows (visible log) (shown_by first) (visible (emitted_entries x (sent f end) (mapped f since))) (visible (given_up_entries x gs)) (visible ready)) given_up_is
       ∙ ap (λ (l : List Entry). shows (visible log) (shown_by first) (visible (emitted_entries x (sent f end) (mapped f since))) (visible (given_up_entries x (records_by t end beside))) (visible l)) ready_is))))
 
@@ -151,14 +151,14 @@ module _ (x : End) (s u r w : State) (before : ready_in r ≡ ready_in s) (after
 
 -- ---- two ends
 
-module _ (f : Mapping Carried (List ℕ)) (x : End) (log other : List Entry) (first first_too : List Entry) (m n : ℕ) (es fs : List (Event Carried)) (gone gone_too : List GivenUp) (s u r w : State)
-    (logs : visible other ≡ visible log) (firsts : first_too ≡ first) (sent_same : n ≡ m) (told : AreEmitted es fs) (gone_same : gone_too ≡ gone) (ready : ready_part x r w ≡ ready_part x s u) where
-  pub same_shown : shows (visible other) first_too (visible (emitted_entries x n (mapped f fs))) (visible (given_up_entries x gone_too)) (visible (ready_part x r w))
-      ≡ shows (visible log) first (visible (emitted_entries x m (mapped f es))) (visible (given_up_entries x gone)) (visible (ready_part x s u))
+module _ (f : Mapping Carried (List ℕ)) (x : End) (log other : List Entry) (first first_too : List Entry) (m n : ℕ) (es fs : List (Event Carried)) (given_ups given_ups_too : List GivenUp) (s u r w : State)
+    (logs : visible other ≡ visible log) (firsts : first_too ≡ first) (sent_same : n ≡ m) (emitted_alike : AreEmitted es fs) (given_ups_same : given_ups_too ≡ given_ups) (ready : ready_part x r w ≡ ready_part x s u) where
+  pub same_shown : shows (visible other) first_too (visible (emitted_entries x n (mapped f fs))) (visible (given_up_entries x given_ups_too)) (visible (ready_part x r w))
+      ≡ shows (visible log) first (visible (emitted_entries x m (mapped f es))) (visible (given_up_entries x given_ups)) (visible (ready_part x s u))
   same_shown =
-      ap (λ (l : List Entry). shows l first_too (visible (emitted_entries x n (mapped f fs))) (visible (given_up_entries x gone_too)) (visible (ready_part x r w))) logs
-      ∙ (ap (λ (l : List Entry). shows (visible log) l (visible (emitted_entries x n (mapped f fs))) (visible (given_up_entries x gone_too)) (visible (ready_part x r w))) firsts
-      ∙ (ap (λ (k : ℕ). shows (visible log) first (visible (emitted_entries x k (mapped f fs))) (visible (given_up_entries x gone_too)) (visible (ready_part x r w))) sent_same
-      ∙ (ap (λ (l : List Entry). shows (visible log) first l (visible (given_up_entries x gone_too)) (visible (ready_part x r w))) (emitted_shown f x m es fs told)
-      ∙ (ap (λ (gs : List GivenUp). shows (visible log) first (visible (emitted_entries x m (mapped f es))) (visible (given_up_entries x gs)) (visible (ready_part x r w))) gone_same
-      ∙ ap (λ (l : List Entry). shows (visible log) first (visible (emitted_entries x m (mapped f es))) (visible (given_up_entries x gone)) (visible l)) ready))))
+      ap (λ (l : List Entry). shows l first_too (visible (emitted_entries x n (mapped f fs))) (visible (given_up_entries x given_ups_too)) (visible (ready_part x r w))) logs
+      ∙ (ap (λ (l : List Entry). shows (visible log) l (visible (emitted_entries x n (mapped f fs))) (visible (given_up_entries x given_ups_too)) (visible (ready_part x r w))) firsts
+      ∙ (ap (λ (k : ℕ). shows (visible log) first (visible (emitted_entries x k (mapped f fs))) (visible (given_up_entries x given_ups_too)) (visible (ready_part x r w))) sent_same
+      ∙ (ap (λ (l : List Entry). shows (visible log) first l (visible (given_up_entries x given_ups_too)) (visible (ready_part x r w))) (emitted_shown f x m es fs emitted_alike)
+      ∙ (ap (λ (gs : List GivenUp). shows (visible log) first (visible (emitted_entries x m (mapped f es))) (visible (given_up_entries x gs)) (visible (ready_part x r w))) given_ups_same
+      ∙ ap (λ (l : List Entry). shows (visible log) first (visible (emitted_entries x m (mapped f es))) (visible (given_up_entries x given_ups)) (visible l)) ready))))

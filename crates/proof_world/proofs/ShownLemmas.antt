@@ -211,12 +211,12 @@ module _ (a b : Options) (words_a words_b : Stream) (word_of_a word_of_b : List 
       few = λ x early late is stands.
           few_performed x there.log early late (2 ^ 32 - 1) is
           (subst (λ (n : ℕ). n < 2 ^ 32 - 1)
-          (sym (ap (λ (es : List (Event (List ℕ))). performed_in es) (shows_all.told_are x) ∙ bare_performed (traces.side_of (is_a x) (run trace first_pair)).emitted)) (k.few (is_a x)));
+          (sym (ap (λ (es : List (Event (List ℕ))). performed_in es) (shows_all.emitted_are x) ∙ bare_performed (traces.side_of (is_a x) (run trace first_pair)).emitted)) (k.few (is_a x)));
     }
 
     pub bounds : AllAreReceived trace → list_any sets_more actions ≡ false → courses.IsInBounds trace first_pair → IsInBounds actions first_world there reached.runs
-    bounds heard limits k = record {
-      windows = keeps word_of_a word_of_b actions trace first_world there first_pair windows.no_stamps fit none heard are reached.runs small first_both k.windows;
+    bounds received limits k = record {
+      windows = keeps word_of_a word_of_b actions trace first_world there first_pair windows.no_stamps fit none received are reached.runs small first_both k.windows;
       resets = resets_kept k.resets;
       few = λ x early late is stands. few_front x there.log early late is (few k.few x);
       limits = none_from sets_more actions first_world there reached.runs limits;
@@ -230,11 +230,11 @@ pub record Shown (actions : List Action) (trace : List (Bool × EndAction)) (c :
   pub by : reachable.actions ≡ actions
   pub offers_a : accepted_messages A world.log ≡ accepted true trace c
   pub ready_b : ready B world.log ≡ readied_messages false trace c
-  pub gone_a : given_up_places A world.log ≡ given_up true trace c
+  pub given_up_a : given_up_places A world.log ≡ given_up true trace c
   pub reported_a : reported A world.log ≡ delivered_ids (run trace c).a.emitted
   pub epochs_a : message_epochs A world.log all_open ≡ epochs.message_epochs true trace c all_open
-  pub told_a : emitted_events A world.log ≡ bare (run trace c).a.emitted
-  pub told_b : emitted_events B world.log ≡ bare (run trace c).b.emitted
+  pub emitted_a : emitted_events A world.log ≡ bare (run trace c).a.emitted
+  pub emitted_b : emitted_events B world.log ≡ bare (run trace c).b.emitted
   pub over : (x : End) → times_ended x world.log ≡ 0
   pub follows : (rest : List Action) → actions ≡ CallOf A Connect ∷ rest → list_any asks_rules rest ≡ false → KeepsOpeningRules world
   pub bounds : AllAreReceived trace → list_any sets_more actions ≡ false → courses.IsInBounds trace c → IsInBounds reachable.actions (origin reachable) world reachable.runs
@@ -256,11 +256,11 @@ shown a b words_a words_b f g actions trace valid_a valid_b fits_a fits_b fit no
       by = refl;
       offers_a = shows.offers_are A;
       ready_b = shows.ready_are B;
-      gone_a = shows.gone_are A;
+      given_up_a = shows.given_up_are A;
       reported_a = shows.reported_are A;
       epochs_a = (shows.epochs_are A).epochs;
-      told_a = shows.told_are A;
-      told_b = shows.told_are B;
+      emitted_a = shows.emitted_are A;
+      emitted_b = shows.emitted_are B;
       over = over a b words_a words_b f g actions trace valid_a valid_b fits_a fits_b fit none are bytes follows not_ended;
       follows = λ rest is quiet. connects_first rest from r.world refl quiet (subst (λ (l : List Action). Runs l from r.world) is r.runs);
       bounds = bounds a b words_a words_b f g actions trace valid_a valid_b fits_a fits_b fit none are bytes follows not_ended;

@@ -144,9 +144,9 @@ module _ (word_of : List ℕ → ℕ) (x : End) (log : List Entry) (first : Entr
 
   emitted_now : side.packets ≡ map f.of (emitted_packets end) → IsFirst first → emitted_in x log ≡ emitted_entries x 0 (mapped f end.emitted)
       → emitted_in x (log ++ first ∷ news_of x side after) ≡ emitted_entries x 0 (mapped f now.emitted)
-  emitted_now e k told =
+  emitted_now e k emitted_before =
       emitted_both x log (first ∷ news_of x side after)
-      ∙ ap (λ (l : List Entry). l ++ emitted_in x (first ∷ news_of x side after)) told
+      ∙ ap (λ (l : List Entry). l ++ emitted_in x (first ∷ news_of x side after)) emitted_before
       ∙ ap (λ (l : List Entry). emitted_entries x 0 (mapped f end.emitted) ++ (l ++ emitted_in x (news_of x side after))) (k.emitted x)
       ∙ ap (λ (l : List Entry). emitted_entries x 0 (mapped f end.emitted) ++ l) (news_own x (length side.packets) (length (ready_at side.socket)) (association side.socket) after)
       ∙ ap (λ (n : ℕ). emitted_entries x 0 (mapped f end.emitted) ++ emitted_entries x n (mapped f events)) (numbered e)

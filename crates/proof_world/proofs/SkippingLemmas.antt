@@ -76,7 +76,7 @@ one_skipped_there =
       bounds = s.bounds refl refl one_skipped.bounds;
       accepts = offers_accepted A s.world.log ∙ (ap (map (λ (o : AcceptedMessage). o.message)) s.offers_a ∙ one_skipped.accepts);
       readies = s.ready_b ∙ one_skipped.readies;
-      gives_up = s.gone_a ∙ one_skipped.gives_up;
+      gives_up = s.given_up_a ∙ one_skipped.gives_up;
       reports = s.reported_a ∙ one_skipped.reports;
       rests = s.rests one_skipped.rests;
     }

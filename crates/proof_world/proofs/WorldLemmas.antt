@@ -144,12 +144,12 @@ module _ (word_of_a word_of_b : List ℕ → ℕ) where
         };
         both = subst (λ (x : End). Both word_of_a word_of_b u (goes (is_a x) turn c)) (sym at) (record { a = own; b = three });
         gives_up = λ x. subst (λ (y : End). given_up_places x u.log ≡ given_up_places x w.log ++ given_up_at (is_a x) (is_a y) turn c) (sym at) (gives_up x);
-        records = λ x. subst (λ (y : End). given_up x g.more ≡ records_at (is_a x) (is_a y) turn c) (sym at) (tells x);
+        records = λ x. subst (λ (y : End). given_up x g.more ≡ records_at (is_a x) (is_a y) turn c) (sym at) (records_are x);
       }
     where
-      tells : (x : End) → given_up x g.more ≡ records_at (is_a x) true turn c
-      tells A = g.given_up ∙ same_records turn c.a c.b
-      tells B = (g.silent B refl).given_up
+      records_are : (x : End) → given_up x g.more ≡ records_at (is_a x) true turn c
+      records_are A = g.given_up ∙ same_records turn c.a c.b
+      records_are B = (g.silent B refl).given_up
 
       gives_up : (x : End) → given_up_places x u.log ≡ given_up_places x w.log ++ given_up_at (is_a x) true turn c
       gives_up A = given_up_places_more A w.log u.log g.more (given_up_at true true turn c) g.logged (numbers_of (given_up A g.more) (giving.emitted_by turn c.a c.b).given_up g.given_up)
@@ -178,12 +178,12 @@ module _ (word_of_a word_of_b : List ℕ → ℕ) where
         };
         both = subst (λ (x : End). Both word_of_a word_of_b u (goes (is_a x) turn c)) (sym at) (record { a = three; b = own });
         gives_up = λ x. subst (λ (y : End). given_up_places x u.log ≡ given_up_places x w.log ++ given_up_at (is_a x) (is_a y) turn c) (sym at) (gives_up x);
-        records = λ x. subst (λ (y : End). given_up x g.more ≡ records_at (is_a x) (is_a y) turn c) (sym at) (tells x);
+        records = λ x. subst (λ (y : End). given_up x g.more ≡ records_at (is_a x) (is_a y) turn c) (sym at) (records_are x);
       }
     where
-      tells : (x : End) → given_up x g.more ≡ records_at (is_a x) false turn c
-      tells A = (g.silent A refl).given_up
-      tells B = g.given_up ∙ same_records turn c.b c.a
+      records_are : (x : End) → given_up x g.more ≡ records_at (is_a x) false turn c
+      records_are A = (g.silent A refl).given_up
+      records_are B = g.given_up ∙ same_records turn c.b c.a
 
       gives_up : (x : End) → given_up_places x u.log ≡ given_up_places x w.log ++ given_up_at (is_a x) false turn c
       gives_up A = given_up_places_more A w.log u.log g.more (given_up_at true false turn c) g.logged (numbers_of (given_up A g.more) [] (g.silent A refl).given_up)

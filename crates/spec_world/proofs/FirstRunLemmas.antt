@@ -30,15 +30,15 @@ same_world v u a b l =
 
 pub given_to_a : (k : ℕ) (w v : World) (p : List ℕ) (s : Endpoint (List ℕ)) → slice_get w.b.packets k ≡ Some p → ((t : Endpoint (List ℕ)) → Takes p w.a.socket t → t ≡ s)
     → Gives A k w v → v ≡ record_news A (Given A (clock w.a.socket) k) s w
-given_to_a k w v p s there hears g =
-    let e : g.takes_bytes.after ≡ s = hears g.takes_bytes.after (subst (λ (b : List ℕ). Takes b w.a.socket g.takes_bytes.after) (same_Some _ _ (sym g.there ∙ there)) g.takes_bytes.takes) in
+given_to_a k w v p s there receives g =
+    let e : g.takes_bytes.after ≡ s = receives g.takes_bytes.after (subst (λ (b : List ℕ). Takes b w.a.socket g.takes_bytes.after) (same_Some _ _ (sym g.there ∙ there)) g.takes_bytes.takes) in
     same_world v (record_news A (Given A (clock w.a.socket) k) s w) (g.takes_bytes.side ∙ ap (take_emitted w.a) e) g.other_side
     (g.takes_bytes.logged ∙ ap (λ (t : Endpoint (List ℕ)). w.log ++ Given A (clock w.a.socket) k ∷ news_of A w.a t) e)
 
 pub given_to_b : (k : ℕ) (w v : World) (p : List ℕ) (s : Endpoint (List ℕ)) → slice_get w.a.packets k ≡ Some p → ((t : Endpoint (List ℕ)) → Takes p w.b.socket t → t ≡ s)
     → Gives B k w v → v ≡ record_news B (Given B (clock w.b.socket) k) s w
-given_to_b k w v p s there hears g =
-    let e : g.takes_bytes.after ≡ s = hears g.takes_bytes.after (subst (λ (b : List ℕ). Takes b w.b.socket g.takes_bytes.after) (same_Some _ _ (sym g.there ∙ there)) g.takes_bytes.takes) in
+given_to_b k w v p s there receives g =
+    let e : g.takes_bytes.after ≡ s = receives g.takes_bytes.after (subst (λ (b : List ℕ). Takes b w.b.socket g.takes_bytes.after) (same_Some _ _ (sym g.there ∙ there)) g.takes_bytes.takes) in
     same_world v (record_news B (Given B (clock w.b.socket) k) s w) g.other_side (g.takes_bytes.side ∙ ap (take_emitted w.b) e)
     (g.takes_bytes.logged ∙ ap (λ (t : Endpoint (List ℕ)). w.log ++ Given B (clock w.b.socket) k ∷ news_of B w.b t) e)
 

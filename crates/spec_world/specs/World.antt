@@ -53,7 +53,7 @@ emitted_entries x n (SendPacket bytes ∷ events) = EmittedPacket x n ∷ emitte
 emitted_entries x n (event ∷ events) = EmittedEvent x event ∷ emitted_entries x n events
 
 abbrev pub given_up_entries : End → List GivenUp → List Entry
-given_up_entries x gone = map (GaveUp x) gone
+given_up_entries x records = map (GaveUp x) records
 
 abbrev pub clock : Endpoint (List ℕ) → ℕ
 clock s = s.endpoint_state.context.now

@@ -7,6 +7,6 @@ returns c = record {
   accepting = λ message mixed x taken emitted one. record { once = one.once; exact = one.exact };
   sending = λ message lifecycle mixed x q s emitted later taken l one. sending_row message lifecycle mixed x q s emitted later taken l one;
   leaving = λ n x taken emitted one. record { once = one.once; exact = one.exact };
-  taking = λ o taken g gone emitted e one. taking_row o taken g gone emitted e one;
+  taking = λ o taken g rest emitted e one. taking_row o taken g rest emitted e one;
   values = λ message lifecycle mixed x q s taken emitted sh one. values_row message lifecycle mixed x q s taken emitted sh one;
 }

@@ -14,8 +14,8 @@ returns c = record {
   answering = λ message lifecycle mixed x q s k sh h ids each done. answering_follows message lifecycle mixed x q s.outstanding.items k sh h ids each done;
   sending = λ message lifecycle mixed x q s k sh h now most emitted l. sending_follows message lifecycle mixed x q s k sh h now most emitted l;
   fast = λ message lifecycle mixed x q s k sh h now most. fast_follows message lifecycle mixed x q s k sh h now most;
-  hearing = λ message lifecycle mixed x q s k sh h now cumulative point a_rwnd blocks emitted valid upto sent hears.
-      receiving_follows message lifecycle mixed x q s k sh h now cumulative point a_rwnd blocks emitted upto hears;
+  hearing = λ message lifecycle mixed x q s k sh h now cumulative point a_rwnd blocks emitted valid upto sent receives.
+      receiving_follows message lifecycle mixed x q s k sh h now cumulative point a_rwnd blocks emitted upto receives;
   items = λ message lifecycle mixed x q s k sh h t emitted later breaks l. items_follow message lifecycle mixed x q s k sh h t emitted later breaks l;
   breaks = breaks_are_kept;
   others = others_follow;
