@@ -1,7 +1,8 @@
 //! Intervals of fragments.
 
+use crate::output::Output;
 use crate::player::{Player, play_each};
-use crate::words::{Told, number, piece, tell_bytes, word, yes_or_no};
+use crate::words::{number, piece, show_bytes, word, yes_or_no};
 use sctp_packet::Data;
 use sctp_rx::{
     InterleavedKey, Interval, IntervalList, ReassemblyKey, TraditionalKey, UnorderedInterleavedKey,
@@ -46,75 +47,69 @@ impl Key for UnorderedInterleavedKey {
 }
 
 /// Takes the commands of a script on a list of intervals.
-pub fn run(alloc: Global, words: &[&str], script: &str, output: &mut String) -> Told {
-    match word(words, 1) {
-        "tsn" => run_on::<TraditionalKey>(alloc, script, output),
-        "fsn" => run_on::<InterleavedKey>(alloc, script, output),
-        "mid" => run_on::<UnorderedInterleavedKey>(alloc, script, output),
+pub fn run(alloc: Global, line: &str, script: &str, output: &mut Output) {
+    match word(line, 1) {
+        "tsn" => play_each(
+            alloc,
+            IntervalList::<TraditionalKey>::new(alloc),
+            script,
+            output,
+        ),
+        "fsn" => play_each(
+            alloc,
+            IntervalList::<InterleavedKey>::new(alloc),
+            script,
+            output,
+        ),
+        "mid" => play_each(
+            alloc,
+            IntervalList::<UnorderedInterleavedKey>::new(alloc),
+            script,
+            output,
+        ),
         _ => output.push_str("?\n"),
     }
 }
 
-fn run_on<K: Key>(alloc: Global, script: &str, output: &mut String) -> Told {
-    let mut list = IntervalList::<K>::new(alloc);
-    let outcome = play_each(alloc, &mut list, script, output);
-    drop(list);
-    outcome
-}
-
 impl<K: Key> Player for IntervalList<K> {
     /// `add NUMBER INDEX ENDS HEX`; `turn PLACE NUMBER`; `take PLACE`; `next NUMBER`; `retain NUMBER INDEX`; `sums`.
-    fn play(&mut self, alloc: Global, words: &[&str], output: &mut String) -> Told {
-        let (first, second) = (number(words, 1), number(words, 2));
-        match word(words, 0) {
-            "add" => add(alloc, self, words, output),
+    fn play(&mut self, alloc: Global, line: &str, output: &mut Output) {
+        let (first, second) = (number(line, 1), number(line, 2));
+        match word(line, 0) {
+            "add" => {
+                let fragment = piece(alloc, line, output);
+                add(self, K::made(first, second), fragment, output);
+                show_sums(self, output);
+            }
             "turn" => output.push_str(is_in_turn(self, first as usize, second)),
             "take" => take(alloc, self, first as usize, output),
             "next" => next(alloc, self, first, output),
             "retain" => {
                 self.retain(K::made(first, second));
-                tell_sums(self, output)
+                show_sums(self, output);
             }
-            "sums" => tell_sums(self, output),
+            "sums" => show_sums(self, output),
             _ => output.push_str("?"),
         }
     }
 }
 
-fn tell_sums<K: Key>(list: &IntervalList<K>, output: &mut String) -> Told {
+fn show_sums<K: Key>(list: &IntervalList<K>, output: &mut Output) {
     let (count, bytes) = (list.len(), list.total_bytes());
     let is_empty = yes_or_no(list.is_empty());
-    write!(output, "intervals {count}, bytes {bytes}, empty {is_empty}")
+    write!(output, "intervals {count}, bytes {bytes}, empty {is_empty}");
 }
 
-fn put<K: Key>(
-    list: &mut IntervalList<K>,
-    key: K,
-    fragment: Data,
-) -> Result<Option<usize>, AllocError> {
+fn add<K: Key>(list: &mut IntervalList<K>, key: K, fragment: Data, output: &mut Output) {
     if list.total_bytes() >= 1 << 40 || fragment.payload.len() >= 1 << 40 {
         drop(fragment);
-        return Ok(None);
+        output.push_str("held already, ");
+        return;
     }
-    list.add(key, fragment)
-}
-
-fn add<K: Key>(
-    alloc: Global,
-    list: &mut IntervalList<K>,
-    words: &[&str],
-    output: &mut String,
-) -> Told {
-    let key = K::made(number(words, 1), number(words, 2));
-    let place = put(list, key, piece(alloc, words)?)?;
-    tell_place(place, output)?;
-    tell_sums(list, output)
-}
-
-fn tell_place(place: Option<usize>, output: &mut String) -> Told {
-    match place {
-        Some(place) => write!(output, "at {place}, "),
-        None => output.push_str("held already, "),
+    match list.add(key, fragment) {
+        Ok(Some(place)) => write!(output, "at {place}, "),
+        Ok(None) => output.push_str("held already, "),
+        Err(fault) => output.note(Err(fault)),
     }
 }
 
@@ -125,64 +120,66 @@ fn is_in_turn<K: Key>(list: &IntervalList<K>, place: usize, number: u64) -> &'st
     yes_or_no(list.is_in_turn_at(place, number as u128))
 }
 
-fn take<K: Key>(
-    alloc: Global,
-    list: &mut IntervalList<K>,
-    place: usize,
-    output: &mut String,
-) -> Told {
+fn take<K: Key>(alloc: Global, list: &mut IntervalList<K>, place: usize, output: &mut Output) {
     if place >= list.len() || list.total_bytes() >= 1 << 40 {
-        return output.push_str("refused");
+        output.push_str("refused");
+        return;
     }
     match list.pop_if_complete(place) {
         Some(interval) => {
-            let outcome = tell(alloc, &interval, interval.total_bytes(), output);
-            drop(interval);
-            outcome
+            let bytes = interval.total_bytes();
+            show(alloc, interval, bytes, output);
         }
         None => output.push_str("none"),
     }
 }
 
-fn next<K: Key>(
-    alloc: Global,
-    list: &mut IntervalList<K>,
-    number: u64,
-    output: &mut String,
-) -> Told {
+fn next<K: Key>(alloc: Global, list: &mut IntervalList<K>, number: u64, output: &mut Output) {
     if list.total_bytes() >= 1 << 40 {
-        return output.push_str("refused");
+        output.push_str("refused");
+        return;
     }
     match list.pop_front_if_complete_and(number as u128) {
         Some(interval) => {
-            let outcome = tell(alloc, &interval, interval.total_bytes(), output);
-            drop(interval);
-            outcome
+            let bytes = interval.total_bytes();
+            show(alloc, interval, bytes, output);
         }
         None => output.push_str("none"),
     }
 }
 
-fn tell<K: Key>(alloc: Global, interval: &Interval<K>, bytes: usize, output: &mut String) -> Told {
-    tell_ends(interval.first().key, interval.last().key, output)?;
-    tell_turn(interval, interval.first().key.number(), output)?;
-    write!(output, ", bytes {bytes}: ")?;
-    let payload = interval.collect_payload(alloc)?;
-    tell_bytes(alloc, &payload, output)
+/// An interval that was taken.
+fn show<K: Key>(alloc: Global, interval: Interval<K>, bytes: usize, output: &mut Output) {
+    let first = interval.first().key;
+    show_ends(first, interval.last().key, output);
+    show_turn(&interval, first.number(), output);
+    write!(output, ", bytes {bytes}: ");
+    show_payload(interval.collect_payload(alloc), output);
+    drop(interval);
 }
 
-fn tell_ends<K: Key>(first: K, last: K, output: &mut String) -> Told {
+fn show_ends<K: Key>(first: K, last: K, output: &mut Output) {
     let (number, place) = (first.number(), first.place());
     let (last_number, last_place) = (last.number(), last.place());
-    write!(output, "{number}/{place} to {last_number}/{last_place}")
+    write!(output, "{number}/{place} to {last_number}/{last_place}");
 }
 
-fn tell_turn<K: Key>(interval: &Interval<K>, number: u64, output: &mut String) -> Told {
+fn show_turn<K: Key>(interval: &Interval<K>, number: u64, output: &mut Output) {
     let is_complete = yes_or_no(interval.is_complete());
     let is_turn = yes_or_no(interval.is_in_turn(number as u128));
     let is_early = yes_or_no(interval.is_in_turn(number as u128 + 1));
     write!(
         output,
         ", complete {is_complete}, in turn {is_turn}, at the next number {is_early}"
-    )
+    );
+}
+
+fn show_payload(payload: Result<Vec<u8>, AllocError>, output: &mut Output) {
+    match payload {
+        Ok(bytes) => {
+            show_bytes(&bytes, output);
+            drop(bytes);
+        }
+        Err(fault) => output.note(Err(fault)),
+    }
 }

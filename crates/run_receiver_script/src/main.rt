@@ -14,6 +14,7 @@
 #![tactic(auto)]
 
 mod list;
+mod output;
 mod player;
 mod queue;
 mod receiver;
@@ -22,46 +23,43 @@ mod streams;
 mod tracker;
 mod words;
 
+use output::Output;
 use std::alloc::Global;
 use std::io;
-use words::{Told, word};
+use words::word;
 
 /// Runs a script on what its first line names.
-fn begin(alloc: Global, words: &[&str], script: &str, output: &mut String) -> Told {
-    match word(words, 0) {
-        "tracker" => tracker::run(alloc, words, script, output),
-        "queue" => queue::run(alloc, words, script, output),
-        "streams" => streams::run(alloc, words, script, output),
-        "list" => list::run(alloc, words, script, output),
-        "ordered" => stream::run_ordered(alloc, words, script, output),
-        "unordered" => stream::run_unordered(alloc, words, script, output),
+fn begin(alloc: Global, line: &str, script: &str, output: &mut Output) {
+    match word(line, 0) {
+        "tracker" => tracker::run(alloc, line, script, output),
+        "queue" => queue::run(alloc, line, script, output),
+        "streams" => streams::run(alloc, line, script, output),
+        "list" => list::run(alloc, line, script, output),
+        "ordered" => stream::run_ordered(alloc, line, script, output),
+        "unordered" => stream::run_unordered(alloc, line, script, output),
         _ => output.push_str("?\n"),
     }
 }
 
-fn run_section(alloc: Global, section: &str, output: &mut String) -> Told {
+fn run_section(alloc: Global, section: &str, output: &mut Output) {
     let (title, rest) = section.split_once('\n').unwrap_or((section, ""));
-    let (head, script) = rest.split_once('\n').unwrap_or((rest, ""));
-    writeln!(output, "#{title}")?;
-    let words: Vec<&str> = head.split_whitespace().collect(alloc)?;
-    let outcome = begin(alloc, &words, script, output);
-    drop(words);
-    outcome
+    let (line, script) = rest.split_once('\n').unwrap_or((rest, ""));
+    writeln!(output, "#{title}");
+    begin(alloc, line, script, output);
 }
 
-fn run_sections(alloc: Global, sections: &str, output: &mut String) -> Told {
+fn run_sections(alloc: Global, sections: &str, output: &mut Output) {
     for section in sections.split('#') {
         if !section.is_empty() {
-            run_section(alloc, section, output)?;
+            run_section(alloc, section, output);
         }
     }
-    Ok(())
 }
 
 fn main(rt: HostRuntime) -> anyhow::Result<()> {
     let sections = io::read_to_string(rt.alloc(), rt.reader())?;
-    let mut output = String::new(rt.alloc());
-    run_sections(rt.alloc(), &sections, &mut output)?;
-    print!(rt; "{output}")?;
+    let mut output = Output::new(rt.alloc());
+    run_sections(rt.alloc(), &sections, &mut output);
+    print!(rt; "{}", output.whole()?)?;
     Ok(())
 }

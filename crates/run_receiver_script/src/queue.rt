@@ -4,15 +4,16 @@ ghost use Rattle.std.specs.Prelude.{◌≡◌, true, IsTrue};
 ghost use Rattle.sctp_state.specs.Handover.{receive_of};
 ghost use Rattle.sctp_state.specs.Validity.{is_valid_reception};
 
+use crate::output::Output;
 use crate::player::{Player, play_each};
-use crate::receiver::{Receiver, take, tell_sums};
-use crate::words::{Told, stream_ids, whole, word, yes_or_no};
+use crate::receiver::{Receiver, show_sums, take};
+use crate::words::{stream_ids, whole, word, yes_or_no};
 use sctp_packet::{Data, SkippedStream};
 use sctp_rx::ReassemblyQueue;
 use sctp_serial::{Message, StreamId, Tsn};
 use sctp_state::SocketHandoverState;
 use sctp_state::api::handover::{
-    HandoverOrderedStream, HandoverReceive, HandoverSocketState, HandoverUnorderedStream,
+    HandoverOrderedStream, HandoverSocketState, HandoverUnorderedStream,
 };
 use std::alloc::{AllocError, Global};
 
@@ -25,17 +26,15 @@ struct Queue {
 }
 
 /// Takes the commands of a script on a queue.
-pub fn run(alloc: Global, words: &[&str], script: &str, output: &mut String) -> Told {
-    let is_interleaved = word(words, 1) == "interleaved";
-    let max_size = whole(word(words, 2));
-    let mut queue = Queue {
+pub fn run(alloc: Global, line: &str, script: &str, output: &mut Output) {
+    let is_interleaved = word(line, 1) == "interleaved";
+    let max_size = whole(word(line, 2));
+    let queue = Queue {
         queue: ReassemblyQueue::new(alloc, max_size as usize, is_interleaved),
         state: record(alloc, is_interleaved),
         max_size,
     };
-    let outcome = play_each(alloc, &mut queue, script, output);
-    drop(queue);
-    outcome
+    play_each(alloc, queue, script, output);
 }
 
 /// The record of a socket that has sent nothing.
@@ -93,87 +92,75 @@ impl Receiver for ReassemblyQueue {
         self.ready(place)
     }
 
-    fn len(&self) -> usize {
-        self.messages_ready_count()
-    }
-
-    fn bytes(&self) -> usize {
-        self.queued_bytes()
+    fn sums(&self) -> (usize, usize) {
+        (self.messages_ready_count(), self.queued_bytes())
     }
 }
 
 impl Player for Queue {
     /// `defer TSN STREAM ..`; `sizes`; `readiness`; `write`; `restore`; and what streams take too.
-    fn play(&mut self, alloc: Global, words: &[&str], output: &mut String) -> Told {
-        match word(words, 0) {
-            "defer" => self.defer(alloc, words, output),
-            "sizes" => tell_sizes(&self.queue, output),
+    fn play(&mut self, alloc: Global, line: &str, output: &mut Output) {
+        match word(line, 0) {
+            "defer" => self.defer(alloc, line, output),
+            "sizes" => show_sizes(&self.queue, output),
             "readiness" => write!(output, "[{}]", self.queue.get_handover_readiness()),
             "write" => self.write(output),
             "restore" => self.restore(alloc, output),
-            _ => take(alloc, &mut self.queue, words, output),
+            _ => take(alloc, &mut self.queue, line, output),
         }
     }
 }
 
 impl Queue {
-    fn defer(&mut self, alloc: Global, words: &[&str], output: &mut String) -> Told {
-        let ids = stream_ids(alloc, words, 2)?;
-        let outcome = self
-            .queue
-            .enter_deferred_reset(Tsn(whole(word(words, 1))), &ids);
+    fn defer(&mut self, alloc: Global, line: &str, output: &mut Output) {
+        let ids = stream_ids(alloc, line, 2, output);
+        let last = Tsn(whole(word(line, 1)));
+        output.note(self.queue.enter_deferred_reset(last, &ids));
         drop(ids);
-        outcome?;
-        tell_sums(&self.queue, output)
+        show_sums(&self.queue, output);
     }
 
-    fn write(&mut self, output: &mut String) -> Told {
-        self.queue.add_to_handover_state(&mut self.state)?;
-        tell_record(&self.state.rx, output)
+    /// The streams with their next numbers, then those of unordered messages.
+    fn write(&mut self, output: &mut Output) {
+        output.note(self.queue.add_to_handover_state(&mut self.state));
+        show_ordered(&self.state.rx.ordered_streams, output);
+        show_unordered(&self.state.rx.unordered_streams, output);
     }
 
     /// A new queue takes up what was written.
-    fn restore(&mut self, alloc: Global, output: &mut String) -> Told {
+    fn restore(&mut self, alloc: Global, output: &mut Output) {
         if !is_valid(&self.state) {
-            return output.push_str("refused");
+            output.push_str("refused");
+            return;
         }
         let is_interleaved = self.state.capabilities.message_interleaving;
         let mut other = ReassemblyQueue::new(alloc, self.max_size as usize, is_interleaved);
-        let outcome = other.restore_from_state(&self.state);
+        output.note(other.restore_from_state(&self.state));
         drop(std::mem::replace(&mut self.queue, other));
-        outcome?;
-        tell_sums(&self.queue, output)
+        show_sums(&self.queue, output);
     }
 }
 
-/// The streams with their next numbers, then those of unordered messages.
-fn tell_record(rx: &HandoverReceive, output: &mut String) -> Told {
-    output.push_str("ordered")?;
-    tell_ordered(&rx.ordered_streams, output)?;
-    output.push_str(" unordered")?;
-    tell_unordered(&rx.unordered_streams, output)
-}
-
-fn tell_ordered(streams: &[HandoverOrderedStream], output: &mut String) -> Told {
+fn show_ordered(streams: &[HandoverOrderedStream], output: &mut Output) {
+    output.push_str("ordered");
     for stream in streams {
-        write!(output, " {}:{}", stream.id, stream.next_ssn)?;
+        write!(output, " {}:{}", stream.id, stream.next_ssn);
     }
-    Ok(())
 }
 
-fn tell_unordered(streams: &[HandoverUnorderedStream], output: &mut String) -> Told {
+fn show_unordered(streams: &[HandoverUnorderedStream], output: &mut Output) {
+    output.push_str(" unordered");
     for stream in streams {
-        write!(output, " {}", stream.id)?;
+        write!(output, " {}", stream.id);
     }
-    Ok(())
 }
 
-fn tell_sizes(queue: &ReassemblyQueue, output: &mut String) -> Told {
+fn show_sizes(queue: &ReassemblyQueue, output: &mut Output) {
     let (count, left) = (queue.rx_messages_count(), queue.remaining_bytes());
     let is_above = yes_or_no(queue.is_above_watermark());
     let is_full = yes_or_no(queue.is_full());
     write!(
         output,
         "became ready {count}, left {left}, above watermark {is_above}, full {is_full}"
-    )
+    );
 }

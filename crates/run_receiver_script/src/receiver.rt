@@ -1,6 +1,7 @@
 //! What takes fragments and makes messages of them: a queue, or streams on their own.
 
-use crate::words::{Told, entries, fragment_of, number, stream_ids, tell_message, word};
+use crate::output::Output;
+use crate::words::{entries, fragment_of, number, show_message, stream_ids, word};
 use sctp_packet::{Data, SkippedStream};
 use sctp_serial::{Message, StreamId};
 use std::alloc::{AllocError, Global};
@@ -22,60 +23,58 @@ pub trait Receiver {
 
     fn ready(&self, place: usize) -> Option<&Message>;
 
-    /// How many messages are ready.
-    fn len(&self) -> usize;
-
-    /// How many bytes are held: of a queue those of ready messages too.
-    fn bytes(&self) -> usize;
+    /// How many messages are ready, and how many bytes are held: of a queue those of ready messages too.
+    fn sums(&self) -> (usize, usize);
 }
 
-/// Takes the next message that is ready, and prints it.
-pub fn tell_next(alloc: Global, message: Option<Message>, output: &mut String) -> Told {
-    let outcome = tell_message(alloc, message.as_ref(), output);
+/// Shows the next message that is ready, which is taken.
+pub fn show_next(message: Option<Message>, output: &mut Output) {
+    show_message(message.as_ref(), output);
     drop(message);
-    outcome
 }
 
-/// Prints how many messages are ready, and how many bytes are held.
-pub fn tell_sums<R: Receiver>(receiver: &R, output: &mut String) -> Told {
-    let (count, bytes) = (receiver.len(), receiver.bytes());
-    write!(output, "ready {count}, bytes {bytes}")
+/// Shows how many messages are ready, and how many bytes are held.
+pub fn show_sums<R: Receiver>(receiver: &R, output: &mut Output) {
+    let (count, bytes) = receiver.sums();
+    write!(output, "ready {count}, bytes {bytes}");
 }
 
-fn forward<R: Receiver>(alloc: Global, receiver: &mut R, words: &[&str]) -> Told {
-    let entries = entries(alloc, words)?;
-    receiver.forward(alloc, number(words, 1), &entries)
+fn forward<R: Receiver>(alloc: Global, receiver: &mut R, line: &str, output: &mut Output) {
+    let entries = entries(alloc, line, output);
+    output.note(receiver.forward(alloc, number(line, 1), &entries));
+    drop(entries);
 }
 
-fn reset<R: Receiver>(alloc: Global, receiver: &mut R, words: &[&str]) -> Told {
-    let ids = stream_ids(alloc, words, 1)?;
-    receiver.reset(&ids)
+fn reset<R: Receiver>(alloc: Global, receiver: &mut R, line: &str, output: &mut Output) {
+    let ids = stream_ids(alloc, line, 1, output);
+    output.note(receiver.reset(&ids));
+    drop(ids);
+}
+
+fn add<R: Receiver>(alloc: Global, receiver: &mut R, line: &str, output: &mut Output) {
+    let fragment = fragment_of(alloc, line, output);
+    output.note(receiver.add(number(line, 1), fragment));
 }
 
 /// `add TSN STREAM NUMBER FSN ENDS HEX`, `forward TSN ENTRY ..`, `reset STREAM ..`.
-fn change<R: Receiver>(alloc: Global, receiver: &mut R, words: &[&str]) -> Told {
-    match word(words, 0) {
-        "add" => receiver.add(number(words, 1), fragment_of(alloc, words)?),
-        "forward" => forward(alloc, receiver, words),
-        "reset" => reset(alloc, receiver, words),
-        _ => Ok(()),
+fn change<R: Receiver>(alloc: Global, receiver: &mut R, line: &str, output: &mut Output) {
+    match word(line, 0) {
+        "add" => add(alloc, receiver, line, output),
+        "forward" => forward(alloc, receiver, line, output),
+        "reset" => reset(alloc, receiver, line, output),
+        _ => {}
     }
 }
 
 /// Takes a command that a queue and streams have: `next`, `ready PLACE`, and changes, which are answered by how much there is then, as is
 /// `sums`.
-pub fn take<R: Receiver>(
-    alloc: Global,
-    receiver: &mut R,
-    words: &[&str],
-    output: &mut String,
-) -> Told {
-    match word(words, 0) {
-        "next" => tell_next(alloc, receiver.next(), output),
-        "ready" => tell_message(alloc, receiver.ready(number(words, 1) as usize), output),
+pub fn take<R: Receiver>(alloc: Global, receiver: &mut R, line: &str, output: &mut Output) {
+    match word(line, 0) {
+        "next" => show_next(receiver.next(), output),
+        "ready" => show_message(receiver.ready(number(line, 1) as usize), output),
         _ => {
-            change(alloc, receiver, words)?;
-            tell_sums(receiver, output)
+            change(alloc, receiver, line, output);
+            show_sums(receiver, output);
         }
     }
 }

@@ -3,9 +3,10 @@
 ghost use Rattle.std.specs.Prelude.{◌≡◌, ◌+◌, ◌<◌, ◌^◌, IsTrue};
 ghost use Rattle.sctp_rx.specs.Delivery.{ready_bytes};
 
+use crate::output::Output;
 use crate::player::{Player, play_each};
-use crate::receiver::tell_next;
-use crate::words::{Told, number, piece, word, yes_or_no};
+use crate::receiver::show_next;
+use crate::words::{number, piece, value, word, yes_or_no};
 use sctp_packet::Data;
 use sctp_rx::{
     InterleavedKey, ReadyMessages, TraditionalKey, UnorderedInterleavedKey,
@@ -16,11 +17,11 @@ use std::alloc::{AllocError, Global};
 /// The first number.
 const FIRST: u64 = 1 << 32;
 
-/// Whether the sums of bytes are small.
-pub fn have_room(held: usize, ready: &ReadyMessages) -> bool
-    ensures { IsTrue result → held + ready_bytes ready.now < 2 ^ 63 }
+/// Whether the sums of bytes are small, those that come with them.
+pub fn have_room(held: usize, ready: &ReadyMessages, coming: usize) -> bool
+    ensures { IsTrue result → held + ready_bytes ready.now + coming < 2 ^ 63 }
 {
-    held < 1 << 40 && ready.total_bytes() < 1 << 40
+    held < 1 << 40 && ready.total_bytes() < 1 << 40 && coming < 1 << 40
 }
 
 /// A stream of either kind and form. Numbers count from 2^32 on. What there is no room for is not taken.
@@ -34,16 +35,14 @@ trait Stream {
         ready: &mut ReadyMessages,
     ) -> Result<(), AllocError>;
 
-    /// Takes a forward point to what is below the key.
-    fn forward(
+    /// Takes a forward point to what is below the key, or drops that, of an unordered stream alone.
+    fn pass(
         &mut self,
         number: u64,
         index: u64,
+        is_drop: bool,
         ready: &mut ReadyMessages,
     ) -> Result<(), AllocError>;
-
-    /// Drops what is below the key. Of an unordered stream alone.
-    fn drop_below(&mut self, number: u64, index: u64);
 
     /// The next number of an ordered stream, the last one that came of another; whether anything is held, and how many
     /// bytes.
@@ -58,26 +57,25 @@ impl Stream for traditional::OrderedStream {
         fragment: Data,
         ready: &mut ReadyMessages,
     ) -> Result<(), AllocError> {
-        if !have_room(self.queued_bytes(), ready) || fragment.payload.len() >= 1 << 40 {
+        if !have_room(self.queued_bytes(), ready, fragment.payload.len()) {
             drop(fragment);
             return Ok(());
         }
         self.add(TraditionalKey { number, index }, fragment, ready)
     }
 
-    fn forward(
+    fn pass(
         &mut self,
         number: u64,
         index: u64,
+        is_drop: bool,
         ready: &mut ReadyMessages,
     ) -> Result<(), AllocError> {
-        if !have_room(self.queued_bytes(), ready) {
+        if is_drop || !have_room(self.queued_bytes(), ready, 0) {
             return Ok(());
         }
         self.forward(TraditionalKey { number, index }, ready)
     }
-
-    fn drop_below(&mut self, _number: u64, _index: u64) {}
 
     fn state(&self) -> (u128, bool, usize) {
         (self.next(), self.is_held(), self.queued_bytes())
@@ -92,26 +90,25 @@ impl Stream for interleaved::OrderedStream {
         fragment: Data,
         ready: &mut ReadyMessages,
     ) -> Result<(), AllocError> {
-        if !have_room(self.queued_bytes(), ready) || fragment.payload.len() >= 1 << 40 {
+        if !have_room(self.queued_bytes(), ready, fragment.payload.len()) {
             drop(fragment);
             return Ok(());
         }
         self.add(InterleavedKey { number, index }, fragment, ready)
     }
 
-    fn forward(
+    fn pass(
         &mut self,
         number: u64,
         index: u64,
+        is_drop: bool,
         ready: &mut ReadyMessages,
     ) -> Result<(), AllocError> {
-        if !have_room(self.queued_bytes(), ready) {
+        if is_drop || !have_room(self.queued_bytes(), ready, 0) {
             return Ok(());
         }
         self.forward(InterleavedKey { number, index }, ready)
     }
-
-    fn drop_below(&mut self, _number: u64, _index: u64) {}
 
     fn state(&self) -> (u128, bool, usize) {
         (self.next(), self.is_held(), self.queued_bytes())
@@ -126,28 +123,27 @@ impl Stream for traditional::UnorderedStream {
         fragment: Data,
         ready: &mut ReadyMessages,
     ) -> Result<(), AllocError> {
-        let has_room = have_room(self.queued_bytes(), ready);
-        if !has_room || fragment.payload.len() >= 1 << 40 || number >= 1 << 63 {
+        let has_room = have_room(self.queued_bytes(), ready, fragment.payload.len());
+        if !has_room || number >= 1 << 63 {
             drop(fragment);
             return Ok(());
         }
         self.add(TraditionalKey { number, index }, fragment, ready)
     }
 
-    fn forward(
+    fn pass(
         &mut self,
         number: u64,
         index: u64,
+        is_drop: bool,
         _ready: &mut ReadyMessages,
     ) -> Result<(), AllocError> {
-        if number > 0 && number < 1 << 63 {
+        if is_drop {
+            self.forward_to(TraditionalKey { number, index });
+        } else if number > 0 && number < 1 << 63 {
             self.forward(TraditionalKey { number, index });
         }
         Ok(())
-    }
-
-    fn drop_below(&mut self, number: u64, index: u64) {
-        self.forward_to(TraditionalKey { number, index });
     }
 
     fn state(&self) -> (u128, bool, usize) {
@@ -163,28 +159,27 @@ impl Stream for interleaved::UnorderedStream {
         fragment: Data,
         ready: &mut ReadyMessages,
     ) -> Result<(), AllocError> {
-        let has_room = have_room(self.queued_bytes(), ready);
-        if !has_room || fragment.payload.len() >= 1 << 40 || number >= 1 << 63 {
+        let has_room = have_room(self.queued_bytes(), ready, fragment.payload.len());
+        if !has_room || number >= 1 << 63 {
             drop(fragment);
             return Ok(());
         }
         self.add(UnorderedInterleavedKey { number, index }, fragment, ready)
     }
 
-    fn forward(
+    fn pass(
         &mut self,
         number: u64,
         index: u64,
+        is_drop: bool,
         _ready: &mut ReadyMessages,
     ) -> Result<(), AllocError> {
-        if number > 0 && number < 1 << 63 {
+        if is_drop {
+            self.forward_to(UnorderedInterleavedKey { number, index });
+        } else if number > 0 && number < 1 << 63 {
             self.forward(UnorderedInterleavedKey { number, index });
         }
         Ok(())
-    }
-
-    fn drop_below(&mut self, number: u64, index: u64) {
-        self.forward_to(UnorderedInterleavedKey { number, index });
     }
 
     fn state(&self) -> (u128, bool, usize) {
@@ -200,23 +195,25 @@ struct Alone<S> {
 }
 
 /// Takes the commands of a script on an ordered stream.
-pub fn run_ordered(alloc: Global, words: &[&str], script: &str, output: &mut String) -> Told {
-    let next = if words.len() > 2 {
-        number(words, 2)
-    } else {
+pub fn run_ordered(alloc: Global, line: &str, script: &str, output: &mut Output) {
+    let begin = word(line, 2);
+    let next = if begin.is_empty() {
         FIRST
+    } else {
+        value(begin)
     };
     if next < FIRST {
-        return output.push_str("refused\n");
+        output.push_str("refused\n");
+        return;
     }
-    match (word(words, 1), words.len()) {
-        ("tsn", 2) => run_on(
+    match (word(line, 1), begin.is_empty()) {
+        ("tsn", true) => run_on(
             alloc,
             traditional::OrderedStream::new(alloc),
             script,
             output,
         ),
-        ("fsn", 2) => run_on(
+        ("fsn", true) => run_on(
             alloc,
             interleaved::OrderedStream::new(alloc),
             script,
@@ -238,8 +235,8 @@ pub fn run_ordered(alloc: Global, words: &[&str], script: &str, output: &mut Str
 }
 
 /// Takes the commands of a script on an unordered stream.
-pub fn run_unordered(alloc: Global, words: &[&str], script: &str, output: &mut String) -> Told {
-    match word(words, 1) {
+pub fn run_unordered(alloc: Global, line: &str, script: &str, output: &mut Output) {
+    match word(line, 1) {
         "tsn" => run_on(
             alloc,
             traditional::UnorderedStream::new(alloc),
@@ -255,51 +252,47 @@ pub fn run_unordered(alloc: Global, words: &[&str], script: &str, output: &mut S
     }
 }
 
-fn run_on<S: Stream + Drop>(alloc: Global, stream: S, script: &str, output: &mut String) -> Told {
-    let mut alone = Alone {
+fn run_on<S: Stream + Drop>(alloc: Global, stream: S, script: &str, output: &mut Output) {
+    let alone = Alone {
         stream,
         ready: ReadyMessages::new(alloc),
     };
-    let outcome = play_each(alloc, &mut alone, script, output);
-    drop(alone);
-    outcome
+    play_each(alloc, alone, script, output);
 }
 
 impl<S: Stream> Player for Alone<S> {
     /// `next`; and changes, which are answered by the state, as is `state`.
-    fn play(&mut self, alloc: Global, words: &[&str], output: &mut String) -> Told {
-        if word(words, 0) == "next" {
-            return tell_next(alloc, self.ready.pop(), output);
+    fn play(&mut self, alloc: Global, line: &str, output: &mut Output) {
+        if word(line, 0) == "next" {
+            show_next(self.ready.pop(), output);
+        } else {
+            self.change(alloc, line, output);
+            self.show(output);
         }
-        self.change(alloc, words)?;
-        self.tell(output)
     }
 }
 
 impl<S: Stream> Alone<S> {
     /// `add NUMBER INDEX ENDS HEX`, `forward NUMBER INDEX`, `drop NUMBER INDEX`.
-    fn change(&mut self, alloc: Global, words: &[&str]) -> Result<(), AllocError> {
-        let (number, index) = (number(words, 1), number(words, 2));
-        match word(words, 0) {
+    fn change(&mut self, alloc: Global, line: &str, output: &mut Output) {
+        let (number, index) = (number(line, 1), number(line, 2));
+        match word(line, 0) {
             "add" => {
-                let fragment = piece(alloc, words)?;
-                self.stream.add(number, index, fragment, &mut self.ready)
+                let fragment = piece(alloc, line, output);
+                output.note(self.stream.add(number, index, fragment, &mut self.ready));
             }
-            "forward" => self.stream.forward(number, index, &mut self.ready),
-            "drop" => {
-                self.stream.drop_below(number, index);
-                Ok(())
-            }
-            _ => Ok(()),
+            "forward" => output.note(self.stream.pass(number, index, false, &mut self.ready)),
+            "drop" => output.note(self.stream.pass(number, index, true, &mut self.ready)),
+            _ => {}
         }
     }
 
-    fn tell(&self, output: &mut String) -> Told {
+    fn show(&self, output: &mut Output) {
         let (number, is_held, bytes) = self.stream.state();
         let (held, ready) = (yes_or_no(is_held), self.ready.len());
         write!(
             output,
             "number {number}, held {held}, bytes {bytes}, ready {ready}"
-        )
+        );
     }
 }

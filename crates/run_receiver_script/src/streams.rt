@@ -1,9 +1,10 @@
 //! Streams in either form.
 
+use crate::output::Output;
 use crate::player::{Player, play_each};
-use crate::receiver::{Receiver, take, tell_next, tell_sums};
+use crate::receiver::{Receiver, show_next, show_sums, take};
 use crate::stream::have_room;
-use crate::words::{Told, bytes_of, entry, fragment, half, number, rest, stream_key, value, word};
+use crate::words::{bytes_of, entry, fragment, half, number, rest, stream_key, value, word};
 use sctp_packet::{Data, SkippedStream};
 use sctp_rx::{
     InterleavedReassemblyStreams, ReadyMessages, ReassemblyStreams, TraditionalReassemblyStreams,
@@ -29,8 +30,8 @@ struct Streams<S> {
 }
 
 /// Takes the commands of a script on streams.
-pub fn run(alloc: Global, words: &[&str], script: &str, output: &mut String) -> Told {
-    match word(words, 1) {
+pub fn run(alloc: Global, line: &str, script: &str, output: &mut Output) {
+    match word(line, 1) {
         "traditional" => run_on(
             alloc,
             TraditionalReassemblyStreams::new(alloc),
@@ -50,22 +51,24 @@ fn run_on<S: ReassemblyStreams + Drop>(
     alloc: Global,
     streams: S,
     script: &str,
-    output: &mut String,
-) -> Told {
-    let mut streams = Streams {
+    output: &mut Output,
+) {
+    let streams = Streams {
         streams,
         ready: ReadyMessages::new(alloc),
         rows: Vec::new(alloc),
     };
-    let outcome = play_each(alloc, &mut streams, script, output);
-    drop(streams);
-    outcome
+    play_each(alloc, streams, script, output);
 }
 
 impl<S: ReassemblyStreams> Receiver for Streams<S> {
     fn add(&mut self, tsn: u64, fragment: Data) -> Result<(), AllocError> {
-        let has_room = have_room(self.streams.queued_bytes(), &self.ready);
-        if tsn >= 1 << 40 || fragment.payload.len() >= 1 << 40 || !has_room {
+        let has_room = have_room(
+            self.streams.queued_bytes(),
+            &self.ready,
+            fragment.payload.len(),
+        );
+        if tsn >= 1 << 40 || !has_room {
             drop(fragment);
             return Ok(());
         }
@@ -78,7 +81,7 @@ impl<S: ReassemblyStreams> Receiver for Streams<S> {
         tsn: u64,
         entries: &[SkippedStream],
     ) -> Result<(), AllocError> {
-        if tsn >= 1 << 40 || !have_room(self.streams.queued_bytes(), &self.ready) {
+        if tsn >= 1 << 40 || !have_room(self.streams.queued_bytes(), &self.ready, 0) {
             return Ok(());
         }
         self.streams
@@ -98,99 +101,88 @@ impl<S: ReassemblyStreams> Receiver for Streams<S> {
         self.ready.get(place)
     }
 
-    fn len(&self) -> usize {
-        self.ready.len()
-    }
-
-    fn bytes(&self) -> usize {
-        self.streams.queued_bytes()
+    fn sums(&self) -> (usize, usize) {
+        (self.ready.len(), self.streams.queued_bytes())
     }
 }
 
 impl<S: ReassemblyStreams> Player for Streams<S> {
     /// `skip ENTRY`; `push STREAM HEX`: a message that is ready; `sizes`; `message STREAM NUMBER FIRST COUNT`: a message whose fragments may
     /// come; `come TSN ..`; and what a queue takes too.
-    fn play(&mut self, alloc: Global, words: &[&str], output: &mut String) -> Told {
-        match word(words, 0) {
-            "skip" => self.skip(entry(word(words, 1)), output),
-            "push" => self.push(alloc, words, output),
-            "sizes" => tell_ready(&self.ready, output),
-            "message" => self.name(row_of(words)),
-            "come" => self.come(alloc, words, output),
-            _ => take(alloc, self, words, output),
+    fn play(&mut self, alloc: Global, line: &str, output: &mut Output) {
+        match word(line, 0) {
+            "skip" => self.skip(entry(word(line, 1)), output),
+            "push" => self.push(alloc, line, output),
+            "sizes" => show_ready(&self.ready, output),
+            "message" => output.note(self.rows.push(row_of(line))),
+            "come" => self.come(alloc, line, output),
+            _ => take(alloc, self, line, output),
         }
     }
 }
 
 impl<S: ReassemblyStreams> Streams<S> {
-    fn skip(&mut self, entry: SkippedStream, output: &mut String) -> Told {
-        if !have_room(self.streams.queued_bytes(), &self.ready) {
-            return output.push_str("refused");
+    fn skip(&mut self, entry: SkippedStream, output: &mut Output) {
+        if !have_room(self.streams.queued_bytes(), &self.ready, 0) {
+            output.push_str("refused");
+            return;
         }
-        self.streams.skip(entry, &mut self.ready)?;
-        tell_sums(self, output)
+        output.note(self.streams.skip(entry, &mut self.ready));
+        show_sums(self, output);
     }
 
-    fn push(&mut self, alloc: Global, words: &[&str], output: &mut String) -> Told {
-        let payload = bytes_of(alloc, word(words, 2))?;
-        if !have_room(self.streams.queued_bytes(), &self.ready) || payload.len() >= 1 << 40 {
+    fn push(&mut self, alloc: Global, line: &str, output: &mut Output) {
+        let payload = bytes_of(alloc, word(line, 2), output);
+        if !have_room(self.streams.queued_bytes(), &self.ready, payload.len()) {
             drop(payload);
-            return output.push_str("refused");
+            output.push_str("refused");
+            return;
         }
-        let id = StreamId(half(word(words, 1)));
-        self.ready.push(Message::new(id, PpId(53), payload))?;
-        tell_ready(&self.ready, output)
-    }
-
-    fn name(&mut self, row: Row) -> Told {
-        self.rows.push(row)?;
-        Ok(())
+        let id = StreamId(half(word(line, 1)));
+        output.note(self.ready.push(Message::new(id, PpId(53), payload)));
+        show_ready(&self.ready, output);
     }
 
     /// Fragments come: prints, for each, which messages become ready, and how many bytes are held then.
-    fn come(&mut self, alloc: Global, words: &[&str], output: &mut String) -> Told {
-        for word in rest(words, 1) {
-            self.come_once(alloc, value(word), output)?;
-        }
-        Ok(())
-    }
-
-    fn come_once(&mut self, alloc: Global, tsn: u64, output: &mut String) -> Told {
-        self.take_one(alloc, tsn)?;
-        self.tell_all(alloc, output)
-    }
-
-    fn take_one(&mut self, alloc: Global, tsn: u64) -> Result<(), AllocError> {
-        match row_with(&self.rows, tsn) {
-            Some(row) => self.add(tsn, row.fragment(alloc, tsn)?),
-            None => Ok(()),
+    fn come(&mut self, alloc: Global, line: &str, output: &mut Output) {
+        for word in rest(line, 1) {
+            self.come_once(alloc, value(word), output);
         }
     }
 
-    fn tell_all(&mut self, alloc: Global, output: &mut String) -> Told {
-        for _ in 0..self.ready.len() {
-            self.tell_one(alloc, output)?;
-        }
-        write!(output, " {}", self.streams.queued_bytes())
+    fn come_once(&mut self, alloc: Global, tsn: u64, output: &mut Output) {
+        self.take_one(alloc, tsn, output);
+        show_each(&mut self.ready, output);
+        write!(output, " {}", self.streams.queued_bytes());
     }
 
-    fn tell_one(&mut self, alloc: Global, output: &mut String) -> Told {
-        output.push_str(" ")?;
-        tell_next(alloc, self.ready.pop(), output)
+    fn take_one(&mut self, alloc: Global, tsn: u64, output: &mut Output) {
+        if let Some(row) = row_with(&self.rows, tsn) {
+            let fragment = row.fragment(alloc, tsn, output);
+            output.note(self.add(tsn, fragment));
+        }
     }
 }
 
-fn tell_ready(ready: &ReadyMessages, output: &mut String) -> Told {
+/// The messages that are ready, which are taken.
+fn show_each(ready: &mut ReadyMessages, output: &mut Output) {
+    for _ in 0..ready.len() {
+        output.push_str(" ");
+        show_next(ready.pop(), output);
+    }
+}
+
+fn show_ready(ready: &ReadyMessages, output: &mut Output) {
     let (count, bytes) = (ready.len(), ready.total_bytes());
-    write!(output, "ready {count}, their bytes {bytes}")
+    write!(output, "ready {count}, their bytes {bytes}");
 }
 
-fn row_of(words: &[&str]) -> Row {
+fn row_of(line: &str) -> Row {
     Row {
-        key: stream_key(word(words, 1)),
-        number: half(word(words, 2)),
-        first: number(words, 3),
-        count: number(words, 4),
+        key: stream_key(word(line, 1)),
+        number: half(word(line, 2)),
+        first: number(line, 3),
+        count: number(line, 4),
     }
 }
 
@@ -220,10 +212,11 @@ impl Row {
         }
     }
 
-    fn fragment(&self, alloc: Global, tsn: u64) -> Result<Data, AllocError> {
-        let payload = Vec::from_slice(alloc, &[(tsn % 256) as u8])?;
+    fn fragment(&self, alloc: Global, tsn: u64, output: &mut Output) -> Data {
+        let mut payload = Vec::new(alloc);
+        output.note(payload.push((tsn % 256) as u8));
         let place = tsn.saturating_sub(self.first);
         let fsn = u32::try_from(place).unwrap_or(u32::MAX);
-        Ok(fragment(self.key, self.number, fsn, self.ends(place), payload))
+        fragment(self.key, self.number, fsn, self.ends(place), payload)
     }
 }

@@ -1,24 +1,24 @@
 //! The words of commands, of which the first one is a command's name, and of answers. A word that is missing or no number is 0.
 
+use crate::output::Output;
 use hex::FromHexError;
 use sctp_packet::{Data, SkippedStream};
 use sctp_serial::{Fsn, Message, Mid, PpId, Ssn, StreamId, StreamKey};
 use std::alloc::{AllocError, Global};
-
-/// What becomes of an answer that is being written.
-pub type Told = Result<(), AllocError>;
-
-/// The word at the place.
-pub fn word<'a>(words: &[&'a str], place: usize) -> &'a str {
-    match words.get(place) {
-        Some(word) => *word,
-        None => "",
-    }
-}
+use std::str::SplitWhitespace;
 
 /// The words from the place on.
-pub fn rest<'w, 'a>(words: &'w [&'a str], place: usize) -> &'w [&'a str] {
-    &words[place.min(words.len())..]
+pub fn rest(line: &str, place: u8) -> SplitWhitespace<'_> {
+    let mut words = line.split_whitespace();
+    for _ in 0..place {
+        words.next();
+    }
+    words
+}
+
+/// The word at the place.
+pub fn word(line: &str, place: u8) -> &str {
+    rest(line, place).next().unwrap_or("")
 }
 
 /// The number of 64 bits that a word says.
@@ -37,8 +37,8 @@ pub fn half(word: &str) -> u16 {
 }
 
 /// The number at the place.
-pub fn number(words: &[&str], place: usize) -> u64 {
-    value(word(words, place))
+pub fn number(line: &str, place: u8) -> u64 {
+    value(word(line, place))
 }
 
 /// `o3` is the ordered stream 3, and `u3` the unordered one.
@@ -60,33 +60,32 @@ pub fn entry(word: &str) -> SkippedStream {
 }
 
 /// The entries behind the first two words.
-pub fn entries(alloc: Global, words: &[&str]) -> Result<Vec<SkippedStream>, AllocError> {
+pub fn entries(alloc: Global, line: &str, output: &mut Output) -> Vec<SkippedStream> {
     let mut entries = Vec::new(alloc);
-    for word in rest(words, 2) {
-        entries.push(entry(word))?;
+    for word in rest(line, 2) {
+        output.note(entries.push(entry(word)));
     }
-    Ok(entries)
+    entries
 }
 
 /// The streams from the place on.
-pub fn stream_ids(
-    alloc: Global,
-    words: &[&str],
-    place: usize,
-) -> Result<Vec<StreamId>, AllocError> {
+pub fn stream_ids(alloc: Global, line: &str, place: u8, output: &mut Output) -> Vec<StreamId> {
     let mut ids = Vec::new(alloc);
-    for word in rest(words, place) {
-        ids.push(StreamId(half(word)))?;
+    for word in rest(line, place) {
+        output.note(ids.push(StreamId(half(word))));
     }
-    Ok(ids)
+    ids
 }
 
 /// The bytes that hex digits say, none where the word has others.
-pub fn bytes_of(alloc: Global, digits: &str) -> Result<Vec<u8>, AllocError> {
+pub fn bytes_of(alloc: Global, digits: &str, output: &mut Output) -> Vec<u8> {
     match hex::decode(alloc, digits) {
-        Ok(bytes) => Ok(bytes),
-        Err(FromHexError::OutOfMemory) => Err(AllocError),
-        Err(_) => Ok(Vec::new(alloc)),
+        Ok(bytes) => bytes,
+        Err(FromHexError::OutOfMemory) => {
+            output.note(Err(AllocError));
+            Vec::new(alloc)
+        }
+        Err(_) => Vec::new(alloc),
     }
 }
 
@@ -107,32 +106,33 @@ pub fn fragment(key: StreamKey, number: u16, fsn: u32, ends: &str, payload: Vec<
 }
 
 /// The fragment of a command `NAME TSN STREAM NUMBER FSN ENDS HEX`.
-pub fn fragment_of(alloc: Global, words: &[&str]) -> Result<Data, AllocError> {
-    let payload = bytes_of(alloc, word(words, 6))?;
-    let key = stream_key(word(words, 2));
-    let (number, fsn) = (half(word(words, 3)), whole(word(words, 4)));
-    Ok(fragment(key, number, fsn, word(words, 5), payload))
+pub fn fragment_of(alloc: Global, line: &str, output: &mut Output) -> Data {
+    let key = stream_key(word(line, 2));
+    let (number, fsn) = (half(word(line, 3)), whole(word(line, 4)));
+    let payload = bytes_of(alloc, word(line, 6), output);
+    fragment(key, number, fsn, word(line, 5), payload)
 }
 
 /// The fragment of a command `NAME NUMBER INDEX ENDS HEX`.
-pub fn piece(alloc: Global, words: &[&str]) -> Result<Data, AllocError> {
-    let payload = bytes_of(alloc, word(words, 4))?;
+pub fn piece(alloc: Global, line: &str, output: &mut Output) -> Data {
     let key = StreamKey::Unordered(StreamId(1));
-    Ok(fragment(key, 0, 0, word(words, 3), payload))
+    let payload = bytes_of(alloc, word(line, 4), output);
+    fragment(key, 0, 0, word(line, 3), payload)
 }
 
 /// Bytes in hex.
-pub fn tell_bytes(alloc: Global, bytes: &[u8], output: &mut String) -> Told {
-    let digits = hex::encode(alloc, bytes)?;
-    output.push_str(&digits)
+pub fn show_bytes(bytes: &[u8], output: &mut Output) {
+    for byte in bytes {
+        write!(output, "{byte:02x}");
+    }
 }
 
 /// A message as `STREAM/PROTOCOL:HEX`.
-pub fn tell_message(alloc: Global, message: Option<&Message>, output: &mut String) -> Told {
+pub fn show_message(message: Option<&Message>, output: &mut Output) {
     match message {
         Some(message) => {
-            write!(output, "{}/{}:", message.stream_id.0, message.ppid.0)?;
-            tell_bytes(alloc, &message.payload, output)
+            write!(output, "{}/{}:", message.stream_id.0, message.ppid.0);
+            show_bytes(&message.payload, output);
         }
         None => output.push_str("none"),
     }
