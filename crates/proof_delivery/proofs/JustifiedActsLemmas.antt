@@ -157,8 +157,8 @@ module _ (accepted : List Acceptance) (resets : List ℕ) where
   module _ (call : Call) (offers : (m : Message) (o : SendOptions) → IsOffered call m o → ⊥) (restores : (s : HandoverState) → call ≡ Restore s → ⊥)
       (asked : (streams : List ℕ) → call ≡ ResetStreams streams → resets ≡ streams) where
     sound_packets : (act : PacketAct Carried call) → Onward (before_packets act) (after_packets act)
-    sound_packets (begins p m new summed) h = h
-    sound_packets (adds_plain chunk m plain others) h = h
+    sound_packets (begins p m new summed to) h = h
+    sound_packets (adds_plain chunk m plain others fair) h = h
     sound_packets (emits m some bundled) h = h
     sound_packets (complains kind text m) h = h
     sound_packets (counts m) h = h

@@ -39,8 +39,8 @@ stays_outcome (Denied streams) c l = l
 
 module _ (call : Call) (fits : (bytes : ℕ) → call ≡ SetMaxMessageSize bytes → bytes < 2 ^ 32) where
   stays_packets : (act : PacketAct Carried call) → Stays (before_packets act) (after_packets act)
-  stays_packets (begins p m new summed) l = l
-  stays_packets (adds_plain chunk m plain others) l = l
+  stays_packets (begins p m new summed to) l = l
+  stays_packets (adds_plain chunk m plain others fair) l = l
   stays_packets (emits m some bundled) l = l
   stays_packets (complains kind text m) l = l
   stays_packets (counts m) l = l

@@ -73,8 +73,8 @@ module _ (message : ℕ → Message) (lifecycle : ℕ → Option ℕ) (is_interl
   -- ---- packets
 
   pub goes_packets : (act : PacketAct Carried call) → InvAt g (before_packets act) → Goes (before_packets act) (after_packets act)
-  goes_packets (begins packet m new summed) inv = goes_begun message lifecycle is_interleaved from handed packet m new
-  goes_packets (adds_plain chunk m plain others) inv =
+  goes_packets (begins packet m new summed to) inv = goes_begun message lifecycle is_interleaved from handed packet m new
+  goes_packets (adds_plain chunk m plain others fair) inv =
       goes_adding message lifecycle is_interleaved from handed m chunk (λ x claim. plain_says (first_in m.state) (transfer_of from).acknowledged (count (transfer_of from).sender) x chunk plain)
   goes_packets (emits m some bundled) inv = goes_emitted message lifecycle is_interleaved from handed m inv.packing
   goes_packets (complains kind text m) inv =

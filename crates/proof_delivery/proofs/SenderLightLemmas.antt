@@ -246,8 +246,8 @@ module _ (message : ℕ → Message) (lifecycle : ℕ → Option ℕ) (is_interl
 
   pub light_packet : {call : Call} (g : Setting) (act : PacketAct Carried call) → InvAt g (before_packets act)
       → SenderGoes message lifecycle is_interleaved from (before_packets act) (after_packets act)
-  light_packet g (begins p m new summed) inv = goes_anew m p new
-  light_packet g (adds_plain chunk m plain others) inv = goes_adding m chunk (says_plain chunk plain)
+  light_packet g (begins p m new summed to) inv = goes_anew m p new
+  light_packet g (adds_plain chunk m plain others fair) inv = goes_adding m chunk (says_plain chunk plain)
   light_packet g (emits m some bundled) inv = goes_emitting g m inv
   light_packet {call} g (complains kind text m) inv =
       goes_same m (after_packets {call = call} (complains kind text m)) (λ x h. h) refl refl

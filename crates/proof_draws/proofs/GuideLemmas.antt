@@ -23,8 +23,8 @@ module _ (call : Call) (mine peer : ℕ) (g : Guides call mine peer) where
   Stays a b = TagsAre mine peer a.state → TagsAre mine peer b.state
 
   stays_packets : (act : PacketAct Carried call) → Stays (before_packets act) (after_packets act)
-  stays_packets (begins p m new summed) = λ h. h
-  stays_packets (adds_plain chunk m plain others) = λ h. h
+  stays_packets (begins p m new summed to) = λ h. h
+  stays_packets (adds_plain chunk m plain others fair) = λ h. h
   stays_packets (emits m some bundled) = λ h. h
   stays_packets (complains kind text m) = λ h. h
   stays_packets (counts m) = λ h. h

@@ -188,8 +188,8 @@ module _ (call : Call) (g : Receives call) where
   settled (Denied streams) P c cs h = emitted_one P c.pack c.emitted.events cs h (OnStreamsResetFailed streams) tt
 
   own_packets : (act : PacketAct Carried call) → R (before_packets act) (after_packets act)
-  own_packets (begins p m new summed) = λ h. emitted_made (May call m.state) m.context.pack m.context.emitted.events m.packet.chunks h p.chunks (subst (All (May call m.state)) (sym new) (All-nil (May call m.state)))
-  own_packets (adds_plain chunk m plain others) = adds_to m.state m chunk (plain_may call m.state chunk plain)
+  own_packets (begins p m new summed to) = λ h. emitted_made (May call m.state) m.context.pack m.context.emitted.events m.packet.chunks h p.chunks (subst (All (May call m.state)) (sym new) (All-nil (May call m.state)))
+  own_packets (adds_plain chunk m plain others fair) = adds_to m.state m chunk (plain_may call m.state chunk plain)
   own_packets (emits m some bundled) = λ h. emitted_emitted (May call m.state) m.context.pack m.context.emitted.events m.packet.chunks h m.context.options m.packet.tag m.packet.is_summed
   own_packets (complains kind text m) = λ h. emitted_one (May call m.state) m.context.pack m.context.emitted.events m.packet.chunks h (OnError kind text) tt
   own_packets (counts m) = λ z. z

@@ -144,8 +144,8 @@ module _ (g : Setting) (call : Call) (r : Rules g call) (receives : (tag : ℕ) 
   summed_so m p inv h (as_before e) none = h.3 (sym e ∙ none)
 
   w_packets : (act : PacketAct Carried call) → InvAt g (before_packets act) → WholeAt (before_packets act) → WholeAt (after_packets act)
-  w_packets (begins p m new summed) inv h = (h.0, h.1, ap (list_all is_whole) new, summed_so m p inv h summed, h.4)
-  w_packets (adds_plain chunk m plain others) inv h =
+  w_packets (begins p m new summed to) inv h = (h.0, h.1, ap (list_all is_whole) new, summed_so m p inv h summed, h.4)
+  w_packets (adds_plain chunk m plain others fair) inv h =
       whole_added method m.state m.context.queue m.context.emitted.events chunk m.packet (plain_whole chunk plain) h
   w_packets (emits m some bundled) inv h =
       (h.0, h.1, refl, h.3, said_emitted method m.context.emitted.events m.context.pack m.context.options m.packet inv.packing (kind_of m.packet.chunks bundled h.2) h.3 h.4)

@@ -2,6 +2,7 @@
 use Rattle.std.proofs.Common.{◌≡◌, ℕ, ◌==◌, Bool, true, false, Option, Some, None, List, [], ◌∷◌, ◌++◌, length, codes, refl, sym, ◌∙◌, append_assoc}
 use Rattle.rand_core.specs.Stream.{Stream}
 use Rattle.sctp_wire.specs.Parameter.{ParameterTree}
+use Rattle.sctp_wire.specs.Cause.{unrecognized_chunk}
 use Rattle.sctp_packet.specs.Chunk.{ChunkTree, data_chunk, init_chunk, init_ack_chunk, sack_chunk, heartbeat_request_chunk, heartbeat_ack_chunk, abort_chunk, shutdown_chunk, shutdown_ack_chunk, error_chunk, cookie_echo_chunk, cookie_ack_chunk, shutdown_complete_chunk, idata_chunk, re_config_chunk, forward_tsn_chunk, i_forward_tsn_chunk, unknown_chunk}
 use Rattle.sctp_packet.specs.ChunkText.{chunk_text}
 use Rattle.sctp_packet.specs.Packet.{PacketTree}
@@ -18,6 +19,7 @@ use Rattle.spec_endpoint.specs.Input.{refusal, is_reported, echo_unknown, echoed
 use Rattle.spec_endpoint.specs.Laws.{Call, Connect, Close, Shutdown, Send, SendMany, ResetStreams, TakeMessage, SetLowThreshold, SetPriority, SetMaxMessageSize, Advance, HandOver, Restore, Packet as Given, NoPacket, called}
 use Rattle.proof_endpoint.specs.Acts.{EndWithPacket, at, idle, calm, IsReceived, counts, asks, adds_ack, beats, counts_errors, shuts_on, ends_packet, Preserves}
 use Rattle.proof_endpoint.proofs.BundledLemmas.{first_more}
+use Rattle.proof_endpoint.proofs.OwnLemmas.{fair_error, reason_is_text}
 use Rattle.proof_endpoint.proofs.PacketActsLemmas.{does_begin_new, does_chunk, does_complain, does_send_with}
 use Rattle.proof_endpoint.proofs.RowActsLemmas.{placed, OpenActs, does_where_open, does_send_shutdown, does_close, does_shutdown, does_shut_by_peer, does_shutdown_ack, does_shutdown_complete, does_violated, does_abort, does_error, does_data_chunk, does_idata_chunk, does_forward_chunk, does_iforward_chunk, does_sack}
 use Rattle.proof_endpoint.proofs.OpeningActsLemmas.{does_connect, does_init, does_init_ack, does_cookie_ack, does_cookie_echo}
@@ -30,7 +32,9 @@ module _ {P : Type 0} {call : Call} {R : EndWithPacket P → EndWithPacket P →
   does_echoed_in : (s : State) (typ flags : ℕ) (value : List ℕ) (c : Context P) (w : Stream) → R (idle s c w) (idle s (echoed_in s typ flags value c) w)
   does_echoed_in Closed typ flags value c w = k.same (idle Closed c w)
   does_echoed_in (CookieWait tag first t1) typ flags value c w = k.same (idle (CookieWait tag first t1) c w)
-  does_echoed_in (Open phase t) typ flags value c w = does_chunk k (echo_unknown c.options.mtu typ flags value) phase t c w refl
+  does_echoed_in (Open phase t) typ flags value c w =
+      does_chunk k (echo_unknown c.options.mtu typ flags value) phase t c w refl
+      (λ f. fair_error (unrecognized_chunk _) (record { fits = tt; text = tt; of_its_variant = tt }))
 
   does_unknown_if : (b : Bool) (typ flags : ℕ) (value : List ℕ) (s : EndpointState P) (w : Stream)
       → R (placed s w) (placed (on_unknown_if b typ flags value s) w)
@@ -39,8 +43,10 @@ module _ {P : Type 0} {call : Call} {R : EndWithPacket P → EndWithPacket P →
       (does_echoed_in s.state typ flags value (complain_of_unknown typ flags value s.context) w)
   does_unknown_if false typ flags value s w = k.same (placed s w)
 
-  does_heartbeat : (parameters : List ParameterTree) (w : Stream) → OpenActs R w (on_heartbeat parameters)
-  does_heartbeat parameters w phase t c = does_chunk k (heartbeat_ack_chunk parameters) phase t c w refl
+  does_heartbeat : (tag : ℕ) (parameters : List ParameterTree) (w : Stream) → IsReceived call tag (heartbeat_request_chunk parameters)
+      → OpenActs R w (on_heartbeat parameters)
+  does_heartbeat tag parameters w h phase t c =
+      does_chunk k (heartbeat_ack_chunk parameters) phase t c w refl (λ f. record { fits = tt; inside = (f.chunks tag (heartbeat_request_chunk parameters) h).1 })
 
   does_acked_if : (b : Bool) (s : State) (c : Context P) (w : Stream) → R (idle s c w) (idle s (answered_if b c) w)
   does_acked_if true s c w =
@@ -77,16 +83,18 @@ module _ {P : Type 0} {call : Call} {R : EndWithPacket P → EndWithPacket P →
   does_on_chunk tag (i_forward_tsn_chunk tsn skipped) s h right = does_iforward_chunk k s.random tag tsn skipped s.endpoint_state h right
   does_on_chunk tag (unknown_chunk typ flags value) s h right = does_unknown_if (is_reported typ) typ flags value s.endpoint_state s.random
   does_on_chunk tag (heartbeat_request_chunk parameters) s h right =
-      does_where_open k s.random (on_heartbeat parameters) s.endpoint_state (does_heartbeat parameters s.random)
+      does_where_open k s.random (on_heartbeat parameters) s.endpoint_state (does_heartbeat tag parameters s.random h)
   does_on_chunk tag (heartbeat_ack_chunk parameters) s h right = does_heartbeat_ack parameters s.endpoint_state s.random
   does_on_chunk tag (shutdown_chunk tsn) s h right = does_where_open k s.random on_shutdown s.endpoint_state (does_shut_by_peer k s.random)
-  does_on_chunk tag shutdown_ack_chunk s h right = does_shutdown_ack k s.random tag s.endpoint_state
+  does_on_chunk tag shutdown_ack_chunk s h right = does_shutdown_ack k s.random tag h s.endpoint_state
   does_on_chunk tag (shutdown_complete_chunk reflected) s h right = does_where_open k s.random on_shutdown_complete s.endpoint_state (does_shutdown_complete k s.random)
   does_on_chunk tag (re_config_chunk parameters) s h right = does_where_open k s.random (on_reconfig parameters) s.endpoint_state (does_reconfig k s.random tag parameters h)
 
   does_received_if : (v : Option (List ℕ)) (tag : ℕ) (chunk : ChunkTree) (s : Endpoint P) → IsReceived call tag chunk → violation s.endpoint_state.state chunk ≡ v
       → R (calm s) (calm (received_if v tag chunk s).end)
-  does_received_if (Some reason) tag chunk s h is = does_where_open k s.random (λ phase t c. violate reason t c) s.endpoint_state (does_violated k s.random reason)
+  does_received_if (Some reason) tag chunk s h is =
+      does_where_open k s.random (λ phase t c. violate reason t c) s.endpoint_state
+      (does_violated k s.random reason (reason_is_text s.endpoint_state.state chunk reason is))
   does_received_if None tag chunk s h is = does_on_chunk tag chunk s h is
 
   pub does_receive : (tag : ℕ) (chunk : ChunkTree) (s : Endpoint P) → IsReceived call tag chunk → R (calm s) (calm (receive tag chunk s).end)
@@ -157,7 +165,7 @@ module _ {P : Type 0} {call : Call} {R : EndWithPacket P → EndWithPacket P →
   does_packet p s is =
       k.through (k.packets (counts (calm s))) (does_taken_if (refusal p.header.verification_tag p.chunks s.endpoint_state.state) p (counts_row s) is)
 
-  does_no_packet : (s : Endpoint P) → R (calm s) (calm (on_no_packet s))
+  pub does_no_packet : (s : Endpoint P) → R (calm s) (calm (on_no_packet s))
   does_no_packet s =
       let t : Endpoint P = counts_row s in
       k.through (k.packets (counts (calm s))) (does_complain k ParseFailed (codes "Failed to parse SCTP packet") t.endpoint_state.state t.endpoint_state.context t.random)

@@ -1,5 +1,5 @@
 -- A chunk whose parts fit is read back as soon as it can be written.
-use Rattle.std.proofs.Common.{◌≡◌, ◌+◌, ◌^◌, ◌<◌, true, false, List, [], ◌∷◌, length, map, nat_lt, arith}
+use Rattle.std.proofs.Common.{◌≡◌, ◌+◌, ◌^◌, ◌<◌, true, List, [], ◌∷◌, length, map, nat_lt, arith}
 use Rattle.std.specs.Prelude.{All}
 use Rattle.std.specs.List.{list_all}
 use Rattle.std.proofs.lemmas.List.{length-append}
@@ -7,45 +7,16 @@ use Rattle.std.proofs.lemmas.List.Elements.{All-cons, All-nil}
 use Rattle.std.proofs.lemmas.Bool.{and_parts, ltb-true}
 use Rattle.sctp_wire.specs.Item.{Item}
 use Rattle.sctp_wire.specs.Serialize.{is_encodable, padded_item, inner_items}
-use Rattle.sctp_wire.specs.Parameter.{ParameterTree, parameter_item, parameter_is_whole, IsOfItsVariant, ParameterFits}
-use Rattle.sctp_wire.specs.Cause.{CauseTree, cause_item, CauseIsOfItsVariant, CauseFits}
-use Rattle.sctp_wire.specs.ReadBack.{ParameterReadsBack, CauseReadsBack, IsText}
+use Rattle.sctp_wire.specs.Parameter.{ParameterTree, parameter_item, parameter_is_whole}
+use Rattle.sctp_wire.specs.Cause.{CauseTree, cause_item}
+use Rattle.sctp_wire.specs.ReadBack.{ParameterReadsBack, CauseReadsBack}
 use Rattle.sctp_wire.proofs.SerializeLemmas.{length_item_bytes, length_padded_item}
-use Rattle.sctp_packet.specs.Chunk.{ChunkTree, data_chunk, init_chunk, init_ack_chunk, sack_chunk, heartbeat_request_chunk, heartbeat_ack_chunk, abort_chunk, shutdown_chunk, shutdown_ack_chunk, error_chunk, cookie_echo_chunk, cookie_ack_chunk, shutdown_complete_chunk, idata_chunk, re_config_chunk, forward_tsn_chunk, i_forward_tsn_chunk, unknown_chunk}
-use Rattle.sctp_packet.specs.Written.{chunk_item, chunk_value, chunk_is_whole, is_known_chunk}
-use Rattle.sctp_packet.specs.Grammar.{Each, FitsChunk}
+use Rattle.sctp_packet.specs.Chunk.{ChunkTree, init_chunk, init_ack_chunk, heartbeat_request_chunk, heartbeat_ack_chunk, abort_chunk, error_chunk, cookie_echo_chunk, re_config_chunk, unknown_chunk}
+use Rattle.sctp_packet.specs.Written.{chunk_item, chunk_value, chunk_is_whole}
+use Rattle.sctp_packet.specs.Grammar.{Each}
 use Rattle.sctp_packet.specs.ReadBack.{ChunkReadsBack, IsReadable}
 use Rattle.sctp_chunk.proofs.ValueLemmas.{length_init, length_init_ack}
-
-pub record IsFairParameter (t : ParameterTree) : Type 0 where
-  pub fits : ParameterFits t
-  pub of_its_variant : IsOfItsVariant t
-
-pub record IsFairCause (t : CauseTree) : Type 0 where
-  pub fits : CauseFits t
-  pub text : IsText t
-  pub of_its_variant : CauseIsOfItsVariant t
-
--- what makes it readable, but for the lengths inside
-abbrev pub IsFairInside : ChunkTree → Type 0
-IsFairInside (init_chunk init) = Each IsFairParameter init.parameters
-IsFairInside (init_ack_chunk init) = Each IsFairParameter init.parameters
-IsFairInside (heartbeat_request_chunk parameters) = Each IsFairParameter parameters
-IsFairInside (heartbeat_ack_chunk parameters) = Each IsFairParameter parameters
-IsFairInside (re_config_chunk parameters) = Each IsFairParameter parameters
-IsFairInside (abort_chunk reflected causes) = Each IsFairCause causes
-IsFairInside (error_chunk causes) = Each IsFairCause causes
-IsFairInside (cookie_echo_chunk cookie) = 0 < length cookie
-IsFairInside (unknown_chunk typ flags value) = is_known_chunk typ ≡ false
-IsFairInside (data_chunk tsn immediate f) = Unit {0}
-IsFairInside (sack_chunk sack) = Unit {0}
-IsFairInside (shutdown_chunk tsn) = Unit {0}
-IsFairInside shutdown_ack_chunk = Unit {0}
-IsFairInside cookie_ack_chunk = Unit {0}
-IsFairInside (shutdown_complete_chunk reflected) = Unit {0}
-IsFairInside (idata_chunk tsn immediate f) = Unit {0}
-IsFairInside (forward_tsn_chunk tsn skipped) = Unit {0}
-IsFairInside (i_forward_tsn_chunk tsn skipped) = Unit {0}
+use Rattle.proof_endpoint.specs.Fair.{IsFairParameter, IsFairCause, IsFairInside, IsFair}
 
 -- ---- items inside are shorter than what is around them
 
@@ -87,10 +58,6 @@ causes_read cs short fair = each cs (inner_fit (map cause_item cs) short) fair
 
 -- ---- the chunk
 
-pub record IsFair (t : ChunkTree) : Type 0 where
-  pub fits : FitsChunk t
-  pub inside : IsFairInside t
-
 readable : (t : ChunkTree) → 4 + length (chunk_value t) < 2 ^ 16 → chunk_is_whole t ≡ true → IsFairInside t → IsReadable t
 unfolding chunk_value
 readable (init_chunk i) h w f = parameters_read i.parameters (omega (arith, h, length_init i)) w f
@@ -102,15 +69,7 @@ readable (abort_chunk reflected cs) h w f = causes_read cs (omega (arith, h)) f
 readable (error_chunk cs) h w f = causes_read cs (omega (arith, h)) f
 readable (cookie_echo_chunk cookie) h w f = f
 readable (unknown_chunk typ flags value) h w f = f
-readable (data_chunk tsn immediate f) h w k = tt
-readable (sack_chunk sack) h w f = tt
-readable (shutdown_chunk tsn) h w f = tt
-readable shutdown_ack_chunk h w f = tt
-readable cookie_ack_chunk h w f = tt
-readable (shutdown_complete_chunk reflected) h w f = tt
-readable (idata_chunk tsn immediate f) h w k = tt
-readable (forward_tsn_chunk tsn skipped) h w f = tt
-readable (i_forward_tsn_chunk tsn skipped) h w f = tt
+readable t h w f = tt
 
 pub fair_reads : (t : ChunkTree) → IsFair t → is_encodable (chunk_item t) (chunk_is_whole t) ≡ true → ChunkReadsBack t
 fair_reads t fair h =

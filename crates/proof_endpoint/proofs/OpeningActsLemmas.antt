@@ -1,5 +1,5 @@
 -- The walk over the rows: the handshake.
-use Rattle.std.proofs.Common.{◌≡◌, ℕ, ◌==◌, not, Bool, true, false, Option, Some, None, Result, Ok, Err, List, [], ◌∷◌, codes, refl}
+use Rattle.std.proofs.Common.{◌≡◌, ℕ, ◌<◌, ◌^◌, subst, arith, ◌==◌, not, Bool, true, false, Option, Some, None, Result, Ok, Err, List, [], ◌∷◌, codes, refl}
 use Rattle.rand_core.specs.Stream.{Stream}
 use Rattle.sctp_wire.specs.Cause.{missing_mandatory_parameter, cookie_received_while_shutting_down}
 use Rattle.sctp_packet.specs.Chunk.{ChunkTree, InitTree, init_chunk, init_ack_chunk, abort_chunk, error_chunk, cookie_echo_chunk, cookie_ack_chunk, shutdown_ack_chunk}
@@ -15,9 +15,11 @@ use Rattle.spec_endpoint.specs.Packets.{Packet, fits, add, packet_to, new_packet
 use Rattle.spec_endpoint.specs.Sending.{is_alone}
 use Rattle.spec_endpoint.specs.Opening.{long_word, init_of, init_ack_of, next_first, send_init, t1_init, connect_in, connect, agreed_by, answers, answers_new, answers_again, on_init_open, on_init_in, on_init, cookie_in, without_cookie, t1_cookie, names, echo_cookie, on_init_ack_in, on_init_ack, connected_context, on_cookie_ack, CookieResolution, EstablishNew, RestartDetected, SimultaneousInit, MaintainExisting, Discard, InvalidTag, by_tags, new_if, compare_tags, resolve_cookie, cookie_ack, tcb_by, establishes as establishes_by, keep_association, too_late, restarts as restarts_by, restarts_in, on_verdict, on_read_cookie, on_cookie_echo}
 use Rattle.spec_endpoint.specs.Laws.{Call, Connect}
-use Rattle.proof_endpoint.specs.Acts.{EndWithPacket, at, nothing, idle, calm, drawn_first, drawn_tag, drawn_tag_alone, drew_two, drew_one, echoing, opened_by, IsReceived, IsEchoed, IsBundled, an_init_alone, an_init_ack_alone, all_along, always, as_held, as_asked, adds_plain, connects, adds_init, answers_new as answers_new_act, answers_waiting, answers_echoed, answers_again as answers_again_act, echoes, establishes, opens, restarts, opens_again, maintains, adds_cookie_ack, Preserves}
+use Rattle.proof_endpoint.proofs.ReceivedLemmas.{FitsCookie, FitsRead, read_fits}
+use Rattle.proof_endpoint.proofs.OwnLemmas.{fair_shutdown_ack, fair_too_late, fair_missing}
+use Rattle.proof_endpoint.specs.Acts.{EndWithPacket, at, nothing, idle, calm, Fitting, IsAddressed, drawn_first, drawn_tag, drawn_tag_alone, drew_two, drew_one, echoing, opened_by, IsReceived, IsEchoed, IsBundled, an_init_alone, an_init_ack_alone, all_along, always, as_held, as_asked, adds_plain, connects, adds_init, answers_new as answers_new_act, answers_waiting, answers_echoed, answers_again as answers_again_act, echoes, establishes, opens, restarts, opens_again, maintains, adds_cookie_ack, Preserves}
 use Rattle.proof_endpoint.proofs.BundledLemmas.{added_more, one_bundled, first_more, plain_added}
-use Rattle.proof_endpoint.proofs.PacketActsLemmas.{does_out, does_begin, does_plain, does_complain, does_send_with, does_send_buffered, does_send_cookie}
+use Rattle.proof_endpoint.proofs.PacketActsLemmas.{new_addressed, whole_addressed, rounded_addressed, does_out, does_begin, does_plain, does_complain, does_send_with, does_send_buffered, does_send_cookie}
 use Rattle.proof_endpoint.proofs.RowActsLemmas.{placed, OpenActs, does_closed, does_send_shutdown_ack}
 use Rattle.proof_endpoint.proofs.OpeningStepsLemmas.{end_in}
 
@@ -27,6 +29,14 @@ answering o i = record (packet_to i.initiate_tag o.mtu) { is_summed = not (zero_
 
 abbrev pub accepting : Options → (peer_tag : ℕ) → Tcb → Packet
 accepting o peer_tag t = record (packet_to peer_tag o.mtu) { is_summed = not (zero_checksum_enabled t.capabilities) }
+
+answering_addressed : {P : Type 0} {call : Call} (tag : ℕ) (i : InitTree) (s : State) (c : Context P) (w : Stream) → IsReceived call tag (init_chunk i)
+    → IsAddressed call (idle s c w) (answering c.options i)
+answering_addressed tag i s c w h = whole_addressed s c w (answering c.options i) refl (λ f held. (f.chunks tag (init_chunk i) h).1)
+
+-- the cookie that came
+pub echoed_fits : {call : Call} (tag : ℕ) (a : Cookie) → IsEchoed call tag a → Fitting call → FitsCookie a
+echoed_fits tag a h f = subst FitsRead h.reads (read_fits h.cookie (f.chunks tag (cookie_echo_chunk h.cookie) h.received).1)
 
 answered_bundled : (o : Options) (i : InitTree) (tag first tie : ℕ) → IsBundled (add (init_ack_chunk (init_ack_of o i tag first tie)) (answering o i)).chunks
 answered_bundled o i tag first tie =
@@ -49,7 +59,8 @@ module _ {P : Type 0} {call : Call} {R : EndWithPacket P → EndWithPacket P →
       let s : State = CookieWait tag first t1 in
       let p : Packet = packet_to 0 c.options.mtu in
       let i : InitTree = init_of c.options tag first (announce c.options c.options.zero_checksum_method) in
-      k.through (does_begin k s c w p refl (always refl))
+      let zero_small : 0 < 2 ^ 32 = omega arith in
+      k.through (does_begin k s c w p refl (always refl) (whole_addressed s c w p refl (λ f held. zero_small)))
       (k.through (k.opening (adds_init tag first t1 (at s c w p) refl))
       (does_out k s c w (add (init_chunk i) p) (one_bundled (init_chunk i) p refl (an_init_alone i refl))))
 
@@ -72,7 +83,7 @@ module _ {P : Type 0} {call : Call} {R : EndWithPacket P → EndWithPacket P →
         let c : Context P = s.endpoint_state.context in
         let p : Packet = answering c.options i in
         let m : EndWithPacket P = at Closed c s.random p in
-        k.through (does_begin k Closed c s.random p refl (as_asked tag i h refl))
+        k.through (does_begin k Closed c s.random p refl (as_asked tag i h refl) (answering_addressed tag i Closed c s.random h))
         (k.through (k.opening (answers_new_act tag i m h refl))
         (does_out k Closed c (drew_two m).random (add (init_ack_chunk (init_ack_of c.options i (drawn_tag m) (drawn_first m) 0)) p)
         (answered_bundled c.options i (drawn_tag m) (drawn_first m) 0)))
@@ -84,7 +95,7 @@ module _ {P : Type 0} {call : Call} {R : EndWithPacket P → EndWithPacket P →
         let st : State = CookieWait my_tag first t1 in
         let p : Packet = answering c.options i in
         let m : EndWithPacket P = at st c s.random p in
-        k.through (does_begin k st c s.random p refl (as_asked tag i h refl))
+        k.through (does_begin k st c s.random p refl (as_asked tag i h refl) (answering_addressed tag i st c s.random h))
         (k.through (k.opening (answers_waiting tag i my_tag first t1 m h refl))
         (does_out k st c s.random (add (init_ack_chunk (init_ack_of c.options i my_tag first 0)) p)
         (answered_bundled c.options i my_tag first 0)))
@@ -96,7 +107,7 @@ module _ {P : Type 0} {call : Call} {R : EndWithPacket P → EndWithPacket P →
         let st : State = Open (CookieEchoed t1 cookie) t in
         let p : Packet = answering c.options i in
         let m : EndWithPacket P = at st c s.random p in
-        k.through (does_begin k st c s.random p refl (as_asked tag i h refl))
+        k.through (does_begin k st c s.random p refl (as_asked tag i h refl) (answering_addressed tag i st c s.random h))
         (k.through (k.opening (answers_echoed tag i t1 cookie t m h refl))
         (does_out k st c s.random (add (init_ack_chunk (init_ack_of c.options i t.identity.my_tag t.identity.my_first 0)) p)
         (answered_bundled c.options i t.identity.my_tag t.identity.my_first 0)))
@@ -108,7 +119,7 @@ module _ {P : Type 0} {call : Call} {R : EndWithPacket P → EndWithPacket P →
         let st : State = Open phase t in
         let p : Packet = answering c.options i in
         let m : EndWithPacket P = at st c s.random p in
-        k.through (does_begin k st c s.random p refl (as_asked tag i h refl))
+        k.through (does_begin k st c s.random p refl (as_asked tag i h refl) (answering_addressed tag i st c s.random h))
         (k.through (k.opening (answers_again_act tag i phase t m h late refl))
         (does_out k st c (drew_one m).random (add (init_ack_chunk (init_ack_of c.options i (drawn_tag_alone m) (next_first t) t.identity.tie)) p)
         (answered_bundled c.options i (drawn_tag_alone m) (next_first t) t.identity.tie)))
@@ -132,19 +143,20 @@ module _ {P : Type 0} {call : Call} {R : EndWithPacket P → EndWithPacket P →
 
   -- ---- INIT ACK
 
-  does_without_cookie : (tag : ℕ) (my_tag first : ℕ) (t1 : Timer) (c : Context P) (w : Stream)
+  does_without_cookie : (tag : ℕ) (my_tag first : ℕ) (t1 : Timer) (c : Context P) (w : Stream) → (Fitting call → tag < 2 ^ 32)
       → R (idle (CookieWait my_tag first t1) c w) (placed (without_cookie tag c) w)
-  does_without_cookie tag my_tag first t1 c w =
+  does_without_cookie tag my_tag first t1 c w small =
       let s : State = CookieWait my_tag first t1 in
       let p : Packet = packet_to tag (round_up c.options.mtu) in
       let chunk : ChunkTree = abort_chunk false (missing_mandatory_parameter (7 ∷ []) ∷ []) in
-      k.through (does_plain k chunk p s c w refl refl (always refl))
+      k.through (does_plain k chunk p s c w refl refl (always refl) (rounded_addressed s c w tag small) (λ f. fair_missing))
       (does_closed k w (OnAborted ProtocolViolation (codes "InitAck chunk doesn't contain a cookie")) s (emit (add chunk p) c) refl refl)
 
   module _ (tag : ℕ) (i : InitTree) (h : IsReceived call tag (init_ack_chunk i)) where
     does_echoed : (o : Option (List ℕ)) (my_tag first : ℕ) (t1 : Timer) (s : Endpoint P) → cookie_in i.parameters ≡ o
         → R (calm (end_in (CookieWait my_tag first t1) s)) (calm (echo_cookie i o my_tag first (end_in (CookieWait my_tag first t1) s)))
-    does_echoed None my_tag first t1 s is = does_without_cookie i.initiate_tag my_tag first t1 s.endpoint_state.context s.random
+    does_echoed None my_tag first t1 s is =
+        does_without_cookie i.initiate_tag my_tag first t1 s.endpoint_state.context s.random (λ f. (f.chunks tag (init_ack_chunk i) h).1.0)
     does_echoed (Some cookie) my_tag first t1 s is =
         let c : Context P = s.endpoint_state.context in
         let m : EndWithPacket P = at (CookieWait my_tag first t1) c s.random nothing in
@@ -175,11 +187,12 @@ module _ {P : Type 0} {call : Call} {R : EndWithPacket P → EndWithPacket P →
 
   module _ (tag : ℕ) (a : Cookie) (h : IsEchoed call tag a) where
     -- its answer, with data behind it
-    does_accept : (peer_tag : ℕ) (phase : Phase) (t : Tcb) (c : Context P) (w : Stream) → is_alone phase ≡ false
-        → R (idle (Open phase t) c w) (idle (Open phase (cookie_ack peer_tag t c).tcb) (cookie_ack peer_tag t c).context w)
-    does_accept peer_tag phase t c w late =
-        let p : Packet = accepting c.options peer_tag t in
-        k.through (does_begin k (Open phase t) c w p refl (as_held phase t refl refl))
+    does_accept : (phase : Phase) (t : Tcb) (c : Context P) (w : Stream) → is_alone phase ≡ false
+        → R (idle (Open phase t) c w) (idle (Open phase (cookie_ack a.peer_tag t c).tcb) (cookie_ack a.peer_tag t c).context w)
+    does_accept phase t c w late =
+        let s : State = Open phase t in
+        let p : Packet = accepting c.options a.peer_tag t in
+        k.through (does_begin k s c w p refl (as_held phase t refl refl) (whole_addressed s c w p refl (λ f held. (echoed_fits tag a h f).peer_tag)))
         (k.through (k.opening (adds_cookie_ack tag a phase t (at (Open phase t) c w p) h late))
         (does_send_with k phase w false (add cookie_ack_chunk p) t c (first_more cookie_ack_chunk p refl refl)))
 
@@ -188,18 +201,18 @@ module _ {P : Type 0} {call : Call} {R : EndWithPacket P → EndWithPacket P →
         → R m (calm (establishes_by resets a c s))
     does_anew resets c s m done =
         let n : EndWithPacket P = opened_by resets a (idle s.endpoint_state.state c s.random) in
-        k.through done (does_accept a.peer_tag Established (tcb_by c.options a (long_word s)) n.context n.random refl)
+        k.through done (does_accept Established (tcb_by c.options a (long_word s)) n.context n.random refl)
 
     does_kept : (phase : Phase) (t : Tcb) (c : Context P) (w : Stream) → compare_tags tag t.identity a ≡ MaintainExisting
         → R (idle (Open phase t) c w) (placed (keep_association a phase t c) w)
     does_kept (CookieEchoed t1 cookie) t c w is =
         k.through (k.opening (maintains tag a t1 cookie t (idle (Open (CookieEchoed t1 cookie) t) c w) h is))
-        (does_accept a.peer_tag Established t (connected_context c) w refl)
-    does_kept Established t c w is = does_accept a.peer_tag Established t c w refl
-    does_kept ShutdownPending t c w is = does_accept a.peer_tag ShutdownPending t c w refl
-    does_kept (ShutdownSent t2) t c w is = does_accept a.peer_tag (ShutdownSent t2) t c w refl
-    does_kept ShutdownReceived t c w is = does_accept a.peer_tag ShutdownReceived t c w refl
-    does_kept (ShutdownAckSent t2) t c w is = does_accept a.peer_tag (ShutdownAckSent t2) t c w refl
+        (does_accept Established t (connected_context c) w refl)
+    does_kept Established t c w is = does_accept Established t c w refl
+    does_kept ShutdownPending t c w is = does_accept ShutdownPending t c w refl
+    does_kept (ShutdownSent t2) t c w is = does_accept (ShutdownSent t2) t c w refl
+    does_kept ShutdownReceived t c w is = does_accept ShutdownReceived t c w refl
+    does_kept (ShutdownAckSent t2) t c w is = does_accept (ShutdownAckSent t2) t c w refl
 
     -- a restart comes too late
     does_too_late : (phase : Phase) (t : Tcb) (c : Context P) (w : Stream) → R (idle (Open phase t) c w) (idle (Open phase t) (too_late t c) w)
@@ -208,9 +221,9 @@ module _ {P : Type 0} {call : Call} {R : EndWithPacket P → EndWithPacket P →
         let q : Packet = add shutdown_ack_chunk p in
         let r : Packet = add (error_chunk (cookie_received_while_shutting_down ∷ [])) q in
         let s : State = Open phase t in
-        k.through (does_begin k s c w p refl (as_held phase t refl refl))
-        (k.through (k.packets (adds_plain shutdown_ack_chunk (at s c w p) refl refl))
-        (k.through (k.packets (adds_plain (error_chunk (cookie_received_while_shutting_down ∷ [])) (at s c w q) refl (plain_added (fits p shutdown_ack_chunk) p refl)))
+        k.through (does_begin k s c w p refl (as_held phase t refl refl) (new_addressed phase t c w))
+        (k.through (k.packets (adds_plain shutdown_ack_chunk (at s c w p) refl refl (λ f. fair_shutdown_ack)))
+        (k.through (k.packets (adds_plain (error_chunk (cookie_received_while_shutting_down ∷ [])) (at s c w q) refl (plain_added (fits p shutdown_ack_chunk) p refl) (λ f. fair_too_late)))
         (k.through (does_out k s c w r (all_along (added_more (error_chunk (cookie_received_while_shutting_down ∷ [])) q (first_more shutdown_ack_chunk p refl refl) refl))) (does_complain k WrongSequence (codes "Received COOKIE-ECHO while shutting down") s (emit r c) w))))
 
     does_restarts : (phase : Phase) (t : Tcb) (s : Endpoint P) → compare_tags tag t.identity a ≡ RestartDetected

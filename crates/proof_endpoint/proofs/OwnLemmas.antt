@@ -1,19 +1,27 @@
 -- Chunks that an end makes of what it has are fair.
-use Rattle.std.proofs.Common.{◌≡◌, ℕ, zero, suc, ◌==◌, ◌^◌, ◌<◌, Bool, true, false, cond, not, List, [], ◌∷◌, ◌++◌, arith}
+use Rattle.std.proofs.Common.{◌≡◌, ℕ, zero, suc, ◌==◌, ◌^◌, ◌<◌, Bool, true, false, cond, not, Option, Some, None, List, [], ◌∷◌, ◌++◌, refl, subst, arith}
 use Rattle.std.specs.Prelude.{nat_lt}
 use Rattle.std.specs.List.{list_all}
 use Rattle.std.specs.Str.{IsUtf8, IsAscii}
 use Rattle.std.proofs.lemmas.Str.{IsUtf8-from_ascii}
 use Rattle.std.proofs.lemmas.Bool.{and_parts}
-use Rattle.sctp_wire.specs.Parameter.{ParameterTree, state_cookie, supported_extensions, forward_tsn_supported, zero_checksum_acceptable}
+use Rattle.std.proofs.lemmas.List.Elements.{All-cons, All-nil}
+use Rattle.sctp_wire.specs.Parameter.{ParameterTree, heartbeat_info, state_cookie, supported_extensions, forward_tsn_supported, zero_checksum_acceptable}
+use Rattle.sctp_wire.specs.Cause.{CauseTree, missing_mandatory_parameter, cookie_received_while_shutting_down, user_initiated_abort}
+use Rattle.sctp_packet.specs.Chunk.{ChunkTree, data_chunk, idata_chunk, forward_tsn_chunk, i_forward_tsn_chunk, abort_chunk, error_chunk, shutdown_chunk, shutdown_ack_chunk, shutdown_complete_chunk}
 use Rattle.sctp_packet.specs.Grammar.{Each}
 use Rattle.sctp_state.specs.Options.{Options}
-use Rattle.sctp_capabilities.specs.Capabilities.{where_enabled, extensions, announce, same_method}
+use Rattle.sctp_rx.specs.Tracker as tracker
+use Rattle.sctp_capabilities.specs.Capabilities.{Capabilities, where_enabled, extensions, announce, same_method}
 use Rattle.sctp_capabilities.specs.Cookie.{Cookie, cookie_bytes}
 use Rattle.sctp_capabilities.proofs.CookieLemmas.{length_cookie_bytes}
+use Rattle.spec_endpoint.specs.Association.{Tcb, State, Closed, CookieWait, Open}
+use Rattle.spec_endpoint.specs.Heartbeats.{info_of, heartbeat}
+use Rattle.spec_endpoint.specs.Input.{unless, interleaving_text, no_interleaving_text, no_partial_text, forward_misused, misuse, violation}
 use Rattle.proof_endpoint.specs.Sound.{HasBytes}
-use Rattle.proof_endpoint.proofs.FairLemmas.{IsFairParameter}
+use Rattle.proof_endpoint.specs.Fair.{IsFairParameter, IsFairCause, IsFair}
 use Rattle.proof_endpoint.proofs.ReceivedLemmas.{each_append, each_push}
+use Rattle.proof_endpoint.proofs.SoundItemsLemmas.{word_small}
 
 -- ---- texts
 
@@ -31,6 +39,78 @@ letter_at (b ∷ bs) h (suc i) = letter_at bs (and_parts (is_letter b) (list_all
 -- a text of letters
 pub is_text : (bs : List ℕ) → list_all (λ (b : ℕ). nat_lt b 128) bs ≡ true → IsUtf8 bs
 is_text bs h = IsUtf8-from_ascii bs (letter_at bs h)
+
+interleaving_is_text : IsUtf8 interleaving_text
+interleaving_is_text = is_text interleaving_text refl
+
+no_interleaving_is_text : IsUtf8 no_interleaving_text
+no_interleaving_is_text = is_text no_interleaving_text refl
+
+no_partial_is_text : IsUtf8 no_partial_text
+no_partial_is_text = is_text no_partial_text refl
+
+abbrev IsReason : Option (List ℕ) → Type 0
+IsReason None = Unit {0}
+IsReason (Some reason) = IsUtf8 reason
+
+unless_reason : (b : Bool) (text : List ℕ) → IsUtf8 text → IsReason (unless b text)
+unless_reason true text h = tt
+unless_reason false text h = h
+
+forward_reason : (b : Bool) (text : List ℕ) (p : Bool) → IsUtf8 text → IsReason (forward_misused b text p)
+forward_reason false text p h = h
+forward_reason true text p h = unless_reason p no_partial_text no_partial_is_text
+
+misuse_reason : (k : Capabilities) (chunk : ChunkTree) → IsReason (misuse k chunk)
+misuse_reason k (data_chunk tsn immediate f) = unless_reason (not k.message_interleaving) interleaving_text interleaving_is_text
+misuse_reason k (idata_chunk tsn immediate f) = unless_reason k.message_interleaving no_interleaving_text no_interleaving_is_text
+misuse_reason k (forward_tsn_chunk tsn skipped) = forward_reason (not k.message_interleaving) interleaving_text k.partial_reliability interleaving_is_text
+misuse_reason k (i_forward_tsn_chunk tsn skipped) = forward_reason k.message_interleaving no_interleaving_text k.partial_reliability no_interleaving_is_text
+misuse_reason k chunk = tt
+
+violation_reason : (s : State) (chunk : ChunkTree) → IsReason (violation s chunk)
+violation_reason Closed chunk = tt
+violation_reason (CookieWait tag first t1) chunk = tt
+violation_reason (Open phase t) chunk = misuse_reason t.capabilities chunk
+
+-- a reason to abort is a text
+pub reason_is_text : (s : State) (chunk : ChunkTree) (reason : List ℕ) → violation s chunk ≡ Some reason → IsUtf8 reason
+reason_is_text s chunk reason is = subst IsReason is (violation_reason s chunk)
+
+-- ---- chunks
+
+pub fair_user_abort : (text : List ℕ) → list_all (λ (b : ℕ). nat_lt b 128) text ≡ true → IsFairCause (user_initiated_abort text)
+fair_user_abort text h = record { fits = tt; text = is_text text h; of_its_variant = tt }
+
+pub fair_abort : (cause : CauseTree) → IsFairCause cause → IsFair (abort_chunk false (cause ∷ []))
+fair_abort cause h = record { fits = tt; inside = (h, tt) }
+
+pub fair_error : (cause : CauseTree) → IsFairCause cause → IsFair (error_chunk (cause ∷ []))
+fair_error cause h = record { fits = tt; inside = (h, tt) }
+
+pub fair_too_late : IsFair (error_chunk (cookie_received_while_shutting_down ∷ []))
+fair_too_late = fair_error cookie_received_while_shutting_down (record { fits = tt; text = tt; of_its_variant = tt })
+
+pub fair_missing : IsFair (abort_chunk false (missing_mandatory_parameter (7 ∷ []) ∷ []))
+fair_missing =
+    let seven : 7 < 2 ^ 16 = omega arith in
+    let one : 1 < 2 ^ 32 = omega arith in
+    fair_abort (missing_mandatory_parameter (7 ∷ []))
+    (record { fits = (one, All-cons (λ (n : ℕ). n < 2 ^ 16) 7 [] seven (All-nil (λ (n : ℕ). n < 2 ^ 16))); text = tt; of_its_variant = tt })
+
+pub fair_shutdown : (t : Tcb) → IsFair (shutdown_chunk (tracker.wire_tsn t.tracker t.tracker.tracker.seen.front))
+fair_shutdown t = record { fits = word_small t.tracker.first _; inside = tt }
+
+pub fair_shutdown_ack : IsFair shutdown_ack_chunk
+fair_shutdown_ack = record { fits = tt; inside = tt }
+
+pub fair_complete : (b : Bool) → IsFair (shutdown_complete_chunk b)
+fair_complete b = record { fits = tt; inside = tt }
+
+pub fair_heartbeat : (counter : ℕ) → IsFair (heartbeat counter)
+fair_heartbeat counter =
+    let fair : IsFairParameter (heartbeat_info (info_of counter)) = record { fits = tt; of_its_variant = tt } in
+    record { fits = tt; inside = (fair, tt) }
 
 -- ---- parameters
 

@@ -1,5 +1,5 @@
 -- The walk over the rows: packets and bursts.
-use Rattle.std.proofs.Common.{◌≡◌, ℕ, zero, suc, nat_le, nat_lt, Bool, true, false, Option, Some, None, is_some, List, [], ◌∷◌, refl, ap}
+use Rattle.std.proofs.Common.{◌≡◌, ℕ, ◌<◌, ◌^◌, arith, zero, suc, nat_le, nat_lt, Bool, true, false, Option, Some, None, is_some, List, [], ◌∷◌, refl, ap}
 use Rattle.std.specs.List.{list_all}
 use Rattle.rand_core.specs.Stream.{Stream}
 use Rattle.sctp_packet.specs.Chunk.{ChunkTree, cookie_echo_chunk}
@@ -13,48 +13,69 @@ use Rattle.sctp_tx.specs.Resent.{resent_fast}
 use Rattle.sctp_tx_queue.specs.Resets.{requested_streams, request_resets}
 use Rattle.spec_endpoint.specs.Association.{Tcb, Phase, CookieEchoed, State, Open, Context}
 use Rattle.spec_endpoint.specs.Requests.{Request}
-use Rattle.spec_endpoint.specs.Packets.{Packet, empty_packet, fits, add, has_chunks, packet_to, new_packet, complain, emit_if, emit, emit_chunk}
+use Rattle.spec_endpoint.specs.Packets.{Packet, empty_packet, fits, add, has_chunks, round_up, packet_to, new_packet, complain, emit_if, emit, emit_chunk}
 use Rattle.spec_endpoint.specs.Sending.{Filling, ask_for_sack, ack_if, goes_along, with_ack, forward_later, forward_added_if, forward_if, test_forward_point, tested_if, with_forward, most_streams, add_request, request_started, request_of, request_if, with_request, with_data, filled_as, Turned, turned_if, next_packet, go_on, burst, send_with, send_buffered, cookie_if, send_cookie, fast_most, fast_packet, fast_if, send_lost}
 use Rattle.spec_endpoint.specs.Laws.{Call}
-use Rattle.proof_endpoint.specs.Acts.{EndWithPacket, at, nothing, idle, is_plain, takes_more, IsBundled, all_along, IsSummedSo, always, as_held, as_before, begins, adds_plain, emits, complains, adds_cookie, asks, adds_ack, expires, adds_forward, forwards_later, asks_no_reset, asks_reset, adds_request, sends, sends_fast, Preserves}
+use Rattle.proof_endpoint.specs.Sound.{FitsState}
+use Rattle.proof_endpoint.specs.Fair.{IsFair}
+use Rattle.proof_endpoint.specs.Acts.{EndWithPacket, at, nothing, idle, Fitting, is_plain, takes_more, IsBundled, all_along, IsSummedSo, always, as_held, as_before, IsAddressed, begins, adds_plain, emits, complains, adds_cookie, asks, adds_ack, expires, adds_forward, forwards_later, asks_no_reset, asks_reset, adds_request, sends, sends_fast, Preserves}
 use Rattle.proof_endpoint.proofs.BundledLemmas.{plain_first, first_more, data_more, TakesMore, filled_more, turned_more}
 
 -- ---- packets
+
+module _ {P : Type 0} {call : Call} where
+  nothing_addressed : (m : EndWithPacket P) → IsAddressed call m nothing
+  nothing_addressed m = record { limit = omega arith; tag = λ f held before. omega arith }
+
+  -- a packet to the peer
+  pub new_addressed : (phase : Phase) (t : Tcb) (c : Context P) (w : Stream) → IsAddressed call (idle (Open phase t) c w) (new_packet c.options t)
+  new_addressed phase t c w = record { limit = omega arith; tag = λ f held before. held.1.identity.peer_tag }
+
+  -- one of the mtu
+  pub whole_addressed : (s : State) (c : Context P) (w : Stream) (p : Packet) → p.limit ≡ c.options.mtu → (Fitting call → FitsState s → p.tag < 2 ^ 32)
+      → IsAddressed call (idle s c w) p
+  whole_addressed s c w p e h = record { limit = omega (arith, e); tag = λ f held before. h f held }
+
+  pub rounded_addressed : (s : State) (c : Context P) (w : Stream) (tag : ℕ) → (Fitting call → tag < 2 ^ 32)
+      → IsAddressed call (idle s c w) (packet_to tag (round_up c.options.mtu))
+  rounded_addressed s c w tag h = record { limit = omega arith; tag = λ f held before. h f }
 
 module _ {P : Type 0} {call : Call} {R : EndWithPacket P → EndWithPacket P → Type 0} (k : Preserves call R) where
   does_emit_if : (b : Bool) (s : State) (c : Context P) (w : Stream) (p : Packet) → has_chunks p ≡ b → IsBundled p.chunks
       → R (at s c w p) (at s (emit_if b p c) w (empty_packet p))
   does_emit_if true s c w p e bundled = k.packets (emits (at s c w p) e bundled)
-  does_emit_if false s c w p e bundled = k.packets (begins (empty_packet p) (at s c w p) refl (as_before refl))
+  does_emit_if false s c w p e bundled = k.packets (begins (empty_packet p) (at s c w p) refl (as_before refl) (record { limit = omega arith; tag = λ f held before. before }))
 
   pub does_emit : (s : State) (c : Context P) (w : Stream) (p : Packet) → IsBundled p.chunks → R (at s c w p) (at s (emit p c) w (empty_packet p))
   does_emit s c w p bundled = does_emit_if (has_chunks p) s c w p refl bundled
 
+  pub does_drop : (s : State) (c : Context P) (w : Stream) (p : Packet) → R (at s c w p) (idle s c w)
+  does_drop s c w p = k.packets (begins nothing (at s c w p) refl (always refl) (nothing_addressed (at s c w p)))
+
   -- and nothing is begun
   pub does_out : (s : State) (c : Context P) (w : Stream) (p : Packet) → IsBundled p.chunks → R (at s c w p) (idle s (emit p c) w)
-  does_out s c w p bundled = k.through (does_emit s c w p bundled) (k.packets (begins nothing (at s (emit p c) w (empty_packet p)) refl (always refl)))
+  does_out s c w p bundled = k.through (does_emit s c w p bundled) (does_drop s (emit p c) w (empty_packet p))
 
-  pub does_begin : (s : State) (c : Context P) (w : Stream) (p : Packet) → p.chunks ≡ [] → IsSummedSo call (idle s c w) p → R (idle s c w) (at s c w p)
-  does_begin s c w p new summed = k.packets (begins p (idle s c w) new summed)
+  pub does_begin : (s : State) (c : Context P) (w : Stream) (p : Packet) → p.chunks ≡ [] → IsSummedSo call (idle s c w) p → IsAddressed call (idle s c w) p
+      → R (idle s c w) (at s c w p)
+  does_begin s c w p new summed to = k.packets (begins p (idle s c w) new summed to)
 
   -- a packet to the peer
   pub does_begin_new : (phase : Phase) (t : Tcb) (c : Context P) (w : Stream) → R (idle (Open phase t) c w) (at (Open phase t) c w (new_packet c.options t))
-  does_begin_new phase t c w = does_begin (Open phase t) c w (new_packet c.options t) refl (as_held phase t refl refl)
-
-  pub does_drop : (s : State) (c : Context P) (w : Stream) (p : Packet) → R (at s c w p) (idle s c w)
-  does_drop s c w p = k.packets (begins nothing (at s c w p) refl (always refl))
+  does_begin_new phase t c w = does_begin (Open phase t) c w (new_packet c.options t) refl (as_held phase t refl refl) (new_addressed phase t c w)
 
   -- a packet of one chunk
   pub does_plain : (chunk : ChunkTree) (p : Packet) (s : State) (c : Context P) (w : Stream) → is_plain chunk ≡ true → p.chunks ≡ []
-      → IsSummedSo call (idle s c w) p → R (idle s c w) (idle s (emit (add chunk p) c) w)
-  does_plain chunk p s c w plain new summed =
-      k.through (does_begin s c w p new summed)
-      (k.through (k.packets (adds_plain chunk (at s c w p) plain (ap (list_all is_plain) new)))
+      → IsSummedSo call (idle s c w) p → IsAddressed call (idle s c w) p → (Fitting call → IsFair chunk) → R (idle s c w) (idle s (emit (add chunk p) c) w)
+  does_plain chunk p s c w plain new summed to fair =
+      k.through (does_begin s c w p new summed to)
+      (k.through (k.packets (adds_plain chunk (at s c w p) plain (ap (list_all is_plain) new) fair))
       (does_out s c w (add chunk p) (all_along (first_more chunk p new (plain_first chunk plain)))))
 
-  pub does_chunk : (chunk : ChunkTree) (phase : Phase) (t : Tcb) (c : Context P) (w : Stream) → is_plain chunk ≡ true
+  pub does_chunk : (chunk : ChunkTree) (phase : Phase) (t : Tcb) (c : Context P) (w : Stream) → is_plain chunk ≡ true → (Fitting call → IsFair chunk)
       → R (idle (Open phase t) c w) (idle (Open phase t) (emit_chunk chunk t c) w)
-  does_chunk chunk phase t c w plain = does_plain chunk (new_packet c.options t) (Open phase t) c w plain refl (as_held phase t refl refl)
+  does_chunk chunk phase t c w plain fair =
+      does_plain chunk (new_packet c.options t) (Open phase t) c w plain refl (as_held phase t refl refl) (new_addressed phase t c w) fair
 
   pub does_complain : (kind : ErrorKind) (text : List ℕ) (s : State) (c : Context P) (w : Stream) → R (idle s c w) (idle s (complain kind text c) w)
   does_complain kind text s c w = k.packets (complains kind text (idle s c w))
@@ -181,7 +202,7 @@ module _ {P : Type 0} {call : Call} {R : EndWithPacket P → EndWithPacket P →
   does_cookie_if true t c =
       let p : Packet = packet_to t.identity.peer_tag c.options.mtu in
       let s : State = Open (CookieEchoed t1 cookie) t in
-      k.through (does_begin k s c w p refl (always refl))
+      k.through (does_begin k s c w p refl (always refl) (whole_addressed s c w p refl (λ f held. held.1.identity.peer_tag)))
       (k.through (k.opening (adds_cookie t1 cookie t (at s c w p) refl))
       (does_send_with k (CookieEchoed t1 cookie) w true (add (cookie_echo_chunk cookie) p) t c (first_more (cookie_echo_chunk cookie) p refl refl)))
   does_cookie_if false t c = k.same (idle (Open (CookieEchoed t1 cookie) t) c w)

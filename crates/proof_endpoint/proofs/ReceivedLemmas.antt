@@ -5,13 +5,13 @@ use Rattle.std.specs.Int.{w16, w32, to_be_bytes, from_be_bytes}
 use Rattle.std.proofs.lemmas.List.Elements.{All-head, All-tail}
 use Rattle.sctp_wire.specs.Item.{Item, item_bytes, Takes, ParsesAll}
 use Rattle.sctp_wire.specs.Parameter.{ParameterTree, IsParameter}
-use Rattle.sctp_packet.specs.Chunk.{ChunkTree, data_chunk, init_chunk, init_ack_chunk, heartbeat_request_chunk, cookie_echo_chunk, idata_chunk, re_config_chunk, sack_chunk, heartbeat_ack_chunk, abort_chunk, shutdown_chunk, shutdown_ack_chunk, error_chunk, cookie_ack_chunk, shutdown_complete_chunk, forward_tsn_chunk, i_forward_tsn_chunk, unknown_chunk}
+use Rattle.sctp_packet.specs.Chunk.{ChunkTree, data_chunk, init_chunk, init_ack_chunk, heartbeat_request_chunk, cookie_echo_chunk, idata_chunk, re_config_chunk}
 use Rattle.sctp_packet.specs.Grammar.{Each, IsChunk}
 use Rattle.sctp_capabilities.specs.declared.state_cookie.StateCookieError.{StateCookieError}
 use Rattle.sctp_capabilities.specs.Cookie.{Cookie, u32_in, cookie_from, check_cookie, read_cookie}
 use Rattle.std.specs.Prelude.{Bool, true, false, Result, Ok, Err}
-use Rattle.proof_endpoint.specs.Sound.{AreRead, HasBytes, HasSomeCookie}
-use Rattle.proof_endpoint.proofs.FairLemmas.{IsFairParameter}
+use Rattle.proof_endpoint.specs.Sound.{AreRead, HasSomeCookie}
+use Rattle.proof_endpoint.specs.Fair.{IsFairParameter, FitsReceived}
 
 -- ---- lists
 
@@ -93,32 +93,11 @@ read_fits bytes h = tested_fits _ _ _ (cookie_from bytes) (cookie_fits bytes h)
 
 -- ---- chunks
 
--- what an end uses of a chunk that it receives
-abbrev pub IsReceived : ChunkTree → Type 0
-IsReceived (data_chunk tsn immediate f) = tsn < 2 ^ 32
-IsReceived (idata_chunk tsn immediate f) = tsn < 2 ^ 32
-IsReceived (init_chunk i) = i.initiate_tag < 2 ^ 32
-IsReceived (init_ack_chunk i) = (i.initiate_tag < 2 ^ 32) × Each HasBytes i.parameters
-IsReceived (heartbeat_request_chunk ps) = Each IsFairParameter ps
-IsReceived (re_config_chunk ps) = Each IsFairParameter ps
-IsReceived (cookie_echo_chunk cookie) = Each IsByte cookie
-IsReceived (sack_chunk k) = Unit {0}
-IsReceived (heartbeat_ack_chunk ps) = Unit {0}
-IsReceived (abort_chunk reflected causes) = Unit {0}
-IsReceived (shutdown_chunk tsn) = Unit {0}
-IsReceived shutdown_ack_chunk = Unit {0}
-IsReceived (error_chunk causes) = Unit {0}
-IsReceived cookie_ack_chunk = Unit {0}
-IsReceived (shutdown_complete_chunk reflected) = Unit {0}
-IsReceived (forward_tsn_chunk tsn skipped) = Unit {0}
-IsReceived (i_forward_tsn_chunk tsn skipped) = Unit {0}
-IsReceived (unknown_chunk typ flags value) = Unit {0}
-
 parameters_fair : (bytes : List ℕ) (ps : List ParameterTree) → ParsesAll IsParameter bytes ps [] → Each IsFairParameter ps
 parameters_fair bytes [] h = tt
 parameters_fair bytes (p ∷ ps) h = (record { fits = h.3.fits; of_its_variant = h.3.of_its_variant }, parameters_fair h.1 ps h.4)
 
-received_one : (i : Item) (c : ChunkTree) → Each IsByte i.value → IsChunk i c → HasSomeCookie c → IsReceived c
+received_one : (i : Item) (c : ChunkTree) → Each IsByte i.value → IsChunk i c → HasSomeCookie c → FitsReceived c
 received_one i (data_chunk tsn immediate f) b is k = is.fits.0
 received_one i (idata_chunk tsn immediate f) b is k = is.fits.0
 received_one i (init_chunk init) b is k = is.fits.initiate_tag
@@ -126,23 +105,13 @@ received_one i (init_ack_chunk init) b is k = (is.fits.initiate_tag, k)
 received_one i (heartbeat_request_chunk ps) b is k = parameters_fair i.value ps is.value
 received_one i (re_config_chunk ps) b is k = parameters_fair i.value ps is.value
 received_one i (cookie_echo_chunk cookie) b is k = subst (Each IsByte) is.value.0 b
-received_one i (sack_chunk s) b is k = tt
-received_one i (heartbeat_ack_chunk ps) b is k = tt
-received_one i (abort_chunk reflected causes) b is k = tt
-received_one i (shutdown_chunk tsn) b is k = tt
-received_one i shutdown_ack_chunk b is k = tt
-received_one i (error_chunk causes) b is k = tt
-received_one i cookie_ack_chunk b is k = tt
-received_one i (shutdown_complete_chunk reflected) b is k = tt
-received_one i (forward_tsn_chunk tsn skipped) b is k = tt
-received_one i (i_forward_tsn_chunk tsn skipped) b is k = tt
-received_one i (unknown_chunk typ flags value) b is k = tt
+received_one i c b is k = tt
 
 value_bytes : (i : Item) (rest : List ℕ) → Each IsByte (item_bytes i ++ rest) → Each IsByte i.value
 value_bytes i rest h =
     each_back IsByte (to_be_bytes w16 (4 + length i.value)) i.value (each_front IsByte (item_bytes i) rest h).1.1
 
-received_parses_all : (bytes : List ℕ) (cs : List ChunkTree) → Each IsByte bytes → ParsesAll IsChunk bytes cs [] → Each HasSomeCookie cs → Each IsReceived cs
+received_parses_all : (bytes : List ℕ) (cs : List ChunkTree) → Each IsByte bytes → ParsesAll IsChunk bytes cs [] → Each HasSomeCookie cs → Each FitsReceived cs
 received_parses_all bytes [] b h k = tt
 received_parses_all bytes (c ∷ cs) b h k =
     let i : Item = h.0 in
@@ -152,5 +121,5 @@ received_parses_all bytes (c ∷ cs) b h k =
     let behind : Each IsByte after = each_back IsByte t.pad after (each_back IsByte (item_bytes i) (t.pad ++ after) all) in
     (received_one i c (value_bytes i (t.pad ++ after) all) h.3 k.0, received_parses_all after cs behind h.4 k.1)
 
-pub received_all : (cs : List ChunkTree) → AreRead cs → Each HasSomeCookie cs → Each IsReceived cs
+pub received_all : (cs : List ChunkTree) → AreRead cs → Each HasSomeCookie cs → Each FitsReceived cs
 received_all cs r k = received_parses_all r.bytes cs (each_of_all IsByte r.bytes r.small) r.parses k

@@ -1,5 +1,6 @@
 -- The walk over the rows: shutdown, aborts, data, forward points and acknowledgements.
-use Rattle.std.proofs.Common.{◌≡◌, ℕ, ◌==◌, Bool, true, false, Option, Some, None, List, [], ◌∷◌, length, codes, refl}
+use Rattle.std.proofs.Common.{◌≡◌, ℕ, ◌<◌, ◌^◌, ◌==◌, Bool, true, false, Option, Some, None, List, [], ◌∷◌, length, codes, refl}
+use Rattle.std.specs.Str.{IsUtf8}
 use Rattle.rand_core.specs.Stream.{Stream}
 use Rattle.sctp_wire.specs.Cause.{CauseTree, no_user_data, user_initiated_abort, protocol_violation}
 use Rattle.sctp_chunk.specs.declared.forward_tsn.SkippedStream.{SkippedStream}
@@ -11,15 +12,17 @@ use Rattle.sctp_tx_outstanding.specs.Sack.{is_valid}
 use Rattle.sctp_rx.specs.Tracker as tracker
 use Rattle.sctp_tx.specs.Retransmission.{is_quiet, SackAnswer, Invalid, Valid, sender_if, emitted_if, answer_if}
 use Rattle.spec_endpoint.specs.Association.{Tcb, Phase, CookieEchoed, Established, ShutdownPending, ShutdownSent, ShutdownReceived, ShutdownAckSent, State, Closed, CookieWait, Open, Context, EndpointState, where_open}
-use Rattle.spec_endpoint.specs.Packets.{packet_to, emit_chunk}
+use Rattle.spec_endpoint.specs.Packets.{Packet, packet_to, emit_chunk}
 use Rattle.spec_endpoint.specs.Sending.{Sent, is_alone, send_lost}
 use Rattle.spec_endpoint.specs.Shutdown.{t2_shutdown, close_with, send_shutdown, send_shutdown_ack, Onward, pending, received, go_on, shut_down, shutdown_in, shutdown, shut_by_peer, on_shutdown, complete_shutdown, out_of_the_blue, on_shutdown_ack_open, on_shutdown_ack_in, on_shutdown_ack, on_shutdown_complete, abort, close_in, close, too_many, violate, causes_text, on_abort, on_error}
 use Rattle.spec_endpoint.specs.Data.{no_data, on_no_data, not_connected, takes, take_fragment, taken_if, on_data_in, on_data_if, on_data, forward_to, forwarded_if, forwarded_in, on_forward}
 use Rattle.spec_endpoint.specs.Sack.{clean_blocks, sample_rtt, clear_errors_if, send_after, after_sack, no_block, on_sack_in, on_sack}
 use Rattle.spec_endpoint.specs.Input.{misuse, violation}
 use Rattle.spec_endpoint.specs.Laws.{Call, Shutdown, ending, is_closed}
-use Rattle.proof_endpoint.specs.Acts.{always, EndWithPacket, idle, in_open, IsReceived, point_of, closes, shuts, shuts_on, takes_data, takes_idata, takes_forward, takes_iforward, takes_sack, samples, counts_errors, Preserves}
-use Rattle.proof_endpoint.proofs.PacketActsLemmas.{does_plain, does_chunk, does_complain, does_send_buffered, does_send_lost}
+use Rattle.proof_endpoint.specs.Fair.{IsFairCause}
+use Rattle.proof_endpoint.specs.Acts.{always, EndWithPacket, idle, in_open, IsReceived, Fitting, point_of, closes, shuts, shuts_on, takes_data, takes_idata, takes_forward, takes_iforward, takes_sack, samples, counts_errors, Preserves}
+use Rattle.proof_endpoint.proofs.OwnLemmas.{fair_user_abort, fair_abort, fair_error, fair_shutdown, fair_shutdown_ack, fair_complete}
+use Rattle.proof_endpoint.proofs.PacketActsLemmas.{whole_addressed, does_plain, does_chunk, does_complain, does_send_buffered, does_send_lost}
 
 -- an end with this endpoint state and this random stream, and nothing begun
 abbrev pub placed : {P : Type 0} → EndpointState P → Stream → EndWithPacket P
@@ -42,10 +45,11 @@ module _ {P : Type 0} {call : Call} {R : EndWithPacket P → EndWithPacket P →
   -- ---- shutdown and aborts
 
   pub does_send_shutdown : (phase : Phase) (t : Tcb) (c : Context P) → R (idle (Open phase t) c w) (idle (Open phase t) (send_shutdown t c) w)
-  does_send_shutdown phase t c = does_chunk k (shutdown_chunk (tracker.wire_tsn t.tracker t.tracker.tracker.seen.front)) phase t c w refl
+  does_send_shutdown phase t c =
+      does_chunk k (shutdown_chunk (tracker.wire_tsn t.tracker t.tracker.tracker.seen.front)) phase t c w refl (λ f. fair_shutdown t)
 
   pub does_send_shutdown_ack : (phase : Phase) (t : Tcb) (c : Context P) → R (idle (Open phase t) c w) (idle (Open phase t) (send_shutdown_ack t c) w)
-  does_send_shutdown_ack phase t c = does_chunk k shutdown_ack_chunk phase t c w refl
+  does_send_shutdown_ack phase t c = does_chunk k shutdown_ack_chunk phase t c w refl (λ f. fair_shutdown_ack)
 
   -- to another phase of a shutdown
   pub does_shut_on : (phase next : Phase) (t : Tcb) (c : Context P) → is_alone phase ≡ false → is_alone next ≡ false
@@ -76,16 +80,16 @@ module _ {P : Type 0} {call : Call} {R : EndWithPacket P → EndWithPacket P →
   pub does_closed : (e : Event P) (s : State) (c : Context P) → is_closed s ≡ false → ending e ≡ 1 → R (idle s c w) (placed (close_with e c) w)
   does_closed e s c there is = k.closing (closes e (idle s c w) there is)
 
-  does_aborted : (cause : CauseTree) (e : Event P) (phase : Phase) (t : Tcb) (c : Context P) → ending e ≡ 1
+  does_aborted : (cause : CauseTree) (e : Event P) (phase : Phase) (t : Tcb) (c : Context P) → ending e ≡ 1 → IsFairCause cause
       → R (idle (Open phase t) c w) (placed (abort cause e t c) w)
-  does_aborted cause e phase t c is =
-      k.through (does_chunk k (abort_chunk false (cause ∷ [])) phase t c w refl)
+  does_aborted cause e phase t c is fair =
+      k.through (does_chunk k (abort_chunk false (cause ∷ [])) phase t c w refl (λ f. fair_abort cause fair))
       (does_closed e (Open phase t) (emit_chunk (abort_chunk false (cause ∷ [])) t c) refl is)
 
   does_close_in : (s : State) (c : Context P) → R (idle s c w) (placed (close_in s c) w)
   does_close_in Closed c = k.same (idle Closed c w)
   does_close_in (CookieWait tag first t1) c = does_closed OnClosed (CookieWait tag first t1) c refl refl
-  does_close_in (Open phase t) c = does_aborted (user_initiated_abort (codes "Close called")) OnClosed phase t c refl
+  does_close_in (Open phase t) c = does_aborted (user_initiated_abort (codes "Close called")) OnClosed phase t c refl (fair_user_abort (codes "Close called") refl)
 
   pub does_close : (s : EndpointState P) → R (placed s w) (placed (close s) w)
   does_close s = does_close_in s.state s.context
@@ -125,27 +129,31 @@ module _ {P : Type 0} {call : Call} {R : EndWithPacket P → EndWithPacket P →
 
   does_completed : (phase : Phase) (t : Tcb) (c : Context P) → R (idle (Open phase t) c w) (placed (complete_shutdown t c) w)
   does_completed phase t c =
-      k.through (does_chunk k (shutdown_complete_chunk false) phase t c w refl)
+      k.through (does_chunk k (shutdown_complete_chunk false) phase t c w refl (λ f. fair_complete false))
       (does_closed OnClosed (Open phase t) (emit_chunk (shutdown_complete_chunk false) t c) refl refl)
 
-  does_out_of_the_blue : (tag : ℕ) (s : State) (c : Context P) → R (idle s c w) (idle s (out_of_the_blue tag c) w)
-  does_out_of_the_blue tag s c = does_plain k (shutdown_complete_chunk true) (packet_to tag c.options.mtu) s c w refl refl (always refl)
+  module _ (tag : ℕ) (h : IsReceived call tag shutdown_ack_chunk) where
+    does_out_of_the_blue : (s : State) (c : Context P) → R (idle s c w) (idle s (out_of_the_blue tag c) w)
+    does_out_of_the_blue s c =
+        let p : Packet = packet_to tag c.options.mtu in
+        does_plain k (shutdown_complete_chunk true) p s c w refl refl (always refl)
+        (whole_addressed s c w p refl (λ f held. (f.chunks tag shutdown_ack_chunk h).0)) (λ f. fair_complete true)
 
-  does_shutdown_ack_open : (tag : ℕ) → OpenActs R w (on_shutdown_ack_open tag)
-  does_shutdown_ack_open tag (CookieEchoed t1 cookie) t c = does_out_of_the_blue tag (Open (CookieEchoed t1 cookie) t) c
-  does_shutdown_ack_open tag Established t c = does_out_of_the_blue tag (Open Established t) c
-  does_shutdown_ack_open tag ShutdownPending t c = does_out_of_the_blue tag (Open ShutdownPending t) c
-  does_shutdown_ack_open tag (ShutdownSent t2) t c = does_completed (ShutdownSent t2) t c
-  does_shutdown_ack_open tag ShutdownReceived t c = does_out_of_the_blue tag (Open ShutdownReceived t) c
-  does_shutdown_ack_open tag (ShutdownAckSent t2) t c = does_completed (ShutdownAckSent t2) t c
+    does_shutdown_ack_open : OpenActs R w (on_shutdown_ack_open tag)
+    does_shutdown_ack_open (CookieEchoed t1 cookie) t c = does_out_of_the_blue (Open (CookieEchoed t1 cookie) t) c
+    does_shutdown_ack_open Established t c = does_out_of_the_blue (Open Established t) c
+    does_shutdown_ack_open ShutdownPending t c = does_out_of_the_blue (Open ShutdownPending t) c
+    does_shutdown_ack_open (ShutdownSent t2) t c = does_completed (ShutdownSent t2) t c
+    does_shutdown_ack_open ShutdownReceived t c = does_out_of_the_blue (Open ShutdownReceived t) c
+    does_shutdown_ack_open (ShutdownAckSent t2) t c = does_completed (ShutdownAckSent t2) t c
 
-  does_shutdown_ack_in : (tag : ℕ) (s : State) (c : Context P) → R (idle s c w) (placed (on_shutdown_ack_in tag s c) w)
-  does_shutdown_ack_in tag Closed c = does_out_of_the_blue tag Closed c
-  does_shutdown_ack_in tag (CookieWait my_tag first t1) c = does_out_of_the_blue tag (CookieWait my_tag first t1) c
-  does_shutdown_ack_in tag (Open phase t) c = does_shutdown_ack_open tag phase t c
+    does_shutdown_ack_in : (s : State) (c : Context P) → R (idle s c w) (placed (on_shutdown_ack_in tag s c) w)
+    does_shutdown_ack_in Closed c = does_out_of_the_blue Closed c
+    does_shutdown_ack_in (CookieWait my_tag first t1) c = does_out_of_the_blue (CookieWait my_tag first t1) c
+    does_shutdown_ack_in (Open phase t) c = does_shutdown_ack_open phase t c
 
-  pub does_shutdown_ack : (tag : ℕ) (s : EndpointState P) → R (placed s w) (placed (on_shutdown_ack tag s) w)
-  does_shutdown_ack tag s = does_shutdown_ack_in tag s.state s.context
+    pub does_shutdown_ack : (s : EndpointState P) → R (placed s w) (placed (on_shutdown_ack tag s) w)
+    does_shutdown_ack s = does_shutdown_ack_in s.state s.context
 
   pub does_shutdown_complete : OpenActs R w on_shutdown_complete
   does_shutdown_complete (CookieEchoed t1 cookie) t c = k.same (idle (Open (CookieEchoed t1 cookie) t) c w)
@@ -158,9 +166,11 @@ module _ {P : Type 0} {call : Call} {R : EndWithPacket P → EndWithPacket P →
   pub does_too_many : OpenActs R w (λ phase t c. too_many t c)
   does_too_many phase t c =
       does_aborted (user_initiated_abort (codes "Too many retransmissions")) (OnAborted TooManyRetries (codes "Too many retransmissions")) phase t c refl
+      (fair_user_abort (codes "Too many retransmissions") refl)
 
-  pub does_violated : (reason : List ℕ) → OpenActs R w (λ phase t c. violate reason t c)
-  does_violated reason phase t c = does_aborted (protocol_violation reason) (OnAborted ProtocolViolation reason) phase t c refl
+  pub does_violated : (reason : List ℕ) → IsUtf8 reason → OpenActs R w (λ phase t c. violate reason t c)
+  does_violated reason text phase t c =
+      does_aborted (protocol_violation reason) (OnAborted ProtocolViolation reason) phase t c refl (record { fits = tt; text = text; of_its_variant = tt })
 
   pub does_abort : (causes : List CauseTree) → OpenActs R w (on_abort causes)
   does_abort causes phase t c = does_closed (OnAborted PeerReported (causes_text causes)) (Open phase t) c refl refl
@@ -173,11 +183,13 @@ module _ {P : Type 0} {call : Call} {R : EndWithPacket P → EndWithPacket P →
   does_no_data : (s : State) (c : Context P) → R (idle s c w) (idle s (no_data c) w)
   does_no_data s c = does_complain k ProtocolViolation (codes "Received DATA chunk with no user data") s c w
 
-  does_on_no_data : (tsn : ℕ) (s : State) (c : Context P) → R (idle s c w) (idle s (on_no_data tsn s c) w)
-  does_on_no_data tsn Closed c = does_no_data Closed c
-  does_on_no_data tsn (CookieWait tag first t1) c = does_no_data (CookieWait tag first t1) c
-  does_on_no_data tsn (Open phase t) c =
-      k.through (does_no_data (Open phase t) c) (does_chunk k (error_chunk (no_user_data (record { 0 = tsn }) ∷ [])) phase t (no_data c) w refl)
+  does_on_no_data : (tsn : ℕ) (s : State) (c : Context P) → (Fitting call → tsn < 2 ^ 32) → R (idle s c w) (idle s (on_no_data tsn s c) w)
+  does_on_no_data tsn Closed c small = does_no_data Closed c
+  does_on_no_data tsn (CookieWait tag first t1) c small = does_no_data (CookieWait tag first t1) c
+  does_on_no_data tsn (Open phase t) c small =
+      let cause : CauseTree = no_user_data (record { 0 = tsn }) in
+      k.through (does_no_data (Open phase t) c)
+      (does_chunk k (error_chunk (cause ∷ [])) phase t (no_data c) w refl (λ f. fair_error cause (record { fits = small f; text = tt; of_its_variant = tt })))
 
   does_not_connected : (s : State) (c : Context P) → R (idle s c w) (idle s (not_connected c) w)
   does_not_connected s c = does_complain k NotConnected (codes "Received unexpected commands on socket that is not connected") s c w
@@ -201,21 +213,23 @@ module _ {P : Type 0} {call : Call} {R : EndWithPacket P → EndWithPacket P →
   does_data_in chunk tsn is_immediate f may (Open phase t) c right some = does_taken_if chunk tsn is_immediate f may (takes tsn t) phase t c right some refl
 
   does_data_if : (chunk : ChunkTree) (tsn : ℕ) (is_immediate : Bool) (f : FragmentTree) → MayTake chunk tsn is_immediate f → (b : Bool) (s : EndpointState P)
-      → violation s.state chunk ≡ None → (length f.payload == 0) ≡ b → R (placed s w) (placed (on_data_if b tsn is_immediate f s) w)
-  does_data_if chunk tsn is_immediate f may true s right is = does_on_no_data tsn s.state s.context
-  does_data_if chunk tsn is_immediate f may false s right is = does_data_in chunk tsn is_immediate f may s.state s.context right is
+      → (Fitting call → tsn < 2 ^ 32) → violation s.state chunk ≡ None → (length f.payload == 0) ≡ b → R (placed s w) (placed (on_data_if b tsn is_immediate f s) w)
+  does_data_if chunk tsn is_immediate f may true s small right is = does_on_no_data tsn s.state s.context small
+  does_data_if chunk tsn is_immediate f may false s small right is = does_data_in chunk tsn is_immediate f may s.state s.context right is
 
   pub does_data_chunk : (tag tsn : ℕ) (is_immediate : Bool) (f : FragmentTree) (s : EndpointState P) → IsReceived call tag (data_chunk tsn is_immediate f)
       → violation s.state (data_chunk tsn is_immediate f) ≡ None → R (placed s w) (placed (on_data tsn is_immediate f s) w)
   does_data_chunk tag tsn is_immediate f s h right =
       does_data_if (data_chunk tsn is_immediate f) tsn is_immediate f
-      (λ phase t m fine some is. k.data_acts (takes_data tag tsn is_immediate f phase t m h fine some is)) (length f.payload == 0) s right refl
+      (λ phase t m fine some is. k.data_acts (takes_data tag tsn is_immediate f phase t m h fine some is)) (length f.payload == 0) s
+      (λ g. (g.chunks tag (data_chunk tsn is_immediate f) h).1) right refl
 
   pub does_idata_chunk : (tag tsn : ℕ) (is_immediate : Bool) (f : FragmentTree) (s : EndpointState P) → IsReceived call tag (idata_chunk tsn is_immediate f)
       → violation s.state (idata_chunk tsn is_immediate f) ≡ None → R (placed s w) (placed (on_data tsn is_immediate f s) w)
   does_idata_chunk tag tsn is_immediate f s h right =
       does_data_if (idata_chunk tsn is_immediate f) tsn is_immediate f
-      (λ phase t m fine some is. k.data_acts (takes_idata tag tsn is_immediate f phase t m h fine some is)) (length f.payload == 0) s right refl
+      (λ phase t m fine some is. k.data_acts (takes_idata tag tsn is_immediate f phase t m h fine some is)) (length f.payload == 0) s
+      (λ g. (g.chunks tag (idata_chunk tsn is_immediate f) h).1) right refl
 
   -- ---- forward points
 

@@ -16,6 +16,7 @@ use Rattle.spec_endpoint.specs.Timers.{Ticking, tick_ack, t3_if, tick_t3, tick_i
 use Rattle.spec_endpoint.specs.Laws.{Call, Advance}
 use Rattle.proof_endpoint.specs.Acts.{all_along, EndWithPacket, idle, advances, delay_ends, times_out, beats, times_init, times_cookie, times_request, wakes_request, counts_errors, Preserves}
 use Rattle.proof_endpoint.proofs.BundledLemmas.{request_more}
+use Rattle.proof_endpoint.proofs.OwnLemmas.{fair_heartbeat}
 use Rattle.proof_endpoint.proofs.PacketActsLemmas.{does_out, does_begin_new, does_chunk, does_add_request, does_send_buffered, does_send_cookie}
 use Rattle.proof_endpoint.proofs.RowActsLemmas.{placed, OpenActs, does_closed, does_shut_on, does_too_many, does_send_shutdown, does_send_shutdown_ack}
 use Rattle.proof_endpoint.proofs.OpeningActsLemmas.{does_send_init}
@@ -37,7 +38,7 @@ module _ {P : Type 0} {call : Call} {R : EndWithPacket P → EndWithPacket P →
     does_beat_if : (b : Bool) (t : Tcb) (c : Context P) → R (idle (Open phase t) c w) (idle (Open phase t) (beat_if b t c) w)
     does_beat_if true t c =
         let d : Context P = counted_on c in
-        k.through (k.time (beats d.heartbeats (idle (Open phase t) c w))) (does_chunk k (heartbeat d.heartbeats.counter) phase t d w refl)
+        k.through (k.time (beats d.heartbeats (idle (Open phase t) c w))) (does_chunk k (heartbeat d.heartbeats.counter) phase t d w refl (λ f. fair_heartbeat d.heartbeats.counter))
     does_beat_if false t c = k.same (idle (Open phase t) c w)
 
     does_unanswered_if : (b : Bool) (t : Tcb) (c : Context P) → R (idle (Open phase t) c w) (idle (Open phase t) (unanswered_if b c) w)

@@ -1,6 +1,6 @@
 -- What rows do to an end, taken apart: each call on an end is one of these acts after another. A relation on ends that leads
 -- from each state to itself, goes on from step to step and holds of each act holds of each call.
-use Rattle.std.specs.Prelude.{◌≡◌, ℕ, ◌==◌, ◌&&◌, ◌⊎◌, not, nat_lt, Bool, true, false, Option, Some, None, Ok, List, [], ◌∷◌, ◌++◌, length, All}
+use Rattle.std.specs.Prelude.{◌≡◌, ℕ, ◌<◌, ◌≤◌, ◌^◌, max, ◌==◌, ◌&&◌, ◌⊎◌, not, nat_lt, Bool, true, false, Option, Some, None, Ok, List, [], ◌∷◌, ◌++◌, length, All}
 use Rattle.std.specs.List.{list_all}
 use Rattle.rand_core.specs.Stream.{Stream}
 use Rattle.sctp_serial.specs.Messages.{Message}
@@ -48,7 +48,9 @@ use Rattle.spec_endpoint.specs.Calls as calls
 use Rattle.spec_endpoint.specs.StreamReset.{is_ahead, on_outcome, prepare_stream}
 use Rattle.spec_endpoint.specs.Handover.{tcb_from, queue_taken}
 use Rattle.spec_endpoint.specs.Input.{misuse, at_end, count_packet}
-use Rattle.spec_endpoint.specs.Laws.{Call, Connect, Shutdown, Send, SendMany, ResetStreams, TakeMessage, SetLowThreshold, SetPriority, SetMaxMessageSize, Advance, HandOver, Restore, Packet as Given, ending, endings, is_closed}
+use Rattle.spec_endpoint.specs.Laws.{Call, Connect, Shutdown, Send, SendMany, ResetStreams, TakeMessage, SetLowThreshold, SetPriority, SetMaxMessageSize, Advance, HandOver, Restore, Packet as Given, NoPacket, ending, endings, is_closed}
+use Rattle.proof_endpoint.specs.Sound.{FitsState}
+use Rattle.proof_endpoint.specs.Fair.{IsFair, FitsReceived}
 
 -- ---- an end at work: with the packet that it puts together
 
@@ -118,6 +120,11 @@ pub record IsReset (call : Call) (stream : ℕ) : Type 0 where
   pub asked : call ≡ ResetStreams streams
   pub among : IsAmong stream streams
 
+-- What is used of the chunks that the call brought fits its field. Of a call without one that was read nothing is said.
+pub record Fitting (call : Call) : Type 0 where
+  pub some : call ≡ NoPacket → ⊥
+  pub chunks : (tag : ℕ) (chunk : ChunkTree) → IsReceived call tag chunk → (tag < 2 ^ 32) × FitsReceived chunk
+
 -- ---- packets
 
 -- chunks that say nothing of what an association carries, nor of how it is opened
@@ -163,24 +170,30 @@ pub data IsSummedSo {P : Type 0} (call : Call) (m : EndWithPacket P) (p : Packet
       → IsSummedSo call m p
   as_before : p.is_summed ≡ m.packet.is_summed → IsSummedSo call m p
 
+-- A packet is no longer than the mtu or the one before it, and its tag fits where what the call brought and what is held does.
+pub record IsAddressed {P : Type 0} (call : Call) (m : EndWithPacket P) (p : Packet) : Type 0 where
+  pub limit : p.limit ≤ max m.context.options.mtu m.packet.limit
+  pub tag : Fitting call → FitsState m.state → m.packet.tag < 2 ^ 32 → p.tag < 2 ^ 32
+
 pub data PacketAct (P : Type 0) (call : Call) : Type 0 where
   -- another packet is begun; one that didn't go out is dropped
-  begins : (p : Packet) (m : EndWithPacket P) → p.chunks ≡ [] → IsSummedSo call m p → PacketAct P call
-  adds_plain : (chunk : ChunkTree) (m : EndWithPacket P) → is_plain chunk ≡ true → list_all is_plain m.packet.chunks ≡ true → PacketAct P call
+  begins : (p : Packet) (m : EndWithPacket P) → p.chunks ≡ [] → IsSummedSo call m p → IsAddressed call m p → PacketAct P call
+  adds_plain : (chunk : ChunkTree) (m : EndWithPacket P) → is_plain chunk ≡ true → list_all is_plain m.packet.chunks ≡ true → (Fitting call → IsFair chunk)
+      → PacketAct P call
   emits : (m : EndWithPacket P) → has_chunks m.packet ≡ true → IsBundled m.packet.chunks → PacketAct P call
   complains : (kind : ErrorKind) (text : List ℕ) (m : EndWithPacket P) → PacketAct P call
   counts : (m : EndWithPacket P) → PacketAct P call
 
 abbrev pub before_packets : {P : Type 0} {call : Call} → PacketAct P call → EndWithPacket P
-before_packets (begins p m new summed) = m
-before_packets (adds_plain chunk m plain others) = m
+before_packets (begins p m new summed to) = m
+before_packets (adds_plain chunk m plain others fair) = m
 before_packets (emits m some bundled) = m
 before_packets (complains kind text m) = m
 before_packets (counts m) = m
 
 abbrev pub after_packets : {P : Type 0} {call : Call} → PacketAct P call → EndWithPacket P
-after_packets (begins p m new summed) = with_packet p m
-after_packets (adds_plain chunk m plain others) = with_chunk chunk m
+after_packets (begins p m new summed to) = with_packet p m
+after_packets (adds_plain chunk m plain others fair) = with_chunk chunk m
 after_packets (emits m some bundled) = record m { context = emit_if true m.packet m.context; packet = empty_packet m.packet }
 after_packets (complains kind text m) = with_context (complain kind text m.context) m
 after_packets (counts m) = with_context (count_packet m.context) m

@@ -2,6 +2,7 @@ pub mod Mapped
 pub mod ReceivedBack
 pub mod FirstRun
 pub mod Sound
+pub mod Fair
 pub mod ReadBack
 pub mod Lifecycles
 pub mod HandoverRoundTrip

@@ -53,8 +53,8 @@ module _ (call : Call) (calm : IsCalm call) where
   }
 
   keeps_packets : (act : PacketAct Carried call) → RestsAt (before_packets act) (after_packets act)
-  keeps_packets (begins p m new summed) = rests_same m.state m.context.emitted.events
-  keeps_packets (adds_plain chunk m plain others) = rests_same m.state m.context.emitted.events
+  keeps_packets (begins p m new summed to) = rests_same m.state m.context.emitted.events
+  keeps_packets (adds_plain chunk m plain others fair) = rests_same m.state m.context.emitted.events
   keeps_packets (emits m some bundled) = rests_emitted m.state m.context.emitted.events (SendPacket _ ∷ []) refl
   keeps_packets (complains kind text m) = rests_emitted m.state m.context.emitted.events (OnError kind text ∷ []) refl
   keeps_packets (counts m) = rests_same m.state m.context.emitted.events

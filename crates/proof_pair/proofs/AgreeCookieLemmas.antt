@@ -19,7 +19,7 @@ use Rattle.proof_endpoint.specs.Acts.{at, nothing, idle, calm, is_opened, all_al
 use Rattle.proof_pair.specs.Trace.{AreValidOptions}
 use Rattle.proof_pair.specs.Agreement.{Draw, Association, mirrored, Has, History, association_of, held_in, AreDistinct}
 use Rattle.proof_endpoint.proofs.BundledLemmas.{added_more, first_more, plain_added}
-use Rattle.proof_endpoint.proofs.PacketActsLemmas.{does_begin, does_out, does_complain, does_send_with}
+use Rattle.proof_endpoint.proofs.PacketActsLemmas.{new_addressed, whole_addressed, does_begin, does_out, does_complain, does_send_with}
 use Rattle.proof_endpoint.proofs.OpeningActsLemmas.{accepting}
 use Rattle.proof_pair.proofs.AgreeLemmas.{Past, View, holds, view_of, own_in, peer_in, SaysEcho, SaysAck, Holds, Tagged, Later, later_same, one_draw}
 use Rattle.proof_pair.proofs.AgreeActsLemmas.{Setting, Inv, InvAt, inv_view, inv_silent, inv_later, inv_grown, inv_bound, adds}
@@ -103,7 +103,8 @@ module _ (o : Options) (past : List (Event Carried)) (y : Past) (fine : AreValid
       let own : AreValidOptions h.own = subst AreValidOptions (sym same) fine in
       let q : Preserves NoPacket (λ a b. InvAt h z y a → InvAt h z y b) = kept_quiet h y own z in
       let p : Packet = accepting c.options k.peer_tag t in
-      let begun : InvAt h z y (at (Open phase t) c w p) = does_begin q (Open phase t) c w p refl (as_held phase t refl refl) inv in
+      let begun : InvAt h z y (at (Open phase t) c w p) = does_begin q (Open phase t) c w p refl (as_held phase t refl refl)
+      (whole_addressed (Open phase t) c w p refl (λ f held. absurd (f.some refl))) inv in
       does_send_with q phase w false (add cookie_ack_chunk p) t c (first_more cookie_ack_chunk p refl refl)
       (adds h z y (view_of (Open phase t)) c.options c.pack c.emitted.events p cookie_ack_chunk begun (acks z here) (inr (refl, refl)))
 
@@ -211,9 +212,10 @@ module _ (o : Options) (past : List (Event Carried)) (y : Past) (fine : AreValid
         let q : Packet = add shutdown_ack_chunk p in
         let chunk : ChunkTree = error_chunk (cookie_received_while_shutting_down ∷ []) in
         let s : State = Open phase t in
-        let one : InvAt g x y (at s c w q) = quiet_here.packets (adds_plain shutdown_ack_chunk (at s c w p) refl refl) (does_begin quiet_here s c w p refl (as_held phase t refl refl) inv) in
+        let begun : InvAt g x y (at s c w p) = does_begin quiet_here s c w p refl (as_held phase t refl refl) (new_addressed phase t c w) inv in
+        let one : InvAt g x y (at s c w q) = quiet_here.packets (adds_plain shutdown_ack_chunk (at s c w p) refl refl (λ f. absurd (f.some refl))) begun in
         let two : InvAt g x y (at s c w (add chunk q)) =
-        quiet_here.packets (adds_plain chunk (at s c w q) refl (plain_added (fits p shutdown_ack_chunk) p refl)) one in
+        quiet_here.packets (adds_plain chunk (at s c w q) refl (plain_added (fits p shutdown_ack_chunk) p refl) (λ f. absurd (f.some refl))) one in
         does_complain quiet_here WrongSequence (codes "Received COOKIE-ECHO while shutting down") s (emit (add chunk q) c) w (does_out quiet_here s c w (add chunk q) (all_along (added_more chunk q (first_more shutdown_ack_chunk p refl refl) refl)) two)
 
     restarts_by : (phase : Phase) (t : Tcb) (c : Context Carried) (s : Endpoint Carried) → InvAt g x y (idle (Open phase t) c s.random)

@@ -73,10 +73,10 @@ module _ (g : Setting) (x y : Past) (call : Call) (own : AreValidOptions g.own) 
   -- ---- packets
 
   keeps_packets : (act : PacketAct Carried call) → InvAt g x y (before_packets act) → InvAt g x y (after_packets act)
-  keeps_packets (begins p m new summed) inv =
+  keeps_packets (begins p m new summed to) inv =
       inv_made g x y (view_of m.state) m.context.options m.context.pack m.context.emitted.events m.packet.tag m.packet.chunks inv p.tag p.chunks
       (subst (All (Says x y p.tag)) (sym new) (All-nil (Says x y p.tag))) (subst Shape (sym new) (inl refl))
-  keeps_packets (adds_plain chunk m plain others) inv =
+  keeps_packets (adds_plain chunk m plain others fair) inv =
       adds_simple g x y (view_of m.state) m.context.options m.context.pack m.context.emitted.events m.packet chunk inv plain others
   keeps_packets (emits m some bundled) inv =
       inv_emitted g x y (view_of m.state) m.context.options m.context.pack m.context.emitted.events m.packet.tag m.packet.chunks inv m.context.options m.packet.is_summed

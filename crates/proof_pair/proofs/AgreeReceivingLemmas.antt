@@ -23,7 +23,7 @@ use Rattle.proof_endpoint.proofs.OpeningStepsLemmas.{end_in}
 use Rattle.proof_endpoint.specs.Acts.{EndWithPacket, idle, calm, nothing, echoing, IsReceived, always, Preserves}
 use Rattle.proof_pair.specs.Trace.{AreValidOptions}
 use Rattle.proof_pair.specs.Agreement.{Draw, Association, Has, History, association_of, held_in, two_drawn, one_drawn, drawn_for, AreDistinct}
-use Rattle.proof_endpoint.proofs.PacketActsLemmas.{does_plain, does_complain, does_send_buffered, does_send_cookie}
+use Rattle.proof_endpoint.proofs.PacketActsLemmas.{rounded_addressed, does_plain, does_complain, does_send_buffered, does_send_cookie}
 use Rattle.proof_endpoint.proofs.RowActsLemmas.{does_closed, does_send_shutdown_ack}
 use Rattle.proof_endpoint.proofs.ActsLemmas.{does_receive}
 use Rattle.proof_pair.proofs.AddedLemmas.{all_at}
@@ -238,7 +238,7 @@ module _ (o : Options) (past : List (Event Carried)) (under : Option ℕ) (y : P
           let q : Packet = packet_to i.initiate_tag (round_up c.options.mtu) in
           goes_held g y n e1 (echoed_by i None my_tag first (end_in st s)) known
           (does_closed k s.random (OnAborted ProtocolViolation (codes "InitAck chunk doesn't contain a cookie")) st (emit (add chunk q) c) refl refl
-          (does_plain k chunk q st c s.random refl refl (always refl) inv))
+          (does_plain k chunk q st c s.random refl refl (always refl) (rounded_addressed st c s.random i.initiate_tag (λ f. absurd (f.some refl))) (λ f. absurd (f.some refl)) inv))
 
       answered : (b : Option (List ℕ)) (my_tag first : ℕ) (t1 : Timer) (s : Endpoint Carried) → cookie_in i.parameters ≡ b
           → InvAt g x y (calm (end_in (CookieWait my_tag first t1) s))

@@ -25,7 +25,7 @@ use Rattle.proof_endpoint.proofs.OpeningStepsLemmas.{end_in}
 use Rattle.proof_endpoint.specs.Acts.{idle, calm, is_opened, IsReceived, always, Preserves}
 use Rattle.proof_pair.specs.Trace.{has_connected}
 use Rattle.proof_pair.specs.Agreement.{Association, Has, History, association_of, held_in, drawn_for}
-use Rattle.proof_endpoint.proofs.PacketActsLemmas.{does_plain}
+use Rattle.proof_endpoint.proofs.PacketActsLemmas.{rounded_addressed, does_plain}
 use Rattle.proof_endpoint.proofs.RowActsLemmas.{does_closed, does_where_open}
 use Rattle.proof_endpoint.proofs.ActsLemmas.{does_receive, does_ended}
 use Rattle.proof_pair.proofs.AddedLemmas.{all_at}
@@ -179,7 +179,9 @@ module _ (p : PacketTree) where
       let chunk : ChunkTree = abort_chunk false (missing_mandatory_parameter (7 ∷ []) ∷ []) in
       let q : Packet = packet_to i.initiate_tag (round_up c.options.mtu) in
       let d : Context Carried = emit (add chunk q) c in
-      let sent : RestsAt (idle st c s.random) (idle st d s.random) = does_plain k chunk q st c s.random refl refl (always refl) in
+      let sent : RestsAt (idle st c s.random) (idle st d s.random) =
+      does_plain k chunk q st c s.random refl refl (always refl) (rounded_addressed st c s.random i.initiate_tag (λ f. absurd (f.some refl)))
+      (λ f. absurd (f.some refl)) in
       let over : RestsAt (idle st d s.random) (calm (echo_cookie i None own first (end_in st s))) =
       does_closed k s.random (OnAborted ProtocolViolation (codes "InitAck chunk doesn't contain a cookie")) st d refl refl in
       not_yet (end_in st s) (echo_cookie i None own first (end_in st s)) none (record { held = λ a b. sent.held a (over.held a b); emitted = over.emitted ∙ sent.emitted }) h

@@ -167,8 +167,8 @@ module _ (once : CallsNumberOnce) (made : MadeConnected) (call : Call) (fits : H
   block = leads_block (IsQuiet call)
 
   keeps_packets : (act : PacketAct (List ℕ) call) → R (before_packets act) (after_packets act)
-  keeps_packets (begins p m new summed) = still m.state m.context m.context refl refl
-  keeps_packets (adds_plain chunk m plain others) = still m.state m.context m.context refl refl
+  keeps_packets (begins p m new summed to) = still m.state m.context m.context refl refl
+  keeps_packets (adds_plain chunk m plain others fair) = still m.state m.context m.context refl refl
   keeps_packets (emits m some bundled) = still m.state m.context _ refl refl
   keeps_packets (complains kind text m) = still m.state m.context _ refl refl
   keeps_packets (counts m) = still m.state m.context _ refl refl

@@ -107,8 +107,8 @@ from_unopened (Open phase u) t none = cc
 
 module _ (g : Setting) (call : Call) (r : Rules g call) (other : call ≡ TakeMessage → ⊥) where
   more_packets : (act : PacketAct Carried call) → More (before_packets act) (after_packets act)
-  more_packets (begins p m new summed) = goes_nowhere m.state
-  more_packets (adds_plain chunk m plain others) = goes_nowhere m.state
+  more_packets (begins p m new summed to) = goes_nowhere m.state
+  more_packets (adds_plain chunk m plain others fair) = goes_nowhere m.state
   more_packets (emits m some bundled) = goes_nowhere m.state
   more_packets (complains kind text m) = goes_nowhere m.state
   more_packets (counts m) = goes_nowhere m.state

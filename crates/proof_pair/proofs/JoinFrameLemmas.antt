@@ -45,10 +45,10 @@ module _ (g : Setting) (call : Call) (r : Rules g call) where
   -- ---- packets
 
   keeps_packets : (act : PacketAct Carried call) → InvAt g (before_packets act) → InvAt g (after_packets act)
-  keeps_packets (begins p m new summed) inv =
+  keeps_packets (begins p m new summed to) inv =
       inv_made g (view_of m.state) m.context.options m.context.pack m.context.emitted.events m.packet.tag m.packet.chunks inv p.tag p.chunks
       (subst (All (Utters g (view_of m.state) p.tag)) (sym new) (All-nil (Utters g (view_of m.state) p.tag)))
-  keeps_packets (adds_plain chunk m plain others) inv =
+  keeps_packets (adds_plain chunk m plain others fair) inv =
       adds (view_of m.state) m.context.options m.context.pack m.context.emitted.events m.packet chunk inv
       (utters_plain g (view_of m.state) m.packet.tag chunk plain)
   keeps_packets (emits m some bundled) inv =

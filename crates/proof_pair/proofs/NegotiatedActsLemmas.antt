@@ -187,10 +187,10 @@ module _ (g : Setting) (call : Call) (r : Receives g call) where
   -- ---- packets
 
   keeps_packets : (act : PacketAct Carried call) → InvAt g (before_packets act) → InvAt g (after_packets act)
-  keeps_packets (begins p m new summed) inv =
+  keeps_packets (begins p m new summed to) inv =
       inv_made g (view_of m.state) m.context.options m.context.pack m.context.emitted.events m.packet.chunks inv p.chunks
       (subst (All (Emits g.own g.other)) (sym new) (All-nil (Emits g.own g.other)))
-  keeps_packets (adds_plain chunk m plain others) inv =
+  keeps_packets (adds_plain chunk m plain others fair) inv =
       adds (view_of m.state) m.context.options m.context.pack m.context.emitted.events m.packet chunk inv (plain_right g.own g.other chunk plain)
   keeps_packets (emits m some bundled) inv =
       inv_emitted g (view_of m.state) m.context.options m.context.pack m.context.emitted.events m.packet.chunks inv m.context.options m.packet.tag m.packet.is_summed

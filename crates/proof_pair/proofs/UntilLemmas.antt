@@ -102,8 +102,8 @@ module _ {P : Type 0} where
 
 module _ {P : Type 0} {call : Call} where
   grows_packets : (act : PacketAct P call) → Grows (before_packets act) (after_packets act)
-  grows_packets (begins p m new summed) = grows_same m (after_packets {call = call} (begins p m new summed)) refl
-  grows_packets (adds_plain chunk m plain others) = grows_same m (after_packets {call = call} (adds_plain chunk m plain others)) refl
+  grows_packets (begins p m new summed to) = grows_same m (after_packets {call = call} (begins p m new summed to)) refl
+  grows_packets (adds_plain chunk m plain others fair) = grows_same m (after_packets {call = call} (adds_plain chunk m plain others fair)) refl
   grows_packets (emits m some bundled) = grows_one _ m (after_packets {call = call} (emits m some bundled)) refl
   grows_packets (complains kind text m) = grows_one (OnError kind text) m (after_packets {call = call} (complains kind text m)) refl
   grows_packets (counts m) = grows_same m (after_packets {call = call} (counts m)) refl
@@ -241,8 +241,8 @@ module _ {P : Type 0} {call : Call} {R : EndWithPacket P → EndWithPacket P →
   first_packets act = still (before_packets act) (after_packets act) (grows_packets act).events (grows_packets act).behind (quiet act) (k.packets act)
     where
       quiet : (act : PacketAct P call) → endings (grows_packets act).events ≡ 0
-      quiet (begins p m new summed) = refl
-      quiet (adds_plain chunk m plain others) = refl
+      quiet (begins p m new summed to) = refl
+      quiet (adds_plain chunk m plain others fair) = refl
       quiet (emits m some bundled) = refl
       quiet (complains kind text m) = refl
       quiet (counts m) = refl

@@ -20,7 +20,7 @@ SameClock m n = n.context.now ≡ m.context.now
 
 module _ (call : Call) (still : (now : ℕ) → call ≡ Advance now → ⊥) where
   on_packets : (act : PacketAct Carried call) → SameClock (before_packets act) (after_packets act)
-  on_packets (begins p m new summed) = refl
+  on_packets (begins p m new summed to) = refl
   on_packets act = refl
 
   on_opening : (act : OpeningAct Carried call) → SameClock (before_opening act) (after_opening act)
