@@ -168,14 +168,14 @@ impl Output {
     }
 
     /// Prints a value.
-    pub fn tell<T: Display>(&mut self, value: &T) -> Answer {
+    pub fn show<T: Display>(&mut self, value: &T) -> Answer {
         let outcome = write!(self.text, ": {value}");
         self.note(outcome);
         Answer::Done
     }
 
     /// Prints why a call fails, and the number of that.
-    pub fn tell_error<T: Display>(&mut self, error: &T, number: u8) -> Answer {
+    pub fn show_error<T: Display>(&mut self, error: &T, number: u8) -> Answer {
         done(write!(self.text, ": {error} ({number})"))
     }
 
@@ -185,7 +185,7 @@ impl Output {
     }
 
     /// Prints values, each with its name. A flag is 1 or 0.
-    pub fn tell_all(&mut self, values: &[(&str, u128)]) -> Answer {
+    pub fn show_all(&mut self, values: &[(&str, u128)]) -> Answer {
         self.push_str(":");
         for (name, value) in values {
             self.push_named(name, *value);
@@ -194,10 +194,10 @@ impl Output {
     }
 
     /// Prints bytes, in hex.
-    pub fn tell_hex(&mut self, alloc: Global, bytes: &[u8]) -> Answer {
+    pub fn show_hex(&mut self, alloc: Global, bytes: &[u8]) -> Answer {
         match hex::encode(alloc, bytes) {
             Ok(digits) => {
-                let answer = self.tell(&digits);
+                let answer = self.show(&digits);
                 drop(digits);
                 answer
             }
@@ -206,10 +206,10 @@ impl Output {
     }
 
     /// Prints the bytes that a call made, in hex.
-    pub fn tell_made(&mut self, alloc: Global, made: Result<Vec<u8>, AllocError>) -> Answer {
+    pub fn show_made(&mut self, alloc: Global, made: Result<Vec<u8>, AllocError>) -> Answer {
         match made {
             Ok(bytes) => {
-                let answer = self.tell_hex(alloc, &bytes);
+                let answer = self.show_hex(alloc, &bytes);
                 drop(bytes);
                 answer
             }

@@ -13,26 +13,26 @@ use std::alloc::Global;
 #[derive(Clone, Copy)]
 struct End {
     options: Options,
-    told: Capabilities,
+    peer: Capabilities,
 }
 
 pub fn run(alloc: Global, commands: &str, output: &mut Output) {
     let mut end = End {
         options: Options::default(),
-        told: Capabilities::default(),
+        peer: Capabilities::default(),
     };
     run_commands(alloc, commands, output, &mut end);
 }
 
 impl Subject for End {
-    /// `announce METHOD`: the parameters. `told OUTGOING INCOMING HEX`: by an INIT with these stream counts and parameters; `nothing`:
+    /// `announce METHOD`: the parameters. `peer OUTGOING INCOMING HEX`: by an INIT with these stream counts and parameters; `nothing`:
     /// without parameters. `negotiate`. `default`. `end`: the other end, with the options of a new socket. Or an option.
     fn obey(&mut self, alloc: Global, line: Line<'_>, output: &mut Output) -> Answer {
         match line.name {
             "announce" => announce(alloc, &self.options, line.numbers[0], output),
-            "told" => told(alloc, &mut self.told, line, output),
+            "peer" => read_peer(alloc, &mut self.peer, line, output),
             "nothing" => show(Capabilities::from_parameters(0, 0, &[]), output),
-            "negotiate" => show(self.told.negotiate(&self.options), output),
+            "negotiate" => show(self.peer.negotiate(&self.options), output),
             "default" => show(Capabilities::default(), output),
             "end" => {
                 self.options = Options::default();
@@ -61,13 +61,18 @@ fn write_parameters(alloc: Global, parameters: &[Parameter], output: &mut Output
     }
     let mut bytes = Vec::new(alloc);
     let outcome = parameters_serialize_to(parameters, &mut bytes);
-    output.tell_made(alloc, outcome.map(|_| bytes))
+    output.show_made(alloc, outcome.map(|_| bytes))
 }
 
-fn told(alloc: Global, told: &mut Capabilities, line: Line<'_>, output: &mut Output) -> Answer {
+fn read_peer(
+    alloc: Global,
+    peer: &mut Capabilities,
+    line: Line<'_>,
+    output: &mut Output,
+) -> Answer {
     let answer = match bytes_of(alloc, line.last) {
         Ok(bytes) => {
-            let answer = read(alloc, told, line.numbers, &bytes);
+            let answer = read(alloc, peer, line.numbers, &bytes);
             drop(bytes);
             answer
         }
@@ -75,16 +80,16 @@ fn told(alloc: Global, told: &mut Capabilities, line: Line<'_>, output: &mut Out
     };
     match answer {
         Answer::NoMemory => answer,
-        _ => show(*told, output),
+        _ => show(*peer, output),
     }
 }
 
 /// What is no list of parameters announces nothing.
-fn read(alloc: Global, told: &mut Capabilities, streams: [u64; 4], bytes: &[u8]) -> Answer {
+fn read(alloc: Global, peer: &mut Capabilities, streams: [u64; 4], bytes: &[u8]) -> Answer {
     match parameters_from_bytes(alloc, bytes) {
         Ok(parameters) => {
             let [outgoing, incoming, _, _] = streams;
-            *told = Capabilities::from_parameters(
+            *peer = Capabilities::from_parameters(
                 low_half(outgoing),
                 low_half(incoming),
                 &parameters,
@@ -97,16 +102,16 @@ fn read(alloc: Global, told: &mut Capabilities, streams: [u64; 4], bytes: &[u8])
     }
 }
 
-fn show(told: Capabilities, output: &mut Output) -> Answer {
-    let incoming = told.negotiated_maximum_incoming_streams;
-    let outgoing = told.negotiated_maximum_outgoing_streams;
+fn show(peer: Capabilities, output: &mut Output) -> Answer {
+    let incoming = peer.negotiated_maximum_incoming_streams;
+    let outgoing = peer.negotiated_maximum_outgoing_streams;
     let values = [
-        ("partial-reliability", told.partial_reliability as u128),
-        ("interleaving", told.message_interleaving as u128),
-        ("reconfig", told.reconfig as u128),
-        ("zero-checksum", told.zero_checksum_enabled() as u128),
+        ("partial-reliability", peer.partial_reliability as u128),
+        ("interleaving", peer.message_interleaving as u128),
+        ("reconfig", peer.reconfig as u128),
+        ("zero-checksum", peer.zero_checksum_enabled() as u128),
         ("incoming", incoming as u128),
         ("outgoing", outgoing as u128),
     ];
-    output.tell_all(&values)
+    output.show_all(&values)
 }

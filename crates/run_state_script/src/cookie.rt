@@ -23,7 +23,7 @@ impl Subject for StateCookie {
     /// what can be set.
     fn obey(&mut self, alloc: Global, line: Line<'_>, output: &mut Output) -> Answer {
         match line.name {
-            "write" => output.tell_made(alloc, self.serialize(alloc)),
+            "write" => output.show_made(alloc, self.serialize(alloc)),
             "read" => read(alloc, self, line.last, output),
             "show" => show(self, output),
             "capabilities" => show_capabilities(&self.peer_capabilities, output),
@@ -49,7 +49,7 @@ fn read_bytes(cookie: &mut StateCookie, bytes: &[u8], output: &mut Output) -> An
             *cookie = read;
             Answer::Done
         }
-        Err(error) => output.tell(&error),
+        Err(error) => output.show(&error),
     }
 }
 
@@ -62,21 +62,24 @@ fn show(cookie: &StateCookie, output: &mut Output) -> Answer {
         ("window", cookie.a_rwnd as u128),
         ("tie", cookie.tie_tag as u128),
     ];
-    output.tell_all(&values)
+    output.show_all(&values)
 }
 
-fn show_capabilities(told: &Capabilities, output: &mut Output) -> Answer {
-    let incoming = told.negotiated_maximum_incoming_streams;
-    let outgoing = told.negotiated_maximum_outgoing_streams;
+fn show_capabilities(capabilities: &Capabilities, output: &mut Output) -> Answer {
+    let incoming = capabilities.negotiated_maximum_incoming_streams;
+    let outgoing = capabilities.negotiated_maximum_outgoing_streams;
     let values = [
-        ("partial-reliability", told.partial_reliability as u128),
-        ("interleaving", told.message_interleaving as u128),
-        ("reconfig", told.reconfig as u128),
-        ("method", told.zero_checksum_method.0 as u128),
+        (
+            "partial-reliability",
+            capabilities.partial_reliability as u128,
+        ),
+        ("interleaving", capabilities.message_interleaving as u128),
+        ("reconfig", capabilities.reconfig as u128),
+        ("method", capabilities.zero_checksum_method.0 as u128),
         ("incoming", incoming as u128),
         ("outgoing", outgoing as u128),
     ];
-    output.tell_all(&values)
+    output.show_all(&values)
 }
 
 /// `tags PEER MINE`, `tsns PEER MINE`, `window BYTES`, `tie TAG`, and what `set_capability` says.
@@ -99,18 +102,20 @@ fn set(cookie: &mut StateCookie, name: &str, numbers: [u64; 4]) -> Answer {
 }
 
 /// `can PARTIAL-RELIABILITY INTERLEAVING RECONFIG METHOD`, `streams INCOMING OUTGOING`.
-fn set_capability(told: &mut Capabilities, name: &str, numbers: [u64; 4]) -> Answer {
+fn set_capability(capabilities: &mut Capabilities, name: &str, numbers: [u64; 4]) -> Answer {
     let [first, second, third, fourth] = numbers;
     match name {
         "can" => {
-            told.partial_reliability = first == 1;
-            told.message_interleaving = second == 1;
-            told.reconfig = third == 1;
-            told.zero_checksum_method = ZeroChecksumAlternateErrorDetectionMethod(low_word(fourth));
+            capabilities.partial_reliability = first == 1;
+            capabilities.message_interleaving = second == 1;
+            capabilities.reconfig = third == 1;
+            capabilities.zero_checksum_method = ZeroChecksumAlternateErrorDetectionMethod(low_word(
+                fourth,
+            ));
         }
         "streams" => {
-            told.negotiated_maximum_incoming_streams = low_half(first);
-            told.negotiated_maximum_outgoing_streams = low_half(second);
+            capabilities.negotiated_maximum_incoming_streams = low_half(first);
+            capabilities.negotiated_maximum_outgoing_streams = low_half(second);
         }
         _ => return Answer::Unknown,
     }

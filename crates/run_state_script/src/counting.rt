@@ -1,4 +1,4 @@
-//! `watcher BYTES`: an amount of bytes that tells when it falls to its threshold.
+//! `watcher BYTES`: an amount of bytes that says when it falls to its threshold.
 //!
 //! `counter LIMIT`: how often in turn the peer didn't answer; without a limit where that is no number.
 

@@ -36,7 +36,7 @@ fn too_large(numbers: [u64; 4], output: &mut Output) -> Answer {
         len: len as usize,
         limit: limit as usize,
     };
-    output.tell_error(&error, error.number())
+    output.show_error(&error, error.number())
 }
 
 fn send(name: &str, output: &mut Output) -> Answer {
@@ -48,20 +48,20 @@ fn send(name: &str, output: &mut Output) -> Answer {
         "failed" => SendError::Failed,
         _ => return Answer::Unknown,
     };
-    output.tell_error(&error, error.number())
+    output.show_error(&error, error.number())
 }
 
 fn batch(alloc: Global, name: &str, output: &mut Output) -> Answer {
     match name {
         "refused" => refused_batch(alloc, output),
-        "memory" => tell_batch(&BatchFault::Memory, output),
-        "failed" => tell_batch(&BatchFault::Failed, output),
+        "memory" => show_batch(&BatchFault::Memory, output),
+        "failed" => show_batch(&BatchFault::Failed, output),
         _ => Answer::Unknown,
     }
 }
 
-fn tell_batch(fault: &BatchFault, output: &mut Output) -> Answer {
-    output.tell_error(fault, fault.number())
+fn show_batch(fault: &BatchFault, output: &mut Output) -> Answer {
+    output.show_error(fault, fault.number())
 }
 
 /// The second message of a batch is empty.
@@ -69,7 +69,7 @@ fn refused_batch(alloc: Global, output: &mut Output) -> Answer {
     match vec![in alloc; (1usize, SendError::EmptyPayload)] {
         Ok(errors) => {
             let fault = BatchFault::Refused(BatchSendError(errors));
-            let answer = tell_batch(&fault, output);
+            let answer = show_batch(&fault, output);
             drop(fault);
             answer
         }
@@ -83,7 +83,7 @@ fn call(name: &str, output: &mut Output) -> Answer {
         "failed" => CallError::Failed,
         _ => return Answer::Unknown,
     };
-    output.tell(&error);
+    output.show(&error);
     done(write!(output.text, " ({})", error as u8))
 }
 
@@ -95,7 +95,7 @@ fn reset(name: &str, output: &mut Output) -> Answer {
         "failed" => ResetStreamsError::Failed,
         _ => return Answer::Unknown,
     };
-    output.tell(&error);
+    output.show(&error);
     done(write!(output.text, " ({})", error as u8))
 }
 
@@ -106,7 +106,7 @@ fn hand_over(name: &str, output: &mut Output) -> Answer {
         "failed" => HandoverError::Failed,
         _ => return Answer::Unknown,
     };
-    output.tell_error(&error, error.number())
+    output.show_error(&error, error.number())
 }
 
 fn restore(name: &str, output: &mut Output) -> Answer {
@@ -117,6 +117,6 @@ fn restore(name: &str, output: &mut Output) -> Answer {
         "failed" => RestoreError::Failed,
         _ => return Answer::Unknown,
     };
-    output.tell(&error);
+    output.show(&error);
     done(write!(output.text, " ({})", error as u8))
 }

@@ -70,7 +70,7 @@ fn waiting(events: &Events, output: &mut Output) -> Answer {
         ("events", mark.events as u128),
         ("given-up", mark.given_up as u128),
     ];
-    output.tell_all(&values)
+    output.show_all(&values)
 }
 
 /// `given-up MESSAGE`: its lifetime passed; `sent-again MESSAGE COUNT`; `dropped-by-reset MESSAGE`; `connected`; `low STREAM`;

@@ -36,7 +36,7 @@ impl Subject for SocketHandoverState {
         let first = line.numbers[0];
         match line.name {
             "valid" => return Answer::Flag(self.is_valid()),
-            "written" => return output.tell_made(alloc, to_bytes(alloc, self)),
+            "written" => return output.show_made(alloc, to_bytes(alloc, self)),
             "read" => return read(alloc, self, line.last, output),
             "peer-tag" => self.peer_verification_tag = low_word(first),
             "interleaving" => self.capabilities.message_interleaving = first == 1,
@@ -76,7 +76,7 @@ fn read_bytes(
             Answer::Done
         }
         Err(RecordFault::Memory) => Answer::NoMemory,
-        Err(fault) => output.tell(&fault),
+        Err(fault) => output.show(&fault),
     }
 }
 

@@ -50,7 +50,7 @@ fn sizes(o: &Options, output: &mut Output) -> Answer {
         ("message", o.max_message_size as u128),
         ("priority", o.default_stream_priority as u128),
     ];
-    output.tell_all(&values)
+    output.show_all(&values)
 }
 
 fn limits(o: &Options, output: &mut Output) -> Answer {
@@ -62,7 +62,7 @@ fn limits(o: &Options, output: &mut Output) -> Answer {
         ("total-low", o.total_buffered_amount_low_threshold as u128),
         ("stream-low", low as u128),
     ];
-    output.tell_all(&values)
+    output.show_all(&values)
 }
 
 fn windows(o: &Options, output: &mut Output) -> Answer {
@@ -72,7 +72,7 @@ fn windows(o: &Options, output: &mut Output) -> Answer {
         ("no-fragments", o.avoid_fragmentation_cwnd_mtus as u128),
         ("immediate-sack", o.immediate_sack_under_cwnd_mtus as u128),
     ];
-    output.tell_all(&values);
+    output.show_all(&values);
     done(write!(
         output.text,
         " burst {} retransmissions {:?} {:?}",
@@ -91,7 +91,7 @@ fn timeouts(o: &Options, output: &mut Output) -> Answer {
         ("t1-cookie", o.t1_cookie_timeout.as_millis()),
         ("t2-shutdown", o.t2_shutdown_timeout.as_millis()),
     ];
-    output.tell_all(&values)
+    output.show_all(&values)
 }
 
 fn intervals(o: &Options, output: &mut Output) -> Answer {
@@ -102,7 +102,7 @@ fn intervals(o: &Options, output: &mut Output) -> Answer {
         ("delayed-ack", o.delayed_ack_max_timeout.as_millis()),
         ("variance", o.min_rtt_variance.as_millis()),
     ];
-    output.tell_all(&values)
+    output.show_all(&values)
 }
 
 fn switches(o: &Options, output: &mut Output) -> Answer {
@@ -119,7 +119,7 @@ fn switches(o: &Options, output: &mut Output) -> Answer {
         ("handover-with-data", handover as u128),
         ("method", method.0 as u128),
     ];
-    output.tell_all(&values)
+    output.show_all(&values)
 }
 
 fn send_options(id: u64, output: &mut Output) -> Answer {
