@@ -152,7 +152,7 @@ impl fmt::Debug for LifecycleId {
 }
 
 /// A stream of an association (RFC 9260 section 1.6).
-#[derive(Clone, Copy, PartialEq, Eq, Hash, PartialOrd, Ord, Default)]
+#[derive(Clone, Copy, PartialEq, Eq, Hash, PartialOrd, Ord)]
 pub struct StreamId(pub u16);
 
 impl fmt::Display for StreamId {
@@ -174,7 +174,7 @@ impl fmt::Debug for StreamId {
 }
 
 /// A payload protocol identifier, which the endpoint hands on unread (RFC 9260 section 3.3.1).
-#[derive(Clone, Copy, PartialEq, Eq, Hash, PartialOrd, Ord, Default)]
+#[derive(Clone, Copy, PartialEq, Eq, Hash)]
 pub struct PpId(pub u32);
 
 impl fmt::Display for PpId {
@@ -218,7 +218,7 @@ impl Message {
 }
 
 /// How a layer below finds damage in packets whose checksum is left zero (RFC 9653 section 4).
-#[derive(Clone, Copy, Debug, PartialEq, Eq, Hash, Default)]
+#[derive(Clone, Copy, Debug, PartialEq, Eq, Default)]
 pub struct ZeroChecksumAlternateErrorDetectionMethod(pub u32);
 
 /// No method: each packet has its checksum.

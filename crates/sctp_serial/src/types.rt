@@ -21,7 +21,7 @@ use std::ops::AddAssign;
 pub use tsn::Tsn;
 
 /// The number of a message that a sender accepted: its place in the order of acceptance.
-#[derive(Clone, Copy, PartialEq, Eq, Hash, PartialOrd, Ord, Default)]
+#[derive(Clone, Copy, PartialEq, Eq)]
 pub struct OutgoingMessageId(pub u32);
 
 impl AddAssign<u32> for OutgoingMessageId {
@@ -52,7 +52,7 @@ impl fmt::Debug for OutgoingMessageId {
 
 /// A stream, and whether its ordered or its unordered messages are meant: each has numbers of its own (RFC 8260
 /// section 2.1).
-#[derive(Clone, Copy, PartialEq, Eq, Hash, PartialOrd, Ord)]
+#[derive(Clone, Copy, PartialEq, Eq)]
 pub enum StreamKey {
     Ordered(StreamId),
     Unordered(StreamId),
