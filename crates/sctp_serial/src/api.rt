@@ -137,8 +137,7 @@ impl fmt::Display for LifecycleId {
     ghost output = { λ id. Some (decimal id) };
 
     fn fmt<W: fmt::Write>(&self, f: &mut fmt::Formatter<W>) -> fmt::Result {
-        let id = self.value;
-        write!(f, "{id}")
+        fmt::Display::fmt(&self.value, f)
     }
 }
 
@@ -146,8 +145,7 @@ impl fmt::Debug for LifecycleId {
     ghost debug_output = { λ id. Some (decimal id) };
 
     fn fmt<W: fmt::Write>(&self, f: &mut fmt::Formatter<W>) -> fmt::Result {
-        let id = self.value;
-        write!(f, "{id}")
+        fmt::Display::fmt(self, f)
     }
 }
 
@@ -159,8 +157,7 @@ impl fmt::Display for StreamId {
     ghost output = { λ id. Some (decimal id.0) };
 
     fn fmt<W: fmt::Write>(&self, f: &mut fmt::Formatter<W>) -> fmt::Result {
-        let id = self.0;
-        write!(f, "{id}")
+        fmt::Display::fmt(&self.0, f)
     }
 }
 
@@ -168,8 +165,7 @@ impl fmt::Debug for StreamId {
     ghost debug_output = { λ id. Some (decimal id.0) };
 
     fn fmt<W: fmt::Write>(&self, f: &mut fmt::Formatter<W>) -> fmt::Result {
-        let id = self.0;
-        write!(f, "{id}")
+        fmt::Display::fmt(self, f)
     }
 }
 
@@ -181,8 +177,7 @@ impl fmt::Display for PpId {
     ghost output = { λ id. Some (decimal id.0) };
 
     fn fmt<W: fmt::Write>(&self, f: &mut fmt::Formatter<W>) -> fmt::Result {
-        let id = self.0;
-        write!(f, "{id}")
+        fmt::Display::fmt(&self.0, f)
     }
 }
 
@@ -190,8 +185,7 @@ impl fmt::Debug for PpId {
     ghost debug_output = { λ id. Some (decimal id.0) };
 
     fn fmt<W: fmt::Write>(&self, f: &mut fmt::Formatter<W>) -> fmt::Result {
-        let id = self.0;
-        write!(f, "{id}")
+        fmt::Display::fmt(self, f)
     }
 }
 

@@ -36,8 +36,7 @@ impl fmt::Display for OutgoingMessageId {
     ghost output = { λ id. Some (decimal id.0) };
 
     fn fmt<W: fmt::Write>(&self, f: &mut fmt::Formatter<W>) -> fmt::Result {
-        let id = self.0;
-        write!(f, "{id}")
+        fmt::Display::fmt(&self.0, f)
     }
 }
 
@@ -45,8 +44,7 @@ impl fmt::Debug for OutgoingMessageId {
     ghost debug_output = { λ id. Some (decimal id.0) };
 
     fn fmt<W: fmt::Write>(&self, f: &mut fmt::Formatter<W>) -> fmt::Result {
-        let id = self.0;
-        write!(f, "{id}")
+        fmt::Display::fmt(self, f)
     }
 }
 
@@ -96,8 +94,7 @@ impl fmt::Display for StreamKey {
     ghost output = { λ key. Some (decimal (stream_of key).0) };
 
     fn fmt<W: fmt::Write>(&self, f: &mut fmt::Formatter<W>) -> fmt::Result {
-        let id = self.id().0;
-        write!(f, "{id}")
+        fmt::Display::fmt(&self.id().0, f)
     }
 }
 
@@ -105,7 +102,6 @@ impl fmt::Debug for StreamKey {
     ghost debug_output = { λ key. Some (decimal (stream_of key).0) };
 
     fn fmt<W: fmt::Write>(&self, f: &mut fmt::Formatter<W>) -> fmt::Result {
-        let id = self.id().0;
-        write!(f, "{id}")
+        fmt::Display::fmt(self, f)
     }
 }

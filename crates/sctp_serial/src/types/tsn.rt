@@ -91,8 +91,7 @@ impl fmt::Display for Tsn {
     ghost output = { λ n. Some (decimal n.0) };
 
     fn fmt<W: fmt::Write>(&self, f: &mut fmt::Formatter<W>) -> fmt::Result {
-        let number = self.0;
-        write!(f, "{number}")
+        fmt::Display::fmt(&self.0, f)
     }
 }
 
@@ -100,7 +99,6 @@ impl fmt::Debug for Tsn {
     ghost debug_output = { λ n. Some (decimal n.0) };
 
     fn fmt<W: fmt::Write>(&self, f: &mut fmt::Formatter<W>) -> fmt::Result {
-        let number = self.0;
-        write!(f, "{number}")
+        fmt::Display::fmt(self, f)
     }
 }
