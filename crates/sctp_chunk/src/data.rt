@@ -125,7 +125,7 @@ fn has_flag(flags: u8, mask: u8) -> bool
 }
 
 /// A fragment of a message, borrowed from the bytes of the DATA or I-DATA that carries it.
-#[derive(Clone, Copy, Debug, PartialEq, Eq)]
+#[derive(Clone, Copy, Debug)]
 pub struct DataView<'a> {
     pub tsn: Tsn,
     pub stream_key: StreamKey,

@@ -1,11 +1,8 @@
-//! Flags and lists of TSNs as they are shown.
+//! Flags as they are shown.
 
 ghost use Rattle.std.specs.Prelude.{◌≡◌, ◌||◌, if◌then◌else◌, [], Some, codes};
-ghost use Rattle.std.specs.Prelude.{map};
-ghost use Rattle.sctp_wire.specs.Show.{join_texts};
-ghost use Rattle.sctp_chunk.specs.ChunkText.{letter, fragment_flags_text, tsn_text};
+ghost use Rattle.sctp_chunk.specs.ChunkText.{letter, fragment_flags_text};
 
-use sctp_serial::Tsn;
 use std::fmt;
 
 /// The flags of DATA and I-DATA that are set.
@@ -44,24 +41,4 @@ fn letter(is_set: bool, text: &'static str) -> &'static str
     ensures { result.now ≡ letter is_set text.now }
 {
     if is_set { text } else { "" }
-}
-
-/// TSNs, with `/` between.
-#[derive(Clone, Copy)]
-pub struct JoinedTsns<'a>(pub &'a [Tsn]);
-
-#[tactic(auto, unfolding(sctp_wire::specs::Show::join_texts))]
-impl fmt::Display for JoinedTsns<'_> {
-    ghost output = { λ list. Some (join_texts (map tsn_text list.0.now)) };
-
-    fn fmt<W: fmt::Write>(&self, f: &mut fmt::Formatter<W>) -> fmt::Result {
-        let Some((first, others)) = self.0.split_first() else {
-            return Ok(());
-        };
-        write!(f, "{}", first.0)?;
-        for tsn in others {
-            write!(f, "/{}", tsn.0)?;
-        }
-        Ok(())
-    }
 }

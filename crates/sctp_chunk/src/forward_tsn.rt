@@ -23,7 +23,7 @@ use std::fmt;
 const FLAG_UNORDERED: u16 = 1;
 
 /// A message that the sender gave up, and with it all earlier ones of its stream.
-#[derive(Clone, Copy, Debug, PartialEq, Eq)]
+#[derive(Clone, Copy, Debug)]
 pub enum SkippedStream {
     /// An entry of FORWARD-TSN.
     ForwardTsn(StreamId, Ssn),

@@ -14,7 +14,7 @@ use sctp_wire::{ChunkParseError, RawItem, write_item_header};
 use std::alloc::AllocError;
 
 /// A chunk, borrowed from the bytes that it was read from.
-#[derive(Clone, Copy, Debug, PartialEq, Eq)]
+#[derive(Clone, Copy, Debug)]
 pub struct RawChunk<'a> {
     pub typ: u8,
     pub flags: u8,

@@ -9,7 +9,6 @@ ghost use Rattle.std.specs.Prelude.{Some};
 ghost use Rattle.sctp_chunk.specs.ChunkText.{chunk_text, block_text};
 ghost use Rattle.std.proofs.Common.{refl};
 
-use crate::flags::JoinedTsns;
 use crate::raw::RawChunk;
 use sctp_serial::Tsn;
 use sctp_wire::{
@@ -196,7 +195,7 @@ impl fmt::Display for SackChunk {
             self.cumulative_tsn_ack.0,
             self.a_rwnd,
             Joined(&self.gap_ack_blocks),
-            JoinedTsns(&self.duplicate_tsns)
+            Joined(&self.duplicate_tsns)
         )
     }
 }

@@ -45,6 +45,16 @@ pub enum Chunk {
     Unknown(UnknownChunk),
 }
 
+/// The chunk as its variant, or its reader's fault.
+macro_rules! read_as {
+    ($variant:ident, $read:expr) => {
+        match $read {
+            Ok(chunk) => Ok(Chunk::$variant(chunk)),
+            Err(fault) => Err(fault),
+        }
+    };
+}
+
 impl Chunk {
     /// What the chunk says, by its type.
     pub fn try_from(alloc: Global, raw: RawChunk<'_>) -> Result<Chunk, ChunkParseError>
@@ -52,24 +62,30 @@ impl Chunk {
         ensures refused { IfErr result (RefusesChunk (raw_chunk raw.entry)) }
     {
         match raw.typ {
-            0 => Ok(Chunk::Data(DataChunk::try_from(alloc, raw)?)),
-            1 => Ok(Chunk::Init(InitChunk::try_from(alloc, raw)?)),
-            2 => Ok(Chunk::InitAck(InitAckChunk::try_from(alloc, raw)?)),
-            3 => Ok(Chunk::Sack(SackChunk::try_from(alloc, raw)?)),
-            4 => Ok(Chunk::HeartbeatRequest(HeartbeatRequestChunk::try_from(alloc, raw)?)),
-            5 => Ok(Chunk::HeartbeatAck(HeartbeatAckChunk::try_from(alloc, raw)?)),
-            6 => Ok(Chunk::Abort(AbortChunk::try_from(alloc, raw)?)),
-            7 => Ok(Chunk::Shutdown(ShutdownChunk::try_from(alloc, raw)?)),
-            8 => Ok(Chunk::ShutdownAck(ShutdownAckChunk::try_from(alloc, raw)?)),
-            9 => Ok(Chunk::Error(ErrorChunk::try_from(alloc, raw)?)),
-            10 => Ok(Chunk::CookieEcho(CookieEchoChunk::try_from(alloc, raw)?)),
-            11 => Ok(Chunk::CookieAck(CookieAckChunk::try_from(alloc, raw)?)),
-            14 => Ok(Chunk::ShutdownComplete(ShutdownCompleteChunk::try_from(alloc, raw)?)),
-            64 => Ok(Chunk::IData(IDataChunk::try_from(alloc, raw)?)),
-            130 => Ok(Chunk::ReConfig(ReConfigChunk::try_from(alloc, raw)?)),
-            192 => Ok(Chunk::ForwardTsn(ForwardTsnChunk::try_from(alloc, raw)?)),
-            194 => Ok(Chunk::IForwardTsn(IForwardTsnChunk::try_from(alloc, raw)?)),
-            _ => Ok(Chunk::Unknown(UnknownChunk::try_from(alloc, raw)?)),
+            0 => read_as!(Data, DataChunk::try_from(alloc, raw)),
+            1 => read_as!(Init, InitChunk::try_from(alloc, raw)),
+            2 => read_as!(InitAck, InitAckChunk::try_from(alloc, raw)),
+            3 => read_as!(Sack, SackChunk::try_from(alloc, raw)),
+            4 => read_as!(
+                HeartbeatRequest,
+                HeartbeatRequestChunk::try_from(alloc, raw)
+            ),
+            5 => read_as!(HeartbeatAck, HeartbeatAckChunk::try_from(alloc, raw)),
+            6 => read_as!(Abort, AbortChunk::try_from(alloc, raw)),
+            7 => read_as!(Shutdown, ShutdownChunk::try_from(alloc, raw)),
+            8 => read_as!(ShutdownAck, ShutdownAckChunk::try_from(alloc, raw)),
+            9 => read_as!(Error, ErrorChunk::try_from(alloc, raw)),
+            10 => read_as!(CookieEcho, CookieEchoChunk::try_from(alloc, raw)),
+            11 => read_as!(CookieAck, CookieAckChunk::try_from(alloc, raw)),
+            14 => read_as!(
+                ShutdownComplete,
+                ShutdownCompleteChunk::try_from(alloc, raw)
+            ),
+            64 => read_as!(IData, IDataChunk::try_from(alloc, raw)),
+            130 => read_as!(ReConfig, ReConfigChunk::try_from(alloc, raw)),
+            192 => read_as!(ForwardTsn, ForwardTsnChunk::try_from(alloc, raw)),
+            194 => read_as!(IForwardTsn, IForwardTsnChunk::try_from(alloc, raw)),
+            _ => read_as!(Unknown, UnknownChunk::try_from(alloc, raw)),
         }
     }
 

@@ -62,7 +62,7 @@ impl SerializableTlv for CookieEchoChunk {
 }
 
 /// The cookie was taken.
-#[derive(Clone, Copy, Debug, PartialEq, Eq, Default)]
+#[derive(Clone, Copy, Debug)]
 pub struct CookieAckChunk {}
 
 #[tactic(auto)]
@@ -117,6 +117,6 @@ impl fmt::Display for CookieAckChunk {
     ghost output = { λ c. Some (chunk_text (cookie_ack_tree c)) };
 
     fn fmt<W: fmt::Write>(&self, f: &mut fmt::Formatter<W>) -> fmt::Result {
-        write!(f, "COOKIE ACK")
+        f.write_str("COOKIE ACK")
     }
 }

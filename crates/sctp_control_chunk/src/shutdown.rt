@@ -18,7 +18,7 @@ use std::fmt;
 const FLAG_REFLECTED: u8 = 1;
 
 /// The sender sends no new data.
-#[derive(Clone, Copy, Debug, PartialEq, Eq)]
+#[derive(Clone, Copy, Debug)]
 pub struct ShutdownChunk {
     pub cumulative_tsn_ack: Tsn,
 }
@@ -67,7 +67,7 @@ impl SerializableTlv for ShutdownChunk {
 }
 
 /// Nor does the receiver of a SHUTDOWN.
-#[derive(Clone, Copy, Debug, PartialEq, Eq, Default)]
+#[derive(Clone, Copy, Debug)]
 pub struct ShutdownAckChunk {}
 
 #[tactic(auto)]
@@ -109,7 +109,7 @@ impl SerializableTlv for ShutdownAckChunk {
 }
 
 /// The association is over.
-#[derive(Clone, Copy, Debug, PartialEq, Eq)]
+#[derive(Clone, Copy, Debug)]
 pub struct ShutdownCompleteChunk {
     /// Whether the packet's tag is the one that the answered packet had.
     pub tag_reflected: bool,
@@ -183,7 +183,7 @@ impl fmt::Display for ShutdownAckChunk {
     ghost output = { λ c. Some (chunk_text (shutdown_ack_tree c)) };
 
     fn fmt<W: fmt::Write>(&self, f: &mut fmt::Formatter<W>) -> fmt::Result {
-        write!(f, "SHUTDOWN ACK")
+        f.write_str("SHUTDOWN ACK")
     }
 }
 

@@ -147,7 +147,7 @@ impl fmt::Display for UnrecognizedChunkErrorCause {
 }
 
 /// A DATA chunk without data, by its TSN (RFC 9260 section 3.3.10.9).
-#[derive(Clone, Copy, Debug, PartialEq, Eq)]
+#[derive(Clone, Copy, Debug)]
 pub struct NoUserDataErrorCause {
     /// The TSN of the chunk.
     pub tsn: Tsn,
@@ -209,7 +209,7 @@ impl fmt::Display for NoUserDataErrorCause {
 }
 
 /// A COOKIE ECHO came while the association was shutting down (RFC 9260 section 3.3.10.10).
-#[derive(Clone, Copy, Debug, PartialEq, Eq, Default)]
+#[derive(Clone, Copy, Debug)]
 pub struct CookieReceivedWhileShuttingDownErrorCause {}
 
 #[tactic(auto, unfolding(sctp_wire::specs::Cause::cause_value))]

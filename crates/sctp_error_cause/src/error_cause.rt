@@ -39,6 +39,16 @@ pub enum ErrorCause {
     Unknown(UnknownParameter),
 }
 
+/// The cause as its variant, or its reader's fault.
+macro_rules! read_as {
+    ($variant:ident, $read:expr) => {
+        match $read {
+            Ok(cause) => Ok(ErrorCause::$variant(cause)),
+            Err(fault) => Err(fault),
+        }
+    };
+}
+
 #[tactic(auto, unfolding(sctp_wire::specs::Cause::cause_value))]
 impl ErrorCause {
     /// What a cause says, by its type.
@@ -47,27 +57,31 @@ impl ErrorCause {
         ensures refused { IfErr result (RefusesCauseAs raw.entry.typ raw.entry.typ raw.entry.value.now) }
     {
         match raw.typ {
-            MissingMandatoryParameterErrorCause::TYPE => Ok(ErrorCause::MissingMandatoryParameter(
-                MissingMandatoryParameterErrorCause::try_from(alloc, raw)?,
-            )),
-            UnrecognizedChunkErrorCause::TYPE => Ok(ErrorCause::UnrecognizedChunk(
-                UnrecognizedChunkErrorCause::try_from(alloc, raw)?,
-            )),
-            NoUserDataErrorCause::TYPE => Ok(ErrorCause::NoUserData(NoUserDataErrorCause::try_from(
-                alloc, raw,
-            )?)),
-            CookieReceivedWhileShuttingDownErrorCause::TYPE => Ok(
-                ErrorCause::CookieReceivedWhileShuttingDown(
-                    CookieReceivedWhileShuttingDownErrorCause::try_from(alloc, raw)?,
-                ),
+            MissingMandatoryParameterErrorCause::TYPE => read_as!(
+                MissingMandatoryParameter,
+                MissingMandatoryParameterErrorCause::try_from(alloc, raw)
             ),
-            UserInitiatedAbortErrorCause::TYPE => Ok(ErrorCause::UserInitiatedAbort(
-                UserInitiatedAbortErrorCause::try_from(alloc, raw)?,
-            )),
-            ProtocolViolationErrorCause::TYPE => Ok(ErrorCause::ProtocolViolation(
-                ProtocolViolationErrorCause::try_from(alloc, raw)?,
-            )),
-            _ => Ok(ErrorCause::Unknown(UnknownParameter::try_from(alloc, raw)?)),
+            UnrecognizedChunkErrorCause::TYPE => read_as!(
+                UnrecognizedChunk,
+                UnrecognizedChunkErrorCause::try_from(alloc, raw)
+            ),
+            NoUserDataErrorCause::TYPE => read_as!(
+                NoUserData,
+                NoUserDataErrorCause::try_from(alloc, raw)
+            ),
+            CookieReceivedWhileShuttingDownErrorCause::TYPE => read_as!(
+                CookieReceivedWhileShuttingDown,
+                CookieReceivedWhileShuttingDownErrorCause::try_from(alloc, raw)
+            ),
+            UserInitiatedAbortErrorCause::TYPE => read_as!(
+                UserInitiatedAbort,
+                UserInitiatedAbortErrorCause::try_from(alloc, raw)
+            ),
+            ProtocolViolationErrorCause::TYPE => read_as!(
+                ProtocolViolation,
+                ProtocolViolationErrorCause::try_from(alloc, raw)
+            ),
+            _ => read_as!(Unknown, UnknownParameter::try_from(alloc, raw)),
         }
     }
 

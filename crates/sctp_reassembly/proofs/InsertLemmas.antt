@@ -1,6 +1,7 @@
 -- An entry that comes between intervals.
 use Rattle.std.proofs.Common.{◌≡◌, ℕ, zero, suc, ◌<◌, ◌≤◌, Bool, true, false, None, List, [], ◌∷◌, ◌++◌, length, take, drop, refl, ap, sym, subst, ◌∙◌, arith, append_assoc, append-nil}
 use Rattle.std.proofs.lemmas.Bool.Decides.{nat_tests}
+use Rattle.std.specs.Prelude.{Result, Ok, Err, OnOk, IfOk}
 use Rattle.std.specs.List.{insert}
 use Rattle.std.proofs.lemmas.List.{take-append-drop, length-take}
 use Rattle.sctp_fragments.specs.declared.interval.Entry.{Entry}
@@ -14,6 +15,11 @@ use Rattle.sctp_fragments.proofs.PlaceLemmas.{cons, some_run, lists_of_append}
 flat_last : {E : Type 0} (ps : List (List E)) (r : List E) → flat (ps ++ r ∷ []) ≡ flat ps ++ r
 flat_last [] r = append-nil r
 flat_last (p ∷ ps) r = ap (λ t. p ++ t) (flat_last ps r) ∙ sym (append_assoc p (flat ps) r)
+
+-- what a call answers that is answered on
+pub answered : {T E P : Type 0} {Q R : T → Type 0} (r : Result T E) → OnOk r P → IfOk r Q → ((x : T) → P → Q x → R x) → IfOk r R
+answered (Ok x) p q f = f x p q
+answered (Err e) p q f = tt
 
 module _ (test : List Held → Bool) where
   NonePass_append : (xs ys : List (List Held)) → NonePass test xs → NonePass test ys → NonePass test (xs ++ ys)
@@ -125,12 +131,14 @@ module _ {K : Type 0} (f : Entry K → Held) where
   pub in_two : (xs : List (Interval K)) (p : ℕ) → lists_of f xs ≡ lists_of f (take p xs) ++ lists_of f (drop p xs)
   in_two xs p = ap (lists_of f) (sym (take-append-drop p xs)) ∙ lists_of_append f (take p xs) (drop p xs)
 
-  pub puts_alone : (xs new : List (Interval K)) (i : Interval K) (x : Held) (p : ℕ) → p ≤ length xs → AreRuns rank_of goes_on None (lists_of f xs)
+  pub lists_alone : (xs new : List (Interval K)) (i : Interval K) (x : Held) (p : ℕ) → new ≡ insert xs p i → run_of f i ≡ x ∷ [] → lists_of f new ≡ lists_of f (take p xs) ++ (x ∷ []) ∷ lists_of f (drop p xs)
+  lists_alone xs new i x p made single = ap (lists_of f) made ∙ (lists_of_append f (take p xs) (i ∷ drop p xs) ∙ ap (λ (t : List Held). lists_of f (take p xs) ++ t ∷ lists_of f (drop p xs)) single)
+
+  pub puts_alone : (xs new : List (Interval K)) (x : Held) (p : ℕ) → p ≤ length xs → AreRuns rank_of goes_on None (lists_of f xs)
       → IsBelow rank_of (rank_of x) (end_of None (lists_of f (take p xs))) → LeadsTo rank_of (rank_of x) (lists_of f (drop p xs))
       → joins_left rank_of goes_on (end_of None (lists_of f (take p xs))) x ≡ false → joins_right rank_of goes_on x (lists_of f (drop p xs)) ≡ false
-      → new ≡ insert xs p i → run_of f i ≡ x ∷ [] → Puts xs new p x p
-  puts_alone xs new i x p k h below leads left right made single =
-      let lists : lists_of f new ≡ lists_of f (take p xs) ++ (x ∷ []) ∷ lists_of f (drop p xs) = ap (lists_of f) made ∙ (lists_of_append f (take p xs) (i ∷ drop p xs) ∙ ap (λ (t : List Held). lists_of f (take p xs) ++ t ∷ lists_of f (drop p xs)) single) in
+      → lists_of f new ≡ lists_of f (take p xs) ++ (x ∷ []) ∷ lists_of f (drop p xs) → Puts xs new p x p
+  puts_alone xs new x p k h below leads left right lists =
       let at : length (lists_of f (take p xs)) ≡ p = length_lists_of f (take p xs) ∙ omega (arith, length-take p xs) in
       let all = inserts_alone (lists_of f (take p xs)) (lists_of f (drop p xs)) x (subst (AreRuns rank_of goes_on None) (in_two xs p) h) below leads left right in
       subst (λ (n : ℕ). Puts xs new p x n) at (subst (λ (t : List (List Held)). IsInserted (lists_of f (take p xs)) (lists_of f (drop p xs)) t x (length (lists_of f (take p xs)))) (sym lists) all)

@@ -302,32 +302,52 @@ fn joins_after<K: ReassemblyKey>(
     goes_on_to(entry, intervals[place].first())
 }
 
-/// Adds the entry behind an interval.
+/// Makes an interval of the entry, in front of the one at the place. Answers the place.
+fn put_alone<K: ReassemblyKey>(
+    alloc: Global,
+    intervals: &mut VecDeque<Interval<K>>,
+    place: usize,
+    entry: Entry<K>,
+) -> Result<usize, AllocError>
+    requires { place ≤ length intervals.old.items }
+    ensures ok { OnOk result (lists_of (held_of K.number K.index) intervals.new.items ≡ lists_of (held_of K.number K.index) (take place intervals.old.items) ++ (held_of K.number K.index entry ∷ []) ∷ lists_of (held_of K.number K.index) (drop place intervals.old.items)) }
+    ensures place { IfOk result (λ at. at ≡ place) }
+    ensures err { OnErr result (lists_of (held_of K.number K.index) intervals.new.items ≡ lists_of (held_of K.number K.index) intervals.old.items) }
+{
+    let mut entries = VecDeque::new(alloc);
+    entries.push_back(entry)?;
+    intervals.insert(place, Interval { entries })?;
+    Ok(place)
+}
+
+/// Adds the entry behind an interval, whose place it answers.
 fn push_at<K: ReassemblyKey>(
     intervals: &mut VecDeque<Interval<K>>,
     place: usize,
     entry: Entry<K>,
-) -> Result<(), AllocError>
+) -> Result<usize, AllocError>
     requires { place < length intervals.old.items }
     ensures ok { OnOk result ((ps qs : List (Interval K)) (i : Interval K) → intervals.old.items ≡ ps ++ i ∷ qs → length ps ≡ place → lists_of (held_of K.number K.index) intervals.new.items ≡ lists_of (held_of K.number K.index) ps ++ (run_of (held_of K.number K.index) i ++ held_of K.number K.index entry ∷ []) ∷ lists_of (held_of K.number K.index) qs) }
+    ensures place { IfOk result (λ at. at ≡ place) }
     ensures err { OnErr result (lists_of (held_of K.number K.index) intervals.new.items ≡ lists_of (held_of K.number K.index) intervals.old.items) }
 {
     intervals[place].entries.push_back(entry)?;
-    Ok(())
+    Ok(place)
 }
 
-/// Adds the entry in front of an interval.
+/// Adds the entry in front of an interval, whose place it answers.
 fn put_before<K: ReassemblyKey>(
     intervals: &mut VecDeque<Interval<K>>,
     place: usize,
     entry: Entry<K>,
-) -> Result<(), AllocError>
+) -> Result<usize, AllocError>
     requires { place < length intervals.old.items }
     ensures ok { OnOk result ((ps qs : List (Interval K)) (i : Interval K) → intervals.old.items ≡ ps ++ i ∷ qs → length ps ≡ place → lists_of (held_of K.number K.index) intervals.new.items ≡ lists_of (held_of K.number K.index) ps ++ (held_of K.number K.index entry ∷ run_of (held_of K.number K.index) i) ∷ lists_of (held_of K.number K.index) qs) }
+    ensures place { IfOk result (λ at. at ≡ place) }
     ensures err { OnErr result (lists_of (held_of K.number K.index) intervals.new.items ≡ lists_of (held_of K.number K.index) intervals.old.items) }
 {
     intervals[place].entries.push_front(entry)?;
-    Ok(())
+    Ok(place)
 }
 
 /// Adds the entry and then the others at the back, where there is room.
@@ -360,14 +380,16 @@ fn prepend_to<K: ReassemblyKey>(
     }
 }
 
-/// Makes one interval of two with the entry between them, where the second one's entries move to the first.
+/// Makes one interval of two with the entry between them, where the second one's entries move to the first. Answers the place
+/// of the first.
 fn join_to_first<K: ReassemblyKey>(
     intervals: &mut VecDeque<Interval<K>>,
     place: usize,
     entry: Entry<K>,
-) -> Result<(), AllocError>
+) -> Result<usize, AllocError>
     requires { place + 1 < length intervals.old.items }
     ensures ok { OnOk result ((ps qs : List (Interval K)) (i j : Interval K) → intervals.old.items ≡ ps ++ i ∷ (j ∷ qs) → length ps ≡ place → lists_of (held_of K.number K.index) intervals.new.items ≡ lists_of (held_of K.number K.index) ps ++ (run_of (held_of K.number K.index) i ++ held_of K.number K.index entry ∷ run_of (held_of K.number K.index) j) ∷ lists_of (held_of K.number K.index) qs) }
+    ensures place { IfOk result (λ at. at ≡ place) }
     ensures err { OnErr result (lists_of (held_of K.number K.index) intervals.new.items ≡ lists_of (held_of K.number K.index) intervals.old.items) }
 {
     let more = intervals[place + 1].entries.len();
@@ -376,7 +398,7 @@ fn join_to_first<K: ReassemblyKey>(
         unreachable!();
     };
     append_to(&mut intervals[place].entries, entry, next.entries);
-    Ok(())
+    Ok(place)
 }
 
 /// The same, where the first one's entries move to the second.
@@ -384,9 +406,10 @@ fn join_to_second<K: ReassemblyKey>(
     intervals: &mut VecDeque<Interval<K>>,
     place: usize,
     entry: Entry<K>,
-) -> Result<(), AllocError>
+) -> Result<usize, AllocError>
     requires { place + 1 < length intervals.old.items }
     ensures ok { OnOk result ((ps qs : List (Interval K)) (i j : Interval K) → intervals.old.items ≡ ps ++ i ∷ (j ∷ qs) → length ps ≡ place → lists_of (held_of K.number K.index) intervals.new.items ≡ lists_of (held_of K.number K.index) ps ++ (run_of (held_of K.number K.index) i ++ held_of K.number K.index entry ∷ run_of (held_of K.number K.index) j) ∷ lists_of (held_of K.number K.index) qs) }
+    ensures place { IfOk result (λ at. at ≡ place) }
     ensures err { OnErr result (lists_of (held_of K.number K.index) intervals.new.items ≡ lists_of (held_of K.number K.index) intervals.old.items) }
 {
     let more = intervals[place].entries.len();
@@ -395,7 +418,7 @@ fn join_to_second<K: ReassemblyKey>(
         unreachable!();
     };
     prepend_to(&mut intervals[place].entries, entry, first.entries);
-    Ok(())
+    Ok(place)
 }
 
 /// Makes one interval of two with the entry between them. The shorter one's entries move, so that an entry moves no more
@@ -404,9 +427,10 @@ fn join<K: ReassemblyKey>(
     intervals: &mut VecDeque<Interval<K>>,
     place: usize,
     entry: Entry<K>,
-) -> Result<(), AllocError>
+) -> Result<usize, AllocError>
     requires { place + 1 < length intervals.old.items }
     ensures ok { OnOk result ((ps qs : List (Interval K)) (i j : Interval K) → intervals.old.items ≡ ps ++ i ∷ (j ∷ qs) → length ps ≡ place → lists_of (held_of K.number K.index) intervals.new.items ≡ lists_of (held_of K.number K.index) ps ++ (run_of (held_of K.number K.index) i ++ held_of K.number K.index entry ∷ run_of (held_of K.number K.index) j) ∷ lists_of (held_of K.number K.index) qs) }
+    ensures place { IfOk result (λ at. at ≡ place) }
     ensures err { OnErr result (lists_of (held_of K.number K.index) intervals.new.items ≡ lists_of (held_of K.number K.index) intervals.old.items) }
 {
     if intervals[place].entries.len() < intervals[place + 1].entries.len() {
@@ -433,18 +457,12 @@ fn insert_at<K: ReassemblyKey>(
     let right = joins_after(intervals, place, &entry);
     if left {
         if right {
-            join(intervals, place - 1, entry)?;
-            return Ok(place - 1);
+            return join(intervals, place - 1, entry);
         }
-        push_at(intervals, place - 1, entry)?;
-        return Ok(place - 1);
+        return push_at(intervals, place - 1, entry);
     }
     if right {
-        put_before(intervals, place, entry)?;
-        return Ok(place);
+        return put_before(intervals, place, entry);
     }
-    let mut entries = VecDeque::new(alloc);
-    entries.push_back(entry)?;
-    intervals.insert(place, Interval { entries })?;
-    Ok(place)
+    put_alone(alloc, intervals, place, entry)
 }

@@ -137,8 +137,7 @@ impl fmt::Display for LifecycleId {
     ghost output = { λ id. Some (decimal id) };
 
     fn fmt<W: fmt::Write>(&self, f: &mut fmt::Formatter<W>) -> fmt::Result {
-        let id = self.value;
-        write!(f, "{id}")
+        fmt::Display::fmt(&self.value, f)
     }
 }
 
@@ -146,21 +145,19 @@ impl fmt::Debug for LifecycleId {
     ghost debug_output = { λ id. Some (decimal id) };
 
     fn fmt<W: fmt::Write>(&self, f: &mut fmt::Formatter<W>) -> fmt::Result {
-        let id = self.value;
-        write!(f, "{id}")
+        fmt::Display::fmt(self, f)
     }
 }
 
 /// A stream of an association (RFC 9260 section 1.6).
-#[derive(Clone, Copy, PartialEq, Eq, Hash, PartialOrd, Ord, Default)]
+#[derive(Clone, Copy, PartialEq, Eq, Hash, PartialOrd, Ord)]
 pub struct StreamId(pub u16);
 
 impl fmt::Display for StreamId {
     ghost output = { λ id. Some (decimal id.0) };
 
     fn fmt<W: fmt::Write>(&self, f: &mut fmt::Formatter<W>) -> fmt::Result {
-        let id = self.0;
-        write!(f, "{id}")
+        fmt::Display::fmt(&self.0, f)
     }
 }
 
@@ -168,21 +165,19 @@ impl fmt::Debug for StreamId {
     ghost debug_output = { λ id. Some (decimal id.0) };
 
     fn fmt<W: fmt::Write>(&self, f: &mut fmt::Formatter<W>) -> fmt::Result {
-        let id = self.0;
-        write!(f, "{id}")
+        fmt::Display::fmt(self, f)
     }
 }
 
 /// A payload protocol identifier, which the endpoint hands on unread (RFC 9260 section 3.3.1).
-#[derive(Clone, Copy, PartialEq, Eq, Hash, PartialOrd, Ord, Default)]
+#[derive(Clone, Copy, PartialEq, Eq, Hash)]
 pub struct PpId(pub u32);
 
 impl fmt::Display for PpId {
     ghost output = { λ id. Some (decimal id.0) };
 
     fn fmt<W: fmt::Write>(&self, f: &mut fmt::Formatter<W>) -> fmt::Result {
-        let id = self.0;
-        write!(f, "{id}")
+        fmt::Display::fmt(&self.0, f)
     }
 }
 
@@ -190,8 +185,7 @@ impl fmt::Debug for PpId {
     ghost debug_output = { λ id. Some (decimal id.0) };
 
     fn fmt<W: fmt::Write>(&self, f: &mut fmt::Formatter<W>) -> fmt::Result {
-        let id = self.0;
-        write!(f, "{id}")
+        fmt::Display::fmt(self, f)
     }
 }
 
@@ -218,7 +212,7 @@ impl Message {
 }
 
 /// How a layer below finds damage in packets whose checksum is left zero (RFC 9653 section 4).
-#[derive(Clone, Copy, Debug, PartialEq, Eq, Hash, Default)]
+#[derive(Clone, Copy, Debug, PartialEq, Eq, Default)]
 pub struct ZeroChecksumAlternateErrorDetectionMethod(pub u32);
 
 /// No method: each packet has its checksum.

@@ -21,7 +21,7 @@ use std::ops::AddAssign;
 pub use tsn::Tsn;
 
 /// The number of a message that a sender accepted: its place in the order of acceptance.
-#[derive(Clone, Copy, PartialEq, Eq, Hash, PartialOrd, Ord, Default)]
+#[derive(Clone, Copy, PartialEq, Eq)]
 pub struct OutgoingMessageId(pub u32);
 
 impl AddAssign<u32> for OutgoingMessageId {
@@ -36,8 +36,7 @@ impl fmt::Display for OutgoingMessageId {
     ghost output = { λ id. Some (decimal id.0) };
 
     fn fmt<W: fmt::Write>(&self, f: &mut fmt::Formatter<W>) -> fmt::Result {
-        let id = self.0;
-        write!(f, "{id}")
+        fmt::Display::fmt(&self.0, f)
     }
 }
 
@@ -45,14 +44,13 @@ impl fmt::Debug for OutgoingMessageId {
     ghost debug_output = { λ id. Some (decimal id.0) };
 
     fn fmt<W: fmt::Write>(&self, f: &mut fmt::Formatter<W>) -> fmt::Result {
-        let id = self.0;
-        write!(f, "{id}")
+        fmt::Display::fmt(self, f)
     }
 }
 
 /// A stream, and whether its ordered or its unordered messages are meant: each has numbers of its own (RFC 8260
 /// section 2.1).
-#[derive(Clone, Copy, PartialEq, Eq, Hash, PartialOrd, Ord)]
+#[derive(Clone, Copy, PartialEq, Eq)]
 pub enum StreamKey {
     Ordered(StreamId),
     Unordered(StreamId),
@@ -96,8 +94,7 @@ impl fmt::Display for StreamKey {
     ghost output = { λ key. Some (decimal (stream_of key).0) };
 
     fn fmt<W: fmt::Write>(&self, f: &mut fmt::Formatter<W>) -> fmt::Result {
-        let id = self.id().0;
-        write!(f, "{id}")
+        fmt::Display::fmt(&self.id().0, f)
     }
 }
 
@@ -105,7 +102,6 @@ impl fmt::Debug for StreamKey {
     ghost debug_output = { λ key. Some (decimal (stream_of key).0) };
 
     fn fmt<W: fmt::Write>(&self, f: &mut fmt::Formatter<W>) -> fmt::Result {
-        let id = self.id().0;
-        write!(f, "{id}")
+        fmt::Display::fmt(self, f)
     }
 }

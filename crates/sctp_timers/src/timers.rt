@@ -51,9 +51,10 @@ fn send_request_again<C: Checksum>(
         return Ok(());
     }
     tcb.reset_requests.update_rto(tcb.rto.rto());
-    let mut packet = tcb.new_packet(context.alloc, &context.options);
-    tcb.add_prepared_ssn_reset_request(&mut packet)?;
-    context.emit(&mut packet)
+    match tcb.reset_requests.current_chunk()? {
+        Some(chunk) => context.emit_chunk(tcb, chunk),
+        None => Ok(()),
+    }
 }
 
 /// The reconfiguration timer (RFC 6525 section 5.1.1), after the other ones have expired or not. The answer is whether

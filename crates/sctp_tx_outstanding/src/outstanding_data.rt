@@ -35,7 +35,7 @@ use std::mem;
 use std::time::Duration;
 
 /// A message of which the send queue is to drop what is left.
-#[derive(Clone, Copy, Debug)]
+#[derive(Clone, Copy)]
 pub struct Discarded {
     pub stream_id: StreamId,
     pub message_id: OutgoingMessageId,

@@ -14,7 +14,7 @@ use crate::kept::{Change, Kept};
 use sctp_chunk::{GapAckBlock, are_runs};
 
 /// What a SACK acknowledged.
-#[derive(Clone, Copy, Debug)]
+#[derive(Clone, Copy)]
 pub struct AckInfo {
     /// The bytes of the chunks newly acknowledged, with headers and padding; at most `usize::MAX`.
     pub bytes_acked: usize,

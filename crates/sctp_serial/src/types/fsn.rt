@@ -9,7 +9,7 @@ use std::fmt;
 use std::ops::{Add, AddAssign, Sub, SubAssign};
 
 /// A fragment sequence number (RFC 8260 section 2.1).
-#[derive(Clone, Copy, PartialEq, Eq, Hash, Default)]
+#[derive(Clone, Copy, PartialEq, Eq)]
 pub struct Fsn(pub u32);
 
 impl Fsn {
@@ -91,8 +91,7 @@ impl fmt::Display for Fsn {
     ghost output = { λ n. Some (decimal n.0) };
 
     fn fmt<W: fmt::Write>(&self, f: &mut fmt::Formatter<W>) -> fmt::Result {
-        let number = self.0;
-        write!(f, "{number}")
+        fmt::Display::fmt(&self.0, f)
     }
 }
 
@@ -100,7 +99,6 @@ impl fmt::Debug for Fsn {
     ghost debug_output = { λ n. Some (decimal n.0) };
 
     fn fmt<W: fmt::Write>(&self, f: &mut fmt::Formatter<W>) -> fmt::Result {
-        let number = self.0;
-        write!(f, "{number}")
+        fmt::Display::fmt(self, f)
     }
 }

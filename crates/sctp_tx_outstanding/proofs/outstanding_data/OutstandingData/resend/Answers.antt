@@ -2,7 +2,7 @@ use Rattle.std.proofs.Common.{◌≡◌, ◌+◌, ◌≤◌, suc, length, ap, sy
 use Rattle.sctp_tx_outstanding.specs.Views.{resent_of}
 use Rattle.sctp_tx_outstanding.specs.Items.{Outstanding}
 use Rattle.sctp_tx_outstanding.specs.Waiting.{NoneWaits}
-use Rattle.sctp_tx_outstanding.specs.Resending.{Resent, waiting_for, step_at, resent_below}
+use Rattle.sctp_tx_outstanding.specs.Resending.{Resent, waiting_for, step_at, resent_below, SomeResent}
 use Rattle.sctp_tx_outstanding.proofs.RoomLemmas.{no_more_lem, quiet_on}
 use Rattle.sctp_tx_outstanding.proofs.IdleLemmas.{idle_at, none_less, full_at}
 use Rattle.sctp_tx_outstanding.proofs.outstanding_data.OutstandingData.resend.Goals as goal
@@ -59,3 +59,8 @@ returns-clause-ok c =
     let all : length c.args.self.now.items.kept ≡ c.len-count.result = search rules in
     let done : c.loop-place.place ≡ length c.args.self.now.items.kept = omega (arith, all, c.loop-place.invariant.within, c.loop-place-test.false) in
     c.loop-place.invariant.resent ∙ ap (λ n. resent_below fast n x) done
+
+pub returns-in_err-take_turn-clause-err : goal.returns-in_err-take_turn-clause-err
+returns-in_err-take_turn-clause-err c =
+    let some : SomeResent c.args.fast (resent_of c.args.self.now c.args.filling.now) c.take_turn.new.self = (c.loop-place.place, c.in_err-take_turn.ensures.err ∙ ap (λ (x : Resent). x.outstanding) c.loop-place.invariant.resent) in
+    search (rules, some)
