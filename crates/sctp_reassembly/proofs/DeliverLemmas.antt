@@ -92,8 +92,8 @@ module _ (old mid : List Held) (x : Held) (place : ℕ) (none : NoneComplete (in
 -- nothing is in turn where nothing was, and the interval that took the fragment is not
 pub none_turned : (old mid : List Held) (x : Held) (place n : ℕ) → IsPlaced old mid x place → ((front back : List (List Held)) (r : List Held) → intervals_of mid ≡ front ++ r ∷ back → length front ≡ place → false ≡ is_in_turn n r)
     → NoneInTurn n (intervals_of old) → NoneInTurn n (intervals_of mid)
-none_turned old mid x place n p told none =
-    subst (NoneInTurn n) (sym p.runs) (NonePass_with (is_in_turn n) p.front p.back p.run (p.others (is_in_turn n) none) (sym (told p.front p.back p.run p.runs p.at)))
+none_turned old mid x place n p no_turn none =
+    subst (NoneInTurn n) (sym p.runs) (NonePass_with (is_in_turn n) p.front p.back p.run (p.others (is_in_turn n) none) (sym (no_turn p.front p.back p.run p.runs p.at)))
 
 -- a fragment comes by which nothing is in turn
 pub arrives_settled : (x : Held) (s : OrderedStream) (hs : List Held) → nat_lt x.number s.next ≡ false → hs ≡ with_item rank_of x s.held → NoneInTurn s.next (intervals_of hs) → ordered_arrival x s ≡ at_rest s.next hs

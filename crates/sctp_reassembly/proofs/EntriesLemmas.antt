@@ -21,8 +21,8 @@ module _ {S : Type 0} (weight : S → ℕ) where
   pub sum_opened : (id : ℕ) (es : List (ℕ × S)) (fresh : S) → weight fresh ≡ 0 → IsStrictlySortedBy nat_cmp (keys_of es) → None ≡ lookup (is_at (nat_cmp id)) es → sum_by weight (values_of (insert_entry nat_cmp es id fresh)) ≡ sum_by weight (values_of es)
   sum_opened id es fresh zero sorted none =
       let sums = sum_by-insert_entry weight nat_cmp_total es id fresh sorted in
-      let gone : unwrap_or (option_map weight (lookup (is_at (nat_cmp id)) es)) 0 ≡ 0 = ap (λ o. unwrap_or (option_map weight o) 0) (sym none) in
-      omega (arith, sums, gone, zero)
+      let none_there : unwrap_or (option_map weight (lookup (is_at (nat_cmp id)) es)) 0 ≡ 0 = ap (λ o. unwrap_or (option_map weight o) 0) (sym none) in
+      omega (arith, sums, none_there, zero)
 
 pub none_from : {X : Type 0} (o : Option X) → is_some o ≡ false → None ≡ o
 none_from None h = refl

@@ -6,7 +6,7 @@ use Rattle.sctp_state.specs.declared.api.GivenUpCause.{GivenUpCause}
 use Rattle.sctp_state.specs.declared.api.GivenUp as record_given
 use Rattle.sctp_state.specs.declared.api.SocketEvent as given
 use Rattle.sctp_state.specs.declared.events.EventMark.{EventMark}
-use Rattle.sctp_state.specs.declared.api.SocketEvent.TheVariants as told
+use Rattle.sctp_state.specs.declared.api.SocketEvent.TheVariants as variants
 use Rattle.sctp_serial.specs.declared.api.StreamId.{StreamId}
 
 pub data Event (P : Type 0) : Type 0 where
@@ -32,22 +32,22 @@ numbers_of ids = map (λ id. id.0) ids
 
 -- an event as the program has it
 abbrev pub event_of : given.SocketEvent → Event (List ℕ)
-event_of (told.SendPacket bytes) = SendPacket bytes.items
-event_of told.OnConnected = OnConnected
-event_of told.OnClosed = OnClosed
-event_of told.OnConnectionRestarted = OnConnectionRestarted
-event_of (told.OnAborted kind text) = OnAborted kind (string_bytes text)
-event_of (told.OnError kind text) = OnError kind (string_bytes text)
-event_of (told.OnBufferedAmountLow id) = OnBufferedAmountLow id.0
-event_of told.OnTotalBufferedAmountLow = OnTotalBufferedAmountLow
-event_of (told.OnStreamsResetFailed ids) = OnStreamsResetFailed (numbers_of ids.items)
-event_of (told.OnStreamsResetPerformed ids) = OnStreamsResetPerformed (numbers_of ids.items)
-event_of (told.OnIncomingStreamReset ids) = OnIncomingStreamReset (numbers_of ids.items)
-event_of (told.OnLifecycleMessageFullySent id) = OnLifecycleMessageFullySent id
-event_of (told.OnLifecycleMessageMaybeExpired id) = OnLifecycleMessageMaybeExpired id
-event_of (told.OnLifecycleMessageExpired id) = OnLifecycleMessageExpired id
-event_of (told.OnLifecycleMessageDelivered id) = OnLifecycleMessageDelivered id
-event_of (told.OnLifecycleEnd id) = OnLifecycleEnd id
+event_of (variants.SendPacket bytes) = SendPacket bytes.items
+event_of variants.OnConnected = OnConnected
+event_of variants.OnClosed = OnClosed
+event_of variants.OnConnectionRestarted = OnConnectionRestarted
+event_of (variants.OnAborted kind text) = OnAborted kind (string_bytes text)
+event_of (variants.OnError kind text) = OnError kind (string_bytes text)
+event_of (variants.OnBufferedAmountLow id) = OnBufferedAmountLow id.0
+event_of variants.OnTotalBufferedAmountLow = OnTotalBufferedAmountLow
+event_of (variants.OnStreamsResetFailed ids) = OnStreamsResetFailed (numbers_of ids.items)
+event_of (variants.OnStreamsResetPerformed ids) = OnStreamsResetPerformed (numbers_of ids.items)
+event_of (variants.OnIncomingStreamReset ids) = OnIncomingStreamReset (numbers_of ids.items)
+event_of (variants.OnLifecycleMessageFullySent id) = OnLifecycleMessageFullySent id
+event_of (variants.OnLifecycleMessageMaybeExpired id) = OnLifecycleMessageMaybeExpired id
+event_of (variants.OnLifecycleMessageExpired id) = OnLifecycleMessageExpired id
+event_of (variants.OnLifecycleMessageDelivered id) = OnLifecycleMessageDelivered id
+event_of (variants.OnLifecycleEnd id) = OnLifecycleEnd id
 
 -- a message that was given up, by its place in the order of acceptance
 pub record GivenUp : Type 0 where

@@ -1,4 +1,4 @@
-//! An amount that tells when it falls to a threshold.
+//! An amount that says when it falls to a threshold.
 
 ghost use Rattle.std.specs.Prelude.{◌≡◌, ℕ, ◌+◌, ◌≤◌, ◌<◌, ◌^◌};
 

@@ -22,7 +22,7 @@ pub enum BackoffAlgorithm {
     Exponential,
 }
 
-/// A timer that runs until it is stopped, or has expired too often. It tells no time: who asks names the moment.
+/// A timer that runs until it is stopped, or has expired too often. It knows no time: who asks names the moment.
 #[derive(Drop)]
 pub struct Timer {
     duration: Duration,

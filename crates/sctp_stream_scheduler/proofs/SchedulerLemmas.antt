@@ -294,9 +294,9 @@ withdraws id bytes priority s absent = go (bytes == 0)
     times : Times → Scheduler
     times ts = record s { times = ts }
 
-    gone : leave id s ≡ s
-    gone = ap times (never_there id s.times (none (finish_time id s.times) absent))
+    unchanged : leave id s ≡ s
+    unchanged = ap times (never_there id s.times (none (finish_time id s.times) absent))
 
     go : (b : Bool) → leave id (cond b (leave id s) (cond (is_active id s) s (enter id (finish_now bytes priority s) s))) ≡ s
-    go true = ap (leave id) gone ∙ gone
+    go true = ap (leave id) unchanged ∙ unchanged
     go false = ap (λ t. leave id (cond t s (enter id (finish_now bytes priority s) s))) absent ∙ ap times (withdrawn id (finish_now bytes priority s) s.times (none (finish_time id s.times) absent))

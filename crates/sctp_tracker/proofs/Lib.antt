@@ -3,7 +3,7 @@ pub mod SeenRunsLemmas
 pub mod SeenPlacesLemmas
 pub mod SeenPassingLemmas
 pub mod SeenOneFormLemmas
-pub mod ToldLemmas
+pub mod ReportedLemmas
 pub mod DuplicatesLemmas
 pub mod TrackerLemmas
 pub mod TrackerRowsLemmas

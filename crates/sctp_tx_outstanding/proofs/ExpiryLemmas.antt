@@ -87,7 +87,7 @@ step_apart None x = (refl, refl)
 step_apart (Some number) x = (refl, refl)
 
 module _ {P : Type 0} (now from next : ℕ) (d : Outstanding) (emitted : Emitted P) (le : from ≤ next) (none : NoneExpires now from next d.items.kept) (self : Outstanding) (later : Emitted P)
-    (is_now : self ≡ record d { items = (expire_below now from (first_step d.items emitted)).items }) (is_told : later ≡ (expire_below now from (first_step d.items emitted)).emitted) where
+    (is_now : self ≡ record d { items = (expire_below now from (first_step d.items emitted)).items }) (is_emitted : later ≡ (expire_below now from (first_step d.items emitted)).emitted) where
   abbrev before : Step P
   before = expire_below now next (first_step d.items emitted)
 
@@ -95,7 +95,7 @@ module _ {P : Type 0} (now from next : ℕ) (d : Outstanding) (emitted : Emitted
   past_items = is_now ∙ ap (λ (x : Step P). record d { items = x.items }) (sym (expire_past now from next (first_step d.items emitted) le none))
 
   pub past_emitted : later ≡ before.emitted
-  past_emitted = is_told ∙ ap (λ (x : Step P). x.emitted) (sym (expire_past now from next (first_step d.items emitted) le none))
+  past_emitted = is_emitted ∙ ap (λ (x : Step P). x.emitted) (sym (expire_past now from next (first_step d.items emitted) le none))
 
   is_there : expire_at now next (first_step self.items later) ≡ expire_at now next (first_step before.items before.emitted)
   is_there =

@@ -44,11 +44,11 @@ module _ {P : Type 0} (at_once fast : Bool) (k : ℕ) (s : Items) (emitted : Emi
   abbrev there : Step P
   there = nack_at at_once fast k (first_step now.items later)
 
-  module _ (d : Outstanding) (is_now : now ≡ record d { items = before.items }) (is_told : later ≡ before.emitted) where
+  module _ (d : Outstanding) (is_now : now ≡ record d { items = before.items }) (is_emitted : later ≡ before.emitted) where
     is_there : there ≡ nack_at at_once fast k (first_step before.items before.emitted)
     is_there =
         ap (λ (n : Outstanding). nack_at at_once fast k (first_step n.items later)) is_now
-        ∙ ap (λ (t : Emitted P). nack_at at_once fast k (first_step before.items t)) is_told
+        ∙ ap (λ (t : Emitted P). nack_at at_once fast k (first_step before.items t)) is_emitted
 
     pub nack_next_items : (next : Outstanding) → next ≡ record now { items = there.items } → next ≡ record d { items = (nack_below at_once fast (k + 1) (first_step s emitted)).items }
     nack_next_items next is_next =

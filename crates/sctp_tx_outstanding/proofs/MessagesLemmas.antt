@@ -268,11 +268,11 @@ later_beyond number zero found (x ∷ is) h = absurd (omega (arith, h))
 later_beyond number (suc k) found (x ∷ is) h = later_beyond number k found is (omega (arith, h))
 
 pub later_next : (number k : ℕ) (found : Option FragmentTree) (is : List Item) → later_of number (later_at number k found is) (drop (suc k) is) ≡ later_of number found (drop k is)
-later_next number k found [] = gone k
+later_next number k found [] = none_left k
   where
-    gone : (k : ℕ) → later_of number found (drop (suc k) []) ≡ later_of number found (drop k [])
-    gone zero = refl
-    gone (suc k) = refl
+    none_left : (k : ℕ) → later_of number found (drop (suc k) []) ≡ later_of number found (drop k [])
+    none_left zero = refl
+    none_left (suc k) = refl
 later_next number zero found (i ∷ is) = refl
 later_next number (suc k) found (i ∷ is) = later_next number k found is
 

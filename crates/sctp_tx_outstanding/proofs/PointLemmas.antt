@@ -121,16 +121,16 @@ small_first false None most h = grind (arith, nat_tests)
 small_first false (Some e) most h = grind (arith, nat_tests)
 
 first_passes : (most : ℕ) (s : Items) (i : Item) → is_abandoned i ≡ true → 16 ≤ most → passes most s nothing i ≡ true
-first_passes most s i gone room = and_from (is_abandoned i) _ gone (small_first s.is_interleaved (entry_of s.is_interleaved i) most room)
+first_passes most s i abandoned room = and_from (is_abandoned i) _ abandoned (small_first s.is_interleaved (entry_of s.is_interleaved i) most room)
 
 at_least_lem : (most : ℕ) (s : Items) (f : ForwardPoint) (is : List Item) → f.count ≤ (walk most s f is).count
 at_least_lem most s f is = let h = walked most s f is in omega (arith, h.1.count)
 
 goes_ahead : (most : ℕ) (s : Items) (is : List Item) → is_first_given_up is ≡ true → 16 ≤ most → 0 < (walk most s nothing is).count
-goes_ahead most s [] gone room = absurd (cc)
-goes_ahead most s (i ∷ is) gone room =
+goes_ahead most s [] abandoned room = absurd (cc)
+goes_ahead most s (i ∷ is) abandoned room =
     let later : 1 ≤ (walk most s (pass_item s nothing i) is).count = at_least_lem most s (pass_item s nothing i) is in
-    subst (λ b. 0 < (if b then walk most s (pass_item s nothing i) is else nothing).count) (sym (first_passes most s i gone room)) later
+    subst (λ b. 0 < (if b then walk most s (pass_item s nothing i) is else nothing).count) (sym (first_passes most s i abandoned room)) later
 
 pub points_are_sound : (most : ℕ) (s : Items) → IsPoint most s (forward_point most s)
 points_are_sound most s =

@@ -10,7 +10,7 @@ use Rattle.sctp_state.specs.Events.{GivenUp, Emitted}
 use Rattle.sctp_state.specs.declared.api.GivenUpCause.{GivenUpCause}
 use Rattle.sctp_state.specs.declared.api.GivenUpCause.TheVariants.{Lifetime, Retransmissions}
 use Rattle.sctp_tx_outstanding.specs.declared.item.ItemState.{ItemState}
-use Rattle.sctp_tx_outstanding.specs.declared.item.ItemState.TheVariants.{InFlight, Missing, Queued, QueuedFast, Acked, GivenUp as Gone}
+use Rattle.sctp_tx_outstanding.specs.declared.item.ItemState.TheVariants.{InFlight, Missing, Queued, QueuedFast, Acked, GivenUp as Abandoned}
 use Rattle.sctp_tx_outstanding.specs.declared.outstanding_data.Turn.{Turn}
 use Rattle.sctp_tx_outstanding.specs.declared.outstanding_data.Turn.TheVariants.{Send, PassOver, Leave}
 use Rattle.sctp_tx_outstanding.specs.Item.{Item, is_in_flight, has_nack, is_given_up, is_of, is_lost, is_used_up, is_nacked, is_abandoned, has_expired, acked, uncovered, nack_state, resent, slow, nack, mark_as_retransmitted, miss_fast, abandon}
@@ -97,7 +97,7 @@ acked_same Missing = refl
 acked_same Queued = refl
 acked_same QueuedFast = refl
 acked_same Acked = refl
-acked_same Gone = refl
+acked_same Abandoned = refl
 
 uncovered_same : (s : ItemState) → is_given_up (uncovered s) ≡ is_given_up s
 uncovered_same InFlight = refl
@@ -105,7 +105,7 @@ uncovered_same Missing = refl
 uncovered_same Queued = refl
 uncovered_same QueuedFast = refl
 uncovered_same Acked = refl
-uncovered_same Gone = refl
+uncovered_same Abandoned = refl
 
 resent_same : (s : ItemState) → is_given_up (resent s) ≡ is_given_up s
 resent_same InFlight = refl
@@ -113,7 +113,7 @@ resent_same Missing = refl
 resent_same Queued = refl
 resent_same QueuedFast = refl
 resent_same Acked = refl
-resent_same Gone = refl
+resent_same Abandoned = refl
 
 slowed_same : (s : ItemState) → is_given_up (slow s) ≡ is_given_up s
 slowed_same InFlight = refl
@@ -121,7 +121,7 @@ slowed_same Missing = refl
 slowed_same Queued = refl
 slowed_same QueuedFast = refl
 slowed_same Acked = refl
-slowed_same Gone = refl
+slowed_same Abandoned = refl
 
 nacked_stays : (lost fast : Bool) → is_given_up (nack_state lost fast) ≡ false
 nacked_stays true true = refl
@@ -134,7 +134,7 @@ nacked_same lost fast Missing = nacked_stays lost fast
 nacked_same lost fast Queued = refl
 nacked_same lost fast QueuedFast = refl
 nacked_same lost fast Acked = refl
-nacked_same lost fast Gone = refl
+nacked_same lost fast Abandoned = refl
 
 alike_nack : (at_once fast : Bool) (i : Item) → Alike i (nack at_once fast i)
 alike_nack at_once fast i = record { number = refl; given_up = nacked_same (is_lost at_once i) fast i.state }
@@ -200,8 +200,8 @@ module _ (before : List GivenUp) where
         exact = subst (λ l. All l (abandon_message number x.items).kept) joins (down_with gs g x.items.kept (placeholders number (last_of number x.items.kept)) h.exact (ends_laid gs g (last_of number x.items.kept)));
       }
 
-  emitted_items : (s t : Items) (gone : List GivenUp) → All (before ++ gone) t.kept → RecordedOnce before s gone → RecordedOnce before t gone
-  emitted_items s t gone a h = record { once = h.once; exact = a }
+  emitted_items : (s t : Items) (records : List GivenUp) → All (before ++ records) t.kept → RecordedOnce before s records → RecordedOnce before t records
+  emitted_items s t records a h = record { once = h.once; exact = a }
 
   -- ---- missing reports
 
@@ -211,7 +211,7 @@ module _ (before : List GivenUp) where
   flying_stays Queued b e = absurd (cc)
   flying_stays QueuedFast b e = absurd (cc)
   flying_stays Acked b e = absurd (cc)
-  flying_stays Gone b e = absurd (cc)
+  flying_stays Abandoned b e = absurd (cc)
 
   first : (a b : Bool) → (a && b) ≡ true → a ≡ true
   first true b h = refl
@@ -251,7 +251,7 @@ module _ (before : List GivenUp) where
   lacking_stays Queued b e = refl
   lacking_stays QueuedFast b e = refl
   lacking_stays Acked b e = absurd (cc)
-  lacking_stays Gone b e = absurd (cc)
+  lacking_stays Abandoned b e = absurd (cc)
 
   module _ (now : ℕ) where
     emitted_expired : (k : ℕ) (i : Item) (x : Step (List ℕ)) → slice_get x.items.kept k ≡ Some i → RecordedOnce before x.items x.emitted.given_up
@@ -289,30 +289,30 @@ module _ (before : List GivenUp) where
 
   -- ---- what is sent, again and for the first time
 
-  module _ (gone : List GivenUp) where
-    emitted_again : (k : ℕ) (x : Resent) → RecordedOnce before x.outstanding.items gone → RecordedOnce before (again_at k x).outstanding.items gone
+  module _ (records : List GivenUp) where
+    emitted_again : (k : ℕ) (x : Resent) → RecordedOnce before x.outstanding.items records → RecordedOnce before (again_at k x).outstanding.items records
     emitted_again k x h = go (slice_get x.outstanding.items.kept k) where
-      go : (o : Option Item) → RecordedOnce before (again_of k o x).outstanding.items gone
+      go : (o : Option Item) → RecordedOnce before (again_of k o x).outstanding.items records
       go None = h
-      go (Some i) = emitted_items x.outstanding.items (change_items k mark_as_retransmitted x.outstanding.items) gone (emitted_changed (before ++ gone) mark_as_retransmitted alike_resent k x.outstanding.items.kept h.exact) h
+      go (Some i) = emitted_items x.outstanding.items (change_items k mark_as_retransmitted x.outstanding.items) records (emitted_changed (before ++ records) mark_as_retransmitted alike_resent k x.outstanding.items.kept h.exact) h
 
-    emitted_turn : (fast : Bool) (k : ℕ) (x : Resent) → RecordedOnce before x.outstanding.items gone → RecordedOnce before (step_at fast k x).outstanding.items gone
+    emitted_turn : (fast : Bool) (k : ℕ) (x : Resent) → RecordedOnce before x.outstanding.items records → RecordedOnce before (step_at fast k x).outstanding.items records
     emitted_turn fast k x h = go (turn_at fast k x) where
-      go : (t : Turn) → RecordedOnce before (take_item t k x).outstanding.items gone
+      go : (t : Turn) → RecordedOnce before (take_item t k x).outstanding.items records
       go Send = emitted_again k x h
-      go PassOver = emitted_items x.outstanding.items (change_items k miss_fast x.outstanding.items) gone (emitted_changed (before ++ gone) miss_fast alike_slowed k x.outstanding.items.kept h.exact) h
+      go PassOver = emitted_items x.outstanding.items (change_items k miss_fast x.outstanding.items) records (emitted_changed (before ++ records) miss_fast alike_slowed k x.outstanding.items.kept h.exact) h
       go Leave = h
 
-    pub resending_emits_once : (fast : Bool) (n : ℕ) (x : Resent) → RecordedOnce before x.outstanding.items gone → RecordedOnce before (resent_below fast n x).outstanding.items gone
+    pub resending_emits_once : (fast : Bool) (n : ℕ) (x : Resent) → RecordedOnce before x.outstanding.items records → RecordedOnce before (resent_below fast n x).outstanding.items records
     resending_emits_once fast zero x h = h
     resending_emits_once fast (suc n) x h = emitted_turn fast n (resent_below fast n x) (resending_emits_once fast n x h)
 
-    pub new_items_emit_event_once : (i : Item) (s : Items) → is_abandoned i ≡ false → is_recorded i.number (before ++ gone) ≡ false → RecordedOnce before s gone → RecordedOnce before (insert i s) gone
-    new_items_emit_event_once i s stays new h = record { once = h.once; exact = emitted_before (before ++ gone) s.kept (i ∷ []) h.exact (stays ∙ sym new, tt) }
+    pub new_items_emit_event_once : (i : Item) (s : Items) → is_abandoned i ≡ false → is_recorded i.number (before ++ records) ≡ false → RecordedOnce before s records → RecordedOnce before (insert i s) records
+    new_items_emit_event_once i s stays new h = record { once = h.once; exact = emitted_before (before ++ records) s.kept (i ∷ []) h.exact (stays ∙ sym new, tt) }
 
-    pub taking_emits_once : (g : GivenUp) (s : Items) → RecordedOnce before s (g ∷ gone) → RecordedOnce (before ++ g ∷ []) s gone
+    pub taking_emits_once : (g : GivenUp) (s : Items) → RecordedOnce before s (g ∷ records) → RecordedOnce (before ++ g ∷ []) s records
     taking_emits_once g s h =
-        let joins : (before ++ (g ∷ gone)) ≡ ((before ++ g ∷ []) ++ gone) = sym (append_assoc before (g ∷ []) gone) in
+        let joins : (before ++ (g ∷ records)) ≡ ((before ++ g ∷ []) ++ records) = sym (append_assoc before (g ∷ []) records) in
         record { once = subst (λ l. are_distinct l ≡ true) joins h.once; exact = subst (λ l. All l s.kept) joins h.exact }
 
 pub new_is_emitted_once : (is_partial is_interleaved : Bool) → RecordedOnce [] (no_items is_partial is_interleaved) []

@@ -26,9 +26,9 @@ abbrev pub IsRecorded : List GivenUp → Item → Type 0
 IsRecorded gs i = is_abandoned i ≡ is_recorded i.number gs
 
 -- of all records of an association, those that were taken and those that were not
-pub record RecordedOnce (taken : List GivenUp) (s : Items) (gone : List GivenUp) : Type 0 where
-  pub once : are_distinct (taken ++ gone) ≡ true
-  pub exact : AllByRecursion (IsRecorded (taken ++ gone)) s.kept
+pub record RecordedOnce (taken : List GivenUp) (s : Items) (records : List GivenUp) : Type 0 where
+  pub once : are_distinct (taken ++ records) ≡ true
+  pub exact : AllByRecursion (IsRecorded (taken ++ records)) s.kept
 
 -- ---- from a new association on each call keeps it
 
@@ -37,7 +37,7 @@ NewIsRecordedOnce = (is_partial is_interleaved : Bool) → RecordedOnce [] (no_i
 
 -- a fragment of a message that was not given up takes the next TSN
 abbrev pub NewItemsRecordOnce : Type 0
-NewItemsRecordOnce = (taken gone : List GivenUp) (i : Item) (s : Items) → is_abandoned i ≡ false → is_recorded i.number (taken ++ gone) ≡ false → RecordedOnce taken s gone → RecordedOnce taken (insert i s) gone
+NewItemsRecordOnce = (taken records : List GivenUp) (i : Item) (s : Items) → is_abandoned i ≡ false → is_recorded i.number (taken ++ records) ≡ false → RecordedOnce taken s records → RecordedOnce taken (insert i s) records
 
 -- missing reports and timeouts, also where memory ran out in between
 abbrev pub LossesRecordOnce : Type 0
@@ -52,10 +52,10 @@ SacksRecordOnce =
     → RecordedOnce taken (receive_sack cumulative blocks is_in_fast_recovery s emitted).items (receive_sack cumulative blocks is_in_fast_recovery s emitted).emitted.given_up
 
 abbrev pub ResendingRecordsOnce : Type 0
-ResendingRecordsOnce = (taken gone : List GivenUp) (fast : Bool) (count : ℕ) (x : Resent) → RecordedOnce taken x.outstanding.items gone → RecordedOnce taken (resent_below fast count x).outstanding.items gone
+ResendingRecordsOnce = (taken records : List GivenUp) (fast : Bool) (count : ℕ) (x : Resent) → RecordedOnce taken x.outstanding.items records → RecordedOnce taken (resent_below fast count x).outstanding.items records
 
 abbrev pub TakingRecordsOnce : Type 0
-TakingRecordsOnce = (taken gone : List GivenUp) (g : GivenUp) (s : Items) → RecordedOnce taken s (g ∷ gone) → RecordedOnce (taken ++ g ∷ []) s gone
+TakingRecordsOnce = (taken records : List GivenUp) (g : GivenUp) (s : Items) → RecordedOnce taken s (g ∷ records) → RecordedOnce (taken ++ g ∷ []) s records
 
 -- ---- where a record is made, and what it says
 

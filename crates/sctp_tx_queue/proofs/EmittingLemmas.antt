@@ -15,8 +15,8 @@ grown_after_record n cause t u v e g = grown_through t u v (subst (λ x. Grown t
 
 pub grown_dropped : {P : Type 0} (n : ℕ) (cause : GivenUpCause) (lifecycle : Option ℕ) (t : Emitted P) → Grown t (emit_events (expiry lifecycle) (give_up n cause t))
 grown_dropped n cause lifecycle t =
-    let gone = give_up n cause t in
-    grown_through t gone (emit_events (expiry lifecycle) gone) (grown_given_up n cause t) (grown_emitted (expiry lifecycle) gone)
+    let given_up = give_up n cause t in
+    grown_through t given_up (emit_events (expiry lifecycle) given_up) (grown_given_up n cause t) (grown_emitted (expiry lifecycle) given_up)
 
 pub grown_waiting : {P : Type 0} (ms : List Queued) (t : Emitted P) → Grown t (emitted_waiting ms t)
 grown_waiting [] t = grown_same t

@@ -42,9 +42,9 @@ ready_changed id count next was is es after v w at is_after is_was is_now counte
 pub ready_inserted : (id : ℕ) (es after : Entries) (s : Stream) → IsStrictlySortedBy nat_cmp (keys_of es) → None ≡ lookup (is_at (nat_cmp id)) es → after ≡ insert_entry nat_cmp es id s → s.pause ≡ NotPaused → ready_count es ≡ ready_count after
 ready_inserted id es after s sorted none is_after sends =
     let sums = sum_by-insert_entry ready_one nat_cmp_total es id s sorted in
-    let gone : unwrap_or (option_map ready_one (lookup (is_at (nat_cmp id)) es)) 0 ≡ 0 = ap (λ o. unwrap_or (option_map ready_one o) 0) (sym none) in
+    let none_there : unwrap_or (option_map ready_one (lookup (is_at (nat_cmp id)) es)) 0 ≡ 0 = ap (λ o. unwrap_or (option_map ready_one o) 0) (sym none) in
     let pause : one (is_ready s) ≡ 0 = ap (λ p. one (is_paused p)) sends in
-    omega (arith, sums, gone, pause, ap ready_count is_after)
+    omega (arith, sums, none_there, pause, ap ready_count is_after)
 
 pub ready_restored : (threshold : ℕ) (ss : List HandoverOutgoingStream) → ready_count (entries_from 0 threshold [] ss) ≡ 0
 ready_restored threshold [] = refl

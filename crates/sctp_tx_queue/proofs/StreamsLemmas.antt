@@ -28,8 +28,8 @@ total_kept id es v w at same = omega (arith, total_written id es v w at, same)
 pub total_opened : (id priority threshold : ℕ) (es : Entries) → IsStrictlySortedBy nat_cmp (keys_of es) → None ≡ lookup (is_at (nat_cmp id)) es → total_of (insert_entry nat_cmp es id (blank_stream priority threshold)) ≡ total_of es
 total_opened id priority threshold es sorted none =
     let sums = sum_by-insert_entry amount_of nat_cmp_total es id (blank_stream priority threshold) sorted in
-    let gone : unwrap_or (option_map amount_of (lookup (is_at (nat_cmp id)) es)) 0 ≡ 0 = ap (λ o. unwrap_or (option_map amount_of o) 0) (sym none) in
-    omega (arith, sums, gone)
+    let none_there : unwrap_or (option_map amount_of (lookup (is_at (nat_cmp id)) es)) 0 ≡ 0 = ap (λ o. unwrap_or (option_map amount_of o) 0) (sym none) in
+    omega (arith, sums, none_there)
 
 -- a write of what is there, or where nothing is
 pub written_same : {X : Type 0} (test : ℕ → Bool) (v : X) (es : List (ℕ × X)) → Some v ≡ lookup test es → set_value test es v ≡ es
@@ -121,8 +121,8 @@ requested_sendable id ss = go (lookup (is_at (nat_cmp id)) ss.entries) refl
 pub total_inserted : (id : ℕ) (s : Stream) (es : Entries) → IsStrictlySortedBy nat_cmp (keys_of es) → None ≡ lookup (is_at (nat_cmp id)) es → total_of (insert_entry nat_cmp es id s) ≡ total_of es + amount_of s
 total_inserted id s es sorted none =
     let sums = sum_by-insert_entry amount_of nat_cmp_total es id s sorted in
-    let gone : unwrap_or (option_map amount_of (lookup (is_at (nat_cmp id)) es)) 0 ≡ 0 = ap (λ o. unwrap_or (option_map amount_of o) 0) (sym none) in
-    omega (arith, sums, gone)
+    let none_there : unwrap_or (option_map amount_of (lookup (is_at (nat_cmp id)) es)) 0 ≡ 0 = ap (λ o. unwrap_or (option_map amount_of o) 0) (sym none) in
+    omega (arith, sums, none_there)
 
 -- the first message of a stream that is made with it
 pub first_is : (id : ℕ) (m : Queued) (ss : Streams) (es : Entries) (threshold : ℕ) → None ≡ lookup (is_at (nat_cmp id)) ss.entries → es ≡ insert_entry nat_cmp ss.entries id (push m (blank ss)) → threshold ≡ ss.total_threshold

@@ -40,7 +40,7 @@ fn leave(
     requires { Indexes turns.old.keys finish_times.old.entries }
     ensures time { result ≡ finish_time id finish_times.old.entries }
     ensures times { finish_times.new.entries ≡ remove_entry (is_at (nat_cmp id)) finish_times.old.entries }
-    ensures gone { finish_time id finish_times.new.entries ≡ None }
+    ensures removed { finish_time id finish_times.new.entries ≡ None }
     ensures indexed { Indexes turns.new.keys finish_times.new.entries }
 {
     let finish = finish_times.remove(&id)?;
@@ -148,7 +148,7 @@ impl ActiveStreams {
     pub fn leave(&mut self, id: u16) -> Option<u128>
         ensures time { result ≡ finish_time id self.old }
         ensures times { self.new ≡ remove_entry (is_at (nat_cmp id)) self.old }
-        ensures gone { finish_time id self.new ≡ None }
+        ensures removed { finish_time id self.new ≡ None }
     {
         match self.only {
             Some((only, finish)) if only == id => {

@@ -4,7 +4,7 @@ use Rattle.sctp_tx_outstanding.proofs.laws.a_message_is_given_up_once.Goals as g
 pub returns : goal.returns
 returns c = record {
   new = new_is_emitted_once;
-  new_items = λ taken gone i s stays new h. new_items_emit_event_once taken gone i s stays new h;
+  new_items = λ taken records i s stays new h. new_items_emit_event_once taken records i s stays new h;
   losses = losses_emit_event_once;
   lifetimes = lifetimes_emit_event_once;
   sacks = sacks_emit_event_once;

@@ -10,8 +10,8 @@ returns-then-self-clause-ok g c =
     let x = held_at (g.K.ReassemblyKey.number c.args.key) (g.K.ReassemblyKey.index c.args.key) c.args.fragment in
     let s : OrderedStream = record { next = c.self.inside.next; held = c.self.inside.list } in
     let late : nat_lt x.number s.next ≡ false = search rules in
-    let told = c.stays_settled-self-inside.ensures in
-    let none = c.in_ok-is_turn.ensures.none (told.turn c.if-self.true) (c.self.invariant.settled (told.settled c.if-self.true)) in
+    let still_settled = c.stays_settled-self-inside.ensures in
+    let none = c.in_ok-is_turn.ensures.none (still_settled.turn c.if-self.true) (c.self.invariant.settled (still_settled.settled c.if-self.true)) in
     let arrived = arrives_settled x s c.add_in.new.list late c.in_ok-is_turn.ensures.value none in
     sym (ap (λ d. d.stream) arrived) ∙ ap (λ t. (ordered_arrival x t).stream) c.self.view_is
 
@@ -20,7 +20,7 @@ returns-then-self-clause-ready g c =
     let x = held_at (g.K.ReassemblyKey.number c.args.key) (g.K.ReassemblyKey.index c.args.key) c.args.fragment in
     let s : OrderedStream = record { next = c.self.inside.next; held = c.self.inside.list } in
     let late : nat_lt x.number s.next ≡ false = search rules in
-    let told = c.stays_settled-self-inside.ensures in
-    let none = c.in_ok-is_turn.ensures.none (told.turn c.if-self.true) (c.self.invariant.settled (told.settled c.if-self.true)) in
+    let still_settled = c.stays_settled-self-inside.ensures in
+    let none = c.in_ok-is_turn.ensures.none (still_settled.turn c.if-self.true) (c.self.invariant.settled (still_settled.settled c.if-self.true)) in
     let arrived = arrives_settled x s c.add_in.new.list late c.in_ok-is_turn.ensures.value none in
     nothing_more c.args.ready.now _ (ap (λ t. (ordered_arrival x t).messages) (sym c.self.view_is) ∙ ap (λ d. d.messages) arrived)

@@ -39,9 +39,9 @@ returns-clause-again c = λ valid m.
           ap (λ x. x.duplicates) w.self-inside-is ∙ ap (λ (v : Bool). cond v (with_duplicate n ds) ds) (sym unseen)
     ] in
     let now : Bool = holds c.if-not-is_new.self-inside.duplicates m in
-    let told = ap (λ ns. holds ns m) kept ∙ holds_observed n m was ds in
+    let is_held = ap (λ ns. holds ns m) kept ∙ holds_observed n m was ds in
     let P : DataTracker → Type 0 = λ d. now ≡ (is_duplicate d.tracker m || (eqb m n && (has_seen d.tracker n && ltb (length d.tracker.duplicates) 20))) in
     let t : Tracker = c.args.self.now.tracker in
     let R : ℕ → Type 0 = λ k. now ≡ (is_duplicate t m || (eqb m k && (has_seen t k && ltb (length t.duplicates) 20))) in
     let same : n ≡ number_of c.args.self.now c.args.tsn.0 = cc in
-    subst R same (subst P c.self.view_is told)
+    subst R same (subst P c.self.view_is is_held)

@@ -166,12 +166,12 @@ module _ (s : Seen) where
 
   -- ---- each block is reported
 
-  told_from : (q k n : ℕ) (rs : List Run) → Left q k rs → k + n ≡ 20 → AllByRecursion (IsReported s) (blocks_of s.front (take n rs))
-  told_from q k zero rs l e = tt
-  told_from q k (suc n) [] l e = tt
-  told_from q k (suc n) (r ∷ rs) l e =
+  reported_from : (q k n : ℕ) (rs : List Run) → Left q k rs → k + n ≡ 20 → AllByRecursion (IsReported s) (blocks_of s.front (take n rs))
+  reported_from q k zero rs l e = tt
+  reported_from q k (suc n) [] l e = tt
+  reported_from q k (suc n) (r ∷ rs) l e =
       let here = next q k r rs l in
-      let others = told_from r.last (suc k) n rs here.left (omega (arith, e)) in
+      let others = reported_from r.last (suc k) n rs here.left (omega (arith, e)) in
       elim (cases_lt 65535 (r.last - s.front)) [
         | inl far ↦ rw (lt-leb (r.last - s.front) 65535 far) others
         | inr near ↦ rw (le-leb (r.last - s.front) 65535 near) (record { maximal = here.maximal; early = omega (arith, here.count, e); near = near }, others)
@@ -228,14 +228,14 @@ module _ (s : Seen) where
         none : runs_below s (s.front - s.front + 1) ≡ 0
         none = same_count s (s.front - s.front + 1) 1 (omega arith) ∙ one_more s 0 0 false (none_begins s 0 refl) refl
 
-    pub blocks_are_told : All (IsReported s) (gap_ack_blocks s)
-    blocks_are_told = All-from_recursion (IsReported s) (gap_ack_blocks s) (told_from s.front 0 20 s.runs all_left refl)
+    pub blocks_are_reported : All (IsReported s) (gap_ack_blocks s)
+    blocks_are_reported = All-from_recursion (IsReported s) (gap_ack_blocks s) (reported_from s.front 0 20 s.runs all_left refl)
 
     pub blocks_stand_apart : covered.AreRuns 2 (gap_ack_blocks s)
     blocks_stand_apart = apart_from 2 s.front 20 s.runs (omega arith) i (omega arith)
 
-    pub told_are_blocks : (b : GapAckBlock) → IsReported s b → Contains (gap_ack_blocks s) b
-    told_are_blocks b t = every_from s.front 0 20 s.runs b all_left refl t (some b.start (t.maximal.inside b.start (omega arith) t.maximal.full))
+    pub reported_are_blocks : (b : GapAckBlock) → IsReported s b → Contains (gap_ack_blocks s) b
+    reported_are_blocks b t = every_from s.front 0 20 s.runs b all_left refl t (some b.start (t.maximal.inside b.start (omega arith) t.maximal.full))
       where
         some : (o : ℕ) → is_above s o ≡ true → s.front < s.front + o
         some zero e = absurd (cc)
