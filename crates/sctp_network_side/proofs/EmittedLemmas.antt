@@ -74,11 +74,11 @@ emitted_taken x m n e events rest old new first r c l =
 
 -- ---- messages that were given up
 
-pub given_up_taken : (x : End) (g : GivenUp) (gone rest : List GivenUp) (old new : List Entry) → Some g ≡ first_of gone → rest ≡ drop 1 gone
-    → new ≡ old ++ GaveUp x g ∷ [] → new ++ given_up_entries x rest ≡ old ++ given_up_entries x gone
-given_up_taken x g gone rest old new first r l =
+pub given_up_taken : (x : End) (g : GivenUp) (records rest : List GivenUp) (old new : List Entry) → Some g ≡ first_of records → rest ≡ drop 1 records
+    → new ≡ old ++ GaveUp x g ∷ [] → new ++ given_up_entries x rest ≡ old ++ given_up_entries x records
+given_up_taken x g records rest old new first r l =
     ap (λ (k : List Entry). k ++ given_up_entries x rest) l ∙ append_assoc old (GaveUp x g ∷ []) (given_up_entries x rest)
-    ∙ ap (λ (gs : List GivenUp). old ++ GaveUp x g ∷ given_up_entries x gs) r ∙ ap (λ (gs : List GivenUp). old ++ given_up_entries x gs) (sym (first_and_rest gone g first))
+    ∙ ap (λ (gs : List GivenUp). old ++ GaveUp x g ∷ given_up_entries x gs) r ∙ ap (λ (gs : List GivenUp). old ++ given_up_entries x gs) (sym (first_and_rest records g first))
 
 -- ---- messages that are ready
 

@@ -17,9 +17,9 @@ emitted_there : {R C : Type 0} (stream : R → Stream) (word_of : C → List ℕ
     → side_in stream word_of new ≡ take_emitted (side_in stream word_of (record v { socket = s })) (endpoint stream word_of s)
     → longer ≡ log ++ first ∷ news x (length v.packets) ready held (endpoint stream word_of s)
     → TakesBytes x first bytes (side_in stream word_of v) (side_in stream word_of new) log longer
-emitted_there stream word_of v new x first bytes s log longer ready held hears a r side logged = record {
+emitted_there stream word_of v new x first bytes s log longer ready held takes_it a r side logged = record {
   after = endpoint stream word_of s;
-  takes = hears;
+  takes = takes_it;
   side = side;
   logged = logged
       ∙ ap (λ (k : ℕ). log ++ first ∷ news x (length v.packets) k held (endpoint stream word_of s)) r
@@ -33,9 +33,9 @@ pub emitted_as : {R C : Type 0} (stream : R → Stream) (word_of : C → List �
     → side_in stream word_of new ≡ take_emitted (side_in stream word_of (record v { socket = s })) (endpoint stream word_of s)
     → longer ≡ log ++ first ∷ news x (length v.packets) ready held (endpoint stream word_of s)
     → TakesBytes x first bytes (side_in stream word_of now) (side_in stream word_of new) log longer
-emitted_as stream word_of v now new is x first bytes s log longer ready held hears a r side logged =
+emitted_as stream word_of v now new is x first bytes s log longer ready held takes_it a r side logged =
     subst (λ (w : SideValue _ _). TakesBytes x first bytes (side_in stream word_of w) (side_in stream word_of new) log longer) is
-    (emitted_there stream word_of v new x first bytes s log longer ready held hears
+    (emitted_there stream word_of v new x first bytes s log longer ready held takes_it
     (a ∙ ap (λ (w : SideValue _ _). association_in w.socket.state) (sym is)) (r ∙ ap (λ (w : SideValue _ _). length (ready_in w.socket.state)) (sym is)) side logged)
 
 -- ---- bytes from elsewhere

@@ -176,8 +176,8 @@ module _ (reader_old reader : Option (List ℕ)) (line : List ℕ) (count turns 
     -- it is no command
     stopped_end_at : (new source : Option (List ℕ)) (n : ℕ) → reader_old ≡ source → n ≡ count + 1 → IsNoCommand line → Appends mid new (refusal_text (count + 1))
         → IfSome source (λ input. (text : List ℕ) × StopsAt (lines_of input) n w text × Appends old new (text ++ refusal_text n))
-    stopped_end_at new None n is number none told = tt
-    stopped_end_at new (Some xs) n is number no_command told = (
+    stopped_end_at new None n is number none refused = tt
+    stopped_end_at new (Some xs) n is number no_command refused = (
       read.ran.text,
       record {
         before = read.lines;
@@ -189,12 +189,12 @@ module _ (reader_old reader : Option (List ℕ)) (line : List ℕ) (count turns 
         no_command = no_command;
         runs = read.ran.runs;
       },
-      Appends-trans old mid new read.ran.text (refusal_text n) read.ran.written (rw number told),
+      Appends-trans old mid new read.ran.text (refusal_text n) read.ran.written (rw number refused),
     )
 
     pub stopped_at_end : (new : Option (List ℕ)) (n : ℕ) → n ≡ count + 1 → IsNoCommand line → Appends mid new (refusal_text (count + 1))
         → IfSome reader_old (λ input. (text : List ℕ) × StopsAt (lines_of input) n w text × Appends old new (text ++ refusal_text n))
-    stopped_at_end new n number no_command told = stopped_end_at new reader_old n refl number no_command told
+    stopped_at_end new n number no_command refused = stopped_end_at new reader_old n refl number no_command refused
 
 -- before the first line nothing ran
 pub nothing_ran : (reader old : Option (List ℕ)) (w : World) → IfSome reader (λ input. (text : List ℕ) × RunsFront (lines_of input) w text × Appends old old text)

@@ -73,7 +73,7 @@ module _ (bytes : List ℕ) (before count : ℕ) (line rest : List ℕ) (w v : W
   pub stopped_at : (new : Option (List ℕ)) (taken : List ℕ) (n : ℕ) → taken ≡ line ++ end → n ≡ count + 1
       → IsNoCommand taken → Appends mid new (refusal_text (count + 1))
       → HasStopped bytes before n w old new
-  stopped_at new taken n is_line number none told = record {
+  stopped_at new taken n is_line number none refused = record {
     lines = run.lines;
     line = taken;
     rest = after;
@@ -83,5 +83,5 @@ module _ (bytes : List ℕ) (before count : ℕ) (line rest : List ℕ) (w v : W
     number = omega (arith, number, run.number);
     no_command = none;
     runs = run.ran.runs;
-    written = Appends-trans old mid new run.ran.text (refusal_text n) run.ran.written (rw number told);
+    written = Appends-trans old mid new run.ran.text (refusal_text n) run.ran.written (rw number refused);
   }

@@ -7,9 +7,9 @@ pub returns-in_err-run_numbered-clause-stopped : goal.returns-in_err-run_numbere
 returns-in_err-run_numbered-clause-stopped g c =
     let p = err_from_is_err_and c.from_residual-in_err-run_numbered.result c.from_residual-in_err-run_numbered.ensures.1 in
     rw (p.1, p.2) (λ n e.
-    let told = c.in_err-run_numbered.ensures.stopped n e in
+    let stopped = c.in_err-run_numbered.ensures.stopped n e in
     stopped_at _ _ _ _ _ _ _ _ _ _ c.loop-end.invariant _ _ c.in-Some.ensures.cut c.in-Some.ensures.first _ c.deref.result.now n
-    (c.deref.ensures.value ∙ c.in_ok-extend_from_slice.ensures.items) told.0 told.1 told.2)
+    (c.deref.ensures.value ∙ c.in_ok-extend_from_slice.ensures.items) stopped.0 stopped.1 stopped.2)
 
 pub loop-end-preserved : goal.loop-end-preserved
 loop-end-preserved g c =

@@ -6,9 +6,9 @@ use Rattle.sctp_network_side.proofs.side.Side.inject.Goals as goal
 
 pub returns-then-branch : goal.returns-then-branch
 returns-then-branch g c =
-    on_ok_weaker c.receive_foreign.result (λ told.
+    on_ok_weaker c.receive_foreign.result (λ is_ok.
     came g.R.Rng.stream g.C.Checksum.word_of (record { socket = c.self.inside.socket; packets = map (λ bytes. bytes.items) c.self.inside.packets.items }) c.args.self.now c.receive_foreign.new.self
-    c.self.view_is (end_tree c.args.end) c.args.bytes.now (map entry_tree c.args.log.now.items) (map entry_tree c.receive_foreign.new.log.items) _ c.in_ok-refuses.ensures.judged c.if-branch.true told) c.receive_foreign.ensures
+    c.self.view_is (end_tree c.args.end) c.args.bytes.now (map entry_tree c.args.log.now.items) (map entry_tree c.receive_foreign.new.log.items) _ c.in_ok-refuses.ensures.judged c.if-branch.true is_ok) c.receive_foreign.ensures
 
 pub returns-in_ok-skip : goal.returns-in_ok-skip
 returns-in_ok-skip g c =

@@ -7,8 +7,8 @@ use Rattle.sctp_network_side.proofs.side.Side.receive.Goals as goal
 
 pub returns : goal.returns
 returns g c =
-    on_ok_weaker c.take.result (λ told.
+    on_ok_weaker c.take.result (λ is_ok.
     subst (λ (now : ℕ). TakesBytes (end_tree c.args.end) (Given (end_tree c.args.end) now c.args.packet) c.args.bytes.now
     (side_in g.R.Rng.stream g.C.Checksum.word_of c.args.self.now) (side_in g.R.Rng.stream g.C.Checksum.word_of c.take.new.self)
     (map entry_tree c.args.log.now.items) (map entry_tree c.take.new.log.items))
-    (c.clock.ensures ∙ ap (λ (side : SideValue _ _). side.socket.context.clock) c.self.view_is) told) c.take.ensures
+    (c.clock.ensures ∙ ap (λ (side : SideValue _ _). side.socket.context.clock) c.self.view_is) is_ok) c.take.ensures

@@ -7,10 +7,10 @@ use Rattle.sctp_network_side.proofs.side.Side.receive_foreign.Goals as goal
 
 pub returns : goal.returns
 returns g c =
-    on_ok_weaker c.take.result (λ told.
+    on_ok_weaker c.take.result (λ is_ok.
     subst (λ (first : Entry). TakesBytes (end_tree c.args.end) first c.args.bytes.now
     (side_in g.R.Rng.stream g.C.Checksum.word_of c.args.self.now) (side_in g.R.Rng.stream g.C.Checksum.word_of c.take.new.self)
     (map entry_tree c.args.log.now.items) (map entry_tree c.take.new.log.items))
     (ap (λ (now : ℕ). Foreign (end_tree c.args.end) now (Some c.in_ok-copy.copy.items))
     (c.clock.ensures ∙ ap (λ (side : SideValue _ _). side.socket.context.clock) c.self.view_is)
-    ∙ ap (λ (bytes : List ℕ). Foreign (end_tree c.args.end) c.args.self.now.socket.context.clock (Some bytes)) c.in_ok-copy.ensures.items) told) c.take.ensures
+    ∙ ap (λ (bytes : List ℕ). Foreign (end_tree c.args.end) c.args.self.now.socket.context.clock (Some bytes)) c.in_ok-copy.ensures.items) is_ok) c.take.ensures
