@@ -17,7 +17,7 @@ pub data Shown : Type 0 where
 abbrev pub what_shows : End → What → Shown
 what_shows end (kinds.Sent number bytes label) = Packet end number bytes.items
 what_shows end (kinds.Given number) = Giving end number
-what_shows end (kinds.Told text) = Other end
+what_shows end (kinds.Note text) = Other end
 
 abbrev pub row_shows : Row → Shown
 row_shows row = what_shows row.end row.what

@@ -123,7 +123,7 @@ fn given(clocks: &Clocks, end: End, number: usize) -> Row
     }
 }
 
-fn told(alloc: Global, clocks: &Clocks, end: End, entry: &Entry) -> Result<Row, AllocError>
+fn note_row(alloc: Global, clocks: &Clocks, end: End, entry: &Entry) -> Result<Row, AllocError>
     ensures shown { IfOk result (λ row. row_shows row ≡ Other (lifeline (end_tree end))) }
     ensures time { IfOk result (λ row. row.nanoseconds ≡ clock_of (end_tree end) clocks.now) }
 {
@@ -131,7 +131,7 @@ fn told(alloc: Global, clocks: &Clocks, end: End, entry: &Entry) -> Result<Row, 
     Ok(Row {
         end: lifeline_of(end),
         nanoseconds: clocks.of(end),
-        what: What::Told(note),
+        what: What::Note(note),
     })
 }
 
@@ -147,13 +147,13 @@ fn row_of<W: Watched>(
     match entry {
         Entry::Packet(end, number) => sent(alloc, world, clocks, *end, *number),
         Entry::Give(end, _, number) => Ok(given(clocks, *end, *number)),
-        Entry::Call(end, _, _, _) => told(alloc, clocks, *end, entry),
-        Entry::Foreign(end, _, _) => told(alloc, clocks, *end, entry),
-        Entry::Time(end, _, _) => told(alloc, clocks, *end, entry),
-        Entry::Association(end, _) => told(alloc, clocks, *end, entry),
-        Entry::Event(end, _) => told(alloc, clocks, *end, entry),
-        Entry::GivenUp(end, _) => told(alloc, clocks, *end, entry),
-        Entry::Ready(end, _) => told(alloc, clocks, *end, entry),
+        Entry::Call(end, _, _, _) => note_row(alloc, clocks, *end, entry),
+        Entry::Foreign(end, _, _) => note_row(alloc, clocks, *end, entry),
+        Entry::Time(end, _, _) => note_row(alloc, clocks, *end, entry),
+        Entry::Association(end, _) => note_row(alloc, clocks, *end, entry),
+        Entry::Event(end, _) => note_row(alloc, clocks, *end, entry),
+        Entry::GivenUp(end, _) => note_row(alloc, clocks, *end, entry),
+        Entry::Ready(end, _) => note_row(alloc, clocks, *end, entry),
     }
 }
 

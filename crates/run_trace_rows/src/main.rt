@@ -4,7 +4,7 @@
 //! |---|---|
 //! | `sent END NANOSECONDS NUMBER HEX` | the end sent its packet of this number |
 //! | `given END NANOSECONDS NUMBER` | the other end's packet of this number was given to this one |
-//! | `told END NANOSECONDS WORDS` | words of the end |
+//! | `note END NANOSECONDS WORDS` | words of the end |
 //! | `text`, `chart`, `pcap` | draws the rows so far, a capture in hex digits |
 //! | `# TITLE` | is copied; the next line begins another conversation |
 #![tactic(auto)]
@@ -69,7 +69,7 @@ fn what_of(alloc: Global, kind: &str, rest: &str) -> Result<Option<What>, AllocE
             Ok(number) => Ok(Some(What::Given(number))),
             Err(_) => Ok(None),
         },
-        "told" => Ok(Some(What::Told(String::from_str(alloc, rest)?))),
+        "note" => Ok(Some(What::Note(String::from_str(alloc, rest)?))),
         _ => Ok(None),
     }
 }

@@ -50,9 +50,9 @@ unfolding le32 block packet_body
 packet_in_parts interface nanoseconds size packet comment old a b c d is p q r s =
     let numbers : List ℕ = flat_map le32 (6 ∷ size ∷ interface ∷ nanoseconds / 2 ^ 32 ∷ nanoseconds % 2 ^ 32 ∷ length packet ∷ length packet ∷ []) in
     let body : List ℕ = packet_body interface nanoseconds packet comment in
-    let told : List ℕ = option_bytes 1 comment in
-    let inner : pad packet ++ (told ++ (le32 0 ++ le32 size)) ≡ (pad packet ++ (told ++ le32 0)) ++ le32 size =
-    sym (append_assoc (pad packet) (told ++ le32 0) (le32 size) ∙ ap (λ (l : List ℕ). pad packet ++ l) (append_assoc told (le32 0) (le32 size))) in
-    four_in_turn old numbers (pad packet) told (flat_map le32 (0 ∷ size ∷ [])) a b c d p q r s
+    let comment_bytes : List ℕ = option_bytes 1 comment in
+    let inner : pad packet ++ (comment_bytes ++ (le32 0 ++ le32 size)) ≡ (pad packet ++ (comment_bytes ++ le32 0)) ++ le32 size =
+    sym (append_assoc (pad packet) (comment_bytes ++ le32 0) (le32 size) ∙ ap (λ (l : List ℕ). pad packet ++ l) (append_assoc comment_bytes (le32 0) (le32 size))) in
+    four_in_turn old numbers (pad packet) comment_bytes (flat_map le32 (0 ∷ size ∷ [])) a b c d p q r s
     ∙ (ap (λ (l : List ℕ). old ++ (numbers ++ l)) inner
     ∙ ap (λ (n : ℕ). old ++ (le32 6 ++ (le32 n ++ (body ++ le32 n)))) is)

@@ -11,7 +11,7 @@ use Rattle.sctp_trace.specs.declared.rows.What.TheVariants as kinds
 use Rattle.sctp_trace.specs.declared.rows.Row.{Row}
 use Rattle.sctp_trace.specs.Arrows.{times_given}
 use Rattle.sctp_trace.specs.Ascii.{is_printable, plain}
-use Rattle.sctp_trace.specs.Ladder.{front_of, left_cell, right_cell, note_cell, sent_caption, given_caption, arrow_start, arrow_head, packet_cell, row_of_cells, told_line, packet_line, what_line, line_of, heading, IsLine}
+use Rattle.sctp_trace.specs.Ladder.{front_of, left_cell, right_cell, note_cell, sent_caption, given_caption, arrow_start, arrow_head, packet_cell, row_of_cells, note_line, packet_line, what_line, line_of, heading, IsLine}
 
 abbrev Printable : ℕ → Type 0
 Printable n = is_printable n ≡ true
@@ -115,9 +115,9 @@ cells_are_a_line left middle right l m r = record {
       (All-append Printable middle (124 ∷ right) m.printable (All-cons Printable 124 right refl r.printable))));
 }
 
-told_fits : (end : End) (text : List ℕ) → IsLine (told_line end text)
-told_fits ends.A text = cells_are_a_line (right_cell 29 text) (replicate 36 32) [] (right_is 29 text) (spaces 36) empty
-told_fits ends.B text = cells_are_a_line (replicate 29 32) (replicate 36 32) (note_cell text) (spaces 29) (spaces 36) (note_is text)
+note_fits : (end : End) (text : List ℕ) → IsLine (note_line end text)
+note_fits ends.A text = cells_are_a_line (right_cell 29 text) (replicate 36 32) [] (right_is 29 text) (spaces 36) empty
+note_fits ends.B text = cells_are_a_line (replicate 29 32) (replicate 36 32) (note_cell text) (spaces 29) (spaces 36) (note_is text)
 
 packet_fits : (cell : List ℕ) → IsCell 36 cell → IsLine (packet_line cell)
 packet_fits cell is = cells_are_a_line (replicate 29 32) cell [] (spaces 29) is empty
@@ -128,7 +128,7 @@ what_fits all end (kinds.Sent number bytes label) =
     packet_fits (packet_cell end arrow_start caption) (packet_is end arrow_start caption start_is)
 what_fits all end (kinds.Given number) =
     packet_fits (packet_cell end (arrow_head end) (given_caption number)) (packet_is end (arrow_head end) (given_caption number) (head_is end))
-what_fits all end (kinds.Told text) = told_fits end (string_bytes text)
+what_fits all end (kinds.Note text) = note_fits end (string_bytes text)
 
 pub lines_fit : (all : List Row) (row : Row) → IsLine (line_of all row)
 lines_fit all row = what_fits all row.end row.what

@@ -48,12 +48,12 @@ pub length_packet_body : (interface nanoseconds : ℕ) (packet comment : List �
     → length (packet_body interface nanoseconds packet comment) ≡ 28 + (length packet + padding (length packet)) + (length comment + padding (length comment))
 unfolding packet_body
 length_packet_body interface nanoseconds packet comment =
-    let told : List ℕ = option_bytes 1 comment ++ le32 0 in
+    let rest : List ℕ = option_bytes 1 comment ++ le32 0 in
     omega (
       arith,
-      length-append (packet_numbers interface nanoseconds (length packet)) (pad packet ++ told),
+      length-append (packet_numbers interface nanoseconds (length packet)) (pad packet ++ rest),
       length_numbers interface nanoseconds (length packet),
-      length-append (pad packet) told,
+      length-append (pad packet) rest,
       length-append (option_bytes 1 comment) (le32 0),
       length_padded packet,
       length_option 1 comment,

@@ -61,17 +61,17 @@ chosen true n q i old known e before =
 chosen false n q i old known e before = before q ∙ sym (none_here false (known q) i refl)
 
 -- an end's own packet is the one of its number
-pub own : (is_its : Bool) (n : ℕ) (tells : ℕ → Bool) → ((q : ℕ) → tells q ≡ (is_its && (n == q))) → tells n ≡ true → (q : ℕ) → tells q ≡ (n == q)
-own true n tells told e q = told q
-own false n tells told e q = let never : false ≡ true = sym (told n) ∙ e in cc
+pub own : (is_its : Bool) (n : ℕ) (is_it : ℕ → Bool) → ((q : ℕ) → is_it q ≡ (is_its && (n == q))) → is_it n ≡ true → (q : ℕ) → is_it q ≡ (n == q)
+own true n is_it same e q = same q
+own false n is_it same e q = let never : false ≡ true = sym (same n) ∙ e in cc
 
 other_end : (is_its same : Bool) → (is_its && same) ≡ false → same ≡ true → is_its ≡ false
 other_end true same e one = let never : false ≡ true = sym e ∙ one in cc
 other_end false same e one = refl
 
-pub not_own : (is_its : Bool) (n : ℕ) (tells : ℕ → Bool) → ((q : ℕ) → tells q ≡ (is_its && (n == q))) → tells n ≡ false → (q : ℕ) → tells q ≡ false
-not_own is_its n tells told e q =
-    told q ∙ ap (λ (b : Bool). b && (n == q)) (other_end is_its (n == n) (sym (told n) ∙ e) (grind (arith, nat_tests)))
+pub not_own : (is_its : Bool) (n : ℕ) (is_it : ℕ → Bool) → ((q : ℕ) → is_it q ≡ (is_its && (n == q))) → is_it n ≡ false → (q : ℕ) → is_it q ≡ false
+not_own is_its n is_it same e q =
+    same q ∙ ap (λ (b : Bool). b && (n == q)) (other_end is_its (n == n) (sym (same n) ∙ e) (grind (arith, nat_tests)))
 
 module _ (rows : List Row) (from : End) (i : ℕ) (row : Row) (inside : i < length rows) (is : row ≡ get_or rows i row) where
   row_sends : (q : ℕ) → sending (take (i + 1) rows) from q ≡ or_here (sending (take i rows) from q) (sends from q row) i
@@ -104,4 +104,4 @@ pub no_sending : (is_its : Bool) (q : ℕ) (what : What) → ((number : ℕ) (by
     → sends_number is_its q what ≡ false
 no_sending is_its q (kinds.Sent number bytes label) apart = absurd (apart number bytes label refl)
 no_sending is_its q (kinds.Given number) apart = refl
-no_sending is_its q (kinds.Told text) apart = refl
+no_sending is_its q (kinds.Note text) apart = refl

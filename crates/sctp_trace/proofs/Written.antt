@@ -23,13 +23,13 @@ pub written_in_parts : (e : Element) (old a b d f : List ℕ) (attributes : List
     → a ≡ old ++ opening (out-Element e).tag attributes → b ≡ a ++ escape text
     → d ≡ b ++ flat_map xml_bytes (out-Element e).children.items → f ≡ d ++ closing (out-Element e).tag
     → f ≡ old ++ xml_bytes e
-written_in_parts e old a b d f attributes text is_attributes is_text opened told inside closed =
+written_in_parts e old a b d f attributes text is_attributes is_text opened is_second inside closed =
     let front : List ℕ = opening (out-Element e).tag (out-Element e).attributes.items in
     let words : List ℕ = escape (string_bytes (out-Element e).text) in
     let inner : List ℕ = flat_map xml_bytes (out-Element e).children.items in
     let last : List ℕ = closing (out-Element e).tag in
     let first : a ≡ old ++ front = opened ∙ ap (λ (x : List Attribute). old ++ opening (out-Element e).tag x) is_attributes in
-    let second : b ≡ (old ++ front) ++ words = told ∙ (ap (λ (x : List ℕ). a ++ escape x) is_text ∙ ap (λ (x : List ℕ). x ++ words) first) in
+    let second : b ≡ (old ++ front) ++ words = is_second ∙ (ap (λ (x : List ℕ). a ++ escape x) is_text ∙ ap (λ (x : List ℕ). x ++ words) first) in
     let third : d ≡ ((old ++ front) ++ words) ++ inner = inside ∙ ap (λ (x : List ℕ). x ++ inner) second in
     closed
     ∙ (ap (λ (x : List ℕ). x ++ last) third

@@ -41,7 +41,7 @@ each_from f at (row ∷ rows) = f at row ++ each_from f (at + 1) rows
 abbrev pub arrow_of : (all : List Row) → (at : ℕ) → End → What → List Arrow
 arrow_of all at end (kinds.Sent number bytes label) = []
 arrow_of all at end (kinds.Given number) = record { from = other end; number = number; sent = sending all (other end) number; given = at } ∷ []
-arrow_of all at end (kinds.Told text) = []
+arrow_of all at end (kinds.Note text) = []
 
 abbrev pub row_arrow : (all : List Row) → (at : ℕ) → Row → List Arrow
 row_arrow all at row = arrow_of all at row.end row.what
@@ -59,7 +59,7 @@ cross_if_lost (suc times) cross = []
 abbrev pub cross_of : (all : List Row) → (at : ℕ) → End → What → List Cross
 cross_of all at end (kinds.Sent number bytes label) = cross_if_lost (times_given all end number) (record { from = end; sent = at })
 cross_of all at end (kinds.Given number) = []
-cross_of all at end (kinds.Told text) = []
+cross_of all at end (kinds.Note text) = []
 
 abbrev pub row_cross : (all : List Row) → (at : ℕ) → Row → List Cross
 row_cross all at row = cross_of all at row.end row.what

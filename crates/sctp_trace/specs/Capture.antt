@@ -71,7 +71,7 @@ packet_block end nanoseconds packet comment = block 6 (packet_body (interface_nu
 abbrev pub what_bytes : (all : List Row) → End → (nanoseconds : ℕ) → What → List ℕ
 what_bytes all end nanoseconds (kinds.Sent number bytes label) = packet_block end nanoseconds (with_crc32c bytes.items) (fate (times_given all end number))
 what_bytes all end nanoseconds (kinds.Given number) = []
-what_bytes all end nanoseconds (kinds.Told text) = []
+what_bytes all end nanoseconds (kinds.Note text) = []
 
 abbrev pub row_bytes : (all : List Row) → Row → List ℕ
 row_bytes all row = what_bytes all row.end row.nanoseconds row.what
@@ -84,7 +84,7 @@ capture_bytes rows = section_header ++ (interface ends.A ++ (interface ends.B ++
 abbrev pub is_too_long : What → Bool
 is_too_long (kinds.Sent number bytes label) = nat_lt 65535 (length bytes.items)
 is_too_long (kinds.Given number) = false
-is_too_long (kinds.Told text) = false
+is_too_long (kinds.Note text) = false
 
 abbrev pub has_long_packet : List Row → Bool
 has_long_packet rows = list_any (λ (row : Row). is_too_long row.what) rows

@@ -57,9 +57,9 @@ lifelines = codes " |" ++ (replicate 36 32 ++ codes "|")
 abbrev pub note_cell : List ℕ → List ℕ
 note_cell text = codes " " ++ front_of 29 text
 
-abbrev pub told_line : End → List ℕ → List ℕ
-told_line ends.A text = row_of_cells (right_cell 29 text) (replicate 36 32) []
-told_line ends.B text = row_of_cells (replicate 29 32) (replicate 36 32) (note_cell text)
+abbrev pub note_line : End → List ℕ → List ℕ
+note_line ends.A text = row_of_cells (right_cell 29 text) (replicate 36 32) []
+note_line ends.B text = row_of_cells (replicate 29 32) (replicate 36 32) (note_cell text)
 
 abbrev pub packet_line : List ℕ → List ℕ
 packet_line cell = row_of_cells (replicate 29 32) cell []
@@ -67,7 +67,7 @@ packet_line cell = row_of_cells (replicate 29 32) cell []
 abbrev pub what_line : (all : List Row) → End → What → List ℕ
 what_line all end (kinds.Sent number bytes label) = packet_line (packet_cell end arrow_start (sent_caption number (times_given all end number) (string_bytes label)))
 what_line all end (kinds.Given number) = packet_line (packet_cell end (arrow_head end) (given_caption number))
-what_line all end (kinds.Told text) = told_line end (string_bytes text)
+what_line all end (kinds.Note text) = note_line end (string_bytes text)
 
 abbrev pub line_of : (all : List Row) → Row → List ℕ
 line_of all row = what_line all row.end row.what

@@ -23,7 +23,7 @@ same_end ends.B ends.B = true
 abbrev pub sends_number : Bool → ℕ → What → Bool
 sends_number is_its number (kinds.Sent sent bytes label) = is_its && (sent == number)
 sends_number is_its number (kinds.Given given) = false
-sends_number is_its number (kinds.Told text) = false
+sends_number is_its number (kinds.Note text) = false
 
 -- whether the end sends its packet of this number in the row
 abbrev pub sends : End → ℕ → Row → Bool
@@ -32,7 +32,7 @@ sends from number row = sends_number (same_end row.end from) number row.what
 abbrev pub gives_number : Bool → ℕ → What → Bool
 gives_number is_its number (kinds.Sent sent bytes label) = false
 gives_number is_its number (kinds.Given given) = is_its && (given == number)
-gives_number is_its number (kinds.Told text) = false
+gives_number is_its number (kinds.Note text) = false
 
 -- whether the packet of this number that the end sent is given in the row
 abbrev pub is_given : End → ℕ → Row → Bool

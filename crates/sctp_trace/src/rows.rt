@@ -40,7 +40,7 @@ pub enum What {
     /// The packet of this number of the other end was given to this one.
     Given(usize),
     /// A call, an event, a message or a state.
-    Told(String),
+    Note(String),
 }
 
 /// What happened at an end, and when by its clock, in nanoseconds.

@@ -292,7 +292,7 @@ fn push_row(
             push_words(alloc, children, row.end, at, true, &words)
         }
         What::Given(_) => Ok(()),
-        What::Told(words) => push_words(alloc, children, row.end, at, false, words),
+        What::Note(words) => push_words(alloc, children, row.end, at, false, words),
     }
 }
 

@@ -3,7 +3,7 @@
 ghost use Rattle.std.specs.Prelude.{◌≡◌, ◌++◌, map, take, replicate, OnOk, IfOk, string_bytes};
 ghost use Rattle.sctp_trace.specs.Ascii.{plain};
 ghost use Rattle.sctp_trace.specs.Followed.{IsFollowed};
-ghost use Rattle.sctp_trace.specs.Ladder.{left_cell, right_cell, mark, sent_caption, given_caption, arrow_head, packet_cell, lifelines, note_cell, told_line, packet_line, line_of, heading, ladder_text};
+ghost use Rattle.sctp_trace.specs.Ladder.{left_cell, right_cell, mark, sent_caption, given_caption, arrow_head, packet_cell, lifelines, note_cell, note_line, packet_line, line_of, heading, ladder_text};
 
 use crate::conversation::Conversation;
 use crate::rows::{End, Row, What};
@@ -139,8 +139,8 @@ fn push_note(text: &mut Vec<u8>, words: &[u8]) -> Result<(), AllocError>
     push_plain(text, front(words, NOTE_WIDTH))
 }
 
-fn push_told(text: &mut Vec<u8>, end: End, words: &[u8]) -> Result<(), AllocError>
-    ensures { OnOk result (text.new.items ≡ text.old.items ++ told_line end words.now) }
+fn push_note_line(text: &mut Vec<u8>, end: End, words: &[u8]) -> Result<(), AllocError>
+    ensures { OnOk result (text.new.items ≡ text.old.items ++ note_line end words.now) }
 {
     match end {
         End::A => {
@@ -176,7 +176,7 @@ fn push_line(
             let caption = given_caption(alloc, *number)?;
             push_packet(text, row.end, arrow_head(row.end), caption.as_bytes())
         }
-        What::Told(words) => push_told(text, row.end, words.as_bytes()),
+        What::Note(words) => push_note_line(text, row.end, words.as_bytes()),
     }
 }
 
