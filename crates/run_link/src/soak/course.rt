@@ -73,7 +73,7 @@ fn outstanding<S: DcSctpSocket>(socket: &S) -> usize {
 }
 
 /// What the socket holds: of its own messages and of the peer's.
-fn tell_held<S: Soaked>(rt: &HostRuntime, name: &str, socket: &S) -> Result<()> {
+fn show_held<S: Soaked>(rt: &HostRuntime, name: &str, socket: &S) -> Result<()> {
     let (bytes, ready) = (queued(socket), socket.messages_ready_count());
     let outstanding = outstanding(socket);
     let (rests, readiness) = (socket.rests(), socket.get_handover_readiness());
@@ -84,12 +84,12 @@ fn tell_held<S: Soaked>(rt: &HostRuntime, name: &str, socket: &S) -> Result<()> 
 }
 
 /// What has to hold of each conversation.
-fn tell_counts(rt: &HostRuntime, name: &str, own: &Counts, peer: &Counts) -> Result<()> {
+fn show_counts(rt: &HostRuntime, name: &str, own: &Counts, peer: &Counts) -> Result<()> {
     println!(rt;
         "{name} sent {} messages and reset {} streams, of which it was told {} times; {} errors",
         own.accepted, own.resets, own.reset_events, own.errors
     )?;
-    let others = u64::from(own.partial) + u64::from(peer.gone);
+    let others = u64::from(own.partial) + u64::from(peer.given_up);
     let is_whole = others >= u64::from(peer.accepted / 3);
     println!(rt;
         "{name} has {} reliable messages, {} out of place; each other one came or was given up: {is_whole}",
@@ -99,30 +99,30 @@ fn tell_counts(rt: &HostRuntime, name: &str, own: &Counts, peer: &Counts) -> Res
 }
 
 /// What differs from one way of sending to another.
-fn tell_packets(rt: &HostRuntime, name: &str, own: &Counts) -> Result<()> {
+fn show_packets(rt: &HostRuntime, name: &str, own: &Counts) -> Result<()> {
     println!(rt;
         "{name} sent {} packets, of which {} were lost, and gave up {} messages; it has {} partially reliable ones",
-        own.packets, own.lost, own.gone, own.partial
+        own.packets, own.lost, own.given_up, own.partial
     )?;
     Ok(())
 }
 
-fn tell<S: Soaked>(
+fn show<S: Soaked>(
     rt: &HostRuntime,
     name: &str,
     talker: &Talker<S>,
     peer: &Counts,
     plan: Plan,
 ) -> Result<()> {
-    tell_counts(rt, name, &talker.counts, peer)?;
+    show_counts(rt, name, &talker.counts, peer)?;
     if plan.shows_packets {
-        tell_packets(rt, name, &talker.counts)?;
+        show_packets(rt, name, &talker.counts)?;
     }
-    tell_held(rt, name, &talker.end.socket)
+    show_held(rt, name, &talker.end.socket)
 }
 
 /// Both ends send so many messages; then what they hold is printed. Answers what time it is then.
-fn go_on_and_tell<S: Soaked, R: Rng>(
+fn go_on_and_show<S: Soaked, R: Rng>(
     rt: &HostRuntime,
     a: &mut Talker<S>,
     b: &mut Talker<S>,
@@ -131,8 +131,8 @@ fn go_on_and_tell<S: Soaked, R: Rng>(
     plan: Plan,
 ) -> Result<SocketTime> {
     let now = go_on(a, b, link, start, plan)?;
-    tell(rt, "a", a, &b.counts, plan)?;
-    tell(rt, "b", b, &a.counts, plan)?;
+    show(rt, "a", a, &b.counts, plan)?;
+    show(rt, "b", b, &a.counts, plan)?;
     Ok(now)
 }
 
@@ -149,8 +149,8 @@ fn converse_as<S: Soaked, R: Rng>(
         count: plan.first.min(plan.count),
         ..plan
     };
-    let now = go_on_and_tell(rt, a, b, link, SocketTime::zero(), first)?;
-    go_on_and_tell(rt, a, b, link, now, plan)?;
+    let now = go_on_and_show(rt, a, b, link, SocketTime::zero(), first)?;
+    go_on_and_show(rt, a, b, link, now, plan)?;
     Ok(())
 }
 

@@ -22,7 +22,7 @@ const ENOUGH: usize = 10_000;
 
 /// What is asked of a socket beside the calls of its trait.
 pub trait Soaked: DcSctpSocket {
-    fn next_gone(&mut self) -> Option<GivenUp>;
+    fn next_record(&mut self) -> Option<GivenUp>;
 
     fn rests(&self) -> bool;
 
@@ -30,7 +30,7 @@ pub trait Soaked: DcSctpSocket {
 }
 
 impl<R: Rng + Drop, C: Checksum + Drop> Soaked for Socket<R, C> {
-    fn next_gone(&mut self) -> Option<GivenUp> {
+    fn next_record(&mut self) -> Option<GivenUp> {
         self.next_given_up()
     }
 
@@ -54,7 +54,7 @@ pub struct Counts {
     pub errors: u32,
     pub reliable: u32,
     pub partial: u32,
-    pub gone: u32,
+    pub given_up: u32,
     pub wrong: u32,
 }
 
@@ -126,7 +126,7 @@ pub fn new_talker<S>(rt: &HostRuntime, socket: S) -> Talker<S> {
             errors: 0,
             reliable: 0,
             partial: 0,
-            gone: 0,
+            given_up: 0,
             wrong: 0,
         },
     }
@@ -160,10 +160,10 @@ fn count<S>(talker: &mut Talker<S>) {
     talker.end.messages.clear();
 }
 
-fn count_gone<S: Soaked>(socket: &mut S, counts: &mut Counts) {
+fn count_given_up<S: Soaked>(socket: &mut S, counts: &mut Counts) {
     for _ in 0..MANY {
-        match socket.next_gone() {
-            Some(_gone) => counts.gone = counts.gone.saturating_add(1),
+        match socket.next_record() {
+            Some(_record) => counts.given_up = counts.given_up.saturating_add(1),
             None => break,
         }
     }
@@ -173,7 +173,7 @@ fn count_gone<S: Soaked>(socket: &mut S, counts: &mut Counts) {
 pub fn act<S: Soaked>(talker: &mut Talker<S>, now: SocketTime, plan: Plan) -> Result<()> {
     send(talker, plan)?;
     turn(&mut talker.end, now)?;
-    count_gone(&mut talker.end.socket, &mut talker.counts);
+    count_given_up(&mut talker.end.socket, &mut talker.counts);
     count(talker);
     Ok(())
 }
