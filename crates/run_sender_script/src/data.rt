@@ -1,7 +1,7 @@
 //! The fragments that have their TSN.
 
 use crate::answer::{Answer, done, written};
-use crate::fragment::{bytes, sack, tell_chunks, tell_skips};
+use crate::fragment::{bytes, sack, show_chunks, show_skips};
 use crate::line::Line;
 use sctp_packet::{Data, SackChunk};
 use sctp_serial::{Fsn, Mid, PpId, SocketTime, Ssn, StreamKey};
@@ -58,7 +58,7 @@ fn insert(data: &mut OutstandingData, payload: Vec<u8>, line: &Line<'_>) -> Answ
 }
 
 /// `sack TSN FIRST LAST`
-fn hear(
+fn receive_sack(
     alloc: Global,
     data: &mut OutstandingData,
     events: &mut Events,
@@ -101,7 +101,7 @@ fn point(data: &OutstandingData, size: usize, output: &mut String) -> Answer {
         match data.create_iforward_tsn(size) {
             Ok(chunk) => {
                 let tsn = u64::from(chunk.new_cumulative_tsn.0);
-                let answer = tell_skips(output, tsn, &chunk.skipped_streams);
+                let answer = show_skips(output, tsn, &chunk.skipped_streams);
                 drop(chunk);
                 answer
             }
@@ -111,7 +111,7 @@ fn point(data: &OutstandingData, size: usize, output: &mut String) -> Answer {
         match data.create_forward_tsn(size) {
             Ok(chunk) => {
                 let tsn = u64::from(chunk.new_cumulative_tsn.0);
-                let answer = tell_skips(output, tsn, &chunk.skipped_streams);
+                let answer = show_skips(output, tsn, &chunk.skipped_streams);
                 drop(chunk);
                 answer
             }
@@ -198,7 +198,7 @@ fn round_trip(data: &OutstandingData, line: &Line<'_>, output: &mut String) -> A
 
 /// `counts`: how many fragments are in flight or missing, the bytes of their chunks, and of their payloads. `tsns`: the next,
 /// the highest outstanding, and the last that all are acknowledged to. `numbers`: the next and the last acknowledged one.
-fn told(data: &OutstandingData, verb: &str, output: &mut String) -> Answer {
+fn count(data: &OutstandingData, verb: &str, output: &mut String) -> Answer {
     written(match verb {
         "counts" => write!(
             output,
@@ -267,21 +267,21 @@ pub fn answer(
         "new" => renew(alloc, data, line),
         "restored" => restore(alloc, data, line),
         "send" => send(alloc, data, line),
-        "sack" => hear(alloc, data, events, line, output),
+        "sack" => receive_sack(alloc, data, events, line, output),
         "point" => point(data, line.size(0), output),
         "resend" => {
             let chunks = data.get_chunks_to_be_retransmitted(line.size(0), line.size(1));
-            tell_chunks(output, chunks)
+            show_chunks(output, chunks)
         }
         "resend-fast" => {
             let chunks = data.get_chunks_to_be_fast_retransmitted(line.size(0));
-            tell_chunks(output, chunks)
+            show_chunks(output, chunks)
         }
         "rest" => rest(data, output),
         "rests" => rests(data, output),
         "record" => record(alloc, data, line.fine_moment(0), output),
         "rtt" => round_trip(data, line, output),
-        "counts" | "tsns" | "numbers" => told(data, line.verb, output),
+        "counts" | "tsns" | "numbers" => count(data, line.verb, output),
         _ => change(data, events, line),
     }
 }

@@ -96,7 +96,7 @@ pub fn push_sent(output: &mut String, sent: &DataToSend) -> Result<(), AllocErro
 }
 
 /// The fragment, where there is one.
-pub fn tell_sent(output: &mut String, sent: Result<Option<DataToSend>, AllocError>) -> Answer {
+pub fn show_sent(output: &mut String, sent: Result<Option<DataToSend>, AllocError>) -> Answer {
     match sent {
         Ok(Some(sent)) => {
             let answer = written(push_sent(output, &sent));
@@ -121,7 +121,7 @@ fn push_chunks(output: &mut String, chunks: &[(Tsn, Data)]) -> Result<(), AllocE
 }
 
 /// The chunks of a packet, each with its TSN and its payload's length.
-pub fn tell_chunks(output: &mut String, chunks: Result<Vec<(Tsn, Data)>, AllocError>) -> Answer {
+pub fn show_chunks(output: &mut String, chunks: Result<Vec<(Tsn, Data)>, AllocError>) -> Answer {
     match chunks {
         Ok(chunks) => {
             let answer = written(push_chunks(output, &chunks));
@@ -145,7 +145,7 @@ fn push_skip(output: &mut String, skip: &SkippedStream) -> Result<(), AllocError
 }
 
 /// A number, and the streams that a forward point names, with the number that it goes to on each.
-pub fn tell_skips(output: &mut String, number: u64, skips: &[SkippedStream]) -> Answer {
+pub fn show_skips(output: &mut String, number: u64, skips: &[SkippedStream]) -> Answer {
     written(push_skips(output, number, skips))
 }
 

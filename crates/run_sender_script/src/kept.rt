@@ -139,7 +139,7 @@ fn totals_of(item: &Item, output: &mut String) -> Answer {
     ))
 }
 
-/// `totals`; `tell-left`: an end with lifecycle id 4 leaves.
+/// `totals`; `emit-left`: an end with lifecycle id 4 leaves.
 fn alone(alloc: Global, events: &mut Events, verb: &str, output: &mut String) -> Answer {
     match made(alloc, OutgoingMessageId(3), true) {
         Ok(Some(item)) => {
@@ -201,8 +201,8 @@ pub fn answer(
         "counts" => counts(kept, output),
         "settle" => settle(alloc, kept, line),
         "end" => ended(alloc, kept, line.message(0), output),
-        "totals" | "tell-left" => alone(alloc, events, line.verb, output),
-        "tell-leaving" => done(kept.emit_leaving(line.size(0), events)),
+        "totals" | "emit-left" => alone(alloc, events, line.verb, output),
+        "emit-leaving" => done(kept.emit_leaving(line.size(0), events)),
         _ => change(kept, line),
     }
 }

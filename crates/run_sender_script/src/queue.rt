@@ -1,7 +1,7 @@
 //! The send queue.
 
 use crate::answer::{Answer, done, written};
-use crate::fragment::{bytes, tell_sent};
+use crate::fragment::{bytes, show_sent};
 use crate::line::Line;
 use sctp_serial::{Message, PpId, SocketTime, StreamId};
 use sctp_state::{Events, Options, SendOptions, SocketHandoverState};
@@ -55,7 +55,7 @@ fn produce(
     if most == 0 {
         return Answer::Refused;
     }
-    tell_sent(output, queue.produce(line.moment(0), most, events))
+    show_sent(output, queue.produce(line.moment(0), most, events))
 }
 
 /// `request MOST`: the streams that go into a request.

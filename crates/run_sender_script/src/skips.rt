@@ -1,7 +1,7 @@
 //! Entries of forward points.
 
 use crate::answer::{Answer, done, written};
-use crate::fragment::tell_skips;
+use crate::fragment::show_skips;
 use crate::line::Line;
 use sctp_packet::SkippedStream;
 use sctp_tx_outstanding::skips::{
@@ -35,7 +35,7 @@ fn sizes(entries: &[SkipEntry], line: &Line<'_>, output: &mut String) -> Answer 
 fn listed(skips: Result<Vec<SkippedStream>, AllocError>, output: &mut String) -> Answer {
     match skips {
         Ok(skips) => {
-            let answer = tell_skips(output, skips.len() as u64, &skips);
+            let answer = show_skips(output, skips.len() as u64, &skips);
             drop(skips);
             answer
         }

@@ -1,7 +1,7 @@
 //! A stream of the send queue: stream 1, with priority 256 and a low threshold of 3 at first.
 
 use crate::answer::{Answer, done, written};
-use crate::fragment::{bytes, tell_sent};
+use crate::fragment::{bytes, show_sent};
 use crate::line::Line;
 use crate::message::queued;
 use sctp_serial::{OutgoingMessageId, SocketTime, StreamId};
@@ -133,11 +133,11 @@ pub fn answer(
     match line.verb {
         "push" => push(alloc, stream, line),
         "sendable-with" => with(alloc, stream, line.short(0)),
-        "fragment" => tell_sent(output, stream.fragment(alloc, ONE, line.size(0))),
+        "fragment" => show_sent(output, stream.fragment(alloc, ONE, line.size(0))),
         "record" => record(stream, output),
         "messages" => messages(alloc, stream),
-        "tell-stale" => done(stream.emit_stale(line.moment(0), events)),
-        "tell-waiting" => done(stream.emit_waiting(events)),
+        "emit-stale" => done(stream.emit_stale(line.moment(0), events)),
+        "emit-waiting" => done(stream.emit_waiting(events)),
         "hand-over" => hand_over(alloc, stream),
         _ => change(stream, line),
     }

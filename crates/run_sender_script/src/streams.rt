@@ -1,7 +1,7 @@
 //! The streams of a send queue. A command's first number is the stream, unless it asks for all.
 
 use crate::answer::{Answer, done, written};
-use crate::fragment::{bytes, tell_sent};
+use crate::fragment::{bytes, show_sent};
 use crate::line::Line;
 use crate::message::queued;
 use crate::stream::step_of;
@@ -157,11 +157,11 @@ pub fn answer(
         "sendable-with" => with(alloc, streams, id, line.short(1)),
         "send" => {
             let sent = streams.send_front(alloc, id, line.size(1), scheduler, events);
-            tell_sent(output, sent)
+            show_sent(output, sent)
         }
         "is-active" => Answer::Is(scheduler.is_active(id)),
-        "tell-stale" => done(streams.emit_stale(id, line.moment(1), events)),
-        "tell-waiting" => done(streams.emit_waiting(id, events)),
+        "emit-stale" => done(streams.emit_stale(id, line.moment(1), events)),
+        "emit-waiting" => done(streams.emit_waiting(id, events)),
         "ids" => listed(streams.ids(alloc), output),
         "ready" => listed(streams.ready(alloc), output),
         "records" => records(alloc, streams, output),

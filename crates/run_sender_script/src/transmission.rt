@@ -1,7 +1,7 @@
 //! A sender: the fragments that have their TSN, under the windows, and the send queue that more come from.
 
 use crate::answer::{Answer, done, written};
-use crate::fragment::{millis_of, sack, tell_chunks, tell_skips};
+use crate::fragment::{millis_of, sack, show_chunks, show_skips};
 use crate::line::Line;
 use sctp_packet::Chunk;
 use sctp_state::Events;
@@ -10,7 +10,7 @@ use sctp_tx_queue::SendQueue;
 use std::alloc::{AllocError, Global};
 
 /// `sack MOMENT TSN FIRST LAST`: a block from one offset to another, none where they are 0.
-fn hear(
+fn receive_sack(
     alloc: Global,
     sender: &mut RetransmissionQueue,
     events: &mut Events,
@@ -34,7 +34,7 @@ fn shown(chunk: &Chunk, output: &mut String) -> Answer {
     match chunk {
         Chunk::ForwardTsn(chunk) => {
             let tsn = u64::from(chunk.new_cumulative_tsn.0);
-            tell_skips(output, tsn, &chunk.skipped_streams)
+            show_skips(output, tsn, &chunk.skipped_streams)
         }
         _ => Answer::Nothing,
     }
@@ -110,13 +110,13 @@ pub fn answer(
     match line.verb {
         "send" => {
             let room = usize::from(line.short(1));
-            tell_chunks(output, sender.get_chunks_to_send(now, room, queue, events))
+            show_chunks(output, sender.get_chunks_to_send(now, room, queue, events))
         }
         "fast" => {
             let chunks = sender.get_chunks_for_fast_retransmit(now, line.size(1));
-            tell_chunks(output, chunks)
+            show_chunks(output, chunks)
         }
-        "sack" => hear(alloc, sender, events, line, output),
+        "sack" => receive_sack(alloc, sender, events, line, output),
         "timeout" => is(sender.handle_timeout(now, events)),
         "is-due" => is(sender.should_send_forward_tsn(now, events)),
         _ => settle(sender, line, output),

@@ -26,7 +26,7 @@ pub trait Driven: DcSctpSocket {
 
     fn let_go(self);
 
-    fn next_gone(&mut self) -> Option<GivenUp>;
+    fn next_record(&mut self) -> Option<GivenUp>;
 
     fn shown(&self) -> Shown;
 
@@ -48,7 +48,7 @@ impl<R: Known + Drop, C: Checksum + Default + Drop> Driven for Socket<R, C> {
         self.let_go();
     }
 
-    fn next_gone(&mut self) -> Option<GivenUp> {
+    fn next_record(&mut self) -> Option<GivenUp> {
         self.next_given_up()
     }
 

@@ -1,9 +1,9 @@
 //! The loop in which an owner drives sockets, over a link that loses packets.
 
 use crate::driven::Driven;
+use crate::emitted::take_emitted;
 use crate::output::Output;
 use crate::side::Side;
-use crate::told::take_told;
 use sctp_state::SocketState;
 
 /// An exchange that hasn't ended after as many turns doesn't.
@@ -62,8 +62,8 @@ fn go_on<S: Driven>(
         hand_over(b, &a.packets, course.a, course.lost, output);
         hand_over(a, &b.packets, course.b, course.lost, output);
     }
-    take_told(a, true, output);
-    take_told(b, true, output);
+    take_emitted(a, true, output);
+    take_emitted(b, true, output);
     next
 }
 
@@ -85,7 +85,7 @@ fn longest(packets: &[Vec<u8>]) -> usize {
 }
 
 /// How many packets an end sent, and the size of the longest.
-fn tell_packets(name: &str, packets: &[Vec<u8>], output: &mut Output) {
+fn show_packets(name: &str, packets: &[Vec<u8>], output: &mut Output) {
     let (count, size) = (packets.len(), longest(packets));
     writeln!(output, "{name} sent {count} packets of at most {size}");
 }
@@ -110,6 +110,6 @@ pub fn exchange<S: Driven>(
         }
         course = go_on(a, b, course, output);
     }
-    tell_packets(a.name, &a.packets, output);
-    tell_packets(b.name, &b.packets, output);
+    show_packets(a.name, &a.packets, output);
+    show_packets(b.name, &b.packets, output);
 }

@@ -6,6 +6,7 @@
 #![tactic(auto)]
 
 mod driven;
+mod emitted;
 mod exchange;
 mod moves;
 mod output;
@@ -13,7 +14,6 @@ mod payload;
 mod questions;
 mod setup;
 mod side;
-mod told;
 mod words;
 
 use output::Output;

@@ -1,15 +1,15 @@
 //! What happens to the sockets: a call or a question a line. `X` is `a` or `b`, `Y` the other end.
 
 use crate::driven::Driven;
+use crate::emitted::{show_message, show_refusal, take_emitted};
 use crate::exchange::exchange;
 use crate::output::Output;
 use crate::payload::{
     are_numbers, half_at, number_at, number_behind, payload, text_at, word_at, words_of,
 };
-use crate::questions::{ask, ask_with, tell_judgement};
+use crate::questions::{ask, ask_with, show_judgement};
 use crate::setup::{EndSetup, Setup};
 use crate::side::Side;
-use crate::told::{take_told, tell_message, tell_refusal};
 use sctp_serial::{LifecycleId, Message, PpId, SocketTime, StreamId};
 use sctp_state::api::handover::HandoverSocketState;
 use sctp_state::{HandoverError, SendOptions, SocketHandoverState};
@@ -42,7 +42,7 @@ fn message_of(alloc: Global, words: &[&str], word: &str, output: &mut Output) ->
 fn send<S: Driven>(alloc: Global, side: &mut Side<S>, words: &[&str], output: &mut Output) {
     let message = message_of(alloc, words, text_at(words, 2), output);
     let answer = side.socket.send(message, &options_of(words));
-    tell_refusal(side.name, answer, output);
+    show_refusal(side.name, answer, output);
 }
 
 fn messages_of(alloc: Global, words: &[&str], output: &mut Output) -> Vec<Message> {
@@ -58,7 +58,7 @@ fn messages_of(alloc: Global, words: &[&str], output: &mut Output) -> Vec<Messag
 fn send_many<S: Driven>(alloc: Global, side: &mut Side<S>, words: &[&str], output: &mut Output) {
     let messages = messages_of(alloc, words, output);
     let answer = side.socket.send_many(messages, &SendOptions::default());
-    tell_refusal(side.name, answer, output);
+    show_refusal(side.name, answer, output);
 }
 
 fn streams_of(alloc: Global, first: u16, count: u16, output: &mut Output) -> Vec<StreamId> {
@@ -76,12 +76,12 @@ fn reset<S: Driven>(alloc: Global, side: &mut Side<S>, words: &[&str], output: &
     let streams = streams_of(alloc, half_at(words, 0), half_at(words, 1), output);
     let answer = side.socket.reset_streams(&streams);
     drop(streams);
-    tell_refusal(side.name, answer, output);
+    show_refusal(side.name, answer, output);
 }
 
 fn receive<S: Driven>(side: &mut Side<S>, output: &mut Output) {
     let message = side.socket.get_next_message();
-    tell_message(side.name, "message", message.as_ref(), output);
+    show_message(side.name, "message", message.as_ref(), output);
 }
 
 /// A new socket takes the place of this one, with its options and its record.
@@ -91,7 +91,7 @@ fn renew<S: Driven>(
     state: &SocketHandoverState,
     output: &mut Output,
 ) {
-    take_told(side, false, output);
+    take_emitted(side, false, output);
     let setup = EndSetup {
         options: side.socket.options(),
         first: 3,
@@ -100,7 +100,7 @@ fn renew<S: Driven>(
     match S::made(alloc, "new", &setup) {
         Ok(new) => {
             std::mem::replace(&mut side.socket, new).let_go();
-            tell_refusal(side.name, side.socket.restore_from_state(state), output);
+            show_refusal(side.name, side.socket.restore_from_state(state), output);
         }
         Err(fault) => output.note(Err(fault)),
     }
@@ -131,15 +131,15 @@ fn restore<S: Driven>(
     state.socket_state = socket_state;
     let answer = side.socket.restore_from_state(&state);
     drop(state);
-    tell_refusal(side.name, answer, output);
+    show_refusal(side.name, answer, output);
 }
 
 /// A call without further words. Answers whether it was understood.
 fn call<S: Driven>(alloc: Global, side: &mut Side<S>, verb: &str, output: &mut Output) -> bool {
     match verb {
-        "connect" => tell_refusal(side.name, side.socket.connect(), output),
-        "shutdown" => tell_refusal(side.name, side.socket.shutdown(), output),
-        "close" => tell_refusal(side.name, side.socket.close(), output),
+        "connect" => show_refusal(side.name, side.socket.connect(), output),
+        "shutdown" => show_refusal(side.name, side.socket.shutdown(), output),
+        "close" => show_refusal(side.name, side.socket.close(), output),
         "recv" => receive(side, output),
         "replace" => replace(alloc, side, output),
         "restore-closed" => restore(alloc, side, HandoverSocketState::Closed, output),
@@ -153,14 +153,14 @@ fn call<S: Driven>(alloc: Global, side: &mut Side<S>, verb: &str, output: &mut O
 fn set_priority<S: Driven>(side: &mut Side<S>, words: &[&str], output: &mut Output) {
     let stream = StreamId(half_at(words, 0));
     let answer = side.socket.set_stream_priority(stream, half_at(words, 1));
-    tell_refusal(side.name, answer, output);
+    show_refusal(side.name, answer, output);
 }
 
 /// `S BYTES`
 fn set_threshold<S: Driven>(side: &mut Side<S>, words: &[&str], output: &mut Output) {
     let (stream, bytes) = (StreamId(half_at(words, 0)), word_at(words, 1) as usize);
     let answer = side.socket.set_buffered_amount_low_threshold(stream, bytes);
-    tell_refusal(side.name, answer, output);
+    show_refusal(side.name, answer, output);
 }
 
 /// `BYTES`
@@ -193,13 +193,13 @@ fn take<S: Driven>(alloc: Global, side: &mut Side<S>, words: &[&str], output: &m
     let bytes = payload(alloc, text_at(words, 0), output);
     let answer = side.socket.handle_input(&bytes);
     drop(bytes);
-    tell_refusal(side.name, answer, output);
+    show_refusal(side.name, answer, output);
 }
 
 /// `HEX`
 fn judge<S: Driven>(alloc: Global, side: &Side<S>, words: &[&str], output: &mut Output) {
     let bytes = payload(alloc, text_at(words, 0), output);
-    tell_judgement(side, &bytes, output);
+    show_judgement(side, &bytes, output);
     drop(bytes);
 }
 
@@ -233,7 +233,7 @@ fn act<S: Driven>(
     } else {
         act_with(alloc, side, verb, words, output)
     };
-    take_told(side, false, output);
+    take_emitted(side, false, output);
     is_known
 }
 
@@ -245,18 +245,18 @@ fn give<S: Driven>(
     output: &mut Output,
 ) -> bool {
     match packets.get(number_at(words, 0) as usize) {
-        Some(bytes) => tell_refusal(side.name, side.socket.handle_input(bytes), output),
+        Some(bytes) => show_refusal(side.name, side.socket.handle_input(bytes), output),
         None => writeln!(output, "no packet"),
     }
-    take_told(side, false, output);
+    take_emitted(side, false, output);
     true
 }
 
 /// Time is advanced to a moment, in milliseconds.
 fn advance<S: Driven>(side: &mut Side<S>, milliseconds: u64, output: &mut Output) {
     let now = SocketTime::zero() + Duration::from_millis(milliseconds);
-    tell_refusal(side.name, side.socket.advance_time(now), output);
-    take_told(side, false, output);
+    show_refusal(side.name, side.socket.advance_time(now), output);
+    take_emitted(side, false, output);
 }
 
 /// `time MS`, `exchange FIRST LOST`: what happens at both ends.

@@ -107,18 +107,18 @@ fn is_row(bytes: &[u8], first: u8) -> bool {
 }
 
 /// Prints bytes in hex.
-pub fn tell_hex(bytes: &[u8], output: &mut Output) {
+pub fn show_hex(bytes: &[u8], output: &mut Output) {
     for byte in bytes {
         write!(output, "{byte:02x}");
     }
 }
 
 /// Prints the word that says the bytes.
-pub fn tell_payload(bytes: &[u8], output: &mut Output) {
+pub fn show_payload(bytes: &[u8], output: &mut Output) {
     let first = bytes.first().copied().unwrap_or(0);
     if bytes.len() > FEW && is_row(bytes, first) {
         write!(output, "{}:{first}", bytes.len());
     } else {
-        tell_hex(bytes, output);
+        show_hex(bytes, output);
     }
 }

@@ -1,10 +1,10 @@
 //! What a socket says of itself.
 
 use crate::driven::Driven;
+use crate::emitted::show_message;
 use crate::output::Output;
-use crate::payload::{half_at, number_at, tell_hex};
+use crate::payload::{half_at, number_at, show_hex};
 use crate::side::Side;
-use crate::told::tell_message;
 use sctp_serial::{SocketTime, StreamId};
 
 /// The greatest number where the moment never comes.
@@ -13,7 +13,7 @@ fn milliseconds_of(moment: SocketTime) -> u64 {
 }
 
 /// Its state and own tag; how many messages are ready, and whether it has nothing queued and keeps no item.
-fn tell_state<S: Driven>(side: &Side<S>, output: &mut Output) {
+fn show_state<S: Driven>(side: &Side<S>, output: &mut Output) {
     let (name, shown) = (side.name, side.socket.shown());
     let (state, count) = (side.socket.state(), side.socket.messages_ready_count());
     writeln!(
@@ -24,14 +24,14 @@ fn tell_state<S: Driven>(side: &Side<S>, output: &mut Output) {
 }
 
 /// The moment to which its time was advanced, and the one at which it has something to do, in milliseconds.
-fn tell_moments<S: Driven>(side: &Side<S>, output: &mut Output) {
+fn show_moments<S: Driven>(side: &Side<S>, output: &mut Output) {
     let clock = milliseconds_of(side.socket.shown().clock);
     let timeout = milliseconds_of(side.socket.poll_timeout());
     writeln!(output, "{} clock {clock} timeout {timeout}", side.name);
 }
 
 /// `S`: its priority, the threshold and the buffered amount.
-fn tell_stream<S: Driven>(side: &Side<S>, id: u16, output: &mut Output) {
+fn show_stream<S: Driven>(side: &Side<S>, id: u16, output: &mut Output) {
     let priority = side.socket.get_stream_priority(StreamId(id));
     let threshold = side.socket.buffered_amount_low_threshold(StreamId(id));
     let amount = side.socket.buffered_amount(StreamId(id));
@@ -43,7 +43,7 @@ fn tell_stream<S: Driven>(side: &Side<S>, id: u16, output: &mut Output) {
 }
 
 /// `HEX`: whether these bytes would be refused.
-pub fn tell_judgement<S: Driven>(side: &Side<S>, bytes: &[u8], output: &mut Output) {
+pub fn show_judgement<S: Driven>(side: &Side<S>, bytes: &[u8], output: &mut Output) {
     let answer = side.socket.would_refuse(bytes);
     writeln!(output, "{} refuses: {answer:?}", side.name);
 }
@@ -57,14 +57,14 @@ fn packet_at(packets: &[Vec<u8>], number: u64) -> &[u8] {
 }
 
 /// `K`: this packet.
-fn tell_packet<S>(side: &Side<S>, number: u64, output: &mut Output) {
+fn show_packet<S>(side: &Side<S>, number: u64, output: &mut Output) {
     write!(output, "{} bytes {number} ", side.name);
-    tell_hex(packet_at(&side.packets, number), output);
+    show_hex(packet_at(&side.packets, number), output);
     writeln!(output, "");
 }
 
 /// `K`: the type of the first chunk of this packet.
-fn tell_type<S>(side: &Side<S>, number: u64, output: &mut Output) {
+fn show_type<S>(side: &Side<S>, number: u64, output: &mut Output) {
     let kind = packet_at(&side.packets, number).get(12).copied();
     writeln!(output, "{} type {number} {kind:?}", side.name);
 }
@@ -72,8 +72,8 @@ fn tell_type<S>(side: &Side<S>, number: u64, output: &mut Output) {
 /// Prints what is asked in one word. Answers whether it was understood.
 pub fn ask<S: Driven>(side: &Side<S>, verb: &str, output: &mut Output) -> bool {
     match verb {
-        "state" => tell_state(side, output),
-        "clock" => tell_moments(side, output),
+        "state" => show_state(side, output),
+        "clock" => show_moments(side, output),
         "association" => writeln!(
             output,
             "{} {:?}",
@@ -81,7 +81,7 @@ pub fn ask<S: Driven>(side: &Side<S>, verb: &str, output: &mut Output) -> bool {
             side.socket.shown().association
         ),
         "metrics" => writeln!(output, "{} {:?}", side.name, side.socket.get_metrics()),
-        "ready" => tell_message(side.name, "ready", side.socket.first_ready(), output),
+        "ready" => show_message(side.name, "ready", side.socket.first_ready(), output),
         _ => return false,
     }
     true
@@ -90,9 +90,9 @@ pub fn ask<S: Driven>(side: &Side<S>, verb: &str, output: &mut Output) -> bool {
 /// Prints what is asked with numbers. Answers whether it was understood.
 pub fn ask_with<S: Driven>(side: &Side<S>, verb: &str, rest: &[&str], output: &mut Output) -> bool {
     match verb {
-        "stream" => tell_stream(side, half_at(rest, 0), output),
-        "show" => tell_packet(side, number_at(rest, 0), output),
-        "type" => tell_type(side, number_at(rest, 0), output),
+        "stream" => show_stream(side, half_at(rest, 0), output),
+        "show" => show_packet(side, number_at(rest, 0), output),
+        "type" => show_type(side, number_at(rest, 0), output),
         _ => return false,
     }
     true

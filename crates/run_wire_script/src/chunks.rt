@@ -1,6 +1,6 @@
 //! Chunks alone.
 
-use crate::items::{tell, tell_read};
+use crate::items::{show, show_read};
 use crate::show::refuse;
 use sctp_packet::{Chunk, RawChunk, SkippedStream};
 use sctp_serial::StreamKey;
@@ -53,7 +53,7 @@ pub fn first(alloc: Global, bytes: &[u8]) -> Result<Chunk, ChunkParseError> {
 fn one(rt: &HostRuntime, bytes: &[u8]) -> io::Result<()> {
     match first(rt.alloc(), bytes) {
         Ok(chunk) => {
-            let outcome = tell(rt, &chunk);
+            let outcome = show(rt, &chunk);
             drop(chunk);
             outcome
         }
@@ -64,7 +64,7 @@ fn one(rt: &HostRuntime, bytes: &[u8]) -> io::Result<()> {
 fn fields(rt: &HostRuntime, bytes: &[u8]) -> io::Result<()> {
     match first(rt.alloc(), bytes) {
         Ok(chunk) => {
-            let outcome = tell_fields(rt, &chunk);
+            let outcome = show_fields(rt, &chunk);
             drop(chunk);
             outcome
         }
@@ -73,7 +73,7 @@ fn fields(rt: &HostRuntime, bytes: &[u8]) -> io::Result<()> {
 }
 
 /// All fields, and of each stream whether it is the unordered one, which is not to be seen in them.
-fn tell_fields(rt: &HostRuntime, chunk: &Chunk) -> io::Result<()> {
+fn show_fields(rt: &HostRuntime, chunk: &Chunk) -> io::Result<()> {
     println!(rt; "{chunk:?}")?;
     match chunk {
         Chunk::Data(c) => order(rt, c.data.stream_key),
@@ -97,5 +97,5 @@ fn orders(rt: &HostRuntime, skipped: &[SkippedStream]) -> io::Result<()> {
 }
 
 fn all<T: FromItem + SerializableTlv + Display>(rt: &HostRuntime, bytes: &[u8]) -> io::Result<()> {
-    tell_read(rt, items_from_bytes::<T>(rt.alloc(), bytes), bytes)
+    show_read(rt, items_from_bytes::<T>(rt.alloc(), bytes), bytes)
 }

@@ -16,8 +16,8 @@ pub fn answer(rt: &HostRuntime, name: &str, bytes: &[u8]) -> io::Result<bool> {
     match name {
         "item" => item(rt, bytes)?,
         "parameter" => first_parameter(rt, bytes)?,
-        "parameters" => tell_read(rt, parameters_from_bytes(rt.alloc(), bytes), bytes)?,
-        "causes" => tell_read(rt, error_cause_from_bytes(rt.alloc(), bytes), bytes)?,
+        "parameters" => show_read(rt, parameters_from_bytes(rt.alloc(), bytes), bytes)?,
+        "causes" => show_read(rt, error_cause_from_bytes(rt.alloc(), bytes), bytes)?,
         "text" => text(rt, bytes)?,
         "word" => word(rt, bytes)?,
         _ => return Ok(false),
@@ -42,7 +42,7 @@ fn first_parameter(rt: &HostRuntime, bytes: &[u8]) -> io::Result<()> {
 fn parameter(rt: &HostRuntime, raw: RawParameter<'_>) -> io::Result<()> {
     match Parameter::try_from(rt.alloc(), raw) {
         Ok(parameter) => {
-            let outcome = tell(rt, &parameter);
+            let outcome = show(rt, &parameter);
             drop(parameter);
             outcome
         }
@@ -51,7 +51,7 @@ fn parameter(rt: &HostRuntime, raw: RawParameter<'_>) -> io::Result<()> {
 }
 
 /// What it says, its sizes, and the bytes that it is written as.
-pub fn tell<T: SerializableTlv + Display>(rt: &HostRuntime, item: &T) -> io::Result<()> {
+pub fn show<T: SerializableTlv + Display>(rt: &HostRuntime, item: &T) -> io::Result<()> {
     println!(rt; "{item}")?;
     println!(rt;
         "value {} of {} bytes",
@@ -72,14 +72,14 @@ fn written<T: SerializableTlv>(alloc: Global, item: &T) -> Result<Vec<u8>, Alloc
 }
 
 /// What each of them says, and whether they are written as they came.
-pub fn tell_read<T: SerializableTlv + Display + Drop>(
+pub fn show_read<T: SerializableTlv + Display + Drop>(
     rt: &HostRuntime,
     read: Result<Vec<T>, ChunkParseError>,
     bytes: &[u8],
 ) -> io::Result<()> {
     match read {
         Ok(items) => {
-            let outcome = tell_all(rt, &items, bytes);
+            let outcome = show_all(rt, &items, bytes);
             drop(items);
             outcome
         }
@@ -87,7 +87,7 @@ pub fn tell_read<T: SerializableTlv + Display + Drop>(
     }
 }
 
-fn tell_all<T: SerializableTlv + Display>(
+fn show_all<T: SerializableTlv + Display>(
     rt: &HostRuntime,
     items: &[T],
     bytes: &[u8],

@@ -31,7 +31,7 @@ pub fn crc32c(rt: &HostRuntime, bytes: &[u8]) -> io::Result<()> {
 pub fn read(rt: &HostRuntime, bytes: &[u8], word: u32, policy: &Policy) -> io::Result<()> {
     match SctpPacket::from_bytes(rt.alloc(), bytes, word, policy) {
         Ok(packet) => {
-            let outcome = tell(rt, &packet, bytes);
+            let outcome = show(rt, &packet, bytes);
             drop(packet);
             outcome
         }
@@ -61,7 +61,7 @@ fn walk(rt: &HostRuntime, mut view: PacketView<'_>) -> io::Result<()> {
 }
 
 /// What the packet's chunks say, and whether it is written alike.
-pub fn tell(rt: &HostRuntime, packet: &SctpPacket, bytes: &[u8]) -> io::Result<()> {
+pub fn show(rt: &HostRuntime, packet: &SctpPacket, bytes: &[u8]) -> io::Result<()> {
     println!(rt; "{} chunks", packet.chunks.len())?;
     for chunk in &packet.chunks {
         println!(rt; "{chunk}")?;

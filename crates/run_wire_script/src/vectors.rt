@@ -19,7 +19,7 @@ pub fn read(rt: &HostRuntime, bytes: &[u8]) -> io::Result<()> {
 }
 
 fn compare(rt: &HostRuntime, packet: &SctpPacket, bytes: &[u8]) -> io::Result<()> {
-    packets::tell(rt, packet, bytes)?;
+    packets::show(rt, packet, bytes)?;
     match is_alike(rt.alloc(), &packet.chunks, bytes) {
         Ok(alike) => println!(rt; "in place alike: {alike}"),
         Err(fault) => refuse(rt, fault),

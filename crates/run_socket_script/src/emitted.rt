@@ -2,7 +2,7 @@
 
 use crate::driven::Driven;
 use crate::output::Output;
-use crate::payload::tell_payload;
+use crate::payload::show_payload;
 use crate::side::Side;
 use sctp_serial::{Message, StreamId};
 use sctp_state::SocketEvent;
@@ -39,7 +39,7 @@ fn is_row(first: u16, streams: &[StreamId]) -> bool {
 }
 
 /// The numbers of streams, those of a row of streams as its first and last one.
-fn tell_streams(name: &str, what: &str, streams: &[StreamId], output: &mut Output) {
+fn show_streams(name: &str, what: &str, streams: &[StreamId], output: &mut Output) {
     match (streams.first(), streams.last()) {
         (Some(first), Some(last)) if is_row(first.0, streams) => {
             writeln!(output, "{name} {what} {first}-{last}");
@@ -48,13 +48,13 @@ fn tell_streams(name: &str, what: &str, streams: &[StreamId], output: &mut Outpu
     }
 }
 
-fn tell_event(name: &str, event: &SocketEvent, output: &mut Output) {
+fn show_event(name: &str, event: &SocketEvent, output: &mut Output) {
     match event {
         SocketEvent::OnStreamsResetPerformed(streams) => {
-            tell_streams(name, "OnStreamsResetPerformed", streams, output);
+            show_streams(name, "OnStreamsResetPerformed", streams, output);
         }
         SocketEvent::OnIncomingStreamReset(streams) => {
-            tell_streams(name, "OnIncomingStreamReset", streams, output);
+            show_streams(name, "OnIncomingStreamReset", streams, output);
         }
         event => writeln!(output, "{name} {event:?}"),
     }
@@ -70,7 +70,7 @@ fn take_event(
     match event {
         SocketEvent::SendPacket(bytes) => keep_packet(name, packets, bytes, is_quiet, output),
         event => {
-            tell_event(name, &event, output);
+            show_event(name, &event, output);
             drop(event);
         }
     }
@@ -87,11 +87,11 @@ fn take_events<S: Driven>(side: &mut Side<S>, is_quiet: bool, output: &mut Outpu
 
 fn take_given_up<S: Driven>(side: &mut Side<S>, output: &mut Output) {
     for _ in 0..MANY {
-        match side.socket.next_gone() {
-            Some(gone) => writeln!(
+        match side.socket.next_record() {
+            Some(record) => writeln!(
                 output,
                 "{} given-up {} {:?}",
-                side.name, gone.number, gone.cause
+                side.name, record.number, record.cause
             ),
             None => break,
         }
@@ -99,24 +99,24 @@ fn take_given_up<S: Driven>(side: &mut Side<S>, output: &mut Output) {
 }
 
 /// What a socket has emitted since it was looked at last. Packets are kept, and not printed where `is_quiet`.
-pub fn take_told<S: Driven>(side: &mut Side<S>, is_quiet: bool, output: &mut Output) {
+pub fn take_emitted<S: Driven>(side: &mut Side<S>, is_quiet: bool, output: &mut Output) {
     take_events(side, is_quiet, output);
     take_given_up(side, output);
 }
 
 /// Prints why a call was refused.
-pub fn tell_refusal<E: Debug + Drop>(name: &str, answer: Result<(), E>, output: &mut Output) {
+pub fn show_refusal<E: Debug + Drop>(name: &str, answer: Result<(), E>, output: &mut Output) {
     if let Err(refusal) = answer {
         writeln!(output, "{name} refused {refusal:?}");
     }
 }
 
-pub fn tell_message(name: &str, what: &str, message: Option<&Message>, output: &mut Output) {
+pub fn show_message(name: &str, what: &str, message: Option<&Message>, output: &mut Output) {
     match message {
         Some(message) => {
             let (stream, ppid) = (message.stream_id, message.ppid);
             write!(output, "{name} {what} {stream} {ppid} ");
-            tell_payload(&message.payload, output);
+            show_payload(&message.payload, output);
             writeln!(output, "");
         }
         None => writeln!(output, "{name} {what} none"),
