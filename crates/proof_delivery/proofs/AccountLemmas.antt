@@ -1,5 +1,6 @@
 -- The messages that the rules gave up are those that records of their sender name, and what they reported is what it emitted.
 use Rattle.std.proofs.Common.{◌≡◌, ℕ, ◌||◌, Bool, true, false, Option, List, [], ◌∷◌, ◌++◌, refl, sym, ap, ◌∙◌, subst, append-nil, append_assoc}
+use Rattle.std.proofs.Math.Bool.{or_comm}
 use Rattle.proof_protocol.specs.State.{Message, has}
 use Rattle.proof_protocol.specs.Rules.{Rule}
 use Rattle.proof_protocol.specs.Resets.{Epochs, ResetEvent, transfers, reset_stream, send_request, perform, commit, goes, MayAll, go_all}
@@ -20,13 +21,7 @@ use Rattle.proof_delivery.proofs.ActionLemmas.{Offers, after_action}
 -- ---- what rules give up
 
 has_behind : (p : ℕ) (abandoned more : List ℕ) → has p (abandoned ++ more) ≡ (has p more || has p abandoned)
-has_behind p abandoned more = has_more p abandoned more ∙ swapped (has p abandoned) (has p more)
-  where
-    swapped : (a b : Bool) → (a || b) ≡ (b || a)
-    swapped true true = refl
-    swapped true false = refl
-    swapped false true = refl
-    swapped false false = refl
+has_behind p abandoned more = has_more p abandoned more ∙ or_comm (has p abandoned) (has p more)
 
 module _ (message : ℕ → Message) (is_interleaved : Bool) where
   given_up_once : (e : Rule) (x : Epochs) (p : ℕ) (abandoned : List ℕ) → x.transfer.sender.given_up p ≡ has p abandoned

@@ -12,6 +12,7 @@ use Rattle.proof_protocol.specs.Resets.{Epochs, ResetEvent, transfers, reset_str
 use Rattle.proof_protocol.proofs.StepLemmas.{later}
 use Rattle.proof_protocol.proofs.CommonLemmas.{get_front}
 use Rattle.proof_delivery.specs.Asks.{Ask, named_in, request_for, IsAsk, AreAsked, SaysOutgoing, SaysIncoming}
+use Rattle.proof_tx_refines.proofs.AskedLemmas.{has_this}
 
 -- ---- lists
 
@@ -116,7 +117,7 @@ module _ (message : ℕ → Message) (is_interleaved : Bool) (x : Epochs) (asks 
           raised = l.1.raised;
           transfer = l.1.transfer;
           old = l.1.old;
-          new = λ s h. elim (has_cases s k ss h) [ inl e ↦ l.0 s (among_first s k before e) | inr g ↦ l.1.new s g ];
+          new = λ s h. elim (has_cases s k ss h) [ inl e ↦ l.0 s (has_this s k before e) | inr g ↦ l.1.new s g ];
         },
       )
     where
@@ -126,9 +127,6 @@ module _ (message : ℕ → Message) (is_interleaved : Bool) (x : Epochs) (asks 
           go : (b : Bool) → (b || has s ks) ≡ true
           go true = refl
           go false = h
-
-      among_first : (s k : ℕ) (ks : List ℕ) → s ≡ k → has s (k ∷ ks) ≡ true
-      among_first s k ks e = ap (λ (b : Bool). b || has s ks) (eq-eqb s k e)
 
   pub ask_is_sent : (a : Ask) → length asks ≡ answered → IsAsk x a → a.upto ≡ count x.transfer.sender → ((s : ℕ) → has s a.streams ≡ true → x.raised s ≡ suc (x.opened s))
       → AreAsked (go_all message is_interleaved x (map send_request a.streams)) (asks ++ a ∷ []) done answered

@@ -1,8 +1,8 @@
 -- Along each trace in which no handover is taken up, records of messages given up are justified.
-use Rattle.std.proofs.Common.{◌≡◌, ℕ, ◌^◌, ◌<◌, Bool, true, false, Option, Some, None, List, [], ◌∷◌, ◌++◌, length, map, slice_get, refl, sym, ap, subst, ◌∙◌, append_assoc, append-nil}
+use Rattle.std.proofs.Common.{◌≡◌, ◌||◌, not, ℕ, ◌^◌, ◌<◌, Bool, true, false, Option, Some, None, List, [], ◌∷◌, ◌++◌, length, map, slice_get, refl, sym, ap, subst, ◌∙◌, append_assoc, append-nil}
 use Rattle.std.specs.List.{AllByRecursion, list_any}
 use Rattle.std.proofs.lemmas.List.{length-map, map-append}
-use Rattle.std.proofs.lemmas.Bool.{both_ways, or_parts}
+use Rattle.std.proofs.lemmas.Bool.{both_ways, or_parts, not-true}
 use Rattle.rand_core.specs.Stream.{Stream}
 use Rattle.sctp_serial.specs.Messages.{Message}
 use Rattle.sctp_packet.specs.Packet.{PacketTree}
@@ -22,6 +22,8 @@ use Rattle.proof_pair.specs.Trace.{Side, Pair, emitted_packets, EndAction, Calls
 use Rattle.proof_endpoint.proofs.PacketActsLemmas.{does_send_buffered}
 use Rattle.proof_endpoint.proofs.RowActsLemmas.{placed, does_where_open}
 use Rattle.proof_endpoint.proofs.ActsLemmas.{keeps_call}
+use Rattle.proof_endpoint.proofs.LivesLemmas.{offers, not_offered}
+use Rattle.proof_endpoint.specs.Lifecycles.{is_restore}
 use Rattle.proof_delivery.specs.Accepted.{AcceptedMessage, accepted_by, accepted_in, accepted_at, accepted}
 use Rattle.proof_delivery.specs.Justified.{clock, Acceptance, accepted_then, acceptances, records_of, records_given, records_if, records_by, records_at, reset_unless, reset_by, reset_at, dated_record, dated_records, IsJustified, restores, RestoresNone, RecordsAreJustified, AcceptancesAreAccepted}
 use Rattle.proof_delivery.specs.GivenUp.{kept_in}
@@ -32,28 +34,13 @@ use Rattle.proof_delivery.proofs.JustifiedOffersLemmas.{justified_more, shorter,
 -- ---- calls that accept no message
 
 abbrev is_steady : Call → Bool
-is_steady Connect = true
-is_steady Close = true
-is_steady Shutdown = true
-is_steady (Send m o) = false
-is_steady (SendMany ms o) = false
-is_steady (ResetStreams streams) = true
-is_steady TakeMessage = true
-is_steady (SetLowThreshold stream bytes) = true
-is_steady (SetPriority stream priority) = true
-is_steady (SetMaxMessageSize bytes) = true
-is_steady (Advance now) = true
-is_steady HandOver = true
-is_steady (Restore h) = false
-is_steady (Packet p) = true
-is_steady NoPacket = true
+is_steady call = not (offers call || is_restore call)
 
 not_steady : (call c : Call) → is_steady call ≡ true → call ≡ c → is_steady c ≡ false → ⊥
 not_steady call c e same f = (both_ways (is_steady call) (ap is_steady same ∙ f) e)
 
 no_offer : (call : Call) → is_steady call ≡ true → (m : Message) (o : SendOptions) → IsOffered call m o → ⊥
-no_offer call e m o (alone is) = not_steady call (Send m o) e is refl
-no_offer call e m o (among ms is in_it) = not_steady call (SendMany ms o) e is refl
+no_offer call e m o is = not_offered call m o is ((or_parts (offers call) (is_restore call) (not-true (offers call || is_restore call) e)).0)
 
 -- and reset these streams alone
 abbrev ResetsJust : Call → List ℕ → Type 0

@@ -3,7 +3,7 @@
 use Rattle.std.proofs.Common.{◌≡◌, ℕ, suc, ◌+◌, ◌-◌, ◌^◌, ◌<◌, ◌≤◌, Bool, true, false, cond, inl, inr, Option, Some, None, is_some, List, [], ◌∷◌, ◌++◌, length, map, slice_get, All, refl, sym, ap, ◌∙◌, subst, arith, append-nil}
 use Rattle.std.specs.Prelude.{◌||◌, ◌==◌}
 use Rattle.std.specs.List.{list_all}
-use Rattle.std.proofs.lemmas.Bool.{cases_eq, both_ways, eqb-true, eq-eqb, ne_eqb, ltb-true, ltb-false}
+use Rattle.std.proofs.lemmas.Bool.{cases_eq, both_ways, eqb-true, eq-eqb, ne_eqb, ltb-true, ltb-false, or_parts}
 use Rattle.std.proofs.lemmas.List.Elements.{All-weaker}
 use Rattle.std.proofs.lemmas.Option.{slice_get_within}
 use Rattle.sctp_serial.specs.Messages as messages
@@ -122,13 +122,9 @@ module _ (message : ℕ → Message) (is_interleaved : Bool) (handed : List mess
       said_older : is_known n t.requests ≡ false → SaysDone t.tracker.first x.done (length x.asks) n result
       said_older unknown =
           let is : is_known (asks.number_of t.tracker.first at) t.requests ≡ false = subst (λ (m : ℕ). is_known m t.requests ≡ false) number_is unknown in
-          let parts = neither (is_last (asks.number_of t.tracker.first at) t.requests) (is_next (asks.number_of t.tracker.first at) t.requests) is in
+          let parts = or_parts (is_last (asks.number_of t.tracker.first at) t.requests) (is_next (asks.number_of t.tracker.first at) t.requests) is in
           let e = other_is_older t.tracker.first x.done x.asks t.requests t.reassembly.deferred answering below order few at there parts.0 parts.1 in
           record { at = at; number_is = number_is; below = e.0; performed_or_older = inr e.1 }
-        where
-          neither : (a b : Bool) → (a || b) ≡ false → (a ≡ false) × (b ≡ false)
-          neither true b e = cc
-          neither false b e = (refl, e)
 
     response_says : (p : ParameterTree) → Answers call t.requests p → SaysIncoming t.tracker.first x.done (length x.asks) p
     response_says (reset_response n result sender receiver) h = λ final.

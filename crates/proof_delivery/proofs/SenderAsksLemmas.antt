@@ -5,6 +5,7 @@ use Rattle.std.specs.Prelude.{◌||◌, ◌==◌, option_map, slice_get}
 use Rattle.std.proofs.lemmas.Bool.{cases_eq, eq-eqb, ne_eqb}
 use Rattle.std.proofs.lemmas.Bool.Decides.{nat_tests}
 use Rattle.std.proofs.lemmas.Option.{same_Some}
+use Rattle.std.proofs.Math.Bool.{or-true, or-false}
 use Rattle.sctp_tx_queue.specs.Queue.{Queue}
 use Rattle.proof_protocol.specs.State.{has}
 use Rattle.proof_protocol.specs.Resets.{Epochs}
@@ -179,23 +180,15 @@ so_opened ids streams f x y raised opens others h s = by (has s streams) refl
     named : (b : Bool) → has s streams ≡ b → are_named (ids ++ streams) s ≡ (are_named ids s || b)
     named b e = named_more s ids streams ∙ ap (λ (c : Bool). are_named ids s || c) (named_has s streams ∙ e)
 
-    or_true : (b : Bool) → (b || true) ≡ true
-    or_true true = refl
-    or_true false = refl
-
-    or_false : (b : Bool) → (b || false) ≡ b
-    or_false true = refl
-    or_false false = refl
-
     Stands : StreamEpoch → Type 0
     Stands e = (e.epoch ≡ y.raised s) × (e.is_open ≡ true → y.raised s ≡ y.opened s) × (e.is_open ≡ false → y.raised s ≡ suc (y.opened s))
 
     by : (b : Bool) → has s streams ≡ b → Stands (reopen (ids ++ streams) f s)
     by true e =
-        subst (λ (b : Bool). Stands (opened_if b (f s))) (sym (named true e ∙ or_true (are_named ids s)))
+        subst (λ (b : Bool). Stands (opened_if b (f s))) (sym (named true e ∙ or-true (are_named ids s)))
         ((h s).0 ∙ sym r, λ g. r ∙ sym (opens s e), λ g. cc)
     by false e =
         let o = others s e in
         let i = h s in
-        subst (λ (b : Bool). Stands (opened_if b (f s))) (sym (named false e ∙ or_false (are_named ids s)))
+        subst (λ (b : Bool). Stands (opened_if b (f s))) (sym (named false e ∙ or-false (are_named ids s)))
         (i.0 ∙ sym r, λ g. r ∙ (i.1 g ∙ sym o), λ g. r ∙ (i.2 g ∙ ap suc (sym o)))

@@ -2,7 +2,7 @@
 use Rattle.std.proofs.Common.{◌≡◌, ℕ, ◌<◌, ◌==◌, ◌&&◌, ◌||◌, not, nat_lt, cond, Bool, true, false, Option, Some, None, option_map, List, [], ◌∷◌, map, length, refl, sym, ap, ◌∙◌, arith}
 use Rattle.std.specs.Prelude.{All}
 use Rattle.std.specs.List.{list_all}
-use Rattle.std.proofs.lemmas.Bool.{and_parts, lt-ltb, and_from, not-false}
+use Rattle.std.proofs.lemmas.Bool.{and_parts, lt-ltb, and_from, not-false, eqb-true}
 use Rattle.std.proofs.lemmas.Bool.Decides.{nat_tests}
 use Rattle.std.proofs.lemmas.List.Folds.{list_all-append}
 use Rattle.std.proofs.lemmas.List.Elements.{All-head, All-tail}
@@ -158,10 +158,7 @@ pub new_numbers : (o : Options) (first peer : ℕ) → first < words → Numbers
 new_numbers o first peer h = record { next = h; current = tt; last = mod_below _ words (omega arith) }
 
 same_number : (a b : ℕ) → (a == b) ≡ true → b < words → a < words
-same_number a b e h = omega (arith, eqb_true a b e, h)
-  where
-    eqb_true : (a b : ℕ) → (a == b) ≡ true → a ≡ b
-    eqb_true a b e = grind (arith, nat_tests, e)
+same_number a b e h = omega (arith, eqb-true a b e, h)
 
 known_by : (a b : Bool) (number : ℕ) (r : Requests) → is_last number r ≡ a → is_next number r ≡ b → (a || b) ≡ true → NumbersFit r → number < words
 known_by true b number r e f k h = same_number number r.last e h.last

@@ -9,6 +9,7 @@ use Rattle.std.proofs.lemmas.Bool.Decides.{nat_tests}
 use Rattle.std.proofs.lemmas.List.Folds.{list_all-append}
 use Rattle.std.proofs.lemmas.List.Sums.{sum_by-cons, sum_by-append}
 use Rattle.std.proofs.lemmas.Bool.{and_from, and_parts, eq-eqb, or_from, or_right}
+use Rattle.std.proofs.Math.Bool.{and-false}
 use Rattle.sctp_serial.specs.Unwrapped.{words, wire}
 use Rattle.sctp_state.specs.declared.api.handover.HandoverOutgoingStream.{HandoverOutgoingStream}
 use Rattle.sctp_state.specs.Handover.{StreamMessage, OutstandingData}
@@ -217,10 +218,6 @@ partly_append k (x ∷ xs) ys p q = go ((x.stream_id == k) && is_partly_sent x) 
 unsent : (n : ℕ) → (n == 0) ≡ true → nat_lt 0 n ≡ false
 unsent n h = grind (arith, nat_tests)
 
-never : (b : Bool) → (b && false) ≡ false
-never true = refl
-never false = refl
-
 waiting_unsent : (m : Queued) → is_waiting m ≡ true → nat_lt 0 m.offset ≡ false
 waiting_unsent m h = unsent m.offset (and_parts (not (is_some m.numbers)) (m.offset == 0) h).1
 
@@ -229,7 +226,7 @@ waiting_none now id k [] h = refl
 waiting_none now id k (m ∷ ms) h =
     let hs = and_parts (is_waiting m) (list_all is_waiting ms) h in
     or_from ((id == k) && nat_lt 0 m.offset) (has_partly_sent k (map (queued_message now id) ms))
-    (ap (λ (b : Bool). (id == k) && b) (waiting_unsent m hs.0) ∙ never (id == k)) (waiting_none now id k ms hs.1)
+    (ap (λ (b : Bool). (id == k) && b) (waiting_unsent m hs.0) ∙ and-false (id == k)) (waiting_none now id k ms hs.1)
 
 other_none : (now id k : ℕ) (ms : List Queued) → (id == k) ≡ false → has_partly_sent k (map (queued_message now id) ms) ≡ false
 other_none now id k [] h = refl

@@ -51,7 +51,7 @@ pub mod ArgumentLemmas
 mod SpendsLemmas
 mod QueueSpendsLemmas
 mod ItemSpendsLemmas
-mod LivesLemmas
+pub mod LivesLemmas
 pub mod LifecycleLemmas
 mod HandoverValidLemmas
 pub mod HandoverAgainLemmas

@@ -30,7 +30,7 @@ offers (Send m o) = true
 offers (SendMany ms o) = true
 offers call = false
 
-not_offered : (call : Call) (message : Message) (o : SendOptions) → IsOffered call message o → offers call ≡ false → ⊥
+pub not_offered : (call : Call) (message : Message) (o : SendOptions) → IsOffered call message o → offers call ≡ false → ⊥
 not_offered call message o (alone is) none = both_ways (offers call) none (ap offers is)
 not_offered call message o (among messages is at) none = both_ways (offers call) none (ap offers is)
 

@@ -2,6 +2,7 @@
 use Rattle.std.proofs.Common.{◌≡◌, ℕ, ◌+◌, ◌%◌, ◌^◌, ◌<◌, ◌==◌, ◌&&◌, ◌||◌, not, Bool, true, false, List, length, take, drop, map, refl, ap, ◌∙◌, arith}
 use Rattle.std.specs.Prelude.{All}
 use Rattle.std.proofs.lemmas.Bool.{eq-eqb}
+use Rattle.std.proofs.Math.Bool.{or-true}
 use Rattle.sctp_wire.specs.Checksum.{accepts, with_zero_field}
 use Rattle.sctp_wire.specs.Fields.{be16, be32}
 use Rattle.sctp_packet.specs.Chunk.{ChunkTree}
@@ -25,17 +26,13 @@ summed : (h : HeaderTree) (word : ℕ) (cs : List ChunkTree) → with_zero_field
 unfolding packet_bytes unsummed_bytes header_bytes be16 be32
 summed h word cs = refl
 
-or_true : (b : Bool) → (b || true) ≡ true
-or_true true = refl
-or_true false = refl
-
 let_through : (disabled is_summed : Bool) (method word field : ℕ) → (is_summed ≡ true → field ≡ word) → (is_summed ≡ false → field ≡ 0)
     → (disabled || (is_summed || not (method == 0))) ≡ true → accepts disabled method word field ≡ true
 let_through true is_summed method word field with_sum without h = refl
 let_through false true method word field with_sum without h =
     ap (λ (n : ℕ). (n == word) || ((n == 0) && not (method == 0))) (with_sum refl) ∙ ap (λ (b : Bool). b || ((word == 0) && not (method == 0))) (eq-eqb word word refl)
 let_through false false method word field with_sum without h =
-    ap (λ (n : ℕ). (n == word) || ((n == 0) && not (method == 0))) (without refl) ∙ ap (λ (b : Bool). (0 == word) || b) h ∙ or_true (0 == word)
+    ap (λ (n : ℕ). (n == word) || ((n == 0) && not (method == 0))) (without refl) ∙ ap (λ (b : Bool). (0 == word) || b) h ∙ or-true (0 == word)
 
 pub small_word : (n : ℕ) → n % 2 ^ 32 < 2 ^ 32
 small_word n = omega arith

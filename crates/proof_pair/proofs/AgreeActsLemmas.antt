@@ -2,6 +2,7 @@
 use Rattle.std.proofs.Common.{◌≡◌, ℕ, ◌||◌, Bool, true, false, List, [], ◌∷◌, ◌++◌, map, All, inl, refl, sym, ap, subst, ◌∙◌, append_assoc, append-nil}
 use Rattle.std.specs.List.{list_all}
 use Rattle.std.proofs.lemmas.List.Elements.{All-nil, All-push, All-weaker}
+use Rattle.std.proofs.Math.Bool.{or-false}
 use Rattle.sctp_packet.specs.Chunk.{ChunkTree, FragmentTree, init_chunk, init_ack_chunk, cookie_echo_chunk, cookie_ack_chunk}
 use Rattle.sctp_state.specs.Options.{Options}
 use Rattle.sctp_state.specs.Events.{Event, SendPacket}
@@ -12,9 +13,8 @@ use Rattle.proof_endpoint.specs.Mapped.{Carried}
 use Rattle.proof_endpoint.specs.Acts.{EndWithPacket, is_plain}
 use Rattle.proof_pair.specs.Trace.{as_carried, packets_in, has_connected}
 use Rattle.proof_pair.proofs.EmittedLemmas.{is_light}
-use Rattle.proof_pair.proofs.JoinActsLemmas.{packets_both, light_packets, light_connected, connected_both}
+use Rattle.proof_pair.proofs.JoinActsLemmas.{light_packets, light_connected, connected_both, packets_now}
 use Rattle.proof_pair.proofs.AgreeLemmas.{Past, View, view_of, Says, says_later, Shape, is_load, shape_with, shape_plain, Stands, stands_later, Agreed, Bound, Tagged, Later, later_same, Said, said_later}
-use Rattle.proof_protocol.proofs.CommonLemmas.{or_none}
 
 -- the options of the end that acts, what it emitted before this action, and under which tag its packet came
 pub record Setting : Type 0 where
@@ -51,10 +51,6 @@ module _ (g : Setting) (x y : Past) (v : View) (o : Options) (pack : Packing Car
     shape = s;
   }
 
-  packets_now : (more : List (Event Carried)) (ps : List Carried) → packets_in more ≡ ps → packets_in (g.past ++ (es ++ more)) ≡ packets_in (g.past ++ es) ++ ps
-  packets_now more ps e =
-      ap packets_in (sym (append_assoc g.past es more)) ∙ (packets_both (g.past ++ es) more ∙ ap (λ (z : List Carried). packets_in (g.past ++ es) ++ z) e)
-
   -- the state is seen otherwise, more is emitted, and no packet goes out
   pub inv_view : (w : View) (more : List (Event Carried)) → packets_in more ≡ [] → Stands x y w → (has_connected (es ++ more) ≡ true → Agreed y w)
       → Tagged g.under w → Inv g x y w o pack (es ++ more) tag chunks
@@ -65,14 +61,14 @@ module _ (g : Setting) (x y : Past) (v : View) (o : Options) (pack : Packing Car
     packing = i.packing;
     agreed = agreed;
     tagged = tagged;
-    said = subst (All (Said x y)) (sym (packets_now more [] none ∙ append-nil (packets_in (g.past ++ es)))) i.said;
+    said = subst (All (Said x y)) (sym (packets_now g.past es more [] none ∙ append-nil (packets_in (g.past ++ es)))) i.said;
     made = i.made;
     shape = i.shape;
   }
 
   still : (more : List (Event Carried)) → has_connected more ≡ false → has_connected (es ++ more) ≡ true → has_connected es ≡ true
   still more none h =
-      sym (connected_both es more ∙ (ap (λ (b : Bool). has_connected es || b) none ∙ or_none (has_connected es))) ∙ h
+      sym (connected_both es more ∙ (ap (λ (b : Bool). has_connected es || b) none ∙ or-false (has_connected es))) ∙ h
 
   -- more is emitted, that is no packet and no `OnConnected`
   pub inv_silent : (more : List (Event Carried)) → packets_in more ≡ [] → has_connected more ≡ false → Inv g x y v o pack (es ++ more) tag chunks
@@ -96,7 +92,7 @@ module _ (g : Setting) (x y : Past) (v : View) (o : Options) (pack : Packing Car
         packing = i.packing;
         agreed = λ e. i.agreed (still (SendPacket p ∷ []) refl e);
         tagged = i.tagged;
-        said = subst (All (Said x y)) (sym (packets_now (SendPacket p ∷ []) (p ∷ []) refl))
+        said = subst (All (Said x y)) (sym (packets_now g.past es (SendPacket p ∷ []) (p ∷ []) refl))
             (All-push (Said x y) (packets_in (g.past ++ es)) p i.said (subst (Said x y) (sym is) said));
         made = All-nil (Says x y new);
         shape = inl refl;

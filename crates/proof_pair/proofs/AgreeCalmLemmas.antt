@@ -1,6 +1,7 @@
 -- What receives no chunk that opens an association takes up none, and emits no `OnConnected`.
 use Rattle.std.proofs.Common.{◌≡◌, ℕ, ◌||◌, Bool, true, false, List, [], ◌∷◌, ◌++◌, refl, ap, ◌∙◌}
 use Rattle.std.proofs.lemmas.Bool.{both_ways}
+use Rattle.std.proofs.Math.Bool.{or-false}
 use Rattle.sctp_packet.specs.Chunk.{ChunkTree, init_ack_chunk, cookie_echo_chunk, cookie_ack_chunk}
 use Rattle.sctp_capabilities.specs.Cookie.{Cookie}
 use Rattle.sctp_state.specs.Handover.{HandoverState}
@@ -15,7 +16,6 @@ use Rattle.proof_pair.proofs.EmittedLemmas.{EmitsLightly}
 use Rattle.proof_pair.proofs.UntilLemmas.{light_sack, light_sending, light_time, light_call, light_reset}
 use Rattle.proof_pair.proofs.JoinActsLemmas.{connected_both, light_connected}
 use Rattle.proof_pair.proofs.AgreeLemmas.{is_opening}
-use Rattle.proof_protocol.proofs.CommonLemmas.{or_none}
 
 -- what a call may receive and do
 pub record IsCalm (call : Call) : Type 0 where
@@ -31,7 +31,7 @@ abbrev pub RestsAt : (before after : EndWithPacket Carried) → Type 0
 RestsAt a b = Rests a.state a.context.emitted.events b.state b.context.emitted.events
 
 emitted_more : (es more : List (Event Carried)) → has_connected more ≡ false → has_connected (es ++ more) ≡ has_connected es
-emitted_more es more none = connected_both es more ∙ (ap (λ (b : Bool). has_connected es || b) none ∙ or_none (has_connected es))
+emitted_more es more none = connected_both es more ∙ (ap (λ (b : Bool). has_connected es || b) none ∙ or-false (has_connected es))
 
 rests_same : (s : State) (es : List (Event Carried)) → Rests s es s es
 rests_same s es = record { held = λ a h. h; emitted = refl }

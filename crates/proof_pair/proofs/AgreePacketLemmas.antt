@@ -3,7 +3,7 @@ use Rattle.std.proofs.Common.{◌≡◌, ℕ, ◌==◌, ◌&&◌, not, Bool, tru
 use Rattle.std.specs.List.{list_all}
 use Rattle.std.proofs.lemmas.Bool.Decides.{nat_tests}
 use Rattle.std.proofs.lemmas.List.Elements.{All-nil, All-cons, All-head, All-tail, All-weaker}
-use Rattle.std.proofs.lemmas.Bool.{and_parts, both_ways}
+use Rattle.std.proofs.lemmas.Bool.{and_parts, both_ways, eqb-true}
 use Rattle.sctp_packet.specs.Chunk.{ChunkTree, init_chunk, init_ack_chunk, cookie_echo_chunk, cookie_ack_chunk, abort_chunk, shutdown_complete_chunk, shutdown_ack_chunk}
 use Rattle.sctp_packet.specs.Grammar.{carried}
 use Rattle.sctp_packet.specs.Packet.{PacketTree}
@@ -79,9 +79,6 @@ single tag (init_chunk i ∷ []) s h = record {
 single tag (init_chunk i ∷ d ∷ cs) s h = cc
 single tag (c ∷ cs) s h = cc
 
-same_tags : (a b : ℕ) → (a == b) ≡ true → b ≡ a
-same_tags a b h = grind (arith, nat_tests)
-
 by_tag : (is_zero is_init is_own : Bool) (tag own : ℕ) (cs : List ChunkTree) (s : State) → list_all is_mild cs ≡ true → (is_init ≡ true → is_single_init cs ≡ true)
     → (is_own ≡ true → my_tag s ≡ tag) → plain_refusal false is_zero is_init is_own tag own ≡ None → Admitted tag cs s
 by_tag true true is_own tag own cs s h f e refused = single tag cs s (f refl)
@@ -121,7 +118,7 @@ comes_by (c ∷ cs) (inr h) = let no : is_opening c ≡ true = h.0 in cc
 admitted_by : (tag : ℕ) (cs : List ChunkTree) (s : State) → ComesBy cs → refusal tag cs s ≡ None → Admitted tag cs s
 admitted_by tag cs s (inr h) refused = record { under = None; comes = comes_silent tag cs h; fits = tt }
 admitted_by tag cs s (inl h) refused =
-    by_tag (tag == 0) (is_single_init cs) (tag == my_tag s) tag (my_tag s) cs s h (λ e. e) (λ e. same_tags tag (my_tag s) e)
+    by_tag (tag == 0) (is_single_init cs) (tag == my_tag s) tag (my_tag s) cs s h (λ e. e) (λ e. sym (eqb-true tag (my_tag s) e))
     (sym (ap (λ (a : Option Bool). refusal_by a (complete_flag cs) (has_shutdown_ack cs) tag cs s) (no_abort cs h)
     ∙ (ap (λ (a : Option Bool). refusal_by None a (has_shutdown_ack cs) tag cs s) (no_complete cs h)
     ∙ (ap (λ (a : Bool). refusal_by None None a tag cs s) (no_shutdown_ack cs h)

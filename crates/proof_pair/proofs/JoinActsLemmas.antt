@@ -3,6 +3,7 @@ use Rattle.std.proofs.Common.{◌≡◌, ℕ, ◌||◌, Bool, true, false, List,
 use Rattle.std.specs.List.{list_all}
 use Rattle.std.proofs.lemmas.List.Elements.{All-nil, All-cons, All-push, All-weaker}
 use Rattle.std.proofs.lemmas.Bool.{and_parts}
+use Rattle.std.proofs.Math.Bool.{or-false}
 use Rattle.sctp_packet.specs.Chunk.{ChunkTree, FragmentTree, init_chunk, init_ack_chunk, cookie_echo_chunk, cookie_ack_chunk}
 use Rattle.sctp_state.specs.Options.{Options}
 use Rattle.sctp_state.specs.Events.{Event, SendPacket, OnConnected}
@@ -15,7 +16,6 @@ use Rattle.proof_endpoint.specs.Acts.{EndWithPacket, is_plain}
 use Rattle.proof_pair.specs.Trace.{as_carried, packets_in, has_connected}
 use Rattle.proof_pair.proofs.EmittedLemmas.{is_light}
 use Rattle.proof_pair.proofs.JoinLemmas.{View, view_of, Says, Leads, says_leads, received_leads, Stands}
-use Rattle.proof_protocol.proofs.CommonLemmas.{or_none}
 
 -- ---- what is emitted
 
@@ -23,6 +23,10 @@ pub packets_both : (es fs : List (Event Carried)) → packets_in (es ++ fs) ≡ 
 packets_both [] fs = refl
 packets_both (SendPacket p ∷ es) fs = ap (λ (ps : List Carried). p ∷ ps) (packets_both es fs)
 packets_both (e ∷ es) fs = packets_both es fs
+
+pub packets_now : (past es more : List (Event Carried)) (ps : List Carried) → packets_in more ≡ ps → packets_in (past ++ (es ++ more)) ≡ packets_in (past ++ es) ++ ps
+packets_now past es more ps e =
+    ap packets_in (sym (append_assoc past es more)) ∙ (packets_both (past ++ es) more ∙ ap (λ (z : List Carried). packets_in (past ++ es) ++ z) e)
 
 pub light_packets : (es : List (Event Carried)) → list_all is_light es ≡ true → packets_in es ≡ []
 light_packets [] h = refl
@@ -47,7 +51,7 @@ module _ (past es more now : List (Event Carried)) (behind : now ≡ es ++ more)
   packets_later ps e = ap packets_in later ∙ (packets_both (past ++ es) more ∙ ap (λ (z : List Carried). packets_in (past ++ es) ++ z) e)
 
   connected_later : has_connected more ≡ false → has_connected (past ++ now) ≡ has_connected (past ++ es)
-  connected_later e = ap has_connected later ∙ (connected_both (past ++ es) more ∙ (ap (λ (b : Bool). has_connected (past ++ es) || b) e ∙ or_none (has_connected (past ++ es))))
+  connected_later e = ap has_connected later ∙ (connected_both (past ++ es) more ∙ (ap (λ (b : Bool). has_connected (past ++ es) || b) e ∙ or-false (has_connected (past ++ es))))
 
 -- ---- what holds of the end that acts
 

@@ -32,7 +32,7 @@ use Rattle.proof_pair.proofs.EmittedLemmas.{EmitsLightly}
 use Rattle.proof_pair.proofs.UntilLemmas.{light_sack, light_sending, light_time, light_call, light_reset}
 use Rattle.proof_pair.proofs.AddedLemmas.{holds_added, holds_all_added}
 use Rattle.proof_pair.proofs.StayLemmas.{Stays, stays_same, stays_then, stays_resent, stays_timed, alike_all, alike_outstanding, alike_received, stays_fast}
-use Rattle.proof_pair.proofs.JoinActsLemmas.{packets_both, light_packets, ends_no_packet}
+use Rattle.proof_pair.proofs.JoinActsLemmas.{light_packets, ends_no_packet, packets_now}
 use Rattle.proof_pair.proofs.NegotiatedLemmas.{Brings, Emits, emits_back, same_mode, same_partial, forward_right, View, alone, view_of, late_phase, Able, IsAble}
 
 -- ---- what goes out leaves the mode as it was
@@ -103,10 +103,6 @@ module _ (g : Setting) (v : View) (o : Options) (pack : Packing Carried) (es : L
   inv_made : (cs : List ChunkTree) → All (Emits g.own g.other) cs → Inv g v o pack es cs
   inv_made cs h = record { able = i.able; size = i.size; options = i.options; packing = i.packing; said = i.said; made = h }
 
-  packets_now : (more : List (Event Carried)) (ps : List Carried) → packets_in more ≡ ps → packets_in (g.past ++ (es ++ more)) ≡ packets_in (g.past ++ es) ++ ps
-  packets_now more ps e =
-      ap packets_in (sym (append_assoc g.past es more)) ∙ (packets_both (g.past ++ es) more ∙ ap (λ (z : List Carried). packets_in (g.past ++ es) ++ z) e)
-
   -- the state is seen otherwise, and more is emitted that is no packet
   inv_view : (w : View) (more now : List (Event Carried)) → now ≡ es ++ more → packets_in more ≡ [] → Able g.own g.other w → Inv g w o pack now chunks
   inv_view w more now behind none able = record {
@@ -115,7 +111,7 @@ module _ (g : Setting) (v : View) (o : Options) (pack : Packing Carried) (es : L
     options = i.options;
     packing = i.packing;
     said = subst (λ (z : List (Event Carried)). All (EmitsAll g.own g.other) (packets_in (g.past ++ z))) (sym behind)
-        (subst (All (EmitsAll g.own g.other)) (sym (packets_now more [] none ∙ append-nil (packets_in (g.past ++ es)))) i.said);
+        (subst (All (EmitsAll g.own g.other)) (sym (packets_now g.past es more [] none ∙ append-nil (packets_in (g.past ++ es)))) i.said);
     made = i.made;
   }
 
@@ -128,7 +124,7 @@ module _ (g : Setting) (v : View) (o : Options) (pack : Packing Carried) (es : L
         size = i.size;
         options = i.options;
         packing = i.packing;
-        said = subst (All (EmitsAll g.own g.other)) (sym (packets_now (SendPacket p ∷ []) (p ∷ []) refl))
+        said = subst (All (EmitsAll g.own g.other)) (sym (packets_now g.past es (SendPacket p ∷ []) (p ∷ []) refl))
             (All-push (EmitsAll g.own g.other) (packets_in (g.past ++ es)) p i.said (subst (EmitsAll g.own g.other) (sym is) i.made));
         made = All-nil (Emits g.own g.other);
       }

@@ -2,6 +2,7 @@
 use Rattle.std.proofs.Common.{◌≡◌, ℕ, ◌&&◌, ◌^◌, ◌%◌, Bool, true, false, Option, Some, None, Result, Ok, Err, List, [], ◌∷◌, ◌++◌, refl, sym, ap, subst, ◌∙◌, arith}
 use Rattle.std.proofs.lemmas.Option.{same_Some}
 use Rattle.std.specs.Prelude.{⊤}
+use Rattle.std.proofs.Math.Bool.{and_comm}
 use Rattle.sctp_wire.specs.Fields.{be32, be64}
 use Rattle.sctp_packet.specs.Chunk.{ChunkTree, InitTree, init_chunk, init_ack_chunk, cookie_echo_chunk}
 use Rattle.sctp_packet.specs.Grammar.{carried}
@@ -156,12 +157,6 @@ emits_back o q i tag first tie fine said =
     }
 
 -- a forward point is sent where both ends know them
-and_comm : (a b : Bool) → (a && b) ≡ (b && a)
-and_comm true true = refl
-and_comm true false = refl
-and_comm false true = refl
-and_comm false false = refl
-
 pub same_mode : (o q : Options) → (agreed q o).message_interleaving ≡ (agreed o q).message_interleaving
 same_mode o q = and_comm q.enable_message_interleaving o.enable_message_interleaving
 

@@ -17,13 +17,10 @@ module _ (message : ℕ → Message) (is_interleaved : Bool) (x : Epochs) (k : I
   abbrev st : ℕ → ℕ
   st p = stream_of message p
 
-  later_no : (p : ℕ) → x.transfer.sender.begun p ≡ true → x.epoch p ≤ x.performed (st p)
-  later_no p h = not_later message is_interleaved x k.order k.based p h
-
   -- a number from the base of the epoch that the receiver is in on
   now_from : (q : ℕ) → x.transfer.sender.begun q ≡ true → x.base (st q) (x.performed (st q)) (ordered_of message q) ≤ x.transfer.sender.number q → x.epoch q ≡ x.performed (st q)
   now_from q h l =
-      let m = later_no q h in
+      let m = not_later message is_interleaved x k.order k.based q h in
       elim (cases_lt (x.epoch q) (x.performed (st q))) [
         | inr g ↦ omega (arith, m, g)
         | inl g ↦ let e = k.based.earlier q (x.performed (st q)) h (omega arith) g in absurd (omega (arith, e, l))
@@ -41,7 +38,7 @@ module _ (message : ℕ → Message) (is_interleaved : Bool) (x : Epochs) (k : I
       let up = z.above in
       let down = greatest (o.number p) z.named in
       let num : o.number p ≡ n = omega (arith, up, down) in
-      let most : x.epoch p ≤ x.performed s = subst (λ a. x.epoch p ≤ x.performed a) z.on_stream (later_no p b) in
+      let most : x.epoch p ≤ x.performed s = subst (λ a. x.epoch p ≤ x.performed a) z.on_stream (not_later message is_interleaved x k.order k.based p b) in
       let now : x.epoch p ≡ x.performed s =
       elim (cases_lt (x.epoch p) (x.performed s)) [
         | inr g ↦ omega (arith, most, g)
@@ -95,7 +92,7 @@ module _ (message : ℕ → Message) (is_interleaved : Bool) (x : Epochs) (k : I
     where
       earlier : (t : ℕ) → t < count x.transfer.sender → st (place_of x.transfer.sender t) ≡ r.stream → x.epoch (place_of x.transfer.sender t) < r.epoch
       earlier t h e =
-          let n = later_no (place_of x.transfer.sender t) (k.order.kept.outgoing.place_begun t h) in
+          let n = not_later message is_interleaved x k.order k.based (place_of x.transfer.sender t) (k.order.kept.outgoing.place_begun t h) in
           let q = ap x.performed e in
           omega (arith, n, q, l)
 

@@ -9,7 +9,7 @@ use Rattle.proof_protocol.proofs.DeliverLemmas.{one_place}
 use Rattle.proof_protocol.proofs.DueLemmas.{goes_on}
 use Rattle.proof_protocol.proofs.IndexedLemmas.{one_index}
 
-decide_Bool : (a b : Bool) → (a ≡ b) ⊎ (a ≡ b → ⊥)
+pub decide_Bool : (a b : Bool) → (a ≡ b) ⊎ (a ≡ b → ⊥)
 decide_Bool true true = inl refl
 decide_Bool true false = inr (λ e. cc)
 decide_Bool false true = inr (λ e. cc)

@@ -5,6 +5,7 @@ use Rattle.std.specs.Prelude.{◌&&◌, ◌||◌, ◌==◌, nat_lt}
 use Rattle.std.specs.List.{list_any}
 use Rattle.std.proofs.lemmas.Bool.{cond-true, cond-false, eqb-true, ne_eqb}
 use Rattle.std.proofs.lemmas.Bool.Decides.{nat_tests}
+use Rattle.std.proofs.Math.Bool.{and-false}
 use Rattle.sctp_serial.specs.Unwrapped.{origin}
 use Rattle.sctp_serial.specs.declared.api.StreamId.{StreamId}
 use Rattle.sctp_chunk.specs.declared.forward_tsn.SkippedStream.{SkippedStream}
@@ -65,12 +66,8 @@ module _ (message : ℕ → Message) (is_interleaved : Bool) (x : Epochs) (k : I
       low : (a b s u : ℕ) → a + s + 1 ≡ origin + u → b + s ≡ origin + t → t < u → nat_lt a b ≡ false
       low a b s u e g l = grind (arith, nat_tests)
 
-      and_false : (b : Bool) → (b && false) ≡ false
-      and_false true = refl
-      and_false false = refl
-
       go : (b : Bool) → is_named d.streams id ≡ b → (nat_lt d.last n && b) ≡ false
-      go false e = and_false (nat_lt d.last n)
+      go false e = and-false (nat_lt d.last n)
       go true e =
           let z = none_above id e in
           let below = z.3.fragments t numbered (sym on ∙ sym z.1) in

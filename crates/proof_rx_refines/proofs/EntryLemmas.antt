@@ -1,6 +1,7 @@
 -- Entries of a forward point in the order of their streams.
 use Rattle.std.proofs.Common.{◌≡◌, ℕ, suc, max, Bool, true, false, cond, ◌⊎◌, inl, inr, List, [], ◌∷◌, refl, ap, sym, ◌∙◌, arith}
 use Rattle.std.specs.Prelude.{◌&&◌, ◌||◌, ◌==◌, nat_lt, nat_le}
+use Rattle.std.proofs.Math.Bool.{or-false}
 use Rattle.sctp_serial.specs.declared.types.StreamKey.TheVariants.{Ordered, Unordered}
 use Rattle.sctp_chunk.specs.declared.forward_tsn.SkippedStream.{SkippedStream}
 use Rattle.sctp_chunk.specs.declared.forward_tsn.SkippedStream.TheVariants.{ForwardTsn, IForwardTsn}
@@ -9,7 +10,7 @@ use Rattle.proof_protocol.specs.State.{Entry, IsAmong}
 use Rattle.proof_protocol.specs.Rules.{same, covers, raise}
 use Rattle.proof_rx_refines.specs.Read.{StandsFor, StandForAll}
 use Rattle.proof_protocol.specs.Points.{AreApart, IsApart}
-use Rattle.proof_protocol.proofs.CommonLemmas.{or_none}
+use Rattle.sctp_tracker.proofs.SeenRunsLemmas.{or_swap}
 
 abbrev pub put_entry : Entry → List Entry → List Entry
 put_entry e [] = e ∷ []
@@ -53,11 +54,6 @@ module _ (is_interleaved : Bool) (ss : Streams) where
 -- ---- they say the same
 
 module _ (kind : Bool) (s n : ℕ) where
-  swap : (a b c : Bool) → (a || (b || c)) ≡ (b || (a || c))
-  swap true true c = refl
-  swap true false c = refl
-  swap false b c = refl
-
   turn : (a b c : Bool) → (a || (b || c)) ≡ ((b || a) || c)
   turn true true c = refl
   turn true false c = refl
@@ -72,7 +68,7 @@ module _ (kind : Bool) (s n : ℕ) where
       go true ih = refl
       go false ih =
           ap (λ z. (same d.ordered kind && ((d.stream == s) && nat_le n d.number)) || z) ih
-          ∙ swap (same d.ordered kind && ((d.stream == s) && nat_le n d.number)) (same e.ordered kind && ((e.stream == s) && nat_le n e.number)) (covers es kind s n)
+          ∙ or_swap (same d.ordered kind && ((d.stream == s) && nat_le n d.number)) (same e.ordered kind && ((e.stream == s) && nat_le n e.number)) (covers es kind s n)
 
   puts_covers : (es ds : List Entry) → covers (put_entries es ds) kind s n ≡ (covers es kind s n || covers ds kind s n)
   puts_covers [] ds = refl
@@ -81,7 +77,7 @@ module _ (kind : Bool) (s n : ℕ) where
       ∙ turn (covers es kind s n) (same e.ordered kind && ((e.stream == s) && nat_le n e.number)) (covers ds kind s n))
 
   pub sorted_covers : (es : List Entry) → covers (put_entries es []) kind s n ≡ covers es kind s n
-  sorted_covers es = puts_covers es [] ∙ or_none (covers es kind s n)
+  sorted_covers es = puts_covers es [] ∙ or-false (covers es kind s n)
 
 module _ (kind : Bool) (s : ℕ) where
   abbrev lifted : Entry → ℕ → ℕ

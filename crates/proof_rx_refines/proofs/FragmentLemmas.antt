@@ -19,6 +19,7 @@ use Rattle.proof_protocol.specs.Reassembly.{Queue, KeyOf, next_of, IsLate}
 use Rattle.proof_protocol.specs.Lifted.{lift, wire_key, wire_chunk, IsOfCurrentEpoch}
 use Rattle.proof_rx_refines.specs.View.{IsFiled, IsSeenAs, chunk_of_held, key_of_held, ordered_at, unordered_at, view_of}
 use Rattle.proof_rx_refines.specs.Read.{Carries, IsRead, number_read, is_behind}
+use Rattle.proof_rx_refines.proofs.KeyLemmas.{ordered_is}
 
 -- ---- what is read
 
@@ -125,12 +126,9 @@ module _ (message : ℕ → Message) (is_interleaved : Bool) (shift : ℕ) (x : 
   not_below : (a b c : ℕ) → a ≡ origin + c → c ≡ 0 → b ≤ origin → nat_lt a b ≡ false
   not_below a b c e g l = grind (arith, nat_tests)
 
-  ordered_is : (b : Bool) → f.is_unordered ≡ b → ordered_of message place ≡ not b
-  ordered_is b e = sym (not-not (ordered_of message place)) ∙ (ap not (sym carries.kind) ∙ ap not e)
-
   pub ordered_behind : f.is_unordered ≡ false → nat_lt (item r tsn f).number (ordered_at r.streams f.stream_id).next ≡ is_behind message is_interleaved x.sender x.receiver k
   ordered_behind e =
-      let o = ordered_is false e in
+      let o = ordered_is f.is_unordered false (ordered_of message place) carries.kind e in
       let own_is : own ≡ written = cond-true (ordered_of message place || is_interleaved) written 0 (ap (λ z. z || is_interleaved) o) in
       let next_is : (ordered_at r.streams f.stream_id).next ≡ origin + q.next (stream_of message place) = p.next f.stream_id ∙ ap (λ z. origin + q.next z) carries.stream in
       below (item r tsn f).number (ordered_at r.streams f.stream_id).next written (q.next (stream_of message place)) number (x.receiver.next (stream_of message place)) (base true (stream_of message place))
@@ -141,7 +139,7 @@ module _ (message : ℕ → Message) (is_interleaved : Bool) (shift : ℕ) (x : 
   unordered_behind e = go is_interleaved refl ∙ sym (ap (λ b. (b || is_interleaved) && nat_lt number (floor x.receiver b (stream_of message place))) o)
     where
       o : ordered_of message place ≡ false
-      o = ordered_is true e
+      o = ordered_is f.is_unordered true (ordered_of message place) carries.kind e
 
       go : (m : Bool) → is_interleaved ≡ m → nat_lt (item r tsn f).number (unordered_at r.streams f.stream_id).passed ≡ ((false || m) && nat_lt number (x.receiver.passed_below (stream_of message place)))
       go false m =

@@ -9,6 +9,7 @@ use Rattle.sctp_rx.specs.Runs.{is_next}
 use Rattle.sctp_rx.specs.Held.{Held, rank_of, goes_on}
 use Rattle.proof_protocol.specs.State.{IsAmong}
 use Rattle.proof_protocol.specs.Reassembly.{Chunk, MessageKey, KeyOf, next_of}
+use Rattle.proof_protocol.proofs.KeysLemmas.{decide_Bool}
 use Rattle.proof_rx_refines.specs.View.{IsFiled, key_of_held}
 use Rattle.proof_rx_refines.proofs.RisingLemmas.{next_rank}
 
@@ -18,19 +19,13 @@ Decided is_interleaved = (κ μ : KeyOf is_interleaved) → (κ ≡ μ) ⊎ (κ 
 
 pub place_cases : (k kind : Bool) (a s : ℕ) → ((k ≡ kind) × (a ≡ s)) ⊎ (k ≡ kind → a ≡ s → ⊥)
 place_cases k kind a s =
-    elim (kinds k kind) [
+    elim (decide_Bool k kind) [
       | inr d ↦ inr (λ e f. d e)
       | inl e ↦ elim (cases_eq a s) [
         | inl f ↦ inl (e, f)
         | inr d ↦ inr (λ e f. d f)
       ]
     ]
-  where
-    kinds : (a b : Bool) → (a ≡ b) ⊎ (a ≡ b → ⊥)
-    kinds true true = inl refl
-    kinds true false = inr (λ e. cc)
-    kinds false true = inr (λ e. cc)
-    kinds false false = inl refl
 
 pub kind_back : (a b k c : Bool) → a ≡ not k → b ≡ not c → not a ≡ not b → k ≡ c
 kind_back a b true true p q e = refl
@@ -41,6 +36,9 @@ kind_back a b false false p q e = refl
 pub twice_not : (a k : Bool) → a ≡ not k → not a ≡ k
 twice_not a true e = cc
 twice_not a false e = cc
+
+pub ordered_is : (a b k : Bool) → a ≡ not k → a ≡ b → k ≡ not b
+ordered_is a b k e f = sym (twice_not a k e) ∙ ap not f
 
 pub rank_same : (g h : Held) → g.number ≡ h.number → g.index ≡ h.index → rank_of g ≡ rank_of h
 rank_same g h n i = ap (λ (z : ℕ). pair_rank z g.index) n ∙ ap (λ (z : ℕ). pair_rank h.number z) i

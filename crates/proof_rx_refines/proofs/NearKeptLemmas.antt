@@ -23,13 +23,13 @@ use Rattle.proof_rx_refines.specs.Read.{Carries, IsRead, StandForAll, number_rea
 use Rattle.proof_protocol.specs.Points.{AreApart}
 use Rattle.proof_rx_refines.specs.Refinement.{ReceiverRefines, Goes}
 use Rattle.proof_rx_refines.specs.Near.{IsOn, IsOf, IsNearStream, IsNamed, AreNearStreams, IsInWindow}
-use Rattle.proof_rx_refines.proofs.KeyLemmas.{twice_not}
 use Rattle.proof_rx_refines.proofs.FragmentLemmas.{added_now, number_near}
 use Rattle.proof_rx_refines.proofs.FragmentRowLemmas.{observed_seen}
 use Rattle.proof_rx_refines.proofs.ForwardRowLemmas.{written_apart, point_seen}
 use Rattle.proof_rx_refines.proofs.NearTsnLemmas.{not_acknowledged}
 use Rattle.proof_rx_refines.proofs.NearMidLemmas.{rising, few_ahead}
 use Rattle.proof_rx_refines.proofs.NearStreamLemmas.{ordered_leaves, near_here, near_off, point_nears}
+use Rattle.proof_rx_refines.proofs.KeyLemmas.{ordered_is}
 
 -- ---- the receiver goes on
 
@@ -56,9 +56,6 @@ module _ (message : ℕ → Message) (is_interleaved : Bool) (base : Bool → �
     abbrev place : ℕ
     place = place_of x.sender k
 
-    ordered_is : (b : Bool) → f.is_unordered ≡ b → ordered_of message place ≡ not b
-    ordered_is b e = sym (twice_not f.is_unordered (ordered_of message place) carries.kind) ∙ ap not e
-
     number_is : f.is_unordered ≡ true → number_read true f r.streams ≡ origin + x.sender.written place
     number_is e =
         ap (λ z. number_read z f r.streams) (sym e) ∙ (read.number_is
@@ -75,14 +72,14 @@ module _ (message : ℕ → Message) (is_interleaved : Bool) (base : Bool → �
       stream_kept s false e =
           still_near message base s x i (unordered_at r.streams s).near (unordered_at (add tsn f r).streams s).near
           (ap (λ z. (unordered_at z.streams s).near) (added_now message is_interleaved (shift_after r.first before k) x.sender r k tsn f carries read shown.mode at_once) ∙ ap (λ z. z.near) (ordered_leaves (number_of r tsn) f r.streams e s))
-          (λ n h on. elim (came_or_was n h) [ inr a ↦ a | inl q ↦ absurd (not_both (ordered_is false e) (ap (λ z. ordered_of message (place_of x.sender z)) (sym q) ∙ on.unordered)) ]) (near.streams s)
+          (λ n h on. elim (came_or_was n h) [ inr a ↦ a | inl q ↦ absurd (not_both (ordered_is f.is_unordered false (ordered_of message place) carries.kind e) (ap (λ z. ordered_of message (place_of x.sender z)) (sym q) ∙ on.unordered)) ]) (near.streams s)
       stream_kept s true e = elim (cases_eq s f.stream_id) [
         | inr d ↦
             still_near message base s x i (unordered_at r.streams s).near (unordered_at (add tsn f r).streams s).near
             (ap (λ z. (unordered_at z.streams s).near) (added_now message is_interleaved (shift_after r.first before k) x.sender r k tsn f carries read shown.mode at_once) ∙ ap (λ z. z.near) (near_off (number_of r tsn) f r.streams e (near_number e) s d))
             (λ n h on. elim (came_or_was n h) [ inr a ↦ a | inl q ↦ absurd (d (sym on.stream ∙ (ap (λ z. stream_of message (place_of x.sender z)) q ∙ sym carries.stream))) ]) (near.streams s)
         | inl q ↦
-            let here : IsOn message x.sender s k = record { numbered = carries.numbered; unordered = ordered_is true e; stream = sym carries.stream ∙ sym q } in
+            let here : IsOn message x.sender s k = record { numbered = carries.numbered; unordered = ordered_is f.is_unordered true (ordered_of message place) carries.kind e; stream = sym carries.stream ∙ sym q } in
             let n = number_is e in
             let own : base false s + x.sender.written place ≡ x.sender.number place =
             subst (λ z. base false z + x.sender.written place ≡ x.sender.number place) here.stream

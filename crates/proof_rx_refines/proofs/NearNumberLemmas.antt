@@ -23,7 +23,7 @@ use Rattle.proof_rx_refines.specs.Read.{Carries, StandsFor, StandForAll, number_
 use Rattle.proof_protocol.specs.Points.{AreApart}
 use Rattle.proof_rx_refines.specs.Refinement.{ReceiverRefines}
 use Rattle.proof_rx_refines.specs.Near.{IsWritten, IsEntry, AreEntries, AreFew, IsNearNext, AreNearNext}
-use Rattle.proof_rx_refines.proofs.KeyLemmas.{twice_not}
+use Rattle.proof_rx_refines.proofs.KeyLemmas.{ordered_is}
 
 -- ---- bounds
 
@@ -138,18 +138,15 @@ module _ (message : ℕ → Message) (is_interleaved : Bool) (base : Bool → �
     pub number_is_read : number_read f.is_unordered f r.streams ≡ origin + (wire_chunk message is_interleaved x.sender k).number
     number_is_read = go f.is_unordered refl
       where
-        kind : (b : Bool) → f.is_unordered ≡ b → ordered_of message place ≡ not b
-        kind b e = sym (twice_not f.is_unordered (ordered_of message place) carries.kind) ∙ ap not e
-
         go : (b : Bool) → f.is_unordered ≡ b → number_read b f r.streams ≡ origin + (wire_chunk message is_interleaved x.sender k).number
-        go false e = let o = kind false e in in_order o ∙ ap (λ z. origin + z) (sym (own_is (or_left (ordered_of message place) is_interleaved o)))
+        go false e = let o = ordered_is f.is_unordered false (ordered_of message place) carries.kind e in in_order o ∙ ap (λ z. origin + z) (sym (own_is (or_left (ordered_of message place) is_interleaved o)))
         go true e = by is_interleaved refl
           where
             by : (m : Bool) → is_interleaved ≡ m → number_read true f r.streams ≡ origin + (wire_chunk message is_interleaved x.sender k).number
             by true m = unordered m e ∙ ap (λ z. origin + z) (sym (own_is (or_right (ordered_of message place) is_interleaved m)))
             by false m =
                 ap (λ z. unordered_number z f (unordered_at r.streams f.stream_id)) (shown.mode ∙ m)
-                ∙ ap (λ z. origin + z) (sym (cond-false (ordered_of message place || is_interleaved) own 0 (ap (λ z. z || is_interleaved) (kind true e) ∙ m)))
+                ∙ ap (λ z. origin + z) (sym (cond-false (ordered_of message place || is_interleaved) own 0 (ap (λ z. z || is_interleaved) (ordered_is f.is_unordered true (ordered_of message place) carries.kind e) ∙ m)))
 
     pub number_is_below : AreFew x.sender → (wire_chunk message is_interleaved x.sender k).number < 2 ^ 62
     number_is_below few =

@@ -237,7 +237,7 @@ all_asked (id ∷ ids) q e =
       all_asked ids r (still_each Requested Paused id ids q e.1 e.2),
     )
 
-has_this : (k id : ℕ) (ids : List ℕ) → k ≡ id → has k (id ∷ ids) ≡ true
+pub has_this : (k id : ℕ) (ids : List ℕ) → k ≡ id → has k (id ∷ ids) ≡ true
 has_this k id ids e = or_left (k == id) (has k ids) (eq-eqb k id e)
 
 steps_others : (ids : List ℕ) (q : Queue) (k : ℕ) → IsAsked (each_stepped Requested ids q).streams k → (has k ids ≡ true) ⊎ IsAsked q.streams k

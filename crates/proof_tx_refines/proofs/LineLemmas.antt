@@ -9,14 +9,11 @@ use Rattle.std.proofs.lemmas.Bool.{cases_eq, and_parts, and_from, cond-true, con
 use Rattle.std.proofs.lemmas.Bool.Decides.{nat_tests}
 use Rattle.sctp_stream_scheduler.specs.Scheduler.{Times, Scheduler, finish_time, finish_now, is_active, leave, enter, set_bytes_remaining, accept, accepted_at, better, best, peek, stream_in}
 use Rattle.proof_protocol.proofs.ToolsLemmas.{not_both}
-use Rattle.proof_protocol.proofs.CommonLemmas.{is_less, is_greater, at_other}
+use Rattle.proof_protocol.proofs.CommonLemmas.{is_less, is_greater, at_other, same_at, at_itself}
 use Rattle.proof_tx_refines.specs.Line.{are_ascending}
 use Rattle.proof_tx_refines.proofs.FoundLemmas.{one_value}
 
 -- ---- finish times
-
-pub same_id : (a b : ℕ) → is_at (nat_cmp a) b ≡ true → b ≡ a
-same_id a b e = grind (arith, nat_tests)
 
 from_less : (least later : ℕ) (es : Times) → least ≤ later → are_ascending later es ≡ true → are_ascending least es ≡ true
 from_less least later [] l h = refl
@@ -49,7 +46,7 @@ leaves id least (e ∷ es) h =
     go true t a z =
         let l : remove_entry (is_at (nat_cmp id)) (e ∷ es) ≡ es = cond-true (is_at (nat_cmp id) e.0) es (e ∷ remove_entry (is_at (nat_cmp id)) es) t in
         let low = leb-true least e.0 a.0 in
-        let same = same_id id e.0 t in
+        let same = sym (same_at id e.0 t) in
         record {
           ascending = ap (are_ascending least) l ∙ from_less least (e.0 + 1) es (omega (arith, low)) a.1;
           removed = ap (finish_time id) l ∙ absent id (e.0 + 1) es (omega (arith, same)) a.1;
@@ -177,10 +174,7 @@ best_there b (c ∷ es) r e = elim (best_there (better b c) es r e) [
     there : c ≡ r → is_some (finish_time r.0 (c ∷ es)) ≡ true
     there s =
         subst (λ (z : ℕ × ℕ). is_some (finish_time z.0 (c ∷ es)) ≡ true) s
-        (ap (λ t. is_some (let o : Option ℕ = cond t (Some c.1) (finish_time c.0 es) in o)) (itself c.0))
-      where
-        itself : (k : ℕ) → is_at (nat_cmp k) k ≡ true
-        itself k = grind (arith, nat_tests)
+        (ap (λ t. is_some (let o : Option ℕ = cond t (Some c.1) (finish_time c.0 es) in o)) (at_itself c.0))
 
     by : (b : Option (ℕ × ℕ)) → better b c ≡ Some r → (b ≡ Some r) ⊎ (is_some (finish_time r.0 (c ∷ es)) ≡ true)
     by None f = inr (there (one_value (Some c) c r refl f))

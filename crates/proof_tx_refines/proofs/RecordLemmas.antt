@@ -3,6 +3,7 @@ use Rattle.std.proofs.Common.{◌≡◌, ℕ, Bool, true, false, not, inl, inr, 
 use Rattle.std.specs.Prelude.{◌==◌, ◌||◌}
 use Rattle.std.specs.List.{AllByRecursion}
 use Rattle.std.proofs.lemmas.Bool.{and_parts, and_from, cases_eq, eq-eqb, ne_eqb, false_from_ne_true, or_parts, not_from_false, not-true}
+use Rattle.std.proofs.Math.Bool.{or_comm}
 use Rattle.sctp_state.specs.Events.{GivenUp, Emitted}
 use Rattle.sctp_tx_queue.specs.Queue.{Queue}
 use Rattle.sctp_tx_outstanding.specs.Item.{Item, is_abandoned}
@@ -16,12 +17,6 @@ use Rattle.proof_tx_refines.specs.Records.{are_distinct, all_recorded, OneRecord
 use Rattle.proof_tx_refines.proofs.RestLemmas.{has_more, records_row}
 
 -- ---- distinct places
-
-or_swapped : (a b : Bool) → (a || b) ≡ (b || a)
-or_swapped true true = refl
-or_swapped true false = refl
-or_swapped false true = refl
-or_swapped false false = refl
 
 pub distinct_more : (ps qs : List ℕ) → are_distinct ps ≡ true → are_distinct qs ≡ true → ((p : ℕ) → has p qs ≡ true → has p ps ≡ false) → are_distinct (ps ++ qs) ≡ true
 distinct_more [] qs a b apart = b
@@ -92,7 +87,7 @@ module _ {P : Type 0} (message : ℕ → Message) (lifecycle : ℕ → Option �
     exact = λ p.
         records_row message is_interleaved x l.after l.places l.leads p
         ∙ (ap (λ b. has p l.places || b) (one.exact p)
-        ∙ (or_swapped (has p l.places) (has p (all_recorded taken emitted)) ∙ (sym (has_more p (all_recorded taken emitted) l.places) ∙ ap (has p) (sym all_more))));
+        ∙ (or_comm (has p l.places) (has p (all_recorded taken emitted)) ∙ (sym (has_more p (all_recorded taken emitted) l.places) ∙ ap (has p) (sym all_more))));
   }
 
 taken_row_all : (taken : List ℕ) (g : GivenUp) (rest gs : List GivenUp) → gs ≡ g ∷ rest

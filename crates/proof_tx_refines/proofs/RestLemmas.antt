@@ -7,6 +7,7 @@ use Rattle.std.specs.Ordering.{nat_cmp}
 use Rattle.std.specs.BTreeMap.{is_at}
 use Rattle.std.proofs.lemmas.Bool.{and_parts, false_from_ne_true}
 use Rattle.std.proofs.lemmas.Bool.Decides.{nat_tests}
+use Rattle.std.proofs.Math.Bool.{or_assoc}
 use Rattle.sctp_tx_queue.specs.Queue.{Queued, Queue, Stream, Entries, blank, has_nothing, is_empty}
 use Rattle.sctp_tx_outstanding.specs.Items.{Items}
 use Rattle.proof_protocol.specs.State.{Message, Transfer, has, stream_of}
@@ -59,11 +60,7 @@ rest_row message lifecycle is_interleaved x q s k sh empty none = rest_outgoing 
 
 pub has_more : (p : ℕ) (qs rs : List ℕ) → has p (qs ++ rs) ≡ (has p qs || has p rs)
 has_more p [] rs = refl
-has_more p (q ∷ qs) rs = ap (λ b. (p == q) || b) (has_more p qs rs) ∙ assoc (p == q) (has p qs) (has p rs)
-  where
-    assoc : (a b c : Bool) → (a || (b || c)) ≡ ((a || b) || c)
-    assoc true b c = refl
-    assoc false b c = refl
+has_more p (q ∷ qs) rs = ap (λ b. (p == q) || b) (has_more p qs rs) ∙ sym (or_assoc (p == q) (has p qs) (has p rs))
 
 module _ (message : ℕ → Message) (is_interleaved : Bool) where
   one_record : (e : Rule) (x : Transfer) (p : ℕ) → (after message is_interleaved x e).sender.given_up p ≡ (has p (given_up_by e) || x.sender.given_up p)

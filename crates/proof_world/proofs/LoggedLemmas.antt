@@ -3,6 +3,7 @@ use Rattle.std.proofs.Common.{◌≡◌, ℕ, ◌+◌, ◌<◌, ◌==◌, ◌||�
 use Rattle.std.specs.List.{flat_map, list_any}
 use Rattle.std.proofs.lemmas.Grind.{flat_map-append}
 use Rattle.std.proofs.lemmas.Bool.Decides.{nat_tests}
+use Rattle.std.proofs.lemmas.Bool.{ne_eqb}
 use Rattle.sctp_serial.specs.Messages.{Message}
 use Rattle.sctp_state.specs.declared.api.SocketState.{SocketState}
 use Rattle.sctp_state.specs.declared.api.errors.SendError.{SendError}
@@ -158,10 +159,7 @@ one_offer (Some e) m o = refl
 
 -- of several
 later_place : (p place : ℕ) (e : SendError) (rest : List (ℕ × SendError)) → p < place → list_any (λ (r : ℕ × SendError). r.0 == place) ((p, e) ∷ rest) ≡ list_any (λ (r : ℕ × SendError). r.0 == place) rest
-later_place p place e rest l = ap (λ (b : Bool). b || list_any (λ (r : ℕ × SendError). r.0 == place) rest) (differs p place l)
-  where
-    differs : (p place : ℕ) → p < place → (p == place) ≡ false
-    differs p place l = grind (arith, nat_tests, l)
+later_place p place e rest l = ap (λ (b : Bool). b || list_any (λ (r : ℕ × SendError). r.0 == place) rest) (ne_eqb p place (λ e. absurd (omega (arith, e, l))))
 
 unrefused_later : (p : ℕ) (e : SendError) (rest : List (ℕ × SendError)) (place : ℕ) (ms : List Message) → p < place → unrefused place ms ((p, e) ∷ rest) ≡ unrefused place ms rest
 unrefused_later p e rest place [] l = refl
