@@ -62,11 +62,13 @@ fn take_shutdown<C: Checksum>(
 fn answer_out_of_the_blue<C: Checksum>(context: &mut Context<C>, tag: u32) -> Result<(), AllocError>
     ensures { OnOk result (context_of C.word_of context.new ≡ table.out_of_the_blue tag (context_of C.word_of context.old)) }
 {
-    let mut packet = OutgoingPacket::new(context.alloc, tag, context.options.mtu);
-    packet.add(Chunk::ShutdownComplete(ShutdownCompleteChunk {
-        tag_reflected: true,
-    }))?;
-    context.emit(&mut packet)
+    let packet = OutgoingPacket::new(context.alloc, tag, context.options.mtu);
+    context.emit_in(
+        packet,
+        Chunk::ShutdownComplete(ShutdownCompleteChunk {
+            tag_reflected: true,
+        }),
+    )
 }
 
 /// The shutdown is complete: a chunk says so to the peer, and an event to the user.

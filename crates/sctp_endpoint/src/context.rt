@@ -5,7 +5,7 @@ ghost use Rattle.sctp_packet.specs.ChunkView.{chunk_tree};
 ghost use Rattle.sctp_state.specs.Events.{OnError, OnAborted, event_of};
 ghost use Rattle.sctp_state.specs.Options.{IsValid, options_of};
 ghost use Rattle.spec_endpoint.specs.Association.{context};
-ghost use Rattle.spec_endpoint.specs.Packets.{complain, emit, emit_chunk, empty_packet, new_packet, say};
+ghost use Rattle.spec_endpoint.specs.Packets.{add, complain, emit, emit_chunk, empty_packet, new_packet, say};
 ghost use Rattle.sctp_endpoint.specs.Views.{context_of, tcb_of};
 ghost use Rattle.spec_endpoint.specs.Wire.{writing};
 ghost use Rattle.spec_endpoint.specs.Shutdown as closing;
@@ -143,6 +143,14 @@ impl<C: Checksum> Context<C> {
         Ok(())
     }
 
+    /// A chunk goes out in this packet, behind those that it holds. A crate that calls this is spared the proof of how a packet goes.
+    pub fn emit_in(&mut self, mut packet: OutgoingPacket, chunk: Chunk) -> Result<(), AllocError>
+        ensures { OnOk result (context_of C.word_of self.new ≡ emit (add (chunk_tree chunk) packet) (context_of C.word_of self.old)) }
+    {
+        packet.add(chunk)?;
+        self.emit(&mut packet)
+    }
+
     /// A packet of one chunk goes out to the peer.
     pub fn emit_chunk(
         &mut self,
@@ -151,9 +159,8 @@ impl<C: Checksum> Context<C> {
     ) -> Result<(), AllocError>
         ensures { OnOk result (context_of C.word_of self.new ≡ emit_chunk (chunk_tree chunk) (tcb_of tcb.now) (context_of C.word_of self.old)) }
     {
-        let mut packet = tcb.new_packet(self.alloc, &self.options);
-        packet.add(chunk)?;
-        self.emit(&mut packet)
+        let packet = tcb.new_packet(self.alloc, &self.options);
+        self.emit_in(packet, chunk)
     }
 
     /// Emits an error.

@@ -47,8 +47,7 @@ impl<C: Checksum> Context<C> {
         ensures { OnOk result (context_of C.word_of self.new ≡ send_init tag initial_tsn.0 (context_of C.word_of self.old)) }
     {
         let chunk = make_init(self.alloc, &self.options, tag, initial_tsn)?;
-        let mut packet = OutgoingPacket::new(self.alloc, 0, self.options.mtu);
-        packet.add(chunk)?;
-        self.emit(&mut packet)
+        let packet = OutgoingPacket::new(self.alloc, 0, self.options.mtu);
+        self.emit_in(packet, chunk)
     }
 }

@@ -113,6 +113,14 @@ impl OutgoingPacket {
         Ok(())
     }
 
+    /// The packet with this chunk, or without it where it doesn't fit.
+    pub fn with(mut self, chunk: Chunk) -> Result<OutgoingPacket, AllocError>
+        ensures { IfOk result (λ packet. packet ≡ add (chunk_tree chunk) self) }
+    {
+        self.add(chunk)?;
+        Ok(self)
+    }
+
     /// Adds a chunk where it fits. The answer is whether it did.
     pub fn add_if_it_fits(&mut self, chunk: Chunk) -> Result<bool, AllocError>
         ensures test { IfOk result (λ has_fit. has_fit ≡ fits self.old (chunk_tree chunk)) }

@@ -259,10 +259,12 @@ fn send_missing_cookie<C: Checksum>(
             missing_parameter_types,
         },
     ))?;
-    let mut packet = OutgoingPacket::new(context.alloc, peer_tag, context.options.mtu / 4 * 4);
-    packet.add(Chunk::Abort(AbortChunk {
-        tag_reflected: false,
-        error_causes,
-    }))?;
-    context.emit(&mut packet)
+    let packet = OutgoingPacket::new(context.alloc, peer_tag, context.options.mtu / 4 * 4);
+    context.emit_in(
+        packet,
+        Chunk::Abort(AbortChunk {
+            tag_reflected: false,
+            error_causes,
+        }),
+    )
 }

@@ -171,6 +171,5 @@ pub fn send_init_ack<C: Checksum>(
     let agreed = agreed_with(&context.options, init);
     let mut packet = OutgoingPacket::new(context.alloc, init.initiate_tag, context.options.mtu);
     packet.write_checksum(!agreed.zero_checksum_enabled());
-    packet.add(chunk)?;
-    context.emit(&mut packet)
+    context.emit_in(packet, chunk)
 }
