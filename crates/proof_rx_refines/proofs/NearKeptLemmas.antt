@@ -1,6 +1,6 @@
 -- The MIDs of unordered streams stay near as the rules go on.
 use Rattle.std.proofs.Common.{◌≡◌, ◌≢◌, ℕ, zero, suc, ◌+◌, ◌-◌, ◌<◌, ◌≤◌, Bool, true, false, ◌⊎◌, inl, inr, Option, List, refl, sym, ap, ◌∙◌, subst, arith}
-use Rattle.std.specs.Prelude.{◌||◌, not, nat_lt}
+use Rattle.std.specs.Prelude.{◌||◌, nat_lt}
 use Rattle.std.proofs.lemmas.Bool.{cases_eq, cases_lt, cond-true, or_cases, or_right, ltb-true, false≢true}
 use Rattle.sctp_serial.specs.Messages as messages
 use Rattle.sctp_serial.specs.Unwrapped.{origin}
