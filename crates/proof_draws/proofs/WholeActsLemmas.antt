@@ -12,7 +12,7 @@ use Rattle.sctp_packet.specs.Chunk.{ChunkTree, InitTree, init_chunk, init_ack_ch
 use Rattle.sctp_state.specs.Events.{Event, SendPacket, OnConnected, OnError, OnClosed, OnStreamsResetPerformed, OnStreamsResetFailed, Emitted, silent}
 use Rattle.sctp_state.specs.Options.{Options, SendOptions}
 use Rattle.sctp_capabilities.specs.Capabilities.{announce, negotiate, agreed}
-use Rattle.sctp_capabilities.proofs.CapabilitiesLemmas.{negotiated_told_by_init}
+use Rattle.sctp_capabilities.proofs.CapabilitiesLemmas.{negotiated_by_init}
 use Rattle.sctp_tx_queue.specs.declared.send_queue.stream.ResetStep.TheVariants.{Requested, Performed, Refused}
 use Rattle.sctp_tx_queue.specs.Queue.{Queue}
 use Rattle.sctp_tx_queue.specs.Resets.{requested_streams}
@@ -133,7 +133,7 @@ module _ (g : Setting) (call : Call) (r : Rules g call) (receives : (tag : ℕ) 
   asked_for m tag i h inv =
       let said : IsInit g.other (view_of g.beside) tag i = init_said g call r tag i m h inv in
       ap (λ (o : Options). agreed_by o i) inv.options
-      ∙ (ap (λ (j : InitTree). agreed_by g.own j) said.is ∙ negotiated_told_by_init g.own g.other)
+      ∙ (ap (λ (j : InitTree). agreed_by g.own j) said.is ∙ negotiated_by_init g.own g.other)
 
   summed_so : (m : EndWithPacket Carried) (p : Packet) → InvAt g m → WholeAt m → IsSummedSo call m p → Passes method p.is_summed
   summed_so m p inv h (always e) none = absurd (both_ways true (sym e ∙ none) refl)

@@ -35,7 +35,7 @@ use Rattle.sctp_tx_queue.specs.TakenUp.{is_numbered_as_sent}
 use Rattle.sctp_tx_queue.specs.Again as queue_again
 use Rattle.sctp_tx_queue.specs.Readiness as queued
 use Rattle.sctp_tx_queue.proofs.AgainLemmas as queue_back
-use Rattle.sctp_tx_queue.proofs.InOrderLemmas.{hears_mode}
+use Rattle.sctp_tx_queue.proofs.InOrderLemmas.{set_bytes_mode}
 use Rattle.sctp_tx_queue.proofs.TakenUpLemmas.{restored_in_order, written_as_sent}
 use Rattle.sctp_tx.specs.Handover as sender
 use Rattle.spec_endpoint.specs.Association.{Tcb, Context, Packing}
@@ -195,7 +195,7 @@ reception_back t c k = record {
 
 pub received_mode : (ids : List ℕ) (ss : Streams) (s : Scheduler) → (each_scheduled ids ss s).is_interleaved ≡ s.is_interleaved
 received_mode [] ss s = refl
-received_mode (id ∷ ids) ss s = received_mode ids ss _ ∙ hears_mode id _ _ s
+received_mode (id ∷ ids) ss s = received_mode ids ss _ ∙ set_bytes_mode id _ _ s
 
 module _ (t : Tcb) (c : Context (List ℕ)) (pack : Packing (List ℕ)) (random : Words) (k : IsConnected t c) (q : IsQueue c.queue) (f : Fits t c.queue) where
   queue_back_again : QueueComesBack c.now c.options.default_stream_buffered_amount_low_threshold c.queue (context_again t c pack random).queue

@@ -97,9 +97,9 @@ module _ {P : Type 0} (l : ℕ) where
     lives_packets act = same (before_packets act)
 
     lives_opening : (act : OpeningAct P call) → Lives (before_opening act) (after_opening act)
-    lives_opening (echoes tag i cookie my_tag first t1 m heard brought) =
+    lives_opening (echoes tag i cookie my_tag first t1 m received brought) =
         requeued (queue_anew (agreed_by m.context.options i).message_interleaving m.context.queue) (in_state Closed m) (waiting_reset l m.context.queue)
-    lives_opening (establishes tag t1 cookie t m heard) = said OnConnected (in_open Established t m) refl
+    lives_opening (establishes tag t1 cookie t m received) = said OnConnected (in_open Established t m) refl
     lives_opening (opens tag k m echoed none own) = opened false k m
     lives_opening (restarts tag k phase t m echoed verdict) =
         let a : EndWithPacket P = in_open phase t m in
@@ -113,11 +113,11 @@ module _ {P : Type 0} (l : ℕ) where
     lives_closing act = same (before_closing act)
 
     lives_data : (act : DataAct P call) → Lives (before_data act) (after_data act)
-    lives_data (takes_data tag tsn is_immediate f phase t m heard right some takes) = same (in_open phase t m)
+    lives_data (takes_data tag tsn is_immediate f phase t m received right some takes) = same (in_open phase t m)
     lives_data act = same (before_data act)
 
     lives_sack : (act : SackAct P call) → Lives (before_sack act) (after_sack act)
-    lives_sack (takes_sack tag k phase t m heard valid) =
+    lives_sack (takes_sack tag k phase t m received valid) =
         kept_on (waits l m.context) (spends_sack l true m.context.now (point_of k t) k.a_rwnd (clean_blocks k.gap_ack_blocks) t.sender m.context.emitted)
     lives_sack act = same (before_sack act)
 

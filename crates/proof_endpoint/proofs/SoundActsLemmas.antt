@@ -53,7 +53,7 @@ pub record Start (P : Type 0) : Type 0 where
   pub most : ℕ
   pub past : List (Event P)
 
-pub record Tells {P : Type 0} (g : Start P) (es : List (Event P)) : Type 0 where
+pub record EmittedSince {P : Type 0} (g : Start P) (es : List (Event P)) : Type 0 where
   pub events : List (Event P)
   pub behind : es ≡ g.past ++ events
   pub can_be_read : All (CanBeRead g.pack g.most) events
@@ -63,7 +63,7 @@ pub record Sound {P : Type 0} (g : Start P) (o : Options) (pack : Packing P) (q 
   pub mtu : o.mtu ≡ g.most
   pub packing : pack ≡ g.pack
   pub queue : FitsQueue q
-  pub tells : Tells g es
+  pub since : EmittedSince g es
   pub state : FitsState s
   pub packet : IsGood g.most p
 
@@ -77,16 +77,16 @@ event_quiet pack most e w = tt
 
 module _ {P : Type 0} {g : Start P} {o : Options} {pack : Packing P} {q : Queue} {es : List (Event P)} {s : State} {p : Packet} (h : Sound g o pack q es s p) where
   pub in_the_state : (t : State) → FitsState t → Sound g o pack q es t p
-  in_the_state t f = record { options = h.options; mtu = h.mtu; packing = h.packing; queue = h.queue; tells = h.tells; state = f; packet = h.packet }
+  in_the_state t f = record { options = h.options; mtu = h.mtu; packing = h.packing; queue = h.queue; since = h.since; state = f; packet = h.packet }
 
   pub with_the_packet : (r : Packet) → IsGood g.most r → Sound g o pack q es s r
-  with_the_packet r f = record { options = h.options; mtu = h.mtu; packing = h.packing; queue = h.queue; tells = h.tells; state = h.state; packet = f }
+  with_the_packet r f = record { options = h.options; mtu = h.mtu; packing = h.packing; queue = h.queue; since = h.since; state = h.state; packet = f }
 
   with_the_queue : (r : Queue) → FitsQueue r → Sound g o pack r es s p
-  with_the_queue r f = record { options = h.options; mtu = h.mtu; packing = h.packing; queue = f; tells = h.tells; state = h.state; packet = h.packet }
+  with_the_queue r f = record { options = h.options; mtu = h.mtu; packing = h.packing; queue = f; since = h.since; state = h.state; packet = h.packet }
 
   with_the_options : (r : Options) → OptionsFit r → r.mtu ≡ o.mtu → Sound g r pack q es s p
-  with_the_options r f e = record { options = f; mtu = e ∙ h.mtu; packing = h.packing; queue = h.queue; tells = h.tells; state = h.state; packet = h.packet }
+  with_the_options r f e = record { options = f; mtu = e ∙ h.mtu; packing = h.packing; queue = h.queue; since = h.since; state = h.state; packet = h.packet }
 
   telling : (more now : List (Event P)) → now ≡ es ++ more → All (CanBeRead g.pack g.most) more → Sound g o pack q now s p
   telling more now behind can = record {
@@ -94,10 +94,10 @@ module _ {P : Type 0} {g : Start P} {o : Options} {pack : Packing P} {q : Queue}
     mtu = h.mtu;
     packing = h.packing;
     queue = h.queue;
-    tells = record {
-      events = h.tells.events ++ more;
-      behind = behind ∙ (ap (λ (fs : List (Event P)). fs ++ more) h.tells.behind ∙ append_assoc g.past h.tells.events more);
-      can_be_read = All-append (CanBeRead g.pack g.most) h.tells.events more h.tells.can_be_read can;
+    since = record {
+      events = h.since.events ++ more;
+      behind = behind ∙ (ap (λ (fs : List (Event P)). fs ++ more) h.since.behind ∙ append_assoc g.past h.since.events more);
+      can_be_read = All-append (CanBeRead g.pack g.most) h.since.events more h.since.can_be_read can;
     };
     state = h.state;
     packet = h.packet;

@@ -154,7 +154,7 @@ module _ {P : Type 0} where
         mtu = refl;
         packing = refl;
         queue = h.queue;
-        tells = record { events = []; behind = sym (append-nil s.endpoint_state.context.emitted.events); can_be_read = All-nil (CanBeRead _ _) };
+        since = record { events = []; behind = sym (append-nil s.endpoint_state.context.emitted.events); can_be_read = All-nil (CanBeRead _ _) };
         state = h.state;
         packet = record { small = small_empty s.endpoint_state.context.options.mtu nothing h.options.mtu_least (omega arith) refl; tag = zero_small; chunks = tt };
       }
@@ -163,8 +163,8 @@ module _ {P : Type 0} where
   sound_of : (g : Start P) (t : Endpoint P) → SoundAt g (calm t) → IsSound t
   sound_of g t h = record { options = h.options; queue = h.queue; state = h.state }
 
-  told_of : (s t : Endpoint P) → SoundAt (start_of s) (calm t) → EmitsWhatCanBeRead s.endpoint_state.context t.endpoint_state.context
-  told_of s t h = record { events = h.tells.events; behind = h.tells.behind; can_be_read = h.tells.can_be_read }
+  emitted_of : (s t : Endpoint P) → SoundAt (start_of s) (calm t) → EmitsWhatCanBeRead s.endpoint_state.context t.endpoint_state.context
+  emitted_of s t h = record { events = h.since.events; behind = h.since.behind; can_be_read = h.since.can_be_read }
 
   pub is_new : (o : Options) (pack : Packing P) (words : Stream) → OptionsFit o → IsSound (fresh o pack words)
   is_new o pack words f = record { options = f; queue = tt; state = tt }
@@ -173,7 +173,7 @@ module _ {P : Type 0} where
   stays_sound call s h f = sound_of (start_of s) (called call s) (of_call (start_of s) call s f (starts s h))
 
   pub can_be_read : (call : Call) (s : Endpoint P) → IsSound s → ArgumentFits call → EmitsWhatCanBeRead s.endpoint_state.context (called call s).endpoint_state.context
-  can_be_read call s h f = told_of s (called call s) (of_call (start_of s) call s f (starts s h))
+  can_be_read call s h f = emitted_of s (called call s) (of_call (start_of s) call s f (starts s h))
 
   -- ---- a packet that is refused
 
@@ -189,7 +189,7 @@ module _ {P : Type 0} where
 
   pub can_be_read_refused : (p : PacketTree) (text : List ℕ) (s : Endpoint P) → IsSound s → refusal p.header.verification_tag p.chunks s.endpoint_state.state ≡ Some text
       → EmitsWhatCanBeRead s.endpoint_state.context (on_packet p s).endpoint_state.context
-  can_be_read_refused p text s h e = told_of s (on_packet p s) (refused p text s h e)
+  can_be_read_refused p text s h e = emitted_of s (on_packet p s) (refused p text s h e)
 
 -- ---- packets as the chunks that were put together
 

@@ -31,7 +31,7 @@ module _ (word_of : List ℕ → ℕ) (most : ℕ) (m : most ≤ 65535) where
   received_as bytes p e r = record {
     spelled = e;
     received = λ s lets. subst (λ (b : List ℕ). Receives word_of b s (on_packet (as_received word_of p) s)) (sym e) (written_received word_of p s (hearable s.endpoint_state.context.options most p m r lets));
-    alone = λ s t lets hears. written_alone word_of p s t (hearable s.endpoint_state.context.options most p m r lets) (subst (λ (b : List ℕ). Receives word_of b s t) e hears);
+    alone = λ s t lets set_sendable. written_alone word_of p s t (hearable s.endpoint_state.context.options most p m r lets) (subst (λ (b : List ℕ). Receives word_of b s t) e set_sendable);
   }
 
   event_received : (e : Event (List ℕ)) → CanBeRead (writing word_of) most e → CanBeReceived word_of e

@@ -18,7 +18,7 @@ use Rattle.sctp_rx.specs.ReassemblyQueue.{Reassembly}
 use Rattle.sctp_tx_queue.specs.declared.send_queue.stream.ResetStep.TheVariants.{Requested, Performed, Refused}
 use Rattle.sctp_tx_queue.specs.Queue.{Queued, Queue, push, stream}
 use Rattle.sctp_tx_queue.specs.Resets.{requested_streams}
-use Rattle.sctp_tx_queue.proofs.InOrderLemmas.{added_in_order, hears_mode}
+use Rattle.sctp_tx_queue.proofs.InOrderLemmas.{added_in_order, set_bytes_mode}
 use Rattle.sctp_tx_queue.proofs.RestLemmas.{calls_leave_rests}
 use Rattle.spec_endpoint.specs.Association.{Tcb, Phase, CookieEchoed, Established, State, Closed, CookieWait, Open, Context}
 use Rattle.spec_endpoint.specs.Packets.{say, room}
@@ -302,7 +302,7 @@ module _ (once : CallsNumberOnce) (made : MadeConnected) (call : Call) (fits : H
   keeps_calls : (act : CallAct (List ℕ) call) → R (before_call act) (after_call act)
   keeps_calls (accepts message o m offered fine) = record {
     asked = λ h. record {
-      association = associated_on m.state m.context (accept message o m.context) (hears_mode message.stream _ _ m.context.queue.scheduler) refl h.association;
+      association = associated_on m.state m.context (accept message o m.context) (set_bytes_mode message.stream _ _ m.context.queue.scheduler) refl h.association;
       queued = accepted_ordered message o m.state m.context fine h.queued;
     };
     numbers = λ q. absurd (q.none message o offered);

@@ -11,7 +11,7 @@ use Rattle.sctp_state.specs.Options.{Options}
 use Rattle.sctp_state.specs.Timers.{Timer}
 use Rattle.sctp_capabilities.specs.Capabilities.{where_enabled, announce, announced_by, negotiate, agreed, extensions_in, method_in, is_forward_tsn_supported, has_type, forward_tsn, i_data, re_config}
 use Rattle.sctp_capabilities.specs.Cookie.{Cookie, CapabilitiesFit, CookieFits, cookie_bytes, read_cookie}
-use Rattle.sctp_capabilities.proofs.CapabilitiesLemmas.{announced_with_options, negotiated_told_by_init, negotiated_told_by_init_ack}
+use Rattle.sctp_capabilities.proofs.CapabilitiesLemmas.{announced_with_options, negotiated_by_init, negotiated_by_init_ack}
 use Rattle.sctp_capabilities.proofs.CookieLemmas.{both_tags, read_cookie_bytes}
 use Rattle.sctp_state.specs.Events.{Event, OnConnected}
 use Rattle.spec_endpoint.specs.Association.{Identity, Tcb, Phase, CookieEchoed, Closed, CookieWait, Open, Packing}
@@ -200,7 +200,7 @@ module _ (g : Setting) (call : Call) (r : Rules g call) where
         ap (λ (z : Options). agreed_by z i) e
         ∙ (ap (λ (j : InitTree). agreed_by g.own j) is
         ∙ (ap (negotiate g.own) (emitted_with_cookie o.announced_maximum_outgoing_streams o.announced_maximum_incoming_streams (announce o method) made)
-        ∙ negotiated_told_by_init_ack g.own g.other))
+        ∙ negotiated_by_init_ack g.own g.other))
 
   pub does_echoes : (tag : ℕ) (i : InitTree) (cookie : List ℕ) (my_tag first : ℕ) (t1 : Timer) (m : EndWithPacket Carried) (h : IsReceived call tag (init_ack_chunk i))
       (brought : cookie_in i.parameters ≡ Some cookie) → InvAt g (before_opening (echoes tag i cookie my_tag first t1 m h brought))
@@ -264,7 +264,7 @@ module _ (g : Setting) (call : Call) (r : Rules g call) where
       let opened : u.is_opened ≡ true = said.opened in
       let can : negotiate os k.peer_capabilities ≡ agreed g.own g.other =
       ap (λ (z : Options). negotiate z k.peer_capabilities) inv.options
-      ∙ (ap (λ (z : Cookie). negotiate g.own z.peer_capabilities) is ∙ negotiated_told_by_init g.own g.other) in
+      ∙ (ap (λ (z : Cookie). negotiate g.own z.peer_capabilities) is ∙ negotiated_by_init g.own g.other) in
       inv_view g v os pack es tag cs inv w (OnConnected ∷ []) (es ++ OnConnected ∷ []) refl refl (λ e. cc) (λ e. refl)
       (record {
         mine = λ x e. ap (λ (z : Draw). Some z) (own_is ∙ sym (faced_at u.holds b x said.holds (subst (λ (z : Option Draw). Faces u.holds z) e inv.stands.faced)));

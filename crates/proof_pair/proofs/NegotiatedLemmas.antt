@@ -10,7 +10,7 @@ use Rattle.sctp_capabilities.specs.declared.state_cookie.StateCookieError.{State
 use Rattle.sctp_capabilities.specs.Capabilities.{Capabilities, announce, announced_by, negotiate, agreed, announced_with, announced_by_init}
 use Rattle.sctp_capabilities.specs.Cookie.{Cookie, CapabilitiesFit, SpellsCapabilities, flag_byte, is_set, capability_bytes, cookie_bytes, cookie_from, check_cookie, read_cookie}
 use Rattle.sctp_state.specs.Options.{Options}
-use Rattle.sctp_capabilities.proofs.CapabilitiesLemmas.{announced_with_options, negotiated_told_by_init, negotiated_told_by_init_ack}
+use Rattle.sctp_capabilities.proofs.CapabilitiesLemmas.{announced_with_options, negotiated_by_init, negotiated_by_init_ack}
 use Rattle.sctp_capabilities.proofs.CookieLemmas.{cookie_from_spelled}
 use Rattle.sctp_tx.specs.Retransmission.{Sender}
 use Rattle.sctp_tx.specs.ForwardPoints.{chunk_if}
@@ -148,12 +148,12 @@ emits_back o q i tag first tie fine said =
     let bytes : List ℕ = cookie_bytes made in
     record {
       can = ap (negotiate q) (emitted_with_cookie o.announced_maximum_outgoing_streams o.announced_maximum_incoming_streams (announce o method) bytes)
-          ∙ (ap (λ (k : Capabilities). negotiate q (announced_with (negotiate o k).zero_checksum_method o)) said ∙ negotiated_told_by_init_ack q o);
+          ∙ (ap (λ (k : Capabilities). negotiate q (announced_with (negotiate o k).zero_checksum_method o)) said ∙ negotiated_by_init_ack q o);
       cookie = λ c brought k reads.
           let same : bytes ≡ c = same_Some bytes c (sym (cookie_found o method bytes) ∙ brought) in
           let is : k.peer_capabilities ≡ made.peer_capabilities =
           reads_emitted made k (subst CapabilitiesFit (sym said) (emitted_fits q fine)) (ap read_cookie same ∙ reads) in
-          ap (negotiate o) (is ∙ said) ∙ negotiated_told_by_init o q;
+          ap (negotiate o) (is ∙ said) ∙ negotiated_by_init o q;
     }
 
 -- a forward point is sent where both ends know them

@@ -19,7 +19,7 @@ use Rattle.sctp_tx_queue.specs.Resets.{prepare_reset, step_stream, each_stepped}
 use Rattle.sctp_tx_queue.specs.Restarted.{restarted_one, each_restarted, reset}
 use Rattle.sctp_tx_queue.specs.InOrder.{IsInOrder, HasRests}
 use Rattle.sctp_tx_queue.proofs.AgainLemmas.{AreAbove, are_above}
-use Rattle.sctp_tx_queue.proofs.InOrderLemmas.{hears_mode, threshold_in_order, priority_in_order, prepared_in_order, steps_in_order, produced_in_order, discarded_in_order}
+use Rattle.sctp_tx_queue.proofs.InOrderLemmas.{set_bytes_mode, threshold_in_order, priority_in_order, prepared_in_order, steps_in_order, produced_in_order, discarded_in_order}
 use Rattle.sctp_tx_queue.proofs.RestLemmas.{calls_leave_rests}
 use Rattle.sctp_tx.specs.Sending.{Filling, offered_payload, append, turned_if, next_turn, fill, discard_all, filled_with, send, without_discards}
 use Rattle.sctp_tx.specs.Retransmission.{Sender}
@@ -99,8 +99,8 @@ accept_mode id s = go (finish_time id s.times)
     go (Some f) = refl
 
 line_mode : (id bytes priority : ℕ) (made : Option Produced) (s : Scheduler) → (in_line id bytes priority made s).is_interleaved ≡ s.is_interleaved
-line_mode id bytes priority None s = hears_mode id 0 0 s
-line_mode id bytes priority (Some made) s = hears_mode id bytes priority (accept id s) ∙ accept_mode id s
+line_mode id bytes priority None s = set_bytes_mode id 0 0 s
+line_mode id bytes priority (Some made) s = set_bytes_mode id bytes priority (accept id s) ∙ accept_mode id s
 
 module _ {P : Type 0} where
   shape_action : (now id size : ℕ) (q : Queue) (t : Emitted P) → Shape q (turn now id size q t).queue
@@ -133,7 +133,7 @@ module _ {P : Type 0} where
   discard_shape : (id : ℕ) (ss : Streams) (o : Option (Option ℕ)) (q : Queue) (t : Emitted P) → (AreSorted q.streams.entries → AreSorted ss.entries)
       → Shape q (discard_from id ss o q t).queue
   discard_shape id ss None q t f = record { sorted = f; mode = refl; next = refl }
-  discard_shape id ss (Some lifecycle) q t f = record { sorted = f; mode = hears_mode id _ _ q.scheduler; next = refl }
+  discard_shape id ss (Some lifecycle) q t f = record { sorted = f; mode = set_bytes_mode id _ _ q.scheduler; next = refl }
 
   shape_discarded : (id number : ℕ) (q : Queue) (t : Emitted P) → Shape q (discard id number q t).queue
   shape_discarded id number q t =
@@ -145,14 +145,14 @@ shape_steps : (step : ResetStep) (ids : List ℕ) (q : Queue) → Shape q (each_
 shape_steps step [] q = shape_same q
 shape_steps step (id ∷ ids) q =
     let r : Queue = step_stream step id q in
-    shape_then q r (each_stepped step ids r) (record { sorted = put_sorted id _ q.streams; mode = hears_mode id _ _ q.scheduler; next = refl })
+    shape_then q r (each_stepped step ids r) (record { sorted = put_sorted id _ q.streams; mode = set_bytes_mode id _ _ q.scheduler; next = refl })
     (shape_steps step ids r)
 
 shape_restarted : (ids : List ℕ) (q : Queue) → Shape q (each_restarted ids q)
 shape_restarted [] q = shape_same q
 shape_restarted (id ∷ ids) q =
     let r : Queue = restarted_one id q in
-    shape_then q r (each_restarted ids r) (record { sorted = put_sorted id _ q.streams; mode = hears_mode id _ _ q.scheduler; next = refl })
+    shape_then q r (each_restarted ids r) (record { sorted = put_sorted id _ q.streams; mode = set_bytes_mode id _ _ q.scheduler; next = refl })
     (shape_restarted ids r)
 
 -- ---- all that is asked of the queue
@@ -212,7 +212,7 @@ module _ (once : CallsNumberOnce) where
   pub goes_prepared : (id : ℕ) (q : Queue) (t : Emitted (List ℕ)) → Goes q (prepare_reset id q t).queue
   goes_prepared id q t =
       goes_by q (prepare_reset id q t).queue (prepared_in_order id q t) (calls_leave_rests.prepared id q t) (once.prepared id q t)
-      (record { sorted = put_opened_sorted id _ q.streams; mode = hears_mode id _ _ q.scheduler; next = refl })
+      (record { sorted = put_opened_sorted id _ q.streams; mode = set_bytes_mode id _ _ q.scheduler; next = refl })
 
   pub goes_steps : (step : ResetStep) (ids : List ℕ) (q : Queue) → Goes q (each_stepped step ids q)
   goes_steps step ids q =

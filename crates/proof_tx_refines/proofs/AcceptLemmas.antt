@@ -17,7 +17,7 @@ use Rattle.sctp_tx_queue.specs.Queue as queue
 use Rattle.sctp_tx_queue.specs.Queue.{expiry_of, Queued, Queue, Stream, Streams, blank, open_stream, push, stream, add}
 use Rattle.sctp_tx_queue.specs.Settings.{with_threshold, with_priority, set_priority, set_low_threshold}
 use Rattle.sctp_tx_queue.specs.InOrder.{IsInOrder, IsNumbered, HasRests}
-use Rattle.sctp_tx_queue.proofs.InOrderLemmas.{hears_mode, opened_same, added_in_order, priority_in_order, threshold_in_order, put_elsewhere}
+use Rattle.sctp_tx_queue.proofs.InOrderLemmas.{set_bytes_mode, opened_same, added_in_order, priority_in_order, threshold_in_order, put_elsewhere}
 use Rattle.sctp_tx_queue.proofs.NumberLemmas.{calls_number}
 use Rattle.sctp_tx_queue.proofs.RestLemmas.{calls_leave_rests}
 use Rattle.sctp_tx_queue.proofs.StreamsLemmas.{stream_put}
@@ -193,7 +193,7 @@ module _ (message : ℕ → Message) (lifecycle : ℕ → Option ℕ) (is_interl
     pub accept_row : SenderRefines message lifecycle is_interleaved (after message is_interleaved x accept) later s
     accept_row = record {
       queue = record {
-        mode = hears_mode id _ _ q.scheduler ∙ sh.queue.mode;
+        mode = set_bytes_mode id _ _ q.scheduler ∙ sh.queue.mode;
         order = added_in_order id m q refl sh.queue.order;
         rising = calls_number.added id m q (sym sh.queue.accepted) (subst (λ n. n + 1 < 2 ^ 32) (sym sh.queue.accepted) few) sh.queue.rising;
         rests = calls_leave_rests.added id m q (lt-ltb 0 (length (message p).payload) some) sh.queue.rests;

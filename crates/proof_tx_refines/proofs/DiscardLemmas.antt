@@ -9,7 +9,7 @@ use Rattle.sctp_tx_queue.specs.Queue.{Queued, Queue, Stream, Streams, stream}
 use Rattle.sctp_tx_queue.specs.Produced.{settle_pause}
 use Rattle.sctp_tx_queue.specs.Settings.{front_discarded, without_front, streams_discarded, discard_from, discard}
 use Rattle.sctp_tx_queue.specs.InOrder.{IsNumbered, HasRests, is_waiting, is_begun_or_waiting, are_in_order, are_rising}
-use Rattle.sctp_tx_queue.proofs.InOrderLemmas.{hears_mode, put_elsewhere, discard_streams, discarded_in_order}
+use Rattle.sctp_tx_queue.proofs.InOrderLemmas.{set_bytes_mode, put_elsewhere, discard_streams, discarded_in_order}
 use Rattle.sctp_tx_queue.proofs.NumberLemmas.{calls_number}
 use Rattle.sctp_tx_queue.proofs.RestLemmas.{calls_leave_rests}
 use Rattle.sctp_tx_outstanding.specs.Items.{Discard}
@@ -47,7 +47,7 @@ module _ {P : Type 0} (message : ℕ → Message) (lifecycle : ℕ → Option �
     where
       go : (f : Option (Option ℕ)) → (discard_from id (streams_discarded id number q.streams) f q emitted).queue.scheduler.is_interleaved ≡ q.scheduler.is_interleaved
       go None = refl
-      go (Some l) = hears_mode id _ _ q.scheduler
+      go (Some l) = set_bytes_mode id _ _ q.scheduler
 
   count_stays : after.next_number ≡ q.next_number
   count_stays = go (front_discarded number s0.messages)

@@ -6,12 +6,12 @@ use Rattle.sctp_state.specs.Events.{Emitted}
 use Rattle.sctp_stream_scheduler.specs.Scheduler.{Scheduler, is_active, accept, peek}
 use Rattle.sctp_tx_queue.specs.declared.send_queue.stream.ResetStep.{ResetStep}
 use Rattle.sctp_tx_queue.specs.Queue as queue
-use Rattle.sctp_tx_queue.specs.Queue.{Queued, Queue, Stream, Streams, stream, add, push, open_stream, is_stopped, front_left, sendable, hears}
+use Rattle.sctp_tx_queue.specs.Queue.{Queued, Queue, Stream, Streams, stream, add, push, open_stream, is_stopped, front_left, sendable, set_sendable}
 use Rattle.sctp_tx_queue.specs.Produced.{Produced, Turn, settle_pause, without_stale, streams_without_stale, streams_after, advance, next_fragment, in_line, begun_by, turn, next_stream, produce_within, produce}
 use Rattle.sctp_tx_queue.specs.Settings.{with_threshold, with_priority, set_priority, set_low_threshold, front_discarded, without_front, streams_discarded, begun_without, discard_from, discard}
 use Rattle.sctp_tx_queue.specs.Resets.{prepare_stream, prepare_reset, step_stream, each_stepped}
 use Rattle.sctp_tx_queue.specs.InOrder.{is_this, IsInOrder, IsNumbered}
-use Rattle.sctp_tx_queue.proofs.InOrderLemmas.{hears_mode, put_elsewhere, turn_in_order}
+use Rattle.sctp_tx_queue.proofs.InOrderLemmas.{set_bytes_mode, put_elsewhere, turn_in_order}
 use Rattle.sctp_tx_queue.proofs.NumberLemmas.{turn_numbered}
 use Rattle.sctp_tx_queue.proofs.ProduceLemmas.{idles, gives, turned}
 use Rattle.proof_protocol.specs.Resets.{Epochs}
@@ -47,12 +47,12 @@ in_line_by q r id bytes sch h after_set still elsewhere here whole = record {
   whole = whole;
 }
 
-pub received_line : (q r : Queue) (id : ℕ) (s : Stream) → IsInLine q → r.scheduler ≡ hears id s q.scheduler → stream id r.streams ≡ s
+pub received_line : (q r : Queue) (id : ℕ) (s : Stream) → IsInLine q → r.scheduler ≡ set_sendable id s q.scheduler → stream id r.streams ≡ s
     → ((k : ℕ) → k ≢ id → stream k r.streams ≡ stream k q.streams) → (q.begun ≡ None → r.begun ≡ None) → IsInLine r
 received_line q r id s h same here elsewhere none =
     in_line_by q r id (sendable s) q.scheduler h (subst (λ (z : Scheduler). AfterSetBytes id (sendable s) q.scheduler z) (sym same) (after_set_bytes id (sendable s) s.priority q.scheduler h.ascending))
     (λ k d t. t) elsewhere (λ e. ap (λ (z : Stream). is_stopped z.pause) here ∙ sendable_flows s e)
-    (λ m. none (h.whole (sym (ap (λ (z : Scheduler). z.is_interleaved) same ∙ hears_mode id (sendable s) s.priority q.scheduler) ∙ m)))
+    (λ m. none (h.whole (sym (ap (λ (z : Scheduler). z.is_interleaved) same ∙ set_bytes_mode id (sendable s) s.priority q.scheduler) ∙ m)))
 
 pub same_line : (q r : Queue) → r.scheduler ≡ q.scheduler → r.begun ≡ q.begun → ((k : ℕ) → (stream k r.streams).pause ≡ (stream k q.streams).pause) → IsInLine q → IsInLine r
 same_line q r sch begun pauses h = record {

@@ -8,7 +8,7 @@ use Rattle.sctp_state.specs.Events.{Emitted, silent}
 use Rattle.sctp_tx_queue.specs.Queue.{Queued, Queue, Stream, stream}
 use Rattle.sctp_tx_queue.specs.InOrder.{is_waiting, is_begun_or_waiting, are_in_order, are_rising}
 use Rattle.sctp_tx_queue.specs.Resets.{is_partly, prepare_stream, prepare_reset}
-use Rattle.sctp_tx_queue.proofs.InOrderLemmas.{hears_mode, prepared_in_order}
+use Rattle.sctp_tx_queue.proofs.InOrderLemmas.{set_bytes_mode, prepared_in_order}
 use Rattle.sctp_tx_queue.proofs.NumberLemmas.{calls_number}
 use Rattle.sctp_tx_queue.proofs.RestLemmas.{calls_leave_rests}
 use Rattle.sctp_tx_outstanding.specs.Items.{Items}
@@ -219,7 +219,7 @@ module _ {P : Type 0} (message : ℕ → Message) (lifecycle : ℕ → Option �
         kept = e.kept_is;
         refines = record {
           queue = record {
-            mode = hears_mode id _ _ q.scheduler ∙ sh.queue.mode;
+            mode = set_bytes_mode id _ _ q.scheduler ∙ sh.queue.mode;
             order = prepared_in_order id q emitted sh.queue.order;
             rising = calls_number.prepared id q silent sh.queue.rising;
             rests = calls_leave_rests.prepared id q silent sh.queue.rests;

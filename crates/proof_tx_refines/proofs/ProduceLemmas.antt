@@ -15,7 +15,7 @@ use Rattle.sctp_tx_queue.specs.Queue as queue
 use Rattle.sctp_tx_queue.specs.Queue.{Queued, Queue, Stream, Streams, blank, stream}
 use Rattle.sctp_tx_queue.specs.Produced.{Produced, numbers_of, took, count_on, emitted_made, in_line, next_stream}
 use Rattle.sctp_tx_queue.specs.InOrder.{is_waiting, is_begun_or_waiting, are_in_order, is_first_begun, is_this}
-use Rattle.sctp_tx_queue.proofs.InOrderLemmas.{hears_mode}
+use Rattle.sctp_tx_queue.proofs.InOrderLemmas.{set_bytes_mode}
 use Rattle.sctp_tx_queue.proofs.StreamsLemmas.{stream_put, stream_nowhere, put_nowhere}
 use Rattle.proof_protocol.specs.State.{Message, Sender, stream_of, ordered_of}
 use Rattle.proof_protocol.specs.Rules.{begins, same}
@@ -47,8 +47,8 @@ accept_mode id s = go (finish_time id s.times)
     go (Some f) = refl
 
 pub line_mode : (id bytes priority : ℕ) (made : Option Produced) (s : Scheduler) → (in_line id bytes priority made s).is_interleaved ≡ s.is_interleaved
-line_mode id bytes priority None s = hears_mode id 0 0 s
-line_mode id bytes priority (Some made) s = hears_mode id bytes priority (accept id s) ∙ accept_mode id s
+line_mode id bytes priority None s = set_bytes_mode id 0 0 s
+line_mode id bytes priority (Some made) s = set_bytes_mode id bytes priority (accept id s) ∙ accept_mode id s
 
 pub emitted_same : {P : Type 0} (id : ℕ) (a b : Bool) (made : Option Produced) (emitted : Emitted P) → recorded_places (emitted_made id a b made emitted) ≡ recorded_places emitted
 emitted_same id a b None emitted = refl

@@ -11,7 +11,7 @@ use Rattle.sctp_tx_queue.specs.declared.send_queue.stream.ResetStep.TheVariants.
 use Rattle.sctp_tx_queue.specs.Queue as queue
 use Rattle.sctp_tx_queue.specs.Queue.{Queued, Queue, Stream, Streams, stream, blank}
 use Rattle.sctp_tx_queue.specs.Resets.{after_step, step_stream, each_stepped, commit_resets}
-use Rattle.sctp_tx_queue.proofs.InOrderLemmas.{hears_mode, put_elsewhere, steps_in_order}
+use Rattle.sctp_tx_queue.proofs.InOrderLemmas.{set_bytes_mode, put_elsewhere, steps_in_order}
 use Rattle.sctp_tx_queue.proofs.NumberLemmas.{steps_numbered}
 use Rattle.sctp_tx_queue.proofs.RestLemmas.{steps_rests}
 use Rattle.sctp_tx_queue.proofs.StreamsLemmas.{stream_put, put_nowhere, stream_nowhere}
@@ -77,7 +77,7 @@ module _ (message : ℕ → Message) (lifecycle : ℕ → Option ℕ) (is_interl
   pub request_row : (id : ℕ) → SenderRefines message lifecycle is_interleaved x (step_stream Requested id q) s
   request_row id = record {
     queue = record {
-      mode = hears_mode id _ _ q.scheduler ∙ sh.queue.mode;
+      mode = set_bytes_mode id _ _ q.scheduler ∙ sh.queue.mode;
       order = steps_in_order Requested (id ∷ []) q sh.queue.order;
       rising = steps_numbered Requested (id ∷ []) q sh.queue.rising;
       rests = steps_rests Requested (id ∷ []) q sh.queue.rests;
@@ -165,7 +165,7 @@ module _ (message : ℕ → Message) (lifecycle : ℕ → Option ℕ) (is_interl
     pub commit_row : SenderRefines message lifecycle is_interleaved (record x { sender = o' }) after s
     commit_row = record {
       queue = record {
-        mode = hears_mode id _ _ q.scheduler ∙ sh.queue.mode;
+        mode = set_bytes_mode id _ _ q.scheduler ∙ sh.queue.mode;
         order = steps_in_order Performed (id ∷ []) q sh.queue.order;
         rising = steps_numbered Performed (id ∷ []) q sh.queue.rising;
         rests = steps_rests Performed (id ∷ []) q sh.queue.rests;

@@ -11,7 +11,7 @@ use Rattle.sctp_tx_queue.specs.Queue.{Queued, Queue, Stream, stream}
 use Rattle.sctp_tx_queue.specs.Settings.{set_mode}
 use Rattle.sctp_tx_queue.specs.Restarted.{whole, whole_front, restart, restarted_one, each_restarted, reset}
 use Rattle.sctp_tx_queue.specs.InOrder.{is_waiting, is_begun_or_waiting, are_in_order, is_first_begun, is_this, IsUnsent}
-use Rattle.sctp_tx_queue.proofs.InOrderLemmas.{hears_mode, put_elsewhere, new_in_order, mode_in_order, reset_in_order}
+use Rattle.sctp_tx_queue.proofs.InOrderLemmas.{set_bytes_mode, put_elsewhere, new_in_order, mode_in_order, reset_in_order}
 use Rattle.sctp_tx_queue.proofs.NumberLemmas.{calls_number}
 use Rattle.sctp_tx_queue.proofs.RestLemmas.{calls_leave_rests}
 use Rattle.sctp_tx_outstanding.specs.Items.{Items, no_items}
@@ -135,7 +135,7 @@ module _ (message : ℕ → Message) (lifecycle : ℕ → Option ℕ) where
             (subst (λ (t : Stream). IsNext o id t) (sym there) (record { ssn = omega arith; ordered_mid = omega arith; unordered_mid = omega arith }))
         | inr d ↦ subst (λ (t : Stream). IsNext o k t) (sym (elsewhere k d)) (a.next k)
       ];
-      mode = hears_mode id _ _ r.scheduler ∙ a.mode;
+      mode = set_bytes_mode id _ _ r.scheduler ∙ a.mode;
       count = a.count;
     }
       where

@@ -65,7 +65,7 @@ fn run(rt: &HostRuntime) -> Result<(), Fault> {
 fn main(rt: HostRuntime) -> ExitCode {
     match run(&rt) {
         Ok(()) => ExitCode::SUCCESS,
-        Err(Fault::Told) => ExitCode::from(1),
+        Err(Fault::Printed) => ExitCode::from(1),
         Err(Fault::Silent) => ExitCode::from(2),
     }
 }

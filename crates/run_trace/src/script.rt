@@ -14,7 +14,7 @@ use std::io::{self, Read, Write};
 /// Why the program ends before its time.
 pub enum Fault {
     /// Words say so: a line is no command, or no format was named.
-    Told,
+    Printed,
     /// Memory ran out, or a read or a write failed.
     Silent,
 }
@@ -64,7 +64,7 @@ impl Format {
             (Some(format), None) => Ok(format),
             _ => {
                 eprintln!(rt; "sctp-trace: one of text, chart and pcap is needed")?;
-                Err(Fault::Told)
+                Err(Fault::Printed)
             }
         }
     }
@@ -166,7 +166,7 @@ fn stop(rt: &HostRuntime, bytes: &[u8], format: Format, number: u64) -> Result<(
     } else {
         eprintln!(rt; "line {number} is not a command")?;
     }
-    Err(Fault::Told)
+    Err(Fault::Printed)
 }
 
 /// Runs the commands of standard input on the world, and writes what was asked for.

@@ -27,7 +27,7 @@ fn take_first<R: Rng, C: Checksum>(
     kept.take()
 }
 
-/// Hands out a packet, which most events are. Where it doesn't fit its length is told, and it is kept.
+/// Hands out a packet, which most events are. Where it doesn't fit its length is answered, and it is kept.
 fn hand_out_packet(
     packet: Vec<u8>,
     kept: &mut Option<SocketEvent>,

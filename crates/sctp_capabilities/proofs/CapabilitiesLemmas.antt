@@ -89,13 +89,13 @@ same_again : (a b : ℕ) → same_method a (same_method b a) ≡ same_method a b
 same_again a b = grind (arith, nat_tests)
 
 -- the end that takes an INIT
-pub negotiated_told_by_init : (own peer : Options) → negotiate own (announced_by_init peer) ≡ agreed own peer
-negotiated_told_by_init own peer = ap (negotiate own) (announced_with_options peer.zero_checksum_method peer)
+pub negotiated_by_init : (own peer : Options) → negotiate own (announced_by_init peer) ≡ agreed own peer
+negotiated_by_init own peer = ap (negotiate own) (announced_with_options peer.zero_checksum_method peer)
 
 -- the end that takes the INIT ACK which answers its INIT
-pub negotiated_told_by_init_ack : (own peer : Options) → negotiate own (announced_by_init_ack peer own) ≡ agreed own peer
-negotiated_told_by_init_ack own peer =
-    let answer = ap (λ (k : Capabilities). k.zero_checksum_method) (negotiated_told_by_init peer own) in
+pub negotiated_by_init_ack : (own peer : Options) → negotiate own (announced_by_init_ack peer own) ≡ agreed own peer
+negotiated_by_init_ack own peer =
+    let answer = ap (λ (k : Capabilities). k.zero_checksum_method) (negotiated_by_init peer own) in
     let again = same_again own.zero_checksum_method peer.zero_checksum_method in
     ap (λ (method : ℕ). negotiate own (announced_with method peer)) answer
     ∙ ap (negotiate own) (announced_with_options (agreed peer own).zero_checksum_method peer)

@@ -206,7 +206,7 @@ impl RetransmissionQueue {
             return Ok(HandleSackResult::Invalid);
         }
         let rtt = self.outstanding.measure_rtt(now, tsn);
-        let acked = self.hear(now, sack, events)?;
+        let acked = self.receive_sack(now, sack, events)?;
         Ok(HandleSackResult::Valid {
             rtt,
             reset_error_counter: acked > 0,
@@ -214,7 +214,7 @@ impl RetransmissionQueue {
     }
 
     /// A SACK that is valid. The answer is how many bytes are newly acknowledged.
-    fn hear(
+    fn receive_sack(
         &mut self,
         now: SocketTime,
         sack: &SackChunk,
@@ -255,7 +255,7 @@ impl RetransmissionQueue {
         let is_open = self.windows.is_open_at(number);
         self.windows.acknowledge(number);
         self.windows
-            .hear_window(a_rwnd, self.outstanding.unacked_payload_bytes());
+            .update_receiver_window(a_rwnd, self.outstanding.unacked_payload_bytes());
         if moved && is_open {
             self.windows.grow(before, info.bytes_acked);
         }

@@ -41,7 +41,7 @@ pub fn a_message_is_given_up_once()
 /// Where an item is lost by a report or a timeout, a record is made exactly where its message is given up: of partial
 /// reliability, once the item was sent again as often as its limit allows. The record has that item's sendings less one,
 /// which is no less than the limit. Where a lifetime passed the record says so.
-pub fn records_tell_why()
+pub fn records_say_why()
     ensures counts { CountsAreRecorded }
     ensures lifetimes { LifetimesAreRecorded }
 {}

@@ -202,8 +202,8 @@ without_order message (m ∷ rest) s e h = go (m.number == message)
 
 -- ---- the mode stays
 
-pub hears_mode : (id bytes priority : ℕ) (s : Scheduler) → (set_bytes_remaining id bytes priority s).is_interleaved ≡ s.is_interleaved
-hears_mode id bytes priority s = go (bytes == 0) (is_active id s)
+pub set_bytes_mode : (id bytes priority : ℕ) (s : Scheduler) → (set_bytes_remaining id bytes priority s).is_interleaved ≡ s.is_interleaved
+set_bytes_mode id bytes priority s = go (bytes == 0) (is_active id s)
   where
     go : (a b : Bool) → (cond a (leave id s) (cond b s (enter id (finish_now bytes priority s) s))).is_interleaved ≡ s.is_interleaved
     go true b = refl
@@ -218,8 +218,8 @@ accept_mode id s = go (finish_time id s.times)
     go (Some f) = refl
 
 line_mode : (id bytes priority : ℕ) (made : Option Produced) (s : Scheduler) → (in_line id bytes priority made s).is_interleaved ≡ s.is_interleaved
-line_mode id bytes priority None s = hears_mode id 0 0 s
-line_mode id bytes priority (Some made) s = hears_mode id bytes priority (accept id s) ∙ accept_mode id s
+line_mode id bytes priority None s = set_bytes_mode id 0 0 s
+line_mode id bytes priority (Some made) s = set_bytes_mode id bytes priority (accept id s) ∙ accept_mode id s
 
 -- ---- calls that change one stream
 
@@ -239,7 +239,7 @@ kept id s ss q after same streams begun mode order first h = record { order = or
 pub added_in_order : (id : ℕ) (m : Queued) (q : Queue) → is_waiting m ≡ true → IsInOrder q → IsInOrder (add id m q)
 added_in_order id m q w h =
     let s : Stream = stream id q.streams in
-    kept id (push m s) (open_stream id q.streams) q (add id m q) (λ k. opened_same k id q.streams) refl refl (hears_mode id _ _ q.scheduler)
+    kept id (push m s) (open_stream id q.streams) q (add id m q) (λ k. opened_same k id q.streams) refl refl (set_bytes_mode id _ _ q.scheduler)
     (pushed_order s.messages m w (h.order id)) (pushed_first s.messages m w) h
 
 pub threshold_in_order : {P : Type 0} (id bytes : ℕ) (q : Queue) (emitted : Emitted P) → IsInOrder q → IsInOrder (set_low_threshold id bytes q emitted).queue
@@ -256,7 +256,7 @@ mode_in_order is_interleaved q (inr u) h = record { order = h.order; begun = λ 
 pub prepared_in_order : {P : Type 0} (id : ℕ) (q : Queue) (emitted : Emitted P) → IsInOrder q → IsInOrder (prepare_reset id q emitted).queue
 prepared_in_order id q emitted h =
     let p = partly_both (stream id q.streams).messages (h.order id) in
-    kept id (prepare_stream (stream id q.streams)) (open_stream id q.streams) q (prepare_reset id q emitted).queue (λ k. opened_same k id q.streams) refl refl (hears_mode id _ _ q.scheduler) p.0 p.1 h
+    kept id (prepare_stream (stream id q.streams)) (open_stream id q.streams) q (prepare_reset id q emitted).queue (λ k. opened_same k id q.streams) refl refl (set_bytes_mode id _ _ q.scheduler) p.0 p.1 h
 
 pub steps_in_order : (step : ResetStep) (ids : List ℕ) (q : Queue) → IsInOrder q → IsInOrder (each_stepped step ids q)
 steps_in_order step [] q h = h
@@ -264,7 +264,7 @@ steps_in_order step (id ∷ ids) q h =
     let s : Stream = stream id q.streams in
     let same = step_messages step s in
     steps_in_order step ids (step_stream step id q)
-    (kept id (after_step step s) q.streams q (step_stream step id q) (λ k. refl) refl refl (hears_mode id _ _ q.scheduler) (ap are_in_order same ∙ h.order id) (ap is_first_begun same) h)
+    (kept id (after_step step s) q.streams q (step_stream step id q) (λ k. refl) refl refl (set_bytes_mode id _ _ q.scheduler) (ap are_in_order same ∙ h.order id) (ap is_first_begun same) h)
 
 -- ---- a new association
 
@@ -448,7 +448,7 @@ discard_streams id ss (Some lifecycle) q emitted = refl
 
 discard_mode : {P : Type 0} (id : ℕ) (ss : Streams) (o : Option (Option ℕ)) (q : Queue) (emitted : Emitted P) → (discard_from id ss o q emitted).queue.scheduler.is_interleaved ≡ q.scheduler.is_interleaved
 discard_mode id ss None q emitted = refl
-discard_mode id ss (Some lifecycle) q emitted = hears_mode id _ _ q.scheduler
+discard_mode id ss (Some lifecycle) q emitted = set_bytes_mode id _ _ q.scheduler
 
 -- another message is first, or none: nothing changes
 other_in_order : {P : Type 0} (id message : ℕ) (q : Queue) (emitted : Emitted P) → front_discarded message (stream id q.streams).messages ≡ None → without_front message (stream id q.streams).messages (stream id q.streams) ≡ stream id q.streams
@@ -480,7 +480,7 @@ same_there k id (Some b) e = go (b == id) refl
     go false f = refl
 
 front_in_order : {P : Type 0} (id message : ℕ) (q : Queue) (emitted : Emitted P) (m : Queued) (rest : List Queued) → (stream id q.streams).messages ≡ m ∷ rest → (m.number == message) ≡ true → IsInOrder q → IsInOrder (discard id message q emitted).queue
-front_in_order {P} id message q emitted m rest is e h = subst (λ o. IsInOrder (discard_from id ss o q emitted).queue) (sym found) (record { order = ordered; begun = λ mode k. begun_on (sym (hears_mode id _ _ q.scheduler) ∙ mode) k (k == id) refl })
+front_in_order {P} id message q emitted m rest is e h = subst (λ o. IsInOrder (discard_from id ss o q emitted).queue) (sym found) (record { order = ordered; begun = λ mode k. begun_on (sym (set_bytes_mode id _ _ q.scheduler) ∙ mode) k (k == id) refl })
   where
     s : Stream
     s = stream id q.streams

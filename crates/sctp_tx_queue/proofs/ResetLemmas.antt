@@ -6,7 +6,7 @@ use Rattle.std.proofs.lemmas.List.Sums.{sum_by-cons}
 use Rattle.sctp_serial.specs.declared.api.StreamId.{StreamId}
 use Rattle.sctp_tx_queue.specs.declared.send_queue.stream.ResetStep.{ResetStep}
 use Rattle.sctp_tx_queue.specs.declared.send_queue.stream.ResetStep.TheVariants.{Requested, Performed, Refused}
-use Rattle.sctp_tx_queue.specs.Queue.{Queue, Queued, Stream, Streams, left_bytes, stream, put_stream, open_stream, sendable, hears}
+use Rattle.sctp_tx_queue.specs.Queue.{Queue, Queued, Stream, Streams, left_bytes, stream, put_stream, open_stream, sendable, set_sendable}
 use Rattle.sctp_state.specs.Events.{Emitted}
 use Rattle.sctp_stream_scheduler.specs.Scheduler.{Scheduler, set_bytes_remaining}
 use Rattle.std.specs.Map.{lookup}
@@ -82,5 +82,5 @@ prepared_is id bytes ss q mid after emitted is_streams there same is_mid inside 
     there_now : stream id done ≡ s
     there_now = ap (λ x. stream id (put_stream id s x)) (sym first) ∙ stream_put id s mid.streams there
 
-    scheduled : set_bytes_remaining id bytes (stream id q.streams).priority q.scheduler ≡ hears id (stream id done) q.scheduler
-    scheduled = ap (λ b. set_bytes_remaining id b (stream id q.streams).priority q.scheduler) (is_bytes ∙ ap (λ x. sendable (prepare_stream (stream id x))) is_streams) ∙ sym (ap (λ t. hears id t q.scheduler) there_now)
+    scheduled : set_bytes_remaining id bytes (stream id q.streams).priority q.scheduler ≡ set_sendable id (stream id done) q.scheduler
+    scheduled = ap (λ b. set_bytes_remaining id b (stream id q.streams).priority q.scheduler) (is_bytes ∙ ap (λ x. sendable (prepare_stream (stream id x))) is_streams) ∙ sym (ap (λ t. set_sendable id t q.scheduler) there_now)

@@ -22,7 +22,7 @@ use Rattle.sctp_tx_queue.specs.Handover.{queued_message, messages_of, queued_mes
 use Rattle.sctp_tx_queue.specs.Restored.{numbers_from, message_from, is_on, messages_from, stream_from, entries_from, each_scheduled, partly_sent, begun_from, streams_from, restore}
 use Rattle.sctp_tx_queue.specs.InOrder.{is_waiting, is_begun_or_waiting, are_in_order, is_first_begun, is_this}
 use Rattle.sctp_tx_queue.specs.TakenUp.{is_numbered_as_sent, RestoredInOrder, WrittenAsSent}
-use Rattle.sctp_tx_queue.proofs.InOrderLemmas.{hears_mode, waiting_in_order}
+use Rattle.sctp_tx_queue.proofs.InOrderLemmas.{set_bytes_mode, waiting_in_order}
 use Rattle.sctp_tx_queue.proofs.AgainLemmas.{AreAbove, are_above}
 use Rattle.sctp_tx_queue.proofs.RestoreLemmas.{found}
 
@@ -226,7 +226,7 @@ restored_messages now next k tx ss h = go (is_some here) refl
 
 scheduled_mode : (ids : List ℕ) (ss : Streams) (s : Scheduler) → (each_scheduled ids ss s).is_interleaved ≡ s.is_interleaved
 scheduled_mode [] ss s = refl
-scheduled_mode (id ∷ ids) ss s = scheduled_mode ids ss _ ∙ hears_mode id _ _ s
+scheduled_mode (id ∷ ids) ss s = scheduled_mode ids ss _ ∙ set_bytes_mode id _ _ s
 
 few : (is_interleaved : Bool) (n : ℕ) → is_interleaved || nat_le n 1 ≡ true → is_interleaved ≡ false → n ≤ 1
 few true n h e = absurd (cc)

@@ -14,7 +14,7 @@ use Rattle.sctp_tx_queue.specs.Interrupted.{Passed, Stopped}
 use Rattle.sctp_tx_queue.specs.InOrder.{are_in_order, is_first_begun, is_this, IsInOrder, IsNumbered, HasRests}
 use Rattle.sctp_tx_queue.specs.Unfinished.{IsKept}
 use Rattle.sctp_tx_queue.proofs.InOrderLemmas as order
-use Rattle.sctp_tx_queue.proofs.InOrderLemmas.{each_put, put_messages, put_elsewhere, whole_order, whole_first, none_here, same_there, hears_mode}
+use Rattle.sctp_tx_queue.proofs.InOrderLemmas.{each_put, put_messages, put_elsewhere, whole_order, whole_first, none_here, same_there, set_bytes_mode}
 use Rattle.sctp_tx_queue.proofs.NumberLemmas as number
 use Rattle.sctp_tx_queue.proofs.RestLemmas as rest
 
@@ -52,7 +52,7 @@ freed_in_order now id q h =
 one_in_order : (id : ℕ) (q : Queue) → IsInOrder q → IsInOrder (restarted_one id q)
 one_in_order id q h = record {
   order = λ k. each_put (λ i ms. are_in_order ms ≡ true) id (restart (stream id q.streams)) q.streams h.order (whole_order (stream id q.streams).messages (h.order id)) k;
-  begun = λ mode k. begun_on (sym (hears_mode id _ _ q.scheduler) ∙ mode) k (k == id) refl;
+  begun = λ mode k. begun_on (sym (set_bytes_mode id _ _ q.scheduler) ∙ mode) k (k == id) refl;
 }
   where
     begun_on : q.scheduler.is_interleaved ≡ false → (k : ℕ) (b : Bool) → (k == id) ≡ b → is_first_begun (stream k (put_stream id (restart (stream id q.streams)) q.streams)).messages ≡ is_this k (begun_without id q.begun)

@@ -131,8 +131,8 @@ abbrev pub sendable : Stream → ℕ
 sendable s = if is_stopped s.pause then 0 else front_left s.messages
 
 -- the scheduler is given what the stream has to send
-abbrev pub hears : ℕ → Stream → Scheduler → Scheduler
-hears id s sch = set_bytes_remaining id (sendable s) s.priority sch
+abbrev pub set_sendable : ℕ → Stream → Scheduler → Scheduler
+set_sendable id s sch = set_bytes_remaining id (sendable s) s.priority sch
 
 -- ---- acceptance
 
@@ -150,7 +150,7 @@ next_number n = (n + 1) % 2 ^ 32
 abbrev pub add : ℕ → Queued → Queue → Queue
 add id m q =
     let s : Stream = push m (stream id q.streams) in
-    record q { streams = put_stream id s (open_stream id q.streams); scheduler = hears id s q.scheduler; next_number = next_number q.next_number }
+    record q { streams = put_stream id s (open_stream id q.streams); scheduler = set_sendable id s q.scheduler; next_number = next_number q.next_number }
 
 -- ---- queries
 

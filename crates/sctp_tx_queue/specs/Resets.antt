@@ -7,7 +7,7 @@ use Rattle.sctp_tx_queue.specs.declared.send_queue.stream.PauseState.{PauseState
 use Rattle.sctp_tx_queue.specs.declared.send_queue.stream.PauseState.TheVariants.{NotPaused, Pending, Paused, Resetting}
 use Rattle.sctp_tx_queue.specs.declared.send_queue.stream.ResetStep.{ResetStep}
 use Rattle.sctp_tx_queue.specs.declared.send_queue.stream.ResetStep.TheVariants.{Requested, Performed, Refused}
-use Rattle.sctp_tx_queue.specs.Queue.{Queued, Stream, Streams, Entries, Queue, stream, open_stream, put_stream, hears}
+use Rattle.sctp_tx_queue.specs.Queue.{Queued, Stream, Streams, Entries, Queue, stream, open_stream, put_stream, set_sendable}
 use Rattle.sctp_tx_queue.specs.Settings.{Changed}
 
 -- ---- a stream is to be reset
@@ -34,7 +34,7 @@ abbrev pub prepare_reset : {P : Type 0} → ℕ → Queue → Emitted P → Chan
 prepare_reset id q emitted =
     let ss : Streams = put_stream id (prepare_stream (stream id q.streams)) (open_stream id q.streams) in
     record {
-      queue = record q { streams = ss; scheduler = hears id (stream id ss) q.scheduler };
+      queue = record q { streams = ss; scheduler = set_sendable id (stream id ss) q.scheduler };
       emitted = emitted_waiting (stream id q.streams).messages emitted;
     }
 
@@ -62,7 +62,7 @@ after_step Refused s = record s { pause = NotPaused }
 abbrev pub step_stream : ResetStep → ℕ → Queue → Queue
 step_stream step id q =
     let ss : Streams = put_stream id (after_step step (stream id q.streams)) q.streams in
-    record q { streams = ss; scheduler = hears id (stream id ss) q.scheduler }
+    record q { streams = ss; scheduler = set_sendable id (stream id ss) q.scheduler }
 
 abbrev pub each_stepped : ResetStep → List ℕ → Queue → Queue
 each_stepped step [] q = q

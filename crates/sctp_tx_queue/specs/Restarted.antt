@@ -3,7 +3,7 @@ use Rattle.std.specs.Prelude.{◌≡◌, ℕ, None, List, [], ◌∷◌, map, ta
 use Rattle.std.specs.Map.{keys_of}
 use Rattle.sctp_serial.specs.Unwrapped.{origin}
 use Rattle.sctp_tx_queue.specs.declared.send_queue.stream.PauseState.TheVariants.{NotPaused}
-use Rattle.sctp_tx_queue.specs.Queue.{Queued, Stream, Streams, Queue, stream, put_stream, hears}
+use Rattle.sctp_tx_queue.specs.Queue.{Queued, Stream, Streams, Queue, stream, put_stream, set_sendable}
 use Rattle.sctp_tx_queue.specs.Settings.{begun_without}
 
 abbrev pub whole : Queued → Queued
@@ -20,7 +20,7 @@ restart s = record s { messages = whole_front s.messages; pause = NotPaused; nex
 abbrev pub restarted_one : ℕ → Queue → Queue
 restarted_one id q =
     let ss : Streams = put_stream id (restart (stream id q.streams)) q.streams in
-    record q { streams = ss; scheduler = hears id (stream id ss) q.scheduler; begun = begun_without id q.begun }
+    record q { streams = ss; scheduler = set_sendable id (stream id ss) q.scheduler; begun = begun_without id q.begun }
 
 abbrev pub each_restarted : List ℕ → Queue → Queue
 each_restarted [] q = q

@@ -8,7 +8,7 @@ use Rattle.sctp_stream_scheduler.specs.Scheduler.{Scheduler, scheduler, enable_m
 use Rattle.sctp_state.specs.Validity.{is_partly_sent, outgoing_ids}
 use Rattle.sctp_tx_queue.specs.declared.send_queue.message.MessageNumbers.{MessageNumbers}
 use Rattle.sctp_tx_queue.specs.declared.send_queue.stream.PauseState.TheVariants.{NotPaused}
-use Rattle.sctp_tx_queue.specs.Queue.{Queued, Stream, Streams, Entries, Queue, stream, hears}
+use Rattle.sctp_tx_queue.specs.Queue.{Queued, Stream, Streams, Entries, Queue, stream, set_sendable}
 
 -- ---- a message
 
@@ -60,7 +60,7 @@ streams_from now tx ss = record ss { entries = entries_from now ss.default_thres
 -- the scheduler is given what these streams have to send
 abbrev pub each_scheduled : List ℕ → Streams → Scheduler → Scheduler
 each_scheduled [] ss sch = sch
-each_scheduled (id ∷ ids) ss sch = each_scheduled ids ss (hears id (stream id ss) sch)
+each_scheduled (id ∷ ids) ss sch = each_scheduled ids ss (set_sendable id (stream id ss) sch)
 
 -- the virtual time begins at 0
 abbrev pub scheduler_from : Bool → List ℕ → Streams → Scheduler → Scheduler

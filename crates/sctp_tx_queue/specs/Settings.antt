@@ -3,7 +3,7 @@ use Rattle.std.specs.Prelude.{ℕ, ◌==◌, Bool, false, if◌then◌else◌, O
 use Rattle.sctp_state.specs.Events.{Emitted, emit_events, expiry, OnBufferedAmountLow}
 use Rattle.sctp_stream_scheduler.specs.Scheduler.{enable_message_interleaving}
 use Rattle.sctp_state.specs.Thresholds.{crosses}
-use Rattle.sctp_tx_queue.specs.Queue.{Queued, Stream, Streams, Queue, watched_amount, stream, open_stream, put_stream, hears}
+use Rattle.sctp_tx_queue.specs.Queue.{Queued, Stream, Streams, Queue, watched_amount, stream, open_stream, put_stream, set_sendable}
 use Rattle.sctp_tx_queue.specs.Produced.{settle_pause, when}
 
 pub record Changed (P : Type 0) : Type 0 where
@@ -59,7 +59,7 @@ begun_without id (Some begun) = if begun == id then None else Some begun
 abbrev pub discard_from : {P : Type 0} → ℕ → Streams → Option (Option ℕ) → Queue → Emitted P → Changed P
 discard_from id ss None q emitted = record { queue = record q { streams = ss }; emitted = emitted }
 discard_from id ss (Some lifecycle) q emitted = record {
-  queue = record q { streams = ss; scheduler = hears id (stream id ss) q.scheduler; begun = begun_without id q.begun };
+  queue = record q { streams = ss; scheduler = set_sendable id (stream id ss) q.scheduler; begun = begun_without id q.begun };
   emitted = emit_events (expiry lifecycle) emitted;
 }
 

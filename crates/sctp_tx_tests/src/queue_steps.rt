@@ -8,7 +8,7 @@ use std::time::Duration;
 
 /// An event: of a stream, or of a message with a lifecycle id.
 #[derive(Clone, Copy, PartialEq, Eq)]
-pub enum Heard {
+pub enum Emitted {
     Nothing,
     Low(u16),
     FullySent(u64),
@@ -47,7 +47,7 @@ pub enum Step {
     RollBack(u16),
     Reset,
     /// The next event.
-    Hears(Heard),
+    Emits(Emitted),
     /// The next record says that the lifetime of this message passed.
     GivenUp(u32),
     /// It says that the reset of its stream dropped this message.
@@ -156,24 +156,24 @@ fn request(queue: &mut SendQueue, want: usize) -> Result<bool, AllocError> {
     Ok(queue.get_streams_ready_to_reset(1)?.len() == want)
 }
 
-fn told_by(event: &Option<SocketEvent>) -> Heard {
+fn emitted_by(event: &Option<SocketEvent>) -> Emitted {
     match event {
-        None => Heard::Nothing,
-        Some(SocketEvent::OnBufferedAmountLow(id)) => Heard::Low(id.0),
-        Some(SocketEvent::OnLifecycleMessageFullySent(id)) => Heard::FullySent(id.value()),
-        Some(SocketEvent::OnLifecycleMessageExpired(id)) => Heard::Expired(id.value()),
-        Some(SocketEvent::OnLifecycleMessageMaybeExpired(id)) => Heard::MaybeExpired(id.value()),
-        Some(SocketEvent::OnLifecycleEnd(id)) => Heard::End(id.value()),
-        Some(_) => Heard::Other,
+        None => Emitted::Nothing,
+        Some(SocketEvent::OnBufferedAmountLow(id)) => Emitted::Low(id.0),
+        Some(SocketEvent::OnLifecycleMessageFullySent(id)) => Emitted::FullySent(id.value()),
+        Some(SocketEvent::OnLifecycleMessageExpired(id)) => Emitted::Expired(id.value()),
+        Some(SocketEvent::OnLifecycleMessageMaybeExpired(id)) => Emitted::MaybeExpired(id.value()),
+        Some(SocketEvent::OnLifecycleEnd(id)) => Emitted::End(id.value()),
+        Some(_) => Emitted::Other,
     }
 }
 
 /// The next event.
-pub fn next_heard(events: &mut Events) -> Heard {
+pub fn next_heard(events: &mut Events) -> Emitted {
     let event = events.next_event();
-    let told = told_by(&event);
+    let emitted = emitted_by(&event);
     drop(event);
-    told
+    emitted
 }
 
 /// Whether the next record is this message's, with this cause.
@@ -247,7 +247,7 @@ pub fn holds(
             queue.prepare_reset_stream(StreamId(id), events)?;
             Ok(true)
         }
-        Step::Hears(want) => Ok(next_heard(events) == want),
+        Step::Emits(want) => Ok(next_heard(events) == want),
         Step::GivenUp(message) => Ok(is_given_up(events, message, GivenUpCause::Lifetime)),
         Step::Dropped(message) => Ok(is_given_up(events, message, GivenUpCause::Reset)),
         Step::NoneGivenUp => Ok(events.next_given_up().is_none()),

@@ -1,7 +1,7 @@
 //! Scenarios of a sender in which any allocation may be refused: each call answers as with ample memory, or that memory
 //! lacks. Then it leaves the windows and the timer as it should, and the sender goes on until nothing is left.
 
-use crate::queue_steps::{Heard, at};
+use crate::queue_steps::{Emitted, at};
 use crate::steps::Step::{
     Accept, AcceptOnce, AcceptShort, BeginReset, Flight, GivenUp, HandOver, Hears, IsDue,
     NoneIsKept, Point, QueueIsEmpty, Sack, Sends, SendsFast, SendsNothing, TimesOut,
@@ -151,8 +151,8 @@ fn gives_up(alloc: Global) -> bool {
     let steps = [
         AcceptShort(1, 20, 5),
         Sends(0, 10, 20),
-        Hears(Heard::Low(1)),
-        Hears(Heard::FullySent(5)),
+        Emits(Emitted::Low(1)),
+        Emits(Emitted::FullySent(5)),
         AcceptOnce(2, 1500, 4),
         Sends(0, 11, 1160),
         BeginReset,
@@ -163,11 +163,11 @@ fn gives_up(alloc: Global) -> bool {
         Point(11, 2),
         SendsNothing(500),
         QueueIsEmpty(true),
-        Hears(Heard::Expired(4)),
-        Hears(Heard::End(4)),
+        Emits(Emitted::Expired(4)),
+        Emits(Emitted::End(4)),
         Sack(600, 11, 0, 0, Answer::RoundTrip(600)),
-        Hears(Heard::MaybeExpired(5)),
-        Hears(Heard::End(5)),
+        Emits(Emitted::MaybeExpired(5)),
+        Emits(Emitted::End(5)),
         Point(12, 1),
     ];
     hold(alloc, &steps)

@@ -1,7 +1,7 @@
 //! Calls on a sender and what they are to answer, one after another. The sender has default options, first TSN 10, and a
 //! peer's window of 5,242,880 bytes. Moments are in milliseconds.
 
-use crate::queue_steps::{Heard, accept, at, is_given_up, named, next_heard, short};
+use crate::queue_steps::{Emitted, accept, at, is_given_up, named, next_heard, short};
 use sctp_packet::{Chunk, GapAckBlock, SackChunk, clean_sack};
 use sctp_serial::{SocketTime, Tsn};
 use sctp_state::api::handover::HandoverSocketState;
@@ -43,7 +43,7 @@ pub enum Step {
     Point(u32, usize),
     BeginReset,
     GivenUp(u32, GivenUpCause),
-    Hears(Heard),
+    Emits(Emitted),
     QueueIsEmpty(bool),
     /// Whether no item is kept.
     NoneIsKept(bool),
@@ -133,7 +133,7 @@ fn answer_of(answer: HandleSackResult) -> Answer {
     }
 }
 
-fn hear(sender: &mut Sender, now: SocketTime, sack: SackChunk) -> Result<Answer, AllocError> {
+fn receive(sender: &mut Sender, now: SocketTime, sack: SackChunk) -> Result<Answer, AllocError> {
     let clean = clean_sack(sack);
     let answer = sender.items.handle_sack(now, &clean, &mut sender.events)?;
     Ok(answer_of(answer))
@@ -244,7 +244,7 @@ fn goes(sender: &mut Sender, step: Step) -> Result<bool, AllocError> {
         }
         Step::Sack(millis, tsn, first, last, want) => {
             let sack = sack(sender.alloc, tsn, first, last)?;
-            Ok(hear(sender, at(millis), sack)? == want)
+            Ok(receive(sender, at(millis), sack)? == want)
         }
         _ => settles(sender, step),
     }
@@ -263,7 +263,7 @@ pub fn holds(sender: &mut Sender, step: Step) -> Result<bool, AllocError> {
             Ok(is_due == want)
         }
         Step::GivenUp(message, cause) => Ok(is_given_up(&mut sender.events, message, cause)),
-        Step::Hears(want) => Ok(next_heard(&mut sender.events) == want),
+        Step::Emits(want) => Ok(next_heard(&mut sender.events) == want),
         _ => goes(sender, step),
     }
 }

@@ -1,7 +1,7 @@
 //! A message that crosses, and the SACK that comes back.
 
 use crate::tests::opening::{
-    Fault, Told, Watched, answers, hears, lacks, next_told, packet, right,
+    Emitted, Fault, Watched, answers, lacks, next_emitted, packet, receives, right,
 };
 use sctp_association::{DcSctpSocket, Message, PpId, SendOptions, StreamId};
 use sctp_state::SendError;
@@ -18,7 +18,7 @@ fn message(alloc: Global) -> Result<Message, Fault> {
 
 /// All of the stream's bytes have left, and the packet that they left in.
 fn tells_sent<S: Watched>(socket: &mut S) -> Result<Vec<u8>, Fault> {
-    right(matches!(next_told(socket), Told::Sent))?;
+    right(matches!(next_emitted(socket), Emitted::Sent))?;
     packet(socket)
 }
 
@@ -42,5 +42,5 @@ pub fn crosses<S: Watched>(alloc: Global, a: &mut S, b: &mut S) -> Result<(), Fa
     let data = sends(a, message(alloc)?)?;
     let sack = answers(b, &data)?;
     hands_out(b)?;
-    hears(a, &sack)
+    receives(a, &sack)
 }

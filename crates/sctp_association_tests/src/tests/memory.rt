@@ -4,7 +4,7 @@
 use crate::tests::Seven;
 use crate::tests::crossing::crosses;
 use crate::tests::opening::{
-    Fault, Told, Watched, is_mute, lacks, next_told, opens, right, tells_connected,
+    Emitted, Fault, Watched, emits_connected, is_mute, lacks, next_emitted, opens, right,
 };
 use rand_core::Rng;
 use rand_pcg::Pcg32;
@@ -52,7 +52,7 @@ impl<R: Seeded + Drop, C: Checksum + Default + Drop> Watched for Socket<R, C> {
 
 /// A socket that was handed over emits that it is closed, and nothing else.
 fn tells_its_end<S: Watched>(socket: &mut S) -> Result<(), Fault> {
-    right(matches!(next_told(socket), Told::Closed))?;
+    right(matches!(next_emitted(socket), Emitted::Closed))?;
     right(is_mute(socket) && socket.joined().is_none())
 }
 
@@ -100,7 +100,7 @@ fn takes_over<S: Watched>(
     tells_its_end(a)?;
     refuse(b, new, state)?;
     takes(new, state)?;
-    tells_connected(new)
+    emits_connected(new)
 }
 
 /// The idle `a` is handed over.

@@ -118,7 +118,7 @@ impl Windows {
     }
 
     /// The peer advertised its window, while so much payload was unacknowledged.
-    pub fn hear_window(&mut self, a_rwnd: u32, payload: usize)
+    pub fn update_receiver_window(&mut self, a_rwnd: u32, payload: usize)
         ensures { self.new ≡ advertise a_rwnd payload self.old }
     {
         self.rwnd = (a_rwnd as usize).saturating_sub(payload);

@@ -8,9 +8,9 @@ pub returns-clause-valid : goal.returns-clause-valid
 returns-clause-valid c =
     let blocks = c.args.sack.now.gap_ack_blocks.items in
     let same = c.deref.ensures.value in
-    let tells = c.are_runs.ensures in (
+    let says = c.are_runs.ensures in (
       λ yes.
-          let runs = subst (λ (bs : List GapAckBlock). AreRuns 2 bs) same (tells.0 yes) in
+          let runs = subst (λ (bs : List GapAckBlock). AreRuns 2 bs) same (says.0 yes) in
           valid_from_runs blocks runs (runs_lower 0 2 blocks (omega arith) runs),
-      λ valid. tells.1 (subst (λ (bs : List GapAckBlock). AreRuns 2 bs) (sym same) (runs_from_valid blocks valid)),
+      λ valid. says.1 (subst (λ (bs : List GapAckBlock). AreRuns 2 bs) (sym same) (runs_from_valid blocks valid)),
     )
