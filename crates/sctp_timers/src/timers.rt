@@ -1,6 +1,6 @@
 //! Time: which timers a state looks at, and what their expiries lead to.
 
-ghost use Rattle.std.specs.Prelude.{◌≡◌, true, IfOk, OnOk};
+ghost use Rattle.std.specs.Prelude.{◌≡◌, true, cond, IfOk, OnOk};
 ghost use Rattle.sctp_endpoint.specs.Views.{context_of, left_of, phase_of, endpoint_state_after, endpoint_state_of, state_of, tcb_of, ticking_of, waited_of};
 ghost use Rattle.sctp_state.specs.Timers.{expire};
 ghost use Rattle.spec_endpoint.specs.Shutdown.{send_shutdown, send_shutdown_ack};
@@ -182,38 +182,31 @@ fn end_if_expired<C: Checksum>(
     }
 }
 
-/// After the own SHUTDOWN: T2-shutdown sends it again (RFC 9260 section 9.2).
-fn tick_shutdown_sent<C: Checksum>(
+/// The SHUTDOWN, or the SHUTDOWN ACK, goes out again.
+fn send_again<C: Checksum>(
     context: &mut Context<C>,
-    t2_shutdown: &mut Timer,
-    tcb: &mut TransmissionControlBlock,
-) -> Result<bool, AllocError>
-    ensures timer { OnOk result (t2_shutdown.new ≡ expire context.old.clock t2_shutdown.old) }
-    ensures left { IfOk result (λ ended. left_of C.word_of tcb.new context.new ended
-        ≡ table.tick_t2 context.old.clock send_shutdown t2_shutdown.old (table.tick_timers (tcb_of tcb.old) (context_of C.word_of context.old))) }
+    is_ack: bool,
+    tcb: &TransmissionControlBlock,
+) -> Result<(), AllocError>
+    ensures { OnOk result (context_of C.word_of context.new ≡ cond is_ack send_shutdown_ack send_shutdown (tcb_of tcb.now) (context_of C.word_of context.old)) }
 {
-    let now = context.clock;
-    let has_expired = tick_tcb(context, tcb)?;
-    if !t2_shutdown.expire(now) {
-        return settle(context, tcb, has_expired);
+    if is_ack {
+        context.send_shutdown_ack(tcb)
+    } else {
+        context.send_shutdown(tcb)
     }
-    if !t2_shutdown.is_running() {
-        context.abort_by_retransmissions(tcb)?;
-        return Ok(true);
-    }
-    context.send_shutdown(tcb)?;
-    go_on(context, tcb)
 }
 
-/// After the own SHUTDOWN ACK: T2-shutdown sends it again.
-fn tick_shutdown_ack_sent<C: Checksum>(
+/// After the own SHUTDOWN, or the own SHUTDOWN ACK: T2-shutdown sends it again (RFC 9260 section 9.2).
+fn tick_shutdown<C: Checksum>(
     context: &mut Context<C>,
+    is_ack: bool,
     t2_shutdown: &mut Timer,
     tcb: &mut TransmissionControlBlock,
 ) -> Result<bool, AllocError>
     ensures timer { OnOk result (t2_shutdown.new ≡ expire context.old.clock t2_shutdown.old) }
     ensures left { IfOk result (λ ended. left_of C.word_of tcb.new context.new ended
-        ≡ table.tick_t2 context.old.clock send_shutdown_ack t2_shutdown.old (table.tick_timers (tcb_of tcb.old) (context_of C.word_of context.old))) }
+        ≡ table.tick_t2 context.old.clock (cond is_ack send_shutdown_ack send_shutdown) t2_shutdown.old (table.tick_timers (tcb_of tcb.old) (context_of C.word_of context.old))) }
 {
     let now = context.clock;
     let has_expired = tick_tcb(context, tcb)?;
@@ -224,7 +217,7 @@ fn tick_shutdown_ack_sent<C: Checksum>(
         context.abort_by_retransmissions(tcb)?;
         return Ok(true);
     }
-    context.send_shutdown_ack(tcb)?;
+    send_again(context, is_ack, tcb)?;
     go_on(context, tcb)
 }
 
@@ -239,9 +232,9 @@ fn tick_open<C: Checksum>(
     match phase {
         Phase::CookieEchoed(echoed) => tick_cookie_echoed(context, echoed, tcb),
         Phase::Established | Phase::ShutdownPending => tick_established(context, tcb),
-        Phase::ShutdownSent(t2_shutdown) => tick_shutdown_sent(context, t2_shutdown, tcb),
+        Phase::ShutdownSent(t2_shutdown) => tick_shutdown(context, false, t2_shutdown, tcb),
         Phase::ShutdownReceived => tick_established(context, tcb),
-        Phase::ShutdownAckSent(t2_shutdown) => tick_shutdown_ack_sent(context, t2_shutdown, tcb),
+        Phase::ShutdownAckSent(t2_shutdown) => tick_shutdown(context, true, t2_shutdown, tcb),
     }
 }
 
