@@ -3,7 +3,7 @@
 
 use crate::queue_steps::{Emitted, at};
 use crate::steps::Step::{
-    Accept, AcceptOnce, AcceptShort, BeginReset, Flight, GivenUp, HandOver, Hears, IsDue,
+    Accept, AcceptOnce, AcceptShort, BeginReset, Emits, Flight, GivenUp, HandOver, IsDue,
     NoneIsKept, Point, QueueIsEmpty, Sack, Sends, SendsFast, SendsNothing, TimesOut,
 };
 use crate::steps::{Answer, Sender, Step, fresh, holds};
