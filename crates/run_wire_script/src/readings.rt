@@ -1,6 +1,6 @@
 //! What packets are read as whose checksum is the sum of their bytes.
 
-use sctp_packet::{Chunk, SctpPacket};
+use sctp_packet::{Chunk, PacketParseError, SctpPacket};
 use sctp_wire::Policy;
 use std::alloc::{AllocError, Global};
 use std::fmt;
@@ -64,6 +64,7 @@ fn reading(alloc: Global, bytes: &[u8], look: Look) -> Result<String, AllocError
             drop(packet);
             text
         }
+        Err(PacketParseError::Memory) => Err(AllocError),
         Err(fault) => format!(in alloc; "{fault}"),
     }
 }
