@@ -1,7 +1,9 @@
 //! What packets are read as whose checksum is the sum of their bytes.
 
+use crate::packets;
 use sctp_packet::{Chunk, PacketParseError, SctpPacket};
-use sctp_wire::Policy;
+use sctp_probe::ByteSum;
+use sctp_wire::{Checksum, Policy};
 use std::alloc::{AllocError, Global};
 use std::fmt;
 
@@ -23,22 +25,17 @@ impl fmt::Display for Look {
 
 impl Look {
     fn policy(self) -> Policy {
-        Policy {
-            disable_checksum_verification: matches!(self, Look::AnyChecksum),
-            ..Policy::default()
+        match self {
+            Look::AnyChecksum => packets::unchecked(),
+            Look::ItsChecksum => Policy::default(),
         }
     }
 }
 
 /// The sum of the packet's bytes, with the checksum's field as zeros.
 fn sum_of(packet: &[u8]) -> u32 {
-    let mut sum: u32 = 0;
-    for (place, byte) in packet.iter().enumerate() {
-        if place < 8 || place >= 12 {
-            sum = sum.wrapping_add(u32::from(*byte));
-        }
-    }
-    sum
+    let (before, after) = (packet.len().min(8), packet.len().min(12));
+    ByteSum.word(&packet[..before], &packet[after..])
 }
 
 /// What each chunk says.

@@ -2,7 +2,8 @@
 
 use crate::packets;
 use crate::show::refuse;
-use sctp_packet::{Chunk, PacketView, RawChunk, SctpPacket};
+use sctp_packet::{Chunk, PacketParseError, PacketView, RawChunk, SctpPacket};
+use sctp_wire::ChunkParseError;
 use std::alloc::Global;
 use std::io;
 
@@ -26,21 +27,27 @@ fn compare(rt: &HostRuntime, packet: &SctpPacket, bytes: &[u8]) -> io::Result<()
     }
 }
 
-/// Whether the chunks in place are these, as they are shown, with these payloads.
-fn is_alike(alloc: Global, chunks: &[Chunk], bytes: &[u8]) -> anyhow::Result<bool> {
+/// Whether the chunks in place are these.
+fn is_alike(alloc: Global, chunks: &[Chunk], bytes: &[u8]) -> Result<bool, PacketParseError> {
     let mut view = PacketView::new(bytes, 0, &packets::unchecked())?;
     for chunk in chunks {
         let Some(raw) = view.next_chunk() else {
             return Ok(false);
         };
-        let again = Chunk::try_from(alloc, raw)?;
-        let text = format!(in alloc; "{again}")?;
-        drop(again);
-        if text != format!(in alloc; "{chunk}")? || !has_payload(chunk, raw) {
+        if !is_same(alloc, chunk, raw)? {
             return Ok(false);
         }
     }
     Ok(view.next_chunk().is_none())
+}
+
+/// Whether the chunk in place is this one, as it is shown, with this payload.
+fn is_same(alloc: Global, chunk: &Chunk, raw: RawChunk<'_>) -> Result<bool, ChunkParseError> {
+    let again = Chunk::try_from(alloc, raw)?;
+    let text = format!(in alloc; "{again}");
+    drop(again);
+    let text = text?;
+    Ok(text == format!(in alloc; "{chunk}")? && has_payload(chunk, raw))
 }
 
 /// Whether the payload in place is the one that was copied, where the chunk has one.
