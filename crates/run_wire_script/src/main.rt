@@ -1,7 +1,8 @@
-//! The wire formats, row by row: reads items, chunks and packets, writes them again, and says what it finds.
+//! The wire formats, row by row: reads items, chunks and packets, writes them again, says what it finds, and draws conversations.
 //!
 //! Standard input has a command a line, and each is answered on standard output; a line that is no command is answered by `?`
-//! and itself. A line that begins with `#` says what the rows below it show; it is printed too, and begins a new builder.
+//! and itself. A line that begins with `#` says what the rows below it show; it is printed too, and begins a new builder and a
+//! new conversation.
 //! HEX is bytes as hex digits, other words are decimal numbers of 32 bits. `cut` and `lengths` answer twice, with any checksum let through, and
 //! with the packet's own alone, which is the sum of its bytes; readings that follow one another and are equal are printed once, behind the first
 //! and the last of what they are of.
@@ -27,6 +28,10 @@
 //! | `builder LIMIT`, `add HEX`, `unsummed`, `no-checksum`, `build WORD` | a builder up to its limit |
 //! | `data SIZE`, `fragment` | whether a DATA chunk of so many bytes fits into a packet; an empty fragment |
 //! | `clean START END ..`, `validate START END ..` | the SACK of these blocks cleaned; whether it is valid |
+//! | `sent END NANOSECONDS NUMBER HEX` | nothing: the end sent its packet of this number |
+//! | `given END NANOSECONDS NUMBER` | nothing: the other end's packet of this number was given to this one |
+//! | `note END NANOSECONDS WORDS` | nothing: words of the end |
+//! | `ladder`, `chart`, `pcap` | the rows so far as text and as SVG; a capture in hex digits |
 #![tactic(auto)]
 
 mod building;
@@ -36,12 +41,14 @@ mod items;
 mod numbers;
 mod packets;
 mod readings;
+mod rows;
 mod sacks;
 mod show;
 mod vectors;
 
 use numbers::number;
 use sctp_packet::SctpPacketBuilder;
+use sctp_trace::Row;
 use sctp_wire::Policy;
 use std::io;
 use std::io::Read;
@@ -117,11 +124,17 @@ fn answer(rt: &HostRuntime, builder: &mut SctpPacketBuilder, line: &str) -> io::
     )
 }
 
-fn answer_line(rt: &HostRuntime, builder: &mut SctpPacketBuilder, line: &str) -> io::Result<()> {
+fn answer_line(
+    rt: &HostRuntime,
+    builder: &mut SctpPacketBuilder,
+    rows: &mut Vec<Row>,
+    line: &str,
+) -> io::Result<()> {
     if line.starts_with('#') {
         building::begin(builder, rt.alloc(), LIMIT);
+        rows.clear();
         println!(rt; "{line}")
-    } else if answer(rt, builder, line)? {
+    } else if rows::answer(rt, rows, line)? || answer(rt, builder, line)? {
         Ok(())
     } else {
         println!(rt; "? {line}")
@@ -131,19 +144,21 @@ fn answer_line(rt: &HostRuntime, builder: &mut SctpPacketBuilder, line: &str) ->
 fn answer_all(
     rt: &HostRuntime,
     builder: &mut SctpPacketBuilder,
+    rows: &mut Vec<Row>,
     input: &mut String,
 ) -> io::Result<()> {
     rt.reader().read_to_string(input)?;
     for line in input.lines() {
-        answer_line(rt, builder, line)?;
+        answer_line(rt, builder, rows, line)?;
     }
     Ok(())
 }
 
 fn main(rt: HostRuntime) -> io::Result<()> {
     let mut builder = building::empty(rt.alloc(), LIMIT);
+    let mut rows = Vec::new(rt.alloc());
     let mut input = String::new(rt.alloc());
-    let outcome = answer_all(&rt, &mut builder, &mut input);
+    let outcome = answer_all(&rt, &mut builder, &mut rows, &mut input);
     drop(builder);
     outcome
 }
