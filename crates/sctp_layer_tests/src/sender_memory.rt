@@ -2,11 +2,11 @@
 //! lacks. Then it leaves the windows and the timer as it should, and the sender goes on until nothing is left.
 
 use crate::queue_steps::{Emitted, at};
-use crate::steps::Step::{
+use crate::sender_steps::Step::{
     Accept, AcceptOnce, AcceptShort, BeginReset, Emits, Flight, GivenUp, HandOver, IsDue,
     NoneIsKept, Point, QueueIsEmpty, Sack, Sends, SendsFast, SendsNothing, TimesOut,
 };
-use crate::steps::{Answer, Sender, Step, fresh, holds};
+use crate::sender_steps::{Answer, Sender, Step, fresh, holds};
 use sctp_packet::{SackChunk, clean_sack};
 use sctp_serial::SocketTime;
 use sctp_state::GivenUpCause;

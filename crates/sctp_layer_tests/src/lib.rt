@@ -1,0 +1,20 @@
+//! Tests of the layers below the association that are no rows of a script: numbers that wrap, what derives mean, keys through
+//! their bound, and sender and receiver in want of memory. Apart, so that each crate is proved once.
+#![tactic(auto)]
+
+#[cfg(test)]
+mod queue_memory;
+#[cfg(test)]
+mod queue_steps;
+#[cfg(test)]
+mod reassembly_key;
+#[cfg(test)]
+mod receiver_memory;
+#[cfg(test)]
+mod sender_memory;
+#[cfg(test)]
+mod sender_steps;
+#[cfg(test)]
+mod serial;
+#[cfg(test)]
+mod state;
