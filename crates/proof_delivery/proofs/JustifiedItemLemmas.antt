@@ -24,9 +24,9 @@ use Rattle.sctp_tx.specs.Retransmission.{Sender, sender_if, emitted_if, timed_ou
 use Rattle.sctp_tx.specs.Resent.{resent, resent_fast, may_send_new, timed_if, send_fast}
 use Rattle.sctp_tx.specs.ForwardPoints.{expire}
 use Rattle.sctp_tx.specs.Sending.{Filling, offered_payload, item_of, append, Turned, turned_if, next_turn, fill, discard_all, without_discards, filled_with, send}
-use Rattle.proof_tx_refines.proofs.ItemsLemmas.{acked_same, uncovered_same, resent_same, slowed_same, nacked_same}
 use Rattle.proof_tx_refines.proofs.LossLemmas.{flies_lives, lacks_lives}
 use Rattle.proof_delivery.proofs.JustifiedQueueLemmas.{Holds, Makes, Turns, all_behind, due_right, same_discards, holds_discards, produces}
+use Rattle.sctp_tx_outstanding.proofs.RecordLemmas.{resent_same, slowed_same, acked_same, uncovered_same, nacked_same}
 
 -- ---- tests
 

@@ -20,7 +20,7 @@ use Rattle.sctp_tx_queue.specs.Restarted.{whole_front, restart, restarted_one, e
 use Rattle.sctp_tx_queue.specs.Resets.{is_partly, emitted_waiting, prepare_stream, prepare_reset, after_step, step_stream, each_stepped}
 use Rattle.sctp_tx_outstanding.specs.Items.{Discard}
 use Rattle.sctp_tx.specs.Sending.{discard_all}
-use Rattle.proof_protocol.proofs.CommonLemmas.{same_at}
+use Rattle.sctp_serial.proofs.NumberLemmas.{same_at}
 
 -- ---- lists
 

@@ -19,7 +19,7 @@ use Rattle.proof_endpoint.specs.Mapped.{Carried, Mapping, map_emitted}
 use Rattle.proof_endpoint.proofs.EmittedMapsLemmas.{map_fragments, maps_fragments_sent}
 use Rattle.proof_endpoint.proofs.ReceivedLemmas.{each_push}
 use Rattle.proof_draws.proofs.FilledItemsLemmas.{IsFilled, AreFilled, expired_filled, receive_filled, HasPayload, ResentIsFilled, resend_filled}
-use Rattle.proof_protocol.proofs.CommonLemmas.{not_zero, second_some}
+use Rattle.sctp_serial.proofs.NumberLemmas.{not_zero, second_some}
 
 abbrev pub SenderIsFilled : Sender → Type 0
 SenderIsFilled s = AreFilled s.outstanding.items

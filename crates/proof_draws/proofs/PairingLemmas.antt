@@ -16,6 +16,7 @@ use Rattle.proof_draws.specs.NamedChunks.{move_by}
 use Rattle.proof_draws.specs.Renamed.{rename, DiffersFrom, AreApart, IsPaired, Renames}
 use Rattle.proof_draws.proofs.RenamedLemmas.{renames}
 use Rattle.proof_draws.specs.Pairing.{drawn_at, drawn, AllDrawnTagsAreDistinct, pairs_of, pairs, tags_of, distance, far, Knows}
+use Rattle.sctp_serial.proofs.NumberLemmas.{either_fits}
 
 -- ---- members
 
@@ -170,13 +171,9 @@ far_at (p ∷ ps) d e a (inr h) =
     ap (λ (b : Bool). cond b (distance p.0.first p.1.first) (far ps d.tag)) (ne_eqb p.0.tag d.tag (differs_at p.0.tag p.1.tag ps a.2 d e h))
     ∙ far_at ps d e a.3 h
 
-far_cond : (b : Bool) (m n : ℕ) → m < 2 ^ 32 → n < 2 ^ 32 → cond b m n < 2 ^ 32
-far_cond true m n p q = p
-far_cond false m n p q = q
-
 pub far_below : (ps : Pairs) (tag : ℕ) → far ps tag < 2 ^ 32
 far_below [] tag = omega arith
-far_below (p ∷ ps) tag = far_cond (p.0.tag == tag) (distance p.0.first p.1.first) (far ps tag) (omega arith) (far_below ps tag)
+far_below (p ∷ ps) tag = either_fits (p.0.tag == tag) (distance p.0.first p.1.first) (far ps tag) (omega arith) (far_below ps tag)
 
 pub distance_moves : (from to : ℕ) → from < 2 ^ 32 → to < 2 ^ 32 → move_by (distance from to) from ≡ to
 distance_moves from to p q = omega (arith, p, q)

@@ -20,7 +20,7 @@ pub record IsSmall (most : ℕ) (p : Packet) : Type 0 where
   pub limit : p.limit ≤ most
   pub short : 12 + length (chunks_bytes p.chunks) ≤ most
 
-no_bytes : length (chunks_bytes []) ≡ 0
+pub no_bytes : length (chunks_bytes []) ≡ 0
 unfolding chunks_bytes
 no_bytes = refl
 

@@ -12,7 +12,7 @@ use Rattle.sctp_serial.specs.Unwrapped.{words, halves, wire}
 use Rattle.sctp_state.specs.Numbers.{most_u32}
 use Rattle.sctp_capabilities.specs.Capabilities.{Capabilities, zero_checksum_enabled, same_method}
 use Rattle.sctp_state.specs.Handover.{HandoverState, Transmission}
-use Rattle.sctp_stream_scheduler.specs.Scheduler.{Scheduler, scheduler, enable_message_interleaving}
+use Rattle.sctp_stream_scheduler.specs.Scheduler.{scheduler, enable_message_interleaving}
 use Rattle.sctp_state.specs.Validity.{rises_from, outgoing_ids, ordered_ids, unordered_ids, has_small_numbers, is_valid_reception, are_valid_messages, message_ids_differ, first_alone_is_partly_sent, partly_sent_count, has_valid_queue, are_valid_items, has_valid_items, payload_fits, queued_bytes, outstanding_bytes, is_valid_transmission, is_valid_state}
 use Rattle.sctp_rx.specs.Delivery.{OrderedStream, UnorderedStream}
 use Rattle.sctp_rx.specs.Seen.{has_gap}
@@ -27,22 +27,22 @@ use Rattle.sctp_tx_outstanding.specs.Items.{Outstanding, no_items}
 use Rattle.sctp_tx_outstanding.specs.Handover.{item_records}
 use Rattle.sctp_tx_outstanding.specs.Again as items_again
 use Rattle.sctp_tx_outstanding.proofs.AgainLemmas.{comes_back}
-use Rattle.sctp_tx_queue.specs.Queue.{Streams, Entries, Queue, blank}
+use Rattle.sctp_tx_queue.specs.Queue.{Entries, Queue, blank}
 use Rattle.sctp_tx_queue.specs.Handover.{outgoing_streams, queued_messages}
-use Rattle.sctp_tx_queue.specs.Restored.{streams_from, each_scheduled}
+use Rattle.sctp_tx_queue.specs.Restored.{streams_from}
 use Rattle.sctp_tx_queue.specs.InOrder.{are_in_order}
 use Rattle.sctp_tx_queue.specs.TakenUp.{is_numbered_as_sent}
 use Rattle.sctp_tx_queue.specs.Again as queue_again
 use Rattle.sctp_tx_queue.specs.Readiness as queued
 use Rattle.sctp_tx_queue.proofs.AgainLemmas as queue_back
-use Rattle.sctp_tx_queue.proofs.InOrderLemmas.{set_bytes_mode}
-use Rattle.sctp_tx_queue.proofs.TakenUpLemmas.{restored_in_order, written_as_sent}
+use Rattle.sctp_tx_queue.proofs.TakenUpLemmas.{restored_in_order, written_as_sent, scheduled_mode}
 use Rattle.sctp_tx.specs.Handover as sender
 use Rattle.spec_endpoint.specs.Association.{Tcb, Context, Packing}
 use Rattle.spec_endpoint.specs.Requests.{Request}
 use Rattle.spec_endpoint.specs.Handover.{is_strict, receiving, pending, request_readiness, block_readiness, readiness, handover_state, handed_over, method_if, left_if, restored_unless, invalid_unless}
 use Rattle.proof_endpoint.specs.HandoverRoundTrip.{IsConnected, IsQueue, Fits, queue_bytes, item_bytes, endpoint_state, successor, block_again, context_again, ItemsComeBack, QueueComesBack, ordered_again, unordered_again, ReceptionComesBack, NothingWaits, HandoverGoesOn, MadeConnected}
 use Rattle.proof_endpoint.proofs.HandoverValidLemmas.{rises, outgoing_rise, Each, each, AreLeft, messages_are_valid, numbers_differ, IsOrdered, first_alone, one_is_begun, in_one_state, count_items, next_is, queue_bytes_are, item_bytes_are}
+use Rattle.sctp_reassembly.proofs.WrittenLemmas.{small_number}
 
 -- ---- what was received
 
@@ -53,11 +53,6 @@ ordered_are b (e ∷ es) = ap (λ (ns : List ℕ). e.0 ∷ ns) (ordered_are b es
 unordered_are : (es : received.Entries UnorderedStream) → unordered_ids (unordered_records es) ≡ keys_of es
 unordered_are [] = refl
 unordered_are (e ∷ es) = ap (λ (ns : List ℕ). e.0 ∷ ns) (unordered_are es)
-
-small_number : (n : ℕ) → nat_le (wire halves 0 n) 65535 ≡ true
-small_number n =
-    let small : wire halves 0 n ≤ 65535 = omega arith in
-    le-leb (wire halves 0 n) 65535 small
 
 small_numbers : (es : received.Entries OrderedStream) → has_small_numbers (ordered_records false es) ≡ true
 small_numbers [] = refl
@@ -193,10 +188,6 @@ reception_back t c k = record {
   mode = sym k.mode_received;
 }
 
-pub received_mode : (ids : List ℕ) (ss : Streams) (s : Scheduler) → (each_scheduled ids ss s).is_interleaved ≡ s.is_interleaved
-received_mode [] ss s = refl
-received_mode (id ∷ ids) ss s = received_mode ids ss _ ∙ set_bytes_mode id _ _ s
-
 module _ (t : Tcb) (c : Context (List ℕ)) (pack : Packing (List ℕ)) (random : Words) (k : IsConnected t c) (q : IsQueue c.queue) (f : Fits t c.queue) where
   queue_back_again : QueueComesBack c.now c.options.default_stream_buffered_amount_low_threshold c.queue (context_again t c pack random).queue
   queue_back_again =
@@ -208,7 +199,7 @@ module _ (t : Tcb) (c : Context (List ℕ)) (pack : Packing (List ℕ)) (random 
       record {
         streams = w.streams;
         next_number = w.count ∙ mod-eq_of_lt q.next;
-        mode = received_mode (outgoing_ids tx.streams) (streams_from c.now tx other.streams) (enable_message_interleaving is_interleaved (scheduler other.scheduler.most_payload)) ∙ sym k.mode_queued;
+        mode = scheduled_mode (outgoing_ids tx.streams) (streams_from c.now tx other.streams) (enable_message_interleaving is_interleaved (scheduler other.scheduler.most_payload)) ∙ sym k.mode_queued;
         order = restored_in_order c.now is_interleaved tx other (transmission_valid t c k q f) numbered;
       }
 

@@ -23,7 +23,7 @@ use Rattle.sctp_tx_queue.specs.Handover.{queued_message, messages_of, outgoing_s
 use Rattle.sctp_tx_queue.specs.InOrder.{is_waiting, is_begun_or_waiting, are_in_order, is_first_begun, is_this, has_rest}
 use Rattle.sctp_tx_queue.proofs.AgainLemmas.{AreAbove, are_above}
 use Rattle.proof_endpoint.specs.HandoverRoundTrip.{one_if, numbered_count, numbered_in, message_bytes, queue_bytes, item_bytes}
-use Rattle.proof_protocol.proofs.CommonLemmas.{at_itself}
+use Rattle.sctp_serial.proofs.NumberLemmas.{at_itself, greater_differs, zero_is_least}
 
 -- ---- ids that ascend
 
@@ -215,11 +215,8 @@ partly_append k (x ∷ xs) ys p q = go ((x.stream_id == k) && is_partly_sent x) 
     go true e ih = absurd (cc)
     go false e ih = ih e
 
-unsent : (n : ℕ) → (n == 0) ≡ true → nat_lt 0 n ≡ false
-unsent n h = grind (arith, nat_tests)
-
 waiting_unsent : (m : Queued) → is_waiting m ≡ true → nat_lt 0 m.offset ≡ false
-waiting_unsent m h = unsent m.offset (and_parts (not (is_some m.numbers)) (m.offset == 0) h).1
+waiting_unsent m h = zero_is_least m.offset (and_parts (not (is_some m.numbers)) (m.offset == 0) h).1
 
 waiting_none : (now id k : ℕ) (ms : List Queued) → list_all is_waiting ms ≡ true → has_partly_sent k (map (queued_message now id) ms) ≡ false
 waiting_none now id k [] h = refl
@@ -234,13 +231,10 @@ other_none now id k (m ∷ ms) h =
     or_from ((id == k) && nat_lt 0 m.offset) (has_partly_sent k (map (queued_message now id) ms))
     (ap (λ (b : Bool). b && nat_lt 0 m.offset) h) (other_none now id k ms h)
 
-apart : (k m : ℕ) → k < m → (m == k) ≡ false
-apart k m l = grind (arith, nat_tests)
-
 above_none : (now k : ℕ) (es : Entries) → AreAbove k es → has_partly_sent k (queued_messages now es) ≡ false
 above_none now k [] h = refl
 above_none now k (e ∷ es) h =
-    partly_append k (messages_of now e.0 e.1) (queued_messages now es) (other_none now e.0 k e.1.messages (apart k e.0 h.0)) (above_none now k es h.1)
+    partly_append k (messages_of now e.0 e.1) (queued_messages now es) (other_none now e.0 k e.1.messages (greater_differs k e.0 h.0)) (above_none now k es h.1)
 
 waiting_alone : (now id : ℕ) (ms : List Queued) (rest : List StreamMessage) → list_all is_waiting ms ≡ true → has_partly_sent id rest ≡ false
     → first_alone_is_partly_sent rest ≡ true → first_alone_is_partly_sent (map (queued_message now id) ms ++ rest) ≡ true
@@ -288,7 +282,7 @@ front_count b true n h e = go (nat_lt 0 n)
     go : (c : Bool) → part c ≤ one_if b
     go true = omega (arith, ap one_if e)
     go false = omega arith
-front_count b false n h e = omega (arith, ap part (unsent n h))
+front_count b false n h e = omega (arith, ap part (zero_is_least n h))
 
 order_count : (now id : ℕ) (b : Bool) (ms : List Queued) → are_in_order ms ≡ true → is_first_begun ms ≡ b → partly_sent_count (map (queued_message now id) ms) ≤ one_if b
 order_count now id b [] h e = omega arith
@@ -316,7 +310,7 @@ unfolding these
 these_above j k [] e h = refl
 these_above j k (x ∷ xs) e h =
     let higher : j < x.0 = grind (arith, nat_tests, h.0, e) in
-    omega (arith, ap one_if (apart j x.0 higher), these_above j k xs e h.1)
+    omega (arith, ap one_if (greater_differs j x.0 higher), these_above j k xs e h.1)
 
 these_few : (begun : Option ℕ) (es : Entries) → IsStrictlySortedBy nat_cmp (keys_of es) → these begun es ≤ 1
 unfolding these IsStrictlySortedBy

@@ -56,7 +56,7 @@ pub mod LifecycleLemmas
 mod HandoverValidLemmas
 pub mod HandoverAgainLemmas
 mod NumberedOnceLemmas
-mod NewEndLemmas
+pub mod NewEndLemmas
 pub mod BundledLemmas
 pub mod PacketActsLemmas
 pub mod RowActsLemmas

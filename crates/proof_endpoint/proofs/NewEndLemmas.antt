@@ -20,7 +20,7 @@ ready_by : (o : Options) (i : Identity) (a_rwnd : ℕ) (peer : Capabilities) (st
 ready_by o i a_rwnd peer true = refl
 ready_by o i a_rwnd peer false = refl
 
-none_sorted : IsStrictlySortedBy nat_cmp []
+pub none_sorted : IsStrictlySortedBy nat_cmp []
 unfolding IsStrictlySortedBy
 none_sorted = tt
 

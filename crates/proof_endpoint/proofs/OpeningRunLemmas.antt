@@ -24,7 +24,7 @@ use Rattle.spec_endpoint.specs.Shown.{Association, association_in}
 use Rattle.spec_endpoint.specs.Association.{heartbeats}
 use Rattle.spec_endpoint.specs.Heartbeats.{beating}
 use Rattle.proof_endpoint.specs.FirstRun.{first_of, tag_of, init_tree, init_packet, init_ack_packet, cookie_echo_packet, cookie_ack_packet, give, quiet, pack_event, asking, answering, echoing, accepting, opening, association, Shows, Opens}
-use Rattle.proof_protocol.proofs.CommonLemmas.{is_itself}
+use Rattle.sctp_serial.proofs.NumberLemmas.{is_itself}
 
 -- ---- the ends, by their parts
 

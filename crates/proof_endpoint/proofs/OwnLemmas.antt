@@ -1,5 +1,5 @@
 -- Chunks that an end makes of what it has are fair.
-use Rattle.std.proofs.Common.{◌≡◌, ℕ, zero, suc, ◌==◌, ◌^◌, ◌<◌, Bool, true, false, cond, not, Option, Some, None, List, [], ◌∷◌, ◌++◌, refl, subst, arith}
+use Rattle.std.proofs.Common.{◌≡◌, ℕ, zero, suc, ◌==◌, ◌^◌, ◌<◌, Bool, true, false, not, Option, Some, None, List, [], ◌∷◌, ◌++◌, refl, subst, arith}
 use Rattle.std.specs.Prelude.{nat_lt}
 use Rattle.std.specs.List.{list_all}
 use Rattle.std.specs.Str.{IsUtf8, IsAscii}
@@ -22,6 +22,7 @@ use Rattle.proof_endpoint.specs.Sound.{HasBytes}
 use Rattle.proof_endpoint.specs.Fair.{IsFairParameter, IsFairCause, IsFair}
 use Rattle.proof_endpoint.proofs.ReceivedLemmas.{each_append, each_push}
 use Rattle.proof_endpoint.proofs.SoundItemsLemmas.{word_small}
+use Rattle.sctp_serial.proofs.NumberLemmas.{fits_or_zero}
 
 -- ---- texts
 
@@ -145,9 +146,5 @@ pub own_cookies : (ps : List ParameterTree) → Each IsOwn ps → Each HasBytes 
 own_cookies [] h = tt
 own_cookies (p ∷ ps) h = (h.0.cookie, own_cookies ps h.1)
 
-method_if : (b : Bool) (own : ℕ) → own < 2 ^ 32 → cond b own 0 < 2 ^ 32
-method_if true own h = h
-method_if false own h = omega arith
-
 pub same_method_fits : (own other : ℕ) → own < 2 ^ 32 → same_method own other < 2 ^ 32
-same_method_fits own other h = method_if (own == other) own h
+same_method_fits own other h = fits_or_zero (own == other) own h

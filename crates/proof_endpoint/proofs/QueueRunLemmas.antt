@@ -13,7 +13,7 @@ use Rattle.sctp_state.specs.Numbers.{ms}
 use Rattle.sctp_state.specs.Events.{Emitted, emit_events, OnBufferedAmountLow}
 use Rattle.proof_endpoint.specs.FirstRun.{fragment, fully_sent}
 use Rattle.spec_endpoint.specs.Calls.{queue_entry}
-use Rattle.proof_protocol.proofs.CommonLemmas.{is_itself}
+use Rattle.sctp_serial.proofs.NumberLemmas.{is_itself}
 
 pub not_below_itself : (n : ℕ) → nat_lt n n ≡ false
 not_below_itself n = grind (arith)

@@ -7,7 +7,7 @@ use Rattle.spec_endpoint.specs.Requests.{is_final, is_last, is_next}
 use Rattle.spec_endpoint.specs.StreamReset.{Handling, is_ahead, resets_if, outgoing_by}
 use Rattle.spec_endpoint.specs.ResetLaws.{DoneRequestsAreAnswered, IsNotPerformed, ResetsWait, RequestsFit}
 use Rattle.proof_endpoint.proofs.RequestSizeLemmas.{request_fits}
-use Rattle.proof_protocol.proofs.CommonLemmas.{is_itself}
+use Rattle.sctp_serial.proofs.NumberLemmas.{is_itself}
 
 pub done_are_answered : DoneRequestsAreAnswered
 done_are_answered number last_tsn streams x e f =

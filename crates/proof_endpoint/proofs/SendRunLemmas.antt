@@ -34,7 +34,8 @@ use Rattle.proof_endpoint.specs.FirstRun.{first_of, tag_of, fragment, fully_sent
 use Rattle.proof_endpoint.proofs.OpeningRunLemmas.{emitting, first_small, drawn, block, open_a, opened_a, opens}
 use Rattle.proof_endpoint.proofs.QueueRunLemmas.{holding, emptied, queues, produces}
 use Rattle.proof_endpoint.proofs.IdleRunLemmas.{fill_idle, burst_ends}
-use Rattle.proof_protocol.proofs.CommonLemmas.{not_zero}
+use Rattle.sctp_serial.proofs.NumberLemmas.{not_zero}
+use Rattle.proof_endpoint.proofs.GoesLemmas.{no_bytes}
 
 -- ---- tests
 
@@ -55,10 +56,6 @@ length_chunk : (chunk : ChunkTree) (n : ℕ) → length (chunk_item chunk).value
 unfolding chunk_bytes
 length_chunk chunk n h = omega (arith, length_padded_item (chunk_item chunk), padding_small (length (chunk_item chunk).value), h)
 
-length_none : length (chunks_bytes []) ≡ 0
-unfolding chunks_bytes
-length_none = refl
-
 -- a chunk of a message of 1,000 bytes fits an empty packet
 pub data_fits : (tsn : ℕ) (is_summed : Bool) (tag : ℕ) (f : FragmentTree) → length f.payload ≤ 1000
     → fits (record { tag = tag; is_summed = is_summed; limit = 1188; chunks = [] }) (data_chunk tsn false f) ≡ true
@@ -68,7 +65,7 @@ data_fits tsn is_summed tag f few =
     let long : length (chunk_bytes (data_chunk tsn false f)) ≤ 7 + (12 + length f.payload) = length_chunk (data_chunk tsn false f) (12 + length f.payload) size in
     ap (λ (n : ℕ). (nat_lt (4 + n) 65536 && true) && nat_le (length (chunk_bytes (data_chunk tsn false f))) (room p)) size
     ∙ ap (λ (b : Bool). (b && true) && nat_le (length (chunk_bytes (data_chunk tsn false f))) (room p)) (short_length (length f.payload) few)
-    ∙ le-leb (length (chunk_bytes (data_chunk tsn false f))) (room p) (omega (arith, long, few, length_none))
+    ∙ le-leb (length (chunk_bytes (data_chunk tsn false f))) (room p) (omega (arith, long, few, no_bytes))
 
 -- the queue takes it
 pub accepts_message : {P : Type 0} (pack : Packing P) (m : Message) → IsSmall m → refusal m Connected (open_a pack 2 2) ≡ None

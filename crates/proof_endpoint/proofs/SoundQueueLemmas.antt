@@ -21,7 +21,7 @@ use Rattle.sctp_tx_queue.specs.Restored.{is_on, message_from, entries_from, rest
 use Rattle.sctp_tx_queue.proofs.StreamLemmas.{step_messages}
 use Rattle.proof_endpoint.specs.Sound.{FitsQueued, FitsStream, FitsQueue, FitsStreamMessage}
 use Rattle.proof_endpoint.proofs.ReceivedLemmas.{each_push, each_take}
-use Rattle.proof_protocol.proofs.CommonLemmas.{same_at}
+use Rattle.sctp_serial.proofs.NumberLemmas.{same_at}
 
 -- ---- the map of streams
 

@@ -26,7 +26,7 @@ use Rattle.proof_endpoint.specs.FirstRun.{first_of, tag_of, fragment, data_packe
 use Rattle.proof_endpoint.proofs.OpeningRunLemmas.{emitting, open_b, first_small, tag_some, own_taken, drawn, block, opened_b, accepts}
 use Rattle.proof_endpoint.proofs.QueueRunLemmas.{not_below_itself}
 use Rattle.proof_endpoint.proofs.SendRunLemmas.{first_written}
-use Rattle.proof_protocol.proofs.CommonLemmas.{is_itself, not_zero}
+use Rattle.sctp_serial.proofs.NumberLemmas.{is_itself, not_zero}
 
 -- the first TSN is read as the first number
 pub near_first : (first : ℕ) → first < 2 ^ 32 → nearest words first 4294967295 first ≡ 4294967296

@@ -1,7 +1,5 @@
 -- What a handover asks holds of each end that calls lead to.
 use Rattle.std.proofs.Common.{◌≡◌, ℕ, ◌+◌, ◌%◌, ◌^◌, ◌<◌, Bool, true, false, Option, Some, None, List, [], ◌∷◌, ◌++◌, length, mod-eq_of_lt, refl, sym, ap, subst, ◌∙◌, arith}
-use Rattle.std.specs.List.Sorted.{IsStrictlySortedBy}
-use Rattle.std.specs.Ordering.{nat_cmp}
 use Rattle.sctp_serial.specs.Messages.{Message}
 use Rattle.sctp_packet.specs.Grammar.{Each}
 use Rattle.sctp_state.specs.declared.api.SocketState.{SocketState}
@@ -26,12 +24,9 @@ use Rattle.proof_endpoint.proofs.ActsLemmas.{keeps_call}
 use Rattle.proof_pair.proofs.AskedActsLemmas.{Leads, associated_on}
 use Rattle.proof_pair.proofs.AskedKeepsLemmas.{IsQuiet, keeps}
 use Rattle.proof_pair.proofs.AskedRestoreLemmas.{takes_up}
+use Rattle.proof_endpoint.proofs.NewEndLemmas.{none_sorted}
 
 -- ---- a new end
-
-none_sorted : IsStrictlySortedBy nat_cmp []
-unfolding IsStrictlySortedBy
-none_sorted = tt
 
 pub new_ends_asked : NewEndsMeetHandoverInvariant
 new_ends_asked o pack random = record {

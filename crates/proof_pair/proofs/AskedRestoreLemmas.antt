@@ -17,8 +17,8 @@ use Rattle.sctp_tx_queue.specs.Queue.{Stream, Queue, blank}
 use Rattle.sctp_tx_queue.specs.Restored.{message_from, is_on, messages_from, stream_from, entries_from, streams_from, restore}
 use Rattle.sctp_tx_queue.specs.InOrder.{has_rest}
 use Rattle.sctp_tx_queue.specs.TakenUp.{is_numbered_as_sent}
-use Rattle.sctp_tx_queue.proofs.TakenUpLemmas.{restored_in_order}
-use Rattle.proof_endpoint.proofs.HandoverAgainLemmas.{received_mode, read_again}
+use Rattle.sctp_tx_queue.proofs.TakenUpLemmas.{restored_in_order, scheduled_mode}
+use Rattle.proof_endpoint.proofs.HandoverAgainLemmas.{read_again}
 use Rattle.proof_endpoint.proofs.ReceivedBackLemmas.{small_word}
 use Rattle.proof_pair.specs.HandoverInvariants.{IsOrdered, IsRecord}
 use Rattle.proof_pair.proofs.AskedKeepsLemmas.{TakesUp}
@@ -130,7 +130,7 @@ takes_up h connected r c valid q =
         partial = refl;
         mode = refl;
         mode_received = refl;
-        mode_queued = received_mode (outgoing_ids h.tx.streams) (streams_from c.now h.tx c.queue.streams)
+        mode_queued = scheduled_mode (outgoing_ids h.tx.streams) (streams_from c.now h.tx c.queue.streams)
             (enable_message_interleaving mode (scheduler c.queue.scheduler.most_payload));
         method = read_again h.capabilities.zero_checksum c.options.zero_checksum_method;
       };

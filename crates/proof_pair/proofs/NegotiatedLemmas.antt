@@ -8,10 +8,10 @@ use Rattle.sctp_packet.specs.Chunk.{ChunkTree, InitTree, init_chunk, init_ack_ch
 use Rattle.sctp_packet.specs.Grammar.{carried}
 use Rattle.sctp_capabilities.specs.declared.state_cookie.StateCookieError.{StateCookieError}
 use Rattle.sctp_capabilities.specs.Capabilities.{Capabilities, announce, announced_by, negotiate, agreed, announced_with, announced_by_init}
-use Rattle.sctp_capabilities.specs.Cookie.{Cookie, CapabilitiesFit, SpellsCapabilities, flag_byte, is_set, capability_bytes, cookie_bytes, cookie_from, check_cookie, read_cookie}
+use Rattle.sctp_capabilities.specs.Cookie.{Cookie, CapabilitiesFit, capability_bytes, cookie_bytes, cookie_from, check_cookie, read_cookie}
 use Rattle.sctp_state.specs.Options.{Options}
 use Rattle.sctp_capabilities.proofs.CapabilitiesLemmas.{announced_with_options, negotiated_by_init, negotiated_by_init_ack}
-use Rattle.sctp_capabilities.proofs.CookieLemmas.{cookie_from_spelled}
+use Rattle.sctp_capabilities.proofs.CookieLemmas.{cookie_from_spelled, capabilities_spelled}
 use Rattle.sctp_tx.specs.Retransmission.{Sender}
 use Rattle.sctp_tx.specs.ForwardPoints.{chunk_if}
 use Rattle.spec_endpoint.specs.Association.{Tcb, Phase, CookieEchoed, Established, ShutdownPending, ShutdownSent, ShutdownReceived, ShutdownAckSent, State, Closed, CookieWait, Open}
@@ -56,20 +56,6 @@ unfolding cookie_bytes
 same_bytes k =
     rw (be32_wraps k.peer_tag, be32_wraps k.my_tag, be32_wraps k.peer_initial_tsn, be32_wraps k.my_initial_tsn, be32_wraps k.a_rwnd, be64_wraps k.tie_tag) refl
 
-flag_set : (b : Bool) → b ≡ is_set (flag_byte b)
-flag_set true = refl
-flag_set false = refl
-
-capabilities_spelled : (k : Capabilities) → CapabilitiesFit k → SpellsCapabilities (capability_bytes k) k
-unfolding capability_bytes
-capabilities_spelled k fits = record {
-  flags = flag_byte k.partial_reliability ∷ flag_byte k.message_interleaving ∷ flag_byte k.reconfig ∷ 0 ∷ [];
-  spelled = refl;
-  four = refl;
-  partial_reliability = flag_set k.partial_reliability;
-  message_interleaving = flag_set k.message_interleaving;
-  reconfig = flag_set k.reconfig;
-  fits = fits;
 }
 
 from_small : (k : Cookie) → CapabilitiesFit k.peer_capabilities → cookie_from (cookie_bytes (small k)) ≡ small k

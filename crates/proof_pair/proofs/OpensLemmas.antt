@@ -14,7 +14,7 @@ use Rattle.sctp_state.specs.Options.{defaults}
 use Rattle.proof_pair.specs.Trace.{AreValidOptions}
 use Rattle.proof_pair.specs.Opens.{OneConnects, BothConnect}
 
-given_defaults : AreValidOptions defaults
+pub given_defaults : AreValidOptions defaults
 given_defaults = record {
   valid = record {
     sizes = record {

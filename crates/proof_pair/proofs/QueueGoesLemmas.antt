@@ -7,19 +7,17 @@ use Rattle.std.specs.List.Sorted.{IsStrictlySortedBy}
 use Rattle.std.specs.Map.{lookup, keys_of}
 use Rattle.std.specs.BTreeMap.{is_at, insert_entry}
 use Rattle.std.proofs.lemmas.Map.{keys-set_value}
-use Rattle.std.proofs.lemmas.Bool.Decides.{nat_tests}
 use Rattle.sctp_state.specs.Events.{Emitted}
-use Rattle.sctp_stream_scheduler.specs.Scheduler.{Scheduler, accept, accepted_at, finish_time}
 use Rattle.sctp_tx_outstanding.specs.Items.{Discard}
 use Rattle.sctp_tx_queue.specs.declared.send_queue.stream.ResetStep.{ResetStep}
 use Rattle.sctp_tx_queue.specs.Queue.{Stream, Streams, Entries, Queue, blank, stream, open_stream, put_stream}
-use Rattle.sctp_tx_queue.specs.Produced.{Produced, Turn, in_line, next_fragment, advance, without_stale, streams_without_stale, turn, next_stream, idle, produce_within, produce}
+use Rattle.sctp_tx_queue.specs.Produced.{Produced, Turn, next_fragment, advance, without_stale, streams_without_stale, turn, next_stream, idle, produce_within, produce}
 use Rattle.sctp_tx_queue.specs.Settings.{set_low_threshold, set_priority, front_discarded, without_front, streams_discarded, discard_from, discard}
 use Rattle.sctp_tx_queue.specs.Resets.{prepare_reset, step_stream, each_stepped}
 use Rattle.sctp_tx_queue.specs.Restarted.{restarted_one, each_restarted, reset}
 use Rattle.sctp_tx_queue.specs.InOrder.{IsInOrder, HasRests}
 use Rattle.sctp_tx_queue.proofs.AgainLemmas.{AreAbove, are_above}
-use Rattle.sctp_tx_queue.proofs.InOrderLemmas.{set_bytes_mode, threshold_in_order, priority_in_order, prepared_in_order, steps_in_order, produced_in_order, discarded_in_order}
+use Rattle.sctp_tx_queue.proofs.InOrderLemmas.{set_bytes_mode, threshold_in_order, priority_in_order, prepared_in_order, steps_in_order, produced_in_order, discarded_in_order, line_mode}
 use Rattle.sctp_tx_queue.proofs.RestLemmas.{calls_leave_rests}
 use Rattle.sctp_tx.specs.Sending.{Filling, offered_payload, append, turned_if, next_turn, fill, discard_all, filled_with, send, without_discards}
 use Rattle.sctp_tx.specs.Retransmission.{Sender}
@@ -27,19 +25,16 @@ use Rattle.sctp_tx.specs.Resent.{may_send_new, resent}
 use Rattle.sctp_tx_outstanding.specs.Resending.{Resent}
 use Rattle.proof_endpoint.specs.HandoverRoundTrip.{IsNumberedOnce, CallsNumberOnce}
 use Rattle.proof_pair.proofs.StayLemmas.{Stays, stays_same, stays_then, stays_resent, stays_timed}
-use Rattle.proof_protocol.proofs.CommonLemmas.{is_less, is_greater, second_some}
+use Rattle.sctp_serial.proofs.NumberLemmas.{second_some, is_less, is_greater, nat_cmp_less}
 
 -- ---- ids stay sorted
 
 abbrev pub AreSorted : Entries → Type 0
 AreSorted es = IsStrictlySortedBy nat_cmp (keys_of es)
 
-less : (m k : ℕ) → m < k → nat_cmp m k ≡ Less
-less m k l = grind (arith, nat_tests)
-
 all_less : (k m : ℕ) (es : Entries) → k ≤ m → AreAbove m es → AllByRecursion (λ (y : ℕ). nat_cmp k y ≡ Less) (keys_of es)
 all_less k m [] l h = tt
-all_less k m (e ∷ es) l h = (less k e.0 (omega (arith, l, h.0)), all_less k m es l h.1)
+all_less k m (e ∷ es) l h = (nat_cmp_less k e.0 (omega (arith, l, h.0)), all_less k m es l h.1)
 
 above_inserted : (k id : ℕ) (s : Stream) (es : Entries) → k < id → AreAbove k es → AreAbove k (insert_entry nat_cmp es id s)
 above_inserted k id s [] l h = (l, tt)
@@ -90,17 +85,6 @@ shape_same q = record { sorted = λ h. h; mode = refl; next = refl }
 
 shape_then : (q r s : Queue) → Shape q r → Shape r s → Shape q s
 shape_then q r s a b = record { sorted = λ h. b.sorted (a.sorted h); mode = b.mode ∙ a.mode; next = b.next ∙ a.next }
-
-accept_mode : (id : ℕ) (s : Scheduler) → (accept id s).is_interleaved ≡ s.is_interleaved
-accept_mode id s = go (finish_time id s.times)
-  where
-    go : (o : Option ℕ) → (accepted_at id o s).is_interleaved ≡ s.is_interleaved
-    go None = refl
-    go (Some f) = refl
-
-line_mode : (id bytes priority : ℕ) (made : Option Produced) (s : Scheduler) → (in_line id bytes priority made s).is_interleaved ≡ s.is_interleaved
-line_mode id bytes priority None s = set_bytes_mode id 0 0 s
-line_mode id bytes priority (Some made) s = set_bytes_mode id bytes priority (accept id s) ∙ accept_mode id s
 
 module _ {P : Type 0} where
   shape_action : (now id size : ℕ) (q : Queue) (t : Emitted P) → Shape q (turn now id size q t).queue

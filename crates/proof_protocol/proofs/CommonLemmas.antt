@@ -1,42 +1,15 @@
 -- Tests on numbers, options and lists, of no one part of the rules: those of maps with numbers for keys, too.
-use Rattle.std.proofs.Common.{◌≡◌, ◌≢◌, ℕ, zero, suc, ◌<◌, Bool, true, false, cond, ◌&&◌, Option, Some, None, List, [], ◌∷◌, ◌++◌, length, refl, sym, ap, ◌∙◌, arith, Ordering, Less, Equal, Greater}
-use Rattle.std.specs.Prelude.{nat_lt, ◌==◌, slice_get}
+use Rattle.std.proofs.Common.{◌≡◌, ◌≢◌, ℕ, zero, suc, ◌<◌, cond, ◌&&◌, Option, Some, None, List, [], ◌∷◌, ◌++◌, length, refl, sym, ap, ◌∙◌, arith, Ordering, Less, Equal, Greater}
+use Rattle.std.specs.Prelude.{◌==◌, slice_get}
 use Rattle.std.specs.Map.{lookup}
 use Rattle.std.specs.Ordering.{nat_cmp, match_ordering}
 use Rattle.std.specs.BTreeMap.{is_at, insert_entry}
 use Rattle.std.proofs.lemmas.Bool.Decides.{nat_tests}
+use Rattle.sctp_serial.proofs.NumberLemmas.{at_itself, at_same, at_other}
 
 -- ---- tests
 
 -- ---- numbers
-
-pub is_itself : (n : ℕ) → (n == n) ≡ true
-is_itself n = grind (arith, nat_tests)
-
-pub not_zero : (n : ℕ) → 0 < n → (n == 0) ≡ false
-not_zero n l = grind (arith, nat_tests)
-
-pub second_some : (b : Bool) (n : ℕ) → (b && nat_lt 0 n) ≡ true → 0 < n
-second_some true n h = grind (arith, nat_tests)
-second_some false n h = cc
-
-pub is_less : (a b : ℕ) → nat_cmp a b ≡ Less → a < b
-is_less a b e = grind (arith, nat_tests)
-
-pub is_greater : (a b : ℕ) → nat_cmp a b ≡ Greater → b < a
-is_greater a b e = grind (arith, nat_tests)
-
-pub at_itself : (k : ℕ) → is_at (nat_cmp k) k ≡ true
-at_itself k = grind (arith, nat_tests)
-
-pub at_same : (q k : ℕ) → q ≡ k → is_at (nat_cmp q) k ≡ true
-at_same q k e = grind (arith, nat_tests)
-
-pub at_other : (q k : ℕ) → q ≢ k → is_at (nat_cmp q) k ≡ false
-at_other q k d = grind (arith, nat_tests)
-
-pub same_at : (q k : ℕ) → is_at (nat_cmp q) k ≡ true → q ≡ k
-same_at q k e = grind (arith, nat_tests)
 
 -- ---- options and lists
 

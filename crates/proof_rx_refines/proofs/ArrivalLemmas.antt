@@ -20,14 +20,9 @@ use Rattle.proof_rx_refines.proofs.SeenAsLemmas.{with_chunk, added, seen_with}
 use Rattle.proof_rx_refines.proofs.TakesLemmas.{Leads, AreAlike, is_place, moved, moved_at, moved_none, moved_twice, leads_alike, after_delivery, delivers, completes}
 use Rattle.proof_rx_refines.proofs.StreamLemmas.{changed_here, changed_off, all_at}
 use Rattle.proof_rx_refines.proofs.RestLemmas.{IsAtRest}
+use Rattle.sctp_reassembly.proofs.SettledStreamsLemmas.{first_ordered, first_unordered}
 
 -- ---- streams at rest
-
-first_ordered : IsSettledInOrder fresh_ordered
-first_ordered = record { order = tt; none = tt }
-
-first_unordered : IsSettled fresh_unordered
-first_unordered = record { order = tt; none = tt }
 
 pub rest_of : (ss : Streams) (ready : List Message) → AreSettled ss → IsAtRest (view_with ss ready)
 rest_of ss ready h = record {

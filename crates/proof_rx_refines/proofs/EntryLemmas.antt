@@ -10,7 +10,7 @@ use Rattle.proof_protocol.specs.State.{Entry, IsAmong}
 use Rattle.proof_protocol.specs.Rules.{same, covers, raise}
 use Rattle.proof_rx_refines.specs.Read.{StandsFor, StandForAll}
 use Rattle.proof_protocol.specs.Points.{AreApart, IsApart}
-use Rattle.sctp_tracker.proofs.SeenRunsLemmas.{or_swap}
+use Rattle.sctp_serial.proofs.NumberLemmas.{or_swap}
 
 abbrev pub put_entry : Entry → List Entry → List Entry
 put_entry e [] = e ∷ []

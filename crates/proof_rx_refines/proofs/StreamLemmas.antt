@@ -8,7 +8,8 @@ use Rattle.std.specs.BTreeMap.{is_at, insert_entry}
 use Rattle.std.proofs.lemmas.Bool.Decides.{nat_tests}
 use Rattle.std.proofs.lemmas.List.Elements.{All-head, All-tail}
 use Rattle.sctp_rx.specs.Streams.{Entries, stream_at, open_stream, write_stream, change_stream}
-use Rattle.proof_protocol.proofs.CommonLemmas.{at_other, inserted_here, inserted_off}
+use Rattle.proof_protocol.proofs.CommonLemmas.{inserted_here, inserted_off}
+use Rattle.sctp_serial.proofs.NumberLemmas.{at_other}
 
 module _ {S : Type 0} (fresh : S) (id : ℕ) where
   opened_some : (es : Entries S) → is_some (lookup (is_at (nat_cmp id)) (open_stream fresh id es)) ≡ true

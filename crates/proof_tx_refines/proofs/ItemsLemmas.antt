@@ -1,14 +1,13 @@
 -- The items, as one is added, some leave, or their states change.
-use Rattle.std.proofs.Common.{◌≡◌, ℕ, zero, suc, ◌+◌, ◌<◌, ◌≤◌, Bool, true, false, cond, Option, List, [], ◌∷◌, ◌++◌, length, drop, refl, sym, ap, ◌∙◌, subst, arith}
+use Rattle.std.proofs.Common.{◌≡◌, ℕ, zero, suc, ◌+◌, ◌<◌, ◌≤◌, Bool, true, false, Option, List, [], ◌∷◌, ◌++◌, length, drop, refl, sym, ap, ◌∙◌, subst, arith}
 use Rattle.sctp_chunk.specs.declared.sack.GapAckBlock.{GapAckBlock}
 use Rattle.sctp_packet.specs.Covered.{is_covered}
-use Rattle.sctp_tx_outstanding.specs.declared.item.ItemState.{ItemState}
-use Rattle.sctp_tx_outstanding.specs.declared.item.ItemState.TheVariants.{InFlight, Missing, Queued, QueuedFast, Acked, GivenUp}
-use Rattle.sctp_tx_outstanding.specs.Item.{Item, is_in_flight, is_given_up, is_lost, is_abandoned, acked, uncovered, nack_state, resent, slow, ack, uncover, nack, mark_as_retransmitted, miss_fast}
+use Rattle.sctp_tx_outstanding.specs.Item.{Item, is_lost, is_abandoned, ack, uncover, nack, mark_as_retransmitted, miss_fast}
 use Rattle.sctp_tx_outstanding.specs.Items.{change_at}
 use Rattle.sctp_tx_outstanding.specs.Sack.{settle, ack_or_nack}
 use Rattle.proof_protocol.specs.State.{Message, Fragment, Sender, fragment, place_of, count}
 use Rattle.proof_tx_refines.specs.Refinement.{tree_of, StandsFor, AreKept}
+use Rattle.sctp_tx_outstanding.proofs.RecordLemmas.{resent_same, slowed_same, acked_same, uncovered_same, nacked_same}
 
 module _ (message : ℕ → Message) (lifecycle : ℕ → Option ℕ) where
   pub kept_below : (o : Sender) (t : ℕ) (is : List Item) → AreKept message lifecycle o t is → t ≤ count o
@@ -68,51 +67,6 @@ pub record Alike (i j : Item) : Type 0 where
   pub carried : j.fragment ≡ i.fragment
   pub lifecycle_id : j.lifecycle ≡ i.lifecycle
   pub given_up : is_abandoned j ≡ is_abandoned i
-
-pub acked_same : (s : ItemState) → is_given_up (acked s) ≡ is_given_up s
-acked_same InFlight = refl
-acked_same Missing = refl
-acked_same Queued = refl
-acked_same QueuedFast = refl
-acked_same Acked = refl
-acked_same GivenUp = refl
-
-pub uncovered_same : (s : ItemState) → is_given_up (uncovered s) ≡ is_given_up s
-uncovered_same InFlight = refl
-uncovered_same Missing = refl
-uncovered_same Queued = refl
-uncovered_same QueuedFast = refl
-uncovered_same Acked = refl
-uncovered_same GivenUp = refl
-
-pub resent_same : (s : ItemState) → is_given_up (resent s) ≡ is_given_up s
-resent_same InFlight = refl
-resent_same Missing = refl
-resent_same Queued = refl
-resent_same QueuedFast = refl
-resent_same Acked = refl
-resent_same GivenUp = refl
-
-pub slowed_same : (s : ItemState) → is_given_up (slow s) ≡ is_given_up s
-slowed_same InFlight = refl
-slowed_same Missing = refl
-slowed_same Queued = refl
-slowed_same QueuedFast = refl
-slowed_same Acked = refl
-slowed_same GivenUp = refl
-
-nacked_lives : (l f : Bool) → is_given_up (nack_state l f) ≡ false
-nacked_lives true true = refl
-nacked_lives true false = refl
-nacked_lives false f = refl
-
-pub nacked_same : (l f : Bool) (s : ItemState) → is_given_up (cond (is_in_flight s) (nack_state l f) s) ≡ is_given_up s
-nacked_same l f InFlight = nacked_lives l f
-nacked_same l f Missing = nacked_lives l f
-nacked_same l f Queued = refl
-nacked_same l f QueuedFast = refl
-nacked_same l f Acked = refl
-nacked_same l f GivenUp = refl
 
 pub by_ack : (i : Item) → Alike i (ack i)
 by_ack i = record { place = refl; carried = refl; lifecycle_id = refl; given_up = acked_same i.state }

@@ -17,10 +17,10 @@ use Rattle.sctp_tx_queue.specs.Resets.{is_paused, is_ready, ready, requested_str
 use Rattle.sctp_tx_queue.specs.Restarted.{restart, restarted_one, each_restarted, reset}
 use Rattle.sctp_tx_queue.proofs.InOrderLemmas.{discard_streams}
 use Rattle.proof_protocol.specs.State.{IsAmong}
-use Rattle.proof_protocol.proofs.CommonLemmas.{at_other, at_same}
 use Rattle.proof_tx_refines.specs.Line.{are_ascending}
 use Rattle.proof_tx_refines.specs.Pauses.{AreEach}
 use Rattle.proof_tx_refines.proofs.LineLemmas.{inserted_ascending}
+use Rattle.sctp_serial.proofs.NumberLemmas.{at_same, at_other}
 
 -- ---- entries
 

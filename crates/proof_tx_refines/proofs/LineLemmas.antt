@@ -6,12 +6,11 @@ use Rattle.std.specs.Ordering.{nat_cmp, match_ordering}
 use Rattle.std.specs.declared.cmp.Ordering.{Ordering}
 use Rattle.std.specs.BTreeMap.{is_at, insert_entry}
 use Rattle.std.proofs.lemmas.Bool.{cases_eq, and_parts, and_from, cond-true, cond-false, le-leb, leb-true}
-use Rattle.std.proofs.lemmas.Bool.Decides.{nat_tests}
 use Rattle.sctp_stream_scheduler.specs.Scheduler.{Times, Scheduler, finish_time, finish_now, is_active, leave, enter, set_bytes_remaining, accept, accepted_at, better, best, peek, stream_in}
 use Rattle.proof_protocol.proofs.ToolsLemmas.{not_both}
-use Rattle.proof_protocol.proofs.CommonLemmas.{is_less, is_greater, at_other, same_at, at_itself}
 use Rattle.proof_tx_refines.specs.Line.{are_ascending}
 use Rattle.proof_tx_refines.proofs.FoundLemmas.{one_value}
+use Rattle.sctp_serial.proofs.NumberLemmas.{is_less, is_greater, at_itself, at_other, same_at, is_equal}
 
 -- ---- finish times
 
@@ -60,9 +59,6 @@ leaves id least (e ∷ es) h =
           others = λ k d. ap (finish_time k) l ∙ ap (λ o. cond (is_at (nat_cmp k) e.0) (Some e.1) o) (z.others k d);
         }
 
-pub equal : (a b : ℕ) → nat_cmp a b ≡ Equal → b ≡ a
-equal a b q = grind (arith, nat_tests)
-
 -- one that enters
 pub inserted_ascending : {V : Type 0} (id : ℕ) (v : V) (least : ℕ) (es : List (ℕ × V)) → least ≤ id → are_ascending least es ≡ true
     → are_ascending least (insert_entry nat_cmp es id v) ≡ true
@@ -106,7 +102,7 @@ entered_others id finish (e ∷ es) k d = go (nat_cmp id e.0) refl (entered_othe
         → finish_time k (insert_entry nat_cmp (e ∷ es) id finish) ≡ finish_time k (e ∷ es)
     go Less c ih = to Less c (cond-false (is_at (nat_cmp k) id) (Some finish) (finish_time k (e ∷ es)) (at_other k id d))
     go Equal c ih =
-        let b = equal id e.0 c in
+        let b = is_equal id e.0 c in
         let n = at_other k e.0 (λ z. d (z ∙ b)) in
         to Equal c (cond-false (is_at (nat_cmp k) e.0) (Some finish) (finish_time k es) n ∙ sym (cond-false (is_at (nat_cmp k) e.0) (Some e.1) (finish_time k es) n))
     go Greater c ih = to Greater c (ap (λ o. cond (is_at (nat_cmp k) e.0) (Some e.1) o) ih)

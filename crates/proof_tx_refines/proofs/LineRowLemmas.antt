@@ -11,7 +11,7 @@ use Rattle.sctp_tx_queue.specs.Produced.{Produced, Turn, settle_pause, without_s
 use Rattle.sctp_tx_queue.specs.Settings.{with_threshold, with_priority, set_priority, set_low_threshold, front_discarded, without_front, streams_discarded, begun_without, discard_from, discard}
 use Rattle.sctp_tx_queue.specs.Resets.{prepare_stream, prepare_reset, step_stream, each_stepped}
 use Rattle.sctp_tx_queue.specs.InOrder.{is_this, IsInOrder, IsNumbered}
-use Rattle.sctp_tx_queue.proofs.InOrderLemmas.{set_bytes_mode, put_elsewhere, turn_in_order}
+use Rattle.sctp_tx_queue.proofs.InOrderLemmas.{set_bytes_mode, put_elsewhere, turn_in_order, line_mode}
 use Rattle.sctp_tx_queue.proofs.NumberLemmas.{turn_numbered}
 use Rattle.sctp_tx_queue.proofs.ProduceLemmas.{idles, gives, turned}
 use Rattle.proof_protocol.specs.Resets.{Epochs}
@@ -20,7 +20,7 @@ use Rattle.proof_protocol.proofs.CommonLemmas.{none_some}
 use Rattle.proof_tx_refines.specs.Pauses.{ArePausedAs}
 use Rattle.proof_tx_refines.specs.Line.{are_ascending, IsInLine, CallsKeepLine}
 use Rattle.proof_tx_refines.proofs.FoundLemmas.{one_value}
-use Rattle.proof_tx_refines.proofs.ProduceLemmas.{stream_changed, is_other, line_mode}
+use Rattle.proof_tx_refines.proofs.ProduceLemmas.{stream_changed, is_other}
 use Rattle.proof_tx_refines.proofs.AcceptLemmas.{written, unwritten}
 use Rattle.proof_tx_refines.proofs.ResetLemmas.{off}
 use Rattle.proof_tx_refines.proofs.PauseRowLemmas.{turn_pauses}

@@ -16,12 +16,13 @@ use Rattle.proof_protocol.specs.Sending as sending
 use Rattle.proof_protocol.specs.Sending.{Waiting}
 use Rattle.proof_protocol.proofs.ToolsLemmas.{put_at, not_both}
 use Rattle.proof_protocol.proofs.IndexedLemmas.{parts_push, parts_off}
-use Rattle.proof_protocol.proofs.CommonLemmas.{none_some, not_zero}
+use Rattle.proof_protocol.proofs.CommonLemmas.{none_some}
 use Rattle.proof_tx_refines.specs.Refinement.{find, queue_of, numbers_at, tree_of, StandsFor, IsEntry, AreKept, AreQueued, AreDiscards}
 use Rattle.proof_tx_refines.proofs.FoundLemmas.{one_value, found_at, found_off}
 use Rattle.proof_tx_refines.proofs.QueuedLemmas.{Frame, queue_some, queue_lacks, change, change_discards}
 use Rattle.proof_tx_refines.proofs.ItemsLemmas.{Stays, kept_push}
 use Rattle.proof_tx_refines.proofs.FreshLemmas.{put_elsewhere, first_entry, first_there}
+use Rattle.sctp_serial.proofs.NumberLemmas.{not_zero}
 
 empty_length : (xs : List ℕ) → is_empty xs ≡ (length xs == 0)
 empty_length [] = refl

@@ -24,14 +24,14 @@ use Rattle.sctp_tx.specs.Sending.{discard_all}
 use Rattle.proof_tx_refines.specs.Refinement.{find, messages_of, AreDiscards, QueueRefines, SenderRefines}
 use Rattle.proof_tx_refines.specs.Led.{is_sending}
 use Rattle.proof_tx_refines.specs.Pauses.{IsPausedAs, ArePausedAs, AreEach}
-use Rattle.proof_tx_refines.proofs.FoundLemmas.{one_value, found_at, found_off, rises, once}
+use Rattle.proof_tx_refines.proofs.FoundLemmas.{one_value, found_at, found_off, once}
 use Rattle.proof_tx_refines.proofs.ProduceLemmas.{stream_changed, is_other}
-use Rattle.proof_tx_refines.proofs.PrepareLemmas.{from_less}
 use Rattle.proof_tx_refines.proofs.AcceptLemmas.{written, unwritten}
 use Rattle.proof_tx_refines.proofs.DiscardLemmas as discards
 use Rattle.proof_tx_refines.proofs.DiscardLemmas.{discard_queue, discard_named}
 use Rattle.proof_tx_refines.proofs.ResetLemmas.{off, request_row, commit_row}
 use Rattle.proof_tx_refines.proofs.PausedLemmas.{requesting_may, requesting_keeps, committing_keeps}
+use Rattle.sctp_tx_queue.proofs.NumberLemmas.{rises, lowered}
 
 -- ---- a stream later on
 
@@ -175,7 +175,7 @@ is_fresh now least most (m ∷ rest) r h =
         let low = u.low in
         record {
           order = ap are_in_order l ∙ z.order;
-          rising = ap (are_rising least most) l ∙ from_less least (m.number + 1) most (fresh now rest) (omega (arith, low)) z.rising;
+          rising = ap (are_rising least most) l ∙ lowered least (m.number + 1) most (fresh now rest) (omega (arith, low)) z.rising;
           old = λ p n f. found_later p m n rest least most r (z.old p n (sym (ap (find p) l) ∙ f));
           begun = λ e. absurd (not_both e (not-true (is_some m.numbers) (and_parts (not (is_some m.numbers)) (is_due now m.expires) t).0));
         }

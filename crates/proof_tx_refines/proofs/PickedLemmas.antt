@@ -9,10 +9,11 @@ use Rattle.sctp_chunk.specs.Chunk.{FragmentTree}
 use Rattle.sctp_serial.specs.Unwrapped.{words, wire}
 use Rattle.sctp_tx_outstanding.specs.declared.item.ItemState.{ItemState}
 use Rattle.sctp_tx_outstanding.specs.declared.item.ItemState.TheVariants.{InFlight, Missing, Queued, QueuedFast, Acked, GivenUp}
-use Rattle.sctp_tx_outstanding.specs.Item.{Item, is_in_flight, waits, waits_fast, resent, slow, is_fast, should_be_retransmitted, chunk_size, mark_as_retransmitted, miss_fast}
+use Rattle.sctp_tx_outstanding.specs.Item.{Item, is_in_flight, waits, waits_fast, resent, is_fast, should_be_retransmitted, chunk_size, mark_as_retransmitted, miss_fast}
 use Rattle.sctp_tx_outstanding.specs.Items.{Outstanding, when, flight_part, flight_items, change_at}
 use Rattle.sctp_tx_outstanding.specs.Resending.{Resent, size_in, again, again_of, again_at, passed_over, allowance, turn_of, take_item, step_at, resent_below, empty_packet, resend}
 use Rattle.proof_tx_refines.specs.Picked.{is_due, payload_left, Picks, no_more, goes, has_no_room, is_not_due, tsn_at}
+use Rattle.sctp_tx_outstanding.proofs.RoomLemmas.{slowed_in_flight}
 
 -- ---- lists
 
@@ -44,14 +45,6 @@ due_flies true Acked e = cc
 due_flies false Acked e = cc
 due_flies true GivenUp e = cc
 due_flies false GivenUp e = cc
-
-slowed_flies : (s : ItemState) → is_in_flight (slow s) ≡ is_in_flight s
-slowed_flies InFlight = refl
-slowed_flies Missing = refl
-slowed_flies Queued = refl
-slowed_flies QueuedFast = refl
-slowed_flies Acked = refl
-slowed_flies GivenUp = refl
 
 due_is : (fast : Bool) (i : Item) → is_due fast i ≡ true → cond fast (waits_fast i.state) (waits i.state) ≡ true
 due_is true i e = e
@@ -138,7 +131,7 @@ module _ (fast m : Bool) (first acked : ℕ) where
     }
       where
         same_part : flight_part (miss_fast i) ≡ flight_part i
-        same_part = ap (λ (b : Bool). when b 1) (slowed_flies i.state)
+        same_part = ap (λ (b : Bool). when b 1) (slowed_in_flight i.state)
 
         same_flight : flight_items (passed_over k x).outstanding.items ≡ flight_items x.outstanding.items
         same_flight =

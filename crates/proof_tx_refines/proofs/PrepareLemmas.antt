@@ -9,7 +9,7 @@ use Rattle.sctp_tx_queue.specs.Queue.{Queued, Queue, Stream, stream}
 use Rattle.sctp_tx_queue.specs.InOrder.{is_waiting, is_begun_or_waiting, are_in_order, are_rising}
 use Rattle.sctp_tx_queue.specs.Resets.{is_partly, prepare_stream, prepare_reset}
 use Rattle.sctp_tx_queue.proofs.InOrderLemmas.{set_bytes_mode, prepared_in_order}
-use Rattle.sctp_tx_queue.proofs.NumberLemmas.{calls_number}
+use Rattle.sctp_tx_queue.proofs.NumberLemmas.{calls_number, rises, lowered}
 use Rattle.sctp_tx_queue.proofs.RestLemmas.{calls_leave_rests}
 use Rattle.sctp_tx_outstanding.specs.Items.{Items}
 use Rattle.proof_protocol.specs.State.{Message, Transfer, put}
@@ -18,7 +18,7 @@ use Rattle.proof_protocol.specs.Invariant.{Invariant}
 use Rattle.proof_protocol.proofs.ToolsLemmas.{put_at, put_off, not_both}
 use Rattle.proof_tx_refines.specs.Refinement.{find, messages_of, AreKept, AreQueued, AreDiscards, IsNext, SenderRefines}
 use Rattle.proof_tx_refines.specs.Pauses.{unsent_of, give_ups, Prepares}
-use Rattle.proof_tx_refines.proofs.FoundLemmas.{funext, found_off, rises, once}
+use Rattle.proof_tx_refines.proofs.FoundLemmas.{funext, found_off, once}
 use Rattle.proof_tx_refines.proofs.FreshLemmas.{put_here, put_over, drops}
 use Rattle.proof_tx_refines.proofs.AcceptLemmas.{written, unwritten}
 
@@ -32,14 +32,6 @@ at_least least most (c ∷ cs) m rest h =
     let l = at_least (c.number + 1) most cs m rest r.behind in
     omega (arith, low, l)
 
-pub from_less : (least later most : ℕ) (ms : List Queued) → least ≤ later → are_rising later most ms ≡ true → are_rising least most ms ≡ true
-from_less least later most [] l h = refl
-from_less least later most (m ∷ rest) l h =
-    let r = rises later most m rest h in
-    let low = r.low in
-    and_from (nat_le least m.number && nat_lt m.number most) (are_rising (m.number + 1) most rest)
-    (and_from (nat_le least m.number) (nat_lt m.number most) (le-leb least m.number (omega (arith, low, l))) (lt-ltb m.number most r.high)) r.behind
-
 record IsAmongOthers (least most : ℕ) (front : List Queued) (m : Queued) (rest : List Queued) : Type 0 where
   before : find m.number front ≡ None
   behind : find m.number rest ≡ None
@@ -49,7 +41,7 @@ among_others : (least most : ℕ) (front : List Queued) (m : Queued) (rest : Lis
 among_others least most [] m rest h =
     let r = rises least most m rest h in
     let low = r.low in
-    record { before = refl; behind = once least most m rest h; without = from_less least (m.number + 1) most rest (omega (arith, low)) r.behind }
+    record { before = refl; behind = once least most m rest h; without = lowered least (m.number + 1) most rest (omega (arith, low)) r.behind }
 among_others least most (c ∷ cs) m rest h =
     let r = rises least most c (cs ++ m ∷ rest) h in
     let z = among_others (c.number + 1) most cs m rest r.behind in

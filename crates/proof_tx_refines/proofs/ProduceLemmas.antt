@@ -9,13 +9,13 @@ use Rattle.std.proofs.lemmas.Bool.{cases_eq, eq-eqb, ne_eqb, and_parts, eqb-true
 use Rattle.std.proofs.Math.Nat.{mod-eq_of_lt}
 use Rattle.sctp_serial.specs.Unwrapped.{origin}
 use Rattle.sctp_state.specs.Events.{Emitted}
-use Rattle.sctp_stream_scheduler.specs.Scheduler.{Scheduler, accept, accepted_at, finish_time, peek}
+use Rattle.sctp_stream_scheduler.specs.Scheduler.{peek}
 use Rattle.sctp_tx_queue.specs.declared.send_queue.message.MessageNumbers.{MessageNumbers}
 use Rattle.sctp_tx_queue.specs.Queue as queue
 use Rattle.sctp_tx_queue.specs.Queue.{Queued, Queue, Stream, Streams, blank, stream}
-use Rattle.sctp_tx_queue.specs.Produced.{Produced, numbers_of, took, count_on, emitted_made, in_line, next_stream}
+use Rattle.sctp_tx_queue.specs.Produced.{Produced, numbers_of, took, count_on, emitted_made, next_stream}
 use Rattle.sctp_tx_queue.specs.InOrder.{is_waiting, is_begun_or_waiting, are_in_order, is_first_begun, is_this}
-use Rattle.sctp_tx_queue.proofs.InOrderLemmas.{set_bytes_mode}
+use Rattle.sctp_tx_queue.proofs.InOrderLemmas.{unnumbered}
 use Rattle.sctp_tx_queue.proofs.StreamsLemmas.{stream_put, stream_nowhere, put_nowhere}
 use Rattle.proof_protocol.specs.State.{Message, Sender, stream_of, ordered_of}
 use Rattle.proof_protocol.specs.Rules.{begins, same}
@@ -39,33 +39,18 @@ stream_changed id f ss same = go (lookup (is_at (nat_cmp id)) ss.entries) refl
 pub is_other : (k id : ℕ) → k ≢ id → (k == id) ≡ false
 is_other k id d = ne_eqb k id d
 
-accept_mode : (id : ℕ) (s : Scheduler) → (accept id s).is_interleaved ≡ s.is_interleaved
-accept_mode id s = go (finish_time id s.times)
-  where
-    go : (o : Option ℕ) → (accepted_at id o s).is_interleaved ≡ s.is_interleaved
-    go None = refl
-    go (Some f) = refl
-
-pub line_mode : (id bytes priority : ℕ) (made : Option Produced) (s : Scheduler) → (in_line id bytes priority made s).is_interleaved ≡ s.is_interleaved
-line_mode id bytes priority None s = set_bytes_mode id 0 0 s
-line_mode id bytes priority (Some made) s = set_bytes_mode id bytes priority (accept id s) ∙ accept_mode id s
-
 pub emitted_same : {P : Type 0} (id : ℕ) (a b : Bool) (made : Option Produced) (emitted : Emitted P) → recorded_places (emitted_made id a b made emitted) ≡ recorded_places emitted
 emitted_same id a b None emitted = refl
 emitted_same id a b (Some made) emitted = refl
 
 -- ---- only the first of a stream has its number
 
-waits_not : (b c : Bool) → not b && c ≡ true → b ≡ false
-waits_not true c e = absurd (cc)
-waits_not false c e = refl
-
 pub behind_waits : (p : ℕ) (ms : List Queued) (m : Queued) → list_all is_waiting ms ≡ true → find p ms ≡ Some m → is_some m.numbers ≡ false
 behind_waits p [] m h f = absurd (cc)
 behind_waits p (a ∷ rest) m h f =
     let hs = and_parts (is_waiting a) (list_all is_waiting rest) h in
     elim (cases_eq a.number p) [
-      | inl e ↦ subst (λ (z : Queued). is_some z.numbers ≡ false) (one_value (find p (a ∷ rest)) a m (found_at p a rest e) f) (waits_not (is_some a.numbers) (a.offset == 0) hs.0)
+      | inl e ↦ subst (λ (z : Queued). is_some z.numbers ≡ false) (one_value (find p (a ∷ rest)) a m (found_at p a rest e) f) (unnumbered (is_some a.numbers) (a.offset == 0) hs.0)
       | inr d ↦ behind_waits p rest m hs.1 (sym (found_off p a rest d) ∙ f)
     ]
 

@@ -7,7 +7,7 @@ use Rattle.std.specs.BTreeMap.{is_at}
 use Rattle.std.proofs.lemmas.Bool.{cases_eq, eq-eqb, ne_eqb, cond-true, cond-false}
 use Rattle.sctp_serial.specs.Unwrapped.{origin}
 use Rattle.sctp_tx_queue.specs.declared.send_queue.stream.ResetStep.{ResetStep}
-use Rattle.sctp_tx_queue.specs.declared.send_queue.stream.ResetStep.TheVariants.{Requested, Performed, Refused}
+use Rattle.sctp_tx_queue.specs.declared.send_queue.stream.ResetStep.TheVariants.{Requested, Performed}
 use Rattle.sctp_tx_queue.specs.Queue as queue
 use Rattle.sctp_tx_queue.specs.Queue.{Queued, Queue, Stream, Streams, stream, blank}
 use Rattle.sctp_tx_queue.specs.Resets.{after_step, step_stream, each_stepped, commit_resets}
@@ -23,6 +23,7 @@ use Rattle.proof_tx_refines.specs.Rows.{restart}
 use Rattle.proof_tx_refines.proofs.FoundLemmas.{funext}
 use Rattle.proof_tx_refines.proofs.ItemsLemmas.{kept_moves}
 use Rattle.proof_tx_refines.proofs.ProduceLemmas.{is_other}
+use Rattle.sctp_tx_queue.proofs.StreamLemmas.{step_messages}
 
 -- the stream has this in its place, or isn't there
 pub put_cases : (id : ℕ) (t : Stream) (ss : Streams) → (stream id (queue.put_stream id t ss) ≡ t) ⊎ ((stream id (queue.put_stream id t ss) ≡ stream id ss) × (stream id ss ≡ blank ss))
@@ -31,11 +32,6 @@ put_cases id t ss = go (lookup (is_at (nat_cmp id)) ss.entries) refl
     go : (o : Option Stream) → lookup (is_at (nat_cmp id)) ss.entries ≡ o → (stream id (queue.put_stream id t ss) ≡ t) ⊎ ((stream id (queue.put_stream id t ss) ≡ stream id ss) × (stream id ss ≡ blank ss))
     go None e = inr (ap (λ (z : Streams). stream id z) (put_nowhere id t ss (sym e)), stream_nowhere id ss (sym e))
     go (Some s) e = inl (stream_put id t ss (ap is_some e))
-
-stepped_messages : (step : ResetStep) (s : Stream) → (after_step step s).messages ≡ s.messages
-stepped_messages Requested s = refl
-stepped_messages Performed s = refl
-stepped_messages Refused s = refl
 
 module _ (step : ResetStep) (id : ℕ) (q : Queue) where
   abbrev later : Queue
@@ -51,7 +47,7 @@ module _ (step : ResetStep) (id : ℕ) (q : Queue) where
         | inl e ↦
             ap (λ z. messages_of later z) e
             ∙ (elim (put_cases id (after_step step (stream id q.streams)) q.streams) [
-              | inl t ↦ ap (λ (z : Stream). z.messages) t ∙ stepped_messages step (stream id q.streams)
+              | inl t ↦ ap (λ (z : Stream). z.messages) t ∙ step_messages step (stream id q.streams)
               | inr t ↦ ap (λ (z : Stream). z.messages) t.0
             ] ∙ ap (λ z. messages_of q z) (sym e))
       ]

@@ -24,7 +24,6 @@ use Rattle.proof_protocol.specs.Invariant.{Invariant}
 use Rattle.proof_protocol.proofs.KeepsLemmas.{keeps}
 use Rattle.proof_protocol.proofs.StepLemmas.{later}
 use Rattle.proof_protocol.proofs.ToolsLemmas.{not_both}
-use Rattle.proof_protocol.proofs.CommonLemmas.{second_some}
 use Rattle.proof_tx_refines.specs.Refinement.{tree_of, StandsFor, SenderRefines, ItemsRefine, AreDiscards, messages_of}
 use Rattle.proof_tx_refines.specs.Led.{recorded_places, Leads, LeadsTo}
 use Rattle.proof_tx_refines.specs.Rows.{with_made, Carries, AllCarry, Sends}
@@ -33,6 +32,7 @@ use Rattle.proof_tx_refines.proofs.LedLemmas.{leads_none, led_on, led_none}
 use Rattle.proof_tx_refines.proofs.LossLemmas.{kept_at}
 use Rattle.proof_tx_refines.proofs.TurnLemmas.{produces}
 use Rattle.proof_tx_refines.proofs.DiscardLemmas.{discards_all}
+use Rattle.sctp_serial.proofs.NumberLemmas.{second_some}
 
 -- ---- what was carried once may come at any later time
 

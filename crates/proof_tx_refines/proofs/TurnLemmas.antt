@@ -9,7 +9,7 @@ use Rattle.sctp_tx_queue.specs.declared.send_queue.message.MessageNumbers.{Messa
 use Rattle.sctp_tx_queue.specs.Queue.{Queued, Queue, Stream, Streams, stream}
 use Rattle.sctp_tx_queue.specs.Produced.{Produced, Turn, fresh, drop_expired, without_stale, streams_without_stale, numbers_of, took, made_of, move_past, ends, next_fragment, advance, turn, next_stream, produce_within}
 use Rattle.sctp_tx_queue.specs.InOrder.{are_in_order, are_rising, has_rest}
-use Rattle.sctp_tx_queue.proofs.InOrderLemmas.{fresh_both, put_elsewhere, turn_in_order}
+use Rattle.sctp_tx_queue.proofs.InOrderLemmas.{fresh_both, put_elsewhere, turn_in_order, line_mode}
 use Rattle.sctp_tx_queue.proofs.NumberLemmas.{turn_numbered, fresh_rising}
 use Rattle.sctp_tx_queue.proofs.RestLemmas.{turn_rests, without_stale_rests}
 use Rattle.sctp_tx_queue.proofs.ProduceLemmas.{idles, gives, turned}
@@ -31,7 +31,7 @@ use Rattle.proof_tx_refines.proofs.QueuedLemmas.{IsQueued, queue_some, queue_lac
 use Rattle.proof_tx_refines.proofs.LedLemmas.{leads_on, led_on}
 use Rattle.proof_tx_refines.proofs.FreshLemmas.{Freshened, freshens, put_over, first_entry, first_own, first_found}
 use Rattle.proof_tx_refines.proofs.NumberLemmas as rows
-use Rattle.proof_tx_refines.proofs.ProduceLemmas.{stream_changed, is_other, line_mode, emitted_same, begun_first, this_is, next_begun, took_next, took_numbers}
+use Rattle.proof_tx_refines.proofs.ProduceLemmas.{stream_changed, is_other, emitted_same, begun_first, this_is, next_begun, took_next, took_numbers}
 
 module _ {P : Type 0} (message : ℕ → Message) (lifecycle : ℕ → Option ℕ) (is_interleaved : Bool) (x : Transfer) (k : Invariant message is_interleaved x) (q : Queue) (s : Items) (sh : SenderRefines message lifecycle is_interleaved x q s)
     (none_given : s.discards ≡ []) (now size id : ℕ) (some : 0 < size) (next : next_stream q ≡ Some id) (emitted : Emitted P) where

@@ -14,9 +14,8 @@ use Rattle.proof_endpoint.specs.Mapped.{Carried}
 use Rattle.proof_endpoint.specs.Sound.{OptionsFit, FitsMessage}
 use Rattle.proof_endpoint.specs.ReadBack.{AreBytes}
 use Rattle.proof_pair.specs.Trace as traces
-use Rattle.proof_pair.specs.Trace.{Pair, EndAction, Calls, Gives, emitted_packets, goes, AreValidOptions}
+use Rattle.proof_pair.specs.Trace.{Pair, EndAction, Calls, Gives, emitted_packets, goes}
 use Rattle.proof_pair.specs.Handing.{text}
-use Rattle.proof_pair.proofs.OpensLemmas.{one_opens}
 use Rattle.spec_world.specs.Observations.{A, B}
 use Rattle.spec_world.specs.World.{Action, CallOf, Give, GiveForeign, AdvanceTime, table_call}
 use Rattle.proof_world.specs.Traces.{ActionFits, is_a, end_of, is_let_through, receiving, IsReceiving, IsActionOf, AreActionsOf}
@@ -126,6 +125,3 @@ each_fits (action ∷ actions) h = All-cons ActionFits action actions h.0 (each_
 
 pub text_fits : (byte : ℕ) → FitsMessage (text byte)
 text_fits byte = record { stream = omega arith; ppid = omega arith }
-
-pub given : AreValidOptions defaults
-given = one_opens.given

@@ -1,7 +1,7 @@
 -- What fits a list of places, each beginning of it fits; and logs that are made of the actions of a trace.
 use Rattle.std.proofs.Common.{◌≡◌, ◌⊎◌, inl, inr, ℕ, zero, suc, ◌<◌, ◌≤◌, Some, List, [], ◌∷◌, ◌++◌, length, map, take, refl, sym, ap, ◌∙◌, arith}
 use Rattle.std.specs.Prelude.{slice_index, slice_get}
-use Rattle.std.proofs.lemmas.List.{take-map}
+use Rattle.std.proofs.lemmas.List.{take-map, take_at}
 use Rattle.sctp_serial.specs.Messages.{Message}
 use Rattle.proof_delivery.specs.Accepted.{AcceptedMessage}
 use Rattle.proof_delivery.specs.Delivery.{message_at, Fits}
@@ -43,10 +43,6 @@ one_is_longer {X} (x ∷ a) b (y ∷ c) d e = go (one_is_longer a b c d (split_t
 pub no_front : {X : Type 0} (xs ys zs : List X) → xs ++ ys ≡ zs → zs ≡ [] → xs ≡ []
 no_front [] ys zs e f = refl
 no_front (x ∷ xs) ys zs e f = cc
-
-pub take_front : {X : Type 0} (xs ys : List X) → take (length xs) (xs ++ ys) ≡ xs
-take_front [] ys = refl
-take_front {X} (x ∷ xs) ys = ap (λ (l : List X). x ∷ l) (take_front xs ys)
 
 take_of_take : {X : Type 0} (m n : ℕ) (xs : List X) → m ≤ n → take m (take n xs) ≡ take m xs
 take_of_take zero n xs l = refl
@@ -90,7 +86,7 @@ module _ (offers : List AcceptedMessage) (ready front behind : List Message) (pl
         ∙ (sym (take-map (message_at offers) m (take n places))
         ∙ (ap (take m) f.alike
         ∙ (take-map (λ (z : Message). Some z) m ready
-        ∙ ap (map (λ (z : Message). Some z)) (ap (take m) split ∙ take_front front behind))));
+        ∙ ap (map (λ (z : Message). Some z)) (ap (take m) split ∙ take_at front behind (length front) refl))));
     distinct = λ j k l h e.
         let below = length_shorter m n places shorter in
         f.distinct j k l (omega (arith, h, below))

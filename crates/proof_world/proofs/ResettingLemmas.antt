@@ -30,7 +30,8 @@ use Rattle.proof_world.specs.Worlds.{BothEmitBytes}
 use Rattle.proof_world.proofs.HappenedLemmas.{bare_resets, bare_names}
 use Rattle.proof_world.proofs.DeliveredLemmas.{offers_accepted}
 use Rattle.proof_world.proofs.ShownLemmas.{Shown, shown}
-use Rattle.proof_world.proofs.ComputedLemmas.{no_sum, actions_of, is_there, are_there, actions_are, are_small, all_small, all_true, fits_defaults, each_fits, text_fits, given}
+use Rattle.proof_world.proofs.ComputedLemmas.{no_sum, actions_of, is_there, are_there, actions_are, are_small, all_small, all_true, fits_defaults, each_fits, text_fits}
+use Rattle.proof_pair.proofs.OpensLemmas.{given_defaults}
 
 -- ---- the trace, computed
 
@@ -71,7 +72,7 @@ bytes = record { a = all_true (map (as_written no_sum) (emitted_packets last.a))
 
 shown_there : Shown one_is_reset courses.one_is_reset at_first
 shown_there =
-    shown defaults defaults (random_from 456) (random_from 1000) no_sum no_sum one_is_reset courses.one_is_reset given.valid given.valid fits_defaults fits_defaults actions_fit refl actions bytes
+    shown defaults defaults (random_from 456) (random_from 1000) no_sum no_sum one_is_reset courses.one_is_reset given_defaults.valid given_defaults.valid fits_defaults fits_defaults actions_fit refl actions bytes
     one_reset.follows one_reset.not_ended
 
 pub one_reset_there : OneIsReset

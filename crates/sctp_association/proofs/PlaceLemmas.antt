@@ -1,12 +1,11 @@
 -- Chunks that are received where they lie: which chunk an item carries.
 use Rattle.std.proofs.Common.{◌≡◌, ◌⊎◌, inl, inr, ℕ, ◌+◌, ◌<◌, ◌==◌, ◌||◌, Bool, true, false, length, refl, sym, ap, ◌∙◌, arith}
 use Rattle.std.proofs.lemmas.Bool.Decides.{nat_tests}
-use Rattle.sctp_wire.specs.Fields.{be16, be32}
 use Rattle.sctp_wire.specs.Item.{Item}
 use Rattle.sctp_wire.proofs.WordLemmas.{clash}
 use Rattle.sctp_chunk.specs.declared.data.DataView.{DataView}
-use Rattle.sctp_packet.specs.Chunk.{ChunkTree, FragmentTree, data_chunk, init_chunk, init_ack_chunk, sack_chunk, heartbeat_request_chunk, heartbeat_ack_chunk, abort_chunk, shutdown_chunk, shutdown_ack_chunk, error_chunk, cookie_echo_chunk, cookie_ack_chunk, shutdown_complete_chunk, idata_chunk, re_config_chunk, forward_tsn_chunk, i_forward_tsn_chunk, unknown_chunk}
-use Rattle.sctp_packet.specs.Written.{is_known_chunk, data_value, idata_value}
+use Rattle.sctp_packet.specs.Chunk.{ChunkTree, data_chunk, init_chunk, init_ack_chunk, sack_chunk, heartbeat_request_chunk, heartbeat_ack_chunk, abort_chunk, shutdown_chunk, shutdown_ack_chunk, error_chunk, cookie_echo_chunk, cookie_ack_chunk, shutdown_complete_chunk, idata_chunk, re_config_chunk, forward_tsn_chunk, i_forward_tsn_chunk, unknown_chunk}
+use Rattle.sctp_packet.specs.Written.{is_known_chunk}
 use Rattle.sctp_packet.specs.Grammar.{IsChunk}
 use Rattle.sctp_packet.specs.Views.{viewed_data, viewed_idata}
 use Rattle.sctp_packet.proofs.OneChunkLemmas.{one_chunk}
@@ -14,6 +13,7 @@ use Rattle.spec_endpoint.specs.Association.{Tcb}
 use Rattle.spec_endpoint.specs.Input.{misuse}
 use Rattle.sctp_association.specs.Kinds.{carries_data, carrying}
 use Rattle.sctp_closing.specs.MisuseView.{data_misused}
+use Rattle.sctp_packet.proofs.StandsLemmas.{length_data, length_idata}
 
 -- ---- DATA and I-DATA
 
@@ -28,14 +28,6 @@ carried_by false i v t e plain mixed (inr same) is = absurd (clash (sym (ap (λ 
 pub carries_it : (i : Item) (v : DataView) (t : ChunkTree) → (i.first ≡ 0 → IsChunk i (viewed_data v)) → (i.first ≡ 64 → IsChunk i (viewed_idata v))
     → (i.first ≡ 0) ⊎ (i.first ≡ 64) → IsChunk i t → carrying (i.first == 64) v ≡ t
 carries_it i v t plain mixed either is = carried_by (i.first == 64) i v t refl plain mixed either is
-
-length_data : (tsn : ℕ) (f : FragmentTree) → length (data_value tsn f) ≡ 12 + length f.payload
-unfolding data_value be16 be32
-length_data tsn f = omega arith
-
-length_idata : (reserved tsn : ℕ) (f : FragmentTree) → length (idata_value reserved tsn f) ≡ 16 + length f.payload
-unfolding idata_value be16 be32
-length_idata reserved tsn f = omega arith
 
 -- an unknown type is neither
 neither_by : (typ : ℕ) (zero other : Bool) → (typ == 0) ≡ zero → (typ == 64) ≡ other → is_known_chunk typ ≡ false → ((typ == 0) || (typ == 64)) ≡ false

@@ -114,11 +114,11 @@ accepted_cookie bytes rest c size e s both =
 
 -- ---- what was written
 
-is_set_flag_byte : (b : Bool) → b ≡ is_set (flag_byte b)
+pub is_set_flag_byte : (b : Bool) → b ≡ is_set (flag_byte b)
 is_set_flag_byte true = refl
 is_set_flag_byte false = refl
 
-capabilities_spelled : (k : Capabilities) → CapabilitiesFit k → SpellsCapabilities (capability_bytes k) k
+pub capabilities_spelled : (k : Capabilities) → CapabilitiesFit k → SpellsCapabilities (capability_bytes k) k
 unfolding capability_bytes
 capabilities_spelled k fits = record {
   flags = flag_byte k.partial_reliability ∷ flag_byte k.message_interleaving ∷ flag_byte k.reconfig ∷ 0 ∷ [];

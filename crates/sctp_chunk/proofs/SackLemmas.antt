@@ -9,7 +9,8 @@ use Rattle.sctp_chunk.specs.declared.sack.GapAckBlock.{GapAckBlock}
 use Rattle.sctp_chunk.specs.Chunk.{SackTree}
 use Rattle.sctp_chunk.specs.Written.{sack_value, block_bytes, tsn_bytes}
 use Rattle.sctp_chunk.specs.Grammar.{IsCounted}
-use Rattle.sctp_chunk.proofs.FieldLemmas.{cut16, cut_eight}
+use Rattle.sctp_chunk.proofs.FieldLemmas.{cut_eight}
+use Rattle.sctp_wire.proofs.FieldLemmas.{be16_same}
 
 pub counted_is_long : (value : List ℕ) → length value < 12 → IsCounted value → ⊥
 counted_is_long value short c =
@@ -33,8 +34,8 @@ pub counted_otherwise : (value : List ℕ) (a b m n : ℕ) (rest : List ℕ) →
     → value ≡ be32 a ++ (be32 b ++ (be16 m ++ (be16 n ++ rest))) → length rest ≢ 4 * m + 4 * n → IsCounted value → ⊥
 counted_otherwise value a b m n rest hm hn e other c =
     let tail : be16 m ++ (be16 n ++ rest) ≡ be16 c.1 ++ (be16 c.2 ++ c.3) = cut_eight a b (be16 m ++ (be16 n ++ rest)) c.0 (be16 c.1 ++ (be16 c.2 ++ c.3)) c.4 (sym e ∙ c.7) in
-    let one = cut16 m c.1 (be16 n ++ rest) (be16 c.2 ++ c.3) hm c.5 tail in
-    let two = cut16 n c.2 rest c.3 hn c.6 one.1 in
+    let one = be16_same m c.1 (be16 n ++ rest) (be16 c.2 ++ c.3) hm c.5 tail in
+    let two = be16_same n c.2 rest c.3 hn c.6 one.1 in
     other (ap length two.1 ∙ c.8 ∙ ap (λ (k : ℕ). 4 * k + 4 * c.2) (sym one.0) ∙ ap (λ (k : ℕ). 4 * m + 4 * k) (sym two.0))
 
 pub four_fields : (value : List ℕ) (a b m n : ℕ) (r1 r2 r3 r4 : List ℕ) → value ≡ be32 a ++ r1 → r1 ≡ be32 b ++ r2 → r2 ≡ be16 m ++ r3 → r3 ≡ be16 n ++ r4
@@ -74,3 +75,13 @@ counted_as value a b m n rest hm hn e len = (
   e ∙ sym (append_assoc (be32 a) (be32 b) (be16 m ++ (be16 n ++ rest))),
   len,
 )
+
+-- ---- runs of covered offsets
+
+pub is_covered_below : (low n : ℕ) (bs : List GapAckBlock) → AreRuns low bs → n < low → is_covered bs n ≡ false
+is_covered_below low n [] r h = refl
+is_covered_below low n (b ∷ bs) r h = grind (arith, nat_tests, is_covered_below (b.end + 2) n bs r.2 (omega arith))
+
+pub runs_lower : (low high : ℕ) (bs : List GapAckBlock) → low ≤ high → AreRuns high bs → AreRuns low bs
+runs_lower low high [] h r = tt
+runs_lower low high (b ∷ bs) h r = (omega (arith, h, r.0), r.1, r.2)

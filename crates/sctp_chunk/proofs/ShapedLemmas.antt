@@ -11,7 +11,7 @@ use Rattle.sctp_wire.specs.Fields.{be16, be32, length_be16, length_be32}
 use Rattle.sctp_wire.specs.Item.{Item, ParsesAll}
 use Rattle.sctp_wire.specs.Parameter.{ParameterTree, IsParameter}
 use Rattle.sctp_wire.specs.Cause.{CauseTree, IsCause}
-use Rattle.sctp_wire.proofs.FieldLemmas.{IsBytes_take}
+use Rattle.sctp_wire.proofs.FieldLemmas.{IsBytes_take, be16_same}
 use Rattle.sctp_wire.proofs.ItemLemmas.{IsBytes}
 use Rattle.sctp_wire.proofs.PresentLemmas.{IsBytes_drop, number16, number32, entries_in, by_type}
 use Rattle.sctp_chunk.specs.declared.sack.GapAckBlock.{GapAckBlock}
@@ -20,7 +20,7 @@ use Rattle.sctp_chunk.specs.declared.forward_tsn.SkippedStream.TheVariants as sk
 use Rattle.sctp_chunk.specs.Chunk.{ChunkTree, InitTree, data_chunk, init_chunk, init_ack_chunk, sack_chunk, heartbeat_request_chunk, heartbeat_ack_chunk, abort_chunk, shutdown_chunk, shutdown_ack_chunk, error_chunk, cookie_echo_chunk, cookie_ack_chunk, shutdown_complete_chunk, idata_chunk, re_config_chunk, forward_tsn_chunk, i_forward_tsn_chunk, unknown_chunk}
 use Rattle.sctp_chunk.specs.Written.{is_known_chunk, flag, key_flag, key_stream, data_value, init_fields, block_bytes, length_block_bytes, tsn_bytes, skip_bytes, is_ssn_skip, forward_value}
 use Rattle.sctp_chunk.specs.Grammar.{IsChunk, HasChunkShape, value_shape, IsCounted, SaysInit, FitsInit, SaysSkip, SaysSkips, FitsSkip, FitsBlock, FitsTsn, Each}
-use Rattle.sctp_chunk.proofs.FieldLemmas.{cut16, cut_eight}
+use Rattle.sctp_chunk.proofs.FieldLemmas.{cut_eight}
 use Rattle.sctp_chunk.proofs.FragmentLemmas.{field_read, field_fits, idata_carries, idata_read}
 use Rattle.sctp_chunk.proofs.SackLemmas.{counted_entries, sack_read}
 use Rattle.sctp_chunk.proofs.SkipLemmas.{three_fields}
@@ -180,8 +180,8 @@ sack_says i fits kind counted long =
     let at_b : drop 4 value ≡ be32 b.0 ++ (be16 c.0 ++ (be16 d.0 ++ rest)) = b.2 ∙ ap (λ (x : List ℕ). be32 b.0 ++ x) (drop-drop 4 4 value ∙ at_c) in
     let whole : value ≡ be32 a.0 ++ (be32 b.0 ++ (be16 c.0 ++ (be16 d.0 ++ rest))) = a.2 ∙ ap (λ (x : List ℕ). be32 a.0 ++ x) at_b in
     let behind = cut_eight a.0 b.0 (be16 c.0 ++ (be16 d.0 ++ rest)) counted.0 (be16 counted.1 ++ (be16 counted.2 ++ counted.3)) counted.4 (sym whole ∙ counted.7) in
-    let one = cut16 c.0 counted.1 (be16 d.0 ++ rest) (be16 counted.2 ++ counted.3) c.1 counted.5 behind in
-    let two = cut16 d.0 counted.2 rest counted.3 d.1 counted.6 one.1 in
+    let one = be16_same c.0 counted.1 (be16 d.0 ++ rest) (be16 counted.2 ++ counted.3) c.1 counted.5 behind in
+    let two = be16_same d.0 counted.2 rest counted.3 d.1 counted.6 one.1 in
     let len : length rest ≡ 4 * c.0 + 4 * d.0 = omega (arith, ap length two.1, counted.8, one.0, two.0) in
     let front : List ℕ = take (4 * c.0) rest in
     let back : List ℕ = drop (4 * c.0) rest in

@@ -1,5 +1,5 @@
 -- Joining ascending blocks keeps the offsets, and gives runs.
-use Rattle.std.proofs.Common.{◌≡◌, ℕ, suc, ◌+◌, ◌<◌, ◌≤◌, Bool, true, false, cond, leb, ltb, ◌||◌, List, [], ◌∷◌, length, max, get_or, refl, ap, ◌∙◌, inl, inr, arith}
+use Rattle.std.proofs.Common.{◌≡◌, ℕ, suc, ◌+◌, ◌<◌, ◌≤◌, Bool, true, cond, leb, ltb, ◌||◌, List, [], ◌∷◌, length, max, get_or, refl, ap, ◌∙◌, inl, inr, arith}
 use Rattle.std.specs.List.{All, filter}
 use Rattle.std.specs.List.Sorted.{IsNonDecreasingBy}
 use Rattle.std.proofs.lemmas.Bool.{lt-ltb, le-ltb, cases_lt}
@@ -7,6 +7,7 @@ use Rattle.std.proofs.lemmas.Bool.Decides.{nat_tests}
 use Rattle.std.proofs.lemmas.List.Elements.{All-head, All-tail}
 use Rattle.sctp_chunk.specs.declared.sack.GapAckBlock.{GapAckBlock}
 use Rattle.sctp_chunk.specs.Covered.{covers, is_covered, AreRuns, Ascend}
+use Rattle.sctp_serial.proofs.NumberLemmas.{or_assoc}
 
 abbrev pub joined : GapAckBlock → GapAckBlock → GapAckBlock
 joined run block = record { start = run.start; end = max run.end block.end }
@@ -26,10 +27,6 @@ Ascend_lower low high (b ∷ bs) h a = (omega arith, a.1, a.2)
 
 covers_joined : (n : ℕ) (run b : GapAckBlock) → run.start ≤ run.end → run.start ≤ b.start → b.start ≤ b.end → b.start ≤ run.end + 1 → covers n (joined run b) ≡ (covers n run || covers n b)
 covers_joined n run b h k l near = grind (arith, nat_tests)
-
-or_assoc : (a b c : Bool) → ((a || b) || c) ≡ (a || (b || c))
-or_assoc true b c = refl
-or_assoc false b c = refl
 
 is_covered_joined_to : (n : ℕ) (run : GapAckBlock) (bs : List GapAckBlock) → run.start ≤ run.end → Ascend run.start bs → is_covered (joined_to run bs) n ≡ is_covered (run ∷ bs) n
 is_covered_joined_to n run [] h a = refl

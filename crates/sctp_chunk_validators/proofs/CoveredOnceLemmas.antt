@@ -6,10 +6,7 @@ use Rattle.std.proofs.lemmas.Bool.Decides.{nat_tests}
 use Rattle.std.proofs.lemmas.List.Elements.{All-from_recursion}
 use Rattle.sctp_chunk.specs.declared.sack.GapAckBlock.{GapAckBlock}
 use Rattle.sctp_chunk.specs.Covered.{is_covered, AreRuns, SameOffsets, IsMaximalRun}
-
-pub is_covered_below : (low n : ℕ) (bs : List GapAckBlock) → AreRuns low bs → n < low → is_covered bs n ≡ false
-is_covered_below low n [] r h = refl
-is_covered_below low n (b ∷ bs) r h = grind (arith, nat_tests, is_covered_below (b.end + 2) n bs r.2 (omega arith))
+use Rattle.sctp_chunk.proofs.SackLemmas.{is_covered_below}
 
 before_first : (low n : ℕ) (b : GapAckBlock) (bs : List GapAckBlock) → AreRuns low (b ∷ bs) → n < b.start → is_covered (b ∷ bs) n ≡ false
 before_first low n b bs r h = grind (arith, nat_tests, is_covered_below (b.end + 2) n bs r.2 (omega arith))

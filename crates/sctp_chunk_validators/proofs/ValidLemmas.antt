@@ -5,7 +5,8 @@ use Rattle.std.proofs.lemmas.Bool.{cases_lt, both_ways}
 use Rattle.std.proofs.lemmas.List.Elements.{All-head, All-tail}
 use Rattle.sctp_chunk.specs.declared.sack.GapAckBlock.{GapAckBlock}
 use Rattle.sctp_chunk.specs.Covered.{AreRuns, AreValid, IsMaximalRun}
-use Rattle.sctp_chunk_validators.proofs.CoveredOnceLemmas.{is_covered_below, runs_are_maximal}
+use Rattle.sctp_chunk_validators.proofs.CoveredOnceLemmas.{runs_are_maximal}
+use Rattle.sctp_chunk.proofs.SackLemmas.{is_covered_below}
 
 abbrev StartsBelow : GapAckBlock → GapAckBlock → Type 0
 StartsBelow block later = block.start < later.start
@@ -28,10 +29,6 @@ valid_from_runs bs r z = record {
   ascending = runs_ascend 2 bs r;
   from_two = λ n h. is_covered_below 2 n bs r h;
 }
-
-pub runs_lower : (low high : ℕ) (bs : List GapAckBlock) → low ≤ high → AreRuns high bs → AreRuns low bs
-runs_lower low high [] h r = tt
-runs_lower low high (b ∷ bs) h r = (omega (arith, h, r.0), r.1, r.2)
 
 -- ---- valid blocks are runs
 

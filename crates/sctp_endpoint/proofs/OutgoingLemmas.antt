@@ -5,9 +5,8 @@ use Rattle.std.specs.List.{All}
 use Rattle.std.proofs.lemmas.List.{append-nil, length-append}
 use Rattle.std.proofs.lemmas.List.Concat.{flat_map-cons}
 use Rattle.std.proofs.lemmas.List.Elements.{All-nil, All-cons, All-append}
-use Rattle.sctp_wire.proofs.SerializeLemmas.{length_padded_item}
 use Rattle.sctp_packet.specs.Chunk.{ChunkTree}
-use Rattle.sctp_packet.specs.Written.{chunk_item, chunk_bytes, chunks_bytes}
+use Rattle.sctp_packet.specs.Written.{chunk_bytes, chunks_bytes}
 use Rattle.std.proofs.lemmas.List.{at_drop_all}
 use Rattle.sctp_wire.specs.Checksum.{with_zero_field}
 use Rattle.sctp_wire.specs.Fields.{be16, be32}
@@ -15,7 +14,7 @@ use Rattle.sctp_control_chunk.specs.declared.chunk.Chunk.{Chunk}
 use Rattle.sctp_packet.specs.ChunkView.{chunk_tree}
 use Rattle.sctp_packet.specs.Packet.{HeaderTree, header_bytes, unsummed_bytes, packet_bytes}
 use Rattle.sctp_packet.specs.Builder.{BuilderTree, Holds, so_far, build}
-use Rattle.sctp_packet.proofs.BuilderLemmas.{built_is_packet}
+use Rattle.sctp_packet.proofs.BuilderLemmas.{built_is_packet, chunks_bytes_push, chunk_is_some}
 use Rattle.spec_endpoint.specs.Packets.{is_some_chunk}
 use Rattle.spec_endpoint.specs.Wire.{word_at, word_in, written_bytes}
 use Rattle.sctp_endpoint.specs.PacketView.{IsWritable}
@@ -31,19 +30,8 @@ pub first_chunk : (c : ChunkTree) (cs : List ChunkTree) → chunks_bytes (c ∷ 
 unfolding chunks_bytes
 first_chunk c cs = flat_map-cons chunk_bytes c cs
 
-pub last_chunk : (cs : List ChunkTree) (c : ChunkTree) → chunks_bytes (cs ++ c ∷ []) ≡ chunks_bytes cs ++ chunk_bytes c
-last_chunk [] c = first_chunk c [] ∙ (ap (λ (x : List ℕ). chunk_bytes c ++ x) no_chunks ∙ (append-nil (chunk_bytes c) ∙ ap (λ (x : List ℕ). x ++ chunk_bytes c) (sym no_chunks)))
-last_chunk (d ∷ cs) c =
-    first_chunk d (cs ++ c ∷ [])
-    ∙ (ap (λ (x : List ℕ). chunk_bytes d ++ x) (last_chunk cs c)
-    ∙ (sym (append_assoc (chunk_bytes d) (chunks_bytes cs) (chunk_bytes c)) ∙ ap (λ (x : List ℕ). x ++ chunk_bytes c) (sym (first_chunk d cs))))
-
 pub length_last : (cs : List ChunkTree) (c : ChunkTree) → length (chunks_bytes (cs ++ c ∷ [])) ≡ length (chunks_bytes cs) + length (chunk_bytes c)
-length_last cs c = ap length (last_chunk cs c) ∙ length-append (chunks_bytes cs) (chunk_bytes c)
-
-pub chunk_is_some : (c : ChunkTree) → 0 < length (chunk_bytes c)
-unfolding chunk_bytes
-chunk_is_some c = omega (arith, length_padded_item (chunk_item c))
+length_last cs c = ap length (chunks_bytes_push cs c) ∙ length-append (chunks_bytes cs) (chunk_bytes c)
 
 -- a size that is capped above the room is compared alike
 pub within : (size capped room : ℕ) → capped ≡ min size (2 ^ 64 - 1) → room < 2 ^ 32 → leb capped room ≡ leb size room

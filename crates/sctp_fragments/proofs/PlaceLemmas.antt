@@ -1,7 +1,6 @@
 -- Intervals by their place in a vector.
 use Rattle.std.proofs.Common.{◌≡◌, ℕ, zero, suc, ◌+◌, ◌-◌, ◌<◌, ◌≤◌, Bool, true, false, None, List, [], ◌∷◌, ◌++◌, length, get_or, ltb, not, take, drop, set, refl, ap, sym, subst, ◌∙◌, arith, append_assoc, drop-cons, map, length-append}
 use Rattle.std.specs.List.{remove}
-use Rattle.std.specs.Prelude.{Result, Ok, Err, OnErr}
 use Rattle.std.proofs.lemmas.Bool.Decides.{nat_tests}
 use Rattle.std.proofs.lemmas.List.{take_more, map-append}
 use Rattle.sctp_fragments.specs.declared.interval.Entry.{Entry}
@@ -143,10 +142,6 @@ module _ {K : Type 0} (f : Entry K → Held) where
       let left : run_of f m0 ≡ run_of f i = ap (run_of f) m0_is ∙ (b ∙ ap (run_of f) l0_is) in
       let all : run_of f m1 ≡ run_of f i ++ x ∷ run_of f j = g ∙ (ap (λ (t : List Held). t ++ x ∷ run_of f next) left ∙ ap (λ (t : Interval K). run_of f i ++ x ∷ run_of f t) next_is) in
       lists_set removed ps qs m0 m1 n (removed_is ∙ ap (λ (t : Interval K). ps ++ t ∷ qs) (sym m0_is)) at ∙ ap (λ (t : List Held). lists_of f ps ++ t ∷ lists_of f qs) all
-
-pub on_err : {T E : Type 0} (r : Result T E) (P : Type 0) → P → OnErr r P
-on_err (Ok x) P p = tt
-on_err (Err e) P p = p
 
 module _ {K : Type 0} (f : Entry K → Held) where
   pub joins_left_read : (xs : List (Interval K)) (p : ℕ) (i : Interval K) (e x : Held) (r : Bool) → 0 < p → p ≤ length xs → i ≡ get_or xs (p - 1) i → 0 < length (run_of f i)

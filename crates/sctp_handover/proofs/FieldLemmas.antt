@@ -1,7 +1,7 @@
 -- What is found at the front of bytes.
 use Rattle.std.proofs.Common.{◌≡◌, ◌<◌, ◌^◌, min, ℕ, ℤ, pos, Bool, Option, Some, None, IfSome, is_some, unwrap_or, Result, Ok, Err, OnOk, IfOk, List, ◌++◌, length, take, drop, refl, sym, ap, ◌∙◌, arith, rules, append_assoc, length-append, FitsSigned}
-use Rattle.std.specs.Int.{w16, w32, w64, from_be_bytes, cast_signed, cast_unsigned}
-use Rattle.std.proofs.lemmas.Nat.{from_be_bytes-to_be_bytes_2, from_be_bytes-to_be_bytes_4, from_be_bytes-to_be_bytes_8}
+use Rattle.std.specs.Int.{w32, w64, from_be_bytes, cast_signed, cast_unsigned}
+use Rattle.std.proofs.lemmas.Nat.{from_be_bytes-to_be_bytes_8}
 use Rattle.std.proofs.lemmas.Int.{to_z-of_z}
 use Rattle.std.proofs.lemmas.List.{drop_at, take_at}
 use mir.ValLaws as laws
@@ -12,14 +12,7 @@ use Rattle.sctp_handover.specs.Bytes.{is_connected, payload_bytes, signed_bytes}
 use Rattle.sctp_handover.specs.Reads.{Finds, some_if, state_if}
 use Rattle.sctp_state.specs.declared.api.handover.HandoverSocketState.{HandoverSocketState}
 use Rattle.sctp_state.specs.declared.api.handover.HandoverSocketState.TheVariants.{Closed, Connected}
-
-same16 : (m n : ℕ) → m < 2 ^ 16 → n < 2 ^ 16 → be16 m ≡ be16 n → m ≡ n
-unfolding be16
-same16 m n hm hn e = sym (from_be_bytes-to_be_bytes_2 m hm) ∙ ap (from_be_bytes w16) e ∙ from_be_bytes-to_be_bytes_2 n hn
-
-same32 : (m n : ℕ) → m < 2 ^ 32 → n < 2 ^ 32 → be32 m ≡ be32 n → m ≡ n
-unfolding be32
-same32 m n hm hn e = sym (from_be_bytes-to_be_bytes_4 m hm) ∙ ap (from_be_bytes w32) e ∙ from_be_bytes-to_be_bytes_4 n hn
+use Rattle.sctp_wire.proofs.FieldLemmas.{same16, same32}
 
 same64 : (m n : ℕ) → m < 2 ^ 64 → n < 2 ^ 64 → be64 m ≡ be64 n → m ≡ n
 unfolding be64

@@ -34,7 +34,7 @@ length_unsummed : (h : HeaderTree) (body : List ℕ) → length (unsummed_bytes 
 unfolding unsummed_bytes header_bytes be16 be32
 length_unsummed h body = omega arith
 
-chunk_is_some : (t : ChunkTree) → 0 < length (chunk_bytes t)
+pub chunk_is_some : (t : ChunkTree) → 0 < length (chunk_bytes t)
 unfolding chunk_bytes
 chunk_is_some t = omega (arith, length_padded_item (chunk_item t))
 
@@ -81,7 +81,7 @@ pub no_body : (h : HeaderTree) (limit : ℕ) (bytes : List ℕ) → HasPacket h 
 no_body h limit [] has none = refl
 no_body h limit (b ∷ bytes) has none = absurd (none (omega arith))
 
-chunks_bytes_push : (chunks : List ChunkTree) (t : ChunkTree) → chunks_bytes (chunks ++ t ∷ []) ≡ chunks_bytes chunks ++ chunk_bytes t
+pub chunks_bytes_push : (chunks : List ChunkTree) (t : ChunkTree) → chunks_bytes (chunks ++ t ∷ []) ≡ chunks_bytes chunks ++ chunk_bytes t
 unfolding chunks_bytes
 chunks_bytes_push [] t = flat_map-cons chunk_bytes t [] ∙ append-nil (chunk_bytes t)
 chunks_bytes_push (c ∷ chunks) t =

@@ -1,5 +1,5 @@
 -- Chunks that were read are read back once they are written, where what is written for them fits.
-use Rattle.std.proofs.Common.{◌≡◌, inl, inr, ℕ, suc, ◌+◌, ◌^◌, ◌<◌, ◌≤◌, Bool, true, ◌&&◌, List, [], ◌∷◌, length, map, refl, sym, ap, subst, ◌∙◌, arith}
+use Rattle.std.proofs.Common.{◌≡◌, inl, inr, ℕ, suc, ◌+◌, ◌^◌, ◌<◌, ◌≤◌, true, ◌&&◌, List, [], ◌∷◌, length, map, refl, sym, ap, subst, ◌∙◌, arith}
 use Rattle.std.specs.Prelude.{All, ◌↔◌}
 use Rattle.std.specs.List.{flat_map, list_all}
 use Rattle.std.specs.Str.{IsUtf8, all_scalars}
@@ -25,6 +25,7 @@ use Rattle.sctp_control_chunk.proofs.InnerLemmas.{each_fits}
 use Rattle.sctp_packet.proofs.ReadBackLemmas.{chunks_tile}
 use Rattle.sctp_packet.proofs.PacketLemmas.{length_joined}
 use Rattle.sctp_packet.proofs.LawLemmas.{one_packet_lem, packet_of}
+use Rattle.std.proofs.lemmas.Bool.{and_from}
 
 -- ---- what was read
 
@@ -75,17 +76,14 @@ causes_read_back bytes ts tiles fit =
 
 -- ---- parts that agree
 
-both : (a b : Bool) → a ≡ true → b ≡ true → (a && b) ≡ true
-both a b e f = rw (e, f) refl
-
 parameters_whole : (bytes : List ℕ) (ts : List ParameterTree) → ParsesAll IsParameter bytes ts [] → list_all parameter_is_whole ts ≡ true
 parameters_whole bytes [] tiles = refl
-parameters_whole bytes (t ∷ ts) tiles = both (parameter_is_whole t) (list_all parameter_is_whole ts) tiles.3.whole (parameters_whole tiles.1 ts tiles.4)
+parameters_whole bytes (t ∷ ts) tiles = and_from (parameter_is_whole t) (list_all parameter_is_whole ts) tiles.3.whole (parameters_whole tiles.1 ts tiles.4)
 
 skips_whole : (bytes : List ℕ) (ss : List SkippedStream) → SaysSkips bytes ss → list_all is_mid_skip ss ≡ true
 skips_whole bytes [] says = refl
 skips_whole bytes (skips.ForwardTsn id ssn ∷ ss) says = absurd says.3
-skips_whole bytes (skips.IForwardTsn key mid ∷ ss) says = both true (list_all is_mid_skip ss) refl (skips_whole says.1 ss says.4)
+skips_whole bytes (skips.IForwardTsn key mid ∷ ss) says = and_from true (list_all is_mid_skip ss) refl (skips_whole says.1 ss says.4)
 
 chunk_whole : (i : Item) (t : ChunkTree) → IsChunk i t → chunk_is_whole t ≡ true
 chunk_whole i (data_chunk tsn immediate f) says = refl

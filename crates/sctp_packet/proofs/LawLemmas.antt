@@ -2,9 +2,8 @@
 use Rattle.std.proofs.Common.{◌≡◌, ◌⊎◌, inl, inr, ℕ, ◌^◌, ◌<◌, ◌≤◌, Bool, true, false, List, [], ◌++◌, length, drop, map, Ok, Err, refl, sym, ap, subst, ◌∙◌, arith}
 use Rattle.std.specs.Prelude.{All, Result, IfOk, IfErr, MatchResult}
 use Rattle.sctp_wire.specs.Fields.{be16, be32}
-use Rattle.sctp_wire.specs.Item.{Item, ParsesAll}
+use Rattle.sctp_wire.specs.Item.{ParsesAll}
 use Rattle.sctp_wire.specs.declared.checksum.Policy.{Policy}
-use Rattle.sctp_wire.specs.declared.error.ChunkParseError.{ChunkParseError}
 use Rattle.sctp_wire.specs.declared.error.ChunkParseError.TheVariants as chunk_faults
 use Rattle.sctp_wire.proofs.ParsesAllLemmas.{cut_same, one_tiling, whole_not_broken}
 use Rattle.sctp_wire.proofs.RefusalLemmas.{BreaksAs_Breaks, one_break}
@@ -17,11 +16,12 @@ use Rattle.sctp_chunk.specs.Grammar.{IsChunk, RefusesChunk, carried}
 use Rattle.sctp_packet.specs.ReadBack.{ChunkReadsBack}
 use Rattle.sctp_packet.specs.Packet.{HeaderTree, PacketTree, IsPacket, FitsHeader, Accepts, Refuses, IsFault, lets_through, checksum_field, header_bytes, packet_bytes}
 use Rattle.sctp_packet.specs.PacketView.{packet_tree}
-use Rattle.sctp_chunk.proofs.FieldLemmas.{cut16, cut32, same32}
 use Rattle.sctp_packet.proofs.PacketLemmas.{body_at, field_at, length_joined}
 use Rattle.sctp_packet.proofs.OneChunkLemmas.{one_chunk}
-use Rattle.sctp_packet.proofs.StandsLemmas.{chunk_stands, chunk_fault}
+use Rattle.sctp_packet.proofs.StandsLemmas.{chunk_fault}
 use Rattle.sctp_packet.proofs.ReadBackLemmas.{chunks_tile}
+use Rattle.sctp_wire.proofs.FieldLemmas.{be16_same, be32_same, same32}
+use Rattle.sctp_packet.proofs.ViewLemmas.{not_refused}
 
 abbrev header_of : ℕ → ℕ → ℕ → HeaderTree
 header_of s d t = record { source_port = s; destination_port = d; verification_tag = t }
@@ -42,18 +42,18 @@ length_header h = refl
 one_header : (h k : HeaderTree) → FitsHeader h → FitsHeader k → header_bytes h ≡ header_bytes k → h ≡ k
 unfolding header_bytes
 one_header h k fh fk e =
-    let a = cut16 h.source_port k.source_port _ _ fh.source_port fk.source_port e in
-    let b = cut16 h.destination_port k.destination_port _ _ fh.destination_port fk.destination_port a.1 in
+    let a = be16_same h.source_port k.source_port _ _ fh.source_port fk.source_port e in
+    let b = be16_same h.destination_port k.destination_port _ _ fh.destination_port fk.destination_port a.1 in
     same_header h.source_port h.destination_port h.verification_tag k.source_port k.destination_port k.verification_tag a.0 b.0 (same32 h.verification_tag k.verification_tag fh.verification_tag fk.verification_tag b.1)
 
 pub one_packet_lem : (bytes : List ℕ) (p q : PacketTree) → IsPacket bytes p → IsPacket bytes q → p ≡ q
 one_packet_lem bytes p q h k =
     let parts = cut_same (header_bytes p.header) (be32 p.checksum ++ h.body) (header_bytes q.header) (be32 q.checksum ++ k.body) (length_header p.header ∙ sym (length_header q.header)) (sym h.joined ∙ k.joined) in
-    let sums = cut32 p.checksum q.checksum h.body k.body h.checksum_fits k.checksum_fits parts.1 in
+    let sums = be32_same p.checksum q.checksum h.body k.body h.checksum_fits k.checksum_fits parts.1 in
     same_packet p.header p.checksum p.chunks q.header q.checksum q.chunks (one_header p.header q.header h.header_fits k.header_fits parts.0) sums.0
     (one_tiling IsChunk one_chunk k.body p.chunks q.chunks (subst (λ (x : List ℕ). ParsesAll IsChunk x p.chunks []) sums.1 h.chunks) k.chunks)
 
-packet_long : (bytes : List ℕ) (p : PacketTree) → IsPacket bytes p → 12 ≤ length bytes
+pub packet_long : (bytes : List ℕ) (p : PacketTree) → IsPacket bytes p → 12 ≤ length bytes
 packet_long bytes p h = omega (arith, ap length h.joined, length_joined p.header p.checksum h.body)
 
 field_of : (bytes : List ℕ) (p : PacketTree) → IsPacket bytes p → checksum_field bytes ≡ p.checksum
@@ -65,13 +65,6 @@ body_of bytes p h = ap (drop 12) h.joined ∙ body_at p.header p.checksum h.body
 clash : (b : Bool) → b ≡ true → b ≡ false → ⊥
 clash b t f = cc
 
-stands : (i : Item) (t : ChunkTree) (fault : ChunkParseError) → IsChunk i t → RefusesChunk i fault → fault ≡ chunk_faults.Memory
-stands i t chunk_faults.Memory h r = refl
-stands i t chunk_faults.InvalidLength h r = absurd (chunk_stands i t chunk_faults.InvalidLength h r (λ e. cc))
-stands i t chunk_faults.InvalidType h r = absurd (chunk_stands i t chunk_faults.InvalidType h r (λ e. cc))
-stands i t chunk_faults.InvalidPadding h r = absurd (chunk_stands i t chunk_faults.InvalidPadding h r (λ e. cc))
-stands i t chunk_faults.InvalidValue h r = absurd (chunk_stands i t chunk_faults.InvalidValue h r (λ e. cc))
-
 pub never_both_lem : (policy : Policy) (word : ℕ) (bytes : List ℕ) (e : PacketParseError) (p : PacketTree) → IsFault e → Refuses policy word bytes e → Accepts policy word bytes p → ⊥
 never_both_lem policy word bytes faults.TooShort p m r a = omega (arith, packet_long bytes p a.packet, r)
 never_both_lem policy word bytes faults.TooLong p m r a = omega (arith, a.short_enough, r)
@@ -79,7 +72,7 @@ never_both_lem policy word bytes faults.InvalidChecksum p m r a =
     clash (lets_through policy word p.checksum) a.sum (ap (lets_through policy word) (sym (field_of bytes p a.packet)) ∙ r.1)
 never_both_lem policy word bytes (faults.Chunk f) p m r a =
     whole_not_broken IsChunk (drop 12 bytes) p.chunks (subst (λ (x : List ℕ). ParsesAll IsChunk x p.chunks []) (sym (body_of bytes p a.packet)) a.packet.chunks)
-    (BreaksAs_Breaks IsChunk RefusesChunk stands chunk_fault (drop 12 bytes) f r.2 r.3)
+    (BreaksAs_Breaks IsChunk RefusesChunk not_refused chunk_fault (drop 12 bytes) f r.2 r.3)
 never_both_lem policy word bytes faults.Memory p m r a = m refl
 
 pub one_reason_lem : (policy : Policy) (word : ℕ) (bytes : List ℕ) (e f : PacketParseError) → IsFault e → IsFault f → Refuses policy word bytes e → Refuses policy word bytes f → e ≡ f
@@ -101,7 +94,7 @@ one_reason_lem policy word bytes (faults.Chunk x) faults.TooShort m n h k = absu
 one_reason_lem policy word bytes (faults.Chunk x) faults.TooLong m n h k = absurd (omega (arith, k, h.0.high))
 one_reason_lem policy word bytes (faults.Chunk x) faults.InvalidChecksum m n h k = absurd (clash (lets_through policy word (checksum_field bytes)) h.1 k.1)
 one_reason_lem policy word bytes (faults.Chunk x) (faults.Chunk y) m n h k =
-    ap faults.Chunk (one_break IsChunk RefusesChunk stands chunk_fault (drop 12 bytes) x y h.2 k.2 h.3 k.3)
+    ap faults.Chunk (one_break IsChunk RefusesChunk not_refused chunk_fault (drop 12 bytes) x y h.2 k.2 h.3 k.3)
 
 built_accepted : (policy : Policy) (word field : ℕ) (header : HeaderTree) (chunks : List ChunkTree) → FitsHeader header → field < 2 ^ 32 → All ChunkReadsBack chunks
     → length (packet_bytes header field chunks) ≤ 65535 → lets_through policy word field ≡ true

@@ -24,7 +24,8 @@ use Rattle.sctp_chunk.specs.declared.forward_tsn.SkippedStream.TheVariants as sk
 use Rattle.sctp_chunk.specs.Chunk.{ChunkTree, FragmentTree, InitTree, SackTree, data_chunk, init_chunk, init_ack_chunk, sack_chunk, heartbeat_request_chunk, heartbeat_ack_chunk, abort_chunk, shutdown_chunk, shutdown_ack_chunk, error_chunk, cookie_echo_chunk, cookie_ack_chunk, shutdown_complete_chunk, idata_chunk, re_config_chunk, forward_tsn_chunk, i_forward_tsn_chunk, unknown_chunk}
 use Rattle.sctp_chunk.specs.Written.{is_known_chunk, flag, data_value, idata_value, ppid_or_fsn, init_fields, sack_value, block_bytes, length_block_bytes, tsn_bytes, skip_bytes, forward_value, key_stream, key_flag, is_ssn_skip}
 use Rattle.sctp_chunk.specs.Grammar.{IsChunk, SaysInit, SaysSkip, SaysSkips, FitsInit, FitsBlock, FitsTsn, FitsSkip, FitsSack, Each}
-use Rattle.sctp_chunk.proofs.FieldLemmas.{same16, same32, cut16, cut32}
+use Rattle.sctp_serial.proofs.NumberLemmas.{either_fits}
+use Rattle.sctp_wire.proofs.FieldLemmas.{be16_same, be32_same, same16, same32}
 
 -- ---- entries
 
@@ -57,7 +58,7 @@ same_block m n o p a b = cc
 one_block : (x y : GapAckBlock) → FitsBlock x → FitsBlock y → block_bytes x ≡ block_bytes y → x ≡ y
 unfolding block_bytes
 one_block x y h k e =
-    let first = cut16 x.start y.start (be16 x.end) (be16 y.end) h.0 k.0 e in
+    let first = be16_same x.start y.start (be16 x.end) (be16 y.end) h.0 k.0 e in
     same_block x.start x.end y.start y.end first.0 (same16 x.end y.end h.1 k.1 first.1)
 
 abbrev tsn_of : ℕ → Tsn
@@ -93,7 +94,7 @@ length_skip (skips.IForwardTsn key mid) h = let k = h.1 in cc
 one_skip : (x y : SkippedStream) → IsSsnSkip x → IsSsnSkip y → skip_bytes x ≡ skip_bytes y → x ≡ y
 unfolding skip_bytes
 one_skip (skips.ForwardTsn id ssn) (skips.ForwardTsn jd tsn) h k e =
-    let first = cut16 id.0 jd.0 (be16 ssn.0) (be16 tsn.0) h.0.0 k.0.0 e in
+    let first = be16_same id.0 jd.0 (be16 ssn.0) (be16 tsn.0) h.0.0 k.0.0 e in
     ap (λ (n : ℕ). skips.ForwardTsn (stream_of n) ssn) first.0 ∙ ap (λ (n : ℕ). skips.ForwardTsn jd (ssn_of n)) (same16 ssn.0 tsn.0 h.0.1 k.0.1 first.1)
 one_skip (skips.IForwardTsn key mid) y h k e = let l = h.1 in cc
 one_skip x (skips.IForwardTsn key mid) h k e = let l = k.1 in cc
@@ -113,8 +114,8 @@ one_said : (front : List ℕ) (x y : SkippedStream) → FitsSkip x → FitsSkip 
 one_said front (skips.ForwardTsn id ssn) y fx fy h k = absurd h
 one_said front x (skips.ForwardTsn id ssn) fx fy h k = absurd k
 one_said front (skips.IForwardTsn key mid) (skips.IForwardTsn other nid) fx fy h k =
-    let a = cut16 (key_stream key) (key_stream other) _ _ fx.0 fy.0 (sym h.2 ∙ k.2) in
-    let b = cut16 h.0 k.0 _ _ h.1 k.1 a.1 in
+    let a = be16_same (key_stream key) (key_stream other) _ _ fx.0 fy.0 (sym h.2 ∙ k.2) in
+    let b = be16_same h.0 k.0 _ _ h.1 k.1 a.1 in
     let same = one_key key other a.0 (sym h.3 ∙ ap (λ (n : ℕ). flag n 1) b.0 ∙ k.3) in
     ap (λ (z : StreamKey). skips.IForwardTsn z mid) same ∙ ap (λ (n : ℕ). skips.IForwardTsn other (mid_of n)) (same32 mid.0 nid.0 fx.1 fy.1 b.1)
 
@@ -155,20 +156,15 @@ one_data : (i : Item) (t : ℕ) (a : Bool) (f : FragmentTree) (u : ℕ) (b : Boo
 unfolding data_value
 one_data i t a f u b g h k =
     let whole : data_value t f ≡ data_value u g = sym h.value ∙ k.value in
-    let first = cut32 t u _ _ h.fits.0 k.fits.0 whole in
-    let stream = cut16 f.stream_id g.stream_id _ _ h.fits.1.stream_id k.fits.1.stream_id first.1 in
-    let number = cut16 f.ssn g.ssn _ _ h.fits.1.ssn k.fits.1.ssn stream.1 in
-    let protocol = cut32 f.ppid g.ppid _ _ h.fits.1.ppid k.fits.1.ppid number.1 in
+    let first = be32_same t u _ _ h.fits.0 k.fits.0 whole in
+    let stream = be16_same f.stream_id g.stream_id _ _ h.fits.1.stream_id k.fits.1.stream_id first.1 in
+    let number = be16_same f.ssn g.ssn _ _ h.fits.1.ssn k.fits.1.ssn stream.1 in
+    let protocol = be32_same f.ppid g.ppid _ _ h.fits.1.ppid k.fits.1.ppid number.1 in
     let mids : f.mid ≡ g.mid = ap (λ (c : ChunkTree). (fragment_in c).mid) h.carries ∙ sym (ap (λ (c : ChunkTree). (fragment_in c).mid) k.carries) in
     let fsns : f.fsn ≡ g.fsn = ap (λ (c : ChunkTree). (fragment_in c).fsn) h.carries ∙ sym (ap (λ (c : ChunkTree). (fragment_in c).fsn) k.carries) in
     same_data t u a b f g first.0 (h.flags.immediate_flag ∙ sym k.flags.immediate_flag)
     (same_fragment f.stream_id f.is_unordered f.ssn f.mid f.fsn f.ppid f.payload f.is_beginning f.is_end g.stream_id g.is_unordered g.ssn g.mid g.fsn g.ppid g.payload g.is_beginning g.is_end
     stream.0 (h.flags.unordered ∙ sym k.flags.unordered) number.0 mids fsns protocol.0 protocol.1 (h.flags.beginning ∙ sym k.flags.beginning) (h.flags.ending ∙ sym k.flags.ending))
-
--- a field for one of two
-either_fits : (b : Bool) (p n : ℕ) → p < 2 ^ 32 → n < 2 ^ 32 → cond b p n < 2 ^ 32
-either_fits true p n h k = h
-either_fits false p n h k = k
 
 one_of_two : (b : Bool) (p n q m : ℕ) → p ≡ cond b p 0 → n ≡ cond b 0 n → q ≡ cond b q 0 → m ≡ cond b 0 m → cond b p n ≡ cond b q m → (p ≡ q) × (n ≡ m)
 one_of_two true p n q m hp hn hq hm e = (e, hn ∙ sym hm)
@@ -178,11 +174,11 @@ one_idata : (i : Item) (t : ℕ) (a : Bool) (f : FragmentTree) (u : ℕ) (b : Bo
 unfolding idata_value
 one_idata i t a f u b g h k =
     let whole : idata_value h.value.0 t f ≡ idata_value k.value.0 u g = sym h.value.2 ∙ k.value.2 in
-    let first = cut32 t u _ _ h.fits.0 k.fits.0 whole in
-    let stream = cut16 f.stream_id g.stream_id _ _ h.fits.1.stream_id k.fits.1.stream_id first.1 in
-    let reserved = cut16 h.value.0 k.value.0 _ _ h.value.1 k.value.1 stream.1 in
-    let message = cut32 f.mid g.mid _ _ h.fits.1.mid k.fits.1.mid reserved.1 in
-    let field = cut32 (ppid_or_fsn f) (ppid_or_fsn g) _ _ (either_fits f.is_beginning f.ppid f.fsn h.fits.1.ppid h.fits.1.fsn) (either_fits g.is_beginning g.ppid g.fsn k.fits.1.ppid k.fits.1.fsn) message.1 in
+    let first = be32_same t u _ _ h.fits.0 k.fits.0 whole in
+    let stream = be16_same f.stream_id g.stream_id _ _ h.fits.1.stream_id k.fits.1.stream_id first.1 in
+    let reserved = be16_same h.value.0 k.value.0 _ _ h.value.1 k.value.1 stream.1 in
+    let message = be32_same f.mid g.mid _ _ h.fits.1.mid k.fits.1.mid reserved.1 in
+    let field = be32_same (ppid_or_fsn f) (ppid_or_fsn g) _ _ (either_fits f.is_beginning f.ppid f.fsn h.fits.1.ppid h.fits.1.fsn) (either_fits g.is_beginning g.ppid g.fsn k.fits.1.ppid k.fits.1.fsn) message.1 in
     let begin : f.is_beginning ≡ g.is_beginning = h.flags.beginning ∙ sym k.flags.beginning in
     let ssns : f.ssn ≡ g.ssn = ap (λ (c : ChunkTree). (fragment_in c).ssn) h.carries ∙ sym (ap (λ (c : ChunkTree). (fragment_in c).ssn) k.carries) in
     let fp : f.ppid ≡ cond f.is_beginning f.ppid 0 = ap (λ (c : ChunkTree). (fragment_in c).ppid) h.carries in
@@ -208,10 +204,10 @@ one_init : (value : List ℕ) (t u : InitTree) → FitsInit t → FitsInit u →
 unfolding init_fields
 one_init value t u ft fu h k =
     let parts = cut_same (init_fields t) h.0 (init_fields u) k.0 (length_front t ∙ sym (length_front u)) (sym h.1 ∙ k.1) in
-    let a = cut32 t.initiate_tag u.initiate_tag _ _ ft.initiate_tag fu.initiate_tag parts.0 in
-    let b = cut32 t.a_rwnd u.a_rwnd _ _ ft.a_rwnd fu.a_rwnd a.1 in
-    let c = cut16 t.nbr_outbound_streams u.nbr_outbound_streams _ _ ft.nbr_outbound_streams fu.nbr_outbound_streams b.1 in
-    let d = cut16 t.nbr_inbound_streams u.nbr_inbound_streams _ _ ft.nbr_inbound_streams fu.nbr_inbound_streams c.1 in
+    let a = be32_same t.initiate_tag u.initiate_tag _ _ ft.initiate_tag fu.initiate_tag parts.0 in
+    let b = be32_same t.a_rwnd u.a_rwnd _ _ ft.a_rwnd fu.a_rwnd a.1 in
+    let c = be16_same t.nbr_outbound_streams u.nbr_outbound_streams _ _ ft.nbr_outbound_streams fu.nbr_outbound_streams b.1 in
+    let d = be16_same t.nbr_inbound_streams u.nbr_inbound_streams _ _ ft.nbr_inbound_streams fu.nbr_inbound_streams c.1 in
     let e = same32 t.initial_tsn u.initial_tsn ft.initial_tsn fu.initial_tsn d.1 in
     let ps = one_tiling IsParameter one_parameter_lem k.0 t.parameters u.parameters (subst (λ (x : List ℕ). ParsesAll IsParameter x t.parameters []) parts.1 h.2) k.2 in
     same_init t.initiate_tag t.a_rwnd t.nbr_outbound_streams t.nbr_inbound_streams t.initial_tsn t.parameters u.initiate_tag u.a_rwnd u.nbr_outbound_streams u.nbr_inbound_streams u.initial_tsn u.parameters
@@ -226,10 +222,10 @@ same_sack t w bs ds t' w' bs' ds' e0 e1 e2 e3 = cc
 one_sack : (s t : SackTree) → FitsSack s → FitsSack t → sack_value s ≡ sack_value t → s ≡ t
 unfolding sack_value
 one_sack s t fs ft e =
-    let a = cut32 s.cumulative_tsn_ack t.cumulative_tsn_ack _ _ fs.cumulative_tsn_ack ft.cumulative_tsn_ack e in
-    let b = cut32 s.a_rwnd t.a_rwnd _ _ fs.a_rwnd ft.a_rwnd a.1 in
-    let c = cut16 (length s.gap_ack_blocks) (length t.gap_ack_blocks) _ _ fs.few_blocks ft.few_blocks b.1 in
-    let d = cut16 (length s.duplicate_tsns) (length t.duplicate_tsns) _ _ fs.few_duplicates ft.few_duplicates c.1 in
+    let a = be32_same s.cumulative_tsn_ack t.cumulative_tsn_ack _ _ fs.cumulative_tsn_ack ft.cumulative_tsn_ack e in
+    let b = be32_same s.a_rwnd t.a_rwnd _ _ fs.a_rwnd ft.a_rwnd a.1 in
+    let c = be16_same (length s.gap_ack_blocks) (length t.gap_ack_blocks) _ _ fs.few_blocks ft.few_blocks b.1 in
+    let d = be16_same (length s.duplicate_tsns) (length t.duplicate_tsns) _ _ fs.few_duplicates ft.few_duplicates c.1 in
     let len : length (flat_map block_bytes s.gap_ack_blocks) ≡ length (flat_map block_bytes t.gap_ack_blocks) =
     length_entries block_bytes 4 length_block_bytes s.gap_ack_blocks ∙ ap (λ (n : ℕ). n * 4) c.0 ∙ sym (length_entries block_bytes 4 length_block_bytes t.gap_ack_blocks) in
     let parts = cut_same _ _ _ _ len d.1 in
@@ -247,13 +243,13 @@ one_forward : (i : Item) (t : ℕ) (xs : List SkippedStream) (u : ℕ) (ys : Lis
 unfolding forward_value
 one_forward i t xs u ys h k =
     let whole : forward_value t xs ≡ forward_value u ys = sym h.value.0 ∙ k.value.0 in
-    let first = cut32 t u _ _ h.fits.new_cumulative_tsn k.fits.new_cumulative_tsn whole in
+    let first = be32_same t u _ _ h.fits.new_cumulative_tsn k.fits.new_cumulative_tsn whole in
     same_forward t u xs ys first.0 (one_entries skip_bytes 4 IsSsnSkip (omega arith) length_skip one_skip xs ys
     (both FitsSkip (λ s. is_ssn_skip s ≡ true) xs h.fits.entries (ssn_skips xs h.value.1)) (both FitsSkip (λ s. is_ssn_skip s ≡ true) ys k.fits.entries (ssn_skips ys k.value.1)) first.1)
 
 one_i_forward : (i : Item) (t : ℕ) (xs : List SkippedStream) (u : ℕ) (ys : List SkippedStream) → IsChunk i (i_forward_tsn_chunk t xs) → IsChunk i (i_forward_tsn_chunk u ys) → i_forward_tsn_chunk t xs ≡ i_forward_tsn_chunk u ys
 one_i_forward i t xs u ys h k =
-    let first = cut32 t u _ _ h.fits.new_cumulative_tsn k.fits.new_cumulative_tsn (sym h.value.1 ∙ k.value.1) in
+    let first = be32_same t u _ _ h.fits.new_cumulative_tsn k.fits.new_cumulative_tsn (sym h.value.1 ∙ k.value.1) in
     same_i_forward t u xs ys first.0 (one_skips k.value.0 xs ys h.fits.entries k.fits.entries (subst (λ (b : List ℕ). SaysSkips b xs) first.1 h.value.2) k.value.2)
 
 same_abort : (r s : Bool) (xs ys : List CauseTree) → r ≡ s → xs ≡ ys → abort_chunk r xs ≡ abort_chunk s ys

@@ -22,6 +22,7 @@ use Rattle.sctp_chunk.specs.Chunk.{ChunkTree, FragmentTree, data_chunk, init_chu
 use Rattle.sctp_chunk.specs.Written.{flag, fragment_flags, reflected_flag, chunk_item, chunk_value, chunk_bytes, chunks_bytes, data_value, idata_value, skip_bytes, forward_value, key_flag, is_mid_skip}
 use Rattle.sctp_chunk.specs.Grammar.{IsChunk, SaysSkips, carried}
 use Rattle.sctp_packet.specs.ReadBack.{ChunkReadsBack}
+use Rattle.sctp_serial.proofs.NumberLemmas.{fits_or_zero}
 
 flags_say : (i u b e : Bool) → (i ≡ flag (fragment_flags i u b e) 8) × (u ≡ flag (fragment_flags i u b e) 4) × (b ≡ flag (fragment_flags i u b e) 2) × (e ≡ flag (fragment_flags i u b e) 1)
 flags_say true true true true = (refl, refl, refl, refl)
@@ -55,10 +56,6 @@ skips_say [] h = refl
 skips_say (skips.ForwardTsn id ssn ∷ ss) h = cc
 skips_say (skips.IForwardTsn key mid ∷ ss) h =
     (skip_bytes (skips.IForwardTsn key mid), flat_map skip_bytes ss, flat_map-cons skip_bytes (skips.IForwardTsn key mid) ss, (key_flag key, key_fits key, refl, refl), skips_say ss h)
-
-if_or_zero : (b : Bool) (p : ℕ) → p < 2 ^ 32 → cond b p 0 < 2 ^ 32
-if_or_zero true p h = h
-if_or_zero false p h = omega arith
 
 zero_or : (b : Bool) (p : ℕ) → p < 2 ^ 32 → cond b 0 p < 2 ^ 32
 zero_or true p h = omega arith
@@ -117,7 +114,7 @@ chunk_carried (idata_chunk tsn immediate f) h =
       of_its_type = tt;
       flags = record { immediate_flag = says.0; unordered = says.1; beginning = says.2; ending = says.3 };
       value = (0, omega arith, idata_says tsn immediate f);
-      fits = (h.fits.0, record { stream_id = h.fits.1.stream_id; ssn = omega arith; mid = h.fits.1.mid; fsn = zero_or f.is_beginning f.fsn h.fits.1.fsn; ppid = if_or_zero f.is_beginning f.ppid h.fits.1.ppid });
+      fits = (h.fits.0, record { stream_id = h.fits.1.stream_id; ssn = omega arith; mid = h.fits.1.mid; fsn = zero_or f.is_beginning f.fsn h.fits.1.fsn; ppid = fits_or_zero f.is_beginning f.ppid h.fits.1.ppid });
       carries = same_idata tsn immediate f _ _ _ _ (twice f.is_beginning f.ppid) (twice_zero f.is_beginning f.fsn);
     }
 chunk_carried (init_chunk init) h = record { kind = refl; of_its_type = tt; flags = tt; value = (inner_items (map parameter_item init.parameters), refl, parameters_tile init.parameters h.readable); fits = h.fits; carries = refl }

@@ -103,11 +103,11 @@ i_forward_shaped value t ss h =
     let len : length value ≡ 4 + length ss * 8 = omega (arith, ap length h.1, length-append (be32 t) h.0, length_be32 t, length_skips h.0 ss h.2) in
     (omega arith, omega arith)
 
-length_data : (t : ℕ) (f : FragmentTree) → length (data_value t f) ≡ 12 + length f.payload
+pub length_data : (t : ℕ) (f : FragmentTree) → length (data_value t f) ≡ 12 + length f.payload
 unfolding data_value be16 be32
 length_data t f = omega arith
 
-length_idata : (r t : ℕ) (f : FragmentTree) → length (idata_value r t f) ≡ 16 + length f.payload
+pub length_idata : (r t : ℕ) (f : FragmentTree) → length (idata_value r t f) ≡ 16 + length f.payload
 unfolding idata_value be16 be32
 length_idata r t f = omega arith
 

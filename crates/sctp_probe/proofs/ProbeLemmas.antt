@@ -10,16 +10,12 @@ use Rattle.sctp_packet.specs.declared.packet.PacketParseError.{PacketParseError}
 use Rattle.sctp_packet.specs.declared.packet.PacketParseError.TheVariants as faults
 use Rattle.sctp_packet.specs.Chunk.{ChunkTree}
 use Rattle.sctp_packet.specs.Written.{chunk_item, chunk_value, chunk_bytes, chunks_bytes, sack_value}
-use Rattle.sctp_packet.specs.Packet.{HeaderTree, PacketTree, IsPacket, Accepts, Refuses, header_bytes, unsummed_bytes, packet_bytes}
+use Rattle.sctp_packet.specs.Packet.{HeaderTree, PacketTree, Accepts, Refuses, header_bytes, unsummed_bytes, packet_bytes}
 use Rattle.sctp_packet.specs.Builder.{BuilderTree, so_far, build}
-use Rattle.sctp_packet.proofs.PacketLemmas.{length_joined}
 use Rattle.sctp_packet.proofs.BuilderLemmas.{built_is_packet}
 use Rattle.sctp_probe.specs.ByteSums.{byte_sum}
 use Rattle.sctp_probe.specs.Probe.{default_policy, packet_word, Probes, answer_of, refusal_of, reply_chunk, summed_packet, turn_header, reply_bytes}
-
--- a packet has its header
-packet_long : (bytes : List ℕ) (p : PacketTree) → IsPacket bytes p → 12 ≤ length bytes
-packet_long bytes p h = omega (arith, ap length h.joined, length_joined p.header p.checksum h.body)
+use Rattle.sctp_packet.proofs.LawLemmas.{packet_long}
 
 -- the word that was handed in is the packet's
 pub accepted : (policy : Policy) (word : ℕ) (bytes : List ℕ) (p : PacketTree) → policy ≡ default_policy → (12 ≤ length bytes → word ≡ packet_word bytes)

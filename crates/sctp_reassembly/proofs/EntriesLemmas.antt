@@ -1,6 +1,6 @@
 -- Sums over the streams of a map, when one stream changes.
-use Rattle.std.proofs.Common.{◌≡◌, ℕ, ◌+◌, ◌≤◌, Bool, true, false, cond, List, [], ◌∷◌, Option, Some, None, refl, ap, sym, ◌∙◌, arith}
-use Rattle.std.specs.Prelude.{unwrap_or, is_some, option_map, sum_by, filter, map, nat_lt, length}
+use Rattle.std.proofs.Common.{◌≡◌, ℕ, ◌+◌, ◌≤◌, Bool, true, false, cond, List, [], ◌∷◌, Option, Some, None, ap, sym, ◌∙◌, arith}
+use Rattle.std.specs.Prelude.{unwrap_or, option_map, sum_by, filter, map, nat_lt, length}
 use Rattle.sctp_fragments.specs.Runs.{from_rank}
 use Rattle.sctp_fragments.specs.Held.{Held, rank_of, bytes_of}
 use Rattle.std.specs.Ordering.{nat_cmp}
@@ -23,10 +23,6 @@ module _ {S : Type 0} (weight : S → ℕ) where
       let sums = sum_by-insert_entry weight nat_cmp_total es id fresh sorted in
       let none_there : unwrap_or (option_map weight (lookup (is_at (nat_cmp id)) es)) 0 ≡ 0 = ap (λ o. unwrap_or (option_map weight o) 0) (sym none) in
       omega (arith, sums, none_there, zero)
-
-pub none_from : {X : Type 0} (o : Option X) → is_some o ≡ false → None ≡ o
-none_from None h = refl
-none_from (Some x) h = absurd (cc)
 
 module _ {S : Type 0} (weight : S → ℕ) where
   pub sum_kept : (test : ℕ × S → Bool) (es : List (ℕ × S)) → sum_by weight (values_of (filter test es)) ≤ sum_by weight (values_of es)

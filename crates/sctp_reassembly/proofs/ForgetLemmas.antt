@@ -6,7 +6,6 @@ use Rattle.std.specs.List.Sorted.{IsStrictlySortedBy}
 use Rattle.std.specs.Ordering.{nat_cmp}
 use Rattle.std.specs.Map.{lookup, remove_entry, keys_of, values_of}
 use Rattle.std.specs.BTreeMap.{is_at}
-use Rattle.std.proofs.lemmas.Bool.Decides.{nat_tests}
 use Rattle.std.proofs.lemmas.Cmp.{nat_cmp_total, eq_by_cmp_equiv}
 use Rattle.std.proofs.lemmas.List.{drop_more, drop_all}
 use Rattle.std.proofs.lemmas.Map.{NonePasses}
@@ -14,9 +13,7 @@ use Rattle.std.proofs.lemmas.Map.Entries.{none_past_head, sum_by-remove_entry}
 use Rattle.std.proofs.lemmas.Map.Keys.{sorted_tail, IsDistinct-from_sorted}
 use Rattle.sctp_serial.specs.declared.api.StreamId.{StreamId}
 use Rattle.sctp_reassembly.specs.Streams.{Entries, forget}
-
-pub at_equal : (a b : ℕ) → is_at (nat_cmp a) b ≡ (a == b)
-at_equal a b = grind (arith, nat_tests)
+use Rattle.sctp_serial.proofs.NumberLemmas.{at_equal}
 
 module _ {S : Type 0} where
   -- without the stream

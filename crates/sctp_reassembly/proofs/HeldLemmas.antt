@@ -4,15 +4,10 @@ use Rattle.std.specs.List.{find}
 use Rattle.std.proofs.lemmas.Bool.{cases_lt}
 use Rattle.std.proofs.lemmas.Bool.Decides.{nat_tests}
 use Rattle.sctp_fragments.specs.Runs.{is_next, last_of, IsLinked, flat, AreRuns}
+use Rattle.sctp_serial.proofs.NumberLemmas.{less_differs, greater_differs}
 
 pub is_below : (a b : ℕ) → (a == b) ≡ true → b < suc a
 is_below a b h = grind (arith, nat_tests)
-
-not_same : (a b : ℕ) → b < a → (a == b) ≡ false
-not_same a b h = grind (arith, nat_tests)
-
-not_above : (a b : ℕ) → a < b → (a == b) ≡ false
-not_above a b h = grind (arith, nat_tests)
 
 module _ {E : Type 0} (rank : E → ℕ) (goes : E → E → Bool) where
   abbrev at : ℕ → List E → Option E
@@ -53,7 +48,7 @@ module _ {E : Type 0} (rank : E → ℕ) (goes : E → E → Bool) where
 
   pub none_before : (n m : ℕ) (es : List E) → RisesFrom n es → m < n → at m es ≡ None
   none_before n m [] h l = refl
-  none_before n m (e ∷ es) h l = ap (λ (b : Bool). cond b (Some e) (at m es)) (not_same (rank e) m (omega (arith, h.0, l))) ∙ none_before (suc (rank e)) m es h.1 (omega (arith, h.0, l))
+  none_before n m (e ∷ es) h l = ap (λ (b : Bool). cond b (Some e) (at m es)) (greater_differs m (rank e) (omega (arith, h.0, l))) ∙ none_before (suc (rank e)) m es h.1 (omega (arith, h.0, l))
 
   abbrev pub Parted : Option E → Option E → Option E → Type 0
   Parted o k t = ((k ≡ o) × (t ≡ None)) ⊎ ((k ≡ None) × (t ≡ o))
@@ -109,7 +104,7 @@ module _ {E : Type 0} (rank : E → ℕ) (goes : E → E → Bool) where
   are_later : (e : E) (es : List E) (f : E) (fs : List E) → IsLinked rank goes f fs → rank e ≤ rank f → AreAt (e ∷ es) fs → AreAt es fs
   are_later e es f [] h l k = tt
   are_later e es f (g ∷ gs) h l k =
-      (sym (ap (λ (b : Bool). cond b (Some e) (at (rank g) es)) (not_above (rank e) (rank g) (omega (arith, l, next_rank f g h.0)))) ∙ k.0, are_later e es g gs h.1 (omega (arith, l, next_rank f g h.0)) k.1)
+      (sym (ap (λ (b : Bool). cond b (Some e) (at (rank g) es)) (less_differs (rank e) (rank g) (omega (arith, l, next_rank f g h.0)))) ∙ k.0, are_later e es g gs h.1 (omega (arith, l, next_rank f g h.0)) k.1)
 
   leading : (e : E) (fs es : List E) → RisesFrom (suc (rank e)) es → IsLinked rank goes e fs → AreAt es fs → Leading fs es
   leading e [] es h l k = record { back = es; split = refl }

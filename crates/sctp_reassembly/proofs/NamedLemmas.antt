@@ -5,7 +5,7 @@ use Rattle.std.specs.Ordering.{nat_cmp}
 use Rattle.std.specs.BTreeSet.{BTreeSet, Updates, contains}
 use Rattle.std.proofs.lemmas.List.{drop_more}
 use Rattle.sctp_serial.specs.declared.api.StreamId.{StreamId}
-use Rattle.sctp_reassembly.proofs.ForgetLemmas.{at_equal}
+use Rattle.sctp_serial.proofs.NumberLemmas.{at_equal}
 
 abbrev any : ℕ → List StreamId → Bool
 any k ids = list_any (λ i. i.0 == k) ids

@@ -22,6 +22,7 @@ use Rattle.sctp_reassembly.specs.Delivery.{UnorderedStream, fresh_unordered, hel
 use Rattle.sctp_reassembly.specs.Streams.{Entries, stream_at, open_stream, write_stream, change_stream, is_named, forget}
 use Rattle.sctp_reassembly.specs.ReassemblyHandover.{unordered_records}
 use Rattle.sctp_reassembly.specs.Notes.{Notes, note_cmp, is_noted, HasNote, AreNoted, OthersAreNoted, KeepsOthers, NoneBelow, forward}
+use Rattle.sctp_serial.proofs.NumberLemmas.{equal_at, at_itself, is_equal, not_at}
 
 -- ---- the order of notes
 
@@ -36,18 +37,6 @@ other_note a c note h = apart a c note.0 note.1 h
   where
     apart : (a c b d : ℕ) → (d == c) ≡ false → is_at (note_cmp (a, c)) (b, d) ≡ false
     apart a c b d h = grind (arith, nat_tests)
-
-equal_at : (a b : ℕ) → is_at (nat_cmp a) b ≡ true → b ≡ a
-equal_at a b h = grind (arith, nat_tests)
-
-at_itself : (k : ℕ) → is_at (nat_cmp k) k ≡ true
-at_itself k = grind (arith, nat_tests)
-
-apart_at : (q id : ℕ) → (q == id) ≡ false → is_at (nat_cmp q) id ≡ false
-apart_at q id h = grind (arith, nat_tests)
-
-equal_from : (a b : ℕ) → nat_cmp a b ≡ Equal → b ≡ a
-equal_from a b h = grind (arith, nat_tests)
 
 -- a note that goes out, and one that comes in
 pub out_others : (rank id : ℕ) (old new : Notes) → ((note : ℕ × ℕ) → is_noted new note ≡ cond (is_at (note_cmp (rank, id)) note) false (is_noted old note)) → KeepsOthers id old new
@@ -86,7 +75,7 @@ renewed id old less new es out more made others q = go (q == id) refl
 module _ {S : Type 0} (fresh : S) (q id : ℕ) (other : (q == id) ≡ false) where
   -- past an entry of the one
   past : (e : ℕ × S) (v : S) (o : Option S) → e.0 ≡ id → unwrap_or (cond (is_at (nat_cmp q) e.0) (Some v) o) fresh ≡ unwrap_or o fresh
-  past e v o is = ap (λ b. unwrap_or (cond b (Some v) o) fresh) (ap (is_at (nat_cmp q)) is ∙ apart_at q id other)
+  past e v o is = ap (λ b. unwrap_or (cond b (Some v) o) fresh) (ap (is_at (nat_cmp q)) is ∙ not_at q id other)
 
   before : (b : Bool) (v : S) (o p : Option S) → unwrap_or o fresh ≡ unwrap_or p fresh → unwrap_or (cond b (Some v) o) fresh ≡ unwrap_or (cond b (Some v) p) fresh
   before true v o p h = refl
@@ -108,7 +97,7 @@ module _ {S : Type 0} (fresh : S) (q id : ℕ) (other : (q == id) ≡ false) whe
       go : (o : Ordering) → nat_cmp id e.0 ≡ o → stream_at fresh q (insert_entry nat_cmp es id s) ≡ stream_at fresh q es
           → stream_at fresh q (match_ordering o ((id, s) ∷ e ∷ es) ((e.0, s) ∷ es) (e ∷ insert_entry nat_cmp es id s)) ≡ stream_at fresh q (e ∷ es)
       go Less h ih = past (id, s) s (lookup (is_at (nat_cmp q)) (e ∷ es)) refl
-      go Equal h ih = past e s (lookup (is_at (nat_cmp q)) es) (equal_from id e.0 h) ∙ sym (past e e.1 (lookup (is_at (nat_cmp q)) es) (equal_from id e.0 h))
+      go Equal h ih = past e s (lookup (is_at (nat_cmp q)) es) (is_equal id e.0 h) ∙ sym (past e e.1 (lookup (is_at (nat_cmp q)) es) (is_equal id e.0 h))
       go Greater h ih = before (is_at (nat_cmp q) e.0) e.1 (lookup (is_at (nat_cmp q)) (insert_entry nat_cmp es id s)) (lookup (is_at (nat_cmp q)) es) ih
 
   other_opened : (es : Entries S) → stream_at fresh q (open_stream fresh id es) ≡ stream_at fresh q es

@@ -104,10 +104,10 @@ module _ {S : Type 0} (P : S → Type 0) where
 
 -- ---- the streams
 
-first_ordered : IsSettledInOrder fresh_ordered
+pub first_ordered : IsSettledInOrder fresh_ordered
 first_ordered = record { order = tt; none = tt }
 
-first_unordered : IsSettled fresh_unordered
+pub first_unordered : IsSettled fresh_unordered
 first_unordered = record { order = tt; none = tt }
 
 pub settled_none : (b : Bool) → AreSettled (no_streams b)

@@ -43,7 +43,7 @@ rises_ordered b es h = ap (rises_from 0) (ids_ordered b es) ∙ rises_keys 0 (ke
 pub rises_unordered : (es : Entries UnorderedStream) → IsStrictlySortedBy nat_cmp (keys_of es) → rises_from 0 (unordered_ids (unordered_records es)) ≡ true
 rises_unordered es h = ap (rises_from 0) (ids_unordered es) ∙ rises_keys 0 (keys_of es) h (from_zero (keys_of es))
 
-small_number : (n : ℕ) → nat_le (wire halves 0 n) 65535 ≡ true
+pub small_number : (n : ℕ) → nat_le (wire halves 0 n) 65535 ≡ true
 small_number n = le-leb (wire halves 0 n) 65535 (omega arith)
 
 small_numbers : (es : Entries OrderedStream) → has_small_numbers (ordered_records false es) ≡ true

@@ -1,11 +1,8 @@
 -- What is emitted stays at the front, and what was emitted since a moment can be taken back.
 use Rattle.std.proofs.Common.{◌≡◌, ℕ, ◌≤◌, List, [], ◌∷◌, ◌++◌, length, take, ap, sym, ◌∙◌, arith, subst, take_all, take-take, length-take}
-use Rattle.std.proofs.lemmas.List.{take-append-le}
+use Rattle.std.proofs.lemmas.List.{take_at}
 use Rattle.sctp_state.specs.declared.api.GivenUpCause.{GivenUpCause}
 use Rattle.sctp_state.specs.Events.{Event, GivenUp, Emitted, Grown, emit_events, give_up, mark_of, rolled_back}
-
-front : {X : Type 0} (xs ys : List X) → take (length xs) (xs ++ ys) ≡ xs
-front xs ys = take-append-le (length xs) xs ys (omega arith) ∙ take_all (length xs) xs (omega arith)
 
 at_most : {X : Type 0} (xs ys : List X) → take (length xs) ys ≡ xs → length xs ≤ length ys
 at_most xs ys e = omega (arith, ap length e, length-take (length xs) ys)
@@ -20,10 +17,10 @@ pub grown_through : {P : Type 0} (t u v : Emitted P) → Grown t u → Grown u v
 grown_through t u v g h = record { events = through t.events u.events v.events g.events h.events; given_up = through t.given_up u.given_up v.given_up g.given_up h.given_up }
 
 pub grown_emitted : {P : Type 0} (es : List (Event P)) (t : Emitted P) → Grown t (emit_events es t)
-grown_emitted es t = record { events = front t.events es; given_up = take_all (length t.given_up) t.given_up (omega arith) }
+grown_emitted es t = record { events = take_at t.events es (length t.events) refl; given_up = take_all (length t.given_up) t.given_up (omega arith) }
 
 pub grown_given_up : {P : Type 0} (n : ℕ) (cause : GivenUpCause) (t : Emitted P) → Grown t (give_up n cause t)
-grown_given_up n cause t = record { events = take_all (length t.events) t.events (omega arith); given_up = front t.given_up (record { number = n; cause = cause } ∷ []) }
+grown_given_up n cause t = record { events = take_all (length t.events) t.events (omega arith); given_up = take_at t.given_up (record { number = n; cause = cause } ∷ []) (length t.given_up) refl }
 
 -- by equations, as calls give them
 pub grown_equal : {P : Type 0} (t u : Emitted P) → u ≡ t → Grown t u

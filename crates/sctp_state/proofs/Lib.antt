@@ -1,2 +1,3 @@
 pub mod EventLemmas
+pub mod HandoverLemmas
 mod Rows

@@ -23,3 +23,11 @@ moment_before now (negsuc n) = later now ((n + 1) * ms)
 -- 0 names no message
 abbrev pub lifecycle_from : ℕ → Option ℕ
 lifecycle_from n = if n == 0 then None else Some n
+
+-- what was written, and is read at the same moment
+abbrev pub moment_again : ℕ → ℕ → ℕ
+moment_again now moment = moment_from now (ms_from now moment)
+
+abbrev pub lifecycle_again : Option ℕ → Option ℕ
+lifecycle_again None = None
+lifecycle_again (Some id) = lifecycle_from id

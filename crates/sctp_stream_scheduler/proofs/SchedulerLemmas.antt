@@ -9,12 +9,7 @@ use Rattle.std.specs.List.Sorted.{IsStrictlySortedBy}
 use Rattle.std.specs.Map.{lookup, remove_entry, keys_of}
 use Rattle.std.specs.BTreeMap.{is_at, insert_entry}
 use Rattle.sctp_stream_scheduler.specs.Scheduler.{Times, Scheduler, best, IsAhead, IsNext, Indexes, finish_time, finish_now, is_time, is_active, leave, enter, accept, accepted_at, set_bytes_remaining, turn_cmp, stream_in}
-
-above : (m k : ℕ) → nat_cmp m k ≡ Less → m < k
-above m k e = grind (arith, nat_tests)
-
-pub at_itself : (k : ℕ) → is_at (nat_cmp k) k ≡ true
-at_itself k = grind (arith, nat_tests)
+use Rattle.sctp_serial.proofs.NumberLemmas.{is_less, equal_at, at_itself, is_equal}
 
 apart : (k q : ℕ) → q < k → is_at (nat_cmp k) q ≡ false
 apart k q l = grind (arith, nat_tests)
@@ -51,7 +46,7 @@ best_is m b r [] s l h =
     let e : r ≡ b = same b r h in
     record { first = subst (λ x. IsAhead x b) (sym e) (inr (refl, omega arith)); others = tt; there = inl e }
 best_is m b r (e ∷ es) s l h =
-    let m_e : m < e.0 = above m e.0 s.0.0 in
+    let m_e : m < e.0 = is_less m e.0 s.0.0 in
     elim (cases_lt e.1 b.1) [
       | inl less ↦
           let ih = best_is e.0 e r es s.1 (omega arith) (ap (λ x. best (cond x (Some e) (Some b)) es) (sym (lt-ltb _ _ less)) ∙ h) in
@@ -185,8 +180,8 @@ above_first m id f (e ∷ es) s h = go (is_at (nat_cmp id) e.0) refl h (above_fi
     equal a b q = grind (arith, nat_tests)
 
     go : (b : Bool) → is_at (nat_cmp id) e.0 ≡ b → cond b (Some e.1) (finish_time id es) ≡ Some f → (finish_time id es ≡ Some f → e.0 < id) → m < id
-    go true q h ih = omega (arith, above m e.0 s.0.0, equal id e.0 q)
-    go false q h ih = omega (arith, above m e.0 s.0.0, ih h)
+    go true q h ih = omega (arith, is_less m e.0 s.0.0, equal id e.0 q)
+    go false q h ih = omega (arith, is_less m e.0 s.0.0, ih h)
 
 all_ahead : (r : ℕ × ℕ) (es : Times) → IsStrictlySortedBy nat_cmp (keys_of es) → ((id f : ℕ) → finish_time id es ≡ Some f → IsAhead r (id, f)) → AllByRecursion (IsAhead r) es
 unfolding IsStrictlySortedBy
@@ -219,12 +214,6 @@ unfolding IsStrictlySortedBy
 first_entry id next [] s = refl
 first_entry id next (e ∷ es) s = ap (λ (o : Ordering). match_ordering o ((id, next) ∷ e ∷ es) ((e.0, next) ∷ es) (e ∷ insert_entry nat_cmp es id next)) s.0.0
 
-same_id : (a b : ℕ) → nat_cmp a b ≡ Equal → b ≡ a
-same_id a b q = grind (arith, nat_tests)
-
-below : (a b : ℕ) → nat_cmp a b ≡ Less → a < b
-below a b q = grind (arith, nat_tests)
-
 pub renewed : (id next f : ℕ) (es : Times) → IsStrictlySortedBy nat_cmp (keys_of es) → finish_time id es ≡ Some f
     → insert_entry nat_cmp es id next ≡ insert_entry nat_cmp (remove_entry (is_at (nat_cmp id)) es) id next
 unfolding IsStrictlySortedBy
@@ -234,14 +223,11 @@ renewed id next f (e ∷ es) s h = go (nat_cmp id e.0) refl h (renewed id next f
     go : (o : Ordering) → nat_cmp id e.0 ≡ o → cond (is_eq o) (Some e.1) (finish_time id es) ≡ Some f
         → (IsStrictlySortedBy nat_cmp (keys_of es) → finish_time id es ≡ Some f → insert_entry nat_cmp es id next ≡ insert_entry nat_cmp (remove_entry (is_at (nat_cmp id)) es) id next)
         → match_ordering o ((id, next) ∷ e ∷ es) ((e.0, next) ∷ es) (e ∷ insert_entry nat_cmp es id next) ≡ insert_entry nat_cmp (cond (is_eq o) es (e ∷ remove_entry (is_at (nat_cmp id)) es)) id next
-    go Equal q h ih = ap (λ k. (k, next) ∷ es) (same_id id e.0 q) ∙ sym (first_entry id next es (subst (λ k. IsStrictlySortedBy nat_cmp (k ∷ keys_of es)) (same_id id e.0 q) s))
-    go Less q h ih = absurd (omega (arith, below id e.0 q, above_first e.0 id f es s h))
+    go Equal q h ih = ap (λ k. (k, next) ∷ es) (is_equal id e.0 q) ∙ sym (first_entry id next es (subst (λ k. IsStrictlySortedBy nat_cmp (k ∷ keys_of es)) (is_equal id e.0 q) s))
+    go Less q h ih = absurd (omega (arith, is_less id e.0 q, above_first e.0 id f es s h))
     go Greater q h ih =
         ap (λ xs. e ∷ xs) (ih (rest_sorted e.0 (keys_of es) s) h)
         ∙ sym (ap (λ (o : Ordering). match_ordering o ((id, next) ∷ e ∷ remove_entry (is_at (nat_cmp id)) es) ((e.0, next) ∷ remove_entry (is_at (nat_cmp id)) es) (e ∷ insert_entry nat_cmp (remove_entry (is_at (nat_cmp id)) es) id next)) q)
-
-equal_id : (a b : ℕ) → is_at (nat_cmp a) b ≡ true → b ≡ a
-equal_id a b q = grind (arith, nat_tests)
 
 pub removed : (id : ℕ) (es : Times) → IsStrictlySortedBy nat_cmp (keys_of es) → finish_time id (remove_entry (is_at (nat_cmp id)) es) ≡ None
 removed id [] s = refl
@@ -252,7 +238,7 @@ removed id (e ∷ es) s = go (is_at (nat_cmp id) e.0) refl (removed id es (rest_
     behind_it (Some f) q same = absurd (omega (arith, above_first e.0 id f es s q, same))
 
     go : (b : Bool) → is_at (nat_cmp id) e.0 ≡ b → finish_time id (remove_entry (is_at (nat_cmp id)) es) ≡ None → finish_time id (cond b es (e ∷ remove_entry (is_at (nat_cmp id)) es)) ≡ None
-    go true q ih = behind_it (finish_time id es) refl (equal_id id e.0 q)
+    go true q ih = behind_it (finish_time id es) refl (equal_at id e.0 q)
     go false q ih = ap (λ t. cond t (Some e.1) (finish_time id (remove_entry (is_at (nat_cmp id)) es))) q ∙ ih
 
 -- a stream that entered and leaves

@@ -11,6 +11,7 @@ use Rattle.sctp_trace.specs.declared.rows.What.TheVariants as kinds
 use Rattle.sctp_trace.specs.declared.rows.Row.{Row}
 use Rattle.sctp_trace.specs.Rows.{sends, sends_number}
 use Rattle.sctp_trace.specs.Arrows.{sending, sending_from}
+use Rattle.sctp_serial.proofs.NumberLemmas.{at_equal}
 
 -- what was found before stays; else the row may be the first
 abbrev or_here : Option ℕ → Bool → ℕ → Option ℕ
@@ -44,14 +45,6 @@ none_here : (is_sent : Bool) (front : Option ℕ) (here : ℕ) → is_sent ≡ f
 none_here is_sent (Some row) here e = refl
 none_here false None here e = refl
 none_here true None here e = let never : true ≡ false = e in cc
-
-at_number : (below same : Bool) → (below ≡ true → same ≡ false) → is_eq (cond below Less (cond same Equal Greater)) ≡ same
-at_number true same apart = sym (apart refl)
-at_number false true apart = refl
-at_number false false apart = refl
-
-is_at_number : (n q : ℕ) → is_at (nat_cmp n) q ≡ (n == q)
-is_at_number n q = at_number (nat_lt n q) (n == q) (λ below. grind (arith, nat_tests))
 
 chosen : (same : Bool) (n q i : ℕ) (old known : ℕ → Option ℕ) → (n == q) ≡ same → ((k : ℕ) → old k ≡ known k)
     → cond same (Some (unwrap_or (old n) i)) (old q) ≡ or_here (known q) same i
@@ -95,7 +88,7 @@ module _ (rows : List Row) (from : End) (i : ℕ) (row : Row) (inside : i < leng
       → (q : ℕ) → new q ≡ sending (take (i + 1) rows) from q
   one_sent n old new one before put q =
       put q
-      ∙ (ap (λ (b : Bool). cond b (Some (unwrap_or (old n) i)) (old q)) (is_at_number n q)
+      ∙ (ap (λ (b : Bool). cond b (Some (unwrap_or (old n) i)) (old q)) (at_equal n q)
       ∙ (chosen (n == q) n q i old (λ k. sending (take i rows) from k) refl before
       ∙ (ap (λ (b : Bool). or_here (sending (take i rows) from q) b i) (sym (one q)) ∙ sym (row_sends q))))
 

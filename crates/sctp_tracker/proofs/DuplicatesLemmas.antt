@@ -6,6 +6,7 @@ use Rattle.std.proofs.lemmas.Bool.{cases_lt, cases_eq, lt-ltb, le-ltb, eq-eqb, n
 use Rattle.std.proofs.lemmas.Bool.Decides.{nat_tests}
 use Rattle.sctp_tracker.specs.Tracker.{insert_number, with_duplicate}
 use Rattle.sctp_tracker.specs.Reported.{Ascend}
+use Rattle.sctp_serial.proofs.NumberLemmas.{or_regroup}
 
 abbrev pub holds : List ℕ → ℕ → Bool
 holds ns n = list_any (λ m. eqb n m) ns
@@ -34,15 +35,11 @@ pub Ascend_kept : {T E : Type 0} (r : Result T E) (n : ℕ) (old new : List ℕ)
 Ascend_kept (Ok x) n old new ok err a = subst (λ (ns : List ℕ). Ascend 0 ns) (sym ok) (Ascend_with_duplicate n old a)
 Ascend_kept (Err e) n old new ok err a = subst (λ (ns : List ℕ). Ascend 0 ns) (sym err) a
 
-or_swap : (a b c : Bool) → (a || (b || c)) ≡ ((a || b) || c)
-or_swap true b c = refl
-or_swap false b c = refl
-
 holds_insert : (n k : ℕ) (ns : List ℕ) → holds (insert_number n ns) k ≡ (holds ns k || eqb k n)
 holds_insert n k [] = grind (arith, nat_tests)
 holds_insert n k (m ∷ ms) =
     elim (cases_lt m n) [
-      | inl less ↦ rw (lt-ltb m n less) (ap (λ v. eqb k m || v) (holds_insert n k ms) ∙ or_swap (eqb k m) (holds ms k) (eqb k n))
+      | inl less ↦ rw (lt-ltb m n less) (ap (λ v. eqb k m || v) (holds_insert n k ms) ∙ or_regroup (eqb k m) (holds ms k) (eqb k n))
       | inr more ↦
           elim (cases_eq n m) [
             | inl e ↦ rw (le-ltb m n more, eq-eqb n m e) (again (holds ms k) e)

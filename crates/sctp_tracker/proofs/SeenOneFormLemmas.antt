@@ -4,7 +4,8 @@ use Rattle.std.proofs.lemmas.Bool.{cases_order, both_ways, cases_lt, cases_eq, e
 use Rattle.std.proofs.lemmas.Bool.Decides.{nat_tests}
 use Rattle.sctp_tracker.specs.Seen.{Run, Seen, is_in, in_runs, AreRuns, contains, IsInRuns, join_run, with_number, settle, add, up_to}
 use Rattle.sctp_tracker.proofs.SeenEdits.{run}
-use Rattle.sctp_tracker.proofs.SeenRunsLemmas.{in_runs_below, or_swap}
+use Rattle.sctp_tracker.proofs.SeenRunsLemmas.{in_runs_below}
+use Rattle.sctp_serial.proofs.NumberLemmas.{or_swap}
 
 pub before_first : (p n : ℕ) (c : Run) (qs : List Run) → AreRuns p (c ∷ qs) → n < c.first → in_runs (c ∷ qs) n ≡ false
 before_first p n c qs r h = grind (arith, nat_tests, in_runs_below c.last n qs r.2 (omega arith))

@@ -2,39 +2,29 @@
 use Rattle.std.proofs.Common.{◌≡◌, ◌≢◌, ℕ, zero, suc, ◌+◌, ◌<◌, ◌≤◌, Bool, true, false, not, ltb, ◌&&◌, ◌||◌, ◌==◌, if◌then◌else◌, cond, map, max, length, take, drop, get_or, List, [], ◌∷◌, ◌++◌, refl, sym, ap, ◌∙◌, subst, inl, inr, arith}
 use Rattle.std.specs.Prelude.{Some, None, unwrap_or, slice_get}
 use Rattle.std.specs.Map.{lookup, remove_entry}
-use Rattle.std.proofs.Common.{Ordering, Less, Equal, Greater}
+use Rattle.std.proofs.Common.{Ordering, Equal, Greater}
 use Rattle.std.specs.Ordering.{is_eq, is_lt, nat_cmp, match_ordering}
 use Rattle.std.specs.BTreeMap.{is_at, insert_entry}
 use Rattle.std.specs.BTreeMap.Range.{entries_between}
 use Rattle.std.specs.declared.ops.Bound.TheVariants.{Unbounded, Included}
-use Rattle.std.proofs.lemmas.Bool.{lt-ltb, le-ltb, ne_eqb, eq-eqb, lt-leb, le-leb, cases_lt, cases_order, cases_eq, both_ways}
+use Rattle.std.proofs.lemmas.Bool.{lt-ltb, le-ltb, ne_eqb, eq-eqb, lt-leb, le-leb, cases_lt, cases_eq, both_ways}
 use Rattle.sctp_tracker.specs.Seen.{Run, in_runs, AreRuns, last_above}
 use Rattle.sctp_tracker.specs.SeenSteps.{Adds, read, run_of, runs_of, last_entry, run_at, is_held, first_with, last_with}
 use Rattle.sctp_tracker.proofs.SeenEdits.{run, grown_to, add_here, add_number}
 use Rattle.sctp_tracker.proofs.SeenRunsLemmas.{le_last_above, adds}
 use Rattle.sctp_tracker.proofs.SeenOneFormLemmas.{before_first, past_last, within, later}
+use Rattle.sctp_serial.proofs.NumberLemmas.{nat_cmp_less, at_other}
 
 abbrev pub Entry : Type 0
 Entry = ℕ × ℕ
 
 -- ---- numbers as keys
 
-nat_cmp_less : (k a : ℕ) → k < a → nat_cmp k a ≡ Less
-nat_cmp_less k a h = rw (lt-ltb k a h) refl
-
 nat_cmp_same : (k a : ℕ) → k ≡ a → nat_cmp k a ≡ Equal
 nat_cmp_same k a e = rw (le-ltb k a (omega (arith, e)), eq-eqb k a e) refl
 
 nat_cmp_more : (k a : ℕ) → a < k → nat_cmp k a ≡ Greater
 nat_cmp_more k a h = rw (le-ltb k a (omega (arith, h)), ne_eqb k a (omega (arith, h))) refl
-
-is_at_other : (k a : ℕ) → k ≢ a → is_at (nat_cmp k) a ≡ false
-is_at_other k a d =
-    elim (cases_order k a) [
-      | inl e ↦ absurd (d e)
-      | inr (inl less) ↦ ap is_eq (nat_cmp_less k a less)
-      | inr (inr more) ↦ ap is_eq (nat_cmp_more k a more)
-    ]
 
 -- ---- what std's words do at the first entry
 
@@ -48,13 +38,13 @@ insert_before : (k v : ℕ) (e : Entry) (es : List Entry) → k < e.0 → insert
 insert_before k v e es h = ap (λ (o : Ordering). match_ordering o ((k, v) ∷ e ∷ es) ((e.0, v) ∷ es) (e ∷ insert_entry nat_cmp es k v)) (nat_cmp_less k e.0 h)
 
 remove_past : (k : ℕ) (e : Entry) (es : List Entry) → k ≢ e.0 → remove_entry (is_at (nat_cmp k)) (e ∷ es) ≡ e ∷ remove_entry (is_at (nat_cmp k)) es
-remove_past k e es d = ap (λ (v : Bool). cond v es (e ∷ remove_entry (is_at (nat_cmp k)) es)) (is_at_other k e.0 d)
+remove_past k e es d = ap (λ (v : Bool). cond v es (e ∷ remove_entry (is_at (nat_cmp k)) es)) (at_other k e.0 d)
 
 remove_here : (k : ℕ) (e : Entry) (es : List Entry) → k ≡ e.0 → remove_entry (is_at (nat_cmp k)) (e ∷ es) ≡ es
 remove_here k e es h = ap (λ (o : Ordering). cond (is_eq o) es (e ∷ remove_entry (is_at (nat_cmp k)) es)) (nat_cmp_same k e.0 h)
 
 lookup_past : (k : ℕ) (e : Entry) (es : List Entry) → k ≢ e.0 → lookup (is_at (nat_cmp k)) (e ∷ es) ≡ lookup (is_at (nat_cmp k)) es
-lookup_past k e es d = ap (λ (v : Bool). cond v (Some e.1) (lookup (is_at (nat_cmp k)) es)) (is_at_other k e.0 d)
+lookup_past k e es d = ap (λ (v : Bool). cond v (Some e.1) (lookup (is_at (nat_cmp k)) es)) (at_other k e.0 d)
 
 lookup_here : (k : ℕ) (e : Entry) (es : List Entry) → k ≡ e.0 → lookup (is_at (nat_cmp k)) (e ∷ es) ≡ Some e.1
 lookup_here k e es h = ap (λ (o : Ordering). cond (is_eq o) (Some e.1) (lookup (is_at (nat_cmp k)) es)) (nat_cmp_same k e.0 h)

@@ -6,6 +6,7 @@ use Rattle.sctp_tracker.specs.Seen.{Run}
 use Rattle.sctp_tracker.specs.Seen.{in_runs, AreRuns, last_above}
 use Rattle.sctp_tracker.specs.SeenSteps.{Adds}
 use Rattle.sctp_tracker.proofs.SeenEdits.{grown_to, add_here, add_number}
+use Rattle.sctp_serial.proofs.NumberLemmas.{or_swap}
 
 -- the new number is in, and the others are as they were
 pub in_runs_grown_to : (f n m e : ℕ) (rs : List Run) → n ≡ e + 1 → f ≤ e → AreRuns e rs → in_runs (grown_to f n rs) m ≡ (eqb m n || ((leb f m && leb m e) || in_runs rs m))
@@ -18,11 +19,6 @@ in_runs_add_here point n m b rs r k =
       | inl past ↦ grind (arith, nat_tests, in_runs_grown_to b.first n m b.last rs (omega arith) r.1 r.2)
       | inr within ↦ grind (arith, nat_tests)
     ]
-
-pub or_swap : (a b c : Bool) → (a || (b || c)) ≡ (b || (a || c))
-or_swap true true c = refl
-or_swap true false c = refl
-or_swap false b c = refl
 
 pub in_runs_add_number : (point n m : ℕ) (rs : List Run) → AreRuns point rs → in_runs (add_number n rs) m ≡ (eqb m n || in_runs rs m)
 in_runs_add_number point n m [] r = grind (arith, nat_tests)

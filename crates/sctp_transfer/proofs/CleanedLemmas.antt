@@ -1,17 +1,15 @@
 -- Cleaned blocks are the maximal runs of the offsets that the blocks cover.
-use Rattle.std.proofs.Common.{◌≡◌, ℕ, ◌+◌, ◌<◌, ◌≤◌, Bool, true, false, ◌||◌, List, [], ◌∷◌, max, min, refl, ap, ◌∙◌, inl, inr, arith}
+use Rattle.std.proofs.Common.{◌≡◌, ℕ, ◌+◌, ◌<◌, ◌≤◌, Bool, false, ◌||◌, List, [], ◌∷◌, max, min, refl, ap, ◌∙◌, inl, inr, arith}
 use Rattle.std.proofs.lemmas.Bool.{lt-ltb, le-ltb, le-leb, lt-leb, cases_lt}
 use Rattle.std.proofs.lemmas.Bool.Decides.{nat_tests}
 use Rattle.sctp_chunk.specs.declared.sack.GapAckBlock.{GapAckBlock}
 use Rattle.sctp_packet.specs.Covered.{covers, is_covered, AreRuns, SameOffsets}
 use Rattle.spec_endpoint.specs.Sack.{merge_block, clean_blocks}
+use Rattle.sctp_serial.proofs.NumberLemmas.{or_swap, or_assoc}
+use Rattle.sctp_chunk.proofs.SackLemmas.{runs_lower}
 
 abbrev joined : GapAckBlock → GapAckBlock → GapAckBlock
 joined b r = record { start = min b.start r.start; end = max b.end r.end }
-
-AreRuns_lower : (low high : ℕ) (rs : List GapAckBlock) → low ≤ high → AreRuns high rs → AreRuns low rs
-AreRuns_lower low high [] h a = tt
-AreRuns_lower low high (r ∷ rs) h a = (omega (arith, h, a.0), a.1, a.2)
 
 -- ---- runs
 
@@ -22,7 +20,7 @@ AreRuns_merged low b (r ∷ rs) l h a = elim (cases_lt (b.end + 1) r.start) [
   | inr near ↦ rw (le-ltb (b.end + 1) r.start near) (elim (cases_lt (r.end + 1) b.start) [
     | inl behind ↦ rw (lt-ltb (r.end + 1) b.start behind) ((a.0, a.1, AreRuns_merged (r.end + 2) b rs (omega (arith, behind)) h a.2))
     | inr touching ↦ rw (le-ltb (r.end + 1) b.start touching)
-        (AreRuns_merged low (joined b r) rs (omega (arith, l, a.0)) (omega (arith, h, a.1)) (AreRuns_lower low (r.end + 2) rs (omega (arith, a.0, a.1)) a.2))
+        (AreRuns_merged low (joined b r) rs (omega (arith, l, a.0)) (omega (arith, h, a.1)) (runs_lower low (r.end + 2) rs (omega (arith, a.0, a.1)) a.2))
   ])
 ]
 
@@ -38,15 +36,6 @@ AreRuns_cleaned (b ∷ bs) = elim (cases_lt b.end b.start) [
 covers_joined : (n : ℕ) (b r : GapAckBlock) → b.start ≤ b.end → r.start ≤ r.end → r.start ≤ b.end + 1 → b.start ≤ r.end + 1
     → covers n (joined b r) ≡ (covers n b || covers n r)
 covers_joined n b r h k near touching = grind (arith, nat_tests)
-
-or_assoc : (a b c : Bool) → ((a || b) || c) ≡ (a || (b || c))
-or_assoc true b c = refl
-or_assoc false b c = refl
-
-or_swap : (a b c : Bool) → (a || (b || c)) ≡ (b || (a || c))
-or_swap true true c = refl
-or_swap true false c = refl
-or_swap false b c = refl
 
 is_covered_merged : (n low : ℕ) (b : GapAckBlock) (rs : List GapAckBlock) → b.start ≤ b.end → AreRuns low rs
     → is_covered (merge_block b rs) n ≡ (covers n b || is_covered rs n)

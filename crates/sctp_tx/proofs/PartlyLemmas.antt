@@ -1,6 +1,5 @@
 -- A packet that was being filled: what the call leaves that ran out of memory.
 use Rattle.std.proofs.Common.{◌≡◌, ℕ, ◌<◌, false, List, [], refl, ap, sym, subst, ◌∙◌}
-use Rattle.std.specs.Prelude.{Result, Ok, Err, OnErr}
 use Rattle.sctp_state.specs.Events.{Emitted}
 use Rattle.sctp_tx_outstanding.specs.Item.{Item}
 use Rattle.sctp_tx_outstanding.specs.Items.{Outstanding, insert}
@@ -19,10 +18,6 @@ use Rattle.sctp_tx.specs.Retransmission.{Sender}
 use Rattle.sctp_tx.specs.Resent.{resent_by}
 use Rattle.sctp_tx.specs.Sending.{item_of, sent_new}
 use Rattle.sctp_tx.specs.Interrupted.{PartlySent, PartlyTaken}
-
-pub on_err : {T E : Type 0} (r : Result T E) (P : Type 0) → P → OnErr r P
-on_err (Ok x) P p = tt
-on_err (Err e) P p = p
 
 -- ---- the sender
 

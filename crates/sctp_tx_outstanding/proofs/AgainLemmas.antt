@@ -1,24 +1,17 @@
 -- A record brings the items back.
-use Rattle.std.proofs.Common.{◌≡◌, ℕ, suc, ◌+◌, ◌-◌, ◌%◌, ◌<◌, cond, Option, Some, None, List, [], ◌∷◌, length, refl, ap, ◌∙◌, arith}
+use Rattle.std.proofs.Common.{◌≡◌, ℕ, suc, ◌+◌, ◌-◌, ◌%◌, ◌<◌, cond, Option, List, [], ◌∷◌, length, refl, ap, ◌∙◌, arith}
 use Rattle.std.specs.Prelude.{option_map, unwrap_or}
 use Rattle.sctp_serial.specs.Serial.{serial_difference}
 use Rattle.sctp_serial.specs.Unwrapped.{origin, words, wire}
 use Rattle.sctp_state.specs.Handover.{Transmission}
-use Rattle.sctp_state.specs.HandoverTimes.{ms_from, moment_from, lifecycle_from}
+use Rattle.sctp_state.specs.HandoverTimes.{lifecycle_from, moment_again, lifecycle_again}
 use Rattle.sctp_tx_outstanding.specs.declared.item.ItemState.{ItemState}
 use Rattle.sctp_tx_outstanding.specs.declared.item.ItemState.TheVariants.{InFlight, Missing, Queued, QueuedFast, Acked, GivenUp}
 use Rattle.sctp_tx_outstanding.specs.Item.{Item, slow, waits, has_nack, has_ack, is_given_up}
 use Rattle.sctp_tx_outstanding.specs.Items.{Outstanding}
 use Rattle.sctp_tx_outstanding.specs.Handover.{item_record, item_from, items_from, item_records, reports_in, handed_over, restore}
-use Rattle.sctp_tx_outstanding.specs.Again.{moment_again, lifecycle_again, item_again, items_again, ComesBack}
-
-expires_is : (now : ℕ) (o : Option ℕ) → option_map (moment_from now) (option_map (ms_from now) o) ≡ option_map (moment_again now) o
-expires_is now None = refl
-expires_is now (Some t) = refl
-
-lifecycle_is : (o : Option ℕ) → lifecycle_from (unwrap_or o 0) ≡ lifecycle_again o
-lifecycle_is None = refl
-lifecycle_is (Some id) = refl
+use Rattle.sctp_tx_outstanding.specs.Again.{item_again, items_again, ComesBack}
+use Rattle.sctp_state.proofs.HandoverLemmas.{expires_is, lifecycle_is}
 
 state_is : (s : ItemState) → cond (has_ack s) Acked (cond (is_given_up s) GivenUp (cond (waits s) Queued (cond (has_nack s) Missing InFlight))) ≡ slow s
 state_is InFlight = refl

@@ -9,6 +9,7 @@ use Rattle.sctp_tx_outstanding.specs.Item.{Item, is_abandoned}
 use Rattle.sctp_tx_outstanding.specs.Items.{Items, when}
 use Rattle.sctp_tx_outstanding.specs.Forward.{ForwardPoint, entry_of, is_before, is_same, is_alike, name_stream, with_entry, count_with, size_with, stops, passes, pass_item, walk}
 use Rattle.sctp_tx_outstanding.specs.Point.{Ascend}
+use Rattle.sctp_serial.proofs.NumberLemmas.{less_differs, greater_differs}
 
 -- ---- the order of entries is that of numbers
 
@@ -30,12 +31,6 @@ alike_place a b true true = grind (arith, nat_tests)
 alike_place a b true false = grind (arith, nat_tests)
 alike_place a b false true = grind (arith, nat_tests)
 alike_place a b false false = grind (arith, nat_tests)
-
-is_other : (a b : ℕ) → a < b → (a == b) ≡ false
-is_other a b h = grind (arith, nat_tests)
-
-is_different : (a b : ℕ) → b < a → (a == b) ≡ false
-is_different a b h = grind (arith, nat_tests)
 
 is_below : (a b : ℕ) → (a == b) ≡ false → a ≤ b → a < b
 is_below a b h le = grind (arith, nat_tests)
@@ -74,7 +69,7 @@ with_rises (Some e) ds h = named_rises e 0 ds (omega arith) h
 none_alike : (e : SkipEntry) (lo : ℕ) (ds : List SkipEntry) → rank e < lo → Rising lo ds → list_any (is_alike e) ds ≡ false
 none_alike e lo [] less h = refl
 none_alike e lo (d ∷ ds) less h =
-    or_from (is_alike e d) (list_any (is_alike e) ds) (alike_is e d ∙ is_other (rank e) (rank d) (omega (arith, less, h.0)))
+    or_from (is_alike e d) (list_any (is_alike e) ds) (alike_is e d ∙ less_differs (rank e) (rank d) (omega (arith, less, h.0)))
     (none_alike e (suc (rank d)) ds (omega (arith, less, h.0)) h.1)
 
 -- behind an entry that comes before it, what is alike is counted alone
@@ -88,7 +83,7 @@ module _ (e d : SkipEntry) (ds : List SkipEntry) (lo : ℕ) (h : Rising lo (d �
   put_length : (before same : Bool) → is_before d e ≡ before → is_alike e d ≡ same → length (cond before (d ∷ name_stream e ds) (cond same (e ∷ ds) (e ∷ d ∷ ds))) ≤ count_with (Some e) (d ∷ ds)
   put_length true same b s =
       let less : rank d < rank e = ltb-true (rank d) (rank e) (sym (before_is d e) ∙ b) in
-      let off : is_alike e d ≡ false = alike_is e d ∙ is_different (rank e) (rank d) less in
+      let off : is_alike e d ≡ false = alike_is e d ∙ greater_differs (rank d) (rank e) less in
       let more : when (not (is_alike e d || list_any (is_alike e) ds)) 1 ≡ when (not (list_any (is_alike e) ds)) 1 = counts_on (is_alike e d) (list_any (is_alike e) ds) off in
       omega (arith, ih, more)
   put_length false true b s = omega arith

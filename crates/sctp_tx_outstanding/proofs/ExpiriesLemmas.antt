@@ -18,12 +18,13 @@ use Rattle.sctp_tx_outstanding.specs.Waiting.{by_number, is_listed}
 use Rattle.sctp_tx_outstanding.specs.Expiries.{expires_as, AreMoments, Expects, Moves, Sets, expires_at, ListsUpTo}
 use Rattle.sctp_tx_outstanding.proofs.EarliestLemmas.{not_before}
 use Rattle.sctp_tx_outstanding.proofs.MessagesLemmas.{turn_round, out, stays}
-use Rattle.sctp_tx_outstanding.proofs.WaitingLemmas.{as_below, as_at, as_next, here, ahead, behind, further, nowhere, not_same, not_below, is_same_lem}
+use Rattle.sctp_tx_outstanding.proofs.WaitingLemmas.{as_below, as_at, as_next, here, ahead, behind, further, nowhere, not_below, is_same_lem}
+use Rattle.sctp_serial.proofs.NumberLemmas.{greater_differs}
 
 -- ---- an item changes
 
 not_ever : (m w : ℕ) → m < never → w ≡ never → (w == m) ≡ false
-not_ever m w less h = not_same m w (omega (arith, less, h))
+not_ever m w less h = greater_differs m w (omega (arith, less, h))
 
 moment_is : (m : ℕ) (t u : Totals) → t ≡ u → (u.earliest == m) ≡ (t.earliest == m)
 moment_is m t u e = ap (λ (x : Totals). x.earliest == m) (sym e)
@@ -95,7 +96,7 @@ first_left keys news first next moment i is e small of put known = record {
 
     leaves : (m n : ℕ) → m < never → n < 2 ^ 32 → cond ((m == moment) && (n == first)) false (is_listed keys (key_of m n)) ≡ by_number (first + 1) (λ k. expires_as m k is) n
     leaves m n less few = elim (cases_lt first n) [
-      | inl more ↦ stays (m == moment) (n == first) (is_listed keys (key_of m n)) (not_same first n more) ∙ (known.exact m n less few ∙ sym (as_next first (λ k. expires_as m k (i ∷ is)) n more))
+      | inl more ↦ stays (m == moment) (n == first) (is_listed keys (key_of m n)) (greater_differs first n more) ∙ (known.exact m n less few ∙ sym (as_next first (λ k. expires_as m k (i ∷ is)) n more))
       | inr le ↦ none m n less few le ∙ sym (as_below (first + 1) (λ k. expires_as m k is) n (omega (arith, le)))
     ] where
       none : (m n : ℕ) → m < never → n < 2 ^ 32 → n ≤ first → cond ((m == moment) && (n == first)) false (is_listed keys (key_of m n)) ≡ false

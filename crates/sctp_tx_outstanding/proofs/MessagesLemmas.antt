@@ -13,7 +13,8 @@ use Rattle.sctp_tx_outstanding.specs.Waiting.{by_number, is_listed}
 use Rattle.sctp_tx_outstanding.specs.Messages.{NoneIsOf, is_of_as, key_of, AreKeys, Finds}
 use Rattle.sctp_tx_outstanding.specs.declared.messages.Messages.{Messages}
 use Rattle.sctp_tx_outstanding.proofs.LaidLemmas.{laid}
-use Rattle.sctp_tx_outstanding.proofs.WaitingLemmas.{as_below, as_at, as_never, as_next, as_alike, as_turned, here, ahead, behind, further, not_same, not_below, is_same_lem, equal}
+use Rattle.sctp_tx_outstanding.proofs.WaitingLemmas.{as_below, as_at, as_never, as_next, as_alike, as_turned, here, ahead, behind, further, not_below, is_same_lem, equal}
+use Rattle.sctp_serial.proofs.NumberLemmas.{greater_differs}
 
 -- ---- keys
 
@@ -65,9 +66,9 @@ came false false w x y e f h = f
 
 pub turn_round : (m j : ℕ) → (j == m) ≡ (m == j)
 turn_round m j = elim (cases_lt m j) [
-  | inl less ↦ not_same m j less ∙ sym (not_below j m less)
+  | inl less ↦ greater_differs m j less ∙ sym (not_below j m less)
   | inr le ↦ elim (cases_lt j m) [
-    | inl more ↦ not_below m j more ∙ sym (not_same j m more)
+    | inl more ↦ not_below m j more ∙ sym (greater_differs j m more)
     | inr ge ↦ is_same_lem m j (omega (arith, le, ge)) ∙ sym (is_same_lem j m (omega (arith, le, ge)))
   ]
 ]
@@ -107,7 +108,7 @@ left keys news first next i is message e small of put known = λ m n few.
 
     leaves : (m n : ℕ) → n < 2 ^ 32 → cond ((m == message) && (n == first)) false (is_listed keys (key_of m n)) ≡ is_of_as (first + 1) m n is
     leaves m n few = elim (cases_lt first n) [
-      | inl more ↦ stays (m == message) (n == first) (is_listed keys (key_of m n)) (not_same first n more) ∙ (known m n few ∙ sym (as_next first (λ k. is_of_at m k (i ∷ is)) n more))
+      | inl more ↦ stays (m == message) (n == first) (is_listed keys (key_of m n)) (greater_differs first n more) ∙ (known m n few ∙ sym (as_next first (λ k. is_of_at m k (i ∷ is)) n more))
       | inr le ↦ none m n few le ∙ sym (as_below (first + 1) (λ k. is_of_at m k is) n (omega (arith, le)))
     ] where
       none : (m n : ℕ) → n < 2 ^ 32 → n ≤ first → cond ((m == message) && (n == first)) false (is_listed keys (key_of m n)) ≡ false

@@ -17,7 +17,9 @@ use Rattle.sctp_tx_outstanding.specs.Passes.{settle_from, acked_from, below_from
 use Rattle.sctp_tx_outstanding.specs.LastBlocks.{Rests, Rest, RestBelow, RestFrom, Agree, NoneOf, AreSame, IsReceived, Knows}
 use Rattle.sctp_tx_outstanding.specs.declared.last_blocks.LastBlocks.{LastBlocks}
 use Rattle.sctp_tx_outstanding.proofs.TotalsLemmas.{length_change}
-use Rattle.sctp_tx_outstanding.proofs.SackLemmas.{none_below, covered_first}
+use Rattle.sctp_tx_outstanding.proofs.SackLemmas.{covered_first}
+use Rattle.sctp_tx_outstanding.proofs.RecordLemmas.{resent_same, slowed_same}
+use Rattle.sctp_chunk.proofs.SackLemmas.{is_covered_below}
 
 -- ---- one item
 
@@ -76,14 +78,6 @@ resent_acked QueuedFast h = absurd (cc)
 resent_acked Acked h = refl
 resent_acked GivenUp h = refl
 
-resent_given_up : (s : ItemState) → is_given_up (resent s) ≡ is_given_up s
-resent_given_up InFlight = refl
-resent_given_up Missing = refl
-resent_given_up Queued = refl
-resent_given_up QueuedFast = refl
-resent_given_up Acked = refl
-resent_given_up GivenUp = refl
-
 resent_open : (s : ItemState) → uncovered s ≡ s → uncovered (resent s) ≡ resent s
 resent_open InFlight h = refl
 resent_open Missing h = refl
@@ -99,14 +93,6 @@ slowed_acked Queued h = absurd (cc)
 slowed_acked QueuedFast h = absurd (cc)
 slowed_acked Acked h = refl
 slowed_acked GivenUp h = refl
-
-slowed_given_up : (s : ItemState) → is_given_up (slow s) ≡ is_given_up s
-slowed_given_up InFlight = refl
-slowed_given_up Missing = refl
-slowed_given_up Queued = refl
-slowed_given_up QueuedFast = refl
-slowed_given_up Acked = refl
-slowed_given_up GivenUp = refl
 
 slowed_open : (s : ItemState) → uncovered s ≡ s → uncovered (slow s) ≡ slow s
 slowed_open InFlight h = refl
@@ -130,10 +116,10 @@ rests_changed (changes.Nack at_once fast) true i e h =
 rests_changed (changes.Nack at_once fast) false i e h =
     rests_uncovered (nack at_once fast i) (nack_open (is_in_flight i.state) (is_lost at_once i) fast i.state (state_of_lem (uncover i) i h))
 rests_changed changes.Retransmit true i e h =
-    rests_covered (mark_as_retransmitted i) (resent_acked i.state (state_of_lem (ack i) i h)) (ap (λ b. cond b i.reports 0) (resent_given_up i.state) ∙ reports_of_lem (ack i) i h)
+    rests_covered (mark_as_retransmitted i) (resent_acked i.state (state_of_lem (ack i) i h)) (ap (λ b. cond b i.reports 0) (resent_same i.state) ∙ reports_of_lem (ack i) i h)
 rests_changed changes.Retransmit false i e h = rests_uncovered (mark_as_retransmitted i) (resent_open i.state (state_of_lem (uncover i) i h))
 rests_changed changes.MissFast true i e h =
-    rests_covered (miss_fast i) (slowed_acked i.state (state_of_lem (ack i) i h)) (ap (λ b. cond b i.reports 0) (slowed_given_up i.state) ∙ reports_of_lem (ack i) i h)
+    rests_covered (miss_fast i) (slowed_acked i.state (state_of_lem (ack i) i h)) (ap (λ b. cond b i.reports 0) (slowed_same i.state) ∙ reports_of_lem (ack i) i h)
 rests_changed changes.MissFast false i e h = rests_uncovered (miss_fast i) (slowed_open i.state (state_of_lem (uncover i) i h))
 rests_changed changes.Abandon true i e h = refl
 rests_changed changes.Abandon false i e h = refl
@@ -332,7 +318,7 @@ pub agree_cons : (n off : ℕ) (a b : GapAckBlock) (olds bs : List GapAckBlock) 
 agree_cons n off a b olds bs s e h = λ p less. let rest = h p less in grind (arith, nat_tests, rest)
 
 none_of : (lowest off : ℕ) (b : GapAckBlock) (bs : List GapAckBlock) → AreRuns lowest (b ∷ bs) → NoneOf (b.start - off) off (b ∷ bs)
-none_of lowest off b bs h = λ p less. none_below b.start (off + p) (b ∷ bs) (omega arith, h.1, h.2) (omega (arith, less))
+none_of lowest off b bs h = λ p less. is_covered_below b.start (off + p) (b ∷ bs) (omega arith, h.1, h.2) (omega (arith, less))
 
 pub gap_none : (bs cs : List GapAckBlock) (n off lowest : ℕ) (b : GapAckBlock) → AreRuns lowest bs → bs ≡ b ∷ cs → n ≡ b.start - off → NoneOf n off bs
 gap_none bs cs n off lowest b h e is_n =

@@ -20,6 +20,8 @@ use Rattle.sctp_tx_outstanding.specs.Resending.{Resent, again_of, again_at, take
 use Rattle.sctp_tx_outstanding.specs.Sack.{settle, ack_or_nack, leaving, staying, receive_sack, receive_sack_first, reported_below}
 use Rattle.sctp_chunk.specs.Chunk.{FragmentTree}
 use Rattle.sctp_tx_outstanding.specs.Records.{is_recorded, are_distinct, IsRecorded, RecordedOnce, RecordsCount, RecordsLifetime}
+use Rattle.sctp_serial.proofs.NumberLemmas.{or_regroup}
+use Rattle.std.proofs.lemmas.Bool.{and_from}
 
 -- ---- records
 
@@ -30,13 +32,9 @@ or_none : (b : Bool) → (b || false) ≡ b
 or_none true = refl
 or_none false = refl
 
-or_assoc : (a b c : Bool) → (a || (b || c)) ≡ ((a || b) || c)
-or_assoc true b c = refl
-or_assoc false b c = refl
-
 recorded_pushed : (n : ℕ) (gs : List GivenUp) (g : GivenUp) → is_recorded n (gs ++ g ∷ []) ≡ (is_recorded n gs || (g.number == n))
 recorded_pushed n [] g = or_none (g.number == n)
-recorded_pushed n (h ∷ gs) g = ap (λ b. (h.number == n) || b) (recorded_pushed n gs g) ∙ or_assoc (h.number == n) (is_recorded n gs) (g.number == n)
+recorded_pushed n (h ∷ gs) g = ap (λ b. (h.number == n) || b) (recorded_pushed n gs g) ∙ or_regroup (h.number == n) (is_recorded n gs) (g.number == n)
 
 -- of two that differ
 apart : (a b : ℕ) (x y z : Bool) → (not x && y) ≡ true → ((a == b) || z) ≡ false → not (x || (b == a)) ≡ true
@@ -51,13 +49,10 @@ other : (a b : Bool) → (a || b) ≡ false → b ≡ false
 other true b h = absurd (cc)
 other false b h = h
 
-joined : (a b : Bool) → a ≡ true → b ≡ true → (a && b) ≡ true
-joined a b ea eb = ap (λ x. x && b) ea ∙ eb
-
 distinct_pushed : (gs : List GivenUp) (g : GivenUp) → are_distinct gs ≡ true → is_recorded g.number gs ≡ false → are_distinct (gs ++ g ∷ []) ≡ true
 distinct_pushed [] g h k = refl
 distinct_pushed (f ∷ gs) g h k =
-    joined (not (is_recorded f.number (gs ++ g ∷ []))) (are_distinct (gs ++ g ∷ []))
+    and_from (not (is_recorded f.number (gs ++ g ∷ []))) (are_distinct (gs ++ g ∷ []))
     (ap not (recorded_pushed f.number gs g) ∙ apart f.number g.number (is_recorded f.number gs) (are_distinct gs) (is_recorded g.number gs) h k)
     (distinct_pushed gs g (second (not (is_recorded f.number gs)) (are_distinct gs) h) (other (f.number == g.number) (is_recorded g.number gs) k))
 
@@ -91,7 +86,7 @@ module _ (gs : List GivenUp) (f : Item → Item) (h : (i : Item) → Alike i (f 
   emitted_changed zero (i ∷ is) a = (alike_emitted gs i (f i) (h i) a.0, a.1)
   emitted_changed (suc k) (i ∷ is) a = (a.0, emitted_changed k is a.1)
 
-acked_same : (s : ItemState) → is_given_up (acked s) ≡ is_given_up s
+pub acked_same : (s : ItemState) → is_given_up (acked s) ≡ is_given_up s
 acked_same InFlight = refl
 acked_same Missing = refl
 acked_same Queued = refl
@@ -99,7 +94,7 @@ acked_same QueuedFast = refl
 acked_same Acked = refl
 acked_same Abandoned = refl
 
-uncovered_same : (s : ItemState) → is_given_up (uncovered s) ≡ is_given_up s
+pub uncovered_same : (s : ItemState) → is_given_up (uncovered s) ≡ is_given_up s
 uncovered_same InFlight = refl
 uncovered_same Missing = refl
 uncovered_same Queued = refl
@@ -107,7 +102,7 @@ uncovered_same QueuedFast = refl
 uncovered_same Acked = refl
 uncovered_same Abandoned = refl
 
-resent_same : (s : ItemState) → is_given_up (resent s) ≡ is_given_up s
+pub resent_same : (s : ItemState) → is_given_up (resent s) ≡ is_given_up s
 resent_same InFlight = refl
 resent_same Missing = refl
 resent_same Queued = refl
@@ -115,7 +110,7 @@ resent_same QueuedFast = refl
 resent_same Acked = refl
 resent_same Abandoned = refl
 
-slowed_same : (s : ItemState) → is_given_up (slow s) ≡ is_given_up s
+pub slowed_same : (s : ItemState) → is_given_up (slow s) ≡ is_given_up s
 slowed_same InFlight = refl
 slowed_same Missing = refl
 slowed_same Queued = refl
@@ -123,12 +118,12 @@ slowed_same QueuedFast = refl
 slowed_same Acked = refl
 slowed_same Abandoned = refl
 
-nacked_stays : (lost fast : Bool) → is_given_up (nack_state lost fast) ≡ false
+pub nacked_stays : (lost fast : Bool) → is_given_up (nack_state lost fast) ≡ false
 nacked_stays true true = refl
 nacked_stays true false = refl
 nacked_stays false fast = refl
 
-nacked_same : (lost fast : Bool) (s : ItemState) → is_given_up (cond (is_in_flight s) (nack_state lost fast) s) ≡ is_given_up s
+pub nacked_same : (lost fast : Bool) (s : ItemState) → is_given_up (cond (is_in_flight s) (nack_state lost fast) s) ≡ is_given_up s
 nacked_same lost fast InFlight = nacked_stays lost fast
 nacked_same lost fast Missing = nacked_stays lost fast
 nacked_same lost fast Queued = refl

@@ -13,6 +13,7 @@ use Rattle.sctp_chunk.specs.Chunk.{FragmentTree}
 use Rattle.sctp_tx_outstanding.specs.Item.{Item, is_in_flight, waits, waits_fast, resent, slow, miss_fast, should_be_retransmitted, is_fast, size_of, mark_as_retransmitted}
 use Rattle.sctp_tx_outstanding.specs.Items.{Outstanding, when, wire_tsn, packet_part, queued_part, fast_part, flight_bytes, flight_items, waiting_items, fast_items, change_at}
 use Rattle.sctp_tx_outstanding.specs.Resending.{Resent, size_in, allowance, waiting_for, again_of, turn_of, turn_at, take_item, step_at, resent_below, empty_packet, resend, chunk_bytes}
+use Rattle.sctp_tx_outstanding.proofs.WaitingLemmas.{none_of}
 
 module _ (p : Item → ℕ) (f : Item → Item) where
   sum_changed : (k : ℕ) (is : List Item) (i : Item) → slice_get is k ≡ Some i → sum_by p (change_at k f is) + p i ≡ sum_by p is + p (f i)
@@ -149,10 +150,6 @@ resend_fits fast room window d =
 
 -- ---- where nothing waits nothing is handed out
 
-none_of : (b : Bool) → when b 1 ≤ 0 → b ≡ false
-none_of true h = absurd (omega (arith, h))
-none_of false h = refl
-
 none_waits_lem : (k : ℕ) (is : List Item) (i : Item) → sum_by queued_part is ≤ 0 → slice_get is k ≡ Some i → should_be_retransmitted i ≡ false
 none_waits_lem k [] i h e = absurd (cc)
 none_waits_lem zero (j ∷ is) i h e =
@@ -222,7 +219,7 @@ fast_waits QueuedFast e = refl
 fast_waits Acked e = absurd (cc)
 fast_waits GivenUp e = absurd (cc)
 
-slowed_in_flight : (s : ItemState) → is_in_flight (slow s) ≡ is_in_flight s
+pub slowed_in_flight : (s : ItemState) → is_in_flight (slow s) ≡ is_in_flight s
 slowed_in_flight InFlight = refl
 slowed_in_flight Missing = refl
 slowed_in_flight Queued = refl

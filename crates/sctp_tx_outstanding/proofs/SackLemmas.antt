@@ -9,20 +9,13 @@ use Rattle.sctp_tx_outstanding.specs.Item.{Item}
 use Rattle.sctp_tx_outstanding.specs.Items.{Kept, change_at}
 use Rattle.sctp_tx_outstanding.specs.Sack.{ack_or_nack, is_new_at, new_bytes_at, newly_of, bytes_of}
 use Rattle.sctp_tx_outstanding.specs.Passes.{IsCursor, IsWalk, settle_from, acked_from, below_from}
+use Rattle.sctp_chunk.proofs.SackLemmas.{is_covered_below}
 
 -- ---- blocks
 
-pub none_below : (lowest offset : ℕ) (bs : List GapAckBlock) → AreRuns lowest bs → offset < lowest → is_covered bs offset ≡ false
-none_below lowest offset [] h less = refl
-none_below lowest offset (b ∷ bs) h less =
-    let ih = none_below (b.end + 2) offset bs h.2 (omega (arith, h.0, h.1, less)) in
-    let low : b.start ≤ b.end = h.1 in
-    let first : lowest ≤ b.start = h.0 in
-    grind (arith, nat_tests, ih)
-
 pub covered_first : (lowest offset : ℕ) (b : GapAckBlock) (bs : List GapAckBlock) → AreRuns lowest (b ∷ bs) → offset ≤ b.end → nat_le b.start offset ≡ is_covered (b ∷ bs) offset
 covered_first lowest offset b bs h less =
-    let rest = none_below (b.end + 2) offset bs h.2 (omega (arith, less)) in
+    let rest = is_covered_below (b.end + 2) offset bs h.2 (omega (arith, less)) in
     grind (arith, nat_tests, rest)
 
 pub covered_at : (bs : List GapAckBlock) (at offset : ℕ) (d : GapAckBlock) → IsCursor bs offset at → at < length bs → offset ≤ (slice_index_or bs at d).end

@@ -11,6 +11,7 @@ use Rattle.sctp_tx_outstanding.specs.Change.{apply_change}
 use Rattle.sctp_tx_outstanding.specs.Items.{change_at, when, packet_part, payload_part, flight_part, queued_part, fast_part}
 use Rattle.sctp_tx_outstanding.specs.Totals.{parts, nothing, exchange, IsSmall, AreTotals, Exchanges}
 use Rattle.sctp_tx_outstanding.proofs.EarliestLemmas.{all_sooner, earliest_changed, earliest_pushed}
+use Rattle.sctp_tx_outstanding.proofs.WaitingLemmas.{same_fragment}
 
 -- ---- the item at a place
 
@@ -92,14 +93,6 @@ pub one_le : (test : Item → Bool) (i : Item) → IsSmall i → when (test i) 1
 one_le test i h = when_le (test i) 1 1 (omega arith)
 
 -- ---- the totals after a change
-
-same_fragment : (x : Change) (i : Item) → (apply_change x i).fragment ≡ i.fragment
-same_fragment changes.Ack i = refl
-same_fragment changes.Uncover i = refl
-same_fragment (changes.Nack at_once fast) i = refl
-same_fragment changes.Retransmit i = refl
-same_fragment changes.MissFast i = refl
-same_fragment changes.Abandon i = refl
 
 small_changed : (x : Change) (i : Item) → IsSmall i → IsSmall (apply_change x i)
 small_changed x i h = omega (arith, h, ap (λ f. length f.payload) (same_fragment x i))

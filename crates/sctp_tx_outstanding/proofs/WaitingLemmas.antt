@@ -17,14 +17,12 @@ use Rattle.sctp_tx_outstanding.specs.Items.{change_at, when, queued_part}
 use Rattle.sctp_tx_outstanding.specs.Totals.{parts, nothing, Exchanges}
 use Rattle.sctp_tx_outstanding.specs.Waiting.{waits_at, by_number, waits_as, NoneWaits, is_listed, AreListed, IsAtLeast, Lists, HasSize, StaysAtLeast, Turns}
 use Rattle.sctp_tx_outstanding.specs.declared.waiting.Waiting.{Waiting}
+use Rattle.sctp_serial.proofs.NumberLemmas.{greater_differs}
 
 -- ---- numbers as keys
 
 same_key : (m n : ℕ) → is_at (nat_cmp m) n ≡ (n == m)
 same_key m n = grind (arith, nat_tests)
-
-pub not_same : (m n : ℕ) → m < n → (n == m) ≡ false
-not_same m n h = grind (arith, nat_tests, h)
 
 pub not_below : (m n : ℕ) → n < m → (n == m) ≡ false
 not_below m n h = grind (arith, nat_tests, h)
@@ -52,7 +50,7 @@ same_place : (first place n : ℕ) → first ≤ n → (n - first == place) ≡ 
 same_place first place n h = elim (cases_lt n (first + place)) [
   | inl less ↦ not_below place (n - first) (omega (arith, less, h)) ∙ sym (not_below (first + place) n less)
   | inr above ↦ elim (cases_lt (first + place) n) [
-    | inl more ↦ not_same place (n - first) (omega (arith, more, h)) ∙ sym (not_same (first + place) n more)
+    | inl more ↦ greater_differs place (n - first) (omega (arith, more, h)) ∙ sym (greater_differs (first + place) n more)
     | inr below ↦ is_same_lem place (n - first) (omega (arith, above, below)) ∙ sym (is_same_lem (first + place) n (omega (arith, above, below)))
   ]
 ]
@@ -115,13 +113,13 @@ pub ahead : (p : ℕ) (q v : Bool) → v ≡ cond (0 == suc p) q v
 ahead p q v = sym (ap (λ t. cond t q v) (not_below (suc p) 0 (omega arith)))
 
 pub behind : (k : ℕ) (q v : Bool) → v ≡ cond (suc k == 0) q v
-behind k q v = sym (ap (λ t. cond t q v) (not_same 0 (suc k) (omega arith)))
+behind k q v = sym (ap (λ t. cond t q v) (greater_differs 0 (suc k) (omega arith)))
 
 same_next : (k p : ℕ) → (k == p) ≡ (suc k == suc p)
 same_next k p = elim (cases_lt k p) [
   | inl less ↦ not_below p k less ∙ sym (not_below (suc p) (suc k) (omega (arith, less)))
   | inr le ↦ elim (cases_lt p k) [
-    | inl more ↦ not_same p k more ∙ sym (not_same (suc p) (suc k) (omega (arith, more)))
+    | inl more ↦ greater_differs p k more ∙ sym (greater_differs (suc p) (suc k) (omega (arith, more)))
     | inr ge ↦ is_same_lem p k (omega (arith, le, ge)) ∙ sym (is_same_lem (suc p) (suc k) (omega (arith, le, ge)))
   ]
 ]
@@ -198,7 +196,7 @@ passed numbers news first next i is e put listed = λ n. put n ∙ (leaves n ∙
   where
     leaves : (n : ℕ) → cond (n == first) false (is_listed numbers n) ≡ waits_as (first + 1) n is
     leaves n = elim (cases_lt first n) [
-      | inl more ↦ stays (n == first) (is_listed numbers n) (not_same first n more) ∙ (listed n ∙ sym (as_next first (λ k. waits_at k (i ∷ is)) n more))
+      | inl more ↦ stays (n == first) (is_listed numbers n) (greater_differs first n more) ∙ (listed n ∙ sym (as_next first (λ k. waits_at k (i ∷ is)) n more))
       | inr le ↦ none n le ∙ sym (as_below (first + 1) (λ k. waits_at k is) n (omega (arith, le)))
     ] where
       none : (n : ℕ) → n ≤ first → cond (n == first) false (is_listed numbers n) ≡ false
@@ -221,7 +219,7 @@ passed_not numbers first next i is e w listed = passed numbers numbers first nex
 
 -- ---- none waits
 
-none_of : (b : Bool) → when b 1 ≤ 0 → b ≡ false
+pub none_of : (b : Bool) → when b 1 ≤ 0 → b ≡ false
 none_of true h = absurd (omega (arith, h))
 none_of false h = refl
 
@@ -245,7 +243,7 @@ has_at k size [] i h at e = absurd (omega (arith, h))
 has_at zero size (x ∷ is) i h at e = e ∙ ap (λ (j : Item). length j.fragment.payload) at
 has_at (suc k) size (x ∷ is) i h at e = has_at k size is i (omega (arith, h)) at e
 
-same_fragment : (x : Change) (i : Item) → (apply_change x i).fragment ≡ i.fragment
+pub same_fragment : (x : Change) (i : Item) → (apply_change x i).fragment ≡ i.fragment
 same_fragment changes.Ack i = refl
 same_fragment changes.Uncover i = refl
 same_fragment (changes.Nack at_once fast) i = refl

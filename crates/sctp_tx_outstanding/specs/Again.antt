@@ -1,23 +1,16 @@
 -- What the items are once they were written into a record and the record is taken up, at the same moment: all that is not
 -- written in full is read anew.
-use Rattle.std.specs.Prelude.{◌≡◌, ℕ, ◌+◌, ◌-◌, ◌%◌, ◌^◌, ◌<◌, min, Option, Some, None, option_map, List, map}
+use Rattle.std.specs.Prelude.{◌≡◌, ℕ, ◌+◌, ◌-◌, ◌%◌, ◌^◌, ◌<◌, min, option_map, List, map}
 use Rattle.sctp_serial.specs.Unwrapped.{origin, words}
 use Rattle.sctp_state.specs.Handover.{Transmission}
-use Rattle.sctp_state.specs.HandoverTimes.{ms_from, moment_from, ms_since, moment_before, lifecycle_from}
+use Rattle.sctp_state.specs.HandoverTimes.{ms_since, moment_before, moment_again, lifecycle_again}
 use Rattle.sctp_tx_outstanding.specs.Item.{Item, slow}
 use Rattle.sctp_tx_outstanding.specs.Items.{Outstanding, wire_tsn, next_number}
 use Rattle.sctp_tx_outstanding.specs.Handover.{reports_in, handed_over, restore}
 
--- whole milliseconds from now, and since a moment
-abbrev pub moment_again : ℕ → ℕ → ℕ
-moment_again now moment = moment_from now (ms_from now moment)
-
+-- whole milliseconds since a moment
 abbrev pub sent_again : ℕ → ℕ → ℕ
 sent_again now moment = moment_before now (ms_since now moment)
-
-abbrev pub lifecycle_again : Option ℕ → Option ℕ
-lifecycle_again None = None
-lifecycle_again (Some id) = lifecycle_from id
 
 -- what waits for the packet that ignores the congestion window waits for any, and what is missing was reported so once
 abbrev pub item_again : ℕ → Item → Item

@@ -1,31 +1,24 @@
 -- What was written is found again: the messages of each stream in the record.
-use Rattle.std.proofs.Common.{◌≡◌, ℕ, ◌<◌, ◌≤◌, Bool, true, false, cond, Less, List, [], ◌∷◌, ◌++◌, Option, Some, None, refl, ap, ◌∙◌, arith}
+use Rattle.std.proofs.Common.{◌≡◌, ℕ, ◌<◌, ◌≤◌, Bool, true, false, cond, List, [], ◌∷◌, ◌++◌, Option, Some, None, refl, ap, ◌∙◌, arith}
 use Rattle.std.specs.Prelude.{unwrap_or, option_map, map, filter, ◌==◌}
 use Rattle.std.specs.List.Sorted.{IsStrictlySortedBy}
 use Rattle.std.specs.Map.{keys_of}
 use Rattle.std.specs.Ordering.{nat_cmp}
-use Rattle.std.proofs.lemmas.Bool.Decides.{nat_tests}
 use Rattle.std.proofs.lemmas.List.{append-nil}
 use Rattle.std.proofs.lemmas.List.Elements.{filter-append}
 use Rattle.std.proofs.lemmas.Bool.{eq-eqb}
 use Rattle.sctp_serial.specs.Unwrapped.{words, halves, wire}
 use Rattle.sctp_state.specs.Handover.{StreamMessage, Transmission}
-use Rattle.sctp_state.specs.HandoverTimes.{ms_from, moment_from, lifecycle_from}
+use Rattle.sctp_state.specs.HandoverTimes.{lifecycle_from, moment_again, lifecycle_again}
 use Rattle.sctp_tx_queue.specs.declared.send_queue.message.MessageNumbers.{MessageNumbers}
 use Rattle.sctp_tx_queue.specs.Queue.{Queued, Stream, Entries, Queue}
 use Rattle.sctp_tx_queue.specs.Handover.{queued_message, messages_of, outgoing_stream, outgoing_streams, queued_messages}
 use Rattle.sctp_tx_queue.specs.Restored.{numbers_from, message_from, is_on, stream_from, entries_from}
-use Rattle.sctp_tx_queue.specs.Again.{moment_again, numbers_again, lifecycle_again, message_again, stream_again, entries_again, ComesBack}
+use Rattle.sctp_tx_queue.specs.Again.{numbers_again, message_again, stream_again, entries_again, ComesBack}
+use Rattle.sctp_serial.proofs.NumberLemmas.{is_less, greater_differs, less_differs}
+use Rattle.sctp_state.proofs.HandoverLemmas.{expires_is, lifecycle_is}
 
 -- ---- a message
-
-expires_is : (now : ℕ) (o : Option ℕ) → option_map (moment_from now) (option_map (ms_from now) o) ≡ option_map (moment_again now) o
-expires_is now None = refl
-expires_is now (Some t) = refl
-
-lifecycle_is : (o : Option ℕ) → lifecycle_from (unwrap_or o 0) ≡ lifecycle_again o
-lifecycle_is None = refl
-lifecycle_is (Some id) = refl
 
 numbers_is : (b : Bool) (o : Option MessageNumbers) → numbers_from (option_map (λ n. wire words 0 n.mid) o) (cond b None (option_map (λ n. wire halves 0 n.ssn) o)) ≡ option_map (numbers_again b) o
 numbers_is true None = refl
@@ -48,12 +41,6 @@ messages_are now id (m ∷ ms) = ap (λ x. x ∷ map (message_from now) (map (qu
 
 -- ---- the messages of a stream among those of all
 
-other : (a b : ℕ) → a < b → (a == b) ≡ false
-other a b l = grind (arith, nat_tests)
-
-behind : (a b : ℕ) → a < b → (b == a) ≡ false
-behind a b l = grind (arith, nat_tests)
-
 all_on : (now id : ℕ) (ms : List Queued) → filter (is_on id) (map (queued_message now id) ms) ≡ map (queued_message now id) ms
 all_on now id [] = refl
 all_on now id (m ∷ ms) =
@@ -75,9 +62,6 @@ raised : (k m : ℕ) (es : Entries) → k ≤ m → AreAbove m es → AreAbove k
 raised k m [] l h = tt
 raised k m (e ∷ es) l h = (omega (arith, l, h.0), raised k m es l h.1)
 
-is_less : (m k : ℕ) → nat_cmp m k ≡ Less → m < k
-is_less m k e = grind (arith, nat_tests)
-
 pub are_above : (k : ℕ) (es : Entries) → IsStrictlySortedBy nat_cmp (k ∷ keys_of es) → AreAbove k es
 unfolding IsStrictlySortedBy
 are_above k [] s = tt
@@ -87,7 +71,7 @@ none_behind : (now k : ℕ) (es : Entries) → AreAbove k es → filter (is_on k
 none_behind now k [] h = refl
 none_behind now k (e ∷ es) h =
     filter-append (is_on k) (messages_of now e.0 e.1) (queued_messages now es)
-    ∙ ap (λ (xs : List StreamMessage). xs ++ filter (is_on k) (queued_messages now es)) (none_on now k e.0 e.1.messages (behind k e.0 h.0))
+    ∙ ap (λ (xs : List StreamMessage). xs ++ filter (is_on k) (queued_messages now es)) (none_on now k e.0 e.1.messages (greater_differs k e.0 h.0))
     ∙ none_behind now k es h.1
 
 -- these messages have the messages of each stream, in order
@@ -98,7 +82,7 @@ Holds now ms (e ∷ es) = (filter (is_on e.0) ms ≡ messages_of now e.0 e.1) ×
 more_before : (now k : ℕ) (s : Stream) (ms : List StreamMessage) (es : Entries) → AreAbove k es → Holds now ms es → Holds now (messages_of now k s ++ ms) es
 more_before now k s ms [] above h = tt
 more_before now k s ms (e ∷ es) above h = (
-  filter-append (is_on e.0) (messages_of now k s) ms ∙ ap (λ (xs : List StreamMessage). xs ++ filter (is_on e.0) ms) (none_on now e.0 k s.messages (other k e.0 above.0)) ∙ h.0,
+  filter-append (is_on e.0) (messages_of now k s) ms ∙ ap (λ (xs : List StreamMessage). xs ++ filter (is_on e.0) ms) (none_on now e.0 k s.messages (less_differs k e.0 above.0)) ∙ h.0,
   more_before now k s ms es above.1 h.1,
 )
 

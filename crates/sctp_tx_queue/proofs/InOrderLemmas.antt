@@ -12,7 +12,6 @@ use Rattle.std.proofs.lemmas.Option.{same_Some}
 use Rattle.sctp_tx_queue.proofs.StreamLemmas.{step_messages}
 use Rattle.sctp_state.specs.Events.{Emitted}
 use Rattle.sctp_stream_scheduler.specs.Scheduler.{Scheduler, set_bytes_remaining, accept, accepted_at, finish_time, finish_now, is_active, leave, enter, peek}
-use Rattle.sctp_stream_scheduler.proofs.SchedulerLemmas.{at_itself}
 use Rattle.sctp_tx_queue.specs.declared.send_queue.message.MessageNumbers.{MessageNumbers}
 use Rattle.sctp_tx_queue.specs.declared.send_queue.stream.ResetStep.{ResetStep}
 use Rattle.sctp_tx_queue.specs.Queue.{Queued, Queue, Stream, Streams, Entries, blank, stream, put_stream, open_stream, push, add}
@@ -24,6 +23,7 @@ use Rattle.sctp_tx_queue.specs.InOrder.{is_waiting, is_begun_or_waiting, are_in_
 use Rattle.sctp_tx_queue.proofs.StreamsLemmas.{stream_put, stream_nowhere, put_nowhere}
 use Rattle.sctp_tx_queue.proofs.ProduceLemmas.{idles, gives, turned}
 use Rattle.sctp_tx_queue.proofs.StaysBegunLemmas.{written_elsewhere, inserted_elsewhere}
+use Rattle.sctp_serial.proofs.NumberLemmas.{at_itself, zero_is_least}
 
 -- ---- what holds of each stream, where one changes
 
@@ -126,15 +126,11 @@ pub whole_first : (ms : List Queued) → is_first_begun (whole_front ms) ≡ fal
 whole_first [] = refl
 whole_first (m ∷ rest) = refl
 
--- those of which nothing is sent are dropped
-zero_is : (n : ℕ) → (n == 0) ≡ true → nat_lt 0 n ≡ false
-zero_is n e = grind (arith, nat_tests)
-
 none_partly : (ms : List Queued) → list_all is_waiting ms ≡ true → filter is_partly ms ≡ []
 none_partly [] h = refl
 none_partly (m ∷ rest) h =
     let hs = and_parts (is_waiting m) (list_all is_waiting rest) h in
-    ap (λ b. cond b (m ∷ filter is_partly rest) (filter is_partly rest)) (zero_is m.offset (waits m hs.0).1) ∙ none_partly rest hs.1
+    ap (λ b. cond b (m ∷ filter is_partly rest) (filter is_partly rest)) (zero_is_least m.offset (waits m hs.0).1) ∙ none_partly rest hs.1
 
 partly_both : (ms : List Queued) → are_in_order ms ≡ true → (are_in_order (filter is_partly ms) ≡ true) × (is_first_begun (filter is_partly ms) ≡ is_first_begun ms)
 partly_both [] h = (refl, refl)
@@ -163,7 +159,7 @@ fresh_waiting now (m ∷ rest) h = go (is_stale now m) (fresh_waiting now rest (
     go true ih = ih
     go false ih = h
 
-unnumbered : (a b : Bool) → not a && b ≡ true → a ≡ false
+pub unnumbered : (a b : Bool) → not a && b ≡ true → a ≡ false
 unnumbered true b h = absurd (cc)
 unnumbered false b h = refl
 
@@ -210,14 +206,14 @@ set_bytes_mode id bytes priority s = go (bytes == 0) (is_active id s)
     go false true = refl
     go false false = refl
 
-accept_mode : (id : ℕ) (s : Scheduler) → (accept id s).is_interleaved ≡ s.is_interleaved
+pub accept_mode : (id : ℕ) (s : Scheduler) → (accept id s).is_interleaved ≡ s.is_interleaved
 accept_mode id s = go (finish_time id s.times)
   where
     go : (o : Option ℕ) → (accepted_at id o s).is_interleaved ≡ s.is_interleaved
     go None = refl
     go (Some f) = refl
 
-line_mode : (id bytes priority : ℕ) (made : Option Produced) (s : Scheduler) → (in_line id bytes priority made s).is_interleaved ≡ s.is_interleaved
+pub line_mode : (id bytes priority : ℕ) (made : Option Produced) (s : Scheduler) → (in_line id bytes priority made s).is_interleaved ≡ s.is_interleaved
 line_mode id bytes priority None s = set_bytes_mode id 0 0 s
 line_mode id bytes priority (Some made) s = set_bytes_mode id bytes priority (accept id s) ∙ accept_mode id s
 

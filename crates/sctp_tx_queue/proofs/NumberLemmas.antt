@@ -32,7 +32,7 @@ pub record Rises (least most : ℕ) (m : Queued) (rest : List Queued) : Type 0 w
   pub high : nat_lt m.number most ≡ true
   pub behind : are_rising (m.number + 1) most rest ≡ true
 
-rises : (least most : ℕ) (m : Queued) (rest : List Queued) → are_rising least most (m ∷ rest) ≡ true → Rises least most m rest
+pub rises : (least most : ℕ) (m : Queued) (rest : List Queued) → are_rising least most (m ∷ rest) ≡ true → Rises least most m rest
 rises least most m rest h =
     let a = and_parts (nat_le least m.number && nat_lt m.number most) (are_rising (m.number + 1) most rest) h in
     let b = and_parts (nat_le least m.number) (nat_lt m.number most) a.0 in
@@ -47,7 +47,7 @@ widened least most (m ∷ rest) h =
     let r = rises least most m rest h in
     joined _ _ _ r.low (raise m.number most r.high) (widened (m.number + 1) most rest r.behind)
 
-lowered : (k least most : ℕ) (ms : List Queued) → k ≤ least → are_rising least most ms ≡ true → are_rising k most ms ≡ true
+pub lowered : (k least most : ℕ) (ms : List Queued) → k ≤ least → are_rising least most ms ≡ true → are_rising k most ms ≡ true
 lowered k least most [] l h = refl
 lowered k least most (m ∷ rest) l h =
     let r = rises least most m rest h in

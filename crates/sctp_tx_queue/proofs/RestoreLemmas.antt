@@ -20,6 +20,7 @@ use Rattle.sctp_stream_scheduler.specs.Scheduler.{Scheduler, set_bytes_remaining
 use Rattle.sctp_tx_queue.specs.Queue.{Queued, Stream, Streams, Entries, amount_of, total_of, left_bytes, blank, stream, put_stream, open_stream, push, sendable}
 use Rattle.sctp_tx_queue.specs.Restored.{message_from, is_on, messages_from, stream_from, entries_from, each_scheduled}
 use Rattle.sctp_tx_queue.proofs.StreamsLemmas.{total_written, stream_there}
+use Rattle.sctp_serial.proofs.NumberLemmas.{turned}
 
 -- ---- the streams
 
@@ -115,10 +116,6 @@ at_it a b e = grind (arith, nat_tests)
 
 off_it : (a b : ℕ) → (a == b) ≡ false → is_at (nat_cmp b) a ≡ false
 off_it a b e = grind (arith, nat_tests)
-
-turned : (a b : ℕ) (v : Bool) → (a == b) ≡ v → (b == a) ≡ v
-turned a b true e = grind (arith, nat_tests)
-turned a b false e = grind (arith, nat_tests)
 
 is_below : (a b : ℕ) → (a == b) ≡ true → b < a + 1
 is_below a b e = grind (arith, nat_tests)

@@ -18,14 +18,12 @@ use Rattle.sctp_tx_queue.specs.Produced.{settle_pause}
 use Rattle.sctp_tx_queue.specs.Resets.{is_partly, prepare_stream, prepare_reset, after_step, step_stream, each_stepped}
 use Rattle.sctp_tx_queue.specs.Restarted.{reset}
 use Rattle.sctp_tx_queue.proofs.StreamsLemmas.{stream_put, stream_nowhere}
+use Rattle.sctp_serial.proofs.NumberLemmas.{not_at}
 
 -- ---- another stream
 
 elsewhere : (k id x : ℕ) → (k == id) ≡ false → is_at (nat_cmp id) x ≡ true → is_at (nat_cmp k) x ≡ false
 elsewhere k id x d h = grind (arith, nat_tests)
-
-not_at : (k id : ℕ) → (k == id) ≡ false → is_at (nat_cmp k) id ≡ false
-not_at k id d = grind (arith, nat_tests)
 
 not_here : (k id x : ℕ) → (k == id) ≡ false → nat_cmp id x ≡ Equal → is_at (nat_cmp k) x ≡ false
 not_here k id x d h = grind (arith, nat_tests)

@@ -8,11 +8,11 @@ use Rattle.std.specs.Map.{lookup, set_value, keys_of}
 use Rattle.std.specs.BTreeMap.{is_at, insert_entry}
 use Rattle.std.proofs.lemmas.Cmp.{nat_cmp_total}
 use Rattle.std.proofs.lemmas.Map.Entries.{sum_by-set_value, sum_by-insert_entry}
-use Rattle.sctp_stream_scheduler.proofs.SchedulerLemmas.{at_itself}
 use Rattle.sctp_tx_queue.specs.Queue.{Stream, Streams, Entries, amount_of, total_of, Queued, blank_stream, blank, put_stream, push, open_stream, stream, sendable}
 use Rattle.sctp_tx_queue.specs.Produced.{advance, streams_after}
 use Rattle.sctp_tx_queue.specs.declared.send_queue.stream.ResetStep.TheVariants.{Requested}
 use Rattle.sctp_tx_queue.specs.Resets.{after_step}
+use Rattle.sctp_serial.proofs.NumberLemmas.{at_itself}
 
 -- the total after a write
 pub total_written : (id : ℕ) (es : Entries) (v w : Stream) → Some v ≡ lookup (is_at (nat_cmp id)) es → total_of (set_value (is_at (nat_cmp id)) es w) + amount_of v ≡ total_of es + amount_of w
@@ -56,10 +56,6 @@ put_nowhere id s ss at = ap (λ (es : Entries). let r : Streams = record ss { en
 
 pub put_same : (id : ℕ) (s : Stream) (ss : Streams) → Some s ≡ lookup (is_at (nat_cmp id)) ss.entries → put_stream id s ss ≡ ss
 put_same id s ss at = ap (λ (es : Entries). let r : Streams = record ss { entries = es } in r) (written_same (is_at (nat_cmp id)) s ss.entries at)
-
-pub none_from : {X : Type 0} (o : Option X) → is_some o ≡ false → None ≡ o
-none_from None h = refl
-none_from (Some x) h = absurd (cc)
 
 lookup_written : {X : Type 0} (test : ℕ → Bool) (v : X) (es : List (ℕ × X)) → IsSome (lookup test es) → lookup test (set_value test es v) ≡ Some v
 lookup_written test v [] there = absurd (nothing there)

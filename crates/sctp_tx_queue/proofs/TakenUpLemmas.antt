@@ -15,7 +15,6 @@ use Rattle.sctp_serial.specs.Unwrapped.{words, wire}
 use Rattle.sctp_state.specs.Handover.{StreamMessage, Transmission}
 use Rattle.sctp_stream_scheduler.specs.Scheduler.{Scheduler, scheduler, enable_message_interleaving}
 use Rattle.sctp_state.specs.Validity.{is_partly_sent, has_partly_sent, first_alone_is_partly_sent, partly_sent_count, has_stream, is_valid_message, are_valid_messages, message_ids_differ, has_valid_queue, has_valid_items, payload_fits, rises_from, outgoing_ids}
-use Rattle.sctp_stream_scheduler.proofs.SchedulerLemmas.{at_itself}
 use Rattle.sctp_tx_queue.specs.declared.send_queue.message.MessageNumbers.{MessageNumbers}
 use Rattle.sctp_tx_queue.specs.Queue.{Queued, Stream, Streams, Entries, blank, stream}
 use Rattle.sctp_tx_queue.specs.Handover.{queued_message, messages_of, queued_messages}
@@ -25,6 +24,7 @@ use Rattle.sctp_tx_queue.specs.TakenUp.{is_numbered_as_sent, RestoredInOrder, Wr
 use Rattle.sctp_tx_queue.proofs.InOrderLemmas.{set_bytes_mode, waiting_in_order}
 use Rattle.sctp_tx_queue.proofs.AgainLemmas.{AreAbove, are_above}
 use Rattle.sctp_tx_queue.proofs.RestoreLemmas.{found}
+use Rattle.sctp_serial.proofs.NumberLemmas.{at_itself, turned}
 
 -- ---- a message
 
@@ -136,10 +136,6 @@ not_this k (m ∷ rest) h =
     go true p ih = other_stream m.stream_id k p
     go false p ih = ih
 
-turned : (a k : ℕ) (b : Bool) → (a == k) ≡ b → (k == a) ≡ b
-turned a k true e = grind (arith, nat_tests)
-turned a k false e = grind (arith, nat_tests)
-
 begun_is : (now k : ℕ) (ms : List StreamMessage) → partly_sent_count ms ≤ 1 → first_alone_is_partly_sent ms ≡ true → list_all is_numbered_as_sent ms ≡ true
     → is_first_begun (messages_from now k ms) ≡ is_this k (partly_sent ms)
 begun_is now k [] few first h = refl
@@ -224,7 +220,7 @@ restored_messages now next k tx ss h = go (is_some here) refl
 
 -- ---- the queue
 
-scheduled_mode : (ids : List ℕ) (ss : Streams) (s : Scheduler) → (each_scheduled ids ss s).is_interleaved ≡ s.is_interleaved
+pub scheduled_mode : (ids : List ℕ) (ss : Streams) (s : Scheduler) → (each_scheduled ids ss s).is_interleaved ≡ s.is_interleaved
 scheduled_mode [] ss s = refl
 scheduled_mode (id ∷ ids) ss s = scheduled_mode ids ss _ ∙ set_bytes_mode id _ _ s
 

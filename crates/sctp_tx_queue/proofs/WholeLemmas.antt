@@ -16,6 +16,7 @@ use Rattle.sctp_tx_queue.specs.Produced.{is_front_stale, fresh, drop_expired, st
 use Rattle.sctp_tx_queue.specs.Whole.{is_whole, is_front_whole, front_lifecycle}
 use Rattle.sctp_tx_queue.proofs.StreamLemmas.{advanced_priority}
 use Rattle.sctp_tx_queue.proofs.StreamsLemmas.{put_nowhere, put_same, stream_there, stream_nowhere, changed_there}
+use Rattle.sctp_serial.proofs.NumberLemmas.{not_zero}
 
 -- ---- the whole of a message
 
@@ -80,11 +81,7 @@ streams_fresh now id ss h = go (lookup (is_at (nat_cmp id)) ss.entries) refl
     go None e = sym (put_nowhere id (without_stale now (stream id ss)) ss (sym e))
     go (Some s) e = sym (put_same id (without_stale now (stream id ss)) ss (ap (λ t. Some t) (same ∙ stream_there id s ss (sym e)) ∙ sym e))
 
--- a stream that is active and has bytes to send stays where it is
-some_bytes : (bytes : ℕ) → 0 < bytes → (bytes == 0) ≡ false
-some_bytes bytes some = grind (arith, nat_tests)
-
 pub active_keeps : (id bytes priority : ℕ) (s : Scheduler) → 0 < bytes → is_active id s ≡ true → set_bytes_remaining id bytes priority s ≡ s
 active_keeps id bytes priority s some active =
-    ap (λ b. cond b (set_bytes_remaining id 0 0 s) (cond (is_active id s) s (enter id (finish_now bytes priority s) s))) (some_bytes bytes some)
+    ap (λ b. cond b (set_bytes_remaining id 0 0 s) (cond (is_active id s) s (enter id (finish_now bytes priority s) s))) (not_zero bytes some)
     ∙ ap (λ b. cond b s (enter id (finish_now bytes priority s) s)) active

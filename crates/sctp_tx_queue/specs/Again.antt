@@ -1,12 +1,12 @@
 -- What a queue is once it was written into a record and the record is taken up, at the same moment: all that is not written
 -- in full is read anew.
-use Rattle.std.specs.Prelude.{◌≡◌, ℕ, ◌+◌, ◌%◌, ◌^◌, Bool, if◌then◌else◌, Option, Some, None, option_map, map}
+use Rattle.std.specs.Prelude.{◌≡◌, ℕ, ◌+◌, ◌%◌, ◌^◌, Bool, if◌then◌else◌, option_map, map}
 use Rattle.std.specs.List.Sorted.{IsStrictlySortedBy}
 use Rattle.std.specs.Map.{keys_of}
 use Rattle.std.specs.Ordering.{nat_cmp}
 use Rattle.sctp_serial.specs.Unwrapped.{origin, words, halves, wire}
 use Rattle.sctp_state.specs.Handover.{Transmission}
-use Rattle.sctp_state.specs.HandoverTimes.{ms_from, moment_from, lifecycle_from}
+use Rattle.sctp_state.specs.HandoverTimes.{moment_again, lifecycle_again}
 use Rattle.sctp_tx_queue.specs.declared.send_queue.message.MessageNumbers.{MessageNumbers}
 use Rattle.sctp_tx_queue.specs.declared.send_queue.stream.PauseState.TheVariants.{NotPaused}
 use Rattle.sctp_tx_queue.specs.Queue.{Queued, Stream, Entries, Queue}
@@ -17,16 +17,8 @@ use Rattle.sctp_tx_queue.specs.Restored.{restore}
 abbrev pub again : ℕ → ℕ → ℕ
 again space n = origin + wire space 0 n
 
--- whole milliseconds from now
-abbrev pub moment_again : ℕ → ℕ → ℕ
-moment_again now moment = moment_from now (ms_from now moment)
-
 abbrev pub numbers_again : Bool → MessageNumbers → MessageNumbers
 numbers_again is_unordered n = record { ssn = if is_unordered then origin else again halves n.ssn; mid = again words n.mid }
-
-abbrev pub lifecycle_again : Option ℕ → Option ℕ
-lifecycle_again None = None
-lifecycle_again (Some id) = lifecycle_from id
 
 abbrev pub message_again : ℕ → Queued → Queued
 message_again now m = record m {

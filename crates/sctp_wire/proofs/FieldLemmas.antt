@@ -31,6 +31,14 @@ be64_front bytes n fits long e =
     sym (ap (λ (x : List ℕ). x ++ drop 8 bytes) (be_bytes_8 (take 8 bytes) n (length-take-le 8 bytes long) (IsBytes_take 8 bytes fits) e) ∙ take-append-drop 8 bytes)
 
 -- two numbers that are spelled alike, and what stands behind them
+pub same16 : (m n : ℕ) → m < 2 ^ 16 → n < 2 ^ 16 → be16 m ≡ be16 n → m ≡ n
+unfolding be16
+same16 m n hm hn e = sym (from_be_bytes-to_be_bytes_2 m hm) ∙ ap (from_be_bytes w16) e ∙ from_be_bytes-to_be_bytes_2 n hn
+
+pub same32 : (m n : ℕ) → m < 2 ^ 32 → n < 2 ^ 32 → be32 m ≡ be32 n → m ≡ n
+unfolding be32
+same32 m n hm hn e = sym (from_be_bytes-to_be_bytes_4 m hm) ∙ ap (from_be_bytes w32) e ∙ from_be_bytes-to_be_bytes_4 n hn
+
 pub be16_same : (m n : ℕ) (x y : List ℕ) → m < 2 ^ 16 → n < 2 ^ 16 → be16 m ++ x ≡ be16 n ++ y → (m ≡ n) × (x ≡ y)
 unfolding be16
 be16_same m n x y hm hn e =

@@ -1,9 +1,9 @@
 -- Lengths of written items, and lists of items from the back.
-use Rattle.std.proofs.Common.{◌≡◌, Bool, true, false, ◌&&◌, ℕ, ◌+◌, ◌-◌, ◌*◌, ◌%◌, ◌<◌, ◌≤◌, ◌≢◌, ◌^◌, min, List, [], ◌∷◌, ◌++◌, length, take, drop, map, refl, sym, ap, ◌∙◌, append_assoc, zero, suc, get_or, arith}
+use Rattle.std.proofs.Common.{◌≡◌, Bool, true, ◌&&◌, ℕ, ◌+◌, ◌-◌, ◌*◌, ◌%◌, ◌<◌, ◌≤◌, ◌≢◌, ◌^◌, min, List, [], ◌∷◌, ◌++◌, length, take, drop, map, refl, sym, ap, ◌∙◌, append_assoc, zero, suc, get_or, arith}
 use Rattle.std.specs.Prelude.{replicate, All, nat_lt}
 use Rattle.std.specs.List.{flat_map, list_all}
 use Rattle.std.proofs.lemmas.List.{length-append, length-replicate, map_more, map-append, take-append-drop}
-use Rattle.std.proofs.lemmas.Bool.{ltb-true}
+use Rattle.std.proofs.lemmas.Bool.{ltb-true, and_parts}
 use Rattle.std.proofs.lemmas.List.Sums.{AllPass-from_list_all}
 use Rattle.std.proofs.lemmas.List.Concat.{flat_map-cons}
 use Rattle.std.proofs.lemmas.Nat.{mod-mul-add}
@@ -94,14 +94,9 @@ pub item_padded : (o w : List ℕ) (i : Item) (n : ℕ) → w ≡ o ++ item_byte
 unfolding padded_item
 item_padded o w i n a b = rw (a, b) (append_assoc o (item_bytes i) (replicate (padding (length i.value)) 0))
 
--- items that pass the test can be written, each of them
-both : (a b : Bool) → (a && b) ≡ true → (a ≡ true) × (b ≡ true)
-both true b e = (refl, e)
-both false b e = cc
-
 encodable_parts : (i : Item) (whole : Bool) → is_encodable i whole ≡ true → IsEncodable i × (whole ≡ true)
 encodable_parts i whole e =
-    let parts = both (nat_lt (4 + length i.value) (2 ^ 16)) whole e in
+    let parts = and_parts (nat_lt (4 + length i.value) (2 ^ 16)) whole e in
     (ltb-true (4 + length i.value) (2 ^ 16) parts.0, parts.1)
 
 pub all_encodable_fit : {X : Type 0} (f : X → Item) (whole : X → Bool) (xs : List X) → list_all (λ x. is_encodable (f x) (whole x)) xs ≡ true

@@ -1,7 +1,7 @@
 -- Characters at the front of bytes.
 use Rattle.std.proofs.Common.{◌≡◌, inl, inr, ℕ, zero, suc, ◌≤◌, Bool, true, false, cond, ◌&&◌, List, [], ◌∷◌, ◌++◌, length, take, refl, sym, ap, subst, ◌∙◌, append_assoc, arith}
 use Rattle.std.proofs.lemmas.List.{length-append, append-nil, take_at}
-use Rattle.std.proofs.lemmas.Bool.{cases_lt}
+use Rattle.std.proofs.lemmas.Bool.{cases_lt, and_parts}
 use Rattle.std.proofs.lemmas.Str.{IsUtf8-append, IsUtf8-encode, is_utf8-from_IsUtf8, encodes-append, length-encode, len_utf8_bounds}
 use Rattle.std.specs.Char.{encode_utf8}
 use Rattle.std.proofs.Math.Utf8.{scalar}
@@ -48,15 +48,10 @@ pub reads_on : (bytes mid rest cs ds : List ℕ) → ReadsChars bytes cs mid →
 reads_on bytes mid rest [] ds a b = subst (λ (x : List ℕ). ReadsChars x ds rest) (sym a) b
 reads_on bytes mid rest (c ∷ cs) ds a b = (a.0, a.1, reads_on a.0 mid rest cs ds a.2 b)
 
--- a text reads as its characters
-both : (x y : Bool) → (x && y) ≡ true → (x ≡ true) × (y ≡ true)
-both true y e = (refl, e)
-both false y e = cc
-
 pub reads_text : (cs rest : List ℕ) → all_scalars cs ≡ true → ReadsChars (encode_utf8_all cs ++ rest) cs rest
 reads_text [] rest all = refl
 reads_text (c ∷ cs) rest all =
-    let parts = both (scalar c) (all_scalars cs) all in
+    let parts = and_parts (scalar c) (all_scalars cs) all in
     (encode_utf8_all cs ++ rest, inl (parts.0, append_assoc (encode_utf8 c) (encode_utf8_all cs) rest), reads_text cs rest parts.1)
 
 -- a text behind what was read

@@ -18,7 +18,7 @@ use Rattle.spec_world.specs.Observations.{A, B, same_association, Connect, Done,
 use Rattle.spec_world.specs.World.{Action, Side, World, Takes, Gives, Runs, record_news, take_emitted, news_of, clock, calls, associated_if, ready_entries, ready_before, fresh_side, fresh_world}
 use Rattle.spec_world.specs.FirstRun as first_run
 use Rattle.spec_world.specs.FirstRun.{IsOpen, IsFresh}
-use Rattle.proof_protocol.proofs.CommonLemmas.{is_itself}
+use Rattle.sctp_serial.proofs.NumberLemmas.{is_itself}
 
 -- ---- a packet that is given
 

@@ -1,8 +1,9 @@
 use Rattle.std.proofs.Common.{List, sym, subst, arith}
 use Rattle.sctp_chunk.specs.declared.sack.GapAckBlock.{GapAckBlock}
 use Rattle.sctp_chunk.specs.Covered.{AreRuns}
-use Rattle.sctp_chunk_validators.proofs.ValidLemmas.{valid_from_runs, runs_lower, runs_from_valid}
+use Rattle.sctp_chunk_validators.proofs.ValidLemmas.{valid_from_runs, runs_from_valid}
 use Rattle.sctp_chunk_validators.proofs.chunk_validators.validate_sack.Goals as goal
+use Rattle.sctp_chunk.proofs.SackLemmas.{runs_lower}
 
 pub returns-clause-valid : goal.returns-clause-valid
 returns-clause-valid c =

@@ -4,8 +4,9 @@ use Rattle.std.specs.BTreeMap.{insert_entry}
 use Rattle.sctp_fragments.specs.Held.{bytes_of}
 use Rattle.sctp_reassembly.specs.Delivery.{UnorderedStream, fresh_unordered}
 use Rattle.sctp_reassembly.specs.Streams.{unordered_bytes}
-use Rattle.sctp_reassembly.proofs.EntriesLemmas.{sum_opened, none_from}
+use Rattle.sctp_reassembly.proofs.EntriesLemmas.{sum_opened}
 use Rattle.sctp_reassembly.proofs.unordered_streams.UnorderedStreams.open.Goals as goal
+use Rattle.sctp_serial.proofs.NumberLemmas.{none_from}
 
 pub invariant_of-self-2 : goal.invariant_of-self-2
 invariant_of-self-2 g c =

@@ -4,9 +4,10 @@ use Rattle.std.specs.BTreeMap.{insert_entry}
 use Rattle.sctp_tx_queue.specs.Queue.{Stream, total_of}
 use Rattle.sctp_tx_queue.proofs.BoundLemmas.{few_opened}
 use Rattle.sctp_tx_queue.proofs.ReadyLemmas.{ready_inserted}
-use Rattle.sctp_tx_queue.proofs.StreamsLemmas.{total_opened, none_from}
+use Rattle.sctp_tx_queue.proofs.StreamsLemmas.{total_opened}
 use Rattle.sctp_tx_queue.proofs.send_queue.streams.Streams.open.Goals as goal
 use Rattle.sctp_tx_queue.proofs.send_queue.streams.Streams.open.Goals.{Joined-branch-2}
+use Rattle.sctp_serial.proofs.NumberLemmas.{none_from}
 
 same : (c : Joined-branch-2) → total_of c.insert.new.self.entries ≡ total_of c.self.inside.streams.entries
 same c =
