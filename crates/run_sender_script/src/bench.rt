@@ -2,18 +2,12 @@
 
 use crate::answer::{Answer, written};
 use crate::line::Line;
-use crate::{data, handover, item, kept, message, queue, skips, stream, streams, transmission};
+use crate::{data, handover, item, queue, transmission};
 use sctp_serial::Tsn;
 use sctp_state::{Events, Options};
-use sctp_stream_scheduler::StreamScheduler;
 use sctp_tx::RetransmissionQueue;
-use sctp_tx_outstanding::kept::Kept;
-use sctp_tx_outstanding::skips::SkipEntry;
 use sctp_tx_outstanding::{Item, OutstandingData};
 use sctp_tx_queue::SendQueue;
-use sctp_tx_queue::send_queue::message::QueuedMessage;
-use sctp_tx_queue::send_queue::stream::Stream;
-use sctp_tx_queue::send_queue::streams::Streams;
 use std::alloc::Global;
 
 /// What a message of the send queue, and a fragment with its TSN, are until they are made.
@@ -24,12 +18,6 @@ pub struct Bench {
     pub events: Events,
     data: OutstandingData,
     item: Option<Item>,
-    kept: Kept,
-    skips: Vec<SkipEntry>,
-    message: Option<QueuedMessage>,
-    stream: Stream,
-    streams: Streams,
-    scheduler: StreamScheduler,
 }
 
 /// A sender whose first TSN is 10, to a peer whose window is 5,242,880 bytes.
@@ -39,19 +27,12 @@ pub fn sender(alloc: Global) -> RetransmissionQueue {
 
 impl Bench {
     pub fn new(alloc: Global) -> Bench {
-        let options = Options::default();
         Bench {
-            queue: SendQueue::new(alloc, &options),
+            queue: SendQueue::new(alloc, &Options::default()),
             sender: sender(alloc),
             events: Events::new(alloc),
             data: OutstandingData::new(alloc, Tsn(10), true, false),
             item: None,
-            kept: Kept::new(alloc, false),
-            skips: Vec::new(alloc),
-            message: None,
-            stream: Stream::new(alloc, 256, 3),
-            streams: Streams::new(alloc, &options),
-            scheduler: StreamScheduler::new(alloc, 1168),
         }
     }
 
@@ -73,20 +54,6 @@ impl Bench {
             "event" => event(events, line.verb, output),
             "data" => data::answer(alloc, &mut self.data, events, line, output),
             "item" => item::answer(alloc, &mut self.item, line, output),
-            "kept" => kept::answer(alloc, &mut self.kept, events, line, output),
-            "skip" => skips::answer(alloc, &mut self.skips, line, output),
-            "message" => message::answer(alloc, &mut self.message, line, output),
-            "stream" => stream::answer(alloc, &mut self.stream, events, line, output),
-            "streams" => {
-                streams::answer(
-                    alloc,
-                    &mut self.streams,
-                    &mut self.scheduler,
-                    events,
-                    line,
-                    output,
-                )
-            }
             _ => Answer::Unknown,
         }
     }

@@ -1,5 +1,5 @@
-//! What a sender is made of, command by command: the send queue with its messages and streams, the fragments that have their
-//! TSN, and both together under the congestion window.
+//! A sender, command by command: the send queue, the fragments that have their TSN, and both together under the congestion
+//! window.
 //!
 //! Standard input has a command a line: what it is for, what it asks, and numbers, 0 where they are left out. A line that
 //! begins with `#` says what the commands behind it show: it begins everything anew, and is printed too. Each command is
@@ -18,13 +18,8 @@ mod data;
 mod fragment;
 mod handover;
 mod item;
-mod kept;
 mod line;
-mod message;
 mod queue;
-mod skips;
-mod stream;
-mod streams;
 mod transmission;
 
 fn answer_of(alloc: Global, bench: &mut Bench, text: &str, output: &mut String) -> Answer {

@@ -9,7 +9,7 @@ use sctp_state::{Events, SocketEvent};
 use std::alloc::AllocError;
 
 /// Emits what is due as an item leaves.
-pub fn emit_left(events: &mut Events, item: &Item) -> Result<(), AllocError>
+pub(crate) fn emit_left(events: &mut Events, item: &Item) -> Result<(), AllocError>
     ensures ok { OnOk result (events.new ≡ emit_events (report item.now) events.old) }
     ensures err { OnErr result (Grown events.old events.new) }
 {

@@ -47,7 +47,7 @@ impl Change {
     ghost use Rattle.sctp_tx_outstanding.specs.Change.{is_of_sack};
 
     /// Whether a SACK makes it, by what its blocks cover or not.
-    pub fn is_of_sack(self) -> bool
+    pub(crate) fn is_of_sack(self) -> bool
         ensures { result ≡ is_of_sack self }
     {
         matches!(self, Change::Ack | Change::Uncover)
@@ -458,7 +458,7 @@ impl Kept {
     ghost use Rattle.sctp_tx_outstanding.specs.Item.{chunk_size, should_be_retransmitted};
 
     /// No items. Takes no memory.
-    pub fn new(alloc: Global, is_interleaved: bool) -> Kept
+    pub(crate) fn new(alloc: Global, is_interleaved: bool) -> Kept
         ensures { result ≡ record { is_interleaved = is_interleaved; items = [] } }
     {
         Kept {
@@ -472,62 +472,62 @@ impl Kept {
         }
     }
 
-    pub fn is_interleaved(&self) -> bool
+    pub(crate) fn is_interleaved(&self) -> bool
         ensures { result ≡ self.now.is_interleaved }
     {
         self.is_interleaved
     }
 
-    pub fn len(&self) -> usize
+    pub(crate) fn len(&self) -> usize
         ensures { result ≡ length self.now.items }
     {
         self.items.len()
     }
 
     /// The item at the place.
-    pub fn get(&self, place: usize) -> Option<&Item>
+    pub(crate) fn get(&self, place: usize) -> Option<&Item>
         ensures { option_map (λ i. i.now) result ≡ slice_get self.now.items place }
     {
         self.items.get(place)
     }
 
     /// The bytes of the chunks in flight or missing, with their headers and padding.
-    pub fn flight_bytes(&self) -> u128
+    pub(crate) fn flight_bytes(&self) -> u128
         ensures { result ≡ sum_by (packet_part self.now.is_interleaved) self.now.items }
     {
         self.totals.packet_bytes
     }
 
     /// The bytes of their payloads.
-    pub fn flight_payload(&self) -> u128
+    pub(crate) fn flight_payload(&self) -> u128
         ensures { result ≡ sum_by payload_part self.now.items }
     {
         self.totals.payload_bytes
     }
 
     /// How many items are in flight or missing.
-    pub fn flights(&self) -> usize
+    pub(crate) fn flights(&self) -> usize
         ensures { result ≡ sum_by flight_part self.now.items }
     {
         self.totals.flights
     }
 
     /// Whether an item is to be sent again.
-    pub fn has_queued(&self) -> bool
+    pub(crate) fn has_queued(&self) -> bool
         ensures { result ≡ nat_lt 0 (sum_by queued_part self.now.items) }
     {
         self.totals.queued > 0
     }
 
     /// Whether an item is to be sent again by the packet that ignores the congestion window.
-    pub fn has_fast(&self) -> bool
+    pub(crate) fn has_fast(&self) -> bool
         ensures { result ≡ nat_lt 0 (sum_by fast_part self.now.items) }
     {
         self.totals.fast > 0
     }
 
     /// The place from this one on up to which no item waits to be sent again.
-    pub fn next_waiting(&self, place: usize) -> usize
+    pub(crate) fn next_waiting(&self, place: usize) -> usize
         ensures onward { place ≤ result }
         ensures none { NoneWaits place result self.now.items }
     {
@@ -535,14 +535,14 @@ impl Kept {
     }
 
     /// No item that waits to be sent again has a chunk of fewer bytes.
-    pub fn least_waiting(&self) -> usize
+    pub(crate) fn least_waiting(&self) -> usize
         ensures { All (λ i. should_be_retransmitted i ≡ true → result ≤ chunk_size self.now.is_interleaved i) self.now.items }
     {
         header_size(self.is_interleaved) + self.waiting.least.min(1 << 32)
     }
 
     /// How many of the first items are already as these blocks say.
-    pub fn front_as_in(&self, blocks: &[GapAckBlock]) -> usize
+    pub(crate) fn front_as_in(&self, blocks: &[GapAckBlock]) -> usize
         ensures { RestBelow blocks.now result 1 self.now.items }
     {
         if !self.last_blocks.is_known {
@@ -555,7 +555,7 @@ impl Kept {
     }
 
     /// Behind how many of the first items all are already as these blocks say.
-    pub fn back_as_in(&self, blocks: &[GapAckBlock]) -> usize
+    pub(crate) fn back_as_in(&self, blocks: &[GapAckBlock]) -> usize
         ensures rest { RestFrom blocks.now result (result + 1) self.now.items }
         ensures within { result ≤ length self.now.items }
     {
@@ -568,7 +568,7 @@ impl Kept {
     }
 
     /// The items are as these blocks say.
-    pub fn remember(&mut self, blocks: &[GapAckBlock])
+    pub(crate) fn remember(&mut self, blocks: &[GapAckBlock])
         requires { Rest blocks.now 1 self.old.items }
         ensures { self.new ≡ self.old }
     {
@@ -577,7 +577,7 @@ impl Kept {
     }
 
     /// Whether an item that is missing or lost may have expired.
-    pub fn may_expire(&self, now: SocketTime) -> bool
+    pub(crate) fn may_expire(&self, now: SocketTime) -> bool
         ensures { result ≡ false → All (λ i. expires now i ≡ false) self.now.items }
     {
         self.totals.earliest <= now.as_nanos()
@@ -599,7 +599,7 @@ impl Kept {
     }
 
     /// Changes the item at the place, if there is one.
-    pub fn change(&mut self, place: usize, how: Change)
+    pub(crate) fn change(&mut self, place: usize, how: Change)
         ensures { self.new ≡ record self.old { items = change_at place (apply_change how) self.old.items } }
     {
         change_one(
@@ -616,7 +616,7 @@ impl Kept {
     }
 
     /// Adds an item behind the others. Without memory nothing changes.
-    pub fn push(&mut self, item: Item) -> Result<(), AllocError>
+    pub(crate) fn push(&mut self, item: Item) -> Result<(), AllocError>
         ensures ok { OnOk result (self.new ≡ record self.old { items = self.old.items ++ item ∷ [] }) }
         ensures err { OnErr result (self.new ≡ self.old) }
     {
@@ -637,7 +637,7 @@ impl Kept {
     }
 
     /// Takes the first item out.
-    pub fn pop(&mut self) -> Option<Item>
+    pub(crate) fn pop(&mut self) -> Option<Item>
         ensures first { IfSome result (λ i. self.old.items ≡ i ∷ self.new.items) }
         ensures none { IfNone result (self.old.items ≡ []) }
         ensures rest { self.new ≡ record self.old { items = drop 1 self.old.items } }
@@ -654,7 +654,7 @@ impl Kept {
     }
 
     /// Emits what is due as the first items leave.
-    pub fn emit_leaving(&self, count: usize, events: &mut Events) -> Result<(), AllocError>
+    pub(crate) fn emit_leaving(&self, count: usize, events: &mut Events) -> Result<(), AllocError>
         ensures ok { OnOk result (events.new ≡ emit_events (reports (take count self.now.items)) events.old) }
         ensures err { OnErr result (Grown events.old events.new) }
     {
@@ -662,7 +662,7 @@ impl Kept {
     }
 
     /// The last kept fragment of a message.
-    pub fn last_of(&self, message_id: OutgoingMessageId) -> Option<LastFragment>
+    pub(crate) fn last_of(&self, message_id: OutgoingMessageId) -> Option<LastFragment>
         ensures { option_map last_tree result ≡ last_of message_id.0 self.now.items }
     {
         find_last(&self.items, &self.messages, message_id)
@@ -677,7 +677,7 @@ impl Kept {
     }
 
     /// Gives up all items of a message.
-    pub fn abandon(&mut self, message_id: OutgoingMessageId)
+    pub(crate) fn abandon(&mut self, message_id: OutgoingMessageId)
         ensures { self.new ≡ record self.old { items = map (lay_down message_id.0) self.old.items } }
     {
         abandon_all(
@@ -693,7 +693,7 @@ impl Kept {
 }
 
 /// The end of a message whose own end was not sent.
-pub fn placeholder(alloc: Global, message_id: OutgoingMessageId, last: LastFragment) -> Item
+pub(crate) fn placeholder(alloc: Global, message_id: OutgoingMessageId, last: LastFragment) -> Item
     ensures { result ≡ placeholder message_id.0 (last_tree last) }
 {
     let fragment = Data {

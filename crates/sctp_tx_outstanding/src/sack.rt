@@ -33,7 +33,7 @@ fn left_bytes(item: &Item, is_interleaved: bool) -> usize
 }
 
 /// Takes the first items out. The answer is how many bytes are newly acknowledged by that, at most `usize::MAX`.
-pub fn take_out(kept: &mut Kept, count: usize) -> usize
+pub(crate) fn take_out(kept: &mut Kept, count: usize) -> usize
     ensures items { kept.new ≡ record kept.old { items = drop count kept.old.items } }
     ensures bytes { result ≡ min (sum_by (left_part kept.old.is_interleaved) (take count kept.old.items)) (2 ^ 64 - 1) }
 {
@@ -86,7 +86,7 @@ fn look(blocks: &[GapAckBlock], is_in_runs: bool, from: usize, offset: usize) ->
 
 /// The first block that may cover items behind those that blocks cover from the place on, and the place behind these. In
 /// blocks that aren't runs it goes no further than one.
-pub fn pass_covered(
+pub(crate) fn pass_covered(
     blocks: &[GapAckBlock],
     is_in_runs: bool,
     from: usize,
@@ -187,7 +187,7 @@ fn settle_at(kept: &mut Kept, blocks: &[GapAckBlock], place: usize, walk: Walk) 
 /// Acknowledges the items that blocks cover, and has those in flight again that no block covers any more. It begins where the
 /// blocks differ from the last ones, and ends behind both. Blocks that are runs are walked along with the items, others are
 /// searched for each item.
-pub fn settle_all(kept: &mut Kept, blocks: &[GapAckBlock]) -> Covered
+pub(crate) fn settle_all(kept: &mut Kept, blocks: &[GapAckBlock]) -> Covered
     ensures items { kept.new ≡ record kept.old { items = settle blocks.now 1 kept.old.items } }
     ensures bytes { result.bytes ≡ min (newly_acked blocks.now kept.old.is_interleaved 1 kept.old.items) (2 ^ 64 - 1) }
     ensures below { result.below ≡ below_highest blocks.now 1 0 0 kept.old.items }
@@ -204,7 +204,7 @@ pub fn settle_all(kept: &mut Kept, blocks: &[GapAckBlock]) -> Covered
 }
 
 /// The greatest end of a block.
-pub fn highest_end(blocks: &[GapAckBlock]) -> u16
+pub(crate) fn highest_end(blocks: &[GapAckBlock]) -> u16
     ensures { result ≡ highest_end blocks.now }
 {
     let mut highest = 0;

@@ -20,14 +20,14 @@ pub struct SkipEntry {
 
 impl SkipEntry {
     /// It as FORWARD-TSN has it.
-    pub fn ssn_skip(&self) -> SkippedStream
+    pub(crate) fn ssn_skip(&self) -> SkippedStream
         ensures { result ≡ ssn_skip self.now }
     {
         SkippedStream::ForwardTsn(self.stream_id, Ssn((self.number % 65_536) as u16))
     }
 
     /// It as I-FORWARD-TSN has it.
-    pub fn mid_skip(&self) -> SkippedStream
+    pub(crate) fn mid_skip(&self) -> SkippedStream
         ensures { result ≡ mid_skip self.now }
     {
         SkippedStream::IForwardTsn(
@@ -51,7 +51,7 @@ impl SkipEntry {
 }
 
 /// Whether an entry of the same stream and order is among these.
-pub fn is_named(entries: &[SkipEntry], entry: SkipEntry) -> bool
+pub(crate) fn is_named(entries: &[SkipEntry], entry: SkipEntry) -> bool
     ensures { result ≡ list_any (is_alike entry) entries.now }
 {
     entries.iter().any(|other| entry.is_alike(other))
@@ -70,7 +70,7 @@ fn place_of(entries: &[SkipEntry], entry: SkipEntry) -> usize
 }
 
 /// Puts the entry at its place, or in the place of the one of its stream and order. Without memory nothing changes.
-pub fn put(entries: &mut Vec<SkipEntry>, entry: SkipEntry) -> Result<(), AllocError>
+pub(crate) fn put(entries: &mut Vec<SkipEntry>, entry: SkipEntry) -> Result<(), AllocError>
     ensures ok { OnOk result (entries.new.items ≡ name_stream entry entries.old.items) }
     ensures err { OnErr result (entries.new.items ≡ entries.old.items) }
 {
@@ -83,20 +83,29 @@ pub fn put(entries: &mut Vec<SkipEntry>, entry: SkipEntry) -> Result<(), AllocEr
     Ok(())
 }
 
-pub fn ssn_skips(alloc: Global, entries: &[SkipEntry]) -> Result<Vec<SkippedStream>, AllocError>
+pub(crate) fn ssn_skips(
+    alloc: Global,
+    entries: &[SkipEntry],
+) -> Result<Vec<SkippedStream>, AllocError>
     ensures { IfOk result (λ skips. skips.items ≡ map ssn_skip entries.now) }
 {
     entries.iter().map(|entry| entry.ssn_skip()).collect(alloc)
 }
 
-pub fn mid_skips(alloc: Global, entries: &[SkipEntry]) -> Result<Vec<SkippedStream>, AllocError>
+pub(crate) fn mid_skips(
+    alloc: Global,
+    entries: &[SkipEntry],
+) -> Result<Vec<SkippedStream>, AllocError>
     ensures { IfOk result (λ skips. skips.items ≡ map mid_skip entries.now) }
 {
     entries.iter().map(|entry| entry.mid_skip()).collect(alloc)
 }
 
 /// Puts the entry, if there is one, at its place. Without memory nothing changes.
-pub fn put_if(entries: &mut Vec<SkipEntry>, entry: Option<SkipEntry>) -> Result<(), AllocError>
+pub(crate) fn put_if(
+    entries: &mut Vec<SkipEntry>,
+    entry: Option<SkipEntry>,
+) -> Result<(), AllocError>
     ensures ok { OnOk result (entries.new.items ≡ with_entry entry entries.old.items) }
     ensures err { OnErr result (entries.new.items ≡ entries.old.items) }
 {
@@ -107,7 +116,7 @@ pub fn put_if(entries: &mut Vec<SkipEntry>, entry: Option<SkipEntry>) -> Result<
 }
 
 /// The bytes of a forward chunk with these entries and one more, if it isn't named.
-pub fn chunk_size_with(
+pub(crate) fn chunk_size_with(
     is_interleaved: bool,
     entry: Option<SkipEntry>,
     entries: &[SkipEntry],

@@ -31,7 +31,7 @@ fn one_if(condition: bool) -> usize
 }
 
 impl Totals {
-    pub fn nothing() -> Totals
+    pub(crate) fn nothing() -> Totals
         ensures { result ≡ nothing }
     {
         Totals {
@@ -45,7 +45,7 @@ impl Totals {
     }
 
     /// What one item adds.
-    pub fn of(item: &Item, is_interleaved: bool) -> Totals
+    pub(crate) fn of(item: &Item, is_interleaved: bool) -> Totals
         ensures { result ≡ parts is_interleaved item.now }
     {
         let flies = item.is_outstanding();
@@ -60,7 +60,7 @@ impl Totals {
     }
 
     /// The totals with one part in place of another.
-    pub fn exchanged(self, old: Totals, new: Totals) -> Totals
+    pub(crate) fn exchanged(self, old: Totals, new: Totals) -> Totals
         ensures { result ≡ exchange old new self }
     {
         Totals {

@@ -123,7 +123,7 @@ fn numbers_from(mid: Option<u32>, ssn: Option<u16>) -> Option<MessageNumbers>
 
 impl QueuedMessage {
     /// The message of a record, in the socket that takes it up now.
-    pub fn restored(
+    pub(crate) fn restored(
         alloc: Global,
         now: SocketTime,
         message: &HandoverStreamMessage,
@@ -148,7 +148,7 @@ impl QueuedMessage {
     }
 
     /// It, on a stream, in the record of a socket that is handed over now.
-    pub fn handed_over(
+    pub(crate) fn handed_over(
         &self,
         alloc: Global,
         now: SocketTime,
@@ -173,7 +173,7 @@ impl QueuedMessage {
     }
 
     /// A message that is accepted now. It expires a millisecond after its lifetime.
-    pub fn new(
+    pub(crate) fn new(
         message_id: OutgoingMessageId,
         now: SocketTime,
         message: Message,
@@ -197,46 +197,46 @@ impl QueuedMessage {
         }
     }
 
-    pub fn message_id(&self) -> OutgoingMessageId
+    pub(crate) fn message_id(&self) -> OutgoingMessageId
         ensures { result.0 ≡ self.now.number }
     {
         self.message_id
     }
 
-    pub fn lifecycle_id(&self) -> Option<LifecycleId>
+    pub(crate) fn lifecycle_id(&self) -> Option<LifecycleId>
         ensures { result ≡ self.now.lifecycle }
     {
         self.lifecycle_id
     }
 
-    pub fn is_unordered(&self) -> bool
+    pub(crate) fn is_unordered(&self) -> bool
         ensures { result ≡ self.now.is_unordered }
     {
         self.is_unordered
     }
 
-    pub fn numbers(&self) -> Option<MessageNumbers>
+    pub(crate) fn numbers(&self) -> Option<MessageNumbers>
         ensures { result ≡ self.now.numbers }
     {
         self.numbers
     }
 
     /// Whether it expired before a fragment of it was sent.
-    pub fn is_stale(&self, now: SocketTime) -> bool
+    pub(crate) fn is_stale(&self, now: SocketTime) -> bool
         ensures { result ≡ is_stale now self.now }
     {
         self.numbers.is_none() && is_due(self.expires_at, now)
     }
 
     /// Whether a fragment of it was sent.
-    pub fn is_partly_sent(&self) -> bool
+    pub(crate) fn is_partly_sent(&self) -> bool
         ensures { result ≡ is_partly self.now }
     {
         0 < self.offset
     }
 
     /// The bytes that are not sent.
-    pub fn left(&self) -> usize
+    pub(crate) fn left(&self) -> usize
         ensures value { result ≡ left_bytes self.now }
         ensures more { 0 < result }
         ensures small { result < 2 ^ 32 }
@@ -246,7 +246,7 @@ impl QueuedMessage {
     }
 
     /// The bytes that are sent.
-    pub fn sent(&self) -> usize
+    pub(crate) fn sent(&self) -> usize
         ensures whole { left_bytes self.now + result ≡ length self.now.payload }
         ensures small { result < 2 ^ 32 }
     {
@@ -254,7 +254,7 @@ impl QueuedMessage {
     }
 
     /// It is sent from its beginning again.
-    pub fn make_whole(&mut self)
+    pub(crate) fn make_whole(&mut self)
         ensures { self.new ≡ whole self.old }
     {
         self.offset = 0;
@@ -311,7 +311,7 @@ impl QueuedMessage {
     }
 
     /// The next fragment, of at most `size` bytes, under these numbers.
-    pub fn fragment(
+    pub(crate) fn fragment(
         &self,
         alloc: Global,
         id: StreamId,
@@ -325,14 +325,14 @@ impl QueuedMessage {
     }
 
     /// Whether a fragment of this size is all of it.
-    pub fn is_whole(&self, size: usize) -> bool
+    pub(crate) fn is_whole(&self, size: usize) -> bool
         ensures { result ≡ is_whole size self.now }
     {
         self.offset == 0 && self.left() <= size
     }
 
     /// The fragment that is all of it, with its payload and not a copy.
-    pub fn into_fragment(
+    pub(crate) fn into_fragment(
         self,
         alloc: Global,
         id: StreamId,
@@ -348,7 +348,7 @@ impl QueuedMessage {
     }
 
     /// That fragment was sent, and it was not the end.
-    pub fn move_on(&mut self, numbers: MessageNumbers, size: usize)
+    pub(crate) fn move_on(&mut self, numbers: MessageNumbers, size: usize)
         requires { size < left_bytes self.old }
         ensures { self.new ≡ move_past size numbers self.old }
     {

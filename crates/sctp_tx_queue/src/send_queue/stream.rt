@@ -355,7 +355,7 @@ fn pause_after(is_end: bool, pause_state: PauseState) -> PauseState
 
 impl Stream {
     /// No messages.
-    pub fn new(alloc: Global, priority: u16, low_threshold: usize) -> Stream
+    pub(crate) fn new(alloc: Global, priority: u16, low_threshold: usize) -> Stream
         ensures { result ≡ blank_stream priority low_threshold }
     {
         Stream {
@@ -370,7 +370,11 @@ impl Stream {
     }
 
     /// The stream of a record, with this threshold and without messages.
-    pub fn restored(alloc: Global, low_threshold: usize, stream: &HandoverOutgoingStream) -> Stream
+    pub(crate) fn restored(
+        alloc: Global,
+        low_threshold: usize,
+        stream: &HandoverOutgoingStream,
+    ) -> Stream
         ensures { result ≡ stream_from 0 low_threshold [] stream.now }
     {
         Stream {
@@ -385,33 +389,33 @@ impl Stream {
     }
 
     /// The bytes that are not sent.
-    pub fn amount(&self) -> usize
+    pub(crate) fn amount(&self) -> usize
         ensures { result ≡ amount_of self.now }
     {
         self.buffered.amount()
     }
 
-    pub fn priority(&self) -> u16
+    pub(crate) fn priority(&self) -> u16
         ensures { result ≡ self.now.priority }
     {
         self.priority
     }
 
-    pub fn is_empty(&self) -> bool
+    pub(crate) fn is_empty(&self) -> bool
         ensures { result ≡ (length self.now.messages == 0) }
     {
         self.messages.is_empty()
     }
 
     /// The bytes that are not sent of the message that goes next; 0 where the stream is paused.
-    pub fn sendable(&self) -> usize
+    pub(crate) fn sendable(&self) -> usize
         ensures { result ≡ sendable self.now }
     {
         sendable(self.pause_state, front_left(&self.messages))
     }
 
     /// The same once a message was added.
-    pub fn sendable_with(&self, message: &QueuedMessage) -> usize
+    pub(crate) fn sendable_with(&self, message: &QueuedMessage) -> usize
         ensures { result ≡ sendable (push message.now self.now) }
     {
         if self.messages.is_empty() {
@@ -421,7 +425,7 @@ impl Stream {
     }
 
     /// The same after the next fragment, of at most `size` bytes.
-    pub fn sendable_after(&self, size: usize) -> usize
+    pub(crate) fn sendable_after(&self, size: usize) -> usize
         ensures { result ≡ sendable (advance size self.now) }
     {
         let is_end = front_ends(&self.messages, size);
@@ -432,7 +436,7 @@ impl Stream {
     }
 
     /// The same without the message at the front, if it is this one.
-    pub fn sendable_without(&self, message_id: OutgoingMessageId) -> usize
+    pub(crate) fn sendable_without(&self, message_id: OutgoingMessageId) -> usize
         ensures { result ≡ sendable (without_front message_id.0 self.now.messages self.now) }
     {
         if is_front(&self.messages, message_id) {
@@ -442,7 +446,7 @@ impl Stream {
     }
 
     /// The same once the stream is to be reset.
-    pub fn sendable_prepared(&self) -> usize
+    pub(crate) fn sendable_prepared(&self) -> usize
         ensures { result ≡ sendable (prepare_stream self.now) }
     {
         let left = partly_left(&self.messages);
@@ -450,7 +454,7 @@ impl Stream {
     }
 
     /// The same after a step of the stream's reset.
-    pub fn sendable_stepped(&self, step: ResetStep) -> usize
+    pub(crate) fn sendable_stepped(&self, step: ResetStep) -> usize
         ensures { result ≡ sendable (after_step step self.now) }
     {
         match step {
@@ -460,14 +464,14 @@ impl Stream {
     }
 
     /// The same once a new association begins.
-    pub fn sendable_restarted(&self) -> usize
+    pub(crate) fn sendable_restarted(&self) -> usize
         ensures { result ≡ sendable (restart self.now) }
     {
         front_whole(&self.messages)
     }
 
     /// Adds a message behind the others. Without memory nothing changes.
-    pub fn push(&mut self, message: QueuedMessage) -> Result<(), AllocError>
+    pub(crate) fn push(&mut self, message: QueuedMessage) -> Result<(), AllocError>
         requires { amount_of self.old + left_bytes message < 2 ^ 64 }
         ensures ok { OnOk result (self.new ≡ push message self.old) }
         ensures err { OnErr result (self.new ≡ self.old) }
@@ -479,7 +483,7 @@ impl Stream {
     }
 
     /// Emits the events of the messages at the front that expired before they were begun.
-    pub fn emit_stale(&self, now: SocketTime, events: &mut Events) -> Result<(), AllocError>
+    pub(crate) fn emit_stale(&self, now: SocketTime, events: &mut Events) -> Result<(), AllocError>
         ensures ok { OnOk result (events.new ≡ drop_expired now self.now.messages events.old) }
         ensures err { OnErr result (Grown events.old events.new) }
     {
@@ -487,7 +491,7 @@ impl Stream {
     }
 
     /// Drops these messages.
-    pub fn drop_stale(&mut self, now: SocketTime)
+    pub(crate) fn drop_stale(&mut self, now: SocketTime)
         ensures after { self.new ≡ without_stale now self.old }
         ensures less { amount_of self.new ≤ amount_of self.old }
     {
@@ -532,7 +536,7 @@ impl Stream {
     }
 
     /// The next fragment, of at most `size` bytes. The stream goes on by `advance`.
-    pub fn fragment(
+    pub(crate) fn fragment(
         &self,
         alloc: Global,
         id: StreamId,
@@ -545,14 +549,14 @@ impl Stream {
     }
 
     /// How many bytes the next fragment has.
-    pub fn fragment_size(&self, size: usize) -> usize
+    pub(crate) fn fragment_size(&self, size: usize) -> usize
         ensures { amount_of (advance size self.now) + result ≡ amount_of self.now }
     {
         front_left(&self.messages).min(size)
     }
 
     /// Whether the stream's amount falls to its threshold by the next fragment.
-    pub fn is_low_after(&self, size: usize) -> bool
+    pub(crate) fn is_low_after(&self, size: usize) -> bool
         ensures { result ≡ crosses (watched_amount self.now) (watched_amount (advance size self.now)) }
     {
         let bytes = self.fragment_size(size);
@@ -576,7 +580,7 @@ impl Stream {
     }
 
     /// The next fragment is sent.
-    pub fn advance(&mut self, size: usize)
+    pub(crate) fn advance(&mut self, size: usize)
         ensures after { self.new ≡ advance size self.old }
         ensures less { amount_of self.new ≤ amount_of self.old }
     {
@@ -584,7 +588,7 @@ impl Stream {
     }
 
     /// Whether the next fragment is a whole message.
-    pub fn is_next_whole(&self, size: usize) -> bool
+    pub(crate) fn is_next_whole(&self, size: usize) -> bool
         ensures { result ≡ is_front_whole size self.now.messages }
     {
         match self.messages.front() {
@@ -594,7 +598,7 @@ impl Stream {
     }
 
     /// The lifecycle id of the message at the front.
-    pub fn front_lifecycle(&self) -> Option<LifecycleId>
+    pub(crate) fn front_lifecycle(&self) -> Option<LifecycleId>
         ensures { result ≡ front_lifecycle self.now.messages }
     {
         match self.messages.front() {
@@ -604,7 +608,12 @@ impl Stream {
     }
 
     /// The next fragment is sent, which is a whole message: its payload isn't copied.
-    pub fn take_whole(&mut self, alloc: Global, id: StreamId, size: usize) -> Option<DataToSend>
+    pub(crate) fn take_whole(
+        &mut self,
+        alloc: Global,
+        id: StreamId,
+        size: usize,
+    ) -> Option<DataToSend>
         requires { IsTrue (is_front_whole size self.old.messages) }
         ensures made { option_map produced_of result ≡ next_fragment id.0 size self.old }
         ensures after { self.new ≡ advance size self.old }
@@ -618,35 +627,35 @@ impl Stream {
     }
 
     /// Whether the message at the front expired before it was begun.
-    pub fn is_stale(&self, now: SocketTime) -> bool
+    pub(crate) fn is_stale(&self, now: SocketTime) -> bool
         ensures { result ≡ is_front_stale now self.now.messages }
     {
         is_front_stale(&self.messages, now)
     }
 
     /// The amount at which the stream is low.
-    pub fn low_threshold(&self) -> usize
+    pub(crate) fn low_threshold(&self) -> usize
         ensures { result ≡ self.now.threshold }
     {
         self.buffered.low_threshold()
     }
 
     /// Whether the amount is above the threshold and would be at most this one.
-    pub fn is_low_at(&self, bytes: usize) -> bool
+    pub(crate) fn is_low_at(&self, bytes: usize) -> bool
         ensures { result ≡ crosses (watched_amount self.now) (watched_amount (with_threshold bytes self.now)) }
     {
         self.buffered.is_crossed_at(bytes)
     }
 
     /// Sets the threshold.
-    pub fn set_low_threshold(&mut self, bytes: usize)
+    pub(crate) fn set_low_threshold(&mut self, bytes: usize)
         ensures after { self.new ≡ with_threshold bytes self.old }
         ensures amount { amount_of self.new ≡ amount_of self.old }
     {
         self.buffered.set_low_threshold(bytes);
     }
 
-    pub fn set_priority(&mut self, priority: u16)
+    pub(crate) fn set_priority(&mut self, priority: u16)
         ensures after { self.new ≡ with_priority priority self.old }
         ensures amount { amount_of self.new ≡ amount_of self.old }
     {
@@ -654,7 +663,7 @@ impl Stream {
     }
 
     /// The lifecycle id of the message at the front, if it is this one.
-    pub fn front_discarded(&self, message_id: OutgoingMessageId) -> Option<Discarded>
+    pub(crate) fn front_discarded(&self, message_id: OutgoingMessageId) -> Option<Discarded>
         ensures { option_map (λ d. d.lifecycle_id) result ≡ front_discarded message_id.0 self.now.messages }
     {
         match self.messages.front() {
@@ -666,7 +675,7 @@ impl Stream {
     }
 
     /// Drops the message at the front, if it is this one.
-    pub fn discard(&mut self, message_id: OutgoingMessageId)
+    pub(crate) fn discard(&mut self, message_id: OutgoingMessageId)
         ensures after { self.new ≡ without_front message_id.0 self.old.messages self.old }
         ensures less { amount_of self.new ≤ amount_of self.old }
     {
@@ -677,7 +686,7 @@ impl Stream {
     }
 
     /// Whether the stream can be reset, and is in no request.
-    pub fn is_ready(&self) -> bool
+    pub(crate) fn is_ready(&self) -> bool
         ensures { result ≡ is_ready self.now }
     {
         match self.pause_state {
@@ -687,7 +696,7 @@ impl Stream {
     }
 
     /// Whether a reset of the stream waits, or is to be answered.
-    pub fn is_waiting(&self) -> bool
+    pub(crate) fn is_waiting(&self) -> bool
         ensures { result ≡ is_waiting self.now }
     {
         match self.pause_state {
@@ -697,7 +706,7 @@ impl Stream {
     }
 
     /// Takes a step of a reset.
-    pub fn take_step(&mut self, step: ResetStep)
+    pub(crate) fn take_step(&mut self, step: ResetStep)
         ensures after { self.new ≡ after_step step self.old }
         ensures amount { amount_of self.new ≡ amount_of self.old }
     {
@@ -714,7 +723,7 @@ impl Stream {
     }
 
     /// Emits of the messages of which nothing is sent that they are given up.
-    pub fn emit_waiting(&self, events: &mut Events) -> Result<(), AllocError>
+    pub(crate) fn emit_waiting(&self, events: &mut Events) -> Result<(), AllocError>
         ensures ok { OnOk result (events.new ≡ emitted_waiting self.now.messages events.old) }
         ensures err { OnErr result (Grown events.old events.new) }
     {
@@ -722,7 +731,7 @@ impl Stream {
     }
 
     /// Drops these messages. The stream can be reset once none is partly sent.
-    pub fn prepare_reset(&mut self)
+    pub(crate) fn prepare_reset(&mut self)
         ensures after { self.new ≡ prepare_stream self.old }
         ensures less { amount_of self.new ≤ amount_of self.old }
     {
@@ -731,7 +740,7 @@ impl Stream {
     }
 
     /// A new association begins: the message at the front is whole again, and the numbers begin again.
-    pub fn restart(&mut self)
+    pub(crate) fn restart(&mut self)
         requires { amount_of (restart self.old) < 2 ^ 64 }
         ensures after { self.new ≡ restart self.old }
         ensures least { amount_of self.old ≤ amount_of self.new }
@@ -745,7 +754,7 @@ impl Stream {
     }
 
     /// It in the record of a socket that is handed over.
-    pub fn handed_over(&self, id: StreamId) -> HandoverOutgoingStream
+    pub(crate) fn handed_over(&self, id: StreamId) -> HandoverOutgoingStream
         ensures { result ≡ outgoing_stream id.0 self.now }
     {
         HandoverOutgoingStream {
@@ -758,7 +767,7 @@ impl Stream {
     }
 
     /// Adds its messages to those of the record.
-    pub fn hand_messages_over(
+    pub(crate) fn hand_messages_over(
         &self,
         alloc: Global,
         now: SocketTime,

@@ -68,7 +68,7 @@ pub struct Demand {
 
 impl Streams {
     /// No streams.
-    pub fn new(alloc: Global, options: &Options) -> Streams
+    pub(crate) fn new(alloc: Global, options: &Options) -> Streams
         ensures { result ≡ no_streams (options_of options.now) }
     {
         Streams {
@@ -81,7 +81,7 @@ impl Streams {
     }
 
     /// The streams and messages of a record in the socket that takes it up now, with the defaults of these.
-    pub fn restored(
+    pub(crate) fn restored(
         &self,
         alloc: Global,
         now: SocketTime,
@@ -116,13 +116,13 @@ impl Streams {
         })
     }
 
-    pub fn total(&self) -> usize
+    pub(crate) fn total(&self) -> usize
         ensures { result ≡ total_of self.now.entries }
     {
         self.total.amount()
     }
 
-    pub fn amount(&self, id: StreamId) -> usize
+    pub(crate) fn amount(&self, id: StreamId) -> usize
         ensures { result ≡ amount_of (stream id.0 self.now) }
     {
         match self.streams.get(&id.0) {
@@ -131,13 +131,13 @@ impl Streams {
         }
     }
 
-    pub fn is_empty(&self) -> bool
+    pub(crate) fn is_empty(&self) -> bool
         ensures { result ≡ list_all has_nothing (values_of self.now.entries) }
     {
         self.total.amount() == 0
     }
 
-    pub fn priority(&self, id: StreamId) -> u16
+    pub(crate) fn priority(&self, id: StreamId) -> u16
         ensures { result ≡ (stream id.0 self.now).priority }
     {
         match self.streams.get(&id.0) {
@@ -146,7 +146,7 @@ impl Streams {
         }
     }
 
-    pub fn sendable(&self, id: StreamId) -> usize
+    pub(crate) fn sendable(&self, id: StreamId) -> usize
         ensures { result ≡ sendable (stream id.0 self.now) }
     {
         match self.streams.get(&id.0) {
@@ -156,7 +156,7 @@ impl Streams {
     }
 
     /// Makes the stream where there is none. Without memory nothing changes.
-    pub fn open(&mut self, alloc: Global, id: StreamId) -> Result<(), AllocError>
+    pub(crate) fn open(&mut self, alloc: Global, id: StreamId) -> Result<(), AllocError>
         ensures ok { OnOk result (self.new ≡ open_stream id.0 self.old) }
         ensures there { OnOk result (IsSome (lookup (is_at (nat_cmp id.0)) self.new.entries)) }
         ensures stream { OnOk result (stream id.0 self.new ≡ stream id.0 self.old) }
@@ -172,7 +172,7 @@ impl Streams {
     }
 
     /// Adds a message behind the others of its stream, which is made where there is none. Without memory nothing changes.
-    pub fn push(
+    pub(crate) fn push(
         &mut self,
         alloc: Global,
         id: StreamId,
@@ -212,7 +212,7 @@ impl Streams {
     }
 
     /// What a stream has to send once a message was added.
-    pub fn demand_with(&self, id: StreamId, message: &QueuedMessage) -> Demand
+    pub(crate) fn demand_with(&self, id: StreamId, message: &QueuedMessage) -> Demand
         ensures bytes { result.bytes ≡ sendable (push message.now (stream id.0 self.now)) }
         ensures priority { result.priority ≡ (stream id.0 self.now).priority }
     {
@@ -229,7 +229,7 @@ impl Streams {
     }
 
     /// Whether the message at the front of a stream expired before it was begun.
-    pub fn is_stale(&self, id: StreamId, now: SocketTime) -> bool
+    pub(crate) fn is_stale(&self, id: StreamId, now: SocketTime) -> bool
         ensures { result ≡ is_front_stale now (stream id.0 self.now).messages }
     {
         match self.streams.get(&id.0) {
@@ -239,7 +239,7 @@ impl Streams {
     }
 
     /// Emits the events of the messages at the front of a stream that expired before they were begun.
-    pub fn emit_stale(
+    pub(crate) fn emit_stale(
         &self,
         id: StreamId,
         now: SocketTime,
@@ -255,7 +255,7 @@ impl Streams {
     }
 
     /// Drops these messages.
-    pub fn drop_stale(&mut self, id: StreamId, now: SocketTime)
+    pub(crate) fn drop_stale(&mut self, id: StreamId, now: SocketTime)
         ensures { self.new ≡ streams_without_stale now id.0 self.old }
     {
         let Some(stream) = self.streams.get_mut(&id.0) else {
@@ -268,7 +268,7 @@ impl Streams {
 
     /// A stream sends its next fragment, of at most `size` bytes, with its events: the stream goes in line for the one after
     /// it; one that has none leaves. Without memory nothing changes.
-    pub fn send_front(
+    pub(crate) fn send_front(
         &mut self,
         alloc: Global,
         id: StreamId,
@@ -299,7 +299,7 @@ impl Streams {
         Ok(made)
     }
 
-    pub fn low_threshold(&self, id: StreamId) -> usize
+    pub(crate) fn low_threshold(&self, id: StreamId) -> usize
         ensures { result ≡ (stream id.0 self.now).threshold }
     {
         match self.streams.get(&id.0) {
@@ -309,7 +309,7 @@ impl Streams {
     }
 
     /// Whether a stream's amount is above its threshold and would be at most this one.
-    pub fn is_low_at(&self, id: StreamId, bytes: usize) -> bool
+    pub(crate) fn is_low_at(&self, id: StreamId, bytes: usize) -> bool
         ensures { result ≡ crosses (watched_amount (stream id.0 self.now)) (watched_amount (with_threshold bytes (stream id.0 self.now))) }
     {
         match self.streams.get(&id.0) {
@@ -319,7 +319,7 @@ impl Streams {
     }
 
     /// Sets a stream's threshold.
-    pub fn set_low_threshold(&mut self, id: StreamId, bytes: usize)
+    pub(crate) fn set_low_threshold(&mut self, id: StreamId, bytes: usize)
         ensures { self.new ≡ put_stream id.0 (with_threshold bytes (stream id.0 self.old)) self.old }
     {
         let Some(stream) = self.streams.get_mut(&id.0) else {
@@ -328,7 +328,7 @@ impl Streams {
         stream.set_low_threshold(bytes);
     }
 
-    pub fn set_priority(&mut self, id: StreamId, priority: u16)
+    pub(crate) fn set_priority(&mut self, id: StreamId, priority: u16)
         ensures { self.new ≡ put_stream id.0 (with_priority priority (stream id.0 self.old)) self.old }
     {
         let Some(stream) = self.streams.get_mut(&id.0) else {
@@ -338,7 +338,11 @@ impl Streams {
     }
 
     /// The lifecycle id of the message at the front of a stream, if it is this one.
-    pub fn front_discarded(&self, id: StreamId, message_id: OutgoingMessageId) -> Option<Discarded>
+    pub(crate) fn front_discarded(
+        &self,
+        id: StreamId,
+        message_id: OutgoingMessageId,
+    ) -> Option<Discarded>
         ensures { option_map (λ d. d.lifecycle_id) result ≡ front_discarded message_id.0 (stream id.0 self.now).messages }
     {
         match self.streams.get(&id.0) {
@@ -348,14 +352,14 @@ impl Streams {
     }
 
     /// A stream's priority, which no message changes.
-    pub fn priority_without(&self, id: StreamId, _message_id: OutgoingMessageId) -> u16
+    pub(crate) fn priority_without(&self, id: StreamId, _message_id: OutgoingMessageId) -> u16
         ensures { result ≡ (stream id.0 (streams_discarded id.0 _message_id.0 self.now)).priority }
     {
         self.priority(id)
     }
 
     /// The bytes that a stream has to send without that message.
-    pub fn sendable_without(&self, id: StreamId, message_id: OutgoingMessageId) -> usize
+    pub(crate) fn sendable_without(&self, id: StreamId, message_id: OutgoingMessageId) -> usize
         ensures { result ≡ sendable (stream id.0 (streams_discarded id.0 message_id.0 self.now)) }
     {
         match self.streams.get(&id.0) {
@@ -365,7 +369,7 @@ impl Streams {
     }
 
     /// Drops the message at the front of a stream, if it is this one.
-    pub fn discard(&mut self, id: StreamId, message_id: OutgoingMessageId)
+    pub(crate) fn discard(&mut self, id: StreamId, message_id: OutgoingMessageId)
         ensures { self.new ≡ streams_discarded id.0 message_id.0 self.old }
     {
         // (read for its bound: no more streams are ready)
@@ -381,7 +385,7 @@ impl Streams {
     }
 
     /// Emits of the messages of a stream of which nothing is sent that they are given up.
-    pub fn emit_waiting(&self, id: StreamId, events: &mut Events) -> Result<(), AllocError>
+    pub(crate) fn emit_waiting(&self, id: StreamId, events: &mut Events) -> Result<(), AllocError>
         ensures ok { OnOk result (events.new ≡ emitted_waiting (stream id.0 self.now).messages events.old) }
         ensures err { OnErr result (Grown events.old events.new) }
     {
@@ -392,7 +396,7 @@ impl Streams {
     }
 
     /// The bytes that a stream has to send once it is to be reset. Where there is no such stream there are none.
-    pub fn sendable_prepared(&self, id: StreamId) -> usize
+    pub(crate) fn sendable_prepared(&self, id: StreamId) -> usize
         ensures value { result ≡ sendable (prepare_stream (stream id.0 self.now)) }
         ensures there { 0 < result → IsSome (lookup (is_at (nat_cmp id.0)) self.now.entries) }
     {
@@ -403,7 +407,7 @@ impl Streams {
     }
 
     /// Drops the messages of a stream of which nothing is sent.
-    pub fn prepare_reset(&mut self, id: StreamId)
+    pub(crate) fn prepare_reset(&mut self, id: StreamId)
         ensures { self.new ≡ put_stream id.0 (prepare_stream (stream id.0 self.old)) self.old }
     {
         // (read for its bound: no more streams are ready)
@@ -419,7 +423,7 @@ impl Streams {
     }
 
     /// The bytes that a stream has to send after a step of its reset.
-    pub fn sendable_stepped(&self, id: StreamId, step: ResetStep) -> usize
+    pub(crate) fn sendable_stepped(&self, id: StreamId, step: ResetStep) -> usize
         ensures { result ≡ sendable (stream id.0 (put_stream id.0 (after_step step (stream id.0 self.now)) self.now)) }
     {
         match self.streams.get(&id.0) {
@@ -429,14 +433,14 @@ impl Streams {
     }
 
     /// A stream's priority, which no step of its reset changes.
-    pub fn priority_stepped(&self, id: StreamId, _step: ResetStep) -> u16
+    pub(crate) fn priority_stepped(&self, id: StreamId, _step: ResetStep) -> u16
         ensures { result ≡ (stream id.0 (put_stream id.0 (after_step _step (stream id.0 self.now)) self.now)).priority }
     {
         self.priority(id)
     }
 
     /// Takes a step of a stream's reset.
-    pub fn take_step(&mut self, id: StreamId, step: ResetStep)
+    pub(crate) fn take_step(&mut self, id: StreamId, step: ResetStep)
         ensures { self.new ≡ put_stream id.0 (after_step step (stream id.0 self.old)) self.old }
     {
         // (read for its bound: no more streams are ready)
@@ -450,7 +454,7 @@ impl Streams {
     }
 
     /// The bytes that a stream has to send once a new association begins.
-    pub fn sendable_restarted(&self, id: StreamId) -> usize
+    pub(crate) fn sendable_restarted(&self, id: StreamId) -> usize
         ensures { result ≡ sendable (stream id.0 (put_stream id.0 (restart (stream id.0 self.now)) self.now)) }
     {
         match self.streams.get(&id.0) {
@@ -460,14 +464,14 @@ impl Streams {
     }
 
     /// A stream's priority, which a new association doesn't change.
-    pub fn priority_restarted(&self, id: StreamId) -> u16
+    pub(crate) fn priority_restarted(&self, id: StreamId) -> u16
         ensures { result ≡ (stream id.0 (put_stream id.0 (restart (stream id.0 self.now)) self.now)).priority }
     {
         self.priority(id)
     }
 
     /// A new association begins for a stream.
-    pub fn restart(&mut self, id: StreamId)
+    pub(crate) fn restart(&mut self, id: StreamId)
         ensures { self.new ≡ put_stream id.0 (restart (stream id.0 self.old)) self.old }
     {
         // (read for its bound: no more streams are ready)
@@ -483,7 +487,10 @@ impl Streams {
     }
 
     /// The streams in the record of a socket that is handed over.
-    pub fn handed_over(&self, alloc: Global) -> Result<Vec<HandoverOutgoingStream>, AllocError>
+    pub(crate) fn handed_over(
+        &self,
+        alloc: Global,
+    ) -> Result<Vec<HandoverOutgoingStream>, AllocError>
         ensures records { IfOk result (λ records. records.items ≡ outgoing_streams self.now.entries) }
         ensures ordered { IsStrictlySortedBy nat_cmp (keys_of self.now.entries) }
     {
@@ -491,7 +498,7 @@ impl Streams {
     }
 
     /// The messages of all streams in that record.
-    pub fn messages_handed_over(
+    pub(crate) fn messages_handed_over(
         &self,
         alloc: Global,
         now: SocketTime,
@@ -502,14 +509,14 @@ impl Streams {
     }
 
     /// All streams, by ascending id.
-    pub fn ids(&self, alloc: Global) -> Result<Vec<StreamId>, AllocError>
+    pub(crate) fn ids(&self, alloc: Global) -> Result<Vec<StreamId>, AllocError>
         ensures { IfOk result (λ ids. map (λ id. id.0) ids.items ≡ keys_of self.now.entries) }
     {
         stream_ids(alloc, &self.streams)
     }
 
     /// The streams that can be reset and are in no request, by ascending id.
-    pub fn ready(&self, alloc: Global) -> Result<Vec<StreamId>, AllocError>
+    pub(crate) fn ready(&self, alloc: Global) -> Result<Vec<StreamId>, AllocError>
         ensures { IfOk result (λ ids. map (λ id. id.0) ids.items ≡ ready self.now.entries) }
     {
         if self.ready_count == 0 {
@@ -519,13 +526,13 @@ impl Streams {
     }
 
     /// Whether a reset of a stream waits, or is to be answered.
-    pub fn has_waiting(&self) -> bool
+    pub(crate) fn has_waiting(&self) -> bool
         ensures { result ≡ list_any is_waiting (values_of self.now.entries) }
     {
         self.streams.values().any(|stream| stream.is_waiting())
     }
 
-    pub fn has_ready(&self) -> bool
+    pub(crate) fn has_ready(&self) -> bool
         ensures { result ≡ list_any is_ready (values_of self.now.entries) }
     {
         self.ready_count > 0
