@@ -5,7 +5,7 @@ use Rattle.rand_core.specs.Stream.{Stream}
 use Rattle.rand_pcg.specs.Lcg.{Lcg}
 use Rattle.rand_pcg.specs.Pcg.{pcg32}
 use Rattle.sctp_association.specs.Socket.{SocketValue, Ends, endpoint}
-use Rattle.sctp_c_calls.specs.Answers.{IsAmong, OnAnswer, ending_at}
+use Rattle.sctp_c_events.specs.Answers.{IsAmong, OnAnswer, ending_at}
 use Rattle.sctp_c_calls.specs.Handing.{record_of, record_or}
 use Rattle.sctp_c_records.specs.Checksums.{word_by}
 use Rattle.sctp_c_records.specs.declared.checksum.PacketChecksum.{PacketChecksum}

@@ -2,7 +2,7 @@
 
 ghost use Rattle.std.specs.Prelude.{◌≡◌, ◌-◌, ◌^◌, ◌<◌, ◌≤◌, [], ◌∷◌, None, Some, option_map};
 ghost use Rattle.sctp_c.specs.Calls.{Answers, OnSocket, Tells, end_of};
-ghost use Rattle.sctp_c_calls.specs.Answers.{IsAmong, OnAnswer, state_number};
+ghost use Rattle.sctp_c_events.specs.Answers.{IsAmong, OnAnswer, state_number};
 ghost use Rattle.sctp_c_calls.specs.Counted.{shown_metrics};
 ghost use Rattle.sctp_calls.specs.Metrics.{metrics_in};
 ghost use Rattle.sctp_tx_queue.specs.Queue as queue;

@@ -1,3 +1,2 @@
 pub mod HandoverLemmas
-pub mod OutcomeLemmas
 pub mod ReadyLemmas

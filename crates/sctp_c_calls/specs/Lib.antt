@@ -1,5 +1,5 @@
-pub mod Answers
+pub use Rattle.sctp_c_events.specs.Answers
 pub mod Counted
 pub mod Handing
 pub mod Outgoing
-pub mod Waiting
+pub use Rattle.sctp_c_events.specs.Waiting

@@ -2,7 +2,7 @@
 
 ghost use Rattle.std.specs.Prelude.{◌≡◌, ◌-◌, ◌^◌, ◌<◌, ◌≤◌, option_map};
 ghost use Rattle.sctp_association.specs.Socket.{endpoint};
-ghost use Rattle.sctp_c_calls.specs.Answers.{state_number};
+ghost use Rattle.sctp_c_events.specs.Answers.{state_number};
 ghost use Rattle.sctp_c_calls.specs.Counted.{shown_metrics};
 ghost use Rattle.sctp_calls.specs.Metrics.{metrics_in};
 ghost use Rattle.sctp_tx_queue.specs.Queue.{amount_of, stream};

@@ -2,18 +2,18 @@
 
 ghost use Rattle.std.specs.Prelude.{◌≡◌, ◌<◌, ◌≤◌, ◌^◌, true, [], ◌∷◌, length, map, replicate, take, IfOk};
 ghost use Rattle.sctp_association.specs.Socket.{endpoint};
-ghost use Rattle.sctp_c_calls.specs.Answers.{Ended, IsAmong, OnSettled, batch_number, mark_refused};
+ghost use Rattle.sctp_c_events.specs.Answers.{Ended, IsAmong, OnSettled, batch_number, mark_refused};
 ghost use Rattle.sctp_c_calls.specs.Outgoing.{given_message, has_stream, have_streams};
 ghost use Rattle.sctp_c_records.specs.Records.{given_send_options};
 ghost use Rattle.sctp_serial.specs.Messages.{message_of};
 ghost use Rattle.spec_endpoint.specs.Calls as calls;
 ghost use Rattle.spec_endpoint.specs.Input.{on_endpoint_state};
 
-use crate::outcome::refusal_number;
 use rand_core::Rng;
 use sctp_association::{
     BatchFault, Checksum, DcSctpSocket, Message, PpId, SendError, Socket, StreamId,
 };
+use sctp_c_events::refusal_number;
 use sctp_c_records::answers::{FAILED, MEMORY, NO_ROOM, OK, SOME_REFUSED};
 use sctp_c_records::{OutgoingRecord, SendRecord};
 use std::alloc::{AllocError, Global};

@@ -3,19 +3,17 @@
 
 mod asking;
 mod batch;
-mod calls;
-mod events;
 mod handover;
 mod messages;
-mod outcome;
 mod settings;
 
 pub use asking::{buffered_amount, handover_readiness, metrics, nanos_until, state_number};
 pub use batch::{have_streams, send_many};
-pub use calls::{advance_time, close, connect, handle_input, shutdown};
-pub use events::{borrow_event, poll_event};
 pub use handover::{hand_over, restore};
 pub use messages::{borrow_message, next_message, send};
+pub use sctp_c_events::{
+    advance_time, borrow_event, close, connect, handle_input, poll_event, shutdown,
+};
 pub use settings::{
     reset_stream, reset_streams, set_buffered_amount_low_threshold, set_stream_priority,
 };

@@ -2,17 +2,17 @@
 
 ghost use Rattle.std.specs.Prelude.{◌≡◌, ◌<◌, ◌^◌, [], ◌∷◌, length};
 ghost use Rattle.sctp_association.specs.Socket.{endpoint};
-ghost use Rattle.sctp_c_calls.specs.Answers.{Ended, IsAmong, OnAnswer, OnOthers, OnSettled, refusal_number};
-ghost use Rattle.sctp_c_calls.specs.Waiting.{HasAll, HasMessage, NeedsMore, message_record};
+ghost use Rattle.sctp_c_events.specs.Answers.{Ended, IsAmong, OnAnswer, OnOthers, OnSettled, refusal_number};
+ghost use Rattle.sctp_c_events.specs.Waiting.{HasAll, HasMessage, NeedsMore, message_record};
 ghost use Rattle.sctp_c_records.specs.Shown.{Copied};
 ghost use Rattle.sctp_serial.specs.Messages.{message_of};
 ghost use Rattle.sctp_c_records.specs.Records.{given_send_options};
 ghost use Rattle.spec_endpoint.specs.Calls as calls;
 ghost use Rattle.spec_endpoint.specs.Input.{on_endpoint_state};
 
-use crate::outcome::refusal_number;
 use rand_core::Rng;
 use sctp_association::{Checksum, DcSctpSocket, Message, PpId, Socket, StreamId};
+use sctp_c_events::refusal_number;
 use sctp_c_records::answers::{NO_ROOM, NOTHING, OK, SHORT_BUFFER};
 use sctp_c_records::{MessageRecord, SendRecord, put_bytes};
 use std::alloc::Global;

@@ -1,12 +1,14 @@
 -- SACK chunks read: the counts fix the length.
-use Rattle.std.proofs.Common.{◌≡◌, ℕ, ◌+◌, ◌*◌, ◌^◌, ◌<◌, ◌≢◌, List, ◌++◌, length, sym, ap, ◌∙◌, append_assoc, arith}
+use Rattle.std.proofs.Common.{◌≡◌, ℕ, ◌+◌, ◌*◌, ◌^◌, ◌<◌, ◌≤◌, ◌≢◌, false, List, [], ◌∷◌, ◌++◌, length, refl, sym, ap, ◌∙◌, append_assoc, arith}
 use Rattle.std.specs.List.{flat_map}
+use Rattle.std.proofs.lemmas.Bool.Decides.{nat_tests}
 use Rattle.std.proofs.lemmas.List.{length-append}
 use Rattle.sctp_wire.specs.Fields.{be16, be32, length_be16, length_be32}
 use Rattle.sctp_serial.specs.declared.types.tsn.Tsn.{Tsn}
 use Rattle.sctp_wire.proofs.SerializeLemmas.{length_entries}
 use Rattle.sctp_chunk.specs.declared.sack.GapAckBlock.{GapAckBlock}
 use Rattle.sctp_chunk.specs.Chunk.{SackTree}
+use Rattle.sctp_chunk.specs.Covered.{is_covered, AreRuns}
 use Rattle.sctp_chunk.specs.Written.{sack_value, block_bytes, tsn_bytes}
 use Rattle.sctp_chunk.specs.Grammar.{IsCounted}
 use Rattle.sctp_chunk.proofs.FieldLemmas.{cut_eight}

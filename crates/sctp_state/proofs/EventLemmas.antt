@@ -1,5 +1,5 @@
 -- What is emitted stays at the front, and what was emitted since a moment can be taken back.
-use Rattle.std.proofs.Common.{◌≡◌, ℕ, ◌≤◌, List, [], ◌∷◌, ◌++◌, length, take, ap, sym, ◌∙◌, arith, subst, take_all, take-take, length-take}
+use Rattle.std.proofs.Common.{◌≡◌, ℕ, ◌≤◌, List, [], ◌∷◌, ◌++◌, length, take, refl, ap, sym, ◌∙◌, arith, subst, take_all, take-take, length-take}
 use Rattle.std.proofs.lemmas.List.{take_at}
 use Rattle.sctp_state.specs.declared.api.GivenUpCause.{GivenUpCause}
 use Rattle.sctp_state.specs.Events.{Event, GivenUp, Emitted, Grown, emit_events, give_up, mark_of, rolled_back}

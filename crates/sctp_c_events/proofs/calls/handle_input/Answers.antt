@@ -1,7 +1,7 @@
 use Rattle.sctp_association.specs.Socket.{endpoint}
 use Rattle.spec_endpoint.specs.Receiving.{Receives}
-use Rattle.sctp_c_calls.proofs.OutcomeLemmas.{among, ends, done}
-use Rattle.sctp_c_calls.proofs.calls.handle_input.Goals as goal
+use Rattle.sctp_c_events.proofs.OutcomeLemmas.{among, ends, done}
+use Rattle.sctp_c_events.proofs.calls.handle_input.Goals as goal
 
 pub returns-clause-answers : goal.returns-clause-answers
 returns-clause-answers g c = rw c.call_number.ensures (among c.handle_input.result)

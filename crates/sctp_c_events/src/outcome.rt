@@ -1,7 +1,7 @@
 //! The numbers of what the socket's calls answer.
 
 ghost use Rattle.std.specs.Prelude.{◌≡◌, Some};
-ghost use Rattle.sctp_c_calls.specs.Answers.{call_number, refusal_number};
+ghost use Rattle.sctp_c_events.specs.Answers.{call_number, refusal_number};
 
 use sctp_association::{CallError, SendError};
 use sctp_c_records::answers::{
@@ -9,7 +9,7 @@ use sctp_c_records::answers::{
 };
 
 /// The number of a call that says nothing else.
-pub(crate) fn call_number(outcome: Result<(), CallError>) -> u32
+pub fn call_number(outcome: Result<(), CallError>) -> u32
     ensures { result ≡ call_number outcome }
 {
     match outcome {
@@ -20,7 +20,7 @@ pub(crate) fn call_number(outcome: Result<(), CallError>) -> u32
 }
 
 /// Why a message isn't accepted.
-pub(crate) fn refusal_number(refusal: &SendError) -> u32
+pub fn refusal_number(refusal: &SendError) -> u32
     ensures { result ≡ refusal_number (Some refusal.now) }
 {
     match refusal {

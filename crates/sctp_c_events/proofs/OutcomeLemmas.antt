@@ -4,7 +4,7 @@ use Rattle.sctp_state.specs.declared.api.errors.CallError.{CallError}
 use Rattle.sctp_state.specs.declared.api.errors.CallError.TheVariants as calls
 use Rattle.sctp_state.specs.declared.api.errors.SendError.{SendError}
 use Rattle.sctp_association.specs.Socket.{Ends, SocketValue, ending_of}
-use Rattle.sctp_c_calls.specs.Answers.{IsAmong, OnAnswer, batch_number, call_number, ending_at}
+use Rattle.sctp_c_events.specs.Answers.{IsAmong, OnAnswer, batch_number, call_number, ending_at}
 
 pub among : (r : Result (Unit {0}) CallError) → IsAmong (0 ∷ 1 ∷ 2 ∷ []) (call_number r)
 among (Ok done) = refl

@@ -1,8 +1,8 @@
 use Rattle.std.proofs.Common.{◌≡◌}
 use Rattle.sctp_association.specs.Socket.{endpoint}
 use Rattle.spec_endpoint.specs.Opening as opening
-use Rattle.sctp_c_calls.proofs.OutcomeLemmas.{among, ends, done}
-use Rattle.sctp_c_calls.proofs.calls.connect.Goals as goal
+use Rattle.sctp_c_events.proofs.OutcomeLemmas.{among, ends, done}
+use Rattle.sctp_c_events.proofs.calls.connect.Goals as goal
 
 pub returns-clause-answers : goal.returns-clause-answers
 returns-clause-answers g c = rw c.call_number.ensures (among c.connect.result)

@@ -2,7 +2,7 @@
 
 ghost use Rattle.std.specs.Prelude.{◌≡◌, [], ◌∷◌};
 ghost use Rattle.sctp_association.specs.Socket.{Ends, endpoint};
-ghost use Rattle.sctp_c_calls.specs.Answers.{IsAmong, OnAnswer, ending_at};
+ghost use Rattle.sctp_c_events.specs.Answers.{IsAmong, OnAnswer, ending_at};
 ghost use Rattle.spec_endpoint.specs.Shutdown as closing;
 ghost use Rattle.spec_endpoint.specs.Receiving.{Receives};
 ghost use Rattle.spec_endpoint.specs.Input.{on_endpoint_state};
