@@ -1,2 +1,4 @@
 pub mod PrepareLemmas
 pub mod CleanedLemmas
+pub mod ResponseLemmas
+pub mod ParameterLemmas
