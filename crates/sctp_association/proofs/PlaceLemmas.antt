@@ -12,7 +12,7 @@ use Rattle.sctp_packet.proofs.OneChunkLemmas.{one_chunk}
 use Rattle.spec_endpoint.specs.Association.{Tcb}
 use Rattle.spec_endpoint.specs.Input.{misuse}
 use Rattle.sctp_association.specs.Kinds.{carries_data, carrying}
-use Rattle.sctp_closing.specs.MisuseView.{data_misused}
+use Rattle.sctp_supervision.specs.MisuseView.{data_misused}
 use Rattle.sctp_packet.proofs.StandsLemmas.{length_data, length_idata}
 
 -- ---- DATA and I-DATA

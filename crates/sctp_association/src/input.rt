@@ -9,7 +9,7 @@ ghost use Rattle.sctp_packet.specs.Grammar.{IsChunk};
 ghost use Rattle.sctp_packet.specs.Views.{raw_chunk};
 ghost use Rattle.sctp_packet.specs.View.{AreLeft, viewed_packet};
 ghost use Rattle.sctp_chunk.specs.declared.data.DataView.{DataView};
-ghost use Rattle.sctp_closing.specs.MisuseView.{misuse_text};
+ghost use Rattle.sctp_supervision.specs.MisuseView.{misuse_text};
 ghost use Rattle.sctp_association.specs.Kinds.{carries_data, carrying};
 ghost use Rattle.spec_endpoint.specs.Association.{where_open};
 ghost use Rattle.spec_endpoint.specs.Opening.{on_cookie_ack};
@@ -19,9 +19,6 @@ ghost use Rattle.sctp_endpoint.specs.Views.{context_of, endpoint_of, received_of
 ghost use Rattle.spec_endpoint.specs.Input as table;
 
 use rand_core::Rng;
-use sctp_closing::aborts::{handle_abort, handle_error, handle_misuse};
-use sctp_closing::misuse::{Misuse, data_misused, handle_unknown, is_passed_over, violation};
-use sctp_closing::shutdown::{handle_shutdown, handle_shutdown_ack, handle_shutdown_complete};
 use sctp_endpoint::{Context, Phase, State, TransmissionControlBlock};
 use sctp_handshake::cookie_echo::{handle_cookie_ack, handle_cookie_echo};
 use sctp_handshake::opening::{handle_init, handle_init_ack};
@@ -29,7 +26,10 @@ use sctp_packet::{Chunk, DataView, HeartbeatAckChunk, IDataChunk, PacketView, Ra
 use sctp_parameter::Parameter;
 use sctp_receiving::{Outline, packet_word, policy, validate_packet};
 use sctp_state::{ErrorKind, SocketEvent};
-use sctp_timers::heartbeats::handle_heartbeat_ack;
+use sctp_supervision::aborts::{handle_abort, handle_error, handle_misuse};
+use sctp_supervision::heartbeats::handle_heartbeat_ack;
+use sctp_supervision::misuse::{Misuse, data_misused, handle_unknown, is_passed_over, violation};
+use sctp_supervision::shutdown::{handle_shutdown, handle_shutdown_ack, handle_shutdown_complete};
 use sctp_transfer::data::{handle_data, handle_forward_tsn};
 use sctp_transfer::sack::handle_sack;
 use sctp_transfer::stream_reset::handle_reconfig;

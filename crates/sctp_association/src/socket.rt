@@ -29,7 +29,6 @@ use sctp_calls::calls::{
 };
 use sctp_calls::handover::{get_handover_readiness, hand_over, restore};
 use sctp_calls::metrics::metrics_in;
-use sctp_closing::shutdown::{do_shutdown, handle_close};
 use sctp_endpoint::{Association, Context, State};
 use sctp_handshake::opening::do_connect;
 use sctp_receiving::messages::{get_next_message, keeps_items, ready_count, ready_message};
@@ -40,7 +39,8 @@ use sctp_state::{
     Options, ResetStreamsError, RestoreError, SendError, SendOptions, SocketEvent,
     SocketHandoverState, SocketState,
 };
-use sctp_timers::timers::{advance_time, poll_timeout};
+use sctp_supervision::shutdown::{do_shutdown, handle_close};
+use sctp_supervision::timers::{advance_time, poll_timeout};
 use sctp_transfer::stream_reset::reset_streams;
 use sctp_wire::Checksum;
 use std::alloc::Global;

@@ -1,6 +1,6 @@
 use Rattle.std.proofs.Common.{rules, ◌+◌, length}
-use Rattle.sctp_closing.proofs.MisuseLemmas.{value_is, high, low}
-use Rattle.sctp_closing.proofs.misuse.first_bytes.Goals as goal
+use Rattle.sctp_supervision.proofs.MisuseLemmas.{value_is, high, low}
+use Rattle.sctp_supervision.proofs.misuse.first_bytes.Goals as goal
 
 pub returns : goal.returns
 returns c =

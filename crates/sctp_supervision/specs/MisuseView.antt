@@ -1,8 +1,8 @@
 -- What is emitted of chunks that aren't taken.
 use Rattle.std.specs.Prelude.{ℕ, List, Bool, true, false, not, Option}
 use Rattle.spec_endpoint.specs.Input.{unless, interleaving_text, no_interleaving_text, no_partial_text}
-use Rattle.sctp_closing.specs.declared.misuse.Misuse.{Misuse}
-use Rattle.sctp_closing.specs.declared.misuse.Misuse.TheVariants as misuses
+use Rattle.sctp_supervision.specs.declared.misuse.Misuse.{Misuse}
+use Rattle.sctp_supervision.specs.declared.misuse.Misuse.TheVariants as misuses
 
 abbrev pub misuse_text : Misuse → List ℕ
 misuse_text misuses.NotInterleaved = interleaving_text

@@ -8,7 +8,7 @@ ghost use Rattle.sctp_wire.specs.Item.{item_bytes};
 ghost use Rattle.sctp_packet.specs.Written.{chunk_item};
 ghost use Rattle.sctp_capabilities.specs.Capabilities.{capabilities_of};
 ghost use Rattle.sctp_endpoint.specs.Views.{context_of, endpoint_state_of, state_of, tcb_of};
-ghost use Rattle.sctp_closing.specs.MisuseView.{data_misused, misuse_text};
+ghost use Rattle.sctp_supervision.specs.MisuseView.{data_misused, misuse_text};
 ghost use Rattle.spec_endpoint.specs.Packets.{emit_chunk};
 ghost use Rattle.spec_endpoint.specs.Input as table;
 

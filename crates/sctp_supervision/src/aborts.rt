@@ -6,7 +6,7 @@ ghost use Rattle.sctp_state.specs.Events.{OnAborted};
 ghost use Rattle.spec_endpoint.specs.Association.{where_open};
 ghost use Rattle.spec_endpoint.specs.Packets.{complain};
 ghost use Rattle.sctp_endpoint.specs.Views.{context_of, endpoint_state_of, tcb_of};
-ghost use Rattle.sctp_closing.specs.MisuseView.{misuse_text};
+ghost use Rattle.sctp_supervision.specs.MisuseView.{misuse_text};
 ghost use Rattle.spec_endpoint.specs.Shutdown as closing;
 ghost use Rattle.spec_endpoint.specs.Input as table;
 

@@ -1,7 +1,7 @@
 use Rattle.std.proofs.Common.{◌≡◌, ◌++◌, map, drop, string_bytes}
 use Rattle.sctp_error_cause.specs.CauseViews.{cause_tree}
 use Rattle.spec_endpoint.specs.Shutdown.{causes_text, behind_commas}
-use Rattle.sctp_closing.proofs.aborts.causes_text.Given as goal
+use Rattle.sctp_supervision.proofs.aborts.causes_text.Given as goal
 
 abbrev pub invariant-loop-cause : goal.invariant-loop-cause
 invariant-loop-cause l =

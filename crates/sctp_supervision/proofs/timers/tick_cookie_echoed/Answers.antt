@@ -1,5 +1,5 @@
 use Rattle.std.proofs.Common.{rules}
-use Rattle.sctp_timers.proofs.timers.tick_cookie_echoed.Goals as goal
+use Rattle.sctp_supervision.proofs.timers.tick_cookie_echoed.Goals as goal
 
 pub returns-clause-left : goal.returns-clause-left
 returns-clause-left g c = search rules

@@ -1,5 +1,5 @@
 use Rattle.std.proofs.Common.{rules}
-use Rattle.sctp_timers.proofs.timers.tick_cookie_wait.Goals as goal
+use Rattle.sctp_supervision.proofs.timers.tick_cookie_wait.Goals as goal
 
 pub returns-clause-waited : goal.returns-clause-waited
 returns-clause-waited g c = search rules
