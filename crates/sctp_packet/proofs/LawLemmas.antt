@@ -2,7 +2,7 @@
 use Rattle.std.proofs.Common.{◌≡◌, ◌⊎◌, inl, inr, ℕ, ◌^◌, ◌<◌, ◌≤◌, Bool, true, false, List, [], ◌++◌, length, drop, map, Ok, Err, refl, sym, ap, subst, ◌∙◌, arith}
 use Rattle.std.specs.Prelude.{All, Result, IfOk, IfErr, MatchResult}
 use Rattle.sctp_wire.specs.Fields.{be16, be32}
-use Rattle.sctp_wire.specs.Item.{ParsesAll}
+use Rattle.sctp_wire.specs.Item.{ParsesAll, Item}
 use Rattle.sctp_wire.specs.declared.checksum.Policy.{Policy}
 use Rattle.sctp_wire.specs.declared.error.ChunkParseError.TheVariants as chunk_faults
 use Rattle.sctp_wire.proofs.ParsesAllLemmas.{cut_same, one_tiling, whole_not_broken}
@@ -18,10 +18,10 @@ use Rattle.sctp_packet.specs.Packet.{HeaderTree, PacketTree, IsPacket, FitsHeade
 use Rattle.sctp_packet.specs.PacketView.{packet_tree}
 use Rattle.sctp_packet.proofs.PacketLemmas.{body_at, field_at, length_joined}
 use Rattle.sctp_packet.proofs.OneChunkLemmas.{one_chunk}
-use Rattle.sctp_packet.proofs.StandsLemmas.{chunk_fault}
+use Rattle.sctp_packet.proofs.StandsLemmas.{chunk_fault, chunk_stands}
 use Rattle.sctp_packet.proofs.ReadBackLemmas.{chunks_tile}
 use Rattle.sctp_wire.proofs.FieldLemmas.{be16_same, be32_same, same32}
-use Rattle.sctp_packet.proofs.ViewLemmas.{not_refused}
+use Rattle.sctp_wire.specs.declared.error.ChunkParseError.{ChunkParseError}
 
 abbrev header_of : ℕ → ℕ → ℕ → HeaderTree
 header_of s d t = record { source_port = s; destination_port = d; verification_tag = t }
@@ -64,6 +64,13 @@ body_of bytes p h = ap (drop 12) h.joined ∙ body_at p.header p.checksum h.body
 
 clash : (b : Bool) → b ≡ true → b ≡ false → ⊥
 clash b t f = cc
+
+pub not_refused : (i : Item) (t : ChunkTree) (fault : ChunkParseError) → IsChunk i t → RefusesChunk i fault → fault ≡ chunk_faults.Memory
+not_refused i t chunk_faults.Memory is r = refl
+not_refused i t chunk_faults.InvalidLength is r = absurd (chunk_stands i t chunk_faults.InvalidLength is r (λ e. cc))
+not_refused i t chunk_faults.InvalidType is r = absurd (chunk_stands i t chunk_faults.InvalidType is r (λ e. cc))
+not_refused i t chunk_faults.InvalidPadding is r = absurd (chunk_stands i t chunk_faults.InvalidPadding is r (λ e. cc))
+not_refused i t chunk_faults.InvalidValue is r = absurd (chunk_stands i t chunk_faults.InvalidValue is r (λ e. cc))
 
 pub never_both_lem : (policy : Policy) (word : ℕ) (bytes : List ℕ) (e : PacketParseError) (p : PacketTree) → IsFault e → Refuses policy word bytes e → Accepts policy word bytes p → ⊥
 never_both_lem policy word bytes faults.TooShort p m r a = omega (arith, packet_long bytes p a.packet, r)

@@ -16,7 +16,6 @@ use Rattle.sctp_packet.specs.Faults.{IsPacketFault}
 use Rattle.sctp_packet.specs.PacketView.{packet_tree}
 use Rattle.sctp_packet.specs.View.{ViewTree, AreLeft, viewed_packet, Views}
 use Rattle.sctp_packet.proofs.OneChunkLemmas.{one_chunk}
-use Rattle.sctp_packet.proofs.StandsLemmas.{chunk_stands}
 use Rattle.sctp_packet.proofs.LawLemmas.{packet_of, accepted_alone, refused_alone}
 
 -- the item in front is the first chunk that is left, and the others are left behind it
@@ -37,14 +36,6 @@ no_bytes bytes chunks none all = subst (λ (cs : List ChunkTree). ParsesAll IsCh
 
 pub ended_lem : (bytes : List ℕ) (chunks : List ChunkTree) → TakesNone bytes → ParsesAll IsChunk bytes chunks [] → bytes ≡ []
 ended_lem bytes chunks none all = no_bytes bytes chunks (left_none bytes chunks none all) all
-
--- what stands for a chunk is refused for want of memory alone
-pub not_refused : (i : Item) (t : ChunkTree) (fault : ChunkParseError) → IsChunk i t → RefusesChunk i fault → fault ≡ chunk_faults.Memory
-not_refused i t chunk_faults.Memory is r = refl
-not_refused i t chunk_faults.InvalidLength is r = absurd (chunk_stands i t chunk_faults.InvalidLength is r (λ e. cc))
-not_refused i t chunk_faults.InvalidType is r = absurd (chunk_stands i t chunk_faults.InvalidType is r (λ e. cc))
-not_refused i t chunk_faults.InvalidPadding is r = absurd (chunk_stands i t chunk_faults.InvalidPadding is r (λ e. cc))
-not_refused i t chunk_faults.InvalidValue is r = absurd (chunk_stands i t chunk_faults.InvalidValue is r (λ e. cc))
 
 -- chunks that are left are one list
 pub left_alone : (v : ViewTree) (xs ys : List ChunkTree) → AreLeft v xs → AreLeft v ys → xs ≡ ys

@@ -6,8 +6,8 @@ use Rattle.sctp_wire.proofs.ParsesAllLemmas.{ParsesAll_push, takes_four}
 use Rattle.sctp_chunk.specs.Grammar.{IsChunk}
 use Rattle.sctp_chunk.specs.Views.{raw_chunk}
 use Rattle.sctp_control_chunk.specs.ChunkView.{chunk_tree}
-use Rattle.sctp_packet.proofs.ViewLemmas.{not_refused}
 use Rattle.sctp_packet.proofs.view.build_chunks.Goals as goal
+use Rattle.sctp_packet.proofs.LawLemmas.{not_refused}
 
 pub loop-raw-smaller : goal.loop-raw-smaller
 loop-raw-smaller c = omega (arith, takes_four c.loop-raw.view.rest (raw_chunk c.in-Some.raw) c.next_chunk.new.self.rest c.in-Some.ensures.taken)
