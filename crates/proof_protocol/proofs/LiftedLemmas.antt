@@ -216,12 +216,12 @@ module _ (base : Bool → ℕ → ℕ) (kind : Bool) (s : ℕ) where
           let h : b0 + e.written ≡ e.number = subst (λ z. base kind z + e.written ≡ e.number) i (subst (λ z. base z e.stream + e.written ≡ e.number) k (all e (inl refl))) in
           tests e.written e.number h
         where
-          gt-leb : (a c : ℕ) → c < a → leb a c ≡ false
-          gt-leb a c l = false_from_ne_true (leb a c) (λ t. let v = leb-true a c t in omega (arith, v, l))
+          gt_leb : (a c : ℕ) → c < a → leb a c ≡ false
+          gt_leb a c l = false_from_ne_true (leb a c) (λ t. let v = leb-true a c t in omega (arith, v, l))
 
           tests : (w m : ℕ) → b0 + w ≡ m → leb n w ≡ leb (b0 + n) m
           tests w m h = elim (cases_lt w n) [
-            | inl l ↦ gt-leb n w l ∙ sym (gt-leb (b0 + n) m (omega (arith, h, l)))
+            | inl l ↦ gt_leb n w l ∙ sym (gt_leb (b0 + n) m (omega (arith, h, l)))
             | inr g ↦ le-leb n w g ∙ sym (le-leb (b0 + n) m (omega (arith, h, g)))
           ]
 

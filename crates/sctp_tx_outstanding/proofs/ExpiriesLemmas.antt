@@ -89,8 +89,8 @@ first_left keys news first next moment i is e small of put known = record {
   exact = λ m n less few. put m n less few ∙ (leaves m n less few ∙ ap (λ l. by_number l (λ k. expires_as m k is) n) (sym e));
 }
   where
-    at-first : (m n : ℕ) → m < never → n < 2 ^ 32 → n ≡ first → is_listed keys (key_of m n) ≡ (m == moment)
-    at-first m n less few same =
+    at_first : (m n : ℕ) → m < never → n < 2 ^ 32 → n ≡ first → is_listed keys (key_of m n) ≡ (m == moment)
+    at_first m n less few same =
         let there : n ≡ first + 0 = omega (arith, same) in
         known.exact m n less few ∙ (ap (λ l. by_number first (λ k. expires_as m k (i ∷ is)) l) there ∙ (as_at first (λ k. expires_as m k (i ∷ is)) 0 ∙ (ap (λ j. j == m) of ∙ turn_round m moment)))
 
@@ -104,7 +104,7 @@ first_left keys news first next moment i is e small of put known = record {
         | inl below ↦ stays (m == moment) (n == first) (is_listed keys (key_of m n)) (not_below first n below) ∙ (known.exact m n less few ∙ as_below first (λ k. expires_as m k (i ∷ is)) n below)
         | inr ge ↦
             let same : n ≡ first = omega (arith, le, ge) in
-            out (m == moment) (n == first) (is_listed keys (key_of m n)) (is_same_lem first n same) (at-first m n less few same)
+            out (m == moment) (n == first) (is_listed keys (key_of m n)) (is_same_lem first n same) (at_first m n less few same)
       ]
 
 -- ---- before the least key none expires

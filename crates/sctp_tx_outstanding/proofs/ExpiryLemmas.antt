@@ -31,16 +31,16 @@ laid_quiet now false i h = h
 
 end_quiet : (now number k : ℕ) (o : Option FragmentTree) → expires_at now k (map (lay_down number) (placeholders number o)) ≡ false
 end_quiet now number k None = refl
-end_quiet now number k (Some f) = by-end f.is_end
+end_quiet now number k (Some f) = by_end f.is_end
   where
     one : (b : Bool) (k : ℕ) → expires_at now k (cond b (abandon (placeholder number f)) (placeholder number f) ∷ []) ≡ false
     one true zero = refl
     one false zero = refl
     one b (suc k) = refl
 
-    by-end : (e : Bool) → expires_at now k (map (lay_down number) (cond e [] (placeholder number f ∷ []))) ≡ false
-    by-end true = refl
-    by-end false = one (is_of number (placeholder number f)) k
+    by_end : (e : Bool) → expires_at now k (map (lay_down number) (cond e [] (placeholder number f ∷ []))) ≡ false
+    by_end true = refl
+    by_end false = one (is_of number (placeholder number f)) k
 
 more_quiet : (now number k : ℕ) (o : Option FragmentTree) (is : List Item) → expires_at now k is ≡ false → expires_at now k (map (lay_down number) (is ++ placeholders number o)) ≡ false
 more_quiet now number k o [] h = end_quiet now number k o
@@ -66,10 +66,10 @@ none_at now (suc k) b (i ∷ is) h = none_at now k b is h
 
 -- so where none expires from one place up to another, those steps leave all as it is
 pub expire_past : {P : Type 0} (now from to : ℕ) (x : Step P) → from ≤ to → NoneExpires now from to x.items.kept → expire_below now to x ≡ expire_below now from x
-expire_past now from zero x le none = ap (λ n. expire_below now n x) zero-is
+expire_past now from zero x le none = ap (λ n. expire_below now n x) zero_is
   where
-    zero-is : zero ≡ from
-    zero-is = omega (arith, le)
+    zero_is : zero ≡ from
+    zero_is = omega (arith, le)
 expire_past now from (suc n) x le none = elim (cases_lt n from) [
   | inl less ↦ ap (λ m. expire_below now m x) (last less)
   | inr above ↦

@@ -31,10 +31,10 @@ idle_turn true k x i h = ap (λ b. take_item (cond b (cond (nat_le (size_in x i)
 idle_turn false k x i h = ap (λ b. take_item (cond (b && nat_le (size_in x i) (allowance x)) Send Leave) k x) h
 
 idle_step : (fast : Bool) (k : ℕ) (x : Resent) → waits_at k x.outstanding.items.kept ≡ false → step_at fast k x ≡ x
-idle_step fast k x h = at-item (slice_get x.outstanding.items.kept k) refl where
-  at-item : (o : Option Item) → slice_get x.outstanding.items.kept k ≡ o → take_item (turn_of fast o x) k x ≡ x
-  at-item None e = refl
-  at-item (Some i) e = idle_turn fast k x i (idle k x.outstanding.items.kept i h e)
+idle_step fast k x h = at_item (slice_get x.outstanding.items.kept k) refl where
+  at_item : (o : Option Item) → slice_get x.outstanding.items.kept k ≡ o → take_item (turn_of fast o x) k x ≡ x
+  at_item None e = refl
+  at_item (Some i) e = idle_turn fast k x i (idle k x.outstanding.items.kept i h e)
 
 pub none_less : (from to less : ℕ) (is : List Item) → less ≤ to → NoneWaits from to is → NoneWaits from less is
 none_less from to less is le h = λ k above below. h k above (omega (arith, below, le))
@@ -74,10 +74,10 @@ stays_out true allowed size h = let less : allowed < size = h refl in grind (ari
 stays_out false allowed size h = refl
 
 full_step : (k : ℕ) (x : Resent) → IsFull x → step_at false k x ≡ x
-full_step k x h = at-item (slice_get x.outstanding.items.kept k) refl where
-  at-item : (o : Option Item) → slice_get x.outstanding.items.kept k ≡ o → take_item (turn_of false o x) k x ≡ x
-  at-item None e = refl
-  at-item (Some i) e = ap (λ b. take_item (cond b Send Leave) k x) (stays_out (should_be_retransmitted i) (allowance x) (size_in x i) (too_long x k x.outstanding.items.kept i h e))
+full_step k x h = at_item (slice_get x.outstanding.items.kept k) refl where
+  at_item : (o : Option Item) → slice_get x.outstanding.items.kept k ≡ o → take_item (turn_of false o x) k x ≡ x
+  at_item None e = refl
+  at_item (Some i) e = ap (λ b. take_item (cond b Send Leave) k x) (stays_out (should_be_retransmitted i) (allowance x) (size_in x i) (too_long x k x.outstanding.items.kept i h e))
 
 full_more : (x : Resent) (more p n : ℕ) → n ≡ more + p → IsFull (resent_below false p x) → resent_below false n x ≡ resent_below false p x
 full_more x zero p n e h =

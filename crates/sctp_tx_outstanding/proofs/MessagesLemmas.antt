@@ -101,8 +101,8 @@ left keys news first next i is message e small of put known = λ m n few.
     put (key_of m n) ∙ (ap (λ b. cond b false (is_listed keys (key_of m n))) (same_key m message n first few small)
     ∙ (leaves m n few ∙ ap (λ l. is_of_as l m n is) (sym e)))
   where
-    at-first : (m n : ℕ) → n < 2 ^ 32 → n ≡ first → is_listed keys (key_of m n) ≡ (m == message)
-    at-first m n few same =
+    at_first : (m n : ℕ) → n < 2 ^ 32 → n ≡ first → is_listed keys (key_of m n) ≡ (m == message)
+    at_first m n few same =
         let there : n ≡ first + 0 = omega (arith, same) in
         known m n few ∙ (ap (λ l. by_number first (λ k. is_of_at m k (i ∷ is)) l) there ∙ (as_at first (λ k. is_of_at m k (i ∷ is)) 0 ∙ (ap (λ j. j == m) of ∙ turn_round m message)))
 
@@ -116,7 +116,7 @@ left keys news first next i is message e small of put known = λ m n few.
         | inl less ↦ stays (m == message) (n == first) (is_listed keys (key_of m n)) (not_below first n less) ∙ (known m n few ∙ as_below first (λ k. is_of_at m k (i ∷ is)) n less)
         | inr ge ↦
             let same : n ≡ first = omega (arith, le, ge) in
-            out (m == message) (n == first) (is_listed keys (key_of m n)) (is_same_lem first n same) (at-first m n few same)
+            out (m == message) (n == first) (is_listed keys (key_of m n)) (is_same_lem first n same) (at_first m n few same)
       ]
 
 -- ---- none is kept

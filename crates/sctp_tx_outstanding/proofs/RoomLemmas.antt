@@ -56,18 +56,18 @@ sent_again_lem k x i there waiting fits =
     omega (arith, sum, parts.0, parts.1, fits)
 
 step_room : (k : ℕ) (x : Resent) → flying (step_at false k x) + (step_at false k x).room ≤ flying x + x.room
-step_room k x = at-item (slice_get x.outstanding.items.kept k) refl where
-  turn-room : (i : Item) → slice_get x.outstanding.items.kept k ≡ Some i → (b : Bool) → should_be_retransmitted i && nat_le (size_in x i) (allowance x) ≡ b
+step_room k x = at_item (slice_get x.outstanding.items.kept k) refl where
+  turn_room : (i : Item) → slice_get x.outstanding.items.kept k ≡ Some i → (b : Bool) → should_be_retransmitted i && nat_le (size_in x i) (allowance x) ≡ b
       → flying (take_item (if b then Send else Leave) k x) + (take_item (if b then Send else Leave) k x).room ≤ flying x + x.room
-  turn-room i there true e =
+  turn_room i there true e =
       let t = and_parts (should_be_retransmitted i) (nat_le (size_in x i) (allowance x)) e in
       let fits : size_in x i ≤ x.room = omega (arith, leb-true (size_in x i) (allowance x) t.1, allowed_room (flight_items x.outstanding.items == 0) x.room x.window) in
       subst (λ (o : Option Item). flying (again_of k o x) + (again_of k o x).room ≤ flying x + x.room) (sym there) (sent_again_lem k x i there t.0 fits)
-  turn-room i there false e = omega arith
+  turn_room i there false e = omega arith
 
-  at-item : (o : Option Item) → slice_get x.outstanding.items.kept k ≡ o → flying (take_item (turn_of false o x) k x) + (take_item (turn_of false o x) k x).room ≤ flying x + x.room
-  at-item None e = omega arith
-  at-item (Some i) e = turn-room i e (should_be_retransmitted i && nat_le (size_in x i) (allowance x)) refl
+  at_item : (o : Option Item) → slice_get x.outstanding.items.kept k ≡ o → flying (take_item (turn_of false o x) k x) + (take_item (turn_of false o x) k x).room ≤ flying x + x.room
+  at_item None e = omega arith
+  at_item (Some i) e = turn_room i e (should_be_retransmitted i && nat_le (size_in x i) (allowance x)) refl
 
 pub resent_room : (n : ℕ) (x : Resent) → flying (resent_below false n x) + (resent_below false n x).room ≤ flying x + x.room
 resent_room zero x = omega arith
@@ -111,10 +111,10 @@ turn_fits false x i h =
     (allowed_room (flight_items x.outstanding.items == 0) x.room x.window)
 
 step_load : (fast : Bool) (k : ℕ) (x : Resent) → load (step_at fast k x) + (step_at fast k x).room ≤ load x + x.room
-step_load fast k x = at-item (slice_get x.outstanding.items.kept k) refl where
-  at-item : (o : Option Item) → slice_get x.outstanding.items.kept k ≡ o → load (take_item (turn_of fast o x) k x) + (take_item (turn_of fast o x) k x).room ≤ load x + x.room
-  at-item None e = omega arith
-  at-item (Some i) e = taken_load k x i e (turn_of fast (Some i) x) (turn_fits fast x i)
+step_load fast k x = at_item (slice_get x.outstanding.items.kept k) refl where
+  at_item : (o : Option Item) → slice_get x.outstanding.items.kept k ≡ o → load (take_item (turn_of fast o x) k x) + (take_item (turn_of fast o x) k x).room ≤ load x + x.room
+  at_item None e = omega arith
+  at_item (Some i) e = taken_load k x i e (turn_of fast (Some i) x) (turn_fits fast x i)
 
 resent_load : (fast : Bool) (n : ℕ) (x : Resent) → load (resent_below fast n x) + (resent_below fast n x).room ≤ load x + x.room
 resent_load fast zero x = omega arith
@@ -125,15 +125,15 @@ resent_load fast (suc n) x =
 
 -- whether messages are interleaved stays
 step_is_interleaved : (fast : Bool) (k : ℕ) (x : Resent) → (step_at fast k x).outstanding.items.is_interleaved ≡ x.outstanding.items.is_interleaved
-step_is_interleaved fast k x = by-turn (turn_at fast k x) where
-  by-item : (o : Option Item) → (again_of k o x).outstanding.items.is_interleaved ≡ x.outstanding.items.is_interleaved
-  by-item None = refl
-  by-item (Some i) = refl
+step_is_interleaved fast k x = by_turn (turn_at fast k x) where
+  by_item : (o : Option Item) → (again_of k o x).outstanding.items.is_interleaved ≡ x.outstanding.items.is_interleaved
+  by_item None = refl
+  by_item (Some i) = refl
 
-  by-turn : (t : Turn) → (take_item t k x).outstanding.items.is_interleaved ≡ x.outstanding.items.is_interleaved
-  by-turn Send = by-item (slice_get x.outstanding.items.kept k)
-  by-turn PassOver = refl
-  by-turn Leave = refl
+  by_turn : (t : Turn) → (take_item t k x).outstanding.items.is_interleaved ≡ x.outstanding.items.is_interleaved
+  by_turn Send = by_item (slice_get x.outstanding.items.kept k)
+  by_turn PassOver = refl
+  by_turn Leave = refl
 
 pub resent_is_interleaved : (fast : Bool) (n : ℕ) (x : Resent) → (resent_below fast n x).outstanding.items.is_interleaved ≡ x.outstanding.items.is_interleaved
 resent_is_interleaved fast zero x = refl
@@ -161,10 +161,10 @@ none_waits_lem (suc k) (j ∷ is) i h e =
     none_waits_lem k is i (omega (arith, sum, h)) e
 
 quiet_step : (k : ℕ) (x : Resent) → waiting_items x.outstanding.items ≤ 0 → step_at false k x ≡ x
-quiet_step k x h = at-item (slice_get x.outstanding.items.kept k) refl where
-  at-item : (o : Option Item) → slice_get x.outstanding.items.kept k ≡ o → take_item (turn_of false o x) k x ≡ x
-  at-item None e = refl
-  at-item (Some i) e = ap (λ b. take_item (if b && nat_le (size_in x i) (allowance x) then Send else Leave) k x) (none_waits_lem k x.outstanding.items.kept i h e)
+quiet_step k x h = at_item (slice_get x.outstanding.items.kept k) refl where
+  at_item : (o : Option Item) → slice_get x.outstanding.items.kept k ≡ o → take_item (turn_of false o x) k x ≡ x
+  at_item None e = refl
+  at_item (Some i) e = ap (λ b. take_item (if b && nat_le (size_in x i) (allowance x) then Send else Leave) k x) (none_waits_lem k x.outstanding.items.kept i h e)
 
 none_fast : (k : ℕ) (is : List Item) (i : Item) → sum_by fast_part is ≤ 0 → slice_get is k ≡ Some i → is_fast i ≡ false
 none_fast k [] i h e = absurd (cc)
@@ -177,10 +177,10 @@ none_fast (suc k) (j ∷ is) i h e =
     none_fast k is i (omega (arith, sum, h)) e
 
 quiet_fast : (k : ℕ) (x : Resent) → fast_items x.outstanding.items ≤ 0 → step_at true k x ≡ x
-quiet_fast k x h = at-item (slice_get x.outstanding.items.kept k) refl where
-  at-item : (o : Option Item) → slice_get x.outstanding.items.kept k ≡ o → take_item (turn_of true o x) k x ≡ x
-  at-item None e = refl
-  at-item (Some i) e = ap (λ b. take_item (if b then (if nat_le (size_in x i) x.room then Send else PassOver) else Leave) k x) (none_fast k x.outstanding.items.kept i h e)
+quiet_fast k x h = at_item (slice_get x.outstanding.items.kept k) refl where
+  at_item : (o : Option Item) → slice_get x.outstanding.items.kept k ≡ o → take_item (turn_of true o x) k x ≡ x
+  at_item None e = refl
+  at_item (Some i) e = ap (λ b. take_item (if b then (if nat_le (size_in x i) x.room then Send else PassOver) else Leave) k x) (none_fast k x.outstanding.items.kept i h e)
 
 quiet_turn : (fast : Bool) (k : ℕ) (x : Resent) → waiting_for fast x.outstanding.items ≤ 0 → step_at fast k x ≡ x
 quiet_turn true k x h = quiet_fast k x h
@@ -245,21 +245,21 @@ fast_goes true c size room e = refl
 fast_goes false c size room e = absurd (cc)
 
 fast_step_room : (k : ℕ) (x : Resent) → flying (step_at true k x) + (step_at true k x).room ≤ flying x + x.room
-fast_step_room k x = at-item (slice_get x.outstanding.items.kept k) refl where
-  by-turn : (i : Item) → slice_get x.outstanding.items.kept k ≡ Some i → (t : Turn) → turn_of true (Some i) x ≡ t → flying (take_item t k x) + (take_item t k x).room ≤ flying x + x.room
-  by-turn i there Send e =
+fast_step_room k x = at_item (slice_get x.outstanding.items.kept k) refl where
+  by_turn : (i : Item) → slice_get x.outstanding.items.kept k ≡ Some i → (t : Turn) → turn_of true (Some i) x ≡ t → flying (take_item t k x) + (take_item t k x).room ≤ flying x + x.room
+  by_turn i there Send e =
       let waiting : waits i.state ≡ true = fast_waits i.state (fast_goes (is_fast i) (nat_le (size_in x i) x.room) 0 0 e) in
       subst (λ (o : Option Item). flying (again_of k o x) + (again_of k o x).room ≤ flying x + x.room) (sym there) (sent_again_lem k x i there waiting (turn_fits true x i e))
-  by-turn i there PassOver e =
+  by_turn i there PassOver e =
       let m = x.outstanding.items.is_interleaved in
       let same : sum_by (packet_part m) (change_at k miss_fast x.outstanding.items.kept) ≡ sum_by (packet_part m) x.outstanding.items.kept =
       sum_same (packet_part m) miss_fast (λ j. ap (λ b. when b (size_in x j)) (slowed_in_flight j.state)) k x.outstanding.items.kept in
       omega (arith, same)
-  by-turn i there Leave e = omega arith
+  by_turn i there Leave e = omega arith
 
-  at-item : (o : Option Item) → slice_get x.outstanding.items.kept k ≡ o → flying (take_item (turn_of true o x) k x) + (take_item (turn_of true o x) k x).room ≤ flying x + x.room
-  at-item None e = omega arith
-  at-item (Some i) e = by-turn i e (turn_of true (Some i) x) refl
+  at_item : (o : Option Item) → slice_get x.outstanding.items.kept k ≡ o → flying (take_item (turn_of true o x) k x) + (take_item (turn_of true o x) k x).room ≤ flying x + x.room
+  at_item None e = omega arith
+  at_item (Some i) e = by_turn i e (turn_of true (Some i) x) refl
 
 pub fast_room : (n : ℕ) (x : Resent) → flying (resent_below true n x) + (resent_below true n x).room ≤ flying x + x.room
 fast_room zero x = omega arith

@@ -68,11 +68,11 @@ module _ (first : ℕ) (f : ℕ → Bool) where
       as_from (first + k) (omega arith) ∙ ap (λ m. f m) e
 
   pub as_never : ((k : ℕ) → f k ≡ false) → (n : ℕ) → by_number first f n ≡ false
-  as_never none n = ap (λ b. nat_le first n && b) (none (n - first)) ∙ never-and (nat_le first n)
+  as_never none n = ap (λ b. nat_le first n && b) (none (n - first)) ∙ never_and (nat_le first n)
     where
-      never-and : (b : Bool) → (b && false) ≡ false
-      never-and true = refl
-      never-and false = refl
+      never_and : (b : Bool) → (b && false) ≡ false
+      never_and true = refl
+      never_and false = refl
 
   -- behind the first one
   pub as_next : (n : ℕ) → first < n → by_number (first + 1) (λ k. f (suc k)) n ≡ by_number first f n
@@ -213,9 +213,9 @@ passed_not numbers first next i is e w listed = passed numbers numbers first nex
     already false v h = refl
 
     same : (n : ℕ) → is_listed numbers n ≡ cond (n == first) false (is_listed numbers n)
-    same n = already (n == first) (is_listed numbers n) (λ t. listed n ∙ ap (λ j. waits_as first j (i ∷ is)) (at-end n t) ∙ (as_at first (λ k. waits_at k (i ∷ is)) 0 ∙ w)) where
-      at-end : (n : ℕ) → (n == first) ≡ true → n ≡ first + 0
-      at-end n t = omega (arith, equal first n t)
+    same n = already (n == first) (is_listed numbers n) (λ t. listed n ∙ ap (λ j. waits_as first j (i ∷ is)) (at_end n t) ∙ (as_at first (λ k. waits_at k (i ∷ is)) 0 ∙ w)) where
+      at_end : (n : ℕ) → (n == first) ≡ true → n ≡ first + 0
+      at_end n t = omega (arith, equal first n t)
 
 -- ---- none waits
 
