@@ -21,6 +21,7 @@ pub fn check_value(typ: u8, flags: u8, value: &[u8]) -> Result<(), ChunkParseErr
     ensures refused { IfErr result (RefusesChunk (record { first = typ; second = flags; value = value.now })) }
     ensures never_memory { IfErr result (λ fault. fault ≢ ChunkParseError.Memory) }
 {
+    // (one byte, as its type says)
     let _ = flags;
     check_shape(typ, value)
 }

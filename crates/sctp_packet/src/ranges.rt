@@ -19,6 +19,7 @@ use sctp_control_chunk::{Chunk, InitAckChunk, InitChunk};
 use sctp_error_cause::{ErrorCause, cause_fits};
 use sctp_parameter::{Parameter, parameter_fits};
 use sctp_serial::{StreamKey, Tsn};
+use sctp_wire::{id_fits, number_fits};
 
 /// The numbers of a chunk that can be written fit their fields. So it is read back, as `read_back` says, where each item's type
 /// is one of its variant and a COOKIE ECHO has a cookie.
@@ -204,16 +205,4 @@ fn causes_fit(causes: &[ErrorCause])
     for cause in causes {
         cause_fits(cause);
     }
-}
-
-fn number_fits(number: u32)
-    ensures { number < 2 ^ 32 }
-{
-    let _ = number;
-}
-
-fn id_fits(id: u16)
-    ensures { id < 2 ^ 16 }
-{
-    let _ = id;
 }

@@ -71,6 +71,7 @@ impl InterleavedReassemblyStreams {
         ensures kept { Extends ready.old ready.new }
         ensures bytes { held_bytes self.new + ready_bytes ready.new ≤ held_bytes self.old + ready_bytes ready.old }
     {
+        // (what a stream keeps is known once a field is read)
         let _fields = &self.ordered;
         match key {
             StreamKey::Unordered(id) => {
@@ -128,6 +129,7 @@ impl ReassemblyStreams for InterleavedReassemblyStreams {
 
     #[tactic(auto, using(crate::proofs::ExtendsLemmas::extends_none))]
     fn skip(&mut self, entry: SkippedStream, ready: &mut ReadyMessages) -> Result<(), AllocError> {
+        // (what a stream keeps is known once a field is read)
         let _fields = &self.ordered;
         match entry {
             SkippedStream::ForwardTsn(_, _) => Ok(()),
@@ -136,6 +138,7 @@ impl ReassemblyStreams for InterleavedReassemblyStreams {
     }
 
     fn drop_to(&mut self, _tsn: u64) {
+        // (what a stream keeps is known once a field is read)
         let _fields = &self.ordered;
     }
 

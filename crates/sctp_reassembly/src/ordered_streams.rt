@@ -236,6 +236,7 @@ fn remove_each<K: ReassemblyKey>(
     ensures streams { streams.new.entries ≡ filter (λ e. not (list_any (λ i. i.0 == e.0) ids.now)) streams.old.entries }
     ensures bytes { bytes.new ≡ ordered_bytes streams.new.entries }
 {
+    // (what a map keeps is known once it is read)
     let _count = streams.len();
     for id in ids {
         if let Some(stream) = streams.remove(&id.0) {
@@ -265,6 +266,7 @@ fn records<K: ReassemblyKey>(
     ensures value { IfOk result (λ records. records.items ≡ ordered_records is_interleaved streams.now.entries) }
     ensures rises { IfOk result (λ records. rises_from 0 (ordered_ids records.items) ≡ true) }
 {
+    // (what a map keeps is known once it is read)
     let _count = streams.len();
     let mut records = Vec::new(alloc);
     for (id, stream) in streams {

@@ -280,6 +280,7 @@ impl ReassemblyQueue {
         ensures counted { IsCounted self.old self.new }
         ensures bytes { queued_bytes self.new ≤ queued_bytes self.old + length fragment.payload.items }
     {
+        // (what a queue keeps is known once a field is read)
         let _fields = &self.ready_count;
         let number = self.number_of(tsn);
         if number >= LIMIT {
@@ -308,6 +309,7 @@ impl ReassemblyQueue {
         ensures counted { IsCounted self.old self.new }
         ensures bytes { queued_bytes self.new ≤ queued_bytes self.old }
     {
+        // (what a queue keeps is known once a field is read)
         let _fields = &self.ready_count;
         let number = self.number_of(tsn);
         if number >= LIMIT {
@@ -364,6 +366,7 @@ impl ReassemblyQueue {
         ensures counted { IsCounted self.old self.new }
         ensures bytes { queued_bytes self.new ≤ queued_bytes self.old + sum_by waiting_bytes deferred.waiting }
     {
+        // (what a queue keeps is known once a field is read)
         let _fields = &self.ready_count;
         while let Some(waiting) = deferred.pop() {
             self.apply(waiting)?;

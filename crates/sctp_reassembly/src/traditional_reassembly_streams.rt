@@ -87,6 +87,7 @@ impl ReassemblyStreams for TraditionalReassemblyStreams {
 
     #[tactic(auto, using(crate::proofs::ExtendsLemmas::extends_none))]
     fn skip(&mut self, entry: SkippedStream, ready: &mut ReadyMessages) -> Result<(), AllocError> {
+        // (what a stream keeps is known once a field is read)
         let _fields = &self.ordered;
         let SkippedStream::ForwardTsn(id, ssn) = entry else {
             return Ok(());

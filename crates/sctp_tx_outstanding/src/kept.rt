@@ -272,6 +272,7 @@ fn change_one(
     ensures waiting { Lists waiting.new items.new.items }
     ensures expiries { Expects expiries.new items.new.items }
 {
+    // (read for its bound)
     let _count = items.len();
     let (old, new) = change_item(items, is_interleaved, place, change);
     *totals = totals.exchanged(old, new);
@@ -308,6 +309,7 @@ fn push_item(
     items.push_back(item)?;
     waiting.follow(place, size, false, waits);
     expiries.renew(place, u128::MAX, part.earliest);
+    // (read for its bound)
     let _count = items.len();
     *totals = totals.exchanged(Totals::nothing(), part);
     Ok(())
@@ -346,6 +348,7 @@ fn pop_item(
     waiting.pass(item.should_be_retransmitted());
     let part = Totals::of(&item, is_interleaved);
     expiries.leave(part.earliest);
+    // (read for its bound)
     let _count = items.len();
     *totals = totals.exchanged(part, Totals::nothing());
     Some(item)

@@ -103,6 +103,7 @@ fn first_turn(finish_times: &BTreeMap<u16, u128>, turns: &BTreeSet<(u128, u16)>)
     ensures none { IfNone result (finish_times.now.entries ≡ []) }
     ensures ordered { IsOrdered nat_cmp finish_times.now }
 {
+    // (what a map keeps is known once it is read)
     let _count = finish_times.len();
     match turns.first() {
         Some(turn) => Some(turn.1),
