@@ -56,8 +56,6 @@ unfolding cookie_bytes
 same_bytes k =
     rw (be32_wraps k.peer_tag, be32_wraps k.my_tag, be32_wraps k.peer_initial_tsn, be32_wraps k.my_initial_tsn, be32_wraps k.a_rwnd, be64_wraps k.tie_tag) refl
 
-}
-
 from_small : (k : Cookie) → CapabilitiesFit k.peer_capabilities → cookie_from (cookie_bytes (small k)) ≡ small k
 unfolding cookie_bytes
 from_small k fits =

@@ -1,12 +1,11 @@
 -- Messages are found by their places.
 use Rattle.std.proofs.Common.{◌≡◌, ◌≢◌, ℕ, ◌+◌, ◌<◌, ◌≤◌, true, cond, inl, inr, Option, Some, None, List, [], ◌∷◌, ◌++◌, refl, sym, ap, ◌∙◌, arith, eqb}
-use Rattle.std.specs.Prelude.{◌&&◌}
-use Rattle.std.proofs.lemmas.Bool.{cases_eq, eq-eqb, ne_eqb, cond-true, cond-false}
+use Rattle.std.specs.Prelude.{nat_le, nat_lt, ◌&&◌}
+use Rattle.std.proofs.lemmas.Bool.{cases_eq, eq-eqb, ne_eqb, cond-true, cond-false, and_parts, leb-true, ltb-true}
 use Rattle.sctp_tx_queue.specs.Queue.{Queued}
 use Rattle.sctp_tx_queue.specs.InOrder.{are_rising}
 use Rattle.proof_tx_refines.specs.Refinement.{find}
 use Rattle.proof_protocol.proofs.CommonLemmas.{none_some}
-use Rattle.sctp_tx_queue.proofs.NumberLemmas.{rises}
 
 pub funext : {A B : Type 0} (f g : A → B) → ((a : A) → f a ≡ g a) → f ≡ g
 funext f g h = λ i a. h a i
@@ -26,6 +25,12 @@ pub record Rises (least most : ℕ) (m : Queued) (rest : List Queued) : Type 0 w
   pub low : least ≤ m.number
   pub high : m.number < most
   pub behind : are_rising (m.number + 1) most rest ≡ true
+
+pub rises : (least most : ℕ) (m : Queued) (rest : List Queued) → are_rising least most (m ∷ rest) ≡ true → Rises least most m rest
+rises least most m rest h =
+    let a = and_parts (nat_le least m.number && nat_lt m.number most) (are_rising (m.number + 1) most rest) h in
+    let b = and_parts (nat_le least m.number) (nat_lt m.number most) a.0 in
+    record { low = leb-true least m.number b.0; high = ltb-true m.number most b.1; behind = a.1 }
 
 pub none_below : (p least most : ℕ) (ms : List Queued) → p < least → are_rising least most ms ≡ true → find p ms ≡ None
 none_below p least most [] l h = refl

@@ -18,11 +18,10 @@ use Rattle.proof_protocol.proofs.SenderRowLemmas.{unsent_dropped}
 use Rattle.proof_protocol.proofs.CommonLemmas.{none_some}
 use Rattle.proof_tx_refines.specs.Refinement.{find, waiting_of, queue_of, IsEntry, AreKept, AreQueued, AreDiscards}
 use Rattle.proof_tx_refines.specs.Led.{recorded_places, Leads}
-use Rattle.proof_tx_refines.proofs.FoundLemmas.{funext, found_at, found_off, found_behind, found_alike, once}
+use Rattle.proof_tx_refines.proofs.FoundLemmas.{funext, found_at, found_off, found_behind, found_alike, once, rises}
 use Rattle.proof_tx_refines.proofs.QueuedLemmas.{Frame, queue_some, queue_given, change, change_discards}
 use Rattle.proof_tx_refines.proofs.ItemsLemmas.{kept_moves}
 use Rattle.proof_tx_refines.proofs.LedLemmas.{leads_none, leads_on}
-use Rattle.sctp_tx_queue.proofs.NumberLemmas.{rises}
 
 pub put_here : {A : Type 0} (f : ℕ → A) (k : ℕ) (v : A) → f k ≡ v → put f k v ≡ f
 put_here f k v e = funext (put f k v) f same

@@ -24,14 +24,14 @@ use Rattle.sctp_tx.specs.Sending.{discard_all}
 use Rattle.proof_tx_refines.specs.Refinement.{find, messages_of, AreDiscards, QueueRefines, SenderRefines}
 use Rattle.proof_tx_refines.specs.Led.{is_sending}
 use Rattle.proof_tx_refines.specs.Pauses.{IsPausedAs, ArePausedAs, AreEach}
-use Rattle.proof_tx_refines.proofs.FoundLemmas.{one_value, found_at, found_off, once}
+use Rattle.proof_tx_refines.proofs.FoundLemmas.{one_value, found_at, found_off, once, rises}
 use Rattle.proof_tx_refines.proofs.ProduceLemmas.{stream_changed, is_other}
 use Rattle.proof_tx_refines.proofs.AcceptLemmas.{written, unwritten}
 use Rattle.proof_tx_refines.proofs.DiscardLemmas as discards
 use Rattle.proof_tx_refines.proofs.DiscardLemmas.{discard_queue, discard_named}
 use Rattle.proof_tx_refines.proofs.ResetLemmas.{off, request_row, commit_row}
 use Rattle.proof_tx_refines.proofs.PausedLemmas.{requesting_may, requesting_keeps, committing_keeps}
-use Rattle.sctp_tx_queue.proofs.NumberLemmas.{rises, lowered}
+use Rattle.sctp_tx_queue.proofs.NumberLemmas.{lowered}
 
 -- ---- a stream later on
 

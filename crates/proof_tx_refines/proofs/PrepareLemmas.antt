@@ -9,7 +9,7 @@ use Rattle.sctp_tx_queue.specs.Queue.{Queued, Queue, Stream, stream}
 use Rattle.sctp_tx_queue.specs.InOrder.{is_waiting, is_begun_or_waiting, are_in_order, are_rising}
 use Rattle.sctp_tx_queue.specs.Resets.{is_partly, prepare_stream, prepare_reset}
 use Rattle.sctp_tx_queue.proofs.InOrderLemmas.{set_bytes_mode, prepared_in_order}
-use Rattle.sctp_tx_queue.proofs.NumberLemmas.{calls_number, rises, lowered}
+use Rattle.sctp_tx_queue.proofs.NumberLemmas.{calls_number, lowered}
 use Rattle.sctp_tx_queue.proofs.RestLemmas.{calls_leave_rests}
 use Rattle.sctp_tx_outstanding.specs.Items.{Items}
 use Rattle.proof_protocol.specs.State.{Message, Transfer, put}
@@ -18,7 +18,7 @@ use Rattle.proof_protocol.specs.Invariant.{Invariant}
 use Rattle.proof_protocol.proofs.ToolsLemmas.{put_at, put_off, not_both}
 use Rattle.proof_tx_refines.specs.Refinement.{find, messages_of, AreKept, AreQueued, AreDiscards, IsNext, SenderRefines}
 use Rattle.proof_tx_refines.specs.Pauses.{unsent_of, give_ups, Prepares}
-use Rattle.proof_tx_refines.proofs.FoundLemmas.{funext, found_off, once}
+use Rattle.proof_tx_refines.proofs.FoundLemmas.{funext, found_off, once, rises}
 use Rattle.proof_tx_refines.proofs.FreshLemmas.{put_here, put_over, drops}
 use Rattle.proof_tx_refines.proofs.AcceptLemmas.{written, unwritten}
 
