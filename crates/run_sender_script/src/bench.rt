@@ -10,7 +10,7 @@ use sctp_tx_outstanding::{Item, OutstandingData};
 use sctp_tx_queue::SendQueue;
 use std::alloc::Global;
 
-/// What a message of the send queue, and a fragment with its TSN, are until they are made.
+/// What the commands behind a title act on. There is no item until one is made.
 #[derive(Drop)]
 pub struct Bench {
     pub queue: SendQueue,

@@ -14,7 +14,7 @@ struct Head<'a> {
     rest: &'a str,
 }
 
-/// Whether the line was a row, or how to draw those so far.
+/// Whether the line was a row, or said how to draw those so far.
 pub fn answer(rt: &HostRuntime, rows: &mut Vec<Row>, line: &str) -> io::Result<bool> {
     Ok(draw(rt, rows, line)? || add_row(rt.alloc(), rows, line)?)
 }

@@ -1,3 +1,5 @@
+//! Keys of reassembly, through their bound.
+
 ghost use Rattle.std.specs.Prelude.{◌≡◌, ◌<◌};
 ghost use Rattle.sctp_rx.specs.Key.{rank_at};
 

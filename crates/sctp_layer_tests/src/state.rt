@@ -1,3 +1,5 @@
+//! What comparing the types of `sctp_state` means.
+
 use sctp_state::api::laws;
 use sctp_state::{
     CallError, ErrorKind, HandoverReadiness, RestoreError, SctpImplementation, SendError,
