@@ -4,18 +4,18 @@ use Rattle.sctp_parameter.specs.declared.parameters.Parameter.{Parameter}
 use Rattle.sctp_parameter.specs.ParameterViews.{parameter_tree}
 use Rattle.spec_endpoint.specs.StreamReset.{Handling, Handled, is_outgoing, on_parameter, handle_next, handle_all}
 
-pub first_here : (a b : Bool) → b ≡ false → (a && b) ≡ false
-first_here true b e = e
-first_here false b e = refl
+pub and_of_second : (a b : Bool) → b ≡ false → (a && b) ≡ false
+and_of_second true b e = e
+and_of_second false b e = refl
 
-pub none_here : (a b : Bool) → a ≡ false → (a && b) ≡ false
-none_here a b e = ap (λ (x : Bool). x && b) e
+pub and_of_first : (a b : Bool) → a ≡ false → (a && b) ≡ false
+and_of_first a b e = ap (λ (x : Bool). x && b) e
 
-pub one_now : (a b c : Bool) → a ≡ true → c ≡ true → c ≡ (a || b)
-one_now a b c e f = f ∙ sym (ap (λ (x : Bool). x || b) e)
+pub or_of_first : (a b c : Bool) → a ≡ true → c ≡ true → c ≡ (a || b)
+or_of_first a b c e f = f ∙ sym (ap (λ (x : Bool). x || b) e)
 
-pub as_before : (a b c : Bool) → a ≡ false → c ≡ b → c ≡ (a || b)
-as_before a b c e f = f ∙ sym (ap (λ (x : Bool). x || b) e)
+pub or_of_second : (a b c : Bool) → a ≡ false → c ≡ b → c ≡ (a || b)
+or_of_second a b c e f = f ∙ sym (ap (λ (x : Bool). x || b) e)
 
 pub handled_next : {P : Type 0} (p : Parameter) (before rest : List Parameter) (is has next : Bool) (x y : Handling P) (whole : Handled P) → before ≡ p ∷ rest
     → is ≡ is_outgoing (parameter_tree p) → (is && has) ≡ false → next ≡ (is || has) → y ≡ on_parameter (parameter_tree p) x

@@ -30,7 +30,7 @@ use std::time::Duration;
 
 /// What a message takes with its first fragment, counted without wrapping: its number among the ordered messages of its
 /// stream, and that among the messages of its stream and kind, which is used with interleaving.
-#[derive(Clone, Copy, Debug, PartialEq, Eq)]
+#[derive(Clone, Copy)]
 pub struct MessageNumbers {
     pub ssn: u64,
     pub mid: u64,

@@ -26,7 +26,7 @@ use std::collections::VecDeque;
 use std::marker::Model;
 
 /// Whether a stream sends, or waits for a reset (RFC 6525).
-#[derive(Clone, Copy, Debug, PartialEq, Eq)]
+#[derive(Clone, Copy)]
 pub enum PauseState {
     /// It sends.
     NotPaused,
@@ -39,7 +39,7 @@ pub enum PauseState {
 }
 
 /// What happens to a stream that can be reset.
-#[derive(Clone, Copy, Debug, PartialEq, Eq)]
+#[derive(Clone, Copy)]
 pub enum ResetStep {
     /// It goes into a request.
     Requested,
