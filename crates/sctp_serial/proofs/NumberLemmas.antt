@@ -1,5 +1,5 @@
 -- Tests on numbers, on keys of maps and on choices, as all layers ask them.
-use Rattle.std.proofs.Common.{◌≡◌, ◌≢◌, ⊥, ℕ, ◌<◌, ◌^◌, Bool, true, false, cond, ◌&&◌, Option, Some, None, refl, ap, arith, Less, Equal, Greater}
+use Rattle.std.proofs.Common.{◌≡◌, ◌≢◌, ℕ, ◌<◌, ◌^◌, Bool, true, false, cond, ◌&&◌, Option, Some, None, refl, ap, arith, Less, Equal, Greater}
 use Rattle.std.specs.Prelude.{nat_lt, ◌==◌, ◌||◌, is_some}
 use Rattle.std.specs.Ordering.{nat_cmp}
 use Rattle.std.specs.BTreeMap.{is_at}
