@@ -1,6 +1,6 @@
 //! Packets that are cut short, or have other lengths: what the reading of each gives.
 
-use crate::numbers::{half, number, numbers_of};
+use crate::numbers::{bytes_of, half, number, numbers_of};
 use crate::readings::{Look, Runs};
 use std::alloc::{AllocError, Global};
 use std::io;
@@ -32,7 +32,7 @@ pub fn answer(rt: &HostRuntime, name: &str, rest: &str) -> io::Result<bool> {
 }
 
 fn answer_lengths(rt: &HostRuntime, digits: &str, words: &str) -> io::Result<bool> {
-    let Ok(packet) = hex::decode(rt.alloc(), digits) else {
+    let Some(packet) = bytes_of(rt.alloc(), digits)? else {
         return Ok(false);
     };
     match numbers_of(rt.alloc(), words)? {

@@ -46,7 +46,7 @@ mod sacks;
 mod show;
 mod vectors;
 
-use numbers::number;
+use numbers::{bytes_of, number};
 use sctp_packet::SctpPacketBuilder;
 use sctp_trace::Row;
 use sctp_wire::Policy;
@@ -83,9 +83,9 @@ fn answer_hex(
     name: &str,
     digits: &str,
 ) -> io::Result<bool> {
-    match hex::decode(rt.alloc(), digits) {
-        Ok(bytes) => answer_bytes(rt, builder, name, &bytes),
-        Err(_) => Ok(false),
+    match bytes_of(rt.alloc(), digits)? {
+        Some(bytes) => answer_bytes(rt, builder, name, &bytes),
+        None => Ok(false),
     }
 }
 

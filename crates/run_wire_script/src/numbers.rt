@@ -4,6 +4,7 @@ ghost use Rattle.std.specs.Prelude.{◌<◌, ◌^◌};
 
 use crate::packets;
 use crate::show::Hex;
+use hex::FromHexError;
 use sctp_error_cause::NoUserDataErrorCause;
 use sctp_packet::write_chunk_header;
 use sctp_parameter::{
@@ -18,6 +19,15 @@ use sctp_wire::{
 };
 use std::alloc::{AllocError, Global};
 use std::io;
+
+/// The bytes of hex digits, `None` where they are none.
+pub fn bytes_of(alloc: Global, digits: &str) -> Result<Option<Vec<u8>>, AllocError> {
+    match hex::decode(alloc, digits) {
+        Ok(bytes) => Ok(Some(bytes)),
+        Err(FromHexError::OutOfMemory) => Err(AllocError),
+        Err(_) => Ok(None),
+    }
+}
 
 /// Numbers of 32 bits, `None` where a word is none.
 pub fn numbers_of(alloc: Global, text: &str) -> Result<Option<Vec<u32>>, AllocError> {

@@ -1,6 +1,7 @@
 //! A conversation as rows, drawn.
 
-use hex::FromHexError;
+use crate::numbers::bytes_of;
+use crate::show::Hex;
 use sctp_trace::{CaptureError, End, Row, What, capture, chart, ladder, packet_label};
 use std::alloc::{AllocError, Global};
 use std::io::{self, Write};
@@ -41,15 +42,9 @@ fn drawing(alloc: Global, rows: &[Row], format: &str) -> Result<Option<Vec<u8>>,
 
 fn capture_digits(alloc: Global, rows: &[Row]) -> Result<Vec<u8>, CaptureError> {
     let bytes = capture(alloc, rows)?;
-    let digits = digits(alloc, &bytes);
+    let digits = format!(in alloc; "{}\n", Hex(&bytes));
     drop(bytes);
-    Ok(digits?)
-}
-
-fn digits(alloc: Global, bytes: &[u8]) -> Result<Vec<u8>, AllocError> {
-    let mut digits = hex::encode(alloc, bytes)?;
-    digits.push('\n')?;
-    Ok(digits.into_bytes())
+    Ok(digits?.into_bytes())
 }
 
 fn add_row(alloc: Global, rows: &mut Vec<Row>, line: &str) -> Result<bool, AllocError> {
@@ -112,10 +107,9 @@ fn sent_of(alloc: Global, rest: &str) -> Result<Option<What>, AllocError> {
     let Ok(number) = number.parse::<usize>() else {
         return Ok(None);
     };
-    match hex::decode(alloc, digits) {
-        Ok(bytes) => sent(alloc, number, bytes),
-        Err(FromHexError::OutOfMemory) => Err(AllocError),
-        Err(_) => Ok(None),
+    match bytes_of(alloc, digits)? {
+        Some(bytes) => sent(alloc, number, bytes),
+        None => Ok(None),
     }
 }
 
