@@ -19,7 +19,7 @@ use Rattle.proof_endpoint.specs.Mapped.{Carried, Mapping, map_emitted}
 use Rattle.proof_endpoint.proofs.EmittedMapsLemmas.{map_fragments, maps_fragments_sent}
 use Rattle.proof_endpoint.proofs.ReceivedLemmas.{each_push}
 use Rattle.proof_draws.proofs.FilledItemsLemmas.{IsFilled, AreFilled, expired_filled, receive_filled, HasPayload, ResentIsFilled, resend_filled}
-use Rattle.sctp_serial.proofs.NumberLemmas.{not_zero, second_some}
+use Rattle.sctp_serial.proofs.NumberLemmas.{not_zero, positive_of_both}
 
 abbrev pub SenderIsFilled : Sender → Type 0
 SenderIsFilled s = AreFilled s.outstanding.items
@@ -89,7 +89,7 @@ turned_if_filled false now x some h = h
 turned_filled : (now : ℕ) (x : Filling (List ℕ)) → FillingIsFilled x → FillingIsFilled (next_turn now x).filling
 turned_filled now x h =
     let n : ℕ = offered_payload x.left x.sender in
-    turned_if_filled (may_send_new x.sender && nat_lt 0 n) now x (second_some (may_send_new x.sender) n) h
+    turned_if_filled (may_send_new x.sender && nat_lt 0 n) now x (positive_of_both (may_send_new x.sender) n) h
 
 filled_if : (b : Bool) (x y : Filling (List ℕ)) → FillingIsFilled x → FillingIsFilled y → FillingIsFilled (cond b x y)
 filled_if true x y h k = h

@@ -23,7 +23,7 @@ use Rattle.sctp_tx_queue.specs.Handover.{queued_message, messages_of, outgoing_s
 use Rattle.sctp_tx_queue.specs.InOrder.{is_waiting, is_begun_or_waiting, are_in_order, is_first_begun, is_this, has_rest}
 use Rattle.sctp_tx_queue.proofs.AgainLemmas.{AreAbove, are_above}
 use Rattle.proof_endpoint.specs.HandoverRoundTrip.{one_if, numbered_count, numbered_in, message_bytes, queue_bytes, item_bytes}
-use Rattle.sctp_serial.proofs.NumberLemmas.{at_itself, greater_differs, zero_is_least}
+use Rattle.sctp_serial.proofs.NumberLemmas.{at_itself, greater_differs, zero_not_positive}
 
 -- ---- ids that ascend
 
@@ -216,7 +216,7 @@ partly_append k (x ∷ xs) ys p q = go ((x.stream_id == k) && is_partly_sent x) 
     go false e ih = ih e
 
 waiting_unsent : (m : Queued) → is_waiting m ≡ true → nat_lt 0 m.offset ≡ false
-waiting_unsent m h = zero_is_least m.offset (and_parts (not (is_some m.numbers)) (m.offset == 0) h).1
+waiting_unsent m h = zero_not_positive m.offset (and_parts (not (is_some m.numbers)) (m.offset == 0) h).1
 
 waiting_none : (now id k : ℕ) (ms : List Queued) → list_all is_waiting ms ≡ true → has_partly_sent k (map (queued_message now id) ms) ≡ false
 waiting_none now id k [] h = refl
@@ -282,7 +282,7 @@ front_count b true n h e = go (nat_lt 0 n)
     go : (c : Bool) → part c ≤ one_if b
     go true = omega (arith, ap one_if e)
     go false = omega arith
-front_count b false n h e = omega (arith, ap part (zero_is_least n h))
+front_count b false n h e = omega (arith, ap part (zero_not_positive n h))
 
 order_count : (now id : ℕ) (b : Bool) (ms : List Queued) → are_in_order ms ≡ true → is_first_begun ms ≡ b → partly_sent_count (map (queued_message now id) ms) ≤ one_if b
 order_count now id b [] h e = omega arith

@@ -25,7 +25,7 @@ use Rattle.sctp_tx.specs.Resent.{may_send_new, resent}
 use Rattle.sctp_tx_outstanding.specs.Resending.{Resent}
 use Rattle.proof_endpoint.specs.HandoverRoundTrip.{IsNumberedOnce, CallsNumberOnce}
 use Rattle.proof_pair.proofs.StayLemmas.{Stays, stays_same, stays_then, stays_resent, stays_timed}
-use Rattle.sctp_serial.proofs.NumberLemmas.{second_some, is_less, is_greater, nat_cmp_less}
+use Rattle.sctp_serial.proofs.NumberLemmas.{is_less, is_greater, nat_cmp_less, positive_of_both}
 
 -- ---- ids stay sorted
 
@@ -234,7 +234,7 @@ module _ (once : CallsNumberOnce) where
   fills_turned : (now : ℕ) (x : Filling (List ℕ)) → Fills x (next_turn now x).filling
   fills_turned now x =
       let n : ℕ = offered_payload x.left x.sender in
-      fills_turned_if (may_send_new x.sender && nat_lt 0 n) now x (second_some (may_send_new x.sender) n)
+      fills_turned_if (may_send_new x.sender && nat_lt 0 n) now x (positive_of_both (may_send_new x.sender) n)
 
   fills_fill : (trace now : ℕ) (x : Filling (List ℕ)) → Fills x (fill trace now x)
   fills_fill zero now x = fills_same x

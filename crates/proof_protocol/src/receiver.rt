@@ -4,7 +4,7 @@
 //! that they may happen, that the invariant is kept, that the queue refines the state they lead to, that nothing is left
 //! to make ready, and that nothing of the sender or of the packets changes.
 
-ghost use Rattle.std.specs.Prelude.{◌≡◌, ◌<◌, Bool, List, [], ◌∷◌, map, true, false, ℕ};
+ghost use Rattle.std.specs.Prelude.{◌≡◌, ◌<◌, Bool, List, [], map, true, false, ℕ};
 ghost use Rattle.proof_protocol.specs.Joints.{LeadsTo, Refines};
 ghost use Rattle.proof_protocol.specs.Invariant.{Invariant};
 ghost use Rattle.proof_protocol.specs.Lifted.{AreEntriesOfCurrentEpoch, IsOfCurrentEpoch, IsRebased, lift, wire_chunk, wire_key, wire_point};

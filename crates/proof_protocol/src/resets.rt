@@ -2,7 +2,7 @@
 //! the stream's last reset.
 
 ghost use Rattle.std.specs.Prelude.{◌≡◌, ◌+◌, ◌<◌, ◌≤◌, Bool, List, false, suc, true, ℕ};
-ghost use Rattle.proof_protocol.specs.Based.{Based, Bracketed, EntriesAreOfCurrentEpoch, EpochWindows, InEpochs, NamedIsOfCurrentEpoch, NothingWaits, UnseenIsOfCurrentEpoch, base_at};
+ghost use Rattle.proof_protocol.specs.Based.{Bracketed, EntriesAreOfCurrentEpoch, EpochWindows, InEpochs, NamedIsOfCurrentEpoch, NothingWaits, UnseenIsOfCurrentEpoch, base_at};
 ghost use Rattle.proof_protocol.specs.Claims.{Claims};
 ghost use Rattle.proof_protocol.specs.Invariant.{IsDone, Invariant};
 ghost use Rattle.proof_protocol.specs.Lifted.{IsOfCurrentEpoch};

@@ -1,6 +1,6 @@
 //! One run of each machine, so that no law is empty. The expected values were worked out by hand.
 
-ghost use Rattle.std.specs.Prelude.{◌≡◌, List, [], ◌∷◌, false, true, ℕ};
+ghost use Rattle.std.specs.Prelude.{◌≡◌, [], ◌∷◌, false, true};
 ghost use Rattle.proof_protocol.specs.Resets.{MayAll, first_epoch, go_all};
 ghost use Rattle.proof_protocol.specs.Rules.{Happens, after, forward_comes, run};
 ghost use Rattle.proof_protocol.specs.Runs.{alike, loose, loose_run, plain_run, reset_run, three, upto_three, woven, woven_run};

@@ -1,6 +1,6 @@
 //! One run with each kind of chunk, so that no premise is empty. The expected values were worked out by hand.
 
-ghost use Rattle.std.specs.Prelude.{◌≡◌, ◌+◌, [], ◌∷◌, false, true, ℕ};
+ghost use Rattle.std.specs.Prelude.{◌≡◌, ◌+◌, [], ◌∷◌, false, true};
 ghost use Rattle.sctp_serial.specs.Unwrapped.{origin, wire, words};
 ghost use Rattle.proof_protocol.specs.Runs.{over_two, three, woven};
 ghost use Rattle.proof_protocol.specs.Windows.{Windows};

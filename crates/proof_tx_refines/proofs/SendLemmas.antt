@@ -32,7 +32,7 @@ use Rattle.proof_tx_refines.proofs.LedLemmas.{leads_none, led_on, led_none}
 use Rattle.proof_tx_refines.proofs.LossLemmas.{kept_at}
 use Rattle.proof_tx_refines.proofs.TurnLemmas.{produces}
 use Rattle.proof_tx_refines.proofs.DiscardLemmas.{discards_all}
-use Rattle.sctp_serial.proofs.NumberLemmas.{second_some}
+use Rattle.sctp_serial.proofs.NumberLemmas.{positive_of_both}
 
 -- ---- what was carried once may come at any later time
 
@@ -249,7 +249,7 @@ module _ {P : Type 0} (message : ℕ → Message) (lifecycle : ℕ → Option �
   turn_fills f a = go (may_send_new f.sender && nat_lt 0 (offered_payload f.left f.sender)) refl
     where
       go : (b : Bool) → (may_send_new f.sender && nat_lt 0 (offered_payload f.left f.sender)) ≡ b → Filled (turned_if b now f).filling
-      go true e = made_carries f (offered_payload f.left f.sender) (second_some (may_send_new f.sender) (offered_payload f.left f.sender) e) a
+      go true e = made_carries f (offered_payload f.left f.sender) (positive_of_both (may_send_new f.sender) (offered_payload f.left f.sender) e) a
       go false e = a
 
   pub fills : (n : ℕ) (f : Filling P) → Filled f → Filled (fill n now f)

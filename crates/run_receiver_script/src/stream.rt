@@ -1,6 +1,6 @@
 //! One stream on its own.
 
-ghost use Rattle.std.specs.Prelude.{◌≡◌, ◌+◌, ◌<◌, ◌^◌, IsTrue};
+ghost use Rattle.std.specs.Prelude.{◌+◌, ◌<◌, ◌^◌, IsTrue};
 ghost use Rattle.sctp_rx.specs.Delivery.{ready_bytes};
 
 use crate::output::Output;

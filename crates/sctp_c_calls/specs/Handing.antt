@@ -1,5 +1,5 @@
 -- A socket's record is handed out, and taken up by another one.
-use Rattle.std.specs.Prelude.{◌≡◌, ◌==◌, ◌<◌, ℕ, Option, Some, None, List, [], ◌∷◌, length, option_map, take}
+use Rattle.std.specs.Prelude.{◌≡◌, ◌==◌, ℕ, Option, Some, None, List, [], ◌∷◌, length, option_map, take}
 use Rattle.rand_core.specs.Stream.{Stream}
 use Rattle.sctp_association.specs.Socket.{Ends, SocketValue, endpoint}
 use Rattle.sctp_c_events.specs.Answers.{IsAmong, OnAnswer, OnSettled, by_test, ending_at, restore_number}

@@ -1,6 +1,6 @@
 //! What a socket is made with, as C has it.
 
-ghost use Rattle.std.specs.Prelude.{◌≡◌, ◌<◌, ◌^◌, ◌↔◌, IsTrue, option_map};
+ghost use Rattle.std.specs.Prelude.{◌≡◌, ◌<◌, ◌↔◌, IsTrue, option_map};
 ghost use Rattle.std.specs.Duration.{as_nanos};
 ghost use Rattle.sctp_state.specs.Options.{defaults, options_of};
 ghost use Rattle.sctp_c_records.specs.Records.{given_checksum, given_options, has_flag, limit_at, span_at};

@@ -1,6 +1,5 @@
 -- Cookies: what is written is read back, and each reading is the only one.
-use Rattle.std.proofs.Common.{◌≡◌, ◌≢◌, ℕ, ◌+◌, ◌==◌, ◌^◌, ◌<◌, Bool, true, false, Ok, Err, List, [], ◌∷◌, ◌++◌, length, get_or, drop, nat_eq, refl, sym, ap, ◌∙◌, arith}
-use Rattle.std.specs.Int.{w16, w32, w64, from_be_bytes}
+use Rattle.std.proofs.Common.{◌≡◌, ◌≢◌, ℕ, ◌+◌, Bool, true, false, Ok, Err, List, [], ◌∷◌, ◌++◌, length, get_or, drop, nat_eq, refl, sym, ap, ◌∙◌, arith}
 use Rattle.std.specs.List.{starts_with}
 use Rattle.std.proofs.lemmas.Nat.{from_be_bytes-to_be_bytes_2, from_be_bytes-to_be_bytes_4, from_be_bytes-to_be_bytes_8}
 use Rattle.std.proofs.lemmas.Bool.{eq-eqb, ne_eqb}
@@ -8,7 +7,7 @@ use Rattle.sctp_wire.specs.Fields.{be16, be32, be64}
 use Rattle.sctp_wire.specs.Serialize.{IsEncodable}
 use Rattle.sctp_wire.specs.Parameter.{state_cookie, parameter_item, parameter_value}
 use Rattle.sctp_capabilities.specs.Capabilities.{Capabilities}
-use Rattle.sctp_capabilities.specs.Cookie.{Cookie, CapabilitiesFit, CookieFits, SpellsCapabilities, SpellsCookie, magic, flag_byte, is_set, u16_in, u32_in, u64_in, capability_bytes, cookie_bytes, cookie_from, has_tags, read_cookie}
+use Rattle.sctp_capabilities.specs.Cookie.{Cookie, CapabilitiesFit, CookieFits, SpellsCapabilities, SpellsCookie, magic, flag_byte, is_set, capability_bytes, cookie_bytes, cookie_from, has_tags, read_cookie}
 use Rattle.sctp_capabilities.specs.declared.state_cookie.StateCookieError.{StateCookieError}
 use Rattle.sctp_capabilities.specs.declared.state_cookie.StateCookieError.TheVariants.{InvalidSize, InvalidMagic, InvalidVerificationTag}
 
@@ -146,15 +145,6 @@ read_cookie_bytes c fits both =
       fits = fits;
     })
     both
-
--- two cookies with the same bytes are the same
-pub cookie_bytes_same : (c d : Cookie) → CookieFits c → CookieFits d → has_tags c ≡ true → has_tags d ≡ true
-    → cookie_bytes c ≡ cookie_bytes d → c ≡ d
-cookie_bytes_same c d fits_c fits_d tags_c tags_d e =
-    let one = read_cookie_bytes c fits_c tags_c in
-    let other = read_cookie_bytes d fits_d tags_d in
-    let joined : Ok c ≡ Ok d = sym one ∙ ap read_cookie e ∙ other in
-    cc
 
 -- bytes that are refused aren't those of a cookie
 pub not_written : (bytes : List ℕ) (e : StateCookieError) → read_cookie bytes ≡ Err e

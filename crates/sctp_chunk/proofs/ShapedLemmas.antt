@@ -1,6 +1,5 @@
 -- A value that its type allows says a chunk.
-use Rattle.std.proofs.Common.{◌≡◌, ℕ, zero, suc, ◌+◌, ◌*◌, ◌/◌, ◌%◌, ◌-◌, ◌^◌, ◌<◌, ◌≤◌, ◌==◌, Bool, true, false, if◌then◌else◌, cond, List, [], ◌∷◌, ◌++◌, length, take, drop, refl, sym, ap, subst, ◌∙◌, arith}
-use Rattle.std.specs.Prelude.{All}
+use Rattle.std.proofs.Common.{◌≡◌, ℕ, zero, suc, ◌+◌, ◌*◌, ◌/◌, ◌-◌, ◌^◌, ◌<◌, ◌≤◌, Bool, true, false, if◌then◌else◌, List, [], ◌∷◌, ◌++◌, length, take, drop, refl, sym, ap, subst, ◌∙◌, arith}
 use Rattle.std.specs.List.{flat_map, list_all}
 use Rattle.std.proofs.lemmas.List.{append-nil, drop-drop, length-append, length-drop, length-take-le, nil_from_length, take-append-drop}
 use Rattle.std.proofs.lemmas.List.Concat.{flat_map-cons}
@@ -8,9 +7,7 @@ use Rattle.sctp_serial.specs.declared.types.StreamKey.{StreamKey}
 use Rattle.sctp_serial.specs.declared.types.StreamKey.TheVariants as keys
 use Rattle.sctp_serial.specs.declared.types.tsn.Tsn.{Tsn}
 use Rattle.sctp_wire.specs.Fields.{be16, be32, length_be16, length_be32}
-use Rattle.sctp_wire.specs.Item.{Item, ParsesAll}
-use Rattle.sctp_wire.specs.Parameter.{ParameterTree, IsParameter}
-use Rattle.sctp_wire.specs.Cause.{CauseTree, IsCause}
+use Rattle.sctp_wire.specs.Item.{Item}
 use Rattle.sctp_wire.proofs.FieldLemmas.{IsBytes_take, be16_same}
 use Rattle.sctp_wire.proofs.ItemLemmas.{IsBytes}
 use Rattle.sctp_wire.proofs.PresentLemmas.{IsBytes_drop, number16, number32, entries_in, by_type}
@@ -19,7 +16,7 @@ use Rattle.sctp_chunk.specs.declared.forward_tsn.SkippedStream.{SkippedStream}
 use Rattle.sctp_chunk.specs.declared.forward_tsn.SkippedStream.TheVariants as skips
 use Rattle.sctp_chunk.specs.Chunk.{ChunkTree, InitTree, data_chunk, init_chunk, init_ack_chunk, sack_chunk, heartbeat_request_chunk, heartbeat_ack_chunk, abort_chunk, shutdown_chunk, shutdown_ack_chunk, error_chunk, cookie_echo_chunk, cookie_ack_chunk, shutdown_complete_chunk, idata_chunk, re_config_chunk, forward_tsn_chunk, i_forward_tsn_chunk, unknown_chunk}
 use Rattle.sctp_chunk.specs.Written.{is_known_chunk, flag, key_flag, key_stream, data_value, init_fields, block_bytes, length_block_bytes, tsn_bytes, skip_bytes, is_ssn_skip, forward_value}
-use Rattle.sctp_chunk.specs.Grammar.{IsChunk, HasChunkShape, value_shape, IsCounted, SaysInit, FitsInit, SaysSkip, SaysSkips, FitsSkip, FitsBlock, FitsTsn, Each}
+use Rattle.sctp_chunk.specs.Grammar.{IsChunk, HasChunkShape, value_shape, IsCounted, SaysInit, FitsInit, SaysSkips, FitsSkip, FitsBlock, FitsTsn, Each}
 use Rattle.sctp_chunk.proofs.FieldLemmas.{cut_eight}
 use Rattle.sctp_chunk.proofs.FragmentLemmas.{field_read, field_fits, idata_carries, idata_read}
 use Rattle.sctp_chunk.proofs.SackLemmas.{counted_entries, sack_read}

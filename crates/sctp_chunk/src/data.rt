@@ -1,6 +1,6 @@
 //! DATA (RFC 9260 section 3.3.1) and I-DATA (RFC 8260 section 2.1): fragments of messages.
 
-ghost use Rattle.std.specs.Prelude.{◌≡◌, ◌≢◌, ◌⊎◌, ◌<◌, length, OnErr, ℕ, ◌+◌, ◌^◌, ◌-◌, min, true, false, [], ◌∷◌, ◌++◌, IfOk, IfErr, OnOk};
+ghost use Rattle.std.specs.Prelude.{◌≡◌, ◌≢◌, ◌⊎◌, ◌<◌, length, OnErr, ◌+◌, true, false, [], IfOk, IfErr};
 ghost use Rattle.sctp_chunk.specs.Written.{chunk_item, chunk_value, data_value, idata_value, fragment_flags, ppid_or_fsn, flag, key_stream};
 ghost use Rattle.sctp_chunk.specs.Grammar.{IsChunk, RefusesChunkAs};
 ghost use Rattle.sctp_chunk.specs.Views.{raw_chunk, fragment_tree, viewed_fragment, viewed_data, viewed_idata, data_chunk_tree, idata_chunk_tree, is_unordered_key};

@@ -1,6 +1,6 @@
 //! Flags as they are shown.
 
-ghost use Rattle.std.specs.Prelude.{◌≡◌, ◌||◌, if◌then◌else◌, [], Some, codes};
+ghost use Rattle.std.specs.Prelude.{◌≡◌, ◌||◌, Some};
 ghost use Rattle.sctp_chunk.specs.ChunkText.{letter, fragment_flags_text};
 
 use std::fmt;

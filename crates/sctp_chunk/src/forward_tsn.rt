@@ -1,6 +1,6 @@
 //! FORWARD-TSN (RFC 3758 section 3.2) and I-FORWARD-TSN (RFC 8260 section 2.3.1).
 
-ghost use Rattle.std.specs.Prelude.{◌≡◌, ◌≢◌, ◌⊎◌, ℕ, List, ◌+◌, ◌*◌, ◌%◌, ◌^◌, ◌-◌, ◌<◌, ◌≤◌, min, Bool, true, [], ◌∷◌, ◌++◌, length, IfOk, IfErr, OnOk, OnErr};
+ghost use Rattle.std.specs.Prelude.{◌≡◌, ◌≢◌, ◌⊎◌, ℕ, List, ◌+◌, ◌%◌, ◌^◌, ◌-◌, ◌<◌, ◌≤◌, min, true, ◌++◌, length, IfOk, IfErr, OnOk, OnErr};
 ghost use Rattle.std.specs.List.{flat_map, list_all};
 ghost use Rattle.sctp_wire.specs.Room.{Fills};
 ghost use Rattle.sctp_chunk.specs.Written.{chunk_item, chunk_is_whole, skip_bytes, is_ssn_skip, is_mid_skip, key_flag, key_stream, flag};

@@ -1,6 +1,6 @@
 //! SACK (RFC 9260 section 3.3.4).
 
-ghost use Rattle.std.specs.Prelude.{◌≡◌, ◌≢◌, ◌⊎◌, ℕ, ◌+◌, ◌*◌, ◌%◌, ◌^◌, ◌-◌, ◌<◌, min, true, [], ◌∷◌, ◌++◌, length, IfOk, IfErr, OnOk, OnErr};
+ghost use Rattle.std.specs.Prelude.{◌≡◌, ◌+◌, ◌*◌, ◌^◌, ◌-◌, ◌<◌, true, ◌++◌, length, IfOk, IfErr, OnOk, OnErr};
 ghost use Rattle.sctp_chunk.specs.Written.{chunk_item};
 ghost use Rattle.sctp_wire.specs.Fields.{be16, be32};
 ghost use Rattle.sctp_chunk.specs.Grammar.{IsChunk, RefusesChunkAs, IsCounted};

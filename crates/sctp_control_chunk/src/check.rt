@@ -1,6 +1,6 @@
 //! Chunks checked where they lie: nothing is built, and no memory is taken.
 
-ghost use Rattle.std.specs.Prelude.{◌≡◌, ◌≢◌, OnOk, IfErr};
+ghost use Rattle.std.specs.Prelude.{◌≢◌, OnOk, IfErr};
 ghost use Rattle.sctp_chunk.specs.Chunk.{ChunkTree};
 ghost use Rattle.sctp_chunk.specs.Grammar.{IsChunk, RefusesChunk, value_shape, parameters_behind, HasChunkShape, IsFaulty};
 

@@ -1,6 +1,6 @@
 //! A chunk of any kind.
 
-ghost use Rattle.std.specs.Prelude.{◌≡◌, ◌≢◌, ◌+◌, ◌^◌, ◌-◌, min, true, [], ◌∷◌, ◌++◌, IfOk, IfErr, OnOk, Some};
+ghost use Rattle.std.specs.Prelude.{◌≢◌, IfOk, IfErr, OnOk, Some};
 ghost use Rattle.sctp_chunk.specs.Written.{chunk_item, chunk_is_whole};
 ghost use Rattle.sctp_chunk.specs.Chunk.{ChunkTree};
 ghost use Rattle.sctp_chunk.specs.Grammar.{IsChunk, RefusesChunk};

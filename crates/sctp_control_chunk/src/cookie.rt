@@ -1,6 +1,6 @@
 //! COOKIE ECHO and COOKIE ACK (RFC 9260 sections 3.3.11 and 3.3.12).
 
-ghost use Rattle.std.specs.Prelude.{◌≡◌, ◌+◌, ◌^◌, ◌-◌, min, true, [], ◌∷◌, ◌++◌, IfOk, IfErr, OnOk};
+ghost use Rattle.std.specs.Prelude.{true, IfOk, IfErr};
 ghost use Rattle.sctp_chunk.specs.Written.{chunk_item};
 ghost use Rattle.sctp_chunk.specs.Grammar.{IsChunk, RefusesChunkAs};
 ghost use Rattle.sctp_chunk.specs.Views.{raw_chunk};

@@ -1,9 +1,8 @@
 //! ABORT and ERROR (RFC 9260 sections 3.3.7 and 3.3.10).
 
-ghost use Rattle.std.specs.Prelude.{◌≡◌, ◌⊎◌, ◌+◌, ◌^◌, ◌-◌, ◌<◌, ◌≤◌, min, true, [], ◌∷◌, ◌++◌, length, map, drop, IfOk, IfErr, OnOk, OnErr};
-ghost use Rattle.sctp_chunk.specs.Written.{chunk_item, chunk_is_whole};
+ghost use Rattle.std.specs.Prelude.{true, IfOk, IfErr};
+ghost use Rattle.sctp_chunk.specs.Written.{chunk_item};
 ghost use Rattle.sctp_chunk.specs.Grammar.{IsChunk, RefusesChunkAs};
-ghost use Rattle.sctp_chunk.specs.Written.{reflected_flag, flag};
 ghost use Rattle.sctp_chunk.specs.Views.{raw_chunk};
 ghost use Rattle.sctp_control_chunk.specs.Views.{abort_tree, error_tree};
 ghost use Rattle.std.specs.Prelude.{Some};

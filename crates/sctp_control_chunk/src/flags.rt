@@ -1,6 +1,6 @@
 //! The flag T as it is shown.
 
-ghost use Rattle.std.specs.Prelude.{◌≡◌, if◌then◌else◌, [], codes};
+ghost use Rattle.std.specs.Prelude.{◌≡◌};
 ghost use Rattle.sctp_chunk.specs.ChunkText.{reflected_text};
 
 /// The flag T, where it is set.

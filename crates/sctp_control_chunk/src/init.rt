@@ -1,6 +1,6 @@
 //! INIT and INIT ACK (RFC 9260 sections 3.3.2 and 3.3.3).
 
-ghost use Rattle.std.specs.Prelude.{◌≡◌, ◌⊎◌, ◌+◌, ◌^◌, ◌-◌, ◌<◌, ◌≤◌, min, true, [], ◌∷◌, ◌++◌, length, map, drop, IfOk, IfErr, OnOk, OnErr};
+ghost use Rattle.std.specs.Prelude.{◌≡◌, ◌<◌, ◌≤◌, ◌++◌, length, drop, IfOk, IfErr, OnOk, OnErr};
 ghost use Rattle.sctp_wire.specs.Room.{Fills};
 ghost use Rattle.sctp_chunk.specs.Written.{chunk_item, chunk_is_whole};
 ghost use Rattle.sctp_chunk.specs.Grammar.{IsChunk, RefusesChunkAs};

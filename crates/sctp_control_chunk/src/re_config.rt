@@ -1,6 +1,6 @@
 //! RE-CONFIG (RFC 6525 section 3.1).
 
-ghost use Rattle.std.specs.Prelude.{◌≡◌, ◌⊎◌, ◌+◌, ◌^◌, ◌-◌, ◌<◌, ◌≤◌, min, true, [], ◌∷◌, ◌++◌, length, map, drop, IfOk, IfErr, OnOk, OnErr};
+ghost use Rattle.std.specs.Prelude.{IfOk, IfErr};
 ghost use Rattle.sctp_chunk.specs.Written.{chunk_item, chunk_is_whole};
 ghost use Rattle.sctp_chunk.specs.Grammar.{IsChunk, RefusesChunkAs};
 ghost use Rattle.sctp_chunk.specs.Views.{raw_chunk};

@@ -1,8 +1,8 @@
 //! Chunks of no known type.
 
-ghost use Rattle.std.specs.Prelude.{◌≡◌, ◌+◌, ◌^◌, ◌-◌, min, true, [], ◌∷◌, ◌++◌, IfOk, IfErr, OnOk};
+ghost use Rattle.std.specs.Prelude.{◌≡◌, true, IfOk, IfErr};
 ghost use Rattle.sctp_chunk.specs.Written.{chunk_item};
-ghost use Rattle.sctp_chunk.specs.Grammar.{IsChunk, RefusesChunkAs};
+ghost use Rattle.sctp_chunk.specs.Grammar.{IsChunk};
 ghost use Rattle.std.specs.Prelude.{false};
 ghost use Rattle.sctp_chunk.specs.Written.{is_known_chunk};
 ghost use Rattle.sctp_chunk.specs.Views.{raw_chunk};

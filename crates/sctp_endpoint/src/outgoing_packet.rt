@@ -1,6 +1,6 @@
 //! Packets that are put together, chunk by chunk, and written when they go out.
 
-ghost use Rattle.std.specs.Prelude.{◌≡◌, ◌≤◌, ◌<◌, ◌+◌, ◌-◌, ◌^◌, [], length, map, max, nat_le, not, true, All, IfOk, IsTrue, OnOk, OnErr};
+ghost use Rattle.std.specs.Prelude.{◌≡◌, ◌≤◌, ◌<◌, ◌+◌, ◌^◌, [], length, map, max, nat_le, not, true, All, IfOk, IsTrue, OnOk, OnErr};
 ghost use Rattle.sctp_wire.specs.Serialize.{IsEncodable};
 ghost use Rattle.sctp_packet.specs.ChunkView.{chunk_tree};
 ghost use Rattle.sctp_packet.specs.Written.{chunk_bytes, chunk_is_whole, chunk_item, chunks_bytes};

@@ -1,6 +1,6 @@
 //! Error causes, in ABORT and ERROR (RFC 9260 section 3.3.10).
 
-ghost use Rattle.std.specs.Prelude.{◌≡◌, ◌+◌, ◌^◌, ◌-◌, min, true, [], ◌++◌, IfOk, IfErr, Some};
+ghost use Rattle.std.specs.Prelude.{true, IfOk, IfErr, Some};
 ghost use Rattle.sctp_wire.specs.CauseText.{cause_text};
 ghost use Rattle.sctp_wire.specs.Cause.{SaysCause, RefusesCauseAs, cause_item, cause_value};
 ghost use Rattle.sctp_error_cause.specs.CauseViews.{missing_mandatory_parameter_tree, unrecognized_chunk_tree, no_user_data_tree, cookie_received_tree, user_initiated_abort_tree, protocol_violation_tree};

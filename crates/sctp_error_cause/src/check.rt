@@ -1,6 +1,6 @@
 //! Causes checked where they lie: nothing is built, and no memory is taken.
 
-ghost use Rattle.std.specs.Prelude.{◌≡◌, ◌≢◌, OnOk, IfErr};
+ghost use Rattle.std.specs.Prelude.{◌≢◌, OnOk, IfErr};
 ghost use Rattle.sctp_wire.specs.Shape.{HasShape};
 ghost use Rattle.sctp_wire.specs.Cause.{CauseTree, SaysCause, cause_shape, RefusesCauseAs};
 

@@ -1,6 +1,6 @@
 //! The message that an interval is.
 
-ghost use Rattle.std.specs.Prelude.{◌≡◌, ◌+◌, ◌++◌, length, IfOk};
+ghost use Rattle.std.specs.Prelude.{◌≡◌, length, IfOk};
 ghost use Rattle.sctp_serial.specs.Messages.{message_of};
 ghost use Rattle.sctp_fragments.specs.Held.{bytes_of, message_of_run, payload_of};
 ghost use Rattle.sctp_fragments.specs.Intervals.{held_of, run_of};

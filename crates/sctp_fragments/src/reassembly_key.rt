@@ -1,6 +1,6 @@
 //! The keys of fragments.
 
-ghost use Rattle.std.specs.Prelude.{◌≡◌, ◌==◌, ℕ, suc, ◌+◌, ◌*◌, ◌<◌, ◌≤◌, ◌^◌, nat_lt, IsTrue, ◌↔◌};
+ghost use Rattle.std.specs.Prelude.{◌≡◌, ◌==◌, ℕ, suc, ◌+◌, ◌<◌, ◌≤◌, nat_lt, IsTrue, ◌↔◌};
 ghost use Rattle.std.specs.Ordering.{nat_cmp};
 ghost use Rattle.sctp_fragments.specs.Key.{NoneBetween, IsPair, pair_rank, pair_bound, pair_after_number, pair_after_index, rank_at};
 ghost use Rattle.sctp_fragments.specs.KeyLaws.{pair_made, pair_by_rank, pair_number, pair_index, pair_within, pair_follows};

@@ -1,6 +1,5 @@
 //! Messages of the queue, and fragments that are kept.
 
-ghost use Rattle.std.specs.Prelude.{◌≡◌};
 ghost use Rattle.sctp_state.specs.Handover.{OutstandingData, StreamMessage, outstanding_data_of, stream_message_of};
 ghost use Rattle.sctp_handover.specs.Bounds.{DataFits, MessageFits};
 ghost use Rattle.sctp_handover.specs.Bytes.{data_bytes, message_bytes};

@@ -1,6 +1,6 @@
 //! Lists, behind their lengths.
 
-ghost use Rattle.std.specs.Prelude.{◌≡◌, ◌<◌, ℕ, List, ◌++◌, length, map, All, IfOk, OnOk};
+ghost use Rattle.std.specs.Prelude.{◌≡◌, ℕ, List, ◌++◌, length, map, All, IfOk, OnOk};
 ghost use Rattle.std.specs.List.{flat_map};
 ghost use Rattle.sctp_handover.specs.Bounds.{ListFits};
 ghost use Rattle.sctp_handover.specs.Bytes.{list_bytes};

@@ -1,6 +1,6 @@
 //! The whole record.
 
-ghost use Rattle.std.specs.Prelude.{◌≡◌, ◌++◌, ℕ, List, IfErr, IfOk, IsTrue, ◌↔◌, OnOk};
+ghost use Rattle.std.specs.Prelude.{◌≡◌, ◌++◌, IfErr, IfOk, IsTrue, ◌↔◌, OnOk};
 ghost use Rattle.sctp_state.specs.Handover.{HandoverState, handover_state_of};
 ghost use Rattle.sctp_handover.specs.Bounds.{RecordFits};
 ghost use Rattle.sctp_handover.specs.Bytes.{is_connected, record_bytes};

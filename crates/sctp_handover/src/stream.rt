@@ -1,6 +1,5 @@
 //! Streams.
 
-ghost use Rattle.std.specs.Prelude.{◌≡◌};
 ghost use Rattle.sctp_state.specs.declared.api.handover.HandoverOrderedStream.{HandoverOrderedStream};
 ghost use Rattle.sctp_state.specs.declared.api.handover.HandoverOutgoingStream.{HandoverOutgoingStream};
 ghost use Rattle.sctp_state.specs.declared.api.handover.HandoverUnorderedStream.{HandoverUnorderedStream};

@@ -1,6 +1,6 @@
 //! What happens in a world, and what is observed of it.
 
-ghost use Rattle.std.specs.Prelude.{◌≡◌, ◌++◌, ℕ, [], ◌∷◌, map, IfOk, OnOk, Some};
+ghost use Rattle.std.specs.Prelude.{◌≡◌, map, IfOk, Some};
 ghost use Rattle.sctp_serial.specs.Messages.{message_of};
 ghost use Rattle.spec_world.specs.Observations.{end_name};
 ghost use Rattle.sctp_network_side.specs.SideView.{call_tree, end_tree};

@@ -1,8 +1,7 @@
 //! One end of a network, with the packets that it ever sent.
 
-ghost use Rattle.std.specs.Prelude.{◌≡◌, ℕ, Some, None, true, false, List, [], ◌∷◌, ◌++◌, drop, length, map, option_map, slice_get, IfOk, IfErr, OnOk};
+ghost use Rattle.std.specs.Prelude.{◌≡◌, Some, None, true, false, [], ◌∷◌, ◌++◌, drop, length, map, option_map, slice_get, IfOk, IfErr, OnOk};
 ghost use Rattle.sctp_packet.specs.Grammar.{Each};
-ghost use Rattle.sctp_serial.specs.Messages.{message_of};
 ghost use Rattle.sctp_state.specs.Events.{event_of, given_up_of};
 ghost use Rattle.sctp_state.specs.Options.{IsValid, options_of};
 ghost use Rattle.spec_endpoint.specs.Calls.{ready_in};

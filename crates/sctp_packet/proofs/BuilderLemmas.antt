@@ -1,5 +1,5 @@
 -- Packets that are being built.
-use Rattle.std.proofs.Common.{◌≡◌, ◌≢◌, ℕ, ◌+◌, ◌-◌, ◌^◌, min, ◌<◌, ◌≤◌, ◌==◌, Bool, true, false, cond, List, [], ◌∷◌, ◌++◌, length, take, drop, refl, sym, ap, subst, ◌∙◌, append_assoc, arith}
+use Rattle.std.proofs.Common.{◌≡◌, ℕ, ◌+◌, ◌-◌, ◌^◌, min, ◌<◌, ◌≤◌, ◌==◌, Bool, true, false, cond, List, [], ◌∷◌, ◌++◌, length, take, drop, refl, sym, ap, subst, ◌∙◌, append_assoc, arith}
 use Rattle.std.specs.List.{flat_map}
 use Rattle.std.proofs.lemmas.List.{append-nil, length-append, length-take, length-drop, take_at}
 use Rattle.std.proofs.lemmas.List.Concat.{flat_map-cons}
@@ -65,21 +65,6 @@ still_reserved (b ∷ old) limit before after had first more =
     let kept : limit ≤ before = had (omega arith) in
     let grown : before ≤ after = more (omega arith) in
     omega arith
-
--- a chunk that fits has room behind others
-pub has_no_lack : (h : HeaderTree) (limit capacity n size : ℕ) (bytes : List ℕ) → HasPacket h limit bytes → (0 < length bytes → limit ≤ capacity) → n ≡ length bytes → 0 < length bytes
-    → size ≤ limit - (12 + length (drop 12 bytes)) → capacity < n + size → ⊥
-has_no_lack h limit capacity n size bytes has reserved len some room lack =
-    omega (arith, has.more_than_header some, has.fits some, reserved some, length-drop 12 bytes)
-
--- behind a header something was added
-pub some_body : (bytes : List ℕ) → (drop 12 bytes ≢ []) → 0 < length bytes
-some_body [] other = absurd (other refl)
-some_body (b ∷ bytes) other = omega arith
-
-pub no_body : (h : HeaderTree) (limit : ℕ) (bytes : List ℕ) → HasPacket h limit bytes → (0 < length bytes → ⊥) → bytes ≡ []
-no_body h limit [] has none = refl
-no_body h limit (b ∷ bytes) has none = absurd (none (omega arith))
 
 pub chunks_bytes_push : (chunks : List ChunkTree) (t : ChunkTree) → chunks_bytes (chunks ++ t ∷ []) ≡ chunks_bytes chunks ++ chunk_bytes t
 unfolding chunks_bytes

@@ -1,5 +1,5 @@
 -- Packets read in place: what is left of one, and that a view has the answer of the reader.
-use Rattle.std.proofs.Common.{◌≡◌, ◌≢◌, ◌⊎◌, ℕ, ◌+◌, ◌≤◌, List, [], ◌∷◌, length, map, Ok, Err, refl, sym, ap, subst, ◌∙◌, arith}
+use Rattle.std.proofs.Common.{◌≡◌, ◌⊎◌, ℕ, List, [], ◌∷◌, length, Ok, Err, refl, sym, ap, subst, arith}
 use Rattle.std.specs.Prelude.{Result, IfOk, IfErr, MatchResult}
 use Rattle.sctp_wire.specs.Item.{Item, Takes, TakesNone, ParsesAll}
 use Rattle.sctp_wire.specs.declared.checksum.Policy.{Policy}
@@ -7,7 +7,7 @@ use Rattle.sctp_wire.specs.declared.error.ChunkParseError.{ChunkParseError}
 use Rattle.sctp_wire.specs.declared.error.ChunkParseError.TheVariants as chunk_faults
 use Rattle.sctp_wire.proofs.ParsesAllLemmas.{one_item_lem, takes_four, one_tiling}
 use Rattle.sctp_chunk.specs.Chunk.{ChunkTree}
-use Rattle.sctp_chunk.specs.Grammar.{IsChunk, RefusesChunk}
+use Rattle.sctp_chunk.specs.Grammar.{IsChunk}
 use Rattle.sctp_packet.specs.declared.packet.PacketParseError.{PacketParseError}
 use Rattle.sctp_packet.specs.declared.packet.PacketParseError.TheVariants as faults
 use Rattle.sctp_packet.specs.declared.packet.SctpPacket.{SctpPacket}

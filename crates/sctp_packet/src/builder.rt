@@ -1,13 +1,13 @@
 //! Packets written: chunks one after the other behind a common header, up to a limit.
 
-ghost use Rattle.std.specs.Prelude.{◌≡◌, ◌≢◌, ◌⊎◌, ℕ, ◌+◌, ◌-◌, ◌<◌, ◌≤◌, ◌^◌, ◌==◌, ◌&&◌, nat_le, Bool, true, false, if◌then◌else◌, List, [], ◌∷◌, ◌++◌, length, take, drop, IfOk, IsOk, OnOk, OnErr, IsTrue, ◌↔◌, vec_capacity};
-ghost use Rattle.sctp_wire.specs.Fields.{be16, be32};
-ghost use Rattle.sctp_wire.specs.Serialize.{IsEncodable, is_encodable, padded_item};
+ghost use Rattle.std.specs.Prelude.{◌≡◌, ◌≢◌, ◌<◌, ◌≤◌, ◌&&◌, nat_le, true, List, [], ◌∷◌, ◌++◌, length, take, drop, IsOk, OnOk, OnErr, IsTrue, ◌↔◌, vec_capacity};
+ghost use Rattle.sctp_wire.specs.Fields.{be32};
+ghost use Rattle.sctp_wire.specs.Serialize.{IsEncodable, is_encodable};
 ghost use Rattle.sctp_wire.specs.Room.{Fills};
 ghost use Rattle.sctp_chunk.specs.Chunk.{ChunkTree};
 ghost use Rattle.sctp_chunk.specs.Written.{chunk_item, chunk_bytes, chunk_is_whole};
 ghost use Rattle.sctp_control_chunk.specs.ChunkView.{chunk_tree};
-ghost use Rattle.sctp_packet.specs.Packet.{HeaderTree, header_bytes, unsummed_bytes, joined_bytes};
+ghost use Rattle.sctp_packet.specs.Packet.{header_bytes, unsummed_bytes};
 ghost use Rattle.sctp_packet.specs.PacketView.{header_tree};
 ghost use Rattle.sctp_packet.specs.Builder.{BuilderTree, Holds, remaining, so_far, build};
 

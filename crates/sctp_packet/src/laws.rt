@@ -1,6 +1,6 @@
 //! What holds of the definitions: bytes say one thing, what is read is not refused, and what was built is read back.
 
-ghost use Rattle.std.specs.Prelude.{◌≡◌, ◌≢◌, ◌⊎◌, ℕ, ◌<◌, ◌≤◌, ◌^◌, Bool, true, if◌then◌else◌, List, ◌∷◌, length, map, All, Result, IfOk, IfErr, MatchResult, ◌↔◌};
+ghost use Rattle.std.specs.Prelude.{◌≡◌, ◌⊎◌, ℕ, ◌<◌, ◌≤◌, ◌^◌, Bool, true, if◌then◌else◌, List, ◌∷◌, length, map, All, Result, IfOk, IfErr, MatchResult, ◌↔◌};
 ghost use Rattle.sctp_wire.specs.Item.{Item};
 ghost use Rattle.sctp_wire.specs.declared.checksum.Policy.{Policy};
 ghost use Rattle.sctp_packet.specs.declared.packet.PacketParseError.{PacketParseError};

@@ -1,13 +1,7 @@
 //! Packets read: a common header and chunks (RFC 9260 section 3).
 
-ghost use Rattle.std.specs.Prelude.{◌≡◌, ◌≢◌, ◌⊎◌, ℕ, ◌+◌, ◌<◌, ◌≤◌, ◌^◌, true, List, [], ◌++◌, length, drop, map, IfOk, IfErr, OnOk, OnErr, MatchResult};
-ghost use Rattle.sctp_wire.specs.Item.{ParsesAll};
-ghost use Rattle.sctp_wire.specs.Refusal.{FailsToParseAs};
-ghost use Rattle.sctp_wire.specs.declared.error.ChunkParseError.TheVariants.{Memory as no_memory_for_chunk};
-ghost use Rattle.sctp_packet.specs.declared.packet.PacketParseError.TheVariants.{Memory as no_memory, Chunk as chunk_fault};
-ghost use Rattle.sctp_chunk.specs.Grammar.{IsChunk, RefusesChunk};
-ghost use Rattle.sctp_control_chunk.specs.ChunkView.{chunk_tree};
-ghost use Rattle.sctp_packet.specs.Packet.{Accepts, Refuses, FitsHeader, joined_bytes, checksum_field};
+ghost use Rattle.std.specs.Prelude.{◌≡◌, ◌<◌, ◌≤◌, ◌^◌, length, IfOk, IfErr, OnOk, OnErr};
+ghost use Rattle.sctp_packet.specs.Packet.{Accepts, Refuses, FitsHeader, joined_bytes};
 ghost use Rattle.sctp_packet.specs.PacketView.{header_tree, packet_tree};
 ghost use Rattle.sctp_packet.specs.Faults.{IsPacketFault, fault_number};
 

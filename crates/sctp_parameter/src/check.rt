@@ -1,6 +1,6 @@
 //! Parameters checked where they lie: nothing is built, and no memory is taken.
 
-ghost use Rattle.std.specs.Prelude.{◌≡◌, ◌≢◌, OnOk, IfErr};
+ghost use Rattle.std.specs.Prelude.{◌≢◌, OnOk, IfErr};
 ghost use Rattle.sctp_wire.specs.Shape.{HasShape};
 ghost use Rattle.sctp_wire.specs.Parameter.{ParameterTree, SaysParameter, parameter_shape, HasNoResult, RefusesParameterAs};
 

@@ -1,6 +1,6 @@
 //! The parameters of INIT, INIT ACK and HEARTBEAT.
 
-ghost use Rattle.std.specs.Prelude.{◌≡◌, ◌+◌, ◌^◌, ◌-◌, min, true, [], ◌++◌, IfOk, IfErr, Some};
+ghost use Rattle.std.specs.Prelude.{true, IfOk, IfErr, Some};
 ghost use Rattle.sctp_wire.specs.ParameterText.{parameter_text};
 ghost use Rattle.sctp_wire.specs.Parameter.{SaysParameter, RefusesParameterAs, parameter_item, parameter_value};
 ghost use Rattle.sctp_parameter.specs.ParameterViews.{heartbeat_info_tree, state_cookie_tree, supported_extensions_tree, forward_tsn_supported_tree, zero_checksum_acceptable_tree};

@@ -1,6 +1,6 @@
 //! The parameters of a RE-CONFIG: requests to reset streams, and responses (RFC 6525 section 4).
 
-ghost use Rattle.std.specs.Prelude.{◌≡◌, ◌+◌, ◌^◌, ◌-◌, ◌<◌, ◌≤◌, ◌≢◌, ◌⊎◌, length, min, true, [], ◌++◌, is_some, IfSome, IfOk, IfErr, OnOk, OnErr, MatchResult, Some};
+ghost use Rattle.std.specs.Prelude.{◌≡◌, ◌+◌, ◌^◌, ◌<◌, ◌≤◌, ◌≢◌, ◌⊎◌, length, true, ◌++◌, is_some, IfSome, IfOk, IfErr, OnOk, OnErr, MatchResult, Some};
 ghost use Rattle.sctp_wire.specs.ParameterText.{parameter_text};
 ghost use Rattle.sctp_wire.specs.declared.error.ChunkParseError.TheVariants.{InvalidValue as no_value};
 ghost use Rattle.sctp_wire.specs.Parameter.{SaysParameter, RefusesParameterAs, parameter_item, parameter_value, parameter_is_whole, optional_tsn_bytes};

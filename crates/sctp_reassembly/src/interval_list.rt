@@ -1,6 +1,6 @@
 //! Fragments in the order of their keys, in intervals: maximal runs without a message's border inside.
 
-ghost use Rattle.std.specs.Prelude.{◌≡◌, ◌==◌, ℕ, suc, ◌+◌, ◌<◌, ◌≤◌, ◌^◌, ◌&&◌, ◌++◌, ◌∷◌, [], List, Option, Some, None, nat_lt, not, false, true, length, take, drop, is_none, option_map, slice_index_or, IfOk, OnOk, OnErr, IfSome, IfNone, IsTrue};
+ghost use Rattle.std.specs.Prelude.{◌≡◌, ◌==◌, ◌+◌, ◌<◌, ◌≤◌, ◌^◌, ◌&&◌, ◌++◌, ◌∷◌, [], List, Option, Some, None, false, length, take, drop, is_none, option_map, IfOk, OnOk, OnErr, IfSome, IfNone, IsTrue};
 
 use sctp_chunk::Data;
 use sctp_fragments::{Entry, Interval, ReassemblyKey, goes_on_to, is_before};

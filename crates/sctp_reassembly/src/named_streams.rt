@@ -1,6 +1,6 @@
 //! Streams by name, for look-ups.
 
-ghost use Rattle.std.specs.Prelude.{◌≡◌, ◌==◌, length, IfOk};
+ghost use Rattle.std.specs.Prelude.{◌≡◌, ◌==◌, IfOk};
 ghost use Rattle.std.specs.List.{list_any};
 ghost use Rattle.sctp_reassembly.specs.Streams.{is_named, is_part};
 

@@ -1,6 +1,6 @@
 //! The numbers that SSN and MID stand for.
 
-ghost use Rattle.std.specs.Prelude.{◌≡◌, ◌≤◌, ◌<◌, ◌^◌};
+ghost use Rattle.std.specs.Prelude.{◌≡◌, ◌≤◌};
 ghost use Rattle.sctp_serial.specs.Unwrapped.{origin, words, halves, nearest};
 ghost use Rattle.sctp_reassembly.specs.Streams.{number_if_any};
 

@@ -1,6 +1,6 @@
 //! Streams with unordered messages, without interleaving: forward points find their fragments by TSN.
 
-ghost use Rattle.std.specs.Prelude.{◌≡◌, ◌==◌, ◌+◌, ◌<◌, ◌≤◌, ◌^◌, ◌++◌, ℕ, [], true, false, length, map, OnOk, IfOk, IfSome, IfNone};
+ghost use Rattle.std.specs.Prelude.{◌≡◌, ◌+◌, ◌<◌, ◌≤◌, ◌^◌, ◌++◌, ℕ, [], true, false, length, map, OnOk, IfOk, IfSome, IfNone};
 ghost use Rattle.sctp_fragments.specs.Key.{pair_rank};
 ghost use Rattle.sctp_reassembly.specs.Delivery.{fresh_unordered, held_from};
 ghost use Rattle.sctp_reassembly.specs.Notes.{is_noted, HasNote, AreNoted, OthersAreNoted, KeepsOthers, NoneBelow, forward};

@@ -3,9 +3,8 @@
 ghost use Rattle.std.specs.Prelude.{◌≡◌, ◌==◌, ℕ, suc, ◌+◌, ◌<◌, ◌≤◌, ◌^◌, ◌++◌, ◌∷◌, max, length, OnOk, OnErr, IfOk, [], true, false, nat_lt};
 ghost use Rattle.sctp_serial.specs.Unwrapped.{origin};
 ghost use Rattle.sctp_fragments.specs.Held.{bytes_of, rank_of, intervals_of, is_in_turn, message_of_run, NoneInTurn};
-ghost use Rattle.sctp_fragments.specs.Key.{rank_at};
 ghost use Rattle.sctp_fragments.specs.Intervals.{held_at};
-ghost use Rattle.sctp_fragments.specs.Runs.{with_item, from_rank};
+ghost use Rattle.sctp_fragments.specs.Runs.{with_item};
 ghost use Rattle.sctp_reassembly.specs.Delivery.{deliver, ordered_arrival, ready_bytes, Extends};
 
 use crate::interval_list::IntervalList;

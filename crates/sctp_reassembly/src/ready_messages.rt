@@ -1,6 +1,6 @@
 //! Messages that are ready, until they are taken.
 
-ghost use Rattle.std.specs.Prelude.{◌≡◌, ◌==◌, ◌+◌, ◌<◌, ◌^◌, ◌++◌, ◌∷◌, [], length, option_map, OnOk, OnErr, IfOk, IfSome, IfNone, IsSome, ◌↔◌, slice_index_or};
+ghost use Rattle.std.specs.Prelude.{◌≡◌, ◌+◌, ◌<◌, ◌^◌, ◌++◌, ◌∷◌, [], length, option_map, OnOk, OnErr, IfSome, IfNone, IsSome, ◌↔◌, slice_index_or};
 ghost use Rattle.std.specs.Option.{option_to_list};
 ghost use Rattle.sctp_serial.specs.Messages.{message_of};
 

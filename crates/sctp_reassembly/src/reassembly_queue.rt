@@ -1,6 +1,6 @@
 //! Messages put together of their fragments, and taken one after the other.
 
-ghost use Rattle.std.specs.Prelude.{◌≡◌, [], ℕ, ◌+◌, ◌-◌, ◌<◌, ◌≤◌, ◌^◌, ◌++◌, nat_le, max, true, false, is_some, length, option_map, OnOk, OnErr, IsSome, IfSome, IfNone, ◌↔◌, slice_index_or, Some, unwrap_or};
+ghost use Rattle.std.specs.Prelude.{◌≡◌, [], ◌+◌, ◌-◌, ◌<◌, ◌≤◌, ◌^◌, ◌++◌, nat_le, max, true, false, is_some, length, option_map, OnOk, OnErr, IsSome, IfSome, IfNone, ◌↔◌, slice_index_or, Some, unwrap_or};
 ghost use Rattle.std.specs.List.{sum_by};
 ghost use Rattle.std.specs.Option.{option_to_list};
 ghost use Rattle.sctp_serial.specs.Messages.{message_of};
@@ -58,7 +58,7 @@ impl Model for ReassemblyQueue {
 }
 
 impl ReassemblyQueue {
-    ghost use Rattle.sctp_reassembly.specs.ReassemblyQueue.{reassembly, queued_bytes, watermark, number_of, came, add_now, forward_now, fragment_waits, point_waits, waits, wait_with, resetting, waiting_in, waiting_bytes, waiting_number, count_ready, IsCounted, add, forward, defer, apply, apply_each, reset};
+    ghost use Rattle.sctp_reassembly.specs.ReassemblyQueue.{reassembly, queued_bytes, watermark, number_of, came, add_now, forward_now, fragment_waits, point_waits, waits, wait_with, resetting, waiting_bytes, waiting_number, count_ready, IsCounted, add, forward, defer, apply, apply_each, reset};
     ghost use Rattle.sctp_reassembly.specs.Streams.{entries_in};
     ghost use Rattle.sctp_reassembly.specs.WaitingViews.{waiting_of};
 

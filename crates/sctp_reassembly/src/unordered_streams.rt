@@ -260,7 +260,6 @@ ghost use Rattle.std.specs.Prelude.{◌==◌, not, filter};
 ghost use Rattle.std.specs.List.{list_any};
 ghost use Rattle.sctp_reassembly.specs.Streams.{unordered_bytes};
 ghost use Rattle.sctp_fragments.specs.Key.{rank_at};
-ghost use Rattle.sctp_fragments.specs.Held.{bytes_of};
 ghost use Rattle.sctp_reassembly.specs.Delivery.{held_from};
 
 /// Takes out the streams that are named, each by a look-up, and what they held off the bytes.

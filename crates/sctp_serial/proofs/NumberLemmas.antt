@@ -1,6 +1,6 @@
 -- Tests on numbers, on keys of maps and on choices, as all layers ask them.
-use Rattle.std.proofs.Common.{◌≡◌, ◌≢◌, ℕ, ◌<◌, ◌^◌, Bool, true, false, cond, ◌&&◌, Option, Some, None, refl, arith, Less, Equal, Greater}
-use Rattle.std.specs.Prelude.{nat_lt, ◌==◌, ◌||◌, is_some, Result, Ok, Err, OnErr}
+use Rattle.std.proofs.Common.{◌≡◌, ◌≢◌, ℕ, ◌<◌, ◌^◌, Bool, true, false, cond, ◌&&◌, Option, Some, None, refl, ap, arith, Less, Equal, Greater}
+use Rattle.std.specs.Prelude.{nat_lt, ◌==◌, ◌||◌, is_some}
 use Rattle.std.specs.Ordering.{nat_cmp}
 use Rattle.std.specs.BTreeMap.{is_at}
 use Rattle.std.proofs.lemmas.Bool.Decides.{nat_tests}
@@ -13,12 +13,15 @@ is_itself n = grind (arith, nat_tests)
 pub not_zero : (n : ℕ) → 0 < n → (n == 0) ≡ false
 not_zero n l = grind (arith, nat_tests)
 
-pub zero_is_least : (n : ℕ) → (n == 0) ≡ true → nat_lt 0 n ≡ false
-zero_is_least n e = grind (arith, nat_tests)
+pub not_zero_by_test : (n : ℕ) → false ≡ (n == 0) → n ≡ 0 → ⊥
+not_zero_by_test n e none = let zero_is : (n == 0) ≡ true = ap (λ (k : ℕ). k == 0) none in cc
 
-pub second_some : (b : Bool) (n : ℕ) → (b && nat_lt 0 n) ≡ true → 0 < n
-second_some true n h = grind (arith, nat_tests)
-second_some false n h = cc
+pub zero_not_positive : (n : ℕ) → (n == 0) ≡ true → nat_lt 0 n ≡ false
+zero_not_positive n e = grind (arith, nat_tests)
+
+pub positive_of_both : (b : Bool) (n : ℕ) → (b && nat_lt 0 n) ≡ true → 0 < n
+positive_of_both true n h = grind (arith, nat_tests)
+positive_of_both false n h = cc
 
 pub less_differs : (a b : ℕ) → a < b → (a == b) ≡ false
 less_differs a b l = grind (arith, nat_tests)
@@ -26,9 +29,9 @@ less_differs a b l = grind (arith, nat_tests)
 pub greater_differs : (a b : ℕ) → a < b → (b == a) ≡ false
 greater_differs a b l = grind (arith, nat_tests)
 
-pub turned : (a b : ℕ) (t : Bool) → (a == b) ≡ t → (b == a) ≡ t
-turned a b true e = grind (arith, nat_tests)
-turned a b false e = grind (arith, nat_tests)
+pub equal_turned : (a b : ℕ) (t : Bool) → (a == b) ≡ t → (b == a) ≡ t
+equal_turned a b true e = grind (arith, nat_tests)
+equal_turned a b false e = grind (arith, nat_tests)
 
 -- ---- numbers as keys
 
@@ -67,9 +70,9 @@ not_at q k e = grind (arith, nat_tests)
 
 -- ---- choices
 
-pub none_from : {X : Type 0} (o : Option X) → is_some o ≡ false → None ≡ o
-none_from None h = refl
-none_from (Some x) h = absurd (cc)
+pub is_none : {X : Type 0} (o : Option X) → is_some o ≡ false → None ≡ o
+is_none None h = refl
+is_none (Some x) h = absurd (cc)
 
 pub or_swap : (a b c : Bool) → (a || (b || c)) ≡ (b || (a || c))
 or_swap true true c = refl
@@ -83,10 +86,6 @@ or_assoc false b c = refl
 pub or_regroup : (a b c : Bool) → (a || (b || c)) ≡ ((a || b) || c)
 or_regroup true b c = refl
 or_regroup false b c = refl
-
-pub on_err : {T E : Type 0} (r : Result T E) (P : Type 0) → P → OnErr r P
-on_err (Ok x) P p = tt
-on_err (Err e) P p = p
 
 pub either_fits : (b : Bool) (m n : ℕ) → m < 2 ^ 32 → n < 2 ^ 32 → cond b m n < 2 ^ 32
 either_fits true m n h k = h

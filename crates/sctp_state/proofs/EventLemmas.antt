@@ -1,5 +1,5 @@
 -- What is emitted stays at the front, and what was emitted since a moment can be taken back.
-use Rattle.std.proofs.Common.{◌≡◌, ℕ, ◌≤◌, List, [], ◌∷◌, ◌++◌, length, take, refl, ap, sym, ◌∙◌, arith, subst, take_all, take-take, length-take}
+use Rattle.std.proofs.Common.{◌≡◌, ℕ, ◌≤◌, List, [], ◌∷◌, length, take, refl, ap, sym, ◌∙◌, arith, take_all, take-take, length-take}
 use Rattle.std.proofs.lemmas.List.{take_at}
 use Rattle.sctp_state.specs.declared.api.GivenUpCause.{GivenUpCause}
 use Rattle.sctp_state.specs.Events.{Event, GivenUp, Emitted, Grown, emit_events, give_up, mark_of, rolled_back}
@@ -21,10 +21,6 @@ grown_emitted es t = record { events = take_at t.events es (length t.events) ref
 
 pub grown_given_up : {P : Type 0} (n : ℕ) (cause : GivenUpCause) (t : Emitted P) → Grown t (give_up n cause t)
 grown_given_up n cause t = record { events = take_all (length t.events) t.events (omega arith); given_up = take_at t.given_up (record { number = n; cause = cause } ∷ []) (length t.given_up) refl }
-
--- by equations, as calls give them
-pub grown_equal : {P : Type 0} (t u : Emitted P) → u ≡ t → Grown t u
-grown_equal t u e = subst (λ x. Grown t x) (sym e) (grown_same t)
 
 pub taken_back : {P : Type 0} (t u : Emitted P) → Grown t u → rolled_back (mark_of t) u ≡ t
 taken_back {P} t u g =

@@ -1,6 +1,6 @@
 //! How long an answer is waited for, by the round trip times that were measured.
 
-ghost use Rattle.std.specs.Prelude.{◌≡◌, ℕ, ◌+◌, ◌-◌, ◌*◌, ◌/◌, ◌^◌, ◌≤◌, max, min, true};
+ghost use Rattle.std.specs.Prelude.{◌≡◌, ◌+◌, ◌-◌, ◌*◌, ◌/◌, ◌≤◌, max, min, true};
 ghost use Rattle.std.specs.Duration.{as_nanos, max_nanos};
 ghost use Rattle.sctp_state.specs.Options.{options_of};
 
@@ -24,7 +24,7 @@ pub struct RetransmissionTimeout {
 }
 
 impl Model for RetransmissionTimeout {
-    ghost use Rattle.std.specs.Prelude.{ℕ, ◌*◌, ◌≤◌};
+    ghost use Rattle.std.specs.Prelude.{◌*◌, ◌≤◌};
     ghost use Rattle.std.specs.Duration.{as_nanos, max_nanos};
     ghost use Rattle.sctp_state.specs.Rtt.{Rtt};
     ghost use Rattle.sctp_state.specs.Timers.{longest};

@@ -1,6 +1,6 @@
 //! A timer that is asked whether it expired, with its backoff.
 
-ghost use Rattle.std.specs.Prelude.{◌≡◌, ℕ, ◌+◌, ◌-◌, ◌^◌, ◌≤◌, min, option_map};
+ghost use Rattle.std.specs.Prelude.{◌≡◌, ◌+◌, ◌-◌, ◌^◌, ◌≤◌, min, option_map};
 ghost use Rattle.std.specs.Duration.{as_nanos};
 
 use sctp_serial::SocketTime;

@@ -97,14 +97,11 @@ found : (id : ℕ) (P : ℕ × ℕ → Type 0) (f : ℕ) (es : Times) → AllByR
 found id P f [] all h = absurd (cc)
 found id P f (e ∷ es) all h = go (is_at (nat_cmp id) e.0) refl h (found id P f es all.1)
   where
-    equal : (a b : ℕ) → is_at (nat_cmp a) b ≡ true → b ≡ a
-    equal a b q = grind (arith, nat_tests)
-
     inside : Some e.1 ≡ Some f → e.1 ≡ f
     inside q = cc
 
     go : (b : Bool) → is_at (nat_cmp id) e.0 ≡ b → cond b (Some e.1) (finish_time id es) ≡ Some f → (finish_time id es ≡ Some f → P (id, f)) → P (id, f)
-    go true q h ih = subst P (ap (λ k. (k, e.1)) (equal id e.0 q) ∙ ap (λ g. (id, g)) (inside h)) all.0
+    go true q h ih = subst P (ap (λ k. (k, e.1)) (equal_at id e.0 q) ∙ ap (λ g. (id, g)) (inside h)) all.0
     go false q h ih = ih h
 
 both : (r e : ℕ × ℕ) → IsAhead r e → IsAhead e r → r.0 ≡ e.0
@@ -176,11 +173,8 @@ unfolding IsStrictlySortedBy
 above_first m id f [] s h = absurd (cc)
 above_first m id f (e ∷ es) s h = go (is_at (nat_cmp id) e.0) refl h (above_first e.0 id f es s.1)
   where
-    equal : (a b : ℕ) → is_at (nat_cmp a) b ≡ true → b ≡ a
-    equal a b q = grind (arith, nat_tests)
-
     go : (b : Bool) → is_at (nat_cmp id) e.0 ≡ b → cond b (Some e.1) (finish_time id es) ≡ Some f → (finish_time id es ≡ Some f → e.0 < id) → m < id
-    go true q h ih = omega (arith, is_less m e.0 s.0.0, equal id e.0 q)
+    go true q h ih = omega (arith, is_less m e.0 s.0.0, equal_at id e.0 q)
     go false q h ih = omega (arith, is_less m e.0 s.0.0, ih h)
 
 all_ahead : (r : ℕ × ℕ) (es : Times) → IsStrictlySortedBy nat_cmp (keys_of es) → ((id f : ℕ) → finish_time id es ≡ Some f → IsAhead r (id, f)) → AllByRecursion (IsAhead r) es

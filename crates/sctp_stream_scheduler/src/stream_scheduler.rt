@@ -1,10 +1,7 @@
 //! Which stream sends next.
 
-ghost use Rattle.std.specs.Prelude.{◌≡◌, ℕ, ◌<◌, ◌^◌, ◌==◌, Bool, true, false, [], length, not, is_some, IsTrue, IfSome, IfNone, IsSome, OnOk, OnErr, None, Some, if◌then◌else◌, option_map};
-ghost use Rattle.std.specs.Map.{remove_entry};
-ghost use Rattle.std.specs.Ordering.{nat_cmp};
-ghost use Rattle.std.specs.BTreeMap.{IsOrdered, is_at, insert_entry};
-ghost use Rattle.sctp_stream_scheduler.specs.Scheduler.{Indexes, IsNext, finish_time, best, stream_in};
+ghost use Rattle.std.specs.Prelude.{◌≡◌, ◌<◌, ◌^◌, ◌==◌, false, [], length, is_some, IsTrue, IfSome, IfNone, OnOk, OnErr, None, Some, option_map};
+ghost use Rattle.sctp_stream_scheduler.specs.Scheduler.{IsNext, finish_time};
 
 mod active_streams;
 

@@ -1,9 +1,9 @@
 //! The packets as a capture that Wireshark reads: pcapng, link type 248 (SCTP without IP).
 
-ghost use Rattle.std.specs.Prelude.{◌≡◌, ℕ, ◌+◌, ◌<◌, ◌≤◌, ◌^◌, ◌++◌, true, false, length, replicate, IfOk, IfErr, OnOk};
+ghost use Rattle.std.specs.Prelude.{◌≡◌, ◌+◌, ◌<◌, ◌^◌, ◌++◌, true, false, length, replicate, IfOk, IfErr, OnOk};
 ghost use Rattle.std.specs.List.{flat_map};
 ghost use Rattle.sctp_trace.specs.Bytes.{le16, le32, with_crc32c};
-ghost use Rattle.sctp_trace.specs.Capture.{pad, option_bytes, section_header, interface, interface_number, fate, packet_body, packet_block, IsPacketSize, row_bytes, capture_bytes, is_too_long, has_long_packet};
+ghost use Rattle.sctp_trace.specs.Capture.{pad, option_bytes, section_header, interface, interface_number, fate, packet_block, IsPacketSize, row_bytes, capture_bytes, is_too_long, has_long_packet};
 ghost use Rattle.sctp_trace.specs.Followed.{IsFollowed};
 ghost use Rattle.sctp_trace.specs.declared.pcapng.CaptureError.TheVariants.{Memory as no_memory};
 

@@ -1,7 +1,7 @@
 //! What happened, row by row.
 
 ghost use Rattle.std.specs.Prelude.{◌≡◌, ◌&&◌, ◌==◌};
-ghost use Rattle.sctp_trace.specs.Rows.{other, end_name, same_end, sends, is_given};
+ghost use Rattle.sctp_trace.specs.Rows.{other, end_name, sends, is_given};
 
 /// One of the two ends; the lifeline of `A` is the left one.
 #[derive(Clone, Copy, Debug, PartialEq, Eq)]

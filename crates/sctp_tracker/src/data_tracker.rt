@@ -1,6 +1,6 @@
 //! The tracker of the TSNs that came from the peer.
 
-ghost use Rattle.std.specs.Prelude.{◌≡◌, ◌==◌, ℕ, ◌+◌, ◌-◌, ◌^◌, ◌<◌, ◌≤◌, ◌||◌, ◌&&◌, not, nat_le, length, false, if◌then◌else◌, IsTrue, IfOk, OnOk, OnErr, nat_lt, All, Contains};
+ghost use Rattle.std.specs.Prelude.{◌≡◌, ◌==◌, ℕ, ◌+◌, ◌-◌, ◌^◌, ◌<◌, ◌≤◌, ◌||◌, ◌&&◌, not, nat_le, length, false, IsTrue, IfOk, OnOk, OnErr, nat_lt, All, Contains};
 ghost use Rattle.std.specs.Duration.{as_nanos};
 ghost use Rattle.sctp_state.specs.Options.{options_of};
 ghost use Rattle.sctp_state.specs.Timers.{is_due, next_expiry};
@@ -84,7 +84,7 @@ pub struct DataTracker {
 
 impl Model for DataTracker {
     ghost use Rattle.std.specs.Duration.{as_nanos};
-    ghost use Rattle.sctp_tracker.specs.Tracker.{DataTracker, Tracker, IsTracker};
+    ghost use Rattle.sctp_tracker.specs.Tracker.{DataTracker, IsTracker};
 
     ghost Value = { DataTracker };
 

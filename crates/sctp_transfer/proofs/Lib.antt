@@ -1,4 +1,2 @@
 pub mod PrepareLemmas
 pub mod CleanedLemmas
-pub mod ResponseLemmas
-pub mod ParameterLemmas

@@ -18,6 +18,11 @@ use Rattle.sctp_tx.specs.Retransmission.{Sender}
 use Rattle.sctp_tx.specs.Resent.{resent_by}
 use Rattle.sctp_tx.specs.Sending.{item_of, sent_new}
 use Rattle.sctp_tx.specs.Interrupted.{PartlySent, PartlyTaken}
+use Rattle.std.specs.Prelude.{Result, Ok, Err, OnErr}
+
+pub on_err : {T E : Type 0} (r : Result T E) (P : Type 0) → P → OnErr r P
+on_err (Ok x) P p = tt
+on_err (Err e) P p = p
 
 -- ---- the sender
 

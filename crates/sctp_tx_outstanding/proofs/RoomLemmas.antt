@@ -13,7 +13,7 @@ use Rattle.sctp_chunk.specs.Chunk.{FragmentTree}
 use Rattle.sctp_tx_outstanding.specs.Item.{Item, is_in_flight, waits, waits_fast, resent, slow, miss_fast, should_be_retransmitted, is_fast, size_of, mark_as_retransmitted}
 use Rattle.sctp_tx_outstanding.specs.Items.{Outstanding, when, wire_tsn, packet_part, queued_part, fast_part, flight_bytes, flight_items, waiting_items, fast_items, change_at}
 use Rattle.sctp_tx_outstanding.specs.Resending.{Resent, size_in, allowance, waiting_for, again_of, turn_of, turn_at, take_item, step_at, resent_below, empty_packet, resend, chunk_bytes}
-use Rattle.sctp_tx_outstanding.proofs.WaitingLemmas.{none_of}
+use Rattle.sctp_tx_outstanding.proofs.WaitingLemmas.{false_from_none}
 
 module _ (p : Item → ℕ) (f : Item → Item) where
   sum_changed : (k : ℕ) (is : List Item) (i : Item) → slice_get is k ≡ Some i → sum_by p (change_at k f is) + p i ≡ sum_by p is + p (f i)
@@ -155,7 +155,7 @@ none_waits_lem k [] i h e = absurd (cc)
 none_waits_lem zero (j ∷ is) i h e =
     let sum = sum_by-cons queued_part j is in
     let same : j ≡ i = cc in
-    subst (λ x. should_be_retransmitted x ≡ false) same (none_of (should_be_retransmitted j) (omega (arith, sum, h)))
+    subst (λ x. should_be_retransmitted x ≡ false) same (false_from_none (should_be_retransmitted j) (omega (arith, sum, h)))
 none_waits_lem (suc k) (j ∷ is) i h e =
     let sum = sum_by-cons queued_part j is in
     none_waits_lem k is i (omega (arith, sum, h)) e
@@ -171,7 +171,7 @@ none_fast k [] i h e = absurd (cc)
 none_fast zero (j ∷ is) i h e =
     let sum = sum_by-cons fast_part j is in
     let same : j ≡ i = cc in
-    subst (λ x. is_fast x ≡ false) same (none_of (is_fast j) (omega (arith, sum, h)))
+    subst (λ x. is_fast x ≡ false) same (false_from_none (is_fast j) (omega (arith, sum, h)))
 none_fast (suc k) (j ∷ is) i h e =
     let sum = sum_by-cons fast_part j is in
     none_fast k is i (omega (arith, sum, h)) e

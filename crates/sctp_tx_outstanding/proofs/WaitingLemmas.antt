@@ -219,13 +219,13 @@ passed_not numbers first next i is e w listed = passed numbers numbers first nex
 
 -- ---- none waits
 
-pub none_of : (b : Bool) → when b 1 ≤ 0 → b ≡ false
-none_of true h = absurd (omega (arith, h))
-none_of false h = refl
+pub false_from_none : (b : Bool) → when b 1 ≤ 0 → b ≡ false
+false_from_none true h = absurd (omega (arith, h))
+false_from_none false h = refl
 
 none_at : (is : List Item) → sum_by queued_part is ≤ 0 → (k : ℕ) → waits_at k is ≡ false
 none_at [] h k = refl
-none_at (i ∷ is) h zero = none_of (should_be_retransmitted i) (omega (arith, sum_by-cons queued_part i is, h))
+none_at (i ∷ is) h zero = false_from_none (should_be_retransmitted i) (omega (arith, sum_by-cons queued_part i is, h))
 none_at (i ∷ is) h (suc k) = none_at is (omega (arith, sum_by-cons queued_part i is, h)) k
 
 pub none_listed : (first : ℕ) (is : List Item) → sum_by queued_part is ≤ 0 → AreListed [] first is
@@ -310,7 +310,7 @@ pub none_small : (least : ℕ) (is : List Item) → sum_by queued_part is ≤ 0 
 none_small least [] h = All-nil (IsAtLeast least)
 none_small least (i ∷ is) h =
     let sum = sum_by-cons queued_part i is in
-    All-cons (IsAtLeast least) i is (λ t. absurd (both_ways (should_be_retransmitted i) (none_of (should_be_retransmitted i) (omega (arith, sum, h))) t)) (none_small least is (omega (arith, sum, h)))
+    All-cons (IsAtLeast least) i is (λ t. absurd (both_ways (should_be_retransmitted i) (false_from_none (should_be_retransmitted i) (omega (arith, sum, h))) t)) (none_small least is (omega (arith, sum, h)))
 
 chunk_at_least : (m : Bool) (least size : ℕ) (i : Item) → size ≤ header_size m + least → IsAtLeast least i → should_be_retransmitted i ≡ true → size ≤ chunk_size m i
 chunk_at_least m least size i le h = λ t. omega (arith, le, h t)

@@ -1,6 +1,6 @@
 //! The moments at which items expire.
 
-ghost use Rattle.std.specs.Prelude.{◌≡◌, ℕ, ◌<◌, ◌≤◌, ◌==◌, true, false, if◌then◌else◌, IfSome};
+ghost use Rattle.std.specs.Prelude.{◌≡◌, ℕ, ◌<◌, ◌≤◌, ◌==◌, true, false, IfSome};
 ghost use Rattle.sctp_tx_outstanding.specs.Messages.{key_of};
 ghost use Rattle.sctp_tx_outstanding.specs.Waiting.{is_listed};
 ghost use Rattle.sctp_tx_outstanding.specs.Expiries.{ListsUpTo, Sets};
@@ -99,7 +99,7 @@ fn list_below(
 }
 
 impl Expiries {
-    ghost use Rattle.std.specs.Prelude.{◌∷◌, ◌++◌, [], List, length};
+    ghost use Rattle.std.specs.Prelude.{◌∷◌, [], List};
     ghost use Rattle.std.specs.List.{All};
     ghost use Rattle.sctp_tx_outstanding.specs.Item.{Item, NotBefore, expiry};
     ghost use Rattle.sctp_tx_outstanding.specs.Expiries.{Expects, FindsDue, Moves};

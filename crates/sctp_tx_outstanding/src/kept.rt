@@ -1,11 +1,11 @@
 //! The kept items, with their totals.
 
-ghost use Rattle.std.specs.Prelude.{◌≡◌, ◌==◌, ◌+◌, ℕ, Some, map, min, option_map, slice_get, not, nat_lt, sum_by, ◌<◌, ◌≤◌, ◌^◌, ◌∷◌, ◌++◌, [], length, drop, take, OnOk, OnErr, IfSome, IfNone};
+ghost use Rattle.std.specs.Prelude.{◌≡◌, ◌==◌, ◌+◌, Some, map, min, option_map, slice_get, nat_lt, sum_by, ◌<◌, ◌≤◌, ◌∷◌, ◌++◌, [], length, drop, take, OnOk, OnErr, IfSome, IfNone};
 ghost use Rattle.sctp_tx_outstanding.specs.Change.{apply_change};
 ghost use Rattle.std.specs.List.{All};
 ghost use Rattle.sctp_tx_outstanding.specs.Item.{NotBefore, earliest_of, never};
 ghost use Rattle.sctp_tx_outstanding.specs.Expiries.{Expects, FindsDue};
-ghost use Rattle.sctp_tx_outstanding.specs.Items.{change_at, lay_down, last_of, later_of, later_at, without_payload, packet_part, payload_part, flight_part, queued_part, fast_part};
+ghost use Rattle.sctp_tx_outstanding.specs.Items.{change_at, lay_down, last_of, later_at, without_payload, packet_part, payload_part, flight_part, queued_part, fast_part};
 ghost use Rattle.sctp_tx_outstanding.specs.Totals.{AreTotals, Exchanges};
 ghost use Rattle.sctp_tx_outstanding.specs.Losses.{expires, placeholder};
 ghost use Rattle.sctp_tx_outstanding.specs.Views.{last_tree};
@@ -456,7 +456,7 @@ impl Model for Kept {
 }
 
 impl Kept {
-    ghost use Rattle.std.specs.Prelude.{Bool, false, true};
+    ghost use Rattle.std.specs.Prelude.{false, true};
     ghost use Rattle.std.specs.List.{All};
     ghost use Rattle.sctp_tx_outstanding.specs.Item.{chunk_size, should_be_retransmitted};
 

@@ -1,10 +1,9 @@
 //! The blocks of the last SACK.
 
-ghost use Rattle.std.specs.Prelude.{◌≡◌, ℕ, ◌+◌, ◌-◌, ◌<◌, ◌≤◌, ◌^◌, ◌&&◌, ◌==◌, length, drop, slice_index_or};
+ghost use Rattle.std.specs.Prelude.{◌≡◌, ℕ, ◌+◌, ◌-◌, ◌<◌, ◌≤◌, ◌^◌, ◌&&◌, ◌==◌, length, drop};
 ghost use Rattle.sctp_chunk.specs.declared.sack.GapAckBlock.{GapAckBlock};
 ghost use Rattle.sctp_chunk.specs.Covered.{AreRuns};
 ghost use Rattle.sctp_tx_outstanding.specs.LastBlocks.{Agree, AreSame, NoneOf};
-ghost use Rattle.sctp_tx_outstanding.specs.Passes.{IsCursor};
 ghost use Rattle.sctp_tx_outstanding.specs.Sack.{highest_end};
 
 use crate::kept::Change;

@@ -1,7 +1,7 @@
 //! Fragments that have their TSN and wait for the peer's acknowledgement.
 #![tactic(auto)]
 
-pub mod emitting;
+mod emitting;
 mod expiries;
 pub mod item;
 pub mod kept;

@@ -1,6 +1,6 @@
 //! The fragments that have their TSN and are not acknowledged for good.
 
-ghost use Rattle.std.specs.Prelude.{if◌then◌else◌, ◌≡◌, ◌⊎◌, ℕ, ◌+◌, ◌-◌, ◌*◌, ◌<◌, ◌≤◌, ◌^◌, ◌∷◌, ◌++◌, ◌&&◌, [], not, nat_lt, min, length, map, slice_get, option_map, filter, take, true, ◌||◌, drop, ◌==◌, Option, Some, None, false, IsTrue, IfOk, OnOk, OnErr};
+ghost use Rattle.std.specs.Prelude.{◌≡◌, ◌⊎◌, ℕ, ◌+◌, ◌-◌, ◌<◌, ◌≤◌, ◌^◌, ◌&&◌, [], not, nat_lt, min, length, map, slice_get, option_map, filter, take, true, ◌||◌, drop, ◌==◌, Option, Some, None, false, IsTrue, IfOk, OnOk, OnErr};
 ghost use Rattle.std.specs.Duration.{as_nanos};
 ghost use Rattle.sctp_chunk.specs.Views.{fragment_tree, forward_tsn_tree, i_forward_tsn_tree};
 ghost use Rattle.sctp_chunk.specs.Chunk.{forward_tsn_chunk, i_forward_tsn_chunk};

@@ -1,6 +1,6 @@
 //! What a SACK says of the kept items.
 
-ghost use Rattle.std.specs.Prelude.{◌≡◌, ℕ, ◌+◌, ◌-◌, ◌<◌, ◌≤◌, ◌^◌, ◌&&◌, nat_le, min, length, take, drop, sum_by, slice_get, slice_index_or, if◌then◌else◌};
+ghost use Rattle.std.specs.Prelude.{◌≡◌, ◌+◌, ◌-◌, ◌<◌, ◌≤◌, ◌^◌, ◌&&◌, min, length, take, drop, sum_by, slice_get, slice_index_or, if◌then◌else◌};
 ghost use Rattle.sctp_chunk.specs.declared.sack.GapAckBlock.{GapAckBlock};
 ghost use Rattle.sctp_chunk.specs.Covered.{is_covered};
 ghost use Rattle.sctp_tx_outstanding.specs.Item.{chunk_size};

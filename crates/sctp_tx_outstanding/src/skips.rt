@@ -1,6 +1,6 @@
 //! Entries of forward points.
 
-ghost use Rattle.std.specs.Prelude.{◌≡◌, ℕ, ◌+◌, ◌<◌, ◌≤◌, not, nat_lt, length, map, IfOk, OnOk, OnErr, ◌&&◌};
+ghost use Rattle.std.specs.Prelude.{◌≡◌, ◌+◌, ◌<◌, ◌≤◌, length, map, IfOk, OnOk, OnErr, ◌&&◌};
 ghost use Rattle.std.specs.List.{list_any};
 ghost use Rattle.sctp_tx_outstanding.specs.Forward.{is_before, is_alike, name_stream, entries_before, size_with, with_entry};
 ghost use Rattle.sctp_tx_outstanding.specs.Entries.{ssn_skip, mid_skip};

@@ -50,7 +50,7 @@ pub(crate) fn least_from(numbers: &BTreeSet<u64>, from: u64) -> Option<u64>
 }
 
 impl Waiting {
-    ghost use Rattle.std.specs.Prelude.{◌+◌, ◌∷◌, ◌++◌, [], List};
+    ghost use Rattle.std.specs.Prelude.{◌∷◌, [], List};
     ghost use Rattle.std.specs.List.{sum_by};
     ghost use Rattle.sctp_tx_outstanding.specs.Item.{Item, should_be_retransmitted};
     ghost use Rattle.sctp_tx_outstanding.specs.Items.{queued_part};

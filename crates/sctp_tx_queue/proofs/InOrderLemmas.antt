@@ -23,7 +23,7 @@ use Rattle.sctp_tx_queue.specs.InOrder.{is_waiting, is_begun_or_waiting, are_in_
 use Rattle.sctp_tx_queue.proofs.StreamsLemmas.{stream_put, stream_nowhere, put_nowhere}
 use Rattle.sctp_tx_queue.proofs.ProduceLemmas.{idles, gives, turned}
 use Rattle.sctp_tx_queue.proofs.StaysBegunLemmas.{written_elsewhere, inserted_elsewhere}
-use Rattle.sctp_serial.proofs.NumberLemmas.{at_itself, zero_is_least}
+use Rattle.sctp_serial.proofs.NumberLemmas.{at_itself, zero_not_positive}
 
 -- ---- what holds of each stream, where one changes
 
@@ -130,7 +130,7 @@ none_partly : (ms : List Queued) → list_all is_waiting ms ≡ true → filter 
 none_partly [] h = refl
 none_partly (m ∷ rest) h =
     let hs = and_parts (is_waiting m) (list_all is_waiting rest) h in
-    ap (λ b. cond b (m ∷ filter is_partly rest) (filter is_partly rest)) (zero_is_least m.offset (waits m hs.0).1) ∙ none_partly rest hs.1
+    ap (λ b. cond b (m ∷ filter is_partly rest) (filter is_partly rest)) (zero_not_positive m.offset (waits m hs.0).1) ∙ none_partly rest hs.1
 
 partly_both : (ms : List Queued) → are_in_order ms ≡ true → (are_in_order (filter is_partly ms) ≡ true) × (is_first_begun (filter is_partly ms) ≡ is_first_begun ms)
 partly_both [] h = (refl, refl)

@@ -20,7 +20,7 @@ use Rattle.sctp_stream_scheduler.specs.Scheduler.{Scheduler, set_bytes_remaining
 use Rattle.sctp_tx_queue.specs.Queue.{Queued, Stream, Streams, Entries, amount_of, total_of, left_bytes, blank, stream, put_stream, open_stream, push, sendable}
 use Rattle.sctp_tx_queue.specs.Restored.{message_from, is_on, messages_from, stream_from, entries_from, each_scheduled}
 use Rattle.sctp_tx_queue.proofs.StreamsLemmas.{total_written, stream_there}
-use Rattle.sctp_serial.proofs.NumberLemmas.{turned}
+use Rattle.sctp_serial.proofs.NumberLemmas.{equal_turned}
 
 -- ---- the streams
 
@@ -160,13 +160,13 @@ written now threshold least done m none (s ∷ ss) h there =
         → put_by (test s.id) ≡ (s.id, stream_from now threshold (done ++ m ∷ []) s) ∷ after
     go true e there ih =
         ap put_by (at_it s.id m.stream_id e)
-        ∙ ap (λ (t : Stream). (s.id, t) ∷ rest) (sym (grown now threshold done m s (turned s.id m.stream_id true e)))
+        ∙ ap (λ (t : Stream). (s.id, t) ∷ rest) (sym (grown now threshold done m s (equal_turned s.id m.stream_id true e)))
         ∙ ap (λ (es : Entries). (s.id, stream_from now threshold (done ++ m ∷ []) s) ∷ es)
         (sym (others now threshold (s.id + 1) done m ss (is_below s.id m.stream_id e) (and_parts (nat_le least s.id) (rises_from (s.id + 1) (outgoing_ids ss)) h).1))
     go false e there ih =
         ap put_by (off_it s.id m.stream_id e)
         ∙ ap (λ (es : Entries). (s.id, here) ∷ es) (ih there)
-        ∙ ap (λ (t : Stream). (s.id, t) ∷ after) (sym (unchanged now threshold done m s (turned s.id m.stream_id false e)))
+        ∙ ap (λ (t : Stream). (s.id, t) ∷ after) (sym (unchanged now threshold done m s (equal_turned s.id m.stream_id false e)))
 
 opened_there : (id : ℕ) (ss : Streams) → is_some (lookup (is_at (nat_cmp id)) ss.entries) ≡ true → open_stream id ss ≡ ss
 opened_there id ss there = ap (λ (b : Bool). let r : Streams = record ss { entries = insert_entry nat_cmp ss.entries id (blank ss) } in cond b ss r) there

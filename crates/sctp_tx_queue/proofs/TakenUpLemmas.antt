@@ -24,7 +24,7 @@ use Rattle.sctp_tx_queue.specs.TakenUp.{is_numbered_as_sent, RestoredInOrder, Wr
 use Rattle.sctp_tx_queue.proofs.InOrderLemmas.{set_bytes_mode, waiting_in_order}
 use Rattle.sctp_tx_queue.proofs.AgainLemmas.{AreAbove, are_above}
 use Rattle.sctp_tx_queue.proofs.RestoreLemmas.{found}
-use Rattle.sctp_serial.proofs.NumberLemmas.{at_itself, turned}
+use Rattle.sctp_serial.proofs.NumberLemmas.{at_itself, equal_turned}
 
 -- ---- a message
 
@@ -151,9 +151,9 @@ begun_is now k (m ∷ rest) few first h =
 
     go : (a b : Bool) → is_on k m ≡ a → is_partly_sent m ≡ b → cond b 1 0 + partly_sent_count rest ≤ 1 → (partly_sent_count rest ≤ 1 → is_first_begun (messages_from now k rest) ≡ is_this k (partly_sent rest))
         → is_first_begun (map (message_from now) (cond a (m ∷ filter (is_on k) rest) (filter (is_on k) rest))) ≡ is_this k (cond b (Some m.stream_id) (partly_sent rest))
-    go true true on sent c later = begun_as_sent now m hs.0 ∙ sent ∙ sym (turned m.stream_id k true on)
+    go true true on sent c later = begun_as_sent now m hs.0 ∙ sent ∙ sym (equal_turned m.stream_id k true on)
     go true false on sent c later = begun_as_sent now m hs.0 ∙ sent ∙ sym (not_this k rest (none_behind k m rest on first))
-    go false true on sent c later = none_begun now k rest (omega (arith, c)) hs.1 ∙ sym (turned m.stream_id k false on)
+    go false true on sent c later = none_begun now k rest (omega (arith, c)) hs.1 ∙ sym (equal_turned m.stream_id k false on)
     go false false on sent c later = later (omega (arith, c))
 
 -- ---- the streams

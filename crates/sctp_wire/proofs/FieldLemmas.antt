@@ -1,7 +1,7 @@
 -- Numbers at the front of bytes.
 use Rattle.std.proofs.Common.{◌≡◌, ℕ, ◌^◌, ◌<◌, ◌≤◌, List, ◌++◌, length, take, drop, refl, sym, ap, ◌∙◌, arith, inl, inr}
 use Rattle.std.specs.Int.{w16, w32, w64, from_be_bytes, to_be_bytes}
-use Rattle.std.proofs.lemmas.Nat.{be_bytes_2, be_bytes_4, be_bytes_8, from_be_bytes-to_be_bytes_2, from_be_bytes-to_be_bytes_4, from_be_bytes-to_be_bytes_8}
+use Rattle.std.proofs.lemmas.Nat.{be_bytes_2, be_bytes_4, be_bytes_8, from_be_bytes-to_be_bytes_2, from_be_bytes-to_be_bytes_4}
 use Rattle.std.proofs.lemmas.Bool.{cases_lt}
 use Rattle.std.proofs.lemmas.List.{take-append-drop, length-take-le, get_or-take, get_or_past, length-take}
 use Rattle.sctp_wire.specs.Fields.{be16, be32, be64}
@@ -43,16 +43,10 @@ pub be16_same : (m n : ℕ) (x y : List ℕ) → m < 2 ^ 16 → n < 2 ^ 16 → b
 unfolding be16
 be16_same m n x y hm hn e =
     let parts = cut_same (to_be_bytes w16 m) x (to_be_bytes w16 n) y refl e in
-    (sym (from_be_bytes-to_be_bytes_2 m hm) ∙ ap (from_be_bytes w16) parts.0 ∙ from_be_bytes-to_be_bytes_2 n hn, parts.1)
+    (same16 m n hm hn parts.0, parts.1)
 
 pub be32_same : (m n : ℕ) (x y : List ℕ) → m < 2 ^ 32 → n < 2 ^ 32 → be32 m ++ x ≡ be32 n ++ y → (m ≡ n) × (x ≡ y)
 unfolding be32
 be32_same m n x y hm hn e =
     let parts = cut_same (to_be_bytes w32 m) x (to_be_bytes w32 n) y refl e in
-    (sym (from_be_bytes-to_be_bytes_4 m hm) ∙ ap (from_be_bytes w32) parts.0 ∙ from_be_bytes-to_be_bytes_4 n hn, parts.1)
-
-pub be64_same : (m n : ℕ) (x y : List ℕ) → m < 2 ^ 64 → n < 2 ^ 64 → be64 m ++ x ≡ be64 n ++ y → (m ≡ n) × (x ≡ y)
-unfolding be64
-be64_same m n x y hm hn e =
-    let parts = cut_same (to_be_bytes w64 m) x (to_be_bytes w64 n) y refl e in
-    (sym (from_be_bytes-to_be_bytes_8 m hm) ∙ ap (from_be_bytes w64) parts.0 ∙ from_be_bytes-to_be_bytes_8 n hn, parts.1)
+    (same32 m n hm hn parts.0, parts.1)

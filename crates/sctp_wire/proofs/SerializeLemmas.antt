@@ -1,10 +1,9 @@
 -- Lengths of written items, and lists of items from the back.
-use Rattle.std.proofs.Common.{◌≡◌, Bool, true, ◌&&◌, ℕ, ◌+◌, ◌-◌, ◌*◌, ◌%◌, ◌<◌, ◌≤◌, ◌≢◌, ◌^◌, min, List, [], ◌∷◌, ◌++◌, length, take, drop, map, refl, sym, ap, ◌∙◌, append_assoc, zero, suc, get_or, arith}
-use Rattle.std.specs.Prelude.{replicate, All, nat_lt}
-use Rattle.std.specs.List.{flat_map, list_all}
+use Rattle.std.proofs.Common.{◌≡◌, Bool, true, ℕ, ◌+◌, ◌-◌, ◌*◌, ◌%◌, ◌<◌, ◌≤◌, ◌≢◌, ◌^◌, min, List, [], ◌∷◌, ◌++◌, length, take, drop, map, refl, sym, ap, ◌∙◌, append_assoc, zero, suc, get_or, arith}
+use Rattle.std.specs.Prelude.{replicate, nat_lt}
+use Rattle.std.specs.List.{flat_map}
 use Rattle.std.proofs.lemmas.List.{length-append, length-replicate, map_more, map-append, take-append-drop}
 use Rattle.std.proofs.lemmas.Bool.{ltb-true, and_parts}
-use Rattle.std.proofs.lemmas.List.Sums.{AllPass-from_list_all}
 use Rattle.std.proofs.lemmas.List.Concat.{flat_map-cons}
 use Rattle.std.proofs.lemmas.Nat.{mod-mul-add}
 use Rattle.sctp_item.specs.Item.{Item, item_bytes, padding}
@@ -98,16 +97,6 @@ encodable_parts : (i : Item) (whole : Bool) → is_encodable i whole ≡ true �
 encodable_parts i whole e =
     let parts = and_parts (nat_lt (4 + length i.value) (2 ^ 16)) whole e in
     (ltb-true (4 + length i.value) (2 ^ 16) parts.0, parts.1)
-
-pub all_encodable_fit : {X : Type 0} (f : X → Item) (whole : X → Bool) (xs : List X) → list_all (λ x. is_encodable (f x) (whole x)) xs ≡ true
-    → All (λ x. IsEncodable (f x)) xs
-all_encodable_fit f whole xs e k d less =
-    (encodable_parts (f (get_or xs k d)) (whole (get_or xs k d)) (AllPass-from_list_all (λ x. is_encodable (f x) (whole x)) xs e k d less)).0
-
-pub all_encodable_whole : {X : Type 0} (f : X → Item) (whole : X → Bool) (xs : List X) → list_all (λ x. is_encodable (f x) (whole x)) xs ≡ true
-    → All (λ x. whole x ≡ true) xs
-all_encodable_whole f whole xs e k d less =
-    (encodable_parts (f (get_or xs k d)) (whole (get_or xs k d)) (AllPass-from_list_all (λ x. is_encodable (f x) (whole x)) xs e k d less)).1
 
 -- items at the front of others take no more than all of them
 inner_front : (is js : List Item) → length (inner_items is) ≤ length (inner_items (is ++ js))

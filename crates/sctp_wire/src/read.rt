@@ -1,6 +1,6 @@
 //! Lists of items read.
 
-ghost use Rattle.std.specs.Prelude.{◌≡◌, ◌⊎◌, ℕ, List, [], IfOk, IfErr};
+ghost use Rattle.std.specs.Prelude.{◌≡◌, ◌⊎◌, [], IfOk, IfErr};
 ghost use Rattle.sctp_wire.specs.declared.error.ChunkParseError.{ChunkParseError};
 ghost use Rattle.sctp_item.specs.Item.{Item, ParsesAll};
 ghost use Rattle.sctp_wire.specs.Views.{raw_item};

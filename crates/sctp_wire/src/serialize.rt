@@ -1,7 +1,7 @@
 //! Items written: kind, length, value, and zeros up to a multiple of four bytes (RFC 9260 section 3.2).
 
-ghost use Rattle.std.specs.Prelude.{◌≡◌, ◌≢◌, ℕ, ◌+◌, ◌-◌, ◌%◌, ◌^◌, ◌<◌, ◌≤◌, ◌↔◌, min, Bool, true, IsTrue, List, [], ◌∷◌, ◌++◌, length, map, replicate, OnOk, All};
-ghost use Rattle.std.specs.List.{flat_map, list_all};
+ghost use Rattle.std.specs.Prelude.{◌≡◌, ◌+◌, ◌-◌, ◌%◌, ◌^◌, ◌<◌, ◌↔◌, min, Bool, true, IsTrue, [], ◌∷◌, ◌++◌, length, map, replicate, OnOk, All};
+ghost use Rattle.std.specs.List.{list_all};
 ghost use Rattle.sctp_wire.specs.Fields.{be16};
 ghost use Rattle.sctp_item.specs.Item.{Item, item_bytes, padding};
 ghost use Rattle.sctp_wire.specs.Room.{Fills};

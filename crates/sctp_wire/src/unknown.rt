@@ -1,6 +1,6 @@
 //! Parameters and causes of no known type.
 
-ghost use Rattle.std.specs.Prelude.{◌≡◌, ◌+◌, ◌^◌, ◌-◌, min, true, ◌++◌, IfOk, IfErr, Some, codes};
+ghost use Rattle.std.specs.Prelude.{◌≡◌, true, IfOk, IfErr, Some, codes};
 ghost use Rattle.sctp_wire.specs.ParameterText.{unknown_text};
 ghost use Rattle.sctp_wire.specs.Serialize.{item_of_type};
 

@@ -1,6 +1,6 @@
 //! The commands of a script, and how a line spells them.
 
-ghost use Rattle.std.specs.Prelude.{◌≡◌, ◌≢◌, ℕ, ◌<◌, ◌^◌, List, [], ◌∷◌, map, true, false, codes, IfOk, IfSome, IfNone, Option, Some};
+ghost use Rattle.std.specs.Prelude.{◌≡◌, ◌≢◌, ℕ, ◌<◌, ◌^◌, List, ◌∷◌, map, true, false, codes, IfOk, IfSome, IfNone, Option, Some};
 ghost use Rattle.std.specs.Char.{is_ascii_digit};
 ghost use Rattle.std.specs.List.{list_all};
 ghost use Rattle.sctp_state.specs.Options.{SendOptions as Sending, send_options_of};

@@ -1,6 +1,6 @@
 //! What an interval says.
 
-ghost use Rattle.std.specs.Prelude.{◌≡◌, ◌<◌, ◌^◌, ◌∷◌, ◌++◌, List, length, IfOk};
+ghost use Rattle.std.specs.Prelude.{◌≡◌, ◌<◌, ◌^◌, ◌∷◌, List, IfOk};
 
 use crate::interval::{Entry, Interval};
 use crate::reassembly_key::{ReassemblyKey, leads_to};

@@ -1,6 +1,6 @@
 //! What equality, order and hashes of moments and identifiers mean, each the contract of a function that takes them by value.
 
-ghost use Rattle.std.specs.Prelude.{◌≡◌, ◌<◌, ◌≤◌, ◌↔◌, IsTrue};
+ghost use Rattle.std.specs.Prelude.{◌≡◌, ◌<◌, ◌↔◌, IsTrue};
 ghost use Rattle.std.specs.List.{fold};
 ghost use Rattle.std.specs.Hash.{u16 as fed_u16, u32 as fed_u32, u64 as fed_u64};
 

@@ -1,6 +1,6 @@
 //! What a socket is made with, and what a message is sent with.
 
-ghost use Rattle.std.specs.Prelude.{◌≡◌, ℕ, ◌*◌, ◌≤◌, ◌↔◌, IsTrue};
+ghost use Rattle.std.specs.Prelude.{◌≡◌, ◌↔◌, IsTrue};
 ghost use Rattle.std.specs.Duration.{as_nanos};
 ghost use Rattle.sctp_state.specs.Options.{options_of, defaults, IsValid, HasValidSizes, HasValidTimes, HasValidWindows};
 

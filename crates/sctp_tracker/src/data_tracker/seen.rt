@@ -1,7 +1,7 @@
 //! The set of the numbers that were seen.
 
 ghost use Rattle.std.specs.Prelude.{◌≡◌, ◌==◌, ℕ, ◌+◌, ◌^◌, ◌<◌, ◌≤◌, ◌||◌, [], not, max, map, take, drop, nat_lt, nat_le, slice_get, IfOk, OnOk, OnErr, false};
-ghost use Rattle.sctp_tracker.specs.Seen.{in_runs, AreRuns, last_above};
+ghost use Rattle.sctp_tracker.specs.Seen.{AreRuns, last_above};
 ghost use Rattle.sctp_tracker.specs.SeenSteps.{Adds, Passes, read, runs_of, run_at, is_held, first_with, last_with};
 ghost use Rattle.sctp_tracker.specs.Sack.{blocks_of, gap_ack_blocks};
 

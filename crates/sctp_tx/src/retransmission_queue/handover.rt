@@ -1,7 +1,6 @@
 //! The sender in the record of a socket that is handed over.
 
 ghost use Rattle.std.specs.Prelude.{◌≡◌, min, is_some, IsTrue, OnOk, OnErr};
-ghost use Rattle.sctp_state.specs.Numbers.{most_u32};
 ghost use Rattle.sctp_state.specs.Handover.{handover_state_of, transmission_of};
 ghost use Rattle.sctp_state.specs.Validity.{is_valid_state};
 ghost use Rattle.sctp_state.specs.declared.api.handover.HandoverSocketState.TheVariants.{Connected};

@@ -1,8 +1,8 @@
 //! The windows of a sender: how much it may have in flight (RFC 9260 sections 6.1, 7.2).
 
-ghost use Rattle.std.specs.Prelude.{◌≡◌, ◌+◌, nat_le, is_some};
+ghost use Rattle.std.specs.Prelude.{◌≡◌, ◌+◌, nat_le};
 ghost use Rattle.sctp_state.specs.Options.{options_of, IsValid};
-ghost use Rattle.sctp_tx.specs.Windows.{at_first, grow, slow_start, avoidance, halve, recovering, timed_out, acknowledge, is_open, advertise, take_payload, room, may_send, cap};
+ghost use Rattle.sctp_tx.specs.Windows.{at_first, grow, slow_start, avoidance, halve, recovering, timed_out, acknowledge, is_open, advertise, take_payload, room, may_send};
 
 use sctp_state::Options;
 

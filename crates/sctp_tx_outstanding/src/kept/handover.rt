@@ -44,10 +44,9 @@ fn restore_all(
 }
 
 impl Kept {
-    ghost use Rattle.std.specs.Prelude.{[]};
 
     /// The items in a record.
-    pub fn handed_over(
+    pub(crate) fn handed_over(
         &self,
         alloc: Global,
         now: SocketTime,
@@ -60,7 +59,7 @@ impl Kept {
     }
 
     /// The items of a record, in the mode of these.
-    pub fn restored(
+    pub(crate) fn restored(
         &self,
         alloc: Global,
         now: SocketTime,

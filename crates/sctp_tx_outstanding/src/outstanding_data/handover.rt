@@ -1,6 +1,6 @@
 //! What was sent, in the record of a socket that is handed over.
 
-ghost use Rattle.std.specs.Prelude.{◌≡◌, ◌<◌, ◌^◌, IsTrue, OnOk, OnErr};
+ghost use Rattle.std.specs.Prelude.{◌≡◌, IsTrue, OnOk, OnErr};
 ghost use Rattle.sctp_state.specs.Handover.{handover_state_of, transmission_of};
 ghost use Rattle.sctp_state.specs.Validity.{is_valid_state};
 ghost use Rattle.sctp_state.specs.declared.api.handover.HandoverSocketState.TheVariants.{Connected};

@@ -1,6 +1,6 @@
 //! What the send queue emits to the socket's user.
 
-ghost use Rattle.std.specs.Prelude.{◌≡◌, [], ◌∷◌, ◌++◌, OnOk, OnErr};
+ghost use Rattle.std.specs.Prelude.{◌≡◌, OnOk, OnErr};
 ghost use Rattle.sctp_state.specs.Events.{event_of, expiry, give_up, emit_events, Grown};
 ghost use Rattle.sctp_tx_queue.specs.Produced.{when, fully_sent, production};
 

@@ -1,9 +1,9 @@
 //! A message that waits or is partly sent, and its fragments.
 
-ghost use Rattle.std.specs.Prelude.{◌≡◌, ◌+◌, ◌-◌, ◌<◌, ◌≤◌, ◌^◌, length, IfOk, IsTrue, None, option_map, min, take, drop, if◌then◌else◌};
+ghost use Rattle.std.specs.Prelude.{◌≡◌, ◌+◌, ◌-◌, ◌<◌, ◌^◌, length, IfOk, IsTrue, None, option_map, min, take, drop, if◌then◌else◌};
 ghost use Rattle.std.specs.Duration.{as_nanos};
 ghost use Rattle.sctp_chunk.specs.Written.{key_stream};
-ghost use Rattle.sctp_chunk.specs.Views.{is_unordered_key, fragment_tree};
+ghost use Rattle.sctp_chunk.specs.Views.{is_unordered_key};
 ghost use Rattle.sctp_tx_queue.specs.Queue.{left_bytes, expiry_of};
 ghost use Rattle.sctp_tx_queue.specs.Produced.{is_stale, is_due, ends, made_of, move_past};
 ghost use Rattle.sctp_tx_queue.specs.Resets.{is_partly};
@@ -30,7 +30,7 @@ use std::time::Duration;
 
 /// What a message takes with its first fragment, counted without wrapping: its number among the ordered messages of its
 /// stream, and that among the messages of its stream and kind, which is used with interleaving.
-#[derive(Clone, Copy, Debug, PartialEq, Eq)]
+#[derive(Clone, Copy)]
 pub struct MessageNumbers {
     pub ssn: u64,
     pub mid: u64,

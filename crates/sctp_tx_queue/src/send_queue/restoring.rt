@@ -1,6 +1,6 @@
 //! A queue that takes up the record of a socket that was handed over.
 
-ghost use Rattle.std.specs.Prelude.{◌≡◌, ◌%◌, ◌^◌, ◌≤◌, IsTrue, OnOk, OnErr, IfOk, map, option_map};
+ghost use Rattle.std.specs.Prelude.{◌≡◌, ◌%◌, IsTrue, OnOk, OnErr, IfOk, map, option_map};
 ghost use Rattle.sctp_state.specs.Handover.{transmission_of, handover_state_of, stream_message_of};
 ghost use Rattle.sctp_state.specs.Validity.{is_valid_state, outgoing_ids};
 ghost use Rattle.sctp_state.specs.declared.api.handover.HandoverSocketState.TheVariants.{Connected};

@@ -1,6 +1,6 @@
 //! What waits on one stream.
 
-ghost use Rattle.std.specs.Prelude.{◌≡◌, ◌+◌, ◌-◌, ◌<◌, ◌≤◌, ◌^◌, ◌==◌, [], ◌∷◌, ◌++◌, length, sum_by, drop, is_some, None, Some, IsTrue, IfOk, OnOk, OnErr, option_map, filter, map, if◌then◌else◌};
+ghost use Rattle.std.specs.Prelude.{◌≡◌, ◌+◌, ◌-◌, ◌<◌, ◌≤◌, ◌^◌, ◌==◌, [], ◌++◌, length, sum_by, drop, is_some, None, Some, IsTrue, IfOk, OnOk, OnErr, option_map, filter, map, if◌then◌else◌};
 ghost use Rattle.sctp_state.specs.Events.{Grown};
 ghost use Rattle.sctp_state.specs.Thresholds.{crosses};
 ghost use Rattle.sctp_tx_queue.specs.Queue.{left_bytes, amount_of, watched_amount, blank_stream, front_left, sendable, push, is_stopped};
@@ -26,7 +26,7 @@ use std::collections::VecDeque;
 use std::marker::Model;
 
 /// Whether a stream sends, or waits for a reset (RFC 6525).
-#[derive(Clone, Copy, Debug, PartialEq, Eq)]
+#[derive(Clone, Copy)]
 pub enum PauseState {
     /// It sends.
     NotPaused,
@@ -39,7 +39,7 @@ pub enum PauseState {
 }
 
 /// What happens to a stream that can be reset.
-#[derive(Clone, Copy, Debug, PartialEq, Eq)]
+#[derive(Clone, Copy)]
 pub enum ResetStep {
     /// It goes into a request.
     Requested,

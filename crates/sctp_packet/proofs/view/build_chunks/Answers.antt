@@ -1,4 +1,4 @@
-use Rattle.std.proofs.Common.{[], List, ℕ, map, subst, arith}
+use Rattle.std.proofs.Common.{List, ℕ, map, subst, arith}
 use Rattle.std.proofs.lemmas.List.{map-append}
 use Rattle.std.proofs.lemmas.Result.{err_from_is_err_and}
 use Rattle.sctp_wire.specs.Item.{ParsesAll}

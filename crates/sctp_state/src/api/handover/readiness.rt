@@ -1,6 +1,6 @@
 //! Whether a socket can be handed over, and what stands in the way.
 
-ghost use Rattle.std.specs.Prelude.{◌≡◌, ◌<◌, ◌↔◌, IsTrue, Some, IfOk, ◌&&◌, not, bit_and, bit_or, if◌then◌else◌};
+ghost use Rattle.std.specs.Prelude.{◌≡◌, ◌<◌, ◌↔◌, IsTrue, Some, IfOk, ◌&&◌, not, bit_or, if◌then◌else◌};
 ghost use Rattle.std.specs.Fmt.{HasWritten, IsPlainFormatter, WritesOnOk};
 ghost use Rattle.sctp_state.specs.Readiness.{joined_names, part, readiness_text, reasons_of, shares_bit};
 

@@ -1,6 +1,6 @@
 //! Which handover records a socket can take up.
 
-ghost use Rattle.std.specs.Prelude.{◌≡◌, ℕ, ◌+◌, ◌-◌, ◌^◌, ◌≤◌, min, map, not};
+ghost use Rattle.std.specs.Prelude.{◌≡◌, ◌+◌, ◌-◌, ◌^◌, min, map};
 ghost use Rattle.sctp_state.specs.Handover.{stream_message_of, outstanding_data_of, transmission_of, receive_of, handover_state_of};
 ghost use Rattle.sctp_state.specs.Validity.{rises_from, outgoing_ids, ordered_ids, unordered_ids, has_small_numbers, is_valid_reception, has_stream, is_valid_message, are_valid_messages, has_message_id, message_ids_differ, has_partly_sent, first_alone_is_partly_sent, partly_sent_count, has_valid_queue, is_in_one_state, is_past, is_valid_item, are_valid_items, has_valid_items, queued_bytes, outstanding_bytes, payload_fits, is_valid_transmission, is_valid_connection, is_valid_state};
 

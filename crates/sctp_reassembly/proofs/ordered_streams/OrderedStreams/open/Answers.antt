@@ -6,14 +6,14 @@ use Rattle.sctp_reassembly.specs.Delivery.{OrderedStream, fresh_ordered}
 use Rattle.sctp_reassembly.specs.Streams.{ordered_bytes}
 use Rattle.sctp_reassembly.proofs.EntriesLemmas.{sum_opened}
 use Rattle.sctp_reassembly.proofs.ordered_streams.OrderedStreams.open.Goals as goal
-use Rattle.sctp_serial.proofs.NumberLemmas.{none_from}
+use Rattle.sctp_serial.proofs.NumberLemmas.{is_none}
 
 pub invariant_of-self-2 : goal.invariant_of-self-2
 invariant_of-self-2 g c =
     c.self.invariant ∙ sym (ap ordered_bytes c.in_ok-insert.ensures.entries ∙ (ap (λ s. ordered_bytes (insert_entry nat_cmp c.self.inside.streams.entries c.args.id.0 s)) c.new-stream.ensures
-    ∙ sum_opened (λ (s : OrderedStream). bytes_of s.held) c.args.id.0 c.self.inside.streams.entries fresh_ordered refl c.insert.ensures.was_ordered (none_from _ (sym c.contains_key.ensures ∙ c.if-contains_key.false))))
+    ∙ sum_opened (λ (s : OrderedStream). bytes_of s.held) c.args.id.0 c.self.inside.streams.entries fresh_ordered refl c.insert.ensures.was_ordered (is_none _ (sym c.contains_key.ensures ∙ c.if-contains_key.false))))
 
 pub returns-clause-bytes : goal.returns-clause-bytes
 returns-clause-bytes g c =
     ap ordered_bytes c.in_ok-insert.ensures.entries ∙ (ap (λ s. ordered_bytes (insert_entry nat_cmp c.self.inside.streams.entries c.args.id.0 s)) c.new-stream.ensures
-    ∙ sum_opened (λ (s : OrderedStream). bytes_of s.held) c.args.id.0 c.self.inside.streams.entries fresh_ordered refl c.insert.ensures.was_ordered (none_from _ (sym c.contains_key.ensures ∙ c.if-contains_key.false))) ∙ ap ordered_bytes c.self.view_is
+    ∙ sum_opened (λ (s : OrderedStream). bytes_of s.held) c.args.id.0 c.self.inside.streams.entries fresh_ordered refl c.insert.ensures.was_ordered (is_none _ (sym c.contains_key.ensures ∙ c.if-contains_key.false))) ∙ ap ordered_bytes c.self.view_is

@@ -8,9 +8,8 @@ use Rattle.sctp_tx.specs.Interrupted.{PartlySent, PartlyTaken}
 use Rattle.sctp_tx.proofs.FitLemmas.{sent_fits}
 use Rattle.sctp_tx.proofs.FlightLemmas.{itself, stays_within}
 use Rattle.sctp_tx.proofs.IdleLemmas.{idle_send}
-use Rattle.sctp_tx.proofs.PartlyLemmas.{discarded_sent, sent_on, taken_on}
+use Rattle.sctp_tx.proofs.PartlyLemmas.{discarded_sent, sent_on, taken_on, on_err}
 use Rattle.sctp_tx.proofs.retransmission_queue.RetransmissionQueue.get_chunks_to_send.Goals as goal
-use Rattle.sctp_serial.proofs.NumberLemmas.{on_err}
 
 abbrev sent_none : (c : goal.After-new) → Type 0
 sent_none c =
