@@ -44,7 +44,6 @@ fn restore_all(
 }
 
 impl Kept {
-
     /// The items in a record.
     pub(crate) fn handed_over(
         &self,
