@@ -9,7 +9,7 @@ use crate::receiver::show_next;
 use crate::words::{number, piece, value, word, yes_or_no};
 use sctp_packet::Data;
 use sctp_rx::{
-    InterleavedKey, ReadyMessages, TraditionalKey, UnorderedInterleavedKey,
+    InterleavedKey, ReadyMessages, ReassemblyKey, ReassemblyStream, TraditionalKey, UnorderedInterleavedKey,
     interleaved_reassembly_streams as interleaved, traditional_reassembly_streams as traditional,
 };
 use std::alloc::{AllocError, Global};
@@ -24,167 +24,75 @@ pub fn have_room(held: usize, ready: &ReadyMessages, coming: usize) -> bool
     held < 1 << 40 && ready.total_bytes() < 1 << 40 && coming < 1 << 40
 }
 
-/// A stream of either kind and form. Numbers count from 2^32 on. What there is no room for is not taken.
-trait Stream {
-    /// Takes a fragment.
-    fn add(
-        &mut self,
-        number: u64,
-        index: u64,
-        fragment: Data,
-        ready: &mut ReadyMessages,
-    ) -> Result<(), AllocError>;
+/// A stream of either kind and form. Numbers count from 2^32 on.
+trait Stream: ReassemblyStream {
+    fn key(number: u64, index: u64) -> Self::Key;
 
-    /// Takes a forward point to what is below the key, or drops that, of an unordered stream alone.
-    fn pass(
-        &mut self,
-        number: u64,
-        index: u64,
-        is_drop: bool,
-        ready: &mut ReadyMessages,
-    ) -> Result<(), AllocError>;
+    /// The next number of an ordered stream, the last one that came of another.
+    fn number(&self) -> u128;
 
-    /// The next number of an ordered stream, the last one that came of another; whether anything is held, and how many
-    /// bytes.
-    fn state(&self) -> (u128, bool, usize);
+    /// Drops what is below the key, of an unordered stream alone.
+    fn drop_below(&mut self, first: Self::Key);
 }
 
 impl Stream for traditional::OrderedStream {
-    fn add(
-        &mut self,
-        number: u64,
-        index: u64,
-        fragment: Data,
-        ready: &mut ReadyMessages,
-    ) -> Result<(), AllocError> {
-        if !have_room(self.queued_bytes(), ready, fragment.payload.len()) {
-            drop(fragment);
-            return Ok(());
-        }
-        self.add(TraditionalKey { number, index }, fragment, ready)
+    fn key(number: u64, index: u64) -> TraditionalKey {
+        TraditionalKey { number, index }
     }
 
-    fn pass(
-        &mut self,
-        number: u64,
-        index: u64,
-        is_drop: bool,
-        ready: &mut ReadyMessages,
-    ) -> Result<(), AllocError> {
-        if is_drop || !have_room(self.queued_bytes(), ready, 0) {
-            return Ok(());
-        }
-        self.forward(TraditionalKey { number, index }, ready)
+    fn number(&self) -> u128 {
+        self.next()
     }
 
-    fn state(&self) -> (u128, bool, usize) {
-        (self.next(), self.is_held(), self.queued_bytes())
-    }
+    fn drop_below(&mut self, _first: TraditionalKey) {}
 }
 
 impl Stream for interleaved::OrderedStream {
-    fn add(
-        &mut self,
-        number: u64,
-        index: u64,
-        fragment: Data,
-        ready: &mut ReadyMessages,
-    ) -> Result<(), AllocError> {
-        if !have_room(self.queued_bytes(), ready, fragment.payload.len()) {
-            drop(fragment);
-            return Ok(());
-        }
-        self.add(InterleavedKey { number, index }, fragment, ready)
+    fn key(number: u64, index: u64) -> InterleavedKey {
+        InterleavedKey { number, index }
     }
 
-    fn pass(
-        &mut self,
-        number: u64,
-        index: u64,
-        is_drop: bool,
-        ready: &mut ReadyMessages,
-    ) -> Result<(), AllocError> {
-        if is_drop || !have_room(self.queued_bytes(), ready, 0) {
-            return Ok(());
-        }
-        self.forward(InterleavedKey { number, index }, ready)
+    fn number(&self) -> u128 {
+        self.next()
     }
 
-    fn state(&self) -> (u128, bool, usize) {
-        (self.next(), self.is_held(), self.queued_bytes())
-    }
+    fn drop_below(&mut self, _first: InterleavedKey) {}
 }
 
 impl Stream for traditional::UnorderedStream {
-    fn add(
-        &mut self,
-        number: u64,
-        index: u64,
-        fragment: Data,
-        ready: &mut ReadyMessages,
-    ) -> Result<(), AllocError> {
-        let has_room = have_room(self.queued_bytes(), ready, fragment.payload.len());
-        if !has_room || number >= 1 << 63 {
-            drop(fragment);
-            return Ok(());
-        }
-        self.add(TraditionalKey { number, index }, fragment, ready)
+    fn key(number: u64, index: u64) -> TraditionalKey {
+        TraditionalKey { number, index }
     }
 
-    fn pass(
-        &mut self,
-        number: u64,
-        index: u64,
-        is_drop: bool,
-        _ready: &mut ReadyMessages,
-    ) -> Result<(), AllocError> {
-        if is_drop {
-            self.forward_to(TraditionalKey { number, index });
-        } else if number > 0 && number < 1 << 63 {
-            self.forward(TraditionalKey { number, index });
-        }
-        Ok(())
+    fn number(&self) -> u128 {
+        self.near() as u128
     }
 
-    fn state(&self) -> (u128, bool, usize) {
-        (self.near() as u128, self.is_held(), self.queued_bytes())
+    fn drop_below(&mut self, first: TraditionalKey) {
+        self.forward_to(first);
     }
 }
 
 impl Stream for interleaved::UnorderedStream {
-    fn add(
-        &mut self,
-        number: u64,
-        index: u64,
-        fragment: Data,
-        ready: &mut ReadyMessages,
-    ) -> Result<(), AllocError> {
-        let has_room = have_room(self.queued_bytes(), ready, fragment.payload.len());
-        if !has_room || number >= 1 << 63 {
-            drop(fragment);
-            return Ok(());
-        }
-        self.add(UnorderedInterleavedKey { number, index }, fragment, ready)
+    fn key(number: u64, index: u64) -> UnorderedInterleavedKey {
+        UnorderedInterleavedKey { number, index }
     }
 
-    fn pass(
-        &mut self,
-        number: u64,
-        index: u64,
-        is_drop: bool,
-        _ready: &mut ReadyMessages,
-    ) -> Result<(), AllocError> {
-        if is_drop {
-            self.forward_to(UnorderedInterleavedKey { number, index });
-        } else if number > 0 && number < 1 << 63 {
-            self.forward(UnorderedInterleavedKey { number, index });
-        }
-        Ok(())
+    fn number(&self) -> u128 {
+        self.near() as u128
     }
 
-    fn state(&self) -> (u128, bool, usize) {
-        (self.near() as u128, self.is_held(), self.queued_bytes())
+    fn drop_below(&mut self, first: UnorderedInterleavedKey) {
+        self.forward_to(first);
     }
+}
+
+/// Whether a stream takes a message's number.
+fn is_taken(number: u64) -> bool
+    ensures some { IsTrue result → 0 < number }
+    ensures small { IsTrue result → number < 2 ^ 63 }
+{
+    number > 0 && number < 1 << 63
 }
 
 /// A stream, and the messages that are ready.
@@ -273,23 +181,43 @@ impl<S: Stream> Player for Alone<S> {
 }
 
 impl<S: Stream> Alone<S> {
+    /// Takes a fragment, where there is room.
+    fn add(&mut self, key: S::Key, fragment: Data) -> Result<(), AllocError> {
+        let held = self.stream.queued_bytes();
+        let has_room = have_room(held, &self.ready, fragment.payload.len());
+        if !has_room || !is_taken(key.number()) {
+            drop(fragment);
+            return Ok(());
+        }
+        self.stream.add(key, fragment, &mut self.ready)
+    }
+
+    /// Takes a forward point to what is below the key.
+    fn forward(&mut self, first: S::Key) -> Result<(), AllocError> {
+        let held = self.stream.queued_bytes();
+        if !have_room(held, &self.ready, 0) || !is_taken(first.number()) {
+            return Ok(());
+        }
+        self.stream.forward(first, &mut self.ready)
+    }
+
     /// `add NUMBER INDEX ENDS HEX`, `forward NUMBER INDEX`, `drop NUMBER INDEX`.
     fn change(&mut self, alloc: Global, line: &str, output: &mut Output) {
-        let (number, index) = (number(line, 1), number(line, 2));
+        let key = S::key(number(line, 1), number(line, 2));
         match word(line, 0) {
             "add" => {
                 let fragment = piece(alloc, line, output);
-                output.note(self.stream.add(number, index, fragment, &mut self.ready));
+                output.note(self.add(key, fragment));
             }
-            "forward" => output.note(self.stream.pass(number, index, false, &mut self.ready)),
-            "drop" => output.note(self.stream.pass(number, index, true, &mut self.ready)),
+            "forward" => output.note(self.forward(key)),
+            "drop" => self.stream.drop_below(key),
             _ => {}
         }
     }
 
     fn show(&self, output: &mut Output) {
-        let (number, is_held, bytes) = self.stream.state();
-        let (held, ready) = (yes_or_no(is_held), self.ready.len());
+        let (number, bytes) = (self.stream.number(), self.stream.queued_bytes());
+        let (held, ready) = (yes_or_no(self.stream.is_held()), self.ready.len());
         write!(
             output,
             "number {number}, held {held}, bytes {bytes}, ready {ready}"

@@ -61,6 +61,14 @@ skipped_unordered id n m o u new some made =
     ap (λ (t : Entries UnorderedStream). mixed o t) (made ∙ ap (λ (k : ℕ). change_stream fresh_unordered id (unordered_forward k (stream_at fresh_unordered id u)) u) (sym (same_from n m some)))
     ∙ sym (ap (λ (b : Bool). (cond b (unchanged (mixed o u)) (record { streams = mixed o (change_stream fresh_unordered id (unordered_forward n (stream_at fresh_unordered id u)) u); messages = [] })).streams) (near_from n m some))
 
+-- it makes no message ready
+pub skipped_silently : (id n : ℕ) (ss : Streams) → [] ≡ (skip_unordered id n ss).messages
+skipped_silently id n ss = go (is_far n)
+  where
+    go : (b : Bool) → [] ≡ (cond b (unchanged ss) (record { streams = record ss { unordered = change_stream fresh_unordered id (unordered_forward n (stream_at fresh_unordered id ss.unordered)) ss.unordered }; messages = [] })).messages
+    go true = refl
+    go false = refl
+
 pub comes_unordered : (o : Entries OrderedStream) (u : Entries UnorderedStream) (tsn id n index : ℕ) (f : FragmentTree) → f.is_unordered ≡ true → f.stream_id ≡ id → number_if_any (nearest words 0 (stream_at fresh_unordered id u).near f.mid) ≡ Some n → index ≡ place_of true tsn f
     → add tsn f (mixed o u) ≡ with_unordered id (unordered_arrival (record { number = n; index = index; fragment = f }) (stream_at fresh_unordered id u)) (mixed o u)
 comes_unordered o u tsn id n index f kind stream some place =

@@ -42,6 +42,13 @@ is_named ids id = (length ids == 0) || list_any (λ i. i.0 == id) ids
 abbrev pub forget : {S : Type 0} → List StreamId → Entries S → Entries S
 forget ids es = filter (λ e. not (is_named ids e.0)) es
 
+-- what the streams of a map hold
+abbrev pub bytes_held : {S : Type 0} → (S → List Held) → Entries S → ℕ
+bytes_held held es = sum_by (λ s. bytes_of (held s)) (values_of es)
+
+abbrev pub is_any_held : {S : Type 0} → (S → List Held) → Entries S → Bool
+is_any_held held es = list_any (λ s. nat_lt 0 (length (held s))) (values_of es)
+
 -- ---- all streams of an association
 
 pub record Streams : Type 0 where
@@ -58,10 +65,10 @@ pub record Outcome : Type 0 where
   pub messages : List Message
 
 abbrev pub ordered_bytes : Entries OrderedStream → ℕ
-ordered_bytes es = sum_by (λ s. bytes_of s.held) (values_of es)
+ordered_bytes es = bytes_held (λ s. s.held) es
 
 abbrev pub unordered_bytes : Entries UnorderedStream → ℕ
-unordered_bytes es = sum_by (λ s. bytes_of s.held) (values_of es)
+unordered_bytes es = bytes_held (λ s. s.held) es
 
 abbrev pub held_bytes : Streams → ℕ
 held_bytes ss = ordered_bytes ss.ordered + unordered_bytes ss.unordered

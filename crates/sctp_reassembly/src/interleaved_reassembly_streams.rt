@@ -82,7 +82,7 @@ impl InterleavedReassemblyStreams {
                     number: number + 1,
                     index: 0,
                 };
-                self.unordered.forward(id, first)
+                self.unordered.forward(id, first, ready)
             }
             StreamKey::Ordered(id) => {
                 let Some(number) = mid_near(self.ordered.next(id), mid) else {

@@ -12,9 +12,11 @@ mod ordered_streams;
 pub mod ready_laws;
 pub mod ready_messages;
 pub mod reassembly_queue;
+pub mod reassembly_stream;
 pub mod reassembly_streams;
 pub mod settled_laws;
 mod sorted_skips;
+mod stream_map;
 pub mod traditional_reassembly_streams;
 mod unordered_stream;
 mod unordered_streams;
@@ -29,6 +31,7 @@ pub use ready_laws::{
 };
 pub use ready_messages::ReadyMessages;
 pub use reassembly_queue::ReassemblyQueue;
+pub use reassembly_stream::ReassemblyStream;
 pub use reassembly_streams::ReassemblyStreams;
 pub use sctp_fragments::{
     Entry, InterleavedKey, Interval, ReassemblyKey, TraditionalKey, UnorderedInterleavedKey,

@@ -1,6 +1,6 @@
 //! A stream whose messages become ready in the order of their numbers.
 
-ghost use Rattle.std.specs.Prelude.{◌≡◌, ◌==◌, ℕ, suc, ◌+◌, ◌<◌, ◌≤◌, ◌^◌, ◌++◌, ◌∷◌, max, length, OnOk, OnErr, IfOk, [], true, false, nat_lt};
+ghost use Rattle.std.specs.Prelude.{◌≡◌, ◌==◌, ◌+◌, ◌<◌, ◌≤◌, ◌^◌, ◌++◌, ◌∷◌, max, length, OnOk, OnErr, IfOk, [], true, false};
 ghost use Rattle.sctp_serial.specs.Unwrapped.{origin};
 ghost use Rattle.sctp_fragments.specs.Held.{bytes_of, rank_of, intervals_of, is_in_turn, message_of_run, NoneInTurn};
 ghost use Rattle.sctp_fragments.specs.Intervals.{held_at};
@@ -9,6 +9,7 @@ ghost use Rattle.sctp_reassembly.specs.Delivery.{deliver, ordered_arrival, ready
 
 use crate::interval_list::IntervalList;
 use crate::ready_messages::ReadyMessages;
+use crate::reassembly_stream::ReassemblyStream;
 use sctp_chunk::Data;
 use sctp_fragments::{ReassemblyKey, message_of};
 use sctp_serial::Message;
@@ -114,20 +115,6 @@ fn stays_settled(is_settled: bool, is_turn: bool) -> bool
 }
 
 impl<K: ReassemblyKey> OrderedStream<K> {
-    ghost use Rattle.sctp_reassembly.specs.Delivery.{fresh_ordered, ordered_arrival, ordered_forward};
-
-    /// A stream of which nothing came.
-    pub fn new(alloc: Global) -> OrderedStream<K>
-        ensures { result ≡ fresh_ordered }
-    {
-        OrderedStream {
-            alloc,
-            next: FIRST as u128,
-            list: IntervalList::new(alloc),
-            is_settled: true,
-        }
-    }
-
     /// A stream of which nothing is held, and whose next message has this number.
     pub fn restored(alloc: Global, next: u128) -> OrderedStream<K>
         requires { origin ≤ next }
@@ -141,26 +128,12 @@ impl<K: ReassemblyKey> OrderedStream<K> {
         }
     }
 
-    /// Whether fragments are held.
-    pub fn is_held(&self) -> bool
-        ensures { result ≡ nat_lt 0 (length self.now.held) }
-    {
-        !self.list.is_empty()
-    }
-
     /// The number of the message that becomes ready next.
     pub fn next(&self) -> u128
         ensures value { result ≡ self.now.next }
         ensures range { origin ≤ result }
     {
         self.next
-    }
-
-    /// How many bytes of payload are held.
-    pub fn queued_bytes(&self) -> usize
-        ensures { result ≡ bytes_of self.now.held }
-    {
-        self.list.total_bytes()
     }
 
     /// Makes the next message ready, which is one fragment, where none is held.
@@ -207,24 +180,52 @@ impl<K: ReassemblyKey> OrderedStream<K> {
         self.is_settled = true;
         Ok(())
     }
+}
+
+impl<K: ReassemblyKey> ReassemblyStream for OrderedStream<K> {
+    ghost use Rattle.std.proofs.Common.{refl};
+    ghost use Rattle.sctp_reassembly.specs.Delivery.{fresh_ordered, ordered_arrival, ordered_forward};
+
+    type Key = K;
+
+    ghost held = { λ s. s.held };
+
+    ghost fresh = { fresh_ordered };
+
+    ghost after_arrival = { λ h s. (ordered_arrival h s).stream };
+
+    ghost made_ready = { λ h s. (ordered_arrival h s).messages };
+
+    ghost after_forward = { λ n s. (ordered_forward n s).stream };
+
+    ghost forwarded = { λ n s. (ordered_forward n s).messages };
+
+    /// A stream of which nothing came.
+    fn new(alloc: Global) -> OrderedStream<K> {
+        OrderedStream {
+            alloc,
+            next: FIRST as u128,
+            list: IntervalList::new(alloc),
+            is_settled: true,
+        }
+    }
+
+    /// Whether fragments are held.
+    fn is_held(&self) -> bool {
+        !self.list.is_empty()
+    }
+
+    /// How many bytes of payload are held.
+    fn queued_bytes(&self) -> usize {
+        self.list.total_bytes()
+    }
 
     /// Adds a fragment, unless its message is below the next one; what is in turn then becomes ready. Takes a search by
     /// halves, unless the fragment completes the next message. One that is all of it, where nothing is held, is handed on.
     ///
     /// Without memory the fragment, or a message that was in turn, may be lost; what was ready stays ready.
     #[tactic(auto, using(crate::proofs::ExtendsLemmas::extends_none))]
-    pub fn add(
-        &mut self,
-        key: K,
-        fragment: Data,
-        ready: &mut ReadyMessages,
-    ) -> Result<(), AllocError>
-        requires { bytes_of self.old.held + ready_bytes ready.old + length fragment.payload.items < 2 ^ 64 }
-        ensures ok { OnOk result (self.new ≡ (ordered_arrival (held_at (K.number key) (K.index key) fragment) self.old).stream) }
-        ensures ready { OnOk result (ready.new ≡ ready.old ++ (ordered_arrival (held_at (K.number key) (K.index key) fragment) self.old).messages) }
-        ensures kept { Extends ready.old ready.new }
-        ensures bytes { bytes_of self.new.held + ready_bytes ready.new ≤ bytes_of self.old.held + ready_bytes ready.old + length fragment.payload.items }
-    {
+    fn add(&mut self, key: K, fragment: Data, ready: &mut ReadyMessages) -> Result<(), AllocError> {
         if self.list.is_empty() && is_whole_at(key, &fragment, self.next) {
             return self.pass_on(key, fragment, ready);
         }
@@ -235,13 +236,7 @@ impl<K: ReassemblyKey> OrderedStream<K> {
     /// turn then becomes ready.
     ///
     /// Without memory a message that was in turn may be lost; what was ready stays ready.
-    pub fn forward(&mut self, first: K, ready: &mut ReadyMessages) -> Result<(), AllocError>
-        requires { bytes_of self.old.held + ready_bytes ready.old < 2 ^ 64 }
-        ensures ok { (n : ℕ) → K.number first ≡ suc n → K.index first ≡ 0 → OnOk result (self.new ≡ (ordered_forward n self.old).stream) }
-        ensures ready { (n : ℕ) → K.number first ≡ suc n → K.index first ≡ 0 → OnOk result (ready.new ≡ ready.old ++ (ordered_forward n self.old).messages) }
-        ensures kept { Extends ready.old ready.new }
-        ensures bytes { bytes_of self.new.held + ready_bytes ready.new ≤ bytes_of self.old.held + ready_bytes ready.old }
-    {
+    fn forward(&mut self, first: K, ready: &mut ReadyMessages) -> Result<(), AllocError> {
         self.is_settled = false;
         self.list.retain(first);
         self.next = self.next.max(first.number() as u128);
@@ -249,4 +244,6 @@ impl<K: ReassemblyKey> OrderedStream<K> {
         self.is_settled = true;
         Ok(())
     }
+
+    ghost is_blank = { refl };
 }

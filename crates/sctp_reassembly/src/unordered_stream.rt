@@ -1,11 +1,12 @@
 //! A stream whose messages become ready when they are complete.
 
-ghost use Rattle.std.specs.Prelude.{◌≡◌, ℕ, suc, ◌+◌, ◌<◌, ◌≤◌, ◌^◌, ◌++◌, max, length, nat_lt, OnOk, IfSome, IfNone, []};
+ghost use Rattle.std.specs.Prelude.{◌≡◌, ◌+◌, ◌<◌, ◌≤◌, ◌^◌, ◌++◌, max, length, OnOk, IfSome, IfNone, []};
 ghost use Rattle.sctp_serial.specs.Unwrapped.{origin};
 
 use crate::interval_list::IntervalList;
 use crate::ordered_stream::FIRST;
 use crate::ready_messages::ReadyMessages;
+use crate::reassembly_stream::ReassemblyStream;
 use sctp_chunk::Data;
 use sctp_fragments::{ReassemblyKey, message_of};
 use std::alloc::{AllocError, Global};
@@ -64,28 +65,9 @@ fn take_in<K: ReassemblyKey>(
 }
 
 impl<K: ReassemblyKey> UnorderedStream<K> {
-    ghost use Rattle.sctp_reassembly.specs.Delivery.{fresh_unordered, unordered_arrival, unordered_forward, held_from};
+    ghost use Rattle.sctp_reassembly.specs.Delivery.{held_from};
     ghost use Rattle.sctp_fragments.specs.Key.{rank_at};
     ghost use Rattle.sctp_reassembly.specs.Notes.{BeginsFrom};
-
-    /// A stream of which nothing came.
-    pub fn new(alloc: Global) -> UnorderedStream<K>
-        ensures { result ≡ fresh_unordered }
-    {
-        UnorderedStream {
-            alloc,
-            near: FIRST,
-            passed: 0,
-            list: IntervalList::new(alloc),
-        }
-    }
-
-    /// Whether fragments are held.
-    pub fn is_held(&self) -> bool
-        ensures { result ≡ nat_lt 0 (length self.now.held) }
-    {
-        !self.list.is_empty()
-    }
 
     /// The key of the first fragment.
     pub fn first(&self) -> Option<K>
@@ -104,10 +86,50 @@ impl<K: ReassemblyKey> UnorderedStream<K> {
         self.near
     }
 
-    /// How many bytes of payload are held.
-    pub fn queued_bytes(&self) -> usize
-        ensures { result ≡ bytes_of self.now.held }
+    /// Drops the fragments before the key.
+    pub fn forward_to(&mut self, first: K)
+        ensures value { self.new ≡ held_from (rank_at K.number K.index first) self.old }
+        ensures bytes { bytes_of self.new.held ≤ bytes_of self.old.held }
     {
+        self.list.retain(first);
+    }
+}
+
+impl<K: ReassemblyKey> ReassemblyStream for UnorderedStream<K> {
+    ghost use Rattle.std.proofs.Common.{refl};
+    ghost use Rattle.sctp_reassembly.specs.Delivery.{fresh_unordered, unordered_arrival, unordered_forward};
+
+    type Key = K;
+
+    ghost held = { λ s. s.held };
+
+    ghost fresh = { fresh_unordered };
+
+    ghost after_arrival = { λ h s. (unordered_arrival h s).stream };
+
+    ghost made_ready = { λ h s. (unordered_arrival h s).messages };
+
+    ghost after_forward = { unordered_forward };
+
+    ghost forwarded = { λ n s. [] };
+
+    /// A stream of which nothing came.
+    fn new(alloc: Global) -> UnorderedStream<K> {
+        UnorderedStream {
+            alloc,
+            near: FIRST,
+            passed: 0,
+            list: IntervalList::new(alloc),
+        }
+    }
+
+    /// Whether fragments are held.
+    fn is_held(&self) -> bool {
+        !self.list.is_empty()
+    }
+
+    /// How many bytes of payload are held.
+    fn queued_bytes(&self) -> usize {
         self.list.total_bytes()
     }
 
@@ -116,19 +138,7 @@ impl<K: ReassemblyKey> UnorderedStream<K> {
     ///
     /// Without memory the fragment, or the message that it completes, may be lost; what was ready stays ready.
     #[tactic(auto, using(crate::proofs::ExtendsLemmas::extends_none))]
-    pub fn add(
-        &mut self,
-        key: K,
-        fragment: Data,
-        ready: &mut ReadyMessages,
-    ) -> Result<(), AllocError>
-        requires room { bytes_of self.old.held + ready_bytes ready.old + length fragment.payload.items < 2 ^ 64 }
-        requires small { K.number key < 2 ^ 63 }
-        ensures ok { OnOk result (self.new ≡ (unordered_arrival (held_at (K.number key) (K.index key) fragment) self.old).stream) }
-        ensures ready { OnOk result (ready.new ≡ ready.old ++ (unordered_arrival (held_at (K.number key) (K.index key) fragment) self.old).messages) }
-        ensures kept { Extends ready.old ready.new }
-        ensures bytes { bytes_of self.new.held + ready_bytes ready.new ≤ bytes_of self.old.held + ready_bytes ready.old + length fragment.payload.items }
-    {
+    fn add(&mut self, key: K, fragment: Data, ready: &mut ReadyMessages) -> Result<(), AllocError> {
         let number = key.number();
         self.near = number.max(FIRST);
         if number < self.passed {
@@ -138,22 +148,13 @@ impl<K: ReassemblyKey> UnorderedStream<K> {
     }
 
     /// Drops the messages before that of the key, which later fragments won't bring back.
-    pub fn forward(&mut self, first: K)
-        requires some { 0 < K.number first }
-        requires small { K.number first < 2 ^ 63 }
-        ensures value { (n : ℕ) → K.number first ≡ suc n → K.index first ≡ 0 → self.new ≡ unordered_forward n self.old }
-        ensures bytes { bytes_of self.new.held ≤ bytes_of self.old.held }
-    {
+    #[tactic(auto, using(crate::proofs::ExtendsLemmas::extends_none))]
+    fn forward(&mut self, first: K, _ready: &mut ReadyMessages) -> Result<(), AllocError> {
         self.list.retain(first);
         self.near = self.near.max(first.number() - 1);
         self.passed = self.passed.max(first.number());
+        Ok(())
     }
 
-    /// Drops the fragments before the key.
-    pub fn forward_to(&mut self, first: K)
-        ensures value { self.new ≡ held_from (rank_at K.number K.index first) self.old }
-        ensures bytes { bytes_of self.new.held ≤ bytes_of self.old.held }
-    {
-        self.list.retain(first);
-    }
+    ghost is_blank = { refl };
 }

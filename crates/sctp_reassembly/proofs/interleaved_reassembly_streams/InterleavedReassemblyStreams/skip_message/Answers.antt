@@ -1,10 +1,10 @@
-use Rattle.std.proofs.Common.{◌≡◌, Some, refl, ap, sym, ◌∙◌, arith, true}
+use Rattle.std.proofs.Common.{◌≡◌, ◌++◌, Some, refl, ap, sym, ◌∙◌, arith, true}
 use Rattle.std.proofs.lemmas.Result.{on_ok_weaker}
 use Rattle.sctp_serial.specs.Unwrapped.{words, nearest}
 use Rattle.sctp_chunk.specs.declared.forward_tsn.SkippedStream.TheVariants.{IForwardTsn}
 use Rattle.sctp_reassembly.specs.Delivery.{fresh_ordered, fresh_unordered}
 use Rattle.sctp_reassembly.specs.Streams.{Streams, number_if_any, stream_at, skip}
-use Rattle.sctp_reassembly.proofs.SkipLemmas.{skipped_mixed, skipped_unordered}
+use Rattle.sctp_reassembly.proofs.SkipLemmas.{skipped_mixed, skipped_unordered, skipped_silently}
 use Rattle.sctp_reassembly.proofs.interleaved_reassembly_streams.InterleavedReassemblyStreams.skip_message.Goals as goal
 
 pub returns-in-Some-clause-ok : goal.returns-in-Some-clause-ok
@@ -24,3 +24,10 @@ returns-in-Some-mid_near-clause-ok c =
     on_ok_weaker c.forward-in-Ordered.result
     (λ e. skipped_mixed c.in-Ordered.id.0 _ c.in-Some-mid_near.number c.self.inside.ordered c.forward-in-Ordered.new.self c.self.inside.unordered some e ∙ (ap (λ k. (skip (IForwardTsn k c.args.mid) old).streams) (sym c.in-Ordered.is) ∙ ap (λ s. (skip (IForwardTsn c.args.key c.args.mid) s).streams) c.self.view_is))
     (c.forward-in-Ordered.ensures.ok c.in-Some-mid_near.number (omega arith) refl)
+
+pub returns-in-Some-clause-ready : goal.returns-in-Some-clause-ready
+returns-in-Some-clause-ready c =
+    let old : Streams = record { is_interleaved = true; ordered = c.self.inside.ordered; unordered = c.self.inside.unordered } in
+    on_ok_weaker c.forward.result
+    (λ e. e ∙ ap (λ ms. c.args.ready.now ++ ms) (skipped_silently c.in-Unordered.id.0 _ old ∙ (ap (λ k. (skip (IForwardTsn k c.args.mid) old).messages) (sym c.in-Unordered.is) ∙ ap (λ s. (skip (IForwardTsn c.args.key c.args.mid) s).messages) c.self.view_is)))
+    (c.forward.ensures.ready c.in-Some.number (omega arith) refl)

@@ -5,7 +5,7 @@ use Rattle.sctp_fragments.specs.Held.{bytes_of}
 use Rattle.sctp_reassembly.specs.Delivery.{OrderedStream}
 use Rattle.sctp_reassembly.specs.Streams.{ordered_bytes}
 use Rattle.sctp_reassembly.proofs.RestoredLemmas.{weightless}
-use Rattle.sctp_reassembly.proofs.ordered_streams.OrderedStreams.restored.Goals as goal
+use Rattle.sctp_reassembly.proofs.ordered_streams.StreamMap+OrderedStream+K.restored.Goals as goal
 
 pub invariant_of-result : goal.invariant_of-result
 invariant_of-result g c =

@@ -7,7 +7,7 @@ use Rattle.sctp_reassembly.specs.Delivery.{UnorderedStream, fresh_unordered, hel
 use Rattle.sctp_reassembly.specs.Streams.{unordered_bytes, stream_at, write_stream}
 use Rattle.sctp_reassembly.proofs.EntriesLemmas.{sum_written, sum_at_least}
 use Rattle.sctp_reassembly.proofs.NoteLemmas.{not_written}
-use Rattle.sctp_reassembly.proofs.unordered_streams.UnorderedStreams.forward_to.Goals as goal
+use Rattle.sctp_reassembly.proofs.unordered_streams.StreamMap+UnorderedStream+K.forward_to.Goals as goal
 
 pub invariant_of-self-2 : goal.invariant_of-self-2
 invariant_of-self-2 g c =

@@ -5,7 +5,7 @@ use Rattle.sctp_fragments.specs.Held.{bytes_of}
 use Rattle.sctp_reassembly.specs.Delivery.{UnorderedStream, held_from}
 use Rattle.sctp_reassembly.specs.Streams.{unordered_bytes}
 use Rattle.sctp_reassembly.proofs.EntriesLemmas.{sum_mapped, from_rank_bytes}
-use Rattle.sctp_reassembly.proofs.unordered_streams.UnorderedStreams.forward_all.Goals as goal
+use Rattle.sctp_reassembly.proofs.unordered_streams.StreamMap+UnorderedStream+K.forward_all.Goals as goal
 
 pub bytes_in-self-inside-requires : goal.bytes_in-self-inside-requires
 bytes_in-self-inside-requires g c =

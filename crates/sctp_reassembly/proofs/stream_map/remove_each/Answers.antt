@@ -1,24 +1,23 @@
 use Rattle.std.proofs.Common.{ap, arith}
 use Rattle.sctp_fragments.specs.Held.{bytes_of}
-use Rattle.sctp_reassembly.specs.Delivery.{UnorderedStream}
-use Rattle.sctp_reassembly.specs.Streams.{unordered_bytes}
+use Rattle.sctp_reassembly.specs.Streams.{bytes_held}
 use Rattle.sctp_reassembly.proofs.ForgetLemmas.{takes_one, takes_all, sum_removed, sum_absent}
-use Rattle.sctp_reassembly.proofs.unordered_streams.remove_each.Goals.{in-Some, in_default}
-use Rattle.sctp_reassembly.proofs.unordered_streams.remove_each.Goals as goal
+use Rattle.sctp_reassembly.proofs.stream_map.remove_each.Goals.{in-Some, in_default}
+use Rattle.sctp_reassembly.proofs.stream_map.remove_each.Goals as goal
 
 pub overflow_sub-bytes : goal.overflow_sub-bytes
 overflow_sub-bytes g c =
-    let sums = sum_removed (λ (s : UnorderedStream). bytes_of s.held) _ c.loop-id.streams.entries c.in-Some.stream c.in-Some.ensures.value in
+    let sums = sum_removed (λ s. bytes_of (g.S.ReassemblyStream.held s)) _ c.loop-id.streams.entries c.in-Some.stream c.in-Some.ensures.value in
     omega (arith, sums, c.queued_bytes.ensures, c.loop-id.invariant.bytes)
 
 pub loop-id-preserved : goal.loop-id-preserved
 loop-id-preserved g c =
-    let made = ap unordered_bytes c.remove.ensures.entries in
+    let made = ap (bytes_held g.S.ReassemblyStream.held) c.remove.ensures.entries in
     record {
       streams = takes_one c.args.ids.now c.loop-id.id-index _ c.loop-id.streams.entries c.remove.new.self.entries c.args.streams.now.entries c.loop-id-test.true c.loop-id.invariant.ordered c.remove.ensures.entries c.loop-id.invariant.streams;
       bytes = elim c.match-remove.branch [
-        | in-Some w ↦ omega (arith, made, sum_removed (λ (s : UnorderedStream). bytes_of s.held) _ c.loop-id.streams.entries w.in-Some.stream w.in-Some.ensures.value, w.queued_bytes.ensures, c.loop-id.invariant.bytes, w.bytes-is)
-        | in_default w ↦ omega (arith, made, sum_absent (λ (s : UnorderedStream). bytes_of s.held) _ c.loop-id.streams.entries w.in_default.ensures.value, c.loop-id.invariant.bytes, w.bytes-is)
+        | in-Some w ↦ omega (arith, made, sum_removed (λ s. bytes_of (g.S.ReassemblyStream.held s)) _ c.loop-id.streams.entries w.in-Some.stream w.in-Some.ensures.value, w.queued_bytes.ensures, c.loop-id.invariant.bytes, w.bytes-is)
+        | in_default w ↦ omega (arith, made, sum_absent (λ s. bytes_of (g.S.ReassemblyStream.held s)) _ c.loop-id.streams.entries w.in_default.ensures.value, c.loop-id.invariant.bytes, w.bytes-is)
       ];
       ordered = c.remove.ensures.ordered;
     }

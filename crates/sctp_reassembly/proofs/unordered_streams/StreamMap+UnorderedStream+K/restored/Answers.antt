@@ -4,7 +4,7 @@ use Rattle.sctp_fragments.specs.Held.{bytes_of}
 use Rattle.sctp_reassembly.specs.Delivery.{UnorderedStream, fresh_unordered}
 use Rattle.sctp_reassembly.specs.Streams.{unordered_bytes}
 use Rattle.sctp_reassembly.proofs.RestoredLemmas.{weightless}
-use Rattle.sctp_reassembly.proofs.unordered_streams.UnorderedStreams.restored.Goals as goal
+use Rattle.sctp_reassembly.proofs.unordered_streams.StreamMap+UnorderedStream+K.restored.Goals as goal
 
 pub invariant_of-result : goal.invariant_of-result
 invariant_of-result g c =

@@ -1,0 +1,22 @@
+use Rattle.std.proofs.Common.{ap, arith}
+use Rattle.sctp_fragments.specs.Held.{bytes_of}
+use Rattle.sctp_reassembly.specs.Streams.{bytes_held}
+use Rattle.sctp_reassembly.proofs.EntriesLemmas.{sum_written}
+use Rattle.sctp_reassembly.proofs.ForgetLemmas.{sum_removed}
+use Rattle.sctp_reassembly.proofs.stream_map.StreamMap.add_to.Goals as goal
+
+pub invariant_of-self-2 : goal.invariant_of-self-2
+invariant_of-self-2 g c =
+    let entries = c.self.inside.streams.entries in
+    let written = ap (λ m. bytes_held g.S.ReassemblyStream.held m) (c.get_mut.follows.holds c.add-added.new.self).0 in
+    let sums = sum_written (λ s. bytes_of (g.S.ReassemblyStream.held s)) c.args.id.0 entries c.in-Some.stream.now c.add-added.new.self c.in-Some.ensures.value in
+    let least = sum_removed (λ s. bytes_of (g.S.ReassemblyStream.held s)) c.args.id.0 entries c.in-Some.stream.now c.in-Some.ensures.value in
+    omega (arith, written, sums, least, c.queued_bytes-before.ensures, c.queued_bytes.ensures, c.self.invariant)
+
+pub returns-clause-bytes : goal.returns-clause-bytes
+returns-clause-bytes g c =
+    let entries = c.self.inside.streams.entries in
+    let written = ap (λ m. bytes_held g.S.ReassemblyStream.held m) (c.get_mut.follows.holds c.add-added.new.self).0 in
+    let sums = sum_written (λ s. bytes_of (g.S.ReassemblyStream.held s)) c.args.id.0 entries c.in-Some.stream.now c.add-added.new.self c.in-Some.ensures.value in
+    let least = sum_removed (λ s. bytes_of (g.S.ReassemblyStream.held s)) c.args.id.0 entries c.in-Some.stream.now c.in-Some.ensures.value in
+    omega (arith, written, sums, least, c.add-added.ensures.bytes, ap (bytes_held g.S.ReassemblyStream.held) c.self.view_is)

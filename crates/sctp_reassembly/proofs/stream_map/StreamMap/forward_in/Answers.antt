@@ -1,0 +1,29 @@
+use Rattle.std.proofs.Common.{ap, arith}
+use Rattle.std.proofs.lemmas.Result.{on_ok_weaker}
+use Rattle.sctp_fragments.specs.Held.{bytes_of}
+use Rattle.sctp_reassembly.specs.Streams.{bytes_held}
+use Rattle.sctp_reassembly.proofs.EntriesLemmas.{sum_written, written_is}
+use Rattle.sctp_reassembly.proofs.ForgetLemmas.{sum_removed}
+use Rattle.sctp_reassembly.proofs.stream_map.StreamMap.forward_in.Goals as goal
+
+pub invariant_of-self-2 : goal.invariant_of-self-2
+invariant_of-self-2 g c =
+    let entries = c.self.inside.streams.entries in
+    let written = ap (λ m. bytes_held g.S.ReassemblyStream.held m) (c.get_mut.follows.holds c.forward-forwarded.new.self).0 in
+    let sums = sum_written (λ s. bytes_of (g.S.ReassemblyStream.held s)) c.args.id.0 entries c.in-Some.stream.now c.forward-forwarded.new.self c.in-Some.ensures.value in
+    let least = sum_removed (λ s. bytes_of (g.S.ReassemblyStream.held s)) c.args.id.0 entries c.in-Some.stream.now c.in-Some.ensures.value in
+    omega (arith, written, sums, least, c.queued_bytes-before.ensures, c.queued_bytes.ensures, c.self.invariant)
+
+pub returns-clause-bytes : goal.returns-clause-bytes
+returns-clause-bytes g c =
+    let entries = c.self.inside.streams.entries in
+    let written = ap (λ m. bytes_held g.S.ReassemblyStream.held m) (c.get_mut.follows.holds c.forward-forwarded.new.self).0 in
+    let sums = sum_written (λ s. bytes_of (g.S.ReassemblyStream.held s)) c.args.id.0 entries c.in-Some.stream.now c.forward-forwarded.new.self c.in-Some.ensures.value in
+    let least = sum_removed (λ s. bytes_of (g.S.ReassemblyStream.held s)) c.args.id.0 entries c.in-Some.stream.now c.in-Some.ensures.value in
+    omega (arith, written, sums, least, c.forward-forwarded.ensures.bytes, ap (bytes_held g.S.ReassemblyStream.held) c.self.view_is)
+
+pub returns-clause-ok : goal.returns-clause-ok
+returns-clause-ok g c n h k =
+    on_ok_weaker c.forward-forwarded.result
+    (λ e. written_is c.args.id.0 c.self.inside.streams.entries c.args.self.now _ c.in-Some.stream.now c.forward-forwarded.new.self g.S.ReassemblyStream.fresh (g.S.ReassemblyStream.after_forward n) (c.get_mut.follows.holds c.forward-forwarded.new.self).0 c.self.view_is c.in-Some.ensures.value e)
+    (c.forward-forwarded.ensures.ok n h k)

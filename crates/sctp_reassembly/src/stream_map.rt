@@ -1,0 +1,204 @@
+//! Streams of one kind, by their ids.
+
+ghost use Rattle.std.specs.Prelude.{◌≡◌, ◌==◌, ℕ, suc, ◌+◌, ◌<◌, ◌≤◌, ◌^◌, ◌++◌, [], not, filter, length, IsSome, OnOk, OnErr};
+ghost use Rattle.std.specs.List.{list_any};
+ghost use Rattle.std.specs.Map.{lookup};
+ghost use Rattle.std.specs.Ordering.{nat_cmp};
+ghost use Rattle.std.specs.BTreeMap.{is_at};
+ghost use Rattle.sctp_fragments.specs.Intervals.{held_at};
+ghost use Rattle.sctp_reassembly.specs.Delivery.{ready_bytes, Extends};
+ghost use Rattle.sctp_reassembly.specs.Streams.{bytes_held, is_any_held, stream_at, open_stream, write_stream, change_stream, forget};
+
+use crate::ready_messages::ReadyMessages;
+use crate::reassembly_stream::ReassemblyStream;
+use sctp_chunk::Data;
+use sctp_serial::StreamId;
+use std::alloc::{AllocError, Global};
+use std::collections::BTreeMap;
+use std::marker::Model;
+
+/// The streams that were named, and how many bytes of payload they hold.
+#[derive(Drop)]
+pub struct StreamMap<S: ReassemblyStream> {
+    pub(crate) alloc: Global,
+    pub(crate) streams: BTreeMap<u16, S>,
+    pub(crate) bytes: usize,
+}
+
+impl<S: ReassemblyStream> Model for StreamMap<S> {
+    ghost use Rattle.std.specs.Prelude.{◌≡◌};
+    ghost use Rattle.sctp_reassembly.specs.Streams.{Entries, bytes_held};
+
+    ghost Value = { Entries S };
+
+    ghost view = { λ s. s.streams.entries };
+
+    ghost invariant = { λ s. s.bytes ≡ bytes_held S.held s.streams.entries };
+}
+
+impl<S: ReassemblyStream> StreamMap<S> {
+    /// No streams. Takes no memory.
+    pub fn new(alloc: Global) -> StreamMap<S>
+        ensures { result ≡ [] }
+    {
+        StreamMap {
+            alloc,
+            streams: BTreeMap::new(alloc),
+            bytes: 0,
+        }
+    }
+
+    /// Whether fragments are held.
+    pub fn is_held(&self) -> bool
+        ensures { result ≡ is_any_held S.held self.now }
+    {
+        self.streams.values().any(|stream| stream.is_held())
+    }
+
+    /// How many bytes of payload are held.
+    pub fn total_bytes(&self) -> usize
+        ensures { result ≡ bytes_held S.held self.now }
+    {
+        self.bytes
+    }
+
+    /// Makes the stream where there is none. Without memory nothing changes.
+    fn open(&mut self, id: StreamId) -> Result<(), AllocError>
+        ensures ok { OnOk result (self.new ≡ open_stream S.fresh id.0 self.old) }
+        ensures there { OnOk result (IsSome (lookup (is_at (nat_cmp id.0)) self.new)) }
+        ensures stream { OnOk result (stream_at S.fresh id.0 self.new ≡ stream_at S.fresh id.0 self.old) }
+        ensures bytes { bytes_held S.held self.new ≡ bytes_held S.held self.old }
+        ensures err { OnErr result (self.new ≡ self.old) }
+    {
+        if self.streams.contains_key(&id.0) {
+            return Ok(());
+        }
+        let stream = S::new(self.alloc);
+        self.streams.insert(id.0, stream)?;
+        Ok(())
+    }
+
+    /// Adds a fragment to a stream that is there.
+    #[tactic(auto, using(crate::proofs::ExtendsLemmas::extends_none))]
+    fn add_to(
+        &mut self,
+        id: StreamId,
+        key: S::Key,
+        fragment: Data,
+        ready: &mut ReadyMessages,
+    ) -> Result<(), AllocError>
+        requires there { IsSome (lookup (is_at (nat_cmp id.0)) self.old) }
+        requires room { bytes_held S.held self.old + ready_bytes ready.old + length fragment.payload.items < 2 ^ 64 }
+        requires small { S.Key.number key < 2 ^ 63 }
+        ensures ok { OnOk result (self.new ≡ write_stream id.0 (S.after_arrival (held_at (S.Key.number key) (S.Key.index key) fragment) (stream_at S.fresh id.0 self.old)) self.old) }
+        ensures ready { OnOk result (ready.new ≡ ready.old ++ S.made_ready (held_at (S.Key.number key) (S.Key.index key) fragment) (stream_at S.fresh id.0 self.old)) }
+        ensures kept { Extends ready.old ready.new }
+        ensures bytes { bytes_held S.held self.new + ready_bytes ready.new ≤ bytes_held S.held self.old + ready_bytes ready.old + length fragment.payload.items }
+    {
+        let Some(stream) = self.streams.get_mut(&id.0) else {
+            return Err(AllocError);
+        };
+        let before = stream.queued_bytes();
+        let added = stream.add(key, fragment, ready);
+        self.bytes = self.bytes - before + stream.queued_bytes();
+        added
+    }
+
+    /// Adds a fragment to its stream.
+    #[tactic(auto, using(crate::proofs::ExtendsLemmas::extends_none))]
+    pub fn add(
+        &mut self,
+        id: StreamId,
+        key: S::Key,
+        fragment: Data,
+        ready: &mut ReadyMessages,
+    ) -> Result<(), AllocError>
+        requires room { bytes_held S.held self.old + ready_bytes ready.old + length fragment.payload.items < 2 ^ 64 }
+        requires small { S.Key.number key < 2 ^ 63 }
+        ensures ok { OnOk result (self.new ≡ change_stream S.fresh id.0 (S.after_arrival (held_at (S.Key.number key) (S.Key.index key) fragment) (stream_at S.fresh id.0 self.old)) self.old) }
+        ensures ready { OnOk result (ready.new ≡ ready.old ++ S.made_ready (held_at (S.Key.number key) (S.Key.index key) fragment) (stream_at S.fresh id.0 self.old)) }
+        ensures kept { Extends ready.old ready.new }
+        ensures bytes { bytes_held S.held self.new + ready_bytes ready.new ≤ bytes_held S.held self.old + ready_bytes ready.old + length fragment.payload.items }
+    {
+        self.open(id)?;
+        self.add_to(id, key, fragment, ready)
+    }
+
+    /// Forwards a stream that is there.
+    #[tactic(auto, using(crate::proofs::ExtendsLemmas::extends_none))]
+    fn forward_in(
+        &mut self,
+        id: StreamId,
+        first: S::Key,
+        ready: &mut ReadyMessages,
+    ) -> Result<(), AllocError>
+        requires there { IsSome (lookup (is_at (nat_cmp id.0)) self.old) }
+        requires room { bytes_held S.held self.old + ready_bytes ready.old < 2 ^ 64 }
+        requires some { 0 < S.Key.number first }
+        requires small { S.Key.number first < 2 ^ 63 }
+        ensures ok { (n : ℕ) → S.Key.number first ≡ suc n → S.Key.index first ≡ 0 → OnOk result (self.new ≡ write_stream id.0 (S.after_forward n (stream_at S.fresh id.0 self.old)) self.old) }
+        ensures ready { (n : ℕ) → S.Key.number first ≡ suc n → S.Key.index first ≡ 0 → OnOk result (ready.new ≡ ready.old ++ S.forwarded n (stream_at S.fresh id.0 self.old)) }
+        ensures kept { Extends ready.old ready.new }
+        ensures bytes { bytes_held S.held self.new + ready_bytes ready.new ≤ bytes_held S.held self.old + ready_bytes ready.old }
+    {
+        let Some(stream) = self.streams.get_mut(&id.0) else {
+            return Err(AllocError);
+        };
+        let before = stream.queued_bytes();
+        let forwarded = stream.forward(first, ready);
+        self.bytes = self.bytes - before + stream.queued_bytes();
+        forwarded
+    }
+
+    /// A forward point names the message before that of the key: its stream drops it and those before it.
+    #[tactic(auto, using(crate::proofs::ExtendsLemmas::extends_none))]
+    pub fn forward(
+        &mut self,
+        id: StreamId,
+        first: S::Key,
+        ready: &mut ReadyMessages,
+    ) -> Result<(), AllocError>
+        requires room { bytes_held S.held self.old + ready_bytes ready.old < 2 ^ 64 }
+        requires some { 0 < S.Key.number first }
+        requires small { S.Key.number first < 2 ^ 63 }
+        ensures ok { (n : ℕ) → S.Key.number first ≡ suc n → S.Key.index first ≡ 0 → OnOk result (self.new ≡ change_stream S.fresh id.0 (S.after_forward n (stream_at S.fresh id.0 self.old)) self.old) }
+        ensures ready { (n : ℕ) → S.Key.number first ≡ suc n → S.Key.index first ≡ 0 → OnOk result (ready.new ≡ ready.old ++ S.forwarded n (stream_at S.fresh id.0 self.old)) }
+        ensures kept { Extends ready.old ready.new }
+        ensures bytes { bytes_held S.held self.new + ready_bytes ready.new ≤ bytes_held S.held self.old + ready_bytes ready.old }
+    {
+        self.open(id)?;
+        self.forward_in(id, first, ready)
+    }
+
+    /// Forgets the streams that are named, or all where none is.
+    pub fn forget(&mut self, ids: &[StreamId])
+        ensures value { self.new ≡ forget ids.now self.old }
+        ensures bytes { bytes_held S.held self.new ≤ bytes_held S.held self.old }
+    {
+        if ids.is_empty() {
+            self.streams.clear();
+            self.bytes = 0;
+            return;
+        }
+        remove_each(&mut self.streams, &mut self.bytes, ids);
+    }
+}
+
+/// Takes out the streams that are named, each by a look-up, and what they held off the bytes.
+fn remove_each<S: ReassemblyStream>(
+    streams: &mut BTreeMap<u16, S>,
+    bytes: &mut usize,
+    ids: &[StreamId],
+)
+    requires { bytes.old ≡ bytes_held S.held streams.old.entries }
+    ensures streams { streams.new.entries ≡ filter (λ e. not (list_any (λ i. i.0 == e.0) ids.now)) streams.old.entries }
+    ensures bytes { bytes.new ≡ bytes_held S.held streams.new.entries }
+{
+    // (what a map keeps is known once it is read)
+    let _count = streams.len();
+    for id in ids {
+        if let Some(stream) = streams.remove(&id.0) {
+            *bytes -= stream.queued_bytes();
+        }
+    }
+}
