@@ -9,8 +9,9 @@ use crate::receiver::show_next;
 use crate::words::{number, piece, value, word, yes_or_no};
 use sctp_packet::Data;
 use sctp_rx::{
-    InterleavedKey, ReadyMessages, ReassemblyKey, ReassemblyStream, TraditionalKey, UnorderedInterleavedKey,
-    interleaved_reassembly_streams as interleaved, traditional_reassembly_streams as traditional,
+    InterleavedKey, ReadyMessages, ReassemblyKey, ReassemblyStream, TraditionalKey,
+    UnorderedInterleavedKey, interleaved_reassembly_streams as interleaved,
+    traditional_reassembly_streams as traditional,
 };
 use std::alloc::{AllocError, Global};
 

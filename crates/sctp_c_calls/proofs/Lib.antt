@@ -1,2 +1,3 @@
+pub mod BatchLemmas
 pub mod HandoverLemmas
 pub mod ReadyLemmas

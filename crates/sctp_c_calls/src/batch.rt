@@ -9,11 +9,11 @@ ghost use Rattle.sctp_serial.specs.Messages.{message_of};
 ghost use Rattle.spec_endpoint.specs.Calls as calls;
 ghost use Rattle.spec_endpoint.specs.Input.{on_endpoint_state};
 
+use crate::messages::refusal_number;
 use rand_core::Rng;
 use sctp_association::{
     BatchFault, Checksum, DcSctpSocket, Message, PpId, SendError, Socket, StreamId,
 };
-use sctp_c_events::refusal_number;
 use sctp_c_records::answers::{FAILED, MEMORY, NO_ROOM, OK, SOME_REFUSED};
 use sctp_c_records::{OutgoingRecord, SendRecord};
 use std::alloc::{AllocError, Global};

@@ -1,6 +1,6 @@
 //! Messages, in and out.
 
-ghost use Rattle.std.specs.Prelude.{◌≡◌, ◌<◌, ◌^◌, [], ◌∷◌, length};
+ghost use Rattle.std.specs.Prelude.{◌≡◌, ◌<◌, ◌^◌, [], ◌∷◌, length, Some};
 ghost use Rattle.sctp_association.specs.Socket.{endpoint};
 ghost use Rattle.sctp_c_events.specs.Answers.{Ended, IsAmong, OnAnswer, OnOthers, OnSettled, refusal_number};
 ghost use Rattle.sctp_c_events.specs.Waiting.{HasAll, HasMessage, NeedsMore, message_record};
@@ -11,9 +11,11 @@ ghost use Rattle.spec_endpoint.specs.Calls as calls;
 ghost use Rattle.spec_endpoint.specs.Input.{on_endpoint_state};
 
 use rand_core::Rng;
-use sctp_association::{Checksum, DcSctpSocket, Message, PpId, Socket, StreamId};
-use sctp_c_events::refusal_number;
-use sctp_c_records::answers::{NO_ROOM, NOTHING, OK, SHORT_BUFFER};
+use sctp_association::{Checksum, DcSctpSocket, Message, PpId, SendError, Socket, StreamId};
+use sctp_c_records::answers::{
+    EMPTY_PAYLOAD, FAILED, MEMORY, MESSAGE_TOO_LARGE, NO_ROOM, NOTHING, OK, RESOURCE_EXHAUSTION,
+    SHORT_BUFFER, SHUTTING_DOWN,
+};
 use sctp_c_records::{MessageRecord, SendRecord, put_bytes};
 use std::alloc::Global;
 
@@ -86,6 +88,20 @@ pub fn borrow_message<R: Rng, C: Checksum>(
             drop(std::mem::replace(lent, message.payload));
             OK
         }
+    }
+}
+
+/// Why a message isn't accepted.
+pub(crate) fn refusal_number(refusal: &SendError) -> u32
+    ensures { result ≡ refusal_number (Some refusal.now) }
+{
+    match refusal {
+        SendError::EmptyPayload => EMPTY_PAYLOAD,
+        SendError::MessageTooLarge { len: _, limit: _ } => MESSAGE_TOO_LARGE,
+        SendError::ShuttingDown => SHUTTING_DOWN,
+        SendError::ResourceExhaustion => RESOURCE_EXHAUSTION,
+        SendError::Memory => MEMORY,
+        SendError::Failed => FAILED,
     }
 }
 

@@ -8,4 +8,4 @@ mod outcome;
 
 pub use calls::{advance_time, close, connect, handle_input, shutdown};
 pub use events::{borrow_event, poll_event};
-pub use outcome::{call_number, refusal_number};
+pub use outcome::call_number;

@@ -11,8 +11,8 @@ pub use sctp_reassembly::{
     forward_points_make_ready, fragments_leave_queues_settled, held_fragments_make_messages,
     interleaved_reassembly_streams, interval_laws, interval_list, is_before, is_same, leads_to,
     messages_are_intervals, new_queues_are_settled, next_key, ordered_fragments_make_ready,
-    ready_laws, ready_messages, reassembly_queue, reassembly_stream, reassembly_streams, resets_leave_queues_settled,
-    restored_queues_are_settled, settled_laws, touch, traditional_reassembly_streams,
-    unordered_fragments_make_ready,
+    ready_laws, ready_messages, reassembly_queue, reassembly_stream, reassembly_streams,
+    resets_leave_queues_settled, restored_queues_are_settled, settled_laws, touch,
+    traditional_reassembly_streams, unordered_fragments_make_ready,
 };
 pub use sctp_tracker::{DataTracker, a_set_has_one_form, data_tracker, set_laws};

@@ -1,7 +1,7 @@
 use Rattle.std.proofs.Common.{◌≡◌, Err, sym, ap, ◌∙◌}
 use Rattle.sctp_association.specs.Socket.{batch_ending, refusals_in}
 use Rattle.sctp_state.specs.declared.api.errors.BatchFault.TheVariants.{Refused}
-use Rattle.sctp_c_events.proofs.OutcomeLemmas.{some_refused}
+use Rattle.sctp_c_calls.proofs.BatchLemmas.{some_refused}
 use Rattle.sctp_c_calls.proofs.batch.send_many.Goals as goal
 
 pub returns-in-Err-Refused-clause-answer : goal.returns-in-Err-Refused-clause-answer
