@@ -11,7 +11,7 @@ use Rattle.sctp_state.specs.Events.{Event}
 use Rattle.proof_protocol.specs.State.{Message, count, stream_of}
 use Rattle.proof_protocol.specs.Rules.{accept, begin, number, end_with_placeholder, give_up, data_comes, late_comes, become_ready, send_sack, ack_point_advances, send_forward, forward_comes, perform_reset}
 use Rattle.proof_protocol.specs.Resets.{Epochs, ResetEvent, transfers, reset_stream, send_request, perform, commit, goes, go_all}
-use Rattle.sctp_tx_queue.specs.Queue.{Queue}
+use Rattle.sctp_tx_queue.specs.SendQueue.{Queue}
 use Rattle.spec_endpoint.specs.Association.{State, Endpoint}
 use Rattle.proof_endpoint.specs.Mapped.{Carried}
 use Rattle.proof_endpoint.specs.Acts.{calm}

@@ -5,8 +5,8 @@ use Rattle.std.proofs.lemmas.Bool.{cases_eq, cases_lt, eqb-true, eq-eqb, ne_eqb}
 use Rattle.std.proofs.lemmas.Option.{slice_get_within}
 use Rattle.sctp_serial.specs.Unwrapped.{origin, words, wire}
 use Rattle.sctp_rx.specs.ReassemblyQueue.{Deferred}
-use Rattle.sctp_tx_queue.specs.Queue.{Queue}
-use Rattle.spec_endpoint.specs.Requests.{Request, Requests, Outcome, Unsettled, Done, outcome, outcome_by, outcome_if, performed, in_progress, is_final, is_success, after, is_last, is_next}
+use Rattle.sctp_tx_queue.specs.SendQueue.{Queue}
+use Rattle.spec_endpoint.specs.ResetRequests.{Request, Requests, Outcome, Unsettled, Done, outcome, outcome_by, outcome_if, performed, in_progress, is_final, is_success, after, is_last, is_next}
 use Rattle.proof_protocol.proofs.ToolsLemmas.{not_both}
 use Rattle.proof_delivery.specs.Asks.{Ask, number_of, SaysDone, IsAsking, IsCurrent, IsAnswering}
 

@@ -7,7 +7,7 @@ use Rattle.proof_protocol.specs.State.{IsAmong, has}
 use Rattle.proof_protocol.specs.Resets.{Epochs, Request}
 use Rattle.proof_tx_refines.specs.Records.{are_distinct}
 use Rattle.proof_rx_refines.specs.Resets.{AreNextTo, named_by}
-use Rattle.spec_endpoint.specs.Requests.{ids}
+use Rattle.spec_endpoint.specs.ResetRequests.{ids}
 use Rattle.proof_delivery.specs.Asks.{Ask, request_for, AreAsked}
 
 module _ (x : Epochs) (asks : List Ask) (done answered : ℕ) (are : AreAsked x asks done answered) (a : Ask) (there : slice_get asks done ≡ Some a) where

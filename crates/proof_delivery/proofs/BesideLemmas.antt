@@ -3,8 +3,8 @@ use Rattle.std.proofs.Common.{◌≡◌, ℕ, Bool, true, false, inl, inr, Optio
 use Rattle.std.specs.List.{list_all}
 use Rattle.std.proofs.lemmas.Bool.{and_parts, false≢true}
 use Rattle.sctp_serial.specs.Messages as messages
-use Rattle.sctp_tx_queue.specs.Queue.{Queue}
-use Rattle.sctp_tx_outstanding.specs.Items.{no_items}
+use Rattle.sctp_tx_queue.specs.SendQueue.{Queue}
+use Rattle.sctp_tx_outstanding.specs.OutstandingData.{no_items}
 use Rattle.sctp_rx.specs.ReassemblyQueue.{Deferred}
 use Rattle.proof_protocol.specs.State.{Message, Sender, Transfer, new_sender}
 use Rattle.proof_protocol.specs.Rules.{Rule, accept, begin, number, end_with_placeholder, give_up, data_comes, late_comes, become_ready, send_sack, ack_point_advances, send_forward, forward_comes, perform_reset, after}
@@ -16,7 +16,7 @@ use Rattle.proof_tx_refines.specs.Following.{NoneIsReset, IsOthers}
 use Rattle.proof_tx_refines.proofs.WholeLemmas.{shown_again}
 use Rattle.proof_tx_refines.proofs.FollowLemmas.{others_follow}
 use Rattle.spec_endpoint.specs.Association.{State, Closed, CookieWait, Open}
-use Rattle.spec_endpoint.specs.Requests.{Requests}
+use Rattle.spec_endpoint.specs.ResetRequests.{Requests}
 use Rattle.proof_delivery.specs.Asks.{Ask, IsAsking, IsAnswering}
 use Rattle.proof_delivery.proofs.ClaimLemmas.{Direction, transfer_of, goes_in, IsKept, GoesOn, AsksStay, IsWaiting, SendsIn, IsFresh, ReceivesIn}
 use Rattle.proof_delivery.proofs.ReceiverToolLemmas.{SameSender, sender_stays, waits_still}

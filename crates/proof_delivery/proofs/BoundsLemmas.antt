@@ -4,7 +4,7 @@ use Rattle.std.specs.Prelude.{nat_lt, nat_le}
 use Rattle.std.proofs.lemmas.Bool.{and_parts, leb-true, ltb-true}
 use Rattle.std.proofs.lemmas.List.Elements.{All-nil, All-cons}
 use Rattle.rand_core.specs.Stream.{next_u32, next_u64}
-use Rattle.sctp_wire.specs.Fields.{be16, be32, be64}
+use Rattle.sctp_wire.specs.Field.{be16, be32, be64}
 use Rattle.sctp_wire.specs.Serialize.{padded_item, inner_items}
 use Rattle.sctp_wire.specs.Parameter.{parameter_value}
 use Rattle.sctp_wire.specs.Cause.{cause_value}
@@ -12,10 +12,10 @@ use Rattle.sctp_wire.specs.CauseText.{cause_text}
 use Rattle.sctp_wire.specs.Show.{join_texts}
 use Rattle.sctp_packet.specs.Written.{chunk_bytes, chunks_bytes, chunk_value, data_value, idata_value, init_fields, block_bytes, sack_value, skip_bytes, forward_value}
 use Rattle.sctp_serial.specs.Unwrapped.{origin}
-use Rattle.sctp_capabilities.specs.Cookie.{cookie_bytes, capability_bytes, cookie_from, read_cookie}
-use Rattle.sctp_tx_queue.specs.Queue.{Queue, stream}
+use Rattle.sctp_capabilities.specs.StateCookie.{cookie_bytes, capability_bytes, cookie_from, read_cookie}
+use Rattle.sctp_tx_queue.specs.SendQueue.{Queue, stream}
 use Rattle.sctp_tx_outstanding.specs.Item.{Item}
-use Rattle.sctp_tx_outstanding.specs.Items.{next_number}
+use Rattle.sctp_tx_outstanding.specs.OutstandingData.{next_number}
 use Rattle.spec_endpoint.specs.Association.{Tcb, State, Closed, CookieWait, Open}
 use Rattle.spec_endpoint.specs.Timers.{tick_timers}
 use Rattle.proof_pair.specs.Trace.{Pair, EndAction, Calls, Gives, Refuses, goes, run, side_of, state_of}

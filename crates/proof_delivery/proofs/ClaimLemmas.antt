@@ -10,8 +10,8 @@ use Rattle.sctp_packet.specs.Grammar.{carried}
 use Rattle.sctp_state.specs.Events as events
 use Rattle.sctp_state.specs.Options.{Options}
 use Rattle.sctp_capabilities.specs.Capabilities.{agreed}
-use Rattle.sctp_tx_queue.specs.Queue.{Queue}
-use Rattle.sctp_tx_outstanding.specs.Items.{no_items}
+use Rattle.sctp_tx_queue.specs.SendQueue.{Queue}
+use Rattle.sctp_tx_outstanding.specs.OutstandingData.{no_items}
 use Rattle.sctp_tx.specs.ForwardPoints.{most_of}
 use Rattle.sctp_rx.specs.Tracker.{IsTracker, tracker}
 use Rattle.sctp_rx.specs.ReassemblyQueue.{reassembly}

@@ -3,13 +3,13 @@ use Rattle.std.proofs.Common.{◌≡◌, ℕ, ◌<◌, ◌==◌, not, Bool, true
 use Rattle.std.proofs.lemmas.Bool.{or_cases, or_left, or_right, eq-eqb, eqb-true}
 use Rattle.std.proofs.lemmas.Option.{slice_get_cases}
 use Rattle.sctp_serial.specs.Messages as messages
-use Rattle.sctp_tx_queue.specs.Queue.{Queue, is_empty}
+use Rattle.sctp_tx_queue.specs.SendQueue.{Queue, is_empty}
 use Rattle.proof_protocol.specs.State.{Message, has}
 use Rattle.proof_protocol.specs.Claims.{AtRest, Claims}
 use Rattle.proof_protocol.specs.Invariant.{Invariant}
 use Rattle.proof_protocol.proofs.ClaimsLemmas.{claimed}
 use Rattle.proof_rx_refines.specs.View.{ready_of}
-use Rattle.sctp_tx_outstanding.specs.Items.{no_items}
+use Rattle.sctp_tx_outstanding.specs.OutstandingData.{no_items}
 use Rattle.proof_tx_refines.specs.Led.{id_of, ids_at}
 use Rattle.proof_tx_refines.specs.Records.{are_distinct}
 use Rattle.proof_tx_refines.proofs.RestLemmas.{rest_outgoing}

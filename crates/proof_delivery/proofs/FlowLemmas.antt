@@ -4,15 +4,15 @@ use Rattle.std.specs.Prelude.{slice_get, nat_lt, nat_le}
 use Rattle.sctp_chunk.specs.declared.sack.GapAckBlock.{GapAckBlock}
 use Rattle.sctp_state.specs.Options.{Options}
 use Rattle.sctp_state.specs.Events.{Emitted}
-use Rattle.sctp_tx_queue.specs.Queue.{Queue}
+use Rattle.sctp_tx_queue.specs.SendQueue.{Queue}
 use Rattle.sctp_tx_queue.specs.Produced.{Produced, Turn, produce}
 use Rattle.sctp_tx_queue.specs.Settings.{Changed}
 use Rattle.sctp_tx_outstanding.specs.Item.{Item, is_fast, should_be_retransmitted}
-use Rattle.sctp_tx_outstanding.specs.Items.{Items}
+use Rattle.sctp_tx_outstanding.specs.OutstandingData.{Items}
 use Rattle.sctp_tx_outstanding.specs.Resending.{Resent, size_in, allowance, again_of, fast_turn, queued_turn, turn_of, take_item, resent_below}
 use Rattle.sctp_tx.specs.declared.retransmission_queue.windows.Windows.{Windows}
 use Rattle.sctp_tx.specs.Windows.{acknowledge, advertise, grown_by, avoidance, is_open}
-use Rattle.sctp_tx.specs.Retransmission.{Sender, sender, sender_if, timed_out_sender, grown_if, recovering_if, windows_after}
+use Rattle.sctp_tx.specs.RetransmissionQueue.{Sender, sender, sender_if, timed_out_sender, grown_if, recovering_if, windows_after}
 use Rattle.sctp_tx.specs.Resent.{may_send_new, resent, resent_fast, resent_by, timed_if, start_timer, send_fast}
 use Rattle.sctp_tx.specs.ForwardPoints.{expire, most_of}
 use Rattle.sctp_tx.specs.Sending.{Filling, append, offered_payload, turned_if, next_turn, fill, discard_all, without_discards, filled_with, send}

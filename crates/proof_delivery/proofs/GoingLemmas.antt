@@ -12,7 +12,7 @@ use Rattle.sctp_state.specs.declared.api.errors.SendError.{SendError}
 use Rattle.sctp_state.specs.declared.api.errors.ResetStreamsError.{ResetStreamsError}
 use Rattle.sctp_state.specs.Events.{Event, Emitted, OnError}
 use Rattle.sctp_capabilities.proofs.CapabilitiesLemmas.{agreed_exchanged}
-use Rattle.sctp_tx_queue.specs.Queue.{Queue}
+use Rattle.sctp_tx_queue.specs.SendQueue.{Queue}
 use Rattle.proof_protocol.specs.State.{Message, count}
 use Rattle.proof_protocol.specs.Resets.{Epochs, ResetEvent}
 use Rattle.proof_protocol.specs.Based.{InEpochs, Bracketed}

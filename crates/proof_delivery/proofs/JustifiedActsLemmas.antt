@@ -13,15 +13,15 @@ use Rattle.sctp_state.specs.Events.{GivenUp, Emitted}
 use Rattle.sctp_capabilities.specs.Capabilities.{negotiate}
 use Rattle.sctp_state.specs.Handover.{HandoverState}
 use Rattle.sctp_tx_queue.specs.declared.send_queue.stream.ResetStep.TheVariants.{Requested, Performed, Refused}
-use Rattle.sctp_tx_queue.specs.Queue.{Queue, expiry_of}
+use Rattle.sctp_tx_queue.specs.SendQueue.{Queue, expiry_of}
 use Rattle.sctp_tx_queue.specs.Restarted.{reset}
 use Rattle.sctp_tx_queue.specs.Resets.{requested_streams}
-use Rattle.sctp_tx_queue.specs.Queue as queue
+use Rattle.sctp_tx_queue.specs.SendQueue as queue
 use Rattle.sctp_tx_outstanding.specs.Item.{Item}
-use Rattle.sctp_tx.specs.Retransmission.{Sender}
+use Rattle.sctp_tx.specs.RetransmissionQueue.{Sender}
 use Rattle.spec_endpoint.specs.Association.{Context}
 use Rattle.spec_endpoint.specs.Packets.{room}
-use Rattle.spec_endpoint.specs.Requests.{Outcome, Unsettled, Done, Denied, outcome}
+use Rattle.spec_endpoint.specs.ResetRequests.{Outcome, Unsettled, Done, Denied, outcome}
 use Rattle.spec_endpoint.specs.Sack.{clean_blocks}
 use Rattle.spec_endpoint.specs.Opening.{agreed_by, queue_if, other_mode, queue_for}
 use Rattle.spec_endpoint.specs.StreamReset.{on_outcome}

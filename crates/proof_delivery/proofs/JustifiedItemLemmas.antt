@@ -12,19 +12,19 @@ use Rattle.sctp_state.specs.declared.api.GivenUpCause.TheVariants.{Lifetime, Ret
 use Rattle.sctp_state.specs.Events.{GivenUp, Emitted}
 use Rattle.sctp_tx_outstanding.specs.Item.{Item, is_in_flight, has_nack, is_given_up, is_of, is_fast, is_lost, is_used_up, is_nacked, is_outstanding, should_be_retransmitted, has_expired, nack, abandon, mark_as_retransmitted, miss_fast}
 use Rattle.sctp_tx_outstanding.specs.Item as item
-use Rattle.sctp_tx_outstanding.specs.Items.{Items, change_at, lay_down, last_of}
+use Rattle.sctp_tx_outstanding.specs.OutstandingData.{Items, change_at, lay_down, last_of}
 use Rattle.sctp_tx_outstanding.specs.Losses.{placeholder, placeholders, abandon_message, Step, first_step, given_up, change_items, loses, gives_up, nack_item, nack_below, nack_all, expires, expired_of, option_bind, given_up_if, expire_below, expire_outstanding}
 use Rattle.sctp_tx_outstanding.specs.Resending.{Resent, size_in, allowance, again_of, fast_turn, queued_turn, turn_of, take_item, resent_below}
 use Rattle.sctp_tx_outstanding.specs.Sack.{leaving, staying, ack_or_nack, settle, reported_below, receive_sack_first, receive_sack}
-use Rattle.sctp_tx_queue.specs.Queue.{Queue}
+use Rattle.sctp_tx_queue.specs.SendQueue.{Queue}
 use Rattle.sctp_tx_queue.specs.Produced as queued
 use Rattle.sctp_tx_queue.specs.Settings.{Changed}
 use Rattle.sctp_tx.specs.Windows.{is_open}
-use Rattle.sctp_tx.specs.Retransmission.{Sender, sender_if, emitted_if, timed_out_sender}
+use Rattle.sctp_tx.specs.RetransmissionQueue.{Sender, sender_if, emitted_if, timed_out_sender}
 use Rattle.sctp_tx.specs.Resent.{resent, resent_fast, may_send_new, timed_if, send_fast}
 use Rattle.sctp_tx.specs.ForwardPoints.{expire}
 use Rattle.sctp_tx.specs.Sending.{Filling, offered_payload, item_of, append, Turned, turned_if, next_turn, fill, discard_all, without_discards, filled_with, send}
-use Rattle.proof_tx_refines.proofs.LossLemmas.{flies_lives, lacks_lives}
+use Rattle.proof_tx_refines.proofs.LossLemmas.{in_flight_lives, nacked_lives}
 use Rattle.proof_delivery.proofs.JustifiedQueueLemmas.{Holds, Makes, Turns, all_behind, due_right, same_discards, holds_discards, produces}
 use Rattle.sctp_tx_outstanding.proofs.RecordLemmas.{resent_same, slowed_same, acked_same, uncovered_same, nacked_same}
 
@@ -165,7 +165,7 @@ module _ {P : Type 0} (Known : ℕ → ℕ → Option ℕ → ℕ → Type 0) (R
       let flown : is_in_flight i.state ≡ true = (and_parts (is_outstanding i) (is_lost at_once i) lost).0 in
       let spent : is_used_up i ≡ true = (and_parts x.items.is_partial (is_used_up i) (and_parts (loses at_once i) (x.items.is_partial && is_used_up i) e).1).1 in
       gives i.number (Retransmissions (i.sent - 1)) x
-      (used i.fragment.stream_id i.number i.limit (i.sent - 1) i.expires (s (flies_lives i.state flown)) (leb-true i.limit (i.sent - 1) spent)) h
+      (used i.fragment.stream_id i.number i.limit (i.sent - 1) i.expires (s (in_flight_lives i.state flown)) (leb-true i.limit (i.sent - 1) spent)) h
   nacks_item false at_once fast is_lossy k i x e s h =
       record { stay = changed Known (nack at_once fast) k x.items.kept (nack_stays Known at_once fast) h.stay; right = h.right }
 
@@ -188,7 +188,7 @@ module _ {P : Type 0} (Known : ℕ → ℕ → Option ℕ → ℕ → Type 0) (R
       let lost : has_nack i.state ≡ true = (and_parts (is_nacked i) (has_expired now i) over).0 in
       let due : has_expired now i ≡ true = (and_parts (is_nacked i) (has_expired now i) over).1 in
       gives i.number Lifetime x
-      (due_right Known Right now late i.fragment.stream_id i.number i.limit i.expires (s (lacks_lives i.state lost)) (same_due now i.expires ∙ due)) h
+      (due_right Known Right now late i.fragment.stream_id i.number i.limit i.expires (s (nacked_lives i.state lost)) (same_due now i.expires ∙ due)) h
   expires_item false i x e s h = h
 
   expires_at : (o : Option Item) (k : ℕ) (x : Step P) → slice_get x.items.kept k ≡ o → Fares x

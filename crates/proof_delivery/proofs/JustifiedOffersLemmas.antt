@@ -7,7 +7,7 @@ use Rattle.sctp_state.specs.Options.{SendOptions}
 use Rattle.sctp_state.specs.declared.api.SocketState.{SocketState}
 use Rattle.sctp_state.specs.declared.api.errors.SendError.{SendError}
 use Rattle.sctp_state.specs.Events.{GivenUp}
-use Rattle.sctp_tx_queue.specs.Queue.{Queued, Stream, Queue, next_number}
+use Rattle.sctp_tx_queue.specs.SendQueue.{Queued, Stream, Queue, next_number}
 use Rattle.sctp_tx_outstanding.specs.Item.{Item}
 use Rattle.spec_endpoint.specs.Association.{Context}
 use Rattle.spec_endpoint.specs.Calls.{refusal, queue_entry, accept, offered, offer_all}

@@ -13,12 +13,12 @@ use Rattle.sctp_state.specs.Events.{GivenUp, Emitted, give_up, emit_events, expi
 use Rattle.sctp_tx_queue.specs.declared.send_queue.message.MessageNumbers.{MessageNumbers}
 use Rattle.sctp_tx_queue.specs.declared.send_queue.stream.ResetStep.{ResetStep}
 use Rattle.sctp_tx_queue.specs.declared.send_queue.stream.ResetStep.TheVariants.{Requested, Performed, Refused}
-use Rattle.sctp_tx_queue.specs.Queue.{Queued, Stream, Streams, Entries, Queue, stream, open_stream, put_stream, blank, push, add, next_number}
+use Rattle.sctp_tx_queue.specs.SendQueue.{Queued, Stream, Streams, Entries, Queue, stream, open_stream, put_stream, blank, push, add, next_number}
 use Rattle.sctp_tx_queue.specs.Produced.{Produced, Turn, is_due, is_stale, fresh, drop_expired, without_stale, streams_without_stale, ends, move_past, moved_front, front_made, front_numbers, next_fragment, advance, emitted_made, turn, next_stream, idle, produce_within, produce, settle_pause}
 use Rattle.sctp_tx_queue.specs.Settings.{Changed, with_threshold, with_priority, set_low_threshold, set_priority, set_mode, without_front, streams_discarded, front_discarded, discard_from, discard}
 use Rattle.sctp_tx_queue.specs.Restarted.{whole_front, restart, restarted_one, each_restarted, reset}
 use Rattle.sctp_tx_queue.specs.Resets.{is_partly, emitted_waiting, prepare_stream, prepare_reset, after_step, step_stream, each_stepped}
-use Rattle.sctp_tx_outstanding.specs.Items.{Discard}
+use Rattle.sctp_tx_outstanding.specs.OutstandingData.{Discard}
 use Rattle.sctp_tx.specs.Sending.{discard_all}
 use Rattle.sctp_serial.proofs.NumberLemmas.{same_at}
 

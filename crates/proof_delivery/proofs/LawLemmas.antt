@@ -11,7 +11,7 @@ use Rattle.proof_rx_refines.proofs.NearRowLemmas.{new_is_near}
 use Rattle.proof_rx_refines.proofs.NearKeptLemmas.{new_mids}
 use Rattle.proof_tx_refines.proofs.StartLemmas.{new_shows}
 use Rattle.proof_tx_refines.proofs.FollowLemmas.{beginning_follows}
-use Rattle.sctp_tx_outstanding.specs.Items.{no_items}
+use Rattle.sctp_tx_outstanding.specs.OutstandingData.{no_items}
 use Rattle.sctp_state.specs.Events.{Event}
 use Rattle.proof_endpoint.specs.Mapped.{Carried}
 use Rattle.spec_endpoint.specs.Laws.{NoPacket, endings}

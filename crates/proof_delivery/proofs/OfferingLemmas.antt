@@ -8,8 +8,8 @@ use Rattle.sctp_serial.specs.Messages as messages
 use Rattle.sctp_state.specs.declared.api.SocketState.{SocketState}
 use Rattle.sctp_state.specs.declared.api.errors.SendError.{SendError}
 use Rattle.sctp_state.specs.Options.{SendOptions}
-use Rattle.sctp_tx_queue.specs.Queue.{Queued, Queue, expiry_of, add}
-use Rattle.sctp_tx_outstanding.specs.Items.{no_items}
+use Rattle.sctp_tx_queue.specs.SendQueue.{Queued, Queue, expiry_of, add}
+use Rattle.sctp_tx_outstanding.specs.OutstandingData.{no_items}
 use Rattle.proof_protocol.specs.State.{Message, Sender, IsAmong, count, stream_of}
 use Rattle.proof_protocol.specs.Rules.{accept, accepts}
 use Rattle.proof_protocol.specs.Invariant.{Invariant}

@@ -13,9 +13,9 @@ use Rattle.sctp_capabilities.specs.Capabilities.{agreed}
 use Rattle.sctp_state.specs.Events.{Emitted}
 use Rattle.proof_protocol.specs.State.{Message, place_of, count}
 use Rattle.proof_protocol.specs.Based.{EpochWindows}
-use Rattle.sctp_tx_queue.specs.Queue.{Queue}
+use Rattle.sctp_tx_queue.specs.SendQueue.{Queue}
 use Rattle.spec_endpoint.specs.Association.{State, Closed, CookieWait, Open}
-use Rattle.spec_endpoint.specs.Requests.{Request}
+use Rattle.spec_endpoint.specs.ResetRequests.{Request}
 use Rattle.proof_tx_refines.specs.Led.{recorded_places, delivered_ids}
 use Rattle.spec_endpoint.specs.Laws.{Call, Packet}
 use Rattle.proof_endpoint.specs.Mapped.{Carried}

@@ -8,12 +8,12 @@ use Rattle.sctp_serial.specs.Unwrapped.{origin, words, wire}
 use Rattle.sctp_wire.specs.Parameter.{ParameterTree, reset_response}
 use Rattle.sctp_packet.specs.Chunk.{ChunkTree, SackTree, sack_chunk, re_config_chunk}
 use Rattle.sctp_packet.specs.Grammar.{carried}
-use Rattle.sctp_tx_queue.specs.Queue.{Queue}
-use Rattle.sctp_tx_outstanding.specs.Items.{Outstanding, number_of}
+use Rattle.sctp_tx_queue.specs.SendQueue.{Queue}
+use Rattle.sctp_tx_outstanding.specs.OutstandingData.{Outstanding, number_of}
 use Rattle.proof_protocol.specs.State.{Message, Receiver, Transfer, IsAmong, count}
 use Rattle.proof_protocol.specs.Invariant.{Invariant}
 use Rattle.spec_endpoint.specs.Association.{Tcb, Phase, State, Closed, CookieWait, Open}
-use Rattle.spec_endpoint.specs.Requests.{is_final}
+use Rattle.spec_endpoint.specs.ResetRequests.{is_final}
 use Rattle.spec_endpoint.specs.Laws.{Call}
 use Rattle.proof_endpoint.specs.Mapped.{Carried}
 use Rattle.proof_endpoint.specs.Acts.{EndWithPacket, in_open, IsReceived, IsAsked, point_of}

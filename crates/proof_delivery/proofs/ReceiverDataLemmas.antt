@@ -27,7 +27,7 @@ use Rattle.proof_rx_refines.proofs.NearNumberLemmas.{greatest}
 use Rattle.proof_rx_refines.proofs.NearTsnLemmas.{not_acknowledged, front, front_unseen, front_below}
 use Rattle.proof_rx_refines.proofs.RowLemmas.{old_point, again}
 use Rattle.spec_endpoint.specs.Association.{Tcb}
-use Rattle.spec_endpoint.specs.Requests.{Requests}
+use Rattle.spec_endpoint.specs.ResetRequests.{Requests}
 use Rattle.spec_endpoint.specs.Data.{added_unless, skipped_if, take_fragment, forward_to}
 use Rattle.proof_delivery.specs.Asks.{Ask, IsAnswering}
 use Rattle.proof_delivery.proofs.ClaimLemmas.{Direction, transfer_of, is_receiving, goes_in, IsKept, GoesOn, AsksStay, IsReceiving}

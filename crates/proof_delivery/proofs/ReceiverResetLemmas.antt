@@ -25,7 +25,7 @@ use Rattle.proof_rx_refines.specs.Resets.{base_now, AreNextTo, AreNext, performs
 use Rattle.proof_rx_refines.proofs.DeferralRowLemmas.{next_once_seen, waits_none, none_waits, deferred_row, deferred_again}
 use Rattle.proof_rx_refines.proofs.ResetRowLemmas.{reset_row}
 use Rattle.spec_endpoint.specs.Association.{Tcb}
-use Rattle.spec_endpoint.specs.Requests.{Requests, ids, in_progress, performed, is_final, is_last, is_next, is_known, process_request}
+use Rattle.spec_endpoint.specs.ResetRequests.{Requests, ids, in_progress, performed, is_final, is_last, is_next, is_known, process_request}
 use Rattle.spec_endpoint.specs.StreamReset.{is_ahead}
 use Rattle.spec_endpoint.specs.Laws.{Call}
 use Rattle.proof_endpoint.specs.Mapped.{Carried}

@@ -5,17 +5,17 @@ use Rattle.std.proofs.lemmas.List.Elements.{All-nil, All-push}
 use Rattle.sctp_serial.specs.Messages as messages
 use Rattle.sctp_serial.specs.Unwrapped.{origin}
 use Rattle.sctp_packet.specs.Chunk.{ChunkTree, sack_chunk, re_config_chunk}
-use Rattle.sctp_state.specs.Rtt.{Rtt}
+use Rattle.sctp_state.specs.RetransmissionTimeout.{Rtt}
 use Rattle.sctp_state.specs.Events as events
 use Rattle.sctp_state.specs.Events.{SendPacket}
-use Rattle.sctp_tx.specs.Retransmission.{Sender}
+use Rattle.sctp_tx.specs.RetransmissionQueue.{Sender}
 use Rattle.sctp_rx.specs.Seen.{Seen, contains}
 use Rattle.sctp_rx.specs.ReassemblyQueue.{Deferred}
 use Rattle.sctp_rx.specs.Tracker.{Tracker, IsTracker}
 use Rattle.proof_protocol.specs.State.{Message, count}
 use Rattle.spec_endpoint.specs.Association.{Tcb, Phase, Packing}
 use Rattle.spec_endpoint.specs.Packets.{Packet, add_all, header_to, emit_if}
-use Rattle.spec_endpoint.specs.Requests.{Requests}
+use Rattle.spec_endpoint.specs.ResetRequests.{Requests}
 use Rattle.proof_endpoint.specs.Mapped.{Carried}
 use Rattle.proof_endpoint.specs.Acts.{EndWithPacket, is_plain, with_chunk, with_packet, in_open}
 use Rattle.proof_pair.specs.Trace.{as_carried, packets_in}

@@ -5,12 +5,12 @@ use Rattle.std.specs.List.{list_all}
 use Rattle.sctp_chunk.specs.declared.sack.GapAckBlock.{GapAckBlock}
 use Rattle.sctp_state.specs.declared.api.errors.SendError.{SendError}
 use Rattle.sctp_state.specs.Events.{Event, OnStreamsResetFailed, OnStreamsResetPerformed, OnIncomingStreamReset, Emitted, emit_events}
-use Rattle.sctp_tx_queue.specs.Queue.{Queue, stream}
+use Rattle.sctp_tx_queue.specs.SendQueue.{Queue, stream}
 use Rattle.sctp_tx_queue.specs.Settings.{set_low_threshold}
 use Rattle.sctp_tx_queue.specs.Resets.{prepare_reset}
-use Rattle.sctp_tx_outstanding.specs.Items.{Items}
+use Rattle.sctp_tx_outstanding.specs.OutstandingData.{Items}
 use Rattle.sctp_tx_outstanding.specs.Losses.{nack_all, expire_outstanding}
-use Rattle.sctp_tx.specs.Retransmission.{Sender, emitted_if}
+use Rattle.sctp_tx.specs.RetransmissionQueue.{Sender, emitted_if}
 use Rattle.sctp_tx.specs.Sending.{send}
 use Rattle.spec_endpoint.specs.Calls.{refusal_events, lifecycle_end}
 use Rattle.proof_delivery.specs.Answered.{performed_in}

@@ -6,12 +6,12 @@ use Rattle.std.proofs.lemmas.Bool.{cases_eq, eq-eqb, ne_eqb}
 use Rattle.std.proofs.lemmas.Bool.Decides.{nat_tests}
 use Rattle.std.proofs.lemmas.Option.{same_Some}
 use Rattle.std.proofs.Math.Bool.{or-true, or-false}
-use Rattle.sctp_tx_queue.specs.Queue.{Queue}
+use Rattle.sctp_tx_queue.specs.SendQueue.{Queue}
 use Rattle.proof_protocol.specs.State.{has}
 use Rattle.proof_protocol.specs.Resets.{Epochs}
 use Rattle.proof_tx_refines.specs.Asked.{AreSameAsked}
-use Rattle.spec_endpoint.specs.Requests.{Request, Requests, Unsettled, Done, outcome, outcome_by, outcome_if, is_final, is_success, awake, wake_request, put_off, answered_by, answered_if, answered_in}
-use Rattle.spec_endpoint.specs.Requests as requests
+use Rattle.spec_endpoint.specs.ResetRequests.{Request, Requests, Unsettled, Done, outcome, outcome_by, outcome_if, is_final, is_success, awake, wake_request, put_off, answered_by, answered_if, answered_in}
+use Rattle.spec_endpoint.specs.ResetRequests as requests
 use Rattle.proof_delivery.specs.Asks.{Ask, named_in, IsRequestOf, IsAsking}
 use Rattle.proof_delivery.specs.StreamEpochs.{StreamEpoch, are_named, opened_if, reopen}
 use Rattle.proof_delivery.proofs.AsksLemmas.{named_next}

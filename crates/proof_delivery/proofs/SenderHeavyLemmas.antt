@@ -8,15 +8,15 @@ use Rattle.std.specs.Prelude.{◌&&◌}
 use Rattle.sctp_packet.specs.Chunk.{ChunkTree, FragmentTree, SackTree, sack_chunk}
 use Rattle.sctp_state.specs.Events.{Emitted}
 use Rattle.sctp_capabilities.specs.Capabilities.{Capabilities}
-use Rattle.sctp_state.specs.Timers.{is_due}
-use Rattle.sctp_state.specs.Errors.{one_error}
-use Rattle.sctp_tx_queue.specs.Queue.{Queue}
-use Rattle.sctp_tx_outstanding.specs.Items.{Items, fast_items}
+use Rattle.sctp_state.specs.Timer.{is_due}
+use Rattle.sctp_state.specs.TxErrorCounter.{one_error}
+use Rattle.sctp_tx_queue.specs.SendQueue.{Queue}
+use Rattle.sctp_tx_outstanding.specs.OutstandingData.{Items, fast_items}
 use Rattle.sctp_tx_outstanding.specs.Forward.{is_forward_due}
 use Rattle.sctp_tx_outstanding.specs.Losses.{first_step, expire_outstanding}
 use Rattle.sctp_tx_outstanding.specs.Sack as sack
 use Rattle.sctp_tx_outstanding.specs.Sack.{leaving}
-use Rattle.sctp_tx.specs.Retransmission.{Sender, handle_sack, step_of, timed_out_sender}
+use Rattle.sctp_tx.specs.RetransmissionQueue.{Sender, handle_sack, step_of, timed_out_sender}
 use Rattle.sctp_tx.specs.Resent.{resent_fast, send_fast}
 use Rattle.sctp_tx.specs.ForwardPoints.{expire, forward_chunk}
 use Rattle.sctp_tx.specs.Sending.{send}

@@ -2,12 +2,12 @@
 use Rattle.std.proofs.Common.{◌≡◌, ℕ, Bool, Option, List, [], refl, sym, ap, subst}
 use Rattle.sctp_packet.specs.Chunk.{re_config_chunk}
 use Rattle.sctp_tx_queue.specs.declared.send_queue.stream.ResetStep.TheVariants.{Requested}
-use Rattle.sctp_tx_queue.specs.Queue.{Queue}
+use Rattle.sctp_tx_queue.specs.SendQueue.{Queue}
 use Rattle.sctp_tx_queue.specs.Resets.{each_stepped, requested_streams, request_resets}
 use Rattle.proof_protocol.specs.State.{Message, count}
 use Rattle.spec_endpoint.specs.Association.{CookieEchoed, CookieWait}
 use Rattle.spec_endpoint.specs.Sack.{timed_by}
-use Rattle.spec_endpoint.specs.Requests.{wake_request}
+use Rattle.spec_endpoint.specs.ResetRequests.{wake_request}
 use Rattle.spec_endpoint.specs.Sending.{selective_ack, ask_for_sack, count_sack_sent}
 use Rattle.spec_endpoint.specs.Laws.{Call}
 use Rattle.proof_endpoint.specs.Mapped.{Carried}

@@ -9,9 +9,9 @@ use Rattle.sctp_serial.specs.declared.api.StreamId.{StreamId}
 use Rattle.sctp_wire.specs.Parameter.{ParameterTree, reset_response}
 use Rattle.sctp_packet.specs.Chunk.{ChunkTree, data_chunk, idata_chunk, re_config_chunk, forward_tsn_chunk, i_forward_tsn_chunk}
 use Rattle.sctp_state.specs.Events.{Event, Emitted, SendPacket, OnError, OnStreamsResetFailed, OnIncomingStreamReset, numbers_of, silent}
-use Rattle.sctp_tx_queue.specs.Queue.{Queue, stream}
+use Rattle.sctp_tx_queue.specs.SendQueue.{Queue, stream}
 use Rattle.sctp_tx_queue.specs.Settings.{set_priority, set_low_threshold, with_priority, with_threshold}
-use Rattle.sctp_tx_outstanding.specs.Items.{Items, Outstanding, no_items}
+use Rattle.sctp_tx_outstanding.specs.OutstandingData.{Items, Outstanding, no_items}
 use Rattle.sctp_tx.specs.declared.retransmission_queue.windows.Windows.{Windows}
 use Rattle.sctp_rx.specs.ReassemblyQueue.{defer, reset}
 use Rattle.proof_protocol.specs.State.{Message, count}
@@ -27,7 +27,7 @@ use Rattle.proof_tx_refines.proofs.LineRowLemmas.{calls_keep_line}
 use Rattle.proof_tx_refines.proofs.PauseRowLemmas.{settings_pause}
 use Rattle.spec_endpoint.specs.Association.{Identity, Tcb, Phase, ShutdownPending, State, Closed, CookieWait, Open, Packing}
 use Rattle.spec_endpoint.specs.Packets.{Packet, empty_packet, header_to, say, emit_if}
-use Rattle.spec_endpoint.specs.Requests.{nothing_to_do, performed, in_progress, process_request}
+use Rattle.spec_endpoint.specs.ResetRequests.{nothing_to_do, performed, in_progress, process_request}
 use Rattle.spec_endpoint.specs.Data.{take_fragment, forward_to}
 use Rattle.spec_endpoint.specs.Input.{at_end}
 use Rattle.spec_endpoint.specs.Laws.{Call}

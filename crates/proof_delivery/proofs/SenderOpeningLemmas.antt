@@ -7,14 +7,14 @@ use Rattle.sctp_wire.specs.Parameter.{ParameterTree, outgoing_reset_request, inc
 use Rattle.sctp_packet.specs.Chunk.{ChunkTree, InitTree, FragmentTree, data_chunk, idata_chunk, re_config_chunk, cookie_echo_chunk, cookie_ack_chunk, forward_tsn_chunk, i_forward_tsn_chunk}
 use Rattle.sctp_state.specs.Options.{Options}
 use Rattle.sctp_capabilities.specs.Capabilities.{Capabilities, agreed, negotiate}
-use Rattle.sctp_capabilities.specs.Cookie.{Cookie}
+use Rattle.sctp_capabilities.specs.StateCookie.{Cookie}
 use Rattle.sctp_state.specs.Events.{Event, OnConnected}
-use Rattle.sctp_state.specs.Timers.{Timer}
+use Rattle.sctp_state.specs.Timer.{Timer}
 use Rattle.sctp_tx_queue.specs.declared.send_queue.stream.PauseState.TheVariants.{NotPaused, Resetting}
-use Rattle.sctp_tx_queue.specs.Queue.{Queue}
+use Rattle.sctp_tx_queue.specs.SendQueue.{Queue}
 use Rattle.sctp_tx_queue.specs.Settings.{set_mode}
 use Rattle.sctp_tx_queue.specs.Restarted.{reset}
-use Rattle.sctp_tx_outstanding.specs.Items.{no_items}
+use Rattle.sctp_tx_outstanding.specs.OutstandingData.{no_items}
 use Rattle.proof_protocol.specs.State as rules
 use Rattle.proof_protocol.specs.State.{Message, ForwardPoint, IsAmong, count}
 use Rattle.proof_tx_refines.specs.Refinement.{SenderRefines}
@@ -27,7 +27,7 @@ use Rattle.proof_tx_refines.proofs.StartLemmas.{begins_shows, reset_shows}
 use Rattle.proof_tx_refines.proofs.SackLemmas.{delivered_more}
 use Rattle.proof_tx_refines.proofs.WholeLemmas.{shown_again}
 use Rattle.spec_endpoint.specs.Association.{Identity, Tcb, tcb, Phase, CookieEchoed, Established, State, Closed, CookieWait, Open}
-use Rattle.spec_endpoint.specs.Requests.{requests}
+use Rattle.spec_endpoint.specs.ResetRequests.{requests}
 use Rattle.spec_endpoint.specs.Opening.{long_word, t1_cookie, names, agreed_by, identity_of, queue_if, other_mode, connected_context}
 use Rattle.spec_endpoint.specs.Laws.{Call}
 use Rattle.proof_endpoint.specs.Mapped.{Carried}

@@ -11,13 +11,13 @@ use Rattle.sctp_serial.specs.Unwrapped.{origin, words, wire}
 use Rattle.sctp_serial.specs.declared.types.tsn.Tsn.{Tsn}
 use Rattle.sctp_wire.specs.Parameter.{ParameterTree, outgoing_reset_request, reset_response}
 use Rattle.sctp_state.specs.Events.{Event, OnStreamsResetPerformed, Emitted, emit_events, give_up, expiry}
-use Rattle.sctp_state.specs.Rtt as rtt
+use Rattle.sctp_state.specs.RetransmissionTimeout as rtt
 use Rattle.sctp_state.specs.declared.api.GivenUpCause.TheVariants.{Reset}
 use Rattle.sctp_tx_queue.specs.declared.send_queue.stream.PauseState.{PauseState}
 use Rattle.sctp_tx_queue.specs.declared.send_queue.stream.PauseState.TheVariants.{NotPaused, Pending, Paused, Resetting}
-use Rattle.sctp_tx_queue.specs.Queue.{Queue, Queued, stream}
+use Rattle.sctp_tx_queue.specs.SendQueue.{Queue, Queued, stream}
 use Rattle.sctp_tx_queue.specs.Resets.{is_partly, emitted_waiting, prepare_reset, requested_streams, request_resets, commit_resets}
-use Rattle.sctp_tx_outstanding.specs.Items.{begin_reset}
+use Rattle.sctp_tx_outstanding.specs.OutstandingData.{begin_reset}
 use Rattle.proof_protocol.specs.State.{Message, Transfer, IsAmong, has, count}
 use Rattle.proof_protocol.specs.Rules.{Rule as RuleEvent}
 use Rattle.proof_protocol.specs.Resets.{Epochs, transfers, restarts, send_request, commit, MayAll, go_all}
@@ -37,7 +37,7 @@ use Rattle.proof_tx_refines.proofs.RecordedLemmas.{prepares_lead}
 use Rattle.proof_tx_refines.proofs.ResetLemmas.{commits_row}
 use Rattle.proof_tx_refines.proofs.SackLemmas.{delivered_more}
 use Rattle.spec_endpoint.specs.Association.{Tcb, Phase}
-use Rattle.spec_endpoint.specs.Requests.{Request, Requests, Outcome, Done, ids, after, request_chunk, start_request, outcome, answer_request, is_final}
+use Rattle.spec_endpoint.specs.ResetRequests.{Request, Requests, Outcome, Done, ids, after, request_chunk, start_request, outcome, answer_request, is_final}
 use Rattle.spec_endpoint.specs.StreamReset as resets
 use Rattle.spec_endpoint.specs.StreamReset.{on_outcome}
 use Rattle.spec_endpoint.specs.Sending.{last_assigned, begin_burst, request_started}

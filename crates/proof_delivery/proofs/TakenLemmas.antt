@@ -2,7 +2,7 @@
 use Rattle.std.proofs.Common.{◌≡◌, ℕ, Bool, Option, List, [], ◌++◌, take, drop, sym, ap, subst, ◌∙◌, append-nil, append_assoc}
 use Rattle.std.proofs.lemmas.List.{take-append-drop}
 use Rattle.sctp_serial.specs.Messages as messages
-use Rattle.sctp_tx_queue.specs.Queue.{Queue}
+use Rattle.sctp_tx_queue.specs.SendQueue.{Queue}
 use Rattle.sctp_rx.specs.Tracker.{Tracker}
 use Rattle.sctp_rx.specs.ReassemblyQueue.{Reassembly}
 use Rattle.proof_protocol.specs.State.{Message, Transfer}

@@ -2,7 +2,7 @@
 -- 2^32 of them: one is started once the one before it has its final answer.
 use Rattle.std.specs.Prelude.{◌≡◌, ℕ, suc, ◌+◌, ◌-◌, ◌^◌, ◌<◌, ◌==◌, Bool, true, false, cond, Option, Some, None, option_map, List, [], ◌∷◌}
 use Rattle.sctp_state.specs.Events.{Event, OnStreamsResetPerformed}
-use Rattle.spec_endpoint.specs.Requests.{Request}
+use Rattle.spec_endpoint.specs.ResetRequests.{Request}
 use Rattle.spec_endpoint.specs.Association.{State, Closed, CookieWait, Open}
 use Rattle.proof_pair.specs.Trace.{Pair, EndAction, goes, run, side_of, state_of}
 use Rattle.proof_delivery.specs.Windows.{numbered_count}

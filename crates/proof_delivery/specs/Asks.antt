@@ -5,13 +5,13 @@ use Rattle.sctp_serial.specs.Unwrapped.{origin, words, wire}
 use Rattle.sctp_serial.specs.declared.api.StreamId.{StreamId}
 use Rattle.sctp_wire.specs.Parameter.{ParameterTree, outgoing_reset_request, incoming_reset_request, reset_response}
 use Rattle.sctp_tx_queue.specs.declared.send_queue.stream.PauseState.TheVariants.{Resetting}
-use Rattle.sctp_tx_queue.specs.Queue.{Queue, stream}
+use Rattle.sctp_tx_queue.specs.SendQueue.{Queue, stream}
 use Rattle.sctp_rx.specs.ReassemblyQueue.{Deferred}
 use Rattle.proof_protocol.specs.State.{IsAmong, has, count}
 use Rattle.proof_protocol.specs.Resets as rules
 use Rattle.proof_protocol.specs.Resets.{Epochs}
 use Rattle.proof_tx_refines.specs.Records.{are_distinct}
-use Rattle.spec_endpoint.specs.Requests.{Request, Requests, ids, performed, nothing_to_do, in_progress, is_final}
+use Rattle.spec_endpoint.specs.ResetRequests.{Request, Requests, ids, performed, nothing_to_do, in_progress, is_final}
 
 pub record Ask : Type 0 where
   pub streams : List ℕ

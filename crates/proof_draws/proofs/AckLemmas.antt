@@ -7,8 +7,8 @@ use Rattle.rand_core.specs.Stream.{Stream, next_u64}
 use Rattle.sctp_packet.specs.Chunk.{ChunkTree, InitTree, init_ack_chunk, cookie_echo_chunk}
 use Rattle.sctp_packet.specs.Grammar.{carried}
 use Rattle.sctp_state.specs.Options.{Options}
-use Rattle.sctp_capabilities.specs.Cookie.{cookie_bytes}
-use Rattle.sctp_state.specs.Timers.{Timer}
+use Rattle.sctp_capabilities.specs.StateCookie.{cookie_bytes}
+use Rattle.sctp_state.specs.Timer.{Timer}
 use Rattle.spec_endpoint.specs.Association.{State, Closed, CookieWait, Open, Context, Endpoint}
 use Rattle.spec_endpoint.specs.Shown.{Association}
 use Rattle.spec_endpoint.specs.Opening.{init_ack_of, agreed_by, cookie_for, cookie_in}

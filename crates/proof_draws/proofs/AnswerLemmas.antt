@@ -8,9 +8,9 @@ use Rattle.sctp_packet.specs.Chunk.{ChunkTree, InitTree, init_ack_chunk, cookie_
 use Rattle.sctp_state.specs.Options.{Options}
 use Rattle.sctp_state.specs.declared.api.SctpImplementation.{SctpImplementation}
 use Rattle.sctp_capabilities.specs.Capabilities.{Capabilities, i_data, re_config, forward_tsn, announce, extensions_in, method_in, is_forward_tsn_supported, has_type, announced_by, negotiate, zero_checksum_enabled}
-use Rattle.sctp_capabilities.specs.Cookie.{Cookie, cookie_bytes}
+use Rattle.sctp_capabilities.specs.StateCookie.{Cookie, cookie_bytes}
 use Rattle.spec_endpoint.specs.Association.{Identity, Tcb, tcb, Phase, CookieEchoed, Established, Context, EndpointState, Packing}
-use Rattle.spec_endpoint.specs.Requests.{before}
+use Rattle.spec_endpoint.specs.ResetRequests.{before}
 use Rattle.spec_endpoint.specs.Packets.{Packet, fits, add, packet_to, emit}
 use Rattle.spec_endpoint.specs.Sending.{Sent, open_with, send_with, cookie_if, send_cookie}
 use Rattle.spec_endpoint.specs.Opening.{init_of, cookie_for, agreed_by, answer, maker, queue_anew, t1_cookie, echo, connected_context, establish, cookie_ack, identity_of, queue_for, tcb_by, anew}

@@ -8,7 +8,7 @@ use Rattle.sctp_state.specs.Options.{SendOptions}
 use Rattle.spec_endpoint.specs.Association.{Tcb, Phase, CookieEchoed, Established, ShutdownPending, ShutdownSent, ShutdownReceived, ShutdownAckSent, State, Closed, CookieWait, Open, Context, EndpointState, with_context, where_open, Packing}
 use Rattle.spec_endpoint.specs.Sending.{Sent, is_alone, open_with, send_buffered, send_in}
 use Rattle.spec_endpoint.specs.Calls.{shown_phase, shown_state, refusal, offered, offer, sent_if, send, offer_all, send_many, taken_in, take_message}
-use Rattle.spec_endpoint.specs.Requests.{Request}
+use Rattle.spec_endpoint.specs.ResetRequests.{Request}
 use Rattle.spec_endpoint.specs.StreamReset.{reset_refusal, prepare_stream, prepare_all, reset_if, reset_streams}
 use Rattle.spec_endpoint.specs.Handover.{is_strict, pending, receiving, readiness_open, readiness_in, readiness, left_in, left_if, hand_over}
 use Rattle.sctp_tx_queue.specs.Readiness as queued

@@ -7,9 +7,9 @@ use Rattle.sctp_wire.specs.Cause.{missing_mandatory_parameter, cookie_received_w
 use Rattle.sctp_packet.specs.Chunk.{ChunkTree, InitTree, abort_chunk, error_chunk, shutdown_ack_chunk}
 use Rattle.sctp_state.specs.declared.api.ErrorKind.TheVariants.{ProtocolViolation, WrongSequence}
 use Rattle.sctp_capabilities.specs.declared.state_cookie.StateCookieError.{StateCookieError}
-use Rattle.sctp_capabilities.specs.Cookie.{Cookie, read_cookie}
+use Rattle.sctp_capabilities.specs.StateCookie.{Cookie, read_cookie}
 use Rattle.sctp_state.specs.Events.{OnConnectionRestarted, OnAborted}
-use Rattle.sctp_tx_outstanding.specs.Items.{next_number}
+use Rattle.sctp_tx_outstanding.specs.OutstandingData.{next_number}
 use Rattle.spec_endpoint.specs.Association.{Tcb, Phase, CookieEchoed, Established, ShutdownPending, ShutdownSent, ShutdownReceived, ShutdownAckSent, State, Closed, CookieWait, Open, Context, EndpointState, with_context, Packing}
 use Rattle.spec_endpoint.specs.Packets.{Packet, add, packet_to, new_packet, round_up, say, complain, emit}
 use Rattle.spec_endpoint.specs.Sending.{Sent, open_with}

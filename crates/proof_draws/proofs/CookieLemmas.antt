@@ -5,7 +5,7 @@ use Rattle.std.specs.List.{starts_with}
 use Rattle.std.proofs.lemmas.Bool.{cases_eq}
 use Rattle.sctp_state.specs.declared.api.SctpImplementation.{SctpImplementation}
 use Rattle.sctp_state.specs.declared.api.SctpImplementation.TheVariants as implementations
-use Rattle.sctp_capabilities.specs.Cookie.{Cookie, CookieFits, has_tags, magic, cookie_bytes, read_cookie}
+use Rattle.sctp_capabilities.specs.StateCookie.{Cookie, CookieFits, has_tags, magic, cookie_bytes, read_cookie}
 use Rattle.sctp_capabilities.specs.declared.state_cookie.StateCookieError.{StateCookieError}
 use Rattle.sctp_capabilities.proofs.CookieLemmas.{refused_size, refused_magic, length_cookie_bytes, read_cookie_bytes}
 use Rattle.spec_endpoint.specs.Opening.{maker_by, maker}

@@ -13,7 +13,7 @@ use Rattle.sctp_tx_outstanding.specs.declared.item.ItemState.{ItemState}
 use Rattle.sctp_tx_outstanding.specs.declared.item.ItemState.TheVariants.{InFlight, Missing, Queued, QueuedFast, Acked, GivenUp}
 use Rattle.sctp_tx_outstanding.specs.Item as item
 use Rattle.sctp_tx_outstanding.specs.Item.{Item, is_in_flight, waits, waits_fast, is_given_up, is_of, is_lost, is_fast, should_be_retransmitted, nack_state, mark_as_retransmitted, miss_fast}
-use Rattle.sctp_tx_outstanding.specs.Items.{Items, Outstanding, change_at, lay_down, last_of}
+use Rattle.sctp_tx_outstanding.specs.OutstandingData.{Items, Outstanding, change_at, lay_down, last_of}
 use Rattle.sctp_tx_outstanding.specs.Losses.{placeholder, placeholders, close_message, Step, given_up, change_items, gives_up, loses, nack_item, nack_below, nack_all, first_step, expired_at, given_up_if, expire_below, expire_outstanding}
 use Rattle.sctp_tx_outstanding.specs.Sack.{leaving, staying, settle, ack_or_nack, reported_below, receive_sack_first, receive_sack}
 use Rattle.sctp_tx_outstanding.specs.Resending.{Resent, size_in, allowance, again_of, again_at, passed_over, fast_turn, queued_turn, turn_of, take_item, resent_below, empty_packet, resend}

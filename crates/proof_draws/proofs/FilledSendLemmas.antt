@@ -3,15 +3,15 @@ use Rattle.std.proofs.Common.{◌≡◌, ℕ, zero, suc, ◌<◌, ◌==◌, ◌&
 use Rattle.sctp_chunk.specs.declared.sack.GapAckBlock.{GapAckBlock}
 use Rattle.sctp_packet.specs.Grammar.{Each}
 use Rattle.sctp_state.specs.Events.{Emitted}
-use Rattle.sctp_tx_outstanding.specs.Items.{Discard}
+use Rattle.sctp_tx_outstanding.specs.OutstandingData.{Discard}
 use Rattle.sctp_tx_outstanding.specs.Resending.{Resent}
-use Rattle.sctp_tx_queue.specs.Queue.{Queue}
+use Rattle.sctp_tx_queue.specs.SendQueue.{Queue}
 use Rattle.sctp_tx_queue.specs.InOrder.{HasRests}
 use Rattle.sctp_tx_queue.specs.Produced.{Produced, Turn, produce}
 use Rattle.sctp_tx_queue.specs.Settings.{Changed, discard}
 use Rattle.sctp_tx_queue.proofs.RestLemmas.{calls_leave_rests}
 use Rattle.sctp_tx.specs.Windows.{is_open}
-use Rattle.sctp_tx.specs.Retransmission.{Sender, sender_if}
+use Rattle.sctp_tx.specs.RetransmissionQueue.{Sender, sender_if}
 use Rattle.sctp_tx.specs.Resent.{may_send_new, resent, resent_fast, timed_if, send_fast}
 use Rattle.sctp_tx.specs.ForwardPoints.{expire}
 use Rattle.sctp_tx.specs.Sending.{Filling, Turned, item_of, append, offered_payload, turned_if, next_turn, fill, discard_all, without_discards, filled_with, send}

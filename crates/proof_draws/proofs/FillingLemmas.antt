@@ -3,9 +3,9 @@ use Rattle.std.proofs.Common.{◌≡◌, ℕ, zero, suc, ◌+◌, ◌-◌, ◌*�
 use Rattle.sctp_serial.specs.declared.types.tsn.Tsn.{Tsn}
 use Rattle.sctp_serial.specs.Unwrapped.{words}
 use Rattle.sctp_packet.specs.Chunk.{ChunkTree, FragmentTree, sack_chunk, forward_tsn_chunk, i_forward_tsn_chunk}
-use Rattle.sctp_state.specs.Rtt.{rto}
-use Rattle.sctp_tx_outstanding.specs.Items.{wire_tsn, fast_items}
-use Rattle.sctp_tx_outstanding.specs.Items as items
+use Rattle.sctp_state.specs.RetransmissionTimeout.{rto}
+use Rattle.sctp_tx_outstanding.specs.OutstandingData.{wire_tsn, fast_items}
+use Rattle.sctp_tx_outstanding.specs.OutstandingData as items
 use Rattle.sctp_tx_outstanding.specs.Entries.{ssn_skip, mid_skip}
 use Rattle.sctp_tx_outstanding.specs.Forward.{is_forward_due}
 use Rattle.sctp_rx.specs.Tracker.{is_ack_due}
@@ -13,14 +13,14 @@ use Rattle.sctp_rx.specs.Tracker as tracker
 use Rattle.sctp_rx.specs.Sack.{gap_ack_blocks, tsns}
 use Rattle.sctp_rx.specs.Sack as sacks
 use Rattle.sctp_tx_queue.specs.Resets.{requested_streams, request_resets}
-use Rattle.sctp_tx.specs.Retransmission.{Sender}
+use Rattle.sctp_tx.specs.RetransmissionQueue.{Sender}
 use Rattle.sctp_tx.specs.Resent.{is_interleaved, resent_fast}
 use Rattle.sctp_tx.specs.ForwardPoints.{point_of, forward_chunk, chunk_if}
 use Rattle.sctp_tx.specs.Sending as fragments
 use Rattle.sctp_tx.specs.Sending.{send}
 use Rattle.spec_endpoint.specs.Association.{Tcb, Context, Packing}
 use Rattle.spec_endpoint.specs.Heartbeats.{beating_if}
-use Rattle.spec_endpoint.specs.Requests.{Request, Requests, request_chunk, start_request}
+use Rattle.spec_endpoint.specs.ResetRequests.{Request, Requests, request_chunk, start_request}
 use Rattle.spec_endpoint.specs.Packets.{Packet, empty_packet, room, fits, add, add_all, has_chunks, new_packet, emit}
 use Rattle.spec_endpoint.specs.Sending.{Filling, window, selective_ack, ask_for_sack, count_sack_sent, ack_if, goes_along, with_ack, forward_later, forward_added_if, forward_if, test_forward_point, tested_if, with_forward, most_streams, last_assigned, begin_burst, request_started, add_request, carrying, request_of, request_at_most, request_if, with_request, data_chunk_of, is_small, fill_packet, with_data, filled_as, emit_packet, Turned, turned_if, next_packet, go_on, burst, is_alone, Sent, send_lost_data, sent_by, send_with, send_buffered, fast_most, fast_packet, fast_if, send_lost}
 use Rattle.proof_draws.specs.NamedChunks.{Names, AreNames, move_by, moved_tsn, named_chunk, named_chunks}

@@ -5,14 +5,14 @@ use Rattle.std.proofs.lemmas.List.{map-append}
 use Rattle.sctp_packet.specs.Chunk.{FragmentTree}
 use Rattle.sctp_state.specs.Events.{Emitted}
 use Rattle.sctp_tx_outstanding.specs.Item.{Item, size_of, is_fast, should_be_retransmitted}
-use Rattle.sctp_tx_outstanding.specs.Items.{Outstanding, wire_tsn, next_number}
+use Rattle.sctp_tx_outstanding.specs.OutstandingData.{Outstanding, wire_tsn, next_number}
 use Rattle.sctp_tx_outstanding.specs.Resending.{Resent, again, again_of, fast_turn, queued_turn, turn_of, allowance, size_in, take_item, step_at, resent_below, empty_packet, resend}
-use Rattle.sctp_tx_queue.specs.Queue.{Queue}
+use Rattle.sctp_tx_queue.specs.SendQueue.{Queue}
 use Rattle.sctp_tx_queue.specs.Produced.{Produced, produce}
 use Rattle.sctp_tx_queue.specs.Produced as queue
 use Rattle.sctp_tx_queue.specs.Settings.{Changed}
 use Rattle.sctp_tx.specs.Windows.{cap}
-use Rattle.sctp_tx.specs.Retransmission.{Sender}
+use Rattle.sctp_tx.specs.RetransmissionQueue.{Sender}
 use Rattle.sctp_tx.specs.Resent.{sizes, may_send_new, resent, resent_fast, recount, resent_by, timed_if, start_timer, send_fast}
 use Rattle.sctp_tx.specs.Sending.{Filling, Turned, offered_payload, append, ask_queue, turned_if, next_turn, fill, discard_all, without_discards, filled_with, timed_filling, fill_all, send}
 use Rattle.proof_draws.specs.NamedChunks.{Names, move_by}

@@ -1,7 +1,7 @@
 -- Which tags an end has after a call: those that it had, or those of what the call brings.
 use Rattle.std.proofs.Common.{◌≡◌, ℕ}
 use Rattle.sctp_packet.specs.Chunk.{InitTree, init_ack_chunk}
-use Rattle.sctp_capabilities.specs.Cookie.{Cookie}
+use Rattle.sctp_capabilities.specs.StateCookie.{Cookie}
 use Rattle.sctp_state.specs.Handover.{HandoverState}
 use Rattle.spec_endpoint.specs.Association.{Endpoint}
 use Rattle.spec_endpoint.specs.Laws.{Call, Connect, Restore, called}

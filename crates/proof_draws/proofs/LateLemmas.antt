@@ -6,7 +6,7 @@ use Rattle.rand_core.specs.Stream.{Stream}
 use Rattle.sctp_serial.specs.Unwrapped.{words}
 use Rattle.sctp_packet.specs.Chunk.{ChunkTree, InitTree, init_chunk, init_ack_chunk, cookie_echo_chunk}
 use Rattle.sctp_packet.specs.Grammar.{carried}
-use Rattle.sctp_capabilities.specs.Cookie.{Cookie, CookieFits, cookie_bytes}
+use Rattle.sctp_capabilities.specs.StateCookie.{Cookie, CookieFits, cookie_bytes}
 use Rattle.spec_endpoint.specs.Association.{Tcb, Phase, CookieEchoed, Established, ShutdownPending, ShutdownSent, ShutdownReceived, ShutdownAckSent, State, Open, Context, Endpoint}
 use Rattle.spec_endpoint.specs.Sending.{is_alone}
 use Rattle.spec_endpoint.specs.Opening.{tag_from, word, next_first, cookie_for}

@@ -3,7 +3,7 @@ use Rattle.std.proofs.Common.{◌≡◌, ℕ, ◌+◌, ◌-◌, ◌%◌, ◌<◌
 use Rattle.std.proofs.lemmas.Bool.{cases_lt}
 use Rattle.std.proofs.lemmas.Nat.{mod_below}
 use Rattle.std.proofs.Math.Nat.{mod-eq_of_lt, mod-eq-sub-mod, mod-add-mod, add-mod_right}
-use Rattle.sctp_serial.specs.Serial.{serial_difference, serial_sum}
+use Rattle.sctp_serial.specs.SerialNumber.{serial_difference, serial_sum}
 use Rattle.sctp_serial.specs.Unwrapped.{words, wire, nearest, stepped}
 use Rattle.proof_draws.specs.NamedChunks.{move_by}
 

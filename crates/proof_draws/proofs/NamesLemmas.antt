@@ -2,7 +2,7 @@
 use Rattle.std.proofs.Common.{◌≡◌, ◌≢◌, ℕ, ◌^◌, ◌<◌, true, Result, Ok, List, refl, sym, ap, ◌∙◌, arith}
 use Rattle.std.proofs.lemmas.Bool.{eq-eqb, eqb-true}
 use Rattle.sctp_capabilities.specs.declared.state_cookie.StateCookieError.{StateCookieError}
-use Rattle.sctp_capabilities.specs.Cookie.{Cookie, CookieFits, has_tags, cookie_bytes, read_cookie}
+use Rattle.sctp_capabilities.specs.StateCookie.{Cookie, CookieFits, has_tags, cookie_bytes, read_cookie}
 use Rattle.sctp_capabilities.proofs.CookieLemmas.{both_tags, read_cookie_bytes}
 use Rattle.spec_endpoint.specs.Association.{State, Closed, CookieWait, Open}
 use Rattle.spec_endpoint.specs.Input.{my_tag}

@@ -8,8 +8,8 @@ use Rattle.sctp_rx.specs.Tracker as tracker
 use Rattle.sctp_rx.specs.Streams.{is_far, entries_in}
 use Rattle.sctp_rx.specs.ReassemblyQueue.{Reassembly, fragment_waits, point_waits, add_or_wait, forward_or_wait}
 use Rattle.sctp_rx.specs.ReassemblyQueue as reassembly
-use Rattle.sctp_tx_outstanding.specs.Items.{Outstanding}
-use Rattle.sctp_tx_outstanding.specs.Items as items
+use Rattle.sctp_tx_outstanding.specs.OutstandingData.{Outstanding}
+use Rattle.sctp_tx_outstanding.specs.OutstandingData as items
 use Rattle.spec_endpoint.specs.Association.{Tcb, Phase, State, Closed, CookieWait, Open, Context, EndpointState, Packing}
 use Rattle.spec_endpoint.specs.Data.{is_full, takes, added_unless, take_fragment, taken_if, on_data_in, on_data_if, on_data, skipped_if, forward_to, forwarded_if, forwarded_in, on_forward}
 use Rattle.proof_draws.specs.NamedChunks.{Names, move_by}

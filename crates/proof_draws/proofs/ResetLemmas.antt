@@ -6,19 +6,19 @@ use Rattle.std.proofs.lemmas.List.{map-append}
 use Rattle.std.proofs.lemmas.Nat.{mod_below}
 use Rattle.std.proofs.Math.Nat.{mod-eq_of_lt, add-mod_right}
 use Rattle.sctp_serial.specs.declared.api.StreamId.{StreamId}
-use Rattle.sctp_serial.specs.Serial.{serial_difference}
+use Rattle.sctp_serial.specs.SerialNumber.{serial_difference}
 use Rattle.sctp_serial.specs.Unwrapped.{words}
 use Rattle.sctp_wire.specs.Parameter.{ParameterTree, outgoing_reset_request, incoming_reset_request, reset_response}
 use Rattle.sctp_packet.specs.Chunk.{re_config_chunk}
 use Rattle.sctp_state.specs.Events.{OnIncomingStreamReset, numbers_of}
-use Rattle.sctp_state.specs.Rtt.{rto}
+use Rattle.sctp_state.specs.RetransmissionTimeout.{rto}
 use Rattle.sctp_rx.specs.ReassemblyQueue.{Reassembly, Deferred, Waiting, Added, Forwarded, apply, apply_each, waiting_in, defer, reset}
 use Rattle.sctp_rx.specs.ReassemblyQueue as reassembly
 use Rattle.sctp_rx.specs.Streams as streams_of
 use Rattle.sctp_rx.specs.Tracker as tracker
 use Rattle.spec_endpoint.specs.Association.{Tcb, Phase, Context, EndpointState, Packing}
 use Rattle.spec_endpoint.specs.Packets.{say}
-use Rattle.spec_endpoint.specs.Requests.{Request, Requests, nothing_to_do, performed, bad_number, in_progress, is_final, Outcome, Unsettled, Done, Denied, outcome_if, outcome, answered_by, answered_if, answered_in, answer_request, is_last, is_next, is_known, after}
+use Rattle.spec_endpoint.specs.ResetRequests.{Request, Requests, nothing_to_do, performed, bad_number, in_progress, is_final, Outcome, Unsettled, Done, Denied, outcome_if, outcome, answered_by, answered_if, answered_in, answer_request, is_last, is_next, is_known, after}
 use Rattle.spec_endpoint.specs.Sending.{Sent, is_alone, open_with, send_buffered}
 use Rattle.spec_endpoint.specs.StreamReset as resets_rows
 use Rattle.spec_endpoint.specs.StreamReset.{Handling, handling, respond, process, is_ahead, resets_if, resets, outgoing_by, on_outgoing, incoming_if, on_outcome, on_response, is_outgoing, on_parameter, Handled, handle_next, handle_all, send_responses, finished_if, finish_resets, on_reconfig}

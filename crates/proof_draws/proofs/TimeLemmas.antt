@@ -2,12 +2,12 @@
 use Rattle.std.proofs.Common.{◌≡◌, ℕ, nat_lt, Bool, true, false, Option, Some, None, option_map, List, refl, ap, ◌∙◌}
 use Rattle.sctp_packet.specs.Chunk.{shutdown_chunk, shutdown_ack_chunk, cookie_echo_chunk}
 use Rattle.sctp_rx.specs.Tracker.{wire_tsn}
-use Rattle.sctp_state.specs.Errors.{is_exhausted}
-use Rattle.sctp_state.specs.Rtt.{rto}
-use Rattle.sctp_state.specs.Timers.{Timer, is_due, is_running, expire}
+use Rattle.sctp_state.specs.TxErrorCounter.{is_exhausted}
+use Rattle.sctp_state.specs.RetransmissionTimeout.{rto}
+use Rattle.sctp_state.specs.Timer.{Timer, is_due, is_running, expire}
 use Rattle.spec_endpoint.specs.Association.{Tcb, Phase, CookieEchoed, Established, ShutdownPending, ShutdownSent, ShutdownReceived, ShutdownAckSent, State, Closed, CookieWait, Open, Context, EndpointState, Packing}
 use Rattle.spec_endpoint.specs.Packets.{Packet, fits, add, packet_to, new_packet, emit}
-use Rattle.spec_endpoint.specs.Requests.{Request, Requests, lasting, expire_request, wake_request, awake, is_unanswered}
+use Rattle.spec_endpoint.specs.ResetRequests.{Request, Requests, lasting, expire_request, wake_request, awake, is_unanswered}
 use Rattle.spec_endpoint.specs.Sending.{Sent, add_request, cookie_if, send_cookie}
 use Rattle.spec_endpoint.specs.Shutdown.{send_shutdown, send_shutdown_ack, too_many}
 use Rattle.spec_endpoint.specs.Heartbeats.{counted_on, heartbeat, beat_if, unanswered_if}

@@ -14,7 +14,7 @@ use Rattle.sctp_state.specs.Options.{Options, SendOptions}
 use Rattle.sctp_capabilities.specs.Capabilities.{announce, negotiate, agreed}
 use Rattle.sctp_capabilities.proofs.CapabilitiesLemmas.{negotiated_by_init}
 use Rattle.sctp_tx_queue.specs.declared.send_queue.stream.ResetStep.TheVariants.{Requested, Performed, Refused}
-use Rattle.sctp_tx_queue.specs.Queue.{Queue}
+use Rattle.sctp_tx_queue.specs.SendQueue.{Queue}
 use Rattle.sctp_tx_queue.specs.Resets.{requested_streams}
 use Rattle.sctp_tx_queue.specs.InOrder.{HasRests}
 use Rattle.sctp_tx_queue.proofs.RestLemmas.{calls_leave_rests}
@@ -24,7 +24,7 @@ use Rattle.sctp_tx.specs.Sending as fragments
 use Rattle.spec_endpoint.specs.Association.{Tcb, Phase, CookieEchoed, State, Closed, CookieWait, Open, Context, Packing}
 use Rattle.spec_endpoint.specs.Sack.{clean_blocks}
 use Rattle.spec_endpoint.specs.Packets.{Packet, room, add, add_all, header_to}
-use Rattle.spec_endpoint.specs.Requests.{Requests, Outcome, Unsettled, Done, Denied, outcome, request_chunk}
+use Rattle.spec_endpoint.specs.ResetRequests.{Requests, Outcome, Unsettled, Done, Denied, outcome, request_chunk}
 use Rattle.spec_endpoint.specs.StreamReset.{on_outcome}
 use Rattle.spec_endpoint.specs.Sending.{selective_ack, data_chunks, fast_most, is_small}
 use Rattle.spec_endpoint.specs.Opening.{init_of, init_ack_of, next_first, agreed_by}

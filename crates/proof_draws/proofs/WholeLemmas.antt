@@ -13,14 +13,14 @@ use Rattle.sctp_packet.specs.Chunk.{ChunkTree, FragmentTree, data_chunk, idata_c
 use Rattle.sctp_packet.specs.Grammar.{Each}
 use Rattle.sctp_state.specs.Options.{Options}
 use Rattle.sctp_capabilities.specs.Capabilities.{Capabilities, agreed, zero_checksum_enabled}
-use Rattle.sctp_tx_queue.specs.Queue.{Queue}
+use Rattle.sctp_tx_queue.specs.SendQueue.{Queue}
 use Rattle.sctp_tx_queue.specs.InOrder.{HasRests}
 use Rattle.sctp_tx_queue.proofs.RestLemmas.{calls_leave_rests}
-use Rattle.sctp_tx.specs.Retransmission.{Sender}
+use Rattle.sctp_tx.specs.RetransmissionQueue.{Sender}
 use Rattle.sctp_tx.specs.ForwardPoints.{chunk_if}
 use Rattle.spec_endpoint.specs.Association.{Tcb}
 use Rattle.spec_endpoint.specs.Packets.{Packet, fits, added_if, add, add_all}
-use Rattle.spec_endpoint.specs.Requests.{Request, Requests, requests, request_chunk, is_known, is_last, is_next, awake, wake_request, after}
+use Rattle.spec_endpoint.specs.ResetRequests.{Request, Requests, requests, request_chunk, is_known, is_last, is_next, awake, wake_request, after}
 use Rattle.spec_endpoint.specs.Sending.{data_chunk_of, data_chunks}
 use Rattle.spec_endpoint.specs.Opening.{queue_if, other_mode, queue_for, queue_anew}
 use Rattle.spec_endpoint.specs.Laws.{Call}

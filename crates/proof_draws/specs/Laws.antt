@@ -9,10 +9,10 @@ use Rattle.sctp_wire.specs.Parameter.{ParameterTree, state_cookie, outgoing_rese
 use Rattle.sctp_packet.specs.Chunk.{ChunkTree, FragmentTree, InitTree, SackTree, data_chunk, idata_chunk, init_chunk, init_ack_chunk, sack_chunk, heartbeat_request_chunk, heartbeat_ack_chunk, abort_chunk, shutdown_chunk, shutdown_ack_chunk, error_chunk, cookie_echo_chunk, cookie_ack_chunk, shutdown_complete_chunk, re_config_chunk, forward_tsn_chunk, i_forward_tsn_chunk, unknown_chunk}
 use Rattle.sctp_serial.specs.Messages.{Message}
 use Rattle.sctp_state.specs.Options.{SendOptions}
-use Rattle.sctp_capabilities.specs.Cookie.{Cookie, cookie_bytes}
+use Rattle.sctp_capabilities.specs.StateCookie.{Cookie, cookie_bytes}
 use Rattle.spec_endpoint.specs.Association.{Identity, Tcb, Phase, State, Closed, CookieWait, Open, Context, EndpointState, Endpoint, where_open, Packing}
 use Rattle.spec_endpoint.specs.Packets.{Packet}
-use Rattle.spec_endpoint.specs.Requests.{Request, Requests}
+use Rattle.spec_endpoint.specs.ResetRequests.{Request, Requests}
 use Rattle.spec_endpoint.specs.Sending.{send_lost_data, send_with}
 use Rattle.spec_endpoint.specs.Opening.{tsn_from, tag_from, connect, resolve_cookie, cookie_for, answer, anew, echo, maker, on_cookie_ack}
 use Rattle.spec_endpoint.specs.Calls.{send, send_many, take_message}

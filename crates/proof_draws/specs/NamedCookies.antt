@@ -1,6 +1,6 @@
 -- Cookies under other names: what can be read is written anew, and what can't stays.
 use Rattle.std.specs.Prelude.{◌≡◌, ℕ, true, Result, Ok, Err, List, length}
-use Rattle.sctp_capabilities.specs.Cookie.{Cookie, CookieFits, has_tags, cookie_bytes, read_cookie}
+use Rattle.sctp_capabilities.specs.StateCookie.{Cookie, CookieFits, has_tags, cookie_bytes, read_cookie}
 use Rattle.sctp_capabilities.specs.declared.state_cookie.StateCookieError.{StateCookieError}
 use Rattle.spec_endpoint.specs.Opening.{maker}
 

@@ -2,13 +2,13 @@
 -- same; and its packets are the same, written under these names by the one who writes them.
 use Rattle.std.specs.Prelude.{option_map}
 use Rattle.rand_core.specs.Stream.{Stream}
-use Rattle.sctp_capabilities.specs.Cookie.{Cookie}
+use Rattle.sctp_capabilities.specs.StateCookie.{Cookie}
 use Rattle.sctp_rx.specs.Tracker.{DataTracker}
 use Rattle.sctp_rx.specs.ReassemblyQueue.{Reassembly}
-use Rattle.sctp_tx_outstanding.specs.Items.{Outstanding}
-use Rattle.sctp_tx.specs.Retransmission.{Sender}
+use Rattle.sctp_tx_outstanding.specs.OutstandingData.{Outstanding}
+use Rattle.sctp_tx.specs.RetransmissionQueue.{Sender}
 use Rattle.spec_endpoint.specs.Association.{Identity, Tcb, Phase, CookieEchoed, Established, ShutdownPending, ShutdownSent, ShutdownReceived, ShutdownAckSent, State, Closed, CookieWait, Open, Context, EndpointState, Endpoint, Packing}
-use Rattle.spec_endpoint.specs.Requests.{Request, Requests}
+use Rattle.spec_endpoint.specs.ResetRequests.{Request, Requests}
 use Rattle.spec_endpoint.specs.Packets.{Packet}
 use Rattle.proof_draws.specs.NamedChunks.{Names, move_by, named_chunks, named_header}
 

@@ -1,6 +1,6 @@
 -- What two traces of the same actions drew, place by place, and the names that take the one's ends to the other's.
 use Rattle.std.specs.Prelude.{◌≡◌, ℕ, ◌+◌, ◌-◌, ◌%◌, ◌^◌, ◌<◌, ◌==◌, if◌then◌else◌, Bool, true, false, List, [], ◌∷◌, ◌++◌, map}
-use Rattle.sctp_capabilities.specs.Cookie.{Cookie}
+use Rattle.sctp_capabilities.specs.StateCookie.{Cookie}
 use Rattle.proof_pair.specs.Trace.{Pair, EndAction, goes}
 use Rattle.proof_pair.specs.Agreement.{Draw, Has, drawn_in, AreDistinct}
 use Rattle.proof_draws.specs.NamedChunks.{Names, move_by}

@@ -4,7 +4,7 @@ use Rattle.std.specs.List.{list_all}
 use Rattle.std.proofs.lemmas.Bool.{and_parts, and_from}
 use Rattle.std.proofs.lemmas.List.Folds.{list_all-append}
 use Rattle.sctp_packet.specs.Chunk.{ChunkTree, FragmentTree, init_chunk, init_ack_chunk, cookie_echo_chunk, shutdown_ack_chunk}
-use Rattle.sctp_tx.specs.Retransmission.{Sender}
+use Rattle.sctp_tx.specs.RetransmissionQueue.{Sender}
 use Rattle.sctp_tx.specs.Resent.{is_interleaved}
 use Rattle.sctp_tx.specs.ForwardPoints.{chunk_if, forward_chunk}
 use Rattle.sctp_tx.specs.Sending.{send}
@@ -13,7 +13,7 @@ use Rattle.sctp_rx.specs.Tracker.{is_ack_due}
 use Rattle.sctp_tx_outstanding.specs.Forward.{is_forward_due}
 use Rattle.spec_endpoint.specs.Association.{Tcb}
 use Rattle.spec_endpoint.specs.Packets.{Packet, room, fits, added_if, add, add_all, has_chunks}
-use Rattle.spec_endpoint.specs.Requests.{Request, request_chunk}
+use Rattle.spec_endpoint.specs.ResetRequests.{Request, request_chunk}
 use Rattle.spec_endpoint.specs.Sending as sending
 use Rattle.spec_endpoint.specs.Sending.{Filling, selective_ack, test_forward_point, most_streams, request_started, is_small, ack_if, with_ack, forward_added_if, forward_if, tested_if, with_forward, add_request, request_of, request_if, with_request, data_chunk_of, data_chunks, with_data, filled_as, turned_if, next_packet}
 use Rattle.proof_endpoint.specs.Acts.{is_plain, goes_along, goes_first, takes_more, IsBundled, all_along}

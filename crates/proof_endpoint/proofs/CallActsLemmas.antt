@@ -17,11 +17,11 @@ use Rattle.sctp_state.specs.declared.api.handover.HandoverSocketState.TheVariant
 use Rattle.sctp_state.specs.Events.{OnConnected}
 use Rattle.sctp_state.specs.Handover.{HandoverState}
 use Rattle.sctp_state.specs.Options.{SendOptions}
-use Rattle.sctp_state.specs.Rtt.{rto}
+use Rattle.sctp_state.specs.RetransmissionTimeout.{rto}
 use Rattle.sctp_state.specs.Validity.{is_valid_state}
 use Rattle.spec_endpoint.specs.Association.{Tcb, Phase, Established, State, Closed, CookieWait, Open, Context, EndpointState, with_context}
 use Rattle.spec_endpoint.specs.Packets.{Packet, add, new_packet, say}
-use Rattle.spec_endpoint.specs.Requests.{Request, Requests, performed, nothing_to_do, bad_number, in_progress, is_final, after, is_last, is_next, is_known, process_request, answered_by, answered_if, answered_in, answer_request}
+use Rattle.spec_endpoint.specs.ResetRequests.{Request, Requests, performed, nothing_to_do, bad_number, in_progress, is_final, after, is_last, is_next, is_known, process_request, answered_by, answered_if, answered_in, answer_request}
 use Rattle.spec_endpoint.specs.Sending.{is_alone, send_in}
 use Rattle.spec_endpoint.specs.Calls.{shown_state, refusal, refusal_of, offered, offer, sent_if, send, offer_all, send_many, set_low_threshold, set_priority, set_max_message_size, taken_in, take_message}
 use Rattle.spec_endpoint.specs.StreamReset.{Handling, handling, is_ahead, resets_if, resets, outgoing_by, on_outgoing, incoming_if, is_outgoing, on_parameter, Handled, handle_next, handle_all, send_responses, finished_if, on_reconfig, unless_supported, reset_refusal, prepare_stream, prepare_all, reset_if, reset_streams}

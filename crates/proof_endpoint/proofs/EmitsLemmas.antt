@@ -11,16 +11,16 @@ use Rattle.sctp_state.specs.declared.api.errors.SendError.{SendError}
 use Rattle.sctp_state.specs.declared.api.errors.SendError.TheVariants.{EmptyPayload, MessageTooLarge, ShuttingDown, ResourceExhaustion as QueueFull, Memory, Failed}
 use Rattle.sctp_state.specs.Events.{Event, SendPacket, OnClosed, OnAborted, OnBufferedAmountLow, OnTotalBufferedAmountLow, Emitted, emit_event, emit_events, give_up, expiry}
 use Rattle.sctp_tx_outstanding.specs.Item.{Item, is_abandoned}
-use Rattle.sctp_tx_outstanding.specs.Items.{Items, Discard}
+use Rattle.sctp_tx_outstanding.specs.OutstandingData.{Items, Discard}
 use Rattle.sctp_tx_outstanding.specs.Losses.{Step, first_step, given_up, gives_up, loses, change_items, nack_item, nack_below, nack_all, given_up_if, expired_at, expire_below, expire_outstanding}
 use Rattle.sctp_tx_outstanding.specs.Item as item
 use Rattle.sctp_tx_outstanding.specs.Sack.{report, reports, leaving, staying, reported_below, receive_sack_first, receive_sack}
 use Rattle.sctp_tx_outstanding.specs.Sack as sack
-use Rattle.sctp_state.specs.Thresholds.{crosses}
-use Rattle.sctp_tx_queue.specs.Queue.{Queued, Stream, Streams, Queue, stream, watched_amount, watched_total}
+use Rattle.sctp_state.specs.ThresholdWatcher.{crosses}
+use Rattle.sctp_tx_queue.specs.SendQueue.{Queued, Stream, Streams, Queue, stream, watched_amount, watched_total}
 use Rattle.sctp_tx_queue.specs.Produced.{Produced, Turn, is_stale, drop_expired, when, fully_sent, production, emitted_made, emitted_of, streams_after, streams_without_stale, advance, next_fragment, turn, next_stream, idle, produce_within, produce}
 use Rattle.sctp_tx_queue.specs.Settings.{Changed, set_low_threshold, with_threshold, front_discarded, streams_discarded, discard_from, discard}
-use Rattle.sctp_tx.specs.Retransmission.{Sender, emitted_if}
+use Rattle.sctp_tx.specs.RetransmissionQueue.{Sender, emitted_if}
 use Rattle.sctp_tx.specs.Windows.{is_open}
 use Rattle.sctp_tx.specs.Resent.{resent, may_send_new}
 use Rattle.sctp_tx.specs.Sending.{Filling, Turned, append, turned_if, next_turn, offered_payload, fill, discard_all, without_discards, filled_with, fill_all, send}

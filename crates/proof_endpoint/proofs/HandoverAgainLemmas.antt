@@ -7,12 +7,12 @@ use Rattle.std.specs.Ordering.{nat_cmp}
 use Rattle.std.proofs.lemmas.Nat.{le_or_l, le_or_r}
 use Rattle.std.proofs.lemmas.Bool.{and_from, eqb-true}
 use Rattle.rand_core.specs.Stream.{Stream as Words}
-use Rattle.sctp_serial.specs.Serial.{serial_sum}
+use Rattle.sctp_serial.specs.SerialNumber.{serial_sum}
 use Rattle.sctp_serial.specs.Unwrapped.{words, halves, wire}
 use Rattle.sctp_state.specs.Numbers.{most_u32}
 use Rattle.sctp_capabilities.specs.Capabilities.{Capabilities, zero_checksum_enabled, same_method}
 use Rattle.sctp_state.specs.Handover.{HandoverState, Transmission}
-use Rattle.sctp_stream_scheduler.specs.Scheduler.{scheduler, enable_message_interleaving}
+use Rattle.sctp_stream_scheduler.specs.StreamScheduler.{scheduler, enable_message_interleaving}
 use Rattle.sctp_state.specs.Validity.{rises_from, outgoing_ids, ordered_ids, unordered_ids, has_small_numbers, is_valid_reception, are_valid_messages, message_ids_differ, first_alone_is_partly_sent, partly_sent_count, has_valid_queue, are_valid_items, has_valid_items, payload_fits, queued_bytes, outstanding_bytes, is_valid_transmission, is_valid_state}
 use Rattle.sctp_rx.specs.Delivery.{OrderedStream, UnorderedStream}
 use Rattle.sctp_rx.specs.Seen.{has_gap}
@@ -23,11 +23,11 @@ use Rattle.sctp_rx.specs.ReassemblyHandover.{ordered_records, unordered_records,
 use Rattle.sctp_rx.specs.ReassemblyHandover as reassembly
 use Rattle.sctp_rx.specs.TrackerHandover as tracker
 use Rattle.sctp_tx_outstanding.specs.Item.{Item}
-use Rattle.sctp_tx_outstanding.specs.Items.{Outstanding, no_items}
+use Rattle.sctp_tx_outstanding.specs.OutstandingData.{Outstanding, no_items}
 use Rattle.sctp_tx_outstanding.specs.Handover.{item_records}
 use Rattle.sctp_tx_outstanding.specs.Again as items_again
 use Rattle.sctp_tx_outstanding.proofs.AgainLemmas.{comes_back}
-use Rattle.sctp_tx_queue.specs.Queue.{Entries, Queue, blank}
+use Rattle.sctp_tx_queue.specs.SendQueue.{Entries, Queue, blank}
 use Rattle.sctp_tx_queue.specs.Handover.{outgoing_streams, queued_messages}
 use Rattle.sctp_tx_queue.specs.Restored.{streams_from}
 use Rattle.sctp_tx_queue.specs.InOrder.{are_in_order}
@@ -38,7 +38,7 @@ use Rattle.sctp_tx_queue.proofs.AgainLemmas as queue_back
 use Rattle.sctp_tx_queue.proofs.TakenUpLemmas.{restored_in_order, written_as_sent, scheduled_mode}
 use Rattle.sctp_tx.specs.Handover as sender
 use Rattle.spec_endpoint.specs.Association.{Tcb, Context, Packing}
-use Rattle.spec_endpoint.specs.Requests.{Request}
+use Rattle.spec_endpoint.specs.ResetRequests.{Request}
 use Rattle.spec_endpoint.specs.Handover.{is_strict, receiving, pending, request_readiness, block_readiness, readiness, handover_state, handed_over, method_if, left_if, restored_unless, invalid_unless}
 use Rattle.proof_endpoint.specs.HandoverRoundTrip.{IsConnected, IsQueue, Fits, queue_bytes, item_bytes, endpoint_state, successor, block_again, context_again, ItemsComeBack, QueueComesBack, ordered_again, unordered_again, ReceptionComesBack, NothingWaits, HandoverGoesOn, MadeConnected}
 use Rattle.proof_endpoint.proofs.HandoverValidLemmas.{rises, outgoing_rise, Each, each, AreLeft, messages_are_valid, numbers_differ, IsOrdered, first_alone, one_is_begun, in_one_state, count_items, next_is, queue_bytes_are, item_bytes_are}

@@ -18,7 +18,7 @@ use Rattle.sctp_tx_outstanding.specs.declared.item.ItemState.{ItemState}
 use Rattle.sctp_tx_outstanding.specs.declared.item.ItemState.TheVariants.{InFlight, Missing, Queued as Lost, QueuedFast, Acked, GivenUp}
 use Rattle.sctp_tx_outstanding.specs.Item.{Item, has_ack, is_given_up, waits}
 use Rattle.sctp_tx_outstanding.specs.Handover.{item_record, item_records}
-use Rattle.sctp_tx_queue.specs.Queue.{Queued, Stream, Entries}
+use Rattle.sctp_tx_queue.specs.SendQueue.{Queued, Stream, Entries}
 use Rattle.sctp_tx_queue.specs.Handover.{queued_message, messages_of, outgoing_stream, outgoing_streams, queued_messages}
 use Rattle.sctp_tx_queue.specs.InOrder.{is_waiting, is_begun_or_waiting, are_in_order, is_first_begun, is_this, has_rest}
 use Rattle.sctp_tx_queue.proofs.AgainLemmas.{AreAbove, are_above}

@@ -2,15 +2,15 @@
 use Rattle.std.proofs.Common.{◌≡◌, ℕ, suc, ◌-◌, ◌&&◌, nat_lt, if◌then◌else◌, Bool, true, false, None, List, [], refl, ap, ◌∙◌, arith}
 use Rattle.sctp_packet.specs.Chunk.{FragmentTree}
 use Rattle.sctp_state.specs.Events.{Emitted}
-use Rattle.sctp_state.specs.Timers.{Timer}
+use Rattle.sctp_state.specs.Timer.{Timer}
 use Rattle.sctp_tx_outstanding.specs.Item.{Item}
-use Rattle.sctp_tx_outstanding.specs.Items.{Outstanding}
+use Rattle.sctp_tx_outstanding.specs.OutstandingData.{Outstanding}
 use Rattle.sctp_tx_outstanding.specs.Resending.{Resent, resend, empty_packet}
-use Rattle.sctp_tx_queue.specs.Queue.{Streams, Queue}
+use Rattle.sctp_tx_queue.specs.SendQueue.{Streams, Queue}
 use Rattle.sctp_tx_queue.specs.Settings.{Changed}
 use Rattle.sctp_tx.specs.declared.retransmission_queue.windows.Windows.{Windows}
 use Rattle.sctp_tx.specs.Windows.{take_payload}
-use Rattle.sctp_tx.specs.Retransmission.{Sender}
+use Rattle.sctp_tx.specs.RetransmissionQueue.{Sender}
 use Rattle.sctp_tx.specs.Resent.{may_send_new}
 use Rattle.sctp_tx.specs.Sending as fragments
 use Rattle.sctp_tx.specs.Sending.{filling, fill, offered_payload, filled_with, timed_filling, send}

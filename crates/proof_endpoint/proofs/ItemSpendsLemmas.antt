@@ -8,15 +8,15 @@ use Rattle.sctp_state.specs.declared.api.GivenUpCause.TheVariants.{Lifetime, Ret
 use Rattle.sctp_state.specs.Events.{Emitted}
 use Rattle.sctp_tx_outstanding.specs.Item.{Item, is_of, is_fast, should_be_retransmitted, abandon, mark_as_retransmitted, miss_fast}
 use Rattle.sctp_tx_outstanding.specs.Item as item
-use Rattle.sctp_tx_outstanding.specs.Items.{Items, change_at, lay_down, last_of}
+use Rattle.sctp_tx_outstanding.specs.OutstandingData.{Items, change_at, lay_down, last_of}
 use Rattle.sctp_tx_outstanding.specs.Losses.{placeholder, placeholders, abandon_message, Step, given_up, change_items, loses, gives_up, nack_item, nack_below, nack_all, first_step, expired_at, given_up_if, expire_below, expire_outstanding}
 use Rattle.sctp_tx_outstanding.specs.Resending.{Resent, size_in, again_of, allowance, fast_turn, queued_turn, turn_of, take_item, resent_below, empty_packet}
 use Rattle.sctp_tx_outstanding.specs.Sack.{reports, leaving, staying, ack_or_nack, settle, reported_below, receive_sack_first, receive_sack}
-use Rattle.sctp_tx_queue.specs.Queue.{Queue}
+use Rattle.sctp_tx_queue.specs.SendQueue.{Queue}
 use Rattle.sctp_tx_queue.specs.Produced as queued
 use Rattle.sctp_tx_queue.specs.Settings.{Changed}
 use Rattle.sctp_tx.specs.Windows.{is_open}
-use Rattle.sctp_tx.specs.Retransmission.{Sender, sender_if, emitted_if}
+use Rattle.sctp_tx.specs.RetransmissionQueue.{Sender, sender_if, emitted_if}
 use Rattle.sctp_tx.specs.Resent.{resent_by, resent, resent_fast, may_send_new, timed_if, send_fast}
 use Rattle.sctp_tx.specs.Sending.{Filling, offered_payload, item_of, append, Turned, turned_if, next_turn, fill, discard_all, without_discards, filled_with, fill_all, send}
 use Rattle.proof_endpoint.specs.Lifecycles.{names_lifecycle, where_end, kept_ends}

@@ -3,16 +3,16 @@ use Rattle.std.proofs.Common.{◌≡◌, ℕ, ◌+◌, ◌≤◌, ◌||◌, Bool
 use Rattle.std.proofs.lemmas.Bool.{both_ways}
 use Rattle.sctp_serial.specs.Messages.{Message}
 use Rattle.sctp_capabilities.specs.Capabilities.{negotiate}
-use Rattle.sctp_capabilities.specs.Cookie.{Cookie}
+use Rattle.sctp_capabilities.specs.StateCookie.{Cookie}
 use Rattle.sctp_state.specs.Options.{SendOptions}
 use Rattle.sctp_state.specs.Events.{Event, SendPacket, OnError, OnConnected, OnConnectionRestarted, OnClosed, OnIncomingStreamReset, OnStreamsResetPerformed, OnStreamsResetFailed, OnLifecycleEnd, Emitted, numbers_of}
 use Rattle.sctp_tx_queue.specs.declared.send_queue.stream.ResetStep.TheVariants.{Requested, Performed, Refused}
-use Rattle.sctp_tx_queue.specs.Queue.{Queue}
+use Rattle.sctp_tx_queue.specs.SendQueue.{Queue}
 use Rattle.sctp_tx_queue.specs.Resets.{requested_streams, request_resets}
 use Rattle.sctp_tx_queue.specs.Settings.{set_priority}
 use Rattle.spec_endpoint.specs.Association.{Closed, Established}
 use Rattle.spec_endpoint.specs.Packets.{room, header_to, say}
-use Rattle.spec_endpoint.specs.Requests.{Outcome, Unsettled, Done, Denied, outcome}
+use Rattle.spec_endpoint.specs.ResetRequests.{Outcome, Unsettled, Done, Denied, outcome}
 use Rattle.spec_endpoint.specs.Sending.{fast_most}
 use Rattle.spec_endpoint.specs.Opening.{agreed_by, queue_anew, queue_if, other_mode}
 use Rattle.spec_endpoint.specs.Sack.{clean_blocks}

@@ -4,7 +4,7 @@ use Rattle.std.specs.List.Sorted.{IsStrictlySortedBy}
 use Rattle.std.specs.Ordering.{nat_cmp}
 use Rattle.sctp_state.specs.Options.{Options}
 use Rattle.sctp_capabilities.specs.Capabilities.{Capabilities, negotiate}
-use Rattle.sctp_tx_queue.specs.Queue.{queue}
+use Rattle.sctp_tx_queue.specs.SendQueue.{queue}
 use Rattle.sctp_tx_queue.specs.Settings.{set_mode}
 use Rattle.sctp_tx_queue.specs.Readiness as queued
 use Rattle.sctp_tx_queue.proofs.InOrderLemmas.{new_in_order, mode_in_order}

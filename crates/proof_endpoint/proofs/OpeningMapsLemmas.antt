@@ -5,7 +5,7 @@ use Rattle.sctp_packet.specs.Chunk.{InitTree, init_chunk, init_ack_chunk, abort_
 use Rattle.sctp_state.specs.declared.api.ErrorKind.TheVariants.{ParseFailed, ProtocolViolation, WrongSequence}
 use Rattle.sctp_capabilities.specs.declared.state_cookie.StateCookieError.{StateCookieError}
 use Rattle.sctp_capabilities.specs.Capabilities.{announce, negotiate, zero_checksum_enabled}
-use Rattle.sctp_capabilities.specs.Cookie.{Cookie, read_cookie, refusal_text}
+use Rattle.sctp_capabilities.specs.StateCookie.{Cookie, read_cookie, refusal_text}
 use Rattle.sctp_state.specs.Events.{OnConnected, OnConnectionRestarted, OnAborted}
 use Rattle.spec_endpoint.specs.Association.{Identity, Tcb, tcb, Phase, CookieEchoed, Established, ShutdownPending, ShutdownSent, ShutdownReceived, ShutdownAckSent, State, Closed, CookieWait, Open, Context, EndpointState, Endpoint, with_context}
 use Rattle.spec_endpoint.specs.Heartbeats.{beating}

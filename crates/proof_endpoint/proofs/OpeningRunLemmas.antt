@@ -4,14 +4,14 @@ use Rattle.std.specs.Prelude.{Ok, Result}
 use Rattle.std.proofs.lemmas.Bool.Decides.{nat_tests}
 use Rattle.rand_core.specs.Stream.{Stream, next_u32, next_u64}
 use Rattle.sctp_serial.specs.Messages.{Message}
-use Rattle.sctp_wire.specs.Fields.{be16, be32, be64}
+use Rattle.sctp_wire.specs.Field.{be16, be32, be64}
 use Rattle.sctp_wire.specs.Serialize.{padded_item, inner_items}
 use Rattle.sctp_wire.specs.Parameter.{parameter_value}
 use Rattle.sctp_packet.specs.Chunk.{ChunkTree, init_ack_chunk, cookie_ack_chunk}
 use Rattle.sctp_packet.specs.Written.{chunk_bytes, chunks_bytes, chunk_value, init_fields}
 use Rattle.sctp_state.specs.Options.{defaults}
 use Rattle.sctp_capabilities.specs.Capabilities.{agreed}
-use Rattle.sctp_capabilities.specs.Cookie.{Cookie, CookieFits, cookie_bytes, capability_bytes, read_cookie}
+use Rattle.sctp_capabilities.specs.StateCookie.{Cookie, CookieFits, cookie_bytes, capability_bytes, read_cookie}
 use Rattle.sctp_capabilities.specs.declared.state_cookie.StateCookieError.{StateCookieError}
 use Rattle.sctp_capabilities.proofs.CookieLemmas.{read_cookie_bytes}
 use Rattle.sctp_state.specs.Events.{Event, OnConnected}

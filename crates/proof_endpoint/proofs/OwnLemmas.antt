@@ -13,7 +13,7 @@ use Rattle.sctp_packet.specs.Grammar.{Each}
 use Rattle.sctp_state.specs.Options.{Options}
 use Rattle.sctp_rx.specs.Tracker as tracker
 use Rattle.sctp_capabilities.specs.Capabilities.{Capabilities, where_enabled, extensions, announce, same_method}
-use Rattle.sctp_capabilities.specs.Cookie.{Cookie, cookie_bytes}
+use Rattle.sctp_capabilities.specs.StateCookie.{Cookie, cookie_bytes}
 use Rattle.sctp_capabilities.proofs.CookieLemmas.{length_cookie_bytes}
 use Rattle.spec_endpoint.specs.Association.{Tcb, State, Closed, CookieWait, Open}
 use Rattle.spec_endpoint.specs.Heartbeats.{info_of, heartbeat}

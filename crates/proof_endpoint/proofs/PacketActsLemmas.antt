@@ -4,15 +4,15 @@ use Rattle.std.specs.List.{list_all}
 use Rattle.rand_core.specs.Stream.{Stream}
 use Rattle.sctp_packet.specs.Chunk.{ChunkTree, cookie_echo_chunk}
 use Rattle.sctp_state.specs.declared.api.ErrorKind.{ErrorKind}
-use Rattle.sctp_state.specs.Timers.{Timer}
-use Rattle.sctp_tx_outstanding.specs.Items.{fast_items}
+use Rattle.sctp_state.specs.Timer.{Timer}
+use Rattle.sctp_tx_outstanding.specs.OutstandingData.{fast_items}
 use Rattle.sctp_tx_outstanding.specs.Forward.{is_forward_due}
 use Rattle.sctp_rx.specs.Tracker.{is_ack_due}
 use Rattle.sctp_tx.specs.ForwardPoints.{forward_chunk}
 use Rattle.sctp_tx.specs.Resent.{resent_fast}
 use Rattle.sctp_tx_queue.specs.Resets.{requested_streams, request_resets}
 use Rattle.spec_endpoint.specs.Association.{Tcb, Phase, CookieEchoed, State, Open, Context}
-use Rattle.spec_endpoint.specs.Requests.{Request}
+use Rattle.spec_endpoint.specs.ResetRequests.{Request}
 use Rattle.spec_endpoint.specs.Packets.{Packet, empty_packet, fits, add, has_chunks, round_up, packet_to, new_packet, complain, emit_if, emit, emit_chunk}
 use Rattle.spec_endpoint.specs.Sending.{Filling, ask_for_sack, ack_if, goes_along, with_ack, forward_later, forward_added_if, forward_if, test_forward_point, tested_if, with_forward, most_streams, add_request, request_started, request_of, request_if, with_request, with_data, filled_as, Turned, turned_if, next_packet, go_on, burst, send_with, send_buffered, cookie_if, send_cookie, fast_most, fast_packet, fast_if, send_lost}
 use Rattle.spec_endpoint.specs.Laws.{Call}

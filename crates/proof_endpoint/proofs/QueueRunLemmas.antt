@@ -5,8 +5,8 @@ use Rattle.std.specs.Prelude.{unwrap_or}
 use Rattle.std.proofs.lemmas.Bool.Decides.{nat_tests}
 use Rattle.sctp_serial.specs.Messages.{Message}
 use Rattle.sctp_state.specs.Options.{SendOptions, defaults}
-use Rattle.sctp_stream_scheduler.specs.Scheduler.{scheduler}
-use Rattle.sctp_tx_queue.specs.Queue.{Queued, Stream, Queue, queue, no_streams, blank, add, expiry_of}
+use Rattle.sctp_stream_scheduler.specs.StreamScheduler.{scheduler}
+use Rattle.sctp_tx_queue.specs.SendQueue.{Queued, Stream, Queue, queue, no_streams, blank, add, expiry_of}
 use Rattle.sctp_tx_queue.specs.Produced.{Produced, is_due, produce, took}
 use Rattle.sctp_serial.specs.Time.{later}
 use Rattle.sctp_state.specs.Numbers.{ms}

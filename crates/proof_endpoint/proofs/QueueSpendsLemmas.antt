@@ -5,13 +5,13 @@ use Rattle.std.specs.declared.cmp.Ordering.{Ordering}
 use Rattle.std.specs.Map.{lookup, set_value, keys_of}
 use Rattle.std.specs.BTreeMap.{is_at, insert_entry}
 use Rattle.sctp_state.specs.declared.api.GivenUpCause.TheVariants.{Lifetime, Reset}
-use Rattle.sctp_state.specs.Thresholds.{crosses}
+use Rattle.sctp_state.specs.ThresholdWatcher.{crosses}
 use Rattle.sctp_state.specs.Events.{OnBufferedAmountLow, Emitted, emit_events, give_up, expiry}
-use Rattle.sctp_tx_outstanding.specs.Items.{Discard}
+use Rattle.sctp_tx_outstanding.specs.OutstandingData.{Discard}
 use Rattle.sctp_tx_queue.specs.declared.send_queue.message.MessageNumbers.{MessageNumbers}
 use Rattle.sctp_tx_queue.specs.declared.send_queue.stream.ResetStep.{ResetStep}
 use Rattle.sctp_tx_queue.specs.declared.send_queue.stream.ResetStep.TheVariants.{Requested, Performed, Refused}
-use Rattle.sctp_tx_queue.specs.Queue.{Queued, Stream, Streams, Entries, Queue, blank, stream, open_stream, put_stream, push, add, watched_amount, watched_total}
+use Rattle.sctp_tx_queue.specs.SendQueue.{Queued, Stream, Streams, Entries, Queue, blank, stream, open_stream, put_stream, push, add, watched_amount, watched_total}
 use Rattle.sctp_tx_queue.specs.Produced.{Produced, Turn, is_stale, fresh, drop_expired, without_stale, ends as is_last, move_past, moved_front, front_numbers, front_made, next_fragment, advance, settle_pause, when, production, emitted_made, streams_without_stale, streams_after, turn, next_stream, idle, produce_within, produce}
 use Rattle.sctp_tx_queue.specs.Settings.{Changed, with_threshold, set_low_threshold, with_priority, set_priority, front_discarded, without_front, streams_discarded, discard_from, discard}
 use Rattle.sctp_tx_queue.specs.Resets.{is_partly, emitted_waiting, prepare_stream, prepare_reset, after_step, step_stream, each_stepped}

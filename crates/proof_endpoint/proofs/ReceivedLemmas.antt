@@ -8,7 +8,7 @@ use Rattle.sctp_wire.specs.Parameter.{ParameterTree, IsParameter}
 use Rattle.sctp_packet.specs.Chunk.{ChunkTree, data_chunk, init_chunk, init_ack_chunk, heartbeat_request_chunk, cookie_echo_chunk, idata_chunk, re_config_chunk}
 use Rattle.sctp_packet.specs.Grammar.{Each, IsChunk}
 use Rattle.sctp_capabilities.specs.declared.state_cookie.StateCookieError.{StateCookieError}
-use Rattle.sctp_capabilities.specs.Cookie.{Cookie, u32_in, cookie_from, check_cookie, read_cookie}
+use Rattle.sctp_capabilities.specs.StateCookie.{Cookie, u32_in, cookie_from, check_cookie, read_cookie}
 use Rattle.std.specs.Prelude.{Bool, true, false, Result, Ok, Err}
 use Rattle.proof_endpoint.specs.Sound.{AreRead, HasSomeCookie}
 use Rattle.proof_endpoint.specs.Fair.{IsFairParameter, FitsReceived}

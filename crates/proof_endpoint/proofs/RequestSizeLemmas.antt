@@ -6,7 +6,7 @@ use Rattle.sctp_wire.specs.Parameter.{outgoing_reset_request, parameter_item}
 use Rattle.sctp_wire.proofs.SerializeLemmas.{length_item_bytes, length_padded_item}
 use Rattle.sctp_parameter.proofs.ParameterLemmas.{length_outgoing}
 use Rattle.sctp_packet.specs.Written.{chunk_item, chunk_value, chunk_bytes}
-use Rattle.spec_endpoint.specs.Requests.{Request, ids, request_chunk}
+use Rattle.spec_endpoint.specs.ResetRequests.{Request, ids, request_chunk}
 use Rattle.spec_endpoint.specs.Packets.{Packet, room, fits}
 use Rattle.spec_endpoint.specs.Sending.{most_streams}
 use Rattle.spec_endpoint.proofs.SizeLemmas.{size_of_chunk}

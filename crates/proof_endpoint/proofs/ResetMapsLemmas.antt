@@ -7,11 +7,11 @@ use Rattle.sctp_state.specs.declared.api.ErrorKind.TheVariants.{ProtocolViolatio
 use Rattle.sctp_state.specs.declared.api.errors.ResetStreamsError.{ResetStreamsError}
 use Rattle.sctp_state.specs.Events.{OnIncomingStreamReset, OnStreamsResetPerformed, OnStreamsResetFailed, Emitted, emit_events, give_up, expiry, numbers_of}
 use Rattle.sctp_state.specs.declared.api.GivenUpCause.TheVariants.{Reset}
-use Rattle.sctp_tx_queue.specs.Queue.{Queued, Queue, stream}
+use Rattle.sctp_tx_queue.specs.SendQueue.{Queued, Queue, stream}
 use Rattle.sctp_tx_queue.specs.Settings.{Changed}
 use Rattle.sctp_tx_queue.specs.Resets.{is_partly, emitted_waiting, prepare_reset, commit_resets, roll_back_resets}
 use Rattle.spec_endpoint.specs.Association.{Tcb, Phase, Context, EndpointState, open_as, with_context, where_open}
-use Rattle.spec_endpoint.specs.Requests.{is_final, Outcome, Unsettled, Done, Denied, outcome, is_last, is_next, is_known}
+use Rattle.spec_endpoint.specs.ResetRequests.{is_final, Outcome, Unsettled, Done, Denied, outcome, is_last, is_next, is_known}
 use Rattle.spec_endpoint.specs.Sending.{Sent, is_alone, open_with, send_buffered, send_in}
 use Rattle.spec_endpoint.specs.StreamReset.{Handling, handling, performs, is_ahead, resets_if, resets, outgoing_by, incoming_if, on_outcome, on_response, is_outgoing, on_parameter, Handled, handle_next, handle_all, send_responses, finished_if, finish_resets, on_reconfig, reset_refusal, prepare_all, reset_if, reset_streams}
 use Rattle.spec_endpoint.specs.StreamReset as rows

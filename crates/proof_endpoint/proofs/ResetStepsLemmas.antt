@@ -7,10 +7,10 @@ use Rattle.sctp_state.specs.declared.api.ErrorKind.TheVariants.{ProtocolViolatio
 use Rattle.sctp_state.specs.declared.api.errors.ResetStreamsError.{ResetStreamsError}
 use Rattle.sctp_state.specs.Events.{OnIncomingStreamReset, OnStreamsResetPerformed, OnStreamsResetFailed, Emitted, emit_events, give_up, expiry, numbers_of}
 use Rattle.sctp_state.specs.declared.api.GivenUpCause.TheVariants.{Reset}
-use Rattle.sctp_tx_queue.specs.Queue.{Queued, Queue, stream}
+use Rattle.sctp_tx_queue.specs.SendQueue.{Queued, Queue, stream}
 use Rattle.sctp_tx_queue.specs.Resets.{is_partly, emitted_waiting, prepare_reset}
 use Rattle.spec_endpoint.specs.Association.{Tcb, Phase, Open, Context, EndpointState, with_context, Packing}
-use Rattle.spec_endpoint.specs.Requests.{is_final, Outcome, Unsettled, Done, Denied, outcome, is_last, is_next, is_known}
+use Rattle.spec_endpoint.specs.ResetRequests.{is_final, Outcome, Unsettled, Done, Denied, outcome, is_last, is_next, is_known}
 use Rattle.spec_endpoint.specs.Sending.{is_alone, send_in}
 use Rattle.spec_endpoint.specs.StreamReset.{Handling, handling, performs, is_ahead, resets_if, resets, outgoing_by, incoming_if, on_outcome, is_outgoing, on_parameter, Handled, handle_next, handle_all, send_responses, finished_if, on_reconfig, reset_refusal, prepare_stream, prepare_all, reset_if, reset_streams}
 use Rattle.proof_endpoint.proofs.StepsLemmas.{Emits, most_bytes, Goes, Steps}

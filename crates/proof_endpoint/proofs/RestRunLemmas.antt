@@ -6,10 +6,10 @@ use Rattle.sctp_serial.specs.Messages.{Message}
 use Rattle.sctp_packet.specs.Chunk.{SackTree, sack_chunk}
 use Rattle.sctp_packet.specs.Written.{chunks_bytes}
 use Rattle.sctp_state.specs.Options.{SendOptions, defaults}
-use Rattle.sctp_state.specs.Errors.{ErrorCounter, no_errors}
+use Rattle.sctp_state.specs.TxErrorCounter.{ErrorCounter, no_errors}
 use Rattle.sctp_state.specs.Events.{silent}
 use Rattle.sctp_tx_outstanding.specs.Sack.{acked_bytes}
-use Rattle.sctp_tx.specs.Retransmission.{Sender, handle_sack}
+use Rattle.sctp_tx.specs.RetransmissionQueue.{Sender, handle_sack}
 use Rattle.spec_endpoint.specs.Association.{Tcb, Established, Open, Context, EndpointState, Endpoint, where_open, Packing}
 use Rattle.spec_endpoint.specs.Packets.{has_chunks, new_packet}
 use Rattle.spec_endpoint.specs.Sending.{Filling, turned_if, go_on, burst, sent_by, open_with}

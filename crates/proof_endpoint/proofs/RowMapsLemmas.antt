@@ -6,10 +6,10 @@ use Rattle.sctp_chunk.specs.declared.forward_tsn.SkippedStream.{SkippedStream}
 use Rattle.sctp_packet.specs.Chunk.{ChunkTree, FragmentTree, SackTree, abort_chunk, error_chunk, shutdown_chunk, shutdown_ack_chunk, shutdown_complete_chunk}
 use Rattle.sctp_state.specs.declared.api.ErrorKind.TheVariants.{TooManyRetries, PeerReported, ProtocolViolation, NotConnected}
 use Rattle.sctp_state.specs.Events.{Event, OnClosed, OnAborted, Emitted}
-use Rattle.sctp_tx_outstanding.specs.Items.{number_of}
+use Rattle.sctp_tx_outstanding.specs.OutstandingData.{number_of}
 use Rattle.sctp_tx_outstanding.specs.Sack.{is_valid}
 use Rattle.sctp_rx.specs.Tracker as tracker
-use Rattle.sctp_tx.specs.Retransmission.{Sender, SackAnswer, Invalid, Valid, sender_if, emitted_if, answer_if, is_quiet}
+use Rattle.sctp_tx.specs.RetransmissionQueue.{Sender, SackAnswer, Invalid, Valid, sender_if, emitted_if, answer_if, is_quiet}
 use Rattle.spec_endpoint.specs.Association.{Tcb, Phase, CookieEchoed, Established, ShutdownPending, ShutdownSent, ShutdownReceived, ShutdownAckSent, State, Closed, CookieWait, Open, Heartbeats, Context, EndpointState, where_open}
 use Rattle.spec_endpoint.specs.Heartbeats.{silence}
 use Rattle.spec_endpoint.specs.Packets.{add, packet_to, complain, emit_chunk}

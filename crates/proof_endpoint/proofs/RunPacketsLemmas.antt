@@ -5,7 +5,7 @@ use Rattle.std.proofs.lemmas.List.Elements.{All-cons, All-nil}
 use Rattle.std.proofs.lemmas.List.Concat.{flat_map-cons}
 use Rattle.rand_core.specs.Stream as rng
 use Rattle.sctp_serial.specs.Messages.{Message}
-use Rattle.sctp_wire.specs.Fields.{be16, be32}
+use Rattle.sctp_wire.specs.Field.{be16, be32}
 use Rattle.sctp_wire.specs.Item.{padding}
 use Rattle.sctp_wire.specs.Serialize.{padded_item, inner_items}
 use Rattle.sctp_wire.specs.Parameter.{ParameterTree, parameter_item, parameter_value, state_cookie, supported_extensions, forward_tsn_supported}
@@ -18,7 +18,7 @@ use Rattle.sctp_packet.specs.ReadBack.{ChunkReadsBack}
 use Rattle.sctp_chunk.proofs.ValueLemmas.{length_data, length_init, length_init_ack, length_sack}
 use Rattle.sctp_state.specs.Options.{Options, SendOptions, defaults}
 use Rattle.sctp_capabilities.specs.Capabilities.{announce}
-use Rattle.sctp_capabilities.specs.Cookie.{Cookie, cookie_bytes}
+use Rattle.sctp_capabilities.specs.StateCookie.{Cookie, cookie_bytes}
 use Rattle.sctp_capabilities.proofs.CookieLemmas.{length_cookie_bytes, cookie_bytes_writable}
 use Rattle.spec_endpoint.specs.Association.{Endpoint, fresh, Packing}
 use Rattle.spec_endpoint.specs.Opening.{init_of, cookie_for, init_ack_of}

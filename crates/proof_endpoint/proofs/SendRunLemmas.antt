@@ -11,18 +11,18 @@ use Rattle.sctp_packet.specs.Chunk.{ChunkTree, FragmentTree, data_chunk}
 use Rattle.sctp_packet.specs.Written.{chunk_item, chunk_bytes, chunks_bytes}
 use Rattle.sctp_chunk.proofs.ValueLemmas.{length_data}
 use Rattle.sctp_state.specs.Options.{SendOptions, defaults}
-use Rattle.sctp_state.specs.Timers.{Timer, start}
+use Rattle.sctp_state.specs.Timer.{Timer, start}
 use Rattle.sctp_state.specs.Events.{Event, Emitted, OnBufferedAmountLow, silent, emit_events}
 use Rattle.sctp_state.specs.declared.api.SocketState.TheVariants.{Connected}
 use Rattle.sctp_state.specs.declared.api.errors.SendError.{SendError}
 use Rattle.sctp_tx_outstanding.specs.Item.{Item, size_of}
-use Rattle.sctp_tx_outstanding.specs.Items.{first_sent}
+use Rattle.sctp_tx_outstanding.specs.OutstandingData.{first_sent}
 use Rattle.sctp_tx_outstanding.specs.Resending.{resend, empty_packet}
-use Rattle.sctp_tx_queue.specs.Queue.{Queue, expiry_of}
+use Rattle.sctp_tx_queue.specs.SendQueue.{Queue, expiry_of}
 use Rattle.sctp_tx_queue.specs.Produced.{Turn}
 use Rattle.sctp_tx.specs.declared.retransmission_queue.windows.Windows.{Windows}
 use Rattle.sctp_tx.specs.Windows.{at_first, take_payload}
-use Rattle.sctp_tx.specs.Retransmission.{Sender}
+use Rattle.sctp_tx.specs.RetransmissionQueue.{Sender}
 use Rattle.sctp_tx.specs.Sending as fragments
 use Rattle.sctp_tx.specs.Sending.{filling, fill, ask_queue, timed_filling}
 use Rattle.spec_endpoint.specs.Association.{Tcb, Established, Open, Context, EndpointState, Endpoint, with_context, where_open, Packing}

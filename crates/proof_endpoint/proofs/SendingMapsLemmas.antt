@@ -4,7 +4,7 @@ use Rattle.sctp_packet.specs.Chunk.{ChunkTree, cookie_echo_chunk}
 use Rattle.sctp_state.specs.declared.api.ErrorKind.{ErrorKind}
 use Rattle.sctp_state.specs.Numbers.{more}
 use Rattle.sctp_state.specs.Events.{Event, SendPacket, OnError, Emitted}
-use Rattle.sctp_tx_outstanding.specs.Items.{fast_items}
+use Rattle.sctp_tx_outstanding.specs.OutstandingData.{fast_items}
 use Rattle.sctp_tx_outstanding.specs.Losses.{Step}
 use Rattle.sctp_tx_outstanding.specs.Forward.{is_forward_due}
 use Rattle.sctp_rx.specs.Tracker.{is_ack_due}

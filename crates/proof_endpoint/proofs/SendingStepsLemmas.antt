@@ -1,7 +1,7 @@
 -- What sending emits: bursts of packets within the mtu.
 use Rattle.std.proofs.Common.{ℕ, zero, suc, nat_le, nat_lt, Bool, true, false, Option, Some, None, is_some, List, [], ◌∷◌, refl, arith}
 use Rattle.sctp_packet.specs.Chunk.{ChunkTree, cookie_echo_chunk}
-use Rattle.sctp_tx_outstanding.specs.Items.{fast_items}
+use Rattle.sctp_tx_outstanding.specs.OutstandingData.{fast_items}
 use Rattle.sctp_tx_outstanding.specs.Forward.{is_forward_due}
 use Rattle.sctp_rx.specs.Tracker.{is_ack_due}
 use Rattle.sctp_tx.specs.ForwardPoints.{forward_chunk}
@@ -10,7 +10,7 @@ use Rattle.sctp_tx.specs.Sending.{send}
 use Rattle.sctp_tx.specs.Resent.{resent_fast}
 use Rattle.sctp_tx_queue.specs.Resets.{requested_streams, request_resets}
 use Rattle.spec_endpoint.specs.Association.{Tcb, Context}
-use Rattle.spec_endpoint.specs.Requests.{Request, request_chunk}
+use Rattle.spec_endpoint.specs.ResetRequests.{Request, request_chunk}
 use Rattle.spec_endpoint.specs.Packets.{Packet, room, fits, add, has_chunks, packet_to, new_packet, emit}
 use Rattle.spec_endpoint.specs.Sending.{Filling, selective_ack, ask_for_sack, ack_if, goes_along, with_ack, forward_added_if, forward_if, test_forward_point, tested_if, with_forward, most_streams, add_request, request_of, request_at_most, request_if, with_request, data_chunks, is_small, fill_packet, with_data, filled_as, emit_packet, Turned, turned_if, next_packet, go_on, burst, send_with, send_buffered, cookie_if, send_cookie, fast_most, fast_packet, fast_if, send_lost}
 use Rattle.proof_endpoint.proofs.StepsLemmas.{most_bytes, Goes}

@@ -9,20 +9,20 @@ use Rattle.sctp_packet.specs.Grammar.{Each}
 use Rattle.sctp_state.specs.declared.api.GivenUpCause.TheVariants.{Reset}
 use Rattle.sctp_state.specs.Events.{Event, SendPacket, OnError, OnConnected, OnConnectionRestarted, OnClosed, OnStreamsResetPerformed, OnStreamsResetFailed, Emitted, emit_events, give_up, expiry}
 use Rattle.sctp_state.specs.Options.{Options, SendOptions}
-use Rattle.sctp_state.specs.Rtt.{rto}
+use Rattle.sctp_state.specs.RetransmissionTimeout.{rto}
 use Rattle.sctp_capabilities.specs.Capabilities.{negotiate}
-use Rattle.sctp_capabilities.specs.Cookie.{Cookie}
+use Rattle.sctp_capabilities.specs.StateCookie.{Cookie}
 use Rattle.sctp_tx_queue.specs.declared.send_queue.stream.ResetStep.TheVariants.{Requested, Performed, Refused}
-use Rattle.sctp_tx_queue.specs.Queue.{Queued, Queue, stream}
+use Rattle.sctp_tx_queue.specs.SendQueue.{Queued, Queue, stream}
 use Rattle.sctp_tx_queue.specs.Resets.{is_partly, emitted_waiting, requested_streams}
-use Rattle.sctp_tx.specs.Retransmission.{emitted_if}
+use Rattle.sctp_tx.specs.RetransmissionQueue.{emitted_if}
 use Rattle.sctp_tx.specs.Resent.{resent_fast}
 use Rattle.sctp_tx.specs.ForwardPoints.{forward_chunk}
 use Rattle.sctp_tx.specs.Sending as fragments
 use Rattle.sctp_tx_outstanding.specs.Losses.{expire_outstanding}
 use Rattle.spec_endpoint.specs.Association.{Tcb, Phase, CookieEchoed, Established, ShutdownPending, ShutdownSent, ShutdownReceived, ShutdownAckSent, State, Closed, CookieWait, Open, Context, Packing}
 use Rattle.spec_endpoint.specs.Packets.{Packet, room, empty_packet, header_to, say}
-use Rattle.spec_endpoint.specs.Requests.{Requests, Outcome, Unsettled, Done, Denied, outcome, request_chunk}
+use Rattle.spec_endpoint.specs.ResetRequests.{Requests, Outcome, Unsettled, Done, Denied, outcome, request_chunk}
 use Rattle.spec_endpoint.specs.Sending.{is_alone, selective_ack, begin_burst, last_assigned, is_small, fast_most}
 use Rattle.spec_endpoint.specs.Opening.{tag_from, tsn_from, next_first, word, long_word, drew_word, names, agreed_by, cookie_in, queue_if, other_mode, identity_of}
 use Rattle.spec_endpoint.specs.Sack.{clean_blocks}

@@ -16,7 +16,7 @@ use Rattle.sctp_state.specs.Handover.{OutstandingData}
 use Rattle.sctp_tx_outstanding.specs.declared.skips.SkipEntry.{SkipEntry}
 use Rattle.sctp_tx_outstanding.specs.Item as item
 use Rattle.sctp_tx_outstanding.specs.Item.{Item, is_of, is_fast, should_be_retransmitted, mark_as_retransmitted, miss_fast}
-use Rattle.sctp_tx_outstanding.specs.Items.{Items, Outstanding, change_at, lay_down, without_payload, later_of, last_of}
+use Rattle.sctp_tx_outstanding.specs.OutstandingData.{Items, Outstanding, change_at, lay_down, without_payload, later_of, last_of}
 use Rattle.sctp_tx_outstanding.specs.Losses.{placeholder, placeholders, close_message, Step, given_up, change_items, gives_up, loses, nack_item, nack_below, nack_all, first_step, expired_at, given_up_if, expire_below, expire_outstanding}
 use Rattle.sctp_tx_outstanding.specs.Sack.{leaving, staying, settle, ack_or_nack, reported_below, receive_sack_first, receive_sack}
 use Rattle.sctp_tx_outstanding.specs.Forward.{entry_of, is_before, is_alike, name_stream, with_entry, ForwardPoint, passes, pass_item, walk, forward_point}

@@ -11,12 +11,12 @@ use Rattle.sctp_packet.specs.Written.{chunk_item, chunk_is_whole, chunk_bytes}
 use Rattle.sctp_packet.specs.ReadBack.{ChunkReadsBack}
 use Rattle.sctp_state.specs.Options.{Options}
 use Rattle.sctp_capabilities.specs.Capabilities.{announce}
-use Rattle.sctp_capabilities.specs.Cookie.{cookie_bytes}
-use Rattle.sctp_tx.specs.Retransmission.{Sender}
+use Rattle.sctp_capabilities.specs.StateCookie.{cookie_bytes}
+use Rattle.sctp_tx.specs.RetransmissionQueue.{Sender}
 use Rattle.sctp_tx.specs.Resent.{is_interleaved}
 use Rattle.sctp_tx.specs.ForwardPoints.{chunk_if, forward_chunk}
 use Rattle.spec_endpoint.specs.Association.{Tcb}
-use Rattle.spec_endpoint.specs.Requests.{Request, ids, request_chunk}
+use Rattle.spec_endpoint.specs.ResetRequests.{Request, ids, request_chunk}
 use Rattle.spec_endpoint.specs.Packets.{Packet, room, fits, added_if, add, add_all}
 use Rattle.spec_endpoint.specs.Sending.{selective_ack, data_chunk_of, data_chunks}
 use Rattle.spec_endpoint.specs.Opening.{init_of, cookie_for, agreed_by, init_ack_of}

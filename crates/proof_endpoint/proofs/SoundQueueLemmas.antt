@@ -12,7 +12,7 @@ use Rattle.sctp_state.specs.Events.{Emitted}
 use Rattle.sctp_state.specs.Handover.{StreamMessage, Transmission}
 use Rattle.sctp_tx_queue.specs.declared.send_queue.message.MessageNumbers.{MessageNumbers}
 use Rattle.sctp_tx_queue.specs.declared.send_queue.stream.ResetStep.{ResetStep}
-use Rattle.sctp_tx_queue.specs.Queue.{Queued, Stream, Streams, Entries, Queue, stream, open_stream, put_stream, blank, push, add}
+use Rattle.sctp_tx_queue.specs.SendQueue.{Queued, Stream, Streams, Entries, Queue, stream, open_stream, put_stream, blank, push, add}
 use Rattle.sctp_tx_queue.specs.Produced.{Produced, Turn, is_stale, fresh, without_stale, streams_without_stale, settle_pause, ends, move_past, moved_front, front_made, front_numbers, advance, turn, next_stream, idle, produce_within, produce}
 use Rattle.sctp_tx_queue.specs.Settings.{with_threshold, with_priority, set_low_threshold, set_priority, without_front, streams_discarded, front_discarded, discard_from, discard}
 use Rattle.sctp_tx_queue.specs.Restarted.{whole_front, restart, restarted_one, each_restarted, reset}

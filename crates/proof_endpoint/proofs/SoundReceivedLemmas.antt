@@ -1,7 +1,7 @@
 -- What a sound end emits is received as what it put together, and fits as an argument.
 use Rattle.std.proofs.Common.{◌≡◌, ℕ, ◌≤◌, true, List, [], ◌∷◌, ◌++◌, length, map, All, refl, sym, subst, arith}
 use Rattle.std.proofs.lemmas.List.Elements.{All-weaker, All-cons, All-nil, All-head, All-tail}
-use Rattle.sctp_wire.specs.Fields.{be32}
+use Rattle.sctp_wire.specs.Field.{be32}
 use Rattle.sctp_packet.specs.Chunk.{ChunkTree, init_ack_chunk}
 use Rattle.sctp_packet.specs.Grammar.{Each, carried}
 use Rattle.sctp_packet.specs.Packet.{PacketTree, IsPacket, header_bytes}

@@ -7,11 +7,11 @@ use Rattle.sctp_packet.specs.Chunk.{re_config_chunk}
 use Rattle.sctp_packet.specs.Grammar.{Each}
 use Rattle.sctp_state.specs.declared.api.ErrorKind.TheVariants.{ProtocolViolation}
 use Rattle.sctp_state.specs.Events.{OnIncomingStreamReset, numbers_of}
-use Rattle.sctp_state.specs.Rtt.{rto}
+use Rattle.sctp_state.specs.RetransmissionTimeout.{rto}
 use Rattle.sctp_rx.specs.ReassemblyQueue as reassembly
 use Rattle.spec_endpoint.specs.Association.{Tcb, Phase, Open, Context}
 use Rattle.spec_endpoint.specs.Packets.{Packet, add, new_packet, say}
-use Rattle.spec_endpoint.specs.Requests.{is_final, in_progress, performed, nothing_to_do, bad_number, outcome, is_last, is_next, is_known}
+use Rattle.spec_endpoint.specs.ResetRequests.{is_final, in_progress, performed, nothing_to_do, bad_number, outcome, is_last, is_next, is_known}
 use Rattle.spec_endpoint.specs.Sending.{is_alone}
 use Rattle.spec_endpoint.specs.StreamReset.{Handling, handling, respond, process, is_ahead, resets_if, outgoing_by, incoming_if, is_outgoing, on_parameter, Handled, handle_next, handle_all, send_responses, finished_if, on_reconfig}
 use Rattle.spec_endpoint.specs.Laws.{Call}

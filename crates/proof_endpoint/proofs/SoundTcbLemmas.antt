@@ -7,15 +7,15 @@ use Rattle.sctp_packet.specs.Chunk.{FragmentTree, InitTree}
 use Rattle.sctp_packet.specs.Grammar.{Each}
 use Rattle.sctp_state.specs.Options.{Options}
 use Rattle.sctp_state.specs.Handover.{HandoverState}
-use Rattle.sctp_state.specs.Rtt.{Rtt, rto}
+use Rattle.sctp_state.specs.RetransmissionTimeout.{Rtt, rto}
 use Rattle.sctp_capabilities.specs.Capabilities.{Capabilities}
-use Rattle.sctp_capabilities.specs.Cookie.{Cookie}
+use Rattle.sctp_capabilities.specs.StateCookie.{Cookie}
 use Rattle.sctp_rx.specs.Tracker.{DataTracker}
 use Rattle.sctp_rx.specs.ReassemblyQueue.{Reassembly}
-use Rattle.sctp_tx.specs.Retransmission.{Sender}
+use Rattle.sctp_tx.specs.RetransmissionQueue.{Sender}
 use Rattle.spec_endpoint.specs.Association.{Identity, Tcb, tcb}
-use Rattle.spec_endpoint.specs.Requests.{Request, Requests, start_request, awake, wake_request, is_final, answered_by, answered_if, answered_in}
-use Rattle.spec_endpoint.specs.Requests as requests
+use Rattle.spec_endpoint.specs.ResetRequests.{Request, Requests, start_request, awake, wake_request, is_final, answered_by, answered_if, answered_in}
+use Rattle.spec_endpoint.specs.ResetRequests as requests
 use Rattle.spec_endpoint.specs.Opening.{names, identity_of}
 use Rattle.spec_endpoint.specs.Data.{added_unless, take_fragment, skipped_if, forward_to}
 use Rattle.spec_endpoint.specs.Sack.{timed_by}

@@ -5,14 +5,14 @@ use Rattle.sctp_chunk.specs.declared.sack.GapAckBlock.{GapAckBlock}
 use Rattle.sctp_packet.specs.Grammar.{Each, FitsFragment, FitsChunk}
 use Rattle.sctp_state.specs.Events.{Emitted}
 use Rattle.sctp_state.specs.Handover.{OutstandingData, Transmission}
-use Rattle.sctp_tx_outstanding.specs.Items.{Discard, next_number}
+use Rattle.sctp_tx_outstanding.specs.OutstandingData.{Discard, next_number}
 use Rattle.sctp_tx_outstanding.specs.Handover.{fragment_from}
 use Rattle.sctp_tx_outstanding.specs.Resending.{Resent}
-use Rattle.sctp_tx_queue.specs.Queue.{Queue}
+use Rattle.sctp_tx_queue.specs.SendQueue.{Queue}
 use Rattle.sctp_tx_queue.specs.Produced.{Produced, Turn, produce}
 use Rattle.sctp_tx_queue.specs.Settings.{Changed, discard}
 use Rattle.sctp_tx.specs.Windows.{is_open}
-use Rattle.sctp_tx.specs.Retransmission.{Sender, sender_if}
+use Rattle.sctp_tx.specs.RetransmissionQueue.{Sender, sender_if}
 use Rattle.sctp_tx.specs.Resent.{is_interleaved, may_send_new, resent, resent_fast, timed_if, send_fast}
 use Rattle.sctp_tx.specs.ForwardPoints.{expire, most_of, chunk_if, forward_chunk}
 use Rattle.sctp_tx.specs.Sending.{Filling, Turned, item_of, append, offered_payload, turned_if, next_turn, fill, discard_all, without_discards, filled_with, send}

@@ -6,7 +6,7 @@ use Rattle.sctp_state.specs.declared.api.errors.SendError.TheVariants.{EmptyPayl
 use Rattle.sctp_state.specs.Events.{Event, OnBufferedAmountLow, OnTotalBufferedAmountLow, Emitted, emit_event, emit_events, give_up, expiry}
 use Rattle.sctp_tx_outstanding.specs.Item.{Item, is_abandoned}
 use Rattle.sctp_tx_outstanding.specs.Sack.{ending, report, reports}
-use Rattle.sctp_tx_queue.specs.Queue.{Queued}
+use Rattle.sctp_tx_queue.specs.SendQueue.{Queued}
 use Rattle.sctp_tx_queue.specs.Produced.{when, fully_sent, production}
 use Rattle.spec_endpoint.specs.Calls.{refusal_events, lifecycle_end}
 use Rattle.proof_endpoint.specs.Lifecycles.{emitted_end, ends, names_lifecycle, waiting, where_end, kept_ends}

@@ -6,7 +6,7 @@ use Rattle.rand_core.specs.Stream as rng
 use Rattle.sctp_serial.specs.Messages.{Message}
 use Rattle.sctp_serial.specs.Unwrapped.{words, nearest}
 use Rattle.sctp_serial.proofs.UnwrappedLemmas.{nearest_ahead}
-use Rattle.sctp_wire.specs.Fields.{be16, be32}
+use Rattle.sctp_wire.specs.Field.{be16, be32}
 use Rattle.sctp_wire.specs.Serialize.{padded_item}
 use Rattle.sctp_packet.specs.Chunk.{ChunkTree, data_chunk, sack_chunk}
 use Rattle.sctp_packet.specs.Written.{chunk_bytes, chunks_bytes, chunk_value, sack_value}

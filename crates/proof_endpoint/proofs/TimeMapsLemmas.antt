@@ -1,14 +1,14 @@
 -- The passing of time.
 use Rattle.std.proofs.Common.{◌≡◌, ℕ, nat_lt, Bool, true, false, List, codes, refl, ap, ◌∙◌}
 use Rattle.sctp_state.specs.declared.api.ErrorKind.TheVariants.{TooManyRetries}
-use Rattle.sctp_state.specs.Errors.{is_exhausted}
-use Rattle.sctp_state.specs.Rtt.{rto}
-use Rattle.sctp_state.specs.Timers.{Timer, is_due, is_running, expire}
+use Rattle.sctp_state.specs.TxErrorCounter.{is_exhausted}
+use Rattle.sctp_state.specs.RetransmissionTimeout.{rto}
+use Rattle.sctp_state.specs.Timer.{Timer, is_due, is_running, expire}
 use Rattle.sctp_state.specs.Events.{Event, OnAborted}
 use Rattle.sctp_tx_outstanding.specs.Losses.{Step}
 use Rattle.spec_endpoint.specs.Association.{Tcb, Phase, CookieEchoed, Established, ShutdownPending, ShutdownSent, ShutdownReceived, ShutdownAckSent, State, Closed, CookieWait, Open, Context, EndpointState}
 use Rattle.spec_endpoint.specs.Packets.{new_packet}
-use Rattle.spec_endpoint.specs.Requests.{lasting, expire_request, wake_request, is_unanswered}
+use Rattle.spec_endpoint.specs.ResetRequests.{lasting, expire_request, wake_request, is_unanswered}
 use Rattle.spec_endpoint.specs.Sending.{Sent, add_request, send_cookie}
 use Rattle.spec_endpoint.specs.Shutdown.{over, send_shutdown, send_shutdown_ack, too_many}
 use Rattle.spec_endpoint.specs.Opening.{send_init}

@@ -1,13 +1,13 @@
 -- What the passing of time emits.
 use Rattle.std.proofs.Common.{ℕ, nat_lt, Bool, true, false, List, codes, refl}
 use Rattle.sctp_state.specs.declared.api.ErrorKind.TheVariants.{TooManyRetries}
-use Rattle.sctp_state.specs.Errors.{is_exhausted}
-use Rattle.sctp_state.specs.Rtt.{rto}
-use Rattle.sctp_state.specs.Timers.{Timer, is_due, is_running, expire}
+use Rattle.sctp_state.specs.TxErrorCounter.{is_exhausted}
+use Rattle.sctp_state.specs.RetransmissionTimeout.{rto}
+use Rattle.sctp_state.specs.Timer.{Timer, is_due, is_running, expire}
 use Rattle.sctp_state.specs.Events.{OnAborted}
 use Rattle.spec_endpoint.specs.Association.{Tcb, Phase, CookieEchoed, Established, ShutdownPending, ShutdownSent, ShutdownReceived, ShutdownAckSent, State, Closed, CookieWait, Open, Context, EndpointState}
 use Rattle.spec_endpoint.specs.Packets.{Packet, new_packet}
-use Rattle.spec_endpoint.specs.Requests.{lasting, expire_request, wake_request, is_unanswered}
+use Rattle.spec_endpoint.specs.ResetRequests.{lasting, expire_request, wake_request, is_unanswered}
 use Rattle.spec_endpoint.specs.Sending.{Sent, add_request, send_cookie}
 use Rattle.spec_endpoint.specs.Shutdown.{send_shutdown, send_shutdown_ack}
 use Rattle.spec_endpoint.specs.Heartbeats.{counted_on, heartbeat, beat_if, unanswered_if}

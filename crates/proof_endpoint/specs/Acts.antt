@@ -13,30 +13,30 @@ use Rattle.sctp_packet.specs.Packet.{PacketTree}
 use Rattle.sctp_state.specs.declared.api.ErrorKind.{ErrorKind}
 use Rattle.sctp_state.specs.declared.api.errors.SendError.{SendError}
 use Rattle.sctp_capabilities.specs.Capabilities.{zero_checksum_enabled, announce, negotiate}
-use Rattle.sctp_capabilities.specs.Cookie.{Cookie, read_cookie}
-use Rattle.sctp_state.specs.Errors.{ErrorCounter, one_error}
+use Rattle.sctp_capabilities.specs.StateCookie.{Cookie, read_cookie}
+use Rattle.sctp_state.specs.TxErrorCounter.{ErrorCounter, one_error}
 use Rattle.sctp_state.specs.Events.{Event, OnConnected, OnConnectionRestarted, OnClosed, OnIncomingStreamReset, numbers_of}
 use Rattle.sctp_state.specs.Handover.{HandoverState}
 use Rattle.sctp_state.specs.Options.{SendOptions}
-use Rattle.sctp_state.specs.Rtt.{Rtt}
-use Rattle.sctp_state.specs.Timers.{Timer, is_due}
+use Rattle.sctp_state.specs.RetransmissionTimeout.{Rtt}
+use Rattle.sctp_state.specs.Timer.{Timer, is_due}
 use Rattle.sctp_state.specs.Validity.{is_valid_state}
 use Rattle.sctp_rx.specs.Tracker.{is_valid, ack_timeout}
 use Rattle.sctp_rx.specs.Tracker as tracker
 use Rattle.sctp_rx.specs.ReassemblyQueue.{defer, reset}
 use Rattle.sctp_tx_queue.specs.Resets.{requested_streams, request_resets}
-use Rattle.sctp_tx_outstanding.specs.Items.{number_of, fast_items}
+use Rattle.sctp_tx_outstanding.specs.OutstandingData.{number_of, fast_items}
 use Rattle.sctp_tx_outstanding.specs.Forward.{is_forward_due}
 use Rattle.sctp_tx_outstanding.specs.Losses.{Step, nack_all, expire_outstanding}
 use Rattle.sctp_tx_outstanding.specs.Sack as sack
-use Rattle.sctp_tx.specs.Retransmission.{sender_if, emitted_if, timed_out_sender}
+use Rattle.sctp_tx.specs.RetransmissionQueue.{sender_if, emitted_if, timed_out_sender}
 use Rattle.sctp_tx.specs.Resent.{resent_fast, send_fast}
 use Rattle.sctp_tx.specs.ForwardPoints.{expire, forward_chunk}
 use Rattle.sctp_tx.specs.Sending as fragments
 use Rattle.sctp_tx.specs.Sending.{send}
 use Rattle.spec_endpoint.specs.Association.{Tcb, tcb, Phase, CookieEchoed, Established, ShutdownPending, State, Closed, CookieWait, Open, Heartbeats, Context, Endpoint}
 use Rattle.spec_endpoint.specs.Packets.{Packet, empty_packet, room, add, add_all, has_chunks, packet_to, say, complain, emit_if}
-use Rattle.spec_endpoint.specs.Requests.{Request, Requests, request_chunk, in_progress, performed, nothing_to_do, bad_number, is_final, is_last, is_known, wake_request, process_request, outcome, answer_request}
+use Rattle.spec_endpoint.specs.ResetRequests.{Request, Requests, request_chunk, in_progress, performed, nothing_to_do, bad_number, is_final, is_last, is_known, wake_request, process_request, outcome, answer_request}
 use Rattle.spec_endpoint.specs.Sending.{selective_ack, ask_for_sack, count_sack_sent, request_started, data_chunks, is_small, is_alone, fast_most}
 use Rattle.spec_endpoint.specs.Heartbeats.{beating_if}
 use Rattle.spec_endpoint.specs.Shutdown.{over}

@@ -6,7 +6,7 @@ use Rattle.sctp_serial.specs.Messages.{Message}
 use Rattle.sctp_packet.specs.Chunk.{ChunkTree, FragmentTree, InitTree, init_chunk, init_ack_chunk, data_chunk, sack_chunk, cookie_echo_chunk, cookie_ack_chunk}
 use Rattle.sctp_state.specs.Options.{SendOptions, defaults}
 use Rattle.sctp_capabilities.specs.Capabilities.{announce}
-use Rattle.sctp_capabilities.specs.Cookie.{cookie_bytes}
+use Rattle.sctp_capabilities.specs.StateCookie.{cookie_bytes}
 use Rattle.sctp_state.specs.Events.{Event, SendPacket, OnConnected, OnBufferedAmountLow, OnLifecycleMessageFullySent, OnLifecycleMessageDelivered, OnLifecycleEnd, silent}
 use Rattle.spec_endpoint.specs.Association.{Endpoint, fresh, Packing}
 use Rattle.spec_endpoint.specs.Packets.{header_to}

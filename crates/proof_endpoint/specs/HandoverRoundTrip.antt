@@ -16,10 +16,10 @@ use Rattle.sctp_rx.specs.Tracker as tracker
 use Rattle.sctp_rx.specs.Delivery.{OrderedStream, UnorderedStream, fresh_unordered}
 use Rattle.sctp_rx.specs.ReassemblyHandover.{space_of, ordered_is_held, unordered_is_held}
 use Rattle.sctp_tx_outstanding.specs.Item.{Item}
-use Rattle.sctp_tx_outstanding.specs.Items.{Outstanding, next_number, wire_tsn}
+use Rattle.sctp_tx_outstanding.specs.OutstandingData.{Outstanding, next_number, wire_tsn}
 use Rattle.sctp_tx_outstanding.specs.Again.{items_again}
 use Rattle.sctp_tx_queue.specs.declared.send_queue.stream.ResetStep.{ResetStep}
-use Rattle.sctp_tx_queue.specs.Queue.{Queued, Entries, Queue, queue, add}
+use Rattle.sctp_tx_queue.specs.SendQueue.{Queued, Entries, Queue, queue, add}
 use Rattle.sctp_tx_queue.specs.Produced.{produce}
 use Rattle.sctp_tx_queue.specs.Settings.{set_low_threshold, set_priority, set_mode, discard}
 use Rattle.sctp_tx_queue.specs.Resets.{prepare_reset, each_stepped}

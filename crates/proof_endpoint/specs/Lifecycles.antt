@@ -5,7 +5,7 @@ use Rattle.rand_core.specs.Stream.{Stream}
 use Rattle.sctp_state.specs.Options.{Options}
 use Rattle.sctp_state.specs.Events.{Event, OnLifecycleEnd}
 use Rattle.sctp_tx_outstanding.specs.Item.{Item}
-use Rattle.sctp_tx_queue.specs.Queue.{Queued, Entries}
+use Rattle.sctp_tx_queue.specs.SendQueue.{Queued, Entries}
 use Rattle.spec_endpoint.specs.Association.{State, Closed, CookieWait, Open, Context, EndpointState, Endpoint, fresh, Packing}
 use Rattle.spec_endpoint.specs.Input.{on_endpoint_state}
 use Rattle.spec_endpoint.specs.Laws.{Call, Send, SendMany, Restore, called}

@@ -13,11 +13,11 @@ use Rattle.sctp_state.specs.Options.{Options}
 use Rattle.sctp_rx.specs.Seen.{IsInRuns}
 use Rattle.sctp_rx.specs.Tracker.{Tracker}
 use Rattle.sctp_tx_outstanding.specs.Item.{Item}
-use Rattle.sctp_tx_outstanding.specs.Items.{Items}
+use Rattle.sctp_tx_outstanding.specs.OutstandingData.{Items}
 use Rattle.sctp_tx_outstanding.specs.Handover.{fragment_from}
-use Rattle.sctp_tx_queue.specs.Queue.{Queued, Stream, Queue}
+use Rattle.sctp_tx_queue.specs.SendQueue.{Queued, Stream, Queue}
 use Rattle.spec_endpoint.specs.Association.{Identity, Tcb, Phase, CookieEchoed, Established, ShutdownPending, ShutdownSent, ShutdownReceived, ShutdownAckSent, State, Closed, CookieWait, Open, Endpoint}
-use Rattle.spec_endpoint.specs.Requests.{Request, Requests}
+use Rattle.spec_endpoint.specs.ResetRequests.{Request, Requests}
 use Rattle.spec_endpoint.specs.Laws.{Call, Connect, Close, Shutdown, Send, SendMany, ResetStreams, TakeMessage, SetLowThreshold, SetPriority, SetMaxMessageSize, Advance, HandOver, Restore, Packet, NoPacket}
 
 -- ---- an end

@@ -5,7 +5,7 @@ use Rattle.std.proofs.Common.{arith}
 use Rattle.sctp_wire.specs.Cause.{cookie_received_while_shutting_down}
 use Rattle.rand_core.specs.Stream.{Stream}
 use Rattle.sctp_packet.specs.Chunk.{ChunkTree, error_chunk, cookie_ack_chunk, shutdown_ack_chunk}
-use Rattle.sctp_capabilities.specs.Cookie.{Cookie, read_cookie}
+use Rattle.sctp_capabilities.specs.StateCookie.{Cookie, read_cookie}
 use Rattle.sctp_state.specs.Events.{Event, OnConnected, OnConnectionRestarted}
 use Rattle.sctp_state.specs.Options.{Options}
 use Rattle.sctp_state.specs.declared.api.ErrorKind.TheVariants.{ParseFailed, WrongSequence}

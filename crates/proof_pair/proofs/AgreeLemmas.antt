@@ -7,7 +7,7 @@ use Rattle.std.proofs.lemmas.List.Folds.{list_all-append}
 use Rattle.sctp_packet.specs.Chunk.{ChunkTree, InitTree, data_chunk, init_chunk, init_ack_chunk, sack_chunk, cookie_echo_chunk, cookie_ack_chunk, idata_chunk, re_config_chunk, forward_tsn_chunk, i_forward_tsn_chunk}
 use Rattle.sctp_packet.specs.Grammar.{carried}
 use Rattle.sctp_capabilities.specs.Capabilities.{announced_by}
-use Rattle.sctp_capabilities.specs.Cookie.{Cookie, CapabilitiesFit, read_cookie}
+use Rattle.sctp_capabilities.specs.StateCookie.{Cookie, CapabilitiesFit, read_cookie}
 use Rattle.spec_endpoint.specs.Association.{Tcb, Phase, CookieEchoed, Established, ShutdownPending, ShutdownSent, ShutdownReceived, ShutdownAckSent, State, Closed, CookieWait, Open}
 use Rattle.spec_endpoint.specs.Sending.{is_alone}
 use Rattle.spec_endpoint.specs.Opening.{cookie_in}

@@ -6,11 +6,11 @@ use Rattle.rand_core.specs.Stream.{Stream}
 use Rattle.sctp_packet.specs.Chunk.{InitTree, init_ack_chunk}
 use Rattle.sctp_packet.specs.Packet.{PacketTree}
 use Rattle.sctp_capabilities.specs.declared.state_cookie.StateCookieError.{StateCookieError}
-use Rattle.sctp_capabilities.specs.Cookie.{Cookie, cookie_bytes, read_cookie}
+use Rattle.sctp_capabilities.specs.StateCookie.{Cookie, cookie_bytes, read_cookie}
 use Rattle.sctp_capabilities.proofs.CookieLemmas.{both_tags, read_cookie_bytes}
 use Rattle.sctp_state.specs.Events.{OnConnected}
 use Rattle.sctp_state.specs.Options.{Options}
-use Rattle.sctp_state.specs.Timers.{Timer}
+use Rattle.sctp_state.specs.Timer.{Timer}
 use Rattle.spec_endpoint.specs.Association.{Tcb, CookieEchoed, State, Closed, CookieWait, Open, Context, Endpoint}
 use Rattle.spec_endpoint.specs.Packets.{Packet, add}
 use Rattle.spec_endpoint.specs.Opening.{tsn_from, tag_from, word, drew_word, t1_init, connect, cookie_for, agreed_by, init_ack_of, answer, next_first, cookie_in}

@@ -4,19 +4,19 @@ use Rattle.std.proofs.lemmas.List.Elements.{All-nil}
 use Rattle.std.proofs.lemmas.Bool.{both_ways}
 use Rattle.sctp_packet.specs.Chunk.{ChunkTree, InitTree, init_chunk, init_ack_chunk, cookie_echo_chunk, cookie_ack_chunk, re_config_chunk}
 use Rattle.sctp_capabilities.specs.Capabilities.{announce}
-use Rattle.sctp_capabilities.specs.Cookie.{Cookie, CapabilitiesFit}
+use Rattle.sctp_capabilities.specs.StateCookie.{Cookie, CapabilitiesFit}
 use Rattle.sctp_state.specs.Handover.{HandoverState}
 use Rattle.sctp_state.specs.Options.{Options}
 use Rattle.sctp_state.specs.Events.{Event, OnError, OnClosed}
 use Rattle.sctp_capabilities.proofs.CapabilitiesLemmas.{announced_with_options}
 use Rattle.spec_endpoint.specs.Association.{Tcb, Phase, CookieEchoed, Established, ShutdownPending, CookieWait, Open, Context}
 use Rattle.spec_endpoint.specs.Packets.{Packet, packet_to, add}
-use Rattle.spec_endpoint.specs.Requests.{Outcome, Unsettled, Done, Denied, outcome, request_chunk}
+use Rattle.spec_endpoint.specs.ResetRequests.{Outcome, Unsettled, Done, Denied, outcome, request_chunk}
 use Rattle.spec_endpoint.specs.StreamReset.{on_outcome}
 use Rattle.spec_endpoint.specs.Sending.{is_small, selective_ack, fast_most}
 use Rattle.spec_endpoint.specs.Opening.{init_of}
 use Rattle.spec_endpoint.specs.Laws.{Call, Connect, Restore, ending}
-use Rattle.sctp_tx.specs.Retransmission.{Sender}
+use Rattle.sctp_tx.specs.RetransmissionQueue.{Sender}
 use Rattle.sctp_tx.specs.Resent.{resent_fast}
 use Rattle.sctp_tx.specs.ForwardPoints.{chunk_if, forward_chunk}
 use Rattle.sctp_tx.specs.Sending as fragments

@@ -8,10 +8,10 @@ use Rattle.sctp_packet.specs.Chunk.{ChunkTree, InitTree, data_chunk, init_chunk,
 use Rattle.sctp_packet.specs.Packet.{PacketTree}
 use Rattle.sctp_state.specs.declared.api.ErrorKind.TheVariants.{ParseFailed, ProtocolViolation}
 use Rattle.sctp_capabilities.specs.declared.state_cookie.StateCookieError.{StateCookieError}
-use Rattle.sctp_capabilities.specs.Cookie.{Cookie, read_cookie, refusal_text}
+use Rattle.sctp_capabilities.specs.StateCookie.{Cookie, read_cookie, refusal_text}
 use Rattle.sctp_state.specs.Events.{Event, OnAborted}
 use Rattle.sctp_state.specs.Options.{Options}
-use Rattle.sctp_state.specs.Timers.{Timer}
+use Rattle.sctp_state.specs.Timer.{Timer}
 use Rattle.spec_endpoint.specs.Association.{Tcb, tcb, Phase, CookieEchoed, Established, ShutdownPending, ShutdownSent, ShutdownReceived, ShutdownAckSent, State, Closed, CookieWait, Open, Context, Endpoint}
 use Rattle.spec_endpoint.specs.Packets.{Packet, packet_to, round_up, add, emit}
 use Rattle.spec_endpoint.specs.Sending.{send_cookie}

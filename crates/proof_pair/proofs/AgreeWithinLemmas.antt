@@ -9,9 +9,9 @@ use Rattle.sctp_packet.specs.Chunk.{ChunkTree, InitTree, data_chunk, init_ack_ch
 use Rattle.sctp_packet.specs.Packet.{PacketTree}
 use Rattle.sctp_state.specs.declared.api.ErrorKind.TheVariants.{ParseFailed, ProtocolViolation}
 use Rattle.sctp_capabilities.specs.declared.state_cookie.StateCookieError.{StateCookieError}
-use Rattle.sctp_capabilities.specs.Cookie.{Cookie, read_cookie, refusal_text}
+use Rattle.sctp_capabilities.specs.StateCookie.{Cookie, read_cookie, refusal_text}
 use Rattle.sctp_state.specs.Events.{Event, OnAborted, OnError}
-use Rattle.sctp_tx.specs.Retransmission.{SackAnswer, Invalid, Valid}
+use Rattle.sctp_tx.specs.RetransmissionQueue.{SackAnswer, Invalid, Valid}
 use Rattle.spec_endpoint.specs.Association.{Tcb, Phase, CookieEchoed, Established, ShutdownPending, ShutdownSent, ShutdownReceived, ShutdownAckSent, State, Closed, CookieWait, Open, Context, Endpoint, where_open}
 use Rattle.spec_endpoint.specs.Packets.{Packet, packet_to, round_up, add, emit}
 use Rattle.spec_endpoint.specs.Data.{on_data_if}

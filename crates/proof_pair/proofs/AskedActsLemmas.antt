@@ -8,8 +8,8 @@ use Rattle.sctp_packet.specs.Packet.{PacketTree}
 use Rattle.sctp_packet.specs.Grammar.{Each}
 use Rattle.sctp_capabilities.specs.Capabilities.{zero_checksum_enabled}
 use Rattle.sctp_capabilities.specs.declared.state_cookie.StateCookieError.{StateCookieError}
-use Rattle.sctp_capabilities.specs.Cookie.{Cookie, cookie_from, has_tags, check_cookie, read_cookie}
-use Rattle.sctp_tx_queue.specs.Queue.{Queue}
+use Rattle.sctp_capabilities.specs.StateCookie.{Cookie, cookie_from, has_tags, check_cookie, read_cookie}
+use Rattle.sctp_tx_queue.specs.SendQueue.{Queue}
 use Rattle.sctp_tx_queue.specs.Settings.{set_mode}
 use Rattle.sctp_tx_queue.specs.Restarted.{reset}
 use Rattle.sctp_tx_queue.proofs.InOrderLemmas.{mode_in_order, reset_unsent, reset_in_order}

@@ -6,9 +6,9 @@ use Rattle.sctp_serial.specs.Messages.{Message}
 use Rattle.sctp_packet.specs.Chunk.{FragmentTree, init_ack_chunk}
 use Rattle.sctp_chunk.specs.declared.forward_tsn.SkippedStream.{SkippedStream}
 use Rattle.sctp_capabilities.specs.Capabilities.{announced_by, negotiate}
-use Rattle.sctp_capabilities.specs.Cookie.{Cookie}
+use Rattle.sctp_capabilities.specs.StateCookie.{Cookie}
 use Rattle.sctp_state.specs.Events.{OnConnected, OnConnectionRestarted}
-use Rattle.sctp_state.specs.Rtt.{Rtt}
+use Rattle.sctp_state.specs.RetransmissionTimeout.{Rtt}
 use Rattle.sctp_state.specs.Handover.{HandoverState}
 use Rattle.sctp_state.specs.Options.{SendOptions}
 use Rattle.sctp_state.specs.Validity.{is_valid_state}
@@ -16,13 +16,13 @@ use Rattle.sctp_rx.specs.Tracker as tracker
 use Rattle.sctp_rx.specs.Tracker.{DataTracker, has_seen, moves_on}
 use Rattle.sctp_rx.specs.ReassemblyQueue.{Reassembly}
 use Rattle.sctp_tx_queue.specs.declared.send_queue.stream.ResetStep.TheVariants.{Requested, Performed, Refused}
-use Rattle.sctp_tx_queue.specs.Queue.{Queued, Queue, push, stream}
+use Rattle.sctp_tx_queue.specs.SendQueue.{Queued, Queue, push, stream}
 use Rattle.sctp_tx_queue.specs.Resets.{requested_streams}
 use Rattle.sctp_tx_queue.proofs.InOrderLemmas.{added_in_order, set_bytes_mode}
 use Rattle.sctp_tx_queue.proofs.RestLemmas.{calls_leave_rests}
 use Rattle.spec_endpoint.specs.Association.{Tcb, Phase, CookieEchoed, Established, State, Closed, CookieWait, Open, Context}
 use Rattle.spec_endpoint.specs.Packets.{say, room}
-use Rattle.spec_endpoint.specs.Requests.{Requests, Outcome, Unsettled, Done, Denied, outcome}
+use Rattle.spec_endpoint.specs.ResetRequests.{Requests, Outcome, Unsettled, Done, Denied, outcome}
 use Rattle.spec_endpoint.specs.Sending.{request_started, fast_most}
 use Rattle.spec_endpoint.specs.Sack.{timed_by}
 use Rattle.spec_endpoint.specs.Handover.{tcb_from, queue_taken}

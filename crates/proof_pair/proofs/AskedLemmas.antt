@@ -9,7 +9,7 @@ use Rattle.sctp_state.specs.declared.api.handover.HandoverSocketState.{HandoverS
 use Rattle.sctp_state.specs.declared.api.handover.HandoverSocketState.TheVariants as handed
 use Rattle.sctp_state.specs.Handover.{HandoverState}
 use Rattle.sctp_state.specs.Options.{SendOptions}
-use Rattle.sctp_tx_queue.specs.Queue.{Queued, Queue}
+use Rattle.sctp_tx_queue.specs.SendQueue.{Queued, Queue}
 use Rattle.sctp_tx_queue.proofs.InOrderLemmas.{new_in_order}
 use Rattle.sctp_tx_queue.proofs.RestLemmas.{calls_leave_rests}
 use Rattle.spec_endpoint.specs.Association.{Context, EndpointState, with_context, Endpoint, fresh}

@@ -11,9 +11,9 @@ use Rattle.sctp_state.specs.declared.api.handover.HandoverOutgoingStream.{Handov
 use Rattle.sctp_state.specs.declared.api.handover.HandoverSocketState.{HandoverSocketState}
 use Rattle.sctp_state.specs.declared.api.handover.HandoverSocketState.TheVariants as handed
 use Rattle.sctp_state.specs.Handover.{HandoverState, StreamMessage, Transmission}
-use Rattle.sctp_stream_scheduler.specs.Scheduler.{scheduler, enable_message_interleaving}
+use Rattle.sctp_stream_scheduler.specs.StreamScheduler.{scheduler, enable_message_interleaving}
 use Rattle.sctp_state.specs.Validity.{rises_from, outgoing_ids, is_valid_message, has_stream, are_valid_messages, message_ids_differ, first_alone_is_partly_sent, partly_sent_count, has_valid_queue, has_valid_items, payload_fits, is_valid_reception, is_valid_transmission, is_valid_connection, is_valid_as}
-use Rattle.sctp_tx_queue.specs.Queue.{Stream, Queue, blank}
+use Rattle.sctp_tx_queue.specs.SendQueue.{Stream, Queue, blank}
 use Rattle.sctp_tx_queue.specs.Restored.{message_from, is_on, messages_from, stream_from, entries_from, streams_from, restore}
 use Rattle.sctp_tx_queue.specs.InOrder.{has_rest}
 use Rattle.sctp_tx_queue.specs.TakenUp.{is_numbered_as_sent}

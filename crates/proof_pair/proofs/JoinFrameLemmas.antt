@@ -3,16 +3,16 @@ use Rattle.std.proofs.Common.{◌≡◌, ℕ, ◌||◌, not, Bool, true, false, 
 use Rattle.std.proofs.lemmas.List.Elements.{All-nil}
 use Rattle.sctp_packet.specs.Chunk.{ChunkTree, cookie_echo_chunk, cookie_ack_chunk, re_config_chunk}
 use Rattle.sctp_state.specs.Options.{Options}
-use Rattle.sctp_capabilities.specs.Cookie.{Cookie}
+use Rattle.sctp_capabilities.specs.StateCookie.{Cookie}
 use Rattle.sctp_state.specs.Events.{Event, OnConnected, OnError, OnClosed}
 use Rattle.spec_endpoint.specs.Association.{Tcb, Phase, CookieEchoed, Established, ShutdownPending, State, Closed, CookieWait, Open, Context, Packing}
 use Rattle.spec_endpoint.specs.Packets.{Packet, add, add_all}
-use Rattle.spec_endpoint.specs.Requests.{Outcome, Unsettled, Done, Denied, outcome, request_chunk}
+use Rattle.spec_endpoint.specs.ResetRequests.{Outcome, Unsettled, Done, Denied, outcome, request_chunk}
 use Rattle.spec_endpoint.specs.StreamReset.{on_outcome}
 use Rattle.spec_endpoint.specs.Sending.{is_small, data_chunks, selective_ack, fast_most}
 use Rattle.spec_endpoint.specs.Opening.{word, drew_word, long_word, tcb_by}
 use Rattle.spec_endpoint.specs.Laws.{Call, Shutdown}
-use Rattle.sctp_tx.specs.Retransmission.{Sender}
+use Rattle.sctp_tx.specs.RetransmissionQueue.{Sender}
 use Rattle.sctp_tx.specs.Resent.{resent_fast}
 use Rattle.sctp_tx.specs.ForwardPoints.{chunk_if, forward_chunk}
 use Rattle.sctp_tx.specs.Sending as fragments

@@ -8,9 +8,9 @@ use Rattle.sctp_packet.specs.Chunk.{ChunkTree, InitTree, init_chunk, init_ack_ch
 use Rattle.sctp_capabilities.specs.declared.state_cookie.StateCookieError.{StateCookieError}
 use Rattle.sctp_state.specs.Handover.{HandoverState}
 use Rattle.sctp_state.specs.Options.{Options}
-use Rattle.sctp_state.specs.Timers.{Timer}
+use Rattle.sctp_state.specs.Timer.{Timer}
 use Rattle.sctp_capabilities.specs.Capabilities.{where_enabled, announce, announced_by, negotiate, agreed, extensions_in, method_in, is_forward_tsn_supported, has_type, forward_tsn, i_data, re_config}
-use Rattle.sctp_capabilities.specs.Cookie.{Cookie, CapabilitiesFit, CookieFits, cookie_bytes, read_cookie}
+use Rattle.sctp_capabilities.specs.StateCookie.{Cookie, CapabilitiesFit, CookieFits, cookie_bytes, read_cookie}
 use Rattle.sctp_capabilities.proofs.CapabilitiesLemmas.{announced_with_options, negotiated_by_init, negotiated_by_init_ack}
 use Rattle.sctp_capabilities.proofs.CookieLemmas.{both_tags, read_cookie_bytes}
 use Rattle.sctp_state.specs.Events.{Event, OnConnected}

@@ -4,21 +4,21 @@ use Rattle.std.proofs.lemmas.Bool.{and_parts}
 use Rattle.std.proofs.lemmas.List.Elements.{All-nil, All-cons, All-push}
 use Rattle.sctp_packet.specs.Chunk.{ChunkTree, FragmentTree, InitTree, data_chunk, init_chunk, init_ack_chunk, cookie_echo_chunk, cookie_ack_chunk, idata_chunk, re_config_chunk, forward_tsn_chunk, i_forward_tsn_chunk}
 use Rattle.sctp_capabilities.specs.Capabilities.{Capabilities, announce, negotiate, agreed}
-use Rattle.sctp_capabilities.specs.Cookie.{Cookie}
+use Rattle.sctp_capabilities.specs.StateCookie.{Cookie}
 use Rattle.sctp_state.specs.Events.{Event, SendPacket, OnConnected, OnConnectionRestarted, OnError, OnClosed, Emitted}
 use Rattle.sctp_state.specs.Handover.{HandoverState}
 use Rattle.sctp_state.specs.Options.{Options}
-use Rattle.sctp_tx_queue.specs.Queue.{Queue}
+use Rattle.sctp_tx_queue.specs.SendQueue.{Queue}
 use Rattle.sctp_tx_queue.specs.Produced.{Produced}
 use Rattle.sctp_tx_outstanding.specs.Resending.{Resent}
-use Rattle.sctp_tx.specs.Retransmission.{Sender, sender_if, timed_out_sender}
+use Rattle.sctp_tx.specs.RetransmissionQueue.{Sender, sender_if, timed_out_sender}
 use Rattle.sctp_tx.specs.Resent.{resent, resent_fast, send_fast}
 use Rattle.sctp_tx.specs.ForwardPoints.{expire, chunk_if, forward_chunk}
 use Rattle.sctp_tx.specs.Sending as fragments
 use Rattle.sctp_tx.specs.Sending.{Filling, append, turned_if, next_turn, fill, discard_all, without_discards, filled_with, send}
 use Rattle.spec_endpoint.specs.Association.{Tcb, tcb, Phase, CookieEchoed, Established, ShutdownPending, Closed, CookieWait, Open, Context, Packing}
 use Rattle.spec_endpoint.specs.Packets.{Packet, add, add_all, header_to, room}
-use Rattle.spec_endpoint.specs.Requests.{Outcome, Unsettled, Done, Denied, outcome, request_chunk}
+use Rattle.spec_endpoint.specs.ResetRequests.{Outcome, Unsettled, Done, Denied, outcome, request_chunk}
 use Rattle.spec_endpoint.specs.StreamReset.{on_outcome}
 use Rattle.spec_endpoint.specs.Sending.{is_small, selective_ack, data_chunk_of, data_chunks, fast_most}
 use Rattle.spec_endpoint.specs.Sack.{clean_blocks}

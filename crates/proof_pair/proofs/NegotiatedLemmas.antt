@@ -3,16 +3,16 @@ use Rattle.std.proofs.Common.{◌≡◌, ℕ, ◌^◌, ◌%◌, Bool, true, fals
 use Rattle.std.proofs.lemmas.Option.{same_Some}
 use Rattle.std.specs.Prelude.{⊤}
 use Rattle.std.proofs.Math.Bool.{and_comm}
-use Rattle.sctp_wire.specs.Fields.{be32, be64}
+use Rattle.sctp_wire.specs.Field.{be32, be64}
 use Rattle.sctp_packet.specs.Chunk.{ChunkTree, InitTree, init_chunk, init_ack_chunk, cookie_echo_chunk}
 use Rattle.sctp_packet.specs.Grammar.{carried}
 use Rattle.sctp_capabilities.specs.declared.state_cookie.StateCookieError.{StateCookieError}
 use Rattle.sctp_capabilities.specs.Capabilities.{Capabilities, announce, announced_by, negotiate, agreed, announced_with, announced_by_init}
-use Rattle.sctp_capabilities.specs.Cookie.{Cookie, CapabilitiesFit, capability_bytes, cookie_bytes, cookie_from, check_cookie, read_cookie}
+use Rattle.sctp_capabilities.specs.StateCookie.{Cookie, CapabilitiesFit, capability_bytes, cookie_bytes, cookie_from, check_cookie, read_cookie}
 use Rattle.sctp_state.specs.Options.{Options}
 use Rattle.sctp_capabilities.proofs.CapabilitiesLemmas.{announced_with_options, negotiated_by_init, negotiated_by_init_ack}
 use Rattle.sctp_capabilities.proofs.CookieLemmas.{cookie_from_spelled, capabilities_spelled}
-use Rattle.sctp_tx.specs.Retransmission.{Sender}
+use Rattle.sctp_tx.specs.RetransmissionQueue.{Sender}
 use Rattle.sctp_tx.specs.ForwardPoints.{chunk_if}
 use Rattle.spec_endpoint.specs.Association.{Tcb, Phase, CookieEchoed, Established, ShutdownPending, ShutdownSent, ShutdownReceived, ShutdownAckSent, State, Closed, CookieWait, Open}
 use Rattle.spec_endpoint.specs.Sending.{is_alone}

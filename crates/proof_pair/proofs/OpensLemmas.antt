@@ -1,14 +1,14 @@
 -- The two traces, computed.
 use Rattle.std.proofs.Common.{inr, refl, arith}
 use Rattle.rand_core.specs.Stream.{next_u32, next_u64}
-use Rattle.sctp_wire.specs.Fields.{be16, be32, be64}
+use Rattle.sctp_wire.specs.Field.{be16, be32, be64}
 use Rattle.sctp_wire.specs.Serialize.{padded_item, inner_items}
 use Rattle.sctp_wire.specs.Parameter.{parameter_value}
 use Rattle.sctp_wire.specs.Cause.{cause_value}
 use Rattle.sctp_wire.specs.CauseText.{cause_text}
 use Rattle.sctp_wire.specs.Show.{join_texts}
 use Rattle.sctp_packet.specs.Written.{chunk_bytes, chunks_bytes, chunk_value, data_value, idata_value, init_fields, block_bytes, sack_value, skip_bytes, forward_value}
-use Rattle.sctp_capabilities.specs.Cookie.{cookie_bytes, capability_bytes, cookie_from, read_cookie}
+use Rattle.sctp_capabilities.specs.StateCookie.{cookie_bytes, capability_bytes, cookie_from, read_cookie}
 use Rattle.spec_endpoint.specs.Timers.{tick_timers}
 use Rattle.sctp_state.specs.Options.{defaults}
 use Rattle.proof_pair.specs.Trace.{AreValidOptions}

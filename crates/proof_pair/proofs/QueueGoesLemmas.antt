@@ -8,9 +8,9 @@ use Rattle.std.specs.Map.{lookup, keys_of}
 use Rattle.std.specs.BTreeMap.{is_at, insert_entry}
 use Rattle.std.proofs.lemmas.Map.{keys-set_value}
 use Rattle.sctp_state.specs.Events.{Emitted}
-use Rattle.sctp_tx_outstanding.specs.Items.{Discard}
+use Rattle.sctp_tx_outstanding.specs.OutstandingData.{Discard}
 use Rattle.sctp_tx_queue.specs.declared.send_queue.stream.ResetStep.{ResetStep}
-use Rattle.sctp_tx_queue.specs.Queue.{Stream, Streams, Entries, Queue, blank, stream, open_stream, put_stream}
+use Rattle.sctp_tx_queue.specs.SendQueue.{Stream, Streams, Entries, Queue, blank, stream, open_stream, put_stream}
 use Rattle.sctp_tx_queue.specs.Produced.{Produced, Turn, next_fragment, advance, without_stale, streams_without_stale, turn, next_stream, idle, produce_within, produce}
 use Rattle.sctp_tx_queue.specs.Settings.{set_low_threshold, set_priority, front_discarded, without_front, streams_discarded, discard_from, discard}
 use Rattle.sctp_tx_queue.specs.Resets.{prepare_reset, step_stream, each_stepped}
@@ -20,7 +20,7 @@ use Rattle.sctp_tx_queue.proofs.AgainLemmas.{AreAbove, are_above}
 use Rattle.sctp_tx_queue.proofs.InOrderLemmas.{set_bytes_mode, threshold_in_order, priority_in_order, prepared_in_order, steps_in_order, produced_in_order, discarded_in_order, line_mode}
 use Rattle.sctp_tx_queue.proofs.RestLemmas.{calls_leave_rests}
 use Rattle.sctp_tx.specs.Sending.{Filling, offered_payload, append, turned_if, next_turn, fill, discard_all, filled_with, send, without_discards}
-use Rattle.sctp_tx.specs.Retransmission.{Sender}
+use Rattle.sctp_tx.specs.RetransmissionQueue.{Sender}
 use Rattle.sctp_tx.specs.Resent.{may_send_new, resent}
 use Rattle.sctp_tx_outstanding.specs.Resending.{Resent}
 use Rattle.proof_endpoint.specs.HandoverRoundTrip.{IsNumberedOnce, CallsNumberOnce}

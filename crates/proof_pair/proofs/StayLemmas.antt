@@ -15,11 +15,11 @@ use Rattle.sctp_rx.specs.Streams as streams
 use Rattle.sctp_rx.specs.ReassemblyQueue.{Waiting, Added, Forwarded, Reassembly, add_now, forward_now, waits, came, fragment_waits, add_or_wait, point_waits, forward_or_wait, apply, apply_each, waiting_in, wait_with, resetting}
 use Rattle.sctp_rx.specs.ReassemblyQueue as reassembly
 use Rattle.sctp_tx_outstanding.specs.Item.{Item, nack, is_fast, should_be_retransmitted}
-use Rattle.sctp_tx_outstanding.specs.Items.{Items, Outstanding}
+use Rattle.sctp_tx_outstanding.specs.OutstandingData.{Items, Outstanding}
 use Rattle.sctp_tx_outstanding.specs.Losses.{Step, given_up, given_up_if, change_items, loses, gives_up, nack_item, nack_at, nack_below, nack_all, expired_at, expire_at, expire_below, expire_outstanding}
 use Rattle.sctp_tx_outstanding.specs.Sack.{receive_sack, receive_sack_first, staying, reported_below}
 use Rattle.sctp_tx_outstanding.specs.Resending.{Resent, size_in, allowance, again_of, fast_turn, queued_turn, turn_of, take_item, step_at, resent_below, resend}
-use Rattle.sctp_tx.specs.Retransmission.{Sender}
+use Rattle.sctp_tx.specs.RetransmissionQueue.{Sender}
 use Rattle.sctp_tx.specs.Resent.{timed_if, start_timer, resent_fast, send_fast, resent_by}
 use Rattle.spec_endpoint.specs.Association.{Tcb}
 

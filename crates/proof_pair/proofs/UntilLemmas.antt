@@ -5,7 +5,7 @@ use Rattle.std.proofs.lemmas.Bool.{and_parts}
 use Rattle.sctp_state.specs.Events.{Event, OnConnected, OnConnectionRestarted, OnClosed, OnAborted, OnIncomingStreamReset, OnStreamsResetPerformed, OnStreamsResetFailed, OnError, numbers_of}
 use Rattle.spec_endpoint.specs.Association.{Context, Endpoint}
 use Rattle.spec_endpoint.specs.Sack.{clean_blocks}
-use Rattle.spec_endpoint.specs.Requests.{Outcome, Unsettled, Done, Denied, outcome}
+use Rattle.spec_endpoint.specs.ResetRequests.{Outcome, Unsettled, Done, Denied, outcome}
 use Rattle.spec_endpoint.specs.Packets.{room}
 use Rattle.spec_endpoint.specs.StreamReset.{on_outcome}
 use Rattle.spec_endpoint.specs.Laws.{Call, called, ending, endings}

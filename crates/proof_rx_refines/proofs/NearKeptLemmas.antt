@@ -48,7 +48,7 @@ still_near : (message : ℕ → Message) (base : Bool → ℕ → ℕ) (s : ℕ)
 still_near message base s x i near later same old q = record { number = q.number; near_is = same ∙ q.near_is; met = q.met; seen = λ t h on. q.seen t (old t h on) on }
 
 module _ (message : ℕ → Message) (is_interleaved : Bool) (base : Bool → ℕ → ℕ) (before : ℕ) (x : Transfer) (kept : Invariant message is_interleaved x) (windows : IsInWindow x) (handed : List messages.Message) (t : Tracker) (r : Reassembly)
-    (shown : ReceiverRefines message is_interleaved base before x handed t r) (is_mixed : is_interleaved ≡ true) (near : AreNearStreams message base x r) where
+    (shown : ReceiverRefines message is_interleaved base before x handed t r) (interleaved : is_interleaved ≡ true) (near : AreNearStreams message base x r) where
   -- ---- a fragment
 
   module _ (is_tracker : IsTracker t) (k tsn : ℕ) (f : FragmentTree) (at_once : fragment_waits (number_of r tsn) f.stream_id r.deferred ≡ false) (carries : Carries message is_interleaved x.sender k f) (read : IsRead message is_interleaved (shift_after r.first before k) x.sender r k tsn f) (unseen : was_seen t k ≡ false)
@@ -59,7 +59,7 @@ module _ (message : ℕ → Message) (is_interleaved : Bool) (base : Bool → �
     number_is : f.is_unordered ≡ true → number_read true f r.streams ≡ origin + x.sender.written place
     number_is e =
         ap (λ z. number_read z f r.streams) (sym e) ∙ (read.number_is
-        ∙ ap (λ z. origin + z) (cond-true (ordered_of message place || is_interleaved) (x.sender.written place) 0 (or_right (ordered_of message place) is_interleaved is_mixed)))
+        ∙ ap (λ z. origin + z) (cond-true (ordered_of message place || is_interleaved) (x.sender.written place) 0 (or_right (ordered_of message place) is_interleaved interleaved)))
 
     near_number : f.is_unordered ≡ true → is_far (number_read true f r.streams) ≡ false
     near_number e = ap (λ z. is_far (number_read z f r.streams)) (sym e) ∙ number_near message is_interleaved (shift_after r.first before k) x.sender r k tsn f carries read shown.mode
@@ -122,8 +122,8 @@ module _ (message : ℕ → Message) (is_interleaved : Bool) (base : Bool → �
     near_top : (s : ℕ) → suc (unordered_at (forward tsn xs r).streams s).near ≡ origin + top s
     near_top s =
         ap (λ z. suc (unordered_at z.streams s).near) call_is
-        ∙ point_nears s xs (wire_point f).entries r.streams (number_of r tsn) (near.streams s).number (subst (λ z. StandForAll z r.streams xs (wire_point f).entries) is_mixed stand)
-        (written_apart f.entries apart) (shown.mode ∙ is_mixed) (near.streams s).near_is
+        ∙ point_nears s xs (wire_point f).entries r.streams (number_of r tsn) (near.streams s).number (subst (λ z. StandForAll z r.streams xs (wire_point f).entries) interleaved stand)
+        (written_apart f.entries apart) (shown.mode ∙ interleaved) (near.streams s).near_is
 
     module _ (i : Receiver) (seen_is : (n : ℕ) → i.seen n ≡ (nat_lt n f.upto || x.receiver.seen n)) where
       point_met : (s : ℕ) → (top s - 1 ≡ 0) ⊎ ((u : ℕ) × IsOf message x.sender s (base false s + (top s - 1)) u)
@@ -219,7 +219,7 @@ module _ (message : ℕ → Message) (o : Sender) (s t : ℕ) (on : IsOn message
       let e : t + suc (upto - suc t) ≡ upto = omega (arith, l) in
       subst IsLast e (last_below (upto - suc t) (omega (arith, e, h)))
 
-module _ (message : ℕ → Message) (is_interleaved : Bool) (x : Transfer) (kept : Invariant message is_interleaved x) (is_mixed : is_interleaved ≡ true) where
+module _ (message : ℕ → Message) (is_interleaved : Bool) (x : Transfer) (kept : Invariant message is_interleaved x) (interleaved : is_interleaved ≡ true) where
   -- one that may be sent now
   due_named : (f : ForwardPoint) → IsDue message is_interleaved x.sender x.acknowledged f → IsNamed message x f
   due_named f due = record {
@@ -244,7 +244,7 @@ module _ (message : ℕ → Message) (is_interleaved : Bool) (x : Transfer) (kep
       named s t on a b =
           subst (λ z. covers f.entries false z (x.sender.number (place_of x.sender t)) ≡ true) on.stream
           (subst (λ z. covers f.entries z (stream_of message (place_of x.sender t)) (x.sender.number (place_of x.sender t)) ≡ true) on.unordered
-          (due.touched t a b (or_right (ordered_of message (place_of x.sender t)) is_interleaved is_mixed)))
+          (due.touched t a b (or_right (ordered_of message (place_of x.sender t)) is_interleaved interleaved)))
 
       up_to : (upto s t : ℕ) (on : IsOn message x.sender s t) (l : IsLast message x.sender s t on upto) (u : ℕ) → IsOn message x.sender s u → u < upto → u ≤ l.at
       up_to upto s t on l u h v = elim (cases_lt l.at u) [ inr g ↦ g | inl k ↦ absurd (l.none u h k v) ]

@@ -187,9 +187,9 @@ module _ (message : ℕ → Message) (is_interleaved : Bool) (base : Bool → �
   -- as the queue reads it
   pub fragment_number : (k : ℕ) (f : FragmentTree) → Carries message is_interleaved x.sender k f → IsWritten message is_interleaved x.sender k f → x.acknowledged ≤ k → IsOfCurrentEpoch base message x.sender k → is_interleaved ≡ true → r.streams.is_interleaved ≡ is_interleaved → f.is_unordered ≡ true
       → number_read true f r.streams ≡ origin + x.sender.written (place_of x.sender k)
-  fragment_number k f carries written a now is_mixed mode e =
+  fragment_number k f carries written a now interleaved mode e =
       let on : IsOn message x.sender f.stream_id k = record { numbered = carries.numbered; unordered = sym (twice_not f.is_unordered (ordered_of message (place_of x.sender k)) carries.kind) ∙ ap not e; stream = sym carries.stream } in
       let is : base false f.stream_id + x.sender.written (place_of x.sender k) ≡ x.sender.number (place_of x.sender k) =
       subst (λ z. base false z + x.sender.written (place_of x.sender k) ≡ x.sender.number (place_of x.sender k)) on.stream
       (subst (λ z. base z (stream_of message (place_of x.sender k)) + x.sender.written (place_of x.sender k) ≡ x.sender.number (place_of x.sender k)) on.unordered now) in
-      ap (λ z. unordered_number z f (unordered_at r.streams f.stream_id)) (mode ∙ is_mixed) ∙ (ap (λ z. nearest words 0 (unordered_at r.streams f.stream_id).near z) (written.mid is_mixed) ∙ fragment_mid k a f.stream_id on is)
+      ap (λ z. unordered_number z f (unordered_at r.streams f.stream_id)) (mode ∙ interleaved) ∙ (ap (λ z. nearest words 0 (unordered_at r.streams f.stream_id).near z) (written.mid interleaved) ∙ fragment_mid k a f.stream_id on is)

@@ -6,9 +6,9 @@ use Rattle.std.proofs.lemmas.Bool.{cases_eq, cases_Bool, cases_order, eq-eqb, ne
 use Rattle.std.proofs.lemmas.Bool.Decides.{nat_tests}
 use Rattle.std.proofs.lemmas.List.{get_or_push, get_or_append_left, map-append}
 use Rattle.sctp_packet.specs.Chunk.{FragmentTree}
-use Rattle.sctp_tx_queue.specs.Queue.{Queued}
+use Rattle.sctp_tx_queue.specs.SendQueue.{Queued}
 use Rattle.sctp_tx_outstanding.specs.Item.{Item, is_of, abandon}
-use Rattle.sctp_tx_outstanding.specs.Items.{Items, Discard, lay_down, without_payload, later_of, last_of}
+use Rattle.sctp_tx_outstanding.specs.OutstandingData.{Items, Discard, lay_down, without_payload, later_of, last_of}
 use Rattle.sctp_tx_outstanding.specs.Losses.{placeholder, placeholders, discards_of, abandon_message}
 use Rattle.proof_protocol.specs.State.{Message, Fragment, Sender, Transfer, IsAmong, fragment, place_of, count, parts, blank, put, stream_of}
 use Rattle.proof_protocol.specs.Rules.{Rule, end_with_placeholder, give_up, run, numbers, gives_up, placeholder_of, Happens}

@@ -13,15 +13,15 @@ use Rattle.sctp_state.specs.declared.api.options.SendOptions.{SendOptions}
 use Rattle.sctp_tx_queue.specs.Views.{queued_of}
 use Rattle.sctp_state.specs.Events.{Emitted, silent}
 use Rattle.sctp_tx_queue.specs.declared.send_queue.message.MessageNumbers.{MessageNumbers}
-use Rattle.sctp_tx_queue.specs.Queue as queue
-use Rattle.sctp_tx_queue.specs.Queue.{expiry_of, Queued, Queue, Stream, Streams, blank, open_stream, push, stream, add}
+use Rattle.sctp_tx_queue.specs.SendQueue as queue
+use Rattle.sctp_tx_queue.specs.SendQueue.{expiry_of, Queued, Queue, Stream, Streams, blank, open_stream, push, stream, add}
 use Rattle.sctp_tx_queue.specs.Settings.{with_threshold, with_priority, set_priority, set_low_threshold}
 use Rattle.sctp_tx_queue.specs.InOrder.{IsInOrder, IsNumbered, HasRests}
 use Rattle.sctp_tx_queue.proofs.InOrderLemmas.{set_bytes_mode, opened_same, added_in_order, priority_in_order, threshold_in_order, put_elsewhere}
 use Rattle.sctp_tx_queue.proofs.NumberLemmas.{calls_number}
 use Rattle.sctp_tx_queue.proofs.RestLemmas.{calls_leave_rests}
 use Rattle.sctp_tx_queue.proofs.StreamsLemmas.{stream_put}
-use Rattle.sctp_tx_outstanding.specs.Items.{Items}
+use Rattle.sctp_tx_outstanding.specs.OutstandingData.{Items}
 use Rattle.proof_protocol.specs.State.{Message, Sender, Transfer, count, parts, stream_of}
 use Rattle.proof_protocol.specs.Rules.{accept, accepts, after}
 use Rattle.proof_protocol.specs.Invariant.{Invariant}

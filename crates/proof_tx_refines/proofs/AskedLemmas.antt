@@ -6,17 +6,17 @@ use Rattle.sctp_state.specs.Events.{Emitted}
 use Rattle.sctp_tx_queue.specs.declared.send_queue.stream.PauseState.{PauseState}
 use Rattle.sctp_tx_queue.specs.declared.send_queue.stream.PauseState.TheVariants.{NotPaused, Pending, Paused, Resetting}
 use Rattle.sctp_tx_queue.specs.declared.send_queue.stream.ResetStep.TheVariants.{Requested, Performed}
-use Rattle.sctp_tx_queue.specs.Queue as queue
-use Rattle.sctp_tx_queue.specs.Queue.{Queued, Queue, Stream, Streams, stream, add, push, open_stream}
+use Rattle.sctp_tx_queue.specs.SendQueue as queue
+use Rattle.sctp_tx_queue.specs.SendQueue.{Queued, Queue, Stream, Streams, stream, add, push, open_stream}
 use Rattle.sctp_tx_queue.specs.Produced.{Produced, Turn, settle_pause, pause_after, front_ends, without_stale, streams_without_stale, advance, turn, next_stream, produce_within, produce}
 use Rattle.sctp_tx_queue.specs.Settings.{Changed, with_threshold, with_priority, set_priority, set_low_threshold, without_front, streams_discarded, front_discarded, discard}
 use Rattle.sctp_tx_queue.specs.Resets.{waiting, is_partly, prepare_stream, prepare_reset, requested_streams, request_resets, commit_resets, after_step, step_stream, each_stepped}
 use Rattle.sctp_tx_queue.proofs.InOrderLemmas.{put_elsewhere, discard_streams}
 use Rattle.sctp_tx_queue.proofs.ProduceLemmas.{idles, gives, turned}
-use Rattle.sctp_tx_outstanding.specs.Items.{Discard}
+use Rattle.sctp_tx_outstanding.specs.OutstandingData.{Discard}
 use Rattle.proof_protocol.specs.State.{IsAmong, has}
 use Rattle.proof_protocol.proofs.ToolsLemmas.{not_both, has_from}
-use Rattle.sctp_tx.specs.Retransmission.{Sender}
+use Rattle.sctp_tx.specs.RetransmissionQueue.{Sender}
 use Rattle.sctp_tx.specs.Resent.{may_send_new, resent}
 use Rattle.sctp_tx.specs.Sending as packets
 use Rattle.sctp_tx.specs.Sending.{Filling, offered_payload, append, turned_if, fill, discard_all, without_discards, filled_with, send}

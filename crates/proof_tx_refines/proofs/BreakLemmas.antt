@@ -3,15 +3,15 @@ use Rattle.std.proofs.Common.{◌≡◌, ℕ, zero, suc, ◌+◌, ◌≤◌, Boo
 use Rattle.std.specs.Prelude.{nat_lt, option_map, unwrap_or, slice_get}
 use Rattle.std.proofs.lemmas.Bool.{cases_lt, cond-true, cond-false, lt-ltb}
 use Rattle.sctp_serial.specs.Unwrapped.{origin}
-use Rattle.sctp_tx_queue.specs.Queue.{Queue}
+use Rattle.sctp_tx_queue.specs.SendQueue.{Queue}
 use Rattle.sctp_tx_outstanding.specs.Item.{Item}
-use Rattle.sctp_tx_outstanding.specs.Items.{Items, next_number, begin_reset}
+use Rattle.sctp_tx_outstanding.specs.OutstandingData.{Items, next_number, begin_reset}
 use Rattle.sctp_tx_outstanding.specs.Losses.{Step, gives_up, nack_item, nack_at, nack_below, option_bind, expired_of, given_up_if, expire_at, expire_below}
 use Rattle.sctp_tx_outstanding.specs.Sack.{staying}
 use Rattle.proof_protocol.specs.State.{Message, Transfer, IsAmong, count}
 use Rattle.proof_protocol.specs.Rules.{send_forward}
 use Rattle.proof_protocol.specs.Resets.{Request, Epochs, send_request, InEpoch, goes, go_all}
-use Rattle.sctp_tx.specs.Retransmission.{Sender}
+use Rattle.sctp_tx.specs.RetransmissionQueue.{Sender}
 use Rattle.proof_tx_refines.specs.Refinement.{SenderRefines}
 use Rattle.proof_tx_refines.specs.Points.{IsSendable}
 use Rattle.proof_tx_refines.specs.Pauses.{HasBreaks}

@@ -4,15 +4,15 @@ use Rattle.std.specs.Prelude.{is_some, ◌==◌}
 use Rattle.std.specs.List.{list_all}
 use Rattle.std.proofs.lemmas.Bool.{cases_eq, ne_eqb, and_parts, eq-eqb, eqb-true}
 use Rattle.sctp_state.specs.Events.{Emitted, silent}
-use Rattle.sctp_tx_queue.specs.Queue as queue
-use Rattle.sctp_tx_queue.specs.Queue.{Queued, Queue, Stream, Streams, stream}
+use Rattle.sctp_tx_queue.specs.SendQueue as queue
+use Rattle.sctp_tx_queue.specs.SendQueue.{Queued, Queue, Stream, Streams, stream}
 use Rattle.sctp_tx_queue.specs.Produced.{settle_pause}
 use Rattle.sctp_tx_queue.specs.Settings.{front_discarded, without_front, streams_discarded, discard_from, discard}
 use Rattle.sctp_tx_queue.specs.InOrder.{IsNumbered, HasRests, is_waiting, is_begun_or_waiting, are_in_order, are_rising}
 use Rattle.sctp_tx_queue.proofs.InOrderLemmas.{set_bytes_mode, put_elsewhere, discard_streams, discarded_in_order}
 use Rattle.sctp_tx_queue.proofs.NumberLemmas.{calls_number}
 use Rattle.sctp_tx_queue.proofs.RestLemmas.{calls_leave_rests}
-use Rattle.sctp_tx_outstanding.specs.Items.{Discard}
+use Rattle.sctp_tx_outstanding.specs.OutstandingData.{Discard}
 use Rattle.proof_protocol.specs.State.{Message, Sender, IsAmong, put}
 use Rattle.proof_protocol.proofs.ToolsLemmas.{not_both}
 use Rattle.proof_protocol.proofs.CommonLemmas.{none_some}

@@ -3,10 +3,10 @@ use Rattle.std.proofs.Common.{◌≡◌, ℕ, zero, suc, ◌+◌, ◌-◌, ◌*�
 use Rattle.std.specs.Prelude.{◌&&◌, nat_lt, if◌then◌else◌}
 use Rattle.std.proofs.lemmas.Bool.{ltb-true, ltb-false}
 use Rattle.sctp_state.specs.Events.{Emitted}
-use Rattle.sctp_tx_queue.specs.Queue.{Queue}
+use Rattle.sctp_tx_queue.specs.SendQueue.{Queue}
 use Rattle.sctp_tx_queue.specs.Produced.{Produced, Turn, produce}
 use Rattle.sctp_tx_outstanding.specs.Item.{header_size}
-use Rattle.sctp_tx.specs.Retransmission.{Sender}
+use Rattle.sctp_tx.specs.RetransmissionQueue.{Sender}
 use Rattle.sctp_tx.specs.Resent.{is_interleaved, may_send_new, room_of}
 use Rattle.sctp_tx.specs.Sending.{Filling, Turned, offered_payload, append, is_made, turned_if, fill}
 use Rattle.proof_tx_refines.specs.Filled as filled

@@ -5,15 +5,15 @@ use Rattle.sctp_state.specs.Events.{Emitted, silent}
 use Rattle.sctp_tx_queue.specs.declared.send_queue.stream.PauseState.{PauseState}
 use Rattle.sctp_tx_queue.specs.declared.send_queue.stream.PauseState.TheVariants.{NotPaused, Pending, Paused, Resetting}
 use Rattle.sctp_tx_queue.specs.declared.send_queue.stream.ResetStep.TheVariants.{Requested, Performed}
-use Rattle.sctp_tx_queue.specs.Queue as queue
-use Rattle.sctp_tx_queue.specs.Queue.{Queue, Stream, stream, add, push, is_stopped}
+use Rattle.sctp_tx_queue.specs.SendQueue as queue
+use Rattle.sctp_tx_queue.specs.SendQueue.{Queue, Stream, stream, add, push, is_stopped}
 use Rattle.sctp_tx_queue.specs.Settings.{with_threshold, with_priority, set_priority, set_low_threshold, set_mode, begun_without}
 use Rattle.sctp_tx_queue.specs.Resets.{prepare_stream, requested_streams}
 use Rattle.sctp_tx_queue.specs.Restarted.{restarted_one, each_restarted, reset}
 use Rattle.sctp_tx_queue.specs.Restarted as restarting
 use Rattle.std.specs.Map.{keys_of}
 use Rattle.sctp_tx_queue.proofs.InOrderLemmas.{put_elsewhere}
-use Rattle.sctp_tx_outstanding.specs.Items.{Items, no_items, begin_reset}
+use Rattle.sctp_tx_outstanding.specs.OutstandingData.{Items, no_items, begin_reset}
 use Rattle.proof_protocol.specs.State.{Message, Transfer, IsAmong, stream_of}
 use Rattle.proof_protocol.specs.Rules.{accept, run}
 use Rattle.proof_protocol.specs.Invariant.{Invariant}

@@ -8,16 +8,16 @@ use Rattle.std.proofs.lemmas.List.{map-append}
 use Rattle.sctp_serial.specs.Unwrapped.{origin}
 use Rattle.sctp_chunk.specs.declared.sack.GapAckBlock.{GapAckBlock}
 use Rattle.sctp_state.specs.Events.{Emitted}
-use Rattle.sctp_tx_queue.specs.Queue.{Queue}
+use Rattle.sctp_tx_queue.specs.SendQueue.{Queue}
 use Rattle.sctp_tx_queue.specs.Settings.{Changed}
 use Rattle.sctp_tx_queue.specs.Produced.{Produced, Turn, produce}
 use Rattle.sctp_tx_outstanding.specs.Item.{Item}
-use Rattle.sctp_tx_outstanding.specs.Items.{Items}
+use Rattle.sctp_tx_outstanding.specs.OutstandingData.{Items}
 use Rattle.sctp_tx_outstanding.specs.Losses.{first_step}
 use Rattle.sctp_tx_outstanding.specs.Resending.{Resent, again_of, step_at, resent_below, empty_packet}
 use Rattle.sctp_tx_outstanding.specs.Sack.{leaving, staying, receive_sack_first, reported_below}
 use Rattle.sctp_tx.specs.Windows.{is_open}
-use Rattle.sctp_tx.specs.Retransmission.{Sender, handle_sack, step_of}
+use Rattle.sctp_tx.specs.RetransmissionQueue.{Sender, handle_sack, step_of}
 use Rattle.sctp_tx.specs.Resent.{send_fast, resent, resent_by, flight, resent_fast, may_send_new, timed_if}
 use Rattle.sctp_tx.specs.Sending.{Filling, offered_payload, append, turned_if, next_turn, fill, discard_all, without_discards, filled_with, send}
 use Rattle.proof_protocol.specs.State.{Message, Transfer}

@@ -2,7 +2,7 @@
 use Rattle.std.proofs.Common.{◌≡◌, ◌≢◌, ℕ, ◌+◌, ◌<◌, ◌≤◌, true, cond, inl, inr, Option, Some, None, List, [], ◌∷◌, ◌++◌, refl, sym, ap, ◌∙◌, arith, eqb}
 use Rattle.std.specs.Prelude.{nat_le, nat_lt, ◌&&◌}
 use Rattle.std.proofs.lemmas.Bool.{cases_eq, eq-eqb, ne_eqb, cond-true, cond-false, and_parts, leb-true, ltb-true}
-use Rattle.sctp_tx_queue.specs.Queue.{Queued}
+use Rattle.sctp_tx_queue.specs.SendQueue.{Queued}
 use Rattle.sctp_tx_queue.specs.InOrder.{are_rising}
 use Rattle.proof_tx_refines.specs.Refinement.{find}
 use Rattle.proof_protocol.proofs.CommonLemmas.{none_some}

@@ -6,10 +6,10 @@ use Rattle.std.proofs.lemmas.List.{map-append}
 use Rattle.sctp_state.specs.Events as events
 use Rattle.sctp_state.specs.Events.{Emitted, emit_events, expiry}
 use Rattle.sctp_state.specs.declared.api.GivenUpCause.TheVariants.{Lifetime}
-use Rattle.sctp_tx_queue.specs.Queue.{Queued}
+use Rattle.sctp_tx_queue.specs.SendQueue.{Queued}
 use Rattle.sctp_tx_queue.specs.Produced.{is_stale, is_due, fresh, drop_expired}
 use Rattle.sctp_tx_queue.specs.InOrder.{are_rising}
-use Rattle.sctp_tx_outstanding.specs.Items.{Items}
+use Rattle.sctp_tx_outstanding.specs.OutstandingData.{Items}
 use Rattle.proof_protocol.specs.State.{Message, Sender, Transfer, place_of, put, stream_of}
 use Rattle.proof_protocol.specs.Rules.{Waits, give_up, IsAllowed, after, gives_up}
 use Rattle.proof_protocol.specs.Invariant.{Invariant}

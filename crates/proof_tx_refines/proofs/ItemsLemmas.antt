@@ -3,7 +3,7 @@ use Rattle.std.proofs.Common.{◌≡◌, ℕ, zero, suc, ◌+◌, ◌<◌, ◌�
 use Rattle.sctp_chunk.specs.declared.sack.GapAckBlock.{GapAckBlock}
 use Rattle.sctp_packet.specs.Covered.{is_covered}
 use Rattle.sctp_tx_outstanding.specs.Item.{Item, is_lost, is_abandoned, ack, uncover, nack, mark_as_retransmitted, miss_fast}
-use Rattle.sctp_tx_outstanding.specs.Items.{change_at}
+use Rattle.sctp_tx_outstanding.specs.OutstandingData.{change_at}
 use Rattle.sctp_tx_outstanding.specs.Sack.{settle, ack_or_nack}
 use Rattle.proof_protocol.specs.State.{Message, Fragment, Sender, fragment, place_of, count}
 use Rattle.proof_tx_refines.specs.Refinement.{tree_of, StandsFor, AreKept}

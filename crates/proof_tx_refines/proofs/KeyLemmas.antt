@@ -9,8 +9,8 @@ use Rattle.sctp_state.specs.Events.{Emitted}
 use Rattle.sctp_tx_queue.specs.declared.send_queue.stream.PauseState.{PauseState}
 use Rattle.sctp_tx_queue.specs.declared.send_queue.stream.PauseState.TheVariants.{NotPaused, Pending, Paused, Resetting}
 use Rattle.sctp_tx_queue.specs.declared.send_queue.stream.ResetStep.{ResetStep}
-use Rattle.sctp_tx_queue.specs.Queue as queue
-use Rattle.sctp_tx_queue.specs.Queue.{Queue, Stream, Streams, Entries, stream, open_stream, blank}
+use Rattle.sctp_tx_queue.specs.SendQueue as queue
+use Rattle.sctp_tx_queue.specs.SendQueue.{Queue, Stream, Streams, Entries, stream, open_stream, blank}
 use Rattle.sctp_tx_queue.specs.Produced.{without_stale, streams_without_stale, advance, turn}
 use Rattle.sctp_tx_queue.specs.Settings.{without_front, streams_discarded, front_discarded, discard}
 use Rattle.sctp_tx_queue.specs.Resets.{is_paused, is_ready, ready, requested_streams, after_step, step_stream, each_stepped}

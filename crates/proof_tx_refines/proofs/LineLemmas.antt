@@ -6,7 +6,7 @@ use Rattle.std.specs.Ordering.{nat_cmp, match_ordering}
 use Rattle.std.specs.declared.cmp.Ordering.{Ordering}
 use Rattle.std.specs.BTreeMap.{is_at, insert_entry}
 use Rattle.std.proofs.lemmas.Bool.{cases_eq, and_parts, and_from, cond-true, cond-false, le-leb, leb-true}
-use Rattle.sctp_stream_scheduler.specs.Scheduler.{Times, Scheduler, finish_time, finish_now, is_active, leave, enter, set_bytes_remaining, accept, accepted_at, better, best, peek, stream_in}
+use Rattle.sctp_stream_scheduler.specs.StreamScheduler.{Times, Scheduler, finish_time, finish_now, is_active, leave, enter, set_bytes_remaining, accept, accepted_at, better, best, peek, stream_in}
 use Rattle.proof_protocol.proofs.ToolsLemmas.{not_both}
 use Rattle.proof_tx_refines.specs.Line.{are_ascending}
 use Rattle.proof_tx_refines.proofs.FoundLemmas.{one_value}

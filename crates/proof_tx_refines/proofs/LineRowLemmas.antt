@@ -3,10 +3,10 @@ use Rattle.std.proofs.Common.{◌≡◌, ◌≢◌, ℕ, zero, suc, ◌+◌, ◌
 use Rattle.std.specs.Prelude.{◌==◌, is_some}
 use Rattle.std.proofs.lemmas.Bool.{cases_eq, cond-false, eq-eqb, false_from_ne_true}
 use Rattle.sctp_state.specs.Events.{Emitted}
-use Rattle.sctp_stream_scheduler.specs.Scheduler.{Scheduler, is_active, accept, peek}
+use Rattle.sctp_stream_scheduler.specs.StreamScheduler.{Scheduler, is_active, accept, peek}
 use Rattle.sctp_tx_queue.specs.declared.send_queue.stream.ResetStep.{ResetStep}
-use Rattle.sctp_tx_queue.specs.Queue as queue
-use Rattle.sctp_tx_queue.specs.Queue.{Queued, Queue, Stream, Streams, stream, add, push, open_stream, is_stopped, front_left, sendable, set_sendable}
+use Rattle.sctp_tx_queue.specs.SendQueue as queue
+use Rattle.sctp_tx_queue.specs.SendQueue.{Queued, Queue, Stream, Streams, stream, add, push, open_stream, is_stopped, front_left, sendable, set_sendable}
 use Rattle.sctp_tx_queue.specs.Produced.{Produced, Turn, settle_pause, without_stale, streams_without_stale, streams_after, advance, next_fragment, in_line, begun_by, turn, next_stream, produce_within, produce}
 use Rattle.sctp_tx_queue.specs.Settings.{with_threshold, with_priority, set_priority, set_low_threshold, front_discarded, without_front, streams_discarded, begun_without, discard_from, discard}
 use Rattle.sctp_tx_queue.specs.Resets.{prepare_stream, prepare_reset, step_stream, each_stepped}

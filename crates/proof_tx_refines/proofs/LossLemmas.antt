@@ -10,11 +10,11 @@ use Rattle.sctp_state.specs.Events as events
 use Rattle.sctp_state.specs.Events.{Emitted}
 use Rattle.sctp_state.specs.declared.api.GivenUpCause.{GivenUpCause}
 use Rattle.sctp_state.specs.declared.api.GivenUpCause.TheVariants.{Lifetime, Retransmissions}
-use Rattle.sctp_tx_queue.specs.Queue.{Queue}
+use Rattle.sctp_tx_queue.specs.SendQueue.{Queue}
 use Rattle.sctp_tx_outstanding.specs.declared.item.ItemState.{ItemState}
 use Rattle.sctp_tx_outstanding.specs.declared.item.ItemState.TheVariants.{InFlight, Missing, Queued, QueuedFast, Acked, GivenUp}
 use Rattle.sctp_tx_outstanding.specs.Item.{Item, is_in_flight, has_nack, is_given_up, is_lost, is_used_up, is_outstanding, is_nacked, is_abandoned, has_expired, nack}
-use Rattle.sctp_tx_outstanding.specs.Items.{Items, later_of}
+use Rattle.sctp_tx_outstanding.specs.OutstandingData.{Items, later_of}
 use Rattle.sctp_tx_outstanding.specs.Losses.{Step, abandon_message, given_up, given_up_if, gives_up, loses, change_items, nack_item, nack_at, nack_below, expires, expired_of, option_bind, expire_at, expire_below}
 use Rattle.proof_protocol.specs.State.{Message, Sender, Transfer, fragment}
 use Rattle.proof_protocol.specs.Rules.{Rule, run}
@@ -25,21 +25,21 @@ use Rattle.proof_tx_refines.proofs.ItemsLemmas.{Alike, by_nack, kept_changed}
 use Rattle.proof_tx_refines.proofs.LedLemmas.{leads_on}
 use Rattle.proof_tx_refines.proofs.AbandonLemmas.{GivesUp, gives, some_last}
 
-pub flies_lives : (s : ItemState) → is_in_flight s ≡ true → is_given_up s ≡ false
-flies_lives InFlight e = refl
-flies_lives Missing e = refl
-flies_lives Queued e = refl
-flies_lives QueuedFast e = refl
-flies_lives Acked e = refl
-flies_lives GivenUp e = absurd (cc)
+pub in_flight_lives : (s : ItemState) → is_in_flight s ≡ true → is_given_up s ≡ false
+in_flight_lives InFlight e = refl
+in_flight_lives Missing e = refl
+in_flight_lives Queued e = refl
+in_flight_lives QueuedFast e = refl
+in_flight_lives Acked e = refl
+in_flight_lives GivenUp e = absurd (cc)
 
-pub lacks_lives : (s : ItemState) → has_nack s ≡ true → is_given_up s ≡ false
-lacks_lives InFlight e = refl
-lacks_lives Missing e = refl
-lacks_lives Queued e = refl
-lacks_lives QueuedFast e = refl
-lacks_lives Acked e = refl
-lacks_lives GivenUp e = absurd (cc)
+pub nacked_lives : (s : ItemState) → has_nack s ≡ true → is_given_up s ≡ false
+nacked_lives InFlight e = refl
+nacked_lives Missing e = refl
+nacked_lives Queued e = refl
+nacked_lives QueuedFast e = refl
+nacked_lives Acked e = refl
+nacked_lives GivenUp e = absurd (cc)
 
 module _ (message : ℕ → Message) (lifecycle : ℕ → Option ℕ) where
   pub kept_at : (o : Sender) (t k : ℕ) (is : List Item) (i : Item) → slice_get is k ≡ Some i → AreKept message lifecycle o t is → StandsFor message lifecycle o (fragment o (t + k)) i
@@ -141,7 +141,7 @@ module _ {P : Type 0} (message : ℕ → Message) (lifecycle : ℕ → Option �
         go true e =
             let lost = (and_parts (loses at_once i) (y.items.is_partial && is_used_up i) e).0 in
             let flying = (and_parts (is_outstanding i) (is_lost at_once i) lost).0 in
-            abandoned i.number k y.items y.emitted (Retransmissions (i.sent - 1)) i here refl (flies_lives i.state flying) a
+            abandoned i.number k y.items y.emitted (Retransmissions (i.sent - 1)) i here refl (in_flight_lives i.state flying) a
         go false e = altered k (nack at_once fast) y.items y.emitted (by_nack at_once fast) a
 
     at_lost : (k : ℕ) (y : Step P) → To y.items y.emitted → To (nack_at at_once fast k y).items (nack_at at_once fast k y).emitted
@@ -177,7 +177,7 @@ module _ {P : Type 0} (message : ℕ → Message) (lifecycle : ℕ → Option �
             pick true f =
                 let due = (and_parts y.items.is_partial (expires now i) f).1 in
                 let missing = (and_parts (is_nacked i) (has_expired now i) due).0 in
-                abandoned i.number k y.items y.emitted Lifetime i e refl (lacks_lives i.state missing) a
+                abandoned i.number k y.items y.emitted Lifetime i e refl (nacked_lives i.state missing) a
 
     pub lifetimes : (n : ℕ) (y : Step P) → To y.items y.emitted → To (expire_below now n y).items (expire_below now n y).emitted
     lifetimes zero y a = a

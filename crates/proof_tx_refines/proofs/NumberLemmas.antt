@@ -6,9 +6,9 @@ use Rattle.std.proofs.lemmas.List.{get_or_push, get_or_append_left, drop-drop, l
 use Rattle.std.proofs.lemmas.Bool.{false≢true, ltb-true}
 use Rattle.sctp_serial.specs.Unwrapped.{words, halves, wire}
 use Rattle.sctp_tx_queue.specs.declared.send_queue.message.MessageNumbers.{MessageNumbers}
-use Rattle.sctp_tx_queue.specs.Queue.{Queued}
+use Rattle.sctp_tx_queue.specs.SendQueue.{Queued}
 use Rattle.sctp_tx_queue.specs.Produced.{move_past, ends, made_of, piece}
-use Rattle.sctp_tx_outstanding.specs.Items.{Items}
+use Rattle.sctp_tx_outstanding.specs.OutstandingData.{Items}
 use Rattle.sctp_tx.specs.Sending.{item_of}
 use Rattle.proof_protocol.specs.State.{Message, Fragment, Sender, place_of, count, put, parts, blank, is_empty, stream_of}
 use Rattle.proof_protocol.specs.Rules.{numbers, part}

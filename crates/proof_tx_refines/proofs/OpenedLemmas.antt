@@ -4,7 +4,7 @@ use Rattle.std.specs.Prelude.{◌==◌, ◌||◌}
 use Rattle.std.proofs.lemmas.Bool.{cases_eq, eq-eqb, ne_eqb, or_parts, or_from}
 use Rattle.sctp_tx_queue.specs.declared.send_queue.stream.PauseState.{PauseState}
 use Rattle.sctp_tx_queue.specs.declared.send_queue.stream.PauseState.TheVariants.{NotPaused, Pending, Paused, Resetting}
-use Rattle.sctp_tx_queue.specs.Queue.{Queue, stream}
+use Rattle.sctp_tx_queue.specs.SendQueue.{Queue, stream}
 use Rattle.proof_protocol.specs.State.{Message, has, count}
 use Rattle.proof_protocol.specs.Rules.{run}
 use Rattle.proof_protocol.specs.Resets.{Request, Epochs, transfers, send_request, commit, goes, go_all}

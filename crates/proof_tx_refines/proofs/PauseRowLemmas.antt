@@ -8,13 +8,13 @@ use Rattle.sctp_tx_queue.specs.declared.send_queue.stream.PauseState.{PauseState
 use Rattle.sctp_tx_queue.specs.declared.send_queue.stream.PauseState.TheVariants.{NotPaused, Pending, Paused, Resetting}
 use Rattle.sctp_tx_queue.specs.declared.send_queue.stream.ResetStep.{ResetStep}
 use Rattle.sctp_tx_queue.specs.declared.send_queue.stream.ResetStep.TheVariants.{Requested, Performed}
-use Rattle.sctp_tx_queue.specs.Queue.{Queued, Queue, Stream, Streams, stream, is_stopped}
+use Rattle.sctp_tx_queue.specs.SendQueue.{Queued, Queue, Stream, Streams, stream, is_stopped}
 use Rattle.sctp_tx_queue.specs.Produced.{is_stale, is_due, fresh, without_stale, streams_without_stale, numbers_of, took, move_past, ends, settle_pause, advance, turn}
 use Rattle.sctp_tx_queue.specs.Settings.{with_threshold, with_priority, set_priority, set_low_threshold, without_front, discard}
 use Rattle.sctp_tx_queue.specs.InOrder.{is_waiting, is_begun_or_waiting, are_in_order, is_first_begun, are_rising, IsInOrder, IsNumbered}
 use Rattle.sctp_tx_queue.specs.Resets.{step_stream, each_stepped, commit_resets}
 use Rattle.sctp_tx_queue.proofs.InOrderLemmas.{put_elsewhere}
-use Rattle.sctp_tx_outstanding.specs.Items.{Items, Discard}
+use Rattle.sctp_tx_outstanding.specs.OutstandingData.{Items, Discard}
 use Rattle.proof_protocol.specs.State.{Message, Sender, IsAmong}
 use Rattle.proof_protocol.specs.Rules.{Rule, accept, begin, number, end_with_placeholder, give_up, data_comes, late_comes, become_ready, send_sack, ack_point_advances, send_forward, forward_comes, perform_reset}
 use Rattle.proof_protocol.specs.Resets.{Epochs, transfers, send_request, commit, epochs_after, goes, MayAll, go_all}

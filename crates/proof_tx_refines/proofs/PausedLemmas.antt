@@ -8,10 +8,10 @@ use Rattle.sctp_tx_queue.specs.declared.send_queue.message.MessageNumbers.{Messa
 use Rattle.sctp_tx_queue.specs.declared.send_queue.stream.PauseState.{PauseState}
 use Rattle.sctp_tx_queue.specs.declared.send_queue.stream.PauseState.TheVariants.{NotPaused, Pending, Paused, Resetting}
 use Rattle.sctp_tx_queue.specs.declared.send_queue.stream.ResetStep.TheVariants.{Requested, Performed}
-use Rattle.sctp_tx_queue.specs.Queue.{Queued, Queue, Stream, stream, add, push, is_stopped}
+use Rattle.sctp_tx_queue.specs.SendQueue.{Queued, Queue, Stream, stream, add, push, is_stopped}
 use Rattle.sctp_tx_queue.specs.InOrder.{is_waiting, is_begun_or_waiting, are_in_order, is_first_begun}
 use Rattle.sctp_tx_queue.specs.Resets.{is_partly, waiting, prepare_stream, prepare_reset, after_step, step_stream}
-use Rattle.sctp_tx_outstanding.specs.Items.{Items}
+use Rattle.sctp_tx_outstanding.specs.OutstandingData.{Items}
 use Rattle.proof_protocol.specs.State.{Message, Transfer, put, stream_of}
 use Rattle.proof_protocol.specs.Rules.{accept, give_up, IsSettled, Happens, run}
 use Rattle.proof_protocol.specs.Sending.{Waiting}

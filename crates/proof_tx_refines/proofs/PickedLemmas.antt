@@ -10,7 +10,7 @@ use Rattle.sctp_serial.specs.Unwrapped.{words, wire}
 use Rattle.sctp_tx_outstanding.specs.declared.item.ItemState.{ItemState}
 use Rattle.sctp_tx_outstanding.specs.declared.item.ItemState.TheVariants.{InFlight, Missing, Queued, QueuedFast, Acked, GivenUp}
 use Rattle.sctp_tx_outstanding.specs.Item.{Item, is_in_flight, waits, waits_fast, resent, is_fast, should_be_retransmitted, chunk_size, mark_as_retransmitted, miss_fast}
-use Rattle.sctp_tx_outstanding.specs.Items.{Outstanding, when, flight_part, flight_items, change_at}
+use Rattle.sctp_tx_outstanding.specs.OutstandingData.{Outstanding, when, flight_part, flight_items, change_at}
 use Rattle.sctp_tx_outstanding.specs.Resending.{Resent, size_in, again, again_of, again_at, passed_over, allowance, turn_of, take_item, step_at, resent_below, empty_packet, resend}
 use Rattle.proof_tx_refines.specs.Picked.{is_due, payload_left, Picks, no_more, goes, has_no_room, is_not_due, tsn_at}
 use Rattle.sctp_tx_outstanding.proofs.RoomLemmas.{slowed_in_flight}
@@ -34,17 +34,17 @@ sum_at pre i is = sum_by-append flight_part pre (i ∷ is) ∙ ap (λ (n : ℕ).
 
 -- ---- items
 
-due_flies : (fast : Bool) (s : ItemState) → cond fast (waits_fast s) (waits s) ≡ true → is_in_flight (resent s) ≡ true
-due_flies true InFlight e = cc
-due_flies false InFlight e = cc
-due_flies true Missing e = cc
-due_flies false Missing e = cc
-due_flies fast Queued e = refl
-due_flies fast QueuedFast e = refl
-due_flies true Acked e = cc
-due_flies false Acked e = cc
-due_flies true GivenUp e = cc
-due_flies false GivenUp e = cc
+due_in_flight : (fast : Bool) (s : ItemState) → cond fast (waits_fast s) (waits s) ≡ true → is_in_flight (resent s) ≡ true
+due_in_flight true InFlight e = cc
+due_in_flight false InFlight e = cc
+due_in_flight true Missing e = cc
+due_in_flight false Missing e = cc
+due_in_flight fast Queued e = refl
+due_in_flight fast QueuedFast e = refl
+due_in_flight true Acked e = cc
+due_in_flight false Acked e = cc
+due_in_flight true GivenUp e = cc
+due_in_flight false GivenUp e = cc
 
 due_is : (fast : Bool) (i : Item) → is_due fast i ≡ true → cond fast (waits_fast i.state) (waits i.state) ≡ true
 due_is true i e = e
@@ -170,7 +170,7 @@ module _ (fast m : Bool) (first acked : ℕ) where
         not_none (flight_items y.outstanding.items) (sum_by flight_part pre) (sum_by flight_part is)
         (ap (sum_by flight_part) (ap (change_at k (λ j. mark_as_retransmitted j)) at.kept ∙ changed_at (λ j. mark_as_retransmitted j) pre i is k e)
         ∙ (sum_at pre (mark_as_retransmitted i) is
-        ∙ ap (λ (b : Bool). sum_by flight_part pre + (when b 1 + sum_by flight_part is)) (due_flies fast i.state (due_is fast i due))))
+        ∙ ap (λ (b : Bool). sum_by flight_part pre + (when b 1 + sum_by flight_part is)) (due_in_flight fast i.state (due_is fast i due))))
 
     abbrev chunk_from : ℕ → ℕ → ℕ × FragmentTree
     chunk_from n point = (wire words n (point + 1 + k), i.fragment)

@@ -6,10 +6,10 @@ use Rattle.std.proofs.lemmas.Bool.{cases_eq, cases_lt, lt-ltb, eq-eqb, eqb-true,
 use Rattle.std.proofs.lemmas.Bool.Decides.{nat_tests}
 use Rattle.sctp_serial.specs.Unwrapped.{origin, words, halves, wire}
 use Rattle.sctp_packet.specs.Chunk.{FragmentTree}
-use Rattle.sctp_tx_queue.specs.Queue.{Queue}
+use Rattle.sctp_tx_queue.specs.SendQueue.{Queue}
 use Rattle.sctp_tx_outstanding.specs.declared.skips.SkipEntry.{SkipEntry}
 use Rattle.sctp_tx_outstanding.specs.Item.{Item, is_abandoned}
-use Rattle.sctp_tx_outstanding.specs.Items.{Items}
+use Rattle.sctp_tx_outstanding.specs.OutstandingData.{Items}
 use Rattle.sctp_tx_outstanding.specs.Forward as points
 use Rattle.sctp_tx_outstanding.specs.Forward.{entry_of, is_before, is_same, is_alike, name_stream, with_entry, size_with, stops, passes, pass_item, walk, forward_point}
 use Rattle.sctp_tx_outstanding.specs.Point.{Ascend}
@@ -18,7 +18,7 @@ use Rattle.sctp_tx_outstanding.specs.Entries.{ssn_skip, mid_skip}
 use Rattle.sctp_tx_outstanding.proofs.EntriesLemmas.{point_ascends}
 use Rattle.sctp_tx_outstanding.proofs.PointLemmas.{points_are_sound}
 use Rattle.sctp_packet.specs.Chunk.{forward_tsn_chunk, i_forward_tsn_chunk}
-use Rattle.sctp_tx.specs.Retransmission as sending
+use Rattle.sctp_tx.specs.RetransmissionQueue as sending
 use Rattle.sctp_tx.specs.ForwardPoints.{most_of, chunk_if, forward_chunk}
 use Rattle.proof_protocol.specs.State.{Message, Entry, ForwardPoint, Sender, Transfer, IsAmong, fragment, place_of, count, stream_of, ordered_of}
 use Rattle.proof_protocol.specs.Rules.{same, covers, AreWritten}

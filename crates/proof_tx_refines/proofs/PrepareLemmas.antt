@@ -5,13 +5,13 @@ use Rattle.std.specs.List.{list_all}
 use Rattle.std.proofs.lemmas.Bool.{cases_eq, and_parts, and_from, cond-true, cond-false, eqb-true, le-leb, lt-ltb, not-true, false_from_ne_true}
 use Rattle.sctp_serial.specs.Unwrapped.{origin}
 use Rattle.sctp_state.specs.Events.{Emitted, silent}
-use Rattle.sctp_tx_queue.specs.Queue.{Queued, Queue, Stream, stream}
+use Rattle.sctp_tx_queue.specs.SendQueue.{Queued, Queue, Stream, stream}
 use Rattle.sctp_tx_queue.specs.InOrder.{is_waiting, is_begun_or_waiting, are_in_order, are_rising}
 use Rattle.sctp_tx_queue.specs.Resets.{is_partly, prepare_stream, prepare_reset}
 use Rattle.sctp_tx_queue.proofs.InOrderLemmas.{set_bytes_mode, prepared_in_order}
 use Rattle.sctp_tx_queue.proofs.NumberLemmas.{calls_number, lowered}
 use Rattle.sctp_tx_queue.proofs.RestLemmas.{calls_leave_rests}
-use Rattle.sctp_tx_outstanding.specs.Items.{Items}
+use Rattle.sctp_tx_outstanding.specs.OutstandingData.{Items}
 use Rattle.proof_protocol.specs.State.{Message, Transfer, put}
 use Rattle.proof_protocol.specs.Rules.{give_up, Happens, after, run}
 use Rattle.proof_protocol.specs.Invariant.{Invariant}

@@ -9,10 +9,10 @@ use Rattle.std.proofs.lemmas.Bool.{cases_eq, eq-eqb, ne_eqb, and_parts, eqb-true
 use Rattle.std.proofs.Math.Nat.{mod-eq_of_lt}
 use Rattle.sctp_serial.specs.Unwrapped.{origin}
 use Rattle.sctp_state.specs.Events.{Emitted}
-use Rattle.sctp_stream_scheduler.specs.Scheduler.{peek}
+use Rattle.sctp_stream_scheduler.specs.StreamScheduler.{peek}
 use Rattle.sctp_tx_queue.specs.declared.send_queue.message.MessageNumbers.{MessageNumbers}
-use Rattle.sctp_tx_queue.specs.Queue as queue
-use Rattle.sctp_tx_queue.specs.Queue.{Queued, Queue, Stream, Streams, blank, stream}
+use Rattle.sctp_tx_queue.specs.SendQueue as queue
+use Rattle.sctp_tx_queue.specs.SendQueue.{Queued, Queue, Stream, Streams, blank, stream}
 use Rattle.sctp_tx_queue.specs.Produced.{Produced, numbers_of, took, count_on, emitted_made, next_stream}
 use Rattle.sctp_tx_queue.specs.InOrder.{is_waiting, is_begun_or_waiting, are_in_order, is_first_begun, is_this}
 use Rattle.sctp_tx_queue.proofs.InOrderLemmas.{unnumbered}

@@ -3,8 +3,8 @@ use Rattle.std.proofs.Common.{◌≡◌, ◌≢◌, ℕ, ◌%◌, ◌^◌, ◌�
 use Rattle.std.specs.Prelude.{◌==◌, option_map}
 use Rattle.std.proofs.lemmas.Bool.{cases_eq, cond-true, cond-false}
 use Rattle.sctp_tx_queue.specs.declared.send_queue.message.MessageNumbers.{MessageNumbers}
-use Rattle.sctp_tx_queue.specs.Queue.{Queued}
-use Rattle.sctp_tx_outstanding.specs.Items.{Discard}
+use Rattle.sctp_tx_queue.specs.SendQueue.{Queued}
+use Rattle.sctp_tx_outstanding.specs.OutstandingData.{Discard}
 use Rattle.proof_protocol.specs.State.{Message, Sender, IsAmong, parts, put, stream_of}
 use Rattle.proof_protocol.specs.Sending as sending
 use Rattle.proof_protocol.specs.Sending.{Waiting}

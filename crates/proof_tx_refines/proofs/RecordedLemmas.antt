@@ -7,9 +7,9 @@ use Rattle.std.proofs.lemmas.List.{map-append}
 use Rattle.sctp_state.specs.Events as events
 use Rattle.sctp_state.specs.Events.{Emitted, emit_events, expiry}
 use Rattle.sctp_state.specs.declared.api.GivenUpCause.TheVariants.{Reset}
-use Rattle.sctp_tx_queue.specs.Queue.{Queued, Queue, stream}
+use Rattle.sctp_tx_queue.specs.SendQueue.{Queued, Queue, stream}
 use Rattle.sctp_tx_queue.specs.Resets.{is_partly, emitted_waiting}
-use Rattle.sctp_tx_outstanding.specs.Items.{Items}
+use Rattle.sctp_tx_outstanding.specs.OutstandingData.{Items}
 use Rattle.proof_protocol.specs.State.{Message, Transfer}
 use Rattle.proof_protocol.specs.Rules.{give_up, after, run}
 use Rattle.proof_protocol.specs.Invariant.{Invariant}

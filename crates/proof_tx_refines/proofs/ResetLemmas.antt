@@ -8,14 +8,14 @@ use Rattle.std.proofs.lemmas.Bool.{cases_eq, eq-eqb, ne_eqb, cond-true, cond-fal
 use Rattle.sctp_serial.specs.Unwrapped.{origin}
 use Rattle.sctp_tx_queue.specs.declared.send_queue.stream.ResetStep.{ResetStep}
 use Rattle.sctp_tx_queue.specs.declared.send_queue.stream.ResetStep.TheVariants.{Requested, Performed}
-use Rattle.sctp_tx_queue.specs.Queue as queue
-use Rattle.sctp_tx_queue.specs.Queue.{Queued, Queue, Stream, Streams, stream, blank}
+use Rattle.sctp_tx_queue.specs.SendQueue as queue
+use Rattle.sctp_tx_queue.specs.SendQueue.{Queued, Queue, Stream, Streams, stream, blank}
 use Rattle.sctp_tx_queue.specs.Resets.{after_step, step_stream, each_stepped, commit_resets}
 use Rattle.sctp_tx_queue.proofs.InOrderLemmas.{set_bytes_mode, put_elsewhere, steps_in_order}
 use Rattle.sctp_tx_queue.proofs.NumberLemmas.{steps_numbered}
 use Rattle.sctp_tx_queue.proofs.RestLemmas.{steps_rests}
 use Rattle.sctp_tx_queue.proofs.StreamsLemmas.{stream_put, put_nowhere, stream_nowhere}
-use Rattle.sctp_tx_outstanding.specs.Items.{Items}
+use Rattle.sctp_tx_outstanding.specs.OutstandingData.{Items}
 use Rattle.proof_protocol.specs.State.{Message, Sender, Transfer}
 use Rattle.proof_protocol.specs.Resets.{restarts}
 use Rattle.proof_tx_refines.specs.Refinement.{messages_of, IsEntry, IsNext, AreQueued, AreDiscards, SenderRefines}

@@ -8,8 +8,8 @@ use Rattle.std.specs.BTreeMap.{is_at}
 use Rattle.std.proofs.lemmas.Bool.{and_parts, false_from_ne_true}
 use Rattle.std.proofs.lemmas.Bool.Decides.{nat_tests}
 use Rattle.std.proofs.Math.Bool.{or_assoc}
-use Rattle.sctp_tx_queue.specs.Queue.{Queued, Queue, Stream, Entries, blank, has_nothing, is_empty}
-use Rattle.sctp_tx_outstanding.specs.Items.{Items}
+use Rattle.sctp_tx_queue.specs.SendQueue.{Queued, Queue, Stream, Entries, blank, has_nothing, is_empty}
+use Rattle.sctp_tx_outstanding.specs.OutstandingData.{Items}
 use Rattle.proof_protocol.specs.State.{Message, Transfer, has, stream_of}
 use Rattle.proof_protocol.specs.Rules.{Rule, accept, begin, number, end_with_placeholder, give_up, data_comes, late_comes, become_ready, send_sack, ack_point_advances, send_forward, forward_comes, perform_reset, after, run, IsSettled}
 use Rattle.proof_protocol.specs.Claims.{AtRest}

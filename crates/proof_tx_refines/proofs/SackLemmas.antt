@@ -7,9 +7,9 @@ use Rattle.sctp_chunk.specs.declared.sack.GapAckBlock.{GapAckBlock}
 use Rattle.sctp_serial.specs.Unwrapped.{origin}
 use Rattle.sctp_state.specs.Events.{Event, Emitted}
 use Rattle.sctp_state.specs.declared.api.GivenUpCause.TheVariants.{Retransmissions}
-use Rattle.sctp_tx_queue.specs.Queue.{Queue}
+use Rattle.sctp_tx_queue.specs.SendQueue.{Queue}
 use Rattle.sctp_tx_outstanding.specs.Item.{Item, is_abandoned, nack}
-use Rattle.sctp_tx_outstanding.specs.Items.{Items, next_number}
+use Rattle.sctp_tx_outstanding.specs.OutstandingData.{Items, next_number}
 use Rattle.sctp_tx_outstanding.specs.Losses.{Step, given_up, gives_up, loses, change_items, nack_item, nack_at, nack_below}
 use Rattle.sctp_tx_outstanding.specs.Sack.{highest_end, bound, is_valid, ending, report, reports, leaving, staying, acked_by, reported_below, receive_sack_first, receive_sack}
 use Rattle.proof_protocol.specs.State.{Message, Sender, Transfer, IsAmong, fragment, place_of}

@@ -1,7 +1,7 @@
 -- The queue asks one stream after another, as they go next.
 use Rattle.std.proofs.Common.{◌≡◌, ℕ, zero, suc, ◌+◌, ◌<◌, Option, Some, None, [], length, refl, sym, subst, arith}
 use Rattle.sctp_state.specs.Events.{Emitted}
-use Rattle.sctp_tx_queue.specs.Queue.{Queue}
+use Rattle.sctp_tx_queue.specs.SendQueue.{Queue}
 use Rattle.sctp_tx_queue.specs.Produced.{Produced, Turn, turn, next_stream, produce_within, produce}
 use Rattle.sctp_tx_queue.proofs.ProduceLemmas.{idles, gives, turned, tries, fewer, few_tries, produced_idle}
 use Rattle.proof_tx_refines.specs.Scheduled as scheduled

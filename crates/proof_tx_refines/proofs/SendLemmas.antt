@@ -5,16 +5,16 @@ use Rattle.std.proofs.lemmas.Bool.{false_from_ne_true, false≢true}
 use Rattle.sctp_serial.specs.Unwrapped.{origin, words, wire}
 use Rattle.sctp_packet.specs.Chunk.{FragmentTree}
 use Rattle.sctp_state.specs.Events.{Emitted}
-use Rattle.sctp_tx_queue.specs.Queue.{Queue, stream}
+use Rattle.sctp_tx_queue.specs.SendQueue.{Queue, stream}
 use Rattle.sctp_tx_queue.specs.Settings.{discard, discard_from, front_discarded, streams_discarded}
 use Rattle.sctp_tx_queue.specs.Produced.{Produced, Turn, produce}
 use Rattle.sctp_tx_outstanding.specs.declared.item.ItemState.{ItemState}
 use Rattle.sctp_tx_outstanding.specs.declared.item.ItemState.TheVariants.{InFlight, Missing, Queued, QueuedFast, Acked, GivenUp}
 use Rattle.sctp_tx_outstanding.specs.Item.{Item, waits, waits_fast, is_given_up, is_fast, should_be_retransmitted, is_abandoned, mark_as_retransmitted, miss_fast}
-use Rattle.sctp_tx_outstanding.specs.Items.{Items, Discard, Outstanding, next_number, insert, wire_tsn}
+use Rattle.sctp_tx_outstanding.specs.OutstandingData.{Items, Discard, Outstanding, next_number, insert, wire_tsn}
 use Rattle.sctp_tx_outstanding.specs.Losses.{change_items}
 use Rattle.sctp_tx_outstanding.specs.Resending.{Resent, size_in, allowance, again_of, again_at, passed_over, turn_of, take_item, step_at, resent_below, empty_packet, resend}
-use Rattle.sctp_tx.specs.Retransmission.{Sender}
+use Rattle.sctp_tx.specs.RetransmissionQueue.{Sender}
 use Rattle.sctp_tx.specs.Resent.{send_fast, resent, resent_by, flight, resent_fast, may_send_new, timed_if}
 use Rattle.sctp_tx.specs.Sending.{Filling, offered_payload, item_of, append, ask_queue, turned_if, next_turn, fill, discard_all, without_discards, filled_with}
 use Rattle.proof_protocol.specs.State as rules

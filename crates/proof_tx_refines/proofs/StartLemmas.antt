@@ -6,15 +6,15 @@ use Rattle.std.specs.Map.{keys_of}
 use Rattle.std.proofs.lemmas.Bool.{cases_eq, eq-eqb, and_parts, eqb-true}
 use Rattle.sctp_state.specs.Options.{Options}
 use Rattle.sctp_tx_queue.specs.declared.send_queue.message.MessageNumbers.{MessageNumbers}
-use Rattle.sctp_tx_queue.specs.Queue as queue
-use Rattle.sctp_tx_queue.specs.Queue.{Queued, Queue, Stream, stream}
+use Rattle.sctp_tx_queue.specs.SendQueue as queue
+use Rattle.sctp_tx_queue.specs.SendQueue.{Queued, Queue, Stream, stream}
 use Rattle.sctp_tx_queue.specs.Settings.{set_mode}
 use Rattle.sctp_tx_queue.specs.Restarted.{whole, whole_front, restart, restarted_one, each_restarted, reset}
 use Rattle.sctp_tx_queue.specs.InOrder.{is_waiting, is_begun_or_waiting, are_in_order, is_first_begun, is_this, IsUnsent}
 use Rattle.sctp_tx_queue.proofs.InOrderLemmas.{set_bytes_mode, put_elsewhere, new_in_order, mode_in_order, reset_in_order}
 use Rattle.sctp_tx_queue.proofs.NumberLemmas.{calls_number}
 use Rattle.sctp_tx_queue.proofs.RestLemmas.{calls_leave_rests}
-use Rattle.sctp_tx_outstanding.specs.Items.{Items, no_items}
+use Rattle.sctp_tx_outstanding.specs.OutstandingData.{Items, no_items}
 use Rattle.proof_protocol.specs.State.{Message, Sender, new_sender, start}
 use Rattle.proof_protocol.proofs.ToolsLemmas.{not_both}
 use Rattle.proof_protocol.proofs.CommonLemmas.{none_some}

@@ -6,14 +6,14 @@ use Rattle.std.proofs.lemmas.Bool.{cases_eq, false_from_ne_true, and_parts}
 use Rattle.sctp_serial.specs.Unwrapped.{origin}
 use Rattle.sctp_state.specs.Events.{Emitted}
 use Rattle.sctp_tx_queue.specs.declared.send_queue.message.MessageNumbers.{MessageNumbers}
-use Rattle.sctp_tx_queue.specs.Queue.{Queued, Queue, Stream, Streams, stream}
+use Rattle.sctp_tx_queue.specs.SendQueue.{Queued, Queue, Stream, Streams, stream}
 use Rattle.sctp_tx_queue.specs.Produced.{Produced, Turn, fresh, drop_expired, without_stale, streams_without_stale, numbers_of, took, made_of, move_past, ends, next_fragment, advance, turn, next_stream, produce_within}
 use Rattle.sctp_tx_queue.specs.InOrder.{are_in_order, are_rising, has_rest}
 use Rattle.sctp_tx_queue.proofs.InOrderLemmas.{fresh_both, put_elsewhere, turn_in_order, line_mode}
 use Rattle.sctp_tx_queue.proofs.NumberLemmas.{turn_numbered, fresh_rising}
 use Rattle.sctp_tx_queue.proofs.RestLemmas.{turn_rests, without_stale_rests}
 use Rattle.sctp_tx_queue.proofs.ProduceLemmas.{idles, gives, turned}
-use Rattle.sctp_tx_outstanding.specs.Items.{Items}
+use Rattle.sctp_tx_outstanding.specs.OutstandingData.{Items}
 use Rattle.proof_protocol.specs.State.{Message, Sender, Transfer, IsAmong, place_of, count, put, is_empty, stream_of, ordered_of}
 use Rattle.proof_protocol.specs.Rules.{Rule, begin, number, run, begins, numbers, part, same}
 use Rattle.proof_protocol.specs.Invariant.{Invariant}

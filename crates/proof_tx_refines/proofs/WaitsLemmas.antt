@@ -5,18 +5,18 @@ use Rattle.std.proofs.lemmas.Bool.{cases_eq, and_parts, ltb-true}
 use Rattle.sctp_state.specs.Events.{Emitted}
 use Rattle.sctp_tx_queue.specs.declared.send_queue.stream.PauseState.{PauseState}
 use Rattle.sctp_tx_queue.specs.declared.send_queue.stream.PauseState.TheVariants.{NotPaused, Pending, Paused, Resetting}
-use Rattle.sctp_tx_queue.specs.Queue.{Queued, Queue, Stream, stream, is_stopped}
+use Rattle.sctp_tx_queue.specs.SendQueue.{Queued, Queue, Stream, stream, is_stopped}
 use Rattle.sctp_tx_queue.specs.Produced.{Produced, Turn, fresh, numbers_of, move_past, ends, advance, turn, next_stream, produce_within, produce}
 use Rattle.sctp_tx_queue.specs.Settings.{Changed, discard}
 use Rattle.sctp_tx_queue.specs.InOrder.{is_first_begun, IsInOrder, IsNumbered}
 use Rattle.sctp_tx_queue.proofs.InOrderLemmas.{turn_in_order}
 use Rattle.sctp_tx_queue.proofs.NumberLemmas.{turn_numbered}
 use Rattle.sctp_tx_queue.proofs.ProduceLemmas.{idles, gives, turned}
-use Rattle.sctp_tx_outstanding.specs.Items.{Discard}
+use Rattle.sctp_tx_outstanding.specs.OutstandingData.{Discard}
 use Rattle.proof_protocol.specs.State.{Message, Sender}
 use Rattle.proof_protocol.specs.Resets.{Epochs}
 use Rattle.proof_protocol.proofs.ToolsLemmas.{not_both}
-use Rattle.sctp_tx.specs.Retransmission as tx
+use Rattle.sctp_tx.specs.RetransmissionQueue as tx
 use Rattle.sctp_tx.specs.Resent.{may_send_new, resent}
 use Rattle.sctp_tx.specs.Sending as packets
 use Rattle.sctp_tx.specs.Sending.{Filling, offered_payload, append, turned_if, fill, discard_all, without_discards, filled_with, send}

@@ -2,11 +2,11 @@
 use Rattle.std.specs.Prelude.{◌≡◌, ◌≢◌, ◌⊎◌, ℕ, suc, Bool, true, false, List, map}
 use Rattle.sctp_state.specs.Events.{Emitted}
 use Rattle.sctp_tx_queue.specs.declared.send_queue.stream.PauseState.TheVariants.{NotPaused, Paused, Resetting}
-use Rattle.sctp_tx_queue.specs.Queue.{Queued, Queue, stream, add}
+use Rattle.sctp_tx_queue.specs.SendQueue.{Queued, Queue, stream, add}
 use Rattle.sctp_tx_queue.specs.Settings.{set_priority, set_low_threshold, set_mode}
 use Rattle.sctp_tx_queue.specs.Resets.{prepare_reset, requested_streams, request_resets, commit_resets}
-use Rattle.sctp_tx_outstanding.specs.Items.{Items}
-use Rattle.sctp_tx.specs.Retransmission.{Sender}
+use Rattle.sctp_tx_outstanding.specs.OutstandingData.{Items}
+use Rattle.sctp_tx.specs.RetransmissionQueue.{Sender}
 use Rattle.sctp_tx.specs.Sending.{send}
 use Rattle.proof_protocol.specs.State.{Message, IsAmong, has, count}
 use Rattle.proof_protocol.specs.Resets.{Request, Epochs, send_request, commit, go_all}

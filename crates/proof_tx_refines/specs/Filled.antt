@@ -1,10 +1,10 @@
 -- What a packet takes behind that: new fragments, as long as the windows let them go, the packet has room, and one waits.
 use Rattle.std.specs.Prelude.{◌≡◌, ℕ, true, false, Some, None, List, [], ◌∷◌, ◌++◌}
 use Rattle.sctp_state.specs.Events.{Emitted}
-use Rattle.sctp_tx_outstanding.specs.Items.{next_number, wire_tsn}
-use Rattle.sctp_tx_queue.specs.Queue.{Queue}
+use Rattle.sctp_tx_outstanding.specs.OutstandingData.{next_number, wire_tsn}
+use Rattle.sctp_tx_queue.specs.SendQueue.{Queue}
 use Rattle.sctp_tx_queue.specs.Produced.{Produced, produce}
-use Rattle.sctp_tx.specs.Retransmission.{Sender}
+use Rattle.sctp_tx.specs.RetransmissionQueue.{Sender}
 use Rattle.sctp_tx.specs.Resent.{may_send_new, resent}
 use Rattle.sctp_tx.specs.Sending.{Filling, offered_payload, sent_new, filled_with, discard_all, without_discards, send, timed_filling}
 

@@ -6,14 +6,14 @@ use Rattle.sctp_chunk.specs.declared.sack.GapAckBlock.{GapAckBlock}
 use Rattle.sctp_state.specs.Events.{Emitted}
 use Rattle.sctp_state.specs.Options.{Options}
 use Rattle.sctp_tx_queue.specs.declared.send_queue.stream.PauseState.TheVariants.{NotPaused, Paused, Resetting}
-use Rattle.sctp_tx_queue.specs.Queue.{Queued, Queue, queue, stream, add}
+use Rattle.sctp_tx_queue.specs.SendQueue.{Queued, Queue, queue, stream, add}
 use Rattle.sctp_tx_queue.specs.Settings.{set_priority, set_low_threshold, set_mode}
 use Rattle.sctp_tx_queue.specs.Resets.{prepare_reset, requested_streams, request_resets, commit_resets}
 use Rattle.sctp_tx_queue.specs.Restarted.{reset}
-use Rattle.sctp_tx_outstanding.specs.Items.{Items, no_items, next_number, begin_reset}
+use Rattle.sctp_tx_outstanding.specs.OutstandingData.{Items, no_items, next_number, begin_reset}
 use Rattle.sctp_tx_outstanding.specs.Losses.{abandon_message, first_step, nack_below, nack_all, expire_below}
 use Rattle.sctp_tx_outstanding.specs.Sack.{is_valid, leaving}
-use Rattle.sctp_tx.specs.Retransmission.{Sender, handle_sack, step_of, timed_out_sender}
+use Rattle.sctp_tx.specs.RetransmissionQueue.{Sender, handle_sack, step_of, timed_out_sender}
 use Rattle.sctp_tx.specs.ForwardPoints.{expire}
 use Rattle.sctp_tx.specs.Resent.{send_fast}
 use Rattle.sctp_tx.specs.Sending.{send}

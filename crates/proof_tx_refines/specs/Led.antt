@@ -3,8 +3,8 @@ use Rattle.std.specs.Prelude.{◌≡◌, ℕ, Bool, true, false, not, Option, So
 use Rattle.std.specs.List.{list_all}
 use Rattle.sctp_state.specs.Events as events
 use Rattle.sctp_state.specs.Events.{Emitted}
-use Rattle.sctp_tx_queue.specs.Queue.{Queue}
-use Rattle.sctp_tx_outstanding.specs.Items.{Items}
+use Rattle.sctp_tx_queue.specs.SendQueue.{Queue}
+use Rattle.sctp_tx_outstanding.specs.OutstandingData.{Items}
 use Rattle.proof_protocol.specs.State.{Message, Transfer, is_empty}
 use Rattle.proof_protocol.specs.Rules.{Rule, accept, begin, number, end_with_placeholder, give_up, data_comes, late_comes, become_ready, send_sack, ack_point_advances, send_forward, forward_comes, perform_reset, Happens, run}
 use Rattle.proof_protocol.specs.Invariant.{Invariant}

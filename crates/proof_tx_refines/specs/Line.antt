@@ -4,9 +4,9 @@ use Rattle.std.specs.Map.{keys_of}
 use Rattle.sctp_state.specs.Events.{Emitted}
 use Rattle.sctp_state.specs.Options.{Options}
 use Rattle.sctp_state.specs.Validity.{rises_from}
-use Rattle.sctp_stream_scheduler.specs.Scheduler.{is_active}
+use Rattle.sctp_stream_scheduler.specs.StreamScheduler.{is_active}
 use Rattle.sctp_tx_queue.specs.declared.send_queue.stream.ResetStep.{ResetStep}
-use Rattle.sctp_tx_queue.specs.Queue.{Queued, Queue, queue, stream, add, is_stopped}
+use Rattle.sctp_tx_queue.specs.SendQueue.{Queued, Queue, queue, stream, add, is_stopped}
 use Rattle.sctp_tx_queue.specs.Produced.{turn, next_stream, produce}
 use Rattle.sctp_tx_queue.specs.Settings.{set_priority, set_low_threshold, set_mode, discard}
 use Rattle.sctp_tx_queue.specs.Resets.{prepare_reset, each_stepped}

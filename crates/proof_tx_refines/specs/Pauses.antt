@@ -6,14 +6,14 @@ use Rattle.sctp_state.specs.Events.{Emitted}
 use Rattle.sctp_tx_queue.specs.declared.send_queue.stream.PauseState.{PauseState}
 use Rattle.sctp_tx_queue.specs.declared.send_queue.stream.PauseState.TheVariants.{NotPaused, Pending, Paused, Resetting}
 use Rattle.sctp_tx_queue.specs.declared.send_queue.stream.ResetStep.TheVariants.{Requested, Performed}
-use Rattle.sctp_tx_queue.specs.Queue.{Queued, Stream, Queue, stream, add, is_stopped}
+use Rattle.sctp_tx_queue.specs.SendQueue.{Queued, Stream, Queue, stream, add, is_stopped}
 use Rattle.sctp_tx_queue.specs.Produced.{turn}
 use Rattle.sctp_tx_queue.specs.Settings.{set_priority, set_low_threshold}
 use Rattle.sctp_tx_queue.specs.InOrder.{is_first_begun}
 use Rattle.sctp_tx_queue.specs.Resets.{is_partly, prepare_reset, step_stream, each_stepped, commit_resets}
-use Rattle.sctp_tx_outstanding.specs.Items.{Items, begin_reset}
+use Rattle.sctp_tx_outstanding.specs.OutstandingData.{Items, begin_reset}
 use Rattle.sctp_tx_outstanding.specs.Sack.{staying}
-use Rattle.sctp_tx.specs.Retransmission.{Sender}
+use Rattle.sctp_tx.specs.RetransmissionQueue.{Sender}
 use Rattle.sctp_tx.specs.Sending.{discard_all}
 use Rattle.proof_protocol.specs.State.{Message, Transfer, IsAmong, stream_of}
 use Rattle.proof_protocol.specs.Rules.{Rule, accept, give_up, send_forward, Happens, run}

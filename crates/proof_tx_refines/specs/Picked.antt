@@ -2,7 +2,7 @@
 use Rattle.std.specs.Prelude.{◌≡◌, ℕ, suc, ◌+◌, ◌-◌, ◌==◌, ◌≤◌, ◌<◌, min, Bool, true, false, if◌then◌else◌, List, [], ◌∷◌}
 use Rattle.sctp_chunk.specs.Chunk.{FragmentTree}
 use Rattle.sctp_tx_outstanding.specs.Item.{Item, is_fast, should_be_retransmitted, chunk_size}
-use Rattle.sctp_tx_outstanding.specs.Items.{Outstanding, wire_tsn, flight_items}
+use Rattle.sctp_tx_outstanding.specs.OutstandingData.{Outstanding, wire_tsn, flight_items}
 use Rattle.sctp_tx_outstanding.specs.Resending.{resend}
 
 -- it waits for this packet: for the one that ignores the congestion window, or for any

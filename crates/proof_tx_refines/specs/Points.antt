@@ -4,7 +4,7 @@ use Rattle.sctp_serial.specs.Unwrapped.{origin, words, halves, wire}
 use Rattle.sctp_packet.specs.Chunk.{ChunkTree, forward_tsn_chunk, i_forward_tsn_chunk}
 use Rattle.sctp_tx_outstanding.specs.declared.skips.SkipEntry.{SkipEntry}
 use Rattle.sctp_tx_outstanding.specs.Entries.{ssn_skip, mid_skip}
-use Rattle.sctp_tx.specs.Retransmission.{Sender}
+use Rattle.sctp_tx.specs.RetransmissionQueue.{Sender}
 use Rattle.sctp_tx.specs.ForwardPoints.{point_of, forward_chunk}
 use Rattle.proof_protocol.specs.State.{Message, Entry, ForwardPoint, Transfer, IsAmong}
 use Rattle.proof_protocol.specs.Rules.{IsAllowed, send_forward}

@@ -2,9 +2,9 @@
 use Rattle.std.specs.Prelude.{◌≡◌, ℕ, ◌&&◌, not, Bool, true, false, Option, Some, List, [], ◌∷◌, ◌++◌}
 use Rattle.std.specs.List.{AllByRecursion}
 use Rattle.sctp_state.specs.Events.{GivenUp, Emitted}
-use Rattle.sctp_tx_queue.specs.Queue.{Queued, Queue}
+use Rattle.sctp_tx_queue.specs.SendQueue.{Queued, Queue}
 use Rattle.sctp_tx_outstanding.specs.Item.{Item, is_abandoned}
-use Rattle.sctp_tx_outstanding.specs.Items.{Items}
+use Rattle.sctp_tx_outstanding.specs.OutstandingData.{Items}
 use Rattle.proof_protocol.specs.State as rules
 use Rattle.proof_protocol.specs.State.{Message, Transfer, IsAmong, start, has}
 use Rattle.proof_protocol.specs.Rules.{accept, after}

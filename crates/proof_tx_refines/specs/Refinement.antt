@@ -5,10 +5,10 @@ use Rattle.std.specs.Prelude.{◌≡◌, ℕ, suc, ◌+◌, ◌%◌, ◌^◌, �
 use Rattle.sctp_serial.specs.Unwrapped.{origin, words, halves, wire}
 use Rattle.sctp_packet.specs.Chunk.{FragmentTree}
 use Rattle.sctp_tx_queue.specs.declared.send_queue.message.MessageNumbers.{MessageNumbers}
-use Rattle.sctp_tx_queue.specs.Queue.{Queued, Stream, Queue, stream}
+use Rattle.sctp_tx_queue.specs.SendQueue.{Queued, Stream, Queue, stream}
 use Rattle.sctp_tx_queue.specs.InOrder.{IsInOrder, IsNumbered, HasRests}
 use Rattle.sctp_tx_outstanding.specs.Item.{Item, is_abandoned}
-use Rattle.sctp_tx_outstanding.specs.Items.{Items, Discard}
+use Rattle.sctp_tx_outstanding.specs.OutstandingData.{Items, Discard}
 use Rattle.proof_protocol.specs.State.{Message, Fragment, Sender, Transfer, IsAmong, fragment, count, parts, stream_of, ordered_of}
 use Rattle.proof_protocol.specs.Sending as sending
 use Rattle.proof_protocol.specs.Sending.{Waiting}

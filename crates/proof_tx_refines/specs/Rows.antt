@@ -10,18 +10,18 @@ use Rattle.sctp_state.specs.Events.{Emitted, give_up}
 use Rattle.sctp_state.specs.Options.{Options}
 use Rattle.sctp_state.specs.declared.api.GivenUpCause.{GivenUpCause}
 use Rattle.sctp_state.specs.declared.api.options.SendOptions.{SendOptions}
-use Rattle.sctp_tx_queue.specs.Queue.{Queued, Queue, queue, add, expiry_of, is_empty}
+use Rattle.sctp_tx_queue.specs.SendQueue.{Queued, Queue, queue, add, expiry_of, is_empty}
 use Rattle.sctp_tx_queue.specs.Views.{queued_of}
 use Rattle.sctp_tx_queue.specs.Produced.{Produced, produce}
 use Rattle.sctp_tx_queue.specs.Settings.{set_mode, set_priority, set_low_threshold}
 use Rattle.sctp_tx_queue.specs.Resets.{request_resets, commit_resets}
 use Rattle.sctp_tx_queue.specs.Restarted.{reset}
 use Rattle.sctp_tx_outstanding.specs.Item.{Item, is_abandoned}
-use Rattle.sctp_tx_outstanding.specs.Items.{Items, no_items, insert}
+use Rattle.sctp_tx_outstanding.specs.OutstandingData.{Items, no_items, insert}
 use Rattle.sctp_tx_outstanding.specs.Losses.{abandon_message, first_step, nack_below, nack_all, expire_below, expire_outstanding}
 use Rattle.sctp_tx_outstanding.specs.Sack.{is_valid, leaving}
 use Rattle.sctp_tx_outstanding.specs.Forward.{is_forward_due}
-use Rattle.sctp_tx.specs.Retransmission.{Sender, handle_sack, step_of, timed_out_sender}
+use Rattle.sctp_tx.specs.RetransmissionQueue.{Sender, handle_sack, step_of, timed_out_sender}
 use Rattle.sctp_tx.specs.ForwardPoints.{expire, most_of}
 use Rattle.sctp_tx.specs.Resent.{resent_fast, send_fast}
 use Rattle.sctp_tx.specs.Sending.{item_of, discard_all, without_discards, send}

@@ -1,7 +1,7 @@
 -- Which fragment the send queue gives: the next one of the stream that goes next.
 use Rattle.std.specs.Prelude.{◌≡◌, ℕ, Some, None, List, []}
 use Rattle.sctp_state.specs.Events.{Emitted}
-use Rattle.sctp_tx_queue.specs.Queue.{Queue}
+use Rattle.sctp_tx_queue.specs.SendQueue.{Queue}
 use Rattle.sctp_tx_queue.specs.Produced.{Produced, Turn, turn, idle, next_stream, produce}
 
 module _ {P : Type 0} (now size : ℕ) where

@@ -16,7 +16,7 @@ use Rattle.proof_delivery.specs.Accepted.{AcceptedMessage, accepted_at, accepted
 use Rattle.proof_delivery.proofs.LawLemmas.{accepted_more}
 use Rattle.proof_delivery.specs.GivenUp.{given_up_at, given_up}
 use Rattle.proof_delivery.specs.Justified.{reset_at}
-use Rattle.proof_delivery.specs.StreamEpochs as courses
+use Rattle.proof_delivery.specs.StreamEpochs as delivery
 use Rattle.proof_delivery.specs.StreamEpochs.{StreamEpoch, all_open, are_named, shut_if, shut_streams, opened_if, reopen, performed_of, emitted_at, epochs_of}
 use Rattle.proof_delivery.proofs.TraceResetLemmas.{emitted_goes}
 use Rattle.proof_delivery.proofs.StreamEpochLemmas.{epochs_go_on}
@@ -184,15 +184,15 @@ block_emitted x e c log mid b h =
 
 -- as in the trace
 pub record HasEpochs (x : End) (log : List Entry) (done : List (Bool × EndAction)) (c : Pair) : Type 0 where
-  pub epochs : message_epochs x log all_open ≡ courses.message_epochs (is_a x) done c all_open
-  pub streams : (s : ℕ) → epochs_along x log all_open s ≡ courses.epochs_along (is_a x) done c all_open s
+  pub epochs : message_epochs x log all_open ≡ delivery.message_epochs (is_a x) done c all_open
+  pub streams : (s : ℕ) → epochs_along x log all_open s ≡ delivery.epochs_along (is_a x) done c all_open s
 
 epochs_action : (x : End) (done : List (Bool × EndAction)) (e : Bool × EndAction) (c : Pair) (log mid : List Entry) → IsBlock e (run done c) log mid → AreEmitted x log (run done c)
     → HasEpochs x log done c → HasEpochs x mid (done ++ e ∷ []) c
 epochs_action x done e c log mid b emitted h =
     let d : Pair = run done c in
     let here : ℕ → StreamEpoch = epochs_along x log all_open in
-    let there : ℕ → StreamEpoch = courses.epochs_along (is_a x) done c all_open in
+    let there : ℕ → StreamEpoch = delivery.epochs_along (is_a x) done c all_open in
     let new : List AcceptedMessage = accepted_at (is_a x) e.0 e.1 d in
     record {
       epochs =

@@ -3,7 +3,7 @@ use Rattle.std.proofs.Common.{◌≡◌, ℕ, Bool, true, false, Option, Some, N
 use Rattle.sctp_packet.specs.Packet.{PacketTree}
 use Rattle.spec_endpoint.specs.Association.{Context, Endpoint}
 use Rattle.spec_endpoint.specs.Input.{refusal}
-use Rattle.spec_endpoint.specs.Requests.{Outcome, Unsettled, Done, Denied, outcome}
+use Rattle.spec_endpoint.specs.ResetRequests.{Outcome, Unsettled, Done, Denied, outcome}
 use Rattle.spec_endpoint.specs.StreamReset.{on_outcome}
 use Rattle.spec_endpoint.specs.Laws.{Call, Advance, Packet, called}
 use Rattle.proof_endpoint.specs.Mapped.{Carried}

@@ -9,9 +9,9 @@ use Rattle.sctp_rx.specs.Delivery as orders
 use Rattle.proof_pair.proofs.TraceLemmas.{ends_consistent}
 use Rattle.proof_delivery.specs.Answered.{none_asked}
 use Rattle.proof_delivery.specs.Windows.{no_stamps}
-use Rattle.proof_delivery.specs.Delivery as courses
+use Rattle.proof_delivery.specs.Delivery as delivery
 use Rattle.proof_delivery.specs.Delivery.{AllAreDone, MessagesAreDelivered, NoResetIsRefused}
-use Rattle.proof_delivery.specs.Ending as courses_then
+use Rattle.proof_delivery.specs.Ending as delivery_then
 use Rattle.proof_delivery.specs.Ending.{MessagesAreDeliveredThen}
 use Rattle.proof_delivery.specs.StreamEpochs.{failed_in}
 use Rattle.spec_world.specs.Observations.{End, A, B, Connect, Shutdown, Entry, Called, BecameReady, ready, handed_out}
@@ -174,7 +174,7 @@ module _ (w : World) (l : IsReachable w) (rules : KeepsOpeningRules w) where
     }
 
     abbrev Given : End → Type 0
-    Given x = courses.Delivers (is_a x) (r u reachable u_rules up.stands).trace (first_pair u reachable u_rules up.stands)
+    Given x = delivery.Delivers (is_a x) (r u reachable u_rules up.stands).trace (first_pair u reachable u_rules up.stands)
 
     -- a message that becomes ready last
     abbrev LastIsInItsEpoch : (x : End) → Given x → List Entry → Type 0
@@ -226,7 +226,7 @@ module _ (w : World) (l : IsReachable w) (rules : KeepsOpeningRules w) where
         ∙ append_assoc (u.log ++ first ∷ []) behind o.later.more))
         (stands_first u reachable u_rules up.stands o.action o.next w o.fits o.happens o.ends o.later rules)
 
-    ends_then : MessagesAreDeliveredThen → (o : Over) → courses_then.DeliversThen (is_a (end_of o.action)) (r u reachable u_rules up.stands).trace
+    ends_then : MessagesAreDeliveredThen → (o : Over) → delivery_then.DeliversThen (is_a (end_of o.action)) (r u reachable u_rules up.stands).trace
         (step u reachable u_rules up.stands o.action o.next w o.fits o.happens o.ends o.later rules).turn (first_pair u reachable u_rules up.stands)
     ends_then then o =
         ends_delivering u reachable u_rules up.stands o.action o.next w o.fits o.happens o.ends o.later rules then kept

@@ -8,7 +8,7 @@ use Rattle.sctp_state.specs.Events.{Event}
 use Rattle.proof_pair.specs.Trace.{Pair, EndAction, goes, run}
 use Rattle.proof_pair.specs.Handing.{readied_messages}
 use Rattle.proof_delivery.specs.Accepted.{AcceptedMessage, accepted_at, accepted}
-use Rattle.proof_delivery.specs.Delivery as courses
+use Rattle.proof_delivery.specs.Delivery as delivery
 use Rattle.proof_delivery.specs.Delivery.{message_at}
 use Rattle.proof_delivery.specs.StreamEpochs as epochs
 use Rattle.proof_delivery.specs.StreamEpochs.{all_open, resets_emitted, emitted_of}
@@ -144,7 +144,7 @@ accepted_both x (e ∷ es) fs w =
 
 -- ---- in the block of the other end
 
-module _ (x : End) (all : List (Bool × EndAction)) (c : Pair) (from : courses.Delivers (is_a x) all c) (m : Message) (early : List Entry)
+module _ (x : End) (all : List (Bool × EndAction)) (c : Pair) (from : delivery.Delivers (is_a x) all c) (m : Message) (early : List Entry)
     (at : IsLocated all c (BecameReady (other x) m) early) where
   abbrev y : End
   y = other x
@@ -322,7 +322,7 @@ module _ (x : End) (all : List (Bool × EndAction)) (c : Pair) (from : courses.D
 
 -- ---- in a log
 
-pub each_in_its_epoch : (x : End) (all : List (Bool × EndAction)) (c : Pair) (from : courses.Delivers (is_a x) all c) (log early late : List Entry) (m : Message) → IsReached c [] [] → AreBlocks all c [] log
+pub each_in_its_epoch : (x : End) (all : List (Bool × EndAction)) (c : Pair) (from : delivery.Delivers (is_a x) all c) (log early late : List Entry) (m : Message) → IsReached c [] [] → AreBlocks all c [] log
     → log ≡ early ++ BecameReady (other x) m ∷ late → IsInItsEpoch x early m.stream (slice_index from.places (length (ready (other x) early)))
 each_in_its_epoch x all c from log early late m r h is =
     in_its_epoch x all c from m early (located all c (BecameReady (other x) m) [] all [] log early late refl r h is)

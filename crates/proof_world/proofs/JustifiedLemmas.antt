@@ -14,7 +14,7 @@ use Rattle.proof_endpoint.specs.Mapped.{Mapping, Carried, map_end, as_bytes}
 use Rattle.proof_pair.specs.Trace as traces
 use Rattle.proof_pair.specs.Trace.{Pair, EndAction, Calls, act, goes, start}
 use Rattle.proof_delivery.specs.Accepted.{AcceptedMessage, accepted_in}
-use Rattle.proof_delivery.specs.Justified as courses
+use Rattle.proof_delivery.specs.Justified as delivery
 use Rattle.proof_delivery.specs.Justified.{Acceptance, accepted_then, records_at, reset_by, reset_at, restores}
 use Rattle.proof_delivery.proofs.JustifiedActsLemmas.{IsJustifiedAt}
 use Rattle.proof_delivery.proofs.JustifiedOffersLemmas.{shorter}
@@ -136,15 +136,15 @@ record Marks (x : End) (turn : EndAction) (own next : traces.Side) (log longer :
   quiet : flat_map firsts more ≡ []
   right : (y : End) (all : List Acceptance) (now : ℕ) (rs : List ℕ) → IsRight y all now rs first
   given_up : (y : End) → given_up_by y first ≡ []
-  accepts : acceptances_by x first ≡ map (accepted_then (courses.clock own)) (accepted_in turn own)
+  accepts : acceptances_by x first ≡ map (accepted_then (delivery.clock own)) (accepted_in turn own)
   accepts_none : acceptances_by (other x) first ≡ []
-  ticks : (m : ℕ) → clock_after x m first ≡ courses.clock next
+  ticks : (m : ℕ) → clock_after x m first ≡ delivery.clock next
   ticks_none : (m : ℕ) → clock_after (other x) m first ≡ m
   clears : (rs : List ℕ) → resets_after x rs first ≡ reset_by turn own
 
 marks_by : (x : End) (turn : EndAction) (own next : traces.Side) (log longer : List Entry) (first : Entry) (more : List Entry) (n : ℕ)
     → longer ≡ log ++ first ∷ more → flat_map firsts more ≡ [] → HasClock x n (reset_by turn own) first → accepted_messages_by x first ≡ accepted_in turn own → accepted_messages_by (other x) first ≡ []
-    → map (accepted_then n) (accepted_in turn own) ≡ map (accepted_then (courses.clock own)) (accepted_in turn own) → n ≡ courses.clock next
+    → map (accepted_then n) (accepted_in turn own) ≡ map (accepted_then (delivery.clock own)) (accepted_in turn own) → n ≡ delivery.clock next
     → Marks x turn own next log longer
 marks_by x turn own next log longer first more n logged quiet h offers none then is = record {
   first = first;
@@ -172,7 +172,7 @@ module _ (f : Mapping Carried (List ℕ)) (x : End) (own beside : traces.Side) (
   abbrev next : traces.Side
   next = act turn own beside
 
-  clock_is : worlds.clock s ≡ courses.clock own
+  clock_is : worlds.clock s ≡ delivery.clock own
   clock_is = ap worlds.clock is
 
   quiet_news : (after : Endpoint (List ℕ)) → flat_map firsts (news_of x (side_of x w) after) ≡ []
@@ -204,7 +204,7 @@ module _ (f : Mapping Carried (List ℕ)) (x : End) (own beside : traces.Side) (
       (quiet_news after)
       (record { right = λ y all m rs. tt; takes = λ y. refl; ticks = λ y m. refl; clears = cleared_by [] (sym (ap (λ (z : EndAction). reset_by z own) t)); given_up = λ y. refl })
       (sym none) refl
-      (ap (map (accepted_then (worlds.clock after))) none ∙ sym (ap (map (accepted_then (courses.clock own))) none))
+      (ap (map (accepted_then (worlds.clock after))) none ∙ sym (ap (map (accepted_then (delivery.clock own))) none))
       (ap (λ (z : Side). worlds.clock z.socket) (sym at) ∙ ap worlds.clock is_next)
 
   give_marks : (packet : ℕ) → moves turn ≡ false → accepted_in turn own ≡ [] → reset_by turn own ≡ [] → Gives x packet w u → Marks x turn own next w.log u.log
@@ -275,11 +275,11 @@ accepts_at A B turn c log longer m = m.accepts_none
 accepts_at B B turn c log longer m = m.accepts
 
 ticks_at : (x y : End) (turn : EndAction) (c : Pair) (log longer : List Entry) (m : Marks y turn (traces.side_of (is_a y) c) (traces.side_of (is_a y) (goes (is_a y) turn c)) log longer)
-    → clock_after x (courses.clock (traces.side_of (is_a x) c)) m.first ≡ courses.clock (traces.side_of (is_a x) (goes (is_a y) turn c))
-ticks_at A A turn c log longer m = m.ticks (courses.clock c.a)
-ticks_at B A turn c log longer m = m.ticks_none (courses.clock c.b)
-ticks_at A B turn c log longer m = m.ticks_none (courses.clock c.a)
-ticks_at B B turn c log longer m = m.ticks (courses.clock c.b)
+    → clock_after x (delivery.clock (traces.side_of (is_a x) c)) m.first ≡ delivery.clock (traces.side_of (is_a x) (goes (is_a y) turn c))
+ticks_at A A turn c log longer m = m.ticks (delivery.clock c.a)
+ticks_at B A turn c log longer m = m.ticks_none (delivery.clock c.b)
+ticks_at A B turn c log longer m = m.ticks_none (delivery.clock c.a)
+ticks_at B B turn c log longer m = m.ticks (delivery.clock c.b)
 
 -- what is emitted at the action of either end is justified, with the streams that the log says
 emits_at : (x y : End) (turn : EndAction) (c : Pair) (log longer : List Entry) (m : Marks y turn (traces.side_of (is_a y) c) (traces.side_of (is_a y) (goes (is_a y) turn c)) log longer)
@@ -295,7 +295,7 @@ emits_at B B turn c log longer m all now rs h = subst (λ (r : List ℕ). AllByR
 -- what is known of an end and of its log
 record Known (x : End) (log : List Entry) (end : traces.Side) : Type 0 where
   each : Each x [] 0 [] log
-  time : clock x log ≡ courses.clock end
+  time : clock x log ≡ delivery.clock end
   rests : Rests (acceptances x log) end
 
 clock_both : (x : End) (now : ℕ) (log more : List Entry) → clock_from x now (log ++ more) ≡ clock_from x (clock_from x now log) more
@@ -326,7 +326,7 @@ module _ (x y : End) (turn : EndAction) (c : Pair) (log longer : List Entry)
   actions : Actions (old ++ new) (reset_at (is_a x) (is_a y) turn c) then (records_at (is_a x) (is_a y) turn c)
   actions = goes_on old (is_a x) (is_a y) turn c none (subst (λ (l : List Acceptance). length l < 2 ^ 32) grown few) k.rests
 
-  ticked : clock_after x (clock x log) m.first ≡ courses.clock then
+  ticked : clock_after x (clock x log) m.first ≡ delivery.clock then
   ticked = ap (λ (n : ℕ). clock_after x n m.first) k.time ∙ ticks_at x y turn c log longer m
 
   given_up_more : given_up x m.more ≡ records_at (is_a x) (is_a y) turn c
@@ -339,9 +339,9 @@ module _ (x y : End) (turn : EndAction) (c : Pair) (log longer : List Entry)
   behind =
       subst (λ (l : List Acceptance). Each x (old ++ l) (clock_after x (clock x log) m.first) reset_now m.more) (sym (accepts_at x y turn c log longer m))
       (subst (λ (n : ℕ). Each x (old ++ new) n reset_now m.more) (sym ticked)
-      (each_quiet x (old ++ new) reset_now (courses.clock then) m.more m.quiet
-      (subst (AllByRecursion (IsJustifiedAt (old ++ new) reset_now (courses.clock then))) (sym given_up_more)
-      (emits_at x y turn c log longer m (old ++ new) (courses.clock then) (resets x log) actions.justified))))
+      (each_quiet x (old ++ new) reset_now (delivery.clock then) m.more m.quiet
+      (subst (AllByRecursion (IsJustifiedAt (old ++ new) reset_now (delivery.clock then))) (sym given_up_more)
+      (emits_at x y turn c log longer m (old ++ new) (delivery.clock then) (resets x log) actions.justified))))
 
   known_on : Known x longer then
   known_on = record {

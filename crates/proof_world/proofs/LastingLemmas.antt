@@ -28,7 +28,7 @@ use Rattle.proof_delivery.specs.Answered.{none_asked, performed_in}
 use Rattle.proof_delivery.specs.StreamEpochs.{failed_in}
 use Rattle.proof_delivery.specs.Windows as windows
 use Rattle.proof_delivery.specs.Windows.{no_stamps}
-use Rattle.proof_delivery.specs.Delivery as courses
+use Rattle.proof_delivery.specs.Delivery as delivery
 use Rattle.proof_delivery.specs.Delivery.{AllAreDone, IsReady}
 use Rattle.proof_delivery.specs.Ending as ending
 use Rattle.proof_delivery.proofs.LawLemmas.{accepted_more}
@@ -226,7 +226,7 @@ module _ (w : World) (l : IsReachable w) (rules : KeepsOpeningRules w) (none : N
       few_at true = few_of A
       few_at false = few_of B
 
-  bounds : IsKept → courses.IsInBounds r.trace first_pair
+  bounds : IsKept → delivery.IsInBounds r.trace first_pair
   bounds k = record {
     windows = d.windows_kept windows.no_stamps none k.windows;
     resets = resets_kept k;
@@ -238,18 +238,18 @@ module _ (w : World) (l : IsReachable w) (rules : KeepsOpeningRules w) (none : N
       few_at true = subst (λ (l : List AcceptedMessage). length l < 2 ^ 32) (offered A) (k.few A)
       few_at false = subst (λ (l : List AcceptedMessage). length l < 2 ^ 32) (offered B) (k.few B)
 
-  pub trace_delivers : courses.MessagesAreDelivered → IsKept → (x : End) → courses.Delivers (is_a x) r.trace first_pair
+  pub trace_delivers : delivery.MessagesAreDelivered → IsKept → (x : End) → delivery.Delivers (is_a x) r.trace first_pair
   trace_delivers law k x = law a b words_a words_b r.trace own theirs follows not_ended (bounds k) (is_a x)
 
-  pub delivered_front : (x : End) (from : courses.Delivers (is_a x) r.trace first_pair) (early late : List Entry) → w.log ≡ early ++ late → IsDeliveredAt x from.places early
+  pub delivered_front : (x : End) (from : delivery.Delivers (is_a x) r.trace first_pair) (early late : List Entry) → w.log ≡ early ++ late → IsDeliveredAt x from.places early
   delivered_front x from early late e = delivered_each x r.trace first_pair from w.log early late reached blocks e
 
-  pub epochs_front : (x : End) (from : courses.Delivers (is_a x) r.trace first_pair) (early late : List Entry) (m : Message) → w.log ≡ early ++ BecameReady (other x) m ∷ late
+  pub epochs_front : (x : End) (from : delivery.Delivers (is_a x) r.trace first_pair) (early late : List Entry) (m : Message) → w.log ≡ early ++ BecameReady (other x) m ∷ late
       → IsInItsEpoch x early m.stream (slice_index from.places (length (ready (other x) early)))
   epochs_front x from early late m e = each_in_its_epoch x r.trace first_pair from w.log early late m reached blocks e
 
   -- no end emitted that a reset failed
-  pub none_failed : courses.NoResetIsRefused → IsKept → (x : End) → failed_in (emitted_events x w.log) ≡ false
+  pub none_failed : delivery.NoResetIsRefused → IsKept → (x : End) → failed_in (emitted_events x w.log) ≡ false
   none_failed law k x =
       ap (λ (es : List (Event (List ℕ))). failed_in es) (emitted_is x)
       ∙ (bare_failed (traces.side_of (is_a x) c).emitted ∙ law a b words_a words_b r.trace own theirs follows not_ended (bounds k) (is_a x))
@@ -260,7 +260,7 @@ module _ (w : World) (l : IsReachable w) (rules : KeepsOpeningRules w) (none : N
       (sym (failed_more (emitted_events x early) (emitted_events x late))
       ∙ (ap (λ (es : List (Event (List ℕ))). failed_in es) (sym (flat_map-append (emitted_events_by x) early late)) ∙ (sym (ap (λ (l : List Entry). failed_in (emitted_events x l)) e) ∙ h)))).0
 
-  pub rests : (x : End) (from : courses.Delivers (is_a x) r.trace first_pair)
+  pub rests : (x : End) (from : delivery.Delivers (is_a x) r.trace first_pair)
       → AlongRun (λ u. is_at_rest x u ≡ true → AllAreDone (accepted_messages x u.log) (given_up_places x u.log) (ready_places x u.log from.places)) actions first_world w l.runs
   rests x from =
       along_each (IsPoint word_of_a word_of_b r.trace first_pair)
@@ -268,7 +268,7 @@ module _ (w : World) (l : IsReachable w) (rules : KeepsOpeningRules w) (none : N
       (λ u p. at_rest word_of_a word_of_b x r.trace first_pair from p.early p.late u p.split p.reached p.both)
       actions first_world w l.runs (d.points r.trace [] first_pair refl refl stand reached)
 
-  pub once : (x : End) (from : courses.Delivers (is_a x) r.trace first_pair) → AlongRun (λ u. are_distinct (given_up_places x u.log) ≡ true) actions first_world w l.runs
+  pub once : (x : End) (from : delivery.Delivers (is_a x) r.trace first_pair) → AlongRun (λ u. are_distinct (given_up_places x u.log) ≡ true) actions first_world w l.runs
   once x from =
       along_each (IsPoint word_of_a word_of_b r.trace first_pair) (λ u. are_distinct (given_up_places x u.log) ≡ true)
       (λ u p. once_at x r.trace first_pair from p.early p.late u.log p.split p.reached) actions first_world w l.runs (d.points r.trace [] first_pair refl refl stand reached)

@@ -5,7 +5,7 @@ use Rattle.std.proofs.lemmas.List.{length-append}
 use Rattle.std.proofs.lemmas.List.Folds.{list_any-append}
 use Rattle.proof_pair.specs.Trace.{Pair, EndAction, goes, run}
 use Rattle.proof_delivery.specs.Accepted.{AcceptedMessage}
-use Rattle.proof_delivery.specs.StreamEpochs as courses
+use Rattle.proof_delivery.specs.StreamEpochs as delivery
 use Rattle.proof_delivery.specs.StreamEpochs.{StreamEpoch, are_named, shut_streams, opened_if, reopen, performed_of, epochs_of}
 use Rattle.proof_delivery.proofs.StreamEpochLemmas.{one_each}
 use Rattle.proof_delivery.proofs.ResetEventsLemmas.{named_both}
@@ -79,6 +79,6 @@ same_epochs (o ∷ os) f g e = ap (λ (z : StreamEpoch). z.epoch ∷ epochs_of o
 -- ---- traces, by one action more
 
 pub along_more : (x : Bool) (es : List (Bool × EndAction)) (e : Bool × EndAction) (w : Pair) (f : ℕ → StreamEpoch) (s : ℕ)
-    → courses.epochs_along x (es ++ e ∷ []) w f s ≡ courses.epochs_after x e.0 e.1 (run es w) (courses.epochs_along x es w f) s
+    → delivery.epochs_along x (es ++ e ∷ []) w f s ≡ delivery.epochs_after x e.0 e.1 (run es w) (delivery.epochs_along x es w f) s
 along_more x [] e w f s = refl
-along_more x (d ∷ es) e w f s = along_more x es e (goes d.0 d.1 w) (courses.epochs_after x d.0 d.1 w f) s
+along_more x (d ∷ es) e w f s = along_more x es e (goes d.0 d.1 w) (delivery.epochs_after x d.0 d.1 w f) s

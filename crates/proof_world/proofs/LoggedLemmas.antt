@@ -10,7 +10,7 @@ use Rattle.sctp_state.specs.declared.api.errors.SendError.{SendError}
 use Rattle.sctp_state.specs.Options.{Options, SendOptions}
 use Rattle.sctp_state.specs.Events.{Event, GivenUp, SendPacket, OnConnected, OnClosed, OnConnectionRestarted, OnAborted, OnError, OnBufferedAmountLow, OnTotalBufferedAmountLow, OnStreamsResetFailed, OnStreamsResetPerformed, OnIncomingStreamReset, OnLifecycleMessageFullySent, OnLifecycleMessageMaybeExpired, OnLifecycleMessageExpired, OnLifecycleMessageDelivered, OnLifecycleEnd, first_of}
 use Rattle.spec_endpoint.specs.Association.{Context, Endpoint}
-use Rattle.sctp_tx_queue.specs.Queue.{Queue, add}
+use Rattle.sctp_tx_queue.specs.SendQueue.{Queue, add}
 use Rattle.spec_endpoint.specs.Calls.{refusal, refusals, with_refusal, queue_entry, offered, offer}
 use Rattle.spec_endpoint.specs.Shown.{Association}
 use Rattle.proof_endpoint.specs.Mapped.{Carried}

@@ -4,7 +4,7 @@ use Rattle.std.proofs.lemmas.Grind.{flat_map-append}
 use Rattle.std.proofs.lemmas.Bool.Decides.{nat_tests}
 use Rattle.std.proofs.lemmas.Bool.{and_parts}
 use Rattle.sctp_serial.specs.Messages.{Message}
-use Rattle.sctp_tx_queue.specs.Queue.{is_empty}
+use Rattle.sctp_tx_queue.specs.SendQueue.{is_empty}
 use Rattle.sctp_tx_outstanding.specs.Item.{Item}
 use Rattle.spec_endpoint.specs.Association.{State, Closed, CookieWait, Open, Endpoint}
 use Rattle.spec_endpoint.specs.Calls.{keeps_items}
@@ -16,7 +16,7 @@ use Rattle.proof_pair.specs.Trace as traces
 use Rattle.proof_pair.specs.Trace.{Pair, EndAction, run, state_of}
 use Rattle.proof_pair.specs.Handing.{readied_messages}
 use Rattle.proof_delivery.specs.Accepted.{AcceptedMessage, accepted}
-use Rattle.proof_delivery.specs.Delivery as courses
+use Rattle.proof_delivery.specs.Delivery as delivery
 use Rattle.proof_delivery.specs.Delivery.{AllAreDone}
 use Rattle.proof_delivery.specs.GivenUp.{given_up, kept_in, IsAtRest}
 use Rattle.proof_delivery.specs.Windows.{queue_of}
@@ -118,7 +118,7 @@ rests f side end e h =
       none_kept = none_kept (state_of end) (and_parts (is_empty (queue_of end)) (not (keeps_items (state_of end))) there).1;
     }
 
-module _ (x : End) (all : List (Bool × EndAction)) (c : Pair) (from : courses.Delivers (is_a x) all c) where
+module _ (x : End) (all : List (Bool × EndAction)) (c : Pair) (from : delivery.Delivers (is_a x) all c) where
   ready_so_far : (done : List (Bool × EndAction)) (log : List Entry) → IsReached c done log → ready (other x) log ≡ readied_messages (not (is_a x)) done c
   ready_so_far done log r = r.ready_are (other x) ∙ ap (λ (z : Bool). readied_messages z done c) (is_a_other x)
 
@@ -142,7 +142,7 @@ module _ (word_of_a word_of_b : List ℕ → ℕ) where
   rests_at A u c h e = rests (as_bytes word_of_a) u.a c.a h.a.image.socket e
   rests_at B u c h e = rests (as_bytes word_of_b) u.b c.b h.b.image.socket e
 
-  pub at_rest : (x : End) (all : List (Bool × EndAction)) (c : Pair) (from : courses.Delivers (is_a x) all c) (done rest : List (Bool × EndAction)) (u : World) → all ≡ done ++ rest
+  pub at_rest : (x : End) (all : List (Bool × EndAction)) (c : Pair) (from : delivery.Delivers (is_a x) all c) (done rest : List (Bool × EndAction)) (u : World) → all ≡ done ++ rest
       → IsReached c done u.log → Both word_of_a word_of_b u (run done c) → is_at_rest x u ≡ true → AllAreDone (accepted_messages x u.log) (given_up_places x u.log) (ready_places x u.log from.places)
   at_rest x all c from done rest u e r h still =
       subst (λ (o : List AcceptedMessage). AllAreDone o (given_up_places x u.log) (ready_places x u.log from.places)) (sym (r.offers_are x))

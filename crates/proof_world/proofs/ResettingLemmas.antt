@@ -1,7 +1,7 @@
 -- The run of a world in which a stream is reset: its trace, computed, is that of a world.
 use Rattle.std.proofs.Common.{◌≡◌, ℕ, Bool, true, List, [], ◌∷◌, map, drop, All, refl, sym, ap, subst, ◌∙◌, arith}
 use Rattle.rand_core.specs.Stream.{next_u32, next_u64}
-use Rattle.sctp_wire.specs.Fields.{be16, be32, be64}
+use Rattle.sctp_wire.specs.Field.{be16, be32, be64}
 use Rattle.sctp_wire.specs.Serialize.{padded_item, inner_items}
 use Rattle.sctp_wire.specs.Parameter.{parameter_value}
 use Rattle.sctp_wire.specs.Cause.{cause_value}
@@ -9,7 +9,7 @@ use Rattle.sctp_wire.specs.CauseText.{cause_text}
 use Rattle.sctp_wire.specs.Show.{join_texts}
 use Rattle.sctp_packet.specs.Packet.{header_bytes, packet_bytes}
 use Rattle.sctp_packet.specs.Written.{chunk_bytes, chunks_bytes, chunk_value, data_value, idata_value, init_fields, block_bytes, sack_value, skip_bytes, forward_value}
-use Rattle.sctp_capabilities.specs.Cookie.{cookie_bytes, capability_bytes, cookie_from, read_cookie}
+use Rattle.sctp_capabilities.specs.StateCookie.{cookie_bytes, capability_bytes, cookie_from, read_cookie}
 use Rattle.sctp_state.specs.Options.{defaults}
 use Rattle.sctp_state.specs.Events.{Event}
 use Rattle.spec_endpoint.specs.Pair.{random_from}
@@ -20,7 +20,7 @@ use Rattle.proof_pair.specs.Opens.{at_first}
 use Rattle.proof_delivery.specs.Accepted.{AcceptedMessage}
 use Rattle.proof_delivery.specs.Accepted.{accepted}
 use Rattle.proof_delivery.specs.Delivery.{plain}
-use Rattle.proof_delivery.specs.Resetting as courses
+use Rattle.proof_delivery.specs.Resetting as delivery
 use Rattle.proof_delivery.specs.StreamEpochs.{performed_of, resets_emitted}
 use Rattle.proof_delivery.proofs.ResetRunLemmas.{one_reset}
 use Rattle.spec_world.specs.Observations.{A}
@@ -36,9 +36,9 @@ use Rattle.proof_pair.proofs.OpensLemmas.{given_defaults}
 -- ---- the trace, computed
 
 abbrev last : Pair
-last = run courses.one_is_reset at_first
+last = run delivery.one_is_reset at_first
 
-all_are_there : are_there courses.one_is_reset at_first ≡ true
+all_are_there : are_there delivery.one_is_reset at_first ≡ true
 unfolding are_there is_there next_u32 next_u64 be16 be32 be64 padded_item inner_items parameter_value cause_value cause_text join_texts chunk_bytes chunks_bytes chunk_value data_value idata_value init_fields block_bytes sack_value skip_bytes forward_value cookie_bytes capability_bytes cookie_from read_cookie tick_timers
 all_are_there = refl
 
@@ -50,7 +50,7 @@ small_b : all_small (map (as_written no_sum) (emitted_packets last.b)) ≡ true
 unfolding all_small are_small packet_bytes header_bytes next_u32 next_u64 be16 be32 be64 padded_item inner_items parameter_value cause_value cause_text join_texts chunk_bytes chunks_bytes chunk_value data_value idata_value init_fields block_bytes sack_value skip_bytes forward_value cookie_bytes capability_bytes cookie_from read_cookie tick_timers
 small_b = refl
 
-two_accepted : accepted true courses.one_is_reset at_first ≡ plain 97 ∷ plain 98 ∷ []
+two_accepted : accepted true delivery.one_is_reset at_first ≡ plain 97 ∷ plain 98 ∷ []
 unfolding next_u32 next_u64 be16 be32 be64 padded_item inner_items parameter_value cause_value cause_text join_texts chunk_bytes chunks_bytes chunk_value data_value idata_value init_fields block_bytes sack_value skip_bytes forward_value cookie_bytes capability_bytes cookie_from read_cookie tick_timers
 two_accepted = refl
 
@@ -59,10 +59,10 @@ two_accepted = refl
 actions_fit : All ActionFits one_is_reset
 actions_fit = each_fits one_is_reset (tt, (tt, (tt, (tt, (tt, (text_fits 97, ((omega arith, tt), ((omega arith, tt), (text_fits 98, (tt, (tt, (tt, (tt, (tt, tt))))))))))))))
 
-same_actions : actions_of one_is_reset ≡ courses.one_is_reset
+same_actions : actions_of one_is_reset ≡ delivery.one_is_reset
 same_actions = refl
 
-actions : AreActionsOf no_sum no_sum one_is_reset courses.one_is_reset at_first
+actions : AreActionsOf no_sum no_sum one_is_reset delivery.one_is_reset at_first
 actions =
     subst (λ (es : List (Bool × EndAction)). AreActionsOf no_sum no_sum one_is_reset es at_first) same_actions
     (actions_are one_is_reset at_first refl (subst (λ (es : List (Bool × EndAction)). are_there es at_first ≡ true) (sym same_actions) all_are_there))
@@ -70,14 +70,14 @@ actions =
 bytes : BothEmitBytes no_sum no_sum last
 bytes = record { a = all_true (map (as_written no_sum) (emitted_packets last.a)) small_a; b = all_true (map (as_written no_sum) (emitted_packets last.b)) small_b }
 
-shown_there : Shown one_is_reset courses.one_is_reset at_first
+shown_there : Shown one_is_reset delivery.one_is_reset at_first
 shown_there =
-    shown defaults defaults (random_from 456) (random_from 1000) no_sum no_sum one_is_reset courses.one_is_reset given_defaults.valid given_defaults.valid fits_defaults fits_defaults actions_fit refl actions bytes
+    shown defaults defaults (random_from 456) (random_from 1000) no_sum no_sum one_is_reset delivery.one_is_reset given_defaults.valid given_defaults.valid fits_defaults fits_defaults actions_fit refl actions bytes
     one_reset.follows one_reset.not_ended
 
 pub one_reset_there : OneIsReset
 one_reset_there =
-    let s : Shown one_is_reset courses.one_is_reset at_first = shown_there in
+    let s : Shown one_is_reset delivery.one_is_reset at_first = shown_there in
     record {
       world = s.world;
       reachable = s.reachable;

@@ -20,7 +20,7 @@ use Rattle.proof_pair.specs.Trace.{Pair, EndAction, run, start, NeitherHasEnded,
 use Rattle.proof_pair.specs.Handing.{readied_messages}
 use Rattle.proof_pair.proofs.HandingLemmas.{first_halves}
 use Rattle.proof_delivery.specs.Accepted.{AcceptedMessage, accepted}
-use Rattle.proof_delivery.specs.Delivery as courses
+use Rattle.proof_delivery.specs.Delivery as delivery
 use Rattle.proof_delivery.specs.GivenUp.{kept_in, given_up, IsAtRest}
 use Rattle.proof_delivery.specs.Answered as requests
 use Rattle.proof_delivery.specs.Answered.{none_asked, performed_in}
@@ -214,7 +214,7 @@ module _ (a b : Options) (words_a words_b : Stream) (word_of_a word_of_b : List 
           (sym (ap (λ (es : List (Event (List ℕ))). performed_in es) (shows_all.emitted_are x) ∙ bare_performed (traces.side_of (is_a x) (run trace first_pair)).emitted)) (k.few (is_a x)));
     }
 
-    pub bounds : AllAreReceived trace → list_any sets_more actions ≡ false → courses.IsInBounds trace first_pair → IsInBounds actions first_world there reached.runs
+    pub bounds : AllAreReceived trace → list_any sets_more actions ≡ false → delivery.IsInBounds trace first_pair → IsInBounds actions first_world there reached.runs
     bounds received limits k = record {
       windows = keeps word_of_a word_of_b actions trace first_world there first_pair windows.no_stamps fit none received are reached.runs small first_both k.windows;
       resets = resets_kept k.resets;
@@ -237,7 +237,7 @@ pub record Shown (actions : List Action) (trace : List (Bool × EndAction)) (c :
   pub emitted_b : emitted_events B world.log ≡ bare (run trace c).b.emitted
   pub over : (x : End) → times_ended x world.log ≡ 0
   pub follows : (rest : List Action) → actions ≡ CallOf A Connect ∷ rest → list_any asks_rules rest ≡ false → KeepsOpeningRules world
-  pub bounds : AllAreReceived trace → list_any sets_more actions ≡ false → courses.IsInBounds trace c → IsInBounds reachable.actions (origin reachable) world reachable.runs
+  pub bounds : AllAreReceived trace → list_any sets_more actions ≡ false → delivery.IsInBounds trace c → IsInBounds reachable.actions (origin reachable) world reachable.runs
   pub rests : IsAtRest (run trace c).a → is_at_rest A world ≡ true
 
 pub shown : (a b : Options) (words_a words_b : Stream) (word_of_a word_of_b : List ℕ → ℕ) (actions : List Action) (trace : List (Bool × EndAction))

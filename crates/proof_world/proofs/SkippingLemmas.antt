@@ -1,7 +1,7 @@
 -- The run of a world in which a message is skipped: its trace, computed, is that of a world.
 use Rattle.std.proofs.Common.{◌≡◌, Bool, true, List, map, drop, All, refl, sym, ap, subst, ◌∙◌}
 use Rattle.rand_core.specs.Stream.{next_u32, next_u64}
-use Rattle.sctp_wire.specs.Fields.{be16, be32, be64}
+use Rattle.sctp_wire.specs.Field.{be16, be32, be64}
 use Rattle.sctp_wire.specs.Serialize.{padded_item, inner_items}
 use Rattle.sctp_wire.specs.Parameter.{parameter_value}
 use Rattle.sctp_wire.specs.Cause.{cause_value}
@@ -9,7 +9,7 @@ use Rattle.sctp_wire.specs.CauseText.{cause_text}
 use Rattle.sctp_wire.specs.Show.{join_texts}
 use Rattle.sctp_packet.specs.Packet.{header_bytes, packet_bytes}
 use Rattle.sctp_packet.specs.Written.{chunk_bytes, chunks_bytes, chunk_value, data_value, idata_value, init_fields, block_bytes, sack_value, skip_bytes, forward_value}
-use Rattle.sctp_capabilities.specs.Cookie.{cookie_bytes, capability_bytes, cookie_from, read_cookie}
+use Rattle.sctp_capabilities.specs.StateCookie.{cookie_bytes, capability_bytes, cookie_from, read_cookie}
 use Rattle.sctp_state.specs.Options.{defaults}
 use Rattle.spec_endpoint.specs.Pair.{random_from}
 use Rattle.spec_endpoint.specs.Timers.{tick_timers}
@@ -17,7 +17,7 @@ use Rattle.proof_endpoint.specs.Mapped.{as_written}
 use Rattle.proof_pair.specs.Trace.{Pair, EndAction, emitted_packets, run}
 use Rattle.proof_pair.specs.Opens.{at_first}
 use Rattle.proof_delivery.specs.Accepted.{AcceptedMessage}
-use Rattle.proof_delivery.specs.Skipping as courses
+use Rattle.proof_delivery.specs.Skipping as delivery
 use Rattle.proof_delivery.proofs.SkippingLemmas.{one_skipped}
 use Rattle.spec_world.specs.Observations.{A}
 use Rattle.proof_world.specs.Traces.{ActionFits, AreActionsOf}
@@ -31,9 +31,9 @@ use Rattle.proof_pair.proofs.OpensLemmas.{given_defaults}
 -- ---- the trace, computed
 
 abbrev last : Pair
-last = run courses.one_is_lost at_first
+last = run delivery.one_is_lost at_first
 
-all_are_there : are_there courses.one_is_lost at_first ≡ true
+all_are_there : are_there delivery.one_is_lost at_first ≡ true
 unfolding are_there is_there next_u32 next_u64 be16 be32 be64 padded_item inner_items parameter_value cause_value cause_text join_texts chunk_bytes chunks_bytes chunk_value data_value idata_value init_fields block_bytes sack_value skip_bytes forward_value cookie_bytes capability_bytes cookie_from read_cookie tick_timers
 all_are_there = refl
 
@@ -50,10 +50,10 @@ small_b = refl
 actions_fit : All ActionFits one_is_lost
 actions_fit = each_fits one_is_lost (tt, (tt, (tt, (tt, (tt, (text_fits 97, (text_fits 98, (text_fits 99, (tt, (tt, (tt, (tt, (tt, (tt, (tt, (tt, tt))))))))))))))))
 
-same_actions : actions_of one_is_lost ≡ courses.one_is_lost
+same_actions : actions_of one_is_lost ≡ delivery.one_is_lost
 same_actions = refl
 
-actions : AreActionsOf no_sum no_sum one_is_lost courses.one_is_lost at_first
+actions : AreActionsOf no_sum no_sum one_is_lost delivery.one_is_lost at_first
 actions =
     subst (λ (es : List (Bool × EndAction)). AreActionsOf no_sum no_sum one_is_lost es at_first) same_actions
     (actions_are one_is_lost at_first refl (subst (λ (es : List (Bool × EndAction)). are_there es at_first ≡ true) (sym same_actions) all_are_there))
@@ -61,14 +61,14 @@ actions =
 bytes : BothEmitBytes no_sum no_sum last
 bytes = record { a = all_true (map (as_written no_sum) (emitted_packets last.a)) small_a; b = all_true (map (as_written no_sum) (emitted_packets last.b)) small_b }
 
-shown_there : Shown one_is_lost courses.one_is_lost at_first
+shown_there : Shown one_is_lost delivery.one_is_lost at_first
 shown_there =
-    shown defaults defaults (random_from 456) (random_from 1000) no_sum no_sum one_is_lost courses.one_is_lost given_defaults.valid given_defaults.valid fits_defaults fits_defaults actions_fit refl actions bytes
+    shown defaults defaults (random_from 456) (random_from 1000) no_sum no_sum one_is_lost delivery.one_is_lost given_defaults.valid given_defaults.valid fits_defaults fits_defaults actions_fit refl actions bytes
     one_skipped.follows one_skipped.not_ended
 
 pub one_skipped_there : OneIsSkipped
 one_skipped_there =
-    let s : Shown one_is_lost courses.one_is_lost at_first = shown_there in
+    let s : Shown one_is_lost delivery.one_is_lost at_first = shown_there in
     record {
       world = s.world;
       reachable = s.reachable;

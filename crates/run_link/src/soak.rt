@@ -4,13 +4,13 @@
 //! as the last number of a plan says, and again at the end, the conversation stops until all is quiet, and what came and what the sockets
 //! hold is printed; behind the word `packets` also how many packets it took.
 
-mod course;
+mod conversation;
 mod end;
 mod link;
 mod messages;
 
 use anyhow::Result;
-use course::converse;
+use conversation::converse;
 pub use end::Soaked;
 use link::Link;
 pub use messages::Plan;

@@ -11,7 +11,7 @@ const TURNS: u32 = 1000;
 
 /// How many packets of each end were handed over or lost, and of how many packets the last one is lost; with 0 none is.
 #[derive(Clone, Copy)]
-struct Course {
+struct Progress {
     a: usize,
     b: usize,
     lost: usize,
@@ -48,19 +48,19 @@ fn pass_time<S: Driven>(a: &mut Side<S>, b: &mut Side<S>, output: &mut Output) {
 fn go_on<S: Driven>(
     a: &mut Side<S>,
     b: &mut Side<S>,
-    course: Course,
+    progress: Progress,
     output: &mut Output,
-) -> Course {
-    let next = Course {
+) -> Progress {
+    let next = Progress {
         a: a.packets.len(),
         b: b.packets.len(),
-        ..course
+        ..progress
     };
-    if next.a == course.a && next.b == course.b {
+    if next.a == progress.a && next.b == progress.b {
         pass_time(a, b, output);
     } else {
-        hand_over(b, &a.packets, course.a, course.lost, output);
-        hand_over(a, &b.packets, course.b, course.lost, output);
+        hand_over(b, &a.packets, progress.a, progress.lost, output);
+        hand_over(a, &b.packets, progress.b, progress.lost, output);
     }
     take_emitted(a, true, output);
     take_emitted(b, true, output);
@@ -98,17 +98,17 @@ pub fn exchange<S: Driven>(
     lost: usize,
     output: &mut Output,
 ) {
-    let mut course = Course {
+    let mut progress = Progress {
         a: first,
         b: first,
         lost,
     };
     for _ in 0..TURNS {
-        if is_quiet(a, course.a) && is_quiet(b, course.b) {
+        if is_quiet(a, progress.a) && is_quiet(b, progress.b) {
             writeln!(output, "all is quiet");
             break;
         }
-        course = go_on(a, b, course, output);
+        progress = go_on(a, b, progress, output);
     }
     show_packets(a.name, &a.packets, output);
     show_packets(b.name, &b.packets, output);

@@ -1,2 +1,2 @@
-pub mod Drawn
-pub mod Shown
+pub mod Script
+pub mod Log

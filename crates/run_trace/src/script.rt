@@ -1,7 +1,7 @@
 //! The script: commands, a line each, and what becomes of them.
 
 ghost use Rattle.std.specs.Prelude.{IfOk};
-ghost use Rattle.run_trace.specs.Drawn.{IsDrawing, Draws};
+ghost use Rattle.run_trace.specs.Script.{IsDrawing, Draws};
 
 use crate::log::{Watched, rows_of};
 use sctp_state::CallError;

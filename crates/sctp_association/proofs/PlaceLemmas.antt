@@ -19,15 +19,15 @@ use Rattle.sctp_packet.proofs.StandsLemmas.{length_data, length_idata}
 
 carried_by : (is_interleaved : Bool) (i : Item) (v : DataView) (t : ChunkTree) → (i.first == 64) ≡ is_interleaved → (i.first ≡ 0 → IsChunk i (viewed_data v)) → (i.first ≡ 64 → IsChunk i (viewed_idata v))
     → (i.first ≡ 0) ⊎ (i.first ≡ 64) → IsChunk i t → carrying is_interleaved v ≡ t
-carried_by true i v t e plain mixed (inl zero) is = absurd (clash (sym e ∙ ap (λ (n : ℕ). n == 64) zero))
-carried_by true i v t e plain mixed (inr same) is = one_chunk i (viewed_idata v) t (mixed same) is
-carried_by false i v t e plain mixed (inl zero) is = one_chunk i (viewed_data v) t (plain zero) is
-carried_by false i v t e plain mixed (inr same) is = absurd (clash (sym (ap (λ (n : ℕ). n == 64) same) ∙ e))
+carried_by true i v t e plain interleaved (inl zero) is = absurd (clash (sym e ∙ ap (λ (n : ℕ). n == 64) zero))
+carried_by true i v t e plain interleaved (inr same) is = one_chunk i (viewed_idata v) t (interleaved same) is
+carried_by false i v t e plain interleaved (inl zero) is = one_chunk i (viewed_data v) t (plain zero) is
+carried_by false i v t e plain interleaved (inr same) is = absurd (clash (sym (ap (λ (n : ℕ). n == 64) same) ∙ e))
 
 -- what a fragment's chunk says is what its item stands for
 pub carries_it : (i : Item) (v : DataView) (t : ChunkTree) → (i.first ≡ 0 → IsChunk i (viewed_data v)) → (i.first ≡ 64 → IsChunk i (viewed_idata v))
     → (i.first ≡ 0) ⊎ (i.first ≡ 64) → IsChunk i t → carrying (i.first == 64) v ≡ t
-carries_it i v t plain mixed either is = carried_by (i.first == 64) i v t refl plain mixed either is
+carries_it i v t plain interleaved either is = carried_by (i.first == 64) i v t refl plain interleaved either is
 
 -- an unknown type is neither
 neither_by : (typ : ℕ) (zero other : Bool) → (typ == 0) ≡ zero → (typ == 64) ≡ other → is_known_chunk typ ≡ false → ((typ == 0) || (typ == 64)) ≡ false

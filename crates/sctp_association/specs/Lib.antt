@@ -1,6 +1,6 @@
 pub mod Socket
 pub mod Kinds
-pub use Rattle.spec_endpoint.specs.Requests
+pub use Rattle.spec_endpoint.specs.ResetRequests
 pub use Rattle.sctp_endpoint.specs.RequestViews
 pub use Rattle.spec_endpoint.specs.Association
 pub use Rattle.spec_endpoint.specs.Packets

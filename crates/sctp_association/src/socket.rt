@@ -2,7 +2,7 @@
 
 ghost use Rattle.std.specs.Prelude.{◌≡◌, ◌<◌, ◌^◌, ◌↔◌, false, true, Err, length, map, option_map, drop, slice_get, IfOk, IfErr, OnOk};
 ghost use Rattle.sctp_serial.specs.Messages.{message_of};
-ghost use Rattle.sctp_tx_queue.specs.Queue.{amount_of, stream};
+ghost use Rattle.sctp_tx_queue.specs.SendQueue.{amount_of, stream};
 ghost use Rattle.sctp_state.specs.Events.{event_of, first_of, given_up_of, numbers_of};
 ghost use Rattle.sctp_state.specs.Handover.{handover_state_of};
 ghost use Rattle.sctp_state.specs.Options.{IsValid, options_of, send_options_of};

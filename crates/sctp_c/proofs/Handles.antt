@@ -29,7 +29,7 @@ use Rattle.std.proofs.alloc.Global.TheLaws as heap_laws
 use Rattle.std.specs.contracts.impls.GlobalAllocator.TheImpl.{ghosts}
 use Rattle.std.proofs.GlobalToken.{dealloc_token-Testable}
 use Rattle.sctp_c.specs.contracts.endpoint.Endpoint.{the_row as R}
-use Rattle.sctp_c.specs.Held.{held_at}
+use Rattle.sctp_c.specs.Handle.{held_at}
 use Rattle.sctp_c.specs.contracts.handle.Handle as handle
 use Rattle.sctp_handle.proofs.Values.{both}
 

@@ -6,8 +6,8 @@ use Rattle.rand_pcg.specs.Lcg.{Lcg}
 use Rattle.rand_pcg.specs.Pcg.{pcg32}
 use Rattle.sctp_association.specs.Socket.{SocketValue, Ends, endpoint}
 use Rattle.sctp_c_events.specs.Answers.{IsAmong, OnAnswer, ending_at}
-use Rattle.sctp_c_calls.specs.Handing.{record_of, record_or}
-use Rattle.sctp_c_records.specs.Checksums.{word_by}
+use Rattle.sctp_c_calls.specs.Handover.{record_of, record_or}
+use Rattle.sctp_c_records.specs.Checksum.{word_by}
 use Rattle.sctp_c_records.specs.declared.checksum.PacketChecksum.{PacketChecksum}
 use Rattle.sctp_state.specs.Handover.{HandoverState}
 use Rattle.spec_endpoint.specs.Association.{Endpoint as End}

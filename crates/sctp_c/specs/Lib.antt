@@ -1,6 +1,6 @@
-pub mod Batches
+pub mod Batch
 pub mod Calls
-pub mod Held
+pub mod Handle
 pub mod Lending
 pub mod Lent
-pub mod Made
+pub mod Making

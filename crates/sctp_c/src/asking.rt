@@ -3,9 +3,9 @@
 ghost use Rattle.std.specs.Prelude.{◌≡◌, ◌-◌, ◌^◌, ◌<◌, ◌≤◌, [], ◌∷◌, None, Some, option_map};
 ghost use Rattle.sctp_c.specs.Calls.{Answers, OnSocket, Tells, end_of};
 ghost use Rattle.sctp_c_events.specs.Answers.{IsAmong, OnAnswer, state_number};
-ghost use Rattle.sctp_c_calls.specs.Counted.{shown_metrics};
+ghost use Rattle.sctp_c_calls.specs.Asking.{shown_metrics};
 ghost use Rattle.sctp_calls.specs.Metrics.{metrics_in};
-ghost use Rattle.sctp_tx_queue.specs.Queue as queue;
+ghost use Rattle.sctp_tx_queue.specs.SendQueue as queue;
 ghost use Rattle.spec_endpoint.specs.Calls as table;
 ghost use Rattle.spec_endpoint.specs.Handover as handover;
 ghost use Rattle.spec_endpoint.specs.Timers as time;

@@ -1,10 +1,10 @@
 //! Several messages at once.
 
 ghost use Rattle.std.specs.Prelude.{◌≡◌, ◌<◌, ◌≤◌, true, false, [], ◌∷◌, length, map, replicate, take};
-ghost use Rattle.sctp_c.specs.Batches.{refusals};
+ghost use Rattle.sctp_c.specs.Batch.{refusals};
 ghost use Rattle.sctp_c.specs.Calls.{Answers, OnSocket, end_of};
 ghost use Rattle.sctp_c_events.specs.Answers.{Ended, IsAmong, OnSettled, batch_number, mark_refused};
-ghost use Rattle.sctp_c_calls.specs.Outgoing.{given_message, have_streams};
+ghost use Rattle.sctp_c_calls.specs.Batch.{given_message, have_streams};
 ghost use Rattle.sctp_c_records.specs.Records.{IsKnown, given_send_options};
 ghost use Rattle.spec_endpoint.specs.Calls as table;
 ghost use Rattle.spec_endpoint.specs.Input.{on_endpoint_state};

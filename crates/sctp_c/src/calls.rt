@@ -2,7 +2,7 @@
 
 ghost use Rattle.std.specs.Prelude.{◌≡◌};
 ghost use Rattle.sctp_c.specs.Calls.{Makes, end_of};
-ghost use Rattle.sctp_c_records.specs.Checksums.{word_by};
+ghost use Rattle.sctp_c_records.specs.Checksum.{word_by};
 ghost use Rattle.spec_endpoint.specs.Shutdown as closing;
 ghost use Rattle.spec_endpoint.specs.Receiving.{Receives};
 ghost use Rattle.spec_endpoint.specs.Input.{on_endpoint_state};

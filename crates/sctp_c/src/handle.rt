@@ -19,7 +19,7 @@ pub struct Handle {
 
 impl Model for Handle {
     ghost use Rattle.std.specs.contracts.impls.GlobalAllocator.TheImpl.{ghosts};
-    ghost use Rattle.sctp_c.specs.Held.{held_at};
+    ghost use Rattle.sctp_c.specs.Handle.{held_at};
     ghost use Rattle.sctp_c.specs.contracts.endpoint.Endpoint.{the_row};
 
     ghost also_owns = { λ h. held_at (ghosts.dealloc_token h.alloc) the_row h.at h.held };

@@ -3,7 +3,7 @@
 ghost use Rattle.std.specs.Prelude.{◌≡◌, [], ◌∷◌, None, is_some, true, false, IfOk};
 ghost use Rattle.rand_pcg.specs.Lcg.{increment_of, started};
 ghost use Rattle.rand_pcg.specs.Pcg.{multiplier_64};
-ghost use Rattle.sctp_c.specs.Made.{IsFresh, Made, NamesKnown};
+ghost use Rattle.sctp_c.specs.Making.{IsFresh, Made, NamesKnown};
 ghost use Rattle.sctp_c_events.specs.Answers.{IsAmong, OnAnswer, OnOthers};
 ghost use Rattle.sctp_c_records.specs.Records.{given_options};
 ghost use Rattle.sctp_state.specs.Options.{IsValid, defaults, options_of};

@@ -4,7 +4,7 @@ ghost use Rattle.std.specs.Prelude.{◌≡◌, [], ◌∷◌, length, ◌<◌, �
 ghost use Rattle.sctp_c.specs.Calls.{Answers, OnSocket, end_of};
 ghost use Rattle.sctp_c.specs.Lent.{PointsAt};
 ghost use Rattle.sctp_c_events.specs.Answers.{Ended, IsAmong, OnAnswer, OnOthers, OnSettled, refusal_number};
-ghost use Rattle.sctp_c_events.specs.Waiting.{HasAll, HasMessage, NeedsMore};
+ghost use Rattle.sctp_c_events.specs.Events.{HasAll, HasMessage, NeedsMore};
 ghost use Rattle.sctp_c_records.specs.Records.{IsKnown, given_send_options};
 ghost use Rattle.spec_endpoint.specs.Calls as table;
 ghost use Rattle.spec_endpoint.specs.Input.{on_endpoint_state};

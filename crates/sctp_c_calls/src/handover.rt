@@ -3,8 +3,8 @@
 ghost use Rattle.std.specs.Prelude.{◌≡◌, ◌<◌, [], ◌∷◌, None, Some, Err, length, IfErr, IfOk, OnOk};
 ghost use Rattle.sctp_association.specs.Socket.{Ends, endpoint, handover_ending};
 ghost use Rattle.sctp_c_events.specs.Answers.{IsAmong, OnAnswer, OnOthers, ending_at};
-ghost use Rattle.sctp_c_calls.specs.Handing.{Holds, IsNone, IsRecord, IsTaken, OnNotReady, Refuses, Restores, in_the_way, left_by, record_of, record_or};
-ghost use Rattle.sctp_c_records.specs.Shown.{Copied};
+ghost use Rattle.sctp_c_calls.specs.Handover.{Holds, IsNone, IsRecord, IsTaken, OnNotReady, Refuses, Restores, in_the_way, left_by, record_of, record_or};
+ghost use Rattle.sctp_c_records.specs.Event.{Copied};
 ghost use Rattle.sctp_handover.specs.Bounds.{RecordFits};
 ghost use Rattle.sctp_handover.specs.Bytes.{record_bytes};
 ghost use Rattle.sctp_state.specs.Handover.{HandoverState, handover_state_of};

@@ -3,8 +3,8 @@
 ghost use Rattle.std.specs.Prelude.{◌≡◌, ◌<◌, ◌^◌, [], ◌∷◌, length, Some};
 ghost use Rattle.sctp_association.specs.Socket.{endpoint};
 ghost use Rattle.sctp_c_events.specs.Answers.{Ended, IsAmong, OnAnswer, OnOthers, OnSettled, refusal_number};
-ghost use Rattle.sctp_c_events.specs.Waiting.{HasAll, HasMessage, NeedsMore, message_record};
-ghost use Rattle.sctp_c_records.specs.Shown.{Copied};
+ghost use Rattle.sctp_c_events.specs.Events.{HasAll, HasMessage, NeedsMore, message_record};
+ghost use Rattle.sctp_c_records.specs.Event.{Copied};
 ghost use Rattle.sctp_serial.specs.Messages.{message_of};
 ghost use Rattle.sctp_c_records.specs.Records.{given_send_options};
 ghost use Rattle.spec_endpoint.specs.Calls as calls;

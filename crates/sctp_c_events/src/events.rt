@@ -2,7 +2,7 @@
 
 ghost use Rattle.std.specs.Prelude.{◌≡◌, Some, None, [], ◌∷◌, length, drop, option_map};
 ghost use Rattle.sctp_c_events.specs.Answers.{IsAmong, OnAnswer, OnOthers};
-ghost use Rattle.sctp_c_events.specs.Waiting.{Needs, Shows, ShowsAll, waiting, with_events};
+ghost use Rattle.sctp_c_events.specs.Events.{Needs, Shows, ShowsAll, waiting, with_events};
 ghost use Rattle.sctp_state.specs.Events.{SendPacket, event_of, first_of};
 
 use rand_core::Rng;

@@ -1,4 +1,4 @@
-pub mod Checksums
-pub mod Counts
+pub mod Checksum
+pub mod Metrics
 pub mod Records
-pub mod Shown
+pub mod Event

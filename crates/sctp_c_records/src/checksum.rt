@@ -13,7 +13,7 @@ pub enum PacketChecksum {
 }
 
 impl Checksum for PacketChecksum {
-    ghost use Rattle.sctp_c_records.specs.Checksums.{word_by};
+    ghost use Rattle.sctp_c_records.specs.Checksum.{word_by};
 
     ghost word_of = { word_by };
 

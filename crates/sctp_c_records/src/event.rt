@@ -2,9 +2,9 @@
 
 ghost use Rattle.std.specs.Prelude.{◌≡◌, IfOk};
 ghost use Rattle.std.specs.List.{flat_map};
-ghost use Rattle.sctp_wire.specs.Fields.{be16};
+ghost use Rattle.sctp_wire.specs.Field.{be16};
 ghost use Rattle.sctp_state.specs.Events.{event_of, numbers_of};
-ghost use Rattle.sctp_c_records.specs.Shown.{Copied, bytes_of, error_number, record_of, shown, with_length};
+ghost use Rattle.sctp_c_records.specs.Event.{Copied, bytes_of, error_number, record_of, shown, with_length};
 
 use sctp_serial::StreamId;
 use sctp_state::{ErrorKind, SocketEvent};

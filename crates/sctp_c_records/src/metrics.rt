@@ -2,7 +2,7 @@
 
 ghost use Rattle.std.specs.Prelude.{◌≡◌, ◌-◌, ◌^◌, min};
 ghost use Rattle.std.specs.Duration.{as_nanos};
-ghost use Rattle.sctp_c_records.specs.Counts.{implementation_number, metrics_record};
+ghost use Rattle.sctp_c_records.specs.Metrics.{implementation_number, metrics_record};
 
 use sctp_state::{Metrics, SctpImplementation};
 use std::time::Duration;

@@ -2,9 +2,9 @@
 
 ghost use Rattle.std.specs.Prelude.{◌≡◌, [], length, IfErr, IfOk};
 ghost use Rattle.std.specs.List.{flat_map};
-ghost use Rattle.sctp_wire.specs.Fields.{be16};
+ghost use Rattle.sctp_wire.specs.Field.{be16};
 ghost use Rattle.sctp_state.specs.Events.{event_of, numbers_of};
-ghost use Rattle.sctp_c_records.specs.Shown.{bytes_of, error_number, record_of, shown};
+ghost use Rattle.sctp_c_records.specs.Event.{bytes_of, error_number, record_of, shown};
 
 use crate::event::{EventRecord, error_number};
 use sctp_serial::StreamId;

@@ -5,9 +5,9 @@ use Rattle.std.specs.Int.{div_ceil}
 use Rattle.sctp_state.specs.declared.api.SctpImplementation.{SctpImplementation}
 use Rattle.sctp_state.specs.declared.api.Metrics as given
 use Rattle.sctp_capabilities.specs.Capabilities.{zero_checksum_enabled}
-use Rattle.sctp_state.specs.Rtt.{srtt}
-use Rattle.sctp_tx_outstanding.specs.Items.{flight_items}
-use Rattle.sctp_tx_queue.specs.Queue.{total_of}
+use Rattle.sctp_state.specs.RetransmissionTimeout.{srtt}
+use Rattle.sctp_tx_outstanding.specs.OutstandingData.{flight_items}
+use Rattle.sctp_tx_queue.specs.SendQueue.{total_of}
 use Rattle.spec_endpoint.specs.Association.{Tcb, State, Closed, CookieWait, Open}
 use Rattle.sctp_endpoint.specs.Views.{ContextValue}
 

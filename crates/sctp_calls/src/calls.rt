@@ -2,7 +2,7 @@
 
 ghost use Rattle.std.specs.Prelude.{◌≡◌, ◌<◌, ◌^◌, false, None, length, map, IfOk, OnOk};
 ghost use Rattle.sctp_serial.specs.Messages.{message_of};
-ghost use Rattle.sctp_tx_queue.specs.Queue.{total_of};
+ghost use Rattle.sctp_tx_queue.specs.SendQueue.{total_of};
 ghost use Rattle.sctp_state.specs.Events.{emit_events};
 ghost use Rattle.sctp_state.specs.Options.{send_options_of};
 ghost use Rattle.sctp_endpoint.specs.Views.{context_of, phase_of, endpoint_state_of, state_of};

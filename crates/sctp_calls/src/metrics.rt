@@ -3,7 +3,7 @@
 ghost use Rattle.std.specs.Prelude.{◌≡◌, option_map};
 ghost use Rattle.sctp_calls.specs.Metrics.{metrics, metrics_in, metrics_of, packets_for};
 ghost use Rattle.sctp_endpoint.specs.Views.{state_of, tcb_of};
-ghost use Rattle.sctp_tx_queue.specs.Queue.{total_of};
+ghost use Rattle.sctp_tx_queue.specs.SendQueue.{total_of};
 
 use sctp_endpoint::{Context, State, TransmissionControlBlock};
 use sctp_state::Metrics;

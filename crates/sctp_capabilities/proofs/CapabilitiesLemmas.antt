@@ -5,7 +5,7 @@ use Rattle.std.proofs.Math.Dec.{eqb-suc-zero}
 use Rattle.std.specs.List.{list_any}
 use Rattle.std.proofs.Common.{All, length, ◌≤◌}
 use Rattle.std.proofs.lemmas.List.Elements.{All-cons, All-nil}
-use Rattle.sctp_wire.specs.Fields.{be32}
+use Rattle.sctp_wire.specs.Field.{be32}
 use Rattle.sctp_wire.specs.Serialize.{IsEncodable, inner_items, padded_item}
 use Rattle.sctp_wire.specs.Parameter.{ParameterTree, supported_extensions, forward_tsn_supported, zero_checksum_acceptable, parameter_item, parameter_value, parameter_is_whole}
 use Rattle.sctp_state.specs.Options.{Options}

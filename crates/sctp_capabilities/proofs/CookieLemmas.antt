@@ -3,11 +3,11 @@ use Rattle.std.proofs.Common.{◌≡◌, ◌≢◌, ℕ, ◌+◌, Bool, true, fa
 use Rattle.std.specs.List.{starts_with}
 use Rattle.std.proofs.lemmas.Nat.{from_be_bytes-to_be_bytes_2, from_be_bytes-to_be_bytes_4, from_be_bytes-to_be_bytes_8}
 use Rattle.std.proofs.lemmas.Bool.{eq-eqb, ne_eqb}
-use Rattle.sctp_wire.specs.Fields.{be16, be32, be64}
+use Rattle.sctp_wire.specs.Field.{be16, be32, be64}
 use Rattle.sctp_wire.specs.Serialize.{IsEncodable}
 use Rattle.sctp_wire.specs.Parameter.{state_cookie, parameter_item, parameter_value}
 use Rattle.sctp_capabilities.specs.Capabilities.{Capabilities}
-use Rattle.sctp_capabilities.specs.Cookie.{Cookie, CapabilitiesFit, CookieFits, SpellsCapabilities, SpellsCookie, magic, flag_byte, is_set, capability_bytes, cookie_bytes, cookie_from, has_tags, read_cookie}
+use Rattle.sctp_capabilities.specs.StateCookie.{Cookie, CapabilitiesFit, CookieFits, SpellsCapabilities, SpellsCookie, magic, flag_byte, is_set, capability_bytes, cookie_bytes, cookie_from, has_tags, read_cookie}
 use Rattle.sctp_capabilities.specs.declared.state_cookie.StateCookieError.{StateCookieError}
 use Rattle.sctp_capabilities.specs.declared.state_cookie.StateCookieError.TheVariants.{InvalidSize, InvalidMagic, InvalidVerificationTag}
 

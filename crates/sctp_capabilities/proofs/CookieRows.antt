@@ -1,12 +1,12 @@
 -- Worked examples of cookies and capabilities, computed.
 use Rattle.std.proofs.Common.{◌≡◌, ℕ, true, false, Some, None, Ok, Err, List, [], ◌∷◌, ◌++◌, take, drop, refl}
 use Rattle.std.specs.Prelude.{codes}
-use Rattle.sctp_wire.specs.Fields.{be16, be32, be64}
+use Rattle.sctp_wire.specs.Field.{be16, be32, be64}
 use Rattle.sctp_wire.specs.Parameter.{ParameterTree, state_cookie, supported_extensions, forward_tsn_supported, zero_checksum_acceptable}
 use Rattle.sctp_state.specs.Options.{Options, defaults}
 use Rattle.sctp_capabilities.specs.Capabilities.{Capabilities, agreed, announce, negotiate, nothing, announced_by, announced_by_init, announced_by_init_ack}
-use Rattle.sctp_capabilities.specs.Cookie.{Cookie, capability_bytes, cookie_bytes, cookie_from, read_cookie}
-use Rattle.sctp_state.specs.Errors.{is_exhausted, no_errors, one_error}
+use Rattle.sctp_capabilities.specs.StateCookie.{Cookie, capability_bytes, cookie_bytes, cookie_from, read_cookie}
+use Rattle.sctp_state.specs.TxErrorCounter.{is_exhausted, no_errors, one_error}
 use Rattle.sctp_capabilities.specs.declared.state_cookie.StateCookieError.TheVariants.{InvalidSize, InvalidMagic, InvalidVerificationTag}
 
 -- ---- a cookie, by its bytes

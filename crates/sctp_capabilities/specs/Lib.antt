@@ -1,2 +1,2 @@
 pub mod Capabilities
-pub mod Cookie
+pub mod StateCookie

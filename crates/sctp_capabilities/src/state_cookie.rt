@@ -1,9 +1,9 @@
 //! The cookie of an INIT ACK, which a COOKIE ECHO brings back (RFC 9260 section 5.1.3).
 
 ghost use Rattle.std.specs.Prelude.{◌≡◌, ◌+◌, ◌≤◌, true, Some, Ok, Err, ◌++◌, length, IfOk, IfErr, IsOkAnd, OnOk};
-ghost use Rattle.sctp_wire.specs.Fields.{be32};
+ghost use Rattle.sctp_wire.specs.Field.{be32};
 ghost use Rattle.sctp_capabilities.specs.Capabilities.{capabilities_of};
-ghost use Rattle.sctp_capabilities.specs.Cookie.{Cookie, CapabilitiesFit, CookieFits, cookie_of, cookie_bytes, cookie_from, capability_bytes, has_tags, read_cookie, refusal_text, u16_in, u32_in, u64_in};
+ghost use Rattle.sctp_capabilities.specs.StateCookie.{Cookie, CapabilitiesFit, CookieFits, cookie_of, cookie_bytes, cookie_from, capability_bytes, has_tags, read_cookie, refusal_text, u16_in, u32_in, u64_in};
 
 use crate::Capabilities;
 use sctp_serial::{Tsn, ZeroChecksumAlternateErrorDetectionMethod};
@@ -99,7 +99,7 @@ impl StateCookie {
 }
 
 /// Appends the cookie's bytes.
-#[tactic(auto, unfolding(crate::specs::Cookie::cookie_bytes))]
+#[tactic(auto, unfolding(crate::specs::StateCookie::cookie_bytes))]
 fn push_cookie(output: &mut Vec<u8>, cookie: &StateCookie) -> Result<(), AllocError>
     ensures bytes { OnOk result (output.new.items ≡ output.old.items ++ cookie_bytes (cookie_of cookie.now)) }
     ensures fits { OnOk result (CookieFits (cookie_of cookie.now)) }
@@ -121,7 +121,7 @@ fn push_pair(output: &mut Vec<u8>, peer: u32, own: u32) -> Result<(), AllocError
 }
 
 /// Appends the twelve bytes of capabilities.
-#[tactic(auto, unfolding(crate::specs::Cookie::capability_bytes))]
+#[tactic(auto, unfolding(crate::specs::StateCookie::capability_bytes))]
 fn push_capabilities(output: &mut Vec<u8>, capabilities: Capabilities) -> Result<(), AllocError>
     ensures bytes { OnOk result (output.new.items
         ≡ output.old.items ++ capability_bytes (capabilities_of capabilities)) }
@@ -140,7 +140,7 @@ fn push_capabilities(output: &mut Vec<u8>, capabilities: Capabilities) -> Result
 }
 
 /// The cookie in 48 bytes, each field at its place.
-#[tactic(auto, unfolding(crate::specs::Cookie::cookie_from))]
+#[tactic(auto, unfolding(crate::specs::StateCookie::cookie_from))]
 fn cookie_in(bytes: &[u8]) -> StateCookie
     requires { length bytes.now ≡ 48 }
     ensures { cookie_of result ≡ cookie_from bytes.now }
@@ -158,7 +158,7 @@ fn cookie_in(bytes: &[u8]) -> StateCookie
 
 /// The capabilities in a cookie's last twelve bytes. A flag is set where its byte isn't 0, and the fourth byte isn't
 /// looked at.
-#[tactic(auto, unfolding(crate::specs::Cookie::cookie_from))]
+#[tactic(auto, unfolding(crate::specs::StateCookie::cookie_from))]
 fn capabilities_in(bytes: &[u8]) -> Capabilities
     requires { length bytes.now ≡ 48 }
     ensures { capabilities_of result ≡ (cookie_from bytes.now).peer_capabilities }

@@ -1,7 +1,7 @@
 -- What is behind the first eight of equal bytes is equal.
 use Rattle.std.proofs.Common.{◌≡◌, ℕ, List, ◌++◌, length, ◌∙◌, append_assoc, arith}
 use Rattle.std.proofs.lemmas.List.{length-append}
-use Rattle.sctp_wire.specs.Fields.{be32, length_be32}
+use Rattle.sctp_wire.specs.Field.{be32, length_be32}
 use Rattle.sctp_wire.proofs.ParsesAllLemmas.{cut_same}
 
 -- two numbers of four bytes, whose ranges don't matter

@@ -1,6 +1,6 @@
 -- I-DATA chunks read: one field is the protocol of a beginning, and the number of any other fragment.
 use Rattle.std.proofs.Common.{◌≡◌, ℕ, ◌^◌, ◌<◌, Bool, true, false, if◌then◌else◌, List, ◌++◌, ap, arith}
-use Rattle.sctp_wire.specs.Fields.{be16, be32}
+use Rattle.sctp_wire.specs.Field.{be16, be32}
 use Rattle.sctp_chunk.specs.Chunk.{idata_chunk}
 use Rattle.sctp_chunk.specs.Written.{idata_value}
 use Rattle.sctp_chunk.specs.Grammar.{carried}

@@ -6,7 +6,7 @@ use Rattle.std.proofs.lemmas.List.Concat.{flat_map-cons}
 use Rattle.sctp_serial.specs.declared.types.StreamKey.{StreamKey}
 use Rattle.sctp_serial.specs.declared.types.StreamKey.TheVariants as keys
 use Rattle.sctp_serial.specs.declared.types.tsn.Tsn.{Tsn}
-use Rattle.sctp_wire.specs.Fields.{be16, be32, length_be16, length_be32}
+use Rattle.sctp_wire.specs.Field.{be16, be32, length_be16, length_be32}
 use Rattle.sctp_wire.specs.Item.{Item}
 use Rattle.sctp_wire.proofs.FieldLemmas.{IsBytes_take, be16_same}
 use Rattle.sctp_wire.proofs.ItemLemmas.{IsBytes}

@@ -7,7 +7,7 @@ use Rattle.sctp_serial.specs.declared.api.StreamId.{StreamId}
 use Rattle.sctp_serial.specs.declared.types.ssn.Ssn.{Ssn}
 use Rattle.sctp_serial.specs.declared.types.mid.Mid.{Mid}
 use Rattle.sctp_serial.specs.declared.types.StreamKey.{StreamKey}
-use Rattle.sctp_wire.specs.Fields.{be16, be32}
+use Rattle.sctp_wire.specs.Field.{be16, be32}
 use Rattle.sctp_chunk.specs.declared.forward_tsn.SkippedStream.{SkippedStream}
 use Rattle.sctp_chunk.specs.declared.forward_tsn.SkippedStream.TheVariants as skips
 use Rattle.sctp_chunk.specs.Written.{skip_bytes, is_ssn_skip}

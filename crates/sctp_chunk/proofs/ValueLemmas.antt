@@ -6,7 +6,7 @@ use Rattle.sctp_serial.specs.declared.types.tsn.Tsn.{Tsn}
 use Rattle.sctp_serial.specs.declared.types.StreamKey.{StreamKey}
 use Rattle.sctp_serial.specs.declared.types.StreamKey.TheVariants as keys
 use Rattle.sctp_serial.specs.Keys.{stream_of}
-use Rattle.sctp_wire.specs.Fields.{be16, be32, length_be32}
+use Rattle.sctp_wire.specs.Field.{be16, be32, length_be32}
 use Rattle.sctp_wire.specs.Serialize.{inner_items}
 use Rattle.sctp_wire.specs.Parameter.{parameter_item}
 use Rattle.sctp_wire.proofs.SerializeLemmas.{length_entries}

@@ -4,7 +4,7 @@ use Rattle.std.specs.List.{list_all}
 use Rattle.sctp_serial.specs.declared.types.tsn.Tsn.{Tsn}
 use Rattle.sctp_wire.specs.declared.error.ChunkParseError.{ChunkParseError}
 use Rattle.sctp_wire.specs.declared.error.ChunkParseError.TheVariants.{InvalidLength, InvalidType, Memory}
-use Rattle.sctp_wire.specs.Fields.{be16, be32}
+use Rattle.sctp_wire.specs.Field.{be16, be32}
 use Rattle.sctp_wire.specs.Item.{Item, ParsesAll}
 use Rattle.sctp_wire.specs.Refusal.{FailsToParseAs}
 use Rattle.sctp_wire.specs.Parameter.{ParameterTree, IsParameter, RefusesParameter}

@@ -4,7 +4,7 @@ use Rattle.std.specs.List.{flat_map, list_all}
 use Rattle.sctp_serial.specs.declared.types.tsn.Tsn.{Tsn}
 use Rattle.sctp_serial.specs.declared.types.StreamKey.{StreamKey}
 use Rattle.sctp_serial.specs.declared.types.StreamKey.TheVariants as keys
-use Rattle.sctp_wire.specs.Fields.{be16, be32}
+use Rattle.sctp_wire.specs.Field.{be16, be32}
 use Rattle.sctp_wire.specs.Item.{Item}
 use Rattle.sctp_wire.specs.Serialize.{padded_item, inner_items}
 use Rattle.sctp_wire.specs.Parameter.{parameter_item, parameter_is_whole}

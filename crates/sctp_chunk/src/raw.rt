@@ -2,7 +2,7 @@
 //! section 3.2).
 
 ghost use Rattle.std.specs.Prelude.{◌≡◌, ◌≢◌, ◌⊎◌, ◌+◌, ◌<◌, ◌^◌, ◌∷◌, [], ◌++◌, length, IfOk, OnOk, OnErr, IfErr, IfSome, OnSome, IfNone};
-ghost use Rattle.sctp_wire.specs.Fields.{be16};
+ghost use Rattle.sctp_wire.specs.Field.{be16};
 ghost use Rattle.sctp_wire.specs.Item.{Takes, TakesNone};
 ghost use Rattle.sctp_wire.specs.Views.{raw_item};
 ghost use Rattle.sctp_wire.specs.Room.{Fills};

@@ -2,7 +2,7 @@
 
 ghost use Rattle.std.specs.Prelude.{◌≡◌, ◌+◌, ◌*◌, ◌^◌, ◌-◌, ◌<◌, true, ◌++◌, length, IfOk, IfErr, OnOk, OnErr};
 ghost use Rattle.sctp_chunk.specs.Written.{chunk_item};
-ghost use Rattle.sctp_wire.specs.Fields.{be16, be32};
+ghost use Rattle.sctp_wire.specs.Field.{be16, be32};
 ghost use Rattle.sctp_chunk.specs.Grammar.{IsChunk, RefusesChunkAs, IsCounted};
 ghost use Rattle.sctp_chunk.specs.Views.{raw_chunk, sack_chunk_tree};
 ghost use Rattle.std.specs.Prelude.{Some};

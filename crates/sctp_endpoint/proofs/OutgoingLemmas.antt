@@ -9,7 +9,7 @@ use Rattle.sctp_packet.specs.Chunk.{ChunkTree}
 use Rattle.sctp_packet.specs.Written.{chunk_bytes, chunks_bytes}
 use Rattle.std.proofs.lemmas.List.{at_drop_all}
 use Rattle.sctp_wire.specs.Checksum.{with_zero_field}
-use Rattle.sctp_wire.specs.Fields.{be16, be32}
+use Rattle.sctp_wire.specs.Field.{be16, be32}
 use Rattle.sctp_control_chunk.specs.declared.chunk.Chunk.{Chunk}
 use Rattle.sctp_packet.specs.ChunkView.{chunk_tree}
 use Rattle.sctp_packet.specs.Packet.{HeaderTree, header_bytes, unsummed_bytes, packet_bytes}

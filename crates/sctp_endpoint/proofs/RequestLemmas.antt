@@ -2,7 +2,7 @@
 use Rattle.std.proofs.Common.{◌≡◌, ℕ, ◌==◌, false, Result, OnOk, List, [], ◌∷◌, length, refl, ap}
 use Rattle.sctp_serial.specs.declared.api.StreamId.{StreamId}
 use Rattle.sctp_state.specs.Events.{numbers_of}
-use Rattle.spec_endpoint.specs.Requests.{ids}
+use Rattle.spec_endpoint.specs.ResetRequests.{ids}
 use Rattle.spec_endpoint.specs.Sending.{Filling, request_started, carrying, request_of}
 use Rattle.sctp_serial.proofs.NumberLemmas.{not_zero_by_test}
 

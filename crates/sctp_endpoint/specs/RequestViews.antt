@@ -2,7 +2,7 @@
 use Rattle.sctp_endpoint.specs.declared.reset_requests.ResetOutcome.{ResetOutcome}
 use Rattle.sctp_endpoint.specs.declared.reset_requests.ResetOutcome.TheVariants as outcomes
 use Rattle.sctp_state.specs.Events.{numbers_of}
-use Rattle.spec_endpoint.specs.Requests.{Outcome, Unsettled, Done, Denied}
+use Rattle.spec_endpoint.specs.ResetRequests.{Outcome, Unsettled, Done, Denied}
 
 abbrev pub outcome_of : ResetOutcome → Outcome
 outcome_of outcomes.Unsettled = Unsettled

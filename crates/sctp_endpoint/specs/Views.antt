@@ -2,7 +2,7 @@
 use Rattle.std.specs.Prelude.{ℕ, Bool, List}
 use Rattle.rand_core.specs.Stream.{Stream}
 use Rattle.sctp_state.specs.declared.api.SctpImplementation.{SctpImplementation}
-use Rattle.sctp_state.specs.Errors.{ErrorCounter}
+use Rattle.sctp_state.specs.TxErrorCounter.{ErrorCounter}
 use Rattle.sctp_state.specs.Events.{Emitted}
 use Rattle.sctp_state.specs.Options.{Options}
 use Rattle.sctp_capabilities.specs.Capabilities.{capabilities_of}
@@ -10,7 +10,7 @@ use Rattle.sctp_endpoint.specs.declared.transmission_control_block.Identity as g
 use Rattle.sctp_endpoint.specs.declared.transmission_control_block.TransmissionControlBlock as given_tcb
 use Rattle.sctp_chunk.specs.declared.sack.SackChunk.{SackChunk}
 use Rattle.sctp_packet.specs.Chunk.{SackTree}
-use Rattle.sctp_tx_queue.specs.Queue.{Queue}
+use Rattle.sctp_tx_queue.specs.SendQueue.{Queue}
 use Rattle.sctp_wire.specs.Parameter.{ParameterTree}
 use Rattle.sctp_endpoint.specs.declared.state.Phase as given_phase
 use Rattle.sctp_endpoint.specs.declared.state.Phase.TheVariants as phases

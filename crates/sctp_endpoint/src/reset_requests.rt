@@ -6,11 +6,11 @@ ghost use Rattle.sctp_parameter.specs.ParameterViews.{result_number};
 ghost use Rattle.sctp_packet.specs.ChunkView.{chunk_tree};
 ghost use Rattle.sctp_state.specs.Events.{numbers_of};
 ghost use Rattle.sctp_state.specs.Options.{options_of};
-ghost use Rattle.sctp_state.specs.Timers.{is_due, next_expiry};
+ghost use Rattle.sctp_state.specs.Timer.{is_due, next_expiry};
 ghost use Rattle.sctp_state.specs.Handover.{handover_state_of};
 ghost use Rattle.spec_endpoint.specs.Handover.{request_readiness, requests_restored};
 ghost use Rattle.sctp_endpoint.specs.RequestViews.{outcome_of};
-ghost use Rattle.spec_endpoint.specs.Requests as table;
+ghost use Rattle.spec_endpoint.specs.ResetRequests as table;
 
 use sctp_packet::{Chunk, ReConfigChunk};
 use sctp_parameter::{
@@ -36,7 +36,7 @@ pub struct ResetRequest {
 
 impl Model for ResetRequest {
     ghost use Rattle.sctp_state.specs.Events.{numbers_of};
-    ghost use Rattle.spec_endpoint.specs.Requests.{Request};
+    ghost use Rattle.spec_endpoint.specs.ResetRequests.{Request};
 
     ghost Value = { Request };
 
@@ -86,7 +86,7 @@ pub struct ResetRequests {
 
 impl Model for ResetRequests {
     ghost use Rattle.sctp_parameter.specs.ParameterViews.{result_number};
-    ghost use Rattle.spec_endpoint.specs.Requests.{Requests};
+    ghost use Rattle.spec_endpoint.specs.ResetRequests.{Requests};
 
     ghost Value = { Requests };
 

@@ -5,7 +5,7 @@ use Rattle.std.specs.Str.{IsUtf8}
 use Rattle.std.proofs.lemmas.List.{append-nil}
 use Rattle.sctp_wire.specs.declared.error.ChunkParseError.{ChunkParseError}
 use Rattle.sctp_wire.specs.declared.error.ChunkParseError.TheVariants.{InvalidLength, InvalidType, InvalidPadding, InvalidValue, Memory}
-use Rattle.sctp_wire.specs.Fields.{be16, length_be16}
+use Rattle.sctp_wire.specs.Field.{be16, length_be16}
 use Rattle.sctp_wire.specs.Item.{Item}
 use Rattle.sctp_wire.specs.Serialize.{IsEncodable, type_of}
 use Rattle.sctp_wire.specs.Shape.{Shape, any_length, HasShape}

@@ -3,7 +3,7 @@ use Rattle.std.proofs.Common.{◌≡◌, ℕ, ◌+◌, ◌*◌, ◌/◌, ◌%◌
 use Rattle.std.specs.Prelude.{All}
 use Rattle.std.specs.List.{flat_map}
 use Rattle.std.proofs.lemmas.List.{append-nil, length-append, length-drop, nil_from_length}
-use Rattle.sctp_wire.specs.Fields.{be16, be32, length_be32}
+use Rattle.sctp_wire.specs.Field.{be16, be32, length_be32}
 use Rattle.sctp_wire.specs.Shape.{HasShape}
 use Rattle.sctp_wire.specs.Cause.{CauseTree, missing_mandatory_parameter, unrecognized_chunk, no_user_data, cookie_received_while_shutting_down, user_initiated_abort, protocol_violation, unknown_cause, SaysCause, cause_value, cause_shape, is_known_cause}
 use Rattle.sctp_wire.proofs.ItemLemmas.{IsBytes}

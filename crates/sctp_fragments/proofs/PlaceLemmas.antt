@@ -7,7 +7,7 @@ use Rattle.sctp_fragments.specs.declared.interval.Entry.{Entry}
 use Rattle.sctp_fragments.specs.declared.interval.Interval.{Interval}
 use Rattle.sctp_fragments.specs.Runs.{end_of, last_of, IsBelow, is_next, joins_left, joins_right}
 use Rattle.sctp_fragments.specs.Held.{Held, rank_of, goes_on, bytes_of, payload_of}
-use Rattle.sctp_fragments.specs.Intervals.{run_of, lists_of, starts_upto, EndsFrom}
+use Rattle.sctp_fragments.specs.Interval.{run_of, lists_of, starts_upto, EndsFrom}
 use Rattle.sctp_fragments.proofs.RunLemmas.{end_of_append}
 
 pub last_read : {E : Type 0} (e d : E) (es : List E) → get_or (e ∷ es) (length es) d ≡ last_of e es

@@ -2,7 +2,7 @@
 use Rattle.std.specs.Prelude.{◌≡◌, ℕ, ◌+◌, ◌≤◌, ◌&&◌, ◌==◌, not, nat_lt, Bool, true, false, if◌then◌else◌, Option, None, List, [], ◌∷◌, ◌++◌, length}
 use Rattle.sctp_serial.specs.Messages.{Message}
 use Rattle.sctp_chunk.specs.Chunk.{FragmentTree}
-use Rattle.sctp_fragments.specs.Key.{pair_rank}
+use Rattle.sctp_fragments.specs.ReassemblyKey.{pair_rank}
 use Rattle.sctp_fragments.specs.Runs.{flat, runs_of, AreRuns, is_whole, is_held, last_of}
 
 -- a fragment and its key: its message's number, and its place in the message, that is its TSN, or with interleaving its

@@ -3,7 +3,7 @@ use Rattle.std.specs.Prelude.{◌≡◌, ℕ, suc, ◌<◌, ◌≤◌}
 use Rattle.std.specs.Ordering.{nat_cmp, ordering_then}
 use Rattle.std.proofs.Common.{arith}
 use Rattle.std.proofs.lemmas.Bool.Decides.{nat_tests}
-use Rattle.sctp_fragments.specs.Key.{IsPair, pair_rank, pair_bound, pair_after_number, pair_after_index}
+use Rattle.sctp_fragments.specs.ReassemblyKey.{IsPair, pair_rank, pair_bound, pair_after_number, pair_after_index}
 
 pub pair_number : (a b c d : ℕ) → IsPair a b → IsPair c d → pair_rank a b ≡ pair_rank c d → a ≡ c
 pair_number a b c d p q same = omega (arith, p.0, p.1, q.0, q.1, same)

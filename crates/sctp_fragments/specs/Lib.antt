@@ -1,5 +1,5 @@
 pub mod Runs
-pub mod Key
+pub mod ReassemblyKey
 pub mod KeyLaws
 pub mod Held
-pub mod Intervals
+pub mod Interval

@@ -3,7 +3,7 @@
 ghost use Rattle.std.specs.Prelude.{◌≡◌, length, IfOk};
 ghost use Rattle.sctp_serial.specs.Messages.{message_of};
 ghost use Rattle.sctp_fragments.specs.Held.{bytes_of, message_of_run, payload_of};
-ghost use Rattle.sctp_fragments.specs.Intervals.{held_of, run_of};
+ghost use Rattle.sctp_fragments.specs.Interval.{held_of, run_of};
 
 use crate::interval::Interval;
 use crate::reassembly_key::ReassemblyKey;

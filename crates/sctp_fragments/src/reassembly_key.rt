@@ -2,7 +2,7 @@
 
 ghost use Rattle.std.specs.Prelude.{◌≡◌, ◌==◌, ℕ, suc, ◌+◌, ◌<◌, ◌≤◌, nat_lt, IsTrue, ◌↔◌};
 ghost use Rattle.std.specs.Ordering.{nat_cmp};
-ghost use Rattle.sctp_fragments.specs.Key.{NoneBetween, IsPair, pair_rank, pair_bound, pair_after_number, pair_after_index, rank_at};
+ghost use Rattle.sctp_fragments.specs.ReassemblyKey.{NoneBetween, IsPair, pair_rank, pair_bound, pair_after_number, pair_after_index, rank_at};
 ghost use Rattle.sctp_fragments.specs.KeyLaws.{pair_made, pair_by_rank, pair_number, pair_index, pair_within, pair_follows};
 
 /// Where a fragment stands among others of its stream: the number of its message, and its place in the message. Both

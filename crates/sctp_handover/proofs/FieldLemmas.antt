@@ -5,7 +5,7 @@ use Rattle.std.proofs.lemmas.Nat.{from_be_bytes-to_be_bytes_8}
 use Rattle.std.proofs.lemmas.Int.{to_z-of_z}
 use Rattle.std.proofs.lemmas.List.{drop_at, take_at}
 use mir.ValLaws as laws
-use Rattle.sctp_wire.specs.Fields.{be16, be32, be64, length_be16, length_be32, length_be64}
+use Rattle.sctp_wire.specs.Field.{be16, be32, be64, length_be16, length_be32, length_be64}
 use Rattle.sctp_wire.proofs.ParsesAllLemmas.{cut_same}
 use Rattle.sctp_handover.specs.Bounds.{Is16, Is32, Is64}
 use Rattle.sctp_handover.specs.Bytes.{is_connected, payload_bytes, signed_bytes}

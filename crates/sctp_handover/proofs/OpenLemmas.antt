@@ -1,6 +1,6 @@
 -- Bytes with something behind them, and bytes that are written, field by field.
 use Rattle.std.proofs.Common.{◌≡◌, ℕ, ℤ, pos, Bool, false, is_some, unwrap_or, List, [], ◌++◌, refl, append_assoc, append-nil}
-use Rattle.sctp_wire.specs.Fields.{be16, be32, be64}
+use Rattle.sctp_wire.specs.Field.{be16, be32, be64}
 use Rattle.sctp_state.specs.Handover.{HandoverState, OutstandingData, Receive, StreamMessage, Transmission}
 use Rattle.sctp_state.specs.declared.api.handover.HandoverCapabilities.{HandoverCapabilities}
 use Rattle.sctp_state.specs.declared.api.handover.HandoverOrderedStream.{HandoverOrderedStream}

@@ -1,6 +1,6 @@
 -- Each part of a list has a byte at least.
 use Rattle.std.specs.Prelude.{◌≡◌, ℕ, List, [], ◌∷◌, refl}
-use Rattle.sctp_wire.specs.Fields.{be16}
+use Rattle.sctp_wire.specs.Field.{be16}
 use Rattle.sctp_state.specs.Handover.{OutstandingData, StreamMessage}
 use Rattle.sctp_state.specs.declared.api.handover.HandoverOrderedStream.{HandoverOrderedStream}
 use Rattle.sctp_state.specs.declared.api.handover.HandoverOutgoingStream.{HandoverOutgoingStream}

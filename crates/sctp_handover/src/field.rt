@@ -2,7 +2,7 @@
 
 ghost use Rattle.std.specs.Prelude.{◌≡◌, ◌<◌, ◌^◌, Bool, List, ℕ, ◌++◌, length, FitsSigned, IfOk, OnOk};
 ghost use Rattle.std.specs.Int.{w32};
-ghost use Rattle.sctp_wire.specs.Fields.{be16, be32, be64};
+ghost use Rattle.sctp_wire.specs.Field.{be16, be32, be64};
 ghost use Rattle.sctp_handover.specs.Bounds.{Is16, Is32, Is64};
 ghost use Rattle.sctp_handover.specs.Bytes.{flag_bytes, payload_bytes, signed_bytes};
 ghost use Rattle.sctp_handover.specs.Reads.{Finds, some_if};

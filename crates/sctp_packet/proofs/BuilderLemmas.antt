@@ -4,7 +4,7 @@ use Rattle.std.specs.List.{flat_map}
 use Rattle.std.proofs.lemmas.List.{append-nil, length-append, length-take, length-drop, take_at}
 use Rattle.std.proofs.lemmas.List.Concat.{flat_map-cons}
 use Rattle.std.proofs.lemmas.Bool.{eqb-true}
-use Rattle.sctp_wire.specs.Fields.{be16, be32, length_be32}
+use Rattle.sctp_wire.specs.Field.{be16, be32, length_be32}
 use Rattle.sctp_wire.specs.Serialize.{IsEncodable, padded_item}
 use Rattle.sctp_wire.proofs.SerializeLemmas.{length_padded_item}
 use Rattle.sctp_chunk.specs.Chunk.{ChunkTree}

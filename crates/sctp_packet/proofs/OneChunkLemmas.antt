@@ -10,7 +10,7 @@ use Rattle.sctp_serial.specs.declared.types.ssn.Ssn.{Ssn}
 use Rattle.sctp_serial.specs.declared.types.mid.Mid.{Mid}
 use Rattle.sctp_serial.specs.declared.types.StreamKey.{StreamKey}
 use Rattle.sctp_serial.specs.declared.types.StreamKey.TheVariants as keys
-use Rattle.sctp_wire.specs.Fields.{be16, be32, length_be16, length_be32}
+use Rattle.sctp_wire.specs.Field.{be16, be32, length_be16, length_be32}
 use Rattle.sctp_wire.specs.Item.{Item, ParsesAll}
 use Rattle.sctp_wire.specs.Parameter.{ParameterTree, IsParameter}
 use Rattle.sctp_wire.specs.Cause.{CauseTree, IsCause}

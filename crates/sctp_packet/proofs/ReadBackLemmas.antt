@@ -6,7 +6,7 @@ use Rattle.std.proofs.lemmas.List.{append-nil}
 use Rattle.std.proofs.lemmas.List.Concat.{flat_map-cons}
 use Rattle.sctp_serial.specs.declared.types.StreamKey.{StreamKey}
 use Rattle.sctp_serial.specs.declared.types.StreamKey.TheVariants as keys
-use Rattle.sctp_wire.specs.Fields.{be32}
+use Rattle.sctp_wire.specs.Field.{be32}
 use Rattle.sctp_wire.specs.Item.{ParsesAll}
 use Rattle.sctp_wire.specs.Serialize.{inner_items}
 use Rattle.sctp_wire.specs.Parameter.{ParameterTree, IsParameter, parameter_item}

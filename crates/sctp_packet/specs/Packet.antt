@@ -1,7 +1,7 @@
 -- Packets (RFC 9260 section 3): a common header and chunks. A relation between bytes and a tree of what they say.
 use Rattle.std.specs.Prelude.{◌≡◌, ◌≢◌, ℕ, ◌<◌, ◌≤◌, ◌^◌, Bool, true, false, List, [], ◌++◌, length, take, drop}
 use Rattle.std.specs.Int.{w32, from_be_bytes}
-use Rattle.sctp_wire.specs.Fields.{be16, be32}
+use Rattle.sctp_wire.specs.Field.{be16, be32}
 use Rattle.sctp_wire.specs.Item.{ParsesAll}
 use Rattle.sctp_wire.specs.Refusal.{FailsToParseAs}
 use Rattle.sctp_wire.specs.Checksum.{accepts, with_zero_field}

@@ -1,7 +1,7 @@
 //! Packets written: chunks one after the other behind a common header, up to a limit.
 
 ghost use Rattle.std.specs.Prelude.{◌≡◌, ◌≢◌, ◌<◌, ◌≤◌, ◌&&◌, nat_le, true, List, [], ◌∷◌, ◌++◌, length, take, drop, IsOk, OnOk, OnErr, IsTrue, ◌↔◌, vec_capacity};
-ghost use Rattle.sctp_wire.specs.Fields.{be32};
+ghost use Rattle.sctp_wire.specs.Field.{be32};
 ghost use Rattle.sctp_wire.specs.Serialize.{IsEncodable, is_encodable};
 ghost use Rattle.sctp_wire.specs.Room.{Fills};
 ghost use Rattle.sctp_chunk.specs.Chunk.{ChunkTree};

@@ -2,7 +2,7 @@
 use Rattle.std.proofs.Common.{◌≡◌, inl, inr, ℕ, ◌<◌, ◌^◌, false, ◌==◌, List, ◌++◌, length, refl, sym, ap, subst, ◌∙◌, None, Some, arith}
 use Rattle.sctp_wire.specs.declared.error.ChunkParseError.{ChunkParseError}
 use Rattle.sctp_wire.specs.declared.error.ChunkParseError.TheVariants.{InvalidLength, InvalidType, InvalidPadding, InvalidValue, Memory}
-use Rattle.sctp_wire.specs.Fields.{be32, length_be32}
+use Rattle.sctp_wire.specs.Field.{be32, length_be32}
 use Rattle.sctp_wire.specs.Item.{Item}
 use Rattle.sctp_wire.specs.Serialize.{IsEncodable, type_of}
 use Rattle.sctp_wire.specs.Shape.{Shape, any_length, HasShape}

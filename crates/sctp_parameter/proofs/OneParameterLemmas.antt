@@ -6,7 +6,7 @@ use Rattle.std.proofs.lemmas.List.{append-nil}
 use Rattle.std.proofs.lemmas.List.Concat.{flat_map-cons}
 use Rattle.sctp_serial.specs.declared.api.StreamId.{StreamId}
 use Rattle.sctp_serial.specs.declared.types.tsn.Tsn.{Tsn}
-use Rattle.sctp_wire.specs.Fields.{be16, be32, length_be32}
+use Rattle.sctp_wire.specs.Field.{be16, be32, length_be32}
 use Rattle.sctp_parameter.proofs.ParameterLemmas.{length_response}
 use Rattle.sctp_wire.specs.Item.{Item}
 use Rattle.sctp_wire.specs.Serialize.{type_of}

@@ -4,7 +4,7 @@ use Rattle.std.specs.List.{flat_map}
 use Rattle.std.proofs.lemmas.List.{length-append}
 use Rattle.sctp_serial.specs.declared.api.StreamId.{StreamId}
 use Rattle.sctp_serial.specs.declared.types.tsn.Tsn.{Tsn}
-use Rattle.sctp_wire.specs.Fields.{be32, length_be16}
+use Rattle.sctp_wire.specs.Field.{be32, length_be16}
 use Rattle.sctp_wire.specs.Parameter.{parameter_value, outgoing_reset_request, incoming_reset_request, reset_response, zero_checksum_acceptable, stream_bytes, optional_tsn_bytes}
 use Rattle.sctp_wire.proofs.SerializeLemmas.{length_entries}
 

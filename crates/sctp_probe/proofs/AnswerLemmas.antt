@@ -4,7 +4,7 @@ use Rattle.sctp_packet.specs.Chunk.{ChunkTree, FragmentTree, data_chunk}
 use Rattle.sctp_packet.specs.Packet.{PacketTree}
 use Rattle.sctp_packet.specs.Faults.{fault_number}
 use Rattle.sctp_packet.proofs.LawLemmas.{one_packet_lem, never_both_lem, one_reason_lem}
-use Rattle.sctp_probe.specs.Probe.{Answer, replied, refused, other, Probes, IsMessage, default_policy, packet_word, reply_bytes}
+use Rattle.sctp_probe.specs.Probing.{Answer, replied, refused, other, Probes, IsMessage, default_policy, packet_word, reply_bytes}
 
 same_chunk : (t u : ℕ) (i j : Bool) (f g : FragmentTree) (xs ys : List ChunkTree) → xs ≡ ys → xs ≡ data_chunk t i f ∷ [] → ys ≡ data_chunk u j g ∷ [] → (t ≡ u) × (f ≡ g)
 same_chunk t u i j f g xs ys s h k = (cc, cc)

@@ -3,7 +3,7 @@ use Rattle.std.proofs.Common.{◌≡◌, ℕ, ◌≤◌, Bool, true, List, [], �
 use Rattle.std.specs.Prelude.{IfSome}
 use Rattle.std.proofs.lemmas.List.{append-nil}
 use Rattle.std.proofs.lemmas.List.Concat.{flat_map-cons}
-use Rattle.sctp_wire.specs.Fields.{be16, be32}
+use Rattle.sctp_wire.specs.Field.{be16, be32}
 use Rattle.sctp_wire.specs.Serialize.{IsEncodable, padded_item}
 use Rattle.sctp_wire.specs.declared.checksum.Policy.{Policy}
 use Rattle.sctp_packet.specs.declared.packet.PacketParseError.{PacketParseError}
@@ -13,8 +13,8 @@ use Rattle.sctp_packet.specs.Written.{chunk_item, chunk_value, chunk_bytes, chun
 use Rattle.sctp_packet.specs.Packet.{HeaderTree, PacketTree, Accepts, Refuses, header_bytes, unsummed_bytes, packet_bytes}
 use Rattle.sctp_packet.specs.Builder.{BuilderTree, so_far, build}
 use Rattle.sctp_packet.proofs.BuilderLemmas.{built_is_packet}
-use Rattle.sctp_probe.specs.ByteSums.{byte_sum}
-use Rattle.sctp_probe.specs.Probe.{default_policy, packet_word, Probes, answer_of, refusal_of, reply_chunk, summed_packet, turn_header, reply_bytes}
+use Rattle.sctp_probe.specs.Checksum.{byte_sum}
+use Rattle.sctp_probe.specs.Probing.{default_policy, packet_word, Probes, answer_of, refusal_of, reply_chunk, summed_packet, turn_header, reply_bytes}
 use Rattle.sctp_packet.proofs.LawLemmas.{packet_long}
 
 -- the word that was handed in is the packet's

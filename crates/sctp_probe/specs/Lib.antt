@@ -1,2 +1,2 @@
-pub mod ByteSums
-pub mod Probe
+pub mod Checksum
+pub mod Probing

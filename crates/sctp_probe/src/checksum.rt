@@ -1,7 +1,7 @@
 //! The checksum of this program: a sum that any reader can redo by hand.
 
 ghost use Rattle.std.specs.Prelude.{◌≡◌, ◌+◌, ◌%◌, ◌^◌, sum};
-ghost use Rattle.sctp_probe.specs.ByteSums.{byte_sum};
+ghost use Rattle.sctp_probe.specs.Checksum.{byte_sum};
 
 use sctp_wire::Checksum;
 

@@ -5,7 +5,7 @@ ghost use Rattle.sctp_packet.specs.Chunk.{FragmentTree, data_chunk};
 ghost use Rattle.sctp_packet.specs.ChunkView.{chunk_tree};
 ghost use Rattle.sctp_packet.specs.Views.{data_chunk_tree, fragment_tree};
 ghost use Rattle.sctp_packet.specs.PacketView.{header_tree};
-ghost use Rattle.sctp_probe.specs.Probe.{Answer, Probes, IsWhole, IsMessage, answer_of, packet_word, refusal_of, reply_bytes, reply_chunk};
+ghost use Rattle.sctp_probe.specs.Probing.{Answer, Probes, IsWhole, IsMessage, answer_of, packet_word, refusal_of, reply_bytes, reply_chunk};
 
 use crate::answer::{Probe, ProbeError};
 use crate::checksum::ByteSum;

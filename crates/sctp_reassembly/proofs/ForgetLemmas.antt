@@ -12,7 +12,7 @@ use Rattle.std.proofs.lemmas.Map.{NonePasses}
 use Rattle.std.proofs.lemmas.Map.Entries.{none_past_head, sum_by-remove_entry}
 use Rattle.std.proofs.lemmas.Map.Keys.{sorted_tail, IsDistinct-from_sorted}
 use Rattle.sctp_serial.specs.declared.api.StreamId.{StreamId}
-use Rattle.sctp_reassembly.specs.Streams.{Entries, forget}
+use Rattle.sctp_reassembly.specs.ReassemblyStreams.{Entries, forget}
 use Rattle.sctp_serial.proofs.NumberLemmas.{at_equal}
 
 module _ {S : Type 0} where

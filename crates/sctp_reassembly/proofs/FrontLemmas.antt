@@ -5,7 +5,7 @@ use Rattle.sctp_fragments.specs.declared.interval.Entry.{Entry}
 use Rattle.sctp_fragments.specs.declared.interval.Interval.{Interval}
 use Rattle.sctp_fragments.specs.Runs.{flat, from_rank, AreRuns, AllBelow, IsBelow, end_of}
 use Rattle.sctp_fragments.specs.Held.{Held, rank_of, goes_on, bytes_of, is_complete, NoneComplete}
-use Rattle.sctp_fragments.specs.Intervals.{run_of, lists_of, entries_of}
+use Rattle.sctp_fragments.specs.Interval.{run_of, lists_of, entries_of}
 use Rattle.sctp_fragments.proofs.RunLemmas.{flat_append, AreRuns_front, AreRuns_back, AllBelow_runs, first_runs}
 use Rattle.sctp_reassembly.proofs.ListLemmas.{bytes_of_append}
 use Rattle.sctp_reassembly.proofs.InsertLemmas.{in_two, NonePass_back}

@@ -8,7 +8,7 @@ use Rattle.sctp_fragments.specs.declared.interval.Entry.{Entry}
 use Rattle.sctp_fragments.specs.declared.interval.Interval.{Interval}
 use Rattle.sctp_fragments.specs.Runs.{flat, end_of, last_of, is_held, IsBelow, LeadsTo, is_next, joins_left, joins_right, AreRuns}
 use Rattle.sctp_fragments.specs.Held.{Held, rank_of, goes_on, NonePass}
-use Rattle.sctp_fragments.specs.Intervals.{IsInserted, run_of, lists_of}
+use Rattle.sctp_fragments.specs.Interval.{IsInserted, run_of, lists_of}
 use Rattle.sctp_fragments.proofs.RunLemmas.{end_of_append, flat_append, alone, at_left, at_right, joining}
 use Rattle.sctp_fragments.proofs.PlaceLemmas.{cons, some_run, lists_of_append}
 

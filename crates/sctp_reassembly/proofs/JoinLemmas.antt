@@ -3,7 +3,7 @@ use Rattle.std.proofs.Common.{◌≡◌, ℕ, zero, suc, ◌+◌, ◌<◌, ◌�
 use Rattle.std.specs.List.{remove}
 use Rattle.std.specs.VecDeque.{deque_len, deque_capacity}
 use Rattle.sctp_fragments.specs.Held.{Held}
-use Rattle.sctp_fragments.specs.Intervals.{run_of, lists_of}
+use Rattle.sctp_fragments.specs.Interval.{run_of, lists_of}
 use Rattle.sctp_fragments.specs.declared.interval.Entry.{Entry}
 use Rattle.sctp_fragments.specs.declared.interval.Interval.{Interval}
 use Rattle.sctp_fragments.proofs.PlaceLemmas.{remove_at, read_at, lists_set}

@@ -5,7 +5,7 @@ use Rattle.std.specs.List.{remove}
 use Rattle.std.specs.Prelude.{◌&&◌}
 use Rattle.std.proofs.lemmas.Bool.{lt-ltb, le-ltb, and_parts}
 use Rattle.std.proofs.Math.Seq.{take-append_seam, drop-append_seam}
-use Rattle.sctp_fragments.specs.Intervals.{StartsInTurn, without_first, first_below, IsInserted, EndsFrom, starts_upto, run_of}
+use Rattle.sctp_fragments.specs.Interval.{StartsInTurn, without_first, first_below, IsInserted, EndsFrom, starts_upto, run_of}
 use Rattle.sctp_fragments.specs.Runs.{from_rank}
 use Rattle.sctp_fragments.proofs.PlaceLemmas.{emitted_less, emitted_not_less}
 use Rattle.sctp_fragments.proofs.RunLemmas.{first_runs, from_rank_runs}
@@ -15,7 +15,7 @@ use Rattle.sctp_fragments.specs.declared.interval.Entry.{Entry}
 use Rattle.sctp_fragments.specs.declared.interval.Interval.{Interval}
 use Rattle.sctp_fragments.specs.Runs.{is_next, flat, last_of, end_of, is_held, with_item, IsBelow, LeadsTo, AreRuns}
 use Rattle.sctp_fragments.specs.Held.{Held, rank_of, goes_on, bytes_of, intervals_of, is_complete, begins, ends, NonePass, NoneComplete, IsPlaced, IsTaken, is_in_turn, NoneInTurn, IsTurn}
-use Rattle.sctp_fragments.specs.Intervals.{lists_of, entries_of}
+use Rattle.sctp_fragments.specs.Interval.{lists_of, entries_of}
 use Rattle.sctp_fragments.proofs.RunLemmas.{flat_append, runs_of_flat, AreRuns_without, with_item_between, is_held_between, is_held_within}
 use Rattle.sctp_fragments.proofs.PlaceLemmas.{cons, some_run, lists_of_append, read_at, remove_at}
 use Rattle.sctp_reassembly.proofs.InsertLemmas.{split_at, length_lists_of, in_two}

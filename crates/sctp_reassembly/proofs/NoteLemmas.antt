@@ -19,9 +19,9 @@ use Rattle.sctp_state.specs.declared.api.handover.HandoverUnorderedStream.{Hando
 use Rattle.sctp_fragments.specs.Runs.{from_rank}
 use Rattle.sctp_fragments.specs.Held.{Held, rank_of}
 use Rattle.sctp_reassembly.specs.Delivery.{UnorderedStream, fresh_unordered, held_from}
-use Rattle.sctp_reassembly.specs.Streams.{Entries, stream_at, open_stream, write_stream, change_stream, is_named, forget}
+use Rattle.sctp_reassembly.specs.ReassemblyStreams.{Entries, stream_at, open_stream, write_stream, change_stream, is_named, forget}
 use Rattle.sctp_reassembly.specs.ReassemblyHandover.{unordered_records}
-use Rattle.sctp_reassembly.specs.Notes.{Notes, note_cmp, is_noted, HasNote, AreNoted, OthersAreNoted, KeepsOthers, NoneBelow, forward}
+use Rattle.sctp_reassembly.specs.NotedStreams.{Notes, note_cmp, is_noted, HasNote, AreNoted, OthersAreNoted, KeepsOthers, NoneBelow, forward}
 use Rattle.sctp_serial.proofs.NumberLemmas.{equal_at, at_itself, is_equal, not_at}
 
 -- ---- the order of notes

@@ -6,7 +6,7 @@ use Rattle.sctp_fragments.specs.declared.interval.Entry.{Entry}
 use Rattle.sctp_fragments.specs.declared.interval.Interval.{Interval}
 use Rattle.sctp_fragments.specs.Runs.{AreRuns}
 use Rattle.sctp_fragments.specs.Held.{Held, rank_of, goes_on, NoneInTurn, without_first_of, left_by, intervals_of, is_in_turn, IsTaken, is_complete}
-use Rattle.sctp_fragments.specs.Intervals.{run_of, lists_of, entries_of, StartsInTurn}
+use Rattle.sctp_fragments.specs.Interval.{run_of, lists_of, entries_of, StartsInTurn}
 use Rattle.sctp_reassembly.proofs.ListLemmas.{is_turn, must_be}
 use Rattle.sctp_reassembly.proofs.FindLemmas.{found, taken_left, taken_intervals}
 

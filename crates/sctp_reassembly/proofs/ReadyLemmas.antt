@@ -6,12 +6,12 @@ use Rattle.std.proofs.lemmas.Bool.{and_parts}
 use Rattle.std.proofs.lemmas.List.Elements.{All-nil, All-cons}
 use Rattle.sctp_serial.specs.Unwrapped.{origin}
 use Rattle.sctp_serial.specs.Messages.{Message}
-use Rattle.sctp_fragments.specs.Key.{pair_rank}
+use Rattle.sctp_fragments.specs.ReassemblyKey.{pair_rank}
 use Rattle.sctp_fragments.specs.Runs.{flat, last_of, with_item, from_rank, end_of, AreRuns}
 use Rattle.sctp_fragments.specs.Held.{Held, rank_of, goes_on, begins, ends, intervals_of, is_complete, is_in_turn, without_first_of, left_by, message_of_run}
 use Rattle.sctp_reassembly.specs.Delivery.{OrderedStream, UnorderedStream, OrderedDelivery, at_rest, delivering, deliver_within, deliver, ordered_arrival, ordered_forward, complete_messages, deliver_complete, unordered_arrival}
-use Rattle.sctp_reassembly.specs.Settled.{AreInOrder}
-use Rattle.sctp_reassembly.specs.Ready.{held_at, AreHeld, IsWhole, AreParted, AreReady, AreReadyInTurn, IsIn}
+use Rattle.sctp_reassembly.specs.SettledLaws.{AreInOrder}
+use Rattle.sctp_reassembly.specs.ReadyLaws.{held_at, AreHeld, IsWhole, AreParted, AreReady, AreReadyInTurn, IsIn}
 use Rattle.sctp_fragments.proofs.RunLemmas.{AreRuns_back, flat_append, flat_runs_of}
 use Rattle.sctp_reassembly.proofs.DeliverLemmas.{found_passes}
 use Rattle.sctp_reassembly.proofs.FindLemmas.{left_unfound}

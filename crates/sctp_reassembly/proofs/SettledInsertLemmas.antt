@@ -4,8 +4,8 @@ use Rattle.std.specs.Prelude.{◌==◌}
 use Rattle.std.proofs.lemmas.Bool.{cases_lt, cases_Bool, or_parts}
 use Rattle.sctp_fragments.specs.Runs.{is_next, is_held, put_in, with_item, last_of, flat, AreRuns, end_of, IsBelow, LeadsTo, joins_left}
 use Rattle.sctp_fragments.specs.Held.{Held, rank_of, goes_on, intervals_of, is_complete, NoneComplete, without_first_of, left_by}
-use Rattle.sctp_fragments.specs.Intervals.{IsInserted}
-use Rattle.sctp_reassembly.specs.Settled.{AreInOrder}
+use Rattle.sctp_fragments.specs.Interval.{IsInserted}
+use Rattle.sctp_reassembly.specs.SettledLaws.{AreInOrder}
 use Rattle.sctp_fragments.proofs.RunLemmas.{AreRuns_front, end_of_append, runs_of_flat, flat_runs_of, is_held_within, with_item_between}
 use Rattle.sctp_reassembly.proofs.InsertLemmas.{inserts_alone, inserts_left, inserts_right, inserts_both}
 use Rattle.sctp_reassembly.proofs.FindLemmas.{without_none}

@@ -4,7 +4,7 @@ use Rattle.std.specs.Prelude.{◌==◌}
 use Rattle.sctp_serial.specs.declared.api.StreamId.{StreamId}
 use Rattle.sctp_chunk.specs.declared.forward_tsn.SkippedStream.{SkippedStream}
 use Rattle.sctp_chunk.specs.Chunk.{FragmentTree}
-use Rattle.sctp_reassembly.specs.Streams.{is_far, entries_in}
+use Rattle.sctp_reassembly.specs.ReassemblyStreams.{is_far, entries_in}
 use Rattle.sctp_reassembly.specs.ReassemblyQueue.{Waiting, Added, Forwarded, Reassembly, reassembly, number_of, came, waits, add_now, forward_now, fragment_waits, point_waits, add_or_wait, resetting, waiting_in, wait_with, forward_or_wait, add, forward, apply, apply_each, reset}
 use Rattle.std.specs.List.{All}
 use Rattle.std.specs.Map.{values_of}
@@ -15,7 +15,7 @@ use Rattle.sctp_state.specs.declared.api.handover.HandoverUnorderedStream.{Hando
 use Rattle.sctp_state.specs.Handover.{Receive}
 use Rattle.sctp_reassembly.specs.Delivery.{fresh_unordered}
 use Rattle.sctp_reassembly.specs.ReassemblyHandover.{ordered_entries, unordered_entries, restore}
-use Rattle.sctp_reassembly.specs.Settled.{IsSettledInOrder, IsSettled, AreSettled}
+use Rattle.sctp_reassembly.specs.SettledLaws.{IsSettledInOrder, IsSettled, AreSettled}
 use Rattle.sctp_reassembly.proofs.SettledStreamsLemmas.{settled_none, settled_add, settled_point, settled_reset}
 
 pub settled_new : (max_size : ℕ) (b : Bool) → AreSettled (reassembly max_size b).streams

@@ -5,7 +5,7 @@ use Rattle.std.specs.List.{find}
 use Rattle.std.proofs.lemmas.Bool.{lt-ltb, cases_lt, cases_Bool}
 use Rattle.sctp_fragments.specs.Runs.{is_next, from_rank, last_of, attach, flat, AreRuns}
 use Rattle.sctp_fragments.specs.Held.{Held, rank_of, goes_on, intervals_of, NonePass, NoneComplete, without_first_of, left_by}
-use Rattle.sctp_reassembly.specs.Settled.{AreInOrder}
+use Rattle.sctp_reassembly.specs.SettledLaws.{AreInOrder}
 use Rattle.sctp_fragments.proofs.RunLemmas.{AreRuns_without, runs_of_flat, flat_runs_of, from_rank_runs}
 use Rattle.sctp_reassembly.proofs.FindLemmas.{without_none}
 use Rattle.sctp_reassembly.proofs.ListLemmas.{second_false}

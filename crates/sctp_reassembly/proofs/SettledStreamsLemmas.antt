@@ -14,11 +14,11 @@ use Rattle.sctp_chunk.specs.Chunk.{FragmentTree}
 use Rattle.sctp_chunk.specs.declared.forward_tsn.SkippedStream.{SkippedStream}
 use Rattle.sctp_chunk.specs.declared.forward_tsn.SkippedStream.TheVariants.{ForwardTsn, IForwardTsn}
 use Rattle.sctp_fragments.specs.Runs.{with_item, from_rank}
-use Rattle.sctp_fragments.specs.Key.{pair_rank}
+use Rattle.sctp_fragments.specs.ReassemblyKey.{pair_rank}
 use Rattle.sctp_fragments.specs.Held.{Held, rank_of, intervals_of, is_complete, is_in_turn, left_by}
 use Rattle.sctp_reassembly.specs.Delivery.{OrderedStream, UnorderedStream, OrderedDelivery, UnorderedDelivery, fresh_ordered, fresh_unordered, at_rest, delivering, deliver, deliver_within, ordered_arrival, ordered_forward, deliver_complete, unordered_arrival, unordered_forward, unordered_forward_tsn, held_from}
-use Rattle.sctp_reassembly.specs.Streams.{Entries, Streams, stream_at, open_stream, change_stream, is_named, no_streams, is_far, held_as, ordered_number, unordered_number, with_ordered, with_unordered, unchanged, add_ordered, add_unordered, add_in_order, add, skip_ordered, skip_unordered, skip_of, skip, skip_each, by_stream, dropped_to, forward, reset}
-use Rattle.sctp_reassembly.specs.Settled.{AreInOrder, IsSettledInOrder, IsSettled, AreSettled}
+use Rattle.sctp_reassembly.specs.ReassemblyStreams.{Entries, Streams, stream_at, open_stream, change_stream, is_named, no_streams, is_far, held_as, ordered_number, unordered_number, with_ordered, with_unordered, unchanged, add_ordered, add_unordered, add_in_order, add, skip_ordered, skip_unordered, skip_of, skip, skip_each, by_stream, dropped_to, forward, reset}
+use Rattle.sctp_reassembly.specs.SettledLaws.{AreInOrder, IsSettledInOrder, IsSettled, AreSettled}
 use Rattle.sctp_reassembly.proofs.DeliverLemmas.{length_found}
 use Rattle.sctp_reassembly.proofs.SettledRunsLemmas.{left_intervals, left_order, find_none, none_empty, from_order, from_none}
 use Rattle.sctp_reassembly.proofs.SettledInsertLemmas.{came_in}

@@ -5,7 +5,7 @@ use Rattle.sctp_fragments.specs.Held.{Held}
 use Rattle.sctp_reassembly.specs.Delivery.{OrderedStream, UnorderedStream, fresh_ordered, fresh_unordered, ordered_arrival, unordered_arrival, ordered_forward, unordered_forward}
 use Rattle.sctp_serial.specs.Unwrapped.{words, nearest}
 use Rattle.sctp_chunk.specs.Chunk.{FragmentTree}
-use Rattle.sctp_reassembly.specs.Streams.{Entries, Streams, Outcome, add, add_in_order, held_as, place_of, unchanged, number_if_any, is_far, stream_at, change_stream, with_ordered, with_unordered, add_ordered, add_unordered, skip_ordered, skip_unordered, skip, skip_each}
+use Rattle.sctp_reassembly.specs.ReassemblyStreams.{Entries, Streams, Outcome, add, add_in_order, held_as, place_of, unchanged, number_if_any, is_far, stream_at, change_stream, with_ordered, with_unordered, add_ordered, add_unordered, skip_ordered, skip_unordered, skip, skip_each}
 
 -- what is numbered
 near : (b : Bool) (n m : ℕ) → cond b None (Some n) ≡ Some m → b ≡ false
@@ -44,8 +44,8 @@ module _ (e : SkippedStream) (es : List SkippedStream) (i : ℕ) (h : i < length
 
 -- ---- the two forms
 
-abbrev mixed : Entries OrderedStream → Entries UnorderedStream → Streams
-mixed o u = record { is_interleaved = true; ordered = o; unordered = u }
+abbrev interleaved : Entries OrderedStream → Entries UnorderedStream → Streams
+interleaved o u = record { is_interleaved = true; ordered = o; unordered = u }
 
 abbrev plain : Entries OrderedStream → Entries UnorderedStream → Streams
 plain o u = record { is_interleaved = false; ordered = o; unordered = u }
@@ -53,13 +53,13 @@ plain o u = record { is_interleaved = false; ordered = o; unordered = u }
 pub skipped_plain : (id n m : ℕ) (o new : Entries OrderedStream) (u : Entries UnorderedStream) → number_if_any n ≡ Some m → new ≡ change_stream fresh_ordered id (ordered_forward m (stream_at fresh_ordered id o)).stream o → plain new u ≡ (skip_ordered id n (plain o u)).streams
 skipped_plain id n m o new u some made = ap (λ (t : Entries OrderedStream). plain t u) made ∙ sym (ap (λ (t : Outcome). t.streams) (skip_near id n m (plain o u) some))
 
-pub skipped_mixed : (id n m : ℕ) (o new : Entries OrderedStream) (u : Entries UnorderedStream) → number_if_any n ≡ Some m → new ≡ change_stream fresh_ordered id (ordered_forward m (stream_at fresh_ordered id o)).stream o → mixed new u ≡ (skip_ordered id n (mixed o u)).streams
-skipped_mixed id n m o new u some made = ap (λ (t : Entries OrderedStream). mixed t u) made ∙ sym (ap (λ (t : Outcome). t.streams) (skip_near id n m (mixed o u) some))
+pub skipped_interleaved : (id n m : ℕ) (o new : Entries OrderedStream) (u : Entries UnorderedStream) → number_if_any n ≡ Some m → new ≡ change_stream fresh_ordered id (ordered_forward m (stream_at fresh_ordered id o)).stream o → interleaved new u ≡ (skip_ordered id n (interleaved o u)).streams
+skipped_interleaved id n m o new u some made = ap (λ (t : Entries OrderedStream). interleaved t u) made ∙ sym (ap (λ (t : Outcome). t.streams) (skip_near id n m (interleaved o u) some))
 
-pub skipped_unordered : (id n m : ℕ) (o : Entries OrderedStream) (u new : Entries UnorderedStream) → number_if_any n ≡ Some m → new ≡ change_stream fresh_unordered id (unordered_forward m (stream_at fresh_unordered id u)) u → mixed o new ≡ (skip_unordered id n (mixed o u)).streams
+pub skipped_unordered : (id n m : ℕ) (o : Entries OrderedStream) (u new : Entries UnorderedStream) → number_if_any n ≡ Some m → new ≡ change_stream fresh_unordered id (unordered_forward m (stream_at fresh_unordered id u)) u → interleaved o new ≡ (skip_unordered id n (interleaved o u)).streams
 skipped_unordered id n m o u new some made =
-    ap (λ (t : Entries UnorderedStream). mixed o t) (made ∙ ap (λ (k : ℕ). change_stream fresh_unordered id (unordered_forward k (stream_at fresh_unordered id u)) u) (sym (same_from n m some)))
-    ∙ sym (ap (λ (b : Bool). (cond b (unchanged (mixed o u)) (record { streams = mixed o (change_stream fresh_unordered id (unordered_forward n (stream_at fresh_unordered id u)) u); messages = [] })).streams) (near_from n m some))
+    ap (λ (t : Entries UnorderedStream). interleaved o t) (made ∙ ap (λ (k : ℕ). change_stream fresh_unordered id (unordered_forward k (stream_at fresh_unordered id u)) u) (sym (same_from n m some)))
+    ∙ sym (ap (λ (b : Bool). (cond b (unchanged (interleaved o u)) (record { streams = interleaved o (change_stream fresh_unordered id (unordered_forward n (stream_at fresh_unordered id u)) u); messages = [] })).streams) (near_from n m some))
 
 -- it makes no message ready
 pub skipped_silently : (id n : ℕ) (ss : Streams) → [] ≡ (skip_unordered id n ss).messages
@@ -70,19 +70,19 @@ skipped_silently id n ss = go (is_far n)
     go false = refl
 
 pub comes_unordered : (o : Entries OrderedStream) (u : Entries UnorderedStream) (tsn id n index : ℕ) (f : FragmentTree) → f.is_unordered ≡ true → f.stream_id ≡ id → number_if_any (nearest words 0 (stream_at fresh_unordered id u).near f.mid) ≡ Some n → index ≡ place_of true tsn f
-    → add tsn f (mixed o u) ≡ with_unordered id (unordered_arrival (record { number = n; index = index; fragment = f }) (stream_at fresh_unordered id u)) (mixed o u)
+    → add tsn f (interleaved o u) ≡ with_unordered id (unordered_arrival (record { number = n; index = index; fragment = f }) (stream_at fresh_unordered id u)) (interleaved o u)
 comes_unordered o u tsn id n index f kind stream some place =
-    ap (λ (b : Bool). add_in_order b tsn f (mixed o u)) kind
-    ∙ (ap (λ (i : ℕ). add_unordered i (held_as true (nearest words 0 (stream_at fresh_unordered i u).near f.mid) tsn f) (mixed o u)) stream
-    ∙ (add_near_unordered id n (held_as true (nearest words 0 (stream_at fresh_unordered id u).near f.mid) tsn f) (mixed o u) some
-    ∙ (ap (λ (k : ℕ). with_unordered id (unordered_arrival (record { number = k; index = place_of true tsn f; fragment = f }) (stream_at fresh_unordered id u)) (mixed o u)) (same_from _ n some)
-    ∙ ap (λ (k : ℕ). with_unordered id (unordered_arrival (record { number = n; index = k; fragment = f }) (stream_at fresh_unordered id u)) (mixed o u)) (sym place))))
+    ap (λ (b : Bool). add_in_order b tsn f (interleaved o u)) kind
+    ∙ (ap (λ (i : ℕ). add_unordered i (held_as true (nearest words 0 (stream_at fresh_unordered i u).near f.mid) tsn f) (interleaved o u)) stream
+    ∙ (add_near_unordered id n (held_as true (nearest words 0 (stream_at fresh_unordered id u).near f.mid) tsn f) (interleaved o u) some
+    ∙ (ap (λ (k : ℕ). with_unordered id (unordered_arrival (record { number = k; index = place_of true tsn f; fragment = f }) (stream_at fresh_unordered id u)) (interleaved o u)) (same_from _ n some)
+    ∙ ap (λ (k : ℕ). with_unordered id (unordered_arrival (record { number = n; index = k; fragment = f }) (stream_at fresh_unordered id u)) (interleaved o u)) (sym place))))
 
 pub comes_ordered : (o : Entries OrderedStream) (u : Entries UnorderedStream) (tsn id n index : ℕ) (f : FragmentTree) → f.is_unordered ≡ false → f.stream_id ≡ id → number_if_any (nearest words 0 (stream_at fresh_ordered id o).next f.mid) ≡ Some n → index ≡ place_of true tsn f
-    → add tsn f (mixed o u) ≡ with_ordered id (ordered_arrival (record { number = n; index = index; fragment = f }) (stream_at fresh_ordered id o)) (mixed o u)
+    → add tsn f (interleaved o u) ≡ with_ordered id (ordered_arrival (record { number = n; index = index; fragment = f }) (stream_at fresh_ordered id o)) (interleaved o u)
 comes_ordered o u tsn id n index f kind stream some place =
-    ap (λ (b : Bool). add_in_order b tsn f (mixed o u)) kind
-    ∙ (ap (λ (i : ℕ). add_ordered i (held_as true (nearest words 0 (stream_at fresh_ordered i o).next f.mid) tsn f) (mixed o u)) stream
-    ∙ (add_near id n (held_as true (nearest words 0 (stream_at fresh_ordered id o).next f.mid) tsn f) (mixed o u) some
-    ∙ (ap (λ (k : ℕ). with_ordered id (ordered_arrival (record { number = k; index = place_of true tsn f; fragment = f }) (stream_at fresh_ordered id o)) (mixed o u)) (same_from _ n some)
-    ∙ ap (λ (k : ℕ). with_ordered id (ordered_arrival (record { number = n; index = k; fragment = f }) (stream_at fresh_ordered id o)) (mixed o u)) (sym place))))
+    ap (λ (b : Bool). add_in_order b tsn f (interleaved o u)) kind
+    ∙ (ap (λ (i : ℕ). add_ordered i (held_as true (nearest words 0 (stream_at fresh_ordered i o).next f.mid) tsn f) (interleaved o u)) stream
+    ∙ (add_near id n (held_as true (nearest words 0 (stream_at fresh_ordered id o).next f.mid) tsn f) (interleaved o u) some
+    ∙ (ap (λ (k : ℕ). with_ordered id (ordered_arrival (record { number = k; index = place_of true tsn f; fragment = f }) (stream_at fresh_ordered id o)) (interleaved o u)) (same_from _ n some)
+    ∙ ap (λ (k : ℕ). with_ordered id (ordered_arrival (record { number = n; index = k; fragment = f }) (stream_at fresh_ordered id o)) (interleaved o u)) (sym place))))

@@ -5,7 +5,7 @@ use Rattle.std.proofs.lemmas.Bool.Decides.{nat_tests}
 use Rattle.std.proofs.lemmas.List.Elements.{filter-append}
 use Rattle.std.specs.List.Sorted.{ties, IsNonDecreasingBy, IsStableByKey}
 use Rattle.sctp_chunk.specs.declared.forward_tsn.SkippedStream.{SkippedStream}
-use Rattle.sctp_reassembly.specs.Streams.{skipped_id, put_skip, put_each, by_stream}
+use Rattle.sctp_reassembly.specs.ReassemblyStreams.{skipped_id, put_skip, put_each, by_stream}
 
 -- ---- entries of one stream
 

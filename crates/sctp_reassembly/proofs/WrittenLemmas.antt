@@ -11,7 +11,7 @@ use Rattle.sctp_state.specs.declared.api.handover.HandoverOrderedStream.{Handove
 use Rattle.sctp_state.specs.declared.api.handover.HandoverUnorderedStream.{HandoverUnorderedStream}
 use Rattle.sctp_state.specs.Validity.{rises_from, ordered_ids, unordered_ids, has_small_numbers}
 use Rattle.sctp_reassembly.specs.Delivery.{OrderedStream, UnorderedStream}
-use Rattle.sctp_reassembly.specs.Streams.{Entries}
+use Rattle.sctp_reassembly.specs.ReassemblyStreams.{Entries}
 use Rattle.sctp_reassembly.specs.ReassemblyHandover.{ordered_records, unordered_records}
 
 abbrev StartsFrom : ℕ → List ℕ → Type 0

@@ -3,7 +3,7 @@ use Rattle.std.specs.Prelude.{◌≡◌, ℕ, zero, suc, ◌+◌, ◌^◌, ◌<�
 use Rattle.std.specs.List.{find, sum_by}
 use Rattle.sctp_serial.specs.Messages.{Message}
 use Rattle.sctp_serial.specs.Unwrapped.{origin}
-use Rattle.sctp_fragments.specs.Key.{pair_rank}
+use Rattle.sctp_fragments.specs.ReassemblyKey.{pair_rank}
 use Rattle.sctp_fragments.specs.Runs.{with_item, from_rank}
 use Rattle.sctp_fragments.specs.Held.{Held, rank_of, intervals_of, is_complete, message_of_run, is_in_turn, left_by, NoneInTurn, NoneComplete}
 

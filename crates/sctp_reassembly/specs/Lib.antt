@@ -1,10 +1,10 @@
 pub mod Delivery
-pub mod Streams
+pub mod ReassemblyStreams
 pub mod NamedStreams
 pub mod ReassemblyQueue
-pub mod Forms
-pub mod WaitingViews
+pub mod Form
+pub mod Waiting
 pub mod ReassemblyHandover
-pub mod Settled
-pub mod Ready
-pub mod Notes
+pub mod SettledLaws
+pub mod ReadyLaws
+pub mod NotedStreams

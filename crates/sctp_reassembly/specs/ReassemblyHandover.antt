@@ -5,7 +5,7 @@ use Rattle.sctp_state.specs.declared.api.handover.HandoverOrderedStream.{Handove
 use Rattle.sctp_state.specs.declared.api.handover.HandoverUnorderedStream.{HandoverUnorderedStream}
 use Rattle.sctp_state.specs.Handover.{Receive}
 use Rattle.sctp_reassembly.specs.Delivery.{OrderedStream, UnorderedStream, fresh_unordered}
-use Rattle.sctp_reassembly.specs.Streams.{Entries, Streams, is_any_held}
+use Rattle.sctp_reassembly.specs.ReassemblyStreams.{Entries, Streams, is_any_held}
 use Rattle.sctp_reassembly.specs.ReassemblyQueue.{Reassembly, Deferred}
 
 -- ---- what stands in the way

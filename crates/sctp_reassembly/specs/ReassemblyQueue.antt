@@ -6,8 +6,8 @@ use Rattle.sctp_serial.specs.Unwrapped.{origin, words, nearest}
 use Rattle.sctp_chunk.specs.declared.forward_tsn.SkippedStream.{SkippedStream}
 use Rattle.sctp_chunk.specs.Chunk.{FragmentTree}
 use Rattle.sctp_reassembly.specs.Delivery.{ready_bytes}
-use Rattle.sctp_reassembly.specs.Streams as streams
-use Rattle.sctp_reassembly.specs.Streams.{Streams, Outcome, no_streams, held_bytes, is_far, is_named, entries_in}
+use Rattle.sctp_reassembly.specs.ReassemblyStreams as streams
+use Rattle.sctp_reassembly.specs.ReassemblyStreams.{Streams, Outcome, no_streams, held_bytes, is_far, is_named, entries_in}
 
 -- what came while a reset was deferred, with SSNs and MIDs as they came
 pub data Waiting : Type 0 where

@@ -32,7 +32,7 @@ pub struct InterleavedReassemblyStreams {
 
 impl Model for InterleavedReassemblyStreams {
     ghost use Rattle.std.specs.Prelude.{true, ◌+◌, ◌<◌, ◌^◌};
-    ghost use Rattle.sctp_reassembly.specs.Streams.{Streams, ordered_bytes, unordered_bytes};
+    ghost use Rattle.sctp_reassembly.specs.ReassemblyStreams.{Streams, ordered_bytes, unordered_bytes};
 
     ghost Value = { Streams };
 
@@ -44,7 +44,7 @@ impl Model for InterleavedReassemblyStreams {
 impl InterleavedReassemblyStreams {
     ghost use Rattle.std.specs.Prelude.{true, ◌+◌, ◌<◌, ◌≤◌, ◌^◌, ◌++◌, OnOk};
     ghost use Rattle.sctp_reassembly.specs.Delivery.{ready_bytes, Extends};
-    ghost use Rattle.sctp_reassembly.specs.Streams.{no_streams, held_bytes, skip};
+    ghost use Rattle.sctp_reassembly.specs.ReassemblyStreams.{no_streams, held_bytes, skip};
 
     /// No streams. Takes no memory.
     pub fn new(alloc: Global) -> InterleavedReassemblyStreams
@@ -179,7 +179,7 @@ impl ReassemblyStreams for InterleavedReassemblyStreams {
 
 ghost use Rattle.std.specs.Prelude.{true};
 ghost use Rattle.sctp_chunk.specs.Views.{fragment_tree};
-ghost use Rattle.sctp_reassembly.specs.Streams.{place_of};
+ghost use Rattle.sctp_reassembly.specs.ReassemblyStreams.{place_of};
 
 /// The fragment's place in its message: its FSN, and 0 where it begins the message.
 fn place_of(fragment: &Data) -> u64

@@ -20,7 +20,7 @@ pub struct IntervalList<K: ReassemblyKey> {
 impl<K: ReassemblyKey> Model for IntervalList<K> {
     ghost use Rattle.std.specs.Prelude.{List};
     ghost use Rattle.sctp_fragments.specs.Held.{Held};
-    ghost use Rattle.sctp_fragments.specs.Intervals.{held_of, entries_of, IsKept};
+    ghost use Rattle.sctp_fragments.specs.Interval.{held_of, entries_of, IsKept};
 
     ghost Value = { List Held };
 
@@ -33,9 +33,9 @@ impl<K: ReassemblyKey> IntervalList<K> {
     ghost use Rattle.std.specs.List.{find};
     ghost use Rattle.sctp_fragments.specs.Runs.{is_held, with_item, from_rank};
     ghost use Rattle.sctp_fragments.specs.Held.{Held, rank_of, intervals_of, bytes_of, is_complete, NoneComplete, is_in_turn, without_first_of, left_by, IsPlaced, IsTaken};
-    ghost use Rattle.sctp_fragments.specs.Key.{rank_at};
-    ghost use Rattle.sctp_fragments.specs.Intervals.{held_at, held_of, run_of};
-    ghost use Rattle.sctp_reassembly.specs.Notes.{BeginsFrom};
+    ghost use Rattle.sctp_fragments.specs.ReassemblyKey.{rank_at};
+    ghost use Rattle.sctp_fragments.specs.Interval.{held_at, held_of, run_of};
+    ghost use Rattle.sctp_reassembly.specs.NotedStreams.{BeginsFrom};
 
     /// No fragments. Takes no memory.
     pub fn new(alloc: Global) -> IntervalList<K>
@@ -162,11 +162,11 @@ impl<K: ReassemblyKey> IntervalList<K> {
 ghost use Rattle.std.specs.VecDeque.{deque_len, deque_capacity};
 ghost use Rattle.sctp_fragments.specs.Runs.{end_of, IsBelow, LeadsTo, joins_left, joins_right};
 ghost use Rattle.sctp_fragments.specs.Held.{Held, rank_of, goes_on, bytes_of, NoneInTurn};
-ghost use Rattle.sctp_fragments.specs.Key.{rank_at};
-ghost use Rattle.sctp_fragments.specs.Intervals.{held_of, run_of, lists_of, entries_of, EndsFrom, IsInRuns, IsInserted, starts_upto, StartsInTurn, without_first, first_below};
+ghost use Rattle.sctp_fragments.specs.ReassemblyKey.{rank_at};
+ghost use Rattle.sctp_fragments.specs.Interval.{held_of, run_of, lists_of, entries_of, EndsFrom, IsInRuns, IsInserted, starts_upto, StartsInTurn, without_first, first_below};
 ghost use Rattle.sctp_fragments.specs.declared.interval.Entry.{Entry};
 ghost use Rattle.sctp_fragments.specs.declared.interval.Interval.{Interval};
-ghost use Rattle.sctp_reassembly.specs.Notes.{BeginsFrom};
+ghost use Rattle.sctp_reassembly.specs.NotedStreams.{BeginsFrom};
 
 /// Drops the intervals before the place, and says how many bytes they had.
 fn drop_front<K: ReassemblyKey>(intervals: &mut VecDeque<Interval<K>>, place: usize) -> usize

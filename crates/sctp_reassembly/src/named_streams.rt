@@ -2,7 +2,7 @@
 
 ghost use Rattle.std.specs.Prelude.{◌≡◌, ◌==◌, IfOk};
 ghost use Rattle.std.specs.List.{list_any};
-ghost use Rattle.sctp_reassembly.specs.Streams.{is_named, is_part};
+ghost use Rattle.sctp_reassembly.specs.ReassemblyStreams.{is_named, is_part};
 
 use sctp_serial::StreamId;
 use std::alloc::{AllocError, Global};

@@ -2,7 +2,7 @@
 
 ghost use Rattle.std.specs.Prelude.{◌≡◌, ◌≤◌};
 ghost use Rattle.sctp_serial.specs.Unwrapped.{origin, words, halves, nearest};
-ghost use Rattle.sctp_reassembly.specs.Streams.{number_if_any};
+ghost use Rattle.sctp_reassembly.specs.ReassemblyStreams.{number_if_any};
 
 use crate::ordered_stream::FIRST;
 use sctp_serial::{Mid, SerialNumber, Ssn};

@@ -1,11 +1,11 @@
 //! Streams with unordered messages, without interleaving: forward points find their fragments by TSN.
 
 ghost use Rattle.std.specs.Prelude.{◌≡◌, ◌+◌, ◌<◌, ◌≤◌, ◌^◌, ◌++◌, ℕ, [], true, false, length, map, OnOk, IfOk, IfSome, IfNone};
-ghost use Rattle.sctp_fragments.specs.Key.{pair_rank};
+ghost use Rattle.sctp_fragments.specs.ReassemblyKey.{pair_rank};
 ghost use Rattle.sctp_reassembly.specs.Delivery.{fresh_unordered, held_from};
-ghost use Rattle.sctp_reassembly.specs.Notes.{is_noted, HasNote, AreNoted, OthersAreNoted, KeepsOthers, NoneBelow, forward};
+ghost use Rattle.sctp_reassembly.specs.NotedStreams.{is_noted, HasNote, AreNoted, OthersAreNoted, KeepsOthers, NoneBelow, forward};
 ghost use Rattle.sctp_reassembly.specs.ReassemblyHandover.{unordered_is_held, unordered_records, unordered_entries};
-ghost use Rattle.sctp_reassembly.specs.Streams.{unordered_bytes, is_named, stream_at};
+ghost use Rattle.sctp_reassembly.specs.ReassemblyStreams.{unordered_bytes, is_named, stream_at};
 ghost use Rattle.sctp_state.specs.Validity.{rises_from, unordered_ids};
 
 use crate::ready_messages::ReadyMessages;
@@ -32,8 +32,8 @@ pub struct NotedStreams {
 impl Model for NotedStreams {
     ghost use Rattle.std.specs.Prelude.{◌≡◌, true};
     ghost use Rattle.sctp_reassembly.specs.Delivery.{UnorderedStream};
-    ghost use Rattle.sctp_reassembly.specs.Notes.{AreNoted};
-    ghost use Rattle.sctp_reassembly.specs.Streams.{Entries};
+    ghost use Rattle.sctp_reassembly.specs.NotedStreams.{AreNoted};
+    ghost use Rattle.sctp_reassembly.specs.ReassemblyStreams.{Entries};
 
     ghost Value = { Entries UnorderedStream };
 
@@ -173,9 +173,9 @@ fn take_notes(
 }
 
 impl NotedStreams {
-    ghost use Rattle.sctp_fragments.specs.Intervals.{held_at};
+    ghost use Rattle.sctp_fragments.specs.Interval.{held_at};
     ghost use Rattle.sctp_reassembly.specs.Delivery.{unordered_arrival, ready_bytes, Extends};
-    ghost use Rattle.sctp_reassembly.specs.Streams.{change_stream, forget};
+    ghost use Rattle.sctp_reassembly.specs.ReassemblyStreams.{change_stream, forget};
 
     /// No streams. Takes no memory.
     pub fn new(alloc: Global) -> NotedStreams

@@ -3,7 +3,7 @@
 ghost use Rattle.std.specs.Prelude.{◌≡◌, ◌==◌, ◌+◌, ◌<◌, ◌≤◌, ◌^◌, ◌++◌, ◌∷◌, max, length, OnOk, OnErr, IfOk, [], true, false};
 ghost use Rattle.sctp_serial.specs.Unwrapped.{origin};
 ghost use Rattle.sctp_fragments.specs.Held.{bytes_of, rank_of, intervals_of, is_in_turn, message_of_run, NoneInTurn};
-ghost use Rattle.sctp_fragments.specs.Intervals.{held_at};
+ghost use Rattle.sctp_fragments.specs.Interval.{held_at};
 ghost use Rattle.sctp_fragments.specs.Runs.{with_item};
 ghost use Rattle.sctp_reassembly.specs.Delivery.{deliver, ordered_arrival, ready_bytes, Extends};
 

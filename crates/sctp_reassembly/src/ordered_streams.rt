@@ -5,7 +5,7 @@ ghost use Rattle.sctp_serial.specs.Unwrapped.{origin, wire};
 ghost use Rattle.sctp_state.specs.Validity.{rises_from, ordered_ids};
 ghost use Rattle.sctp_reassembly.specs.Delivery.{fresh_ordered};
 ghost use Rattle.sctp_reassembly.specs.ReassemblyHandover.{ordered_records, ordered_entries, space_of};
-ghost use Rattle.sctp_reassembly.specs.Streams.{stream_at};
+ghost use Rattle.sctp_reassembly.specs.ReassemblyStreams.{stream_at};
 
 use crate::ordered_stream::{FIRST, OrderedStream};
 use crate::stream_map::StreamMap;

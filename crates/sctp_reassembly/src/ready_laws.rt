@@ -1,12 +1,12 @@
 //! What becomes ready, stated over the map of fragments: it is made of fragments that were held, and are held no more.
 
 ghost use Rattle.std.specs.Prelude.{◌≡◌, ℕ, suc, max, nat_lt, false, true, List, ◌∷◌, ◌++◌};
-ghost use Rattle.sctp_fragments.specs.Key.{pair_rank};
+ghost use Rattle.sctp_fragments.specs.ReassemblyKey.{pair_rank};
 ghost use Rattle.sctp_fragments.specs.Runs.{flat, with_item, from_rank};
 ghost use Rattle.sctp_fragments.specs.Held.{Held, rank_of, intervals_of, is_complete};
 ghost use Rattle.sctp_reassembly.specs.Delivery.{OrderedStream, UnorderedStream, ordered_arrival, ordered_forward, unordered_arrival};
-ghost use Rattle.sctp_reassembly.specs.Settled.{AreInOrder};
-ghost use Rattle.sctp_reassembly.specs.Ready.{AreHeld, IsWhole, IsIn, AreReady, AreReadyInTurn};
+ghost use Rattle.sctp_reassembly.specs.SettledLaws.{AreInOrder};
+ghost use Rattle.sctp_reassembly.specs.ReadyLaws.{AreHeld, IsWhole, IsIn, AreReady, AreReadyInTurn};
 
 /// A message is complete when its fragments are held: from a beginning to an end, each with the key after the one before.
 /// Then they stand side by side, and are one interval by `messages_are_intervals`.

@@ -47,7 +47,7 @@ pub struct ReassemblyQueue {
 
 impl Model for ReassemblyQueue {
     ghost use Rattle.std.specs.Prelude.{option_map};
-    ghost use Rattle.sctp_reassembly.specs.Forms.{streams_of};
+    ghost use Rattle.sctp_reassembly.specs.Form.{streams_of};
     ghost use Rattle.sctp_reassembly.specs.ReassemblyQueue.{Reassembly, IsQueue};
 
     ghost Value = { Reassembly };
@@ -59,8 +59,8 @@ impl Model for ReassemblyQueue {
 
 impl ReassemblyQueue {
     ghost use Rattle.sctp_reassembly.specs.ReassemblyQueue.{reassembly, queued_bytes, watermark, number_of, came, add_now, forward_now, fragment_waits, point_waits, waits, wait_with, resetting, waiting_bytes, waiting_number, count_ready, IsCounted, add, forward, defer, apply, apply_each, reset};
-    ghost use Rattle.sctp_reassembly.specs.Streams.{entries_in};
-    ghost use Rattle.sctp_reassembly.specs.WaitingViews.{waiting_of};
+    ghost use Rattle.sctp_reassembly.specs.ReassemblyStreams.{entries_in};
+    ghost use Rattle.sctp_reassembly.specs.Waiting.{waiting_of};
 
     /// An empty queue, which is full at `max_size` bytes. Takes no memory.
     pub fn new(alloc: Global, max_size: usize, use_message_interleaving: bool) -> ReassemblyQueue

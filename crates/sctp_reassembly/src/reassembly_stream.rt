@@ -3,7 +3,7 @@
 ghost use Rattle.std.specs.Prelude.{◌≡◌, ℕ, suc, ◌+◌, ◌<◌, ◌≤◌, ◌^◌, ◌++◌, [], List, length, nat_lt, OnOk};
 ghost use Rattle.sctp_serial.specs.Messages.{Message};
 ghost use Rattle.sctp_fragments.specs.Held.{Held, bytes_of};
-ghost use Rattle.sctp_fragments.specs.Intervals.{held_at};
+ghost use Rattle.sctp_fragments.specs.Interval.{held_at};
 ghost use Rattle.sctp_reassembly.specs.Delivery.{ready_bytes, Extends};
 
 use crate::ready_messages::ReadyMessages;

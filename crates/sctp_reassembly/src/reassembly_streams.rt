@@ -6,7 +6,7 @@ ghost use Rattle.sctp_reassembly.specs.Delivery.{ready_bytes, Extends};
 ghost use Rattle.sctp_state.specs.Handover.{handover_state_of, receive_of};
 ghost use Rattle.sctp_state.specs.Validity.{is_valid_reception};
 ghost use Rattle.sctp_reassembly.specs.ReassemblyHandover.{streams_readiness, streams_written, streams_restored};
-ghost use Rattle.sctp_reassembly.specs.Streams.{Streams, held_bytes, add, skip, skip_each, dropped_to, forward, reset};
+ghost use Rattle.sctp_reassembly.specs.ReassemblyStreams.{Streams, held_bytes, add, skip, skip_each, dropped_to, forward, reset};
 
 use crate::ready_messages::ReadyMessages;
 use crate::sorted_skips::by_stream;

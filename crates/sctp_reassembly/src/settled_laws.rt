@@ -6,11 +6,11 @@ ghost use Rattle.sctp_serial.specs.declared.api.StreamId.{StreamId};
 ghost use Rattle.sctp_chunk.specs.declared.forward_tsn.SkippedStream.{SkippedStream};
 ghost use Rattle.sctp_chunk.specs.Chunk.{FragmentTree};
 ghost use Rattle.sctp_state.specs.Handover.{Receive};
-ghost use Rattle.sctp_reassembly.specs.Streams as streams;
-ghost use Rattle.sctp_reassembly.specs.Streams.{Streams, no_streams, skip, dropped_to};
+ghost use Rattle.sctp_reassembly.specs.ReassemblyStreams as streams;
+ghost use Rattle.sctp_reassembly.specs.ReassemblyStreams.{Streams, no_streams, skip, dropped_to};
 ghost use Rattle.sctp_reassembly.specs.ReassemblyHandover.{restore, streams_restored};
 ghost use Rattle.sctp_reassembly.specs.ReassemblyQueue.{Reassembly, reassembly, add, forward, reset};
-ghost use Rattle.sctp_reassembly.specs.Settled.{AreSettled};
+ghost use Rattle.sctp_reassembly.specs.SettledLaws.{AreSettled};
 
 /// A new queue holds nothing.
 pub fn new_queues_are_settled()

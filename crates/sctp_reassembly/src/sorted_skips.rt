@@ -1,7 +1,7 @@
 //! Entries of a forward point in the order of their streams.
 
 ghost use Rattle.std.specs.Prelude.{◌≡◌, IfOk};
-ghost use Rattle.sctp_reassembly.specs.Streams.{skipped_id, by_stream, entries_in};
+ghost use Rattle.sctp_reassembly.specs.ReassemblyStreams.{skipped_id, by_stream, entries_in};
 
 use crate::named_streams::NamedStreams;
 use sctp_chunk::SkippedStream;

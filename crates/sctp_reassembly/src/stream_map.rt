@@ -5,9 +5,9 @@ ghost use Rattle.std.specs.List.{list_any};
 ghost use Rattle.std.specs.Map.{lookup};
 ghost use Rattle.std.specs.Ordering.{nat_cmp};
 ghost use Rattle.std.specs.BTreeMap.{is_at};
-ghost use Rattle.sctp_fragments.specs.Intervals.{held_at};
+ghost use Rattle.sctp_fragments.specs.Interval.{held_at};
 ghost use Rattle.sctp_reassembly.specs.Delivery.{ready_bytes, Extends};
-ghost use Rattle.sctp_reassembly.specs.Streams.{bytes_held, is_any_held, stream_at, open_stream, write_stream, change_stream, forget};
+ghost use Rattle.sctp_reassembly.specs.ReassemblyStreams.{bytes_held, is_any_held, stream_at, open_stream, write_stream, change_stream, forget};
 
 use crate::ready_messages::ReadyMessages;
 use crate::reassembly_stream::ReassemblyStream;
@@ -27,7 +27,7 @@ pub struct StreamMap<S: ReassemblyStream> {
 
 impl<S: ReassemblyStream> Model for StreamMap<S> {
     ghost use Rattle.std.specs.Prelude.{◌≡◌};
-    ghost use Rattle.sctp_reassembly.specs.Streams.{Entries, bytes_held};
+    ghost use Rattle.sctp_reassembly.specs.ReassemblyStreams.{Entries, bytes_held};
 
     ghost Value = { Entries S };
 

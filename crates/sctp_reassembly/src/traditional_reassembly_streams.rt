@@ -32,7 +32,7 @@ pub struct TraditionalReassemblyStreams {
 
 impl Model for TraditionalReassemblyStreams {
     ghost use Rattle.std.specs.Prelude.{false, ◌+◌, ◌<◌, ◌^◌};
-    ghost use Rattle.sctp_reassembly.specs.Streams.{Streams, ordered_bytes, unordered_bytes};
+    ghost use Rattle.sctp_reassembly.specs.ReassemblyStreams.{Streams, ordered_bytes, unordered_bytes};
 
     ghost Value = { Streams };
 
@@ -43,7 +43,7 @@ impl Model for TraditionalReassemblyStreams {
 
 impl TraditionalReassemblyStreams {
     ghost use Rattle.std.specs.Prelude.{false};
-    ghost use Rattle.sctp_reassembly.specs.Streams.{no_streams};
+    ghost use Rattle.sctp_reassembly.specs.ReassemblyStreams.{no_streams};
 
     /// No streams. Takes no memory.
     pub fn new(alloc: Global) -> TraditionalReassemblyStreams

@@ -33,7 +33,7 @@ impl<K: ReassemblyKey> Model for UnorderedStream<K> {
 
 ghost use Rattle.sctp_fragments.specs.Runs.{with_item};
 ghost use Rattle.sctp_fragments.specs.Held.{rank_of, bytes_of, intervals_of, is_complete, left_by, NoneComplete};
-ghost use Rattle.sctp_fragments.specs.Intervals.{held_at};
+ghost use Rattle.sctp_fragments.specs.Interval.{held_at};
 ghost use Rattle.sctp_reassembly.specs.Delivery.{complete_messages, ready_bytes, Extends};
 
 /// Adds a fragment, and makes the message ready that it completes.
@@ -66,8 +66,8 @@ fn take_in<K: ReassemblyKey>(
 
 impl<K: ReassemblyKey> UnorderedStream<K> {
     ghost use Rattle.sctp_reassembly.specs.Delivery.{held_from};
-    ghost use Rattle.sctp_fragments.specs.Key.{rank_at};
-    ghost use Rattle.sctp_reassembly.specs.Notes.{BeginsFrom};
+    ghost use Rattle.sctp_fragments.specs.ReassemblyKey.{rank_at};
+    ghost use Rattle.sctp_reassembly.specs.NotedStreams.{BeginsFrom};
 
     /// The key of the first fragment.
     pub fn first(&self) -> Option<K>

@@ -6,11 +6,11 @@ ghost use Rattle.std.specs.Map.{keys_of};
 ghost use Rattle.std.specs.Ordering.{nat_cmp};
 ghost use Rattle.sctp_serial.specs.Unwrapped.{origin};
 ghost use Rattle.sctp_state.specs.Validity.{rises_from, unordered_ids};
-ghost use Rattle.sctp_fragments.specs.Key.{rank_at};
+ghost use Rattle.sctp_fragments.specs.ReassemblyKey.{rank_at};
 ghost use Rattle.sctp_reassembly.specs.Delivery.{fresh_unordered, held_from};
-ghost use Rattle.sctp_reassembly.specs.Notes.{BeginsFrom};
+ghost use Rattle.sctp_reassembly.specs.NotedStreams.{BeginsFrom};
 ghost use Rattle.sctp_reassembly.specs.ReassemblyHandover.{unordered_records, unordered_entries};
-ghost use Rattle.sctp_reassembly.specs.Streams.{unordered_bytes, stream_at, write_stream};
+ghost use Rattle.sctp_reassembly.specs.ReassemblyStreams.{unordered_bytes, stream_at, write_stream};
 
 use crate::ordered_stream::FIRST;
 use crate::reassembly_stream::ReassemblyStream;

@@ -2,7 +2,7 @@
 
 ghost use Rattle.std.specs.Prelude.{◌≡◌, ◌==◌, OnOk};
 ghost use Rattle.sctp_capabilities.specs.Capabilities.{capabilities_of, negotiate};
-ghost use Rattle.sctp_capabilities.specs.Cookie.{cookie_of};
+ghost use Rattle.sctp_capabilities.specs.StateCookie.{cookie_of};
 ghost use Rattle.sctp_endpoint.specs.Views.{context_of, identity_of, state_of, tcb_of};
 ghost use Rattle.sctp_receiving.specs.VerdictView.{verdict_of};
 ghost use Rattle.spec_endpoint.specs.Opening as table;

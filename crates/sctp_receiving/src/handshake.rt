@@ -2,14 +2,14 @@
 
 ghost use Rattle.std.specs.Prelude.{◌≡◌, None, map, IfOk, OnOk};
 ghost use Rattle.std.specs.Duration.{as_nanos};
-ghost use Rattle.sctp_state.specs.Timers.{start, timer};
+ghost use Rattle.sctp_state.specs.Timer.{start, timer};
 ghost use Rattle.std.specs.Option.{option_map};
 ghost use Rattle.sctp_parameter.specs.ParameterViews.{parameter_tree};
 ghost use Rattle.sctp_packet.specs.Chunk.{init_ack_chunk};
 ghost use Rattle.sctp_packet.specs.ChunkView.{chunk_tree};
 ghost use Rattle.sctp_control_chunk.specs.Views.{init_tree};
 ghost use Rattle.sctp_capabilities.specs.Capabilities.{capabilities_of, negotiate, announced_by};
-ghost use Rattle.sctp_capabilities.specs.Cookie.{cookie_of};
+ghost use Rattle.sctp_capabilities.specs.StateCookie.{cookie_of};
 ghost use Rattle.sctp_state.specs.Options.{IsValid, options_of};
 ghost use Rattle.spec_endpoint.specs.Opening.{agreed_by, answer, cookie_for, cookie_in, init_ack_of, maker, t1_cookie, t1_init};
 ghost use Rattle.sctp_endpoint.specs.Views.{context_of};

@@ -2,7 +2,7 @@
 
 ghost use Rattle.std.specs.Prelude.{◌≡◌, OnOk};
 ghost use Rattle.sctp_parameter.specs.ParameterViews.{result_number};
-ghost use Rattle.spec_endpoint.specs.Requests.{is_final};
+ghost use Rattle.spec_endpoint.specs.ResetRequests.{is_final};
 ghost use Rattle.sctp_endpoint.specs.RequestViews.{outcome_of};
 ghost use Rattle.sctp_endpoint.specs.Views.{context_of, tcb_of};
 ghost use Rattle.spec_endpoint.specs.StreamReset as table;

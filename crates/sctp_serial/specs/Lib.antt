@@ -1,5 +1,5 @@
 pub mod Messages
-pub mod Serial
+pub mod SerialNumber
 pub mod Unwrapped
 pub mod Keys
 pub mod Time

@@ -2,7 +2,7 @@
 -- below the first have a value too. Where the first is written `first`, a number is written as that many steps further
 -- on. Each space divides `origin`: numbers that start at 0 on the wire have `first` 0.
 use Rattle.std.specs.Prelude.{◌≡◌, ℕ, ◌+◌, ◌-◌, ◌/◌, ◌^◌, ◌≤◌, nat_lt, if◌then◌else◌}
-use Rattle.sctp_serial.specs.Serial.{serial_sum, serial_difference}
+use Rattle.sctp_serial.specs.SerialNumber.{serial_sum, serial_difference}
 
 -- the unwrapped value of a first number
 abbrev pub origin : ℕ

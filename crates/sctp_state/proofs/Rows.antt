@@ -3,8 +3,8 @@ use Rattle.std.proofs.Common.{◌≡◌, ℕ, ◌+◌, ◌*◌, true, false, Som
 use Rattle.sctp_state.specs.Numbers.{ms}
 use Rattle.sctp_state.specs.Options.{Options, defaults}
 use Rattle.sctp_state.specs.Readiness.{readiness_text}
-use Rattle.sctp_state.specs.Rtt.{Rtt, observe_rto, rto, unsampled}
-use Rattle.sctp_state.specs.Timers.{Timer, expire, start, timer}
+use Rattle.sctp_state.specs.RetransmissionTimeout.{Rtt, observe_rto, rto, unsampled}
+use Rattle.sctp_state.specs.Timer.{Timer, expire, start, timer}
 use Rattle.sctp_state.specs.Validity.{is_valid_state}
 use Rattle.sctp_state.specs.Handover.{HandoverState, StreamMessage, closed_state, no_message}
 use Rattle.sctp_state.specs.declared.timer.BackoffAlgorithm.TheVariants.{Fixed, Exponential}

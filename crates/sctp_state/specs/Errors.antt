@@ -1,21 +1,26 @@
--- How often in turn the peer didn't answer (RFC 9260 section 8.1).
-use Rattle.std.specs.Prelude.{ℕ, ◌+◌, nat_lt, min, Bool, false, Option}
-use Rattle.std.specs.Option.{option_map_or}
+-- The numbers of the reasons why calls fail.
+use Rattle.std.specs.Prelude.{ℕ}
+use Rattle.sctp_state.specs.declared.api.errors.SendError.{SendError}
+use Rattle.sctp_state.specs.declared.api.errors.SendError.TheVariants as sends
+use Rattle.sctp_state.specs.declared.api.errors.BatchFault.{BatchFault}
+use Rattle.sctp_state.specs.declared.api.errors.BatchFault.TheVariants as batches
+use Rattle.sctp_state.specs.declared.api.errors.HandoverError.{HandoverError}
+use Rattle.sctp_state.specs.declared.api.errors.HandoverError.TheVariants as handovers
 
-pub record ErrorCounter : Type 0 where
-  pub limit : Option ℕ
-  pub value : ℕ
+abbrev pub send_number : SendError → ℕ
+send_number sends.EmptyPayload = 1
+send_number (sends.MessageTooLarge bytes limit) = 2
+send_number sends.ShuttingDown = 3
+send_number sends.ResourceExhaustion = 4
+send_number sends.Memory = 5
+send_number sends.Failed = 6
 
-abbrev pub no_errors : Option ℕ → ErrorCounter
-no_errors limit = record { limit = limit; value = 0 }
+abbrev pub batch_number : BatchFault → ℕ
+batch_number (batches.Refused errors) = 1
+batch_number batches.Memory = 2
+batch_number batches.Failed = 3
 
--- one above the limit is as high as it counts; without a limit nothing is counted
-abbrev pub highest : ErrorCounter → ℕ
-highest c = option_map_or (λ limit. limit + 1) c.limit 0
-
-abbrev pub one_error : ErrorCounter → ErrorCounter
-one_error c = record c { value = min (c.value + 1) (highest c) }
-
--- there were more errors than the limit
-abbrev pub is_exhausted : ErrorCounter → Bool
-is_exhausted c = option_map_or (λ limit. nat_lt limit c.value) c.limit false
+abbrev pub handover_number : HandoverError → ℕ
+handover_number (handovers.NotReady readiness) = 1
+handover_number handovers.Memory = 2
+handover_number handovers.Failed = 3

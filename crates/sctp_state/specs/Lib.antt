@@ -5,9 +5,9 @@ pub mod Metrics
 pub mod Numbers
 pub mod Options
 pub mod Readiness
-pub mod Rtt
-pub mod Timers
-pub mod Errors
+pub mod RetransmissionTimeout
+pub mod Timer
+pub mod TxErrorCounter
 pub mod Validity
-pub mod Thresholds
-pub mod ErrorNumbers
+pub mod ThresholdWatcher
+pub mod Errors

@@ -26,8 +26,8 @@ pub struct RetransmissionTimeout {
 impl Model for RetransmissionTimeout {
     ghost use Rattle.std.specs.Prelude.{◌*◌, ◌≤◌};
     ghost use Rattle.std.specs.Duration.{as_nanos, max_nanos};
-    ghost use Rattle.sctp_state.specs.Rtt.{Rtt};
-    ghost use Rattle.sctp_state.specs.Timers.{longest};
+    ghost use Rattle.sctp_state.specs.RetransmissionTimeout.{Rtt};
+    ghost use Rattle.sctp_state.specs.Timer.{longest};
 
     ghost Value = { Rtt };
 
@@ -37,7 +37,7 @@ impl Model for RetransmissionTimeout {
 }
 
 impl RetransmissionTimeout {
-    ghost use Rattle.sctp_state.specs.Rtt.{unsampled, rto, srtt, observe_rto, IsBetween};
+    ghost use Rattle.sctp_state.specs.RetransmissionTimeout.{unsampled, rto, srtt, observe_rto, IsBetween};
 
     /// No round trip time is known yet.
     pub fn new(options: &Options) -> RetransmissionTimeout

@@ -12,7 +12,7 @@ pub struct ThresholdWatcher {
 }
 
 impl Model for ThresholdWatcher {
-    ghost use Rattle.sctp_state.specs.Thresholds.{Watched};
+    ghost use Rattle.sctp_state.specs.ThresholdWatcher.{Watched};
 
     ghost Value = { Watched };
 
@@ -20,7 +20,7 @@ impl Model for ThresholdWatcher {
 }
 
 impl ThresholdWatcher {
-    ghost use Rattle.sctp_state.specs.Thresholds.{watched, raise, lower, set_low_threshold, crosses};
+    ghost use Rattle.sctp_state.specs.ThresholdWatcher.{watched, raise, lower, set_low_threshold, crosses};
 
     /// No bytes, with this threshold.
     pub fn new(low_threshold: usize) -> ThresholdWatcher

@@ -36,7 +36,7 @@ pub struct Timer {
 impl Model for Timer {
     ghost use Rattle.std.specs.Prelude.{option_map};
     ghost use Rattle.std.specs.Duration.{as_nanos};
-    ghost use Rattle.sctp_state.specs.Timers.{Timer};
+    ghost use Rattle.sctp_state.specs.Timer.{Timer};
 
     ghost Value = { Timer };
 
@@ -44,7 +44,7 @@ impl Model for Timer {
 }
 
 impl Timer {
-    ghost use Rattle.sctp_state.specs.Timers.{timer, start, stop, expire, is_due, is_running, next_expiry, set_duration, double, cap_at, longest, is_last};
+    ghost use Rattle.sctp_state.specs.Timer.{timer, start, stop, expire, is_due, is_running, next_expiry, set_duration, double, cap_at, longest, is_last};
 
     /// A stopped timer. After more than `max_restarts` expiries it stops by itself, and no wait after an expiry is
     /// longer than `max_backoff_duration`.

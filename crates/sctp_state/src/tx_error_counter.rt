@@ -1,7 +1,7 @@
 //! How often in turn the peer didn't answer (RFC 9260 section 8.1).
 
 ghost use Rattle.std.specs.Prelude.{◌≡◌, ◌≤◌};
-ghost use Rattle.sctp_state.specs.Errors.{no_errors, highest};
+ghost use Rattle.sctp_state.specs.TxErrorCounter.{no_errors, highest};
 
 use std::marker::Model;
 
@@ -14,7 +14,7 @@ pub struct TxErrorCounter {
 
 impl Model for TxErrorCounter {
     ghost use Rattle.std.specs.Prelude.{◌≤◌};
-    ghost use Rattle.sctp_state.specs.Errors.{ErrorCounter, highest};
+    ghost use Rattle.sctp_state.specs.TxErrorCounter.{ErrorCounter, highest};
 
     ghost Value = { ErrorCounter };
 
@@ -24,7 +24,7 @@ impl Model for TxErrorCounter {
 }
 
 impl TxErrorCounter {
-    ghost use Rattle.sctp_state.specs.Errors.{one_error, is_exhausted};
+    ghost use Rattle.sctp_state.specs.TxErrorCounter.{one_error, is_exhausted};
 
     /// Nothing is counted yet.
     pub fn new(limit: Option<u32>) -> TxErrorCounter

@@ -8,7 +8,7 @@ use Rattle.std.specs.List.{AllByRecursion, list_any}
 use Rattle.std.specs.List.Sorted.{IsStrictlySortedBy}
 use Rattle.std.specs.Map.{lookup, remove_entry, keys_of}
 use Rattle.std.specs.BTreeMap.{is_at, insert_entry}
-use Rattle.sctp_stream_scheduler.specs.Scheduler.{Times, Scheduler, best, IsAhead, IsNext, Indexes, finish_time, finish_now, is_time, is_active, leave, enter, accept, accepted_at, set_bytes_remaining, turn_cmp, stream_in}
+use Rattle.sctp_stream_scheduler.specs.StreamScheduler.{Times, Scheduler, best, IsAhead, IsNext, Indexes, finish_time, finish_now, is_time, is_active, leave, enter, accept, accepted_at, set_bytes_remaining, turn_cmp, stream_in}
 use Rattle.sctp_serial.proofs.NumberLemmas.{is_less, equal_at, at_itself, is_equal}
 
 apart : (k q : ℕ) → q < k → is_at (nat_cmp k) q ≡ false

@@ -1,1 +1,1 @@
-pub mod Scheduler
+pub mod StreamScheduler

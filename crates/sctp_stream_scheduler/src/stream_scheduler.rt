@@ -1,7 +1,7 @@
 //! Which stream sends next.
 
 ghost use Rattle.std.specs.Prelude.{◌≡◌, ◌<◌, ◌^◌, ◌==◌, false, [], length, is_some, IsTrue, IfSome, IfNone, OnOk, OnErr, None, Some, option_map};
-ghost use Rattle.sctp_stream_scheduler.specs.Scheduler.{IsNext, finish_time};
+ghost use Rattle.sctp_stream_scheduler.specs.StreamScheduler.{IsNext, finish_time};
 
 mod active_streams;
 
@@ -24,7 +24,7 @@ pub struct StreamScheduler {
 }
 
 impl Model for StreamScheduler {
-    ghost use Rattle.sctp_stream_scheduler.specs.Scheduler.{Scheduler};
+    ghost use Rattle.sctp_stream_scheduler.specs.StreamScheduler.{Scheduler};
 
     ghost Value = { Scheduler };
 
@@ -32,7 +32,7 @@ impl Model for StreamScheduler {
 }
 
 impl StreamScheduler {
-    ghost use Rattle.sctp_stream_scheduler.specs.Scheduler.{scheduler, is_active, set_bytes_remaining, accept, peek, enable_message_interleaving, leave, finish_at};
+    ghost use Rattle.sctp_stream_scheduler.specs.StreamScheduler.{scheduler, is_active, set_bytes_remaining, accept, peek, enable_message_interleaving, leave, finish_at};
 
     /// No stream has anything to send. `max_payload` is the largest payload of a fragment, in bytes.
     pub fn new(alloc: Global, max_payload: usize) -> StreamScheduler

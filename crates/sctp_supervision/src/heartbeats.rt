@@ -4,7 +4,7 @@ ghost use Rattle.std.specs.Prelude.{◌≡◌, Some, map, IfOk, OnOk};
 ghost use Rattle.std.specs.Option.{option_map};
 ghost use Rattle.sctp_packet.specs.ChunkView.{chunk_tree};
 ghost use Rattle.sctp_parameter.specs.ParameterViews.{parameter_tree};
-ghost use Rattle.sctp_state.specs.Timers.{is_due};
+ghost use Rattle.sctp_state.specs.Timer.{is_due};
 ghost use Rattle.sctp_endpoint.specs.Views.{context_of, tcb_of};
 ghost use Rattle.spec_endpoint.specs.Heartbeats as table;
 

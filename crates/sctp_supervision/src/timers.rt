@@ -2,7 +2,7 @@
 
 ghost use Rattle.std.specs.Prelude.{◌≡◌, true, cond, IfOk, OnOk};
 ghost use Rattle.sctp_endpoint.specs.Views.{context_of, left_of, phase_of, endpoint_state_after, endpoint_state_of, state_of, tcb_of, ticking_of, waited_of};
-ghost use Rattle.sctp_state.specs.Timers.{expire};
+ghost use Rattle.sctp_state.specs.Timer.{expire};
 ghost use Rattle.spec_endpoint.specs.Shutdown.{send_shutdown, send_shutdown_ack};
 ghost use Rattle.spec_endpoint.specs.Timers as table;
 

@@ -3,7 +3,7 @@ use Rattle.std.proofs.Common.{◌≡◌, ℕ, ◌+◌, ◌<◌, ◌/◌, ◌%◌
 use Rattle.std.proofs.lemmas.List.{take_more, flat_map_more, map-append}
 use Rattle.std.specs.List.{flat_map}
 use Rattle.sctp_trace.specs.Bytes.{le32}
-use Rattle.sctp_trace.specs.Capture.{pad, option_bytes, block, packet_body}
+use Rattle.sctp_trace.specs.Pcapng.{pad, option_bytes, block, packet_body}
 
 -- a loop that has appended what f makes of each item before, and appends that of this one
 pub flat_more : {X A : Type 0} (f : X → List A) (old now new : List A) (xs : List X) (i : ℕ) (d : X) → i < length xs

@@ -9,9 +9,9 @@ use Rattle.sctp_trace.specs.declared.rows.End.TheVariants as ends
 use Rattle.sctp_trace.specs.declared.rows.What.{What}
 use Rattle.sctp_trace.specs.declared.rows.What.TheVariants as kinds
 use Rattle.sctp_trace.specs.declared.rows.Row.{Row}
-use Rattle.sctp_trace.specs.Arrows.{times_given}
+use Rattle.sctp_trace.specs.Giving.{times_given}
 use Rattle.sctp_trace.specs.Ascii.{is_printable, plain}
-use Rattle.sctp_trace.specs.Ladder.{front_of, left_cell, right_cell, note_cell, sent_caption, given_caption, arrow_start, arrow_head, packet_cell, row_of_cells, note_line, packet_line, what_line, line_of, heading, IsLine}
+use Rattle.sctp_trace.specs.Text.{front_of, left_cell, right_cell, note_cell, sent_caption, given_caption, arrow_start, arrow_head, packet_cell, row_of_cells, note_line, packet_line, what_line, line_of, heading, IsLine}
 
 abbrev Printable : ℕ → Type 0
 Printable n = is_printable n ≡ true

@@ -5,10 +5,10 @@ use Rattle.std.proofs.lemmas.List.{length-replicate, length-take, length-drop}
 use Rattle.std.specs.Prelude.{Bool, true, false, if◌then◌else◌, nat_lt, take, drop, replicate}
 use Rattle.sctp_crc32c.specs.Crc32c.{crc32c_word}
 use Rattle.sctp_wire.specs.Checksum.{with_zero_field}
-use Rattle.sctp_wire.specs.Fields.{be32, length_be32}
+use Rattle.sctp_wire.specs.Field.{be32, length_be32}
 use Rattle.sctp_wire.specs.Item.{padding}
 use Rattle.sctp_trace.specs.Bytes.{le16, le32, with_checksum, with_crc32c}
-use Rattle.sctp_trace.specs.Capture.{pad, option_bytes, packet_numbers, packet_body}
+use Rattle.sctp_trace.specs.Pcapng.{pad, option_bytes, packet_numbers, packet_body}
 
 pub length_le16 : (n : ℕ) → length (le16 n) ≡ 2
 unfolding le16

@@ -9,7 +9,7 @@ use Rattle.sctp_trace.specs.declared.rows.What.{What}
 use Rattle.sctp_trace.specs.declared.rows.What.TheVariants as kinds
 use Rattle.sctp_trace.specs.declared.rows.Row.{Row}
 use Rattle.sctp_trace.specs.Rows.{sends, sends_number}
-use Rattle.sctp_trace.specs.Arrows.{sending, sending_from}
+use Rattle.sctp_trace.specs.Giving.{sending, sending_from}
 use Rattle.sctp_serial.proofs.NumberLemmas.{at_equal}
 
 -- what was found before stays; else the row may be the first

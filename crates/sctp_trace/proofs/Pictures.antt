@@ -7,7 +7,7 @@ use Rattle.sctp_trace.specs.declared.rows.Row.{Row}
 use Rattle.sctp_trace.specs.declared.svg.Point.{Point}
 use Rattle.sctp_trace.specs.declared.xml.Element.{Element}
 use Rattle.sctp_trace.specs.declared.xml.Element.TheViews.{out-Element}
-use Rattle.sctp_trace.specs.Chart.{IsLineBetween, BeginsWithLine, AreDrawn, IsPicture}
+use Rattle.sctp_trace.specs.Svg.{IsLineBetween, BeginsWithLine, AreDrawn, IsPicture}
 
 -- what is drawn before the words, with them, is a picture
 pub pictured : (rows : List Row) (before drawn all : List Element) (words root : Element) → AreDrawn rows before drawn → all ≡ drawn ++ (words ∷ [])

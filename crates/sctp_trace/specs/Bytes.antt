@@ -1,7 +1,7 @@
 -- Numbers as bytes with the lowest first, and a packet under the checksum of the wire.
 use Rattle.std.specs.Prelude.{ℕ, List, ◌++◌, take, drop, length, nat_lt, if◌then◌else◌}
 use Rattle.std.specs.Int.{w16, w32, to_le_bytes}
-use Rattle.sctp_wire.specs.Fields.{be32}
+use Rattle.sctp_wire.specs.Field.{be32}
 use Rattle.sctp_wire.specs.Checksum.{with_zero_field}
 use Rattle.sctp_crc32c.specs.Crc32c.{crc32c_word}
 

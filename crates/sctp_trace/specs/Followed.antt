@@ -5,7 +5,7 @@ use Rattle.sctp_trace.specs.declared.rows.End.TheVariants as ends
 use Rattle.sctp_trace.specs.declared.rows.Row.{Row}
 use Rattle.sctp_trace.specs.declared.conversation.Ways.{Ways}
 use Rattle.sctp_trace.specs.declared.conversation.Conversation.{Conversation}
-use Rattle.sctp_trace.specs.Arrows.{HasSent, HasGiven}
+use Rattle.sctp_trace.specs.Giving.{HasSent, HasGiven}
 
 -- the packets that this end sent
 pub record HasWays (rows : List Row) (from : End) (ways : Ways) : Type 0 where

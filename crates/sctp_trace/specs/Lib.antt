@@ -1,10 +1,10 @@
-pub mod Arrows
+pub mod Giving
 pub mod Ascii
 pub mod Bytes
-pub mod Capture
-pub mod Chart
+pub mod Pcapng
+pub mod Svg
 pub mod Followed
 pub mod Label
-pub mod Ladder
+pub mod Text
 pub mod Rows
 pub mod Xml

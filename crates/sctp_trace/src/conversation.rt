@@ -1,7 +1,7 @@
 //! Rows, and what became of each packet in them: a walk for each end finds it.
 
 ghost use Rattle.std.specs.Prelude.{◌≡◌, ◌<◌, ◌+◌, take, length, IfOk, OnOk};
-ghost use Rattle.sctp_trace.specs.Arrows.{sending, times_given, HasSent, HasGiven};
+ghost use Rattle.sctp_trace.specs.Giving.{sending, times_given, HasSent, HasGiven};
 ghost use Rattle.sctp_trace.specs.Followed.{HasWays, IsFollowed, ways_from};
 
 use crate::rows::{End, Row, What};

@@ -1,7 +1,7 @@
 //! Arrows from where a packet was sent to where it was given, and crosses where it never was.
 
 ghost use Rattle.std.specs.Prelude.{◌≡◌, IfOk, OnOk, ◌++◌};
-ghost use Rattle.sctp_trace.specs.Arrows.{row_arrow, arrows, cross_if_lost, row_cross, crosses};
+ghost use Rattle.sctp_trace.specs.Giving.{row_arrow, arrows, cross_if_lost, row_cross, crosses};
 ghost use Rattle.sctp_trace.specs.Followed.{IsFollowed};
 
 use crate::conversation::Conversation;

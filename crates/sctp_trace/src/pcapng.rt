@@ -3,7 +3,7 @@
 ghost use Rattle.std.specs.Prelude.{◌≡◌, ◌+◌, ◌<◌, ◌^◌, ◌++◌, true, false, length, replicate, IfOk, IfErr, OnOk};
 ghost use Rattle.std.specs.List.{flat_map};
 ghost use Rattle.sctp_trace.specs.Bytes.{le16, le32, with_crc32c};
-ghost use Rattle.sctp_trace.specs.Capture.{pad, option_bytes, section_header, interface, interface_number, fate, packet_block, IsPacketSize, row_bytes, capture_bytes, is_too_long, has_long_packet};
+ghost use Rattle.sctp_trace.specs.Pcapng.{pad, option_bytes, section_header, interface, interface_number, fate, packet_block, IsPacketSize, row_bytes, capture_bytes, is_too_long, has_long_packet};
 ghost use Rattle.sctp_trace.specs.Followed.{IsFollowed};
 ghost use Rattle.sctp_trace.specs.declared.pcapng.CaptureError.TheVariants.{Memory as no_memory};
 
@@ -83,7 +83,7 @@ fn push_zeros(bytes: &mut Vec<u8>, count: usize) -> Result<(), AllocError>
     bytes.extend_from_slice(&[0, 0, 0][..count])
 }
 
-#[tactic(auto, unfolding(crate::specs::Capture::pad))]
+#[tactic(auto, unfolding(crate::specs::Pcapng::pad))]
 fn push_padded(bytes: &mut Vec<u8>, value: &[u8]) -> Result<(), AllocError>
     ensures { OnOk result (bytes.new.items ≡ bytes.old.items ++ pad value.now) }
 {
@@ -91,7 +91,7 @@ fn push_padded(bytes: &mut Vec<u8>, value: &[u8]) -> Result<(), AllocError>
     push_zeros(bytes, padding_len(value.len()))
 }
 
-#[tactic(auto, unfolding(crate::specs::Capture::option_bytes))]
+#[tactic(auto, unfolding(crate::specs::Pcapng::option_bytes))]
 fn push_option(bytes: &mut Vec<u8>, code: u16, value: &[u8]) -> Result<(), AllocError>
     requires { length value.now < 2 ^ 16 }
     ensures { OnOk result (bytes.new.items ≡ bytes.old.items ++ option_bytes code value.now) }
@@ -101,7 +101,7 @@ fn push_option(bytes: &mut Vec<u8>, code: u16, value: &[u8]) -> Result<(), Alloc
     push_padded(bytes, value)
 }
 
-#[tactic(auto, unfolding(crate::specs::Bytes::le16, crate::specs::Bytes::le32, crate::specs::Capture::pad, crate::specs::Capture::option_bytes, crate::specs::Capture::block, crate::specs::Capture::section_body, crate::specs::Capture::interface_body))]
+#[tactic(auto, unfolding(crate::specs::Bytes::le16, crate::specs::Bytes::le32, crate::specs::Pcapng::pad, crate::specs::Pcapng::option_bytes, crate::specs::Pcapng::block, crate::specs::Pcapng::section_body, crate::specs::Pcapng::interface_body))]
 fn push_front(bytes: &mut Vec<u8>) -> Result<(), AllocError>
     ensures { OnOk result (bytes.new.items ≡ bytes.old.items ++ (section_header ++ (interface End.A ++ interface End.B))) }
 {

@@ -4,7 +4,7 @@
 ghost use Rattle.std.specs.Prelude.{◌≡◌, ◌∷◌, [], ◌++◌, map, string_bytes, IfOk, OnOk};
 ghost use Rattle.sctp_trace.specs.declared.xml.Element.TheViews.{out-Element};
 ghost use Rattle.sctp_trace.specs.Followed.{IsFollowed};
-ghost use Rattle.sctp_trace.specs.Chart.{lifeline_at, height_at, place_at, shown, number_shown, class_shown, IsLineBetween, IsArrow, IsCross, HasArrows, HasCrosses, AreDrawn, IsPicture, IsChart};
+ghost use Rattle.sctp_trace.specs.Svg.{lifeline_at, height_at, place_at, shown, number_shown, class_shown, IsLineBetween, IsArrow, IsCross, HasArrows, HasCrosses, AreDrawn, IsPicture, IsChart};
 
 use crate::conversation::Conversation;
 use crate::giving::{Arrow, Cross, arrows, crosses};

@@ -3,7 +3,7 @@
 ghost use Rattle.std.specs.Prelude.{◌≡◌, ◌++◌, map, take, replicate, OnOk, IfOk, string_bytes};
 ghost use Rattle.sctp_trace.specs.Ascii.{plain};
 ghost use Rattle.sctp_trace.specs.Followed.{IsFollowed};
-ghost use Rattle.sctp_trace.specs.Ladder.{left_cell, right_cell, mark, sent_caption, given_caption, arrow_head, packet_cell, lifelines, note_cell, note_line, packet_line, line_of, heading, ladder_text};
+ghost use Rattle.sctp_trace.specs.Text.{left_cell, right_cell, mark, sent_caption, given_caption, arrow_head, packet_cell, lifelines, note_cell, note_line, packet_line, line_of, heading, ladder_text};
 
 use crate::conversation::Conversation;
 use crate::rows::{End, Row, What};

@@ -4,7 +4,7 @@ use Rattle.std.specs.Prelude.{if◌then◌else◌, Result, Ok, Err, OnOk, OnErr}
 use Rattle.std.specs.List.{list_any}
 use Rattle.std.proofs.lemmas.Bool.{cases_lt, cases_eq, lt-ltb, le-ltb, eq-eqb, ne_eqb}
 use Rattle.std.proofs.lemmas.Bool.Decides.{nat_tests}
-use Rattle.sctp_tracker.specs.Tracker.{insert_number, with_duplicate}
+use Rattle.sctp_tracker.specs.DataTracker.{insert_number, with_duplicate}
 use Rattle.sctp_tracker.specs.Reported.{Ascend}
 use Rattle.sctp_serial.proofs.NumberLemmas.{or_regroup}
 

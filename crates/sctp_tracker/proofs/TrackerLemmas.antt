@@ -4,7 +4,7 @@ use Rattle.std.specs.Prelude.{nat_lt}
 use Rattle.std.proofs.lemmas.Bool.{cases_lt, le-leb, lt-leb, or_right}
 use Rattle.std.proofs.lemmas.Bool.Decides.{nat_tests}
 use Rattle.sctp_tracker.specs.Seen.{Run, Seen, in_runs, AreRuns, contains, IsInRuns, last_above, highest}
-use Rattle.sctp_tracker.specs.Tracker.{Tracker, IsTracker, is_valid, window, bound}
+use Rattle.sctp_tracker.specs.DataTracker.{Tracker, IsTracker, is_valid, window, bound}
 use Rattle.sctp_tracker.specs.Sack.{blocks_of, gap_ack_blocks, is_covered}
 
 -- each run takes at least two numbers: its own and a missing one before it

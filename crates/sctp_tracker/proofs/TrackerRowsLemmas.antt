@@ -4,7 +4,7 @@ use Rattle.sctp_serial.specs.Unwrapped.{origin}
 use Rattle.sctp_serial.specs.declared.types.tsn.Tsn.{Tsn}
 use Rattle.sctp_chunk.specs.declared.sack.GapAckBlock.{GapAckBlock}
 use Rattle.sctp_state.specs.Options.{defaults}
-use Rattle.sctp_tracker.specs.Tracker.{DataTracker, tracker, number_of, is_valid, wire_tsn, observe, moves_on, forward}
+use Rattle.sctp_tracker.specs.DataTracker.{DataTracker, tracker, number_of, is_valid, wire_tsn, observe, moves_on, forward}
 use Rattle.sctp_tracker.specs.Sack.{sack}
 
 -- a tracker whose peer begins with this TSN

@@ -1,6 +1,6 @@
 pub mod Seen
 pub mod SeenSteps
-pub mod Tracker
+pub mod DataTracker
 pub mod Sack
 pub mod Reported
 pub mod TrackerHandover

@@ -3,7 +3,7 @@ use Rattle.std.specs.Prelude.{◌≡◌, ℕ, zero, suc, ◌+◌, ◌-◌, ◌<�
 use Rattle.std.specs.List.{list_any}
 use Rattle.sctp_chunk.specs.declared.sack.GapAckBlock.{GapAckBlock}
 use Rattle.sctp_tracker.specs.Seen.{Seen, contains}
-use Rattle.sctp_tracker.specs.Tracker.{Tracker}
+use Rattle.sctp_tracker.specs.DataTracker.{Tracker}
 
 -- ---- blocks
 

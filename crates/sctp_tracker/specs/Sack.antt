@@ -6,7 +6,7 @@ use Rattle.sctp_serial.specs.Unwrapped.{words, wire}
 use Rattle.sctp_chunk.specs.declared.sack.GapAckBlock.{GapAckBlock}
 use Rattle.sctp_chunk.specs.Chunk.{SackTree}
 use Rattle.sctp_tracker.specs.Seen.{Run, Seen}
-use Rattle.sctp_tracker.specs.Tracker.{Tracker, DataTracker, wire_tsn}
+use Rattle.sctp_tracker.specs.DataTracker.{Tracker, DataTracker, wire_tsn}
 
 -- a run as offsets from the front
 abbrev pub block : ℕ → Run → GapAckBlock

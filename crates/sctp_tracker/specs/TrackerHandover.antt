@@ -1,10 +1,10 @@
 -- The tracker's part of a handover record.
 use Rattle.std.specs.Prelude.{ℕ, ◌-◌, if◌then◌else◌}
-use Rattle.sctp_serial.specs.Serial.{serial_sum}
+use Rattle.sctp_serial.specs.SerialNumber.{serial_sum}
 use Rattle.sctp_serial.specs.Unwrapped.{words}
 use Rattle.sctp_state.specs.Handover.{Receive}
 use Rattle.sctp_tracker.specs.Seen.{has_gap}
-use Rattle.sctp_tracker.specs.Tracker.{Tracker, DataTracker, wire_tsn, place, restore_tracker}
+use Rattle.sctp_tracker.specs.DataTracker.{Tracker, DataTracker, wire_tsn, place, restore_tracker}
 
 -- the bit of runs that are pending
 abbrev pub readiness : Tracker → ℕ

@@ -3,7 +3,7 @@
 ghost use Rattle.std.specs.Prelude.{◌≡◌, ◌==◌, ℕ, ◌+◌, ◌-◌, ◌^◌, ◌<◌, ◌≤◌, ◌||◌, ◌&&◌, not, nat_le, length, false, IsTrue, IfOk, OnOk, OnErr, nat_lt, All, Contains};
 ghost use Rattle.std.specs.Duration.{as_nanos};
 ghost use Rattle.sctp_state.specs.Options.{options_of};
-ghost use Rattle.sctp_state.specs.Timers.{is_due, next_expiry};
+ghost use Rattle.sctp_state.specs.Timer.{is_due, next_expiry};
 ghost use Rattle.sctp_state.specs.Handover.{receive_of, handover_state_of};
 ghost use Rattle.sctp_serial.specs.Unwrapped.{origin};
 ghost use Rattle.sctp_chunk.specs.Chunk.{sack_chunk};
@@ -37,7 +37,7 @@ pub enum AckState {
 }
 
 impl AckState {
-    ghost use Rattle.sctp_tracker.specs.Tracker.{ack_after, is_ack_due};
+    ghost use Rattle.sctp_tracker.specs.DataTracker.{ack_after, is_ack_due};
 
     /// The state after one more packet.
     fn after(self, is_urgent: bool) -> AckState
@@ -84,7 +84,7 @@ pub struct DataTracker {
 
 impl Model for DataTracker {
     ghost use Rattle.std.specs.Duration.{as_nanos};
-    ghost use Rattle.sctp_tracker.specs.Tracker.{DataTracker, IsTracker};
+    ghost use Rattle.sctp_tracker.specs.DataTracker.{DataTracker, IsTracker};
 
     ghost Value = { DataTracker };
 
@@ -94,7 +94,7 @@ impl Model for DataTracker {
 }
 
 impl DataTracker {
-    ghost use Rattle.sctp_tracker.specs.Tracker.{tracker, update_rto, wire_tsn, number_of, is_valid, has_seen, observe, moves_on, forward, acking, is_ack_due, take_ack, packet_end, ack_timeout, IsTracker};
+    ghost use Rattle.sctp_tracker.specs.DataTracker.{tracker, update_rto, wire_tsn, number_of, is_valid, has_seen, observe, moves_on, forward, acking, is_ack_due, take_ack, packet_end, ack_timeout, IsTracker};
     ghost use Rattle.sctp_tracker.specs.Sack.{sack, report, is_covered};
     ghost use Rattle.sctp_tracker.specs.Reported.{IsReported, is_duplicate, Ascend};
     ghost use Rattle.sctp_tracker.specs.TrackerHandover.{readiness, receive, restore};
@@ -330,7 +330,7 @@ impl DataTracker {
     }
 }
 
-ghost use Rattle.sctp_tracker.specs.Tracker.{ack_delay, is_urgent};
+ghost use Rattle.sctp_tracker.specs.DataTracker.{ack_delay, is_urgent};
 
 /// How long an acknowledgement waits at most.
 fn ack_delay(rto: Duration, most: Duration) -> Duration

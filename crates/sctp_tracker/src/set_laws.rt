@@ -2,7 +2,7 @@
 
 ghost use Rattle.std.specs.Prelude.{◌≡◌, ℕ};
 ghost use Rattle.sctp_tracker.specs.Seen.{Seen, contains, IsInRuns};
-ghost use Rattle.sctp_tracker.specs.Tracker.{Tracker, IsTracker, has_seen};
+ghost use Rattle.sctp_tracker.specs.DataTracker.{Tracker, IsTracker, has_seen};
 ghost use Rattle.sctp_tracker.specs.Sack.{gap_ack_blocks};
 
 /// Two sets in runs that have the same numbers are equal. So two trackers that have seen the same numbers report the same

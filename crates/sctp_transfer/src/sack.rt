@@ -4,7 +4,7 @@ ghost use Rattle.std.specs.Prelude.{◌≡◌, OnOk};
 ghost use Rattle.std.specs.Option.{option_map};
 ghost use Rattle.std.specs.Duration.{as_nanos};
 ghost use Rattle.spec_endpoint.specs.Sack.{clean_blocks, after_sack, on_sack, on_sack_open, sample_rtt};
-ghost use Rattle.sctp_tx.specs.Retransmission.{answer_of};
+ghost use Rattle.sctp_tx.specs.RetransmissionQueue.{answer_of};
 ghost use Rattle.sctp_endpoint.specs.Views.{context_of, opened_of, phase_of, sack_of, endpoint_state_of, tcb_of};
 
 use sctp_endpoint::{Context, Phase, State, TransmissionControlBlock};

@@ -4,14 +4,14 @@ use Rattle.std.specs.Prelude.{◌&&◌, nat_lt, if◌then◌else◌}
 use Rattle.std.proofs.lemmas.List.Sums.{sum_by_push}
 use Rattle.sctp_chunk.specs.Chunk.{FragmentTree}
 use Rattle.sctp_state.specs.Events.{Emitted}
-use Rattle.sctp_tx_queue.specs.Queue.{Queue}
+use Rattle.sctp_tx_queue.specs.SendQueue.{Queue}
 use Rattle.sctp_tx_queue.specs.Produced.{Produced, produce}
 use Rattle.sctp_tx_outstanding.specs.Item.{header_size, size_of}
-use Rattle.sctp_tx_outstanding.specs.Items.{next_number, wire_tsn}
+use Rattle.sctp_tx_outstanding.specs.OutstandingData.{next_number, wire_tsn}
 use Rattle.sctp_tx_outstanding.specs.Resending.{Resent, empty_packet}
 use Rattle.sctp_tx_outstanding.proofs.RoomLemmas.{resend_fits, resent_is_interleaved, fast_room, flying}
 use Rattle.sctp_tx.specs.Windows.{cap}
-use Rattle.sctp_tx.specs.Retransmission.{Sender}
+use Rattle.sctp_tx.specs.RetransmissionQueue.{Sender}
 use Rattle.sctp_tx.specs.Resent.{sizes, is_interleaved, flight, room_of, may_send_new, resent_by, resent_fast, send_fast, timed_if}
 use Rattle.sctp_tx.specs.Resent as again
 use Rattle.sctp_tx.specs.Sending.{Filling, offered_payload, append, turned_if, next_turn, fill, discard_all, without_discards, filled_with, send}
@@ -62,15 +62,15 @@ module _ (now : ℕ) where
 
   record Filled (x y : Filling (List ℕ)) : Type 0 where
     load_is : load y ≤ load x
-    mixes_is : is_interleaved y.sender ≡ is_interleaved x.sender
+    interleaved_is : is_interleaved y.sender ≡ is_interleaved x.sender
 
   fill_fits : (turns : ℕ) (x : Filling (List ℕ)) → Filled x (fill turns now x)
-  fill_fits zero x = record { load_is = omega arith; mixes_is = refl }
+  fill_fits zero x = record { load_is = omega arith; interleaved_is = refl }
   fill_fits (suc turns) x = go (next_turn now x).is_more (turn_load x) (turn_is_interleaved x) (fill_fits turns (next_turn now x).filling) where
     go : (b : Bool) → load (next_turn now x).filling ≤ load x → is_interleaved (next_turn now x).filling.sender ≡ is_interleaved x.sender → Filled (next_turn now x).filling (fill turns now (next_turn now x).filling)
         → Filled x (if b then fill turns now (next_turn now x).filling else (next_turn now x).filling)
-    go true a m h = record { load_is = omega (arith, a, h.load_is); mixes_is = h.mixes_is ∙ m }
-    go false a m h = record { load_is = a; mixes_is = m }
+    go true a m h = record { load_is = omega (arith, a, h.load_is); interleaved_is = h.interleaved_is ∙ m }
+    go false a m h = record { load_is = a; interleaved_is = m }
 
 -- what is left of the packet besides what is sent again
 left_over : (bytes room most : ℕ) → most < 2 ^ 64 → bytes ≤ min most room → bytes + (most - cap bytes) ≤ most
@@ -87,7 +87,7 @@ sent_fits now most s q emitted small =
     let m : is_interleaved x.sender ≡ is_interleaved s = resent_is_interleaved false (length first.outstanding.items.kept) (empty_packet (min most room) first.windows.rwnd first.outstanding) in
     let same : sizes (is_interleaved x.sender) r.chunks ≡ sizes (is_interleaved s) r.chunks = ap (λ b. sizes b r.chunks) m in
     let h = fill_fits now (suc x.left) x in
-    let end : sizes (is_interleaved s) y.chunks ≡ sizes (is_interleaved y.sender) y.chunks = ap (λ b. sizes b y.chunks) (sym (h.mixes_is ∙ m)) in
+    let end : sizes (is_interleaved s) y.chunks ≡ sizes (is_interleaved y.sender) y.chunks = ap (λ b. sizes b y.chunks) (sym (h.interleaved_is ∙ m)) in
     let over : sizes (is_interleaved x.sender) r.chunks + (most - cap (sizes (is_interleaved x.sender) r.chunks)) ≤ most = left_over (sizes (is_interleaved x.sender) r.chunks) room most small (omega (arith, again_fits, same)) in
     omega (arith, h.load_is, end, over)
 

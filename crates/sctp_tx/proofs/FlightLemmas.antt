@@ -4,14 +4,14 @@ use Rattle.std.specs.Prelude.{◌&&◌, nat_lt, if◌then◌else◌}
 use Rattle.std.proofs.lemmas.Bool.Decides.{nat_tests}
 use Rattle.std.proofs.lemmas.List.Sums.{sum_by_push}
 use Rattle.sctp_state.specs.Events.{Emitted}
-use Rattle.sctp_tx_queue.specs.Queue.{Queue}
+use Rattle.sctp_tx_queue.specs.SendQueue.{Queue}
 use Rattle.sctp_tx_queue.specs.Produced.{Produced, produce}
 use Rattle.sctp_tx_outstanding.specs.Item.{header_size, size_of}
-use Rattle.sctp_tx_outstanding.specs.Items.{packet_part, flight_bytes}
+use Rattle.sctp_tx_outstanding.specs.OutstandingData.{packet_part, flight_bytes}
 use Rattle.sctp_tx_outstanding.specs.Resending.{resent_below, empty_packet}
 use Rattle.sctp_tx_outstanding.proofs.RoomLemmas.{flying, resent_room}
 use Rattle.sctp_tx.specs.Windows.{cap, room_within}
-use Rattle.sctp_tx.specs.Retransmission.{Sender, is_quiet}
+use Rattle.sctp_tx.specs.RetransmissionQueue.{Sender, is_quiet}
 use Rattle.sctp_tx.specs.Resent.{flight, room_of, may_send_new, resent_by, timed_if}
 use Rattle.sctp_tx.specs.Resent as again
 use Rattle.sctp_tx.specs.Sending.{Filling, offered_payload, item_of, sent_new, append, turned_if, next_turn, fill, discard_all, without_discards, filled_with, send}

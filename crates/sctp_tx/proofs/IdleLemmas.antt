@@ -3,14 +3,14 @@ use Rattle.std.proofs.Common.{◌≡◌, ℕ, zero, suc, ◌+◌, ◌-◌, ◌�
 use Rattle.std.specs.Prelude.{◌==◌, ◌&&◌, ◌||◌, not, nat_lt, is_some}
 use Rattle.std.proofs.lemmas.Bool.Decides.{nat_tests}
 use Rattle.sctp_state.specs.Events.{Emitted}
-use Rattle.sctp_tx_queue.specs.Queue.{Queue}
+use Rattle.sctp_tx_queue.specs.SendQueue.{Queue}
 use Rattle.sctp_tx_queue.specs.Produced.{produce, idle}
 use Rattle.sctp_tx_queue.specs.Settings.{Changed}
-use Rattle.sctp_tx_outstanding.specs.Items.{Discard, waiting_items}
+use Rattle.sctp_tx_outstanding.specs.OutstandingData.{Discard, waiting_items}
 use Rattle.sctp_tx_outstanding.specs.Resending.{Resent, empty_packet}
 use Rattle.sctp_tx_outstanding.proofs.RoomLemmas.{resend_quiet, no_more_lem}
 use Rattle.sctp_tx.specs.Windows.{cap}
-use Rattle.sctp_tx.specs.Retransmission.{Sender}
+use Rattle.sctp_tx.specs.RetransmissionQueue.{Sender}
 use Rattle.sctp_tx.specs.Resent.{flight, may_send_new, resent_by}
 use Rattle.sctp_tx.specs.Resent as again
 use Rattle.sctp_tx.specs.Sending.{Filling, filling, offered_payload, turned_if, fill, without_discards, discard_all, filled_with, timed_filling, fill_all, send, is_idle}

@@ -2,11 +2,11 @@
 use Rattle.std.proofs.Common.{◌≡◌, ℕ, ◌<◌, false, List, [], refl, ap, sym, subst, ◌∙◌}
 use Rattle.sctp_state.specs.Events.{Emitted}
 use Rattle.sctp_tx_outstanding.specs.Item.{Item}
-use Rattle.sctp_tx_outstanding.specs.Items.{Outstanding, insert}
+use Rattle.sctp_tx_outstanding.specs.OutstandingData.{Outstanding, insert}
 use Rattle.sctp_tx_outstanding.specs.Resending.{resent_below, empty_packet}
 use Rattle.sctp_tx_outstanding.specs.Keeps.{Keeps}
 use Rattle.sctp_tx_outstanding.proofs.KeepsLemmas.{keeps_all, keeps_on, resending_keeps, new_items_keep}
-use Rattle.sctp_tx_queue.specs.Queue.{Queue}
+use Rattle.sctp_tx_queue.specs.SendQueue.{Queue}
 use Rattle.sctp_tx_queue.specs.Produced.{Produced, produce}
 use Rattle.sctp_tx_queue.specs.Settings.{discard}
 use Rattle.sctp_tx_queue.specs.Interrupted.{Interrupted}
@@ -14,7 +14,7 @@ use Rattle.sctp_tx_queue.proofs.InOrderLemmas.{produced_in_order, discarded_in_o
 use Rattle.sctp_tx_queue.proofs.NumberLemmas.{calls_number}
 use Rattle.sctp_tx_queue.proofs.RestLemmas.{calls_leave_rests}
 use Rattle.sctp_tx_queue.proofs.UnfinishedLemmas.{order_kept, numbers_kept, rests_kept}
-use Rattle.sctp_tx.specs.Retransmission.{Sender}
+use Rattle.sctp_tx.specs.RetransmissionQueue.{Sender}
 use Rattle.sctp_tx.specs.Resent.{resent_by}
 use Rattle.sctp_tx.specs.Sending.{item_of, sent_new}
 use Rattle.sctp_tx.specs.Interrupted.{PartlySent, PartlyTaken}

@@ -5,9 +5,9 @@ use Rattle.std.proofs.lemmas.List.{length-take}
 use Rattle.sctp_chunk.specs.Chunk.{FragmentTree}
 use Rattle.sctp_state.specs.Events.{Emitted}
 use Rattle.sctp_tx_queue.specs.declared.send_queue.message.MessageNumbers.{MessageNumbers}
-use Rattle.sctp_tx_queue.specs.Queue.{Queue, Queued, stream}
+use Rattle.sctp_tx_queue.specs.SendQueue.{Queue, Queued, stream}
 use Rattle.sctp_tx_queue.specs.Produced.{Produced, Turn, front_made, front_numbers, streams_without_stale, turn, idle, next_stream, produce_within, produce}
-use Rattle.sctp_tx.specs.Retransmission.{Sender}
+use Rattle.sctp_tx.specs.RetransmissionQueue.{Sender}
 use Rattle.sctp_tx.specs.Sending.{Filling, filling, next_turn, fill}
 
 -- ---- fragments fit

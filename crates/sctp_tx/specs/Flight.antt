@@ -1,8 +1,8 @@
 -- What a packet holds, and adds to what is in flight (RFC 9260 section 6.1, rule B).
 use Rattle.std.specs.Prelude.{◌≡◌, ◌≤◌, ℕ, ◌+◌, max, List}
 use Rattle.sctp_chunk.specs.Chunk.{FragmentTree}
-use Rattle.sctp_tx_outstanding.specs.Items.{flight_bytes}
-use Rattle.sctp_tx.specs.Retransmission.{Sender}
+use Rattle.sctp_tx_outstanding.specs.OutstandingData.{flight_bytes}
+use Rattle.sctp_tx.specs.RetransmissionQueue.{Sender}
 use Rattle.sctp_tx.specs.Resent.{sizes, is_interleaved}
 
 -- the bytes in flight are no more than before, or than the congestion window, which stays

@@ -3,10 +3,10 @@ use Rattle.std.specs.Prelude.{ℕ, ◌+◌, ◌-◌, ◌*◌, ◌/◌, Bool, tru
 use Rattle.sctp_chunk.specs.Chunk.{ChunkTree, forward_tsn_chunk, i_forward_tsn_chunk}
 use Rattle.sctp_state.specs.Events.{Emitted}
 use Rattle.sctp_tx_outstanding.specs.Entries.{ssn_skip, mid_skip}
-use Rattle.sctp_tx_outstanding.specs.Items.{wire_tsn}
+use Rattle.sctp_tx_outstanding.specs.OutstandingData.{wire_tsn}
 use Rattle.sctp_tx_outstanding.specs.Losses.{expire_outstanding}
 use Rattle.sctp_tx_outstanding.specs.Forward.{ForwardPoint, forward_point}
-use Rattle.sctp_tx.specs.Retransmission.{Sender}
+use Rattle.sctp_tx.specs.RetransmissionQueue.{Sender}
 use Rattle.sctp_tx.specs.Resent.{is_interleaved}
 
 -- expired messages are given up

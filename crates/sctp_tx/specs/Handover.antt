@@ -2,11 +2,11 @@
 use Rattle.std.specs.Prelude.{ℕ, ◌&&◌, ◌==◌, not, nat_lt, min, bit_or, Bool, if◌then◌else◌, None, is_some, length}
 use Rattle.sctp_state.specs.Numbers.{most_u32}
 use Rattle.sctp_state.specs.Handover.{Transmission}
-use Rattle.sctp_state.specs.Timers.{stop}
-use Rattle.sctp_tx_outstanding.specs.Items.{Outstanding, waiting_items}
+use Rattle.sctp_state.specs.Timer.{stop}
+use Rattle.sctp_tx_outstanding.specs.OutstandingData.{Outstanding, waiting_items}
 use Rattle.sctp_tx_outstanding.specs.Handover as items
 use Rattle.sctp_tx.specs.declared.retransmission_queue.windows.Windows.{Windows}
-use Rattle.sctp_tx.specs.Retransmission.{Sender}
+use Rattle.sctp_tx.specs.RetransmissionQueue.{Sender}
 
 -- ---- what stands in the way: items count where none may be handed over
 

@@ -2,14 +2,14 @@
 use Rattle.std.specs.Prelude.{◌≡◌, ◌⊎◌, ℕ, not, true, false, List}
 use Rattle.sctp_chunk.specs.declared.sack.GapAckBlock.{GapAckBlock}
 use Rattle.sctp_state.specs.Events.{Emitted}
-use Rattle.sctp_state.specs.Timers.{expire}
+use Rattle.sctp_state.specs.Timer.{expire}
 use Rattle.sctp_tx_outstanding.specs.Interrupted.{Same, SomeNacked, SomeExpired, SomeReceived}
 use Rattle.sctp_tx_outstanding.specs.Keeps.{Keeps}
 use Rattle.sctp_tx_outstanding.specs.Resending.{SomeResent, empty_packet}
-use Rattle.sctp_tx_queue.specs.Queue.{Queue}
+use Rattle.sctp_tx_queue.specs.SendQueue.{Queue}
 use Rattle.sctp_tx_queue.specs.InOrder.{IsInOrder, IsNumbered, HasRests}
 use Rattle.sctp_tx.specs.Windows.{is_open, timed_out}
-use Rattle.sctp_tx.specs.Retransmission.{Sender}
+use Rattle.sctp_tx.specs.RetransmissionQueue.{Sender}
 
 -- the windows, the timer and the counts are as they were
 abbrev pub ItemsAlone : Sender → Sender → Type 0

@@ -3,10 +3,10 @@ use Rattle.std.specs.Prelude.{ℕ, ◌+◌, ◌-◌, nat_lt, min, Bool, true, fa
 use Rattle.std.specs.List.{sum_by}
 use Rattle.sctp_chunk.specs.Chunk.{FragmentTree}
 use Rattle.sctp_tx_outstanding.specs.Item.{size_of}
-use Rattle.sctp_tx_outstanding.specs.Items.{flight_bytes}
+use Rattle.sctp_tx_outstanding.specs.OutstandingData.{flight_bytes}
 use Rattle.sctp_tx_outstanding.specs.Resending.{Resent, resend}
 use Rattle.sctp_tx.specs.Windows.{cap, take_payload, room, may_send}
-use Rattle.sctp_tx.specs.Retransmission.{Sender, is_quiet, kept_running}
+use Rattle.sctp_tx.specs.RetransmissionQueue.{Sender, is_quiet, kept_running}
 
 abbrev pub sizes : (is_interleaved : Bool) → List (ℕ × FragmentTree) → ℕ
 sizes m chunks = sum_by (λ c. size_of m c.1) chunks

@@ -4,13 +4,13 @@ use Rattle.std.specs.Prelude.{ℕ, zero, suc, ◌-◌, ◌*◌, ◌/◌, ◌==�
 use Rattle.sctp_chunk.specs.Chunk.{FragmentTree}
 use Rattle.sctp_state.specs.Events.{Emitted}
 use Rattle.sctp_tx_outstanding.specs.Item.{Item, header_size, size_of}
-use Rattle.sctp_tx_outstanding.specs.Items.{Discard, next_number, wire_tsn, waiting_items, first_sent, insert}
+use Rattle.sctp_tx_outstanding.specs.OutstandingData.{Discard, next_number, wire_tsn, waiting_items, first_sent, insert}
 use Rattle.sctp_tx_outstanding.specs.Resending.{Resent}
-use Rattle.sctp_tx_queue.specs.Queue.{Queue}
+use Rattle.sctp_tx_queue.specs.SendQueue.{Queue}
 use Rattle.sctp_tx_queue.specs.Produced.{Produced, Turn, produce}
 use Rattle.sctp_tx_queue.specs.Settings.{Changed, discard}
 use Rattle.sctp_tx.specs.Windows.{cap, take_payload}
-use Rattle.sctp_tx.specs.Retransmission.{Sender}
+use Rattle.sctp_tx.specs.RetransmissionQueue.{Sender}
 use Rattle.sctp_tx.specs.Resent.{sizes, is_interleaved, room_of, may_send_new, resent, resent_by, start_timer}
 
 -- ---- new fragments

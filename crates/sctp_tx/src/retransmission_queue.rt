@@ -3,14 +3,14 @@
 ghost use Rattle.std.specs.Prelude.{◌≡◌, ◌-◌, ◌==◌, min, ◌^◌, ◌<◌, ◌≤◌, ◌++◌, ◌∷◌, [], suc, nat_lt, length, map, is_some, true, false, IsTrue, OnOk, OnErr, IfOk, IfSome, Ok};
 ghost use Rattle.std.specs.Duration.{as_nanos};
 ghost use Rattle.sctp_state.specs.Options.{options_of, IsValid};
-ghost use Rattle.sctp_state.specs.Timers.{is_due, next_expiry, set_duration};
-ghost use Rattle.sctp_tx_outstanding.specs.Items.{number_of, wire_tsn, next_number, flight_bytes, flight_payload, flight_items, fast_items, begin_reset};
+ghost use Rattle.sctp_state.specs.Timer.{is_due, next_expiry, set_duration};
+ghost use Rattle.sctp_tx_outstanding.specs.OutstandingData.{number_of, wire_tsn, next_number, flight_bytes, flight_payload, flight_items, fast_items, begin_reset};
 ghost use Rattle.sctp_tx_outstanding.specs.Losses.{nack_all, expire_outstanding};
 ghost use Rattle.sctp_tx_outstanding.specs.Forward.{is_forward_due};
 ghost use Rattle.sctp_control_chunk.specs.ChunkView.{chunk_tree};
 ghost use Rattle.sctp_tx.specs.ForwardPoints.{expire, forward_chunk};
 ghost use Rattle.sctp_tx_outstanding.specs.Sack.{is_valid, acked_bytes};
-ghost use Rattle.sctp_tx.specs.Retransmission.{sender, handle_sack, step_of, sender_if, emitted_if, answer_if, answer_of, windows_after, after_sack, kept_running, is_quiet, timed_out_sender};
+ghost use Rattle.sctp_tx.specs.RetransmissionQueue.{sender, handle_sack, step_of, sender_if, emitted_if, answer_if, answer_of, windows_after, after_sack, kept_running, is_quiet, timed_out_sender};
 ghost use Rattle.sctp_tx.specs.Interrupted.{PartlyReceived, PartlyTimedOut, PartlyExpired, PartlyResentFast, PartlySent, PartlyTaken};
 ghost use Rattle.sctp_tx.specs.Flight.{StaysWithin, AddsAtMost, FitWithin};
 ghost use Rattle.sctp_tx.specs.Windows.{cap};
@@ -60,7 +60,7 @@ pub struct RetransmissionQueue {
 }
 
 impl Model for RetransmissionQueue {
-    ghost use Rattle.sctp_tx.specs.Retransmission.{Sender};
+    ghost use Rattle.sctp_tx.specs.RetransmissionQueue.{Sender};
 
     ghost Value = { Sender };
 

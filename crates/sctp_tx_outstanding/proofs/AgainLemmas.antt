@@ -1,14 +1,14 @@
 -- A record brings the items back.
 use Rattle.std.proofs.Common.{◌≡◌, ℕ, suc, ◌+◌, ◌-◌, ◌%◌, ◌<◌, cond, Option, List, [], ◌∷◌, length, refl, ap, ◌∙◌, arith}
 use Rattle.std.specs.Prelude.{option_map, unwrap_or}
-use Rattle.sctp_serial.specs.Serial.{serial_difference}
+use Rattle.sctp_serial.specs.SerialNumber.{serial_difference}
 use Rattle.sctp_serial.specs.Unwrapped.{origin, words, wire}
 use Rattle.sctp_state.specs.Handover.{Transmission}
 use Rattle.sctp_state.specs.HandoverTimes.{lifecycle_from, moment_again, lifecycle_again}
 use Rattle.sctp_tx_outstanding.specs.declared.item.ItemState.{ItemState}
 use Rattle.sctp_tx_outstanding.specs.declared.item.ItemState.TheVariants.{InFlight, Missing, Queued, QueuedFast, Acked, GivenUp}
 use Rattle.sctp_tx_outstanding.specs.Item.{Item, slow, waits, has_nack, has_ack, is_given_up}
-use Rattle.sctp_tx_outstanding.specs.Items.{Outstanding}
+use Rattle.sctp_tx_outstanding.specs.OutstandingData.{Outstanding}
 use Rattle.sctp_tx_outstanding.specs.Handover.{item_record, item_from, items_from, item_records, reports_in, handed_over, restore}
 use Rattle.sctp_tx_outstanding.specs.Again.{item_again, items_again, ComesBack}
 use Rattle.sctp_state.proofs.HandoverLemmas.{expires_is, lifecycle_is}

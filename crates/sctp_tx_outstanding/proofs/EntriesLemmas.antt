@@ -6,7 +6,7 @@ use Rattle.std.proofs.lemmas.Bool.{eqb-true, leb-true, lt-ltb, ltb-false, ltb-tr
 use Rattle.std.proofs.lemmas.Bool.Decides.{nat_tests}
 use Rattle.sctp_tx_outstanding.specs.declared.skips.SkipEntry.{SkipEntry}
 use Rattle.sctp_tx_outstanding.specs.Item.{Item, is_abandoned}
-use Rattle.sctp_tx_outstanding.specs.Items.{Items, when}
+use Rattle.sctp_tx_outstanding.specs.OutstandingData.{Items, when}
 use Rattle.sctp_tx_outstanding.specs.Forward.{ForwardPoint, entry_of, is_before, is_same, is_alike, name_stream, with_entry, count_with, size_with, stops, passes, pass_item, walk}
 use Rattle.sctp_tx_outstanding.specs.Point.{Ascend}
 use Rattle.sctp_serial.proofs.NumberLemmas.{less_differs, greater_differs}

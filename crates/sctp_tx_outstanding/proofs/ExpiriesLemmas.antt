@@ -11,7 +11,7 @@ use Rattle.sctp_tx_outstanding.specs.declared.kept.Change.{Change}
 use Rattle.sctp_tx_outstanding.specs.declared.expiries.Expiries.{Expiries}
 use Rattle.sctp_tx_outstanding.specs.Item.{Item, is_due, or_never, expiry, never, NotBefore}
 use Rattle.sctp_tx_outstanding.specs.Change.{apply_change}
-use Rattle.sctp_tx_outstanding.specs.Items.{change_at}
+use Rattle.sctp_tx_outstanding.specs.OutstandingData.{change_at}
 use Rattle.sctp_tx_outstanding.specs.Totals.{parts, Exchanges}
 use Rattle.sctp_tx_outstanding.specs.Messages.{key_of}
 use Rattle.sctp_tx_outstanding.specs.Waiting.{by_number, is_listed}

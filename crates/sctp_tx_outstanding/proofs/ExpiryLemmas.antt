@@ -7,7 +7,7 @@ use Rattle.std.proofs.lemmas.List.Elements.{All-head, All-tail, All-cons, All-ni
 use Rattle.sctp_state.specs.Events.{Emitted}
 use Rattle.sctp_chunk.specs.Chunk.{FragmentTree}
 use Rattle.sctp_tx_outstanding.specs.Item.{Item, NotBefore, is_of, abandon}
-use Rattle.sctp_tx_outstanding.specs.Items.{Items, Outstanding, lay_down, last_of}
+use Rattle.sctp_tx_outstanding.specs.OutstandingData.{Items, Outstanding, lay_down, last_of}
 use Rattle.sctp_tx_outstanding.specs.Expiries.{expires_at, NoneExpires}
 use Rattle.sctp_tx_outstanding.specs.Losses.{Step, placeholder, placeholders, expires, expired_of, option_bind, expired_at, given_up_if, expire_at, expire_below, expire_outstanding, first_step}
 

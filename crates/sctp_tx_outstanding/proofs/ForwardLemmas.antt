@@ -3,7 +3,7 @@ use Rattle.std.proofs.Common.{◌≡◌, ℕ, zero, suc, ◌+◌, ◌≤◌, Boo
 use Rattle.std.specs.Prelude.{slice_get}
 use Rattle.sctp_tx_outstanding.specs.declared.skips.SkipEntry.{SkipEntry}
 use Rattle.sctp_tx_outstanding.specs.Item.{Item}
-use Rattle.sctp_tx_outstanding.specs.Items.{Items}
+use Rattle.sctp_tx_outstanding.specs.OutstandingData.{Items}
 use Rattle.sctp_tx_outstanding.specs.Forward.{ForwardPoint, passes, pass_item, passes_of, entry_in, with_entry, walk, walk_from}
 
 yes : (b : Bool) (f g : ForwardPoint) → b ≡ true → cond b f g ≡ f

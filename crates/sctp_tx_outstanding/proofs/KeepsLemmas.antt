@@ -11,7 +11,7 @@ use Rattle.sctp_tx_outstanding.specs.declared.item.ItemState.TheVariants.{InFlig
 use Rattle.sctp_tx_outstanding.specs.declared.outstanding_data.Turn.{Turn}
 use Rattle.sctp_tx_outstanding.specs.declared.outstanding_data.Turn.TheVariants.{Send, PassOver, Leave}
 use Rattle.sctp_tx_outstanding.specs.Item.{Item, is_in_flight, is_given_up, is_of, is_lost, is_abandoned, acked, uncovered, nack_state, resent, slow, ack, uncover, nack, mark_as_retransmitted, miss_fast, abandon}
-use Rattle.sctp_tx_outstanding.specs.Items.{Items, change_at, lay_down, last_of, insert}
+use Rattle.sctp_tx_outstanding.specs.OutstandingData.{Items, change_at, lay_down, last_of, insert}
 use Rattle.sctp_tx_outstanding.specs.Losses.{Step, close_message, placeholders, abandon_message, given_up, given_up_if, gives_up, loses, nack_item, nack_at, nack_below, expired_at, expire_at, expire_below, change_items}
 use Rattle.sctp_tx_outstanding.specs.Resending.{Resent, again_of, again_at, take_item, turn_at, step_at, resent_below}
 use Rattle.sctp_tx_outstanding.specs.Sack.{settle, ack_or_nack, staying, receive_sack, receive_sack_first, reported_below}

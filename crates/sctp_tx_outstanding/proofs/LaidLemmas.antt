@@ -1,7 +1,7 @@
 -- A message is laid down item by item.
 use Rattle.std.proofs.Common.{◌≡◌, ℕ, zero, suc, ◌<◌, ◌≤◌, false, List, [], ◌∷◌, length, slice_index_or, refl, ap, arith}
 use Rattle.sctp_tx_outstanding.specs.Item.{Item, is_of}
-use Rattle.sctp_tx_outstanding.specs.Items.{lay_down, is_of_at}
+use Rattle.sctp_tx_outstanding.specs.OutstandingData.{lay_down, is_of_at}
 
 pub is_of_at_here : (number k : ℕ) (is : List Item) (i : Item) → k < length is → i ≡ slice_index_or is k i → is_of number i ≡ is_of_at number k is
 is_of_at_here number k [] i h at = absurd (omega (arith, h))

@@ -3,7 +3,7 @@ use Rattle.std.proofs.Common.{◌≡◌, ℕ, suc, ◌+◌, ◌||◌, Bool, true
 use Rattle.std.specs.Prelude.{Option, Some, None, unwrap_or, option_map, slice_get}
 use Rattle.sctp_state.specs.Events.{Emitted}
 use Rattle.sctp_tx_outstanding.specs.Item.{Item}
-use Rattle.sctp_tx_outstanding.specs.Items.{Items, Outstanding}
+use Rattle.sctp_tx_outstanding.specs.OutstandingData.{Items, Outstanding}
 use Rattle.sctp_tx_outstanding.specs.Losses.{Step, first_step, nack_item, nack_at, nack_below, gives_up}
 
 or_true : (b : Bool) → true ≡ (b || true)

@@ -8,7 +8,7 @@ use Rattle.sctp_tx_outstanding.specs.declared.kept.Change.{Change}
 use Rattle.sctp_tx_outstanding.specs.declared.kept.Change.TheVariants as changes
 use Rattle.sctp_tx_outstanding.specs.Item.{Item, is_of, abandon}
 use Rattle.sctp_tx_outstanding.specs.Change.{apply_change}
-use Rattle.sctp_tx_outstanding.specs.Items.{change_at, lay_down, is_of_at, later_of, later_at, without_payload}
+use Rattle.sctp_tx_outstanding.specs.OutstandingData.{change_at, lay_down, is_of_at, later_of, later_at, without_payload}
 use Rattle.sctp_tx_outstanding.specs.Waiting.{by_number, is_listed}
 use Rattle.sctp_tx_outstanding.specs.Messages.{NoneIsOf, is_of_as, key_of, AreKeys, Finds}
 use Rattle.sctp_tx_outstanding.specs.declared.messages.Messages.{Messages}

@@ -6,7 +6,7 @@ use Rattle.std.proofs.lemmas.Bool.{cases_lt, and_from, and_parts, not-true}
 use Rattle.std.proofs.lemmas.Bool.Decides.{nat_tests}
 use Rattle.sctp_tx_outstanding.specs.declared.skips.SkipEntry.{SkipEntry}
 use Rattle.sctp_tx_outstanding.specs.Item.{Item, is_abandoned}
-use Rattle.sctp_tx_outstanding.specs.Items.{Items}
+use Rattle.sctp_tx_outstanding.specs.OutstandingData.{Items}
 use Rattle.sctp_tx_outstanding.specs.Forward.{ForwardPoint, is_first_given_up, entry_of, is_before, is_same, is_alike, name_stream, with_entry, size_with, stops, passes, pass_item, walk, forward_point}
 use Rattle.sctp_tx_outstanding.specs.Point.{named_number, number_in, last_number, IsPoint}
 use Rattle.sctp_tx_outstanding.proofs.EntriesLemmas.{point_fits, point_ascends}

@@ -10,7 +10,7 @@ use Rattle.sctp_tx_outstanding.specs.declared.item.ItemState.TheVariants.{InFlig
 use Rattle.sctp_tx_outstanding.specs.declared.kept.Change.{Change}
 use Rattle.sctp_tx_outstanding.specs.declared.kept.Change.TheVariants as changes
 use Rattle.sctp_tx_outstanding.specs.Item.{Item, is_of, is_in_flight, waits, is_given_up, has_ack, is_acked, is_lost, nack_state, acked, ack, uncovered, uncover, resent, slow, nack, mark_as_retransmitted, miss_fast, abandon, chunk_size}
-use Rattle.sctp_tx_outstanding.specs.Items.{change_at, when, lay_down}
+use Rattle.sctp_tx_outstanding.specs.OutstandingData.{change_at, when, lay_down}
 use Rattle.sctp_tx_outstanding.specs.Change.{apply_change, is_of_sack}
 use Rattle.sctp_tx_outstanding.specs.Sack.{highest_end, settle, ack_or_nack, newly_acked, is_newly_acked, below_highest}
 use Rattle.sctp_tx_outstanding.specs.Passes.{settle_from, acked_from, below_from, IsWalk, IsCursor}

@@ -14,7 +14,7 @@ use Rattle.sctp_tx_outstanding.specs.declared.item.ItemState.TheVariants.{InFlig
 use Rattle.sctp_tx_outstanding.specs.declared.outstanding_data.Turn.{Turn}
 use Rattle.sctp_tx_outstanding.specs.declared.outstanding_data.Turn.TheVariants.{Send, PassOver, Leave}
 use Rattle.sctp_tx_outstanding.specs.Item.{Item, is_in_flight, has_nack, is_given_up, is_of, is_lost, is_used_up, is_nacked, is_abandoned, has_expired, acked, uncovered, nack_state, resent, slow, nack, mark_as_retransmitted, miss_fast, abandon}
-use Rattle.sctp_tx_outstanding.specs.Items.{Items, change_at, lay_down, last_of, insert, no_items}
+use Rattle.sctp_tx_outstanding.specs.OutstandingData.{Items, change_at, lay_down, last_of, insert, no_items}
 use Rattle.sctp_tx_outstanding.specs.Losses.{Step, placeholders, placeholder, abandon_message, given_up, given_up_if, gives_up, loses, nack_item, nack_at, nack_below, expires, expired_of, option_bind, expire_at, expire_below, change_items}
 use Rattle.sctp_tx_outstanding.specs.Resending.{Resent, again_of, again_at, take_item, turn_at, step_at, resent_below}
 use Rattle.sctp_tx_outstanding.specs.Sack.{settle, ack_or_nack, leaving, staying, receive_sack, receive_sack_first, reported_below}

@@ -11,7 +11,7 @@ use Rattle.sctp_tx_outstanding.specs.declared.outstanding_data.Turn.{Turn}
 use Rattle.sctp_tx_outstanding.specs.declared.outstanding_data.Turn.TheVariants.{Send, PassOver, Leave}
 use Rattle.sctp_chunk.specs.Chunk.{FragmentTree}
 use Rattle.sctp_tx_outstanding.specs.Item.{Item, is_in_flight, waits, waits_fast, resent, slow, miss_fast, should_be_retransmitted, is_fast, size_of, mark_as_retransmitted}
-use Rattle.sctp_tx_outstanding.specs.Items.{Outstanding, when, wire_tsn, packet_part, queued_part, fast_part, flight_bytes, flight_items, waiting_items, fast_items, change_at}
+use Rattle.sctp_tx_outstanding.specs.OutstandingData.{Outstanding, when, wire_tsn, packet_part, queued_part, fast_part, flight_bytes, flight_items, waiting_items, fast_items, change_at}
 use Rattle.sctp_tx_outstanding.specs.Resending.{Resent, size_in, allowance, waiting_for, again_of, turn_of, turn_at, take_item, step_at, resent_below, empty_packet, resend, chunk_bytes}
 use Rattle.sctp_tx_outstanding.proofs.WaitingLemmas.{false_from_none}
 

@@ -6,7 +6,7 @@ use Rattle.std.proofs.lemmas.Bool.Decides.{nat_tests}
 use Rattle.sctp_chunk.specs.declared.sack.GapAckBlock.{GapAckBlock}
 use Rattle.sctp_chunk.specs.Covered.{is_covered, AreRuns}
 use Rattle.sctp_tx_outstanding.specs.Item.{Item}
-use Rattle.sctp_tx_outstanding.specs.Items.{Kept, change_at}
+use Rattle.sctp_tx_outstanding.specs.OutstandingData.{Kept, change_at}
 use Rattle.sctp_tx_outstanding.specs.Sack.{ack_or_nack, is_new_at, new_bytes_at, newly_of, bytes_of}
 use Rattle.sctp_tx_outstanding.specs.Passes.{IsCursor, IsWalk, settle_from, acked_from, below_from}
 use Rattle.sctp_chunk.proofs.SackLemmas.{is_covered_below}

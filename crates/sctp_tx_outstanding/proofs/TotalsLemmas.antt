@@ -8,7 +8,7 @@ use Rattle.sctp_tx_outstanding.specs.declared.kept.Change.{Change}
 use Rattle.sctp_tx_outstanding.specs.declared.kept.Change.TheVariants as changes
 use Rattle.sctp_tx_outstanding.specs.Item.{Item, chunk_size, header_size, is_outstanding, should_be_retransmitted, is_fast, NotBefore, never}
 use Rattle.sctp_tx_outstanding.specs.Change.{apply_change}
-use Rattle.sctp_tx_outstanding.specs.Items.{change_at, when, packet_part, payload_part, flight_part, queued_part, fast_part}
+use Rattle.sctp_tx_outstanding.specs.OutstandingData.{change_at, when, packet_part, payload_part, flight_part, queued_part, fast_part}
 use Rattle.sctp_tx_outstanding.specs.Totals.{parts, nothing, exchange, IsSmall, AreTotals, Exchanges}
 use Rattle.sctp_tx_outstanding.proofs.EarliestLemmas.{all_sooner, earliest_changed, earliest_pushed}
 use Rattle.sctp_tx_outstanding.proofs.WaitingLemmas.{same_fragment}

@@ -8,7 +8,7 @@ use Rattle.sctp_state.specs.Events.{Emitted}
 use Rattle.sctp_state.specs.declared.api.GivenUpCause.TheVariants.{Retransmissions}
 use Rattle.sctp_tx_outstanding.specs.declared.kept.Change.TheVariants as changes
 use Rattle.sctp_tx_outstanding.specs.Item.{Item, is_in_flight, ack, nack, is_lost, is_used_up}
-use Rattle.sctp_tx_outstanding.specs.Items.{Items, Outstanding, change_at, last_of}
+use Rattle.sctp_tx_outstanding.specs.OutstandingData.{Items, Outstanding, change_at, last_of}
 use Rattle.sctp_tx_outstanding.specs.Losses.{Step, first_step, placeholder, placeholders, given_up, gives_up, loses, change_items, nack_item, nack_at, nack_below}
 use Rattle.sctp_tx_outstanding.specs.Passes.{IsWalk, AreCovered}
 use Rattle.sctp_tx_outstanding.specs.LastBlocks.{Rests, Rest}

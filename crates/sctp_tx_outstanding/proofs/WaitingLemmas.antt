@@ -13,7 +13,7 @@ use Rattle.sctp_tx_outstanding.specs.declared.kept.Change.{Change}
 use Rattle.sctp_tx_outstanding.specs.declared.kept.Change.TheVariants as changes
 use Rattle.sctp_tx_outstanding.specs.Item.{Item, should_be_retransmitted, header_size, chunk_size}
 use Rattle.sctp_tx_outstanding.specs.Change.{apply_change}
-use Rattle.sctp_tx_outstanding.specs.Items.{change_at, when, queued_part}
+use Rattle.sctp_tx_outstanding.specs.OutstandingData.{change_at, when, queued_part}
 use Rattle.sctp_tx_outstanding.specs.Totals.{parts, nothing, Exchanges}
 use Rattle.sctp_tx_outstanding.specs.Waiting.{waits_at, by_number, waits_as, NoneWaits, is_listed, AreListed, IsAtLeast, Lists, HasSize, StaysAtLeast, Turns}
 use Rattle.sctp_tx_outstanding.specs.declared.waiting.Waiting.{Waiting}

@@ -5,7 +5,7 @@ use Rattle.sctp_serial.specs.Unwrapped.{origin, words}
 use Rattle.sctp_state.specs.Handover.{Transmission}
 use Rattle.sctp_state.specs.HandoverTimes.{ms_since, moment_before, moment_again, lifecycle_again}
 use Rattle.sctp_tx_outstanding.specs.Item.{Item, slow}
-use Rattle.sctp_tx_outstanding.specs.Items.{Outstanding, wire_tsn, next_number}
+use Rattle.sctp_tx_outstanding.specs.OutstandingData.{Outstanding, wire_tsn, next_number}
 use Rattle.sctp_tx_outstanding.specs.Handover.{reports_in, handed_over, restore}
 
 -- whole milliseconds since a moment

@@ -3,7 +3,7 @@ use Rattle.std.specs.Prelude.{ℕ, zero, suc, ◌+◌, ◌*◌, ◌==◌, ◌&&�
 use Rattle.std.specs.List.{list_any}
 use Rattle.sctp_tx_outstanding.specs.declared.skips.SkipEntry.{SkipEntry}
 use Rattle.sctp_tx_outstanding.specs.Item.{Item, is_abandoned}
-use Rattle.sctp_tx_outstanding.specs.Items.{Items, when}
+use Rattle.sctp_tx_outstanding.specs.OutstandingData.{Items, when}
 
 -- whether the first item is given up
 abbrev pub is_first_given_up : List Item → Bool

@@ -6,7 +6,7 @@ use Rattle.sctp_state.specs.HandoverTimes.{ms_from, moment_from, ms_since, momen
 use Rattle.sctp_tx_outstanding.specs.declared.item.ItemState.{ItemState}
 use Rattle.sctp_tx_outstanding.specs.declared.item.ItemState.TheVariants.{InFlight, Missing, Queued, QueuedFast, Acked, GivenUp}
 use Rattle.sctp_tx_outstanding.specs.Item.{Item, is_acked, is_abandoned, is_nacked, should_be_retransmitted}
-use Rattle.sctp_tx_outstanding.specs.Items.{Outstanding, next_number, wire_tsn, begun_at}
+use Rattle.sctp_tx_outstanding.specs.OutstandingData.{Outstanding, next_number, wire_tsn, begun_at}
 
 -- ---- what is written
 

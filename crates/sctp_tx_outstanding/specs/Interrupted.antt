@@ -1,7 +1,7 @@
 -- What a call leaves that ran out of memory before its end: its first steps are done, and nothing else.
 use Rattle.std.specs.Prelude.{◌≡◌, ℕ, not, Bool, false, List}
 use Rattle.sctp_state.specs.Events.{Emitted}
-use Rattle.sctp_tx_outstanding.specs.Items.{Outstanding}
+use Rattle.sctp_tx_outstanding.specs.OutstandingData.{Outstanding}
 use Rattle.sctp_chunk.specs.declared.sack.GapAckBlock.{GapAckBlock}
 use Rattle.sctp_tx_outstanding.specs.Sack.{receive_sack_first}
 use Rattle.sctp_tx_outstanding.specs.Losses.{Step, first_step, nack_below, expire_below}

@@ -5,7 +5,7 @@ use Rattle.std.specs.List.{list_all}
 use Rattle.sctp_chunk.specs.declared.sack.GapAckBlock.{GapAckBlock}
 use Rattle.sctp_state.specs.Events.{Emitted}
 use Rattle.sctp_tx_outstanding.specs.Item.{Item, is_of, is_abandoned}
-use Rattle.sctp_tx_outstanding.specs.Items.{Items, insert}
+use Rattle.sctp_tx_outstanding.specs.OutstandingData.{Items, insert}
 use Rattle.sctp_tx_outstanding.specs.Losses.{Step, abandon_message, nack_below, expire_below}
 use Rattle.sctp_tx_outstanding.specs.Resending.{Resent, resent_below}
 use Rattle.sctp_tx_outstanding.specs.Sack.{staying, receive_sack}

@@ -7,7 +7,7 @@ pub mod Handover
 pub mod LastBlocks
 pub mod Interrupted
 pub mod Item
-pub mod Items
+pub mod OutstandingData
 pub mod Keeps
 pub mod Losses
 pub mod Messages

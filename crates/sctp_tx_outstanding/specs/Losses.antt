@@ -7,7 +7,7 @@ use Rattle.sctp_state.specs.declared.api.GivenUpCause.TheVariants.{Lifetime, Ret
 use Rattle.sctp_tx_outstanding.specs.declared.item.ItemState.TheVariants.{GivenUp}
 use Rattle.sctp_tx_outstanding.specs.declared.outstanding_data.Loss.{Loss}
 use Rattle.sctp_tx_outstanding.specs.Item.{Item, is_outstanding, is_lost, is_used_up, is_nacked, has_expired, nack}
-use Rattle.sctp_tx_outstanding.specs.Items.{Items, Discard, change_at, lay_down, last_of}
+use Rattle.sctp_tx_outstanding.specs.OutstandingData.{Items, Discard, change_at, lay_down, last_of}
 
 -- ---- a message is given up
 

@@ -2,7 +2,7 @@
 use Rattle.std.specs.Prelude.{◌≡◌, ℕ, ◌+◌, ◌*◌, ◌^◌, ◌<◌, ◌≤◌, Bool, true, false, List}
 use Rattle.sctp_tx_outstanding.specs.declared.messages.Messages.{Messages}
 use Rattle.sctp_tx_outstanding.specs.Item.{Item}
-use Rattle.sctp_tx_outstanding.specs.Items.{is_of_at}
+use Rattle.sctp_tx_outstanding.specs.OutstandingData.{is_of_at}
 use Rattle.sctp_tx_outstanding.specs.Waiting.{by_number, is_listed}
 
 -- none from one place up to another is of the message

@@ -4,7 +4,7 @@ use Rattle.std.specs.Prelude.{◌≡◌, ℕ, ◌<◌, ◌≤◌, Bool, true, fa
 use Rattle.std.specs.List.{list_all}
 use Rattle.sctp_tx_outstanding.specs.declared.skips.SkipEntry.{SkipEntry}
 use Rattle.sctp_tx_outstanding.specs.Item.{Item, is_abandoned}
-use Rattle.sctp_tx_outstanding.specs.Items.{Items}
+use Rattle.sctp_tx_outstanding.specs.OutstandingData.{Items}
 use Rattle.sctp_tx_outstanding.specs.Forward.{ForwardPoint, is_forward_due, entry_of, is_alike, is_before, size_with, stops, passes, forward_point}
 
 -- what entries say of a stream and order

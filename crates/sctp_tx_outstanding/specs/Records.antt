@@ -6,7 +6,7 @@ use Rattle.sctp_chunk.specs.declared.sack.GapAckBlock.{GapAckBlock}
 use Rattle.sctp_state.specs.Events.{GivenUp, Emitted, give_up}
 use Rattle.sctp_state.specs.declared.api.GivenUpCause.TheVariants.{Lifetime, Retransmissions}
 use Rattle.sctp_tx_outstanding.specs.Item.{Item, is_abandoned, has_expired}
-use Rattle.sctp_tx_outstanding.specs.Items.{Items, no_items, insert}
+use Rattle.sctp_tx_outstanding.specs.OutstandingData.{Items, no_items, insert}
 use Rattle.sctp_tx_outstanding.specs.Losses.{Step, gives_up, expires, nack_at, nack_below, expire_at, expire_below}
 use Rattle.sctp_tx_outstanding.specs.Resending.{Resent, resent_below}
 use Rattle.sctp_tx_outstanding.specs.Sack.{receive_sack}

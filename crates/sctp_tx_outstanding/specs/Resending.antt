@@ -5,7 +5,7 @@ use Rattle.sctp_chunk.specs.Chunk.{FragmentTree}
 use Rattle.sctp_tx_outstanding.specs.declared.outstanding_data.Turn.{Turn}
 use Rattle.sctp_tx_outstanding.specs.declared.outstanding_data.Turn.TheVariants.{Send, PassOver, Leave}
 use Rattle.sctp_tx_outstanding.specs.Item.{Item, is_fast, should_be_retransmitted, size_of, chunk_size, mark_as_retransmitted, miss_fast}
-use Rattle.sctp_tx_outstanding.specs.Items.{Items, Outstanding, wire_tsn, flight_items, waiting_items, fast_items}
+use Rattle.sctp_tx_outstanding.specs.OutstandingData.{Items, Outstanding, wire_tsn, flight_items, waiting_items, fast_items}
 use Rattle.sctp_tx_outstanding.specs.Losses.{change_items}
 
 -- a packet that is being filled: fragments with their TSNs as they are written, the bytes that are left for chunks, and

@@ -5,7 +5,7 @@ use Rattle.sctp_state.specs.Events.{Event, OnLifecycleMessageMaybeExpired, OnLif
 use Rattle.sctp_chunk.specs.declared.sack.GapAckBlock.{GapAckBlock}
 use Rattle.sctp_chunk.specs.Covered.{is_covered}
 use Rattle.sctp_tx_outstanding.specs.Item.{Item, is_acked, is_open, is_abandoned, chunk_size, ack, uncover, rtt_from}
-use Rattle.sctp_tx_outstanding.specs.Items.{Items, when, next_number}
+use Rattle.sctp_tx_outstanding.specs.OutstandingData.{Items, when, next_number}
 use Rattle.sctp_tx_outstanding.specs.Losses.{Step, first_step, nack_below}
 
 -- ---- the range

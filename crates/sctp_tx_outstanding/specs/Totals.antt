@@ -5,7 +5,7 @@ use Rattle.sctp_tx_outstanding.specs.declared.totals.Totals.{Totals}
 use Rattle.sctp_tx_outstanding.specs.declared.kept.Change.{Change}
 use Rattle.sctp_tx_outstanding.specs.Item.{Item, expiry, never, NotBefore}
 use Rattle.sctp_tx_outstanding.specs.Change.{apply_change}
-use Rattle.sctp_tx_outstanding.specs.Items.{packet_part, payload_part, flight_part, queued_part, fast_part}
+use Rattle.sctp_tx_outstanding.specs.OutstandingData.{packet_part, payload_part, flight_part, queued_part, fast_part}
 
 -- what one item adds
 abbrev pub parts : (is_interleaved : Bool) → Item → Totals

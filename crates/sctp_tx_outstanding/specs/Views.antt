@@ -11,7 +11,7 @@ use Rattle.sctp_tx_outstanding.specs.declared.kept.LastFragment.{LastFragment}
 use Rattle.sctp_tx_outstanding.specs.declared.outstanding_data.Discarded.{Discarded}
 use Rattle.sctp_tx_outstanding.specs.declared.outstanding_data.ForwardPoint as given
 use Rattle.sctp_tx_outstanding.specs.Forward.{ForwardPoint}
-use Rattle.sctp_tx_outstanding.specs.Items.{Discard, Outstanding}
+use Rattle.sctp_tx_outstanding.specs.OutstandingData.{Discard, Outstanding}
 
 abbrev pub discard_of : Discarded → Discard
 discard_of d = record { stream = d.stream_id.0; number = d.message_id.0 }

@@ -5,7 +5,7 @@ ghost use Rattle.sctp_tx_outstanding.specs.Change.{apply_change};
 ghost use Rattle.std.specs.List.{All};
 ghost use Rattle.sctp_tx_outstanding.specs.Item.{NotBefore, earliest_of, never};
 ghost use Rattle.sctp_tx_outstanding.specs.Expiries.{Expects, FindsDue};
-ghost use Rattle.sctp_tx_outstanding.specs.Items.{change_at, lay_down, last_of, later_at, without_payload, packet_part, payload_part, flight_part, queued_part, fast_part};
+ghost use Rattle.sctp_tx_outstanding.specs.OutstandingData.{change_at, lay_down, last_of, later_at, without_payload, packet_part, payload_part, flight_part, queued_part, fast_part};
 ghost use Rattle.sctp_tx_outstanding.specs.Totals.{AreTotals, Exchanges};
 ghost use Rattle.sctp_tx_outstanding.specs.Losses.{expires, placeholder};
 ghost use Rattle.sctp_tx_outstanding.specs.Views.{last_tree};
@@ -441,7 +441,7 @@ pub struct Kept {
 }
 
 impl Model for Kept {
-    ghost use Rattle.sctp_tx_outstanding.specs.Items.{Kept};
+    ghost use Rattle.sctp_tx_outstanding.specs.OutstandingData.{Kept};
     ghost use Rattle.sctp_tx_outstanding.specs.Totals.{AreTotals};
     ghost use Rattle.sctp_tx_outstanding.specs.LastBlocks.{Knows};
     ghost use Rattle.sctp_tx_outstanding.specs.Waiting.{Lists};

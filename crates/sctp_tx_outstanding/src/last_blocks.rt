@@ -25,7 +25,7 @@ impl LastBlocks {
     ghost use Rattle.std.specs.Prelude.{◌∷◌, ◌++◌, [], true, List};
     ghost use Rattle.sctp_tx_outstanding.specs.Item.{Item, is_acked};
     ghost use Rattle.sctp_tx_outstanding.specs.Change.{apply_change};
-    ghost use Rattle.sctp_tx_outstanding.specs.Items.{change_at};
+    ghost use Rattle.sctp_tx_outstanding.specs.OutstandingData.{change_at};
     ghost use Rattle.sctp_tx_outstanding.specs.LastBlocks.{Knows, Rest};
 
     /// No blocks, of no items. Takes no memory.

@@ -9,7 +9,7 @@ ghost use Rattle.sctp_serial.specs.Unwrapped.{origin};
 ghost use Rattle.sctp_state.specs.Events.{give_up, emit_events};
 ghost use Rattle.sctp_tx_outstanding.specs.Views.{discard_of, point_of};
 ghost use Rattle.sctp_tx_outstanding.specs.Losses.{loss_of};
-ghost use Rattle.sctp_tx_outstanding.specs.Items.{first_sent, insert, begin_reset, begun_at};
+ghost use Rattle.sctp_tx_outstanding.specs.OutstandingData.{first_sent, insert, begin_reset, begun_at};
 ghost use Rattle.sctp_tx_outstanding.specs.LastBlocks.{Rest};
 ghost use Rattle.sctp_tx_outstanding.specs.Expiries.{FindsDue};
 ghost use Rattle.sctp_tx_outstanding.specs.Interrupted.{Same, SomeNacked, SomeExpired, SomeReceived};
@@ -58,7 +58,7 @@ pub struct OutstandingData {
 impl Model for OutstandingData {
     ghost use Rattle.std.specs.Prelude.{◌+◌, ◌<◌, ◌≤◌, ◌^◌, map};
     ghost use Rattle.sctp_serial.specs.Unwrapped.{origin};
-    ghost use Rattle.sctp_tx_outstanding.specs.Items.{Outstanding};
+    ghost use Rattle.sctp_tx_outstanding.specs.OutstandingData.{Outstanding};
     ghost use Rattle.sctp_tx_outstanding.specs.Views.{discard_of};
 
     ghost Value = { Outstanding };
@@ -78,7 +78,7 @@ struct Loss {
 }
 
 impl OutstandingData {
-    ghost use Rattle.sctp_tx_outstanding.specs.Items.{no_items, next_number, wire_tsn, number_of, flight_bytes, flight_payload, flight_items, waiting_items, fast_items};
+    ghost use Rattle.sctp_tx_outstanding.specs.OutstandingData.{no_items, next_number, wire_tsn, number_of, flight_bytes, flight_payload, flight_items, waiting_items, fast_items};
     ghost use Rattle.sctp_tx_outstanding.specs.Losses.{close_message, abandon_message, first_step, nack_at, nack_below, nack_all, expired_at, expire_at, expire_outstanding};
 
     /// Nothing is outstanding, and the next TSN is `initial_tsn`. Takes no memory. Without partial reliability no message

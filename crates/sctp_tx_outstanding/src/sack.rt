@@ -4,7 +4,7 @@ ghost use Rattle.std.specs.Prelude.{◌≡◌, ◌+◌, ◌-◌, ◌<◌, ◌≤
 ghost use Rattle.sctp_chunk.specs.declared.sack.GapAckBlock.{GapAckBlock};
 ghost use Rattle.sctp_chunk.specs.Covered.{is_covered};
 ghost use Rattle.sctp_tx_outstanding.specs.Item.{chunk_size};
-ghost use Rattle.sctp_tx_outstanding.specs.Items.{change_at};
+ghost use Rattle.sctp_tx_outstanding.specs.OutstandingData.{change_at};
 ghost use Rattle.sctp_tx_outstanding.specs.Sack.{open_size, left_part, settle, newly_acked, below_highest, ack_or_nack, new_bytes_at, is_new_at, highest_end};
 ghost use Rattle.sctp_tx_outstanding.specs.LastBlocks.{Rest};
 ghost use Rattle.sctp_tx_outstanding.specs.Passes.{IsCursor, IsWalk, AreCovered};

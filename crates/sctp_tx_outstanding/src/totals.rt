@@ -1,7 +1,7 @@
 //! Running totals over the kept items.
 
 ghost use Rattle.std.specs.Prelude.{◌≡◌, ◌^◌, ◌-◌, ◌+◌, min};
-ghost use Rattle.sctp_tx_outstanding.specs.Items.{when};
+ghost use Rattle.sctp_tx_outstanding.specs.OutstandingData.{when};
 ghost use Rattle.sctp_tx_outstanding.specs.Totals.{parts, exchange, nothing};
 
 use crate::item::Item;
@@ -48,11 +48,11 @@ impl Totals {
     pub(crate) fn of(item: &Item, is_interleaved: bool) -> Totals
         ensures { result ≡ parts is_interleaved item.now }
     {
-        let flies = item.is_outstanding();
+        let is_in_flight = item.is_outstanding();
         Totals {
-            packet_bytes: bytes_if(flies, item.chunk_size(is_interleaved)),
-            payload_bytes: bytes_if(flies, item.payload_size()),
-            flights: one_if(flies),
+            packet_bytes: bytes_if(is_in_flight, item.chunk_size(is_interleaved)),
+            payload_bytes: bytes_if(is_in_flight, item.payload_size()),
+            flights: one_if(is_in_flight),
             queued: one_if(item.should_be_retransmitted()),
             fast: one_if(item.is_fast()),
             earliest: item.expiry(),

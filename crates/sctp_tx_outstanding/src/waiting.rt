@@ -53,7 +53,7 @@ impl Waiting {
     ghost use Rattle.std.specs.Prelude.{◌∷◌, [], List};
     ghost use Rattle.std.specs.List.{sum_by};
     ghost use Rattle.sctp_tx_outstanding.specs.Item.{Item, should_be_retransmitted};
-    ghost use Rattle.sctp_tx_outstanding.specs.Items.{queued_part};
+    ghost use Rattle.sctp_tx_outstanding.specs.OutstandingData.{queued_part};
     ghost use Rattle.sctp_tx_outstanding.specs.Waiting.{IsIndex, Lists, NoneWaits, StaysAtLeast, Turns};
 
     /// No items. Takes no memory.

@@ -11,7 +11,7 @@ use Rattle.sctp_serial.specs.Unwrapped.{words, halves, wire}
 use Rattle.sctp_state.specs.Handover.{StreamMessage, Transmission}
 use Rattle.sctp_state.specs.HandoverTimes.{lifecycle_from, moment_again, lifecycle_again}
 use Rattle.sctp_tx_queue.specs.declared.send_queue.message.MessageNumbers.{MessageNumbers}
-use Rattle.sctp_tx_queue.specs.Queue.{Queued, Stream, Entries, Queue}
+use Rattle.sctp_tx_queue.specs.SendQueue.{Queued, Stream, Entries, Queue}
 use Rattle.sctp_tx_queue.specs.Handover.{queued_message, messages_of, outgoing_stream, outgoing_streams, queued_messages}
 use Rattle.sctp_tx_queue.specs.Restored.{numbers_from, message_from, is_on, stream_from, entries_from}
 use Rattle.sctp_tx_queue.specs.Again.{numbers_again, message_again, stream_again, entries_again, ComesBack}

@@ -9,9 +9,9 @@ use Rattle.std.proofs.lemmas.List.{append-nil}
 use Rattle.std.proofs.lemmas.Bool.Decides.{nat_tests}
 use Rattle.std.proofs.lemmas.Option.{none-some, same_Some}
 use Rattle.sctp_state.specs.Events.{Emitted}
-use Rattle.sctp_stream_scheduler.specs.Scheduler.{peek}
+use Rattle.sctp_stream_scheduler.specs.StreamScheduler.{peek}
 use Rattle.sctp_tx_queue.specs.declared.send_queue.message.MessageNumbers.{MessageNumbers}
-use Rattle.sctp_tx_queue.specs.Queue.{Queued, Queue, Stream, Streams, blank_stream, stream, put_stream, left_bytes, sendable}
+use Rattle.sctp_tx_queue.specs.SendQueue.{Queued, Queue, Stream, Streams, blank_stream, stream, put_stream, left_bytes, sendable}
 use Rattle.sctp_tx_queue.specs.Produced.{Produced, Turn, is_due, fresh, streams_without_stale, made_of, front_made, front_numbers, moved_front, move_past, ends, begun_by, turn, next_fragment, advance, next_stream, produce_within, produce, in_line, streams_after}
 use Rattle.sctp_tx_queue.specs.Begun.{begun_number, IsBegun, Begins, GoesOn, concatenation, is_ended}
 use Rattle.sctp_tx_queue.proofs.StreamsLemmas.{put_nowhere, put_same, stream_put, stream_nowhere}

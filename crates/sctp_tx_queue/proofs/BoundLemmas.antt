@@ -16,7 +16,7 @@ use Rattle.sctp_state.specs.declared.api.handover.HandoverOutgoingStream.{Handov
 use Rattle.sctp_tx_queue.specs.declared.send_queue.message.MessageNumbers.{MessageNumbers}
 use Rattle.sctp_tx_queue.specs.declared.send_queue.stream.ResetStep.{ResetStep}
 use Rattle.sctp_tx_queue.specs.declared.send_queue.stream.ResetStep.TheVariants.{Requested, Performed, Refused}
-use Rattle.sctp_tx_queue.specs.Queue.{Queued, Stream, Entries, left_bytes, amount_of, total_of, blank_stream, push, has_nothing}
+use Rattle.sctp_tx_queue.specs.SendQueue.{Queued, Stream, Entries, left_bytes, amount_of, total_of, blank_stream, push, has_nothing}
 use Rattle.sctp_tx_queue.specs.Produced.{is_stale, fresh, moved_front, move_past, ends, settle_pause}
 use Rattle.sctp_tx_queue.specs.Settings.{without_front}
 use Rattle.sctp_tx_queue.specs.Resets.{is_partly, after_step}

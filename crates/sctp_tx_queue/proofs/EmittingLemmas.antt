@@ -4,7 +4,7 @@ use Rattle.sctp_state.specs.declared.api.GivenUpCause.{GivenUpCause}
 use Rattle.sctp_state.specs.declared.api.GivenUpCause.TheVariants.{Reset}
 use Rattle.sctp_state.specs.Events.{Event, Emitted, Grown, emit_events, give_up, expiry}
 use Rattle.sctp_state.proofs.EventLemmas.{grown_same, grown_through, grown_emitted, grown_given_up}
-use Rattle.sctp_tx_queue.specs.Queue.{Queued}
+use Rattle.sctp_tx_queue.specs.SendQueue.{Queued}
 use Rattle.sctp_tx_queue.specs.Resets.{emitted_waiting, is_partly}
 
 pub grown_after : {P : Type 0} (es : List (Event P)) (t u v : Emitted P) → u ≡ emit_events es t → Grown u v → Grown t v

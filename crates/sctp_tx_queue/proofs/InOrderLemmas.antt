@@ -11,10 +11,10 @@ use Rattle.std.proofs.lemmas.Bool.Decides.{nat_tests}
 use Rattle.std.proofs.lemmas.Option.{same_Some}
 use Rattle.sctp_tx_queue.proofs.StreamLemmas.{step_messages}
 use Rattle.sctp_state.specs.Events.{Emitted}
-use Rattle.sctp_stream_scheduler.specs.Scheduler.{Scheduler, set_bytes_remaining, accept, accepted_at, finish_time, finish_now, is_active, leave, enter, peek}
+use Rattle.sctp_stream_scheduler.specs.StreamScheduler.{Scheduler, set_bytes_remaining, accept, accepted_at, finish_time, finish_now, is_active, leave, enter, peek}
 use Rattle.sctp_tx_queue.specs.declared.send_queue.message.MessageNumbers.{MessageNumbers}
 use Rattle.sctp_tx_queue.specs.declared.send_queue.stream.ResetStep.{ResetStep}
-use Rattle.sctp_tx_queue.specs.Queue.{Queued, Queue, Stream, Streams, Entries, blank, stream, put_stream, open_stream, push, add}
+use Rattle.sctp_tx_queue.specs.SendQueue.{Queued, Queue, Stream, Streams, Entries, blank, stream, put_stream, open_stream, push, add}
 use Rattle.sctp_tx_queue.specs.Produced.{Produced, Turn, is_stale, is_due, fresh, without_stale, streams_without_stale, moved_front, move_past, ends, front_numbers, front_made, advance, begun_by, in_line, next_fragment, turn, next_stream, produce_within, produce, settle_pause}
 use Rattle.sctp_tx_queue.specs.Settings.{with_threshold, with_priority, set_low_threshold, set_priority, set_mode, front_discarded, without_front, streams_discarded, begun_without, discard_from, discard}
 use Rattle.sctp_tx_queue.specs.Resets.{is_partly, prepare_stream, prepare_reset, after_step, step_stream, each_stepped}

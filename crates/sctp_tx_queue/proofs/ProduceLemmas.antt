@@ -6,9 +6,9 @@ use Rattle.std.specs.Ordering.{nat_cmp}
 use Rattle.std.specs.BTreeMap.{is_at}
 use Rattle.std.proofs.lemmas.Bool.{lt-ltb, le-ltb, cases_lt}
 use Rattle.sctp_state.specs.Events.{Emitted}
-use Rattle.sctp_stream_scheduler.specs.Scheduler.{Times, best, peek, stream_in, finish_time}
+use Rattle.sctp_stream_scheduler.specs.StreamScheduler.{Times, best, peek, stream_in, finish_time}
 use Rattle.sctp_stream_scheduler.proofs.SchedulerLemmas.{none_is}
-use Rattle.sctp_tx_queue.specs.Queue.{Queue, Streams, stream, sendable}
+use Rattle.sctp_tx_queue.specs.SendQueue.{Queue, Streams, stream, sendable}
 use Rattle.sctp_tx_queue.specs.Produced.{Produced, Turn, turn, idle, next_stream, produce_within, produce, in_line, begun_by, streams_after, streams_without_stale}
 use Rattle.sctp_tx_queue.specs.Interrupted.{Passed}
 use Rattle.sctp_serial.proofs.NumberLemmas.{at_itself}

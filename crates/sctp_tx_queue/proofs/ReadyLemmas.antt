@@ -12,7 +12,7 @@ use Rattle.std.proofs.lemmas.List.Sums.{sum_by-cons}
 use Rattle.std.proofs.lemmas.Map.Entries.{sum_by-set_value, sum_by-insert_entry}
 use Rattle.sctp_state.specs.declared.api.handover.HandoverOutgoingStream.{HandoverOutgoingStream}
 use Rattle.sctp_tx_queue.specs.declared.send_queue.stream.PauseState.TheVariants.{NotPaused}
-use Rattle.sctp_tx_queue.specs.Queue.{Stream, Entries, blank_stream}
+use Rattle.sctp_tx_queue.specs.SendQueue.{Stream, Entries, blank_stream}
 use Rattle.sctp_tx_queue.specs.Resets.{is_paused, is_ready, ready}
 use Rattle.sctp_tx_queue.specs.Restored.{entries_from}
 use Rattle.sctp_tx_queue.specs.Bounded.{one, ready_count}

@@ -11,7 +11,7 @@ use Rattle.sctp_tx_queue.proofs.StreamLemmas.{step_messages}
 use Rattle.sctp_state.specs.Events.{Emitted}
 use Rattle.sctp_tx_queue.specs.declared.send_queue.message.MessageNumbers.{MessageNumbers}
 use Rattle.sctp_tx_queue.specs.declared.send_queue.stream.ResetStep.{ResetStep}
-use Rattle.sctp_tx_queue.specs.Queue.{Queued, Queue, Stream, Streams, stream, put_stream, open_stream, push, add}
+use Rattle.sctp_tx_queue.specs.SendQueue.{Queued, Queue, Stream, Streams, stream, put_stream, open_stream, push, add}
 use Rattle.sctp_tx_queue.specs.Produced.{Produced, Turn, is_stale, fresh, without_stale, streams_without_stale, moved_front, move_past, ends, front_numbers, front_made, made_of, advance, turn, next_stream, produce_within, settle_pause}
 use Rattle.sctp_tx_queue.specs.Settings.{with_threshold, with_priority, set_low_threshold, set_priority, front_discarded, without_front, streams_discarded, discard}
 use Rattle.sctp_tx_queue.specs.Resets.{is_partly, prepare_stream, prepare_reset, after_step, step_stream, each_stepped}

@@ -3,7 +3,7 @@ use Rattle.std.proofs.Common.{◌≡◌, ℕ, zero, suc, ◌+◌, ◌<◌, List,
 use Rattle.std.specs.Prelude.{map}
 use Rattle.std.proofs.Math.Seq.{drop-cons}
 use Rattle.sctp_serial.specs.declared.api.StreamId.{StreamId}
-use Rattle.sctp_tx_queue.specs.Queue.{Queue, Queued, stream}
+use Rattle.sctp_tx_queue.specs.SendQueue.{Queue, Queued, stream}
 use Rattle.sctp_tx_queue.specs.Restarted.{whole_front, restart, restarted_one, each_restarted, numbers_on, NumbersGoOn}
 use Rattle.sctp_tx_queue.proofs.InOrderLemmas.{each_put}
 

@@ -16,8 +16,8 @@ use Rattle.sctp_state.specs.Handover.{HandoverState, StreamMessage, stream_messa
 use Rattle.sctp_state.specs.Validity.{rises_from, outgoing_ids, has_stream, is_valid_message, are_valid_messages, queued_bytes, is_valid_reception, has_valid_queue, has_valid_items, payload_fits, outstanding_bytes, is_valid_connection, is_valid_as, is_valid_state}
 use Rattle.sctp_state.specs.Numbers.{most_u32}
 use Rattle.sctp_state.specs.declared.api.handover.HandoverSocketState.TheVariants.{Connected}
-use Rattle.sctp_stream_scheduler.specs.Scheduler.{Scheduler, set_bytes_remaining}
-use Rattle.sctp_tx_queue.specs.Queue.{Queued, Stream, Streams, Entries, amount_of, total_of, left_bytes, blank, stream, put_stream, open_stream, push, sendable}
+use Rattle.sctp_stream_scheduler.specs.StreamScheduler.{Scheduler, set_bytes_remaining}
+use Rattle.sctp_tx_queue.specs.SendQueue.{Queued, Stream, Streams, Entries, amount_of, total_of, left_bytes, blank, stream, put_stream, open_stream, push, sendable}
 use Rattle.sctp_tx_queue.specs.Restored.{message_from, is_on, messages_from, stream_from, entries_from, each_scheduled}
 use Rattle.sctp_tx_queue.proofs.StreamsLemmas.{total_written, stream_there}
 use Rattle.sctp_serial.proofs.NumberLemmas.{equal_turned}

@@ -11,7 +11,7 @@ use Rattle.std.proofs.lemmas.Bool.{eqb-true}
 use Rattle.sctp_tx_queue.proofs.StreamLemmas.{step_messages}
 use Rattle.sctp_state.specs.Events.{Emitted}
 use Rattle.sctp_tx_queue.specs.declared.send_queue.stream.ResetStep.{ResetStep}
-use Rattle.sctp_tx_queue.specs.Queue.{Queued, Queue, Stream, Streams, Entries, blank, stream, put_stream, open_stream, push, add}
+use Rattle.sctp_tx_queue.specs.SendQueue.{Queued, Queue, Stream, Streams, Entries, blank, stream, put_stream, open_stream, push, add}
 use Rattle.sctp_tx_queue.specs.Begun.{begun_number, IsBegun, StaysBegun, OthersStayBegun}
 use Rattle.sctp_tx_queue.specs.Settings.{with_threshold, with_priority, set_low_threshold, set_priority, set_mode, front_discarded, without_front, streams_discarded, begun_without, discard_from, discard}
 use Rattle.sctp_tx_queue.specs.Produced.{settle_pause}

@@ -1,8 +1,8 @@
 -- What a fragment takes from its stream.
 use Rattle.std.proofs.Common.{◌≡◌, ℕ, Bool, true, false, cond, List, [], ◌∷◌, refl, ap, ◌∙◌}
 use Rattle.std.specs.Prelude.{is_some}
-use Rattle.sctp_state.specs.Thresholds.{Watched, crosses}
-use Rattle.sctp_tx_queue.specs.Queue.{Queued, Stream}
+use Rattle.sctp_state.specs.ThresholdWatcher.{Watched, crosses}
+use Rattle.sctp_tx_queue.specs.SendQueue.{Queued, Stream}
 use Rattle.sctp_tx_queue.specs.declared.send_queue.message.MessageNumbers.{MessageNumbers}
 use Rattle.sctp_tx_queue.specs.declared.send_queue.stream.PauseState.{PauseState}
 use Rattle.sctp_tx_queue.specs.declared.send_queue.stream.ResetStep.{ResetStep}

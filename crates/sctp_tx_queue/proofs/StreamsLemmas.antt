@@ -8,7 +8,7 @@ use Rattle.std.specs.Map.{lookup, set_value, keys_of}
 use Rattle.std.specs.BTreeMap.{is_at, insert_entry}
 use Rattle.std.proofs.lemmas.Cmp.{nat_cmp_total}
 use Rattle.std.proofs.lemmas.Map.Entries.{sum_by-set_value, sum_by-insert_entry}
-use Rattle.sctp_tx_queue.specs.Queue.{Stream, Streams, Entries, amount_of, total_of, Queued, blank_stream, blank, put_stream, push, open_stream, stream, sendable}
+use Rattle.sctp_tx_queue.specs.SendQueue.{Stream, Streams, Entries, amount_of, total_of, Queued, blank_stream, blank, put_stream, push, open_stream, stream, sendable}
 use Rattle.sctp_tx_queue.specs.Produced.{advance, streams_after}
 use Rattle.sctp_tx_queue.specs.declared.send_queue.stream.ResetStep.TheVariants.{Requested}
 use Rattle.sctp_tx_queue.specs.Resets.{after_step}

@@ -13,10 +13,10 @@ use Rattle.std.proofs.lemmas.Bool.{and_parts, or_parts, not-true}
 use Rattle.sctp_state.specs.declared.api.handover.HandoverOutgoingStream.{HandoverOutgoingStream}
 use Rattle.sctp_serial.specs.Unwrapped.{words, wire}
 use Rattle.sctp_state.specs.Handover.{StreamMessage, Transmission}
-use Rattle.sctp_stream_scheduler.specs.Scheduler.{Scheduler, scheduler, enable_message_interleaving}
+use Rattle.sctp_stream_scheduler.specs.StreamScheduler.{Scheduler, scheduler, enable_message_interleaving}
 use Rattle.sctp_state.specs.Validity.{is_partly_sent, has_partly_sent, first_alone_is_partly_sent, partly_sent_count, has_stream, is_valid_message, are_valid_messages, message_ids_differ, has_valid_queue, has_valid_items, payload_fits, rises_from, outgoing_ids}
 use Rattle.sctp_tx_queue.specs.declared.send_queue.message.MessageNumbers.{MessageNumbers}
-use Rattle.sctp_tx_queue.specs.Queue.{Queued, Stream, Streams, Entries, blank, stream}
+use Rattle.sctp_tx_queue.specs.SendQueue.{Queued, Stream, Streams, Entries, blank, stream}
 use Rattle.sctp_tx_queue.specs.Handover.{queued_message, messages_of, queued_messages}
 use Rattle.sctp_tx_queue.specs.Restored.{numbers_from, message_from, is_on, messages_from, stream_from, entries_from, each_scheduled, partly_sent, begun_from, streams_from, restore}
 use Rattle.sctp_tx_queue.specs.InOrder.{is_waiting, is_begun_or_waiting, are_in_order, is_first_begun, is_this}

@@ -5,7 +5,7 @@ use Rattle.std.specs.Map.{keys_of}
 use Rattle.std.proofs.lemmas.Bool.{eqb-true}
 use Rattle.sctp_state.specs.Events.{Emitted}
 use Rattle.sctp_tx_queue.specs.declared.send_queue.stream.ResetStep.{ResetStep}
-use Rattle.sctp_tx_queue.specs.Queue.{Queue, Stream, stream, put_stream}
+use Rattle.sctp_tx_queue.specs.SendQueue.{Queue, Stream, stream, put_stream}
 use Rattle.sctp_tx_queue.specs.Produced.{without_stale, streams_without_stale, turn, next_stream}
 use Rattle.sctp_tx_queue.specs.Settings.{begun_without}
 use Rattle.sctp_tx_queue.specs.Resets.{each_stepped}

@@ -9,9 +9,9 @@ use Rattle.std.proofs.lemmas.List.{take_all}
 use Rattle.std.proofs.lemmas.Bool.{and_parts}
 use Rattle.sctp_state.specs.Events.{Emitted, emit_events, give_up, expiry}
 use Rattle.sctp_state.specs.declared.api.GivenUpCause.TheVariants.{Lifetime}
-use Rattle.sctp_stream_scheduler.specs.Scheduler.{Scheduler, accept, is_active, enter, finish_now, set_bytes_remaining}
+use Rattle.sctp_stream_scheduler.specs.StreamScheduler.{Scheduler, accept, is_active, enter, finish_now, set_bytes_remaining}
 use Rattle.sctp_tx_queue.specs.declared.send_queue.message.MessageNumbers.{MessageNumbers}
-use Rattle.sctp_tx_queue.specs.Queue.{Queued, Stream, Streams, stream, sendable}
+use Rattle.sctp_tx_queue.specs.SendQueue.{Queued, Stream, Streams, stream, sendable}
 use Rattle.sctp_tx_queue.specs.Produced.{is_front_stale, fresh, drop_expired, streams_without_stale, without_stale, ends, front_made, in_line, next_fragment, production, streams_after, advance, emitted_made}
 use Rattle.sctp_tx_queue.specs.Whole.{is_whole, is_front_whole, front_lifecycle}
 use Rattle.sctp_tx_queue.proofs.StreamLemmas.{advanced_priority}

@@ -9,7 +9,7 @@ use Rattle.sctp_state.specs.Handover.{Transmission}
 use Rattle.sctp_state.specs.HandoverTimes.{moment_again, lifecycle_again}
 use Rattle.sctp_tx_queue.specs.declared.send_queue.message.MessageNumbers.{MessageNumbers}
 use Rattle.sctp_tx_queue.specs.declared.send_queue.stream.PauseState.TheVariants.{NotPaused}
-use Rattle.sctp_tx_queue.specs.Queue.{Queued, Stream, Entries, Queue}
+use Rattle.sctp_tx_queue.specs.SendQueue.{Queued, Stream, Entries, Queue}
 use Rattle.sctp_tx_queue.specs.Handover.{write_handover}
 use Rattle.sctp_tx_queue.specs.Restored.{restore}
 

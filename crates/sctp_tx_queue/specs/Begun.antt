@@ -4,7 +4,7 @@ use Rattle.std.specs.Prelude.{◌≡◌, ◌⊎◌, ℕ, ◌&&◌, nat_lt, Bool,
 use Rattle.sctp_tx_queue.specs.declared.send_queue.message.MessageNumbers.{MessageNumbers}
 use Rattle.sctp_state.specs.Events.{Emitted}
 use Rattle.sctp_tx_queue.specs.declared.send_queue.stream.ResetStep.{ResetStep}
-use Rattle.sctp_tx_queue.specs.Queue.{Queued, Queue, stream, add}
+use Rattle.sctp_tx_queue.specs.SendQueue.{Queued, Queue, stream, add}
 use Rattle.sctp_tx_queue.specs.Produced.{Produced, move_past, ends}
 use Rattle.sctp_tx_queue.specs.Settings.{set_low_threshold, set_priority, set_mode, discard}
 use Rattle.sctp_tx_queue.specs.Resets.{prepare_reset, each_stepped}

@@ -3,7 +3,7 @@
 use Rattle.std.specs.Prelude.{◌≡◌, ℕ, ◌^◌, ◌≤◌, ◌&&◌, nat_lt, Bool, true, if◌then◌else◌, length, sum_by}
 use Rattle.std.specs.List.{list_all}
 use Rattle.std.specs.Map.{values_of}
-use Rattle.sctp_tx_queue.specs.Queue.{Queued, Stream, Entries, total_of}
+use Rattle.sctp_tx_queue.specs.SendQueue.{Queued, Stream, Entries, total_of}
 use Rattle.sctp_tx_queue.specs.Resets.{is_ready}
 
 -- something of it is left, and it has less than 2^32 bytes

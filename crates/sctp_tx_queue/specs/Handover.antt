@@ -5,7 +5,7 @@ use Rattle.sctp_serial.specs.Unwrapped.{words, halves, wire}
 use Rattle.sctp_state.specs.declared.api.handover.HandoverOutgoingStream.{HandoverOutgoingStream}
 use Rattle.sctp_state.specs.Handover.{StreamMessage, Transmission}
 use Rattle.sctp_state.specs.HandoverTimes.{ms_from}
-use Rattle.sctp_tx_queue.specs.Queue.{Queued, Stream, Entries, Queue}
+use Rattle.sctp_tx_queue.specs.SendQueue.{Queued, Stream, Entries, Queue}
 
 abbrev pub queued_message : ℕ → ℕ → Queued → StreamMessage
 queued_message now id m = record {

@@ -5,7 +5,7 @@ use Rattle.std.specs.List.{list_all}
 use Rattle.sctp_state.specs.Events.{Emitted}
 use Rattle.sctp_state.specs.Options.{Options}
 use Rattle.sctp_tx_queue.specs.declared.send_queue.stream.ResetStep.{ResetStep}
-use Rattle.sctp_tx_queue.specs.Queue.{Queued, Queue, stream, queue, add}
+use Rattle.sctp_tx_queue.specs.SendQueue.{Queued, Queue, stream, queue, add}
 use Rattle.sctp_tx_queue.specs.Produced.{Produced, produce}
 use Rattle.sctp_tx_queue.specs.Settings.{set_low_threshold, set_priority, set_mode, discard}
 use Rattle.sctp_tx_queue.specs.Resets.{prepare_reset, each_stepped}

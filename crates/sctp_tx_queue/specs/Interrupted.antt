@@ -2,7 +2,7 @@
 use Rattle.std.specs.Prelude.{◌≡◌, ◌⊎◌, ℕ, zero, suc, Some, None, List, take}
 use Rattle.sctp_state.specs.Events.{Emitted}
 use Rattle.sctp_tx_queue.specs.declared.send_queue.stream.ResetStep.{ResetStep}
-use Rattle.sctp_tx_queue.specs.Queue.{Queue, stream}
+use Rattle.sctp_tx_queue.specs.SendQueue.{Queue, stream}
 use Rattle.sctp_tx_queue.specs.Produced.{turn, next_stream, streams_without_stale, drop_expired}
 use Rattle.sctp_tx_queue.specs.Resets.{each_stepped}
 

@@ -5,7 +5,7 @@ pub mod Handover
 pub mod InOrder
 pub mod Interrupted
 pub mod Produced
-pub mod Queue
+pub mod SendQueue
 pub mod Readiness
 pub mod Resets
 pub mod Restarted

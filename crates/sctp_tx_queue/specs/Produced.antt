@@ -4,13 +4,13 @@ use Rattle.std.specs.Prelude.{ℕ, zero, suc, ◌+◌, ◌-◌, ◌%◌, ◌^◌
 use Rattle.sctp_serial.specs.Unwrapped.{origin, words, halves, wire}
 use Rattle.sctp_state.specs.Events.{Event, OnBufferedAmountLow, OnTotalBufferedAmountLow, OnLifecycleMessageFullySent, Emitted, emit_events, give_up, expiry}
 use Rattle.sctp_state.specs.declared.api.GivenUpCause.TheVariants.{Lifetime}
-use Rattle.sctp_stream_scheduler.specs.Scheduler.{Scheduler, accept, peek, set_bytes_remaining}
-use Rattle.sctp_state.specs.Thresholds.{crosses}
+use Rattle.sctp_stream_scheduler.specs.StreamScheduler.{Scheduler, accept, peek, set_bytes_remaining}
+use Rattle.sctp_state.specs.ThresholdWatcher.{crosses}
 use Rattle.sctp_chunk.specs.Chunk.{FragmentTree}
 use Rattle.sctp_tx_queue.specs.declared.send_queue.message.MessageNumbers.{MessageNumbers}
 use Rattle.sctp_tx_queue.specs.declared.send_queue.stream.PauseState.{PauseState}
 use Rattle.sctp_tx_queue.specs.declared.send_queue.stream.PauseState.TheVariants.{NotPaused, Pending, Paused, Resetting}
-use Rattle.sctp_tx_queue.specs.Queue.{Queued, Stream, Streams, Queue, left_bytes, watched_amount, watched_total, stream, put_stream, sendable, front_left}
+use Rattle.sctp_tx_queue.specs.SendQueue.{Queued, Stream, Streams, Queue, left_bytes, watched_amount, watched_total, stream, put_stream, sendable, front_left}
 
 -- a fragment, and what its message was accepted with
 pub record Produced : Type 0 where

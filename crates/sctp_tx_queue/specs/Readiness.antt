@@ -4,7 +4,7 @@ use Rattle.std.specs.List.{list_any}
 use Rattle.std.specs.Map.{values_of}
 use Rattle.sctp_tx_queue.specs.declared.send_queue.stream.PauseState.{PauseState}
 use Rattle.sctp_tx_queue.specs.declared.send_queue.stream.PauseState.TheVariants.{NotPaused, Pending, Paused, Resetting}
-use Rattle.sctp_tx_queue.specs.Queue.{Stream, Queue, is_empty}
+use Rattle.sctp_tx_queue.specs.SendQueue.{Stream, Queue, is_empty}
 
 -- a reset of the stream waits, or is to be answered
 abbrev pub waits : PauseState → Bool

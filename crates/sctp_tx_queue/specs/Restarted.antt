@@ -3,7 +3,7 @@ use Rattle.std.specs.Prelude.{◌≡◌, ℕ, None, List, [], ◌∷◌, map, ta
 use Rattle.std.specs.Map.{keys_of}
 use Rattle.sctp_serial.specs.Unwrapped.{origin}
 use Rattle.sctp_tx_queue.specs.declared.send_queue.stream.PauseState.TheVariants.{NotPaused}
-use Rattle.sctp_tx_queue.specs.Queue.{Queued, Stream, Streams, Queue, stream, put_stream, set_sendable}
+use Rattle.sctp_tx_queue.specs.SendQueue.{Queued, Stream, Streams, Queue, stream, put_stream, set_sendable}
 use Rattle.sctp_tx_queue.specs.Settings.{begun_without}
 
 abbrev pub whole : Queued → Queued

@@ -4,11 +4,11 @@ use Rattle.sctp_serial.specs.Unwrapped.{origin}
 use Rattle.sctp_state.specs.declared.api.handover.HandoverOutgoingStream.{HandoverOutgoingStream}
 use Rattle.sctp_state.specs.Handover.{StreamMessage, Transmission}
 use Rattle.sctp_state.specs.HandoverTimes.{moment_from, lifecycle_from}
-use Rattle.sctp_stream_scheduler.specs.Scheduler.{Scheduler, scheduler, enable_message_interleaving}
+use Rattle.sctp_stream_scheduler.specs.StreamScheduler.{Scheduler, scheduler, enable_message_interleaving}
 use Rattle.sctp_state.specs.Validity.{is_partly_sent, outgoing_ids}
 use Rattle.sctp_tx_queue.specs.declared.send_queue.message.MessageNumbers.{MessageNumbers}
 use Rattle.sctp_tx_queue.specs.declared.send_queue.stream.PauseState.TheVariants.{NotPaused}
-use Rattle.sctp_tx_queue.specs.Queue.{Queued, Stream, Streams, Entries, Queue, stream, set_sendable}
+use Rattle.sctp_tx_queue.specs.SendQueue.{Queued, Stream, Streams, Entries, Queue, stream, set_sendable}
 
 -- ---- a message
 

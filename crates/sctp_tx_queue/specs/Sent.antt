@@ -1,9 +1,9 @@
 -- What a stream's turn changes: the stream, who is in line, and what is emitted.
 use Rattle.std.specs.Prelude.{◌≡◌, ◌≤◌, ℕ, Bool, Option}
 use Rattle.sctp_state.specs.Events.{Emitted}
-use Rattle.sctp_state.specs.Thresholds.{crosses}
-use Rattle.sctp_stream_scheduler.specs.Scheduler.{Scheduler}
-use Rattle.sctp_tx_queue.specs.Queue.{Stream, amount_of, sendable, watched_amount}
+use Rattle.sctp_state.specs.ThresholdWatcher.{crosses}
+use Rattle.sctp_stream_scheduler.specs.StreamScheduler.{Scheduler}
+use Rattle.sctp_tx_queue.specs.SendQueue.{Stream, amount_of, sendable, watched_amount}
 use Rattle.sctp_tx_queue.specs.Produced.{Produced, advance, emitted_made, in_line, next_fragment}
 
 -- the stream sent its next fragment, if it had one

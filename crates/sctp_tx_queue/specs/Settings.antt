@@ -1,9 +1,9 @@
 -- Thresholds and priorities of streams, and messages that are given up while they are partly sent.
 use Rattle.std.specs.Prelude.{ℕ, ◌==◌, Bool, false, if◌then◌else◌, Option, Some, None, List, [], ◌∷◌}
 use Rattle.sctp_state.specs.Events.{Emitted, emit_events, expiry, OnBufferedAmountLow}
-use Rattle.sctp_stream_scheduler.specs.Scheduler.{enable_message_interleaving}
-use Rattle.sctp_state.specs.Thresholds.{crosses}
-use Rattle.sctp_tx_queue.specs.Queue.{Queued, Stream, Streams, Queue, watched_amount, stream, open_stream, put_stream, set_sendable}
+use Rattle.sctp_stream_scheduler.specs.StreamScheduler.{enable_message_interleaving}
+use Rattle.sctp_state.specs.ThresholdWatcher.{crosses}
+use Rattle.sctp_tx_queue.specs.SendQueue.{Queued, Stream, Streams, Queue, watched_amount, stream, open_stream, put_stream, set_sendable}
 use Rattle.sctp_tx_queue.specs.Produced.{settle_pause, when}
 
 pub record Changed (P : Type 0) : Type 0 where

@@ -7,7 +7,7 @@ use Rattle.std.specs.Map.{keys_of}
 use Rattle.std.specs.Ordering.{nat_cmp}
 use Rattle.sctp_state.specs.Handover.{StreamMessage, Transmission}
 use Rattle.sctp_state.specs.Validity.{is_partly_sent, is_valid_transmission}
-use Rattle.sctp_tx_queue.specs.Queue.{Queue}
+use Rattle.sctp_tx_queue.specs.SendQueue.{Queue}
 use Rattle.sctp_tx_queue.specs.Handover.{write_handover}
 use Rattle.sctp_tx_queue.specs.InOrder.{IsInOrder}
 use Rattle.sctp_tx_queue.specs.Restored.{restore}

@@ -5,7 +5,7 @@ use Rattle.sctp_serial.specs.declared.api.Message.{Message}
 use Rattle.sctp_state.specs.declared.api.options.SendOptions.{SendOptions}
 use Rattle.sctp_chunk.specs.Views.{fragment_tree}
 use Rattle.sctp_tx_queue.specs.declared.data_to_send.DataToSend.{DataToSend}
-use Rattle.sctp_tx_queue.specs.Queue.{Queued, expiry_of}
+use Rattle.sctp_tx_queue.specs.SendQueue.{Queued, expiry_of}
 use Rattle.sctp_tx_queue.specs.Produced.{Produced}
 
 abbrev pub produced_of : DataToSend → Produced

@@ -1,6 +1,6 @@
 -- A fragment that is a whole message.
 use Rattle.std.specs.Prelude.{ℕ, ◌==◌, ◌&&◌, Bool, false, if◌then◌else◌, Option, Some, None, List, [], ◌∷◌}
-use Rattle.sctp_tx_queue.specs.Queue.{Queued}
+use Rattle.sctp_tx_queue.specs.SendQueue.{Queued}
 use Rattle.sctp_tx_queue.specs.Produced.{Produced, ends}
 
 -- nothing of the message is sent, and a fragment of this size is its end

@@ -8,9 +8,9 @@ ghost use Rattle.std.specs.Ordering.{nat_cmp};
 ghost use Rattle.std.specs.BTreeMap.{is_at};
 ghost use Rattle.sctp_state.specs.Options.{options_of};
 ghost use Rattle.sctp_state.specs.Events.{Grown, expiry, emit_events};
-ghost use Rattle.sctp_stream_scheduler.specs.Scheduler.{set_bytes_remaining};
+ghost use Rattle.sctp_stream_scheduler.specs.StreamScheduler.{set_bytes_remaining};
 ghost use Rattle.sctp_tx_queue.specs.declared.send_queue.stream.ResetStep.TheVariants.{Requested, Performed, Refused};
-ghost use Rattle.sctp_tx_queue.specs.Queue.{amount_of, total_of, stream, open_stream, queue, add, is_empty};
+ghost use Rattle.sctp_tx_queue.specs.SendQueue.{amount_of, total_of, stream, open_stream, queue, add, is_empty};
 ghost use Rattle.sctp_tx_queue.specs.Produced.{begun_by, turn, turn_from, produce, next_stream};
 ghost use Rattle.sctp_tx_queue.specs.Settings.{set_low_threshold, set_priority, set_mode, discard, begun_without};
 ghost use Rattle.sctp_tx_queue.specs.Resets.{prepare_reset, emitted_waiting, is_ready, requested_streams, request_resets, commit_resets, roll_back_resets, step_stream, each_stepped};
@@ -55,7 +55,7 @@ pub struct SendQueue {
 
 impl Model for SendQueue {
     ghost use Rattle.std.specs.Prelude.{option_map};
-    ghost use Rattle.sctp_tx_queue.specs.Queue.{Queue};
+    ghost use Rattle.sctp_tx_queue.specs.SendQueue.{Queue};
 
     ghost Value = { Queue };
 

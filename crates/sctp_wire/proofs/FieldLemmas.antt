@@ -4,7 +4,7 @@ use Rattle.std.specs.Int.{w16, w32, w64, from_be_bytes, to_be_bytes}
 use Rattle.std.proofs.lemmas.Nat.{be_bytes_2, be_bytes_4, be_bytes_8, from_be_bytes-to_be_bytes_2, from_be_bytes-to_be_bytes_4}
 use Rattle.std.proofs.lemmas.Bool.{cases_lt}
 use Rattle.std.proofs.lemmas.List.{take-append-drop, length-take-le, get_or-take, get_or_past, length-take}
-use Rattle.sctp_wire.specs.Fields.{be16, be32, be64}
+use Rattle.sctp_wire.specs.Field.{be16, be32, be64}
 use Rattle.sctp_item.proofs.ItemLemmas.{IsBytes}
 use Rattle.sctp_wire.proofs.ParsesAllLemmas.{cut_same}
 

@@ -11,7 +11,7 @@ use Rattle.std.proofs.lemmas.Bool.{eqb-true}
 use Rattle.std.proofs.lemmas.List.Concat.{flat_map-cons}
 use Rattle.std.proofs.lemmas.List.Elements.{All-nil, All-cons}
 use Rattle.std.proofs.lemmas.Str.{IsUtf8-nil, IsUtf8-from_is_utf8, utf8_valid_len_le}
-use Rattle.sctp_wire.specs.Fields.{be16, be32}
+use Rattle.sctp_wire.specs.Field.{be16, be32}
 use Rattle.sctp_wire.specs.Text.{ReadsChars, IsTextOf}
 use Rattle.sctp_item.proofs.ItemLemmas.{IsBytes}
 use Rattle.sctp_wire.proofs.FieldLemmas.{be16_front, be32_front}

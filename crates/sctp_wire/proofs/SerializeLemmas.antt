@@ -7,7 +7,7 @@ use Rattle.std.proofs.lemmas.Bool.{ltb-true, and_parts}
 use Rattle.std.proofs.lemmas.List.Concat.{flat_map-cons}
 use Rattle.std.proofs.lemmas.Nat.{mod-mul-add}
 use Rattle.sctp_item.specs.Item.{Item, item_bytes, padding}
-use Rattle.sctp_wire.specs.Fields.{be16}
+use Rattle.sctp_wire.specs.Field.{be16}
 use Rattle.sctp_wire.specs.Serialize.{IsEncodable, is_encodable, padded_item, inner_items}
 
 pub length_item_bytes : (i : Item) → length (item_bytes i) ≡ 4 + length i.value

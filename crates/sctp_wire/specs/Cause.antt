@@ -3,7 +3,7 @@ use Rattle.std.specs.Prelude.{◌≡◌, ℕ, ◌<◌, ◌^◌, All, Bool, false
 use Rattle.std.specs.List.{flat_map}
 use Rattle.sctp_serial.specs.declared.types.tsn.Tsn.{Tsn}
 use Rattle.sctp_wire.specs.declared.error.ChunkParseError.{ChunkParseError}
-use Rattle.sctp_wire.specs.Fields.{be16, be32}
+use Rattle.sctp_wire.specs.Field.{be16, be32}
 use Rattle.sctp_item.specs.Item.{Item}
 use Rattle.sctp_wire.specs.Serialize.{item_of_type, type_of}
 use Rattle.sctp_wire.specs.Shape.{Shape, any_length, exactly, counted, RefusesAs}

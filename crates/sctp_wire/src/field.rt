@@ -3,7 +3,7 @@
 ghost use Rattle.std.specs.Prelude.{◌≡◌, ◌≢◌, ◌⊎◌, ℕ, ◌+◌, ◌*◌, ◌%◌, ◌^◌, ◌<◌, ◌≤◌, List, [], ◌++◌, length, All, IfOk, OnErr, IfErr, OnOk};
 ghost use Rattle.std.specs.List.{flat_map};
 ghost use Rattle.std.proofs.Common.{arith};
-ghost use Rattle.sctp_wire.specs.Fields.{be16, be32, be64, length_be16, length_be32};
+ghost use Rattle.sctp_wire.specs.Field.{be16, be32, be64, length_be16, length_be32};
 ghost use Rattle.sctp_wire.specs.Room.{Fills};
 
 use crate::ChunkParseError;
@@ -11,7 +11,7 @@ use sctp_serial::{StreamId, Tsn};
 use std::alloc::{AllocError, Global};
 
 /// The number in the first two bytes, and the bytes behind it; `InvalidLength` where there are fewer.
-#[tactic(auto, unfolding(crate::specs::Fields::be16))]
+#[tactic(auto, unfolding(crate::specs::Field::be16))]
 pub fn u16_at(bytes: &[u8]) -> Result<(u16, &[u8]), ChunkParseError>
     ensures ok { IfOk result (λ read. bytes.now ≡ be16 read.0 ++ read.1.now) }
     ensures fits { IfOk result (λ read. read.0 < 2 ^ 16) }
@@ -26,7 +26,7 @@ pub fn u16_at(bytes: &[u8]) -> Result<(u16, &[u8]), ChunkParseError>
 }
 
 /// The number in the first four bytes, and the bytes behind it; `InvalidLength` where there are fewer.
-#[tactic(auto, unfolding(crate::specs::Fields::be32))]
+#[tactic(auto, unfolding(crate::specs::Field::be32))]
 pub fn u32_at(bytes: &[u8]) -> Result<(u32, &[u8]), ChunkParseError>
     ensures ok { IfOk result (λ read. bytes.now ≡ be32 read.0 ++ read.1.now) }
     ensures fits { IfOk result (λ read. read.0 < 2 ^ 32) }
@@ -41,7 +41,7 @@ pub fn u32_at(bytes: &[u8]) -> Result<(u32, &[u8]), ChunkParseError>
 }
 
 /// The number in the first eight bytes, and the bytes behind it; `InvalidLength` where there are fewer.
-#[tactic(auto, unfolding(crate::specs::Fields::be64))]
+#[tactic(auto, unfolding(crate::specs::Field::be64))]
 pub fn u64_at(bytes: &[u8]) -> Result<(u64, &[u8]), ChunkParseError>
     ensures ok { IfOk result (λ read. bytes.now ≡ be64 read.0 ++ read.1.now) }
     ensures fits { IfOk result (λ read. read.0 < 2 ^ 64) }
@@ -56,7 +56,7 @@ pub fn u64_at(bytes: &[u8]) -> Result<(u64, &[u8]), ChunkParseError>
 }
 
 /// The number in the first two bytes, and the bytes behind it: a reader that has tested the length has no error to pass on.
-#[tactic(auto, unfolding(crate::specs::Fields::be16))]
+#[tactic(auto, unfolding(crate::specs::Field::be16))]
 pub fn first_u16(bytes: &[u8]) -> (u16, &[u8])
     requires { 2 ≤ length bytes.now }
     ensures number { bytes.now ≡ be16 result.0 ++ result.1.now }
@@ -70,7 +70,7 @@ pub fn first_u16(bytes: &[u8]) -> (u16, &[u8])
 }
 
 /// The number in the first four bytes, and the bytes behind it: a reader that has tested the length has no error to pass on.
-#[tactic(auto, unfolding(crate::specs::Fields::be32))]
+#[tactic(auto, unfolding(crate::specs::Field::be32))]
 pub fn first_u32(bytes: &[u8]) -> (u32, &[u8])
     requires { 4 ≤ length bytes.now }
     ensures number { bytes.now ≡ be32 result.0 ++ result.1.now }
@@ -96,7 +96,7 @@ pub fn ends_here(rest: &[u8]) -> Result<(), ChunkParseError>
 }
 
 /// Appends the two bytes of a number.
-#[tactic(auto, unfolding(crate::specs::Fields::be16))]
+#[tactic(auto, unfolding(crate::specs::Field::be16))]
 pub fn push_u16(output: &mut Vec<u8>, n: u16) -> Result<(), AllocError>
     ensures wrote { OnOk result (output.new.items ≡ output.old.items ++ be16 n) }
     ensures room { Fills output.old output.new 2 result }
@@ -105,7 +105,7 @@ pub fn push_u16(output: &mut Vec<u8>, n: u16) -> Result<(), AllocError>
 }
 
 /// Appends the four bytes of a number.
-#[tactic(auto, unfolding(crate::specs::Fields::be32))]
+#[tactic(auto, unfolding(crate::specs::Field::be32))]
 pub fn push_u32(output: &mut Vec<u8>, n: u32) -> Result<(), AllocError>
     ensures wrote { OnOk result (output.new.items ≡ output.old.items ++ be32 n) }
     ensures room { Fills output.old output.new 4 result }
@@ -114,7 +114,7 @@ pub fn push_u32(output: &mut Vec<u8>, n: u32) -> Result<(), AllocError>
 }
 
 /// Appends the eight bytes of a number.
-#[tactic(auto, unfolding(crate::specs::Fields::be64))]
+#[tactic(auto, unfolding(crate::specs::Field::be64))]
 pub fn push_u64(output: &mut Vec<u8>, n: u64) -> Result<(), AllocError>
     ensures wrote { OnOk result (output.new.items ≡ output.old.items ++ be64 n) }
     ensures room { Fills output.old output.new 8 result }

@@ -2,7 +2,7 @@
 
 ghost use Rattle.std.specs.Prelude.{◌≡◌, ◌+◌, ◌-◌, ◌%◌, ◌^◌, ◌<◌, ◌↔◌, min, Bool, true, IsTrue, [], ◌∷◌, ◌++◌, length, map, replicate, OnOk, All};
 ghost use Rattle.std.specs.List.{list_all};
-ghost use Rattle.sctp_wire.specs.Fields.{be16};
+ghost use Rattle.sctp_wire.specs.Field.{be16};
 ghost use Rattle.sctp_item.specs.Item.{Item, item_bytes, padding};
 ghost use Rattle.sctp_wire.specs.Room.{Fills};
 ghost use Rattle.sctp_wire.specs.Serialize.{IsEncodable, is_encodable, padded_item, inner_items};

@@ -4,7 +4,7 @@ ghost use Rattle.std.specs.Prelude.{◌≡◌, ◌≢◌, ℕ, ◌<◌, ◌^◌,
 ghost use Rattle.std.specs.Char.{is_ascii_digit};
 ghost use Rattle.std.specs.List.{list_all};
 ghost use Rattle.sctp_state.specs.Options.{SendOptions as Sending, send_options_of};
-ghost use Rattle.sctp_world.specs.Commands.{Asked, Spells, SpellsNone, SpellsWords, IsNumber, IsHex, IsFlag, IsNamed, SpellsId, SpellsLimit, SpellsLife, SpellsOptions, words_of};
+ghost use Rattle.sctp_world.specs.Command.{Asked, Spells, SpellsNone, SpellsWords, IsNumber, IsHex, IsFlag, IsNamed, SpellsId, SpellsLimit, SpellsLife, SpellsOptions, words_of};
 ghost use Rattle.spec_world.specs.Observations.{End as tree, end_name};
 ghost use Rattle.sctp_network_side.specs.SideView.{end_tree};
 ghost use Rattle.sctp_world.specs.CommandView.{command_of};

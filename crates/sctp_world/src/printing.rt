@@ -4,7 +4,7 @@ ghost use Rattle.std.specs.Prelude.{◌≡◌, ◌++◌, map, slice_get, IfOk, s
 ghost use Rattle.std.specs.List.{flat_map};
 ghost use Rattle.sctp_state.specs.Events.{event_of, numbers_of};
 ghost use Rattle.spec_world.specs.World.{side_of};
-ghost use Rattle.sctp_world.specs.Printed.{size_of, kind_name, event_name, event_words, refusal_name, reset_refusal_name, refusal_line, message_line, given_up_line, bytes_line, event_line, number_word, cause_words, answer_text, entry_text, news_text, packet_text};
+ghost use Rattle.sctp_world.specs.Printing.{size_of, kind_name, event_name, event_words, refusal_name, reset_refusal_name, refusal_line, message_line, given_up_line, bytes_line, event_line, number_word, cause_words, answer_text, entry_text, news_text, packet_text};
 ghost use Rattle.sctp_serial.specs.Messages.{message_of};
 ghost use Rattle.sctp_network_side.specs.SideView.{answer_tree, end_tree, entry_tree};
 ghost use Rattle.sctp_network.specs.WorldView.{world_of};

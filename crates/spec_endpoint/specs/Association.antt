@@ -8,16 +8,16 @@ use Rattle.sctp_state.specs.declared.api.SctpImplementation.{SctpImplementation}
 use Rattle.sctp_state.specs.declared.api.SctpImplementation.TheVariants as implementations
 use Rattle.sctp_state.specs.declared.timer.BackoffAlgorithm.TheVariants.{Fixed, Exponential}
 use Rattle.sctp_state.specs.Options.{Options}
-use Rattle.sctp_state.specs.Timers.{Timer, timer}
-use Rattle.sctp_state.specs.Rtt.{Rtt, unsampled}
-use Rattle.sctp_state.specs.Errors.{ErrorCounter, no_errors}
+use Rattle.sctp_state.specs.Timer.{Timer, timer}
+use Rattle.sctp_state.specs.RetransmissionTimeout.{Rtt, unsampled}
+use Rattle.sctp_state.specs.TxErrorCounter.{ErrorCounter, no_errors}
 use Rattle.sctp_state.specs.Events.{Emitted, silent}
 use Rattle.sctp_capabilities.specs.Capabilities.{Capabilities}
 use Rattle.sctp_rx.specs.Tracker.{DataTracker, tracker}
 use Rattle.sctp_rx.specs.ReassemblyQueue.{Reassembly, reassembly}
-use Rattle.sctp_tx_queue.specs.Queue.{Queue, queue}
-use Rattle.sctp_tx.specs.Retransmission.{Sender, sender}
-use Rattle.spec_endpoint.specs.Requests.{Requests, requests}
+use Rattle.sctp_tx_queue.specs.SendQueue.{Queue, queue}
+use Rattle.sctp_tx.specs.RetransmissionQueue.{Sender, sender}
+use Rattle.spec_endpoint.specs.ResetRequests.{Requests, requests}
 
 -- ---- what was drawn, and what names the peer
 

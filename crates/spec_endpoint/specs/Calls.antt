@@ -9,7 +9,7 @@ use Rattle.sctp_state.specs.declared.api.errors.SendError.TheVariants.{EmptyPayl
 use Rattle.sctp_state.specs.Numbers.{more}
 use Rattle.sctp_state.specs.Options.{SendOptions}
 use Rattle.sctp_state.specs.Events.{Event, OnError, OnLifecycleEnd, emit_events}
-use Rattle.sctp_tx_queue.specs.Queue.{Queued, stream, amount_of, total_of, expiry_of, add}
+use Rattle.sctp_tx_queue.specs.SendQueue.{Queued, stream, amount_of, total_of, expiry_of, add}
 use Rattle.sctp_tx_queue.specs.Settings as settings
 use Rattle.spec_endpoint.specs.Association.{Tcb, Phase, CookieEchoed, Established, ShutdownPending, ShutdownSent, ShutdownReceived, ShutdownAckSent, State, Closed, CookieWait, Open, Context, EndpointState, with_context, where_open}
 use Rattle.spec_endpoint.specs.Sending.{send_in}

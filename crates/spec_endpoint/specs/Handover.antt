@@ -19,7 +19,7 @@ use Rattle.sctp_tx_queue.specs.Restored as taken_up
 use Rattle.sctp_tx.specs.Handover as sender
 use Rattle.spec_endpoint.specs.Association.{Identity, Tcb, tcb, Phase, CookieEchoed, Established, ShutdownPending, ShutdownSent, ShutdownReceived, ShutdownAckSent, State, Closed, CookieWait, Open, Context, EndpointState}
 use Rattle.spec_endpoint.specs.Packets.{say}
-use Rattle.spec_endpoint.specs.Requests.{Request, Requests}
+use Rattle.spec_endpoint.specs.ResetRequests.{Request, Requests}
 use Rattle.spec_endpoint.specs.Sending.{open_with, send_buffered}
 
 -- ---- what stands in the way: the bits of the parts

@@ -5,8 +5,8 @@ use Rattle.std.specs.Str.{bytes_eq}
 use Rattle.sctp_wire.specs.Parameter.{ParameterTree, heartbeat_info}
 use Rattle.sctp_packet.specs.Chunk.{ChunkTree, heartbeat_request_chunk}
 use Rattle.sctp_state.specs.declared.api.ErrorKind.TheVariants.{ParseFailed}
-use Rattle.sctp_state.specs.Errors.{no_errors, one_error}
-use Rattle.sctp_state.specs.Timers.{start, stop, expire, next_expiry}
+use Rattle.sctp_state.specs.TxErrorCounter.{no_errors, one_error}
+use Rattle.sctp_state.specs.Timer.{start, stop, expire, next_expiry}
 use Rattle.spec_endpoint.specs.Association.{Tcb, Heartbeats, Context}
 use Rattle.spec_endpoint.specs.Packets.{complain, emit_chunk}
 

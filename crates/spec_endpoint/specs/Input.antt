@@ -11,8 +11,8 @@ use Rattle.sctp_packet.specs.Written.{chunk_item}
 use Rattle.sctp_packet.specs.ChunkText.{chunk_text}
 use Rattle.sctp_state.specs.declared.api.ErrorKind.TheVariants.{ParseFailed}
 use Rattle.sctp_state.specs.Numbers.{more}
-use Rattle.sctp_state.specs.Rtt.{rto}
-use Rattle.sctp_state.specs.Timers.{start, set_duration}
+use Rattle.sctp_state.specs.RetransmissionTimeout.{rto}
+use Rattle.sctp_state.specs.Timer.{start, set_duration}
 use Rattle.sctp_capabilities.specs.Capabilities.{Capabilities}
 use Rattle.sctp_rx.specs.Tracker.{packet_end, is_ack_due}
 use Rattle.spec_endpoint.specs.Association.{Tcb, Phase, CookieEchoed, Established, ShutdownPending, ShutdownSent, ShutdownReceived, ShutdownAckSent, State, Closed, CookieWait, Open, Context, EndpointState, Endpoint, open_as, with_context, in_context, where_open}

@@ -1,4 +1,4 @@
-pub mod Requests
+pub mod ResetRequests
 pub mod Association
 pub mod Packets
 pub mod Heartbeats

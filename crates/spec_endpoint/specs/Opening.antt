@@ -11,15 +11,15 @@ use Rattle.sctp_state.specs.declared.api.ErrorKind.TheVariants.{ParseFailed, Pro
 use Rattle.sctp_capabilities.specs.declared.state_cookie.StateCookieError.{StateCookieError}
 use Rattle.sctp_state.specs.declared.timer.BackoffAlgorithm.TheVariants.{Exponential}
 use Rattle.sctp_state.specs.Options.{Options}
-use Rattle.sctp_state.specs.Timers.{Timer, timer, start}
+use Rattle.sctp_state.specs.Timer.{Timer, timer, start}
 use Rattle.sctp_state.specs.Events.{OnConnected, OnConnectionRestarted, OnAborted}
 use Rattle.sctp_capabilities.specs.Capabilities.{Capabilities, announce, announced_by, negotiate, zero_checksum_enabled}
-use Rattle.sctp_capabilities.specs.Cookie.{Cookie, magic, cookie_bytes, read_cookie, refusal_text}
-use Rattle.sctp_tx_queue.specs.Queue.{Queue}
+use Rattle.sctp_capabilities.specs.StateCookie.{Cookie, magic, cookie_bytes, read_cookie, refusal_text}
+use Rattle.sctp_tx_queue.specs.SendQueue.{Queue}
 use Rattle.sctp_tx_queue.specs.Restarted.{reset}
 use Rattle.sctp_tx_queue.specs.Settings.{set_mode}
-use Rattle.sctp_tx_outstanding.specs.Items.{next_number}
-use Rattle.sctp_tx_outstanding.specs.Items as items
+use Rattle.sctp_tx_outstanding.specs.OutstandingData.{next_number}
+use Rattle.sctp_tx_outstanding.specs.OutstandingData as items
 use Rattle.spec_endpoint.specs.Association.{Identity, Tcb, tcb, Phase, CookieEchoed, Established, ShutdownPending, ShutdownSent, ShutdownReceived, ShutdownAckSent, State, Closed, CookieWait, Open, Context, EndpointState, Endpoint, open_as, with_context}
 use Rattle.spec_endpoint.specs.Heartbeats.{beating}
 use Rattle.spec_endpoint.specs.Packets.{add, packet_to, new_packet, round_up, say, complain, emit}

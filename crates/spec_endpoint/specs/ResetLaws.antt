@@ -3,7 +3,7 @@ use Rattle.std.specs.Prelude.{◌≡◌, ℕ, ◌^◌, ◌<◌, ◌≤◌, true,
 use Rattle.sctp_serial.specs.declared.api.StreamId.{StreamId}
 use Rattle.sctp_rx.specs.Tracker.{number_of}
 use Rattle.spec_endpoint.specs.Packets.{Packet, room, fits}
-use Rattle.spec_endpoint.specs.Requests.{Request, request_chunk, is_final}
+use Rattle.spec_endpoint.specs.ResetRequests.{Request, request_chunk, is_final}
 use Rattle.spec_endpoint.specs.Sending.{most_streams}
 use Rattle.spec_endpoint.specs.StreamReset.{Handling, respond, on_outgoing}
 

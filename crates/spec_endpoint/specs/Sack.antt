@@ -3,13 +3,13 @@ use Rattle.std.specs.Prelude.{ℕ, ◌+◌, nat_lt, nat_le, min, max, Bool, true
 use Rattle.sctp_chunk.specs.declared.sack.GapAckBlock.{GapAckBlock}
 use Rattle.sctp_packet.specs.Chunk.{SackTree}
 use Rattle.sctp_state.specs.declared.api.ErrorKind.TheVariants.{NotConnected}
-use Rattle.sctp_state.specs.Errors.{ErrorCounter, no_errors}
-use Rattle.sctp_state.specs.Rtt.{Rtt, rto, observe_rto}
-use Rattle.sctp_state.specs.Timers.{set_duration}
-use Rattle.sctp_tx_outstanding.specs.Items.{number_of}
+use Rattle.sctp_state.specs.TxErrorCounter.{ErrorCounter, no_errors}
+use Rattle.sctp_state.specs.RetransmissionTimeout.{Rtt, rto, observe_rto}
+use Rattle.sctp_state.specs.Timer.{set_duration}
+use Rattle.sctp_tx_outstanding.specs.OutstandingData.{number_of}
 use Rattle.sctp_tx_outstanding.specs.Sack.{is_valid}
 use Rattle.sctp_rx.specs.Tracker.{update_rto}
-use Rattle.sctp_tx.specs.Retransmission.{SackAnswer, Invalid, Valid, sender_if, emitted_if, answer_if}
+use Rattle.sctp_tx.specs.RetransmissionQueue.{SackAnswer, Invalid, Valid, sender_if, emitted_if, answer_if}
 use Rattle.spec_endpoint.specs.Association.{Tcb, Phase, State, Closed, CookieWait, Open, Context, EndpointState, open_as}
 use Rattle.spec_endpoint.specs.Packets.{complain}
 use Rattle.spec_endpoint.specs.Sending.{Sent, is_alone, open_with, send_buffered, send_lost}

@@ -5,23 +5,23 @@ use Rattle.sctp_serial.specs.Time.{later}
 use Rattle.sctp_packet.specs.Chunk.{ChunkTree, FragmentTree, data_chunk, idata_chunk, sack_chunk, cookie_echo_chunk}
 use Rattle.sctp_state.specs.Numbers.{ms}
 use Rattle.sctp_state.specs.Options.{Options}
-use Rattle.sctp_state.specs.Rtt.{rto, srtt}
-use Rattle.sctp_tx_outstanding.specs.Items.{fast_items, begin_reset, next_number}
-use Rattle.sctp_tx_outstanding.specs.Items as items
+use Rattle.sctp_state.specs.RetransmissionTimeout.{rto, srtt}
+use Rattle.sctp_tx_outstanding.specs.OutstandingData.{fast_items, begin_reset, next_number}
+use Rattle.sctp_tx_outstanding.specs.OutstandingData as items
 use Rattle.sctp_tx_outstanding.specs.Forward.{is_forward_due}
 use Rattle.sctp_tx_outstanding.specs.Losses.{expire_outstanding}
 use Rattle.sctp_rx.specs.Tracker.{is_ack_due, take_ack}
 use Rattle.sctp_rx.specs.ReassemblyQueue.{Reassembly, watermark, queued_bytes}
 use Rattle.sctp_rx.specs.Sack.{sack, report}
-use Rattle.sctp_tx_queue.specs.Queue.{Queue}
+use Rattle.sctp_tx_queue.specs.SendQueue.{Queue}
 use Rattle.sctp_tx_queue.specs.Resets.{requested_streams, request_resets}
-use Rattle.sctp_tx.specs.Retransmission.{Sender}
+use Rattle.sctp_tx.specs.RetransmissionQueue.{Sender}
 use Rattle.sctp_tx.specs.Resent.{may_send_new, resent_fast, send_fast}
 use Rattle.sctp_tx.specs.ForwardPoints.{expire, forward_chunk}
 use Rattle.sctp_tx.specs.Sending as fragments
 use Rattle.sctp_tx.specs.Sending.{send}
 use Rattle.spec_endpoint.specs.Association.{Tcb, Phase, CookieEchoed, Established, ShutdownPending, ShutdownSent, ShutdownReceived, ShutdownAckSent, Context, EndpointState, open_as}
-use Rattle.spec_endpoint.specs.Requests.{Request, request_chunk, start_request}
+use Rattle.spec_endpoint.specs.ResetRequests.{Request, request_chunk, start_request}
 use Rattle.spec_endpoint.specs.Heartbeats.{beating_if}
 use Rattle.spec_endpoint.specs.Packets.{Packet, empty_packet, room, fits, add, add_all, has_chunks, round_up, packet_to, new_packet, emit}
 

@@ -1,6 +1,6 @@
 -- What is asked of an end.
 use Rattle.std.specs.Prelude.{ℕ, ◌&&◌, not, Bool, Option, Some, None}
-use Rattle.sctp_tx_queue.specs.Queue.{Queue, is_empty}
+use Rattle.sctp_tx_queue.specs.SendQueue.{Queue, is_empty}
 use Rattle.spec_endpoint.specs.Association.{State, Closed, CookieWait, Open}
 use Rattle.spec_endpoint.specs.Calls.{keeps_items}
 

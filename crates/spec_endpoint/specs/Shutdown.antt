@@ -5,11 +5,11 @@ use Rattle.sctp_wire.specs.CauseText.{cause_text}
 use Rattle.sctp_packet.specs.Chunk.{abort_chunk, shutdown_chunk, shutdown_ack_chunk, shutdown_complete_chunk}
 use Rattle.sctp_state.specs.declared.api.ErrorKind.TheVariants.{TooManyRetries, PeerReported, ProtocolViolation}
 use Rattle.sctp_state.specs.declared.timer.BackoffAlgorithm.TheVariants.{Exponential}
-use Rattle.sctp_state.specs.Timers.{Timer, timer, start, set_duration}
-use Rattle.sctp_state.specs.Rtt.{rto}
+use Rattle.sctp_state.specs.Timer.{Timer, timer, start, set_duration}
+use Rattle.sctp_state.specs.RetransmissionTimeout.{rto}
 use Rattle.sctp_state.specs.Events.{Event, OnClosed, OnAborted}
 use Rattle.sctp_rx.specs.Tracker.{wire_tsn}
-use Rattle.sctp_tx.specs.Retransmission.{is_quiet}
+use Rattle.sctp_tx.specs.RetransmissionQueue.{is_quiet}
 use Rattle.spec_endpoint.specs.Association.{Tcb, Phase, CookieEchoed, Established, ShutdownPending, ShutdownSent, ShutdownReceived, ShutdownAckSent, State, Closed, CookieWait, Open, Context, EndpointState, open_as}
 use Rattle.spec_endpoint.specs.Heartbeats.{silence}
 use Rattle.spec_endpoint.specs.Packets.{add, packet_to, say, complain, emit, emit_chunk}

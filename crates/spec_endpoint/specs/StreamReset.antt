@@ -7,14 +7,14 @@ use Rattle.sctp_state.specs.declared.api.ErrorKind.TheVariants.{ProtocolViolatio
 use Rattle.sctp_state.specs.declared.api.errors.ResetStreamsError.{ResetStreamsError}
 use Rattle.sctp_state.specs.declared.api.errors.ResetStreamsError.TheVariants.{NotConnected, NotSupported}
 use Rattle.sctp_state.specs.Events.{Event, OnIncomingStreamReset, OnStreamsResetPerformed, OnStreamsResetFailed, numbers_of}
-use Rattle.sctp_state.specs.Rtt.{rto}
+use Rattle.sctp_state.specs.RetransmissionTimeout.{rto}
 use Rattle.sctp_rx.specs.Tracker.{number_of}
 use Rattle.sctp_rx.specs.ReassemblyQueue.{defer, reset}
-use Rattle.sctp_tx_queue.specs.Queue.{Queue}
+use Rattle.sctp_tx_queue.specs.SendQueue.{Queue}
 use Rattle.sctp_tx_queue.specs.Resets.{prepare_reset, commit_resets, roll_back_resets}
 use Rattle.spec_endpoint.specs.Association.{Tcb, Phase, State, Closed, CookieWait, Open, Context, EndpointState, open_as, with_context, where_open}
 use Rattle.spec_endpoint.specs.Packets.{say, complain, emit_chunk}
-use Rattle.spec_endpoint.specs.Requests.{nothing_to_do, performed, bad_number, in_progress, is_final, Outcome, Unsettled, Done, Denied, outcome, answer_request, is_last, is_next, is_known, process_request}
+use Rattle.spec_endpoint.specs.ResetRequests.{nothing_to_do, performed, bad_number, in_progress, is_final, Outcome, Unsettled, Done, Denied, outcome, answer_request, is_last, is_next, is_known, process_request}
 use Rattle.spec_endpoint.specs.Sending.{Sent, send_lost_data, is_alone, open_with, send_buffered, send_in}
 
 -- what the parameters of a RE-CONFIG have done so far

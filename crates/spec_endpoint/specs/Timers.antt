@@ -2,16 +2,16 @@
 use Rattle.std.specs.Prelude.{ℕ, ◌||◌, nat_lt, min, max, Bool, true, false, List, codes}
 use Rattle.sctp_serial.specs.Time.{forever}
 use Rattle.sctp_state.specs.declared.api.ErrorKind.TheVariants.{TooManyRetries}
-use Rattle.sctp_state.specs.Errors.{one_error, is_exhausted}
-use Rattle.sctp_state.specs.Rtt.{rto}
-use Rattle.sctp_state.specs.Timers.{Timer, is_due, is_running, expire, next_expiry}
+use Rattle.sctp_state.specs.TxErrorCounter.{one_error, is_exhausted}
+use Rattle.sctp_state.specs.RetransmissionTimeout.{rto}
+use Rattle.sctp_state.specs.Timer.{Timer, is_due, is_running, expire, next_expiry}
 use Rattle.sctp_state.specs.Events.{OnAborted}
 use Rattle.sctp_tx_outstanding.specs.Losses.{Step, nack_all}
 use Rattle.sctp_rx.specs.Tracker.{ack_timeout}
-use Rattle.sctp_tx.specs.Retransmission.{timed_out_sender}
+use Rattle.sctp_tx.specs.RetransmissionQueue.{timed_out_sender}
 use Rattle.spec_endpoint.specs.Association.{Tcb, Phase, CookieEchoed, Established, ShutdownPending, ShutdownSent, ShutdownReceived, ShutdownAckSent, State, Closed, CookieWait, Open, Heartbeats, Context, EndpointState, open_as}
 use Rattle.spec_endpoint.specs.Heartbeats.{beat_if, unanswered_if, expiry}
-use Rattle.spec_endpoint.specs.Requests.{lasting, expire_request, wake_request, is_unanswered}
+use Rattle.spec_endpoint.specs.ResetRequests.{lasting, expire_request, wake_request, is_unanswered}
 use Rattle.spec_endpoint.specs.Sending.{Sent, add_request, send_buffered, send_cookie}
 use Rattle.spec_endpoint.specs.Shutdown.{over, send_shutdown, send_shutdown_ack, too_many}
 use Rattle.spec_endpoint.specs.Opening.{send_init}

@@ -9,15 +9,15 @@ use Rattle.proof_rx_refines.proofs.FragmentRowLemmas.{first_is, row_held, row_la
 use Rattle.proof_rx_refines.proofs.fragment_comes.Goals as goal
 
 pub returns-clause-held : goal.returns-clause-held
-returns-clause-held c message mixed base shift x handed t r k tsn f now kept shown i none carries read unseen is_now current =
-    (let l = row_held message mixed base shift x kept handed t r shown i k tsn f (ap (fragment_waits (number_of r tsn) f.stream_id) none) carries read unseen is_now current now in
-    (l.0, subst (λ (d : Option Deferred). Goes message mixed base (shift_after r.first shift k) x (data_comes k ∷ map become_ready l.0) handed d (observe (origin + k) now t) (add tsn f r)) none l.1))
+returns-clause-held c message is_interleaved base shift x handed t r k tsn f now kept shown i none carries read unseen is_now current =
+    (let l = row_held message is_interleaved base shift x kept handed t r shown i k tsn f (ap (fragment_waits (number_of r tsn) f.stream_id) none) carries read unseen is_now current now in
+    (l.0, subst (λ (d : Option Deferred). Goes message is_interleaved base (shift_after r.first shift k) x (data_comes k ∷ map become_ready l.0) handed d (observe (origin + k) now t) (add tsn f r)) none l.1))
 
 pub returns-clause-late : goal.returns-clause-late
-returns-clause-late c message mixed base shift x handed t r k tsn f now kept shown i none carries read unseen is_now late =
-    subst (λ (d : Option Deferred). Goes message mixed base (shift_after r.first shift k) x (late_comes k ∷ []) handed d (observe (origin + k) now t) (add tsn f r)) none
-    (row_late message mixed base shift x kept handed t r shown i k tsn f (ap (fragment_waits (number_of r tsn) f.stream_id) none) carries read unseen is_now late now)
+returns-clause-late c message is_interleaved base shift x handed t r k tsn f now kept shown i none carries read unseen is_now late =
+    subst (λ (d : Option Deferred). Goes message is_interleaved base (shift_after r.first shift k) x (late_comes k ∷ []) handed d (observe (origin + k) now t) (add tsn f r)) none
+    (row_late message is_interleaved base shift x kept handed t r shown i k tsn f (ap (fragment_waits (number_of r tsn) f.stream_id) none) carries read unseen is_now late now)
 
 pub returns-clause-first : goal.returns-clause-first
-returns-clause-first c message mixed base shift x handed t r k tsn f kept shown i none carries read unseen is_now =
-    first_is message mixed base shift x kept handed t r shown i k tsn f (ap (fragment_waits (number_of r tsn) f.stream_id) none) carries read unseen is_now
+returns-clause-first c message is_interleaved base shift x handed t r k tsn f kept shown i none carries read unseen is_now =
+    first_is message is_interleaved base shift x kept handed t r shown i k tsn f (ap (fragment_waits (number_of r tsn) f.stream_id) none) carries read unseen is_now

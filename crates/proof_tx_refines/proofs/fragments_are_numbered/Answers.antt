@@ -4,5 +4,5 @@ use Rattle.proof_tx_refines.proofs.TurnLemmas.{produces}
 use Rattle.proof_tx_refines.proofs.fragments_are_numbered.Goals as goal
 
 pub returns : goal.returns
-returns c = λ message lifecycle mixed x q s k sh now size emitted none some.
-    produces message lifecycle mixed x emitted s.outstanding.items none now size some (length q.scheduler.times + 2) q emitted (led_none message lifecycle mixed x emitted q s.outstanding.items k sh)
+returns c = λ message lifecycle is_interleaved x q s k sh now size emitted none some.
+    produces message lifecycle is_interleaved x emitted s.outstanding.items none now size some (length q.scheduler.times + 2) q emitted (led_none message lifecycle is_interleaved x emitted q s.outstanding.items k sh)

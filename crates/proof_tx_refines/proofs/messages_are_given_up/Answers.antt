@@ -7,13 +7,13 @@ use Rattle.proof_tx_refines.proofs.messages_are_given_up.Goals as goal
 
 pub returns : goal.returns
 returns c = record {
-  message = λ message lifecycle mixed x q s k sh p n i cause emitted here number lives.
-      abandoned message lifecycle mixed x emitted q p n s.outstanding.items emitted cause i here number lives (led_none message lifecycle mixed x emitted q s.outstanding.items k sh);
-  discards = λ message lifecycle mixed x q s k sh emitted. discard_row message lifecycle mixed x s q sh emitted;
-  losses = λ message lifecycle mixed x q s k sh at_once fast n emitted.
-      losses message lifecycle mixed x emitted q at_once fast n (first_step s.outstanding.items emitted) (led_none message lifecycle mixed x emitted q s.outstanding.items k sh);
-  timeout = λ message lifecycle mixed x q s k sh now emitted. timeout_row message lifecycle mixed x q s k sh emitted now;
-  lifetimes = λ message lifecycle mixed x q s k sh now n emitted.
-      lifetimes message lifecycle mixed x emitted q now n (first_step s.outstanding.items emitted) (led_none message lifecycle mixed x emitted q s.outstanding.items k sh);
-  expiry = λ message lifecycle mixed x q s k sh now emitted. expiry_row message lifecycle mixed x q s k sh emitted now;
+  message = λ message lifecycle is_interleaved x q s k sh p n i cause emitted here number lives.
+      abandoned message lifecycle is_interleaved x emitted q p n s.outstanding.items emitted cause i here number lives (led_none message lifecycle is_interleaved x emitted q s.outstanding.items k sh);
+  discards = λ message lifecycle is_interleaved x q s k sh emitted. discard_row message lifecycle is_interleaved x s q sh emitted;
+  losses = λ message lifecycle is_interleaved x q s k sh at_once fast n emitted.
+      losses message lifecycle is_interleaved x emitted q at_once fast n (first_step s.outstanding.items emitted) (led_none message lifecycle is_interleaved x emitted q s.outstanding.items k sh);
+  timeout = λ message lifecycle is_interleaved x q s k sh now emitted. timeout_row message lifecycle is_interleaved x q s k sh emitted now;
+  lifetimes = λ message lifecycle is_interleaved x q s k sh now n emitted.
+      lifetimes message lifecycle is_interleaved x emitted q now n (first_step s.outstanding.items emitted) (led_none message lifecycle is_interleaved x emitted q s.outstanding.items k sh);
+  expiry = λ message lifecycle is_interleaved x q s k sh now emitted. expiry_row message lifecycle is_interleaved x q s k sh emitted now;
 }

@@ -4,7 +4,7 @@ use Rattle.proof_tx_refines.proofs.points_end_at_requests.Goals as goal
 
 pub returns : goal.returns
 returns c = record {
-  requests = λ message lifecycle mixed x q s ids sh h. requests_break message lifecycle mixed ids x q s sh h;
+  requests = λ message lifecycle is_interleaved x q s ids sh h. requests_break message lifecycle is_interleaved ids x q s sh h;
   sacks = staying_keeps;
-  points = λ message mixed x s h p. points_end message (λ n. None) mixed x s h p;
+  points = λ message is_interleaved x s h p. points_end message (λ n. None) is_interleaved x s h p;
 }

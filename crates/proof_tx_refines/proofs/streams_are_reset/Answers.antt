@@ -6,8 +6,8 @@ use Rattle.proof_tx_refines.proofs.streams_are_reset.Goals as goal
 
 pub returns : goal.returns
 returns c = record {
-  prepared = λ message lifecycle mixed x q s k sh id emitted. prepares_row message lifecycle mixed x q s.outstanding.items k sh id emitted;
-  recorded = λ message lifecycle mixed x q s k sh id emitted. prepares_lead message lifecycle mixed x q s.outstanding.items k sh id emitted;
-  requested = λ message lifecycle mixed x q s k sh most. requests_row message lifecycle mixed s.outstanding.items (requested_streams most q) x q sh;
-  committed = λ message lifecycle mixed x q s k sh ids. commits_row message lifecycle mixed s.outstanding.items ids x q sh;
+  prepared = λ message lifecycle is_interleaved x q s k sh id emitted. prepares_row message lifecycle is_interleaved x q s.outstanding.items k sh id emitted;
+  recorded = λ message lifecycle is_interleaved x q s k sh id emitted. prepares_lead message lifecycle is_interleaved x q s.outstanding.items k sh id emitted;
+  requested = λ message lifecycle is_interleaved x q s k sh most. requests_row message lifecycle is_interleaved s.outstanding.items (requested_streams most q) x q sh;
+  committed = λ message lifecycle is_interleaved x q s k sh ids. commits_row message lifecycle is_interleaved s.outstanding.items ids x q sh;
 }

@@ -13,8 +13,8 @@ returns c = record {
   answered = λ ids q k e. answered_open ids q k e;
   each = each_asked;
   none = λ x q s none h k. all_flow x none q h.paused k;
-  raising = λ message mixed x q id. prepared_raises message mixed x q id;
-  sending = λ message mixed x ids. requests_sent message mixed ids x;
-  opening = λ message mixed x ids. answers_open message mixed ids x;
-  begins = λ message lifecycle mixed x q r s t emitted later k sh h still l. queue_begins message lifecycle mixed x q r t emitted later k sh.queue h still l;
+  raising = λ message is_interleaved x q id. prepared_raises message is_interleaved x q id;
+  sending = λ message is_interleaved x ids. requests_sent message is_interleaved ids x;
+  opening = λ message is_interleaved x ids. answers_open message is_interleaved ids x;
+  begins = λ message lifecycle is_interleaved x q r s t emitted later k sh h still l. queue_begins message lifecycle is_interleaved x q r t emitted later k sh.queue h still l;
 }

@@ -9,7 +9,7 @@ use std::alloc::{AllocError, Global};
 impl<K: ReassemblyKey> Interval<K> {
     ghost use Rattle.sctp_fragments.specs.Runs.{last_of};
     ghost use Rattle.sctp_fragments.specs.Held.{Held, is_complete, is_in_turn, bytes_of, payload_of};
-    ghost use Rattle.sctp_fragments.specs.Intervals.{held_of, run_of};
+    ghost use Rattle.sctp_fragments.specs.Interval.{held_of, run_of};
 
     /// The fragment with its least key.
     pub fn first(&self) -> &Entry<K>
@@ -75,7 +75,7 @@ impl<K: ReassemblyKey> Interval<K> {
 
 ghost use Rattle.sctp_fragments.specs.Runs.{is_next};
 ghost use Rattle.sctp_fragments.specs.Held.{rank_of, goes_on};
-ghost use Rattle.sctp_fragments.specs.Intervals.{held_of};
+ghost use Rattle.sctp_fragments.specs.Interval.{held_of};
 
 /// Whether a message may go on from one fragment to the other, with the next key.
 pub fn goes_on_to<K: ReassemblyKey>(from: &Entry<K>, to: &Entry<K>) -> bool

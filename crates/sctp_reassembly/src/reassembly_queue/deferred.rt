@@ -3,8 +3,8 @@
 ghost use Rattle.std.specs.Prelude.{◌≡◌, ◌==◌, ◌+◌, ◌<◌, ◌^◌, ◌++◌, ◌∷◌, [], nat_lt, length, option_map, IfOk, IfSome, IfNone, OnOk, OnErr};
 ghost use Rattle.std.specs.List.{sum_by};
 ghost use Rattle.std.specs.Option.{option_to_list};
-ghost use Rattle.sctp_reassembly.specs.Streams.{is_named};
-ghost use Rattle.sctp_reassembly.specs.WaitingViews.{waiting_of};
+ghost use Rattle.sctp_reassembly.specs.ReassemblyStreams.{is_named};
+ghost use Rattle.sctp_reassembly.specs.Waiting.{waiting_of};
 
 use crate::named_streams::NamedStreams;
 use crate::reassembly_queue::waiting::Waiting;
@@ -25,7 +25,7 @@ pub(crate) struct Deferred {
 impl Model for Deferred {
     ghost use Rattle.std.specs.Prelude.{map};
     ghost use Rattle.sctp_reassembly.specs.ReassemblyQueue.{Deferred, IsDeferred};
-    ghost use Rattle.sctp_reassembly.specs.WaitingViews.{waiting_of};
+    ghost use Rattle.sctp_reassembly.specs.Waiting.{waiting_of};
 
     ghost Value = { Deferred };
 

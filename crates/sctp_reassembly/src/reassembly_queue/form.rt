@@ -1,8 +1,8 @@
 //! The two forms of the reassembly as one.
 
 ghost use Rattle.std.specs.Prelude.{◌≡◌};
-ghost use Rattle.sctp_reassembly.specs.Streams.{no_streams};
-ghost use Rattle.sctp_reassembly.specs.Forms.{streams_of};
+ghost use Rattle.sctp_reassembly.specs.ReassemblyStreams.{no_streams};
+ghost use Rattle.sctp_reassembly.specs.Form.{streams_of};
 
 use crate::interleaved_reassembly_streams::InterleavedReassemblyStreams;
 use crate::ready_messages::ReadyMessages;

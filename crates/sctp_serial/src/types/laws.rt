@@ -1,7 +1,7 @@
 //! The laws of serial numbers, each the contract of a function that takes the numbers by value.
 
 ghost use Rattle.std.specs.Prelude.{◌≡◌, ◌+◌, ◌*◌, ◌/◌, ◌^◌, ◌<◌, ◌≤◌, ◌↔◌, IsTrue, false};
-ghost use Rattle.sctp_serial.specs.Serial.{serial_distance};
+ghost use Rattle.sctp_serial.specs.SerialNumber.{serial_distance};
 ghost use Rattle.sctp_serial.specs.Unwrapped.{origin};
 
 use crate::SerialNumber;

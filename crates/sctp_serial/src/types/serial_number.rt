@@ -1,7 +1,7 @@
 //! What all serial numbers share.
 
 ghost use Rattle.std.specs.Prelude.{◌≡◌, ℕ, ◌+◌, ◌-◌, ◌%◌, ◌^◌, ◌<◌, ◌≤◌, ◌↔◌, ◌⊎◌, ◌==◌, IsTrue};
-ghost use Rattle.sctp_serial.specs.Serial.{IsGreater, serial_difference, serial_distance};
+ghost use Rattle.sctp_serial.specs.SerialNumber.{IsGreater, serial_difference, serial_distance};
 ghost use Rattle.sctp_serial.specs.Unwrapped.{IsNearest, nearest, origin, wire};
 
 /// A number that wraps round at the end of its space (RFC 1982). Its order is no order of the whole circle: one number

@@ -2,7 +2,7 @@
 //! call answers `Failed`.
 
 ghost use Rattle.std.specs.Prelude.{◌≡◌};
-ghost use Rattle.sctp_state.specs.ErrorNumbers.{batch_number, handover_number, send_number};
+ghost use Rattle.sctp_state.specs.Errors.{batch_number, handover_number, send_number};
 
 use crate::api::handover::HandoverReadiness;
 use std::alloc::AllocError;

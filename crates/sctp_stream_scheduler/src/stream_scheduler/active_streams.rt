@@ -4,7 +4,7 @@ ghost use Rattle.std.specs.Prelude.{◌≡◌, ◌<◌, ◌^◌, [], length, IfS
 ghost use Rattle.std.specs.Map.{remove_entry};
 ghost use Rattle.std.specs.Ordering.{nat_cmp};
 ghost use Rattle.std.specs.BTreeMap.{IsOrdered, is_at, insert_entry};
-ghost use Rattle.sctp_stream_scheduler.specs.Scheduler.{Indexes, IsNext, finish_time, best, stream_in};
+ghost use Rattle.sctp_stream_scheduler.specs.StreamScheduler.{Indexes, IsNext, finish_time, best, stream_in};
 
 use std::alloc::{AllocError, Global};
 use std::collections::{BTreeMap, BTreeSet};
@@ -22,7 +22,7 @@ pub struct ActiveStreams {
 }
 
 impl Model for ActiveStreams {
-    ghost use Rattle.sctp_stream_scheduler.specs.Scheduler.{Times, Indexes, IsOnly, times_of};
+    ghost use Rattle.sctp_stream_scheduler.specs.StreamScheduler.{Times, Indexes, IsOnly, times_of};
 
     ghost Value = { Times };
 

@@ -1,7 +1,7 @@
 //! The numbers that came again.
 
 ghost use Rattle.std.specs.Prelude.{◌≡◌, ◌≤◌, length, [], IfOk, OnOk, OnErr};
-ghost use Rattle.sctp_tracker.specs.Tracker.{with_duplicate};
+ghost use Rattle.sctp_tracker.specs.DataTracker.{with_duplicate};
 ghost use Rattle.sctp_tracker.specs.Sack.{tsns};
 ghost use Rattle.sctp_tracker.specs.Reported.{Ascend};
 

@@ -4,7 +4,7 @@ ghost use Rattle.std.specs.Prelude.{◌≡◌, ◌+◌, ◌-◌, ◌<◌, ◌^�
 ghost use Rattle.std.specs.Duration.{as_nanos};
 ghost use Rattle.sctp_chunk.specs.Written.{key_stream};
 ghost use Rattle.sctp_chunk.specs.Views.{is_unordered_key};
-ghost use Rattle.sctp_tx_queue.specs.Queue.{left_bytes, expiry_of};
+ghost use Rattle.sctp_tx_queue.specs.SendQueue.{left_bytes, expiry_of};
 ghost use Rattle.sctp_tx_queue.specs.Produced.{is_stale, is_due, ends, made_of, move_past};
 ghost use Rattle.sctp_tx_queue.specs.Resets.{is_partly};
 ghost use Rattle.sctp_tx_queue.specs.Whole.{is_whole, with_payload};
@@ -54,7 +54,7 @@ pub struct QueuedMessage {
 
 impl Model for QueuedMessage {
     ghost use Rattle.std.specs.Prelude.{◌<◌, ◌^◌, length};
-    ghost use Rattle.sctp_tx_queue.specs.Queue.{Queued};
+    ghost use Rattle.sctp_tx_queue.specs.SendQueue.{Queued};
 
     ghost Value = { Queued };
 

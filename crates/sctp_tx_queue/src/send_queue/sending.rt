@@ -2,9 +2,9 @@
 
 ghost use Rattle.std.specs.Prelude.{◌≡◌, IsTrue, IfOk, OnOk, OnErr, option_map};
 ghost use Rattle.sctp_state.specs.Events.{Grown, emit_events};
-ghost use Rattle.sctp_state.specs.Thresholds.{crosses};
-ghost use Rattle.sctp_stream_scheduler.specs.Scheduler.{accept, set_bytes_remaining};
-ghost use Rattle.sctp_tx_queue.specs.Queue.{sendable, watched_amount};
+ghost use Rattle.sctp_state.specs.ThresholdWatcher.{crosses};
+ghost use Rattle.sctp_stream_scheduler.specs.StreamScheduler.{accept, set_bytes_remaining};
+ghost use Rattle.sctp_tx_queue.specs.SendQueue.{sendable, watched_amount};
 ghost use Rattle.sctp_tx_queue.specs.Produced.{advance, production};
 ghost use Rattle.sctp_tx_queue.specs.Sent.{Sent, Unsent};
 ghost use Rattle.sctp_tx_queue.specs.Whole.{is_front_whole};

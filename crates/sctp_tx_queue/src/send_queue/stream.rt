@@ -2,8 +2,8 @@
 
 ghost use Rattle.std.specs.Prelude.{◌≡◌, ◌+◌, ◌-◌, ◌<◌, ◌≤◌, ◌^◌, ◌==◌, [], ◌++◌, length, sum_by, drop, is_some, None, Some, IsTrue, IfOk, OnOk, OnErr, option_map, filter, map, if◌then◌else◌};
 ghost use Rattle.sctp_state.specs.Events.{Grown};
-ghost use Rattle.sctp_state.specs.Thresholds.{crosses};
-ghost use Rattle.sctp_tx_queue.specs.Queue.{left_bytes, amount_of, watched_amount, blank_stream, front_left, sendable, push, is_stopped};
+ghost use Rattle.sctp_state.specs.ThresholdWatcher.{crosses};
+ghost use Rattle.sctp_tx_queue.specs.SendQueue.{left_bytes, amount_of, watched_amount, blank_stream, front_left, sendable, push, is_stopped};
 ghost use Rattle.sctp_tx_queue.specs.Produced.{is_front_stale, fresh, drop_expired, without_stale, front_numbers, front_made, front_ends, moved_front, front_took, next_fragment, advance, front_left_after, pause_after, settle_pause};
 ghost use Rattle.sctp_tx_queue.specs.Settings.{with_threshold, with_priority, without_front, front_discarded, is_front};
 ghost use Rattle.sctp_tx_queue.specs.Resets.{is_ready, after_step, is_partly, emitted_waiting, prepare_stream, waiting};
@@ -63,7 +63,7 @@ pub struct Stream {
 
 impl Model for Stream {
     ghost use Rattle.std.specs.Prelude.{◌≡◌, sum_by};
-    ghost use Rattle.sctp_tx_queue.specs.Queue.{Stream, left_bytes};
+    ghost use Rattle.sctp_tx_queue.specs.SendQueue.{Stream, left_bytes};
 
     ghost Value = { Stream };
 

@@ -8,8 +8,8 @@ ghost use Rattle.std.specs.Ordering.{nat_cmp};
 ghost use Rattle.std.specs.BTreeMap.{is_at};
 ghost use Rattle.sctp_state.specs.Events.{Grown};
 ghost use Rattle.sctp_state.specs.Options.{options_of};
-ghost use Rattle.sctp_state.specs.Thresholds.{crosses};
-ghost use Rattle.sctp_tx_queue.specs.Queue.{amount_of, total_of, watched_amount, no_streams, stream, open_stream, put_stream, push, sendable, has_nothing};
+ghost use Rattle.sctp_state.specs.ThresholdWatcher.{crosses};
+ghost use Rattle.sctp_tx_queue.specs.SendQueue.{amount_of, total_of, watched_amount, no_streams, stream, open_stream, put_stream, push, sendable, has_nothing};
 ghost use Rattle.sctp_tx_queue.specs.Produced.{is_front_stale, drop_expired, streams_without_stale, streams_after, next_fragment, emitted_of, in_line};
 ghost use Rattle.sctp_tx_queue.specs.Settings.{with_threshold, with_priority, streams_discarded, front_discarded};
 ghost use Rattle.sctp_tx_queue.specs.Resets.{is_ready, after_step, ready, prepare_stream, emitted_waiting};
@@ -49,7 +49,7 @@ pub struct Streams {
 }
 
 impl Model for Streams {
-    ghost use Rattle.sctp_tx_queue.specs.Queue.{Streams};
+    ghost use Rattle.sctp_tx_queue.specs.SendQueue.{Streams};
     ghost use Rattle.sctp_tx_queue.specs.Bounded.{IsCounted};
 
     ghost Value = { Streams };

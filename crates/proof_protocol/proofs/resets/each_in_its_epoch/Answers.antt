@@ -4,9 +4,9 @@ use Rattle.proof_protocol.proofs.EpochLemmas.{all_in_order, in_its_epoch, order_
 use Rattle.proof_protocol.proofs.resets.each_in_its_epoch.Goals as goal
 
 pub returns-clause-epochs : goal.returns-clause-epochs
-returns-clause-epochs c message mixed events may = in_its_epoch message mixed (go_all message mixed first_epoch events) (all_in_order message mixed events first_epoch (order_at_first message mixed) may)
+returns-clause-epochs c message is_interleaved events may = in_its_epoch message is_interleaved (go_all message is_interleaved first_epoch events) (all_in_order message is_interleaved events first_epoch (order_at_first message is_interleaved) may)
 
 pub returns-clause-transfer : goal.returns-clause-transfer
-returns-clause-transfer c message mixed events may =
-    let x = go_all message mixed first_epoch events in
-    claimed message mixed x.transfer (all_in_order message mixed events first_epoch (order_at_first message mixed) may).kept
+returns-clause-transfer c message is_interleaved events may =
+    let x = go_all message is_interleaved first_epoch events in
+    claimed message is_interleaved x.transfer (all_in_order message is_interleaved events first_epoch (order_at_first message is_interleaved) may).kept

@@ -7,7 +7,7 @@ pub returns-clause-first : goal.returns-clause-first
 returns-clause-first c = at_start
 
 pub returns-clause-step : goal.returns-clause-step
-returns-clause-step c message mixed x e k a = keeps message mixed x k e a
+returns-clause-step c message is_interleaved x e k a = keeps message is_interleaved x k e a
 
 pub returns-clause-claims : goal.returns-clause-claims
 returns-clause-claims c = claimed

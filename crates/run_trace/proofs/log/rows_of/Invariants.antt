@@ -1,6 +1,6 @@
 use Rattle.std.proofs.Common.{◌≡◌, ◌++◌, map, take, drop}
 use Rattle.sctp_network_side.specs.SideView.{entry_tree}
-use Rattle.run_trace.specs.Shown.{row_shows, row_time, entry_shows, times_from, times_of}
+use Rattle.run_trace.specs.Log.{row_shows, row_time, entry_shows, times_from, times_of}
 use Rattle.run_trace.proofs.log.rows_of.Given as goal
 
 abbrev pub invariant-loop-entry : goal.invariant-loop-entry

@@ -1,6 +1,6 @@
 use Rattle.std.proofs.Common.{◌≡◌, ◌++◌, true, map, drop}
 use Rattle.sctp_serial.specs.Messages.{message_of}
-use Rattle.sctp_c_calls.specs.Outgoing.{given_message, have_streams}
+use Rattle.sctp_c_calls.specs.Batch.{given_message, have_streams}
 use Rattle.sctp_c_calls.proofs.batch.all_copied.Given as goal
 
 abbrev pub invariant-loop-message : goal.invariant-loop-message

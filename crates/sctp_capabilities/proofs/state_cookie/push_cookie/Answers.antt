@@ -1,6 +1,6 @@
 use Rattle.std.proofs.Common.{arith, Result, Ok, Err}
 use Rattle.std.specs.Prelude.{OnOk}
-use Rattle.sctp_capabilities.specs.Cookie.{CookieFits, cookie_of}
+use Rattle.sctp_capabilities.specs.StateCookie.{CookieFits, cookie_of}
 use Rattle.sctp_capabilities.proofs.state_cookie.push_cookie.Goals as goal
 
 on_ok : {A E : Type 0} (r : Result A E) (P : Type 0) → P → OnOk r P

@@ -1,5 +1,5 @@
 use Rattle.std.proofs.Common.{◌++◌, ℕ, ap, sym}
-use Rattle.sctp_wire.specs.Fields.{be16, be32}
+use Rattle.sctp_wire.specs.Field.{be16, be32}
 use Rattle.sctp_chunk.proofs.SkipLemmas.{three_fields}
 use Rattle.sctp_chunk.proofs.forward_tsn.mid_skip_at.Goals as goal
 

@@ -1,6 +1,6 @@
 use Rattle.std.proofs.Common.{◌≡◌, ◌++◌, ℕ, List, length, ◌∙◌, append_assoc}
 use Rattle.std.specs.List.{flat_map}
-use Rattle.sctp_wire.specs.Fields.{be64}
+use Rattle.sctp_wire.specs.Field.{be64}
 use Rattle.sctp_handover.specs.Bytes.{list_bytes}
 use Rattle.sctp_handover.proofs.FieldLemmas.{passes_if}
 use Rattle.sctp_handover.proofs.part.list_at.Goals as goal

@@ -1,5 +1,5 @@
 use Rattle.std.proofs.Common.{◌++◌, List, ℕ, take, drop, ap, ◌∙◌}
-use Rattle.sctp_wire.specs.Fields.{be32}
+use Rattle.sctp_wire.specs.Field.{be32}
 use Rattle.sctp_packet.proofs.BuilderLemmas.{twelve}
 use Rattle.sctp_packet.proofs.builder.write_word.Goals as goal
 

@@ -1,7 +1,7 @@
 use Rattle.std.proofs.Common.{arith}
 use Rattle.sctp_fragments.proofs.PlaceLemmas.{starts_upto_read, some_run}
-use Rattle.sctp_fragments.specs.Intervals.{held_of}
-use Rattle.sctp_fragments.specs.Key.{rank_at}
+use Rattle.sctp_fragments.specs.Interval.{held_of}
+use Rattle.sctp_fragments.specs.ReassemblyKey.{rank_at}
 use Rattle.sctp_reassembly.proofs.interval_list.begins_upto.Goals as goal
 
 pub returns : goal.returns

@@ -1,5 +1,5 @@
 use Rattle.std.proofs.Common.{arith}
-use Rattle.sctp_fragments.specs.Intervals.{held_of}
+use Rattle.sctp_fragments.specs.Interval.{held_of}
 use Rattle.sctp_reassembly.proofs.FrontLemmas.{first_bytes, drop_one}
 use Rattle.sctp_reassembly.proofs.interval_list.drop_front.Goals as goal
 

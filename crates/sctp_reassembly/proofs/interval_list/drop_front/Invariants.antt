@@ -1,6 +1,6 @@
 use Rattle.std.proofs.Common.{◌≡◌, ◌+◌, ◌-◌, ◌≤◌, drop}
 use Rattle.sctp_fragments.specs.Held.{bytes_of}
-use Rattle.sctp_fragments.specs.Intervals.{held_of, entries_of}
+use Rattle.sctp_fragments.specs.Interval.{held_of, entries_of}
 use Rattle.sctp_reassembly.proofs.interval_list.drop_front.Given as goal
 
 abbrev pub invariant-loop-dropped : goal.invariant-loop-dropped

@@ -1,6 +1,6 @@
 use Rattle.std.proofs.Common.{◌-◌, sym, ◌∙◌, arith}
 use Rattle.sctp_reassembly.proofs.InsertLemmas.{answered, puts_alone, puts_left, puts_right, puts_both}
-use Rattle.sctp_fragments.specs.Intervals.{held_of}
+use Rattle.sctp_fragments.specs.Interval.{held_of}
 use Rattle.sctp_reassembly.proofs.interval_list.insert_at.Goals as goal
 
 pub returns-then-right-clause-ok : goal.returns-then-right-clause-ok

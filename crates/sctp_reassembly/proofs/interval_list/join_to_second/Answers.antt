@@ -2,7 +2,7 @@ use Rattle.std.proofs.Common.{◌+◌, ap, map, ◌∙◌, refl, arith}
 use Rattle.std.proofs.lemmas.List.{map-append}
 use Rattle.sctp_fragments.proofs.PlaceLemmas.{lists_set_same}
 use Rattle.std.proofs.lemmas.Result.{err_from_is_err_and}
-use Rattle.sctp_fragments.specs.Intervals.{held_of}
+use Rattle.sctp_fragments.specs.Interval.{held_of}
 use Rattle.sctp_reassembly.proofs.JoinLemmas.{lists_joined_second, room_in_second}
 use Rattle.sctp_reassembly.proofs.interval_list.join_to_second.Goals as goal
 

@@ -1,6 +1,6 @@
 use Rattle.std.proofs.Common.{arith}
 use Rattle.sctp_fragments.proofs.PlaceLemmas.{joins_right_read, some_run}
-use Rattle.sctp_fragments.specs.Intervals.{held_of}
+use Rattle.sctp_fragments.specs.Interval.{held_of}
 use Rattle.sctp_reassembly.proofs.interval_list.joins_after.Goals as goal
 
 pub returns-clause-value : goal.returns-clause-value

@@ -1,6 +1,6 @@
 use Rattle.std.proofs.Common.{◌+◌, ◌-◌, ◌/◌, arith}
-use Rattle.sctp_fragments.specs.Key.{rank_at}
-use Rattle.sctp_fragments.specs.Intervals.{held_of}
+use Rattle.sctp_fragments.specs.ReassemblyKey.{rank_at}
+use Rattle.sctp_fragments.specs.Interval.{held_of}
 use Rattle.sctp_fragments.proofs.PlaceLemmas.{below_more, ends_from_read, some_run, emitted_less, emitted_not_less}
 use Rattle.sctp_reassembly.proofs.interval_list.place_for.Goals as goal
 

@@ -1,8 +1,8 @@
 use Rattle.std.proofs.Common.{◌-◌, ◌≤◌, length, take, drop, None}
 use Rattle.sctp_fragments.specs.Runs.{IsBelow, end_of}
 use Rattle.sctp_fragments.specs.Held.{rank_of}
-use Rattle.sctp_fragments.specs.Intervals.{held_of, lists_of, EndsFrom}
-use Rattle.sctp_fragments.specs.Key.{rank_at}
+use Rattle.sctp_fragments.specs.Interval.{held_of, lists_of, EndsFrom}
+use Rattle.sctp_fragments.specs.ReassemblyKey.{rank_at}
 use Rattle.sctp_reassembly.proofs.interval_list.place_for.Given as goal
 
 abbrev pub invariant-loop-place : goal.invariant-loop-place

@@ -1,6 +1,6 @@
 use Rattle.std.proofs.Common.{◌≡◌, arith, false, rules}
 use Rattle.sctp_reassembly.proofs.ListLemmas.{none_more}
-use Rattle.sctp_fragments.specs.Intervals.{held_of}
+use Rattle.sctp_fragments.specs.Interval.{held_of}
 use Rattle.sctp_reassembly.proofs.interval_list.place_in_turn.Goals as goal
 
 pub loop-place-preserved : goal.loop-place-preserved

@@ -1,6 +1,6 @@
 use Rattle.std.proofs.Common.{◌-◌, ◌≤◌, length, take}
 use Rattle.sctp_fragments.specs.Held.{NoneInTurn}
-use Rattle.sctp_fragments.specs.Intervals.{held_of, lists_of}
+use Rattle.sctp_fragments.specs.Interval.{held_of, lists_of}
 use Rattle.sctp_reassembly.proofs.interval_list.place_in_turn.Given as goal
 
 abbrev pub invariant-loop-place : goal.invariant-loop-place

@@ -1,6 +1,6 @@
 use Rattle.std.proofs.Common.{◌∷◌, ◌++◌, [], ap, ◌∙◌, map}
 use Rattle.sctp_reassembly.proofs.InsertLemmas.{lists_alone}
-use Rattle.sctp_fragments.specs.Intervals.{held_of}
+use Rattle.sctp_fragments.specs.Interval.{held_of}
 use Rattle.sctp_reassembly.proofs.interval_list.put_alone.Goals as goal
 
 pub returns-clause-ok : goal.returns-clause-ok

@@ -1,7 +1,7 @@
 use Rattle.std.proofs.Common.{ap, map, arith}
 use Rattle.sctp_fragments.proofs.PlaceLemmas.{lists_set_same, lists_changed, run_front}
 use Rattle.std.proofs.lemmas.Result.{err_from_is_err_and}
-use Rattle.sctp_fragments.specs.Intervals.{held_of}
+use Rattle.sctp_fragments.specs.Interval.{held_of}
 use Rattle.sctp_reassembly.proofs.interval_list.put_before.Goals as goal
 
 pub returns-in_err-push_front-clause-err : goal.returns-in_err-push_front-clause-err

@@ -1,6 +1,6 @@
 use Rattle.std.proofs.Common.{rules, ◌≡◌, true, sym, subst, ◌∙◌, arith}
-use Rattle.sctp_fragments.specs.Key.{pair_rank}
-use Rattle.sctp_reassembly.specs.Notes.{AreNoted, NoneBelow}
+use Rattle.sctp_fragments.specs.ReassemblyKey.{pair_rank}
+use Rattle.sctp_reassembly.specs.NotedStreams.{AreNoted, NoneBelow}
 use Rattle.sctp_reassembly.proofs.NoteLemmas.{forwarded_one, written_others, renewed, none_left}
 use Rattle.sctp_reassembly.proofs.noted_streams.forward_noted.Goals as goal
 

@@ -1,7 +1,7 @@
 use Rattle.std.proofs.Common.{◌≡◌, ◌≤◌}
-use Rattle.sctp_fragments.specs.Key.{pair_rank}
-use Rattle.sctp_reassembly.specs.Notes.{AreNoted, forward}
-use Rattle.sctp_reassembly.specs.Streams.{unordered_bytes}
+use Rattle.sctp_fragments.specs.ReassemblyKey.{pair_rank}
+use Rattle.sctp_reassembly.specs.NotedStreams.{AreNoted, forward}
+use Rattle.sctp_reassembly.specs.ReassemblyStreams.{unordered_bytes}
 use Rattle.sctp_reassembly.proofs.noted_streams.forward_noted.Given as goal
 
 abbrev pub invariant-loop : goal.invariant-loop

@@ -1,5 +1,5 @@
 use Rattle.std.proofs.Common.{ap, ◌∙◌}
-use Rattle.sctp_reassembly.specs.Notes.{is_noted}
+use Rattle.sctp_reassembly.specs.NotedStreams.{is_noted}
 use Rattle.sctp_reassembly.proofs.NoteLemmas.{either, in_keeps}
 use Rattle.sctp_reassembly.proofs.noted_streams.make_note.Goals as goal
 

@@ -1,6 +1,6 @@
 use Rattle.std.proofs.Common.{◌≡◌, ℕ, true, false}
-use Rattle.sctp_reassembly.specs.Notes.{is_noted}
-use Rattle.sctp_reassembly.specs.Streams.{is_named}
+use Rattle.sctp_reassembly.specs.NotedStreams.{is_noted}
+use Rattle.sctp_reassembly.specs.ReassemblyStreams.{is_named}
 use Rattle.sctp_reassembly.proofs.noted_streams.take_notes.Given as goal
 
 abbrev pub invariant-loop-id : goal.invariant-loop-id

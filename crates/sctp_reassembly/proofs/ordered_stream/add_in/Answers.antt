@@ -1,5 +1,5 @@
 use Rattle.std.proofs.Common.{sym, ◌∙◌}
-use Rattle.sctp_fragments.specs.Intervals.{held_at}
+use Rattle.sctp_fragments.specs.Interval.{held_at}
 use Rattle.sctp_reassembly.proofs.DeliverLemmas.{none_turned}
 use Rattle.sctp_reassembly.proofs.ordered_stream.add_in.Goals as goal
 

@@ -1,7 +1,7 @@
 use Rattle.std.proofs.Common.{◌≡◌, ◌+◌, ◌++◌, length, suc, ap, sym, subst, ◌∙◌, arith}
 use Rattle.sctp_serial.specs.Messages.{message_of}
 use Rattle.sctp_fragments.specs.Held.{bytes_of, intervals_of, is_in_turn, NoneInTurn, message_of_run}
-use Rattle.sctp_fragments.specs.Intervals.{held_of, run_of}
+use Rattle.sctp_fragments.specs.Interval.{held_of, run_of}
 use Rattle.sctp_reassembly.specs.Delivery.{deliver}
 use Rattle.sctp_reassembly.proofs.ExtendsLemmas.{extends_both}
 use Rattle.sctp_reassembly.proofs.FindLemmas.{left_unfound}

@@ -1,6 +1,6 @@
 use Rattle.std.proofs.Common.{◌≡◌, ◌+◌, ◌≤◌, ◌++◌, drop}
 use Rattle.sctp_reassembly.specs.Delivery.{ready_bytes, Extends}
-use Rattle.sctp_reassembly.specs.Streams.{skip_each, held_bytes}
+use Rattle.sctp_reassembly.specs.ReassemblyStreams.{skip_each, held_bytes}
 use Rattle.sctp_reassembly.proofs.reassembly_streams.skip_each.Given as goal
 
 abbrev pub invariant-loop-entry : goal.invariant-loop-entry

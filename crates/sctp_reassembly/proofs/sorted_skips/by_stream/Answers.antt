@@ -1,6 +1,6 @@
 use Rattle.std.proofs.Common.{◌≡◌, rules, ap, ◌∙◌}
 use Rattle.std.proofs.lemmas.List.Sorted.{answers_always, IsNonDecreasingBy-from_sort}
-use Rattle.sctp_reassembly.specs.Streams.{skipped_id, by_stream}
+use Rattle.sctp_reassembly.specs.ReassemblyStreams.{skipped_id, by_stream}
 use Rattle.sctp_reassembly.proofs.SortLemmas.{sorted_by_stream}
 use Rattle.sctp_reassembly.proofs.sorted_skips.by_stream.Goals as goal
 

@@ -1,6 +1,6 @@
 use Rattle.std.proofs.Common.{◌≡◌, rules, ap, ◌∙◌}
 use Rattle.std.proofs.lemmas.Fn.{filter_same}
-use Rattle.sctp_reassembly.specs.Streams.{skipped_id, is_part, entries_in}
+use Rattle.sctp_reassembly.specs.ReassemblyStreams.{skipped_id, is_part, entries_in}
 use Rattle.sctp_reassembly.proofs.sorted_skips.entries_in.Goals as goal
 
 pub returns : goal.returns

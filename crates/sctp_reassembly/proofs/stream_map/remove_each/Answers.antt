@@ -1,6 +1,6 @@
 use Rattle.std.proofs.Common.{ap, arith}
 use Rattle.sctp_fragments.specs.Held.{bytes_of}
-use Rattle.sctp_reassembly.specs.Streams.{bytes_held}
+use Rattle.sctp_reassembly.specs.ReassemblyStreams.{bytes_held}
 use Rattle.sctp_reassembly.proofs.ForgetLemmas.{takes_one, takes_all, sum_removed, sum_absent}
 use Rattle.sctp_reassembly.proofs.stream_map.remove_each.Goals.{in-Some, in_default}
 use Rattle.sctp_reassembly.proofs.stream_map.remove_each.Goals as goal

@@ -2,7 +2,7 @@ use Rattle.std.proofs.Common.{◌≡◌, drop}
 use Rattle.std.specs.List.Sorted.{IsStrictlySortedBy}
 use Rattle.std.specs.Map.{keys_of}
 use Rattle.std.specs.Ordering.{nat_cmp}
-use Rattle.sctp_reassembly.specs.Streams.{bytes_held}
+use Rattle.sctp_reassembly.specs.ReassemblyStreams.{bytes_held}
 use Rattle.sctp_reassembly.proofs.ForgetLemmas.{without}
 use Rattle.sctp_reassembly.proofs.stream_map.remove_each.Given as goal
 

@@ -2,7 +2,7 @@ use Rattle.std.proofs.Common.{◌++◌, ◌∷◌, [], ◌+◌, ◌≤◌, lengt
 use Rattle.std.proofs.lemmas.Result.{on_ok_weaker}
 use Rattle.sctp_fragments.specs.Held.{intervals_of, is_complete, left_by, NoneComplete}
 use Rattle.sctp_serial.specs.Messages.{message_of}
-use Rattle.sctp_fragments.specs.Intervals.{held_at, held_of, run_of}
+use Rattle.sctp_fragments.specs.Interval.{held_at, held_of, run_of}
 use Rattle.sctp_reassembly.specs.Delivery.{complete_messages, ready_bytes}
 use Rattle.sctp_reassembly.proofs.FindLemmas.{left_none}
 use Rattle.sctp_reassembly.proofs.DeliverLemmas.{added_none, nothing_more, none_completed, none_incomplete, none_taken, left_taken, found_taken, ready_pushed}

@@ -1,5 +1,5 @@
 use Rattle.std.proofs.Common.{take}
-use Rattle.sctp_trace.specs.Arrows.{HasSent, HasGiven}
+use Rattle.sctp_trace.specs.Giving.{HasSent, HasGiven}
 use Rattle.sctp_trace.proofs.conversation.follow.Given as goal
 
 abbrev pub invariant-loop-at : goal.invariant-loop-at

@@ -1,5 +1,5 @@
 use Rattle.std.proofs.Common.{◌≡◌, ◌++◌, drop}
-use Rattle.sctp_trace.specs.Arrows.{arrows, each_from, row_arrow}
+use Rattle.sctp_trace.specs.Giving.{arrows, each_from, row_arrow}
 use Rattle.sctp_trace.proofs.giving.arrows.Given as goal
 
 abbrev pub invariant-loop-at : goal.invariant-loop-at

@@ -1,5 +1,5 @@
 use Rattle.std.proofs.Common.{◌≡◌, ◌++◌, drop}
-use Rattle.sctp_trace.specs.Arrows.{crosses, each_from, row_cross}
+use Rattle.sctp_trace.specs.Giving.{crosses, each_from, row_cross}
 use Rattle.sctp_trace.proofs.giving.crosses.Given as goal
 
 abbrev pub invariant-loop-at : goal.invariant-loop-at

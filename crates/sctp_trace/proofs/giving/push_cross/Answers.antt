@@ -1,6 +1,6 @@
 use Rattle.std.proofs.Common.{List, ℕ, ◌++◌, ap, sym, ◌∙◌}
 use Rattle.sctp_trace.specs.declared.giving.Cross.{Cross}
-use Rattle.sctp_trace.specs.Arrows.{cross_if_lost, cross_of}
+use Rattle.sctp_trace.specs.Giving.{cross_if_lost, cross_of}
 use Rattle.sctp_trace.proofs.giving.push_cross.Goals as goal
 
 pub returns-in_ok-push_if_lost : goal.returns-in_ok-push_if_lost

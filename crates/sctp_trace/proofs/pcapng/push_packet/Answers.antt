@@ -2,7 +2,7 @@ use Rattle.std.proofs.Common.{List, ℕ, [], ◌∷◌, ◌++◌, ◌/◌, ◌%�
 use Rattle.std.proofs.lemmas.Result.{on_ok_weaker}
 use Rattle.std.specs.List.{flat_map}
 use Rattle.sctp_trace.specs.Bytes.{le32}
-use Rattle.sctp_trace.specs.Capture.{option_bytes, interface_number}
+use Rattle.sctp_trace.specs.Pcapng.{option_bytes, interface_number}
 use Rattle.sctp_trace.proofs.Appended.{packet_in_parts}
 use Rattle.sctp_trace.proofs.pcapng.push_packet.Goals as goal
 

@@ -3,7 +3,7 @@ use Rattle.std.proofs.lemmas.List.{take_all}
 use Rattle.std.specs.List.{flat_map}
 use Rattle.sctp_trace.specs.declared.rows.End.TheVariants as ends
 use Rattle.sctp_trace.specs.declared.rows.Row.{Row}
-use Rattle.sctp_trace.specs.Capture.{section_header, interface, row_bytes}
+use Rattle.sctp_trace.specs.Pcapng.{section_header, interface, row_bytes}
 use Rattle.sctp_trace.proofs.Appended.{three_in_front}
 use Rattle.sctp_trace.proofs.pcapng.push_packets.Goals as goal
 

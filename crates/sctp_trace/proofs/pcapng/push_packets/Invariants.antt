@@ -1,6 +1,6 @@
 use Rattle.std.proofs.Common.{◌≡◌, ◌++◌, take, false}
 use Rattle.std.specs.List.{flat_map}
-use Rattle.sctp_trace.specs.Capture.{row_bytes, has_long_packet}
+use Rattle.sctp_trace.specs.Pcapng.{row_bytes, has_long_packet}
 use Rattle.sctp_trace.proofs.pcapng.push_packets.Given as goal
 
 abbrev pub invariant-loop-row : goal.invariant-loop-row

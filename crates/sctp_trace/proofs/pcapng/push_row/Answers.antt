@@ -1,6 +1,6 @@
 use Rattle.std.proofs.Common.{List, ℕ, ◌++◌, ap, ap₂, sym, ◌∙◌}
 use Rattle.sctp_trace.specs.Bytes.{with_crc32c}
-use Rattle.sctp_trace.specs.Capture.{fate, packet_block, what_bytes}
+use Rattle.sctp_trace.specs.Pcapng.{fate, packet_block, what_bytes}
 use Rattle.sctp_trace.proofs.pcapng.push_row.Goals as goal
 
 pub returns-in_ok-push_sent-clause-wrote : goal.returns-in_ok-push_sent-clause-wrote

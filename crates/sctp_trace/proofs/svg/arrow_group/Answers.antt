@@ -3,7 +3,7 @@ use Rattle.std.proofs.lemmas.Result.{IfOk-weaker}
 use Rattle.sctp_trace.specs.declared.rows.End.{End}
 use Rattle.sctp_trace.specs.declared.xml.Element.{Element}
 use Rattle.sctp_trace.specs.declared.xml.Element.TheViews.{out-Element}
-use Rattle.sctp_trace.specs.Chart.{IsArrow, place_at}
+use Rattle.sctp_trace.specs.Svg.{IsArrow, place_at}
 use Rattle.sctp_trace.proofs.Pictures.{begins}
 use Rattle.sctp_trace.proofs.svg.arrow_group.Goals as goal
 

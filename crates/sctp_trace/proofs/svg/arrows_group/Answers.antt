@@ -1,4 +1,4 @@
-use Rattle.sctp_trace.specs.Chart.{IsArrow}
+use Rattle.sctp_trace.specs.Svg.{IsArrow}
 use Rattle.sctp_trace.proofs.Pictures.{drawn_more}
 use Rattle.sctp_trace.proofs.svg.arrows_group.Goals as goal
 

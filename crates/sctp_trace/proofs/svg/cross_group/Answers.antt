@@ -3,7 +3,7 @@ use Rattle.std.proofs.lemmas.Result.{IfOk-weaker}
 use Rattle.sctp_trace.specs.declared.svg.Point.{Point}
 use Rattle.sctp_trace.specs.declared.xml.Element.{Element}
 use Rattle.sctp_trace.specs.declared.xml.Element.TheViews.{out-Element}
-use Rattle.sctp_trace.specs.Chart.{IsCross}
+use Rattle.sctp_trace.specs.Svg.{IsCross}
 use Rattle.sctp_trace.proofs.Pictures.{begins}
 use Rattle.sctp_trace.proofs.svg.cross_group.Goals as goal
 

@@ -1,4 +1,4 @@
-use Rattle.sctp_trace.specs.Chart.{IsCross}
+use Rattle.sctp_trace.specs.Svg.{IsCross}
 use Rattle.sctp_trace.proofs.Pictures.{drawn_more}
 use Rattle.sctp_trace.proofs.svg.crosses_group.Goals as goal
 

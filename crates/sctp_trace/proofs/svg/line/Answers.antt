@@ -1,7 +1,7 @@
 use Rattle.std.proofs.Common.{List, ℕ, ◌++◌, ap, map, ◌∙◌}
 use Rattle.sctp_trace.specs.declared.xml.Attribute.{Attribute}
 use Rattle.sctp_trace.specs.declared.xml.Key.{Key}
-use Rattle.sctp_trace.specs.Chart.{shown, ends_shown}
+use Rattle.sctp_trace.specs.Svg.{shown, ends_shown}
 use Rattle.sctp_trace.proofs.svg.line.Goals as goal
 
 pub returns : goal.returns

@@ -1,7 +1,7 @@
 use Rattle.std.proofs.Common.{List, subst}
 use Rattle.std.proofs.lemmas.Result.{IfOk-weaker}
 use Rattle.sctp_trace.specs.declared.rows.Row.{Row}
-use Rattle.sctp_trace.specs.Chart.{IsPicture}
+use Rattle.sctp_trace.specs.Svg.{IsPicture}
 use Rattle.sctp_trace.proofs.svg.picture.Goals as goal
 
 pub returns : goal.returns

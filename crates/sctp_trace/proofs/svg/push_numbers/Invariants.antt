@@ -1,5 +1,5 @@
 use Rattle.std.proofs.Common.{◌≡◌, ◌++◌, map, take}
-use Rattle.sctp_trace.specs.Chart.{shown, number_shown}
+use Rattle.sctp_trace.specs.Svg.{shown, number_shown}
 use Rattle.sctp_trace.proofs.svg.push_numbers.Given as goal
 
 abbrev pub invariant-loop-key : goal.invariant-loop-key

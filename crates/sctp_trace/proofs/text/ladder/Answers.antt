@@ -1,6 +1,6 @@
 use Rattle.std.proofs.Common.{◌≡◌, ap, ◌∙◌}
 use Rattle.std.proofs.lemmas.Result.{IfOk-weaker}
-use Rattle.sctp_trace.specs.Ladder.{ladder_text}
+use Rattle.sctp_trace.specs.Text.{ladder_text}
 use Rattle.sctp_trace.proofs.text.ladder.Goals as goal
 
 pub returns : goal.returns

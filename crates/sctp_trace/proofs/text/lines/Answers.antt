@@ -1,6 +1,6 @@
 use Rattle.std.proofs.Common.{◌++◌, ap, ◌∙◌}
 use Rattle.sctp_trace.specs.declared.rows.Row.{Row}
-use Rattle.sctp_trace.specs.Ladder.{heading, line_of}
+use Rattle.sctp_trace.specs.Text.{heading, line_of}
 use Rattle.sctp_trace.proofs.Appended.{flat_more}
 use Rattle.sctp_trace.proofs.text.lines.Goals as goal
 

@@ -1,6 +1,6 @@
 use Rattle.std.proofs.Common.{◌≡◌, ◌++◌, take}
 use Rattle.std.specs.List.{flat_map}
-use Rattle.sctp_trace.specs.Ladder.{heading, line_of}
+use Rattle.sctp_trace.specs.Text.{heading, line_of}
 use Rattle.sctp_trace.proofs.text.lines.Given as goal
 
 abbrev pub invariant-loop-row : goal.invariant-loop-row

@@ -1,6 +1,6 @@
 use Rattle.std.proofs.Common.{List, ℕ, ◌++◌, ap, ap₂, sym, ◌∙◌}
 use Rattle.std.proofs.lemmas.Result.{on_ok_weaker}
-use Rattle.sctp_trace.specs.Ladder.{arrow_start, packet_cell, sent_caption, packet_line, what_line}
+use Rattle.sctp_trace.specs.Text.{arrow_start, packet_cell, sent_caption, packet_line, what_line}
 use Rattle.sctp_trace.proofs.text.push_line.Goals as goal
 
 pub returns-in_ok-caption-in-Sent : goal.returns-in_ok-caption-in-Sent

@@ -1,5 +1,5 @@
 use Rattle.std.proofs.Common.{rules, sym, subst}
-use Rattle.sctp_tx_queue.specs.Queue.{Queue}
+use Rattle.sctp_tx_queue.specs.SendQueue.{Queue}
 use Rattle.sctp_tx.specs.Interrupted.{PartlyTaken}
 use Rattle.sctp_tx.proofs.PartlyLemmas.{taken_on, discarded_taken}
 use Rattle.sctp_tx.proofs.retransmission_queue.discard_all.Goals as goal

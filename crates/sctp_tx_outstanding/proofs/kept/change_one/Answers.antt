@@ -1,7 +1,7 @@
 use Rattle.std.proofs.Common.{◌<◌, ◌^◌, List, length, sym, subst, arith}
 use Rattle.sctp_tx_outstanding.specs.Item.{Item}
 use Rattle.sctp_tx_outstanding.specs.Change.{apply_change}
-use Rattle.sctp_tx_outstanding.specs.Items.{change_at}
+use Rattle.sctp_tx_outstanding.specs.OutstandingData.{change_at}
 use Rattle.sctp_tx_outstanding.specs.Totals.{exchange}
 use Rattle.sctp_tx_outstanding.specs.Waiting.{HasSize, Lists}
 use Rattle.sctp_tx_outstanding.proofs.TotalsLemmas.{totals_changed, totals_as}

@@ -1,6 +1,6 @@
 use Rattle.std.proofs.Common.{◌≡◌, ◌≤◌, ◌-◌, drop}
 use Rattle.std.specs.Prelude.{option_map}
-use Rattle.sctp_tx_outstanding.specs.Items.{last_of, later_of}
+use Rattle.sctp_tx_outstanding.specs.OutstandingData.{last_of, later_of}
 use Rattle.sctp_tx_outstanding.specs.Views.{last_tree}
 use Rattle.sctp_tx_outstanding.proofs.kept.find_last.Given as goal
 

@@ -1,6 +1,6 @@
 use Rattle.std.proofs.Common.{◌≡◌, ◌≤◌, ◌<◌, ◌+◌, ◌-◌, ◌^◌, List, min, refl, ap, sym, subst, ◌∙◌, arith, length}
 use Rattle.sctp_tx_outstanding.specs.Item.{Item}
-use Rattle.sctp_tx_outstanding.specs.Items.{Kept, change_at}
+use Rattle.sctp_tx_outstanding.specs.OutstandingData.{Kept, change_at}
 use Rattle.sctp_tx_outstanding.specs.Sack.{settle, ack_or_nack, new_bytes_at}
 use Rattle.sctp_chunk.specs.Covered.{is_covered}
 use Rattle.sctp_tx_outstanding.specs.Passes.{acked_from, below_from}

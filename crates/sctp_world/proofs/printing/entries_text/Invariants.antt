@@ -1,6 +1,6 @@
 use Rattle.std.proofs.Common.{◌≡◌, take, map, string_bytes}
 use Rattle.std.specs.List.{flat_map}
-use Rattle.sctp_world.specs.Printed.{entry_text}
+use Rattle.sctp_world.specs.Printing.{entry_text}
 use Rattle.sctp_network_side.specs.SideView.{entry_tree}
 use Rattle.sctp_network.specs.WorldView.{world_of}
 use Rattle.sctp_world.proofs.printing.entries_text.Given as goal

@@ -3,7 +3,7 @@ use Rattle.std.specs.List.{flat_map}
 use Rattle.std.proofs.lemmas.List.{drop-map, length-drop, take_all}
 use Rattle.std.proofs.lemmas.Result.{IfOk-weaker}
 use Rattle.spec_world.specs.Observations.{Entry}
-use Rattle.sctp_world.specs.Printed.{entry_text}
+use Rattle.sctp_world.specs.Printing.{entry_text}
 use Rattle.sctp_network_side.specs.SideView.{entry_tree}
 use Rattle.sctp_network.specs.WorldView.{world_of}
 use Rattle.sctp_world.proofs.printing.news_text.Goals as goal

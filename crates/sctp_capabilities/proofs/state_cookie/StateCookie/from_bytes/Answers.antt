@@ -1,5 +1,5 @@
 use Rattle.std.proofs.Common.{◌≡◌, Ok, false, ap, sym, ◌∙◌}
-use Rattle.sctp_capabilities.specs.Cookie.{cookie_of, has_tags, read_cookie}
+use Rattle.sctp_capabilities.specs.StateCookie.{cookie_of, has_tags, read_cookie}
 use Rattle.sctp_capabilities.specs.declared.state_cookie.StateCookieError.TheVariants.{InvalidSize, InvalidMagic, InvalidVerificationTag}
 use Rattle.sctp_capabilities.proofs.CookieLemmas.{refused_size, refused_magic, refused_tags, accepted, both_tags, no_peer_tag, no_own_tag, not_written, as_written}
 use Rattle.sctp_capabilities.proofs.state_cookie.StateCookie.from_bytes.Goals as goal

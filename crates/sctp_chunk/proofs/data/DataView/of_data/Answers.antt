@@ -1,5 +1,5 @@
 use Rattle.std.proofs.Common.{◌≡◌, ◌++◌, ℕ, List, rules, ap, sym, ◌∙◌}
-use Rattle.sctp_wire.specs.Fields.{be16, be32}
+use Rattle.sctp_wire.specs.Field.{be16, be32}
 use Rattle.sctp_chunk.specs.Written.{data_value}
 use Rattle.sctp_chunk.proofs.data.DataView.of_data.Goals as goal
 

@@ -1,5 +1,5 @@
 use Rattle.std.proofs.Common.{◌≡◌, ◌++◌, ℕ, List, if◌then◌else◌, rules, arith, refl, ap, sym, ◌∙◌}
-use Rattle.sctp_wire.specs.Fields.{be16, be32}
+use Rattle.sctp_wire.specs.Field.{be16, be32}
 use Rattle.sctp_chunk.proofs.FragmentLemmas.{field_read, field_fits, idata_carries, idata_read}
 use Rattle.sctp_chunk.proofs.data.DataView.of_idata.Goals as goal
 use Rattle.sctp_chunk.proofs.data.DataView.of_idata.Goals.{then-is_beginning, else-is_beginning, then-is_beginning-2, else-is_beginning-2}

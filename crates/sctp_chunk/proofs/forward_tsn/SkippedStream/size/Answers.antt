@@ -1,5 +1,5 @@
 use Rattle.std.proofs.Common.{refl}
-use Rattle.sctp_wire.specs.Fields.{be16, be32}
+use Rattle.sctp_wire.specs.Field.{be16, be32}
 use Rattle.sctp_chunk.specs.Written.{skip_bytes}
 use Rattle.sctp_chunk.proofs.forward_tsn.SkippedStream.size.Goals as goal
 

@@ -1,5 +1,5 @@
 use Rattle.std.proofs.Common.{◌≡◌, ◌*◌, ◌++◌, ℕ, List, take, length, arith, refl, ap, sym, ◌∙◌}
-use Rattle.sctp_wire.specs.Fields.{be16, be32, length_be32}
+use Rattle.sctp_wire.specs.Field.{be16, be32, length_be32}
 use Rattle.sctp_chunk.proofs.SackLemmas.{counted_entries, sack_read}
 use Rattle.std.proofs.lemmas.List.{take-append-drop}
 use Rattle.sctp_chunk.specs.Written.{block_bytes, length_block_bytes, tsn_bytes}

@@ -1,5 +1,5 @@
 use Rattle.std.proofs.Common.{List, ℕ, drop, ap, sym, ◌∙◌}
-use Rattle.sctp_wire.specs.Fields.{be16, be32}
+use Rattle.sctp_wire.specs.Field.{be16, be32}
 use Rattle.sctp_control_chunk.proofs.init.InitFields.at.Goals as goal
 
 pub returns-clause-behind : goal.returns-clause-behind

@@ -1,5 +1,5 @@
 use Rattle.std.proofs.Common.{◌++◌, ap, ◌∙◌, arith}
-use Rattle.sctp_fragments.specs.Intervals.{held_of}
+use Rattle.sctp_fragments.specs.Interval.{held_of}
 use Rattle.sctp_fragments.proofs.PlaceLemmas.{payload_step}
 use Rattle.sctp_fragments.proofs.interval.Interval.collect_payload.Goals as goal
 

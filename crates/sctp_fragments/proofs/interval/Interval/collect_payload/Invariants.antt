@@ -1,6 +1,6 @@
 use Rattle.std.proofs.Common.{◌≡◌, ◌++◌, drop}
 use Rattle.sctp_fragments.specs.Held.{payload_of}
-use Rattle.sctp_fragments.specs.Intervals.{held_of, run_of}
+use Rattle.sctp_fragments.specs.Interval.{held_of, run_of}
 use Rattle.sctp_fragments.proofs.interval.Interval.collect_payload.Given as goal
 
 abbrev pub invariant-loop-index : goal.invariant-loop-index

@@ -1,6 +1,6 @@
 use Rattle.std.proofs.Common.{◌-◌, arith}
 use Rattle.sctp_fragments.proofs.PlaceLemmas.{last_held}
-use Rattle.sctp_fragments.specs.Intervals.{held_of}
+use Rattle.sctp_fragments.specs.Interval.{held_of}
 use Rattle.sctp_fragments.proofs.interval.Interval.last.Goals as goal
 
 pub returns : goal.returns

@@ -1,5 +1,5 @@
 use Rattle.std.proofs.Common.{arith}
-use Rattle.sctp_fragments.specs.Intervals.{held_of}
+use Rattle.sctp_fragments.specs.Interval.{held_of}
 use Rattle.sctp_fragments.proofs.PlaceLemmas.{bytes_step}
 use Rattle.sctp_fragments.proofs.interval.Interval.total_bytes.Goals as goal
 

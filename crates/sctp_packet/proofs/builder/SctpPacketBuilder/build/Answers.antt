@@ -1,5 +1,5 @@
 use Rattle.std.proofs.Common.{◌≡◌, ◌<◌, ◌≤◌, ◌++◌, length, take, drop, arith, List, ℕ, Vec, Global, ap, ◌∙◌, vec_len}
-use Rattle.sctp_wire.specs.Fields.{be32}
+use Rattle.sctp_wire.specs.Field.{be32}
 use Rattle.sctp_packet.specs.BuilderView.{builder_header}
 use Rattle.sctp_packet.proofs.BuilderLemmas.{built_summed, built_short, built_off, built_none, some_bytes, no_bytes, written_whole}
 use Rattle.sctp_packet.proofs.builder.SctpPacketBuilder.build.Goals as goal

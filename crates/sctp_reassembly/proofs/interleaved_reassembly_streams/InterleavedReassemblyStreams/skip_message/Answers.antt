@@ -3,8 +3,8 @@ use Rattle.std.proofs.lemmas.Result.{on_ok_weaker}
 use Rattle.sctp_serial.specs.Unwrapped.{words, nearest}
 use Rattle.sctp_chunk.specs.declared.forward_tsn.SkippedStream.TheVariants.{IForwardTsn}
 use Rattle.sctp_reassembly.specs.Delivery.{fresh_ordered, fresh_unordered}
-use Rattle.sctp_reassembly.specs.Streams.{Streams, number_if_any, stream_at, skip}
-use Rattle.sctp_reassembly.proofs.SkipLemmas.{skipped_mixed, skipped_unordered, skipped_silently}
+use Rattle.sctp_reassembly.specs.ReassemblyStreams.{Streams, number_if_any, stream_at, skip}
+use Rattle.sctp_reassembly.proofs.SkipLemmas.{skipped_interleaved, skipped_unordered, skipped_silently}
 use Rattle.sctp_reassembly.proofs.interleaved_reassembly_streams.InterleavedReassemblyStreams.skip_message.Goals as goal
 
 pub returns-in-Some-clause-ok : goal.returns-in-Some-clause-ok
@@ -22,7 +22,7 @@ returns-in-Some-mid_near-clause-ok c =
     let some : number_if_any (nearest words 0 (stream_at fresh_ordered c.in-Ordered.id.0 c.self.inside.ordered).next c.args.mid.0) ≡ Some c.in-Some-mid_near.number =
     ap (λ t. number_if_any (nearest words 0 t c.args.mid.0)) (sym c.next.ensures.value) ∙ (sym c.mid_near-in-Ordered.ensures ∙ c.in-Some-mid_near.is) in
     on_ok_weaker c.forward-in-Ordered.result
-    (λ e. skipped_mixed c.in-Ordered.id.0 _ c.in-Some-mid_near.number c.self.inside.ordered c.forward-in-Ordered.new.self c.self.inside.unordered some e ∙ (ap (λ k. (skip (IForwardTsn k c.args.mid) old).streams) (sym c.in-Ordered.is) ∙ ap (λ s. (skip (IForwardTsn c.args.key c.args.mid) s).streams) c.self.view_is))
+    (λ e. skipped_interleaved c.in-Ordered.id.0 _ c.in-Some-mid_near.number c.self.inside.ordered c.forward-in-Ordered.new.self c.self.inside.unordered some e ∙ (ap (λ k. (skip (IForwardTsn k c.args.mid) old).streams) (sym c.in-Ordered.is) ∙ ap (λ s. (skip (IForwardTsn c.args.key c.args.mid) s).streams) c.self.view_is))
     (c.forward-in-Ordered.ensures.ok c.in-Some-mid_near.number (omega arith) refl)
 
 pub returns-in-Some-clause-ready : goal.returns-in-Some-clause-ready

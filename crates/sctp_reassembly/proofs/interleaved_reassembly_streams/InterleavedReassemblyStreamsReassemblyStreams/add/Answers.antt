@@ -4,7 +4,7 @@ use Rattle.sctp_serial.specs.Unwrapped.{words, nearest}
 use Rattle.sctp_chunk.specs.Views.{fragment_tree, is_unordered_key}
 use Rattle.sctp_chunk.specs.Written.{key_stream}
 use Rattle.sctp_reassembly.specs.Delivery.{fresh_ordered, fresh_unordered}
-use Rattle.sctp_reassembly.specs.Streams.{Streams, number_if_any, stream_at, add}
+use Rattle.sctp_reassembly.specs.ReassemblyStreams.{Streams, number_if_any, stream_at, add}
 use Rattle.sctp_reassembly.proofs.SkipLemmas.{comes_ordered, comes_unordered}
 use Rattle.sctp_reassembly.proofs.interleaved_reassembly_streams.InterleavedReassemblyStreamsReassemblyStreams.add.Goals as goal
 

@@ -1,8 +1,8 @@
 use Rattle.std.proofs.Common.{ap, sym, ◌∙◌, refl, arith}
 use Rattle.sctp_fragments.specs.Held.{bytes_of}
 use Rattle.sctp_reassembly.proofs.ListLemmas.{held_already, adds, leads}
-use Rattle.sctp_fragments.specs.Intervals.{held_of}
-use Rattle.sctp_fragments.specs.Key.{rank_at}
+use Rattle.sctp_fragments.specs.Interval.{held_of}
+use Rattle.sctp_fragments.specs.ReassemblyKey.{rank_at}
 use Rattle.sctp_reassembly.proofs.interval_list.IntervalList.add.Goals as goal
 
 pub returns-then-begins_upto-clause-answer : goal.returns-then-begins_upto-clause-answer

@@ -1,7 +1,7 @@
 use Rattle.std.proofs.Common.{ap, ◌∙◌, arith}
 use Rattle.sctp_fragments.specs.Held.{is_in_turn}
 use Rattle.sctp_reassembly.proofs.ListLemmas.{length_kept, run_there}
-use Rattle.sctp_fragments.specs.Intervals.{held_of}
+use Rattle.sctp_fragments.specs.Interval.{held_of}
 use Rattle.sctp_reassembly.proofs.interval_list.IntervalList.is_in_turn_at.Goals as goal
 
 pub index-requires : goal.index-requires

@@ -1,6 +1,6 @@
 use Rattle.std.proofs.Common.{sym, arith}
 use Rattle.sctp_fragments.specs.Held.{is_in_turn, intervals_of}
-use Rattle.sctp_fragments.specs.Intervals.{held_of}
+use Rattle.sctp_fragments.specs.Interval.{held_of}
 use Rattle.sctp_reassembly.proofs.ListLemmas.{none_in_all, length_kept}
 use Rattle.sctp_reassembly.proofs.FindLemmas.{not_found, without_none, left_none}
 use Rattle.sctp_reassembly.proofs.PopLemmas.{popped, popped_intervals, popped_left}

@@ -1,7 +1,7 @@
 use Rattle.std.proofs.Common.{◌≡◌, ap, sym, ◌∙◌, arith, true, false, rules}
 use Rattle.sctp_fragments.specs.Held.{is_complete, bytes_of}
 use Rattle.sctp_reassembly.proofs.ListLemmas.{length_kept, takes, not_complete, read_same}
-use Rattle.sctp_fragments.specs.Intervals.{held_of, run_of}
+use Rattle.sctp_fragments.specs.Interval.{held_of, run_of}
 use Rattle.sctp_reassembly.proofs.interval_list.IntervalList.pop_if_complete.Goals as goal
 
 pub index-requires : goal.index-requires

@@ -5,8 +5,8 @@ use Rattle.sctp_fragments.specs.declared.interval.Interval.{Interval}
 use Rattle.sctp_reassembly.proofs.FrontLemmas.{passes}
 use Rattle.sctp_fragments.specs.Held.{rank_of, goes_on, NoneComplete, bytes_of}
 use Rattle.std.proofs.Common.{subst}
-use Rattle.sctp_fragments.specs.Intervals.{held_of, lists_of, entries_of}
-use Rattle.sctp_fragments.specs.Key.{rank_at}
+use Rattle.sctp_fragments.specs.Interval.{held_of, lists_of, entries_of}
+use Rattle.sctp_fragments.specs.ReassemblyKey.{rank_at}
 use Rattle.sctp_reassembly.proofs.interval_list.IntervalList.retain.Goals as goal
 
 pub overflow_sub-self-in-loop-key : goal.overflow_sub-self-in-loop-key

@@ -1,8 +1,8 @@
 use Rattle.std.proofs.Common.{◌≡◌, ◌≤◌, length}
 use Rattle.sctp_fragments.specs.Runs.{from_rank}
 use Rattle.sctp_fragments.specs.Held.{rank_of, NoneComplete, intervals_of, bytes_of}
-use Rattle.sctp_fragments.specs.Intervals.{held_of, lists_of, entries_of, IsKept}
-use Rattle.sctp_fragments.specs.Key.{rank_at}
+use Rattle.sctp_fragments.specs.Interval.{held_of, lists_of, entries_of, IsKept}
+use Rattle.sctp_fragments.specs.ReassemblyKey.{rank_at}
 use Rattle.sctp_reassembly.proofs.interval_list.IntervalList.retain.Given as goal
 
 abbrev pub invariant-loop-key : goal.invariant-loop-key

@@ -1,6 +1,6 @@
 use Rattle.std.proofs.Common.{◌≡◌, false, ap, sym, ◌∙◌, rules}
 use Rattle.std.specs.Prelude.{nat_lt}
-use Rattle.sctp_fragments.specs.Intervals.{held_at}
+use Rattle.sctp_fragments.specs.Interval.{held_at}
 use Rattle.sctp_reassembly.specs.Delivery.{OrderedStream, ordered_arrival}
 use Rattle.sctp_reassembly.proofs.DeliverLemmas.{arrives_settled, nothing_more}
 use Rattle.sctp_reassembly.proofs.ordered_stream.OrderedStream.keep.Goals as goal

@@ -1,5 +1,5 @@
 use Rattle.std.proofs.Common.{◌++◌, ap, sym, ◌∙◌}
-use Rattle.sctp_fragments.specs.Intervals.{held_at}
+use Rattle.sctp_fragments.specs.Interval.{held_at}
 use Rattle.sctp_reassembly.proofs.DeliverLemmas.{whole_arrives, whole_leaves}
 use Rattle.sctp_reassembly.proofs.ordered_stream.OrderedStream.pass_on.Goals as goal
 

@@ -3,7 +3,7 @@ use Rattle.sctp_serial.specs.Unwrapped.{origin}
 use Rattle.sctp_state.specs.declared.api.handover.HandoverOrderedStream.{HandoverOrderedStream}
 use Rattle.sctp_fragments.specs.Held.{bytes_of}
 use Rattle.sctp_reassembly.specs.Delivery.{OrderedStream}
-use Rattle.sctp_reassembly.specs.Streams.{ordered_bytes}
+use Rattle.sctp_reassembly.specs.ReassemblyStreams.{ordered_bytes}
 use Rattle.sctp_reassembly.proofs.RestoredLemmas.{weightless}
 use Rattle.sctp_reassembly.proofs.ordered_streams.StreamMap+OrderedStream+K.restored.Goals as goal
 

@@ -1,6 +1,6 @@
 use Rattle.std.proofs.Common.{ap, arith}
 use Rattle.sctp_fragments.specs.Held.{bytes_of}
-use Rattle.sctp_reassembly.specs.Streams.{bytes_held}
+use Rattle.sctp_reassembly.specs.ReassemblyStreams.{bytes_held}
 use Rattle.sctp_reassembly.proofs.EntriesLemmas.{sum_written}
 use Rattle.sctp_reassembly.proofs.ForgetLemmas.{sum_removed}
 use Rattle.sctp_reassembly.proofs.stream_map.StreamMap.add_to.Goals as goal

@@ -2,7 +2,7 @@ use Rattle.std.proofs.Common.{◌==◌, ap, sym, ◌∙◌, arith}
 use Rattle.std.specs.Prelude.{not}
 use Rattle.std.specs.List.{list_any}
 use Rattle.sctp_fragments.specs.Held.{bytes_of}
-use Rattle.sctp_reassembly.specs.Streams.{bytes_held, forget}
+use Rattle.sctp_reassembly.specs.ReassemblyStreams.{bytes_held, forget}
 use Rattle.sctp_reassembly.proofs.EntriesLemmas.{sum_kept}
 use Rattle.sctp_reassembly.proofs.ForgetLemmas.{all_forgotten, named_forgotten}
 use Rattle.sctp_reassembly.proofs.stream_map.StreamMap.forget.Goals as goal

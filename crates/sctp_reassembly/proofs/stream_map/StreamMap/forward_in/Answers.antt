@@ -1,7 +1,7 @@
 use Rattle.std.proofs.Common.{ap, arith}
 use Rattle.std.proofs.lemmas.Result.{on_ok_weaker}
 use Rattle.sctp_fragments.specs.Held.{bytes_of}
-use Rattle.sctp_reassembly.specs.Streams.{bytes_held}
+use Rattle.sctp_reassembly.specs.ReassemblyStreams.{bytes_held}
 use Rattle.sctp_reassembly.proofs.EntriesLemmas.{sum_written, written_is}
 use Rattle.sctp_reassembly.proofs.ForgetLemmas.{sum_removed}
 use Rattle.sctp_reassembly.proofs.stream_map.StreamMap.forward_in.Goals as goal

@@ -2,7 +2,7 @@ use Rattle.std.proofs.Common.{ap, sym, ◌∙◌}
 use Rattle.std.specs.Ordering.{nat_cmp}
 use Rattle.std.specs.BTreeMap.{insert_entry}
 use Rattle.sctp_fragments.specs.Held.{bytes_of}
-use Rattle.sctp_reassembly.specs.Streams.{bytes_held}
+use Rattle.sctp_reassembly.specs.ReassemblyStreams.{bytes_held}
 use Rattle.sctp_reassembly.proofs.EntriesLemmas.{sum_opened}
 use Rattle.sctp_reassembly.proofs.stream_map.StreamMap.open.Goals as goal
 use Rattle.sctp_serial.proofs.NumberLemmas.{is_none}

@@ -1,5 +1,5 @@
 use Rattle.std.proofs.Common.{◌≡◌, false, ap, sym}
-use Rattle.sctp_reassembly.specs.Streams.{Streams}
+use Rattle.sctp_reassembly.specs.ReassemblyStreams.{Streams}
 use Rattle.sctp_reassembly.proofs.WrittenLemmas.{valid_plain}
 use Rattle.sctp_reassembly.proofs.traditional_reassembly_streams.TraditionalReassemblyStreamsReassemblyStreams.add_to_handover_state.Goals as goal
 

@@ -4,7 +4,7 @@ use Rattle.sctp_state.specs.declared.api.handover.HandoverOrderedStream.{Handove
 use Rattle.sctp_state.specs.declared.api.handover.HandoverUnorderedStream.{HandoverUnorderedStream}
 use Rattle.sctp_fragments.specs.Held.{bytes_of}
 use Rattle.sctp_reassembly.specs.Delivery.{OrderedStream, UnorderedStream, fresh_unordered}
-use Rattle.sctp_reassembly.specs.Streams.{ordered_bytes, unordered_bytes, held_bytes}
+use Rattle.sctp_reassembly.specs.ReassemblyStreams.{ordered_bytes, unordered_bytes, held_bytes}
 use Rattle.sctp_reassembly.proofs.RestoredLemmas.{weightless}
 use Rattle.sctp_reassembly.proofs.traditional_reassembly_streams.TraditionalReassemblyStreamsReassemblyStreams.restore_from_state.Goals as goal
 

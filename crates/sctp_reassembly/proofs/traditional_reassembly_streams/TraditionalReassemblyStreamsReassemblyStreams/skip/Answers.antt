@@ -2,7 +2,7 @@ use Rattle.std.proofs.Common.{◌≡◌, Some, refl, ap, sym, ◌∙◌, arith, 
 use Rattle.std.proofs.lemmas.Result.{on_ok_weaker}
 use Rattle.sctp_serial.specs.Unwrapped.{halves, nearest}
 use Rattle.sctp_reassembly.specs.Delivery.{fresh_ordered}
-use Rattle.sctp_reassembly.specs.Streams.{Streams, number_if_any, stream_at, skip}
+use Rattle.sctp_reassembly.specs.ReassemblyStreams.{Streams, number_if_any, stream_at, skip}
 use Rattle.sctp_reassembly.proofs.SkipLemmas.{skipped_plain}
 use Rattle.sctp_reassembly.proofs.traditional_reassembly_streams.TraditionalReassemblyStreamsReassemblyStreams.skip.Goals as goal
 

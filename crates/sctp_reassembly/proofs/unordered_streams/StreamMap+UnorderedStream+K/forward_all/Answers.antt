@@ -1,9 +1,9 @@
 use Rattle.std.proofs.Common.{rules, ap, arith, ◌∙◌, map}
 use Rattle.std.proofs.lemmas.Map.Made.{map_same_pairs}
-use Rattle.sctp_fragments.specs.Key.{rank_at}
+use Rattle.sctp_fragments.specs.ReassemblyKey.{rank_at}
 use Rattle.sctp_fragments.specs.Held.{bytes_of}
 use Rattle.sctp_reassembly.specs.Delivery.{UnorderedStream, held_from}
-use Rattle.sctp_reassembly.specs.Streams.{unordered_bytes}
+use Rattle.sctp_reassembly.specs.ReassemblyStreams.{unordered_bytes}
 use Rattle.sctp_reassembly.proofs.EntriesLemmas.{sum_mapped, from_rank_bytes}
 use Rattle.sctp_reassembly.proofs.unordered_streams.StreamMap+UnorderedStream+K.forward_all.Goals as goal
 

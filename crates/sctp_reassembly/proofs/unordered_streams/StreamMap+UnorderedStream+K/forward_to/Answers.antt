@@ -1,10 +1,10 @@
 use Rattle.std.proofs.Common.{refl, ap, ◌∙◌, arith}
 use Rattle.std.specs.Ordering.{nat_cmp}
 use Rattle.std.specs.BTreeMap.{is_at}
-use Rattle.sctp_fragments.specs.Key.{rank_at}
+use Rattle.sctp_fragments.specs.ReassemblyKey.{rank_at}
 use Rattle.sctp_fragments.specs.Held.{bytes_of}
 use Rattle.sctp_reassembly.specs.Delivery.{UnorderedStream, fresh_unordered, held_from}
-use Rattle.sctp_reassembly.specs.Streams.{unordered_bytes, stream_at, write_stream}
+use Rattle.sctp_reassembly.specs.ReassemblyStreams.{unordered_bytes, stream_at, write_stream}
 use Rattle.sctp_reassembly.proofs.EntriesLemmas.{sum_written, sum_at_least}
 use Rattle.sctp_reassembly.proofs.NoteLemmas.{not_written}
 use Rattle.sctp_reassembly.proofs.unordered_streams.StreamMap+UnorderedStream+K.forward_to.Goals as goal

@@ -2,7 +2,7 @@ use Rattle.std.proofs.Common.{refl, ap, sym, ◌∙◌}
 use Rattle.sctp_state.specs.declared.api.handover.HandoverUnorderedStream.{HandoverUnorderedStream}
 use Rattle.sctp_fragments.specs.Held.{bytes_of}
 use Rattle.sctp_reassembly.specs.Delivery.{UnorderedStream, fresh_unordered}
-use Rattle.sctp_reassembly.specs.Streams.{unordered_bytes}
+use Rattle.sctp_reassembly.specs.ReassemblyStreams.{unordered_bytes}
 use Rattle.sctp_reassembly.proofs.RestoredLemmas.{weightless}
 use Rattle.sctp_reassembly.proofs.unordered_streams.StreamMap+UnorderedStream+K.restored.Goals as goal
 

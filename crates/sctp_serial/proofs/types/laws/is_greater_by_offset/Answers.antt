@@ -1,5 +1,5 @@
 use Rattle.std.proofs.Common.{ℕ, subst, sym}
-use Rattle.sctp_serial.specs.Serial.{IsGreater, serial_sum}
+use Rattle.sctp_serial.specs.SerialNumber.{IsGreater, serial_sum}
 use Rattle.sctp_serial.proofs.UnwrappedLemmas.{IsGreater_sum, lt_of_IsGreater_sum}
 use Rattle.sctp_serial.proofs.types.laws.is_greater_by_offset.Goals as goal
 

@@ -2,7 +2,7 @@ use Rattle.std.proofs.Common.{◌∙◌, sym, ap}
 use Rattle.std.specs.Ordering.{nat_cmp}
 use Rattle.std.specs.Map.{remove_entry}
 use Rattle.std.specs.BTreeMap.{is_at}
-use Rattle.sctp_stream_scheduler.specs.Scheduler.{Scheduler, finish_time}
+use Rattle.sctp_stream_scheduler.specs.StreamScheduler.{Scheduler, finish_time}
 use Rattle.sctp_stream_scheduler.proofs.SchedulerLemmas.{leaves_once}
 use Rattle.sctp_stream_scheduler.proofs.stream_scheduler.StreamScheduler.take_turn.Goals as goal
 

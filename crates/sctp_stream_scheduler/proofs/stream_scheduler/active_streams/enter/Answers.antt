@@ -1,5 +1,5 @@
 use Rattle.std.proofs.Common.{sym, subst}
-use Rattle.sctp_stream_scheduler.specs.Scheduler.{Indexes}
+use Rattle.sctp_stream_scheduler.specs.StreamScheduler.{Indexes}
 use Rattle.sctp_stream_scheduler.proofs.SchedulerLemmas.{put_back}
 use Rattle.sctp_stream_scheduler.proofs.stream_scheduler.active_streams.enter.Goals as goal
 

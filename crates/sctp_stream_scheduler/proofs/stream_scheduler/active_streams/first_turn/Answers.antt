@@ -1,6 +1,6 @@
 use Rattle.std.proofs.Common.{◌≡◌, ◌<◌, ℕ, List, [], ◌∷◌, length, false, true, refl, sym, ap, None, arith}
 use Rattle.std.specs.Option.{option_map}
-use Rattle.sctp_stream_scheduler.specs.Scheduler.{best, stream_in}
+use Rattle.sctp_stream_scheduler.specs.StreamScheduler.{best, stream_in}
 use Rattle.sctp_stream_scheduler.proofs.SchedulerLemmas.{first_is_next, best_next, no_turns}
 use Rattle.sctp_stream_scheduler.proofs.stream_scheduler.active_streams.first_turn.Goals as goal
 

@@ -2,7 +2,7 @@ use Rattle.std.proofs.Common.{sym, subst, List}
 use Rattle.std.specs.List.{All, Contains}
 use Rattle.sctp_chunk.specs.declared.sack.GapAckBlock.{GapAckBlock}
 use Rattle.sctp_chunk.specs.Covered.{AreRuns}
-use Rattle.sctp_tracker.specs.Tracker.{DataTracker}
+use Rattle.sctp_tracker.specs.DataTracker.{DataTracker}
 use Rattle.sctp_tracker.specs.Reported.{IsReported}
 use Rattle.sctp_tracker.proofs.ReportedLemmas.{blocks_are_reported, blocks_stand_apart, reported_are_blocks}
 use Rattle.sctp_tracker.proofs.TrackerLemmas.{covered_was_seen}

@@ -1,7 +1,7 @@
 use Rattle.std.proofs.Common.{◌≡◌, ℕ, ◌≤◌, Bool, true, false, eqb, ltb, ◌||◌, ◌&&◌, cond, List, length, sym, subst, ap, ◌∙◌, arith}
 use Rattle.std.proofs.lemmas.Bool.Decides.{nat_tests}
 use Rattle.sctp_tracker.specs.Seen.{Seen, contains}
-use Rattle.sctp_tracker.specs.Tracker.{DataTracker, Tracker, IsTracker, is_valid, has_seen, number_of, with_duplicate}
+use Rattle.sctp_tracker.specs.DataTracker.{DataTracker, Tracker, IsTracker, is_valid, has_seen, number_of, with_duplicate}
 use Rattle.sctp_tracker.specs.Reported.{is_duplicate}
 use Rattle.sctp_tracker.proofs.DuplicatesLemmas.{holds, holds_observed}
 use Rattle.sctp_tracker.proofs.TrackerLemmas.{few_after}

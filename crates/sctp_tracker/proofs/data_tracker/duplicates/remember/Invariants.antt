@@ -1,5 +1,5 @@
 use Rattle.std.proofs.Common.{length, drop, take, ◌++◌, ◌-◌, ◌≡◌, ◌≤◌}
-use Rattle.sctp_tracker.specs.Tracker.{insert_number}
+use Rattle.sctp_tracker.specs.DataTracker.{insert_number}
 use Rattle.sctp_tracker.proofs.data_tracker.duplicates.remember.Given as goal
 
 abbrev pub invariant-loop-place : goal.invariant-loop-place

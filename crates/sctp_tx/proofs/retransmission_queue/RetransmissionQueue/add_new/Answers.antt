@@ -1,6 +1,6 @@
 use Rattle.std.proofs.Common.{◌<◌, Some, sym, subst, arith}
 use Rattle.sctp_tx_queue.specs.Views.{produced_of}
-use Rattle.sctp_tx_queue.specs.Queue.{Queue}
+use Rattle.sctp_tx_queue.specs.SendQueue.{Queue}
 use Rattle.sctp_tx.specs.Interrupted.{PartlyTaken}
 use Rattle.sctp_tx.proofs.PartlyLemmas.{sent_none, taken_none, made_taken, stopped_taken}
 use Rattle.sctp_tx.proofs.SendingLemmas.{made_fits}

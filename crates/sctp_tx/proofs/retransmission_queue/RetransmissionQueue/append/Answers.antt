@@ -1,7 +1,7 @@
 use Rattle.std.proofs.Common.{◌≡◌, rules, sym, subst}
-use Rattle.sctp_tx_outstanding.specs.Items.{Outstanding}
+use Rattle.sctp_tx_outstanding.specs.OutstandingData.{Outstanding}
 use Rattle.sctp_tx_queue.specs.Views.{produced_of}
-use Rattle.sctp_tx.specs.Retransmission.{Sender}
+use Rattle.sctp_tx.specs.RetransmissionQueue.{Sender}
 use Rattle.sctp_tx.specs.Sending.{item_of, sent_new}
 use Rattle.sctp_tx.specs.Interrupted.{PartlySent}
 use Rattle.sctp_tx.proofs.PartlyLemmas.{sent_none, new_sent, took_sent}

@@ -1,5 +1,5 @@
 use Rattle.std.proofs.Common.{◌≡◌, rules, sym, subst}
-use Rattle.sctp_tx.specs.Retransmission.{Sender}
+use Rattle.sctp_tx.specs.RetransmissionQueue.{Sender}
 use Rattle.sctp_tx.specs.Resent.{send_fast}
 use Rattle.sctp_tx.specs.Flight.{AddsAtMost}
 use Rattle.sctp_tx.proofs.FitLemmas.{fast_adds}

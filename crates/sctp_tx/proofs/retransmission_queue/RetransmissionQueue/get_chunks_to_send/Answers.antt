@@ -1,7 +1,7 @@
 use Rattle.std.proofs.Common.{◌≡◌, ◌-◌, ◌<◌, ◌^◌, ℕ, List, [], map, rules, sym, subst, ◌∙◌, arith}
 use Rattle.sctp_chunk.specs.Chunk.{FragmentTree}
 use Rattle.sctp_tx_outstanding.specs.Views.{chunk_of}
-use Rattle.sctp_tx.specs.Retransmission.{Sender}
+use Rattle.sctp_tx.specs.RetransmissionQueue.{Sender}
 use Rattle.sctp_tx.specs.Sending.{filling, send}
 use Rattle.sctp_tx.specs.Flight.{StaysWithin, FitWithin}
 use Rattle.sctp_tx.specs.Interrupted.{PartlySent, PartlyTaken}

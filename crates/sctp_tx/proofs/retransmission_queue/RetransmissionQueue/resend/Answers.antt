@@ -1,8 +1,8 @@
 use Rattle.std.proofs.Common.{◌≡◌, ◌-◌, ◌<◌, ◌^◌, ℕ, List, [], false, map, min, length, rules, ap, sym, subst, ◌∙◌, arith}
 use Rattle.std.specs.Prelude.{nat_lt}
-use Rattle.sctp_tx_outstanding.specs.Items.{Outstanding, waiting_items}
+use Rattle.sctp_tx_outstanding.specs.OutstandingData.{Outstanding, waiting_items}
 use Rattle.sctp_tx_outstanding.specs.Resending.{Resent}
-use Rattle.sctp_tx.specs.Retransmission.{Sender}
+use Rattle.sctp_tx.specs.RetransmissionQueue.{Sender}
 use Rattle.sctp_chunk.specs.Chunk.{FragmentTree}
 use Rattle.sctp_tx_outstanding.specs.Views.{chunk_of}
 use Rattle.sctp_tx.specs.Windows.{cap}

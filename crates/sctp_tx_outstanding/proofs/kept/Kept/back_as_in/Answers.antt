@@ -1,6 +1,6 @@
 use Rattle.std.proofs.Common.{◌≡◌, ◌+◌, ◌<◌, List, ap, subst, length, rules, arith}
 use Rattle.sctp_tx_outstanding.specs.Item.{Item}
-use Rattle.sctp_tx_outstanding.specs.Items.{Kept}
+use Rattle.sctp_tx_outstanding.specs.OutstandingData.{Kept}
 use Rattle.sctp_tx_outstanding.specs.LastBlocks.{RestFrom, IsReceived}
 use Rattle.sctp_tx_outstanding.specs.Sack.{highest_end}
 use Rattle.sctp_tx_outstanding.proofs.ReceivedLemmas.{from_beyond, from_reach}

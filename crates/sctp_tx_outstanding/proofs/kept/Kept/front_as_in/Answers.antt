@@ -1,7 +1,7 @@
 use Rattle.std.proofs.Common.{List, ap, subst}
 use Rattle.sctp_chunk.specs.declared.sack.GapAckBlock.{GapAckBlock}
 use Rattle.sctp_tx_outstanding.specs.Item.{Item}
-use Rattle.sctp_tx_outstanding.specs.Items.{Kept}
+use Rattle.sctp_tx_outstanding.specs.OutstandingData.{Kept}
 use Rattle.sctp_tx_outstanding.specs.LastBlocks.{Agree, RestBelow, IsReceived}
 use Rattle.sctp_tx_outstanding.proofs.ReceivedLemmas.{front_agrees}
 use Rattle.sctp_tx_outstanding.proofs.kept.Kept.front_as_in.Goals as goal

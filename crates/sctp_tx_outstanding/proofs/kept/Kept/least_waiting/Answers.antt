@@ -1,7 +1,7 @@
 use Rattle.std.proofs.Common.{◌≡◌, ◌+◌, ◌≤◌, true, subst, arith}
 use Rattle.std.specs.List.{All}
 use Rattle.sctp_tx_outstanding.specs.Item.{header_size, chunk_size, should_be_retransmitted}
-use Rattle.sctp_tx_outstanding.specs.Items.{Kept}
+use Rattle.sctp_tx_outstanding.specs.OutstandingData.{Kept}
 use Rattle.sctp_tx_outstanding.proofs.WaitingLemmas.{chunks_at_least}
 use Rattle.sctp_tx_outstanding.proofs.kept.Kept.least_waiting.Goals as goal
 

@@ -1,7 +1,7 @@
 use Rattle.std.proofs.Common.{◌≡◌, ◌<◌, false, subst, arith}
 use Rattle.std.specs.List.{All}
 use Rattle.std.proofs.lemmas.Bool.Decides.{nat_tests}
-use Rattle.sctp_tx_outstanding.specs.Items.{Kept}
+use Rattle.sctp_tx_outstanding.specs.OutstandingData.{Kept}
 use Rattle.sctp_tx_outstanding.specs.Losses.{expires}
 use Rattle.sctp_tx_outstanding.proofs.ExpiryLemmas.{none_expires}
 use Rattle.sctp_tx_outstanding.proofs.kept.Kept.may_expire.Goals as goal

@@ -1,6 +1,6 @@
 use Rattle.std.proofs.Common.{◌≤◌, ap, ◌∙◌, arith}
 use Rattle.std.specs.List.{sum_by}
-use Rattle.sctp_tx_outstanding.specs.Items.{queued_part}
+use Rattle.sctp_tx_outstanding.specs.OutstandingData.{queued_part}
 use Rattle.sctp_tx_outstanding.specs.Waiting.{is_listed}
 use Rattle.sctp_tx_outstanding.proofs.WaitingLemmas.{none_listed, none_small}
 use Rattle.sctp_tx_outstanding.proofs.waiting.Waiting.count.Goals as goal

@@ -1,8 +1,8 @@
 use Rattle.std.proofs.Common.{ℕ, ap, sym, ◌∙◌, arith, rules}
 use Rattle.std.specs.Prelude.{option_map}
-use Rattle.sctp_stream_scheduler.specs.Scheduler.{Scheduler, leave, set_bytes_remaining}
+use Rattle.sctp_stream_scheduler.specs.StreamScheduler.{Scheduler, leave, set_bytes_remaining}
 use Rattle.sctp_stream_scheduler.proofs.SchedulerLemmas.{withdraws}
-use Rattle.sctp_tx_queue.specs.Queue.{Queue, Stream, Streams, stream, push, next_number}
+use Rattle.sctp_tx_queue.specs.SendQueue.{Queue, Stream, Streams, stream, push, next_number}
 use Rattle.sctp_tx_queue.specs.Views.{queued_of}
 use Rattle.sctp_tx_queue.proofs.WholeLemmas.{active_keeps}
 use Rattle.sctp_tx_queue.proofs.send_queue.SendQueue.add.Goals as goal

@@ -1,5 +1,5 @@
 use Rattle.std.proofs.Common.{◌≡◌, false, ap, sym, ◌∙◌}
-use Rattle.sctp_tx_queue.specs.Queue.{Queue, Streams, stream}
+use Rattle.sctp_tx_queue.specs.SendQueue.{Queue, Streams, stream}
 use Rattle.sctp_tx_queue.specs.Produced.{is_front_stale}
 use Rattle.sctp_tx_queue.proofs.WholeLemmas.{dropped_none, streams_fresh}
 use Rattle.sctp_tx_queue.proofs.send_queue.SendQueue.drop_stale.Goals as goal

@@ -1,6 +1,6 @@
 use Rattle.std.proofs.Common.{sym, subst, rules}
 use Rattle.sctp_state.specs.Events.{Grown}
-use Rattle.sctp_tx_queue.specs.Queue.{stream}
+use Rattle.sctp_tx_queue.specs.SendQueue.{stream}
 use Rattle.sctp_tx_queue.proofs.EmittingLemmas.{grown_waiting}
 use Rattle.sctp_tx_queue.proofs.send_queue.SendQueue.emit_and_open.Goals as goal
 

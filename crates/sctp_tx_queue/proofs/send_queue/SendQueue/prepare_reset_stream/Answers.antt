@@ -1,5 +1,5 @@
 use Rattle.std.proofs.Common.{ap, ◌∙◌}
-use Rattle.sctp_tx_queue.specs.Queue.{Queue}
+use Rattle.sctp_tx_queue.specs.SendQueue.{Queue}
 use Rattle.sctp_tx_queue.proofs.ResetLemmas.{prepared_is}
 use Rattle.sctp_tx_queue.proofs.send_queue.SendQueue.prepare_reset_stream.Goals as goal
 

@@ -1,8 +1,8 @@
 use Rattle.std.proofs.Common.{ap, sym, ◌∙◌}
 use Rattle.std.specs.Prelude.{option_map}
-use Rattle.sctp_stream_scheduler.specs.Scheduler.{Scheduler, set_bytes_remaining}
+use Rattle.sctp_stream_scheduler.specs.StreamScheduler.{Scheduler, set_bytes_remaining}
 use Rattle.sctp_tx_queue.specs.declared.send_queue.stream.ResetStep.TheVariants.{Requested}
-use Rattle.sctp_tx_queue.specs.Queue.{Queue, Streams, stream, put_stream}
+use Rattle.sctp_tx_queue.specs.SendQueue.{Queue, Streams, stream, put_stream}
 use Rattle.sctp_tx_queue.specs.Resets.{after_step, step_stream}
 use Rattle.sctp_tx_queue.proofs.StreamsLemmas.{requested_sendable}
 use Rattle.sctp_tx_queue.proofs.send_queue.SendQueue.request_one.Goals as goal

@@ -1,5 +1,5 @@
 use Rattle.std.proofs.Common.{◌≡◌, ℕ, List, [], map, take, sym, subst}
-use Rattle.sctp_tx_queue.specs.Queue.{Queue}
+use Rattle.sctp_tx_queue.specs.SendQueue.{Queue}
 use Rattle.sctp_tx_queue.specs.Restarted.{each_restarted, NumbersGoOn}
 use Rattle.sctp_tx_queue.proofs.RestartLemmas.{restarted_numbers}
 use Rattle.sctp_tx_queue.proofs.send_queue.SendQueue.reset.Goals as goal

@@ -1,9 +1,9 @@
 use Rattle.std.proofs.Common.{ap, sym, ◌∙◌}
 use Rattle.std.specs.Prelude.{option_map}
 use Rattle.sctp_state.specs.Events.{emit_events}
-use Rattle.sctp_state.specs.Thresholds.{crosses}
-use Rattle.sctp_stream_scheduler.specs.Scheduler.{accept, set_bytes_remaining}
-use Rattle.sctp_tx_queue.specs.Queue.{sendable, watched_amount}
+use Rattle.sctp_state.specs.ThresholdWatcher.{crosses}
+use Rattle.sctp_stream_scheduler.specs.StreamScheduler.{accept, set_bytes_remaining}
+use Rattle.sctp_tx_queue.specs.SendQueue.{sendable, watched_amount}
 use Rattle.sctp_tx_queue.specs.Produced.{advance, in_line, production, emitted_made}
 use Rattle.sctp_tx_queue.specs.Views.{produced_of}
 use Rattle.sctp_tx_queue.proofs.send_queue.sending.send_part.Goals as goal

@@ -1,8 +1,8 @@
 use Rattle.std.proofs.Common.{ap, ◌∙◌}
-use Rattle.sctp_stream_scheduler.specs.Scheduler.{accept, set_bytes_remaining}
+use Rattle.sctp_stream_scheduler.specs.StreamScheduler.{accept, set_bytes_remaining}
 use Rattle.sctp_state.specs.Events.{emit_events}
-use Rattle.sctp_state.specs.Thresholds.{crosses}
-use Rattle.sctp_tx_queue.specs.Queue.{sendable, watched_amount}
+use Rattle.sctp_state.specs.ThresholdWatcher.{crosses}
+use Rattle.sctp_tx_queue.specs.SendQueue.{sendable, watched_amount}
 use Rattle.sctp_tx_queue.specs.Produced.{advance, front_numbers, production}
 use Rattle.sctp_tx_queue.specs.Whole.{front_lifecycle}
 use Rattle.sctp_tx_queue.proofs.WholeLemmas.{whole_line, whole_emitted}

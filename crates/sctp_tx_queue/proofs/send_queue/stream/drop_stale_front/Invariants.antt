@@ -1,5 +1,5 @@
 use Rattle.std.proofs.Common.{◌≡◌, ◌≤◌, length, sum_by}
-use Rattle.sctp_tx_queue.specs.Queue.{left_bytes}
+use Rattle.sctp_tx_queue.specs.SendQueue.{left_bytes}
 use Rattle.sctp_tx_queue.specs.Produced.{fresh}
 use Rattle.sctp_tx_queue.proofs.send_queue.stream.drop_stale_front.Given as goal
 

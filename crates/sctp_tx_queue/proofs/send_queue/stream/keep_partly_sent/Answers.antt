@@ -1,6 +1,6 @@
 use Rattle.std.proofs.Common.{ap, arith, rules, sum_by}
 use Rattle.std.proofs.lemmas.Fn.{filter_same}
-use Rattle.sctp_tx_queue.specs.Queue.{left_bytes}
+use Rattle.sctp_tx_queue.specs.SendQueue.{left_bytes}
 use Rattle.sctp_tx_queue.specs.Resets.{is_partly}
 use Rattle.sctp_tx_queue.proofs.ResetLemmas.{partly_le}
 use Rattle.sctp_tx_queue.proofs.send_queue.stream.keep_partly_sent.Goals as goal

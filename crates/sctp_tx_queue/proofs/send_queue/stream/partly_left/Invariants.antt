@@ -1,7 +1,7 @@
 use Rattle.std.proofs.Common.{◌≡◌}
 use Rattle.std.specs.Prelude.{filter}
 use Rattle.std.specs.VecDeque.Iter.{deque_iter_rest}
-use Rattle.sctp_tx_queue.specs.Queue.{front_left}
+use Rattle.sctp_tx_queue.specs.SendQueue.{front_left}
 use Rattle.sctp_tx_queue.specs.Resets.{is_partly}
 use Rattle.sctp_tx_queue.proofs.send_queue.stream.partly_left.Given as goal
 

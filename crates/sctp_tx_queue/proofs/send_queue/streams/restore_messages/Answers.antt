@@ -1,7 +1,7 @@
 use Rattle.std.proofs.Common.{List, ap, ◌∙◌, arith, take}
 use Rattle.std.specs.Prelude.{map}
 use Rattle.sctp_state.specs.Handover.{StreamMessage, stream_message_of}
-use Rattle.sctp_tx_queue.specs.Queue.{Queued, Streams, Entries, total_of, left_bytes}
+use Rattle.sctp_tx_queue.specs.SendQueue.{Queued, Streams, Entries, total_of, left_bytes}
 use Rattle.sctp_tx_queue.proofs.RestoreLemmas.{holding, no_bytes, done_more, next_is, message_put, total_put}
 use Rattle.sctp_tx_queue.proofs.send_queue.streams.restore_messages.Goals as goal
 

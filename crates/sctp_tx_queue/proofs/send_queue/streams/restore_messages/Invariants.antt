@@ -2,7 +2,7 @@ use Rattle.std.proofs.Common.{◌≡◌, ◌+◌, ◌<◌, ◌^◌, drop, take, 
 use Rattle.std.specs.Prelude.{map}
 use Rattle.sctp_state.specs.Handover.{stream_message_of}
 use Rattle.sctp_state.specs.Validity.{are_valid_messages, queued_bytes}
-use Rattle.sctp_tx_queue.specs.Queue.{total_of}
+use Rattle.sctp_tx_queue.specs.SendQueue.{total_of}
 use Rattle.sctp_tx_queue.proofs.RestoreLemmas.{holding}
 use Rattle.sctp_tx_queue.proofs.send_queue.streams.restore_messages.Given as goal
 

@@ -1,7 +1,7 @@
 use Rattle.std.proofs.Common.{List, ap, sym, ◌∙◌}
 use Rattle.std.proofs.lemmas.List.{at_drop_all}
 use Rattle.sctp_state.specs.declared.api.handover.HandoverOutgoingStream.{HandoverOutgoingStream}
-use Rattle.sctp_tx_queue.specs.Queue.{Entries}
+use Rattle.sctp_tx_queue.specs.SendQueue.{Entries}
 use Rattle.sctp_tx_queue.proofs.RestoreLemmas.{each_inserted, inserted, inserted_next}
 use Rattle.sctp_tx_queue.proofs.send_queue.streams.restored_streams.Goals as goal
 

@@ -2,7 +2,7 @@ use Rattle.std.proofs.Common.{◌+◌, ◌∷◌, [], map, ap, sym, subst, ◌�
 use Rattle.std.proofs.lemmas.List.{map-append}
 use Rattle.std.proofs.lemmas.List.Sums.{sum_by_push}
 use Rattle.sctp_reassembly.specs.ReassemblyQueue.{IsDeferred, waiting_bytes}
-use Rattle.sctp_reassembly.specs.WaitingViews.{waiting_of}
+use Rattle.sctp_reassembly.specs.Waiting.{waiting_of}
 use Rattle.sctp_reassembly.proofs.WaitingLemmas.{small_more}
 use Rattle.sctp_reassembly.proofs.reassembly_queue.deferred.Deferred.push.Goals as goal
 

@@ -1,5 +1,5 @@
 use Rattle.std.proofs.Common.{ap, ◌∙◌}
-use Rattle.sctp_tx_queue.specs.Queue.{Queued}
+use Rattle.sctp_tx_queue.specs.SendQueue.{Queued}
 use Rattle.sctp_tx_queue.specs.Produced.{made_of}
 use Rattle.sctp_tx_queue.specs.Whole.{with_payload}
 use Rattle.sctp_tx_queue.proofs.WholeLemmas.{whole_payload}

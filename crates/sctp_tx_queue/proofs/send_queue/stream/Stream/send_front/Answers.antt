@@ -1,6 +1,6 @@
 use Rattle.std.proofs.Common.{ap, ◌∙◌}
-use Rattle.sctp_state.specs.Thresholds.{Watched}
-use Rattle.sctp_tx_queue.specs.Queue.{Stream}
+use Rattle.sctp_state.specs.ThresholdWatcher.{Watched}
+use Rattle.sctp_tx_queue.specs.SendQueue.{Stream}
 use Rattle.sctp_tx_queue.specs.Produced.{front_ends}
 use Rattle.sctp_tx_queue.proofs.StreamLemmas.{advanced_is}
 use Rattle.sctp_tx_queue.proofs.send_queue.stream.Stream.send_front.Goals as goal

@@ -2,7 +2,7 @@ use Rattle.std.proofs.Common.{ap, ◌∙◌}
 use Rattle.std.specs.Prelude.{◌==◌}
 use Rattle.std.specs.List.{list_all}
 use Rattle.std.specs.Map.{values_of}
-use Rattle.sctp_tx_queue.specs.Queue.{has_nothing}
+use Rattle.sctp_tx_queue.specs.SendQueue.{has_nothing}
 use Rattle.sctp_tx_queue.proofs.BoundLemmas.{total_nothing}
 use Rattle.sctp_tx_queue.proofs.send_queue.streams.Streams.is_empty.Goals as goal
 

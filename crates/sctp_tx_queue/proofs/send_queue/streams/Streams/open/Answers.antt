@@ -1,7 +1,7 @@
 use Rattle.std.proofs.Common.{◌≡◌, ap, sym, ◌∙◌}
 use Rattle.std.specs.Ordering.{nat_cmp}
 use Rattle.std.specs.BTreeMap.{insert_entry}
-use Rattle.sctp_tx_queue.specs.Queue.{Stream, total_of}
+use Rattle.sctp_tx_queue.specs.SendQueue.{Stream, total_of}
 use Rattle.sctp_tx_queue.proofs.BoundLemmas.{few_opened}
 use Rattle.sctp_tx_queue.proofs.ReadyLemmas.{ready_inserted}
 use Rattle.sctp_tx_queue.proofs.StreamsLemmas.{total_opened}

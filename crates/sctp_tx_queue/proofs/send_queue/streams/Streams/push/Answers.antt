@@ -3,7 +3,7 @@ use Rattle.std.specs.Map.{set_value}
 use Rattle.std.specs.Ordering.{nat_cmp}
 use Rattle.std.specs.BTreeMap.{is_at}
 use Rattle.std.proofs.lemmas.List.Sums.{sum_by_push}
-use Rattle.sctp_tx_queue.specs.Queue.{Stream, Streams, Entries, total_of, amount_of, left_bytes}
+use Rattle.sctp_tx_queue.specs.SendQueue.{Stream, Streams, Entries, total_of, amount_of, left_bytes}
 use Rattle.sctp_tx_queue.proofs.BoundLemmas.{few_changed, few_pushed, keeps_same, small_one}
 use Rattle.sctp_tx_queue.proofs.ReadyLemmas.{ready_kept}
 use Rattle.sctp_tx_queue.proofs.StreamsLemmas.{total_written, written_same}

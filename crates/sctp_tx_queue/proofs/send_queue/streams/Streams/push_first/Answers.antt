@@ -2,7 +2,7 @@ use Rattle.std.proofs.Common.{refl, ap, sym, ◌∙◌, arith}
 use Rattle.std.specs.Map.{lookup}
 use Rattle.std.specs.Ordering.{nat_cmp}
 use Rattle.std.specs.BTreeMap.{is_at, insert_entry}
-use Rattle.sctp_tx_queue.specs.Queue.{Stream, Streams, blank_stream, total_of, amount_of, push, stream, put_stream, open_stream}
+use Rattle.sctp_tx_queue.specs.SendQueue.{Stream, Streams, blank_stream, total_of, amount_of, push, stream, put_stream, open_stream}
 use Rattle.sctp_tx_queue.proofs.BoundLemmas.{few_first, small_one}
 use Rattle.sctp_tx_queue.proofs.ReadyLemmas.{ready_inserted}
 use Rattle.sctp_tx_queue.proofs.StreamsLemmas.{total_inserted, first_is}

@@ -2,7 +2,7 @@ use Rattle.std.proofs.Common.{ap, sym, ◌∙◌, arith}
 use Rattle.std.specs.Map.{lookup}
 use Rattle.std.specs.Ordering.{nat_cmp}
 use Rattle.std.specs.BTreeMap.{is_at}
-use Rattle.sctp_tx_queue.specs.Queue.{Streams, Entries, amount_of, total_of}
+use Rattle.sctp_tx_queue.specs.SendQueue.{Streams, Entries, amount_of, total_of}
 use Rattle.sctp_tx_queue.specs.Restarted.{restart}
 use Rattle.sctp_tx_queue.specs.Bounded.{one}
 use Rattle.sctp_tx_queue.proofs.BoundLemmas.{few_changed, keeps_whole, restarted_amount, restarted_fits}

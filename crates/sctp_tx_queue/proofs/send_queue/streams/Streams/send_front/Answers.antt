@@ -2,8 +2,8 @@ use Rattle.std.proofs.Common.{ap, sym, ◌∙◌, arith, rules}
 use Rattle.std.specs.Map.{lookup, set_value}
 use Rattle.std.specs.Ordering.{nat_cmp}
 use Rattle.std.specs.BTreeMap.{is_at}
-use Rattle.sctp_state.specs.Thresholds.{crosses, lower}
-use Rattle.sctp_tx_queue.specs.Queue.{Stream, Streams, Entries, amount_of, total_of, watched_amount, watched_total, stream, sendable}
+use Rattle.sctp_state.specs.ThresholdWatcher.{crosses, lower}
+use Rattle.sctp_tx_queue.specs.SendQueue.{Stream, Streams, Entries, amount_of, total_of, watched_amount, watched_total, stream, sendable}
 use Rattle.sctp_tx_queue.specs.Produced.{advance, front_numbers, streams_after, in_line, emitted_made, next_fragment}
 use Rattle.sctp_tx_queue.specs.Bounded.{one}
 use Rattle.sctp_tx_queue.proofs.BoundLemmas.{few_changed, keeps_moved, keeps_same}

@@ -2,7 +2,7 @@ use Rattle.std.proofs.Common.{ap, sym, ◌∙◌}
 use Rattle.std.specs.Map.{lookup}
 use Rattle.std.specs.Ordering.{nat_cmp}
 use Rattle.std.specs.BTreeMap.{is_at}
-use Rattle.sctp_tx_queue.specs.Queue.{Stream, stream, sendable}
+use Rattle.sctp_tx_queue.specs.SendQueue.{Stream, stream, sendable}
 use Rattle.sctp_tx_queue.specs.Resets.{after_step}
 use Rattle.sctp_tx_queue.proofs.StreamsLemmas.{stream_there, changed_there, changed_nowhere}
 use Rattle.sctp_tx_queue.proofs.send_queue.streams.Streams.sendable_stepped.Goals as goal

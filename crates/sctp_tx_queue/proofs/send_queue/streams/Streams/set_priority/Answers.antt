@@ -2,7 +2,7 @@ use Rattle.std.proofs.Common.{ap, sym, ◌∙◌}
 use Rattle.std.specs.Map.{lookup}
 use Rattle.std.specs.Ordering.{nat_cmp}
 use Rattle.std.specs.BTreeMap.{is_at}
-use Rattle.sctp_tx_queue.specs.Queue.{Stream, Streams, Entries, total_of}
+use Rattle.sctp_tx_queue.specs.SendQueue.{Stream, Streams, Entries, total_of}
 use Rattle.sctp_tx_queue.specs.Settings.{with_priority}
 use Rattle.sctp_tx_queue.proofs.BoundLemmas.{few_changed, keeps_same}
 use Rattle.sctp_tx_queue.proofs.ReadyLemmas.{ready_kept}

@@ -1,5 +1,5 @@
 use Rattle.std.proofs.Common.{ap, sym, ◌∙◌, subst, arith}
-use Rattle.sctp_tx_queue.specs.Queue.{Entries, total_of}
+use Rattle.sctp_tx_queue.specs.SendQueue.{Entries, total_of}
 use Rattle.sctp_tx_queue.specs.Bounded.{AreFew, ready_count}
 use Rattle.sctp_tx_queue.proofs.BoundLemmas.{few_restored}
 use Rattle.sctp_tx_queue.proofs.RestoreLemmas.{no_bytes}

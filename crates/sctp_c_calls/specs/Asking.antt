@@ -1,7 +1,7 @@
 -- What C sees of what a socket counts.
 use Rattle.std.specs.Prelude.{◌-◌, ◌^◌, min}
 use Rattle.sctp_calls.specs.Metrics.{Metrics}
-use Rattle.sctp_c_records.specs.Counts.{implementation_number}
+use Rattle.sctp_c_records.specs.Metrics.{implementation_number}
 use Rattle.sctp_c_records.specs.declared.metrics.MetricsRecord.{MetricsRecord}
 
 abbrev pub shown_metrics : Metrics → MetricsRecord

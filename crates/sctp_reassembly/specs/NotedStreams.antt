@@ -7,7 +7,7 @@ use Rattle.std.specs.BTreeMap.{is_at}
 use Rattle.sctp_fragments.specs.Runs.{from_rank}
 use Rattle.sctp_fragments.specs.Held.{Held, rank_of}
 use Rattle.sctp_reassembly.specs.Delivery.{UnorderedStream, fresh_unordered, held_from}
-use Rattle.sctp_reassembly.specs.Streams.{Entries, stream_at}
+use Rattle.sctp_reassembly.specs.ReassemblyStreams.{Entries, stream_at}
 
 abbrev pub Notes : Type 0
 Notes = List (ℕ × ℕ)

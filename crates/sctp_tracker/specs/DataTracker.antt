@@ -1,10 +1,10 @@
 -- What is known of the peer's TSNs, and when it is acknowledged (RFC 9260 section 6.2). The numbers here are unwrapped:
 -- they never wrap, and the peer's first one is `origin`.
 use Rattle.std.specs.Prelude.{◌≡◌, ℕ, ◌+◌, ◌-◌, ◌*◌, ◌/◌, ◌^◌, ◌==◌, ◌<◌, ◌≤◌, ◌&&◌, ◌||◌, not, nat_lt, nat_le, min, Bool, true, false, if◌then◌else◌, Option, Some, None, List, [], ◌∷◌, length}
-use Rattle.sctp_serial.specs.Serial.{serial_difference}
+use Rattle.sctp_serial.specs.SerialNumber.{serial_difference}
 use Rattle.sctp_serial.specs.Unwrapped.{origin, words, wire, nearest}
 use Rattle.sctp_state.specs.Options.{Options}
-use Rattle.sctp_state.specs.Timers.{Timer, timer, start, stop, set_duration, is_due, expire}
+use Rattle.sctp_state.specs.Timer.{Timer, timer, start, stop, set_duration, is_due, expire}
 use Rattle.sctp_state.specs.declared.timer.BackoffAlgorithm.TheVariants.{Fixed}
 use Rattle.sctp_tracker.specs.declared.data_tracker.AckState.{AckState}
 use Rattle.sctp_tracker.specs.declared.data_tracker.AckState.TheVariants.{Idle, Becoming, Delayed, Immediate}

@@ -1,7 +1,7 @@
 -- Round trip times and the retransmission timeout (RFC 9260 section 6.3.1), in whole nanoseconds.
 use Rattle.std.specs.Prelude.{ℕ, ◌+◌, ◌-◌, ◌*◌, ◌/◌, ◌≤◌, nat_lt, ◌||◌, min, max, Bool, true, false, if◌then◌else◌}
 use Rattle.sctp_state.specs.Options.{Options}
-use Rattle.sctp_state.specs.Timers.{longest}
+use Rattle.sctp_state.specs.Timer.{longest}
 
 -- eight times the smoothed time and four times its variance, with the options that they are held to
 pub record Rtt : Type 0 where

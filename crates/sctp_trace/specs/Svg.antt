@@ -16,7 +16,7 @@ use Rattle.sctp_trace.specs.declared.xml.Attribute.{Attribute}
 use Rattle.sctp_trace.specs.declared.xml.Element.{Element}
 use Rattle.sctp_trace.specs.declared.xml.Element.TheViews.{out-Element}
 use Rattle.sctp_trace.specs.Rows.{other}
-use Rattle.sctp_trace.specs.Arrows.{arrows, crosses}
+use Rattle.sctp_trace.specs.Giving.{arrows, crosses}
 use Rattle.sctp_trace.specs.Xml.{xml_bytes}
 
 -- how far an end's lifeline stands from the left

@@ -2,7 +2,7 @@
 -- first TSN is `origin`.
 use Rattle.std.specs.Prelude.{ℕ, zero, suc, ◌+◌, ◌-◌, ◌%◌, ◌^◌, Bool, false, if◌then◌else◌, Option, Some, None, List, [], ◌∷◌, ◌++◌, length}
 use Rattle.std.specs.List.{sum_by}
-use Rattle.sctp_serial.specs.Serial.{serial_difference}
+use Rattle.sctp_serial.specs.SerialNumber.{serial_difference}
 use Rattle.sctp_serial.specs.Unwrapped.{origin, words, wire, nearest}
 use Rattle.sctp_chunk.specs.Chunk.{FragmentTree}
 use Rattle.sctp_tx_outstanding.specs.declared.item.ItemState.TheVariants.{InFlight}

@@ -6,7 +6,7 @@ use Rattle.sctp_state.specs.Events.{Event, event_of}
 use Rattle.sctp_association.specs.Socket.{SocketValue}
 use Rattle.sctp_c_records.specs.declared.event.EventRecord.{EventRecord}
 use Rattle.sctp_c_records.specs.declared.message.MessageRecord.{MessageRecord}
-use Rattle.sctp_c_records.specs.Shown.{bytes_of, record_of}
+use Rattle.sctp_c_records.specs.Event.{bytes_of, record_of}
 
 abbrev pub waiting_first : Option (Event (List ℕ)) → List (Event (List ℕ)) → List (Event (List ℕ))
 waiting_first None events = events

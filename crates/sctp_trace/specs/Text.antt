@@ -7,7 +7,7 @@ use Rattle.sctp_trace.specs.declared.rows.End.TheVariants as ends
 use Rattle.sctp_trace.specs.declared.rows.What.{What}
 use Rattle.sctp_trace.specs.declared.rows.What.TheVariants as kinds
 use Rattle.sctp_trace.specs.declared.rows.Row.{Row}
-use Rattle.sctp_trace.specs.Arrows.{times_given}
+use Rattle.sctp_trace.specs.Giving.{times_given}
 use Rattle.sctp_trace.specs.Ascii.{plain, is_printable}
 
 -- as much of the text as fits the width

@@ -4,7 +4,7 @@ use Rattle.sctp_state.specs.declared.api.errors.SendError.{SendError}
 use Rattle.sctp_c_records.specs.Records.{given_send_options}
 use Rattle.sctp_c_records.specs.declared.message.OutgoingRecord.{OutgoingRecord}
 use Rattle.sctp_c_records.specs.declared.message.SendRecord.{SendRecord}
-use Rattle.sctp_c_calls.specs.Outgoing.{given_message}
+use Rattle.sctp_c_calls.specs.Batch.{given_message}
 use Rattle.spec_endpoint.specs.Calls as table
 use Rattle.sctp_c.specs.Calls.{CSocket, end_of}
 

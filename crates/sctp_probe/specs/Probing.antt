@@ -10,7 +10,7 @@ use Rattle.sctp_packet.specs.Faults.{fault_number}
 use Rattle.sctp_packet.specs.Chunk.{ChunkTree, FragmentTree, data_chunk, sack_chunk}
 use Rattle.sctp_packet.specs.Written.{chunks_bytes}
 use Rattle.sctp_packet.specs.Packet.{HeaderTree, PacketTree, IsFault, Accepts, Refuses, unsummed_bytes, packet_bytes}
-use Rattle.sctp_probe.specs.ByteSums.{byte_sum}
+use Rattle.sctp_probe.specs.Checksum.{byte_sum}
 use Rattle.sctp_probe.specs.declared.answer.Probe.{Probe}
 use Rattle.sctp_probe.specs.declared.answer.ProbeError.{ProbeError}
 use Rattle.sctp_probe.specs.declared.answer.ProbeError.TheVariants as errors

@@ -2,13 +2,13 @@
 -- Numbers are as on the wire: one is the next one or the same as another, and no other order counts.
 use Rattle.std.specs.Prelude.{ℕ, ◌==◌, ◌||◌, not, nat_le, Bool, true, false, Option, Some, None, option_map, List, [], ◌∷◌, map}
 use Rattle.sctp_serial.specs.declared.api.StreamId.{StreamId}
-use Rattle.sctp_serial.specs.Serial.{serial_sum, serial_difference}
+use Rattle.sctp_serial.specs.SerialNumber.{serial_sum, serial_difference}
 use Rattle.sctp_serial.specs.Unwrapped.{words}
 use Rattle.sctp_wire.specs.Parameter.{outgoing_reset_request}
 use Rattle.sctp_packet.specs.Chunk.{ChunkTree, re_config_chunk}
 use Rattle.sctp_state.specs.declared.timer.BackoffAlgorithm.TheVariants.{Exponential}
 use Rattle.sctp_state.specs.Options.{Options}
-use Rattle.sctp_state.specs.Timers.{Timer, timer, start, stop, set_duration, expire}
+use Rattle.sctp_state.specs.Timer.{Timer, timer, start, stop, set_duration, expire}
 
 -- an own request that waits for its answer
 pub record Request : Type 0 where

@@ -2,12 +2,12 @@
 use Rattle.std.specs.Prelude.{◌≡◌, ℕ, List, map}
 use Rattle.spec_world.specs.Observations as observations
 use Rattle.sctp_trace.specs.declared.rows.Row.{Row}
-use Rattle.sctp_trace.specs.Capture.{capture_bytes}
-use Rattle.sctp_trace.specs.Chart.{IsChart}
-use Rattle.sctp_trace.specs.Ladder.{ladder_text}
+use Rattle.sctp_trace.specs.Pcapng.{capture_bytes}
+use Rattle.sctp_trace.specs.Svg.{IsChart}
+use Rattle.sctp_trace.specs.Text.{ladder_text}
 use Rattle.run_trace.specs.declared.script.Format.{Format}
 use Rattle.run_trace.specs.declared.script.Format.TheVariants as formats
-use Rattle.run_trace.specs.Shown.{row_shows, row_time, entry_shows, times_of}
+use Rattle.run_trace.specs.Log.{row_shows, row_time, entry_shows, times_of}
 
 abbrev pub IsDrawing : Format → List Row → List ℕ → Type 0
 IsDrawing formats.Text rows bytes = bytes ≡ ladder_text rows

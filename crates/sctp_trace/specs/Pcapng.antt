@@ -8,7 +8,7 @@ use Rattle.sctp_trace.specs.declared.rows.What.{What}
 use Rattle.sctp_trace.specs.declared.rows.What.TheVariants as kinds
 use Rattle.sctp_trace.specs.declared.rows.Row.{Row}
 use Rattle.sctp_trace.specs.Rows.{end_name}
-use Rattle.sctp_trace.specs.Arrows.{times_given}
+use Rattle.sctp_trace.specs.Giving.{times_given}
 use Rattle.sctp_trace.specs.Bytes.{le16, le32, with_crc32c}
 
 -- zeros up to a multiple of four

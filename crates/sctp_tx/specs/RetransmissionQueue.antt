@@ -4,9 +4,9 @@ use Rattle.std.specs.Duration.{as_nanos}
 use Rattle.sctp_chunk.specs.declared.sack.GapAckBlock.{GapAckBlock}
 use Rattle.sctp_state.specs.Events.{Emitted}
 use Rattle.sctp_state.specs.Options.{Options}
-use Rattle.sctp_state.specs.Timers.{Timer, timer, start, stop, is_running, expire}
+use Rattle.sctp_state.specs.Timer.{Timer, timer, start, stop, is_running, expire}
 use Rattle.sctp_state.specs.declared.timer.BackoffAlgorithm.TheVariants.{Exponential}
-use Rattle.sctp_tx_outstanding.specs.Items.{Outstanding, Items, no_items, next_number, flight_bytes, flight_payload, flight_items}
+use Rattle.sctp_tx_outstanding.specs.OutstandingData.{Outstanding, Items, no_items, next_number, flight_bytes, flight_payload, flight_items}
 use Rattle.sctp_tx_outstanding.specs.Losses.{Step}
 use Rattle.sctp_tx_outstanding.specs.Sack.{receive_sack, acked_bytes, sample}
 use Rattle.sctp_tx.specs.declared.retransmission_queue.windows.Windows.{Windows}

@@ -4,7 +4,7 @@ use Rattle.rand_pcg.specs.Lcg.{Lcg}
 use Rattle.sctp_state.specs.Options.{Options}
 use Rattle.spec_endpoint.specs.Association.{fresh}
 use Rattle.spec_endpoint.specs.Wire.{writing}
-use Rattle.sctp_c_records.specs.Checksums.{word_by}
+use Rattle.sctp_c_records.specs.Checksum.{word_by}
 use Rattle.sctp_c_records.specs.Records.{given_checksum, given_options}
 use Rattle.sctp_c_records.specs.declared.checksum.PacketChecksum.{PacketChecksum}
 use Rattle.sctp_c_records.specs.declared.options.OptionsRecord.{OptionsRecord}

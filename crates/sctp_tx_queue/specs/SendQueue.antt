@@ -8,8 +8,8 @@ use Rattle.sctp_serial.specs.Time.{later}
 use Rattle.sctp_serial.specs.Unwrapped.{origin}
 use Rattle.sctp_state.specs.Numbers.{ms}
 use Rattle.sctp_state.specs.Options.{Options}
-use Rattle.sctp_stream_scheduler.specs.Scheduler.{Scheduler, scheduler, set_bytes_remaining}
-use Rattle.sctp_state.specs.Thresholds.{Watched}
+use Rattle.sctp_stream_scheduler.specs.StreamScheduler.{Scheduler, scheduler, set_bytes_remaining}
+use Rattle.sctp_state.specs.ThresholdWatcher.{Watched}
 use Rattle.sctp_tx_queue.specs.declared.send_queue.message.MessageNumbers.{MessageNumbers}
 use Rattle.sctp_tx_queue.specs.declared.send_queue.stream.PauseState.{PauseState}
 use Rattle.sctp_tx_queue.specs.declared.send_queue.stream.PauseState.TheVariants.{NotPaused, Pending, Paused, Resetting}

@@ -5,7 +5,7 @@ use Rattle.std.specs.Map.{values_of}
 use Rattle.sctp_fragments.specs.Runs.{AreRuns}
 use Rattle.sctp_fragments.specs.Held.{Held, rank_of, goes_on, intervals_of, NoneComplete, NoneInTurn}
 use Rattle.sctp_reassembly.specs.Delivery.{OrderedStream, UnorderedStream}
-use Rattle.sctp_reassembly.specs.Streams.{Streams}
+use Rattle.sctp_reassembly.specs.ReassemblyStreams.{Streams}
 
 -- in the order of their keys, no two with one key: then the intervals are the maximal runs, and these are in order
 abbrev pub AreInOrder : List Held → Type 0

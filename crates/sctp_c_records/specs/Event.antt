@@ -1,7 +1,7 @@
 -- What C sees of an event: a kind, numbers, and bytes.
 use Rattle.std.specs.Prelude.{◌≡◌, ◌<◌, ℕ, Bool, true, false, List, [], length, take}
 use Rattle.std.specs.List.{flat_map}
-use Rattle.sctp_wire.specs.Fields.{be16}
+use Rattle.sctp_wire.specs.Field.{be16}
 use Rattle.sctp_state.specs.Events.{Event, SendPacket, OnConnected, OnClosed, OnConnectionRestarted, OnAborted, OnError, OnBufferedAmountLow, OnTotalBufferedAmountLow, OnStreamsResetFailed, OnStreamsResetPerformed, OnIncomingStreamReset, OnLifecycleMessageFullySent, OnLifecycleMessageMaybeExpired, OnLifecycleMessageExpired, OnLifecycleMessageDelivered, OnLifecycleEnd}
 use Rattle.sctp_state.specs.declared.api.ErrorKind.{ErrorKind}
 use Rattle.sctp_state.specs.declared.api.ErrorKind.TheVariants as kinds

@@ -1,4 +1,4 @@
-//! The course of a conversation.
+//! A conversation, turn by turn.
 
 use crate::soak::end::{Counts, Soaked, Talker, act, new_talker};
 use crate::soak::link::{Link, carry};
