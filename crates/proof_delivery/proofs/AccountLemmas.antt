@@ -1,5 +1,5 @@
 -- The messages that the rules gave up are those that records of their sender name, and what they reported is what it emitted.
-use Rattle.std.proofs.Common.{◌≡◌, ℕ, ◌||◌, Bool, true, false, Option, List, [], ◌∷◌, ◌++◌, refl, sym, ap, ◌∙◌, subst, append-nil, append_assoc}
+use Rattle.std.proofs.Common.{◌≡◌, ℕ, ◌||◌, Bool, true, Option, List, [], ◌∷◌, ◌++◌, sym, ap, ◌∙◌, subst, append-nil, append_assoc}
 use Rattle.std.proofs.Math.Bool.{or_comm}
 use Rattle.proof_protocol.specs.State.{Message, has}
 use Rattle.proof_protocol.specs.Rules.{Rule}

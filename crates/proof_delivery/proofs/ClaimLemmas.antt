@@ -13,7 +13,7 @@ use Rattle.sctp_capabilities.specs.Capabilities.{agreed}
 use Rattle.sctp_tx_queue.specs.SendQueue.{Queue}
 use Rattle.sctp_tx_outstanding.specs.OutstandingData.{no_items}
 use Rattle.sctp_tx.specs.ForwardPoints.{most_of}
-use Rattle.sctp_rx.specs.Tracker.{IsTracker, tracker}
+use Rattle.sctp_rx.specs.DataTracker.{IsTracker, tracker}
 use Rattle.sctp_rx.specs.ReassemblyQueue.{reassembly}
 use Rattle.proof_protocol.specs.State.{Message, ForwardPoint, Sender, Transfer, IsAmong, new_sender, fragment, count}
 use Rattle.proof_protocol.specs.Rules.{Rule, accept, begin, number, end_with_placeholder, give_up, data_comes, late_comes, become_ready, send_sack, ack_point_advances, send_forward, forward_comes, perform_reset}

@@ -17,7 +17,7 @@ use Rattle.spec_endpoint.specs.Calls.{shown_state, refusal_of, offer, offer_all,
 use Rattle.spec_endpoint.specs.Input.{refusal, on_endpoint_state}
 use Rattle.spec_endpoint.specs.Laws.{Call, Connect, Close, Shutdown, Send, SendMany, ResetStreams, TakeMessage, SetLowThreshold, SetPriority, SetMaxMessageSize, Advance, HandOver, Restore, Packet, NoPacket, called}
 use Rattle.proof_endpoint.specs.Mapped.{Carried}
-use Rattle.proof_endpoint.specs.Acts.{idle, calm, IsOffered, alone, among}
+use Rattle.proof_endpoint.specs.Acts.{idle, calm, IsOffered}
 use Rattle.proof_pair.specs.Trace.{Side, Pair, emitted_packets, EndAction, Calls, Gives, Refuses, as_received, drain, give, foreign_if, act, goes, side_of, start, state_of}
 use Rattle.proof_endpoint.proofs.PacketActsLemmas.{does_send_buffered}
 use Rattle.proof_endpoint.proofs.RowActsLemmas.{placed, does_where_open}

@@ -1,7 +1,7 @@
 -- What one rule of a sender, or acceptance, leaves of the receiver beside it.
 use Rattle.std.proofs.Common.{◌≡◌, ℕ, Bool, inl, inr, List, refl, sym, ap, subst}
 use Rattle.sctp_serial.specs.Messages as messages
-use Rattle.sctp_rx.specs.Tracker.{Tracker}
+use Rattle.sctp_rx.specs.DataTracker.{Tracker}
 use Rattle.sctp_rx.specs.ReassemblyQueue.{Reassembly}
 use Rattle.proof_protocol.specs.State.{Message, Transfer, IsAmong}
 use Rattle.proof_protocol.specs.Rules.{Rule, IsAllowed, after}

@@ -11,8 +11,8 @@ use Rattle.sctp_wire.specs.Parameter.{ParameterTree, outgoing_reset_request, inc
 use Rattle.sctp_packet.specs.Chunk.{ChunkTree, FragmentTree, data_chunk, idata_chunk, re_config_chunk, forward_tsn_chunk, i_forward_tsn_chunk}
 use Rattle.sctp_chunk.specs.declared.forward_tsn.SkippedStream.{SkippedStream}
 use Rattle.sctp_tx_queue.specs.SendQueue.{Queue}
-use Rattle.sctp_rx.specs.Tracker as tracker
-use Rattle.sctp_rx.specs.Tracker.{DataTracker}
+use Rattle.sctp_rx.specs.DataTracker as tracker
+use Rattle.sctp_rx.specs.DataTracker.{DataTracker}
 use Rattle.proof_protocol.specs.State.{Message, ForwardPoint, Sender, Transfer, IsAmong, place_of, count, ordered_of, stream_of}
 use Rattle.proof_protocol.specs.Points.{AreApart}
 use Rattle.proof_protocol.specs.Resets.{Epochs}

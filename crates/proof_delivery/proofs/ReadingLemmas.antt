@@ -12,9 +12,9 @@ use Rattle.sctp_packet.specs.Grammar.{carried}
 use Rattle.sctp_chunk.specs.declared.forward_tsn.SkippedStream.{SkippedStream}
 use Rattle.sctp_chunk.specs.declared.forward_tsn.SkippedStream.TheVariants.{IForwardTsn}
 use Rattle.sctp_tx_outstanding.specs.Entries.{ssn_skip, mid_skip}
-use Rattle.sctp_rx.specs.Tracker as tracker
+use Rattle.sctp_rx.specs.DataTracker as tracker
 use Rattle.sctp_rx.specs.Seen.{in_runs}
-use Rattle.sctp_rx.specs.Tracker.{DataTracker, Tracker, IsTracker}
+use Rattle.sctp_rx.specs.DataTracker.{DataTracker, Tracker, IsTracker}
 use Rattle.sctp_rx.specs.ReassemblyQueue.{Reassembly}
 use Rattle.sctp_tracker.proofs.SeenRunsLemmas.{next_is_new}
 use Rattle.proof_protocol.specs.State.{Message, Entry, ForwardPoint, Transfer, IsAmong, fragment, place_of, count, ordered_of}

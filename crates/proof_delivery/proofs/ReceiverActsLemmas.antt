@@ -10,8 +10,8 @@ use Rattle.sctp_state.specs.Options.{Options}
 use Rattle.sctp_capabilities.specs.Capabilities.{Capabilities, agreed}
 use Rattle.sctp_state.specs.Events as events
 use Rattle.sctp_state.specs.Events.{OnConnected, OnError}
-use Rattle.sctp_rx.specs.Tracker as tracker
-use Rattle.sctp_rx.specs.Tracker.{is_valid}
+use Rattle.sctp_rx.specs.DataTracker as tracker
+use Rattle.sctp_rx.specs.DataTracker.{is_valid}
 use Rattle.sctp_rx.specs.ReassemblyQueue.{reassembly}
 use Rattle.sctp_rx.specs.Sack.{report}
 use Rattle.proof_protocol.specs.State.{Message, Sender, count}

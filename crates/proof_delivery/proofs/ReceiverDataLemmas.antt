@@ -6,9 +6,9 @@ use Rattle.sctp_serial.specs.Unwrapped.{origin, words, wire}
 use Rattle.sctp_serial.specs.declared.api.StreamId.{StreamId}
 use Rattle.sctp_packet.specs.Chunk.{FragmentTree}
 use Rattle.sctp_chunk.specs.declared.forward_tsn.SkippedStream.{SkippedStream}
-use Rattle.sctp_rx.specs.Tracker as tracker
-use Rattle.sctp_rx.specs.Tracker.{Tracker, IsTracker, is_valid, has_seen, moves_on, observe}
-use Rattle.sctp_rx.specs.Streams.{is_far, entries_in}
+use Rattle.sctp_rx.specs.DataTracker as tracker
+use Rattle.sctp_rx.specs.DataTracker.{Tracker, IsTracker, is_valid, has_seen, moves_on, observe}
+use Rattle.sctp_rx.specs.ReassemblyStreams.{is_far, entries_in}
 use Rattle.sctp_rx.specs.ReassemblyQueue.{Reassembly, Deferred, Waiting, Added, Forwarded, number_of, came, add_now, forward_now, fragment_waits, point_waits, with_waiting, waits, resetting, waiting_in, add, forward}
 use Rattle.proof_protocol.specs.State.{Message, ForwardPoint, IsAmong}
 use Rattle.proof_protocol.specs.Rules.{Rule, data_comes, late_comes, forward_comes, become_ready, covers}

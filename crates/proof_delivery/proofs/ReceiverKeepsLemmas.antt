@@ -12,7 +12,7 @@ use Rattle.sctp_state.specs.RetransmissionTimeout.{rto}
 use Rattle.sctp_tx.specs.RetransmissionQueue.{Sender}
 use Rattle.sctp_tx.specs.ForwardPoints.{chunk_if, forward_chunk}
 use Rattle.sctp_tx.specs.Resent.{resent_fast}
-use Rattle.sctp_rx.specs.Tracker.{update_rto, take_ack, packet_end, ack_timeout}
+use Rattle.sctp_rx.specs.DataTracker.{update_rto, take_ack, packet_end, ack_timeout}
 use Rattle.proof_protocol.specs.State.{Message, count}
 use Rattle.proof_protocol.specs.Based.{EpochWindows}
 use Rattle.sctp_rx.specs.ReassemblyQueue.{defer}

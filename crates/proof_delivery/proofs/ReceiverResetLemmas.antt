@@ -12,7 +12,7 @@ use Rattle.sctp_serial.specs.declared.api.StreamId.{StreamId}
 use Rattle.sctp_wire.specs.Parameter.{ParameterTree, reset_response}
 use Rattle.sctp_state.specs.Events as events
 use Rattle.sctp_state.specs.Events.{OnIncomingStreamReset, numbers_of}
-use Rattle.sctp_rx.specs.Tracker.{number_of}
+use Rattle.sctp_rx.specs.DataTracker.{number_of}
 use Rattle.sctp_rx.specs.ReassemblyQueue.{Reassembly, Deferred, defer, reset}
 use Rattle.sctp_rx.specs.ReassemblyQueue as queue
 use Rattle.proof_protocol.specs.State.{Message, has, count}

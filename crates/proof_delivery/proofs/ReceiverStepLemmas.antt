@@ -11,7 +11,7 @@ use Rattle.sctp_state.specs.Events.{SendPacket}
 use Rattle.sctp_tx.specs.RetransmissionQueue.{Sender}
 use Rattle.sctp_rx.specs.Seen.{Seen, contains}
 use Rattle.sctp_rx.specs.ReassemblyQueue.{Deferred}
-use Rattle.sctp_rx.specs.Tracker.{Tracker, IsTracker}
+use Rattle.sctp_rx.specs.DataTracker.{Tracker, IsTracker}
 use Rattle.proof_protocol.specs.State.{Message, count}
 use Rattle.spec_endpoint.specs.Association.{Tcb, Phase, Packing}
 use Rattle.spec_endpoint.specs.Packets.{Packet, add_all, header_to, emit_if}

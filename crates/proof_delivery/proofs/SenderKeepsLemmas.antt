@@ -11,7 +11,7 @@ use Rattle.spec_endpoint.specs.ResetRequests.{wake_request}
 use Rattle.spec_endpoint.specs.Sending.{selective_ack, ask_for_sack, count_sack_sent}
 use Rattle.spec_endpoint.specs.Laws.{Call}
 use Rattle.proof_endpoint.specs.Mapped.{Carried}
-use Rattle.sctp_rx.specs.Tracker.{ack_timeout}
+use Rattle.sctp_rx.specs.DataTracker.{ack_timeout}
 use Rattle.proof_endpoint.specs.Acts.{EndWithPacket, in_open, in_state, with_chunk, with_context, SackAct, takes_sack, samples, counts_errors, before_sack, after_sack, SendingAct, asks, adds_ack, expires, adds_forward, forwards_later, asks_no_reset, asks_reset, adds_request, sends, sends_fast, before_sending, after_sending, TimeAct, advances, delay_ends, times_out, beats, times_init, times_cookie, times_request, wakes_request, before_time, after_time, ResetAct, prepares, defers, performs, processes, takes_response, adds_responses, before_reset, after_reset}
 use Rattle.proof_pair.proofs.JoinActsLemmas.{Setting, InvAt}
 use Rattle.proof_delivery.proofs.ClaimLemmas.{Direction, transfer_of, SendsIn, SenderGoes, SenderPremises}

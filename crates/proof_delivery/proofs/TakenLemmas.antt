@@ -3,7 +3,7 @@ use Rattle.std.proofs.Common.{◌≡◌, ℕ, Bool, Option, List, [], ◌++◌, 
 use Rattle.std.proofs.lemmas.List.{take-append-drop}
 use Rattle.sctp_serial.specs.Messages as messages
 use Rattle.sctp_tx_queue.specs.SendQueue.{Queue}
-use Rattle.sctp_rx.specs.Tracker.{Tracker}
+use Rattle.sctp_rx.specs.DataTracker.{Tracker}
 use Rattle.sctp_rx.specs.ReassemblyQueue.{Reassembly}
 use Rattle.proof_protocol.specs.State.{Message, Transfer}
 use Rattle.proof_rx_refines.specs.View.{view_with, IsSeenAs}

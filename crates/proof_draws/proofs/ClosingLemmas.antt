@@ -4,7 +4,7 @@ use Rattle.sctp_wire.specs.Cause.{CauseTree, user_initiated_abort, protocol_viol
 use Rattle.sctp_packet.specs.Chunk.{abort_chunk, shutdown_ack_chunk, shutdown_complete_chunk, ChunkTree}
 use Rattle.sctp_state.specs.declared.api.ErrorKind.TheVariants.{TooManyRetries, ProtocolViolation}
 use Rattle.sctp_state.specs.Events.{Event, OnClosed, OnAborted}
-use Rattle.sctp_rx.specs.Tracker.{is_ack_due}
+use Rattle.sctp_rx.specs.DataTracker.{is_ack_due}
 use Rattle.spec_endpoint.specs.Association.{Tcb, Phase, CookieEchoed, Established, ShutdownPending, ShutdownSent, ShutdownReceived, ShutdownAckSent, State, Closed, CookieWait, Open, Context, EndpointState, where_open, Packing}
 use Rattle.spec_endpoint.specs.Packets.{Packet, add, packet_to, new_packet, emit}
 use Rattle.spec_endpoint.specs.Sending.{Sent, ask_for_sack, count_sack_sent, selective_ack, is_alone, open_with, send_with}

@@ -8,8 +8,8 @@ use Rattle.sctp_tx_outstanding.specs.OutstandingData.{wire_tsn, fast_items}
 use Rattle.sctp_tx_outstanding.specs.OutstandingData as items
 use Rattle.sctp_tx_outstanding.specs.Entries.{ssn_skip, mid_skip}
 use Rattle.sctp_tx_outstanding.specs.Forward.{is_forward_due}
-use Rattle.sctp_rx.specs.Tracker.{is_ack_due}
-use Rattle.sctp_rx.specs.Tracker as tracker
+use Rattle.sctp_rx.specs.DataTracker.{is_ack_due}
+use Rattle.sctp_rx.specs.DataTracker as tracker
 use Rattle.sctp_rx.specs.Sack.{gap_ack_blocks, tsns}
 use Rattle.sctp_rx.specs.Sack as sacks
 use Rattle.sctp_tx_queue.specs.Resets.{requested_streams, request_resets}

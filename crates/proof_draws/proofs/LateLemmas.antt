@@ -3,7 +3,6 @@ use Rattle.std.proofs.Common.{◌≡◌, ◌≢◌, ℕ, ◌%◌, ◌^◌, ◌<�
 use Rattle.std.proofs.lemmas.Bool.{both_ways}
 use Rattle.std.proofs.lemmas.List.Elements.{All-nil, All-cons, All-head}
 use Rattle.rand_core.specs.Stream.{Stream}
-use Rattle.sctp_serial.specs.Unwrapped.{words}
 use Rattle.sctp_packet.specs.Chunk.{ChunkTree, InitTree, init_chunk, init_ack_chunk, cookie_echo_chunk}
 use Rattle.sctp_packet.specs.Grammar.{carried}
 use Rattle.sctp_capabilities.specs.StateCookie.{Cookie, CookieFits, cookie_bytes}

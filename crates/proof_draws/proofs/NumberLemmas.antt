@@ -16,14 +16,14 @@ use Rattle.sctp_state.specs.Events.{OnConnectionRestarted}
 use Rattle.sctp_tx_outstanding.specs.OutstandingData.{number_of, fast_items}
 use Rattle.sctp_tx_outstanding.specs.Sack.{is_valid}
 use Rattle.sctp_tx_outstanding.specs.Forward.{is_forward_due}
-use Rattle.sctp_rx.specs.Tracker.{is_ack_due}
-use Rattle.sctp_rx.specs.Tracker as tracker
+use Rattle.sctp_rx.specs.DataTracker.{is_ack_due}
+use Rattle.sctp_rx.specs.DataTracker as tracker
 use Rattle.sctp_tx_queue.specs.Resets.{requested_streams, request_resets}
 use Rattle.sctp_tx.specs.RetransmissionQueue.{SackAnswer, Invalid, Valid, sender_if, emitted_if, answer_if}
 use Rattle.sctp_tx.specs.ForwardPoints.{forward_chunk}
 use Rattle.spec_endpoint.specs.Association.{Tcb, Phase, CookieEchoed, Established, ShutdownPending, ShutdownSent, ShutdownReceived, ShutdownAckSent, State, Closed, CookieWait, Open, Context, EndpointState, Endpoint, where_open}
 use Rattle.spec_endpoint.specs.Packets.{Packet, fits, add, has_chunks, packet_to, new_packet, say}
-use Rattle.spec_endpoint.specs.ResetRequests.{Request, Requests, is_final, is_last, is_next, is_known, answered_by, answered_if, answered_in, answer_request}
+use Rattle.spec_endpoint.specs.ResetRequests.{Request, Requests, is_final, is_last, is_next, is_known, answered_by, answered_if, answered_in}
 use Rattle.spec_endpoint.specs.Sending.{Filling, ask_for_sack, ack_if, goes_along, with_ack, forward_added_if, forward_if, test_forward_point, tested_if, with_forward, most_streams, request_of, request_if, filled_as, Turned, turned_if, next_packet, go_on, burst, is_alone, send_with, fast_if, send_lost}
 use Rattle.spec_endpoint.specs.Shutdown.{on_shutdown, on_shutdown_ack_in, on_shutdown_complete, violate, on_abort, on_error}
 use Rattle.spec_endpoint.specs.Shutdown as closing

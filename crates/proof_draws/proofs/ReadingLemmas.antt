@@ -3,9 +3,9 @@ use Rattle.std.proofs.Common.{◌≡◌, ℕ, ◌==◌, ◌&&◌, not, Bool, tru
 use Rattle.sctp_serial.specs.Unwrapped.{origin}
 use Rattle.sctp_chunk.specs.declared.forward_tsn.SkippedStream.{SkippedStream}
 use Rattle.sctp_packet.specs.Chunk.{FragmentTree}
-use Rattle.sctp_rx.specs.Tracker.{DataTracker}
-use Rattle.sctp_rx.specs.Tracker as tracker
-use Rattle.sctp_rx.specs.Streams.{is_far, entries_in}
+use Rattle.sctp_rx.specs.DataTracker.{DataTracker}
+use Rattle.sctp_rx.specs.DataTracker as tracker
+use Rattle.sctp_rx.specs.ReassemblyStreams.{is_far, entries_in}
 use Rattle.sctp_rx.specs.ReassemblyQueue.{Reassembly, fragment_waits, point_waits, add_or_wait, forward_or_wait}
 use Rattle.sctp_rx.specs.ReassemblyQueue as reassembly
 use Rattle.sctp_tx_outstanding.specs.OutstandingData.{Outstanding}

@@ -9,7 +9,7 @@ use Rattle.sctp_packet.specs.Chunk.{ChunkTree, FragmentTree, SackTree, data_chun
 use Rattle.sctp_capabilities.specs.Capabilities.{Capabilities}
 use Rattle.sctp_tx_outstanding.specs.OutstandingData.{number_of}
 use Rattle.sctp_tx_outstanding.specs.Sack.{is_valid}
-use Rattle.sctp_rx.specs.Tracker.{wire_tsn}
+use Rattle.sctp_rx.specs.DataTracker.{wire_tsn}
 use Rattle.sctp_tx.specs.RetransmissionQueue.{SackAnswer, Invalid, Valid, sender_if, emitted_if, answer_if}
 use Rattle.spec_endpoint.specs.Association.{Tcb, Phase, CookieEchoed, Established, ShutdownPending, ShutdownSent, ShutdownReceived, ShutdownAckSent, State, Closed, CookieWait, Open, Context, EndpointState, Endpoint, in_context, where_open, Packing}
 use Rattle.spec_endpoint.specs.Heartbeats.{info_in, is_last, answered_if, answered_by, answer_heartbeat, on_heartbeat_ack}

@@ -14,8 +14,8 @@ use Rattle.sctp_state.specs.Events.{OnIncomingStreamReset, numbers_of}
 use Rattle.sctp_state.specs.RetransmissionTimeout.{rto}
 use Rattle.sctp_rx.specs.ReassemblyQueue.{Reassembly, Deferred, Waiting, Added, Forwarded, apply, apply_each, waiting_in, defer, reset}
 use Rattle.sctp_rx.specs.ReassemblyQueue as reassembly
-use Rattle.sctp_rx.specs.Streams as streams_of
-use Rattle.sctp_rx.specs.Tracker as tracker
+use Rattle.sctp_rx.specs.ReassemblyStreams as streams_of
+use Rattle.sctp_rx.specs.DataTracker as tracker
 use Rattle.spec_endpoint.specs.Association.{Tcb, Phase, Context, EndpointState, Packing}
 use Rattle.spec_endpoint.specs.Packets.{say}
 use Rattle.spec_endpoint.specs.ResetRequests.{Request, Requests, nothing_to_do, performed, bad_number, in_progress, is_final, Outcome, Unsettled, Done, Denied, outcome_if, outcome, answered_by, answered_if, answered_in, answer_request, is_last, is_next, is_known, after}

@@ -5,7 +5,7 @@ use Rattle.sctp_packet.specs.Chunk.{SackTree, shutdown_chunk, shutdown_ack_chunk
 use Rattle.sctp_state.specs.Events.{Emitted}
 use Rattle.sctp_tx_outstanding.specs.OutstandingData.{number_of}
 use Rattle.sctp_tx_outstanding.specs.Sack.{is_valid}
-use Rattle.sctp_rx.specs.Tracker as tracker
+use Rattle.sctp_rx.specs.DataTracker as tracker
 use Rattle.sctp_tx.specs.RetransmissionQueue.{Sender, SackAnswer, Invalid, Valid, sender_if, emitted_if, answer_if, is_quiet}
 use Rattle.spec_endpoint.specs.Association.{Tcb, Phase, CookieEchoed, Established, ShutdownPending, ShutdownSent, ShutdownReceived, ShutdownAckSent, State, Closed, CookieWait, Open, Context, EndpointState, Packing}
 use Rattle.spec_endpoint.specs.Packets.{add, new_packet, emit_chunk}

@@ -1,7 +1,7 @@
 -- The passing of time, under other names.
 use Rattle.std.proofs.Common.{◌≡◌, ℕ, nat_lt, Bool, true, false, Option, Some, None, option_map, List, refl, ap, ◌∙◌}
 use Rattle.sctp_packet.specs.Chunk.{shutdown_chunk, shutdown_ack_chunk, cookie_echo_chunk}
-use Rattle.sctp_rx.specs.Tracker.{wire_tsn}
+use Rattle.sctp_rx.specs.DataTracker.{wire_tsn}
 use Rattle.sctp_state.specs.TxErrorCounter.{is_exhausted}
 use Rattle.sctp_state.specs.RetransmissionTimeout.{rto}
 use Rattle.sctp_state.specs.Timer.{Timer, is_due, is_running, expire}

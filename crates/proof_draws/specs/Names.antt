@@ -3,7 +3,7 @@
 use Rattle.std.specs.Prelude.{option_map}
 use Rattle.rand_core.specs.Stream.{Stream}
 use Rattle.sctp_capabilities.specs.StateCookie.{Cookie}
-use Rattle.sctp_rx.specs.Tracker.{DataTracker}
+use Rattle.sctp_rx.specs.DataTracker.{DataTracker}
 use Rattle.sctp_rx.specs.ReassemblyQueue.{Reassembly}
 use Rattle.sctp_tx_outstanding.specs.OutstandingData.{Outstanding}
 use Rattle.sctp_tx.specs.RetransmissionQueue.{Sender}

@@ -7,7 +7,7 @@ use Rattle.sctp_packet.specs.Chunk.{ChunkTree, data_chunk, init_chunk, init_ack_
 use Rattle.sctp_packet.specs.ChunkText.{chunk_text}
 use Rattle.sctp_packet.specs.Packet.{PacketTree}
 use Rattle.sctp_state.specs.declared.api.ErrorKind.TheVariants.{ParseFailed}
-use Rattle.sctp_rx.specs.Tracker.{is_ack_due}
+use Rattle.sctp_rx.specs.DataTracker.{is_ack_due}
 use Rattle.spec_endpoint.specs.Association.{Tcb, Phase, CookieEchoed, Established, ShutdownPending, ShutdownSent, ShutdownReceived, ShutdownAckSent, State, Closed, CookieWait, Open, Context, EndpointState, Endpoint, in_context}
 use Rattle.spec_endpoint.specs.Heartbeats.{info_in, answered_if, is_last, no_info, answered_by, answer_heartbeat, on_heartbeat_ack}
 use Rattle.spec_endpoint.specs.Packets.{Packet, add, new_packet}

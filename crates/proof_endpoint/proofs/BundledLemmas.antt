@@ -9,7 +9,7 @@ use Rattle.sctp_tx.specs.Resent.{is_interleaved}
 use Rattle.sctp_tx.specs.ForwardPoints.{chunk_if, forward_chunk}
 use Rattle.sctp_tx.specs.Sending.{send}
 use Rattle.sctp_tx_queue.specs.Resets.{requested_streams, request_resets}
-use Rattle.sctp_rx.specs.Tracker.{is_ack_due}
+use Rattle.sctp_rx.specs.DataTracker.{is_ack_due}
 use Rattle.sctp_tx_outstanding.specs.Forward.{is_forward_due}
 use Rattle.spec_endpoint.specs.Association.{Tcb}
 use Rattle.spec_endpoint.specs.Packets.{Packet, room, fits, added_if, add, add_all, has_chunks}

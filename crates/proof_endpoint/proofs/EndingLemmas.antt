@@ -3,7 +3,7 @@ use Rattle.std.proofs.Common.{◌≡◌, ℕ, ◌+◌, ◌≤◌, Bool, true, fa
 use Rattle.std.proofs.lemmas.Bool.{both_ways}
 use Rattle.sctp_packet.specs.Chunk.{ChunkTree}
 use Rattle.sctp_packet.specs.Packet.{PacketTree}
-use Rattle.sctp_rx.specs.Tracker.{is_ack_due}
+use Rattle.sctp_rx.specs.DataTracker.{is_ack_due}
 use Rattle.spec_endpoint.specs.Association.{Tcb, Phase, CookieEchoed, Established, ShutdownPending, ShutdownSent, ShutdownReceived, ShutdownAckSent, State, Closed, CookieWait, Open, Context, EndpointState, Endpoint, where_open}
 use Rattle.spec_endpoint.specs.Sending.{ask_for_sack}
 use Rattle.spec_endpoint.specs.Input.{refusal, Received, receive, receive_rest, receive_all, has_data, repeats, repeats_if, ended_if, at_end, end_packet, on_endpoint_state, handle_chunks, counts, taken_if, on_packet}

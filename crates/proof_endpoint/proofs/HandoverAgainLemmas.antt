@@ -16,8 +16,8 @@ use Rattle.sctp_stream_scheduler.specs.StreamScheduler.{scheduler, enable_messag
 use Rattle.sctp_state.specs.Validity.{rises_from, outgoing_ids, ordered_ids, unordered_ids, has_small_numbers, is_valid_reception, are_valid_messages, message_ids_differ, first_alone_is_partly_sent, partly_sent_count, has_valid_queue, are_valid_items, has_valid_items, payload_fits, queued_bytes, outstanding_bytes, is_valid_transmission, is_valid_state}
 use Rattle.sctp_rx.specs.Delivery.{OrderedStream, UnorderedStream}
 use Rattle.sctp_rx.specs.Seen.{has_gap}
-use Rattle.sctp_rx.specs.Tracker.{place}
-use Rattle.sctp_rx.specs.Streams as received
+use Rattle.sctp_rx.specs.DataTracker.{place}
+use Rattle.sctp_rx.specs.ReassemblyStreams as received
 use Rattle.sctp_rx.specs.ReassemblyQueue.{Deferred}
 use Rattle.sctp_rx.specs.ReassemblyHandover.{ordered_records, unordered_records, deferred_readiness}
 use Rattle.sctp_rx.specs.ReassemblyHandover as reassembly

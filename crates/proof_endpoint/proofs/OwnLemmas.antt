@@ -11,7 +11,7 @@ use Rattle.sctp_wire.specs.Cause.{CauseTree, missing_mandatory_parameter, cookie
 use Rattle.sctp_packet.specs.Chunk.{ChunkTree, data_chunk, idata_chunk, forward_tsn_chunk, i_forward_tsn_chunk, abort_chunk, error_chunk, shutdown_chunk, shutdown_ack_chunk, shutdown_complete_chunk}
 use Rattle.sctp_packet.specs.Grammar.{Each}
 use Rattle.sctp_state.specs.Options.{Options}
-use Rattle.sctp_rx.specs.Tracker as tracker
+use Rattle.sctp_rx.specs.DataTracker as tracker
 use Rattle.sctp_capabilities.specs.Capabilities.{Capabilities, where_enabled, extensions, announce, same_method}
 use Rattle.sctp_capabilities.specs.StateCookie.{Cookie, cookie_bytes}
 use Rattle.sctp_capabilities.proofs.CookieLemmas.{length_cookie_bytes}

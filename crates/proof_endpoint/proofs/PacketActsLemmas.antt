@@ -7,7 +7,7 @@ use Rattle.sctp_state.specs.declared.api.ErrorKind.{ErrorKind}
 use Rattle.sctp_state.specs.Timer.{Timer}
 use Rattle.sctp_tx_outstanding.specs.OutstandingData.{fast_items}
 use Rattle.sctp_tx_outstanding.specs.Forward.{is_forward_due}
-use Rattle.sctp_rx.specs.Tracker.{is_ack_due}
+use Rattle.sctp_rx.specs.DataTracker.{is_ack_due}
 use Rattle.sctp_tx.specs.ForwardPoints.{forward_chunk}
 use Rattle.sctp_tx.specs.Resent.{resent_fast}
 use Rattle.sctp_tx_queue.specs.Resets.{requested_streams, request_resets}

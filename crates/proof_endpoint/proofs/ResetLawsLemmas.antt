@@ -2,7 +2,7 @@
 use Rattle.std.proofs.Common.{◌≡◌, ℕ, Bool, true, false, List, refl}
 use Rattle.std.proofs.lemmas.Bool.{lt-ltb}
 use Rattle.sctp_serial.specs.declared.api.StreamId.{StreamId}
-use Rattle.sctp_rx.specs.Tracker.{number_of}
+use Rattle.sctp_rx.specs.DataTracker.{number_of}
 use Rattle.spec_endpoint.specs.ResetRequests.{is_final, is_last, is_next}
 use Rattle.spec_endpoint.specs.StreamReset.{Handling, is_ahead, resets_if, outgoing_by}
 use Rattle.spec_endpoint.specs.ResetLaws.{DoneRequestsAreAnswered, IsNotPerformed, ResetsWait, RequestsFit}

@@ -8,7 +8,7 @@ use Rattle.sctp_state.specs.declared.api.ErrorKind.TheVariants.{TooManyRetries, 
 use Rattle.sctp_state.specs.Events.{Event, OnClosed, OnAborted}
 use Rattle.sctp_tx_outstanding.specs.OutstandingData.{number_of}
 use Rattle.sctp_tx_outstanding.specs.Sack.{is_valid}
-use Rattle.sctp_rx.specs.Tracker as tracker
+use Rattle.sctp_rx.specs.DataTracker as tracker
 use Rattle.sctp_tx.specs.RetransmissionQueue.{is_quiet, SackAnswer, Invalid, Valid, sender_if, emitted_if, answer_if}
 use Rattle.spec_endpoint.specs.Association.{Tcb, Phase, CookieEchoed, Established, ShutdownPending, ShutdownSent, ShutdownReceived, ShutdownAckSent, State, Closed, CookieWait, Open, Context, EndpointState, open_as, with_context, where_open}
 use Rattle.spec_endpoint.specs.Packets.{Packet, add, packet_to, emit_chunk}

@@ -10,7 +10,7 @@ use Rattle.sctp_state.specs.Handover.{HandoverState}
 use Rattle.sctp_state.specs.RetransmissionTimeout.{Rtt, rto}
 use Rattle.sctp_capabilities.specs.Capabilities.{Capabilities}
 use Rattle.sctp_capabilities.specs.StateCookie.{Cookie}
-use Rattle.sctp_rx.specs.Tracker.{DataTracker}
+use Rattle.sctp_rx.specs.DataTracker.{DataTracker}
 use Rattle.sctp_rx.specs.ReassemblyQueue.{Reassembly}
 use Rattle.sctp_tx.specs.RetransmissionQueue.{Sender}
 use Rattle.spec_endpoint.specs.Association.{Identity, Tcb, tcb}

@@ -11,11 +11,11 @@ use Rattle.sctp_packet.specs.Grammar.{Each, FitsBlock, FitsTsn, FitsSack}
 use Rattle.sctp_state.specs.Options.{Options}
 use Rattle.sctp_state.specs.Handover.{Receive}
 use Rattle.sctp_rx.specs.Seen.{Run, AreRuns, contains, with_number, settle}
-use Rattle.sctp_rx.specs.Tracker.{Tracker, DataTracker, tracker, update_rto, take_ack, packet_end, ack_timeout, insert_number, with_duplicate, has_seen, observe, forward}
+use Rattle.sctp_rx.specs.DataTracker.{Tracker, DataTracker, tracker, update_rto, take_ack, packet_end, ack_timeout, insert_number, with_duplicate, has_seen, observe, forward}
 use Rattle.sctp_rx.specs.TrackerHandover.{restore}
 use Rattle.sctp_rx.specs.Sack.{block, is_near, blocks_of, tsns, sack, report}
 use Rattle.sctp_rx.specs.ReassemblyQueue.{Reassembly, Waiting, Added, Forwarded, watermark, queued_bytes, number_of, came, fragment_waits, point_waits, waits, add_now, forward_now, add_or_wait, forward_or_wait, apply, apply_each, waiting_in, wait_with, resetting}
-use Rattle.sctp_rx.specs.Streams.{is_far, entries_in}
+use Rattle.sctp_rx.specs.ReassemblyStreams.{is_far, entries_in}
 use Rattle.sctp_rx.specs.ReassemblyQueue as reassembly
 use Rattle.sctp_tracker.proofs.SeenOneFormLemmas.{IsInRuns_add, IsInRuns_up_to}
 use Rattle.proof_endpoint.specs.Sound.{FitsTracker}

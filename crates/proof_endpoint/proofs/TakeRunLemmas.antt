@@ -11,9 +11,9 @@ use Rattle.sctp_wire.specs.Serialize.{padded_item}
 use Rattle.sctp_packet.specs.Chunk.{ChunkTree, data_chunk, sack_chunk}
 use Rattle.sctp_packet.specs.Written.{chunk_bytes, chunks_bytes, chunk_value, sack_value}
 use Rattle.sctp_state.specs.Options.{SendOptions, defaults}
-use Rattle.sctp_rx.specs.Tracker.{Tracker, DataTracker, number_of, observe, is_valid, has_seen}
+use Rattle.sctp_rx.specs.DataTracker.{Tracker, DataTracker, number_of, observe, is_valid, has_seen}
 use Rattle.sctp_rx.specs.Delivery.{fresh_ordered, fresh_unordered}
-use Rattle.sctp_rx.specs.Streams.{Streams}
+use Rattle.sctp_rx.specs.ReassemblyStreams.{Streams}
 use Rattle.sctp_rx.specs.ReassemblyQueue.{Reassembly}
 use Rattle.sctp_rx.specs.ReassemblyQueue as reassembly
 use Rattle.spec_endpoint.specs.Association.{Tcb, Established, Open, Context, EndpointState, Endpoint, open_as, where_open, Packing}

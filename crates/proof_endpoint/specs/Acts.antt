@@ -21,8 +21,8 @@ use Rattle.sctp_state.specs.Options.{SendOptions}
 use Rattle.sctp_state.specs.RetransmissionTimeout.{Rtt}
 use Rattle.sctp_state.specs.Timer.{Timer, is_due}
 use Rattle.sctp_state.specs.Validity.{is_valid_state}
-use Rattle.sctp_rx.specs.Tracker.{is_valid, ack_timeout}
-use Rattle.sctp_rx.specs.Tracker as tracker
+use Rattle.sctp_rx.specs.DataTracker.{is_valid, ack_timeout}
+use Rattle.sctp_rx.specs.DataTracker as tracker
 use Rattle.sctp_rx.specs.ReassemblyQueue.{defer, reset}
 use Rattle.sctp_tx_queue.specs.Resets.{requested_streams, request_resets}
 use Rattle.sctp_tx_outstanding.specs.OutstandingData.{number_of, fast_items}

@@ -12,7 +12,7 @@ use Rattle.sctp_capabilities.specs.Capabilities.{Capabilities, zero_checksum_ena
 use Rattle.sctp_state.specs.Events.{Emitted, OnConnected, OnClosed}
 use Rattle.sctp_state.specs.Validity.{is_valid_state}
 use Rattle.sctp_rx.specs.Seen.{has_gap}
-use Rattle.sctp_rx.specs.Tracker as tracker
+use Rattle.sctp_rx.specs.DataTracker as tracker
 use Rattle.sctp_rx.specs.Delivery.{OrderedStream, UnorderedStream, fresh_unordered}
 use Rattle.sctp_rx.specs.ReassemblyHandover.{space_of, ordered_is_held, unordered_is_held}
 use Rattle.sctp_tx_outstanding.specs.Item.{Item}

@@ -11,7 +11,7 @@ use Rattle.sctp_state.specs.declared.api.handover.HandoverOutgoingStream.{Handov
 use Rattle.sctp_state.specs.Handover.{StreamMessage, OutstandingData, HandoverState}
 use Rattle.sctp_state.specs.Options.{Options}
 use Rattle.sctp_rx.specs.Seen.{IsInRuns}
-use Rattle.sctp_rx.specs.Tracker.{Tracker}
+use Rattle.sctp_rx.specs.DataTracker.{Tracker}
 use Rattle.sctp_tx_outstanding.specs.Item.{Item}
 use Rattle.sctp_tx_outstanding.specs.OutstandingData.{Items}
 use Rattle.sctp_tx_outstanding.specs.Handover.{fragment_from}

@@ -1,4 +1,5 @@
 //! What real calls hand in fits: the fields of the values that a program has are no larger than their types let them be.
+//! A field's bounds are known once it is read.
 
 ghost use Rattle.sctp_packet.specs.Grammar.{Each, FitsFragment};
 ghost use Rattle.sctp_tx_outstanding.specs.Handover.{fragment_from};

@@ -6,11 +6,11 @@ use Rattle.sctp_serial.specs.declared.api.StreamId.{StreamId}
 use Rattle.sctp_chunk.specs.declared.forward_tsn.SkippedStream.{SkippedStream}
 use Rattle.sctp_packet.specs.Chunk.{FragmentTree}
 use Rattle.sctp_state.specs.Events.{OnClosed}
-use Rattle.sctp_rx.specs.Tracker.{number_of as tsn_of, has_seen, moves_on}
+use Rattle.sctp_rx.specs.DataTracker.{number_of as tsn_of, has_seen, moves_on}
 use Rattle.sctp_rx.specs.Delivery.{Extends}
-use Rattle.sctp_rx.specs.Streams.{is_far, entries_in}
+use Rattle.sctp_rx.specs.ReassemblyStreams.{is_far, entries_in}
 use Rattle.sctp_rx.specs.ReassemblyQueue.{Reassembly, Waiting, Added, Forwarded, number_of, came, add_now, forward_now, fragment_waits, point_waits, waits, add_or_wait, forward_or_wait, add, forward, apply, apply_each, waiting_in, reset, wait_with, resetting}
-use Rattle.sctp_rx.specs.Streams as streams
+use Rattle.sctp_rx.specs.ReassemblyStreams as streams
 use Rattle.sctp_reassembly.proofs.ExtendsLemmas.{extends_none, extends_by, extends_both}
 use Rattle.spec_endpoint.specs.Association.{State, Closed, CookieWait, Open}
 use Rattle.spec_endpoint.specs.Shown.{Association, association_in}

@@ -10,8 +10,8 @@ use Rattle.sctp_state.specs.declared.api.GivenUpCause.TheVariants.{Retransmissio
 use Rattle.sctp_state.specs.Events.{Emitted}
 use Rattle.sctp_rx.specs.Held.{Held}
 use Rattle.sctp_rx.specs.Delivery.{fresh_ordered, fresh_unordered, ordered_arrival, ordered_forward, unordered_arrival, unordered_forward}
-use Rattle.sctp_rx.specs.Streams.{Streams, stream_at, change_stream, is_far, unchanged, with_ordered, with_unordered, add_in_order, ordered_number, unordered_number, held_as, skip_ordered, skip_unordered, skip_of, skip, skip_each, by_stream, dropped_to, entries_in}
-use Rattle.sctp_rx.specs.Streams as streams
+use Rattle.sctp_rx.specs.ReassemblyStreams.{Streams, stream_at, change_stream, is_far, unchanged, with_ordered, with_unordered, add_in_order, ordered_number, unordered_number, held_as, skip_ordered, skip_unordered, skip_of, skip, skip_each, by_stream, dropped_to, entries_in}
+use Rattle.sctp_rx.specs.ReassemblyStreams as streams
 use Rattle.sctp_rx.specs.ReassemblyQueue.{Waiting, Added, Forwarded, Reassembly, add_now, forward_now, waits, came, fragment_waits, add_or_wait, point_waits, forward_or_wait, apply, apply_each, waiting_in, wait_with, resetting}
 use Rattle.sctp_rx.specs.ReassemblyQueue as reassembly
 use Rattle.sctp_tx_outstanding.specs.Item.{Item, nack, is_fast, should_be_retransmitted}

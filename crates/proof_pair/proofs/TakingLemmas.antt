@@ -2,7 +2,7 @@
 use Rattle.std.proofs.Common.{◌≡◌, ℕ, ◌==◌, ◌||◌, ◌&&◌, not, Bool, true, false, Option, None, List, length, refl, ap, ◌∙◌}
 use Rattle.sctp_chunk.specs.declared.forward_tsn.SkippedStream.{SkippedStream}
 use Rattle.sctp_packet.specs.Chunk.{FragmentTree}
-use Rattle.sctp_rx.specs.Tracker.{number_of, is_valid, has_seen, moves_on}
+use Rattle.sctp_rx.specs.DataTracker.{number_of, is_valid, has_seen, moves_on}
 use Rattle.sctp_rx.specs.ReassemblyQueue.{Reassembly, add, forward}
 use Rattle.spec_endpoint.specs.Association.{Tcb, Phase, Open, Context, EndpointState, Endpoint}
 use Rattle.spec_endpoint.specs.Data.{is_full, added_unless, take_fragment, taken_if, on_data_if, on_data, skipped_if, forward_to, forwarded_if, forwarded_in}

@@ -3,7 +3,7 @@
 use Rattle.std.specs.Prelude.{◌≡◌, ℕ, ◌==◌, ◌||◌, not, Bool, true, false, None, List, length}
 use Rattle.sctp_chunk.specs.declared.forward_tsn.SkippedStream.{SkippedStream}
 use Rattle.sctp_packet.specs.Chunk.{ChunkTree, FragmentTree, data_chunk, idata_chunk, forward_tsn_chunk, i_forward_tsn_chunk}
-use Rattle.sctp_rx.specs.Tracker.{number_of, is_valid, has_seen, moves_on}
+use Rattle.sctp_rx.specs.DataTracker.{number_of, is_valid, has_seen, moves_on}
 use Rattle.sctp_rx.specs.ReassemblyQueue.{add, forward}
 use Rattle.spec_endpoint.specs.Association.{Tcb, Phase, Open, Endpoint}
 use Rattle.spec_endpoint.specs.Data.{is_full, observe_tsn, pass_tsn}

@@ -5,12 +5,12 @@ use Rattle.std.proofs.lemmas.Bool.{cases_eq, cases_Bool, cond-true, cond-false, 
 use Rattle.std.proofs.lemmas.Option.{none-some}
 use Rattle.sctp_serial.specs.Messages.{Message}
 use Rattle.sctp_serial.specs.Unwrapped.{origin}
-use Rattle.sctp_rx.specs.Key.{pair_rank}
+use Rattle.sctp_rx.specs.ReassemblyKey.{pair_rank}
 use Rattle.sctp_rx.specs.Runs.{is_held, put_in, with_item}
 use Rattle.sctp_rx.specs.Held.{Held, rank_of, intervals_of, is_complete, left_by}
-use Rattle.sctp_rx.specs.Settled.{AreInOrder, AreSettled, IsSettledInOrder, IsSettled}
+use Rattle.sctp_rx.specs.SettledLaws.{AreInOrder, AreSettled, IsSettledInOrder, IsSettled}
 use Rattle.sctp_rx.specs.Delivery.{OrderedDelivery, UnorderedDelivery, fresh_ordered, fresh_unordered, deliver, complete_messages, at_rest, deliver_complete, ordered_arrival, unordered_arrival}
-use Rattle.sctp_rx.specs.Streams.{Streams, Outcome, with_ordered, with_unordered, unchanged, is_far, add_ordered, add_unordered}
+use Rattle.sctp_rx.specs.ReassemblyStreams.{Streams, Outcome, with_ordered, with_unordered, unchanged, is_far, add_ordered, add_unordered}
 use Rattle.sctp_reassembly.proofs.SettledInsertLemmas.{came_in}
 use Rattle.proof_protocol.specs.Reassembly.{Queue, KeyOf, next_of, Added}
 use Rattle.proof_rx_refines.specs.View.{View, IsFiled, IsSeenAs, chunk_of_held, key_of_held, ordered_at, unordered_at, held_on, view_with}

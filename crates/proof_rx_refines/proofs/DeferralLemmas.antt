@@ -9,7 +9,7 @@ use Rattle.std.proofs.Math.Bool.{and-false}
 use Rattle.sctp_serial.specs.Unwrapped.{origin}
 use Rattle.sctp_serial.specs.declared.api.StreamId.{StreamId}
 use Rattle.sctp_chunk.specs.declared.forward_tsn.SkippedStream.{SkippedStream}
-use Rattle.sctp_rx.specs.Streams.{Streams, is_named, is_far, entries_in, skipped_id}
+use Rattle.sctp_rx.specs.ReassemblyStreams.{Streams, is_named, is_far, entries_in, skipped_id}
 use Rattle.sctp_rx.specs.ReassemblyQueue.{Reassembly, Deferred, number_of, came, fragment_waits, point_waits, resetting, waiting_in, waits, Forwarded, wait_with, forward_now, forward_or_wait, forward}
 use Rattle.proof_protocol.specs.State.{Message, Entry, ForwardPoint, IsAmong, place_of, count, stream_of}
 use Rattle.proof_protocol.specs.Lifted.{as_written, wire_point}

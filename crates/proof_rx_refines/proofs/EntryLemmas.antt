@@ -5,7 +5,7 @@ use Rattle.std.proofs.Math.Bool.{or-false}
 use Rattle.sctp_serial.specs.declared.types.StreamKey.TheVariants.{Ordered, Unordered}
 use Rattle.sctp_chunk.specs.declared.forward_tsn.SkippedStream.{SkippedStream}
 use Rattle.sctp_chunk.specs.declared.forward_tsn.SkippedStream.TheVariants.{ForwardTsn, IForwardTsn}
-use Rattle.sctp_rx.specs.Streams.{Streams, skipped_id, put_skip, put_each}
+use Rattle.sctp_rx.specs.ReassemblyStreams.{Streams, skipped_id, put_skip, put_each}
 use Rattle.proof_protocol.specs.State.{Entry, IsAmong}
 use Rattle.proof_protocol.specs.Rules.{same, covers, raise}
 use Rattle.proof_rx_refines.specs.Read.{StandsFor, StandForAll}

@@ -6,10 +6,10 @@ use Rattle.std.proofs.lemmas.Bool.Decides.{nat_tests}
 use Rattle.std.proofs.lemmas.Option.{same_Some, none-some}
 use Rattle.sctp_serial.specs.Messages as messages
 use Rattle.sctp_serial.specs.Unwrapped.{origin}
-use Rattle.sctp_rx.specs.Key.{pair_rank}
+use Rattle.sctp_rx.specs.ReassemblyKey.{pair_rank}
 use Rattle.sctp_rx.specs.Held.{Held, rank_of}
 use Rattle.sctp_rx.specs.Delivery.{fresh_unordered, unordered_forward_tsn}
-use Rattle.sctp_rx.specs.Streams.{Streams, stream_at, dropped_to}
+use Rattle.sctp_rx.specs.ReassemblyStreams.{Streams, stream_at, dropped_to}
 use Rattle.proof_protocol.specs.State.{Entry, ForwardPoint, IsAmong}
 use Rattle.proof_protocol.specs.Rules.{same, covers, raise}
 use Rattle.proof_protocol.specs.Reassembly as queues

@@ -8,8 +8,8 @@ use Rattle.sctp_serial.specs.Messages as messages
 use Rattle.sctp_serial.specs.Unwrapped.{origin}
 use Rattle.sctp_packet.specs.Chunk.{FragmentTree}
 use Rattle.sctp_rx.specs.Held.{Held}
-use Rattle.sctp_rx.specs.Streams as streams
-use Rattle.sctp_rx.specs.Streams.{is_far, held_as, place_of}
+use Rattle.sctp_rx.specs.ReassemblyStreams as streams
+use Rattle.sctp_rx.specs.ReassemblyStreams.{is_far, held_as, place_of}
 use Rattle.sctp_rx.specs.ReassemblyQueue.{Reassembly, number_of, came, apply_outcome, add, add_now, add_or_wait, fragment_waits, waits, Added}
 use Rattle.proof_protocol.specs.State as rules
 use Rattle.proof_protocol.specs.State.{Message, Transfer, Sender, fragment, ordered_of, stream_of}

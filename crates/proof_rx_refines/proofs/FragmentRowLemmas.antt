@@ -7,11 +7,11 @@ use Rattle.sctp_serial.specs.Unwrapped.{origin}
 use Rattle.sctp_packet.specs.Chunk.{FragmentTree}
 use Rattle.sctp_rx.specs.Held.{Held}
 use Rattle.sctp_rx.specs.Delivery.{ordered_arrival, unordered_arrival}
-use Rattle.sctp_rx.specs.Settled.{AreInOrder, AreSettled}
-use Rattle.sctp_rx.specs.Streams as streams
-use Rattle.sctp_rx.specs.Streams.{Streams, Outcome, unchanged, with_ordered, with_unordered, is_far, held_as, add_in_order, add_ordered, add_unordered}
+use Rattle.sctp_rx.specs.SettledLaws.{AreInOrder, AreSettled}
+use Rattle.sctp_rx.specs.ReassemblyStreams as streams
+use Rattle.sctp_rx.specs.ReassemblyStreams.{Streams, Outcome, unchanged, with_ordered, with_unordered, is_far, held_as, add_in_order, add_ordered, add_unordered}
 use Rattle.sctp_rx.specs.ReassemblyQueue.{Reassembly, number_of, came, apply_outcome, add, fragment_waits}
-use Rattle.sctp_rx.specs.Tracker.{Tracker, IsTracker, observe}
+use Rattle.sctp_rx.specs.DataTracker.{Tracker, IsTracker, observe}
 use Rattle.sctp_tracker.proofs.SeenOneFormLemmas.{contains_add}
 use Rattle.sctp_reassembly.proofs.SettledQueueLemmas.{settled_arrives}
 use Rattle.proof_protocol.specs.State.{Message, Transfer, put}

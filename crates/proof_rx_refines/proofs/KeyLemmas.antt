@@ -4,7 +4,7 @@ use Rattle.std.specs.Prelude.{not, ◌&&◌, ◌==◌}
 use Rattle.std.proofs.lemmas.Bool.{cases_eq, and_parts}
 use Rattle.std.proofs.lemmas.Option.{none-some}
 use Rattle.sctp_serial.specs.Unwrapped.{origin}
-use Rattle.sctp_rx.specs.Key.{pair_rank}
+use Rattle.sctp_rx.specs.ReassemblyKey.{pair_rank}
 use Rattle.sctp_rx.specs.Runs.{is_next}
 use Rattle.sctp_rx.specs.Held.{Held, rank_of, goes_on}
 use Rattle.proof_protocol.specs.State.{IsAmong}

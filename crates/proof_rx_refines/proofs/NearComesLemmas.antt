@@ -4,8 +4,8 @@ use Rattle.sctp_serial.specs.Messages as messages
 use Rattle.sctp_serial.specs.Unwrapped.{origin, words, wire}
 use Rattle.sctp_packet.specs.Chunk.{FragmentTree}
 use Rattle.sctp_chunk.specs.declared.forward_tsn.SkippedStream.{SkippedStream}
-use Rattle.sctp_rx.specs.Tracker as tracker
-use Rattle.sctp_rx.specs.Tracker.{Tracker, IsTracker, moves_on, observe}
+use Rattle.sctp_rx.specs.DataTracker as tracker
+use Rattle.sctp_rx.specs.DataTracker.{Tracker, IsTracker, moves_on, observe}
 use Rattle.sctp_rx.specs.ReassemblyQueue.{Reassembly, Deferred, number_of, fragment_waits, point_waits, came, add, forward, forward_now}
 use Rattle.proof_protocol.specs.State.{Message, ForwardPoint, Transfer, IsAmong}
 use Rattle.proof_protocol.specs.Rules.{Rule, data_comes, late_comes, become_ready, forward_comes, run}

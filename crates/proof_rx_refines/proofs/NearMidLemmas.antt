@@ -4,7 +4,7 @@ use Rattle.std.specs.Prelude.{not}
 use Rattle.std.proofs.lemmas.Bool.{cases_lt, cases_order}
 use Rattle.sctp_serial.specs.Unwrapped.{origin, words, wire, nearest}
 use Rattle.sctp_packet.specs.Chunk.{FragmentTree}
-use Rattle.sctp_rx.specs.Streams.{unordered_number}
+use Rattle.sctp_rx.specs.ReassemblyStreams.{unordered_number}
 use Rattle.sctp_rx.specs.ReassemblyQueue.{Reassembly}
 use Rattle.proof_protocol.specs.State.{Message, Entry, ForwardPoint, Sender, Transfer, IsAmong, place_of, count, ordered_of, stream_of}
 use Rattle.proof_protocol.specs.Rules.{covers}

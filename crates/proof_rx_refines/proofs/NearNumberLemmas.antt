@@ -8,8 +8,8 @@ use Rattle.sctp_serial.specs.declared.types.StreamKey.TheVariants.{Ordered, Unor
 use Rattle.sctp_packet.specs.Chunk.{FragmentTree}
 use Rattle.sctp_chunk.specs.declared.forward_tsn.SkippedStream.{SkippedStream}
 use Rattle.sctp_chunk.specs.declared.forward_tsn.SkippedStream.TheVariants.{ForwardTsn, IForwardTsn}
-use Rattle.sctp_rx.specs.Streams.{ordered_number, unordered_number}
-use Rattle.sctp_rx.specs.Tracker.{Tracker}
+use Rattle.sctp_rx.specs.ReassemblyStreams.{ordered_number, unordered_number}
+use Rattle.sctp_rx.specs.DataTracker.{Tracker}
 use Rattle.sctp_rx.specs.ReassemblyQueue.{Reassembly}
 use Rattle.proof_protocol.specs.State.{Message, Fragment, Entry, ForwardPoint, Sender, Transfer, IsAmong, fragment, place_of, count, parts, ordered_of, stream_of}
 use Rattle.proof_protocol.specs.Rules.{same, covers}

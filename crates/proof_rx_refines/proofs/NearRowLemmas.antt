@@ -4,7 +4,7 @@ use Rattle.sctp_serial.specs.Messages as messages
 use Rattle.sctp_serial.specs.Unwrapped.{origin, words, wire}
 use Rattle.sctp_packet.specs.Chunk.{FragmentTree}
 use Rattle.sctp_chunk.specs.declared.forward_tsn.SkippedStream.{SkippedStream}
-use Rattle.sctp_rx.specs.Tracker.{Tracker, IsTracker, moves_on}
+use Rattle.sctp_rx.specs.DataTracker.{Tracker, IsTracker, moves_on}
 use Rattle.sctp_rx.specs.ReassemblyQueue.{Reassembly, Deferred, number_of, fragment_waits, came, add, forward, reassembly, forward_now}
 use Rattle.proof_protocol.specs.State.{Message, ForwardPoint, Transfer, IsAmong, place_of, count, start}
 use Rattle.proof_protocol.specs.Rules.{Rule, IsAllowed, after, run}

@@ -8,8 +8,8 @@ use Rattle.sctp_packet.specs.Chunk.{FragmentTree}
 use Rattle.sctp_chunk.specs.declared.forward_tsn.SkippedStream.{SkippedStream}
 use Rattle.sctp_rx.specs.Held.{Held}
 use Rattle.sctp_rx.specs.Delivery.{UnorderedDelivery, fresh_ordered, fresh_unordered, ordered_forward, unordered_arrival, unordered_forward}
-use Rattle.sctp_rx.specs.Streams as streams
-use Rattle.sctp_rx.specs.Streams.{Streams, Outcome, unchanged, with_ordered, with_unordered, is_far, held_as, add_in_order, ordered_number, skip, skip_each, by_stream, dropped_to}
+use Rattle.sctp_rx.specs.ReassemblyStreams as streams
+use Rattle.sctp_rx.specs.ReassemblyStreams.{Streams, Outcome, unchanged, with_ordered, with_unordered, is_far, held_as, add_in_order, ordered_number, skip, skip_each, by_stream, dropped_to}
 use Rattle.sctp_rx.specs.Delivery.{ordered_arrival}
 use Rattle.proof_protocol.specs.State.{Entry}
 use Rattle.proof_protocol.specs.Rules.{same, raise}

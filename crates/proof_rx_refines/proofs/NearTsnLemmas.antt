@@ -6,8 +6,8 @@ use Rattle.std.proofs.lemmas.Bool.Decides.{nat_tests}
 use Rattle.sctp_serial.specs.Messages as messages
 use Rattle.sctp_serial.specs.Unwrapped.{origin, words, wire, nearest}
 use Rattle.sctp_rx.specs.Seen.{in_runs}
-use Rattle.sctp_rx.specs.Tracker as tracker
-use Rattle.sctp_rx.specs.Tracker.{DataTracker, Tracker, IsTracker, moves_on}
+use Rattle.sctp_rx.specs.DataTracker as tracker
+use Rattle.sctp_rx.specs.DataTracker.{DataTracker, Tracker, IsTracker, moves_on}
 use Rattle.sctp_rx.specs.ReassemblyQueue.{Reassembly, near_first, number_of, came}
 use Rattle.sctp_tracker.proofs.SeenRunsLemmas.{next_is_new}
 use Rattle.proof_protocol.specs.State.{Message, Transfer, count}

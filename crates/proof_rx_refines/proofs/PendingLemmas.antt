@@ -5,7 +5,7 @@ use Rattle.std.proofs.lemmas.Bool.{cases_eq, cond-true, cond-false, eq-eqb, ne_e
 use Rattle.std.proofs.lemmas.Bool.Decides.{nat_tests}
 use Rattle.sctp_serial.specs.Messages.{Message}
 use Rattle.sctp_serial.specs.Unwrapped.{origin}
-use Rattle.sctp_rx.specs.Key.{pair_rank}
+use Rattle.sctp_rx.specs.ReassemblyKey.{pair_rank}
 use Rattle.sctp_rx.specs.Runs.{from_rank}
 use Rattle.sctp_rx.specs.Held.{Held, rank_of}
 use Rattle.proof_protocol.specs.State.{Entry, IsAmong}

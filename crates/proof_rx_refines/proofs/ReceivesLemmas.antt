@@ -2,10 +2,10 @@
 use Rattle.std.proofs.Common.{◌≡◌, ℕ, Bool, Option, Some, None, List, ◌∷◌, ◌++◌, refl, ap, sym, ◌∙◌, subst}
 use Rattle.sctp_serial.specs.Messages as messages
 use Rattle.sctp_rx.specs.Held.{Held}
-use Rattle.sctp_rx.specs.Settled.{AreSettled}
-use Rattle.sctp_rx.specs.Streams.{Streams}
+use Rattle.sctp_rx.specs.SettledLaws.{AreSettled}
+use Rattle.sctp_rx.specs.ReassemblyStreams.{Streams}
 use Rattle.sctp_rx.specs.ReassemblyQueue.{Reassembly, Deferred}
-use Rattle.sctp_rx.specs.Tracker.{Tracker}
+use Rattle.sctp_rx.specs.DataTracker.{Tracker}
 use Rattle.proof_protocol.specs.State.{Message, Transfer, IsAmong}
 use Rattle.proof_protocol.specs.Rules.{Rule, after, run}
 use Rattle.proof_protocol.specs.Invariant.{Invariant}

@@ -9,7 +9,7 @@ use Rattle.sctp_serial.specs.Unwrapped.{origin}
 use Rattle.sctp_state.specs.Options.{Options}
 use Rattle.sctp_rx.specs.Held.{Held}
 use Rattle.sctp_rx.specs.Seen.{in_runs}
-use Rattle.sctp_rx.specs.Tracker.{Tracker, IsTracker, tracker, observe, forward, moves_on}
+use Rattle.sctp_rx.specs.DataTracker.{Tracker, IsTracker, tracker, observe, forward, moves_on}
 use Rattle.sctp_rx.specs.ReassemblyQueue.{Reassembly, reassembly}
 use Rattle.sctp_tracker.proofs.SeenOneFormLemmas.{contains_up_to}
 use Rattle.sctp_reassembly.proofs.SettledQueueLemmas.{settled_new}

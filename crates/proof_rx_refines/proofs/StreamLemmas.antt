@@ -7,7 +7,7 @@ use Rattle.std.specs.Ordering.{nat_cmp}
 use Rattle.std.specs.BTreeMap.{is_at, insert_entry}
 use Rattle.std.proofs.lemmas.Bool.Decides.{nat_tests}
 use Rattle.std.proofs.lemmas.List.Elements.{All-head, All-tail}
-use Rattle.sctp_rx.specs.Streams.{Entries, stream_at, open_stream, write_stream, change_stream}
+use Rattle.sctp_rx.specs.ReassemblyStreams.{Entries, stream_at, open_stream, write_stream, change_stream}
 use Rattle.proof_protocol.proofs.CommonLemmas.{inserted_here, inserted_off}
 use Rattle.sctp_serial.proofs.NumberLemmas.{at_other}
 

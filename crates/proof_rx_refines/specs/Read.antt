@@ -5,7 +5,7 @@ use Rattle.sctp_serial.specs.declared.types.StreamKey.TheVariants.{Ordered, Unor
 use Rattle.sctp_packet.specs.Chunk.{FragmentTree}
 use Rattle.sctp_chunk.specs.declared.forward_tsn.SkippedStream.{SkippedStream}
 use Rattle.sctp_chunk.specs.declared.forward_tsn.SkippedStream.TheVariants.{ForwardTsn, IForwardTsn}
-use Rattle.sctp_rx.specs.Streams.{Streams, ordered_number, unordered_number}
+use Rattle.sctp_rx.specs.ReassemblyStreams.{Streams, ordered_number, unordered_number}
 use Rattle.sctp_rx.specs.ReassemblyQueue.{Reassembly, number_of}
 use Rattle.proof_protocol.specs.State.{Message, Entry, Sender, Receiver, fragment, place_of, count, ordered_of, stream_of}
 use Rattle.proof_protocol.specs.Rules.{floor}

@@ -1,9 +1,9 @@
 -- The values of the code are the receiver of the rules, and where a call leads.
 use Rattle.std.specs.Prelude.{◌≡◌, ℕ, Bool, Option, None, List}
 use Rattle.sctp_serial.specs.Messages as messages
-use Rattle.sctp_rx.specs.Tracker.{Tracker}
+use Rattle.sctp_rx.specs.DataTracker.{Tracker}
 use Rattle.sctp_rx.specs.Held.{Held}
-use Rattle.sctp_rx.specs.Settled.{AreSettled}
+use Rattle.sctp_rx.specs.SettledLaws.{AreSettled}
 use Rattle.sctp_rx.specs.ReassemblyQueue.{Reassembly, Deferred}
 use Rattle.proof_protocol.specs.State.{Message, Transfer, IsAmong}
 use Rattle.proof_protocol.specs.Rules.{Rule, Happens, run}

@@ -3,7 +3,7 @@ use Rattle.std.specs.Prelude.{◌≡◌, ◌≢◌, ℕ, suc, ◌+◌, ◌<◌, 
 use Rattle.sctp_serial.specs.Messages as messages
 use Rattle.sctp_serial.specs.Unwrapped.{origin}
 use Rattle.sctp_serial.specs.declared.api.StreamId.{StreamId}
-use Rattle.sctp_rx.specs.Tracker.{Tracker}
+use Rattle.sctp_rx.specs.DataTracker.{Tracker}
 use Rattle.sctp_rx.specs.ReassemblyQueue.{Reassembly, Deferred, reset}
 use Rattle.proof_protocol.specs.State.{Message, IsAmong}
 use Rattle.proof_protocol.specs.Rules.{Rule}

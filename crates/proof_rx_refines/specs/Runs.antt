@@ -5,8 +5,8 @@ use Rattle.sctp_packet.specs.Chunk.{FragmentTree}
 use Rattle.sctp_chunk.specs.declared.forward_tsn.SkippedStream.{SkippedStream}
 use Rattle.sctp_chunk.specs.declared.forward_tsn.SkippedStream.TheVariants.{ForwardTsn}
 use Rattle.sctp_state.specs.Options.{defaults}
-use Rattle.sctp_rx.specs.Tracker.{Tracker, tracker, observe}
-use Rattle.sctp_rx.specs.Tracker as tracker
+use Rattle.sctp_rx.specs.DataTracker.{Tracker, tracker, observe}
+use Rattle.sctp_rx.specs.DataTracker as tracker
 use Rattle.sctp_rx.specs.ReassemblyQueue.{Reassembly, reassembly, add, forward}
 use Rattle.proof_protocol.specs.State.{Transfer, start}
 use Rattle.proof_protocol.specs.Rules.{run}

@@ -4,10 +4,10 @@
 use Rattle.std.specs.Prelude.{◌≡◌, ℕ, ◌+◌, ◌-◌, ◌^◌, ◌<◌, ◌≤◌, not, Bool, true, false, Some, List, ◌++◌, map}
 use Rattle.sctp_serial.specs.Messages.{Message}
 use Rattle.sctp_serial.specs.Unwrapped.{origin}
-use Rattle.sctp_rx.specs.Tracker.{Tracker, has_seen}
+use Rattle.sctp_rx.specs.DataTracker.{Tracker, has_seen}
 use Rattle.sctp_rx.specs.Held.{Held}
 use Rattle.sctp_rx.specs.Delivery.{OrderedStream, UnorderedStream, fresh_ordered, fresh_unordered}
-use Rattle.sctp_rx.specs.Streams.{Streams, stream_at}
+use Rattle.sctp_rx.specs.ReassemblyStreams.{Streams, stream_at}
 use Rattle.sctp_rx.specs.ReassemblyQueue.{Reassembly}
 use Rattle.proof_protocol.specs.State.{ReadyMessage, IsAmong}
 use Rattle.proof_protocol.specs.Reassembly.{Chunk, Queue, KeyOf, next_of}

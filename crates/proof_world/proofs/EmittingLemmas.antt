@@ -23,7 +23,7 @@ use Rattle.proof_delivery.specs.Justified.{reset_unless}
 use Rattle.spec_world.specs.Observations.{End, A, B, same_end, same_association, same_numbers, all_unless, Call, Connect, Shutdown, Close, Send, SendMany, Receive, Reset, SetPriority, SetMaxMessageSize, SetLowThreshold, HandOver, Entry, Given, Foreign, ready_by, handed_out_in, handed_out_by, given_up}
 use Rattle.spec_world.specs.Observations as observations
 use Rattle.spec_world.specs.World as worlds
-use Rattle.spec_world.specs.World.{Side, taken_in, other, association, ready_before, news_of, take_emitted, handed_by as record_by, table_call, answer_to, call_entry, time_entry, clock}
+use Rattle.spec_world.specs.World.{Side, other, association, ready_before, news_of, take_emitted, handed_by as record_by, table_call, answer_to, call_entry, time_entry, clock}
 use Rattle.proof_world.specs.Traces.{receiving, IsReceiving, IsForeign}
 use Rattle.proof_world.specs.Delivered.{accepted_messages_in, accepted_messages_by, emitted_events_by, emitted_events, reset_in, reset_by, given_up_places, reported_by, reported}
 use Rattle.proof_world.proofs.EventLemmas.{same_itself}

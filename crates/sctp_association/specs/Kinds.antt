@@ -1,5 +1,5 @@
 -- The chunk of a fragment.
-use Rattle.std.specs.Prelude.{ℕ, ◌==◌, ◌||◌, cond, Bool}
+use Rattle.std.specs.Prelude.{◌==◌, ◌||◌, cond, Bool}
 use Rattle.sctp_packet.specs.Chunk.{ChunkTree}
 use Rattle.sctp_packet.specs.Written.{chunk_type}
 use Rattle.sctp_packet.specs.Views.{viewed_data, viewed_idata}

@@ -15,7 +15,6 @@ use Rattle.sctp_state.specs.declared.api.errors.RestoreError.{RestoreError}
 use Rattle.sctp_state.specs.declared.api.errors.RestoreError.TheVariants as restores
 use Rattle.sctp_state.specs.declared.api.handover.SocketHandoverState.{SocketHandoverState}
 use Rattle.spec_endpoint.specs.Association.{State, Endpoint}
-use Rattle.spec_endpoint.specs.Input.{refusal}
 use Rattle.sctp_endpoint.specs.declared.transmission_control_block.Association as given_association
 use Rattle.sctp_endpoint.specs.Views.{ContextValue, context_of}
 use Rattle.spec_endpoint.specs.Shown.{Association}

@@ -1,7 +1,7 @@
 //! Keys of reassembly, through their bound.
 
 ghost use Rattle.std.specs.Prelude.{◌≡◌, ◌<◌};
-ghost use Rattle.sctp_rx.specs.Key.{rank_at};
+ghost use Rattle.sctp_rx.specs.ReassemblyKey.{rank_at};
 
 use sctp_rx::{
     InterleavedKey, ReassemblyKey, TraditionalKey, UnorderedInterleavedKey, is_before, is_same,

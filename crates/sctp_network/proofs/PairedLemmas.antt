@@ -8,7 +8,7 @@ use Rattle.sctp_network.specs.declared.world.WorldError.{WorldError}
 use Rattle.sctp_network.specs.declared.world.WorldError.TheVariants as errors
 use Rattle.spec_world.specs.World.{World, Action}
 use Rattle.spec_world.proofs.RunLemmas.{Runs_append}
-use Rattle.proof_world.specs.Traces.{ActionFits, IsInBytes}
+use Rattle.proof_world.specs.Traces.{ActionFits}
 use Rattle.proof_world.specs.Alike.{ArePaired, first_new, second_new}
 use Rattle.proof_world.specs.Pairs.{Both, BothUpToLack}
 use Rattle.sctp_network.proofs.ReachableLemmas.{in_bytes_after, front_fits}

@@ -2,7 +2,7 @@
 
 ghost use Rattle.std.specs.Prelude.{◌≡◌, OnOk};
 ghost use Rattle.sctp_packet.specs.Views.{viewed_fragment};
-ghost use Rattle.sctp_rx.specs.Tracker.{is_valid, number_of};
+ghost use Rattle.sctp_rx.specs.DataTracker.{is_valid, number_of};
 ghost use Rattle.spec_endpoint.specs.Data.{forwarded_if, taken_if, takes};
 ghost use Rattle.sctp_endpoint.specs.Views.{tcb_of};
 

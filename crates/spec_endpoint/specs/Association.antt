@@ -13,7 +13,7 @@ use Rattle.sctp_state.specs.RetransmissionTimeout.{Rtt, unsampled}
 use Rattle.sctp_state.specs.TxErrorCounter.{ErrorCounter, no_errors}
 use Rattle.sctp_state.specs.Events.{Emitted, silent}
 use Rattle.sctp_capabilities.specs.Capabilities.{Capabilities}
-use Rattle.sctp_rx.specs.Tracker.{DataTracker, tracker}
+use Rattle.sctp_rx.specs.DataTracker.{DataTracker, tracker}
 use Rattle.sctp_rx.specs.ReassemblyQueue.{Reassembly, reassembly}
 use Rattle.sctp_tx_queue.specs.SendQueue.{Queue, queue}
 use Rattle.sctp_tx.specs.RetransmissionQueue.{Sender, sender}

@@ -4,8 +4,8 @@ use Rattle.sctp_wire.specs.Cause.{no_user_data}
 use Rattle.sctp_packet.specs.Chunk.{FragmentTree, error_chunk}
 use Rattle.sctp_chunk.specs.declared.forward_tsn.SkippedStream.{SkippedStream}
 use Rattle.sctp_state.specs.declared.api.ErrorKind.TheVariants.{NotConnected, ProtocolViolation}
-use Rattle.sctp_rx.specs.Tracker.{DataTracker, number_of, is_valid, has_seen, moves_on, observe}
-use Rattle.sctp_rx.specs.Tracker as tracker
+use Rattle.sctp_rx.specs.DataTracker.{DataTracker, number_of, is_valid, has_seen, moves_on, observe}
+use Rattle.sctp_rx.specs.DataTracker as tracker
 use Rattle.sctp_rx.specs.ReassemblyQueue.{Reassembly, watermark, queued_bytes}
 use Rattle.sctp_rx.specs.ReassemblyQueue as reassembly
 use Rattle.spec_endpoint.specs.Association.{Tcb, State, Closed, CookieWait, Open, Context, EndpointState, open_as, with_context}

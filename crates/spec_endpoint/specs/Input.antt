@@ -14,7 +14,7 @@ use Rattle.sctp_state.specs.Numbers.{more}
 use Rattle.sctp_state.specs.RetransmissionTimeout.{rto}
 use Rattle.sctp_state.specs.Timer.{start, set_duration}
 use Rattle.sctp_capabilities.specs.Capabilities.{Capabilities}
-use Rattle.sctp_rx.specs.Tracker.{packet_end, is_ack_due}
+use Rattle.sctp_rx.specs.DataTracker.{packet_end, is_ack_due}
 use Rattle.spec_endpoint.specs.Association.{Tcb, Phase, CookieEchoed, Established, ShutdownPending, ShutdownSent, ShutdownReceived, ShutdownAckSent, State, Closed, CookieWait, Open, Context, EndpointState, Endpoint, open_as, with_context, in_context, where_open}
 use Rattle.spec_endpoint.specs.Heartbeats.{on_heartbeat_ack}
 use Rattle.spec_endpoint.specs.Packets.{add, round_up, new_packet, complain, emit_chunk}

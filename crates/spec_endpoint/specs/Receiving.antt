@@ -1,5 +1,5 @@
 -- What an end makes of bytes.
-use Rattle.std.specs.Prelude.{◌≡◌, ℕ, not, Bool, true, false, Some, None, List}
+use Rattle.std.specs.Prelude.{◌≡◌, ℕ, Bool, true, false, Some, None, List}
 use Rattle.sctp_wire.specs.declared.checksum.Policy.{Policy}
 use Rattle.sctp_packet.specs.Packet.{PacketTree, Accepts, Refuses, IsFault}
 use Rattle.sctp_packet.specs.declared.packet.PacketParseError.{PacketParseError}

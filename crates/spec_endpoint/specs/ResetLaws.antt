@@ -1,7 +1,7 @@
 -- Laws of resets: what is performed once, what has to wait, and that a request has room for its streams.
 use Rattle.std.specs.Prelude.{◌≡◌, ℕ, ◌^◌, ◌<◌, ◌≤◌, true, List, length}
 use Rattle.sctp_serial.specs.declared.api.StreamId.{StreamId}
-use Rattle.sctp_rx.specs.Tracker.{number_of}
+use Rattle.sctp_rx.specs.DataTracker.{number_of}
 use Rattle.spec_endpoint.specs.Packets.{Packet, room, fits}
 use Rattle.spec_endpoint.specs.ResetRequests.{Request, request_chunk, is_final}
 use Rattle.spec_endpoint.specs.Sending.{most_streams}

@@ -8,7 +8,7 @@ use Rattle.sctp_state.specs.RetransmissionTimeout.{Rtt, rto, observe_rto}
 use Rattle.sctp_state.specs.Timer.{set_duration}
 use Rattle.sctp_tx_outstanding.specs.OutstandingData.{number_of}
 use Rattle.sctp_tx_outstanding.specs.Sack.{is_valid}
-use Rattle.sctp_rx.specs.Tracker.{update_rto}
+use Rattle.sctp_rx.specs.DataTracker.{update_rto}
 use Rattle.sctp_tx.specs.RetransmissionQueue.{SackAnswer, Invalid, Valid, sender_if, emitted_if, answer_if}
 use Rattle.spec_endpoint.specs.Association.{Tcb, Phase, State, Closed, CookieWait, Open, Context, EndpointState, open_as}
 use Rattle.spec_endpoint.specs.Packets.{complain}

@@ -10,7 +10,7 @@ use Rattle.sctp_tx_outstanding.specs.OutstandingData.{fast_items, begin_reset, n
 use Rattle.sctp_tx_outstanding.specs.OutstandingData as items
 use Rattle.sctp_tx_outstanding.specs.Forward.{is_forward_due}
 use Rattle.sctp_tx_outstanding.specs.Losses.{expire_outstanding}
-use Rattle.sctp_rx.specs.Tracker.{is_ack_due, take_ack}
+use Rattle.sctp_rx.specs.DataTracker.{is_ack_due, take_ack}
 use Rattle.sctp_rx.specs.ReassemblyQueue.{Reassembly, watermark, queued_bytes}
 use Rattle.sctp_rx.specs.Sack.{sack, report}
 use Rattle.sctp_tx_queue.specs.SendQueue.{Queue}

@@ -8,7 +8,7 @@ use Rattle.sctp_state.specs.declared.timer.BackoffAlgorithm.TheVariants.{Exponen
 use Rattle.sctp_state.specs.Timer.{Timer, timer, start, set_duration}
 use Rattle.sctp_state.specs.RetransmissionTimeout.{rto}
 use Rattle.sctp_state.specs.Events.{Event, OnClosed, OnAborted}
-use Rattle.sctp_rx.specs.Tracker.{wire_tsn}
+use Rattle.sctp_rx.specs.DataTracker.{wire_tsn}
 use Rattle.sctp_tx.specs.RetransmissionQueue.{is_quiet}
 use Rattle.spec_endpoint.specs.Association.{Tcb, Phase, CookieEchoed, Established, ShutdownPending, ShutdownSent, ShutdownReceived, ShutdownAckSent, State, Closed, CookieWait, Open, Context, EndpointState, open_as}
 use Rattle.spec_endpoint.specs.Heartbeats.{silence}

@@ -8,7 +8,7 @@ use Rattle.sctp_state.specs.declared.api.errors.ResetStreamsError.{ResetStreamsE
 use Rattle.sctp_state.specs.declared.api.errors.ResetStreamsError.TheVariants.{NotConnected, NotSupported}
 use Rattle.sctp_state.specs.Events.{Event, OnIncomingStreamReset, OnStreamsResetPerformed, OnStreamsResetFailed, numbers_of}
 use Rattle.sctp_state.specs.RetransmissionTimeout.{rto}
-use Rattle.sctp_rx.specs.Tracker.{number_of}
+use Rattle.sctp_rx.specs.DataTracker.{number_of}
 use Rattle.sctp_rx.specs.ReassemblyQueue.{defer, reset}
 use Rattle.sctp_tx_queue.specs.SendQueue.{Queue}
 use Rattle.sctp_tx_queue.specs.Resets.{prepare_reset, commit_resets, roll_back_resets}

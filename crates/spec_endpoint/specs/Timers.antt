@@ -7,7 +7,7 @@ use Rattle.sctp_state.specs.RetransmissionTimeout.{rto}
 use Rattle.sctp_state.specs.Timer.{Timer, is_due, is_running, expire, next_expiry}
 use Rattle.sctp_state.specs.Events.{OnAborted}
 use Rattle.sctp_tx_outstanding.specs.Losses.{Step, nack_all}
-use Rattle.sctp_rx.specs.Tracker.{ack_timeout}
+use Rattle.sctp_rx.specs.DataTracker.{ack_timeout}
 use Rattle.sctp_tx.specs.RetransmissionQueue.{timed_out_sender}
 use Rattle.spec_endpoint.specs.Association.{Tcb, Phase, CookieEchoed, Established, ShutdownPending, ShutdownSent, ShutdownReceived, ShutdownAckSent, State, Closed, CookieWait, Open, Heartbeats, Context, EndpointState, open_as}
 use Rattle.spec_endpoint.specs.Heartbeats.{beat_if, unanswered_if, expiry}

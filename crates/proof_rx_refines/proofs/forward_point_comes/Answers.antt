@@ -1,7 +1,7 @@
 use Rattle.std.proofs.Common.{◌+◌, Option, ◌∷◌, map, ap, subst}
 use Rattle.sctp_serial.specs.Unwrapped.{origin}
 use Rattle.sctp_rx.specs.ReassemblyQueue.{Deferred, number_of, point_waits, forward}
-use Rattle.sctp_rx.specs.Tracker as tracker
+use Rattle.sctp_rx.specs.DataTracker as tracker
 use Rattle.proof_protocol.specs.Rules.{forward_comes, become_ready}
 use Rattle.proof_rx_refines.specs.Read.{shift_after}
 use Rattle.proof_rx_refines.specs.Refinement.{Goes}

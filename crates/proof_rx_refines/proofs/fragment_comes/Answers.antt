@@ -1,7 +1,7 @@
 use Rattle.std.proofs.Common.{◌+◌, Option, [], ◌∷◌, map, ap, subst}
 use Rattle.sctp_serial.specs.Unwrapped.{origin}
 use Rattle.sctp_rx.specs.ReassemblyQueue.{Deferred, number_of, fragment_waits, add}
-use Rattle.sctp_rx.specs.Tracker.{observe}
+use Rattle.sctp_rx.specs.DataTracker.{observe}
 use Rattle.proof_protocol.specs.Rules.{data_comes, late_comes, become_ready}
 use Rattle.proof_rx_refines.specs.Read.{shift_after}
 use Rattle.proof_rx_refines.specs.Refinement.{Goes}

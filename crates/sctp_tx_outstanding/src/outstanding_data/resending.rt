@@ -12,7 +12,7 @@ use sctp_serial::Tsn;
 use std::alloc::AllocError;
 
 impl OutstandingData {
-    // Hands the item at the place out to be sent once more.
+    /// Hands the item at the place out to be sent once more.
     fn resend_at(&mut self, place: usize, filling: &mut Filling) -> Result<(), AllocError>
         ensures ok { OnOk result (resent_of self.new filling.new ≡ again_at place (resent_of self.old filling.old)) }
         ensures err { OnErr result (self.new ≡ self.old) }
@@ -30,7 +30,7 @@ impl OutstandingData {
         Ok(())
     }
 
-    // What may be sent now: while something is in flight the peer's window counts too.
+    /// What may be sent now: while something is in flight the peer's window counts too.
     fn allowed(&self, filling: &Filling) -> usize
         ensures { result ≡ allowance (resent_of self.now filling.now) }
     {
@@ -40,7 +40,7 @@ impl OutstandingData {
         filling.room.min(filling.window)
     }
 
-    // What becomes of the item at the place.
+    /// What becomes of the item at the place.
     fn turn_at(&self, place: usize, fast: bool, filling: &Filling) -> Turn
         ensures { result ≡ turn_at fast place (resent_of self.now filling.now) }
     {
@@ -82,7 +82,7 @@ impl OutstandingData {
         }
     }
 
-    // Whether an item waits to be sent again, by the fast packet or in all.
+    /// Whether an item waits to be sent again, by the fast packet or in all.
     fn has_waiting(&self, fast: bool) -> bool
         ensures { result ≡ nat_lt 0 (waiting_for fast self.now.items) }
     {
@@ -93,7 +93,7 @@ impl OutstandingData {
         }
     }
 
-    // Whether no item that waits may be sent, for all that is known of their sizes. The fast packet passes each over.
+    /// Whether no item that waits may be sent, for all that is known of their sizes. The fast packet passes each over.
     fn is_full(&self, fast: bool, filling: &Filling) -> bool
         ensures slow { result ≡ true → fast ≡ false }
         ensures full { result ≡ true → IsFull (resent_of self.now filling.now) }
@@ -104,7 +104,7 @@ impl OutstandingData {
         self.allowed(filling) < self.kept.least_waiting()
     }
 
-    // Gives each item that waits its turn, up to the last one that may be sent; no other has one.
+    /// Gives each item that waits its turn, up to the last one that may be sent; no other has one.
     fn resend(&mut self, fast: bool, filling: &mut Filling) -> Result<(), AllocError>
         ensures ok { OnOk result (resent_of self.new filling.new ≡ resent_below fast (length self.old.items.kept) (resent_of self.old filling.old)) }
         ensures err { OnErr result (SomeResent fast (resent_of self.old filling.old) self.new) }

@@ -1,4 +1,4 @@
-use Rattle.std.proofs.Common.{List, ◌-◌, length, map, drop, sym, ap, ◌∙◌, arith, string_bytes}
+use Rattle.std.proofs.Common.{List, ◌-◌, length, map, drop, sym, ap, ◌∙◌, arith}
 use Rattle.std.specs.List.{flat_map}
 use Rattle.std.proofs.lemmas.List.{drop-map, length-drop, take_all}
 use Rattle.std.proofs.lemmas.Result.{IfOk-weaker}

@@ -1,7 +1,7 @@
 use Rattle.std.proofs.Common.{◌≡◌, ◌≤◌, ℕ, List, false, ◌∙◌, map, rules, ap, sym, subst}
 use Rattle.sctp_chunk.specs.Chunk.{FragmentTree}
 use Rattle.sctp_tx_outstanding.specs.Views.{chunk_of}
-use Rattle.sctp_tx_outstanding.specs.Items.{waiting_items}
+use Rattle.sctp_tx_outstanding.specs.OutstandingData.{waiting_items}
 use Rattle.sctp_tx_outstanding.specs.Resending.{Resent, resend, chunk_bytes}
 use Rattle.sctp_tx_outstanding.proofs.RoomLemmas.{resend_fits, resend_quiet, no_more_lem}
 use Rattle.sctp_tx_outstanding.proofs.outstanding_data.OutstandingData.get_chunks_to_be_retransmitted.Goals as goal

@@ -1,7 +1,7 @@
 use Rattle.std.proofs.Common.{◌≡◌, ◌<◌, ◌≤◌, true, subst}
 use Rattle.std.specs.List.{All}
 use Rattle.sctp_tx_outstanding.specs.Item.{chunk_size, should_be_retransmitted}
-use Rattle.sctp_tx_outstanding.specs.Items.{Outstanding}
+use Rattle.sctp_tx_outstanding.specs.OutstandingData.{Outstanding}
 use Rattle.sctp_tx_outstanding.specs.Views.{resent_of}
 use Rattle.sctp_tx_outstanding.specs.Resending.{allowance}
 use Rattle.sctp_tx_outstanding.proofs.IdleLemmas.{is_full_lem, less_than}

@@ -1,6 +1,6 @@
 use Rattle.std.proofs.Common.{◌≡◌, ◌+◌, ◌≤◌, suc, length, ap, sym, subst, ◌∙◌, rules, arith}
 use Rattle.sctp_tx_outstanding.specs.Views.{resent_of}
-use Rattle.sctp_tx_outstanding.specs.Items.{Outstanding}
+use Rattle.sctp_tx_outstanding.specs.OutstandingData.{Outstanding}
 use Rattle.sctp_tx_outstanding.specs.Waiting.{NoneWaits}
 use Rattle.sctp_tx_outstanding.specs.Resending.{Resent, waiting_for, step_at, resent_below, SomeResent}
 use Rattle.sctp_tx_outstanding.proofs.RoomLemmas.{no_more_lem, quiet_on}
