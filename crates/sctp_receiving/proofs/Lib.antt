@@ -1,3 +1,4 @@
+pub mod DataLemmas
 pub mod KindLemmas
 pub mod OutlineLemmas
 pub mod JudgeLemmas
