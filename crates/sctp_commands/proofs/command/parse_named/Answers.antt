@@ -1,6 +1,6 @@
 use Rattle.std.proofs.Common.{refl, map}
-use Rattle.sctp_world.proofs.WordLemmas.{no_command}
-use Rattle.sctp_world.proofs.command.parse_named.Goals as goal
+use Rattle.sctp_commands.proofs.WordLemmas.{no_command}
+use Rattle.sctp_commands.proofs.command.parse_named.Goals as goal
 
 pub returns-else-is_word-11-clause-none : goal.returns-else-is_word-11-clause-none
 returns-else-is_word-11-clause-none c =

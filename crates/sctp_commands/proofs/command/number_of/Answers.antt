@@ -1,6 +1,6 @@
 use Rattle.std.proofs.Common.{rules}
-use Rattle.sctp_world.proofs.NumberLemmas.{is_utf8, none_if_err}
-use Rattle.sctp_world.proofs.command.number_of.Goals as goal
+use Rattle.sctp_commands.proofs.NumberLemmas.{is_utf8, none_if_err}
+use Rattle.sctp_commands.proofs.command.number_of.Goals as goal
 
 -- digits are UTF-8
 pub returns-in_default-clause-none : goal.returns-in_default-clause-none

@@ -2,7 +2,7 @@
 use Rattle.std.proofs.Common.{◌≡◌, ◌≢◌, ℕ, List, ◌∷◌, codes, sym, ◌∙◌}
 use Rattle.spec_world.specs.Observations.{Connect, Shutdown, Close, Send, SendMany, Receive, Reset, SetPriority, SetMaxMessageSize, SetLowThreshold, HandOver}
 use Rattle.spec_world.specs.World.{CallOf, Give, GiveForeign, AdvanceTime}
-use Rattle.sctp_world.specs.Command.{SpellsWords, Asked, probe_of, happens, passes, shown}
+use Rattle.sctp_commands.specs.Command.{SpellsWords, Asked, probe_of, happens, passes, shown}
 
 first : (a b : List ℕ) (more others : List (List ℕ)) → a ∷ more ≡ b ∷ others → a ≡ b
 first a b more others e = cc

@@ -4,13 +4,13 @@ ghost use Rattle.std.specs.Prelude.{◌≡◌, ◌≢◌, ℕ, ◌<◌, ◌^◌,
 ghost use Rattle.std.specs.Char.{is_ascii_digit};
 ghost use Rattle.std.specs.List.{list_all};
 ghost use Rattle.sctp_state.specs.Options.{SendOptions as Sending, send_options_of};
-ghost use Rattle.sctp_world.specs.Command.{Asked, Spells, SpellsNone, SpellsWords, IsNumber, IsHex, IsFlag, IsNamed, SpellsId, SpellsLimit, SpellsLife, SpellsOptions, words_of};
+ghost use Rattle.sctp_commands.specs.Command.{Asked, Spells, SpellsNone, SpellsWords, IsNumber, IsHex, IsFlag, IsNamed, SpellsId, SpellsLimit, SpellsLife, SpellsOptions, words_of};
 ghost use Rattle.spec_world.specs.Observations.{End as tree, end_name};
 ghost use Rattle.sctp_network_side.specs.SideView.{end_tree};
-ghost use Rattle.sctp_world.specs.CommandView.{command_of};
+ghost use Rattle.sctp_commands.specs.CommandView.{command_of};
 
 use hex::FromHexError;
-use sctp_network::{Call, End, Event};
+use sctp_network_side::{Call, End, Event};
 use sctp_serial::{LifecycleId, Message, PpId, SocketTime, StreamId};
 use sctp_state::SendOptions;
 use std::alloc::{AllocError, Global};

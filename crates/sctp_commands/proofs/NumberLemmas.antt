@@ -9,7 +9,7 @@ use Rattle.std.proofs.lemmas.Fmt.{IsAscii-from_digits}
 use Rattle.std.proofs.lemmas.Result.{OkIff-at_ok, OkIff-at_err}
 use Rattle.std.proofs.lemmas.Str.{IsUtf8-from_ascii}
 use Rattle.std.proofs.lemmas.Str.Parse.{IsNumeralModel, numerals_by_value, tells_all_ascii_digits, parse_digits}
-use Rattle.sctp_world.specs.Command.{IsNumber}
+use Rattle.sctp_commands.specs.Command.{IsNumber}
 
 same_digits : (ds : List ℕ) → list_all is_ascii_digit ds ≡ all_ascii_digits ds
 same_digits [] = refl

@@ -4,7 +4,7 @@ use Rattle.sctp_serial.specs.Messages.{Message}
 use Rattle.sctp_state.specs.Options.{SendOptions}
 use Rattle.spec_world.specs.Observations.{End, Connect, Shutdown, Close, Send, SendMany, Receive, Reset, SetPriority, SetMaxMessageSize, SetLowThreshold, HandOver}
 use Rattle.spec_world.specs.World.{CallOf, Give, GiveForeign, AdvanceTime}
-use Rattle.sctp_world.specs.Command.{IsFlag, IsNamed, IsHex, SpellsLimit, SpellsLife, SpellsOptions, SpellsSend, SpellsWords, Asked, probe_of, happens, passes, shown}
+use Rattle.sctp_commands.specs.Command.{IsFlag, IsNamed, IsHex, SpellsLimit, SpellsLife, SpellsOptions, SpellsSend, SpellsWords, Asked, probe_of, happens, passes, shown}
 
 module _ (name : List ℕ) (words rest other : List (List ℕ)) where
   one_rest : (n m : Option ℕ) → IsNamed name words rest n → IsNamed name words other m → other ≡ rest

@@ -1,7 +1,7 @@
 -- A command as the definitions see it.
-use Rattle.sctp_world.specs.declared.command.Command.{Command}
-use Rattle.sctp_world.specs.declared.command.Command.TheVariants as commands
-use Rattle.sctp_world.specs.Command.{Asked, probe_of, happens, passes, shown}
+use Rattle.sctp_commands.specs.declared.command.Command.{Command}
+use Rattle.sctp_commands.specs.declared.command.Command.TheVariants as commands
+use Rattle.sctp_commands.specs.Command.{Asked, probe_of, happens, passes, shown}
 use Rattle.sctp_network_side.specs.SideView.{action_of, end_tree}
 
 abbrev pub command_of : Command → Asked
