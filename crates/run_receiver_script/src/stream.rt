@@ -3,6 +3,7 @@
 ghost use Rattle.std.specs.Prelude.{◌+◌, ◌<◌, ◌^◌, IsTrue};
 ghost use Rattle.sctp_rx.specs.Delivery.{ready_bytes};
 
+use crate::list::Key;
 use crate::output::Output;
 use crate::player::{Player, play_each};
 use crate::receiver::show_next;
@@ -27,8 +28,6 @@ pub fn have_room(held: usize, ready: &ReadyMessages, coming: usize) -> bool
 
 /// A stream of either kind and form. Numbers count from 2^32 on.
 trait Stream: ReassemblyStream {
-    fn key(number: u64, index: u64) -> Self::Key;
-
     /// The next number of an ordered stream, the last one that came of another.
     fn number(&self) -> u128;
 
@@ -37,10 +36,6 @@ trait Stream: ReassemblyStream {
 }
 
 impl Stream for traditional::OrderedStream {
-    fn key(number: u64, index: u64) -> TraditionalKey {
-        TraditionalKey { number, index }
-    }
-
     fn number(&self) -> u128 {
         self.next()
     }
@@ -49,10 +44,6 @@ impl Stream for traditional::OrderedStream {
 }
 
 impl Stream for interleaved::OrderedStream {
-    fn key(number: u64, index: u64) -> InterleavedKey {
-        InterleavedKey { number, index }
-    }
-
     fn number(&self) -> u128 {
         self.next()
     }
@@ -61,10 +52,6 @@ impl Stream for interleaved::OrderedStream {
 }
 
 impl Stream for traditional::UnorderedStream {
-    fn key(number: u64, index: u64) -> TraditionalKey {
-        TraditionalKey { number, index }
-    }
-
     fn number(&self) -> u128 {
         self.near() as u128
     }
@@ -75,10 +62,6 @@ impl Stream for traditional::UnorderedStream {
 }
 
 impl Stream for interleaved::UnorderedStream {
-    fn key(number: u64, index: u64) -> UnorderedInterleavedKey {
-        UnorderedInterleavedKey { number, index }
-    }
-
     fn number(&self) -> u128 {
         self.near() as u128
     }
@@ -161,7 +144,10 @@ pub fn run_unordered(alloc: Global, line: &str, script: &str, output: &mut Outpu
     }
 }
 
-fn run_on<S: Stream + Drop>(alloc: Global, stream: S, script: &str, output: &mut Output) {
+fn run_on<S: Stream>(alloc: Global, stream: S, script: &str, output: &mut Output)
+where
+    S::Key: Key,
+{
     let alone = Alone {
         stream,
         ready: ReadyMessages::new(alloc),
@@ -169,7 +155,10 @@ fn run_on<S: Stream + Drop>(alloc: Global, stream: S, script: &str, output: &mut
     play_each(alloc, alone, script, output);
 }
 
-impl<S: Stream> Player for Alone<S> {
+impl<S: Stream> Player for Alone<S>
+where
+    S::Key: Key,
+{
     /// `next`; and changes, which are answered by the state, as is `state`.
     fn play(&mut self, alloc: Global, line: &str, output: &mut Output) {
         if word(line, 0) == "next" {
@@ -181,7 +170,10 @@ impl<S: Stream> Player for Alone<S> {
     }
 }
 
-impl<S: Stream> Alone<S> {
+impl<S: Stream> Alone<S>
+where
+    S::Key: Key,
+{
     /// Takes a fragment, where there is room.
     fn add(&mut self, key: S::Key, fragment: Data) -> Result<(), AllocError> {
         let held = self.stream.queued_bytes();
@@ -204,7 +196,7 @@ impl<S: Stream> Alone<S> {
 
     /// `add NUMBER INDEX ENDS HEX`, `forward NUMBER INDEX`, `drop NUMBER INDEX`.
     fn change(&mut self, alloc: Global, line: &str, output: &mut Output) {
-        let key = S::key(number(line, 1), number(line, 2));
+        let key = S::Key::made(number(line, 1), number(line, 2));
         match word(line, 0) {
             "add" => {
                 let fragment = piece(alloc, line, output);
