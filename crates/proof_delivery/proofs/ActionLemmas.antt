@@ -9,7 +9,7 @@ use Rattle.std.proofs.lemmas.Option.{slice_get_within}
 use Rattle.sctp_serial.specs.Messages as messages
 use Rattle.sctp_state.specs.Events.{Event}
 use Rattle.proof_protocol.specs.State.{Message, count, stream_of}
-use Rattle.proof_protocol.specs.Rules.{accept, begin, number, end_with_placeholder, give_up, data_comes, late_comes, become_ready, send_sack, ack_point_advances, send_forward, forward_comes, perform_reset}
+use Rattle.proof_protocol.specs.Rules.{accept, begin, number, end_with_placeholder, give_up, data_comes, late_comes, become_ready, send_sack, acknowledge_next, send_forward, forward_comes, perform_reset}
 use Rattle.proof_protocol.specs.Resets.{Epochs, ResetEvent, transfers, reset_stream, send_request, perform, commit, goes, go_all}
 use Rattle.sctp_tx_queue.specs.SendQueue.{Queue}
 use Rattle.spec_endpoint.specs.Association.{State, Endpoint}
@@ -18,8 +18,8 @@ use Rattle.proof_endpoint.specs.Acts.{calm}
 use Rattle.proof_pair.specs.Trace.{Side, packets_in, emitted_packets, drain, state_of}
 use Rattle.proof_pair.proofs.JoinActsLemmas.{packets_both}
 use Rattle.proof_delivery.specs.Accepted.{AcceptedMessage}
-use Rattle.proof_delivery.specs.Answered.{waiting_number, is_same, asked_by}
-use Rattle.proof_delivery.specs.Asks.{Ask, number_of}
+use Rattle.proof_delivery.specs.Answered.{waiting_number, is_same, numbered_before}
+use Rattle.proof_delivery.specs.Asks.{ResetRequest, number_of}
 use Rattle.proof_delivery.specs.StreamEpochs.{StreamEpoch, shut_streams, reopen, performed_of, epochs_of}
 use Rattle.proof_delivery.specs.Windows.{Stamp, numbered_count, queue_of, stamp_packets}
 use Rattle.proof_delivery.proofs.ClaimLemmas.{Direction, transfer_of, goes_out, goes_in, IsKept, GoesOn, AsksStay, first_out, first_in, AreSo, SendsIn, ReceivesIn, SenderClaim, ReceiverClaim}
@@ -44,7 +44,7 @@ module _ (message : ℕ → Message) (is_interleaved : Bool) where
   accepted_once x (transfers (number p bytes more)) s = record { accepted = refl; epoch = refl }
   accepted_once x (transfers (end_with_placeholder p)) s = record { accepted = refl; epoch = refl }
   accepted_once x (transfers (give_up p)) s = record { accepted = refl; epoch = refl }
-  accepted_once x (transfers (ack_point_advances c)) s = record { accepted = refl; epoch = refl }
+  accepted_once x (transfers (acknowledge_next c)) s = record { accepted = refl; epoch = refl }
   accepted_once x (transfers (send_forward f)) s = record { accepted = refl; epoch = refl }
   accepted_once x (transfers (data_comes t)) s = cc
   accepted_once x (transfers (late_comes t)) s = cc
@@ -133,7 +133,7 @@ outgoing_one (transfers (begin p)) h = refl
 outgoing_one (transfers (number p bytes more)) h = h
 outgoing_one (transfers (end_with_placeholder p)) h = refl
 outgoing_one (transfers (give_up p)) h = refl
-outgoing_one (transfers (ack_point_advances c)) h = refl
+outgoing_one (transfers (acknowledge_next c)) h = refl
 outgoing_one (transfers (send_forward f)) h = refl
 outgoing_one (transfers (data_comes t)) h = h
 outgoing_one (transfers (late_comes t)) h = h
@@ -161,7 +161,7 @@ outgoing_has (transfers (data_comes t)) h = refl
 outgoing_has (transfers (late_comes t)) h = refl
 outgoing_has (transfers (become_ready p)) h = refl
 outgoing_has (transfers (send_sack c)) h = refl
-outgoing_has (transfers (ack_point_advances c)) h = refl
+outgoing_has (transfers (acknowledge_next c)) h = refl
 outgoing_has (transfers (send_forward f)) h = refl
 outgoing_has (transfers (forward_comes f)) h = refl
 outgoing_has (transfers (perform_reset s c)) h = refl
@@ -258,10 +258,10 @@ same_some (Some k) p n h e = (k, refl)
 
 module _ (message : ℕ → Message) (lifecycle : ℕ → Option ℕ) (is_interleaved : Bool) (s t : State) (q r : Queue) (x y : Direction) (sends : SendsIn message lifecycle is_interleaved s q x)
     (shown : SendsIn message lifecycle is_interleaved t r y) (stands : Stands s t) (kept : IsKept message is_interleaved x) (answered : x.answered ≤ y.answered)
-    (since : (a : Ask) → slice_get y.asks y.answered ≡ Some a → (slice_get x.asks y.answered ≡ Some a) ⊎ (count (transfer_of x).sender ≤ a.upto))
-    (n : ℕ) (asked : (a : Ask) → slice_get x.asks x.answered ≡ Some a → n ≤ a.upto) where
+    (since : (a : ResetRequest) → slice_get y.asks y.answered ≡ Some a → (slice_get x.asks y.answered ≡ Some a) ⊎ (count (transfer_of x).sender ≤ a.upto))
+    (n : ℕ) (asked : (a : ResetRequest) → slice_get x.asks x.answered ≡ Some a → n ≤ a.upto) where
   -- it waited before
-  asked_still : (a : Ask) → slice_get y.asks y.answered ≡ Some a → slice_get x.asks y.answered ≡ Some a → asked_by s t n ≤ a.upto
+  asked_still : (a : ResetRequest) → slice_get y.asks y.answered ≡ Some a → slice_get x.asks y.answered ≡ Some a → numbered_before s t n ≤ a.upto
   asked_still a there before =
       let l = slice_get_within x.asks y.answered a before in
       let o = kept.asked.order.2 in
@@ -276,7 +276,7 @@ module _ (message : ℕ → Message) (lifecycle : ℕ → Option ℕ) (is_interl
       subst (λ (b : Bool). cond b n (numbered_count s) ≤ a.upto) (sym is) (asked a was)
 
   -- it is new: it ends at what was numbered before, or later
-  asked_newly : (a : Ask) → slice_get y.asks y.answered ≡ Some a → count (transfer_of x).sender ≤ a.upto → asked_by s t n ≤ a.upto
+  asked_newly : (a : ResetRequest) → slice_get y.asks y.answered ≡ Some a → count (transfer_of x).sender ≤ a.upto → numbered_before s t n ≤ a.upto
   asked_newly a there l = by (is_same (waiting_number s) (waiting_number t)) refl
     where
       by : (b : Bool) → is_same (waiting_number s) (waiting_number t) ≡ b → cond b n (numbered_count s) ≤ a.upto
@@ -288,7 +288,7 @@ module _ (message : ℕ → Message) (lifecycle : ℕ → Option ℕ) (is_interl
           let within = (kept.asked.fine x.answered was.0 was.1).within in
           omega (arith, up, within, l)
 
-  asked_then : (a : Ask) → slice_get y.asks y.answered ≡ Some a → asked_by s t n ≤ a.upto
+  asked_then : (a : ResetRequest) → slice_get y.asks y.answered ≡ Some a → numbered_before s t n ≤ a.upto
   asked_then a there = elim (since a there) [ inl before ↦ asked_still a there before | inr l ↦ asked_newly a there l ]
 
 -- ---- actions
@@ -302,7 +302,7 @@ abbrev pub so_far_then : SoFar → (s : Side) → Endpoint Carried → List Acce
 so_far_then k s e os prepared = record {
   streams = reopen (performed_of e.endpoint_state.context.emitted.events) (shut_streams prepared k.streams);
   epochs = k.epochs ++ epochs_of os k.streams;
-  asked = asked_by (state_of s) e.endpoint_state.state k.asked;
+  asked = numbered_before (state_of s) e.endpoint_state.state k.asked;
 }
 
 module _ (message : ℕ → Message) (lifecycle : ℕ → Option ℕ) (is_interleaved : Bool) (of : Stamp → ℕ) (stay : Stay message lifecycle is_interleaved) (s r : Side) (accepted : ℕ)
@@ -350,7 +350,7 @@ module _ (message : ℕ → Message) (lifecycle : ℕ → Option ℕ) (is_interl
             ∙ offers_epochs message lifecycle so_far.streams is_interleaved x mid os so_far.epochs offers f.streams (subst (λ (n : ℕ). AreOffered message lifecycle n os) (sym is) are) (many ∙ sym is) f.epochs p n h;
         asked = asked_then message lifecycle is_interleaved (state_of s) e.endpoint_state.state (queue_of s) e.endpoint_state.context.queue x y f.sends c.shown stands f.kept
             (let a = offers.answered in let b = c.goes.answered in omega (arith, a, b))
-            (λ a h. elim (c.since a h) [ inl g ↦ inl (subst (λ (l : List Ask). slice_get l y.answered ≡ Some a) offers.asks g) | inr l ↦ inr (omega (arith, l, counted)) ])
+            (λ a h. elim (c.since a h) [ inl g ↦ inl (subst (λ (l : List ResetRequest). slice_get l y.answered ≡ Some a) offers.asks g) | inr l ↦ inr (omega (arith, l, counted)) ])
             so_far.asked f.asked;
         answered = let a = f.answered in let b = offers.answered in let d = c.performed in let g = performed_both s.emitted emitted in omega (arith, a, b, d, g);
         performed = λ k. ap (λ (g : ℕ → ℕ). g k) ((receiver_stays message is_interleaved mid y c.goes).performed ∙ offers.performed) ∙ f.performed k;
@@ -381,7 +381,7 @@ module _ (message : ℕ → Message) (lifecycle : ℕ → Option ℕ) (is_interl
         streams = so_still so_far.streams x.rules y.rules same.raised same.opened f.streams;
         many = f.many;
         epochs = λ p n h. ap (λ (g : ℕ → ℕ). g p) same.epoch ∙ f.epochs p n h;
-        asked = λ a h. f.asked a (sym (ap (λ (l : List Ask). slice_get l y.answered) c.stay.0 ∙ ap (λ (n : ℕ). slice_get x.asks n) c.stay.1) ∙ h);
+        asked = λ a h. f.asked a (sym (ap (λ (l : List ResetRequest). slice_get l y.answered) c.stay.0 ∙ ap (λ (n : ℕ). slice_get x.asks n) c.stay.1) ∙ h);
         answered = c.stay.1 ∙ f.answered;
         performed = λ k. let a = c.performed k in let b = f.performed k in let d = emitted_both k r.emitted emitted in omega (arith, a, b, d);
         none_failed = f.none_failed;

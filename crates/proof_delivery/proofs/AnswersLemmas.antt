@@ -3,23 +3,23 @@ use Rattle.std.proofs.Common.{◌≡◌, ◌≢◌, ℕ, suc, ◌+◌, ◌-◌, 
 use Rattle.std.specs.Prelude.{not}
 use Rattle.std.proofs.lemmas.Bool.{cases_eq, cases_lt, eqb-true, eq-eqb, ne_eqb}
 use Rattle.std.proofs.lemmas.Option.{slice_get_within}
-use Rattle.sctp_serial.specs.Unwrapped.{origin, words, wire}
+use Rattle.sctp_serial.specs.Unwrapped.{origin, u32_space, wire}
 use Rattle.sctp_rx.specs.ReassemblyQueue.{Deferred}
 use Rattle.sctp_tx_queue.specs.SendQueue.{Queue}
-use Rattle.spec_endpoint.specs.ResetRequests.{Request, Requests, Outcome, Unsettled, Done, outcome, outcome_by, outcome_if, performed, in_progress, is_final, is_success, after, is_last, is_next}
+use Rattle.spec_endpoint.specs.ResetRequests.{Request, Requests, Outcome, Unsettled, Done, outcome, outcome_by, outcome_if, performed, in_progress, is_final, is_success, next_number, is_last_request, is_next_request}
 use Rattle.proof_protocol.proofs.ToolsLemmas.{not_both}
-use Rattle.proof_delivery.specs.Asks.{Ask, number_of, SaysDone, IsAsking, IsCurrent, IsAnswering}
+use Rattle.proof_delivery.specs.Asks.{ResetRequest, number_of, SaysDone, IsAsking, IsCurrent, IsAnswering}
 
 -- fewer than 2^32 have numbers of their own
 pub number_once : (first i j : ℕ) → i < 2 ^ 32 → j < 2 ^ 32 → number_of first i ≡ number_of first j → i ≡ j
 number_once first i j a b e = omega (arith, a, b, e)
 
 -- the one after it
-pub number_after : (first i : ℕ) → after (number_of first i) ≡ number_of first (suc i)
+pub number_after : (first i : ℕ) → next_number (number_of first i) ≡ number_of first (suc i)
 number_after first i = omega arith
 
 -- before a first one
-pub number_before : (first done : ℕ) → after (wire words first (origin + done - 1)) ≡ number_of first done
+pub number_before : (first done : ℕ) → next_number (wire u32_space first (origin + done - 1)) ≡ number_of first done
 number_before first done = omega arith
 
 less : (m n : ℕ) → m ≤ n → m ≢ n → m < n
@@ -28,11 +28,11 @@ less m n l d = elim (cases_lt m n) [ inl k ↦ k | inr g ↦ absurd (d (omega (a
 -- ---- the end that asked
 
 -- The answer settles nothing, or it is to the last ask, which was performed, and its streams go on. None is denied.
-module _ (first answered done : ℕ) (asks : List Ask) (q : Queue) (r : Requests) (asking : IsAsking first answered asks q r) (below : answered ≤ done) (few : done < 2 ^ 32) where
+module _ (first answered done : ℕ) (asks : List ResetRequest) (q : Queue) (r : Requests) (asking : IsAsking first answered asks q r) (below : answered ≤ done) (few : done < 2 ^ 32) where
   abbrev Settles : (number result : ℕ) → Type 0
   Settles number result =
       (outcome number result r.current ≡ Unsettled)
-      ⊎ ((a : Ask) × (slice_get asks answered ≡ Some a) × (answered < done) × (outcome number result r.current ≡ Done a.streams))
+      ⊎ ((a : ResetRequest) × (slice_get asks answered ≡ Some a) × (answered < done) × (outcome number result r.current ≡ Done a.streams))
 
   module _ (number result : ℕ) (said : is_final result ≡ true → SaysDone first done (length asks) number result) (long : length asks ≡ suc answered) (c : IsCurrent first answered asks q r.current) where
     abbrev by_result : ℕ → Outcome
@@ -72,7 +72,7 @@ module _ (first answered done : ℕ) (asks : List Ask) (q : Queue) (r : Requests
 
 -- A request that is the next one is the next ask; one that was the last is the last ask that was performed, or the one that is deferred;
 -- any other was performed, and isn't the last ask.
-module _ (first done : ℕ) (asks : List Ask) (r : Requests) (deferred : Option Deferred) (answering : IsAnswering first done asks r deferred) (below : done ≤ length asks) (order : length asks ≤ suc done)
+module _ (first done : ℕ) (asks : List ResetRequest) (r : Requests) (deferred : Option Deferred) (answering : IsAnswering first done asks r deferred) (below : done ≤ length asks) (order : length asks ≤ suc done)
     (few : length asks < 2 ^ 32) (at : ℕ) (there : at < length asks) where
   abbrev number : ℕ
   number = number_of first at
@@ -84,27 +84,27 @@ module _ (first done : ℕ) (asks : List Ask) (r : Requests) (deferred : Option 
   next_as : (j : ℕ) → j ≤ length asks → number_of first (suc at) ≡ number_of first j → suc at ≡ j
   next_as j l e = number_once first (suc at) j (omega (arith, there, few)) (omega (arith, l, few)) e
 
-  pub next_is_ask : is_next number r ≡ true → at ≡ done
+  pub next_is_ask : is_next_request number r ≡ true → at ≡ done
   next_is_ask h = elim answering [
-    | inl p ↦ same_as done below (eqb-true number (after r.last) h ∙ (ap after p.last ∙ number_before first done))
+    | inl p ↦ same_as done below (eqb-true number (next_number r.last) h ∙ (ap next_number p.last ∙ number_before first done))
     | inr d ↦
         let l = slice_get_within asks done d.ask d.there in
-        let e = same_as (suc done) (omega (arith, l)) (eqb-true number (after r.last) h ∙ (ap after d.last ∙ number_after first done)) in
+        let e = same_as (suc done) (omega (arith, l)) (eqb-true number (next_number r.last) h ∙ (ap next_number d.last ∙ number_after first done)) in
         absurd (omega (arith, e, there, order))
   ]
 
-  pub last_is_ask : is_last number r ≡ true → ((suc at ≡ done) × (is_final r.result ≡ true → r.result ≡ performed)) ⊎ ((at ≡ done) × (r.result ≡ in_progress))
+  pub last_is_ask : is_last_request number r ≡ true → ((suc at ≡ done) × (is_final r.result ≡ true → r.result ≡ performed)) ⊎ ((at ≡ done) × (r.result ≡ in_progress))
   last_is_ask h = elim answering [
     | inl p ↦
-        let e : suc at ≡ done = next_as done below (sym (number_after first at) ∙ (ap after (eqb-true number r.last h ∙ p.last) ∙ number_before first done)) in
+        let e : suc at ≡ done = next_as done below (sym (number_after first at) ∙ (ap next_number (eqb-true number r.last h ∙ p.last) ∙ number_before first done)) in
         inl (e, λ final. elim p.result [ inl x ↦ x | inr x ↦ let z = x.1 in absurd (omega (arith, e, z)) ])
     | inr d ↦ inr (same_as done below (eqb-true number r.last h ∙ d.last), d.result)
   ]
 
-  pub other_is_older : is_last number r ≡ false → is_next number r ≡ false → (at < done) × (suc at < length asks)
+  pub other_is_older : is_last_request number r ≡ false → is_next_request number r ≡ false → (at < done) × (suc at < length asks)
   other_is_older not_last not_next = elim answering [
     | inl p ↦
-        let a : at ≢ done = λ e. not_both (eq-eqb number (after r.last) (ap (number_of first) e ∙ sym (ap after p.last ∙ number_before first done))) not_next in
+        let a : at ≢ done = λ e. not_both (eq-eqb number (next_number r.last) (ap (number_of first) e ∙ sym (ap next_number p.last ∙ number_before first done))) not_next in
         let b : suc at ≢ done = λ e. not_both (eq-eqb number r.last (before_is e ∙ sym p.last)) not_last in
         let c = less at done (omega (arith, there, order)) a in
         let e = less (suc at) done (omega (arith, c)) b in
@@ -116,5 +116,5 @@ module _ (first done : ℕ) (asks : List Ask) (r : Requests) (deferred : Option 
         (c, omega (arith, c, l))
   ]
     where
-      before_is : suc at ≡ done → number ≡ wire words first (origin + done - 1)
+      before_is : suc at ≡ done → number ≡ wire u32_space first (origin + done - 1)
       before_is e = omega (arith, e)

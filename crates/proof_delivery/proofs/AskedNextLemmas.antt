@@ -8,9 +8,9 @@ use Rattle.proof_protocol.specs.Resets.{Epochs, Request}
 use Rattle.proof_tx_refines.specs.Records.{are_distinct}
 use Rattle.proof_rx_refines.specs.Resets.{AreNextTo, named_by}
 use Rattle.spec_endpoint.specs.ResetRequests.{ids}
-use Rattle.proof_delivery.specs.Asks.{Ask, request_for, AreAsked}
+use Rattle.proof_delivery.specs.Asks.{ResetRequest, request_for, AreRequested}
 
-module _ (x : Epochs) (asks : List Ask) (done answered : ℕ) (are : AreAsked x asks done answered) (a : Ask) (there : slice_get asks done ≡ Some a) where
+module _ (x : Epochs) (asks : List ResetRequest) (done answered : ℕ) (are : AreRequested x asks done answered) (a : ResetRequest) (there : slice_get asks done ≡ Some a) where
   abbrev pub requests_of : List ℕ → List Request
   requests_of ss = map (λ s. request_for s done a.upto asks) ss
 
@@ -40,6 +40,6 @@ module _ (x : Epochs) (asks : List Ask) (done answered : ℕ) (are : AreAsked x 
   next_ask = next_along a.streams (λ s h. h) (are.fine done a there).distinct
 
 -- they name its streams
-pub next_names : (asks : List Ask) (done upto : ℕ) (ss : List ℕ) → named_by (map (λ s. request_for s done upto asks) ss) ≡ ids ss
+pub next_names : (asks : List ResetRequest) (done upto : ℕ) (ss : List ℕ) → named_by (map (λ s. request_for s done upto asks) ss) ≡ ids ss
 next_names asks done upto [] = refl
 next_names asks done upto (k ∷ ss) = ap (λ (is : List StreamId). record { 0 = k } ∷ is) (next_names asks done upto ss)

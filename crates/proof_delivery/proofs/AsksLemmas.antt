@@ -5,13 +5,13 @@ use Rattle.std.proofs.lemmas.Bool.{eqb-true}
 use Rattle.std.proofs.lemmas.Option.{slice_get_within}
 use Rattle.sctp_wire.specs.Parameter.{ParameterTree, outgoing_reset_request, incoming_reset_request, reset_response}
 use Rattle.proof_protocol.specs.State.{Message, IsAmong, has, count, put}
-use Rattle.proof_protocol.specs.Rules.{Rule, IsAllowed}
+use Rattle.proof_protocol.specs.Rules.{TransferEvent, IsAllowed}
 use Rattle.proof_protocol.specs.Invariant.{Invariant}
 use Rattle.proof_protocol.specs.Resets as rules
 use Rattle.proof_protocol.specs.Resets.{Epochs, ResetEvent, transfers, reset_stream, send_request, perform, commit, goes, go_all}
 use Rattle.proof_protocol.proofs.StepLemmas.{later}
 use Rattle.proof_protocol.proofs.CommonLemmas.{get_front}
-use Rattle.proof_delivery.specs.Asks.{Ask, named_in, request_for, IsAsk, AreAsked, SaysOutgoing, SaysIncoming}
+use Rattle.proof_delivery.specs.Asks.{ResetRequest, named_in, request_for, IsResetRequest, AreRequested, SaysOutgoing, SaysIncoming}
 use Rattle.proof_tx_refines.proofs.AskedLemmas.{has_this}
 
 -- ---- lists
@@ -36,17 +36,17 @@ has_cases s k ks h = go (s == k) refl h
 
 -- ---- how many name a stream
 
-named_front : (s n : ℕ) (asks more : List Ask) → n ≤ length asks → named_in s n (asks ++ more) ≡ named_in s n asks
+named_front : (s n : ℕ) (asks more : List ResetRequest) → n ≤ length asks → named_in s n (asks ++ more) ≡ named_in s n asks
 named_front s zero asks more l = refl
 named_front s (suc n) [] more l = absurd (omega (arith, l))
 named_front s (suc n) (a ∷ asks) more l = ap (λ (m : ℕ). cond (has s a.streams) (suc m) m) (named_front s n asks more (omega (arith, l)))
 
 -- with the next one
-pub named_next : (s n : ℕ) (asks : List Ask) (a : Ask) → slice_get asks n ≡ Some a → named_in s (suc n) asks ≡ cond (has s a.streams) (suc (named_in s n asks)) (named_in s n asks)
+pub named_next : (s n : ℕ) (asks : List ResetRequest) (a : ResetRequest) → slice_get asks n ≡ Some a → named_in s (suc n) asks ≡ cond (has s a.streams) (suc (named_in s n asks)) (named_in s n asks)
 named_next s n [] a e = cc
-named_next s zero (b ∷ asks) a e = ap (λ (o : Option Ask). with_it o) e
+named_next s zero (b ∷ asks) a e = ap (λ (o : Option ResetRequest). with_it o) e
   where
-    with_it : Option Ask → ℕ
+    with_it : Option ResetRequest → ℕ
     with_it None = 0
     with_it (Some c) = cond (has s c.streams) 1 0
 named_next s (suc n) (b ∷ asks) a e =
@@ -60,9 +60,9 @@ named_next s (suc n) (b ∷ asks) a e =
 
 -- ---- what leaves them as they are
 
-module _ (message : ℕ → Message) (is_interleaved : Bool) (x : Epochs) (asks : List Ask) (done answered : ℕ) (are : AreAsked x asks done answered) where
+module _ (message : ℕ → Message) (is_interleaved : Bool) (x : Epochs) (asks : List ResetRequest) (done answered : ℕ) (are : AreRequested x asks done answered) where
   -- whatever the transfer does
-  pub asks_stay : (e : Rule) → Invariant message is_interleaved x.transfer → IsAllowed message is_interleaved x.transfer e → AreAsked (goes message is_interleaved x (transfers e)) asks done answered
+  pub asks_stay : (e : TransferEvent) → Invariant message is_interleaved x.transfer → IsAllowed message is_interleaved x.transfer e → AreRequested (goes message is_interleaved x (transfers e)) asks done answered
   asks_stay e kept may = record {
     opened = are.opened;
     performed = are.performed;
@@ -76,7 +76,7 @@ module _ (message : ℕ → Message) (is_interleaved : Bool) (x : Epochs) (asks 
   }
 
   -- and a stream that waits from now on
-  pub asks_stay_reset : (s : ℕ) → AreAsked (goes message is_interleaved x (reset_stream s)) asks done answered
+  pub asks_stay_reset : (s : ℕ) → AreRequested (goes message is_interleaved x (reset_stream s)) asks done answered
   asks_stay_reset s = record {
     opened = are.opened;
     performed = are.performed;
@@ -128,8 +128,8 @@ module _ (message : ℕ → Message) (is_interleaved : Bool) (x : Epochs) (asks 
           go true = refl
           go false = h
 
-  pub ask_is_sent : (a : Ask) → length asks ≡ answered → IsAsk x a → a.upto ≡ count x.transfer.sender → ((s : ℕ) → has s a.streams ≡ true → x.raised s ≡ suc (x.opened s))
-      → AreAsked (go_all message is_interleaved x (map send_request a.streams)) (asks ++ a ∷ []) done answered
+  pub ask_is_sent : (a : ResetRequest) → length asks ≡ answered → IsResetRequest x a → a.upto ≡ count x.transfer.sender → ((s : ℕ) → has s a.streams ≡ true → x.raised s ≡ suc (x.opened s))
+      → AreRequested (go_all message is_interleaved x (map send_request a.streams)) (asks ++ a ∷ []) done answered
   ask_is_sent a all fine upto raised =
       let z = (sends x refl refl refl refl (λ r h. h) [] a.streams (λ s h. cc)).1 in
       let y : Epochs = go_all message is_interleaved x (map send_request a.streams) in
@@ -141,17 +141,17 @@ module _ (message : ℕ → Message) (is_interleaved : Bool) (x : Epochs) (asks 
         opened = λ s. ap (λ (f : ℕ → ℕ). f s) z.opened ∙ (are.opened s ∙ sym (named_front s answered asks (a ∷ []) (omega (arith, all))));
         performed = λ s. ap (λ (f : ℕ → ℕ). f s) z.performed ∙ (are.performed s ∙ sym (named_front s done asks (a ∷ []) mid));
         fine = λ j b g.
-            let f : IsAsk x b = elim (get_added asks a b j g) [ inl h ↦ are.fine j b h | inr e ↦ subst (IsAsk x) (sym e.1) fine ] in
+            let f : IsResetRequest x b = elim (get_added asks a b j g) [ inl h ↦ are.fine j b h | inr e ↦ subst (IsResetRequest x) (sym e.1) fine ] in
             record { some = f.some; distinct = f.distinct; within = subst (λ t. b.upto ≤ count t.sender) (sym z.transfer) f.within };
         sent = λ j b g s h. elim (get_added asks a b j g) [
           | inl i ↦
               let l = slice_get_within asks j b i in
               subst (λ (n : ℕ). IsAmong (record { stream = s; upto = b.upto; epoch = suc n }) y.requests) (sym (named_front s j asks (a ∷ []) (omega (arith, l)))) (z.old (request_for s j b.upto asks) (are.sent j b i s h))
           | inr e ↦
-              let named : has s a.streams ≡ true = subst (λ (c : Ask). has s c.streams ≡ true) e.1 h in
+              let named : has s a.streams ≡ true = subst (λ (c : ResetRequest). has s c.streams ≡ true) e.1 h in
               let epoch : x.raised s ≡ suc (named_in s j (asks ++ a ∷ [])) =
               raised s named ∙ ap suc (are.opened s ∙ (ap (λ (n : ℕ). named_in s n asks) (sym all ∙ sym e.0) ∙ sym (named_front s j asks (a ∷ []) (let m = e.0 in omega (arith, m))))) in
-              let to : count x.transfer.sender ≡ b.upto = sym upto ∙ ap (λ (c : Ask). c.upto) (sym e.1) in
+              let to : count x.transfer.sender ≡ b.upto = sym upto ∙ ap (λ (c : ResetRequest). c.upto) (sym e.1) in
               let same : request_now s ≡ record { stream = s; upto = b.upto; epoch = suc (named_in s j (asks ++ a ∷ [])) } = (λ i. record { stream = s; upto = to i; epoch = epoch i }) in
               subst (λ (r : rules.Request). IsAmong r y.requests) same (z.new s named)
         ];
@@ -169,18 +169,18 @@ written_over s k ks next before = go (s == k) refl (has s ks)
     go true e false = ap next (sym (eqb-true s k e))
     go false e c = refl
 
-module _ (message : ℕ → Message) (is_interleaved : Bool) (asks : List Ask) (j : ℕ) (a : Ask) (there : slice_get asks j ≡ Some a) where
+module _ (message : ℕ → Message) (is_interleaved : Bool) (asks : List ResetRequest) (j : ℕ) (a : ResetRequest) (there : slice_get asks j ≡ Some a) where
   -- what else stays
   record SameButSome (x y : Epochs) : Type 0 where
     raised : y.raised ≡ x.raised
     requests : y.requests ≡ x.requests
     counted : count y.transfer.sender ≡ count x.transfer.sender
 
-  fine_still : (x y : Epochs) → SameButSome x y → (b : Ask) → IsAsk x b → IsAsk y b
+  fine_still : (x y : Epochs) → SameButSome x y → (b : ResetRequest) → IsResetRequest x b → IsResetRequest y b
   fine_still x y same b f = let w = f.within in let c = same.counted in record { some = f.some; distinct = f.distinct; within = omega (arith, w, c) }
 
-  sent_still : (x y : Epochs) → SameButSome x y → (done answered : ℕ) → AreAsked x asks done answered
-      → (i : ℕ) (b : Ask) → slice_get asks i ≡ Some b → (s : ℕ) → has s b.streams ≡ true → IsAmong (request_for s i b.upto asks) y.requests
+  sent_still : (x y : Epochs) → SameButSome x y → (done answered : ℕ) → AreRequested x asks done answered
+      → (i : ℕ) (b : ResetRequest) → slice_get asks i ≡ Some b → (s : ℕ) → has s b.streams ≡ true → IsAmong (request_for s i b.upto asks) y.requests
   sent_still x y same done answered are i b g s h = subst (λ (rs : List rules.Request). IsAmong (request_for s i b.upto asks) rs) (sym same.requests) (are.sent i b g s h)
 
   abbrev pub performs_of : List ℕ → List ResetEvent
@@ -201,7 +201,7 @@ module _ (message : ℕ → Message) (is_interleaved : Bool) (asks : List Ask) (
         performed = λ s. p.performed s ∙ written_over s k ss (λ n. suc (named_in n j asks)) z.performed;
       }
 
-  pub ask_is_performed : (x : Epochs) (answered : ℕ) → AreAsked x asks j answered → AreAsked (go_all message is_interleaved x (performs_of a.streams)) asks (suc j) answered
+  pub ask_is_performed : (x : Epochs) (answered : ℕ) → AreRequested x asks j answered → AreRequested (go_all message is_interleaved x (performs_of a.streams)) asks (suc j) answered
   ask_is_performed x answered are =
       let p = performed_along a.streams x in
       let y : Epochs = go_all message is_interleaved x (performs_of a.streams) in
@@ -231,8 +231,8 @@ module _ (message : ℕ → Message) (is_interleaved : Bool) (asks : List Ask) (
         opened = λ s. p.opened s ∙ written_over s k ss z.raised z.opened;
       }
 
-  pub ask_is_answered : (x : Epochs) (done : ℕ) → AreAsked x asks done j → j < done → ((s : ℕ) → has s a.streams ≡ true → x.raised s ≡ suc (x.opened s))
-      → AreAsked (go_all message is_interleaved x (map commit a.streams)) asks done (suc j)
+  pub ask_is_answered : (x : Epochs) (done : ℕ) → AreRequested x asks done j → j < done → ((s : ℕ) → has s a.streams ≡ true → x.raised s ≡ suc (x.opened s))
+      → AreRequested (go_all message is_interleaved x (map commit a.streams)) asks done (suc j)
   ask_is_answered x done are behind raised =
       let p = committed_along a.streams x in
       let y : Epochs = go_all message is_interleaved x (map commit a.streams) in
@@ -253,7 +253,7 @@ module _ (message : ℕ → Message) (is_interleaved : Bool) (asks : List Ask) (
 
 -- ---- what was said stays true
 
-pub asks_said : (first most : ℕ) (asks more : List Ask) (p : ParameterTree) → SaysOutgoing first most asks p → SaysOutgoing first most (asks ++ more) p
+pub asks_said : (first most : ℕ) (asks more : List ResetRequest) (p : ParameterTree) → SaysOutgoing first most asks p → SaysOutgoing first most (asks ++ more) p
 asks_said first most asks more (outgoing_reset_request number response last_tsn streams) h =
     record { at = h.at; ask = h.ask; there = get_front asks more h.at h.ask h.there; number_is = h.number_is; last_is = h.last_is; streams_are = h.streams_are; near = h.near }
 asks_said first most asks more (incoming_reset_request number streams) h = h

@@ -7,7 +7,7 @@ use Rattle.sctp_tx_queue.specs.SendQueue.{Queue}
 use Rattle.sctp_tx_outstanding.specs.OutstandingData.{no_items}
 use Rattle.sctp_rx.specs.ReassemblyQueue.{Deferred}
 use Rattle.proof_protocol.specs.State.{Message, Sender, Transfer, new_sender}
-use Rattle.proof_protocol.specs.Rules.{Rule, accept, begin, number, end_with_placeholder, give_up, data_comes, late_comes, become_ready, send_sack, ack_point_advances, send_forward, forward_comes, perform_reset, after}
+use Rattle.proof_protocol.specs.Rules.{TransferEvent, accept, begin, number, end_with_placeholder, give_up, data_comes, late_comes, become_ready, send_sack, acknowledge_next, send_forward, forward_comes, perform_reset, after}
 use Rattle.proof_protocol.specs.Resets.{Request, Epochs, ResetEvent, transfers, reset_stream, send_request, perform, commit, MayReset, goes, MayAll, go_all}
 use Rattle.proof_protocol.specs.Based.{InEpochs}
 use Rattle.proof_protocol.proofs.BasedLemmas.{keeps_epochs}
@@ -17,14 +17,14 @@ use Rattle.proof_tx_refines.proofs.WholeLemmas.{shown_again}
 use Rattle.proof_tx_refines.proofs.FollowLemmas.{others_follow}
 use Rattle.spec_endpoint.specs.Association.{State, Closed, CookieWait, Open}
 use Rattle.spec_endpoint.specs.ResetRequests.{Requests}
-use Rattle.proof_delivery.specs.Asks.{Ask, IsAsking, IsAnswering}
+use Rattle.proof_delivery.specs.Asks.{ResetRequest, IsAsking, IsAnswering}
 use Rattle.proof_delivery.proofs.ClaimLemmas.{Direction, transfer_of, goes_in, IsKept, GoesOn, AsksStay, IsWaiting, SendsIn, IsFresh, ReceivesIn}
 use Rattle.proof_delivery.proofs.ReceiverToolLemmas.{SameSender, sender_stays, waits_still}
 use Rattle.proof_delivery.proofs.LeavesLemmas.{Leaves, by_transfer, by_commit, by_request}
 use Rattle.proof_delivery.proofs.ActionLemmas.{is_outgoing, Stay}
 
 -- by its kind
-each_reset : (P : ResetEvent → Type 0) → ((e : Rule) → P (transfers e)) → ((s : ℕ) → P (reset_stream s)) → ((s : ℕ) → P (send_request s)) → ((r : Request) → P (perform r))
+each_reset : (P : ResetEvent → Type 0) → ((e : TransferEvent) → P (transfers e)) → ((s : ℕ) → P (reset_stream s)) → ((s : ℕ) → P (send_request s)) → ((r : Request) → P (perform r))
     → ((s : ℕ) → P (commit s)) → (e : ResetEvent) → P e
 each_reset P a b c d f (transfers e) = a e
 each_reset P a b c d f (reset_stream s) = b s
@@ -60,7 +60,7 @@ module _ (message : ℕ → Message) (lifecycle : ℕ → Option ℕ) (is_interl
 
   asks_again : (first : ℕ) (x y : Direction) (q : Queue) (r : Requests) → AsksStay x y → IsAsking first x.answered x.asks q r → IsAsking first y.answered y.asks q r
   asks_again first x y q r stay h =
-      subst (λ (n : ℕ). IsAsking first n y.asks q r) (sym stay.1) (subst (λ (l : List Ask). IsAsking first x.answered l q r) (sym stay.0) h)
+      subst (λ (n : ℕ). IsAsking first n y.asks q r) (sym stay.1) (subst (λ (l : List ResetRequest). IsAsking first x.answered l q r) (sym stay.0) h)
 
   sends_again : (s : State) (q : Queue) (x y : Direction) → SameSender message is_interleaved x.rules y.rules → AsksStay x y → SendsIn message lifecycle is_interleaved s q x → SendsIn message lifecycle is_interleaved s q y
   sends_again Closed q x y e stay h = waits_again x y q e stay h
@@ -78,13 +78,13 @@ module _ (message : ℕ → Message) (lifecycle : ℕ → Option ℕ) (is_interl
 
   -- ---- a sender's rules, and acceptance, leave the receiver as it is
 
-  receiver_once : (x : Transfer) (e : Rule) → is_outgoing (transfers e) ≡ true → ((after message is_interleaved x e).receiver ≡ x.receiver) × ((after message is_interleaved x e).sacks ≡ x.sacks)
+  receiver_once : (x : Transfer) (e : TransferEvent) → is_outgoing (transfers e) ≡ true → ((after message is_interleaved x e).receiver ≡ x.receiver) × ((after message is_interleaved x e).sacks ≡ x.sacks)
   receiver_once x accept s = (refl, refl)
   receiver_once x (begin p) s = (refl, refl)
   receiver_once x (number p bytes more) s = (refl, refl)
   receiver_once x (end_with_placeholder p) s = (refl, refl)
   receiver_once x (give_up p) s = (refl, refl)
-  receiver_once x (ack_point_advances c) s = (refl, refl)
+  receiver_once x (acknowledge_next c) s = (refl, refl)
   receiver_once x (send_forward f) s = (refl, refl)
   receiver_once x (data_comes t) s = cc
   receiver_once x (late_comes t) s = cc
@@ -116,7 +116,7 @@ module _ (message : ℕ → Message) (lifecycle : ℕ → Option ℕ) (is_interl
       }
 
   -- as more is asked
-  answers_still : (first done : ℕ) (asks more : List Ask) (r : Requests) (d : Option Deferred) → IsAnswering first done asks r d → IsAnswering first done (asks ++ more) r d
+  answers_still : (first done : ℕ) (asks more : List ResetRequest) (r : Requests) (d : Option Deferred) → IsAnswering first done asks r d → IsAnswering first done (asks ++ more) r d
   answers_still first done asks more r d (inl h) = inl h
   answers_still first done asks more r d (inr h) =
       inr (record { ask = h.ask; there = get_front asks more done h.ask h.there; last = h.last; result = h.result; reset = h.reset; is = h.is; streams = h.streams })
@@ -145,7 +145,7 @@ module _ (message : ℕ → Message) (lifecycle : ℕ → Option ℕ) (is_interl
       waiting = waits_still x.rules y.rules leaves.performed leaves.requests h.shift t.reassembly.first t.reassembly.deferred h.waiting;
       first = h.first;
       answers = subst (λ (n : ℕ). IsAnswering t.identity.peer_first n y.asks t.requests t.reassembly.deferred) (sym done)
-          (subst (λ (l : List Ask). IsAnswering t.identity.peer_first x.done l t.requests t.reassembly.deferred) (sym g.asks)
+          (subst (λ (l : List ResetRequest). IsAnswering t.identity.peer_first x.done l t.requests t.reassembly.deferred) (sym g.asks)
           (answers_still t.identity.peer_first x.done x.asks g.more t.requests t.reassembly.deferred h.answers));
     }
 

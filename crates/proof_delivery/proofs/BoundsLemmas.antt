@@ -24,7 +24,7 @@ use Rattle.proof_pair.specs.Handing.{two_come}
 use Rattle.proof_pair.proofs.HandedTraceLemmas.{one_handed}
 use Rattle.proof_delivery.specs.Windows.{numbered_count, IsNearNext, KeepsWithin, IsWithin, AreWithin, queue_of, Stamp, stamp, Stamps, no_stamps, stamps_after, stamps_for, IsYoung, IsTimely, KeepsWindows}
 use Rattle.proof_delivery.specs.Accepted.{accepted}
-use Rattle.proof_delivery.specs.Answered.{Asked, none_asked, asked_after, AreAnswered, KeepsRequests, performed_in, KeepsResets}
+use Rattle.proof_delivery.specs.Answered.{NumberedBefore, none_asked, asked_after, AreAnswered, KeepsRequests, performed_in, KeepsResets}
 use Rattle.proof_delivery.specs.Delivery.{plain, TwoAreDelivered}
 
 -- ---- an end
@@ -140,19 +140,19 @@ windows_kept (e ∷ es) w s h =
 abbrev pub is_few : State → ℕ → Bool
 is_few s n = nat_lt (numbered_count s) (n + 2 ^ 30)
 
-abbrev pub both_few : Pair → Asked → Bool
+abbrev pub both_few : Pair → NumberedBefore → Bool
 both_few w k = is_few (state_of w.a) k.a && is_few (state_of w.b) k.b
 
-unfoldable pub keeps_requests : List (Bool × EndAction) → Pair → Asked → Bool
+unfoldable pub keeps_requests : List (Bool × EndAction) → Pair → NumberedBefore → Bool
 keeps_requests [] w k = both_few w k
 keeps_requests (e ∷ es) w k = both_few w k && keeps_requests es (goes e.0 e.1 w) (asked_after e.0 e.1 w k)
 
-few_answered : (w : Pair) (k : Asked) → both_few w k ≡ true → AreAnswered w k
+few_answered : (w : Pair) (k : NumberedBefore) → both_few w k ≡ true → AreAnswered w k
 few_answered w k h =
     let p = and_parts (is_few (state_of w.a) k.a) (is_few (state_of w.b) k.b) h in
     record { a = λ n e. ltb-true (numbered_count (state_of w.a)) (k.a + 2 ^ 30) p.0; b = λ n e. ltb-true (numbered_count (state_of w.b)) (k.b + 2 ^ 30) p.1 }
 
-pub requests_kept : (es : List (Bool × EndAction)) (w : Pair) (k : Asked) → keeps_requests es w k ≡ true → KeepsRequests es w k
+pub requests_kept : (es : List (Bool × EndAction)) (w : Pair) (k : NumberedBefore) → keeps_requests es w k ≡ true → KeepsRequests es w k
 unfolding keeps_requests
 requests_kept [] w k h = few_answered w k h
 requests_kept (e ∷ es) w k h =

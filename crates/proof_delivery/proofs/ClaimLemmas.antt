@@ -4,7 +4,7 @@ use Rattle.std.proofs.Common.{◌≡◌, ℕ, suc, ◌+◌, ◌-◌, ◌^◌, �
 use Rattle.std.specs.Prelude.{◌⊎◌, ⊤}
 use Rattle.std.specs.List.{list_all}
 use Rattle.sctp_serial.specs.Messages as messages
-use Rattle.sctp_serial.specs.Unwrapped.{origin, words, wire}
+use Rattle.sctp_serial.specs.Unwrapped.{origin, u32_space, wire}
 use Rattle.sctp_packet.specs.Chunk.{ChunkTree, FragmentTree, SackTree, data_chunk, idata_chunk, sack_chunk, re_config_chunk, forward_tsn_chunk, i_forward_tsn_chunk}
 use Rattle.sctp_packet.specs.Grammar.{carried}
 use Rattle.sctp_state.specs.Events as events
@@ -16,12 +16,12 @@ use Rattle.sctp_tx.specs.ForwardPoints.{most_of}
 use Rattle.sctp_rx.specs.DataTracker.{IsTracker, tracker}
 use Rattle.sctp_rx.specs.ReassemblyQueue.{reassembly}
 use Rattle.proof_protocol.specs.State.{Message, ForwardPoint, Sender, Transfer, IsAmong, new_sender, fragment, count}
-use Rattle.proof_protocol.specs.Rules.{Rule, accept, begin, number, end_with_placeholder, give_up, data_comes, late_comes, become_ready, send_sack, ack_point_advances, send_forward, forward_comes, perform_reset}
+use Rattle.proof_protocol.specs.Rules.{TransferEvent, accept, begin, number, end_with_placeholder, give_up, data_comes, late_comes, become_ready, send_sack, acknowledge_next, send_forward, forward_comes, perform_reset}
 use Rattle.proof_protocol.specs.Resets.{Epochs, ResetEvent, transfers, reset_stream, send_request, perform, commit, MayAll, go_all}
 use Rattle.proof_protocol.specs.Based.{InEpochs, EpochWindows}
 use Rattle.proof_tx_refines.specs.Refinement.{SenderRefines}
 use Rattle.proof_tx_refines.specs.Following.{FollowsEpochs, NoneIsReset}
-use Rattle.proof_tx_refines.specs.Led.{given_ups, recorded_places, is_sending, delivered_ids, ids_at}
+use Rattle.proof_tx_refines.specs.Reachable.{given_up_places, recorded_places, is_sending, delivered_ids, ids_at}
 use Rattle.proof_tx_refines.specs.Points.{chunk_of}
 use Rattle.proof_tx_refines.specs.Rows.{Carries}
 use Rattle.proof_protocol.specs.Points.{AreApart}
@@ -31,17 +31,17 @@ use Rattle.proof_rx_refines.specs.Resets.{base_now, IsWaitingFor}
 use Rattle.spec_endpoint.specs.Association.{Tcb, State, Closed, CookieWait, Open}
 use Rattle.spec_endpoint.specs.Laws.{Call}
 use Rattle.proof_endpoint.specs.Mapped.{Carried}
-use Rattle.proof_endpoint.specs.Acts.{EndWithPacket, IsReceived}
+use Rattle.proof_endpoint.specs.Acts.{EndWithPacket, BringsChunk}
 use Rattle.proof_pair.specs.Trace.{packets_in, AreValidOptions}
 use Rattle.proof_pair.proofs.JoinActsLemmas.{Setting}
-use Rattle.proof_delivery.specs.Asks.{Ask, AreAsked, SaysOutgoing, SaysIncoming, IsAsking, IsAnswering}
+use Rattle.proof_delivery.specs.Asks.{ResetRequest, AreRequested, SaysOutgoing, SaysIncoming, IsAsking, IsAnswering}
 use Rattle.proof_delivery.specs.Answered.{performed_in}
 use Rattle.proof_delivery.specs.StreamEpochs.{StreamEpoch, shut_streams, reopen, performed_of, resets_emitted, failed_in}
 
 -- ---- rules of one end
 
 -- those of a receiver
-abbrev pub is_receiving : Rule → Bool
+abbrev pub is_receiving : TransferEvent → Bool
 is_receiving accept = false
 is_receiving (begin p) = false
 is_receiving (number p bytes more) = false
@@ -51,7 +51,7 @@ is_receiving (data_comes t) = true
 is_receiving (late_comes t) = true
 is_receiving (become_ready p) = true
 is_receiving (send_sack c) = true
-is_receiving (ack_point_advances c) = false
+is_receiving (acknowledge_next c) = false
 is_receiving (send_forward f) = false
 is_receiving (forward_comes f) = true
 is_receiving (perform_reset s c) = false
@@ -71,7 +71,7 @@ goes_in (perform r) = true
 goes_in (commit s) = false
 
 -- what happens to the transfer alone
-abbrev pub of_transfer : List ResetEvent → List Rule
+abbrev pub of_transfer : List ResetEvent → List TransferEvent
 of_transfer [] = []
 of_transfer (transfers e ∷ es) = e ∷ of_transfer es
 of_transfer (e ∷ es) = of_transfer es
@@ -80,7 +80,7 @@ of_transfer (e ∷ es) = of_transfer es
 -- No packet carries them all.
 pub record Direction : Type 0 where
   pub rules : Epochs
-  pub asks : List Ask
+  pub asks : List ResetRequest
   pub done : ℕ
   pub answered : ℕ
 
@@ -90,7 +90,7 @@ transfer_of x = x.rules.transfer
 -- what is true of every state that the rules lead to
 pub record IsKept (message : ℕ → Message) (is_interleaved : Bool) (x : Direction) : Type 0 where
   pub epochs : InEpochs message is_interleaved x.rules
-  pub asked : AreAsked x.rules x.asks x.done x.answered
+  pub asked : AreRequested x.rules x.asks x.done x.answered
 
 -- rules of this kind lead from x to y; more may be asked, performed and answered
 pub record GoesOn (message : ℕ → Message) (is_interleaved : Bool) (kind : ResetEvent → Bool) (x y : Direction) : Type 0 where
@@ -98,7 +98,7 @@ pub record GoesOn (message : ℕ → Message) (is_interleaved : Bool) (kind : Re
   pub may : MayAll message is_interleaved x.rules events
   pub all : list_all kind events ≡ true
   pub leads : go_all message is_interleaved x.rules events ≡ y.rules
-  pub more : List Ask
+  pub more : List ResetRequest
   pub asks : y.asks ≡ x.asks ++ more
   pub further : ℕ
   pub done : y.done ≡ x.done + further
@@ -127,7 +127,7 @@ pub record SaysPoint (is_interleaved : Bool) (first least : ℕ) (x : Transfer) 
 pub record SaysSack (first least most : ℕ) (x : Transfer) (k : SackTree) : Type 0 where
   pub point : ℕ
   pub sent : IsAmong point x.sacks
-  pub written : k.cumulative_tsn_ack ≡ wire words first (origin + point - 1)
+  pub written : k.cumulative_tsn_ack ≡ wire u32_space first (origin + point - 1)
   pub from : least ≤ point
   pub to : point ≤ most
 
@@ -213,9 +213,9 @@ module _ (message : ℕ → Message) (lifecycle : ℕ → Option ℕ) (is_interl
     pub goes : GoesOn message is_interleaved goes_out from x
     pub done : x.done ≡ from.done
     pub shown : SendsIn m.state m.context.queue x
-    pub near : (a : Ask) → slice_get x.asks x.answered ≡ Some a → count (transfer_of from).sender < a.upto + 2 ^ 30
-    pub since : (a : Ask) → slice_get x.asks x.answered ≡ Some a → (slice_get from.asks x.answered ≡ Some a) ⊎ (count (transfer_of from).sender ≤ a.upto)
-    pub given_up : recorded_places m.context.emitted ≡ given_ups (of_transfer goes.events)
+    pub near : (a : ResetRequest) → slice_get x.asks x.answered ≡ Some a → count (transfer_of from).sender < a.upto + 2 ^ 30
+    pub since : (a : ResetRequest) → slice_get x.asks x.answered ≡ Some a → (slice_get from.asks x.answered ≡ Some a) ⊎ (count (transfer_of from).sender ≤ a.upto)
+    pub given_up : recorded_places m.context.emitted ≡ given_up_places (of_transfer goes.events)
     pub reported : Reports lifecycle (transfer_of from) (transfer_of x) [] m.context.emitted.events
     pub performed : x.answered ≡ from.answered + performed_in m.context.emitted.events
     pub epochs : (f : ℕ → StreamEpoch) → AreSo f from.rules → AreSo (reopen (performed_of m.context.emitted.events) (shut_streams prepared f)) x.rules
@@ -269,7 +269,7 @@ pub record ReceivesSacks (call : Call) (first : ℕ) (from : Direction) : Type 0
   pub past : least ≤ (transfer_of from).acknowledged
   pub near : most ≤ least + 2 ^ 30
   pub young : count (transfer_of from).sender < most + 2 ^ 30
-  pub says : (tag : ℕ) (chunk : ChunkTree) → IsReceived call tag chunk → WasSaid (SaysIn first least most from) chunk
+  pub says : (tag : ℕ) (chunk : ChunkTree) → BringsChunk call tag chunk → WasSaid (SaysIn first least most from) chunk
 
 -- Of one that the sender emitted, as its receiver receives it.
 pub record ReceivesData (message : ℕ → Message) (is_interleaved : Bool) (call : Call) (first : ℕ) (from : Direction) : Type 0 where
@@ -278,7 +278,7 @@ pub record ReceivesData (message : ℕ → Message) (is_interleaved : Bool) (cal
   pub near : most ≤ least + 2 ^ 30
   pub below : most ≤ count (transfer_of from).sender
   pub young : count (transfer_of from).sender < most + 2 ^ 30
-  pub says : (tag : ℕ) (chunk : ChunkTree) → IsReceived call tag chunk → WasSaid (SaysOut message is_interleaved first least most from) chunk
+  pub says : (tag : ℕ) (chunk : ChunkTree) → BringsChunk call tag chunk → WasSaid (SaysOut message is_interleaved first least most from) chunk
 
 -- ---- where an act leads, and what it may use
 

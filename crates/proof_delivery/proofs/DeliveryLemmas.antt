@@ -12,19 +12,19 @@ use Rattle.proof_protocol.specs.State.{Message, has}
 use Rattle.proof_protocol.specs.Based.{Bracketed}
 use Rattle.proof_protocol.specs.Invariant.{Invariant}
 use Rattle.proof_protocol.proofs.ToolsLemmas.{has_keeps}
-use Rattle.proof_tx_refines.specs.Led.{delivered_ids}
+use Rattle.proof_tx_refines.specs.Reachable.{delivered_ids}
 use Rattle.proof_tx_refines.proofs.SackLemmas.{delivered_more}
 use Rattle.proof_endpoint.specs.Mapped.{Carried}
-use Rattle.spec_endpoint.specs.Input.{refusal}
+use Rattle.spec_endpoint.specs.Input.{packet_refusal}
 use Rattle.spec_endpoint.specs.Laws.{endings}
-use Rattle.proof_pair.specs.Trace.{Side, Pair, emitted_packets, EndAction, Calls, Gives, Refuses, give, foreign_if, act, goes, run, MayAct, side_of, KeepsOpeningRules, NeitherHasEnded, AreValidOptions, state_of}
-use Rattle.proof_pair.specs.Handing.{ready_at, handed_by, handed_at, new_behind, readied_messages}
+use Rattle.proof_pair.specs.Trace.{Side, Pair, emitted_packets, EndAction, Calls, Gives, Refuses, give_carried, foreign_if, act, goes, run, MayAct, side_of, KeepsRules, NoAssociationHasEnded, AreValidOptions, state_of}
+use Rattle.proof_pair.specs.Handing.{ready_at, handed_by, handed_at, new_behind, messages_made_ready}
 use Rattle.proof_pair.proofs.TraceLemmas.{Halves, swapped, before_run, goes_consistent}
 use Rattle.proof_pair.proofs.HandingLemmas.{Hands, hands_at}
 use Rattle.proof_delivery.specs.Accepted.{AcceptedMessage, accepted_in, accepted_at, accepted}
 use Rattle.proof_delivery.specs.Windows.{Stamp, stamp, Stamps, stamps_after, stamps_for, IsTimely, AreWithin, KeepsWindows}
-use Rattle.proof_delivery.specs.Answered.{Asked, asked_after, IsAnswered, AreAnswered, KeepsRequests, performed_in}
-use Rattle.proof_delivery.specs.StreamEpochs.{StreamEpoch, epochs_after, epochs_of, message_epochs, emitted_of, failed_in}
+use Rattle.proof_delivery.specs.Answered.{NumberedBefore, asked_after, IsAnswered, AreAnswered, KeepsRequests, performed_in}
+use Rattle.proof_delivery.specs.StreamEpochs.{StreamEpoch, epochs_after, epochs_of, message_epochs, emitted_along, failed_in}
 use Rattle.proof_delivery.specs.GivenUp.{emitted_by, given_up_at, given_up}
 use Rattle.proof_delivery.specs.Delivery.{ReportsAreTrue}
 use Rattle.proof_delivery.specs.Ending.{stamps_along}
@@ -34,8 +34,8 @@ use Rattle.proof_delivery.proofs.ResetEventsLemmas.{failed_more}
 use Rattle.proof_delivery.proofs.TraceResetLemmas.{few_before, answered_now, asked_of, answered_at, asked_again, epochs_beside}
 use Rattle.proof_delivery.proofs.ActionLemmas.{AreOffered}
 use Rattle.proof_delivery.proofs.AccountLemmas.{Accounted}
-use Rattle.proof_delivery.proofs.GoingLemmas.{Parts, Turned, flows_again, action_out, action_until}
-use Rattle.proof_delivery.proofs.ComingLemmas.{action_in}
+use Rattle.proof_delivery.proofs.SenderActionLemmas.{PreservedByActs, DirectionAfterAction, flows_again, action_out, action_until}
+use Rattle.proof_delivery.proofs.ReceiverActionLemmas.{action_in}
 use Rattle.proof_delivery.proofs.FitsLemmas.{message_of, lifecycle_of, offered_from, accepted_there, lifecycle_accepted, ready_is, many_places, first_places}
 use Rattle.proof_delivery.proofs.DoneLemmas.{Point, point}
 use Rattle.proof_delivery.proofs.EpochPointLemmas.{BecomeReady, become_ready}
@@ -46,7 +46,7 @@ pub record AreSilent (w : Pair) : Type 0 where
   pub a : IsSilent w.a
   pub b : IsSilent w.b
 
-silent_given : (p : Option Carried) (checksum : ℕ) (x : Side) → IsSilent x → IsSilent (give p checksum x)
+silent_given : (p : Option Carried) (checksum : ℕ) (x : Side) → IsSilent x → IsSilent (give_carried p checksum x)
 silent_given None checksum x h = h
 silent_given (Some p) checksum x h = record { emitted = refl }
 
@@ -57,7 +57,7 @@ silent_foreign (Some text) p x h = record { emitted = refl }
 silent_action : (t : EndAction) (x y : Side) → IsSilent x → IsSilent (act t x y)
 silent_action (Calls call) x y h = record { emitted = refl }
 silent_action (Gives which checksum) x y h = silent_given (slice_get (emitted_packets y) which) checksum x h
-silent_action (Refuses p) x y h = silent_foreign (refusal p.header.verification_tag p.chunks (state_of x)) p x h
+silent_action (Refuses p) x y h = silent_foreign (packet_refusal p.header.verification_tag p.chunks (state_of x)) p x h
 
 pub silent_goes : (at_a : Bool) (t : EndAction) (w : Pair) → AreSilent w → AreSilent (goes at_a t w)
 silent_goes true t w h = record { a = silent_action t w.a w.b h.a; b = h.b }
@@ -76,7 +76,7 @@ stamps_of true s = s.of_a
 stamps_of false s = s.of_b
 
 -- what the trace says so far of this direction: how its streams stand, the epochs of its messages, and since when its request waits
-abbrev pub so_far : Bool → (ℕ → StreamEpoch) → List ℕ → Asked → SoFar
+abbrev pub so_far : Bool → (ℕ → StreamEpoch) → List ℕ → NumberedBefore → SoFar
 so_far from_a f epochs k = record { streams = f; epochs = epochs; asked = asked_of from_a k }
 
 abbrev pub FlowsFrom : (ℕ → Message) → (ℕ → Option ℕ) → (is_interleaved from_a : Bool) → Pair → Stamps → (accepted : ℕ) → (handed : List messages.Message) → SoFar → Direction → Type 0
@@ -95,7 +95,7 @@ pub record Stepped (message : ℕ → Message) (lifecycle : ℕ → Option ℕ) 
 abbrev pub AreFewPerformed : Pair → Type 0
 AreFewPerformed w = (x : Bool) → performed_in (side_of x w).emitted < 2 ^ 32 - 1
 
-module _ (message : ℕ → Message) (lifecycle : ℕ → Option ℕ) (is_interleaved : Bool) (parts : Parts message lifecycle is_interleaved) (a b : Options) (own : AreValidOptions a) (other : AreValidOptions b)
+module _ (message : ℕ → Message) (lifecycle : ℕ → Option ℕ) (is_interleaved : Bool) (parts : PreservedByActs message lifecycle is_interleaved) (a b : Options) (own : AreValidOptions a) (other : AreValidOptions b)
     (mode : is_interleaved ≡ (agreed a b).message_interleaving) where
   mode_back : is_interleaved ≡ (agreed b a).message_interleaving
   mode_back = mode ∙ sym (ap (λ c. c.message_interleaving) (agreed_exchanged a b))
@@ -103,8 +103,8 @@ module _ (message : ℕ → Message) (lifecycle : ℕ → Option ℕ) (is_interl
   more_by_none : (n : ℕ) → n ≡ n + 0
   more_by_none n = omega arith
 
-  pub stepped : (from_a at_a : Bool) (t : EndAction) (w : Pair) (stamps : Stamps) → Halves a b w.a w.b → AreSilent w → AreWithin w → (k : Asked) → AreAnswered w k → AreFewPerformed w
-      → MayAct t (side_of at_a w) → IsTimely t (stamp w) (stamps_for at_a stamps) → NeitherHasEnded (goes at_a t w) → (n : ℕ) (handed : List messages.Message)
+  pub stepped : (from_a at_a : Bool) (t : EndAction) (w : Pair) (stamps : Stamps) → Halves a b w.a w.b → AreSilent w → AreWithin w → (k : NumberedBefore) → AreAnswered w k → AreFewPerformed w
+      → MayAct t (side_of at_a w) → IsTimely t (stamp w) (stamps_for at_a stamps) → NoAssociationHasEnded (goes at_a t w) → (n : ℕ) (handed : List messages.Message)
       → AreOffered message lifecycle n (accepted_at from_a at_a t w) → n + length (accepted_at from_a at_a t w) < 2 ^ 32
       → (f : ℕ → StreamEpoch) (epochs : List ℕ) (x : Direction) → FlowsFrom message lifecycle is_interleaved from_a w stamps n handed (so_far from_a f epochs k) x
       → Stepped message lifecycle is_interleaved from_a (goes at_a t w) (stamps_after at_a t w stamps) (n + length (accepted_at from_a at_a t w)) (handed ++ handed_at (not from_a) at_a t w)
@@ -166,7 +166,7 @@ abbrev other_actions : List (Bool × EndAction) → List (Bool × EndAction)
 other_actions [] = []
 other_actions (e ∷ es) = es
 
-module _ (all : List AcceptedMessage) (all_epochs : List ℕ) (is_interleaved : Bool) (parts : Parts (message_of all) (lifecycle_of all) is_interleaved) (a b : Options) (own : AreValidOptions a) (other : AreValidOptions b)
+module _ (all : List AcceptedMessage) (all_epochs : List ℕ) (is_interleaved : Bool) (parts : PreservedByActs (message_of all) (lifecycle_of all) is_interleaved) (a b : Options) (own : AreValidOptions a) (other : AreValidOptions b)
     (mode : is_interleaved ≡ (agreed a b).message_interleaving) (few : length all < 2 ^ 32) (from_a : Bool) where
   abbrev From : Pair → Stamps → ℕ → List messages.Message → SoFar → Direction → Type 0
   From w stamps n handed said x = FlowsFrom (message_of all) (lifecycle_of all) is_interleaved from_a w stamps n handed said x
@@ -185,8 +185,8 @@ module _ (all : List AcceptedMessage) (all_epochs : List ℕ) (is_interleaved : 
   -- what becomes ready at this action behind these
   abbrev BecomeReadyAt : List ℕ → Pair → List messages.Message → (early : List (Bool × EndAction)) → Bool × EndAction → Type 0
   BecomeReadyAt places w ready early e =
-      BecomeReady all all_epochs places (emitted_of (not from_a) early w) (emitted_of (not from_a) (early ++ e ∷ []) w) (length (ready ++ readied_messages (not from_a) early w))
-      (length (ready ++ readied_messages (not from_a) (early ++ e ∷ []) w))
+      BecomeReady all all_epochs places (emitted_along (not from_a) early w) (emitted_along (not from_a) (early ++ e ∷ []) w) (length (ready ++ messages_made_ready (not from_a) early w))
+      (length (ready ++ messages_made_ready (not from_a) (early ++ e ∷ []) w))
 
   -- where this was accepted, became ready and was given up before, one list of places serves all along
   pub record DeliversOn (es : List (Bool × EndAction)) (w : Pair) (stamps : Stamps) (done : List AcceptedMessage) (ready : List messages.Message) (abandoned : List ℕ) (x : Direction) : Type 0 where
@@ -194,9 +194,9 @@ module _ (all : List AcceptedMessage) (all_epochs : List ℕ) (is_interleaved : 
     pub more : List ℕ
     pub grown : places ≡ (transfer_of x).receiver.places ++ more
     pub points : (early late : List (Bool × EndAction)) → es ≡ early ++ late
-        → Point (side_of from_a (run early w)) (done ++ accepted from_a early w) (ready ++ readied_messages (not from_a) early w) (abandoned ++ given_up from_a early w) places
+        → Point (side_of from_a (run early w)) (done ++ accepted from_a early w) (ready ++ messages_made_ready (not from_a) early w) (abandoned ++ given_up from_a early w) places
     pub in_epochs : (early late : List (Bool × EndAction)) (e : Bool × EndAction) → es ≡ early ++ e ∷ late → BecomeReadyAt places w ready early e
-    pub leads : Leads (run es w) (stamps_along es w stamps) (done ++ accepted from_a es w) (ready ++ readied_messages (not from_a) es w) (abandoned ++ given_up from_a es w) places
+    pub leads : Leads (run es w) (stamps_along es w stamps) (done ++ accepted from_a es w) (ready ++ messages_made_ready (not from_a) es w) (abandoned ++ given_up from_a es w) places
 
   -- what is ready is what the rules made ready
   ready_now : (w : Pair) (handed ready : List messages.Message) → ready ≡ handed ++ ready_at (side_of (not from_a) w) → (stamps : Stamps) (n : ℕ) (said : SoFar) (x : Direction)
@@ -250,7 +250,7 @@ module _ (all : List AcceptedMessage) (all_epochs : List ℕ) (is_interleaved : 
     points = points;
     in_epochs = in_epochs;
     leads =
-        regrouped (run es v) (stamps_along es v (stamps_after e.0 e.1 w stamps)) (accepted from_a es v) (readied_messages (not from_a) es v) (given_up from_a es v) d.leads;
+        regrouped (run es v) (stamps_along es v (stamps_after e.0 e.1 w stamps)) (accepted from_a es v) (messages_made_ready (not from_a) es v) (given_up from_a es v) d.leads;
   }
     where
       v : Pair
@@ -283,12 +283,12 @@ module _ (all : List AcceptedMessage) (all_epochs : List ℕ) (is_interleaved : 
           (subst (λ (p : List ℕ). Leads u z ((done ++ os) ++ os2) ((ready ++ new) ++ ms2) p d.places) (append_assoc abandoned left ps2) l))
 
       points : (early late : List (Bool × EndAction)) → (e ∷ es) ≡ early ++ late
-          → Point (side_of from_a (run early w)) (done ++ accepted from_a early w) (ready ++ readied_messages (not from_a) early w) (abandoned ++ given_up from_a early w) d.places
+          → Point (side_of from_a (run early w)) (done ++ accepted from_a early w) (ready ++ messages_made_ready (not from_a) early w) (abandoned ++ given_up from_a early w) d.places
       points [] late is = here w done ready abandoned d.places (now d.places (b.more ++ d.more) grown)
       points (f ∷ early) late is =
-          subst (λ (z : Bool × EndAction). Point (side_of from_a (run (z ∷ early) w)) (done ++ accepted from_a (z ∷ early) w) (ready ++ readied_messages (not from_a) (z ∷ early) w)
+          subst (λ (z : Bool × EndAction). Point (side_of from_a (run (z ∷ early) w)) (done ++ accepted from_a (z ∷ early) w) (ready ++ messages_made_ready (not from_a) (z ∷ early) w)
           (abandoned ++ given_up from_a (z ∷ early) w) d.places) (ap (λ (z : List (Bool × EndAction)). first_action z e) is)
-          (later (side_of from_a (run early v)) (accepted from_a early v) (readied_messages (not from_a) early v) (given_up from_a early v) (d.points early late (ap other_actions is)))
+          (later (side_of from_a (run early v)) (accepted from_a early v) (messages_made_ready (not from_a) early v) (given_up from_a early v) (d.points early late (ap other_actions is)))
 
       first : BecomeReadyAt d.places w ready [] e
       first k n o l h =
@@ -298,8 +298,8 @@ module _ (all : List AcceptedMessage) (all_epochs : List ℕ) (is_interleaved : 
 
       behind : (early : List (Bool × EndAction)) (z : Bool × EndAction) → BecomeReadyAt d.places v (ready ++ new) early z → BecomeReadyAt d.places w ready (e ∷ early) z
       behind early z r k n o l h =
-          let lo = ap (λ (ms : List messages.Message). length ms) (append_assoc ready new (readied_messages (not from_a) early v)) in
-          let hi = ap (λ (ms : List messages.Message). length ms) (append_assoc ready new (readied_messages (not from_a) (early ++ z ∷ []) v)) in
+          let lo = ap (λ (ms : List messages.Message). length ms) (append_assoc ready new (messages_made_ready (not from_a) early v)) in
+          let hi = ap (λ (ms : List messages.Message). length ms) (append_assoc ready new (messages_made_ready (not from_a) (early ++ z ∷ []) v)) in
           r k n o (omega (arith, l, lo)) (omega (arith, h, hi))
 
       in_epochs : (early late : List (Bool × EndAction)) (z : Bool × EndAction) → (e ∷ es) ≡ early ++ z ∷ late → BecomeReadyAt d.places w ready early z
@@ -307,8 +307,8 @@ module _ (all : List AcceptedMessage) (all_epochs : List ℕ) (is_interleaved : 
       in_epochs (f ∷ early) late z is =
           subst (λ (t : Bool × EndAction). BecomeReadyAt d.places w ready (t ∷ early) z) (ap (λ (ts : List (Bool × EndAction)). first_action ts e) is) (behind early z (d.in_epochs early late z (ap other_actions is)))
 
-  pub delivers_on : (es : List (Bool × EndAction)) (w : Pair) (stamps : Stamps) → KeepsOpeningRules es w → NeitherHasEnded (run es w) → KeepsWindows es w stamps
-      → (k : Asked) → KeepsRequests es w k → AreFewPerformed (run es w) → Halves a b w.a w.b → AreSilent w
+  pub delivers_on : (es : List (Bool × EndAction)) (w : Pair) (stamps : Stamps) → KeepsRules es w → NoAssociationHasEnded (run es w) → KeepsWindows es w stamps
+      → (k : NumberedBefore) → KeepsRequests es w k → AreFewPerformed (run es w) → Halves a b w.a w.b → AreSilent w
       → (done more : List AcceptedMessage) → all ≡ done ++ (accepted from_a es w ++ more)
       → (f : ℕ → StreamEpoch) (epochs more_epochs : List ℕ) → all_epochs ≡ epochs ++ (message_epochs from_a es w f ++ more_epochs) → (handed ready : List messages.Message)
       → ready ≡ handed ++ ready_at (side_of (not from_a) w) → (abandoned : List ℕ) (x : Direction) → From w stamps (length done) handed (so_far from_a f epochs k) x
@@ -338,7 +338,7 @@ module _ (all : List AcceptedMessage) (all_epochs : List ℕ) (is_interleaved : 
       }
 
       points : (early late : List (Bool × EndAction)) → [] ≡ early ++ late
-          → Point (side_of from_a (run early w)) (done ++ accepted from_a early w) (ready ++ readied_messages (not from_a) early w) (abandoned ++ given_up from_a early w) (transfer_of x).receiver.places
+          → Point (side_of from_a (run early w)) (done ++ accepted from_a early w) (ready ++ messages_made_ready (not from_a) early w) (abandoned ++ given_up from_a early w) (transfer_of x).receiver.places
       points [] late e =
           here w done ready abandoned (transfer_of x).receiver.places
           (point_now w stamps done more is handed ready r abandoned (so_far from_a f epochs k) x flows accounts (transfer_of x).receiver.places [] (sym (append-nil (transfer_of x).receiver.places)))
@@ -353,7 +353,7 @@ module _ (all : List AcceptedMessage) (all_epochs : List ℕ) (is_interleaved : 
       let later : List AcceptedMessage = accepted from_a es v ++ more in
       let split : all ≡ done ++ (os ++ later) = is ∙ ap (λ (l : List AcceptedMessage). done ++ l) (append_assoc os (accepted from_a es v) more) in
       let new : List messages.Message = new_behind (ready_at (side_of (not from_a) w)) (ready_at (side_of (not from_a) v)) in
-      let not_yet : NeitherHasEnded v = before_run es v none in
+      let not_yet : NoAssociationHasEnded v = before_run es v none in
       let few_now : AreFewPerformed w = λ y. few_before y (e ∷ es) w (2 ^ 32 - 1) (emitted y) in
       let g : ℕ → StreamEpoch = epochs_after from_a e.0 e.1 w f in
       let ns : List ℕ = epochs_of os f in
@@ -405,7 +405,7 @@ module _ (all : List AcceptedMessage) (all_epochs : List ℕ) (is_interleaved : 
   until_then : (s r side : Side) (of : Stamp → ℕ) (stamps_s stamps_r : List Stamp) (done os : List AcceptedMessage) → all ≡ done ++ os → (handed ready : List messages.Message)
       → ready ≡ handed ++ ready_at r → (x : Direction) → Invariant (message_of all) is_interleaved (transfer_of x) → ReceivesIn (message_of all) is_interleaved (state_of r) handed x
       → (abandoned by : List ℕ) → Accounted (lifecycle_of all) s abandoned x → (then : SoFar)
-      → Turned (message_of all) (lifecycle_of all) is_interleaved of side r (length done + length os) handed stamps_s stamps_r then x s by
+      → DirectionAfterAction (message_of all) (lifecycle_of all) is_interleaved of side r (length done + length os) handed stamps_s stamps_r then x s by
       → ReportsAreTrue (done ++ os) side.emitted (take (length ready) (transfer_of x).receiver.places)
   until_then s r side of stamps_s stamps_r done os is handed ready ready_are x kept receives abandoned by emitted then t =
       let whole : all ≡ (done ++ os) ++ [] = is ∙ sym (append-nil (done ++ os)) in
@@ -428,7 +428,7 @@ pub record EmitsThen (emitted early : List (Event Carried)) (offers : List Accep
   pub reports : ReportsAreTrue offers (emitted ++ early) places
   pub none_refused : failed_in (emitted ++ early) ≡ false
 
-module _ (all : List AcceptedMessage) (all_epochs : List ℕ) (is_interleaved : Bool) (parts : Parts (message_of all) (lifecycle_of all) is_interleaved) (few : length all < 2 ^ 32) where
+module _ (all : List AcceptedMessage) (all_epochs : List ℕ) (is_interleaved : Bool) (parts : PreservedByActs (message_of all) (lifecycle_of all) is_interleaved) (few : length all < 2 ^ 32) where
   below_all : (done os : List AcceptedMessage) → all ≡ done ++ os → length done + length os < 2 ^ 32
   below_all done os e =
       let n = ap (λ (z : List AcceptedMessage). length z) e in
@@ -436,7 +436,7 @@ module _ (all : List AcceptedMessage) (all_epochs : List ℕ) (is_interleaved : 
       omega (arith, few, n, m)
 
   pub emits_then : (from_a : Bool) (a b : Options) (own : AreValidOptions a) (other : AreValidOptions b) (mode : is_interleaved ≡ (agreed a b).message_interleaving) (w : Pair) (stamps : Stamps)
-      → Halves a b w.a w.b → AreSilent w → AreWithin w → AreFewPerformed w → NeitherHasEnded w → (t : EndAction) → MayAct t (side_of from_a w)
+      → Halves a b w.a w.b → AreSilent w → AreWithin w → AreFewPerformed w → NoAssociationHasEnded w → (t : EndAction) → MayAct t (side_of from_a w)
       → IsTimely t (stamp w) (stamps_for from_a stamps) → (done : List AcceptedMessage) → all ≡ done ++ accepted_in t (side_of from_a w) → (ready : List messages.Message) (abandoned places : List ℕ)
       → Leads all all_epochs is_interleaved parts a b own other mode few from_a w stamps done ready abandoned places
       → (early late : List (Event Carried)) → (emitted_by t (side_of from_a w) (side_of (not from_a) w)).events ≡ early ++ late → endings early ≡ 0

@@ -7,7 +7,7 @@ use Rattle.std.specs.Prelude.{⊤}
 use Rattle.sctp_serial.specs.Messages as messages
 use Rattle.sctp_wire.specs.Parameter.{ParameterTree, outgoing_reset_request, incoming_reset_request}
 use Rattle.sctp_packet.specs.Chunk.{ChunkTree, data_chunk, idata_chunk, re_config_chunk, forward_tsn_chunk, i_forward_tsn_chunk}
-use Rattle.sctp_state.specs.Events.{silent}
+use Rattle.sctp_state.specs.Events.{nothing_emitted}
 use Rattle.proof_protocol.specs.State.{Message, IsAmong, count}
 use Rattle.proof_protocol.specs.Resets.{ResetEvent}
 use Rattle.proof_protocol.specs.Based.{InEpochs}
@@ -16,7 +16,7 @@ use Rattle.spec_endpoint.specs.Shown.{Association, association_in}
 use Rattle.proof_endpoint.specs.Mapped.{Carried}
 use Rattle.proof_pair.specs.Trace.{Side, emitted_packets, state_of}
 use Rattle.proof_delivery.specs.Answered.{performed_in}
-use Rattle.proof_delivery.specs.Asks.{Ask, SaysOutgoing}
+use Rattle.proof_delivery.specs.Asks.{ResetRequest, SaysOutgoing}
 use Rattle.proof_delivery.specs.StreamEpochs.{StreamEpoch, resets_emitted, failed_in}
 use Rattle.proof_delivery.specs.Windows.{Stamp, queue_of}
 use Rattle.proof_delivery.proofs.ClaimLemmas.{Direction, transfer_of, IsKept, GoesOn, SaysOut, SaysIn, first_out, first_in, AreSo, SendsIn, ReceivesIn}
@@ -130,11 +130,11 @@ module _ (message : ℕ → Message) (is_interleaved : Bool) where
   -- ---- the first TSN is that of the association, which stands
 
   -- where nothing was sent, whichever it is
-  asks_anew : (asks : List Ask) → asks ≡ [] → (first new most : ℕ) (p : ParameterTree) → SaysOutgoing first most asks p → SaysOutgoing new most asks p
+  asks_anew : (asks : List ResetRequest) → asks ≡ [] → (first new most : ℕ) (p : ParameterTree) → SaysOutgoing first most asks p → SaysOutgoing new most asks p
   asks_anew asks none first new most (outgoing_reset_request number response last_tsn streams) h =
-      absurd (none_some h.ask (ap (λ (l : List Ask). slice_get l h.at) (sym none) ∙ h.there))
+      absurd (none_some h.ask (ap (λ (l : List ResetRequest). slice_get l h.at) (sym none) ∙ h.there))
     where
-      none_some : (a : Ask) → None ≡ Some a → ⊥
+      none_some : (a : ResetRequest) → None ≡ Some a → ⊥
       none_some a e = cc
   asks_anew asks none first new most (incoming_reset_request number streams) h = h
   asks_anew asks none first new most p h = tt
@@ -230,11 +230,11 @@ module _ (message : ℕ → Message) (lifecycle : ℕ → Option ℕ) (is_interl
     pub streams : AreSo so_far.streams x.rules
     pub many : length so_far.epochs ≡ accepted
     pub epochs : (p n : ℕ) → slice_get so_far.epochs p ≡ Some n → x.rules.epoch p ≡ n
-    pub asked : (a : Ask) → slice_get x.asks x.answered ≡ Some a → so_far.asked ≤ a.upto
+    pub asked : (a : ResetRequest) → slice_get x.asks x.answered ≡ Some a → so_far.asked ≤ a.upto
     pub answered : x.answered ≡ performed_in s.emitted
     pub performed : (k : ℕ) → x.rules.performed k ≡ resets_emitted k r.emitted
     pub none_failed : failed_in s.emitted ≡ false
 
 -- what it emitted was taken
 pub record IsSilent (x : Side) : Type 0 where
-  pub emitted : x.end.endpoint_state.context.emitted ≡ silent
+  pub emitted : x.end.endpoint_state.context.emitted ≡ nothing_emitted

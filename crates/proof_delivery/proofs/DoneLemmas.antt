@@ -10,7 +10,7 @@ use Rattle.proof_protocol.specs.Invariant.{Invariant}
 use Rattle.proof_protocol.proofs.ClaimsLemmas.{claimed}
 use Rattle.proof_rx_refines.specs.View.{ready_of}
 use Rattle.sctp_tx_outstanding.specs.OutstandingData.{no_items}
-use Rattle.proof_tx_refines.specs.Led.{id_of, ids_at}
+use Rattle.proof_tx_refines.specs.Reachable.{id_of, ids_at}
 use Rattle.proof_tx_refines.specs.Records.{are_distinct}
 use Rattle.proof_tx_refines.proofs.RestLemmas.{rest_outgoing}
 use Rattle.spec_endpoint.specs.Association.{State, Closed, CookieWait, Open}

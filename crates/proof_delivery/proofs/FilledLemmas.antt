@@ -4,7 +4,7 @@ use Rattle.std.proofs.Common.{◌≡◌, ℕ, ◌<◌, ◌≤◌, Bool, true, fa
 use Rattle.std.specs.List.{list_all}
 use Rattle.std.proofs.lemmas.Bool.{cases_eq, cases_lt, and_parts}
 use Rattle.proof_protocol.specs.State.{Message, Fragment, Sender, Transfer, blank, fragment, place_of, count, put, gather, parts, is_empty, new_sender}
-use Rattle.proof_protocol.specs.Rules.{Rule, accept, begin, number, end_with_placeholder, give_up, data_comes, late_comes, become_ready, send_sack, ack_point_advances, send_forward, forward_comes, perform_reset, Waits, IsAllowed, accepts, numbers, begins, part, placeholder_of, after}
+use Rattle.proof_protocol.specs.Rules.{TransferEvent, accept, begin, number, end_with_placeholder, give_up, data_comes, late_comes, become_ready, send_sack, acknowledge_next, send_forward, forward_comes, perform_reset, Waits, IsAllowed, accepts, numbers, begins, part, placeholder_of, after}
 use Rattle.proof_protocol.specs.Resets.{Epochs, ResetEvent, transfers, reset_stream, send_request, perform, commit, MayReset, goes, MayAll, go_all}
 use Rattle.proof_protocol.specs.Based.{InEpochs}
 use Rattle.proof_protocol.specs.Invariant.{Invariant}
@@ -19,7 +19,7 @@ pub record IsFilled (message : ℕ → Message) (o : Sender) : Type 0 where
   pub within : (t : ℕ) → t < count o → (fragment o t).placeholder ≡ false → (fragment o t).index < length (message (place_of o t)).payload
 
 -- rules that number no fragment without bytes
-abbrev pub has_bytes : Rule → Bool
+abbrev pub has_bytes : TransferEvent → Bool
 has_bytes (number p bytes more) = not (is_empty bytes)
 has_bytes e = true
 
@@ -117,7 +117,7 @@ module _ (message : ℕ → Message) where
               | inr d ↦ f.partly q (sym (put_off x.sender.partly p true q d) ∙ h)
             ]
 
-    pub filled_once : (e : Rule) → IsAllowed message is_interleaved x e → has_bytes e ≡ true → IsFilled message (after message is_interleaved x e).sender
+    pub filled_once : (e : TransferEvent) → IsAllowed message is_interleaved x e → has_bytes e ≡ true → IsFilled message (after message is_interleaved x e).sender
     filled_once accept a b = filled_accept x.sender f
     filled_once (begin p) a b = filled_begin p a.0
     filled_once (number p bytes more) a b = filled_part x.sender f p bytes more a.0 a.1 (some_length bytes b)
@@ -127,7 +127,7 @@ module _ (message : ℕ → Message) where
     filled_once (late_comes t) a b = f
     filled_once (become_ready p) a b = f
     filled_once (send_sack c) a b = f
-    filled_once (ack_point_advances c) a b = f
+    filled_once (acknowledge_next c) a b = f
     filled_once (send_forward p) a b = f
     filled_once (forward_comes p) a b = f
     filled_once (perform_reset s c) a b = f
@@ -171,7 +171,7 @@ module _ (message : ℕ → Message) where
     receiving_has (transfers (late_comes t)) h = refl
     receiving_has (transfers (become_ready p)) h = refl
     receiving_has (transfers (send_sack c)) h = refl
-    receiving_has (transfers (ack_point_advances c)) h = refl
+    receiving_has (transfers (acknowledge_next c)) h = refl
     receiving_has (transfers (send_forward f)) h = refl
     receiving_has (transfers (forward_comes f)) h = refl
     receiving_has (transfers (perform_reset s c)) h = refl

@@ -5,7 +5,7 @@ use Rattle.std.specs.Prelude.{⊤}
 use Rattle.std.proofs.lemmas.Bool.{both_ways}
 use Rattle.sctp_state.specs.Events.{OnClosed}
 use Rattle.spec_endpoint.specs.Association.{Endpoint}
-use Rattle.spec_endpoint.specs.Laws.{Call, Connect, Close, Shutdown, Send, SendMany, ResetStreams, TakeMessage, SetLowThreshold, SetPriority, SetMaxMessageSize, Advance, HandOver, Restore, Packet, NoPacket, called}
+use Rattle.spec_endpoint.specs.Laws.{Call, Connect, Close, Shutdown, Send, SendMany, ResetStreams, TakeMessage, SetLowThreshold, SetPriority, SetMaxMessageSize, Advance, HandOver, Restore, ReceivePacket, ReceiveNoPacket, called}
 use Rattle.proof_endpoint.specs.Mapped.{Carried}
 use Rattle.proof_endpoint.specs.Acts.{EndWithPacket, calm, alone, among, PacketAct, before_packets, after_packets, OpeningAct, connects, adds_init, answers_new, answers_waiting, answers_echoed, answers_again, echoes, adds_cookie, establishes, opens, restarts, opens_again, maintains, adds_cookie_ack, before_opening, after_opening, ClosingAct, closes, shuts, shuts_on, before_closing, after_closing, DataAct, before_data, after_data, SackAct, before_sack, after_sack, SendingAct, before_sending, after_sending, TimeAct, before_time, after_time, CallAct, accepts, refuses, takes_message, sets_low_threshold, sets_priority, sets_max_message_size, before_call, after_call, ResetAct, prepares, defers, performs, processes, takes_response, adds_responses, before_reset, after_reset, HandoverAct, leaves, takes_up, before_handover, after_handover, InputAct, before_input, after_input, HasNoEnd, PreservesUntilEnd}
 use Rattle.proof_pair.proofs.UntilLemmas.{no_end, until_end}
@@ -28,8 +28,8 @@ is_other (SetMaxMessageSize bytes) = true
 is_other (Advance now) = true
 is_other HandOver = true
 is_other (Restore h) = true
-is_other (Packet p) = true
-is_other NoPacket = true
+is_other (ReceivePacket p) = true
+is_other ReceiveNoPacket = true
 
 -- the acts that are left
 abbrev pub Lasts : {call : Call} → OpeningAct Carried call → Type 0

@@ -15,7 +15,7 @@ use Rattle.sctp_state.specs.Handover.{HandoverState}
 use Rattle.sctp_tx_queue.specs.declared.send_queue.stream.ResetStep.TheVariants.{Requested, Performed, Refused}
 use Rattle.sctp_tx_queue.specs.SendQueue.{Queue, expiry_of}
 use Rattle.sctp_tx_queue.specs.Restarted.{reset}
-use Rattle.sctp_tx_queue.specs.Resets.{requested_streams}
+use Rattle.sctp_tx_queue.specs.Resets.{streams_to_request}
 use Rattle.sctp_tx_queue.specs.SendQueue as queue
 use Rattle.sctp_tx_outstanding.specs.Item.{Item}
 use Rattle.sctp_tx.specs.RetransmissionQueue.{Sender}
@@ -28,7 +28,7 @@ use Rattle.spec_endpoint.specs.StreamReset.{on_outcome}
 use Rattle.spec_endpoint.specs.Sending.{fast_most}
 use Rattle.spec_endpoint.specs.Laws.{Call, ResetStreams, Restore}
 use Rattle.proof_endpoint.specs.Mapped.{Carried}
-use Rattle.proof_endpoint.specs.Acts.{EndWithPacket, IsOffered, point_of, fragments_of, PacketAct, begins, adds_plain, emits, complains, counts, before_packets, after_packets, OpeningAct, connects, adds_init, answers_new, answers_waiting, answers_echoed, answers_again, echoes, adds_cookie, establishes, opens, restarts, opens_again, maintains, adds_cookie_ack, before_opening, after_opening, ClosingAct, closes, shuts, shuts_on, before_closing, after_closing, DataAct, takes_data, takes_idata, takes_forward, takes_iforward, before_data, after_data, SackAct, takes_sack, samples, counts_errors, before_sack, after_sack, SendingAct, asks, adds_ack, expires, adds_forward, forwards_later, asks_no_reset, asks_reset, adds_request, sends, sends_fast, before_sending, after_sending, TimeAct, advances, delay_ends, times_out, beats, times_init, times_cookie, times_request, wakes_request, before_time, after_time, CallAct, accepts, refuses, takes_message, sets_low_threshold, sets_priority, sets_max_message_size, before_call, after_call, ResetAct, prepares, defers, performs, processes, takes_response, adds_responses, before_reset, after_reset, HandoverAct, leaves, takes_up, before_handover, after_handover, InputAct, ends_packet, before_input, after_input, Preserves}
+use Rattle.proof_endpoint.specs.Acts.{EndWithPacket, IsOffered, point_of, fragments_of, PacketAct, begins, adds_plain, emits, emits_error, counts, before_packets, after_packets, OpeningAct, connects, adds_init, answers_new, answers_waiting, answers_echoed, answers_again, echoes, adds_cookie, establishes, opens, restarts, opens_again, maintains, adds_cookie_ack, before_opening, after_opening, ClosingAct, closes, shuts, shuts_on, before_closing, after_closing, DataAct, takes_data, takes_idata, takes_forward, takes_iforward, before_data, after_data, SackAct, takes_sack, samples, counts_errors, before_sack, after_sack, SendingAct, asks, adds_ack, expires, adds_forward, forwards_later, asks_no_reset, asks_reset, adds_request, sends, sends_fast, before_sending, after_sending, TimeAct, advances, delay_ends, times_out, beats, times_init, times_cookie, times_request, wakes_request, before_time, after_time, CallAct, accepts, refuses, takes_message, sets_low_threshold, sets_priority, sets_max_message_size, before_call, after_call, ResetAct, prepares, defers, performs, processes, takes_response, adds_responses, before_reset, after_reset, HandoverAct, leaves, takes_up, before_handover, after_handover, InputAct, ends_packet, before_input, after_input, Preserves}
 use Rattle.proof_delivery.specs.Justified.{Acceptance, limit_of, HasExpired, IsRight, dated_record, IsJustified}
 use Rattle.proof_delivery.specs.GivenUp.{kept_in}
 use Rattle.proof_delivery.proofs.JustifiedQueueLemmas.{Holds, holds_mode, holds_reset, holds_priority, holds_threshold, holds_prepared, holds_each_stepped, stream_stands, waits_right}
@@ -160,7 +160,7 @@ module _ (accepted : List Acceptance) (resets : List ℕ) where
     sound_packets (begins p m new summed to) h = h
     sound_packets (adds_plain chunk m plain others fair) h = h
     sound_packets (emits m some bundled) h = h
-    sound_packets (complains kind text m) h = h
+    sound_packets (emits_error kind text m) h = h
     sound_packets (counts m) h = h
 
     sound_opening : (act : OpeningAct Carried call) → Onward (before_opening act) (after_opening act)
@@ -216,10 +216,10 @@ module _ (accepted : List Acceptance) (resets : List ℕ) where
     sound_sending (forwards_later n m) h = h
     sound_sending (asks_no_reset most m none) h =
         with_queue (kept_in m.state) m.context.now m.context.queue _ m.context.emitted.given_up
-        (holds_each_stepped K (length accepted) Requested (requested_streams most m.context.queue) m.context.queue) h
+        (holds_each_stepped K (length accepted) Requested (streams_to_request most m.context.queue) m.context.queue) h
     sound_sending (asks_reset most stream streams phase t m some free) h =
         with_queue t.sender.outstanding.items.kept m.context.now m.context.queue _ m.context.emitted.given_up
-        (holds_each_stepped K (length accepted) Requested (requested_streams most m.context.queue) m.context.queue) h
+        (holds_each_stepped K (length accepted) Requested (streams_to_request most m.context.queue) m.context.queue) h
     sound_sending (adds_request r phase t m is) h = h
     sound_sending (sends phase t m) h =
         let now : ℕ = m.context.now in

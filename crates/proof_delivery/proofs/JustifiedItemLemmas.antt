@@ -12,25 +12,25 @@ use Rattle.sctp_state.specs.declared.api.GivenUpCause.TheVariants.{Lifetime, Ret
 use Rattle.sctp_state.specs.Events.{GivenUp, Emitted}
 use Rattle.sctp_tx_outstanding.specs.Item.{Item, is_in_flight, has_nack, is_given_up, is_of, is_fast, is_lost, is_used_up, is_nacked, is_outstanding, should_be_retransmitted, has_expired, nack, abandon, mark_as_retransmitted, miss_fast}
 use Rattle.sctp_tx_outstanding.specs.Item as item
-use Rattle.sctp_tx_outstanding.specs.OutstandingData.{Items, change_at, lay_down, last_of}
-use Rattle.sctp_tx_outstanding.specs.Losses.{placeholder, placeholders, abandon_message, Step, first_step, given_up, change_items, loses, gives_up, nack_item, nack_below, nack_all, expires, expired_of, option_bind, given_up_if, expire_below, expire_outstanding}
-use Rattle.sctp_tx_outstanding.specs.Resending.{Resent, size_in, allowance, again_of, fast_turn, queued_turn, turn_of, take_item, resent_below}
-use Rattle.sctp_tx_outstanding.specs.Sack.{leaving, staying, ack_or_nack, settle, reported_below, receive_sack_first, receive_sack}
+use Rattle.sctp_tx_outstanding.specs.OutstandingData.{Items, change_at, abandon_if_of, last_of}
+use Rattle.sctp_tx_outstanding.specs.Losses.{placeholder, placeholders, abandon_message, Step, first_step, abandon_with_record, change_items, loses, is_to_be_abandoned, nack_item, nack_below, nack_all, expires, expired_of, option_bind, given_up_if, expire_below, expire_outstanding}
+use Rattle.sctp_tx_outstanding.specs.Resending.{Resent, size_in, allowance, again_of, fast_turn, queued_turn, turn_of, apply_turn, resent_below}
+use Rattle.sctp_tx_outstanding.specs.Sack.{leaving, staying, ack_or_uncover, ack_or_uncover_all, reported_below, receive_sack_first, receive_sack}
 use Rattle.sctp_tx_queue.specs.SendQueue.{Queue}
 use Rattle.sctp_tx_queue.specs.Produced as queued
 use Rattle.sctp_tx_queue.specs.Settings.{Changed}
 use Rattle.sctp_tx.specs.Windows.{is_open}
 use Rattle.sctp_tx.specs.RetransmissionQueue.{Sender, sender_if, emitted_if, timed_out_sender}
-use Rattle.sctp_tx.specs.Resent.{resent, resent_fast, may_send_new, timed_if, send_fast}
-use Rattle.sctp_tx.specs.ForwardPoints.{expire}
-use Rattle.sctp_tx.specs.Sending.{Filling, offered_payload, item_of, append, Turned, turned_if, next_turn, fill, discard_all, without_discards, filled_with, send}
+use Rattle.sctp_tx.specs.Resent.{resent, resent_fast, may_send_new, start_t3_if, send_fast}
+use Rattle.sctp_tx.specs.ForwardPoints.{abandon_expired}
+use Rattle.sctp_tx.specs.Sending.{Filling, offered_payload, item_of, append, QueueStep, queue_step_if, next_turn, fill, discard_all, without_discards, filled_with, send}
 use Rattle.proof_tx_refines.proofs.LossLemmas.{in_flight_lives, nacked_lives}
 use Rattle.proof_delivery.proofs.JustifiedQueueLemmas.{Holds, Makes, Turns, all_behind, due_right, same_discards, holds_discards, produces}
 use Rattle.sctp_tx_outstanding.proofs.RecordLemmas.{resent_same, slowed_same, acked_same, uncovered_same, nacked_same}
 
 -- ---- tests
 
-same_due : (now : ℕ) (o : Option ℕ) → queued.is_due now o ≡ item.is_due now o
+same_due : (now : ℕ) (o : Option ℕ) → queued.is_expired now o ≡ item.is_past now o
 same_due now None = refl
 same_due now (Some moment) = refl
 
@@ -55,11 +55,11 @@ module _ (Known : ℕ → ℕ → Option ℕ → ℕ → Type 0) where
   slow_stays : (i : Item) → Stays i → Stays (miss_fast i)
   slow_stays i h e = h (sym (slowed_same i.state) ∙ e)
 
-  settled_stays : (covered : Bool) (i : Item) → Stays i → Stays (ack_or_nack covered i)
-  settled_stays true i h e = h (sym (acked_same i.state) ∙ e)
-  settled_stays false i h e = h (sym (uncovered_same i.state) ∙ e)
+  ack_or_uncover_stays : (covered : Bool) (i : Item) → Stays i → Stays (ack_or_uncover covered i)
+  ack_or_uncover_stays true i h e = h (sym (acked_same i.state) ∙ e)
+  ack_or_uncover_stays false i h e = h (sym (uncovered_same i.state) ∙ e)
 
-  laid_stays : (number : ℕ) (i : Item) → Stays i → Stays (lay_down number i)
+  laid_stays : (number : ℕ) (i : Item) → Stays i → Stays (abandon_if_of number i)
   laid_stays number i h = go (is_of number i)
     where
       go : (b : Bool) → Stays (cond b (abandon i) i)
@@ -73,9 +73,9 @@ module _ (Known : ℕ → ℕ → Option ℕ → ℕ → Type 0) where
   changed f zero (i ∷ is) s h = (s i h.0, h.1)
   changed f (suc k) (i ∷ is) s h = (h.0, changed f k is s h.1)
 
-  settles : (blocks : List GapAckBlock) (offset : ℕ) (is : List Item) → AllStay is → AllStay (settle blocks offset is)
+  settles : (blocks : List GapAckBlock) (offset : ℕ) (is : List Item) → AllStay is → AllStay (ack_or_uncover_all blocks offset is)
   settles blocks offset [] h = h
-  settles blocks offset (i ∷ is) h = (settled_stays (is_covered blocks offset) i h.0, settles blocks (suc offset) is h.1)
+  settles blocks offset (i ∷ is) h = (ack_or_uncover_stays (is_covered blocks offset) i h.0, settles blocks (suc offset) is h.1)
 
   dropped : (k : ℕ) (is : List Item) → AllStay is → AllStay (drop k is)
   dropped zero is h = h
@@ -87,7 +87,7 @@ module _ (Known : ℕ → ℕ → Option ℕ → ℕ → Type 0) where
   found zero (j ∷ is) i h e = let same : j ≡ i = cc in subst Stays same h.0
   found (suc k) (j ∷ is) i h e = found k is i h.1 e
 
-  lays : (number : ℕ) (is : List Item) → AllStay is → AllStay (map (lay_down number) is)
+  lays : (number : ℕ) (is : List Item) → AllStay is → AllStay (map (abandon_if_of number) is)
   lays number [] h = h
   lays number (i ∷ is) h = (laid_stays number i h.0, lays number is h.1)
 
@@ -113,28 +113,28 @@ module _ (Known : ℕ → ℕ → Option ℕ → ℕ → Type 0) where
   again_at k None x h = h
   again_at k (Some i) x h = changed mark_as_retransmitted k x.outstanding.items.kept again_stays h
 
-  fast_at : (a b : Bool) (i : Item) (k : ℕ) (x : Resent) → is_fast i ≡ a → nat_le (size_in x i) x.room ≡ b → KeepsAgain x → KeepsAgain (take_item (fast_turn i x) k x)
+  fast_at : (a b : Bool) (i : Item) (k : ℕ) (x : Resent) → is_fast i ≡ a → nat_le (size_in x i) x.room ≡ b → KeepsAgain x → KeepsAgain (apply_turn (fast_turn i x) k x)
   fast_at true true i k x e f h = rw (e, f) (again_at k (slice_get x.outstanding.items.kept k) x h)
   fast_at true false i k x e f h = rw (e, f) (changed miss_fast k x.outstanding.items.kept slow_stays h)
   fast_at false b i k x e f h = rw e h
 
   queued_at : (b : Bool) (i : Item) (k : ℕ) (x : Resent) → (should_be_retransmitted i && nat_le (size_in x i) (allowance x)) ≡ b → KeepsAgain x
-      → KeepsAgain (take_item (queued_turn i x) k x)
+      → KeepsAgain (apply_turn (queued_turn i x) k x)
   queued_at true i k x e h = rw e (again_at k (slice_get x.outstanding.items.kept k) x h)
   queued_at false i k x e h = rw e h
 
-  taken_at : (fast : Bool) (o : Option Item) (k : ℕ) (x : Resent) → KeepsAgain x → KeepsAgain (take_item (turn_of fast o x) k x)
-  taken_at fast None k x h = h
-  taken_at true (Some i) k x h = fast_at (is_fast i) (nat_le (size_in x i) x.room) i k x refl refl h
-  taken_at false (Some i) k x h = queued_at (should_be_retransmitted i && nat_le (size_in x i) (allowance x)) i k x refl h
+  apply_turn_keeps_again : (fast : Bool) (o : Option Item) (k : ℕ) (x : Resent) → KeepsAgain x → KeepsAgain (apply_turn (turn_of fast o x) k x)
+  apply_turn_keeps_again fast None k x h = h
+  apply_turn_keeps_again true (Some i) k x h = fast_at (is_fast i) (nat_le (size_in x i) x.room) i k x refl refl h
+  apply_turn_keeps_again false (Some i) k x h = queued_at (should_be_retransmitted i && nat_le (size_in x i) (allowance x)) i k x refl h
 
   below : (fast : Bool) (n : ℕ) (x : Resent) → KeepsAgain x → KeepsAgain (resent_below fast n x)
   below fast zero x h = h
   below fast (suc n) x h =
       let y : Resent = resent_below fast n x in
-      taken_at fast (slice_get y.outstanding.items.kept n) n y (below fast n x h)
+      apply_turn_keeps_again fast (slice_get y.outstanding.items.kept n) n y (below fast n x h)
 
-  timed_keeps : (b : Bool) (now : ℕ) (s : Sender) → Keeps s → Keeps (timed_if b now s)
+  timed_keeps : (b : Bool) (now : ℕ) (s : Sender) → Keeps s → Keeps (start_t3_if b now s)
   timed_keeps true now s h = h
   timed_keeps false now s h = h
 
@@ -155,11 +155,11 @@ module _ {P : Type 0} (Known : ℕ → ℕ → Option ℕ → ℕ → Type 0) (R
     pub stay : AllStay Known x.items.kept
     pub right : Emits x.emitted
 
-  gives : (number : ℕ) (cause : GivenUpCause) (x : Step P) → Right (record { number = number; cause = cause }) → Fares x → Fares (given_up number cause x)
+  gives : (number : ℕ) (cause : GivenUpCause) (x : Step P) → Right (record { number = number; cause = cause }) → Fares x → Fares (abandon_with_record number cause x)
   gives number cause x r h = record { stay = abandons Known number x.items h.stay; right = all_behind Right x.emitted.given_up _ h.right (r, tt) }
 
-  nacks_item : (b at_once fast is_lossy : Bool) (k : ℕ) (i : Item) (x : Step P) → gives_up x.items.is_partial at_once i ≡ b → Stays Known i → Fares x
-      → Fares (cond b (given_up i.number (Retransmissions (i.sent - 1)) x) (record x { items = change_items k (nack at_once fast) x.items; is_lossy = is_lossy }))
+  nacks_item : (b at_once fast is_lossy : Bool) (k : ℕ) (i : Item) (x : Step P) → is_to_be_abandoned x.items.is_partial at_once i ≡ b → Stays Known i → Fares x
+      → Fares (cond b (abandon_with_record i.number (Retransmissions (i.sent - 1)) x) (record x { items = change_items k (nack at_once fast) x.items; is_lossy = is_lossy }))
   nacks_item true at_once fast is_lossy k i x e s h =
       let lost : loses at_once i ≡ true = (and_parts (loses at_once i) (x.items.is_partial && is_used_up i) e).0 in
       let flown : is_in_flight i.state ≡ true = (and_parts (is_outstanding i) (is_lost at_once i) lost).0 in
@@ -173,7 +173,7 @@ module _ {P : Type 0} (Known : ℕ → ℕ → Option ℕ → ℕ → Type 0) (R
       → Fares (unwrap_or (option_map (λ i. nack_item at_once fast k i x) o) x)
   nacks_at None at_once fast k x e h = h
   nacks_at (Some i) at_once fast k x e h =
-      nacks_item (gives_up x.items.is_partial at_once i) at_once fast (x.is_lossy || loses at_once i) k i x refl (found Known k x.items.kept i h.stay e) h
+      nacks_item (is_to_be_abandoned x.items.is_partial at_once i) at_once fast (x.is_lossy || loses at_once i) k i x refl (found Known k x.items.kept i h.stay e) h
 
   nacks_below : (at_once fast : Bool) (n : ℕ) (x : Step P) → Fares x → Fares (nack_below at_once fast n x)
   nacks_below at_once fast zero x h = h
@@ -226,7 +226,7 @@ module _ {P : Type 0} (Known : ℕ → ℕ → Option ℕ → ℕ → Type 0) (R
       record { keeps = f.stay; right = f.right }
   goes_sack false n a_rwnd blocks s t h = h
 
-  pub goes_expired : (s : Sender) (t : Emitted P) → Goes s t → Goes (expire now s t) (expire_outstanding now s.outstanding.items t).emitted
+  pub goes_expired : (s : Sender) (t : Emitted P) → Goes s t → Goes (abandon_expired now s t) (expire_outstanding now s.outstanding.items t).emitted
   goes_expired s t h = let f : Fares (expire_outstanding now s.outstanding.items t) = fares_expired s.outstanding.items t h.keeps h.right in record { keeps = f.stay; right = f.right }
 
   pub goes_timed_out : (s : Sender) (t : Emitted P) → Goes s t
@@ -249,7 +249,7 @@ module _ {P : Type 0} (Known : ℕ → ℕ → Option ℕ → ℕ → Type 0) (R
       right = h.right;
     }
 
-    actions_if : (b : Bool) (x : Filling P) → Fills x → Fills (turned_if b now x).filling
+    actions_if : (b : Bool) (x : Filling P) → Fills x → Fills (queue_step_if b now x).filling
     actions_if true x h =
         let y : queued.Turn P = queued.produce now (offered_payload x.left x.sender) x.queue x.emitted in
         let t : Turns Known Right now late next y = produces Known Right now late next (offered_payload x.left x.sender) x.queue x.emitted h.holds h.right in
@@ -263,7 +263,7 @@ module _ {P : Type 0} (Known : ℕ → ℕ → Option ℕ → ℕ → Type 0) (R
     fills : (n : ℕ) (x : Filling P) → Fills x → Fills (fill n now x)
     fills zero x h = h
     fills (suc n) x h =
-        let y : Turned P = next_turn now x in
+        let y : QueueStep P = next_turn now x in
         let k : Fills y.filling = actions_if (may_send_new x.sender && nat_lt 0 (offered_payload x.left x.sender)) x h in
         fills_if y.is_more y.filling (fill n now y.filling) k (fills n y.filling k)
 

@@ -10,7 +10,7 @@ use Rattle.sctp_state.specs.Events.{GivenUp}
 use Rattle.sctp_tx_queue.specs.SendQueue.{Queued, Stream, Queue, next_number}
 use Rattle.sctp_tx_outstanding.specs.Item.{Item}
 use Rattle.spec_endpoint.specs.Association.{Context}
-use Rattle.spec_endpoint.specs.Calls.{refusal, queue_entry, accept, offered, offer_all}
+use Rattle.spec_endpoint.specs.Calls.{send_refusal, queue_entry, accept, offered, offer_all}
 use Rattle.proof_endpoint.specs.Mapped.{Carried}
 use Rattle.proof_delivery.specs.Accepted.{unless_refused, accepted_of}
 use Rattle.proof_delivery.specs.Justified.{Acceptance, accepted_then}
@@ -106,4 +106,4 @@ module _ (resets : List ℕ) (kept : List Item) (how : SendOptions) (shown : Soc
   pub offers_sound : (ms : List Message) (old : List Acceptance) (c : Context Carried) → length (old ++ taken ms c) < 2 ^ 32 → SoundIn old resets kept c
       → SoundIn (old ++ taken ms c) resets kept (offer_all ms how shown c)
   offers_sound [] old c few h = subst (λ (xs : List Acceptance). SoundIn xs resets kept c) (sym (append-nil old)) h
-  offers_sound (m ∷ ms) old c few h = offers_next (refusal m shown c) old m ms c (offers_sound ms) few h
+  offers_sound (m ∷ ms) old c few h = offers_next (send_refusal m shown c) old m ms c (offers_sound ms) few h

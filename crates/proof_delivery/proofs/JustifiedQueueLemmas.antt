@@ -9,15 +9,15 @@ use Rattle.std.specs.declared.cmp.Ordering.{Ordering}
 use Rattle.std.specs.BTreeMap.{is_at, insert_entry}
 use Rattle.std.proofs.lemmas.Bool.{and_parts, leb-true}
 use Rattle.sctp_state.specs.declared.api.GivenUpCause.TheVariants.{Lifetime, Reset}
-use Rattle.sctp_state.specs.Events.{GivenUp, Emitted, give_up, emit_events, expiry}
+use Rattle.sctp_state.specs.Events.{GivenUp, Emitted, emit_given_up, emit_events, expired_events}
 use Rattle.sctp_tx_queue.specs.declared.send_queue.message.MessageNumbers.{MessageNumbers}
 use Rattle.sctp_tx_queue.specs.declared.send_queue.stream.ResetStep.{ResetStep}
 use Rattle.sctp_tx_queue.specs.declared.send_queue.stream.ResetStep.TheVariants.{Requested, Performed, Refused}
-use Rattle.sctp_tx_queue.specs.SendQueue.{Queued, Stream, Streams, Entries, Queue, stream, open_stream, put_stream, blank, push, add, next_number}
-use Rattle.sctp_tx_queue.specs.Produced.{Produced, Turn, is_due, is_stale, fresh, drop_expired, without_stale, streams_without_stale, ends, move_past, moved_front, front_made, front_numbers, next_fragment, advance, emitted_made, turn, next_stream, idle, produce_within, produce, settle_pause}
+use Rattle.sctp_tx_queue.specs.SendQueue.{Queued, Stream, Streams, Entries, Queue, stream, with_stream, put_stream, blank, push, add, next_number}
+use Rattle.sctp_tx_queue.specs.Produced.{Produced, Turn, is_expired, is_stale, fresh, emit_expired, without_stale, streams_without_stale, ends, move_past, moved_front, front_made, front_numbers, next_fragment, advance, emitted_made, turn, next_stream, idle, produce_within, produce, pause_if_pending}
 use Rattle.sctp_tx_queue.specs.Settings.{Changed, with_threshold, with_priority, set_low_threshold, set_priority, set_mode, without_front, streams_discarded, front_discarded, discard_from, discard}
 use Rattle.sctp_tx_queue.specs.Restarted.{whole_front, restart, restarted_one, each_restarted, reset}
-use Rattle.sctp_tx_queue.specs.Resets.{is_partly, emitted_waiting, prepare_stream, prepare_reset, after_step, step_stream, each_stepped}
+use Rattle.sctp_tx_queue.specs.Resets.{is_partly, emit_unsent, prepare_stream, prepare_reset, after_step, apply_reset_step, each_stepped}
 use Rattle.sctp_tx_outstanding.specs.OutstandingData.{Discard}
 use Rattle.sctp_tx.specs.Sending.{discard_all}
 use Rattle.sctp_serial.proofs.NumberLemmas.{same_at}
@@ -29,7 +29,7 @@ all_behind Q [] ys h k = k
 all_behind Q (x ∷ xs) ys h k = (h.0, all_behind Q xs ys h.1 k)
 
 -- a moment that is due has come
-pub due_came : (now : ℕ) (o : Option ℕ) → is_due now o ≡ true → (moment : ℕ) × (o ≡ Some moment) × (moment ≤ now)
+pub due_came : (now : ℕ) (o : Option ℕ) → is_expired now o ≡ true → (moment : ℕ) × (o ≡ Some moment) × (moment ≤ now)
 due_came now None e = cc
 due_came now (Some moment) e = (moment, refl, leb-true moment now e)
 
@@ -100,15 +100,15 @@ module _ (Known : ℕ → ℕ → Option ℕ → ℕ → Type 0) where
   put_stands : (id : ℕ) (s : Stream) (ss : Streams) → AllWait id s.messages → AllStand ss.entries → AllStand (put_stream id s ss).entries
   put_stands id s ss f h = set_stands id s ss.entries f h
 
-  opened_stands : (id : ℕ) (ss : Streams) → AllStand ss.entries → AllStand (open_stream id ss).entries
+  opened_stands : (id : ℕ) (ss : Streams) → AllStand ss.entries → AllStand (with_stream id ss).entries
   opened_stands id ss h = go (is_some (lookup (is_at (nat_cmp id)) ss.entries))
     where
       go : (b : Bool) → AllStand (cond b ss (record ss { entries = insert_entry nat_cmp ss.entries id (blank ss) })).entries
       go true = h
       go false = insert_stands id (blank ss) ss.entries tt h
 
-  put_opened : (id : ℕ) (s : Stream) (ss : Streams) → AllWait id s.messages → AllStand ss.entries → AllStand (put_stream id s (open_stream id ss)).entries
-  put_opened id s ss f h = put_stands id s (open_stream id ss) f (opened_stands id ss h)
+  put_opened : (id : ℕ) (s : Stream) (ss : Streams) → AllWait id s.messages → AllStand ss.entries → AllStand (put_stream id s (with_stream id ss)).entries
+  put_opened id s ss f h = put_stands id s (with_stream id ss) f (opened_stands id ss h)
 
   -- ---- the messages of a stream
 
@@ -142,7 +142,7 @@ module _ (Known : ℕ → ℕ → Option ℕ → ℕ → Type 0) where
   cut_waits id number [] s h k = k
   cut_waits id number (m ∷ ms) s h k = go (m.number == number)
     where
-      go : (b : Bool) → AllWait id (cond b (record s { messages = ms; pause = settle_pause s.pause }) s).messages
+      go : (b : Bool) → AllWait id (cond b (record s { messages = ms; pause = pause_if_pending s.pause }) s).messages
       go true = h.1
       go false = k
 
@@ -190,7 +190,7 @@ module _ (Known : ℕ → ℕ → Option ℕ → ℕ → Type 0) where
       counts = h.counts;
     }
 
-    holds_stepped : (step : ResetStep) (id : ℕ) (q : Queue) → H q → H (step_stream step id q)
+    holds_stepped : (step : ResetStep) (id : ℕ) (q : Queue) → H q → H (apply_reset_step step id q)
     holds_stepped step id q h = record {
       stand = put_stands id (after_step step (stream id q.streams)) q.streams (step_waits id step (stream id q.streams) (stream_stands id q.streams h.stand)) h.stand;
       counts = h.counts;
@@ -198,7 +198,7 @@ module _ (Known : ℕ → ℕ → Option ℕ → ℕ → Type 0) where
 
     pub holds_each_stepped : (step : ResetStep) (ids : List ℕ) (q : Queue) → H q → H (each_stepped step ids q)
     holds_each_stepped step [] q h = h
-    holds_each_stepped step (id ∷ ids) q h = holds_each_stepped step ids (step_stream step id q) (holds_stepped step id q h)
+    holds_each_stepped step (id ∷ ids) q h = holds_each_stepped step ids (apply_reset_step step id q) (holds_stepped step id q h)
 
     holds_restarted : (id : ℕ) (q : Queue) → H q → H (restarted_one id q)
     holds_restarted id q h = record {
@@ -242,13 +242,13 @@ module _ (Known : ℕ → ℕ → Option ℕ → ℕ → Type 0) where
 -- a message that is known to have expired may be given up for that
 module _ (Known : ℕ → ℕ → Option ℕ → ℕ → Type 0) (Right : GivenUp → Type 0) (now : ℕ)
     (expired : (id n limit moment : ℕ) → Known id n (Some moment) limit → moment ≤ now → Right (record { number = n; cause = Lifetime })) where
-  pub due_right : (id n limit : ℕ) (o : Option ℕ) → Known id n o limit → is_due now o ≡ true → Right (record { number = n; cause = Lifetime })
+  pub due_right : (id n limit : ℕ) (o : Option ℕ) → Known id n o limit → is_expired now o ≡ true → Right (record { number = n; cause = Lifetime })
   due_right id n limit o k e =
       let d : (moment : ℕ) × (o ≡ Some moment) × (moment ≤ now) = due_came now o e in
       expired id n limit d.0 (subst (λ (z : Option ℕ). Known id n z limit) d.1 k) d.2
 
   stale_right : (id : ℕ) (m : Queued) → Waits Known id m → is_stale now m ≡ true → Right (record { number = m.number; cause = Lifetime })
-  stale_right id m w e = due_right id m.number m.limit m.expires w (and_parts (not (is_some m.numbers)) (is_due now m.expires) e).1
+  stale_right id m w e = due_right id m.number m.limit m.expires w (and_parts (not (is_some m.numbers)) (is_expired now m.expires) e).1
 
 -- ---- what is emitted
 
@@ -270,25 +270,25 @@ module _ {P : Type 0} where
 
     -- a stream is to be reset
     pub waits_right : (id : ℕ) → ((n limit : ℕ) (o : Option ℕ) → Known id n o limit → Right (record { number = n; cause = Reset })) → (ms : List Queued) (t : Emitted P)
-        → AllWait Known id ms → AllRight t → AllRight (emitted_waiting ms t)
+        → AllWait Known id ms → AllRight t → AllRight (emit_unsent ms t)
     waits_right id cleared [] t ws h = h
     waits_right id cleared (m ∷ ms) t ws h = waits_right id cleared ms (cond (is_partly m) t said) ws.1 (go (is_partly m))
       where
         said : Emitted P
-        said = emit_events (expiry m.lifecycle) (give_up m.number Reset t)
+        said = emit_events (expired_events m.lifecycle) (emit_given_up m.number Reset t)
 
         go : (b : Bool) → AllRight (cond b t said)
         go true = h
         go false = all_behind Right t.given_up _ h (cleared m.number m.limit m.expires ws.0, tt)
 
-    drops_right : (id : ℕ) (ms : List Queued) (t : Emitted P) → AllWait Known id ms → AllRight t → AllRight (drop_expired now ms t)
-    drops_right id [] t ws h = h
-    drops_right id (m ∷ ms) t ws h = go (is_stale now m) refl (drops_right id ms said ws.1)
+    emit_expired_right : (id : ℕ) (ms : List Queued) (t : Emitted P) → AllWait Known id ms → AllRight t → AllRight (emit_expired now ms t)
+    emit_expired_right id [] t ws h = h
+    emit_expired_right id (m ∷ ms) t ws h = go (is_stale now m) refl (emit_expired_right id ms said ws.1)
       where
         said : Emitted P
-        said = emit_events (expiry m.lifecycle) (give_up m.number Lifetime t)
+        said = emit_events (expired_events m.lifecycle) (emit_given_up m.number Lifetime t)
 
-        go : (b : Bool) → is_stale now m ≡ b → (AllRight said → AllRight (drop_expired now ms said)) → AllRight (cond b (drop_expired now ms said) t)
+        go : (b : Bool) → is_stale now m ≡ b → (AllRight said → AllRight (emit_expired now ms said)) → AllRight (cond b (emit_expired now ms said) t)
         go true e rest = rest (all_behind Right t.given_up _ h (stale_right Known Right now expired id m ws.0 e, tt))
         go false e rest = h
 
@@ -314,7 +314,7 @@ module _ {P : Type 0} where
           record {
             holds = record { stand = put_stands Known id (advance size r) ss (advanced_waits Known id size r rs) first; counts = h.counts };
             made = next_known Known id size r rs;
-            right = emitted_made_right id _ _ (next_fragment id size r) (drop_expired now s.messages t) (drops_right id s.messages t ws k);
+            right = emitted_made_right id _ _ (next_fragment id size r) (emit_expired now s.messages t) (emit_expired_right id s.messages t ws k);
           }
 
       turns_if : (b : Bool) (x y : Turn P) → Turns x → Turns y → Turns (cond b x y)

@@ -12,20 +12,20 @@ use Rattle.sctp_state.specs.Options.{Options, SendOptions}
 use Rattle.spec_endpoint.specs.Association.{EndpointState, Endpoint, where_open, with_context}
 use Rattle.sctp_state.specs.declared.api.errors.ResetStreamsError.{ResetStreamsError}
 use Rattle.spec_endpoint.specs.StreamReset.{reset_refusal, reset_if}
-use Rattle.spec_endpoint.specs.Sending.{is_alone, send_in}
-use Rattle.spec_endpoint.specs.Calls.{shown_state, refusal_of, offer, offer_all, sent_if}
-use Rattle.spec_endpoint.specs.Input.{refusal, on_endpoint_state}
-use Rattle.spec_endpoint.specs.Laws.{Call, Connect, Close, Shutdown, Send, SendMany, ResetStreams, TakeMessage, SetLowThreshold, SetPriority, SetMaxMessageSize, Advance, HandOver, Restore, Packet, NoPacket, called}
+use Rattle.spec_endpoint.specs.Sending.{is_before_cookie_ack, send_in}
+use Rattle.spec_endpoint.specs.Calls.{shown_state, send_refusal_of, offer, offer_all, sent_if}
+use Rattle.spec_endpoint.specs.Input.{packet_refusal, in_endpoint_state}
+use Rattle.spec_endpoint.specs.Laws.{Call, Connect, Close, Shutdown, Send, SendMany, ResetStreams, TakeMessage, SetLowThreshold, SetPriority, SetMaxMessageSize, Advance, HandOver, Restore, ReceivePacket, ReceiveNoPacket, called}
 use Rattle.proof_endpoint.specs.Mapped.{Carried}
 use Rattle.proof_endpoint.specs.Acts.{idle, calm, IsOffered}
-use Rattle.proof_pair.specs.Trace.{Side, Pair, emitted_packets, EndAction, Calls, Gives, Refuses, as_received, drain, give, foreign_if, act, goes, side_of, start, state_of}
+use Rattle.proof_pair.specs.Trace.{Side, Pair, emitted_packets, EndAction, Calls, Gives, Refuses, as_received, drain, give_carried, foreign_if, act, goes, side_of, start, state_of}
 use Rattle.proof_endpoint.proofs.PacketActsLemmas.{does_send_buffered}
 use Rattle.proof_endpoint.proofs.RowActsLemmas.{placed, does_where_open}
 use Rattle.proof_endpoint.proofs.ActsLemmas.{keeps_call}
 use Rattle.proof_endpoint.proofs.LivesLemmas.{offers, not_offered}
 use Rattle.proof_endpoint.specs.Lifecycles.{is_restore}
 use Rattle.proof_delivery.specs.Accepted.{AcceptedMessage, accepted_by, accepted_in, accepted_at, accepted}
-use Rattle.proof_delivery.specs.Justified.{clock, Acceptance, accepted_then, acceptances, records_of, records_given, records_if, records_by, records_at, reset_unless, reset_by, reset_at, dated_record, dated_records, IsJustified, restores, RestoresNone, RecordsAreJustified, AcceptancesAreAccepted}
+use Rattle.proof_delivery.specs.Justified.{clock, Acceptance, accepted_then, acceptances, records_of, records_given, records_foreign, records_by, records_at, reset_unless, reset_by, reset_at, dated_record, dated_records, IsJustified, restores, RestoresNone, RecordsAreJustified, AcceptancesAreAccepted}
 use Rattle.proof_delivery.specs.GivenUp.{kept_in}
 use Rattle.proof_delivery.proofs.JustifiedQueueLemmas.{all_behind}
 use Rattle.proof_delivery.proofs.JustifiedActsLemmas.{IsJustifiedAt, SoundAt, stays_sound}
@@ -58,7 +58,7 @@ module _ (old : List Acceptance) where
   sent_sound : (s : EndpointState Carried) (w : Stream) → SoundAt old [] (placed s w) → SoundAt old [] (placed (where_open send_in s) w)
   sent_sound s w h =
       let k = stays_sound old [] TakeMessage (no_offer TakeMessage refl) (λ s is. not_steady TakeMessage (Restore s) refl is refl) (λ streams is. cc) in
-      does_where_open k w send_in s (λ phase t c. does_send_buffered k phase w (is_alone phase) t c) h
+      does_where_open k w send_in s (λ phase t c. does_send_buffered k phase w (is_before_cookie_ack phase) t c) h
 
   sent_if_sound : (r : Option SendError) (s : EndpointState Carried) (w : Stream) → SoundAt old [] (placed s w) → SoundAt old [] (placed (sent_if r s) w)
   sent_if_sound None s w h = sent_sound s w h
@@ -74,7 +74,7 @@ Rests all x = (resets : List ℕ) → SoundAt all resets (calm x.end)
 
 module _ (old : List Acceptance) (x : Side) where
   offered_sound : (ms : List Message) (o : SendOptions) → length (with_call old (SendMany ms o) x) < 2 ^ 32 → SoundAt old [] (calm x.end)
-      → SoundAt (with_call old (SendMany ms o) x) [] (idle (state_of x) (offer_all ms o (shown_state (state_of x)) x.end.endpoint_state.context) x.end.random)
+      → SoundAt (with_call old (SendMany ms o) x) [] (idle (state_of x) (offer_all ms o (shown_state (state_of x)) x.end.endpoint_state.context) x.end.draws)
   offered_sound ms o few h = offers_sound [] (kept_in (state_of x)) o (shown_state (state_of x)) ms old x.end.endpoint_state.context few h
 
   nothing_more : (resets : List ℕ) (call : Call) → is_steady call ≡ true → ResetsJust call resets → SoundAt old resets (calm x.end) → SoundAt (old ++ []) resets (calm (called call x.end))
@@ -83,7 +83,7 @@ module _ (old : List Acceptance) (x : Side) where
 
   -- by whether streams can be reset
   abbrev after_reset_if : Option ResetStreamsError → (streams : List ℕ) → Endpoint Carried
-  after_reset_if o streams = on_endpoint_state (reset_if o streams) x.end
+  after_reset_if o streams = in_endpoint_state (reset_if o streams) x.end
 
   reset_sound : (streams : List ℕ) (o : Option ResetStreamsError) → reset_refusal (state_of x) ≡ o → Rests old x
       → SoundAt (old ++ []) (reset_unless o streams) (calm (after_reset_if o streams))
@@ -95,10 +95,10 @@ module _ (old : List Acceptance) (x : Side) where
   call_sound : (call : Call) → restores (Calls call) ≡ false → length (with_call old call x) < 2 ^ 32 → Rests old x
       → SoundAt (with_call old call x) (reset_by (Calls call) x) (calm (called call x.end))
   call_sound (Send m o) none few h =
-      sent_if_sound (with_call old (Send m o) x) (refusal_of m x.end.endpoint_state)
-      (with_context x.end.endpoint_state (offer m o (shown_state (state_of x)) x.end.endpoint_state.context)) x.end.random (offered_sound (m ∷ []) o few (h []))
+      sent_if_sound (with_call old (Send m o) x) (send_refusal_of m x.end.endpoint_state)
+      (with_context x.end.endpoint_state (offer m o (shown_state (state_of x)) x.end.endpoint_state.context)) x.end.draws (offered_sound (m ∷ []) o few (h []))
   call_sound (SendMany ms o) none few h =
-      sent_sound (with_call old (SendMany ms o) x) (with_context x.end.endpoint_state (offer_all ms o (shown_state (state_of x)) x.end.endpoint_state.context)) x.end.random
+      sent_sound (with_call old (SendMany ms o) x) (with_context x.end.endpoint_state (offer_all ms o (shown_state (state_of x)) x.end.endpoint_state.context)) x.end.draws
       (offered_sound ms o few (h []))
   call_sound (Restore s) none few h = cc
   call_sound Connect none few h = nothing_more [] Connect refl (λ ids is. cc) (h [])
@@ -111,8 +111,8 @@ module _ (old : List Acceptance) (x : Side) where
   call_sound (SetMaxMessageSize bytes) none few h = nothing_more [] (SetMaxMessageSize bytes) refl (λ ids is. cc) (h [])
   call_sound (Advance now) none few h = nothing_more [] (Advance now) refl (λ ids is. cc) (h [])
   call_sound HandOver none few h = nothing_more [] HandOver refl (λ ids is. cc) (h [])
-  call_sound (Packet p) none few h = nothing_more [] (Packet p) refl (λ ids is. cc) (h [])
-  call_sound NoPacket none few h = nothing_more [] NoPacket refl (λ ids is. cc) (h [])
+  call_sound (ReceivePacket p) none few h = nothing_more [] (ReceivePacket p) refl (λ ids is. cc) (h [])
+  call_sound ReceiveNoPacket none few h = nothing_more [] ReceiveNoPacket refl (λ ids is. cc) (h [])
 
 -- ---- actions
 
@@ -131,16 +131,16 @@ no_more : (old : List Acceptance) (x : Side) (records : List GivenUp) → Action
 no_more old x records t = subst (λ (xs : List Acceptance). Actions xs [] x records) (sym (append-nil old)) t
 
 module _ (old : List Acceptance) (x y : Side) (h : Rests old x) where
-  actions_given : (p : Option Carried) (checksum : ℕ) → Actions old [] (give p checksum x) (records_given p checksum x)
+  actions_given : (p : Option Carried) (checksum : ℕ) → Actions old [] (give_carried p checksum x) (records_given p checksum x)
   actions_given None checksum = actions_none old [] x h
   actions_given (Some p) checksum =
-      let e : Endpoint Carried = called (Packet (as_received p checksum)) x.end in
-      let t : Actions old [] (drain e x) (records_of e) = actions_took old [] e x (steady_sound old [] (Packet (as_received p checksum)) refl (λ ids is. cc) x.end (h [])) in
+      let e : Endpoint Carried = called (ReceivePacket (as_received p checksum)) x.end in
+      let t : Actions old [] (drain e x) (records_of e) = actions_took old [] e x (steady_sound old [] (ReceivePacket (as_received p checksum)) refl (λ ids is. cc) x.end (h [])) in
       record { rests = t.rests; justified = t.justified }
 
-  actions_refused : (r : Option (List ℕ)) (p : PacketTree) → Actions old [] (foreign_if r p x) (records_if r p x)
+  actions_refused : (r : Option (List ℕ)) (p : PacketTree) → Actions old [] (foreign_if r p x) (records_foreign r p x)
   actions_refused None p = actions_none old [] x h
-  actions_refused (Some text) p = actions_took old [] (called (Packet p) x.end) x (steady_sound old [] (Packet p) refl (λ ids is. cc) x.end (h []))
+  actions_refused (Some text) p = actions_took old [] (called (ReceivePacket p) x.end) x (steady_sound old [] (ReceivePacket p) refl (λ ids is. cc) x.end (h []))
 
   abbrev with_action : EndAction → List Acceptance
   with_action t = old ++ map (accepted_then (clock x)) (accepted_in t x)
@@ -148,7 +148,7 @@ module _ (old : List Acceptance) (x y : Side) (h : Rests old x) where
   action_justified : (t : EndAction) → restores t ≡ false → length (with_action t) < 2 ^ 32 → Actions (with_action t) (reset_by t x) (act t x y) (records_by t x y)
   action_justified (Calls call) none few = actions_took (with_action (Calls call)) (reset_by (Calls call) x) (called call x.end) x (call_sound old x call none few h)
   action_justified (Gives which checksum) none few = no_more old _ _ (actions_given (slice_get (emitted_packets y) which) checksum)
-  action_justified (Refuses p) none few = no_more old _ _ (actions_refused (refusal p.header.verification_tag p.chunks (state_of x)) p)
+  action_justified (Refuses p) none few = no_more old _ _ (actions_refused (packet_refusal p.header.verification_tag p.chunks (state_of x)) p)
 
 -- ---- traces
 
@@ -204,11 +204,11 @@ acceptances_accepted x (e ∷ es) w =
 as_many : (x : Bool) (es : List (Bool × EndAction)) (w : Pair) → length (accepted x es w) ≡ length (acceptances x es w)
 as_many x es w = sym (ap length (acceptances_accepted x es w)) ∙ length-map (acceptances x es w) (λ (a : Acceptance). a.offer)
 
-pub at_first : (x : Bool) (a b : Options) (words_a words_b : Stream) → Rests [] (side_of x (start a b words_a words_b))
-at_first true a b words_a words_b = λ resets. record { holds = record { stand = tt; counts = refl }; stay = tt; justified = tt }
-at_first false a b words_a words_b = λ resets. record { holds = record { stand = tt; counts = refl }; stay = tt; justified = tt }
+pub at_first : (x : Bool) (a b : Options) (draws_a draws_b : Stream) → Rests [] (side_of x (start a b draws_a draws_b))
+at_first true a b draws_a draws_b = λ resets. record { holds = record { stand = tt; counts = refl }; stay = tt; justified = tt }
+at_first false a b draws_a draws_b = λ resets. record { holds = record { stand = tt; counts = refl }; stay = tt; justified = tt }
 
 pub records_justified : RecordsAreJustified
-records_justified a b words_a words_b trace none x few =
-    let w : Pair = start a b words_a words_b in
-    run_justified x trace [] w none (subst (λ (n : ℕ). n < 2 ^ 32) (as_many x trace w) few) (at_first x a b words_a words_b)
+records_justified a b draws_a draws_b trace none x few =
+    let w : Pair = start a b draws_a draws_b in
+    run_justified x trace [] w none (subst (λ (n : ℕ). n < 2 ^ 32) (as_many x trace w) few) (at_first x a b draws_a draws_b)

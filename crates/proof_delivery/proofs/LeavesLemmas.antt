@@ -4,7 +4,7 @@ use Rattle.sctp_serial.specs.Messages as messages
 use Rattle.sctp_rx.specs.DataTracker.{Tracker}
 use Rattle.sctp_rx.specs.ReassemblyQueue.{Reassembly}
 use Rattle.proof_protocol.specs.State.{Message, Transfer, IsAmong}
-use Rattle.proof_protocol.specs.Rules.{Rule, IsAllowed, after}
+use Rattle.proof_protocol.specs.Rules.{TransferEvent, IsAllowed, after}
 use Rattle.proof_protocol.specs.Invariant.{Invariant}
 use Rattle.proof_protocol.specs.Lifted.{lift}
 use Rattle.proof_protocol.specs.Resets.{Request, Epochs, transfers, commit, goes}
@@ -25,7 +25,7 @@ module _ (message : ℕ → Message) (is_interleaved : Bool) where
         → ReceiverRefines message is_interleaved (base_now x) shift x.transfer handed t r → ReceiverRefines message is_interleaved (base_now y) shift y.transfer handed t r
     pub near : (first shift : ℕ) (r : Reassembly) → ReadsNear message is_interleaved (base_now x) first shift x.transfer r → ReadsNear message is_interleaved (base_now y) first shift y.transfer r
 
-  pub by_transfer : (x : Epochs) (e : Rule) → Invariant message is_interleaved x.transfer → IsAllowed message is_interleaved x.transfer e → (after message is_interleaved x.transfer e).receiver ≡ x.transfer.receiver
+  pub by_transfer : (x : Epochs) (e : TransferEvent) → Invariant message is_interleaved x.transfer → IsAllowed message is_interleaved x.transfer e → (after message is_interleaved x.transfer e).receiver ≡ x.transfer.receiver
       → (after message is_interleaved x.transfer e).sacks ≡ x.transfer.sacks → Leaves x (goes message is_interleaved x (transfers e))
   by_transfer x e k may same sacks = record {
     performed = refl;

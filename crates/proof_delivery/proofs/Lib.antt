@@ -11,8 +11,8 @@ pub mod ResetEventsLemmas
 pub mod TraceResetLemmas
 pub mod SenderToolLemmas
 pub mod SenderAsksLemmas
-pub mod SenderHeavyLemmas
-pub mod SenderLightLemmas
+pub mod SenderMovesLemmas
+pub mod SenderStaysLemmas
 pub mod SenderResetLemmas
 pub mod SenderOpeningLemmas
 pub mod SenderKeepsLemmas
@@ -29,8 +29,8 @@ pub mod DirectionLemmas
 pub mod PremisesLemmas
 pub mod ActionLemmas
 pub mod AccountLemmas
-pub mod GoingLemmas
-pub mod ComingLemmas
+pub mod SenderActionLemmas
+pub mod ReceiverActionLemmas
 pub mod FitsLemmas
 pub mod DoneLemmas
 pub mod EpochPointLemmas

@@ -12,14 +12,14 @@ use Rattle.sctp_state.specs.declared.api.SocketState.{SocketState}
 use Rattle.sctp_state.specs.declared.api.errors.SendError.{SendError}
 use Rattle.sctp_state.specs.Options.{Options, SendOptions}
 use Rattle.spec_endpoint.specs.Association.{Context}
-use Rattle.spec_endpoint.specs.Calls.{shown_state, refusal_by, refusal, offered, offer}
+use Rattle.spec_endpoint.specs.Calls.{shown_state, send_refusal_by, send_refusal, offered, offer}
 use Rattle.spec_endpoint.specs.Input as input
-use Rattle.spec_endpoint.specs.Laws.{Call, Send, SendMany, SetMaxMessageSize, Packet, called}
+use Rattle.spec_endpoint.specs.Laws.{Call, Send, SendMany, SetMaxMessageSize, ReceivePacket, called}
 use Rattle.spec_endpoint.specs.ResetRequests.{Outcome, Unsettled, Done, Denied, outcome}
 use Rattle.spec_endpoint.specs.StreamReset.{on_outcome}
 use Rattle.proof_endpoint.specs.Mapped.{Carried}
-use Rattle.proof_endpoint.specs.Acts.{EndWithPacket, PacketAct, begins, adds_plain, emits, complains, counts, before_packets, after_packets, OpeningAct, connects, adds_init, answers_new, answers_waiting, answers_echoed, answers_again, echoes, adds_cookie, establishes, opens, restarts, opens_again, maintains, adds_cookie_ack, before_opening, after_opening, ClosingAct, closes, shuts, shuts_on, before_closing, after_closing, DataAct, takes_data, takes_idata, takes_forward, takes_iforward, before_data, after_data, SackAct, takes_sack, samples, counts_errors, before_sack, after_sack, SendingAct, asks, adds_ack, expires, adds_forward, forwards_later, asks_no_reset, asks_reset, adds_request, sends, sends_fast, before_sending, after_sending, TimeAct, advances, delay_ends, times_out, beats, times_init, times_cookie, times_request, wakes_request, before_time, after_time, CallAct, accepts, refuses, takes_message, sets_low_threshold, sets_priority, sets_max_message_size, before_call, after_call, ResetAct, prepares, defers, performs, processes, takes_response, adds_responses, before_reset, after_reset, HandoverAct, leaves, takes_up, before_handover, after_handover, InputAct, ends_packet, before_input, after_input, Preserves}
-use Rattle.proof_pair.specs.Trace.{Side, Pair, emitted_packets, EndAction, Calls, Gives, Refuses, as_received, give, foreign_if, act, goes, AreValidOptions, new_side, start, state_of}
+use Rattle.proof_endpoint.specs.Acts.{EndWithPacket, PacketAct, begins, adds_plain, emits, emits_error, counts, before_packets, after_packets, OpeningAct, connects, adds_init, answers_new, answers_waiting, answers_echoed, answers_again, echoes, adds_cookie, establishes, opens, restarts, opens_again, maintains, adds_cookie_ack, before_opening, after_opening, ClosingAct, closes, shuts, shuts_on, before_closing, after_closing, DataAct, takes_data, takes_idata, takes_forward, takes_iforward, before_data, after_data, SackAct, takes_sack, samples, counts_errors, before_sack, after_sack, SendingAct, asks, adds_ack, expires, adds_forward, forwards_later, asks_no_reset, asks_reset, adds_request, sends, sends_fast, before_sending, after_sending, TimeAct, advances, delay_ends, times_out, beats, times_init, times_cookie, times_request, wakes_request, before_time, after_time, CallAct, accepts, refuses, takes_message, sets_low_threshold, sets_priority, sets_max_message_size, before_call, after_call, ResetAct, prepares, defers, performs, processes, takes_response, adds_responses, before_reset, after_reset, HandoverAct, leaves, takes_up, before_handover, after_handover, InputAct, ends_packet, before_input, after_input, Preserves}
+use Rattle.proof_pair.specs.Trace.{Side, Pair, emitted_packets, EndAction, Calls, Gives, Refuses, as_received, give_carried, foreign_if, act, goes, AreValidOptions, new_side, start, state_of}
 use Rattle.proof_endpoint.proofs.ActsLemmas.{keeps_call}
 use Rattle.proof_delivery.specs.Accepted.{AcceptedMessage, unless_refused, accepted_of, accepted_by, accepted_in, accepted_at, accepted}
 use Rattle.proof_delivery.specs.Windows.{sets_more, KeepsLimits}
@@ -42,7 +42,7 @@ module _ (call : Call) (fits : (bytes : ℕ) → call ≡ SetMaxMessageSize byte
   stays_packets (begins p m new summed to) l = l
   stays_packets (adds_plain chunk m plain others fair) l = l
   stays_packets (emits m some bundled) l = l
-  stays_packets (complains kind text m) l = l
+  stays_packets (emits_error kind text m) l = l
   stays_packets (counts m) l = l
 
   stays_opening : (act : OpeningAct Carried call) → Stays (before_opening act) (after_opening act)
@@ -144,13 +144,13 @@ module _ (call : Call) (fits : (bytes : ℕ) → call ≡ SetMaxMessageSize byte
 abbrev pub IsLimited : Side → Type 0
 IsLimited x = HasLimit x.end.endpoint_state.context
 
-limited_packet : (p : PacketTree) (x : Side) → IsLimited x → HasLimit (called (Packet p) x.end).endpoint_state.context
-limited_packet p x l = keeps_call (Packet p) (stays (Packet p) (λ bytes e. absurd (differ bytes e))) x.end l
+limited_packet : (p : PacketTree) (x : Side) → IsLimited x → HasLimit (called (ReceivePacket p) x.end).endpoint_state.context
+limited_packet p x l = keeps_call (ReceivePacket p) (stays (ReceivePacket p) (λ bytes e. absurd (differ bytes e))) x.end l
   where
-    differ : (bytes : ℕ) → Packet p ≡ SetMaxMessageSize bytes → ⊥
+    differ : (bytes : ℕ) → ReceivePacket p ≡ SetMaxMessageSize bytes → ⊥
     differ bytes e = cc
 
-limited_given : (p : Option Carried) (checksum : ℕ) (x : Side) → IsLimited x → IsLimited (give p checksum x)
+limited_given : (p : Option Carried) (checksum : ℕ) (x : Side) → IsLimited x → IsLimited (give_carried p checksum x)
 limited_given None checksum x l = l
 limited_given (Some p) checksum x l = limited_packet (as_received p checksum) x l
 
@@ -167,7 +167,7 @@ limited_action (Calls call) x y h l = keeps_call call (stays call fits) x.end l
     fits : (bytes : ℕ) → call ≡ SetMaxMessageSize bytes → bytes < 2 ^ 32
     fits bytes e = below bytes (sym (ap (λ (c : Call). sets_more (Calls c)) e) ∙ h)
 limited_action (Gives which checksum) x y h l = limited_given (slice_get (emitted_packets y) which) checksum x l
-limited_action (Refuses p) x y h l = limited_foreign (input.refusal p.header.verification_tag p.chunks (state_of x)) p x l
+limited_action (Refuses p) x y h l = limited_foreign (input.packet_refusal p.header.verification_tag p.chunks (state_of x)) p x l
 
 limited_goes : (acts : Bool) (t : EndAction) (w : Pair) → sets_more t ≡ false → IsLimited w.a → IsLimited w.b → IsLimited (goes acts t w).a × IsLimited (goes acts t w).b
 limited_goes true t w h a b = (limited_action t w.a w.b h a, b)
@@ -178,7 +178,7 @@ limited_goes false t w h a b = (a, limited_action t w.b w.a h b)
 abbrev IsShort : AcceptedMessage → Type 0
 IsShort o = length o.message.payload < 2 ^ 32
 
-not_larger : (is_empty is_large is_late is_full : Bool) (len limit : ℕ) → refusal_by is_empty is_large is_late is_full len limit ≡ None → is_large ≡ false
+not_larger : (is_empty is_large is_late is_full : Bool) (len limit : ℕ) → send_refusal_by is_empty is_large is_late is_full len limit ≡ None → is_large ≡ false
 not_larger true is_large is_late is_full len limit e = cc
 not_larger false true is_late is_full len limit e = cc
 not_larger false false is_late is_full len limit e = refl
@@ -186,7 +186,7 @@ not_larger false false is_late is_full len limit e = refl
 fits_limit : (limit len : ℕ) → nat_lt limit len ≡ false → limit < 2 ^ 32 → len < 2 ^ 32
 fits_limit limit len e l = grind (arith, nat_tests)
 
-one_short : (r : Option SendError) (m : Message) (o : SendOptions) (shown : SocketState) (c : Context Carried) → refusal m shown c ≡ r → HasLimit c → All IsShort (unless_refused r m o)
+one_short : (r : Option SendError) (m : Message) (o : SendOptions) (shown : SocketState) (c : Context Carried) → send_refusal m shown c ≡ r → HasLimit c → All IsShort (unless_refused r m o)
 one_short (Some e) m o shown c is l = All-nil IsShort
 one_short None m o shown c is l =
     let short = fits_limit c.options.max_message_size (length m.payload) (not_larger _ _ _ _ _ _ is) l in
@@ -199,8 +199,8 @@ offer_stays (Some e) m o c l = l
 all_short_of : (ms : List Message) (o : SendOptions) (shown : SocketState) (c : Context Carried) → HasLimit c → All IsShort (accepted_of ms o shown c)
 all_short_of [] o shown c l = All-nil IsShort
 all_short_of (m ∷ ms) o shown c l =
-    All-append IsShort (unless_refused (refusal m shown c) m o) (accepted_of ms o shown (offer m o shown c)) (one_short (refusal m shown c) m o shown c refl l)
-    (all_short_of ms o shown (offer m o shown c) (offer_stays (refusal m shown c) m o c l))
+    All-append IsShort (unless_refused (send_refusal m shown c) m o) (accepted_of ms o shown (offer m o shown c)) (one_short (send_refusal m shown c) m o shown c refl l)
+    (all_short_of ms o shown (offer m o shown c) (offer_stays (send_refusal m shown c) m o c l))
 
 all_short_by : (call : Call) (x : Side) → IsLimited x → All IsShort (accepted_by call x)
 all_short_by (Send m o) x l = all_short_of (m ∷ []) o (shown_state (state_of x)) x.end.endpoint_state.context l
@@ -226,11 +226,11 @@ accepted_short x (e ∷ es) w k a b =
     let on = limited_goes e.0 e.1 w both.0 a b in
     All-append IsShort (accepted_at x e.0 e.1 w) (accepted x es (goes e.0 e.1 w)) (all_short_at x e.0 e.1 w a b) (accepted_short x es (goes e.0 e.1 w) both.1 on.0 on.1)
 
-limited_new : (o : Options) (words : Stream) → AreValidOptions o → IsLimited (new_side o words)
-limited_new o words h = let l = h.valid.sizes.message in omega (arith, l)
+limited_new : (o : Options) (draws : Stream) → AreValidOptions o → IsLimited (new_side o draws)
+limited_new o draws h = let l = h.valid.sizes.message in omega (arith, l)
 
 -- from the start on
-pub all_accepted_short : (a b : Options) (words_a words_b : Stream) → AreValidOptions a → AreValidOptions b → (trace : List (Bool × EndAction)) → KeepsLimits trace → (from_a : Bool)
-    → All (λ (o : AcceptedMessage). length o.message.payload < 2 ^ 32) (accepted from_a trace (start a b words_a words_b))
-all_accepted_short a b words_a words_b own other trace k from_a =
-    accepted_short from_a trace (start a b words_a words_b) k (limited_new a words_a own) (limited_new b words_b other)
+pub all_accepted_short : (a b : Options) (draws_a draws_b : Stream) → AreValidOptions a → AreValidOptions b → (trace : List (Bool × EndAction)) → KeepsLimits trace → (from_a : Bool)
+    → All (λ (o : AcceptedMessage). length o.message.payload < 2 ^ 32) (accepted from_a trace (start a b draws_a draws_b))
+all_accepted_short a b draws_a draws_b own other trace k from_a =
+    accepted_short from_a trace (start a b draws_a draws_b) k (limited_new a draws_a own) (limited_new b draws_b other)

@@ -6,13 +6,13 @@ use Rattle.sctp_packet.specs.Chunk.{ChunkTree}
 use Rattle.sctp_state.specs.Options.{SendOptions}
 use Rattle.sctp_state.specs.Events.{Event, Emitted}
 use Rattle.proof_protocol.specs.State.{Message, count}
-use Rattle.proof_tx_refines.specs.Led.{recorded_places, delivered_ids}
+use Rattle.proof_tx_refines.specs.Reachable.{recorded_places, delivered_ids}
 use Rattle.spec_endpoint.specs.Association.{Context, EndpointState, Endpoint, with_context}
 use Rattle.spec_endpoint.specs.Sending.{send_in}
-use Rattle.spec_endpoint.specs.Calls.{shown_state, refusal_of, offer, offer_all}
-use Rattle.spec_endpoint.specs.Laws.{Call, Send, SendMany, NoPacket, called}
+use Rattle.spec_endpoint.specs.Calls.{shown_state, send_refusal_of, offer, offer_all}
+use Rattle.spec_endpoint.specs.Laws.{Call, Send, SendMany, ReceiveNoPacket, called}
 use Rattle.proof_endpoint.specs.Mapped.{Carried}
-use Rattle.proof_endpoint.specs.Acts.{EndWithPacket, idle, calm, IsReceived, alone, HasNoEnd, PreservesUntilEnd}
+use Rattle.proof_endpoint.specs.Acts.{EndWithPacket, idle, calm, BringsChunk, alone, HasNoEnd, PreservesUntilEnd}
 use Rattle.proof_pair.specs.Trace.{Side, packets_in, state_of}
 use Rattle.proof_pair.proofs.UntilLemmas.{none_before, Until, frame}
 use Rattle.proof_endpoint.proofs.RowActsLemmas.{does_where_open}
@@ -23,7 +23,7 @@ use Rattle.proof_pair.proofs.JoinFrameLemmas.{joins}
 use Rattle.proof_pair.proofs.AskedLemmas.{is_offer}
 use Rattle.proof_delivery.specs.Accepted.{AcceptedMessage, accepted_of, accepted_by}
 use Rattle.proof_delivery.specs.Answered.{performed_in}
-use Rattle.proof_delivery.specs.Asks.{Ask}
+use Rattle.proof_delivery.specs.Asks.{ResetRequest}
 use Rattle.proof_delivery.specs.StreamEpochs.{StreamEpoch, shut_streams, reopen, performed_of, resets_emitted, failed_in}
 use Rattle.proof_delivery.specs.Windows.{queue_of}
 use Rattle.proof_delivery.proofs.ClaimLemmas.{Direction, transfer_of, goes_out, first_out, first_in, SaysIn, AreSo, SendsIn, SenderClaim, ReceiverClaim, ReceivesSacks, ReceivesData, SenderGoes, SenderPremises, ReceiverGoes, ReceiverPremises}
@@ -34,13 +34,13 @@ use Rattle.proof_delivery.proofs.SenderToolLemmas.{goes_none, reports_none, Says
 use Rattle.proof_delivery.proofs.DirectionLemmas.{IsSilent}
 use Rattle.proof_delivery.proofs.PremisesLemmas.{AsksSoon}
 use Rattle.proof_delivery.proofs.ActionLemmas.{AreOffered, Offers, Stay}
-use Rattle.proof_delivery.proofs.GoingLemmas.{OffersOut}
+use Rattle.proof_delivery.proofs.SenderActionLemmas.{OffersOut}
 use Rattle.proof_delivery.proofs.OfferingLemmas.{offers_packets, offers_resets, OfferedTo, IsOffering, offers_all}
 
 -- ---- the rest of such a call is like one that says nothing
 
 module _ (g : Setting) (call : Call) (r : Rules g call) where
-  rules_of_none : Rules g NoPacket
+  rules_of_none : Rules g ReceiveNoPacket
   rules_of_none = record {
     says = λ tag chunk h v all. absurd (no_packet h);
     asks = λ tag chunk h e. absurd (no_packet h);
@@ -51,12 +51,12 @@ module _ (g : Setting) (call : Call) (r : Rules g call) where
     other = r.other;
   }
     where
-      no_packet : {tag : ℕ} {chunk : ChunkTree} → IsReceived NoPacket tag chunk → ⊥
+      no_packet : {tag : ℕ} {chunk : ChunkTree} → BringsChunk ReceiveNoPacket tag chunk → ⊥
       no_packet h = let e = h.given in cc
 
 -- where the messages are offered
 abbrev offering : List messages.Message → SendOptions → Endpoint Carried → EndWithPacket Carried
-offering ms how e = idle e.endpoint_state.state (offer_all ms how (shown_state e.endpoint_state.state) e.endpoint_state.context) e.random
+offering ms how e = idle e.endpoint_state.state (offer_all ms how (shown_state e.endpoint_state.state) e.endpoint_state.context) e.draws
 
 -- there are two such calls
 each_offer : (P : Call → Type 0) → ((m : messages.Message) (how : SendOptions) → P (Send m how)) → ((ms : List messages.Message) (how : SendOptions) → P (SendMany ms how))
@@ -65,36 +65,36 @@ each_offer P one many (Send m how) h = one m how
 each_offer P one many (SendMany ms how) h = many ms how
 each_offer P one many call h = cc
 
-module _ (g : Setting) {R : EndWithPacket Carried → EndWithPacket Carried → Type 0} (k : KeepsJoined g NoPacket R) (e : Endpoint Carried) where
+module _ (g : Setting) {R : EndWithPacket Carried → EndWithPacket Carried → Type 0} (k : KeepsJoined g ReceiveNoPacket R) (e : Endpoint Carried) where
   then_many : (ms : List messages.Message) (how : SendOptions) → Rules g (SendMany ms how) → HasNoEnd (calm (called (SendMany ms how) e)) → InvAt g (calm e)
       → R (offering ms how e) (calm (called (SendMany ms how) e))
   then_many ms how r none inv =
-      let f : PreservesUntilEnd NoPacket (Joined g R) = frames.frame g NoPacket (rules_of_none g (SendMany ms how) r) refl k in
+      let f : PreservesUntilEnd ReceiveNoPacket (Joined g R) = frames.frame g ReceiveNoPacket (rules_of_none g (SendMany ms how) r) refl k in
       let d : Context Carried = offer_all ms how (shown_state e.endpoint_state.state) e.endpoint_state.context in
       let s : EndpointState Carried = with_context e.endpoint_state d in
       let before : Until (λ a b. InvAt g a → InvAt g b) (calm e) (offering ms how e) =
-      does_offer_all (frame (joins g (SendMany ms how) r)) e.random ms [] ms how e.endpoint_state.state e.endpoint_state.context refl refl in
-      let rest : Until (Joined g R) (offering ms how e) (calm (called (SendMany ms how) e)) = does_where_open (frame f) e.random send_in s (does_send_in (frame f) e.random) in
+      does_offer_all (frame (joins g (SendMany ms how) r)) e.draws ms [] ms how e.endpoint_state.state e.endpoint_state.context refl refl in
+      let rest : Until (Joined g R) (offering ms how e) (calm (called (SendMany ms how) e)) = does_where_open (frame f) e.draws send_in s (does_send_in (frame f) e.draws) in
       (rest.1 none (before.1 (none_before (offering ms how e) (calm (called (SendMany ms how) e)) rest.0 none) inv)).1
 
   then_one : (m : messages.Message) (how : SendOptions) → Rules g (Send m how) → HasNoEnd (calm (called (Send m how) e)) → InvAt g (calm e)
       → R (offering (m ∷ []) how e) (calm (called (Send m how) e))
   then_one m how r none inv =
-      let f : PreservesUntilEnd NoPacket (Joined g R) = frames.frame g NoPacket (rules_of_none g (Send m how) r) refl k in
+      let f : PreservesUntilEnd ReceiveNoPacket (Joined g R) = frames.frame g ReceiveNoPacket (rules_of_none g (Send m how) r) refl k in
       let d : Context Carried = offer m how (shown_state e.endpoint_state.state) e.endpoint_state.context in
       let s : EndpointState Carried = with_context e.endpoint_state d in
       let before : Until (λ a b. InvAt g a → InvAt g b) (calm e) (offering (m ∷ []) how e) =
-      does_offer (frame (joins g (Send m how) r)) e.random m how e.endpoint_state.state e.endpoint_state.context (alone refl) in
-      let rest : Until (Joined g R) (offering (m ∷ []) how e) (calm (called (Send m how) e)) = does_sent_if (frame f) e.random (refusal_of m e.endpoint_state) s in
+      does_offer (frame (joins g (Send m how) r)) e.draws m how e.endpoint_state.state e.endpoint_state.context (alone refl) in
+      let rest : Until (Joined g R) (offering (m ∷ []) how e) (calm (called (Send m how) e)) = does_sent_if (frame f) e.draws (send_refusal_of m e.endpoint_state) s in
       (rest.1 none (before.1 (none_before (offering (m ∷ []) how e) (calm (called (Send m how) e)) rest.0 none) inv)).1
 
 -- ---- what it receives is nothing
 
-no_received : {tag : ℕ} {chunk : ChunkTree} → IsReceived NoPacket tag chunk → ⊥
+no_received : {tag : ℕ} {chunk : ChunkTree} → BringsChunk ReceiveNoPacket tag chunk → ⊥
 no_received h = let e = h.given in cc
 
 sacks_of_none : (call : Call) (first : ℕ) (x y : Direction) → (transfer_of y).acknowledged ≡ (transfer_of x).acknowledged → count (transfer_of y).sender ≡ count (transfer_of x).sender
-    → ReceivesSacks call first x → ReceivesSacks NoPacket first y
+    → ReceivesSacks call first x → ReceivesSacks ReceiveNoPacket first y
 sacks_of_none call first x y a c h =
     let past = h.past in
     let young = h.young in
@@ -107,7 +107,7 @@ sacks_of_none call first x y a c h =
       says = λ tag chunk is. absurd (no_received is);
     }
 
-data_of_none : (message : ℕ → Message) (is_interleaved : Bool) (call : Call) (first : ℕ) (x : Direction) → ReceivesData message is_interleaved call first x → ReceivesData message is_interleaved NoPacket first x
+data_of_none : (message : ℕ → Message) (is_interleaved : Bool) (call : Call) (first : ℕ) (x : Direction) → ReceivesData message is_interleaved call first x → ReceivesData message is_interleaved ReceiveNoPacket first x
 data_of_none message is_interleaved call first x h = record {
   least = h.least;
   most = h.most;
@@ -143,7 +143,7 @@ performed_so k a b es fs same e = let c = emitted_same k es fs same in omega (ar
 near_then : (message : ℕ → Message) (is_interleaved : Bool) (n : ℕ) (x mid : Direction) → Offers message is_interleaved n x mid → AsksSoon x → AsksSoon mid
 near_then message is_interleaved n x mid o soon a there =
     let c = o.counted in
-    let l = soon a (sym (ap (λ (k : ℕ). slice_get x.asks k) o.answered) ∙ (sym (ap (λ (l : List Ask). slice_get l mid.answered) o.asks) ∙ there)) in
+    let l = soon a (sym (ap (λ (k : ℕ). slice_get x.asks k) o.answered) ∙ (sym (ap (λ (l : List ResetRequest). slice_get l mid.answered) o.asks) ∙ there)) in
     omega (arith, c, l)
 
 module _ (message : ℕ → Message) (lifecycle : ℕ → Option ℕ) (is_interleaved : Bool) (g : Setting) (x : Direction) (s : Side) where
@@ -154,15 +154,15 @@ module _ (message : ℕ → Message) (lifecycle : ℕ → Option ℕ) (is_interl
   -- ---- the sender
 
   module _ (stay : Stay message lifecycle is_interleaved)
-      (sender_keeps : (from : Direction) → SenderPremises message lifecycle is_interleaved g NoPacket from → KeepsJoined g NoPacket (SenderGoes message lifecycle is_interleaved from)) where
+      (sender_keeps : (from : Direction) → SenderPremises message lifecycle is_interleaved g ReceiveNoPacket from → KeepsJoined g ReceiveNoPacket (SenderGoes message lifecycle is_interleaved from)) where
     -- once the messages are offered
     premises_then : (call : Call) (c : Context Carried) (n : ℕ) → SenderPremises message lifecycle is_interleaved g call x → (o : OfferedTo message lifecycle is_interleaved (state_of s) c x n)
-        → SenderPremises message lifecycle is_interleaved g NoPacket o.mid
+        → SenderPremises message lifecycle is_interleaved g ReceiveNoPacket o.mid
     premises_then call c n p o = record {
       kept = o.is.kept;
       own = p.own;
       mode = p.mode;
-      few = subst (λ (l : List Ask). length l < 2 ^ 32) (sym o.offers.asks) p.few;
+      few = subst (λ (l : List ResetRequest). length l < 2 ^ 32) (sym o.offers.asks) p.few;
       handed = p.handed;
       beside = stay.refines g.beside p.handed x o.mid p.kept o.offers.goes o.offers.done p.beside;
       receives = sacks_of_none call (first_in g.beside) x o.mid o.offers.acknowledged o.offers.counted p.receives;
@@ -204,7 +204,7 @@ module _ (message : ℕ → Message) (lifecycle : ℕ → Option ℕ) (is_interl
       -- where the rest of the call is done behind the offers
       behind_offers : (ms : List messages.Message) (how : SendOptions) → AreOffered message lifecycle (transfer_of x).sender.accepted (accepted_of ms how (shown_state (state_of s)) s.end.endpoint_state.context)
           → (transfer_of x).sender.accepted + length (accepted_of ms how (shown_state (state_of s)) s.end.endpoint_state.context) < 2 ^ 32
-          → ((mid : Direction) → KeepsJoined g NoPacket (SenderGoes message lifecycle is_interleaved mid) → SenderGoes message lifecycle is_interleaved mid (offering ms how s.end) (calm (called call s.end)))
+          → ((mid : Direction) → KeepsJoined g ReceiveNoPacket (SenderGoes message lifecycle is_interleaved mid) → SenderGoes message lifecycle is_interleaved mid (offering ms how s.end) (calm (called call s.end)))
           → OffersOut message lifecycle is_interleaved x (accepted_of ms how (shown_state (state_of s)) s.end.endpoint_state.context) (calm (called call s.end))
       behind_offers ms how are few goes =
           let os : List AcceptedMessage = accepted_of ms how (shown_state (state_of s)) s.end.endpoint_state.context in
@@ -234,8 +234,8 @@ module _ (message : ℕ → Message) (lifecycle : ℕ → Option ℕ) (is_interl
   -- ---- the receiver
 
   module _ (handed : List messages.Message)
-      (receiver_keeps : ReceiverPremises message lifecycle is_interleaved g NoPacket x → KeepsJoined g NoPacket (ReceiverGoes message lifecycle is_interleaved x handed)) where
-    none_premises : (call : Call) → ReceiverPremises message lifecycle is_interleaved g call x → ReceiverPremises message lifecycle is_interleaved g NoPacket x
+      (receiver_keeps : ReceiverPremises message lifecycle is_interleaved g ReceiveNoPacket x → KeepsJoined g ReceiveNoPacket (ReceiverGoes message lifecycle is_interleaved x handed)) where
+    none_premises : (call : Call) → ReceiverPremises message lifecycle is_interleaved g call x → ReceiverPremises message lifecycle is_interleaved g ReceiveNoPacket x
     none_premises call p = record {
       kept = p.kept;
       own = p.own;

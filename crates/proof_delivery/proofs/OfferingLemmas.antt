@@ -16,13 +16,13 @@ use Rattle.proof_protocol.specs.Invariant.{Invariant}
 use Rattle.proof_protocol.specs.Resets.{transfers, goes}
 use Rattle.proof_protocol.proofs.BasedLemmas.{keeps_epochs}
 use Rattle.proof_protocol.proofs.ToolsLemmas.{put_at, put_off}
-use Rattle.proof_tx_refines.specs.Led.{recorded_places, delivered_ids}
+use Rattle.proof_tx_refines.specs.Reachable.{recorded_places, delivered_ids}
 use Rattle.proof_tx_refines.specs.Rows.{offered_entry}
 use Rattle.proof_tx_refines.proofs.AcceptLemmas.{accept_row}
 use Rattle.proof_tx_refines.proofs.AskedLemmas.{calls_keep_asked}
 use Rattle.proof_tx_refines.proofs.FollowLemmas.{beginning_follows, accepting_follows}
 use Rattle.spec_endpoint.specs.Association.{State, Closed, CookieWait, Open, Context}
-use Rattle.spec_endpoint.specs.Calls.{shown_state, refusal, queue_entry, offer, offer_all}
+use Rattle.spec_endpoint.specs.Calls.{shown_state, send_refusal, queue_entry, offer, offer_all}
 use Rattle.spec_endpoint.specs.Calls as calls
 use Rattle.proof_endpoint.specs.Mapped.{Carried}
 use Rattle.proof_pair.specs.Trace.{packets_in}
@@ -51,12 +51,12 @@ offered_resets (Some e) m how c = resets_refused e how.lifecycle_id c.emitted
 pub offers_packets : (ms : List messages.Message) (how : SendOptions) (shown : SocketState) (c : Context Carried)
     → packets_in (offer_all ms how shown c).emitted.events ≡ packets_in c.emitted.events
 offers_packets [] how shown c = refl
-offers_packets (m ∷ ms) how shown c = offers_packets ms how shown (offer m how shown c) ∙ offered_packets (refusal m shown c) m how c
+offers_packets (m ∷ ms) how shown c = offers_packets ms how shown (offer m how shown c) ∙ offered_packets (send_refusal m shown c) m how c
 
 pub offers_resets : (ms : List messages.Message) (how : SendOptions) (shown : SocketState) (c : Context Carried)
     → resets_in (offer_all ms how shown c).emitted.events ≡ resets_in c.emitted.events
 offers_resets [] how shown c = refl
-offers_resets (m ∷ ms) how shown c = offers_resets ms how shown (offer m how shown c) ∙ offered_resets (refusal m shown c) m how c
+offers_resets (m ∷ ms) how shown c = offers_resets ms how shown (offer m how shown c) ∙ offered_resets (send_refusal m shown c) m how c
 
 -- ---- a message as it is queued
 
@@ -198,7 +198,7 @@ module _ (message : ℕ → Message) (lifecycle : ℕ → Option ℕ) (is_interl
         ∙ ap (λ (n : ℕ). x.rules.raised (stream_of message n)) (sym e);
   }
 
-  accepted_one : (s : State) (c : Context Carried) (x : Direction) (m : messages.Message) (how : SendOptions) → IsOffering s c x → refusal m (shown_state s) c ≡ None
+  accepted_one : (s : State) (c : Context Carried) (x : Direction) (m : messages.Message) (how : SendOptions) → IsOffering s c x → send_refusal m (shown_state s) c ≡ None
       → message (transfer_of x).sender.accepted ≡ message_in (offer_of m how) → lifecycle (transfer_of x).sender.accepted ≡ how.lifecycle_id → (transfer_of x).sender.accepted + 1 < 2 ^ 32
       → OfferedTo s (calls.accept m how c) x 1
   accepted_one s c x m how h fine is id few = record {
@@ -263,7 +263,7 @@ module _ (message : ℕ → Message) (lifecycle : ℕ → Option ℕ) (is_interl
     pub first : OfferedTo s d x n
     pub are : AreOffered message lifecycle (transfer_of first.mid).sender.accepted rest
 
-  offers_first : (r : Option SendError) (s : State) (c : Context Carried) (x : Direction) (m : messages.Message) (how : SendOptions) (rest : List AcceptedMessage) → refusal m (shown_state s) c ≡ r
+  offers_first : (r : Option SendError) (s : State) (c : Context Carried) (x : Direction) (m : messages.Message) (how : SendOptions) (rest : List AcceptedMessage) → send_refusal m (shown_state s) c ≡ r
       → IsOffering s c x → AreOffered message lifecycle (transfer_of x).sender.accepted (unless_refused r m how ++ rest)
       → (transfer_of x).sender.accepted + length (unless_refused r m how ++ rest) < 2 ^ 32
       → OffersFirst s (calls.offered r m how c) x (length (unless_refused r m how)) rest
@@ -287,7 +287,7 @@ module _ (message : ℕ → Message) (lifecycle : ℕ → Option ℕ) (is_interl
       → OfferedTo s (offer_all ms how (shown_state s) c) x (length (accepted_of ms how (shown_state s) c))
   offers_all [] s c x how h are few = offered_none s c x h
   offers_all (m ∷ ms) s c x how h are few =
-      let r : Option SendError = refusal m (shown_state s) c in
+      let r : Option SendError = send_refusal m (shown_state s) c in
       let d : Context Carried = offer m how (shown_state s) c in
       let rest : List AcceptedMessage = accepted_of ms how (shown_state s) d in
       let f : OffersFirst s d x (length (unless_refused r m how)) rest = offers_first r s c x m how rest refl h are few in

@@ -16,15 +16,15 @@ use Rattle.proof_protocol.specs.Based.{EpochWindows}
 use Rattle.sctp_tx_queue.specs.SendQueue.{Queue}
 use Rattle.spec_endpoint.specs.Association.{State, Closed, CookieWait, Open}
 use Rattle.spec_endpoint.specs.ResetRequests.{Request}
-use Rattle.proof_tx_refines.specs.Led.{recorded_places, delivered_ids}
-use Rattle.spec_endpoint.specs.Laws.{Call, Packet}
+use Rattle.proof_tx_refines.specs.Reachable.{recorded_places, delivered_ids}
+use Rattle.spec_endpoint.specs.Laws.{Call, ReceivePacket}
 use Rattle.proof_endpoint.specs.Mapped.{Carried}
-use Rattle.proof_endpoint.specs.Acts.{calm, IsReceived}
+use Rattle.proof_endpoint.specs.Acts.{calm, BringsChunk}
 use Rattle.proof_pair.specs.Trace.{Side, packets_in, as_received, AreValidOptions, state_of}
 use Rattle.proof_pair.proofs.AddedLemmas.{all_at}
 use Rattle.proof_pair.proofs.TraceLemmas.{setting, packet_of}
 use Rattle.proof_delivery.specs.Answered.{waiting_number, IsAnswered, performed_in}
-use Rattle.proof_delivery.specs.Asks.{Ask, number_of}
+use Rattle.proof_delivery.specs.Asks.{ResetRequest, number_of}
 use Rattle.proof_delivery.specs.StreamEpochs.{shut_streams, reopen, performed_of, resets_emitted, failed_in}
 use Rattle.proof_delivery.specs.Windows.{Stamp, IsWithin, queue_of}
 use Rattle.proof_delivery.proofs.ClaimLemmas.{Direction, transfer_of, goes_out, goes_in, SaysOut, SaysIn, first_out, first_in, WasSaid, AreSo, SendsIn, SenderClaim, ReceiverClaim, ReceivesSacks, ReceivesData, SenderPremises, ReceiverPremises}
@@ -41,7 +41,7 @@ all_were_said P (c ∷ cs) h =
     All-cons (WasSaid P) (carried c) (map carried cs) (record { said = c; is = refl; says = All-head P c cs h }) (all_were_said P cs (All-tail P c cs h))
 
 pub received_was_said : (P : ChunkTree → Type 0) (p : Carried) (checksum : ℕ) → All P p.chunks → (tag : ℕ) (chunk : ChunkTree)
-    → IsReceived (Packet (as_received p checksum)) tag chunk → WasSaid P chunk
+    → BringsChunk (ReceivePacket (as_received p checksum)) tag chunk → WasSaid P chunk
 received_was_said P p checksum all tag chunk h =
     let same : as_received p checksum ≡ h.packet = ap (λ (c : Call). packet_of c (as_received p checksum)) h.given in
     let those : All (WasSaid P) h.packet.chunks = subst (λ (z : PacketTree). All (WasSaid P) z.chunks) same (all_were_said P p.chunks all) in
@@ -58,7 +58,7 @@ in_window message x w =
 
 -- a call that is no packet
 abbrev pub IsNoPacket : Call → Type 0
-IsNoPacket call = (p : PacketTree) → call ≡ Packet p → ⊥
+IsNoPacket call = (p : PacketTree) → call ≡ ReceivePacket p → ⊥
 
 module _ (message : ℕ → Message) (is_interleaved : Bool) (first : ℕ) (x : Direction) where
   pub receives_no_sacks : (call : Call) → IsNoPacket call → EpochWindows message x.rules → ReceivesSacks call first x
@@ -82,7 +82,7 @@ module _ (message : ℕ → Message) (is_interleaved : Bool) (first : ℕ) (x : 
   }
 
   pub receives_sacks : (most : ℕ) (p : Carried) (checksum : ℕ) → IsUnderWay (says_in message is_interleaved first) x most p → count (transfer_of x).sender < most + 2 ^ 30
-      → ReceivesSacks (Packet (as_received p checksum)) first x
+      → ReceivesSacks (ReceivePacket (as_received p checksum)) first x
   receives_sacks most p checksum u young = record {
     least = u.least;
     most = most;
@@ -93,7 +93,7 @@ module _ (message : ℕ → Message) (is_interleaved : Bool) (first : ℕ) (x : 
   }
 
   pub receives_data : (most : ℕ) (p : Carried) (checksum : ℕ) → IsUnderWay (says_out message is_interleaved first) x most p → count (transfer_of x).sender < most + 2 ^ 30
-      → ReceivesData message is_interleaved (Packet (as_received p checksum)) first x
+      → ReceivesData message is_interleaved (ReceivePacket (as_received p checksum)) first x
   receives_data most p checksum u young = record {
     least = u.least;
     most = most;
@@ -106,11 +106,11 @@ module _ (message : ℕ → Message) (is_interleaved : Bool) (first : ℕ) (x : 
 -- ---- an own request that waits
 
 module _ (message : ℕ → Message) (lifecycle : ℕ → Option ℕ) (is_interleaved : Bool) where
-  none_there : (x : Direction) (a : Ask) → x.asks ≡ [] → slice_get x.asks x.answered ≡ Some a → ⊥
-  none_there x a none there = let e = ap (λ (l : List Ask). slice_get l x.answered) (sym none) ∙ there in cc
+  none_there : (x : Direction) (a : ResetRequest) → x.asks ≡ [] → slice_get x.asks x.answered ≡ Some a → ⊥
+  none_there x a none there = let e = ap (λ (l : List ResetRequest). slice_get l x.answered) (sym none) ∙ there in cc
 
   -- it is the ask that waits
-  pub waits : (s : State) (q : Queue) (x : Direction) (a : Ask) → SendsIn message lifecycle is_interleaved s q x → slice_get x.asks x.answered ≡ Some a
+  pub waits : (s : State) (q : Queue) (x : Direction) (a : ResetRequest) → SendsIn message lifecycle is_interleaved s q x → slice_get x.asks x.answered ≡ Some a
       → waiting_number s ≡ Some (number_of (first_out s) x.answered)
   waits Closed q x a h there = absurd (none_there x a h.none_asked there)
   waits (CookieWait tag first t1) q x a h there = absurd (none_there x a h.none_asked there)
@@ -121,7 +121,7 @@ module _ (message : ℕ → Message) (lifecycle : ℕ → Option ℕ) (is_interl
         ∙ (ap (λ (n : ℕ). Some n) c.1.says.number ∙ ap (λ (n : ℕ). Some (number_of n x.answered)) (sym h.first))
   ]
 
-  pub is_asked : (s : State) (q : Queue) (x : Direction) (n : ℕ) → SendsIn message lifecycle is_interleaved s q x → waiting_number s ≡ Some n → (a : Ask) × (slice_get x.asks x.answered ≡ Some a)
+  pub is_asked : (s : State) (q : Queue) (x : Direction) (n : ℕ) → SendsIn message lifecycle is_interleaved s q x → waiting_number s ≡ Some n → (a : ResetRequest) × (slice_get x.asks x.answered ≡ Some a)
   is_asked Closed q x n h w = cc
   is_asked (CookieWait tag first t1) q x n h w = cc
   is_asked (Open phase t) q x n h w = elim h.asks.current [
@@ -130,7 +130,7 @@ module _ (message : ℕ → Message) (lifecycle : ℕ → Option ℕ) (is_interl
   ]
 
   -- with the first TSN of an association that stands
-  pub waits_again : (s t : State) (q r : Queue) (x y : Direction) (a : Ask) → SendsIn message lifecycle is_interleaved s q x → SendsIn message lifecycle is_interleaved t r y → Stands s t
+  pub waits_again : (s t : State) (q r : Queue) (x y : Direction) (a : ResetRequest) → SendsIn message lifecycle is_interleaved s q x → SendsIn message lifecycle is_interleaved t r y → Stands s t
       → slice_get x.asks x.answered ≡ Some a → first_out s ≡ first_out t
   waits_again Closed t q r x y a h k f there = absurd (none_there x a h.none_asked there)
   waits_again (CookieWait tag first t1) t q r x y a h k f there = absurd (none_there x a h.none_asked there)

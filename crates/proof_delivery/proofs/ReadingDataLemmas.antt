@@ -4,7 +4,7 @@ use Rattle.std.proofs.Common.{◌≡◌, ℕ, suc, ◌+◌, ◌^◌, ◌<◌, �
 use Rattle.std.proofs.lemmas.List.Elements.{All-weaker}
 use Rattle.std.proofs.lemmas.Option.{slice_get_within}
 use Rattle.sctp_serial.specs.Messages as messages
-use Rattle.sctp_serial.specs.Unwrapped.{origin, words, wire}
+use Rattle.sctp_serial.specs.Unwrapped.{origin, u32_space, wire}
 use Rattle.sctp_serial.specs.declared.api.StreamId.{StreamId}
 use Rattle.sctp_serial.specs.declared.types.tsn.Tsn.{Tsn}
 use Rattle.sctp_wire.specs.Parameter.{ParameterTree, outgoing_reset_request, incoming_reset_request}
@@ -24,11 +24,11 @@ use Rattle.spec_endpoint.specs.Association.{Tcb, Phase, State, Closed, CookieWai
 use Rattle.spec_endpoint.specs.ResetRequests.{ids}
 use Rattle.spec_endpoint.specs.Laws.{Call}
 use Rattle.proof_endpoint.specs.Mapped.{Carried}
-use Rattle.proof_endpoint.specs.Acts.{EndWithPacket, in_open, IsReceived, IsAsked, HasRequest, for_outgoing, for_incoming, AsksNoIncoming}
+use Rattle.proof_endpoint.specs.Acts.{EndWithPacket, in_open, BringsChunk, IsAsked, HasRequest, for_outgoing, for_incoming, AsksNoIncoming}
 use Rattle.proof_pair.proofs.JoinActsLemmas.{Setting, InvAt}
 use Rattle.proof_pair.proofs.JoinLemmas.{Draw, view_of, both_of, Faces}
 use Rattle.proof_pair.proofs.AddedLemmas.{all_at}
-use Rattle.proof_delivery.specs.Asks.{Ask, number_of, last_tsn_of, SaysAsk, SaysOutgoing}
+use Rattle.proof_delivery.specs.Asks.{ResetRequest, number_of, last_tsn_of, SaysAsk, SaysOutgoing}
 use Rattle.proof_delivery.proofs.ClaimLemmas.{Direction, transfer_of, IsKept, SaysData, SaysPoint, SaysOut, WasSaid, IsWaiting, SendsIn, IsReceiving, first_out, AreShort, ReceiverPremises}
 use Rattle.proof_delivery.proofs.ReceiverToolLemmas.{SameSender}
 use Rattle.proof_delivery.proofs.ReadingLemmas.{DataSaid, PointSaid, data_was_said, idata_was_said, point_was_said, ipoint_was_said, parameters_were_said, number_is_read, last_is_read}
@@ -54,7 +54,7 @@ module _ (message : ℕ → Message) (is_interleaved : Bool) (first least most :
   out_same (idata_chunk tsn is_immediate f) h = (h.0, data_same tsn f h.1)
   out_same (forward_tsn_chunk tsn skipped) h = point_same (forward_tsn_chunk tsn skipped) h
   out_same (i_forward_tsn_chunk tsn skipped) h = point_same (i_forward_tsn_chunk tsn skipped) h
-  out_same (re_config_chunk parameters) h = subst (λ (l : List Ask). All (SaysOutgoing first most l) parameters) (sym asks) h
+  out_same (re_config_chunk parameters) h = subst (λ (l : List ResetRequest). All (SaysOutgoing first most l) parameters) (sym asks) h
   out_same chunk h = tt
 
 -- ---- the first TSN is the one that is expected
@@ -103,7 +103,7 @@ module _ (message : ℕ → Message) (lifecycle : ℕ → Option ℕ) (is_interl
 pub record DataReceived (message : ℕ → Message) (is_interleaved : Bool) (x : Transfer) (d : DataTracker) (tsn : ℕ) (f : FragmentTree) : Type 0 where
   pub at : ℕ
   pub below : at < count x.sender
-  pub tsn_is : tsn ≡ wire words d.first (origin + at)
+  pub tsn_is : tsn ≡ wire u32_space d.first (origin + at)
   pub number_is : tracker.number_of d tsn ≡ origin + at
   pub carries : Carries message is_interleaved x.sender at f
   pub written : IsWritten message is_interleaved x.sender at f
@@ -115,7 +115,7 @@ pub record PointReceived (is_interleaved : Bool) (x : Transfer) (d : DataTracker
   pub sent : IsAmong point x.forward_points
   pub upto : point.upto ≡ suc at
   pub below : at < count x.sender
-  pub tsn_is : tsn ≡ wire words d.first (origin + at)
+  pub tsn_is : tsn ≡ wire u32_space d.first (origin + at)
   pub number_is : tracker.number_of d tsn ≡ origin + at
   pub apart : AreApart point.entries
   pub entries : AreEntries is_interleaved skipped point.entries
@@ -123,7 +123,7 @@ pub record PointReceived (is_interleaved : Bool) (x : Transfer) (d : DataTracker
 -- the request is an ask, and the number of its last TSN is the last one before it
 pub record RequestReceived (x : Direction) (d : DataTracker) (number last_tsn : ℕ) (streams : List StreamId) : Type 0 where
   pub at : ℕ
-  pub ask : Ask
+  pub ask : ResetRequest
   pub there : slice_get x.asks at ≡ Some ask
   pub number_is : number ≡ number_of d.first at
   pub streams_are : streams ≡ ids ask.streams
@@ -170,7 +170,7 @@ module _ (message : ℕ → Message) (lifecycle : ℕ → Option ℕ) (is_interl
   abbrev Says : ChunkTree → Type 0
   Says = SaysOut message is_interleaved t.tracker.first least most x
 
-  received_here : (tag : ℕ) (chunk : ChunkTree) → IsReceived call tag chunk → WasSaid Says chunk
+  received_here : (tag : ℕ) (chunk : ChunkTree) → BringsChunk call tag chunk → WasSaid Says chunk
   received_here tag chunk received =
       let h : WasSaid (SaysOut message is_interleaved (first_out g.beside) least most from) chunk = premises.receives.says tag chunk received in
       record {
@@ -183,7 +183,7 @@ module _ (message : ℕ → Message) (lifecycle : ℕ → Option ℕ) (is_interl
   count_same : count (transfer_of x).sender ≡ count (transfer_of from).sender
   count_same = ap count same.sender
 
-  number_here : (k tsn : ℕ) → k < count (transfer_of x).sender → least ≤ k → tsn ≡ wire words t.tracker.first (origin + k) → tracker.number_of t.tracker tsn ≡ origin + k
+  number_here : (k tsn : ℕ) → k < count (transfer_of x).sender → least ≤ k → tsn ≡ wire u32_space t.tracker.first (origin + k) → tracker.number_of t.tracker tsn ≡ origin + k
   number_here k tsn below past tsn_is =
       let h = premises.receives in
       let numbered : h.most ≤ count (transfer_of from).sender = h.below in
@@ -215,25 +215,25 @@ module _ (message : ℕ → Message) (lifecycle : ℕ → Option ℕ) (is_interl
     entries = s.entries;
   }
 
-  pub data_is_received : (tag tsn : ℕ) (is_immediate : Bool) (f : FragmentTree) → IsReceived call tag (data_chunk tsn is_immediate f)
+  pub data_is_received : (tag tsn : ℕ) (is_immediate : Bool) (f : FragmentTree) → BringsChunk call tag (data_chunk tsn is_immediate f)
       → (is_interleaved ≡ false) × DataReceived message is_interleaved (transfer_of x) t.tracker tsn f
   data_is_received tag tsn is_immediate f received =
       let s = data_was_said message is_interleaved x t.tracker.first least most tsn is_immediate f (received_here tag (data_chunk tsn is_immediate f) received) in
       (s.0, data_here tsn f s.1)
 
-  pub idata_is_received : (tag tsn : ℕ) (is_immediate : Bool) (f : FragmentTree) → IsReceived call tag (idata_chunk tsn is_immediate f)
+  pub idata_is_received : (tag tsn : ℕ) (is_immediate : Bool) (f : FragmentTree) → BringsChunk call tag (idata_chunk tsn is_immediate f)
       → (is_interleaved ≡ true) × DataReceived message is_interleaved (transfer_of x) t.tracker tsn f
   idata_is_received tag tsn is_immediate f received =
       let s = idata_was_said message is_interleaved x t.tracker.first least most short_stays tsn is_immediate f (received_here tag (idata_chunk tsn is_immediate f) received) in
       (s.0, data_here tsn f s.1)
 
-  pub point_is_received : (tag tsn : ℕ) (skipped : List SkippedStream) → IsReceived call tag (forward_tsn_chunk tsn skipped)
+  pub point_is_received : (tag tsn : ℕ) (skipped : List SkippedStream) → BringsChunk call tag (forward_tsn_chunk tsn skipped)
       → (is_interleaved ≡ false) × PointReceived is_interleaved (transfer_of x) t.tracker tsn skipped
   point_is_received tag tsn skipped received =
       let s = point_was_said message is_interleaved x kept.epochs.order.kept t.tracker.first least most tsn skipped (received_here tag (forward_tsn_chunk tsn skipped) received) in
       (s.0, point_here tsn skipped s.1)
 
-  pub ipoint_is_received : (tag tsn : ℕ) (skipped : List SkippedStream) → IsReceived call tag (i_forward_tsn_chunk tsn skipped)
+  pub ipoint_is_received : (tag tsn : ℕ) (skipped : List SkippedStream) → BringsChunk call tag (i_forward_tsn_chunk tsn skipped)
       → (is_interleaved ≡ true) × PointReceived is_interleaved (transfer_of x) t.tracker tsn skipped
   ipoint_is_received tag tsn skipped received =
       let s = ipoint_was_said message is_interleaved x kept.epochs.order.kept t.tracker.first least most tsn skipped (received_here tag (i_forward_tsn_chunk tsn skipped) received) in

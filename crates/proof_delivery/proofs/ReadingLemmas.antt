@@ -4,7 +4,7 @@ use Rattle.std.specs.Prelude.{not}
 use Rattle.std.proofs.lemmas.Bool.{cond-true, cond-false, cases_lt}
 use Rattle.std.proofs.lemmas.Bool.Decides.{nat_tests}
 use Rattle.sctp_serial.specs.Messages as messages
-use Rattle.sctp_serial.specs.Unwrapped.{origin, words, halves, wire}
+use Rattle.sctp_serial.specs.Unwrapped.{origin, u32_space, halves, wire}
 use Rattle.sctp_serial.specs.declared.types.StreamKey.TheVariants.{Ordered, Unordered}
 use Rattle.sctp_wire.specs.Parameter.{ParameterTree}
 use Rattle.sctp_packet.specs.Chunk.{ChunkTree, FragmentTree, data_chunk, idata_chunk, re_config_chunk, forward_tsn_chunk, i_forward_tsn_chunk}
@@ -40,7 +40,7 @@ pub record DataSaid (message : ℕ → Message) (is_interleaved : Bool) (first l
   pub at : ℕ
   pub from : least ≤ at
   pub below : at < count x.sender
-  pub tsn_is : tsn ≡ wire words first (origin + at)
+  pub tsn_is : tsn ≡ wire u32_space first (origin + at)
   pub carries : Carries message is_interleaved x.sender at f
   pub written : IsWritten message is_interleaved x.sender at f
 
@@ -175,7 +175,7 @@ pub record PointSaid (is_interleaved : Bool) (first least : ℕ) (x : Transfer) 
   pub upto : point.upto ≡ suc at
   pub from : least ≤ at
   pub below : at < count x.sender
-  pub tsn_is : tsn ≡ wire words first (origin + at)
+  pub tsn_is : tsn ≡ wire u32_space first (origin + at)
   pub apart : AreApart point.entries
   pub entries : AreEntries is_interleaved skipped point.entries
 
@@ -186,7 +186,7 @@ plain_entry e o = (o, refl, omega arith)
 interleaved_entry : (e : Entry) → IsEntry true (mid_skip (skip_of true e)) e
 interleaved_entry e = go e.ordered refl
   where
-    go : (b : Bool) → e.ordered ≡ b → IsEntry true (IForwardTsn (cond (not b) (Unordered (record { 0 = e.stream })) (Ordered (record { 0 = e.stream }))) (record { 0 = wire words 0 (origin + e.written) })) e
+    go : (b : Bool) → e.ordered ≡ b → IsEntry true (IForwardTsn (cond (not b) (Unordered (record { 0 = e.stream })) (Ordered (record { 0 = e.stream }))) (record { 0 = wire u32_space 0 (origin + e.written) })) e
     go true o = (o, refl, refl)
     go false o = (o, refl, refl)
 
@@ -201,22 +201,22 @@ interleaved_entries (e ∷ es) = (interleaved_entry e, interleaved_entries es)
 -- how it is written
 module _ (first : ℕ) (tsn : ℕ) (skipped : List SkippedStream) (f : ForwardPoint) where
   plain_chunk : (m : Bool) → forward_tsn_chunk tsn skipped ≡ chunk_of m first f
-      → (m ≡ false) × (tsn ≡ wire words first (origin + f.upto - 1)) × (skipped ≡ map ssn_skip (map (skip_of false) f.entries))
+      → (m ≡ false) × (tsn ≡ wire u32_space first (origin + f.upto - 1)) × (skipped ≡ map ssn_skip (map (skip_of false) f.entries))
   plain_chunk true e = cc
   plain_chunk false e = (refl, tsn_same e, skipped_same e)
     where
-      tsn_same : forward_tsn_chunk tsn skipped ≡ chunk_of false first f → tsn ≡ wire words first (origin + f.upto - 1)
+      tsn_same : forward_tsn_chunk tsn skipped ≡ chunk_of false first f → tsn ≡ wire u32_space first (origin + f.upto - 1)
       tsn_same e = cc
 
       skipped_same : forward_tsn_chunk tsn skipped ≡ chunk_of false first f → skipped ≡ map ssn_skip (map (skip_of false) f.entries)
       skipped_same e = cc
 
   interleaved_chunk : (m : Bool) → i_forward_tsn_chunk tsn skipped ≡ chunk_of m first f
-      → (m ≡ true) × (tsn ≡ wire words first (origin + f.upto - 1)) × (skipped ≡ map mid_skip (map (skip_of true) f.entries))
+      → (m ≡ true) × (tsn ≡ wire u32_space first (origin + f.upto - 1)) × (skipped ≡ map mid_skip (map (skip_of true) f.entries))
   interleaved_chunk false e = cc
   interleaved_chunk true e = (refl, tsn_same e, skipped_same e)
     where
-      tsn_same : i_forward_tsn_chunk tsn skipped ≡ chunk_of true first f → tsn ≡ wire words first (origin + f.upto - 1)
+      tsn_same : i_forward_tsn_chunk tsn skipped ≡ chunk_of true first f → tsn ≡ wire u32_space first (origin + f.upto - 1)
       tsn_same e = cc
 
       skipped_same : i_forward_tsn_chunk tsn skipped ≡ chunk_of true first f → skipped ≡ map mid_skip (map (skip_of true) f.entries)
@@ -234,7 +234,7 @@ module _ (message : ℕ → Message) (is_interleaved : Bool) (d : Direction) (ke
           ((kept.forwards_true f sent).only_ordered plain e.stream e.number))
 
   point_said : (tsn : ℕ) (skipped : List SkippedStream) (f : ForwardPoint) → IsAmong f (transfer_of d).forward_points → AreApart f.entries → least < f.upto
-      → tsn ≡ wire words first (origin + f.upto - 1) → AreEntries is_interleaved skipped f.entries → PointSaid is_interleaved first least (transfer_of d) tsn skipped
+      → tsn ≡ wire u32_space first (origin + f.upto - 1) → AreEntries is_interleaved skipped f.entries → PointSaid is_interleaved first least (transfer_of d) tsn skipped
   point_said tsn skipped f sent apart ahead tsn_is entries =
       let within : f.upto ≤ count (transfer_of d).sender = (kept.forwards_true f sent).within in
       let k : ℕ = f.upto - 1 in
@@ -246,7 +246,7 @@ module _ (message : ℕ → Message) (is_interleaved : Bool) (d : Direction) (ke
         upto = omega (arith, ahead);
         from = omega (arith, ahead);
         below = omega (arith, ahead, within);
-        tsn_is = tsn_is ∙ ap (λ (n : ℕ). wire words first n) same;
+        tsn_is = tsn_is ∙ ap (λ (n : ℕ). wire u32_space first n) same;
         apart = apart;
         entries = entries;
       }
@@ -334,7 +334,7 @@ module _ (message : ℕ → Message) (is_interleaved : Bool) (base : Bool → �
 -- the tracker reads the number that was written, in a packet that is not older than 2^30 fragments
 pub number_is_read : (message : ℕ → Message) (is_interleaved : Bool) (base : Bool → ℕ → ℕ) (shift : ℕ) (x : Transfer) (handed : List messages.Message) (d : DataTracker) (r : Reassembly) (k least most tsn : ℕ)
     → Invariant message is_interleaved x → IsInWindow x → ReceiverRefines message is_interleaved base shift x handed d.tracker r → IsTracker d.tracker → k < count x.sender → least ≤ k
-    → most ≤ least + 2 ^ 30 → most ≤ count x.sender → count x.sender < most + 2 ^ 30 → tsn ≡ wire words d.first (origin + k)
+    → most ≤ least + 2 ^ 30 → most ≤ count x.sender → count x.sender < most + 2 ^ 30 → tsn ≡ wire u32_space d.first (origin + k)
     → tracker.number_of d tsn ≡ origin + k
 number_is_read message is_interleaved base shift x handed d r k least most tsn kept window receives is_tracker below from near past young tsn_is =
     let n : ℕ = max most (suc k) in
@@ -344,7 +344,7 @@ number_is_read message is_interleaved base shift x handed d r k least most tsn k
 -- and the last TSN of a request that goes out before 2^30 fragments more are numbered: where it is the one before the first, too
 pub last_is_read : (message : ℕ → Message) (is_interleaved : Bool) (base : Bool → ℕ → ℕ) (shift : ℕ) (x : Transfer) (handed : List messages.Message) (d : DataTracker) (r : Reassembly) (upto most tsn : ℕ)
     → Invariant message is_interleaved x → IsInWindow x → ReceiverRefines message is_interleaved base shift x handed d.tracker r → IsTracker d.tracker → upto ≤ count x.sender
-    → most < upto + 2 ^ 30 → count x.sender < most + 2 ^ 30 → tsn ≡ wire words d.first (origin + upto - 1)
+    → most < upto + 2 ^ 30 → count x.sender < most + 2 ^ 30 → tsn ≡ wire u32_space d.first (origin + upto - 1)
     → suc (tracker.number_of d tsn) ≡ origin + upto
 last_is_read message is_interleaved base shift x handed d r upto most tsn kept window receives is_tracker within near young tsn_is =
     let f : ℕ = front_of d.tracker in

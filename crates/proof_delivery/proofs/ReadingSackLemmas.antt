@@ -4,7 +4,7 @@ use Rattle.std.proofs.Common.{◌≡◌, ℕ, ◌+◌, ◌-◌, ◌^◌, ◌<◌
 use Rattle.std.proofs.lemmas.Bool.{cases_lt}
 use Rattle.sctp_serial.specs.Messages as messages
 use Rattle.sctp_serial.specs.declared.types.tsn.Tsn.{Tsn}
-use Rattle.sctp_serial.specs.Unwrapped.{origin, words, wire}
+use Rattle.sctp_serial.specs.Unwrapped.{origin, u32_space, wire}
 use Rattle.sctp_wire.specs.Parameter.{ParameterTree, reset_response}
 use Rattle.sctp_packet.specs.Chunk.{ChunkTree, SackTree, sack_chunk, re_config_chunk}
 use Rattle.sctp_packet.specs.Grammar.{carried}
@@ -16,7 +16,7 @@ use Rattle.spec_endpoint.specs.Association.{Tcb, Phase, State, Closed, CookieWai
 use Rattle.spec_endpoint.specs.ResetRequests.{is_final}
 use Rattle.spec_endpoint.specs.Laws.{Call}
 use Rattle.proof_endpoint.specs.Mapped.{Carried}
-use Rattle.proof_endpoint.specs.Acts.{EndWithPacket, in_open, IsReceived, IsAsked, point_of}
+use Rattle.proof_endpoint.specs.Acts.{EndWithPacket, in_open, BringsChunk, IsAsked, point_of}
 use Rattle.proof_pair.proofs.AddedLemmas.{all_at}
 use Rattle.proof_pair.proofs.JoinActsLemmas.{Setting, InvAt}
 use Rattle.proof_pair.proofs.JoinLemmas.{Draw, view_of, own_draw, Faces}
@@ -38,7 +38,7 @@ sack_was_said first least most x k h = go h.said h.is h.says
     go said e s = cc
 
 -- what has left is less than half the space from the point c
-sack_number : (d : Outstanding) (acknowledged c tsn : ℕ) → d.items.acked + 1 ≡ origin + acknowledged → tsn ≡ wire words d.first (origin + c - 1)
+sack_number : (d : Outstanding) (acknowledged c tsn : ℕ) → d.items.acked + 1 ≡ origin + acknowledged → tsn ≡ wire u32_space d.first (origin + c - 1)
     → acknowledged < c + 2 ^ 31 → c < acknowledged + 2 ^ 31 → number_of d tsn + 1 ≡ origin + c
 sack_number d acknowledged c tsn point tsn_is a b =
     let n : ℕ = origin + c - 1 in
@@ -67,7 +67,7 @@ module _ (message : ℕ → Message) (is_interleaved : Bool) (from x : Transfer)
       let c : ℕ = s.point in
       let from_is : least ≤ c = s.from in
       let to_is : c ≤ most = s.to in
-      let tsn_is : k.cumulative_tsn_ack ≡ wire words d.first (origin + c - 1) = s.written ∙ ap (λ (z : ℕ). wire words z (origin + c - 1)) (sym first_is) in
+      let tsn_is : k.cumulative_tsn_ack ≡ wire u32_space d.first (origin + c - 1) = s.written ∙ ap (λ (z : ℕ). wire u32_space z (origin + c - 1)) (sym first_is) in
       sack_number d x.acknowledged c k.cumulative_tsn_ack point tsn_is (omega (arith, left, young, near, from_is)) (omega (arith, to_is, near, past, grows))
 
 -- ---- answers
@@ -104,17 +104,17 @@ pub record SackReceived (x : Transfer) (t : Tcb) (k : SackTree) : Type 0 where
 
 module _ (message : ℕ → Message) (lifecycle : ℕ → Option ℕ) (is_interleaved : Bool) (g : Setting) (call : Call) (from : Direction) (premises : SenderPremises message lifecycle is_interleaved g call from)
     (phase : Phase) (t : Tcb) (m : EndWithPacket Carried) (inv : InvAt g (in_open phase t m)) where
-  own : (Said : ℕ → Type 0) → (IsFresh message is_interleaved premises.handed from → Said 0 → ⊥) → Said (first_in g.beside) → Said t.identity.my_first
-  own Said none h = own_first message is_interleaved premises.handed from Said none g.beside t premises.beside inv.stands.faced h
+  said_of_my_first : (Said : ℕ → Type 0) → (IsFresh message is_interleaved premises.handed from → Said 0 → ⊥) → Said (first_in g.beside) → Said t.identity.my_first
+  said_of_my_first Said none h = own_first message is_interleaved premises.handed from Said none g.beside t premises.beside inv.stands.faced h
 
   pub sack_is_received : (q : Queue) (x : Direction) → IsKept message is_interleaved x → IsSending message lifecycle is_interleaved t q x
       → (transfer_of x).receiver ≡ (transfer_of from).receiver → (transfer_of x).sacks ≡ (transfer_of from).sacks → (transfer_of from).acknowledged ≤ (transfer_of x).acknowledged
-      → (tag : ℕ) (k : SackTree) → IsReceived call tag (sack_chunk k) → SackReceived (transfer_of x) t k
+      → (tag : ℕ) (k : SackTree) → BringsChunk call tag (sack_chunk k) → SackReceived (transfer_of x) t k
   sack_is_received q x kept shown receiver sacks grows tag k is_received =
       let h = premises.receives in
       let said = sack_was_said (first_in g.beside) h.least h.most from k (h.says tag (sack_chunk k) is_received) in
       let s : SaysSack t.identity.my_first h.least h.most (transfer_of from) k =
-      own (λ n. SaysSack n h.least h.most (transfer_of from) k) (λ fresh s. subst (IsAmong s.point) fresh.no_sacks s.sent) said in
+      said_of_my_first (λ n. SaysSack n h.least h.most (transfer_of from) k) (λ fresh s. subst (IsAmong s.point) fresh.no_sacks s.sent) said in
       record {
         point = s.point;
         sent = subst (IsAmong s.point) (sym sacks) s.sent;
@@ -132,4 +132,4 @@ module _ (message : ℕ → Message) (lifecycle : ℕ → Option ℕ) (is_interl
       let one : SaysIncoming (first_in g.beside) from.done (length from.asks) p =
       all_at (SaysIncoming (first_in g.beside) from.done (length from.asks)) asked.among.before asked.among.behind p
       (subst (All (SaysIncoming (first_in g.beside) from.done (length from.asks))) asked.among.split said) in
-      own (λ n. SaysDone n from.done (length from.asks) number result) (λ fresh s. let b = s.below in let none = fresh.none_done in absurd (omega (arith, b, none))) (one final)
+      said_of_my_first (λ n. SaysDone n from.done (length from.asks) number result) (λ fresh s. let b = s.below in let none = fresh.none_done in absurd (omega (arith, b, none))) (one final)

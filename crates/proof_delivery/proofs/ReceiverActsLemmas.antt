@@ -13,18 +13,18 @@ use Rattle.sctp_state.specs.Events.{OnConnected, OnError}
 use Rattle.sctp_rx.specs.DataTracker as tracker
 use Rattle.sctp_rx.specs.DataTracker.{is_valid}
 use Rattle.sctp_rx.specs.ReassemblyQueue.{reassembly}
-use Rattle.sctp_rx.specs.Sack.{report}
+use Rattle.sctp_rx.specs.Sack.{clear_duplicates}
 use Rattle.proof_protocol.specs.State.{Message, Sender, count}
 use Rattle.proof_protocol.specs.Based.{EpochWindows}
 use Rattle.proof_rx_refines.specs.Refinement.{ReceiverRefines}
 use Rattle.proof_rx_refines.specs.Near.{AreFew}
 use Rattle.proof_rx_refines.specs.Resets.{base_now}
 use Rattle.spec_endpoint.specs.Association.{Identity, Tcb, tcb, Phase, CookieEchoed, ShutdownPending, State, Closed, CookieWait, Open}
-use Rattle.spec_endpoint.specs.Data.{is_full, takes, take_fragment, forward_to}
-use Rattle.spec_endpoint.specs.Sending.{selective_ack, count_sack_sent}
+use Rattle.spec_endpoint.specs.Data.{is_full, accepts_tsn, take_fragment, handle_forward_tsn}
+use Rattle.spec_endpoint.specs.Sending.{selective_ack, without_duplicates}
 use Rattle.spec_endpoint.specs.Laws.{Call}
 use Rattle.proof_endpoint.specs.Mapped.{Carried}
-use Rattle.proof_endpoint.specs.Acts.{EndWithPacket, IsReceived, with_chunk, in_open, in_state, drew_one, drew_two, is_opened, PacketAct, begins, adds_plain, emits, complains, counts, before_packets, after_packets, OpeningAct, connects, adds_init, answers_new, answers_waiting, answers_echoed, answers_again, echoes, adds_cookie, establishes, opens, restarts, opens_again, maintains, adds_cookie_ack, before_opening, after_opening, ClosingAct, closes, shuts, shuts_on, before_closing, after_closing, DataAct, takes_data, takes_idata, takes_forward, takes_iforward, before_data, after_data}
+use Rattle.proof_endpoint.specs.Acts.{EndWithPacket, BringsChunk, with_chunk, in_open, in_state, drew_one, drew_two, is_opened, PacketAct, begins, adds_plain, emits, emits_error, counts, before_packets, after_packets, OpeningAct, connects, adds_init, answers_new, answers_waiting, answers_echoed, answers_again, echoes, adds_cookie, establishes, opens, restarts, opens_again, maintains, adds_cookie_ack, before_opening, after_opening, ClosingAct, closes, shuts, shuts_on, before_closing, after_closing, DataAct, takes_data, takes_idata, takes_forward, takes_iforward, before_data, after_data}
 use Rattle.proof_pair.specs.Trace.{packets_in}
 use Rattle.proof_pair.proofs.AddedLemmas.{holds_added}
 use Rattle.proof_pair.proofs.JoinActsLemmas.{Setting, InvAt, packets_both}
@@ -77,8 +77,8 @@ module _ (message : ℕ → Message) (lifecycle : ℕ → Option ℕ) (is_interl
   goes_packets (adds_plain chunk m plain others fair) inv =
       goes_adding message lifecycle is_interleaved from handed m chunk (λ x claim. plain_says (first_in m.state) (transfer_of from).acknowledged (count (transfer_of from).sender) x chunk plain)
   goes_packets (emits m some bundled) inv = goes_emitted message lifecycle is_interleaved from handed m inv.packing
-  goes_packets (complains kind text m) inv =
-      goes_same message lifecycle is_interleaved from handed m (after_packets {call = call} (complains kind text m)) (λ x h. h) refl
+  goes_packets (emits_error kind text m) inv =
+      goes_same message lifecycle is_interleaved from handed m (after_packets {call = call} (emits_error kind text m)) (λ x h. h) refl
       (one_more m.context.emitted.events (OnError kind text) refl) (none_behind m.context.emitted.events (OnError kind text ∷ []) refl) refl
   goes_packets (counts m) inv = goes_same message lifecycle is_interleaved from handed m (after_packets {call = call} (counts m)) (λ x h. h) refl refl refl refl
 
@@ -167,7 +167,7 @@ module _ (message : ℕ → Message) (lifecycle : ℕ → Option ℕ) (is_interl
     few : AreFew (transfer_of x).sender
     few = few_stay message lifecycle is_interleaved g call from p handed phase t m inv x claim.kept claim.shown same claim.stay.0
 
-    data_leads : (tag tsn : ℕ) (is_immediate : Bool) (f : FragmentTree) → IsReceived call tag (data_chunk tsn is_immediate f) → takes tsn t ≡ true
+    data_leads : (tag tsn : ℕ) (is_immediate : Bool) (f : FragmentTree) → BringsChunk call tag (data_chunk tsn is_immediate f) → accepts_tsn tsn t ≡ true
         → Leads message is_interleaved handed x (take_fragment tsn is_immediate f t)
     data_leads tag tsn is_immediate f received may =
         let h = data_is_received message lifecycle is_interleaved g call from p handed phase t m inv x claim.kept claim.shown same claim.stay.0
@@ -175,7 +175,7 @@ module _ (message : ℕ → Message) (lifecycle : ℕ → Option ℕ) (is_interl
         let valid = and_parts (not (is_full t.reassembly)) (is_valid t.tracker.tracker (tracker.number_of t.tracker tsn)) may in
         taken_leads message is_interleaved handed x t claim.shown claim.kept windows few tsn is_immediate f h.1 valid.1
 
-    idata_leads : (tag tsn : ℕ) (is_immediate : Bool) (f : FragmentTree) → IsReceived call tag (idata_chunk tsn is_immediate f) → takes tsn t ≡ true
+    idata_leads : (tag tsn : ℕ) (is_immediate : Bool) (f : FragmentTree) → BringsChunk call tag (idata_chunk tsn is_immediate f) → accepts_tsn tsn t ≡ true
         → Leads message is_interleaved handed x (take_fragment tsn is_immediate f t)
     idata_leads tag tsn is_immediate f received may =
         let h = idata_is_received message lifecycle is_interleaved g call from p handed phase t m inv x claim.kept claim.shown same claim.stay.0
@@ -183,21 +183,21 @@ module _ (message : ℕ → Message) (lifecycle : ℕ → Option ℕ) (is_interl
         let valid = and_parts (not (is_full t.reassembly)) (is_valid t.tracker.tracker (tracker.number_of t.tracker tsn)) may in
         taken_leads message is_interleaved handed x t claim.shown claim.kept windows few tsn is_immediate f h.1 valid.1
 
-    point_leads : (tag tsn : ℕ) (skipped : List SkippedStream) → IsReceived call tag (forward_tsn_chunk tsn skipped)
-        → is_valid t.tracker.tracker (tracker.number_of t.tracker tsn) ≡ true → Leads message is_interleaved handed x (forward_to tsn skipped t)
+    point_leads : (tag tsn : ℕ) (skipped : List SkippedStream) → BringsChunk call tag (forward_tsn_chunk tsn skipped)
+        → is_valid t.tracker.tracker (tracker.number_of t.tracker tsn) ≡ true → Leads message is_interleaved handed x (handle_forward_tsn tsn skipped t)
     point_leads tag tsn skipped received valid =
         let h = point_is_received message lifecycle is_interleaved g call from p handed phase t m inv x claim.kept claim.shown same claim.stay.0
         tag tsn skipped received in
         passed_leads message is_interleaved handed x t claim.shown claim.kept windows few tsn skipped h.1 valid
 
-    ipoint_leads : (tag tsn : ℕ) (skipped : List SkippedStream) → IsReceived call tag (i_forward_tsn_chunk tsn skipped)
-        → is_valid t.tracker.tracker (tracker.number_of t.tracker tsn) ≡ true → Leads message is_interleaved handed x (forward_to tsn skipped t)
+    ipoint_leads : (tag tsn : ℕ) (skipped : List SkippedStream) → BringsChunk call tag (i_forward_tsn_chunk tsn skipped)
+        → is_valid t.tracker.tracker (tracker.number_of t.tracker tsn) ≡ true → Leads message is_interleaved handed x (handle_forward_tsn tsn skipped t)
     ipoint_leads tag tsn skipped received valid =
         let h = ipoint_is_received message lifecycle is_interleaved g call from p handed phase t m inv x claim.kept claim.shown same claim.stay.0
         tag tsn skipped received in
         passed_leads message is_interleaved handed x t claim.shown claim.kept windows few tsn skipped h.1 valid
 
-    ack_leads : (y : Direction) × ReceiverClaim message is_interleaved from handed (with_chunk (selective_ack t) (in_open phase (count_sack_sent t) m)) y
+    ack_leads : (y : Direction) × ReceiverClaim message is_interleaved from handed (with_chunk (selective_ack t) (in_open phase (without_duplicates t) m)) y
     ack_leads =
         let made = sack_made message is_interleaved x claim.kept handed t claim.shown in
         let l : Leads message is_interleaved handed x t = made.0 in
@@ -206,12 +206,12 @@ module _ (message : ℕ → Message) (lifecycle : ℕ → Option ℕ) (is_interl
         subst (λ (o : Sender). SaysIn t.tracker.first (transfer_of from).acknowledged (count o) l.to (selective_ack t)) same.sender
         (subst (λ (n : ℕ). SaysIn t.tracker.first n (count (transfer_of x).sender) l.to (selective_ack t)) same.acknowledged says) in (
           l.to,
-          step_claims message lifecycle is_interleaved from handed (in_open phase t m) (with_chunk (selective_ack t) (in_open phase (count_sack_sent t) m)) x l.to claim
+          step_claims message lifecycle is_interleaved from handed (in_open phase t m) (with_chunk (selective_ack t) (in_open phase (without_duplicates t) m)) x l.to claim
               (record {
                 goes = l.goes;
                 kept = l.kept;
                 stay = l.stay;
-                shown = acknowledging_changes message is_interleaved handed t (report t.tracker.tracker) l.to refl (tracker_emitted t.tracker.tracker claim.shown.is_tracker) l.shown;
+                shown = acknowledging_changes message is_interleaved handed t (clear_duplicates t.tracker.tracker) l.to refl (tracker_emitted t.tracker.tracker claim.shown.is_tracker) l.shown;
                 performed = λ s. let e = l.performed s in omega (arith, e);
                 emitted = λ h. h;
                 made = λ h. holds_added (λ tag. SaysIn t.tracker.first (transfer_of from).acknowledged (count (transfer_of from).sender) l.to) m.packet (selective_ack t) h there;
@@ -226,13 +226,13 @@ module _ (message : ℕ → Message) (lifecycle : ℕ → Option ℕ) (is_interl
       goes_led message lifecycle is_interleaved from handed phase phase t (take_fragment tsn is_immediate f t) m refl
       (λ x claim. idata_leads phase t m inv x claim tag tsn is_immediate f received may)
   goes_data (takes_forward tag tsn skipped phase t m received right valid) inv =
-      goes_led message lifecycle is_interleaved from handed phase phase t (forward_to tsn skipped t) m refl
+      goes_led message lifecycle is_interleaved from handed phase phase t (handle_forward_tsn tsn skipped t) m refl
       (λ x claim. point_leads phase t m inv x claim tag tsn skipped received valid)
   goes_data (takes_iforward tag tsn skipped phase t m received right valid) inv =
-      goes_led message lifecycle is_interleaved from handed phase phase t (forward_to tsn skipped t) m refl
+      goes_led message lifecycle is_interleaved from handed phase phase t (handle_forward_tsn tsn skipped t) m refl
       (λ x claim. ipoint_leads phase t m inv x claim tag tsn skipped received valid)
 
   -- an acknowledgement is made
   pub goes_acknowledging : (phase : Phase) (t : Tcb) (m : EndWithPacket Carried) → InvAt g (in_open phase t m)
-      → Goes (in_open phase t m) (with_chunk (selective_ack t) (in_open phase (count_sack_sent t) m))
+      → Goes (in_open phase t m) (with_chunk (selective_ack t) (in_open phase (without_duplicates t) m))
   goes_acknowledging phase t m inv x claim = ack_leads phase t m inv x claim

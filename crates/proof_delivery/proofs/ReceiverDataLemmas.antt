@@ -2,16 +2,16 @@
 use Rattle.std.proofs.Common.{◌≡◌, ℕ, suc, ◌+◌, Bool, true, false, if◌then◌else◌, ◌&&◌, ◌==◌, inl, inr, Option, Some, None, option_map, List, [], ◌∷◌, length, map, refl, sym, ap, ◌∙◌, subst, arith}
 use Rattle.std.specs.List.{list_all}
 use Rattle.sctp_serial.specs.Messages as messages
-use Rattle.sctp_serial.specs.Unwrapped.{origin, words, wire}
+use Rattle.sctp_serial.specs.Unwrapped.{origin, u32_space, wire}
 use Rattle.sctp_serial.specs.declared.api.StreamId.{StreamId}
 use Rattle.sctp_packet.specs.Chunk.{FragmentTree}
 use Rattle.sctp_chunk.specs.declared.forward_tsn.SkippedStream.{SkippedStream}
 use Rattle.sctp_rx.specs.DataTracker as tracker
 use Rattle.sctp_rx.specs.DataTracker.{Tracker, IsTracker, is_valid, has_seen, moves_on, observe}
 use Rattle.sctp_rx.specs.ReassemblyStreams.{is_far, entries_in}
-use Rattle.sctp_rx.specs.ReassemblyQueue.{Reassembly, Deferred, Waiting, Added, Forwarded, number_of, came, add_now, forward_now, fragment_waits, point_waits, with_waiting, waits, resetting, waiting_in, add, forward}
+use Rattle.sctp_rx.specs.ReassemblyQueue.{Reassembly, Deferred, Waiting, Added, Forwarded, number_of, came, add_now, forward_now, is_kept_back, point_waits, with_waiting, keep_back, resetting, waiting_in, add, forward}
 use Rattle.proof_protocol.specs.State.{Message, ForwardPoint, IsAmong}
-use Rattle.proof_protocol.specs.Rules.{Rule, data_comes, late_comes, forward_comes, become_ready, covers}
+use Rattle.proof_protocol.specs.Rules.{TransferEvent, data_comes, late_comes, forward_comes, become_ready, covers}
 use Rattle.proof_protocol.specs.Points.{AreApart}
 use Rattle.proof_protocol.specs.Based.{EpochWindows}
 use Rattle.proof_protocol.proofs.BasedLemmas.{unseen_is_now}
@@ -28,8 +28,8 @@ use Rattle.proof_rx_refines.proofs.NearTsnLemmas.{not_acknowledged, front, front
 use Rattle.proof_rx_refines.proofs.RowLemmas.{old_point, again}
 use Rattle.spec_endpoint.specs.Association.{Tcb}
 use Rattle.spec_endpoint.specs.ResetRequests.{Requests}
-use Rattle.spec_endpoint.specs.Data.{added_unless, skipped_if, take_fragment, forward_to}
-use Rattle.proof_delivery.specs.Asks.{Ask, IsAnswering}
+use Rattle.spec_endpoint.specs.Data.{added_unless, skipped_if, take_fragment, handle_forward_tsn}
+use Rattle.proof_delivery.specs.Asks.{ResetRequest, IsAnswering}
 use Rattle.proof_delivery.proofs.ClaimLemmas.{Direction, transfer_of, is_receiving, goes_in, IsKept, GoesOn, AsksStay, IsReceiving}
 use Rattle.proof_delivery.proofs.ReadingDataLemmas.{DataReceived, PointReceived}
 use Rattle.proof_delivery.proofs.ReceiverToolLemmas.{ready_is_receiving, led, receiving_goes, performed_along, led_kept}
@@ -45,12 +45,12 @@ with_same w None = refl
 with_same w (Some d) = refl
 
 add_same : (tsn : ℕ) (f : FragmentTree) (r : Reassembly) → streams_in (add tsn f r).deferred ≡ streams_in r.deferred
-add_same tsn f r = go (is_far n) (fragment_waits n f.stream_id r.deferred)
+add_same tsn f r = go (is_far n) (is_kept_back n f.stream_id r.deferred)
   where
     n : ℕ
     n = number_of r tsn
 
-    go : (a b : Bool) → streams_in (if a then r else (if b then waits (Added n f) (came tsn r) else add_now n f (came tsn r))).deferred ≡ streams_in r.deferred
+    go : (a b : Bool) → streams_in (if a then r else (if b then keep_back (Added n f) (came tsn r) else add_now n f (came tsn r))).deferred ≡ streams_in r.deferred
     go true b = refl
     go false true = with_same (Added n f) r.deferred
     go false false = refl
@@ -67,7 +67,7 @@ forward_same tsn es r = go (is_far n) (point_waits n r.deferred) ((length part =
     others : Reassembly
     others = forward_now n (entries_in false (resetting r.deferred) es) (came tsn r)
 
-    go : (a b c : Bool) → streams_in (if a then r else (if b then (if c then others else waits (Forwarded n part) others) else forward_now n es (came tsn r))).deferred ≡ streams_in r.deferred
+    go : (a b c : Bool) → streams_in (if a then r else (if b then (if c then others else keep_back (Forwarded n part) others) else forward_now n es (came tsn r))).deferred ≡ streams_in r.deferred
     go true b c = refl
     go false true true = refl
     go false true false = with_same (Forwarded n part) r.deferred
@@ -82,7 +82,7 @@ skipped_same true tsn es r = forward_same tsn es r
 skipped_same false tsn es r = refl
 
 -- which is what an answer looks at
-module _ (first done : ℕ) (asks : List Ask) (q : Requests) where
+module _ (first done : ℕ) (asks : List ResetRequest) (q : Requests) where
   none_still : (d e : Option Deferred) → streams_in e ≡ streams_in d → d ≡ None → e ≡ None
   none_still d None same none = refl
   none_still None (Some e) same none = cc
@@ -105,7 +105,7 @@ module _ (first done : ℕ) (asks : List Ask) (q : Requests) where
 -- ---- the rules go on to a state that these values show
 
 pub record Arrives (message : ℕ → Message) (is_interleaved : Bool) (first : ℕ) (handed : List messages.Message) (x : Direction) (t : Tracker) (r : Reassembly) : Type 0 where
-  pub events : List Rule
+  pub events : List TransferEvent
   pub all : list_all is_receiving events ≡ true
   pub shift : ℕ
   pub comes : Comes message is_interleaved first shift x.rules events handed t r
@@ -126,7 +126,7 @@ module _ (message : ℕ → Message) (is_interleaved : Bool) (first : ℕ) (hand
 
   -- ---- a fragment
 
-  module _ (k tsn : ℕ) (f : FragmentTree) (tsn_is : tsn ≡ wire words first (origin + k)) (carries : Carries message is_interleaved (transfer_of x).sender k f)
+  module _ (k tsn : ℕ) (f : FragmentTree) (tsn_is : tsn ≡ wire u32_space first (origin + k)) (carries : Carries message is_interleaved (transfer_of x).sender k f)
       (written : IsWritten message is_interleaved (transfer_of x).sender k f) (now : Bool) (valid : is_valid t (origin + k) ≡ true) where
     later : IsTracker (observe (origin + k) now t)
     later = tracker_observes t (origin + k) now is valid
@@ -157,7 +157,7 @@ module _ (message : ℕ → Message) (is_interleaved : Bool) (first : ℕ) (hand
   -- ---- a forward point
 
   module _ (k tsn : ℕ) (skipped : List SkippedStream) (f : ForwardPoint) (sent : IsAmong f (transfer_of x).forward_points) (last : f.upto ≡ suc k)
-      (tsn_is : tsn ≡ wire words first (origin + k)) (apart : AreApart f.entries) (are : AreEntries is_interleaved skipped f.entries)
+      (tsn_is : tsn ≡ wire u32_space first (origin + k)) (apart : AreApart f.entries) (are : AreEntries is_interleaved skipped f.entries)
       (valid : is_valid t (origin + k) ≡ true) where
     passed : IsTracker (tracker.forward (origin + k) t)
     passed = tracker_passes t (origin + k) is valid
@@ -239,7 +239,7 @@ module _ (message : ℕ → Message) (is_interleaved : Bool) (handed : List mess
   }
 
   pub passed_leads : (tsn : ℕ) (skipped : List SkippedStream) → PointReceived is_interleaved (transfer_of x) t.tracker tsn skipped
-      → is_valid t.tracker.tracker (tracker.number_of t.tracker tsn) ≡ true → Leads message is_interleaved handed x (forward_to tsn skipped t)
+      → is_valid t.tracker.tracker (tracker.number_of t.tracker tsn) ≡ true → Leads message is_interleaved handed x (handle_forward_tsn tsn skipped t)
   passed_leads tsn skipped h valid =
       let n : ℕ = origin + h.at in
       let there : is_valid t.tracker.tracker n ≡ true = subst (λ (m : ℕ). is_valid t.tracker.tracker m ≡ true) h.number_is valid in

@@ -19,16 +19,16 @@ use Rattle.sctp_rx.specs.ReassemblyQueue.{defer}
 use Rattle.spec_endpoint.specs.Sack.{clean_blocks}
 use Rattle.spec_endpoint.specs.Association.{Tcb, Phase, CookieEchoed, CookieWait, Context}
 use Rattle.spec_endpoint.specs.Packets.{room, add_all}
-use Rattle.spec_endpoint.specs.ResetRequests.{Request, Outcome, Unsettled, Done, Denied, ids, request_chunk, in_progress, outcome, process_request}
+use Rattle.spec_endpoint.specs.ResetRequests.{Request, Outcome, Unsettled, Done, Denied, ids, request_chunk, in_progress, outcome, set_last_request}
 use Rattle.spec_endpoint.specs.StreamReset.{is_ahead, on_outcome}
 use Rattle.spec_endpoint.specs.Sending.{is_small, data_chunk_of, data_chunks, fast_most}
 use Rattle.spec_endpoint.specs.Laws.{Call}
 use Rattle.proof_endpoint.specs.Mapped.{Carried}
 use Rattle.proof_endpoint.specs.Acts.{EndWithPacket, point_of, IsAsked, IsDue, AsksNoIncoming, Answers, in_open, in_state, with_packet, fragments_of, SackAct, takes_sack, samples, counts_errors, before_sack, after_sack, SendingAct, asks, adds_ack, expires, adds_forward, forwards_later, asks_no_reset, asks_reset, adds_request, sends, sends_fast, before_sending, after_sending, TimeAct, advances, delay_ends, times_out, beats, times_init, times_cookie, times_request, wakes_request, before_time, after_time, CallAct, accepts, refuses, takes_message, sets_low_threshold, sets_priority, sets_max_message_size, before_call, after_call, ResetAct, prepares, defers, performs, processes, takes_response, adds_responses, before_reset, after_reset, InputAct, ends_packet, before_input, after_input}
-use Rattle.proof_pair.proofs.UntilLemmas.{light_sack, light_sending, light_time, light_call, light_reset}
+use Rattle.proof_pair.proofs.UntilLemmas.{sack_act_emits_no_packet_or_status, sending_act_emits_no_packet_or_status, time_act_emits_no_packet_or_status, call_act_emits_no_packet_or_status, reset_act_emits_no_packet_or_status}
 use Rattle.proof_pair.proofs.JoinActsLemmas.{Setting, InvAt}
 use Rattle.proof_endpoint.proofs.CallActsLemmas.{answers_leave}
-use Rattle.proof_delivery.specs.Asks.{Ask, SaysIncoming}
+use Rattle.proof_delivery.specs.Asks.{ResetRequest, SaysIncoming}
 use Rattle.proof_delivery.specs.StreamEpochs.{are_named, resets_emitted}
 use Rattle.proof_delivery.proofs.ClaimLemmas.{Direction, transfer_of, SaysIn, ReceiverClaim, ReceiverPremises, ReceiverGoes}
 use Rattle.proof_delivery.proofs.FrameLemmas.{IsSetting, IsReceivedReset, KeepsJoined}
@@ -90,7 +90,7 @@ module _ (message : ℕ → Message) (lifecycle : ℕ → Option ℕ) (is_interl
   goes_sack (takes_sack tag k phase t m received valid) =
       let act : SackAct Carried call = takes_sack tag k phase t m received valid in
       goes_same message lifecycle is_interleaved from handed (in_open phase t m) (after_sack act)
-      (λ x h. rest_changes message is_interleaved handed t _ t.rtt t.requests x refl refl h) refl (same_packets m.context.emitted (after_sack act).context.emitted (light_sack act))
+      (λ x h. rest_changes message is_interleaved handed t _ t.rtt t.requests x refl refl h) refl (same_packets m.context.emitted (after_sack act).context.emitted (sack_act_emits_no_packet_or_status act))
       (resets_sack true (point_of k t) (clean_blocks k.gap_ack_blocks) t.sender m.context.emitted) refl
   goes_sack (samples r phase t m) =
       let act : SackAct Carried call = samples r phase t m in
@@ -110,7 +110,7 @@ module _ (message : ℕ → Message) (lifecycle : ℕ → Option ℕ) (is_interl
   goes_sending (expires phase t m) inv =
       let act : SendingAct Carried call = expires phase t m in
       goes_same message lifecycle is_interleaved from handed (in_open phase t m) (after_sending act)
-      (λ x h. rest_changes message is_interleaved handed t _ t.rtt t.requests x refl refl h) refl (same_packets m.context.emitted (after_sending act).context.emitted (light_sending act))
+      (λ x h. rest_changes message is_interleaved handed t _ t.rtt t.requests x refl refl h) refl (same_packets m.context.emitted (after_sending act).context.emitted (sending_act_emits_no_packet_or_status act))
       (resets_expired m.context.now t.sender.outstanding.items m.context.emitted) refl
   goes_sending (adds_forward phase t m due) inv =
       goes_adding message lifecycle is_interleaved from handed (in_open phase t m) (forward_chunk t.sender)
@@ -134,7 +134,7 @@ module _ (message : ℕ → Message) (lifecycle : ℕ → Option ℕ) (is_interl
       (goes_adding_all message lifecycle is_interleaved from handed (in_open phase t m) chunks
       (λ x. data_says t.tracker.first (transfer_of from).acknowledged (count (transfer_of from).sender) x t (is_small m.context.options f.sender) f.chunks))
       (goes_same message lifecycle is_interleaved from handed filled (after_sending act)
-      (λ x h. rest_changes message is_interleaved handed t f.sender t.rtt t.requests x refl refl h) refl (same_packets m.context.emitted (after_sending act).context.emitted (light_sending act))
+      (λ x h. rest_changes message is_interleaved handed t f.sender t.rtt t.requests x refl refl h) refl (same_packets m.context.emitted (after_sending act).context.emitted (sending_act_emits_no_packet_or_status act))
       (resets_sent m.context.now (room m.packet) t.sender m.context.queue m.context.emitted) refl)
   goes_sending (sends_fast phase t m some) inv =
       let act : SendingAct Carried call = sends_fast phase t m some in
@@ -157,7 +157,7 @@ module _ (message : ℕ → Message) (lifecycle : ℕ → Option ℕ) (is_interl
   goes_time (times_out phase t m due) =
       let act : TimeAct Carried call = times_out phase t m due in
       goes_same message lifecycle is_interleaved from handed (in_open phase t m) (after_time act)
-      (λ x h. rest_changes message is_interleaved handed t _ t.rtt t.requests x refl refl h) refl (same_packets m.context.emitted (after_time act).context.emitted (light_time act))
+      (λ x h. rest_changes message is_interleaved handed t _ t.rtt t.requests x refl refl h) refl (same_packets m.context.emitted (after_time act).context.emitted (time_act_emits_no_packet_or_status act))
       (resets_timed_out t.sender.outstanding.items m.context.emitted) refl
   goes_time (beats b m) = goes_same message lifecycle is_interleaved from handed m (after_time {call = call} (beats b m)) (λ x h. h) refl refl refl refl
   goes_time (times_init tag first old new m) =
@@ -176,11 +176,11 @@ module _ (message : ℕ → Message) (lifecycle : ℕ → Option ℕ) (is_interl
   goes_calls (takes_message phase t m is) set = absurd set
   goes_calls (refuses offer o e m offered is) set =
       let act : CallAct Carried call = refuses offer o e m offered is in
-      goes_same message lifecycle is_interleaved from handed m (after_call act) (λ x h. h) refl (same_packets m.context.emitted (after_call act).context.emitted (light_call act))
+      goes_same message lifecycle is_interleaved from handed m (after_call act) (λ x h. h) refl (same_packets m.context.emitted (after_call act).context.emitted (call_act_emits_no_packet_or_status act))
       (resets_refused e o.lifecycle_id m.context.emitted) refl
   goes_calls (sets_low_threshold stream bytes m is) set =
       let act : CallAct Carried call = sets_low_threshold stream bytes m is in
-      goes_same message lifecycle is_interleaved from handed m (after_call act) (λ x h. h) refl (same_packets m.context.emitted (after_call act).context.emitted (light_call act))
+      goes_same message lifecycle is_interleaved from handed m (after_call act) (λ x h. h) refl (same_packets m.context.emitted (after_call act).context.emitted (call_act_emits_no_packet_or_status act))
       (resets_threshold stream bytes m.context.queue m.context.emitted) refl
   goes_calls (sets_priority stream priority m is) set =
       goes_same message lifecycle is_interleaved from handed m (after_call {call = call} (sets_priority stream priority m is)) (λ x h. h) refl refl refl refl
@@ -197,7 +197,7 @@ module _ (message : ℕ → Message) (lifecycle : ℕ → Option ℕ) (is_interl
     windows = windows_stay message lifecycle is_interleaved g call from p handed phase t m inv x claim.kept claim.shown same claim.stay.0
 
     few : length x.asks < 2 ^ 32
-    few = subst (λ (l : List Ask). length l < 2 ^ 32) (sym claim.stay.0) p.few_asks
+    few = subst (λ (l : List ResetRequest). length l < 2 ^ 32) (sym claim.stay.0) p.few_asks
 
     asked_is : (n response : ℕ) (last_tsn : Tsn) (streams : List StreamId) → IsAsked call (outgoing_reset_request n response last_tsn streams)
         → RequestReceived x t.tracker n last_tsn.0 streams
@@ -237,7 +237,7 @@ module _ (message : ℕ → Message) (lifecycle : ℕ → Option ℕ) (is_interl
   goes_resets : (act : ResetAct Carried call) → IsReceivedReset act → InvAt g (before_reset act) → Goes (before_reset act) (after_reset act)
   goes_resets (prepares stream phase t m asked can) received inv = absurd received
   goes_resets (defers n response last_tsn streams phase t m asked due ahead) received inv =
-      goes_led message lifecycle is_interleaved from handed phase phase t (record t { reassembly = defer last_tsn.0 streams t.reassembly; requests = process_request n in_progress t.requests }) m refl
+      goes_led message lifecycle is_interleaved from handed phase phase t (record t { reassembly = defer last_tsn.0 streams t.reassembly; requests = set_last_request n in_progress t.requests }) m refl
       (λ x claim. deferred_leads message is_interleaved handed x claim.kept t claim.shown (few phase t m inv x claim) n last_tsn.0 streams
       (asked_is phase t m inv x claim n response last_tsn streams asked) due (windows phase t m inv x claim).items ahead)
   goes_resets (performs n response last_tsn streams phase t m asked due there) received inv =
@@ -251,7 +251,7 @@ module _ (message : ℕ → Message) (lifecycle : ℕ → Option ℕ) (is_interl
       (rest_changes message is_interleaved handed t t.sender t.rtt _ x same.0 same.1 claim.shown)
       (λ s. outcome_emits s (outcome n result t.requests.current) m.context)
       (λ h. subst (λ (ps : List Carried). All (λ (q : Carried). All (SaysIn t.tracker.first (transfer_of from).acknowledged (count (transfer_of from).sender) x) q.chunks) ps)
-      (sym (same_packets m.context.emitted (after_reset act).context.emitted (light_reset act))) h)
+      (sym (same_packets m.context.emitted (after_reset act).context.emitted (reset_act_emits_no_packet_or_status act))) h)
       (λ h. h)
   goes_resets (adds_responses responses phase t m are answers) received inv =
       goes_adding message lifecycle is_interleaved from handed (in_open phase t m) (re_config_chunk responses) (λ x claim. responses_true phase t m inv x claim responses answers)

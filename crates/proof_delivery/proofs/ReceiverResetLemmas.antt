@@ -7,7 +7,7 @@ use Rattle.std.proofs.lemmas.Bool.{cases_eq, both_ways, eqb-true, eq-eqb, ne_eqb
 use Rattle.std.proofs.lemmas.List.Elements.{All-weaker}
 use Rattle.std.proofs.lemmas.Option.{slice_get_within}
 use Rattle.sctp_serial.specs.Messages as messages
-use Rattle.sctp_serial.specs.Unwrapped.{origin, words, wire}
+use Rattle.sctp_serial.specs.Unwrapped.{origin, u32_space, wire}
 use Rattle.sctp_serial.specs.declared.api.StreamId.{StreamId}
 use Rattle.sctp_wire.specs.Parameter.{ParameterTree, reset_response}
 use Rattle.sctp_state.specs.Events as events
@@ -25,13 +25,13 @@ use Rattle.proof_rx_refines.specs.Resets.{base_now, AreNextTo, AreNext, performs
 use Rattle.proof_rx_refines.proofs.DeferralRowLemmas.{next_once_seen, waits_none, none_waits, deferred_row, deferred_again}
 use Rattle.proof_rx_refines.proofs.ResetRowLemmas.{reset_row}
 use Rattle.spec_endpoint.specs.Association.{Tcb}
-use Rattle.spec_endpoint.specs.ResetRequests.{Requests, ids, in_progress, performed, is_final, is_last, is_next, is_known, process_request}
+use Rattle.spec_endpoint.specs.ResetRequests.{Requests, ids, in_progress, performed, is_final, is_last_request, is_next_request, is_known_request, set_last_request}
 use Rattle.spec_endpoint.specs.StreamReset.{is_ahead}
 use Rattle.spec_endpoint.specs.Laws.{Call}
 use Rattle.proof_endpoint.specs.Mapped.{Carried}
 use Rattle.proof_endpoint.specs.Acts.{IsDue, HasRequest, AsksNoIncoming, Answers}
 use Rattle.proof_delivery.specs.Asks as asks
-use Rattle.proof_delivery.specs.Asks.{named_in, request_for, AreAsked, SaysDone, SaysIncoming, HasPerformed, HasDeferred, IsAnswering}
+use Rattle.proof_delivery.specs.Asks.{named_in, request_for, AreRequested, SaysDone, SaysIncoming, HasPerformed, HasDeferred, IsAnswering}
 use Rattle.proof_delivery.specs.StreamEpochs.{are_named, resets_emitted}
 use Rattle.proof_delivery.proofs.AsksLemmas.{named_next, ask_is_performed}
 use Rattle.proof_delivery.proofs.AskedNextLemmas.{requests_of, next_ask, next_names}
@@ -109,9 +109,9 @@ module _ (message : ℕ → Message) (is_interleaved : Bool) (handed : List mess
     final_not result e final = both_ways (is_final result) (ap is_final e) final
 
     module _ (n result : ℕ) (at : ℕ) (there : at < length x.asks) (number_is : n ≡ asks.number_of t.tracker.first at) (final : is_final result ≡ true) where
-      said_last : is_last n t.requests ≡ true → result ≡ t.requests.result → SaysDone t.tracker.first x.done (length x.asks) n result
+      said_last : is_last_request n t.requests ≡ true → result ≡ t.requests.result → SaysDone t.tracker.first x.done (length x.asks) n result
       said_last last same =
-          let is : is_last (asks.number_of t.tracker.first at) t.requests ≡ true = subst (λ (m : ℕ). is_last m t.requests ≡ true) number_is last in
+          let is : is_last_request (asks.number_of t.tracker.first at) t.requests ≡ true = subst (λ (m : ℕ). is_last_request m t.requests ≡ true) number_is last in
           elim (last_is_ask t.tracker.first x.done x.asks t.requests t.reassembly.deferred answering below order few at there is) [
             | inl e ↦
                 let l = e.0 in
@@ -119,10 +119,10 @@ module _ (message : ℕ → Message) (is_interleaved : Bool) (handed : List mess
             | inr e ↦ absurd (final_not result (same ∙ e.1) final)
           ]
 
-      said_older : is_known n t.requests ≡ false → SaysDone t.tracker.first x.done (length x.asks) n result
+      said_older : is_known_request n t.requests ≡ false → SaysDone t.tracker.first x.done (length x.asks) n result
       said_older unknown =
-          let is : is_known (asks.number_of t.tracker.first at) t.requests ≡ false = subst (λ (m : ℕ). is_known m t.requests ≡ false) number_is unknown in
-          let parts = or_parts (is_last (asks.number_of t.tracker.first at) t.requests) (is_next (asks.number_of t.tracker.first at) t.requests) is in
+          let is : is_known_request (asks.number_of t.tracker.first at) t.requests ≡ false = subst (λ (m : ℕ). is_known_request m t.requests ≡ false) number_is unknown in
+          let parts = or_parts (is_last_request (asks.number_of t.tracker.first at) t.requests) (is_next_request (asks.number_of t.tracker.first at) t.requests) is in
           let e = other_is_older t.tracker.first x.done x.asks t.requests t.reassembly.deferred answering below order few at there parts.0 parts.1 in
           record { at = at; number_is = number_is; below = e.0; performed_or_older = inr e.1 }
 
@@ -145,7 +145,7 @@ module _ (message : ℕ → Message) (is_interleaved : Bool) (handed : List mess
     number_is = h.number_is
 
     -- it isn't one that was performed
-    last_open : is_last n t.requests ≡ true → h.at ≡ x.done
+    last_open : is_last_request n t.requests ≡ true → h.at ≡ x.done
     last_open last = elim answering [
       | inl p ↦ absurd (both_ways (is_final t.requests.result) (due.undone last) (elim p.result [ inl e ↦ ap is_final e | inr e ↦ ap is_final e.0 ]))
       | inr d ↦
@@ -154,17 +154,17 @@ module _ (message : ℕ → Message) (is_interleaved : Bool) (handed : List mess
           number_once t.tracker.first h.at x.done (omega (arith, l, few)) (omega (arith, m, few)) (sym number_is ∙ (eqb-true n t.requests.last last ∙ d.last))
     ]
 
-    next_open : is_next n t.requests ≡ true → h.at ≡ x.done
+    next_open : is_next_request n t.requests ≡ true → h.at ≡ x.done
     next_open next =
         next_is_ask t.tracker.first x.done x.asks t.requests t.reassembly.deferred answering below order few h.at (slice_get_within x.asks h.at h.ask h.there)
-        (subst (λ (m : ℕ). is_next m t.requests ≡ true) number_is next)
+        (subst (λ (m : ℕ). is_next_request m t.requests ≡ true) number_is next)
 
     at_is : h.at ≡ x.done
-    at_is = by (is_last n t.requests) refl
+    at_is = by (is_last_request n t.requests) refl
       where
-        by : (b : Bool) → is_last n t.requests ≡ b → h.at ≡ x.done
+        by : (b : Bool) → is_last_request n t.requests ≡ b → h.at ≡ x.done
         by true e = last_open e
-        by false e = next_open (sym (ap (λ (b : Bool). b || is_next n t.requests) e) ∙ due.known)
+        by false e = next_open (sym (ap (λ (b : Bool). b || is_next_request n t.requests) e) ∙ due.known)
 
     there : slice_get x.asks x.done ≡ Some h.ask
     there = subst (λ (k : ℕ). slice_get x.asks k ≡ Some h.ask) at_is h.there
@@ -202,7 +202,7 @@ module _ (message : ℕ → Message) (is_interleaved : Bool) (handed : List mess
     -- ---- it is deferred
 
     abbrev deferred_at : Reassembly → Tcb
-    deferred_at r = record t { reassembly = r; requests = process_request n in_progress t.requests }
+    deferred_at r = record t { reassembly = r; requests = set_last_request n in_progress t.requests }
 
     leads_here : (u : Tcb) → IsReceiving message is_interleaved handed u x → Leads message is_interleaved handed x u
     leads_here u s = record { to = x; goes = goes_none message is_interleaved goes_in x; kept = kept; stay = (refl, refl); performed = λ s. refl; shown = s }
@@ -219,7 +219,7 @@ module _ (message : ℕ → Message) (is_interleaved : Bool) (handed : List mess
           is_tracker = shown.is_tracker;
           waiting = shown.waiting;
           first = shown.first;
-          answers = to_peer (process_request n in_progress t.requests) t.reassembly.deferred x.done
+          answers = to_peer (set_last_request n in_progress t.requests) t.reassembly.deferred x.done
               (inr (record { ask = d.ask; there = d.there; last = number_now; result = refl; reset = d.reset; is = d.is; streams = d.streams }));
         }))
 
@@ -242,8 +242,8 @@ module _ (message : ℕ → Message) (is_interleaved : Bool) (handed : List mess
         within : at < count (transfer_of x).sender
         within = let l = front_before in let w = h.within in omega (arith, l, w)
 
-        tsn_is : last_tsn ≡ wire words t.tracker.first (origin + at)
-        tsn_is = h.tsn_is ∙ ap (λ (m : ℕ). wire words t.tracker.first m) (let l = front_before in omega (arith, l))
+        tsn_is : last_tsn ≡ wire u32_space t.tracker.first (origin + at)
+        tsn_is = h.tsn_is ∙ ap (λ (m : ℕ). wire u32_space t.tracker.first m) (let l = front_before in omega (arith, l))
 
         postponed : t.reassembly.deferred ≡ None
             → Comes message is_interleaved t.tracker.first (shift_after t.reassembly.first shown.shift at) x.rules [] handed t.tracker.tracker (defer last_tsn streams t.reassembly)
@@ -270,7 +270,7 @@ module _ (message : ℕ → Message) (is_interleaved : Bool) (handed : List mess
               is_tracker = shown.is_tracker;
               waiting = c.waiting;
               first = shown.first;
-              answers = to_peer (process_request n in_progress t.requests) (defer last_tsn streams t.reassembly).deferred x.done
+              answers = to_peer (set_last_request n in_progress t.requests) (defer last_tsn streams t.reassembly).deferred x.done
                   (inr
                   (record {
                     ask = h.ask;
@@ -307,9 +307,9 @@ module _ (message : ℕ → Message) (is_interleaved : Bool) (handed : List mess
         abbrev to : Direction
         to = record x { rules = go_all message is_interleaved x.rules (performs rs); done = suc x.done }
 
-        asked_then : AreAsked to.rules x.asks (suc x.done) x.answered
+        asked_then : AreRequested to.rules x.asks (suc x.done) x.answered
         asked_then =
-            subst (λ (es : List ResetEvent). AreAsked (go_all message is_interleaved x.rules es) x.asks (suc x.done) x.answered)
+            subst (λ (es : List ResetEvent). AreRequested (go_all message is_interleaved x.rules es) x.asks (suc x.done) x.answered)
             (sym (performs_are (λ s. request_for s x.done h.ask.upto x.asks) h.ask.streams))
             (ask_is_performed message is_interleaved x.asks x.done h.ask there x.rules x.answered kept.asked)
 
@@ -330,7 +330,7 @@ module _ (message : ℕ → Message) (is_interleaved : Bool) (handed : List mess
             omega (arith, a, b, c, d, f, g)
 
         abbrev reset_at : Reassembly → Tcb
-        reset_at r = record t { reassembly = r; requests = process_request n performed t.requests }
+        reset_at r = record t { reassembly = r; requests = set_last_request n performed t.requests }
 
         shown_then : IsReceiving message is_interleaved handed (reset_at (reset (named_by rs) t.reassembly)) to
         shown_then = record {
@@ -340,8 +340,8 @@ module _ (message : ℕ → Message) (is_interleaved : Bool) (handed : List mess
           is_tracker = shown.is_tracker;
           waiting = waits_none shown.shift to.rules (reset (named_by rs) t.reassembly) row.none_deferred;
           first = shown.first;
-          answers = to_peer (process_request n performed t.requests) (reset (named_by rs) t.reassembly).deferred (suc x.done)
-              (inl (record { last = number_now ∙ ap (λ (m : ℕ). wire words t.tracker.first m) (omega arith); result = inl refl; none = row.none_deferred }));
+          answers = to_peer (set_last_request n performed t.requests) (reset (named_by rs) t.reassembly).deferred (suc x.done)
+              (inl (record { last = number_now ∙ ap (λ (m : ℕ). wire u32_space t.tracker.first m) (omega arith); result = inl refl; none = row.none_deferred }));
         }
 
         pub performed_on : ResetsOn message is_interleaved handed x (reset_at (reset streams t.reassembly)) (numbers_of streams)

@@ -1,7 +1,7 @@
 -- An acknowledgement that a receiver makes, by the rules: what it says is true, and the values show the state after it.
 use Rattle.std.proofs.Common.{◌≡◌, ℕ, ◌+◌, ◌-◌, Bool, inl, List, [], ◌∷◌, refl, ap, arith}
 use Rattle.sctp_serial.specs.Messages as messages
-use Rattle.sctp_serial.specs.Unwrapped.{origin, words, wire}
+use Rattle.sctp_serial.specs.Unwrapped.{origin, u32_space, wire}
 use Rattle.proof_protocol.specs.State.{Message, count}
 use Rattle.proof_protocol.specs.Rules.{IsAllowed, send_sack}
 use Rattle.proof_rx_refines.specs.Resets.{base_now}
@@ -57,7 +57,7 @@ module _ (message : ℕ → Message) (is_interleaved : Bool) (x : Direction) (ke
       record {
         point = point;
         sent = inl refl;
-        written = ap (λ n. wire words t.tracker.first n) front;
+        written = ap (λ n. wire u32_space t.tracker.first n) front;
         from = between.0;
         to = between.1;
       }

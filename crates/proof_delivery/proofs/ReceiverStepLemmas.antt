@@ -14,14 +14,14 @@ use Rattle.sctp_rx.specs.ReassemblyQueue.{Deferred}
 use Rattle.sctp_rx.specs.DataTracker.{Tracker, IsTracker}
 use Rattle.proof_protocol.specs.State.{Message, count}
 use Rattle.spec_endpoint.specs.Association.{Tcb, Phase, Packing}
-use Rattle.spec_endpoint.specs.Packets.{Packet, add_all, header_to, emit_if}
+use Rattle.spec_endpoint.specs.Packets.{PacketDraft, add_all, header_to, emit_if}
 use Rattle.spec_endpoint.specs.ResetRequests.{Requests}
 use Rattle.proof_endpoint.specs.Mapped.{Carried}
 use Rattle.proof_endpoint.specs.Acts.{EndWithPacket, is_plain, with_chunk, with_packet, in_open}
 use Rattle.proof_pair.specs.Trace.{as_carried, packets_in}
 use Rattle.proof_pair.proofs.AddedLemmas.{holds_added, holds_all_added}
 use Rattle.proof_pair.proofs.JoinActsLemmas.{packets_both}
-use Rattle.proof_delivery.specs.Asks.{Ask, IsAnswering}
+use Rattle.proof_delivery.specs.Asks.{ResetRequest, IsAnswering}
 use Rattle.proof_delivery.specs.StreamEpochs.{resets_emitted}
 use Rattle.proof_delivery.proofs.ClaimLemmas.{Direction, transfer_of, goes_in, IsKept, GoesOn, AsksStay, SaysIn, first_in, IsReceiving, ReceivesIn, ReceiverClaim, ReceiverGoes}
 use Rattle.proof_delivery.proofs.ResetEventsLemmas.{resets_in, none_behind, emitted_same}
@@ -35,7 +35,7 @@ plain_says first least most x (re_config_chunk parameters) e = cc
 plain_says first least most x chunk e = tt
 
 -- with the same last request of the peer
-answers_by : (first done : ℕ) (asks : List Ask) (q r : Requests) (d : Option Deferred) → q.last ≡ r.last → q.result ≡ r.result → IsAnswering first done asks r d → IsAnswering first done asks q d
+answers_by : (first done : ℕ) (asks : List ResetRequest) (q r : Requests) (d : Option Deferred) → q.last ≡ r.last → q.result ≡ r.result → IsAnswering first done asks r d → IsAnswering first done asks q d
 answers_by first done asks q r d last result (inl p) =
     inl (record { last = last ∙ p.last; result = elim p.result [ inl e ↦ inl (result ∙ e) | inr e ↦ inr (result ∙ e.0, e.1) ]; none = p.none })
 answers_by first done asks q r d last result (inr p) =
@@ -182,7 +182,7 @@ module _ (message : ℕ → Message) (lifecycle : ℕ → Option ℕ) (is_interl
       stays_by m (with_packet (add_all chunks m.packet) m) x claim claim.shown (λ s. refl) (λ h. h)
       (λ h. holds_all_added (λ tag. SaysIn (first_in m.state) least most x) chunks m.packet h (λ tag. says x))
 
-  pub goes_begun : (p : Packet) (m : EndWithPacket Carried) → p.chunks ≡ [] → Goes m (with_packet p m)
+  pub goes_begun : (p : PacketDraft) (m : EndWithPacket Carried) → p.chunks ≡ [] → Goes m (with_packet p m)
   goes_begun p m new x claim =
       stays_by m (with_packet p m) x claim claim.shown (λ s. refl) (λ h. h)
       (λ h. subst (Says (first_in m.state) x) (sym new) (All-nil (SaysIn (first_in m.state) least most x)))

@@ -8,13 +8,13 @@ use Rattle.sctp_wire.specs.Parameter.{ParameterTree, reset_response}
 use Rattle.sctp_packet.specs.Chunk.{ChunkTree, sack_chunk, re_config_chunk}
 use Rattle.sctp_rx.specs.ReassemblyQueue.{Deferred}
 use Rattle.proof_protocol.specs.State.{Message, IsAmong}
-use Rattle.proof_protocol.specs.Rules.{Rule, accept, begin, number, end_with_placeholder, give_up, data_comes, late_comes, become_ready, send_sack, ack_point_advances, send_forward, forward_comes, perform_reset}
+use Rattle.proof_protocol.specs.Rules.{TransferEvent, accept, begin, number, end_with_placeholder, give_up, data_comes, late_comes, become_ready, send_sack, acknowledge_next, send_forward, forward_comes, perform_reset}
 use Rattle.proof_protocol.specs.Resets.{Request, Epochs, ResetEvent, transfers, reset_stream, send_request, perform, commit, goes, MayAll, go_all}
 use Rattle.proof_protocol.specs.Based.{InEpochs}
 use Rattle.proof_protocol.proofs.BasedLemmas.{keeps_epochs, all_in_epochs}
 use Rattle.proof_rx_refines.specs.Resets.{AreNextTo, IsWaitingFor}
 use Rattle.proof_endpoint.specs.Mapped.{Carried}
-use Rattle.proof_delivery.specs.Asks.{Ask, AreAsked, SaysIncoming}
+use Rattle.proof_delivery.specs.Asks.{ResetRequest, AreRequested, SaysIncoming}
 use Rattle.proof_delivery.proofs.AsksLemmas.{asks_stay}
 use Rattle.proof_delivery.proofs.ClaimLemmas.{Direction, transfer_of, is_receiving, goes_in, IsKept, GoesOn, SaysIn}
 use Rattle.proof_delivery.proofs.SenderToolLemmas.{all_transfers}
@@ -28,11 +28,11 @@ module _ (message : ℕ → Message) (is_interleaved : Bool) where
   -- ---- of the transfer alone
 
   -- where these lead
-  abbrev pub led : Direction → List Rule → Direction
+  abbrev pub led : Direction → List TransferEvent → Direction
   led x es = record x { rules = go_all message is_interleaved x.rules (map transfers es) }
 
   -- by the laws of the receiver's values
-  pub receiving_goes : (x : Direction) (es : List Rule) → MayAll message is_interleaved x.rules (map transfers es) → list_all is_receiving es ≡ true → GoesOn message is_interleaved goes_in x (led x es)
+  pub receiving_goes : (x : Direction) (es : List TransferEvent) → MayAll message is_interleaved x.rules (map transfers es) → list_all is_receiving es ≡ true → GoesOn message is_interleaved goes_in x (led x es)
   receiving_goes x es may all = record {
     events = map transfers es;
     may = may;
@@ -45,18 +45,18 @@ module _ (message : ℕ → Message) (is_interleaved : Bool) where
     answered = omega arith;
   }
 
-  pub performed_along : (es : List Rule) (x : Epochs) → (go_all message is_interleaved x (map transfers es)).performed ≡ x.performed
+  pub performed_along : (es : List TransferEvent) (x : Epochs) → (go_all message is_interleaved x (map transfers es)).performed ≡ x.performed
   performed_along [] x = refl
   performed_along (e ∷ es) x = performed_along es (goes message is_interleaved x (transfers e))
 
-  asked_along : (es : List Rule) (x : Epochs) (asks : List Ask) (done answered : ℕ) → InEpochs message is_interleaved x → MayAll message is_interleaved x (map transfers es) → AreAsked x asks done answered
-      → AreAsked (go_all message is_interleaved x (map transfers es)) asks done answered
+  asked_along : (es : List TransferEvent) (x : Epochs) (asks : List ResetRequest) (done answered : ℕ) → InEpochs message is_interleaved x → MayAll message is_interleaved x (map transfers es) → AreRequested x asks done answered
+      → AreRequested (go_all message is_interleaved x (map transfers es)) asks done answered
   asked_along [] x asks done answered k may are = are
   asked_along (e ∷ es) x asks done answered k may are =
       asked_along es (goes message is_interleaved x (transfers e)) asks done answered (keeps_epochs message is_interleaved x k (transfers e) may.0) may.1
       (asks_stay message is_interleaved x asks done answered are e k.order.kept may.0.0)
 
-  pub led_kept : (x : Direction) (es : List Rule) → IsKept message is_interleaved x → MayAll message is_interleaved x.rules (map transfers es) → IsKept message is_interleaved (led x es)
+  pub led_kept : (x : Direction) (es : List TransferEvent) → IsKept message is_interleaved x → MayAll message is_interleaved x.rules (map transfers es) → IsKept message is_interleaved (led x es)
   led_kept x es k may = record {
     epochs = all_in_epochs message is_interleaved (map transfers es) x.rules k.epochs may;
     asked = asked_along es x.rules x.asks x.done x.answered k.epochs may k.asked;
@@ -90,7 +90,7 @@ module _ (message : ℕ → Message) (is_interleaved : Bool) where
   same_once x (transfers (number p bytes more)) is = cc
   same_once x (transfers (end_with_placeholder p)) is = cc
   same_once x (transfers (give_up p)) is = cc
-  same_once x (transfers (ack_point_advances c)) is = cc
+  same_once x (transfers (acknowledge_next c)) is = cc
   same_once x (transfers (send_forward f)) is = cc
   same_once x (reset_stream s) is = cc
   same_once x (send_request s) is = cc

@@ -12,7 +12,7 @@ use Rattle.sctp_tx_outstanding.specs.OutstandingData.{Items}
 use Rattle.sctp_tx_outstanding.specs.Losses.{nack_all, expire_outstanding}
 use Rattle.sctp_tx.specs.RetransmissionQueue.{Sender, emitted_if}
 use Rattle.sctp_tx.specs.Sending.{send}
-use Rattle.spec_endpoint.specs.Calls.{refusal_events, lifecycle_end}
+use Rattle.spec_endpoint.specs.Calls.{refusal_events, lifecycle_end_events}
 use Rattle.proof_delivery.specs.Answered.{performed_in}
 use Rattle.proof_delivery.specs.StreamEpochs.{are_named, performed_of, resets_emitted, failed_in}
 use Rattle.proof_endpoint.specs.Mapped.{Carried}
@@ -143,8 +143,8 @@ module _ {P : Type 0} where
   pub resets_prepared : (id : ℕ) (q : Queue) (t : Emitted P) → SameResets t (prepare_reset id q t).emitted
   resets_prepared id q t = others t (prepare_reset id q t).emitted (prepares is_other other_kind id q t)
 
-  pub resets_refused : (e : SendError) (l : Option ℕ) (t : Emitted P) → SameResets t (emit_events (lifecycle_end l ++ refusal_events e) t)
-  resets_refused e l t = others t (emit_events (lifecycle_end l ++ refusal_events e) t) (refuses is_other other_kind e l t)
+  pub resets_refused : (e : SendError) (l : Option ℕ) (t : Emitted P) → SameResets t (emit_events (lifecycle_end_events l ++ refusal_events e) t)
+  resets_refused e l t = others t (emit_events (lifecycle_end_events l ++ refusal_events e) t) (refuses is_other other_kind e l t)
 
 pub emitted_same : (s : ℕ) (es fs : List (Event Carried)) → resets_in fs ≡ resets_in es → resets_emitted s fs ≡ resets_emitted s es
 emitted_same s es fs e = sym (emitted_counts s fs) ∙ (ap (λ (xs : List (Event Carried)). resets_emitted s xs) e ∙ emitted_counts s es)

@@ -10,16 +10,16 @@ use Rattle.sctp_tx_queue.specs.SendQueue.{Queue}
 use Rattle.proof_protocol.specs.State.{has}
 use Rattle.proof_protocol.specs.Resets.{Epochs}
 use Rattle.proof_tx_refines.specs.Asked.{AreSameAsked}
-use Rattle.spec_endpoint.specs.ResetRequests.{Request, Requests, Unsettled, Done, outcome, outcome_by, outcome_if, is_final, is_success, awake, wake_request, put_off, answered_by, answered_if, answered_in}
+use Rattle.spec_endpoint.specs.ResetRequests.{Request, Requests, Unsettled, Done, outcome, outcome_by, outcome_if, is_final, is_success, without_deferral, clear_deferral, defer_request, end_or_defer, response_if, handle_response_in}
 use Rattle.spec_endpoint.specs.ResetRequests as requests
-use Rattle.proof_delivery.specs.Asks.{Ask, named_in, IsRequestOf, IsAsking}
+use Rattle.proof_delivery.specs.Asks.{ResetRequest, named_in, IsRequestOf, IsAsking}
 use Rattle.proof_delivery.specs.StreamEpochs.{StreamEpoch, are_named, opened_if, reopen}
 use Rattle.proof_delivery.proofs.AsksLemmas.{named_next}
 use Rattle.proof_delivery.proofs.ClaimLemmas.{AreSo}
 
 -- ---- the queue, or the requests
 
-module _ (first answered : ℕ) (asks : List Ask) where
+module _ (first answered : ℕ) (asks : List ResetRequest) where
   -- the same streams wait for the answer
   pub asking_stays : (q r : Queue) (rs : Requests) → AreSameAsked q r → IsAsking first answered asks q rs → IsAsking first answered asks r rs
   asking_stays q r rs same h = record {
@@ -83,28 +83,28 @@ module _ (first answered : ℕ) (asks : List Ask) where
       none_some : (o : Option Request) (c : Request) → o ≡ None → o ≡ Some c → ⊥
       none_some o c e f = cc
 
-  pub asking_woken : (q : Queue) (r : Requests) → IsAsking first answered asks q r → IsAsking first answered asks q (wake_request r)
+  pub asking_woken : (q : Queue) (r : Requests) → IsAsking first answered asks q r → IsAsking first answered asks q (clear_deferral r)
   asking_woken q r h = by r.current refl
     where
-      by : (o : Option Request) → r.current ≡ o → IsAsking first answered asks q (wake_request r)
-      by None e = asking_reads q r (wake_request r) refl (ap (option_map awake) e ∙ sym e) h
-      by (Some c) e = asking_again q r (wake_request r) c (awake c) refl e (ap (option_map awake) e) refl refl refl h
+      by : (o : Option Request) → r.current ≡ o → IsAsking first answered asks q (clear_deferral r)
+      by None e = asking_reads q r (clear_deferral r) refl (ap (option_map without_deferral) e ∙ sym e) h
+      by (Some c) e = asking_again q r (clear_deferral r) c (without_deferral c) refl e (ap (option_map without_deferral) e) refl refl refl h
 
   -- an answer that settles nothing
   pub asking_unsettled : (q : Queue) (now rto number result : ℕ) (r : Requests) → outcome number result r.current ≡ Unsettled → IsAsking first answered asks q r
-      → IsAsking first answered asks q (requests.answer_request now rto number result r)
+      → IsAsking first answered asks q (requests.handle_response now rto number result r)
   asking_unsettled q now rto number result r settles h = by r.current refl settles
     where
-      by_result : (c : Request) → r.current ≡ Some c → (s f : Bool) → outcome_by s f c.streams ≡ Unsettled → IsAsking first answered asks q (answered_by f now rto c r)
+      by_result : (c : Request) → r.current ≡ Some c → (s f : Bool) → outcome_by s f c.streams ≡ Unsettled → IsAsking first answered asks q (end_or_defer f now rto c r)
       by_result c e true f u = cc
       by_result c e false true u = cc
-      by_result c e false false u = asking_again q r (put_off now rto c r) c (record c { is_deferred = true }) refl e refl refl refl refl h
+      by_result c e false false u = asking_again q r (defer_request now rto c r) c (record c { is_deferred = true }) refl e refl refl refl refl h
 
-      by_number : (c : Request) → r.current ≡ Some c → (b : Bool) → outcome_if b result c.streams ≡ Unsettled → IsAsking first answered asks q (answered_if b now rto result c r)
+      by_number : (c : Request) → r.current ≡ Some c → (b : Bool) → outcome_if b result c.streams ≡ Unsettled → IsAsking first answered asks q (response_if b now rto result c r)
       by_number c e true u = by_result c e (is_success result) (is_final result) u
       by_number c e false u = h
 
-      by : (o : Option Request) → r.current ≡ o → outcome number result o ≡ Unsettled → IsAsking first answered asks q (answered_in o now rto number result r)
+      by : (o : Option Request) → r.current ≡ o → outcome number result o ≡ Unsettled → IsAsking first answered asks q (handle_response_in o now rto number result r)
       by None e u = h
       by (Some c) e u = by_number c e (c.number == number) u
 
@@ -117,25 +117,25 @@ module _ (now rto number result : ℕ) (streams : List ℕ) (r : Requests) where
   success_final : is_success result ≡ true → is_final result ≡ false → ⊥
   success_final s f = grind (arith, nat_tests, s, f)
 
-  ends_by : (c : Request) (s f : Bool) → is_success result ≡ s → is_final result ≡ f → outcome_by s f c.streams ≡ Done streams → Ends (answered_by f now rto c r)
+  ends_by : (c : Request) (s f : Bool) → is_success result ≡ s → is_final result ≡ f → outcome_by s f c.streams ≡ Done streams → Ends (end_or_defer f now rto c r)
   ends_by c s true a b e = record { next = refl; none = refl }
   ends_by c true false a b e = absurd (success_final a b)
   ends_by c false false a b e = cc
 
-  ends_if : (c : Request) (b : Bool) → outcome_if b result c.streams ≡ Done streams → Ends (answered_if b now rto result c r)
+  ends_if : (c : Request) (b : Bool) → outcome_if b result c.streams ≡ Done streams → Ends (response_if b now rto result c r)
   ends_if c true e = ends_by c (is_success result) (is_final result) refl refl e
   ends_if c false e = cc
 
-  ends_in : (o : Option Request) → outcome number result o ≡ Done streams → Ends (answered_in o now rto number result r)
+  ends_in : (o : Option Request) → outcome number result o ≡ Done streams → Ends (handle_response_in o now rto number result r)
   ends_in None e = cc
   ends_in (Some c) e = ends_if c (c.number == number) e
 
-  pub done_ends : outcome number result r.current ≡ Done streams → ((requests.answer_request now rto number result r).next ≡ r.next) × ((requests.answer_request now rto number result r).current ≡ None)
+  pub done_ends : outcome number result r.current ≡ Done streams → ((requests.handle_response now rto number result r).next ≡ r.next) × ((requests.handle_response now rto number result r).current ≡ None)
   done_ends e = let z = ends_in r.current e in (z.next, z.none)
 
 -- ---- how often a stream is named
 
-named_up : (s m n : ℕ) (asks : List Ask) → m ≤ n → named_in s m asks ≤ named_in s n asks
+named_up : (s m n : ℕ) (asks : List ResetRequest) → m ≤ n → named_in s m asks ≤ named_in s n asks
 named_up s zero n asks l = omega arith
 named_up s (suc m) zero asks l = absurd (omega (arith, l))
 named_up s (suc m) (suc n) [] l = omega arith
@@ -146,7 +146,7 @@ named_up s (suc m) (suc n) (a ∷ asks) l = by (has s a.streams) (named_in s m a
     by false i j l = l
 
 -- once more, from an ask that names it on
-pub named_later : (s n m : ℕ) (asks : List Ask) (a : Ask) → slice_get asks n ≡ Some a → has s a.streams ≡ true → n < m → named_in s n asks < named_in s m asks
+pub named_later : (s n m : ℕ) (asks : List ResetRequest) (a : ResetRequest) → slice_get asks n ≡ Some a → has s a.streams ≡ true → n < m → named_in s n asks < named_in s m asks
 named_later s n m asks a there named l =
     let one : named_in s (suc n) asks ≡ suc (named_in s n asks) = named_next s n asks a there ∙ ap (λ (b : Bool). cond b (suc (named_in s n asks)) (named_in s n asks)) named in
     let up = named_up s (suc n) m asks (omega (arith, l)) in

@@ -3,12 +3,12 @@ use Rattle.std.proofs.Common.{◌≡◌, ℕ, Bool, Option, List, [], refl, sym,
 use Rattle.sctp_packet.specs.Chunk.{re_config_chunk}
 use Rattle.sctp_tx_queue.specs.declared.send_queue.stream.ResetStep.TheVariants.{Requested}
 use Rattle.sctp_tx_queue.specs.SendQueue.{Queue}
-use Rattle.sctp_tx_queue.specs.Resets.{each_stepped, requested_streams, request_resets}
+use Rattle.sctp_tx_queue.specs.Resets.{each_stepped, streams_to_request, request_resets}
 use Rattle.proof_protocol.specs.State.{Message, count}
 use Rattle.spec_endpoint.specs.Association.{CookieEchoed, CookieWait}
 use Rattle.spec_endpoint.specs.Sack.{timed_by}
-use Rattle.spec_endpoint.specs.ResetRequests.{wake_request}
-use Rattle.spec_endpoint.specs.Sending.{selective_ack, ask_for_sack, count_sack_sent}
+use Rattle.spec_endpoint.specs.ResetRequests.{clear_deferral}
+use Rattle.spec_endpoint.specs.Sending.{selective_ack, take_due_ack, without_duplicates}
 use Rattle.spec_endpoint.specs.Laws.{Call}
 use Rattle.proof_endpoint.specs.Mapped.{Carried}
 use Rattle.sctp_rx.specs.DataTracker.{ack_timeout}
@@ -17,14 +17,14 @@ use Rattle.proof_pair.proofs.JoinActsLemmas.{Setting, InvAt}
 use Rattle.proof_delivery.proofs.ClaimLemmas.{Direction, transfer_of, SendsIn, SenderGoes, SenderPremises}
 use Rattle.proof_delivery.proofs.FrameLemmas.{IsReceivedReset, KeepsJoined}
 use Rattle.proof_delivery.proofs.SenderAsksLemmas.{asking_reads, asking_woken}
-use Rattle.proof_delivery.proofs.SenderLightLemmas.{emits_nothing, responses_ask_nothing, goes_through, goes_same, goes_saying, goes_adding, goes_open, light_packet, light_closing, light_data_act, light_call_act, light_defers, light_performs, light_processes, light_input_act}
-use Rattle.proof_delivery.proofs.SenderHeavyLemmas.{expires_keeps, times_out_keeps, adds_forward_keeps, sends_keeps, sends_fast_keeps, takes_sack_keeps}
+use Rattle.proof_delivery.proofs.SenderStaysLemmas.{emits_nothing, responses_ask_nothing, goes_through, goes_same, goes_saying, goes_adding, goes_open, packet_act_goes, closing_act_goes, data_act_goes, call_act_goes, defers_goes, performs_goes, processes_goes, input_act_goes}
+use Rattle.proof_delivery.proofs.SenderMovesLemmas.{expires_keeps, times_out_keeps, adds_forward_keeps, sends_keeps, sends_fast_keeps, takes_sack_keeps}
 use Rattle.proof_delivery.proofs.SenderResetLemmas.{asks_reset_keeps, adds_request_keeps, takes_response_keeps}
-use Rattle.proof_delivery.proofs.SenderOpeningLemmas.{light_opening}
+use Rattle.proof_delivery.proofs.SenderOpeningLemmas.{opening_act_goes}
 
 module _ (message : ℕ → Message) (lifecycle : ℕ → Option ℕ) (is_interleaved : Bool) (from : Direction) where
   -- no stream is ready
-  goes_unasked : (most : ℕ) (m : EndWithPacket Carried) → requested_streams most m.context.queue ≡ []
+  goes_unasked : (most : ℕ) (m : EndWithPacket Carried) → streams_to_request most m.context.queue ≡ []
       → SenderGoes message lifecycle is_interleaved from m (with_context (record m.context { queue = request_resets most m.context.queue }) m)
   goes_unasked most m none =
       let q : Queue = m.context.queue in
@@ -41,11 +41,11 @@ module _ (message : ℕ → Message) (lifecycle : ℕ → Option ℕ) (is_interl
 
     keeps_sending : (act : SendingAct Carried call) → InvAt g (before_sending act) → InvAt g (after_sending act)
         → SenderGoes message lifecycle is_interleaved from (before_sending act) (after_sending act)
-    keeps_sending (asks also_if_delayed phase t m) inv later = goes_open message lifecycle is_interleaved from phase phase t (ask_for_sack also_if_delayed t) m refl refl refl (λ x h. h)
+    keeps_sending (asks also_if_delayed phase t m) inv later = goes_open message lifecycle is_interleaved from phase phase t (take_due_ack also_if_delayed t) m refl refl refl (λ x h. h)
     keeps_sending (adds_ack phase t m) inv later =
-        goes_through message lifecycle is_interleaved from (in_open phase t m) (in_open phase (count_sack_sent t) m) (with_chunk (selective_ack t) (in_open phase (count_sack_sent t) m))
-        (goes_open message lifecycle is_interleaved from phase phase t (count_sack_sent t) m refl refl refl (λ x h. h))
-        (goes_adding message lifecycle is_interleaved from (in_open phase (count_sack_sent t) m) (selective_ack t) (λ first least most x. tt))
+        goes_through message lifecycle is_interleaved from (in_open phase t m) (in_open phase (without_duplicates t) m) (with_chunk (selective_ack t) (in_open phase (without_duplicates t) m))
+        (goes_open message lifecycle is_interleaved from phase phase t (without_duplicates t) m refl refl refl (λ x h. h))
+        (goes_adding message lifecycle is_interleaved from (in_open phase (without_duplicates t) m) (selective_ack t) (λ first least most x. tt))
     keeps_sending (expires phase t m) inv later = expires_keeps message lifecycle is_interleaved from call phase t m
     keeps_sending (adds_forward phase t m due) inv later = adds_forward_keeps message lifecycle is_interleaved from call p.kept phase t m due
     keeps_sending (forwards_later n m) inv later =
@@ -71,14 +71,14 @@ module _ (message : ℕ → Message) (lifecycle : ℕ → Option ℕ) (is_interl
         goes_open message lifecycle is_interleaved from phase phase t (record t { requests = record t.requests { timer = timer } }) m refl refl refl
         (λ x h. asking_reads t.identity.my_first x.answered x.asks m.context.queue t.requests (record t.requests { timer = timer }) refl refl h)
     keeps_time (wakes_request phase t m) inv later =
-        goes_open message lifecycle is_interleaved from phase phase t (record t { requests = wake_request t.requests }) m refl refl refl
+        goes_open message lifecycle is_interleaved from phase phase t (record t { requests = clear_deferral t.requests }) m refl refl refl
         (λ x h. asking_woken t.identity.my_first x.answered x.asks m.context.queue t.requests h)
 
     keeps_reset : (act : ResetAct Carried call) → IsReceivedReset act → InvAt g (before_reset act) → SenderGoes message lifecycle is_interleaved from (before_reset act) (after_reset act)
     keeps_reset (prepares stream phase t m asked can) on inv = absurd on
-    keeps_reset (defers number response last_tsn streams phase t m asked known ahead) on inv = light_defers message lifecycle is_interleaved from phase t m number last_tsn.0 streams
-    keeps_reset (performs number response last_tsn streams phase t m asked known there) on inv = light_performs message lifecycle is_interleaved from phase t m number streams
-    keeps_reset (processes number streams phase t m asked known) on inv = light_processes message lifecycle is_interleaved from phase t m number
+    keeps_reset (defers number response last_tsn streams phase t m asked known ahead) on inv = defers_goes message lifecycle is_interleaved from phase t m number last_tsn.0 streams
+    keeps_reset (performs number response last_tsn streams phase t m asked known there) on inv = performs_goes message lifecycle is_interleaved from phase t m number streams
+    keeps_reset (processes number streams phase t m asked known) on inv = processes_goes message lifecycle is_interleaved from phase t m number
     keeps_reset (takes_response rto number result sender receiver phase t m asked) on inv =
         takes_response_keeps message lifecycle is_interleaved from g call p rto number result sender receiver phase t m asked inv
     keeps_reset (adds_responses responses phase t m are answers) on inv =
@@ -89,14 +89,14 @@ module _ (message : ℕ → Message) (lifecycle : ℕ → Option ℕ) (is_interl
     sender_keeps = record {
       same = λ m prepared x claim. (x, claim);
       through = λ {a} {b} {c}. goes_through message lifecycle is_interleaved from a b c;
-      packets = λ act inv later. light_packet message lifecycle is_interleaved from g act inv;
-      opening = light_opening message lifecycle is_interleaved from g call p;
-      closing = λ act on inv later. light_closing message lifecycle is_interleaved from act on;
-      data_acts = λ act inv later. light_data_act message lifecycle is_interleaved from act;
+      packets = λ act inv later. packet_act_goes message lifecycle is_interleaved from g act inv;
+      opening = opening_act_goes message lifecycle is_interleaved from g call p;
+      closing = λ act on inv later. closing_act_goes message lifecycle is_interleaved from act on;
+      data_acts = λ act inv later. data_act_goes message lifecycle is_interleaved from act;
       acknowledging = keeps_sack;
       sending = keeps_sending;
       time = keeps_time;
-      calls = λ act on inv later. light_call_act message lifecycle is_interleaved from act on;
+      calls = λ act on inv later. call_act_goes message lifecycle is_interleaved from act on;
       resets = λ act on inv later. keeps_reset act on inv;
-      input = λ act inv later. light_input_act message lifecycle is_interleaved from act;
+      input = λ act inv later. input_act_goes message lifecycle is_interleaved from act;
     }

@@ -19,7 +19,7 @@ use Rattle.proof_protocol.specs.State as rules
 use Rattle.proof_protocol.specs.State.{Message, ForwardPoint, IsAmong, count}
 use Rattle.proof_tx_refines.specs.Refinement.{SenderRefines}
 use Rattle.proof_tx_refines.specs.Following.{FollowsEpochs}
-use Rattle.proof_tx_refines.specs.Led.{recorded_places, delivered_ids}
+use Rattle.proof_tx_refines.specs.Reachable.{recorded_places, delivered_ids}
 use Rattle.proof_tx_refines.specs.Rows.{waiting}
 use Rattle.proof_tx_refines.proofs.AskedLemmas.{calls_keep_asked}
 use Rattle.proof_tx_refines.proofs.FollowLemmas.{all_flow, beginning_follows}
@@ -28,20 +28,20 @@ use Rattle.proof_tx_refines.proofs.SackLemmas.{delivered_more}
 use Rattle.proof_tx_refines.proofs.WholeLemmas.{shown_again}
 use Rattle.spec_endpoint.specs.Association.{Identity, Tcb, tcb, Phase, CookieEchoed, Established, State, Closed, CookieWait, Open}
 use Rattle.spec_endpoint.specs.ResetRequests.{requests}
-use Rattle.spec_endpoint.specs.Opening.{long_word, t1_cookie, names, agreed_by, identity_of, queue_if, other_mode, connected_context}
+use Rattle.spec_endpoint.specs.Opening.{long_word, t1_cookie, identity_of_init_ack, agreed_by, identity_of, queue_if, other_mode, enter_connected}
 use Rattle.spec_endpoint.specs.Laws.{Call}
 use Rattle.proof_endpoint.specs.Mapped.{Carried}
-use Rattle.proof_endpoint.specs.Acts.{EndWithPacket, end_of, in_open, in_state, with_context, drew_one, drew_two, echoing, opened_by, is_opened, OpeningAct, connects, adds_init, answers_new, answers_waiting, answers_echoed, answers_again, echoes, adds_cookie, establishes, opens, restarts, opens_again, maintains, adds_cookie_ack, before_opening, after_opening}
+use Rattle.proof_endpoint.specs.Acts.{EndWithPacket, end_of, in_open, in_state, with_context, drew_one, drew_two, echo_step, opened_by, is_opened, OpeningAct, connects, adds_init, answers_new, answers_waiting, answers_echoed, answers_again, echoes, adds_cookie, establishes, opens, restarts, opens_again, maintains, adds_cookie_ack, before_opening, after_opening}
 use Rattle.proof_pair.specs.Trace.{packets_in}
 use Rattle.proof_pair.proofs.JoinActsLemmas.{Setting, InvAt, packets_both}
-use Rattle.proof_delivery.specs.Asks.{Ask, SaysOutgoing, IsAsking}
+use Rattle.proof_delivery.specs.Asks.{ResetRequest, SaysOutgoing, IsAsking}
 use Rattle.proof_delivery.proofs.ClaimLemmas.{Direction, transfer_of, IsKept, SaysData, SaysPoint, SaysOut, first_out, IsWaiting, IsSending, SendsIn, SenderGoes, SenderPremises}
 use Rattle.proof_delivery.proofs.FrameLemmas.{Lasts}
 use Rattle.proof_delivery.proofs.FlowLemmas.{room_at_first}
 use Rattle.proof_delivery.proofs.ResetEventsLemmas.{resets_in, none_behind}
 use Rattle.proof_delivery.proofs.SenderToolLemmas.{reports_none, reports_then, no_answer, emits_no_answer, SaysAll, SaysPackets}
 use Rattle.proof_delivery.proofs.SenderAsksLemmas.{asking_stays}
-use Rattle.proof_delivery.proofs.SenderLightLemmas.{emits_nothing, goes_through, goes_same, goes_adding}
+use Rattle.proof_delivery.proofs.SenderStaysLemmas.{emits_nothing, goes_through, goes_same, goes_adding}
 use Rattle.proof_delivery.proofs.WithinLemmas.{none_numbered}
 
 -- ---- what waits is taken up by a new sender
@@ -120,7 +120,7 @@ module _ (message : ℕ → Message) (lifecycle : ℕ → Option ℕ) (is_interl
   point_none : (x : Direction) (q : Queue) (first least : ℕ) (chunk : ChunkTree) → IsWaiting message lifecycle is_interleaved q x → SaysPoint is_interleaved first least (transfer_of x) chunk → ⊥
   point_none x q first least chunk h s = subst (λ (fs : List ForwardPoint). IsAmong s.point fs) h.no_points s.sent
 
-  no_ask : (asks : List Ask) (at : ℕ) (a : Ask) → asks ≡ [] → slice_get asks at ≡ Some a → ⊥
+  no_ask : (asks : List ResetRequest) (at : ℕ) (a : ResetRequest) → asks ≡ [] → slice_get asks at ≡ Some a → ⊥
   no_ask [] at a e f = cc
   no_ask (b ∷ asks) at a e f = cc
 
@@ -211,9 +211,9 @@ module _ (message : ℕ → Message) (lifecycle : ℕ → Option ℕ) (is_interl
 
   -- the cookie was answered
   goes_late : (t1 : Timer) (cookie : List ℕ) (t : Tcb) (m : EndWithPacket Carried)
-      → SenderGoes message lifecycle is_interleaved from (in_open (CookieEchoed t1 cookie) t m) (in_open Established t (with_context (connected_context m.context) m))
+      → SenderGoes message lifecycle is_interleaved from (in_open (CookieEchoed t1 cookie) t m) (in_open Established t (with_context (enter_connected m.context) m))
   goes_late t1 cookie t m =
-      goes_same message lifecycle is_interleaved from (in_open (CookieEchoed t1 cookie) t m) (in_open Established t (with_context (connected_context m.context) m)) (λ x h. h) refl refl
+      goes_same message lifecycle is_interleaved from (in_open (CookieEchoed t1 cookie) t m) (in_open Established t (with_context (enter_connected m.context) m)) (λ x h. h) refl refl
       (emitted_connected m.context.emitted.events) (none_delivered m.context.emitted.events)
       (no_answer m.context.emitted.events (m.context.emitted.events ++ OnConnected ∷ []) (none_reset m.context.emitted.events)) refl
 
@@ -226,11 +226,11 @@ module _ (message : ℕ → Message) (lifecycle : ℕ → Option ℕ) (is_interl
     same_mode k e = p.mode ∙ sym (ap (λ (z : Capabilities). z.message_interleaving) e)
 
     goes_echoing : (i : InitTree) (cookie : List ℕ) (my_tag first : ℕ) (t1 : Timer) (m : EndWithPacket Carried) → InvAt g (in_state (CookieWait my_tag first t1) m)
-        → InvAt g (echoing i cookie my_tag first m) → SenderGoes message lifecycle is_interleaved from (in_state (CookieWait my_tag first t1) m) (echoing i cookie my_tag first m)
+        → InvAt g (echo_step i cookie my_tag first m) → SenderGoes message lifecycle is_interleaved from (in_state (CookieWait my_tag first t1) m) (echo_step i cookie my_tag first m)
     goes_echoing i cookie my_tag first t1 m inv later =
         let k : Capabilities = agreed_by m.context.options i in
-        goes_opening (in_state (CookieWait my_tag first t1) m) (echoing i cookie my_tag first m) (CookieEchoed (t1_cookie m.context) cookie) m.context.options
-        (names i my_tag first (long_word (end_of m))) i.a_rwnd k (reset m.context.queue) refl refl refl (least_mtu m.context.options inv.size inv.options)
+        goes_opening (in_state (CookieWait my_tag first t1) m) (echo_step i cookie my_tag first m) (CookieEchoed (t1_cookie m.context) cookie) m.context.options
+        (identity_of_init_ack i my_tag first (long_word (end_of m))) i.a_rwnd k (reset m.context.queue) refl refl refl (least_mtu m.context.options inv.size inv.options)
         later.stands.draw.first
         (same_mode k later.stands.can) (λ x h. waiting_anew message lifecycle is_interleaved x m.context.queue h) refl refl refl refl refl
 
@@ -243,30 +243,30 @@ module _ (message : ℕ → Message) (lifecycle : ℕ → Option ℕ) (is_interl
         (λ x h. waiting_if message lifecycle is_interleaved anew x m.context.queue h) refl
         (emitted_connected m.context.emitted.events) (none_delivered m.context.emitted.events) (none_reset m.context.emitted.events) refl
 
-    pub light_opening : (act : OpeningAct Carried call) → Lasts act → InvAt g (before_opening act) → InvAt g (after_opening act)
+    pub opening_act_goes : (act : OpeningAct Carried call) → Lasts act → InvAt g (before_opening act) → InvAt g (after_opening act)
         → SenderGoes message lifecycle is_interleaved from (before_opening act) (after_opening act)
-    light_opening (connects m is) on inv later =
+    opening_act_goes (connects m is) on inv later =
         goes_same message lifecycle is_interleaved from (in_state Closed m) (after_opening {call = call} (connects m is)) (λ x h. h) refl refl refl refl (emits_nothing m.context.emitted.events) refl
-    light_opening (adds_init tag first t1 m to) on inv later = goes_adding message lifecycle is_interleaved from (in_state (CookieWait tag first t1) m) _ (λ first least most x. tt)
-    light_opening (answers_new tag i m received to) on inv later =
+    opening_act_goes (adds_init tag first t1 m to) on inv later = goes_adding message lifecycle is_interleaved from (in_state (CookieWait tag first t1) m) _ (λ first least most x. tt)
+    opening_act_goes (answers_new tag i m received to) on inv later =
         goes_through message lifecycle is_interleaved from (in_state Closed m) (in_state Closed (drew_two m)) (after_opening {call = call} (answers_new tag i m received to))
         (goes_same message lifecycle is_interleaved from (in_state Closed m) (in_state Closed (drew_two m)) (λ x h. h) refl refl refl refl (emits_nothing m.context.emitted.events) refl)
         (goes_adding message lifecycle is_interleaved from (in_state Closed (drew_two m)) _ (λ first least most x. tt))
-    light_opening (answers_waiting tag i own first t1 m received to) on inv later =
+    opening_act_goes (answers_waiting tag i own first t1 m received to) on inv later =
         goes_adding message lifecycle is_interleaved from (in_state (CookieWait own first t1) m) _ (λ first least most x. tt)
-    light_opening (answers_echoed tag i t1 cookie t m received to) on inv later =
+    opening_act_goes (answers_echoed tag i t1 cookie t m received to) on inv later =
         goes_adding message lifecycle is_interleaved from (in_open (CookieEchoed t1 cookie) t m) _ (λ first least most x. tt)
-    light_opening (answers_again tag i phase t m received late to) on inv later =
+    opening_act_goes (answers_again tag i phase t m received late to) on inv later =
         goes_through message lifecycle is_interleaved from (in_open phase t m) (in_open phase t (drew_one m)) (after_opening {call = call} (answers_again tag i phase t m received late to))
         (goes_same message lifecycle is_interleaved from (in_open phase t m) (in_open phase t (drew_one m)) (λ x h. h) refl refl refl refl (emits_nothing m.context.emitted.events) refl)
         (goes_adding message lifecycle is_interleaved from (in_open phase t (drew_one m)) _ (λ first least most x. tt))
-    light_opening (echoes tag i cookie own first t1 m received brought) on inv later = goes_echoing i cookie own first t1 m inv later
-    light_opening (adds_cookie t1 cookie t m to) on inv later =
+    opening_act_goes (echoes tag i cookie own first t1 m received brought) on inv later = goes_echoing i cookie own first t1 m inv later
+    opening_act_goes (adds_cookie t1 cookie t m to) on inv later =
         goes_adding message lifecycle is_interleaved from (in_open (CookieEchoed t1 cookie) t m) (cookie_echo_chunk cookie) (λ first least most x. tt)
-    light_opening (establishes tag t1 cookie t m received) on inv later = goes_late t1 cookie t m
-    light_opening (opens tag c m received closed own) on inv later = goes_opened c m closed inv later
-    light_opening (restarts tag c phase t m received verdict) on inv later = absurd on
-    light_opening (opens_again tag c phase t m received verdict) on inv later = absurd on
-    light_opening (maintains tag c t1 cookie t m received verdict) on inv later = goes_late t1 cookie t m
-    light_opening (adds_cookie_ack tag back phase t m echoed late) on inv later =
+    opening_act_goes (establishes tag t1 cookie t m received) on inv later = goes_late t1 cookie t m
+    opening_act_goes (opens tag c m received closed own) on inv later = goes_opened c m closed inv later
+    opening_act_goes (restarts tag c phase t m received verdict) on inv later = absurd on
+    opening_act_goes (opens_again tag c phase t m received verdict) on inv later = absurd on
+    opening_act_goes (maintains tag c t1 cookie t m received verdict) on inv later = goes_late t1 cookie t m
+    opening_act_goes (adds_cookie_ack tag back phase t m echoed late) on inv later =
         goes_adding message lifecycle is_interleaved from (in_open phase t m) cookie_ack_chunk (λ first least most x. tt)

@@ -7,28 +7,28 @@ use Rattle.std.proofs.lemmas.Bool.{cases_eq, eq-eqb, ne_eqb}
 use Rattle.std.proofs.lemmas.List.Elements.{All-nil, All-cons}
 use Rattle.std.proofs.lemmas.List.Folds.{list_all-append}
 use Rattle.std.proofs.lemmas.Option.{same_Some, slice_get_within}
-use Rattle.sctp_serial.specs.Unwrapped.{origin, words, wire}
+use Rattle.sctp_serial.specs.Unwrapped.{origin, u32_space, wire}
 use Rattle.sctp_serial.specs.declared.types.tsn.Tsn.{Tsn}
 use Rattle.sctp_wire.specs.Parameter.{ParameterTree, outgoing_reset_request, reset_response}
-use Rattle.sctp_state.specs.Events.{Event, OnStreamsResetPerformed, Emitted, emit_events, give_up, expiry}
+use Rattle.sctp_state.specs.Events.{Event, OnStreamsResetPerformed, Emitted, emit_events, emit_given_up, expired_events}
 use Rattle.sctp_state.specs.RetransmissionTimeout as rtt
 use Rattle.sctp_state.specs.declared.api.GivenUpCause.TheVariants.{Reset}
 use Rattle.sctp_tx_queue.specs.declared.send_queue.stream.PauseState.{PauseState}
 use Rattle.sctp_tx_queue.specs.declared.send_queue.stream.PauseState.TheVariants.{NotPaused, Pending, Paused, Resetting}
 use Rattle.sctp_tx_queue.specs.SendQueue.{Queue, Queued, stream}
-use Rattle.sctp_tx_queue.specs.Resets.{is_partly, emitted_waiting, prepare_reset, requested_streams, request_resets, commit_resets}
+use Rattle.sctp_tx_queue.specs.Resets.{is_partly, emit_unsent, prepare_reset, streams_to_request, request_resets, commit_resets}
 use Rattle.sctp_tx_outstanding.specs.OutstandingData.{begin_reset}
 use Rattle.proof_protocol.specs.State.{Message, Transfer, IsAmong, has, count}
-use Rattle.proof_protocol.specs.Rules.{Rule as RuleEvent}
+use Rattle.proof_protocol.specs.Rules.{TransferEvent as RuleEvent}
 use Rattle.proof_protocol.specs.Resets.{Epochs, transfers, restarts, send_request, commit, MayAll, go_all}
 use Rattle.proof_protocol.proofs.ToolsLemmas.{not_both, has_from}
 use Rattle.proof_protocol.proofs.CommonLemmas.{get_last}
 use Rattle.proof_tx_refines.specs.Refinement.{SenderRefines}
 use Rattle.proof_tx_refines.specs.Asked.{Raises, AreRequested}
 use Rattle.proof_tx_refines.specs.Following.{FollowsEpochs}
-use Rattle.proof_tx_refines.specs.Led.{is_sending, given_ups, recorded_places, delivered_ids}
-use Rattle.proof_tx_refines.specs.Pauses.{IsPausedAs, unsent_of, give_ups, opens_next, prepare_events}
-use Rattle.proof_tx_refines.specs.Rows.{restart}
+use Rattle.proof_tx_refines.specs.Reachable.{is_sending, given_up_places, recorded_places, delivered_ids}
+use Rattle.proof_tx_refines.specs.Pauses.{IsPausedAs, unsent_of, give_up_rules, opens_next, prepare_events}
+use Rattle.proof_tx_refines.specs.Rows.{restart_numbers}
 use Rattle.proof_tx_refines.proofs.AskedLemmas.{prepare_asked, each_asked, requested_asked, answered_open}
 use Rattle.proof_tx_refines.proofs.BreakLemmas.{next_counted}
 use Rattle.proof_tx_refines.proofs.FollowLemmas.{preparing_follows, requesting_follows, answering_follows}
@@ -37,17 +37,17 @@ use Rattle.proof_tx_refines.proofs.RecordedLemmas.{prepares_lead}
 use Rattle.proof_tx_refines.proofs.ResetLemmas.{commits_row}
 use Rattle.proof_tx_refines.proofs.SackLemmas.{delivered_more}
 use Rattle.spec_endpoint.specs.Association.{Tcb, Phase}
-use Rattle.spec_endpoint.specs.ResetRequests.{Request, Requests, Outcome, Done, ids, after, request_chunk, start_request, outcome, answer_request, is_final}
+use Rattle.spec_endpoint.specs.ResetRequests.{Request, Requests, Outcome, Done, ids, next_number, request_chunk, start_request, outcome, handle_response, is_final}
 use Rattle.spec_endpoint.specs.StreamReset as resets
 use Rattle.spec_endpoint.specs.StreamReset.{on_outcome}
-use Rattle.spec_endpoint.specs.Sending.{last_assigned, begin_burst, request_started}
+use Rattle.spec_endpoint.specs.Sending.{last_assigned, add_reset_breakpoint, request_started}
 use Rattle.spec_endpoint.specs.Laws.{Call}
 use Rattle.proof_endpoint.specs.Mapped.{Carried}
 use Rattle.proof_endpoint.specs.Acts.{EndWithPacket, in_open, with_context, with_chunk, IsAsked}
 use Rattle.proof_pair.specs.Trace.{packets_in}
 use Rattle.proof_pair.proofs.JoinActsLemmas.{Setting, InvAt, packets_both}
 use Rattle.proof_pair.proofs.EmittedLemmas.{emits_prepared}
-use Rattle.proof_delivery.specs.Asks.{Ask, SaysOutgoing, SaysDone, number_of, last_tsn_of, IsRequestOf, IsAsking, NoneCurrent}
+use Rattle.proof_delivery.specs.Asks.{ResetRequest, SaysOutgoing, SaysDone, number_of, last_tsn_of, IsRequestOf, IsAsking, NoneCurrent}
 use Rattle.proof_delivery.specs.StreamEpochs.{StreamEpoch, are_named, shut_if, shut_streams, reopen, performed_of}
 use Rattle.proof_delivery.proofs.AnswersLemmas.{number_after, response_settles}
 use Rattle.proof_delivery.proofs.AsksLemmas.{ask_is_sent, ask_is_answered}
@@ -55,27 +55,27 @@ use Rattle.proof_delivery.proofs.ClaimLemmas.{Direction, transfer_of, of_transfe
 use Rattle.proof_delivery.proofs.ReadingSackLemmas.{answer_is_received}
 use Rattle.proof_delivery.proofs.ResetEventsLemmas.{resets_prepared, performed_both, named_both, none_failed_both}
 use Rattle.proof_delivery.proofs.SenderAsksLemmas.{asking_stays, asking_unsettled, done_ends, named_later, named_more, so_opened}
-use Rattle.proof_delivery.proofs.SenderLightLemmas.{emits_nothing, goes_saying, goes_open}
+use Rattle.proof_delivery.proofs.SenderStaysLemmas.{emits_nothing, goes_saying, goes_open}
 use Rattle.proof_delivery.proofs.SenderToolLemmas.{transfer_more, of_transfers, all_transfers, goes_grows, same_packets, reports_none, asked_still, EmitsNoAnswer, no_answer, emits_no_answer, step_claims}
 
 -- ---- a stream is prepared
 
 -- what is emitted of the messages that are given up is no report
-waiting_reports : (ms : List Queued) (t : Emitted Carried) → delivered_ids (emitted_waiting ms t).events ≡ delivered_ids t.events
+waiting_reports : (ms : List Queued) (t : Emitted Carried) → delivered_ids (emit_unsent ms t).events ≡ delivered_ids t.events
 waiting_reports [] t = refl
 waiting_reports (m ∷ ms) t = go (is_partly m) (waiting_reports ms)
   where
     said : Emitted Carried
-    said = emit_events (expiry m.lifecycle) (give_up m.number Reset t)
+    said = emit_events (expired_events m.lifecycle) (emit_given_up m.number Reset t)
 
-    none : (l : Option ℕ) → delivered_ids (expiry {P = Carried} l) ≡ []
+    none : (l : Option ℕ) → delivered_ids (expired_events {P = Carried} l) ≡ []
     none None = refl
     none (Some id) = refl
 
-    go : (b : Bool) → ((u : Emitted Carried) → delivered_ids (emitted_waiting ms u).events ≡ delivered_ids u.events)
-        → (let u : Emitted Carried = cond b t said in delivered_ids (emitted_waiting ms u).events) ≡ delivered_ids t.events
+    go : (b : Bool) → ((u : Emitted Carried) → delivered_ids (emit_unsent ms u).events ≡ delivered_ids u.events)
+        → (let u : Emitted Carried = cond b t said in delivered_ids (emit_unsent ms u).events) ≡ delivered_ids t.events
     go true ih = ih t
-    go false ih = ih said ∙ (delivered_more t.events (expiry m.lifecycle) ∙ (ap (λ (ids : List ℕ). delivered_ids t.events ++ ids) (none m.lifecycle) ∙ append-nil (delivered_ids t.events)))
+    go false ih = ih said ∙ (delivered_more t.events (expired_events m.lifecycle) ∙ (ap (λ (ids : List ℕ). delivered_ids t.events ++ ids) (none m.lifecycle) ∙ append-nil (delivered_ids t.events)))
 
 -- how its stream stands, where this is so of the epochs
 abbrev IsSo : StreamEpoch → (raised opened : ℕ) → Type 0
@@ -159,22 +159,22 @@ module _ (message : ℕ → Message) (lifecycle : ℕ → Option ℕ) (is_interl
   opens_alone Paused id = refl
   opens_alone Resetting id = refl
 
-  prepare_goes : (q : Queue) (id : ℕ) → list_all is_sending (give_ups (unsent_of q id)) ≡ true → list_all goes_out (prepare_events q id) ≡ true
+  prepare_goes : (q : Queue) (id : ℕ) → list_all is_sending (give_up_rules (unsent_of q id)) ≡ true → list_all goes_out (prepare_events q id) ≡ true
   prepare_goes q id sends =
-      list_all-append goes_out (map transfers (give_ups (unsent_of q id))) (opens_next (stream id q.streams).pause id)
-      ∙ (ap (λ (b : Bool). b && list_all goes_out (opens_next (stream id q.streams).pause id)) (all_transfers goes_out is_sending (λ e h. h) (give_ups (unsent_of q id)) sends)
+      list_all-append goes_out (map transfers (give_up_rules (unsent_of q id))) (opens_next (stream id q.streams).pause id)
+      ∙ (ap (λ (b : Bool). b && list_all goes_out (opens_next (stream id q.streams).pause id)) (all_transfers goes_out is_sending (λ e h. h) (give_up_rules (unsent_of q id)) sends)
       ∙ opens_goes (stream id q.streams).pause id)
 
-  prepare_gives : (q : Queue) (id : ℕ) → of_transfer (prepare_events q id) ≡ give_ups (unsent_of q id)
+  prepare_gives : (q : Queue) (id : ℕ) → of_transfer (prepare_events q id) ≡ give_up_rules (unsent_of q id)
   prepare_gives q id =
-      transfer_more (map transfers (give_ups (unsent_of q id))) (opens_next (stream id q.streams).pause id)
-      ∙ (ap (λ (es : List RuleEvent). es ++ of_transfer (opens_next (stream id q.streams).pause id)) (of_transfers (give_ups (unsent_of q id)))
-      ∙ (ap (λ (es : List RuleEvent). give_ups (unsent_of q id) ++ es) (opens_alone (stream id q.streams).pause id) ∙ append-nil (give_ups (unsent_of q id))))
+      transfer_more (map transfers (give_up_rules (unsent_of q id))) (opens_next (stream id q.streams).pause id)
+      ∙ (ap (λ (es : List RuleEvent). es ++ of_transfer (opens_next (stream id q.streams).pause id)) (of_transfers (give_up_rules (unsent_of q id)))
+      ∙ (ap (λ (es : List RuleEvent). give_up_rules (unsent_of q id) ++ es) (opens_alone (stream id q.streams).pause id) ∙ append-nil (give_up_rules (unsent_of q id))))
 
   -- where no answer was emitted in this action
   pub prepares_claims : (ids : List ℕ) (id : ℕ) (phase : Phase) (t : Tcb) (m : EndWithPacket Carried) (x : Direction) → performed_of m.context.emitted.events ≡ []
       → SenderClaim message lifecycle is_interleaved from ids (in_open phase t m) x
-      → (y : Direction) × SenderClaim message lifecycle is_interleaved from (ids ++ id ∷ []) (in_open phase t (with_context (resets.prepare_stream id m.context) m)) y
+      → (y : Direction) × SenderClaim message lifecycle is_interleaved from (ids ++ id ∷ []) (in_open phase t (with_context (resets.prepare_reset_stream id m.context) m)) y
   prepares_claims ids id phase t m x none a =
       let q = m.context.queue in
       let emitted = m.context.emitted in
@@ -187,7 +187,7 @@ module _ (message : ℕ → Message) (lifecycle : ℕ → Option ℕ) (is_interl
       let y : Direction = record x { rules = go_all message is_interleaved x.rules (prepare_events q id) } in
       let w : Raises x.rules y.rules q id = prepared_raises message is_interleaved x.rules q id in
       let leads : transfer_of y ≡ l.leads.after = z.transfer_is ∙ sym l.leads_to in
-      let sends : list_all is_sending (give_ups (unsent_of q id)) ≡ true = subst (λ (es : List RuleEvent). list_all is_sending es ≡ true) l.gives_up l.leads.leads.sends in
+      let sends : list_all is_sending (give_up_rules (unsent_of q id)) ≡ true = subst (λ (es : List RuleEvent). list_all is_sending es ≡ true) l.gives_up l.leads.leads.sends in
       let goes : GoesOn message is_interleaved goes_out x y = record {
         events = prepare_events q id;
         may = z.may;
@@ -199,10 +199,10 @@ module _ (message : ℕ → Message) (lifecycle : ℕ → Option ℕ) (is_interl
         done = omega arith;
         answered = omega arith;
       } in
-      let given : given_ups (of_transfer (prepare_events q id)) ≡ l.leads.places = ap given_ups (prepare_gives q id ∙ sym l.gives_up) ∙ l.leads.leads.given_up in
+      let given : given_up_places (of_transfer (prepare_events q id)) ≡ l.leads.places = ap given_up_places (prepare_gives q id ∙ sym l.gives_up) ∙ l.leads.leads.given_up in
       let quiet : EmitsNoAnswer emitted.events later.events = no_answer emitted.events later.events (resets_prepared id q emitted) in
       let counted = quiet.counted in
-      let b : EndWithPacket Carried = in_open phase t (with_context (resets.prepare_stream id m.context) m) in (
+      let b : EndWithPacket Carried = in_open phase t (with_context (resets.prepare_reset_stream id m.context) m) in (
         y,
         step_claims message lifecycle is_interleaved from ids (ids ++ id ∷ []) (in_open phase t m) b x y a (record {
           goes = goes;
@@ -234,8 +234,8 @@ module _ (message : ℕ → Message) (lifecycle : ℕ → Option ℕ) (is_interl
       )
 
   -- nor is any emitted then
-  pub prepared_answers : (id : ℕ) (m : EndWithPacket Carried) → performed_of m.context.emitted.events ≡ [] → performed_of (resets.prepare_stream id m.context).emitted.events ≡ []
-  prepared_answers id m none = (no_answer m.context.emitted.events (resets.prepare_stream id m.context).emitted.events (resets_prepared id m.context.queue m.context.emitted)).named ∙ none
+  pub prepared_answers : (id : ℕ) (m : EndWithPacket Carried) → performed_of m.context.emitted.events ≡ [] → performed_of (resets.prepare_reset_stream id m.context).emitted.events ≡ []
+  prepared_answers id m none = (no_answer m.context.emitted.events (resets.prepare_reset_stream id m.context).emitted.events (resets_prepared id m.context.queue m.context.emitted)).named ∙ none
 
   -- ---- a request
 
@@ -248,19 +248,19 @@ module _ (message : ℕ → Message) (lifecycle : ℕ → Option ℕ) (is_interl
   requests_alone (id ∷ ids) = requests_alone ids
 
   -- where none waits
-  unasked : (first answered : ℕ) (asks : List Ask) (q : Queue) (r : Requests) → IsAsking first answered asks q r → r.current ≡ None → (length asks ≡ answered) × NoneCurrent q r.current
+  unasked : (first answered : ℕ) (asks : List ResetRequest) (q : Queue) (r : Requests) → IsAsking first answered asks q r → r.current ≡ None → (length asks ≡ answered) × NoneCurrent q r.current
   unasked first answered asks q r h free = elim h.current [ inl n ↦ n | inr c ↦ absurd (none_some r.current c.1.request free c.1.is) ]
     where
       none_some : (o : Option Request) (c : Request) → o ≡ None → o ≡ Some c → ⊥
       none_some o c e f = cc
 
   -- the new one waits
-  asking_new : (first now rto last_tsn : ℕ) (asks : List Ask) (a : Ask) (q r : Queue) (rs : Requests) → rs.next ≡ number_of first (length asks) → NoneCurrent q rs.current → AreRequested q r a.streams
-      → last_tsn ≡ wire words first (origin + a.upto - 1) → IsAsking first (length asks) (asks ++ a ∷ []) r (start_request now rto last_tsn a.streams rs)
+  asking_new : (first now rto last_tsn : ℕ) (asks : List ResetRequest) (a : ResetRequest) (q r : Queue) (rs : Requests) → rs.next ≡ number_of first (length asks) → NoneCurrent q rs.current → AreRequested q r a.streams
+      → last_tsn ≡ wire u32_space first (origin + a.upto - 1) → IsAsking first (length asks) (asks ++ a ∷ []) r (start_request now rto last_tsn a.streams rs)
   asking_new first now rto last_tsn asks a q r rs next none k last =
       let more : length (asks ++ a ∷ []) ≡ suc (length asks) = (let e = length-append asks (a ∷ []) in omega (arith, e)) in
       record {
-        next = ap after next ∙ (number_after first (length asks) ∙ ap (number_of first) (sym more));
+        next = ap next_number next ∙ (number_after first (length asks) ∙ ap (number_of first) (sym more));
         current = inr (
           more,
           record {
@@ -275,7 +275,7 @@ module _ (message : ℕ → Message) (lifecycle : ℕ → Option ℕ) (is_interl
         );
       }
 
-  pub asks_reset_keeps : IsKept message is_interleaved from → (most first_of : ℕ) (others : List ℕ) (phase : Phase) (t : Tcb) (m : EndWithPacket Carried) → requested_streams most m.context.queue ≡ first_of ∷ others → t.requests.current ≡ None
+  pub asks_reset_keeps : IsKept message is_interleaved from → (most first_of : ℕ) (others : List ℕ) (phase : Phase) (t : Tcb) (m : EndWithPacket Carried) → streams_to_request most m.context.queue ≡ first_of ∷ others → t.requests.current ≡ None
       → SenderGoes message lifecycle is_interleaved from (in_open phase t m)
       (in_open phase (request_started m.context.now (first_of ∷ others) t) (with_context (record m.context { queue = request_resets most m.context.queue }) m))
   asks_reset_keeps before most first_of others phase t m some free prepared x claim =
@@ -290,10 +290,10 @@ module _ (message : ℕ → Message) (lifecycle : ℕ → Option ℕ) (is_interl
       let k = subst (AreRequested q r) some (requested_asked q most h.follows.keyed) in
       let none = unasked first x.answered x.asks q t.requests h.asks free in
       let all = none.0 in
-      let a : Ask = record { streams = first_of ∷ others; upto = count (transfer_of x).sender } in
+      let a : ResetRequest = record { streams = first_of ∷ others; upto = count (transfer_of x).sender } in
       let rules : Epochs = go_all message is_interleaved x.rules (map send_request (first_of ∷ others)) in
       let y : Direction = record { rules = rules; asks = x.asks ++ a ∷ []; done = x.done; answered = x.answered } in
-      let same : go_all message is_interleaved x.rules (map send_request (requested_streams most q)) ≡ rules = ap (λ (ids : List ℕ). go_all message is_interleaved x.rules (map send_request ids)) some in
+      let same : go_all message is_interleaved x.rules (map send_request (streams_to_request most q)) ≡ rules = ap (λ (ids : List ℕ). go_all message is_interleaved x.rules (map send_request ids)) some in
       let transfer_is : transfer_of y ≡ transfer_of x = ap (λ (e : Epochs). e.transfer) (sym same) ∙ z.transfer_is in
       let w = requests_sent message is_interleaved (first_of ∷ others) x.rules in
       let raised : (s : ℕ) → has s a.streams ≡ true → x.rules.raised s ≡ suc (x.rules.opened s) = λ s e. (h.follows.paused s).shut (λ c. paused_flows (sym (k.ready s e) ∙ c)) in
@@ -311,11 +311,11 @@ module _ (message : ℕ → Message) (lifecycle : ℕ → Option ℕ) (is_interl
       let most_before : ℕ = count (transfer_of from).sender in
       let grown : most_before ≤ count (transfer_of x).sender = (goes_grows message is_interleaved goes_out from x before.epochs claim.goes).numbered in
       let counted = next_counted message lifecycle is_interleaved (transfer_of x) q items h.refines in
-      let last : last_assigned (begin_burst t.sender) ≡ wire words first (origin + a.upto - 1) =
-      ap (λ (n : ℕ). wire words t.sender.outstanding.first (n - 1)) counted ∙ ap (λ (n : ℕ). wire words n (origin + a.upto - 1)) h.first in
+      let last : last_assigned (add_reset_breakpoint t.sender) ≡ wire u32_space first (origin + a.upto - 1) =
+      ap (λ (n : ℕ). wire u32_space t.sender.outstanding.first (n - 1)) counted ∙ ap (λ (n : ℕ). wire u32_space n (origin + a.upto - 1)) h.first in
       let u : Tcb = request_started m.context.now (first_of ∷ others) t in
       let b : EndWithPacket Carried = in_open phase u (with_context (record m.context { queue = r }) m) in
-      let is_it : (c : Ask) → slice_get (x.asks ++ a ∷ []) x.answered ≡ Some c → a ≡ c = λ c e.
+      let is_it : (c : ResetRequest) → slice_get (x.asks ++ a ∷ []) x.answered ≡ Some c → a ≡ c = λ c e.
       same_Some a c (sym (subst (λ (n : ℕ). slice_get (x.asks ++ a ∷ []) n ≡ Some a) all (get_last x.asks a)) ∙ e) in
       let follows : FollowsEpochs rules r (begin_reset items) = subst (λ (e : Epochs). FollowsEpochs e r (begin_reset items)) same z.follows in
       let shows : SenderRefines message lifecycle is_interleaved (transfer_of y) r (begin_reset items) = subst (λ (tr : Transfer). SenderRefines message lifecycle is_interleaved tr r (begin_reset items)) (sym transfer_is) z.refines in (
@@ -330,11 +330,11 @@ module _ (message : ℕ → Message) (lifecycle : ℕ → Option ℕ) (is_interl
             first = h.first;
             room = h.room;
             asks = subst (λ (n : ℕ). IsAsking first n (x.asks ++ a ∷ []) r u.requests) all
-                (asking_new first m.context.now (rtt.rto t.rtt) (last_assigned (begin_burst t.sender)) x.asks a q r t.requests h.asks.next none.1 k last);
+                (asking_new first m.context.now (rtt.rto t.rtt) (last_assigned (add_reset_breakpoint t.sender)) x.asks a q r t.requests h.asks.next none.1 k last);
           };
-          near = λ n c e. let up : a.upto ≡ c.upto = ap (λ (d : Ask). d.upto) (is_it c e) in omega (arith, up, grown);
-          since = λ n c e. let up : a.upto ≡ c.upto = ap (λ (d : Ask). d.upto) (is_it c e) in inr (omega (arith, up, grown));
-          given_up = sym (ap (λ (es : List RuleEvent). recorded_places m.context.emitted ++ given_ups es) (requests_alone (first_of ∷ others)) ∙ append-nil (recorded_places m.context.emitted));
+          near = λ n c e. let up : a.upto ≡ c.upto = ap (λ (d : ResetRequest). d.upto) (is_it c e) in omega (arith, up, grown);
+          since = λ n c e. let up : a.upto ≡ c.upto = ap (λ (d : ResetRequest). d.upto) (is_it c e) in inr (omega (arith, up, grown));
+          given_up = sym (ap (λ (es : List RuleEvent). recorded_places m.context.emitted ++ given_up_places es) (requests_alone (first_of ∷ others)) ∙ append-nil (recorded_places m.context.emitted));
           reported = reports_none lifecycle (transfer_of x) (transfer_of y) es es (ap (λ (tr : Transfer). tr.reports) transfer_is) refl;
           resets = emits_no_answer prepared es es x y (emits_nothing es) refl (ap (λ (e : Epochs). e.raised) w.rest) (ap (λ (e : Epochs). e.opened) w.rest);
           first = refl;
@@ -392,26 +392,26 @@ module _ (message : ℕ → Message) (lifecycle : ℕ → Option ℕ) (is_interl
   commits_alone [] = refl
   commits_alone (id ∷ ids) = commits_alone ids
 
-  same_reports : (ids : List ℕ) (x : Transfer) → (restart ids x).reports ≡ x.reports
+  same_reports : (ids : List ℕ) (x : Transfer) → (restart_numbers ids x).reports ≡ x.reports
   same_reports [] x = refl
   same_reports (id ∷ ids) x = same_reports ids (record x { sender = restarts x.sender id })
 
   -- the ask that waits is the last
-  current_of : (first answered : ℕ) (asks : List Ask) (q : Queue) (r : Requests) → IsAsking first answered asks q r → (a : Ask) → slice_get asks answered ≡ Some a
+  current_of : (first answered : ℕ) (asks : List ResetRequest) (q : Queue) (r : Requests) → IsAsking first answered asks q r → (a : ResetRequest) → slice_get asks answered ≡ Some a
       → (length asks ≡ suc answered) × ((s : ℕ) → has s a.streams ≡ true → (stream s q.streams).pause ≡ Resetting) × ((s : ℕ) → (stream s q.streams).pause ≡ Resetting → has s a.streams ≡ true)
   current_of first answered asks q r h a there = elim h.current [
     | inl n ↦ let b = slice_get_within asks answered a there in let e = n.0 in absurd (omega (arith, b, e))
     | inr c ↦
         let z = c.1 in
         let same : z.ask ≡ a = same_Some z.ask a (sym z.there ∙ there) in
-        (c.0, λ s e. z.resetting s (subst (λ (d : Ask). has s d.streams ≡ true) (sym same) e), λ s e. subst (λ (d : Ask). has s d.streams ≡ true) same (z.others s e))
+        (c.0, λ s e. z.resetting s (subst (λ (d : ResetRequest). has s d.streams ≡ true) (sym same) e), λ s e. subst (λ (d : ResetRequest). has s d.streams ≡ true) same (z.others s e))
   ]
 
   -- that was performed: its streams go on
   done_claims : (rto number result : ℕ) (phase : Phase) (t : Tcb) (m : EndWithPacket Carried) (prepared : List ℕ) (x : Direction) → SenderClaim message lifecycle is_interleaved from prepared (in_open phase t m) x
-      → (a : Ask) → slice_get x.asks x.answered ≡ Some a → x.answered < x.done → outcome number result t.requests.current ≡ Done a.streams
+      → (a : ResetRequest) → slice_get x.asks x.answered ≡ Some a → x.answered < x.done → outcome number result t.requests.current ≡ Done a.streams
       → (y : Direction) × SenderClaim message lifecycle is_interleaved from prepared
-      (in_open phase (record t { requests = answer_request m.context.now rto number result t.requests }) (with_context (on_outcome (Done a.streams) m.context) m)) y
+      (in_open phase (record t { requests = handle_response m.context.now rto number result t.requests }) (with_context (on_outcome (Done a.streams) m.context) m)) y
   done_claims rto number result phase t m prepared x claim a there behind is =
       let q = m.context.queue in
       let es = m.context.emitted.events in
@@ -433,7 +433,7 @@ module _ (message : ℕ → Message) (lifecycle : ℕ → Option ℕ) (is_interl
       let z = answering_follows message lifecycle is_interleaved x.rules q items kept h.refines h.follows ss (each_asked q ss (are.fine x.answered a there).distinct c.1) performed in
       let w = answers_open message is_interleaved ss x.rules in
       let y : Direction = record x { rules = go_all message is_interleaved x.rules (map commit ss); answered = suc x.answered } in
-      let u : Tcb = record t { requests = answer_request m.context.now rto number result t.requests } in
+      let u : Tcb = record t { requests = handle_response m.context.now rto number result t.requests } in
       let b : EndWithPacket Carried = in_open phase u (with_context (on_outcome (Done ss) m.context) m) in
       let e : Event Carried = OnStreamsResetPerformed ss in
       let ends = done_ends m.context.now rto number result ss t.requests is in
@@ -449,7 +449,7 @@ module _ (message : ℕ → Message) (lifecycle : ℕ → Option ℕ) (is_interl
         done = omega arith;
         answered = omega arith;
       } in
-      let over : (d : Ask) → slice_get x.asks (suc x.answered) ≡ Some d → ⊥ = λ d f. let below = slice_get_within x.asks (suc x.answered) d f in let long = c.0 in omega (arith, below, long) in (
+      let over : (d : ResetRequest) → slice_get x.asks (suc x.answered) ≡ Some d → ⊥ = λ d f. let below = slice_get_within x.asks (suc x.answered) d f in let long = c.0 in omega (arith, below, long) in (
         y,
         step_claims message lifecycle is_interleaved from prepared prepared (in_open phase t m) b x y claim (record {
           goes = goes;
@@ -467,7 +467,7 @@ module _ (message : ℕ → Message) (lifecycle : ℕ → Option ℕ) (is_interl
           };
           near = λ n d f. absurd (over d f);
           since = λ n d f. absurd (over d f);
-          given_up = sym (ap (λ (es : List RuleEvent). recorded_places m.context.emitted ++ given_ups es) (commits_alone ss) ∙ append-nil (recorded_places m.context.emitted));
+          given_up = sym (ap (λ (es : List RuleEvent). recorded_places m.context.emitted ++ given_up_places es) (commits_alone ss) ∙ append-nil (recorded_places m.context.emitted));
           reported = reports_none lifecycle (transfer_of x) (transfer_of y) es (es ++ e ∷ []) (ap (λ (tr : Transfer). tr.reports) z.transfer_is ∙ same_reports ss (transfer_of x))
               (delivered_more es (e ∷ []) ∙ append-nil (delivered_ids es));
           resets = record {
@@ -489,11 +489,11 @@ module _ (message : ℕ → Message) (lifecycle : ℕ → Option ℕ) (is_interl
     pub takes_response_keeps : (rto number result : ℕ) (sender receiver : Option Tsn) (phase : Phase) (t : Tcb) (m : EndWithPacket Carried) → IsAsked call (reset_response number result sender receiver)
         → InvAt g (in_open phase t m)
         → SenderGoes message lifecycle is_interleaved from (in_open phase t m)
-        (in_open phase (record t { requests = answer_request m.context.now rto number result t.requests }) (with_context (on_outcome (outcome number result t.requests.current) m.context) m))
+        (in_open phase (record t { requests = handle_response m.context.now rto number result t.requests }) (with_context (on_outcome (outcome number result t.requests.current) m.context) m))
     takes_response_keeps rto number result sender receiver phase t m asked inv prepared x claim =
         let q = m.context.queue in
         let first = t.identity.my_first in
-        let u : Tcb = record t { requests = answer_request m.context.now rto number result t.requests } in
+        let u : Tcb = record t { requests = handle_response m.context.now rto number result t.requests } in
         let order = claim.kept.asked.order in
         let before = premises.kept.asked.order in
         let same = claim.done in

@@ -10,12 +10,12 @@ use Rattle.sctp_packet.specs.Chunk.{ChunkTree, FragmentTree, data_chunk, idata_c
 use Rattle.sctp_state.specs.Events as events
 use Rattle.sctp_state.specs.Events.{Emitted, OnLifecycleMessageDelivered}
 use Rattle.proof_protocol.specs.State.{Message, ForwardPoint, Transfer, IsAmong, count}
-use Rattle.proof_protocol.specs.Rules.{Rule, accept, begin, number, end_with_placeholder, give_up, data_comes, late_comes, become_ready, send_sack, ack_point_advances, send_forward, forward_comes, perform_reset, after}
+use Rattle.proof_protocol.specs.Rules.{TransferEvent, accept, begin, number, end_with_placeholder, give_up, data_comes, late_comes, become_ready, send_sack, acknowledge_next, send_forward, forward_comes, perform_reset, after}
 use Rattle.proof_protocol.specs.Resets.{Request, Epochs, ResetEvent, transfers, reset_stream, send_request, perform, commit, MayReset, goes, MayAll, go_all}
 use Rattle.proof_protocol.specs.Based.{InEpochs}
 use Rattle.proof_protocol.proofs.BasedLemmas.{keeps_epochs, all_in_epochs}
 use Rattle.proof_protocol.proofs.StepLemmas.{later}
-use Rattle.proof_tx_refines.specs.Led.{given_ups, recorded_places, delivered_ids, ids_at}
+use Rattle.proof_tx_refines.specs.Reachable.{given_up_places, recorded_places, delivered_ids, ids_at}
 use Rattle.proof_tx_refines.proofs.LedLemmas.{given_more}
 use Rattle.proof_tx_refines.proofs.PausedLemmas.{go_more, may_more}
 use Rattle.proof_tx_refines.proofs.SackLemmas.{delivered_more, ids_more}
@@ -23,9 +23,9 @@ use Rattle.proof_tx_refines.proofs.SendLemmas.{carries_along}
 use Rattle.proof_endpoint.specs.Mapped.{Carried}
 use Rattle.proof_endpoint.specs.Acts.{EndWithPacket}
 use Rattle.proof_pair.specs.Trace.{packets_in}
-use Rattle.proof_pair.proofs.EmittedLemmas.{is_quiet, EmitsLightly, EmitsQuietly}
-use Rattle.proof_pair.proofs.JoinActsLemmas.{packets_both, light_packets}
-use Rattle.proof_delivery.specs.Asks.{Ask, request_for, AreAsked, SaysOutgoing, SaysIncoming}
+use Rattle.proof_pair.proofs.EmittedLemmas.{is_quiet, EmitsNoPacketOrStatus, EmitsQuietly}
+use Rattle.proof_pair.proofs.JoinActsLemmas.{packets_both, no_packet_or_status_has_no_packets}
+use Rattle.proof_delivery.specs.Asks.{ResetRequest, request_for, AreRequested, SaysOutgoing, SaysIncoming}
 use Rattle.proof_delivery.specs.Answered.{performed_in}
 use Rattle.proof_delivery.specs.StreamEpochs.{StreamEpoch, shut_streams, reopen, performed_of, failed_in}
 use Rattle.proof_delivery.proofs.AsksLemmas.{asks_said, answers_said}
@@ -36,17 +36,17 @@ use Rattle.proof_delivery.proofs.ResetEventsLemmas.{resets_in, performed_counts,
 
 pub transfer_more : (es fs : List ResetEvent) → of_transfer (es ++ fs) ≡ of_transfer es ++ of_transfer fs
 transfer_more [] fs = refl
-transfer_more (transfers e ∷ es) fs = ap (λ (gs : List Rule). e ∷ gs) (transfer_more es fs)
+transfer_more (transfers e ∷ es) fs = ap (λ (gs : List TransferEvent). e ∷ gs) (transfer_more es fs)
 transfer_more (reset_stream s ∷ es) fs = transfer_more es fs
 transfer_more (send_request s ∷ es) fs = transfer_more es fs
 transfer_more (perform r ∷ es) fs = transfer_more es fs
 transfer_more (commit s ∷ es) fs = transfer_more es fs
 
-pub of_transfers : (es : List Rule) → of_transfer (map transfers es) ≡ es
+pub of_transfers : (es : List TransferEvent) → of_transfer (map transfers es) ≡ es
 of_transfers [] = refl
-of_transfers (e ∷ es) = ap (λ (gs : List Rule). e ∷ gs) (of_transfers es)
+of_transfers (e ∷ es) = ap (λ (gs : List TransferEvent). e ∷ gs) (of_transfers es)
 
-pub all_transfers : (kind : ResetEvent → Bool) (only : Rule → Bool) → ((e : Rule) → only e ≡ true → kind (transfers e) ≡ true) → (es : List Rule) → list_all only es ≡ true
+pub all_transfers : (kind : ResetEvent → Bool) (only : TransferEvent → Bool) → ((e : TransferEvent) → only e ≡ true → kind (transfers e) ≡ true) → (es : List TransferEvent) → list_all only es ≡ true
     → list_all kind (map transfers es) ≡ true
 all_transfers kind only each [] h = refl
 all_transfers kind only each (e ∷ es) h =
@@ -70,7 +70,7 @@ module _ (message : ℕ → Message) (is_interleaved : Bool) where
   module _ (kind : ResetEvent → Bool) where
     -- with what they give up
     pub goes_given : (x y z : Direction) → (a : GoesOn message is_interleaved kind x y) → (b : GoesOn message is_interleaved kind y z)
-        → (c : GoesOn message is_interleaved kind x z) × (given_ups (of_transfer c.events) ≡ given_ups (of_transfer a.events) ++ given_ups (of_transfer b.events))
+        → (c : GoesOn message is_interleaved kind x z) × (given_up_places (of_transfer c.events) ≡ given_up_places (of_transfer a.events) ++ given_up_places (of_transfer b.events))
     goes_given x y z a b =
         let one = a.done in
         let two = b.done in
@@ -82,12 +82,12 @@ module _ (message : ℕ → Message) (is_interleaved : Bool) where
           all = list_all-append kind a.events b.events ∙ (ap (λ (t : Bool). t && list_all kind b.events) a.all ∙ b.all);
           leads = go_more message is_interleaved a.events b.events x.rules ∙ (ap (λ w. go_all message is_interleaved w b.events) a.leads ∙ b.leads);
           more = a.more ++ b.more;
-          asks = b.asks ∙ (ap (λ (l : List Ask). l ++ b.more) a.asks ∙ append_assoc x.asks a.more b.more);
+          asks = b.asks ∙ (ap (λ (l : List ResetRequest). l ++ b.more) a.asks ∙ append_assoc x.asks a.more b.more);
           further = a.further + b.further;
           done = omega (arith, one, two);
           answered = omega (arith, few, some);
         } in
-        (c, ap given_ups (transfer_more a.events b.events) ∙ given_more message is_interleaved (of_transfer a.events) (of_transfer b.events))
+        (c, ap given_up_places (transfer_more a.events b.events) ∙ given_more message is_interleaved (of_transfer a.events) (of_transfer b.events))
 
     pub goes_on : (x y z : Direction) → GoesOn message is_interleaved kind x y → GoesOn message is_interleaved kind y z → GoesOn message is_interleaved kind x z
     goes_on x y z a b = (goes_given x y z a b).0
@@ -99,7 +99,7 @@ module _ (message : ℕ → Message) (is_interleaved : Bool) where
   abbrev pub with_transfer : Direction → Transfer → Direction
   with_transfer x t = record x { rules = record x.rules { transfer = t } }
 
-  abbrev pub transfers_go : (kind : ResetEvent → Bool) (x : Direction) (t : Transfer) (es : List Rule) → MayAll message is_interleaved x.rules (map transfers es) → list_all kind (map transfers es) ≡ true
+  abbrev pub transfers_go : (kind : ResetEvent → Bool) (x : Direction) (t : Transfer) (es : List TransferEvent) → MayAll message is_interleaved x.rules (map transfers es) → list_all kind (map transfers es) ≡ true
       → go_all message is_interleaved x.rules (map transfers es) ≡ record x.rules { transfer = t } → GoesOn message is_interleaved kind x (with_transfer x t)
   transfers_go kind x t es may all leads = record {
     events = map transfers es;
@@ -123,8 +123,8 @@ module _ (message : ℕ → Message) (is_interleaved : Bool) where
     pub points : (f : ForwardPoint) → IsAmong f (transfer_of x).forward_points → IsAmong f (transfer_of y).forward_points
     pub sacks : (c : ℕ) → IsAmong c (transfer_of x).sacks → IsAmong c (transfer_of y).sacks
 
-  left_once : (x : Transfer) (e : Rule) → x.acknowledged ≤ (after message is_interleaved x e).acknowledged
-  left_once x (ack_point_advances c) = omega arith
+  left_once : (x : Transfer) (e : TransferEvent) → x.acknowledged ≤ (after message is_interleaved x e).acknowledged
+  left_once x (acknowledge_next c) = omega arith
   left_once x accept = omega arith
   left_once x (begin p) = omega arith
   left_once x (number p bytes more) = omega arith
@@ -138,7 +138,7 @@ module _ (message : ℕ → Message) (is_interleaved : Bool) where
   left_once x (forward_comes f) = omega arith
   left_once x (perform_reset s c) = omega arith
 
-  points_once : (x : Transfer) (e : Rule) (f : ForwardPoint) → IsAmong f x.forward_points → IsAmong f (after message is_interleaved x e).forward_points
+  points_once : (x : Transfer) (e : TransferEvent) (f : ForwardPoint) → IsAmong f x.forward_points → IsAmong f (after message is_interleaved x e).forward_points
   points_once x (send_forward g) f a = inr a
   points_once x accept f a = a
   points_once x (begin p) f a = a
@@ -149,11 +149,11 @@ module _ (message : ℕ → Message) (is_interleaved : Bool) where
   points_once x (late_comes t) f a = a
   points_once x (become_ready p) f a = a
   points_once x (send_sack c) f a = a
-  points_once x (ack_point_advances c) f a = a
+  points_once x (acknowledge_next c) f a = a
   points_once x (forward_comes g) f a = a
   points_once x (perform_reset s c) f a = a
 
-  sacks_once : (x : Transfer) (e : Rule) (n : ℕ) → IsAmong n x.sacks → IsAmong n (after message is_interleaved x e).sacks
+  sacks_once : (x : Transfer) (e : TransferEvent) (n : ℕ) → IsAmong n x.sacks → IsAmong n (after message is_interleaved x e).sacks
   sacks_once x (send_sack c) n a = inr a
   sacks_once x accept n a = a
   sacks_once x (begin p) n a = a
@@ -163,7 +163,7 @@ module _ (message : ℕ → Message) (is_interleaved : Bool) where
   sacks_once x (data_comes t) n a = a
   sacks_once x (late_comes t) n a = a
   sacks_once x (become_ready p) n a = a
-  sacks_once x (ack_point_advances c) n a = a
+  sacks_once x (acknowledge_next c) n a = a
   sacks_once x (send_forward f) n a = a
   sacks_once x (forward_comes f) n a = a
   sacks_once x (perform_reset s c) n a = a
@@ -246,7 +246,7 @@ module _ (message : ℕ → Message) (is_interleaved : Bool) where
 
     asks_stay : (first most : ℕ) (ps : List ParameterTree) → All (SaysOutgoing first most x.asks) ps → All (SaysOutgoing first most y.asks) ps
     asks_stay first most ps h =
-        subst (λ (l : List Ask). All (SaysOutgoing first most l) ps) (sym g.asks)
+        subst (λ (l : List ResetRequest). All (SaysOutgoing first most l) ps) (sym g.asks)
         (All-weaker (SaysOutgoing first most x.asks) (SaysOutgoing first most (x.asks ++ g.more)) (λ p s. asks_said first most x.asks g.more p s) ps h)
 
     answers_stay : (first : ℕ) (ps : List ParameterTree) → All (SaysIncoming first x.done (length x.asks)) ps → All (SaysIncoming first y.done (length y.asks)) ps
@@ -303,7 +303,7 @@ module _ (message : ℕ → Message) (is_interleaved : Bool) where
   same_once x (transfers (number p bytes more)) s = record { receiver = refl; sacks = refl; performed = refl; base = refl }
   same_once x (transfers (end_with_placeholder p)) s = record { receiver = refl; sacks = refl; performed = refl; base = refl }
   same_once x (transfers (give_up p)) s = record { receiver = refl; sacks = refl; performed = refl; base = refl }
-  same_once x (transfers (ack_point_advances c)) s = record { receiver = refl; sacks = refl; performed = refl; base = refl }
+  same_once x (transfers (acknowledge_next c)) s = record { receiver = refl; sacks = refl; performed = refl; base = refl }
   same_once x (transfers (send_forward f)) s = record { receiver = refl; sacks = refl; performed = refl; base = refl }
   same_once x (transfers accept) s = cc
   same_once x (transfers (data_comes t)) s = cc
@@ -330,9 +330,9 @@ module _ (message : ℕ → Message) (is_interleaved : Bool) where
 
 -- ---- what is emitted lightly are no packets
 
-pub same_packets : (t u : Emitted Carried) → EmitsLightly t u → packets_in u.events ≡ packets_in t.events
+pub same_packets : (t u : Emitted Carried) → EmitsNoPacketOrStatus t u → packets_in u.events ≡ packets_in t.events
 same_packets t u l =
-    ap packets_in l.behind ∙ (packets_both t.events l.events ∙ (ap (λ (ps : List Carried). packets_in t.events ++ ps) (light_packets l.events l.all) ∙ append-nil (packets_in t.events)))
+    ap packets_in l.behind ∙ (packets_both t.events l.events ∙ (ap (λ (ps : List Carried). packets_in t.events ++ ps) (no_packet_or_status_has_no_packets l.events l.all) ∙ append-nil (packets_in t.events)))
 
 -- ---- what is reported
 
@@ -360,8 +360,8 @@ module _ (lifecycle : ℕ → Option ℕ) where
 -- ---- the asks, where none is sent, performed or answered
 
 -- and the transfer, and what is raised, may go on
-pub asked_still : (x y : Epochs) (asks : List Ask) (done answered : ℕ) → y.opened ≡ x.opened → y.performed ≡ x.performed → y.requests ≡ x.requests → count x.transfer.sender ≤ count y.transfer.sender
-    → AreAsked x asks done answered → AreAsked y asks done answered
+pub asked_still : (x y : Epochs) (asks : List ResetRequest) (done answered : ℕ) → y.opened ≡ x.opened → y.performed ≡ x.performed → y.requests ≡ x.requests → count x.transfer.sender ≤ count y.transfer.sender
+    → AreRequested x asks done answered → AreRequested y asks done answered
 asked_still x y asks done answered opened performed requests grows are = record {
   opened = λ s. ap (λ (f : ℕ → ℕ). f s) opened ∙ are.opened s;
   performed = λ s. ap (λ (f : ℕ → ℕ). f s) performed ∙ are.performed s;
@@ -374,11 +374,11 @@ asked_still x y asks done answered opened performed requests grows are = record 
 
 -- the ask that waits goes out before 2^30 fragments more are numbered
 abbrev pub IsNear : (from x : Direction) → Type 0
-IsNear from x = (a : Ask) → slice_get x.asks x.answered ≡ Some a → count (transfer_of from).sender < a.upto + 2 ^ 30
+IsNear from x = (a : ResetRequest) → slice_get x.asks x.answered ≡ Some a → count (transfer_of from).sender < a.upto + 2 ^ 30
 
 -- it waited before this action, or is of this action
 abbrev pub IsSince : (from x : Direction) → Type 0
-IsSince from x = (a : Ask) → slice_get x.asks x.answered ≡ Some a → (slice_get from.asks x.answered ≡ Some a) ⊎ (count (transfer_of from).sender ≤ a.upto)
+IsSince from x = (a : ResetRequest) → slice_get x.asks x.answered ≡ Some a → (slice_get from.asks x.answered ≡ Some a) ⊎ (count (transfer_of from).sender ≤ a.upto)
 
 pub so_still : (f : ℕ → StreamEpoch) (x y : Epochs) → y.raised ≡ x.raised → y.opened ≡ x.opened → AreSo f x → AreSo f y
 so_still f x y raised opened h s =
@@ -429,12 +429,12 @@ module _ (message : ℕ → Message) (lifecycle : ℕ → Option ℕ) (is_interl
   -- where an act leads the rules from x to y, with what it gives up
   pub record SenderStep (prepared later : List ℕ) (a b : EndWithPacket Carried) (x y : Direction) : Type 0 where
     pub goes : GoesOn message is_interleaved goes_out x y
-    pub asked : AreAsked y.rules y.asks y.done y.answered
+    pub asked : AreRequested y.rules y.asks y.done y.answered
     pub done : y.done ≡ x.done
     pub shown : SendsIn message lifecycle is_interleaved b.state b.context.queue y
     pub near : IsNear from x → IsNear from y
     pub since : IsSince from x → IsSince from y
-    pub given_up : recorded_places b.context.emitted ≡ recorded_places a.context.emitted ++ given_ups (of_transfer goes.events)
+    pub given_up : recorded_places b.context.emitted ≡ recorded_places a.context.emitted ++ given_up_places (of_transfer goes.events)
     pub reported : Reports lifecycle (transfer_of x) (transfer_of y) a.context.emitted.events b.context.emitted.events
     pub resets : EmitsResets prepared later a.context.emitted.events b.context.emitted.events x y
     pub first : first_out b.state ≡ first_out a.state
@@ -459,7 +459,7 @@ module _ (message : ℕ → Message) (lifecycle : ℕ → Option ℕ) (is_interl
         shown = s.shown;
         near = s.near c.near;
         since = s.since c.since;
-        given_up = s.given_up ∙ (ap (λ (ps : List ℕ). ps ++ given_ups (of_transfer s.goes.events)) c.given_up ∙ sym g.1);
+        given_up = s.given_up ∙ (ap (λ (ps : List ℕ). ps ++ given_up_places (of_transfer s.goes.events)) c.given_up ∙ sym g.1);
         reported = reports_then lifecycle (transfer_of from) (transfer_of x) (transfer_of y) [] a.context.emitted.events b.context.emitted.events c.reported s.reported;
         performed = omega (arith, so_far, now);
         epochs = λ f h. s.resets.epochs f (c.epochs f h);

@@ -4,7 +4,7 @@ use Rattle.std.specs.List.{list_any}
 use Rattle.std.proofs.lemmas.Bool.{or_parts}
 use Rattle.std.proofs.lemmas.List.{length-append, length-map}
 use Rattle.std.proofs.lemmas.List.Elements.{All-nil, All-cons, All-append}
-use Rattle.spec_endpoint.specs.Laws.{Connect, Close, Shutdown, Send, SendMany, ResetStreams, TakeMessage, SetLowThreshold, SetPriority, SetMaxMessageSize, Advance, HandOver, Restore, Packet, NoPacket}
+use Rattle.spec_endpoint.specs.Laws.{Connect, Close, Shutdown, Send, SendMany, ResetStreams, TakeMessage, SetLowThreshold, SetPriority, SetMaxMessageSize, Advance, HandOver, Restore, ReceivePacket, ReceiveNoPacket}
 use Rattle.proof_pair.specs.Trace.{Side, Pair, EndAction, Calls, Gives, Refuses, goes, run}
 use Rattle.proof_delivery.specs.Accepted.{AcceptedMessage, accepted_at, accepted}
 use Rattle.proof_delivery.specs.Windows.{resets, KeepsStreams}
@@ -53,8 +53,8 @@ none_by (Calls (SetMaxMessageSize bytes)) x h = refl
 none_by (Calls (Advance now)) x h = refl
 none_by (Calls HandOver) x h = refl
 none_by (Calls (Restore h)) x k = refl
-none_by (Calls (Packet p)) x h = refl
-none_by (Calls NoPacket) x h = refl
+none_by (Calls (ReceivePacket p)) x h = refl
+none_by (Calls ReceiveNoPacket) x h = refl
 none_by (Gives which checksum) x h = refl
 none_by (Refuses p) x h = refl
 

@@ -11,13 +11,13 @@ use Rattle.proof_rx_refines.specs.Refinement.{ReceiverRefines}
 use Rattle.proof_rx_refines.specs.Near.{ReadsNear}
 use Rattle.proof_rx_refines.specs.Resets.{base_now}
 use Rattle.spec_endpoint.specs.Association.{State, Closed, CookieWait, Open}
-use Rattle.spec_endpoint.specs.Calls.{ready_in, taken_in}
+use Rattle.spec_endpoint.specs.Calls.{ready_in, without_first_message_in}
 use Rattle.proof_delivery.proofs.ClaimLemmas.{Direction, transfer_of, SendsIn, IsFresh, ReceivesIn}
 
 -- ---- the sender's part
 
 pub sends_taken : (message : ℕ → Message) (lifecycle : ℕ → Option ℕ) (is_interleaved : Bool) (s : State) (q : Queue) (x : Direction) → SendsIn message lifecycle is_interleaved s q x
-    → SendsIn message lifecycle is_interleaved (taken_in s) q x
+    → SendsIn message lifecycle is_interleaved (without_first_message_in s) q x
 sends_taken message lifecycle is_interleaved Closed q x h = h
 sends_taken message lifecycle is_interleaved (CookieWait tag first t1) q x h = h
 sends_taken message lifecycle is_interleaved (Open phase t) q x h = record { refines = h.refines; follows = h.follows; first = h.first; room = h.room; asks = h.asks }
@@ -55,7 +55,7 @@ module _ (message : ℕ → Message) (is_interleaved : Bool) (x : Direction) whe
   fresh_taken : (handed : List messages.Message) → IsFresh message is_interleaved handed x → IsFresh message is_interleaved (handed ++ []) x
   fresh_taken handed h = subst (λ (ms : List messages.Message). IsFresh message is_interleaved ms x) (sym (append-nil handed)) h
 
-  pub receives_in_taken : (s : State) (handed : List messages.Message) → ReceivesIn message is_interleaved s handed x → ReceivesIn message is_interleaved (taken_in s) (handed ++ take 1 (ready_in s)) x
+  pub receives_in_taken : (s : State) (handed : List messages.Message) → ReceivesIn message is_interleaved s handed x → ReceivesIn message is_interleaved (without_first_message_in s) (handed ++ take 1 (ready_in s)) x
   receives_in_taken Closed handed h = fresh_taken handed h
   receives_in_taken (CookieWait tag first t1) handed h = fresh_taken handed h
   receives_in_taken (Open phase t) handed h = record {

@@ -3,12 +3,12 @@ use Rattle.std.proofs.Common.{◌≡◌, ℕ, zero, suc, ◌<◌, not, Bool, tru
 use Rattle.std.proofs.lemmas.Bool.{eq-eqb}
 use Rattle.sctp_state.specs.Events.{Event}
 use Rattle.spec_endpoint.specs.Association.{State}
-use Rattle.spec_endpoint.specs.Input.{refusal}
+use Rattle.spec_endpoint.specs.Input.{packet_refusal}
 use Rattle.proof_endpoint.specs.Mapped.{Carried}
-use Rattle.proof_pair.specs.Trace.{Side, Pair, emitted_packets, EndAction, Calls, Gives, Refuses, give, foreign_if, act, goes, run, side_of, state_of}
+use Rattle.proof_pair.specs.Trace.{Side, Pair, emitted_packets, EndAction, Calls, Gives, Refuses, give_carried, foreign_if, act, goes, run, side_of, state_of}
 use Rattle.proof_delivery.specs.Windows.{numbered_count}
 use Rattle.proof_delivery.specs.GivenUp.{emitted_given, emitted_foreign, emitted_by}
-use Rattle.proof_delivery.specs.Answered.{waiting_number, is_same, Asked, asked_by, IsAnswered, AreAnswered, KeepsRequests, performed_in}
+use Rattle.proof_delivery.specs.Answered.{waiting_number, is_same, NumberedBefore, numbered_before, IsAnswered, AreAnswered, KeepsRequests, performed_in}
 use Rattle.proof_delivery.proofs.ResetEventsLemmas.{performed_both}
 use Rattle.proof_delivery.specs.StreamEpochs.{StreamEpoch, emitted_at, epochs_after}
 
@@ -19,10 +19,10 @@ pub emitted_turned : (t : EndAction) (x y : Side) → (act t x y).emitted ≡ x.
 emitted_turned (Calls call) x y = refl
 emitted_turned (Gives which checksum) x y = go (slice_get (emitted_packets y) which)
   where
-    go : (p : Option Carried) → (give p checksum x).emitted ≡ x.emitted ++ (emitted_given p checksum x).events
+    go : (p : Option Carried) → (give_carried p checksum x).emitted ≡ x.emitted ++ (emitted_given p checksum x).events
     go None = sym (append-nil x.emitted)
     go (Some p) = refl
-emitted_turned (Refuses p) x y = go (refusal p.header.verification_tag p.chunks (state_of x))
+emitted_turned (Refuses p) x y = go (packet_refusal p.header.verification_tag p.chunks (state_of x))
   where
     go : (text : Option (List ℕ)) → (foreign_if text p x).emitted ≡ x.emitted ++ (emitted_foreign text p x).events
     go None = sym (append-nil x.emitted)
@@ -53,16 +53,16 @@ few_before x es w n h =
 
 -- ---- requests that wait
 
-pub answered_now : (es : List (Bool × EndAction)) (w : Pair) (k : Asked) → KeepsRequests es w k → AreAnswered w k
+pub answered_now : (es : List (Bool × EndAction)) (w : Pair) (k : NumberedBefore) → KeepsRequests es w k → AreAnswered w k
 answered_now [] w k h = h
 answered_now (e ∷ es) w k h = h.0
 
 -- those of one end
-abbrev pub asked_of : Bool → Asked → ℕ
+abbrev pub asked_of : Bool → NumberedBefore → ℕ
 asked_of true k = k.a
 asked_of false k = k.b
 
-pub answered_at : (x : Bool) (w : Pair) (k : Asked) → AreAnswered w k → IsAnswered (state_of (side_of x w)) (asked_of x k)
+pub answered_at : (x : Bool) (w : Pair) (k : NumberedBefore) → AreAnswered w k → IsAnswered (state_of (side_of x w)) (asked_of x k)
 answered_at true w k h = h.a
 answered_at false w k h = h.b
 
@@ -70,7 +70,7 @@ same_number : (o : Option ℕ) → is_same o o ≡ true
 same_number None = refl
 same_number (Some n) = eq-eqb n n refl
 
-pub asked_again : (s : State) (n : ℕ) → asked_by s s n ≡ n
+pub asked_again : (s : State) (n : ℕ) → numbered_before s s n ≡ n
 asked_again s n = ap (λ (b : Bool). let m : ℕ = cond b n (numbered_count s) in m) (same_number (waiting_number s))
 
 -- ---- epochs

@@ -10,7 +10,7 @@ use Rattle.sctp_tracker.specs.declared.data_tracker.AckState.{AckState}
 use Rattle.sctp_tracker.specs.declared.data_tracker.AckState.TheVariants.{Idle, Becoming, Delayed, Immediate}
 use Rattle.sctp_rx.specs.Seen.{Run, Seen, in_runs, contains, AreRuns, IsInRuns, last_above, highest}
 use Rattle.sctp_rx.specs.DataTracker.{Tracker, IsTracker, DelayFits, tracker, is_valid, has_seen, window, bound, update_rto, is_ack_due, take_ack, is_becoming, packet_end, ack_timeout, insert_number, with_duplicate, observe, forward}
-use Rattle.sctp_rx.specs.Sack.{report}
+use Rattle.sctp_rx.specs.Sack.{clear_duplicates}
 use Rattle.sctp_tracker.proofs.SeenRunsLemmas.{le_last_above, next_is_new}
 use Rattle.sctp_tracker.proofs.SeenOneFormLemmas.{contains_add, IsInRuns_add, contains_up_to, IsInRuns_up_to}
 
@@ -194,7 +194,7 @@ module _ (t : Tracker) (i : IsTracker t) where
   pub tracker_timed : (rto : ℕ) → IsTracker (update_rto rto t)
   tracker_timed rto = acknowledges t.duplicates t.ack (update_rto rto t).delay i.few i.delay
 
-  pub tracker_emitted : IsTracker (report t)
+  pub tracker_emitted : IsTracker (clear_duplicates t)
   tracker_emitted = acknowledges [] t.ack t.delay (omega arith) i.delay
 
   pub tracker_asked : (also_if_delayed : Bool) → IsTracker (take_ack also_if_delayed t)

@@ -2,7 +2,7 @@
 use Rattle.std.proofs.Common.{◌≡◌, ℕ, suc, ◌+◌, ◌^◌, ◌<◌, ◌≤◌, Bool, true, false, not, Option, inl, inr, List, [], ◌∷◌, All, refl, sym, ap, ◌∙◌, subst, arith}
 use Rattle.std.proofs.lemmas.List.Elements.{All-head, All-tail}
 use Rattle.std.proofs.lemmas.Bool.{cases_lt}
-use Rattle.sctp_serial.specs.Unwrapped.{origin, words, wire}
+use Rattle.sctp_serial.specs.Unwrapped.{origin, u32_space, wire}
 use Rattle.sctp_packet.specs.Chunk.{FragmentTree}
 use Rattle.sctp_tx_queue.specs.SendQueue.{Queue, stream}
 use Rattle.sctp_tx_outstanding.specs.Item.{Item}
@@ -33,10 +33,10 @@ module _ (message : ℕ → Message) (lifecycle : ℕ → Option ℕ) (is_interl
 -- ---- the windows
 
 -- a number below 2^32 is written as it is
-wire_small : (n : ℕ) → n < 2 ^ 32 → wire words 0 (origin + n) ≡ n
+wire_small : (n : ℕ) → n < 2 ^ 32 → wire u32_space 0 (origin + n) ≡ n
 wire_small n l = omega (arith, l)
 
-near_by : (next written mid : ℕ) (c : ℕ) → next ≡ origin + c → mid ≡ wire words 0 (origin + written) → written < 2 ^ 32 → next < origin + mid + 32000 → c < written + 32000
+near_by : (next written mid : ℕ) (c : ℕ) → next ≡ origin + c → mid ≡ wire u32_space 0 (origin + written) → written < 2 ^ 32 → next < origin + mid + 32000 → c < written + 32000
 near_by next written mid c e f l h = let w = f ∙ wire_small written l in omega (arith, e, w, h)
 
 module _ (message : ℕ → Message) (lifecycle : ℕ → Option ℕ) (is_interleaved : Bool) (x : Direction) (q : Queue) (kept : IsKept message is_interleaved x) where
@@ -77,7 +77,7 @@ module _ (message : ℕ → Message) (lifecycle : ℕ → Option ℕ) (is_interl
             let p : ℕ = place_of now.sender u in
             let on : i.fragment.stream_id ≡ stream_of message p = ap (λ (z : FragmentTree). z.stream_id) f.carried in
             let kind : i.fragment.is_unordered ≡ false = ap (λ (z : FragmentTree). z.is_unordered) f.carried ∙ ap not o in
-            let mid : i.fragment.mid ≡ wire words 0 (origin + now.sender.written p) = ap (λ (z : FragmentTree). z.mid) f.carried in
+            let mid : i.fragment.mid ≡ wire u32_space 0 (origin + now.sender.written p) = ap (λ (z : FragmentTree). z.mid) f.carried in
             let next : (stream i.fragment.stream_id q.streams).next_ordered_mid ≡ origin + now.sender.following true (stream_of message p) =
             ap (λ z. (stream z q.streams).next_ordered_mid) on ∙ (h.queue.next (stream_of message p)).ordered_mid in
             let begun = kept.epochs.order.kept.outgoing.place_begun u below in

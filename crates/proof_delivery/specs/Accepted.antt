@@ -5,7 +5,7 @@ use Rattle.sctp_state.specs.declared.api.SocketState.{SocketState}
 use Rattle.sctp_state.specs.declared.api.errors.SendError.{SendError}
 use Rattle.sctp_state.specs.Options.{SendOptions}
 use Rattle.spec_endpoint.specs.Association.{Context}
-use Rattle.spec_endpoint.specs.Calls.{shown_state, refusal, offer}
+use Rattle.spec_endpoint.specs.Calls.{shown_state, send_refusal, offer}
 use Rattle.spec_endpoint.specs.Laws.{Call, Send, SendMany}
 use Rattle.proof_endpoint.specs.Mapped.{Carried}
 use Rattle.proof_pair.specs.Trace.{Side, Pair, EndAction, Calls, goes, state_of}
@@ -23,7 +23,7 @@ unless_refused (Some e) m o = []
 -- of several, one after the other
 abbrev pub accepted_of : List Message → SendOptions → SocketState → Context Carried → List AcceptedMessage
 accepted_of [] o shown c = []
-accepted_of (m ∷ ms) o shown c = unless_refused (refusal m shown c) m o ++ accepted_of ms o shown (offer m o shown c)
+accepted_of (m ∷ ms) o shown c = unless_refused (send_refusal m shown c) m o ++ accepted_of ms o shown (offer m o shown c)
 
 abbrev pub accepted_by : Call → Side → List AcceptedMessage
 accepted_by (Send m o) x = accepted_of (m ∷ []) o (shown_state (state_of x)) x.end.endpoint_state.context

@@ -20,28 +20,28 @@ is_same (Some n) None = false
 is_same (Some n) (Some m) = n == m
 
 -- how many fragments each end had numbered before the action in which the request that waits was started
-pub record Asked : Type 0 where
+pub record NumberedBefore : Type 0 where
   pub a : ℕ
   pub b : ℕ
 
-abbrev pub none_asked : Asked
+abbrev pub none_asked : NumberedBefore
 none_asked = record { a = 0; b = 0 }
 
-abbrev pub asked_by : (before after : State) → ℕ → ℕ
-asked_by s u n = cond (is_same (waiting_number s) (waiting_number u)) n (numbered_count s)
+abbrev pub numbered_before : (before after : State) → ℕ → ℕ
+numbered_before s u n = cond (is_same (waiting_number s) (waiting_number u)) n (numbered_count s)
 
-abbrev pub asked_after : Bool → EndAction → Pair → Asked → Asked
-asked_after x action w k = record { a = asked_by (state_of w.a) (state_of (goes x action w).a) k.a; b = asked_by (state_of w.b) (state_of (goes x action w).b) k.b }
+abbrev pub asked_after : Bool → EndAction → Pair → NumberedBefore → NumberedBefore
+asked_after x action w k = record { a = numbered_before (state_of w.a) (state_of (goes x action w).a) k.a; b = numbered_before (state_of w.b) (state_of (goes x action w).b) k.b }
 
 -- while it waits, its end numbers fewer than 2^30 fragments
 abbrev pub IsAnswered : State → (asked : ℕ) → Type 0
 IsAnswered s asked = (n : ℕ) → waiting_number s ≡ Some n → numbered_count s < asked + 2 ^ 30
 
-pub record AreAnswered (w : Pair) (k : Asked) : Type 0 where
+pub record AreAnswered (w : Pair) (k : NumberedBefore) : Type 0 where
   pub a : IsAnswered (state_of w.a) k.a
   pub b : IsAnswered (state_of w.b) k.b
 
-abbrev pub KeepsRequests : List (Bool × EndAction) → Pair → Asked → Type 0
+abbrev pub KeepsRequests : List (Bool × EndAction) → Pair → NumberedBefore → Type 0
 KeepsRequests [] w k = AreAnswered w k
 KeepsRequests (e ∷ es) w k = AreAnswered w k × KeepsRequests es (goes e.0 e.1 w) (asked_after e.0 e.1 w k)
 

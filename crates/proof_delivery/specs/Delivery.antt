@@ -5,11 +5,11 @@ use Rattle.sctp_serial.specs.Messages.{Message}
 use Rattle.sctp_state.specs.Events.{Event}
 use Rattle.sctp_state.specs.Options.{Options, plainly}
 use Rattle.proof_protocol.specs.State.{has}
-use Rattle.proof_tx_refines.specs.Led.{delivered_ids}
+use Rattle.proof_tx_refines.specs.Reachable.{delivered_ids}
 use Rattle.proof_tx_refines.specs.Records.{are_distinct}
 use Rattle.proof_endpoint.specs.Mapped.{Carried}
-use Rattle.proof_pair.specs.Trace.{Pair, EndAction, run, side_of, KeepsOpeningRules, NeitherHasEnded, AreValidOptions, start}
-use Rattle.proof_pair.specs.Handing.{readied_messages, text, two_come}
+use Rattle.proof_pair.specs.Trace.{Pair, EndAction, run, side_of, KeepsRules, NoAssociationHasEnded, AreValidOptions, start}
+use Rattle.proof_pair.specs.Handing.{messages_made_ready, text, two_come}
 use Rattle.proof_pair.specs.Opens.{at_first}
 use Rattle.proof_delivery.specs.Accepted.{AcceptedMessage, accepted}
 use Rattle.proof_delivery.specs.GivenUp.{given_up, IsAtRest}
@@ -64,15 +64,15 @@ AllAreDone offers abandoned places = (p : ℕ) → p < length offers → (has p 
 pub record Delivers (from_a : Bool) (trace : List (Bool × EndAction)) (w : Pair) : Type 0 where
   pub places : List ℕ
   pub fits : (early late : List (Bool × EndAction)) → trace ≡ early ++ late
-      → Fits (accepted from_a early w) (readied_messages (not from_a) early w) (take (length (readied_messages (not from_a) early w)) places)
+      → Fits (accepted from_a early w) (messages_made_ready (not from_a) early w) (take (length (messages_made_ready (not from_a) early w)) places)
   pub skipped : (early late : List (Bool × EndAction)) → trace ≡ early ++ late
-      → SkippedAreGivenUp (accepted from_a early w) (given_up from_a early w) (take (length (readied_messages (not from_a) early w)) places)
+      → SkippedAreGivenUp (accepted from_a early w) (given_up from_a early w) (take (length (messages_made_ready (not from_a) early w)) places)
   pub reports : (early late : List (Bool × EndAction)) → trace ≡ early ++ late
-      → ReportsAreTrue (accepted from_a early w) (side_of from_a (run early w)).emitted (take (length (readied_messages (not from_a) early w)) places)
+      → ReportsAreTrue (accepted from_a early w) (side_of from_a (run early w)).emitted (take (length (messages_made_ready (not from_a) early w)) places)
   -- no two records of the sender name the same message
   pub once : (early late : List (Bool × EndAction)) → trace ≡ early ++ late → are_distinct (given_up from_a early w) ≡ true
   pub rest : (early late : List (Bool × EndAction)) → trace ≡ early ++ late → IsAtRest (side_of from_a (run early w))
-      → AllAreDone (accepted from_a early w) (given_up from_a early w) (take (length (readied_messages (not from_a) early w)) places)
+      → AllAreDone (accepted from_a early w) (given_up from_a early w) (take (length (messages_made_ready (not from_a) early w)) places)
   -- each message becomes ready in its epoch
   pub epochs : AreInTheirEpochs from_a trace w places
 
@@ -89,16 +89,16 @@ pub record IsInBounds (trace : List (Bool × EndAction)) (w : Pair) : Type 0 whe
 -- Along each trace that follows the rules, until an association first ends.
 abbrev pub MessagesAreDelivered : Type 0
 MessagesAreDelivered =
-    (a b : Options) (words_a words_b : Stream) (trace : List (Bool × EndAction)) → AreValidOptions a → AreValidOptions b
-    → KeepsOpeningRules trace (start a b words_a words_b) → NeitherHasEnded (run trace (start a b words_a words_b))
-    → IsInBounds trace (start a b words_a words_b) → (from_a : Bool) → Delivers from_a trace (start a b words_a words_b)
+    (a b : Options) (draws_a draws_b : Stream) (trace : List (Bool × EndAction)) → AreValidOptions a → AreValidOptions b
+    → KeepsRules trace (start a b draws_a draws_b) → NoAssociationHasEnded (run trace (start a b draws_a draws_b))
+    → IsInBounds trace (start a b draws_a draws_b) → (from_a : Bool) → Delivers from_a trace (start a b draws_a draws_b)
 
 -- and no end emits that a reset failed
 abbrev pub NoResetIsRefused : Type 0
 NoResetIsRefused =
-    (a b : Options) (words_a words_b : Stream) (trace : List (Bool × EndAction)) → AreValidOptions a → AreValidOptions b
-    → KeepsOpeningRules trace (start a b words_a words_b) → NeitherHasEnded (run trace (start a b words_a words_b))
-    → IsInBounds trace (start a b words_a words_b) → NoneIsRefused trace (start a b words_a words_b)
+    (a b : Options) (draws_a draws_b : Stream) (trace : List (Bool × EndAction)) → AreValidOptions a → AreValidOptions b
+    → KeepsRules trace (start a b draws_a draws_b) → NoAssociationHasEnded (run trace (start a b draws_a draws_b))
+    → IsInBounds trace (start a b draws_a draws_b) → NoneIsRefused trace (start a b draws_a draws_b)
 
 -- ---- such a trace, computed: two messages are accepted, and become ready
 
@@ -106,8 +106,8 @@ abbrev pub plain : (byte : ℕ) → AcceptedMessage
 plain byte = record { message = text byte; options = plainly }
 
 pub record TwoAreDelivered : Type 0 where
-  pub follows : KeepsOpeningRules two_come at_first
-  pub not_ended : NeitherHasEnded (run two_come at_first)
+  pub follows : KeepsRules two_come at_first
+  pub not_ended : NoAssociationHasEnded (run two_come at_first)
   pub bounds : IsInBounds two_come at_first
   pub accepts : accepted true two_come at_first ≡ plain 97 ∷ plain 98 ∷ []
-  pub readies : readied_messages false two_come at_first ≡ text 97 ∷ text 98 ∷ []
+  pub readies : messages_made_ready false two_come at_first ≡ text 97 ∷ text 98 ∷ []

@@ -5,8 +5,8 @@ use Rattle.sctp_state.specs.Events.{Event}
 use Rattle.sctp_state.specs.Options.{Options}
 use Rattle.spec_endpoint.specs.Laws.{endings}
 use Rattle.proof_endpoint.specs.Mapped.{Carried}
-use Rattle.proof_pair.specs.Trace.{Pair, EndAction, goes, run, side_of, KeepsOpeningRules, NeitherHasEnded, AreValidOptions, start}
-use Rattle.proof_pair.specs.Handing.{readied_messages}
+use Rattle.proof_pair.specs.Trace.{Pair, EndAction, goes, run, side_of, KeepsRules, NoAssociationHasEnded, AreValidOptions, start}
+use Rattle.proof_pair.specs.Handing.{messages_made_ready}
 use Rattle.proof_delivery.specs.Accepted.{accepted}
 use Rattle.proof_delivery.specs.GivenUp.{emitted_by}
 use Rattle.proof_delivery.specs.Windows.{stamp, Stamps, no_stamps, stamps_after, stamps_for, IsTimely, KeepsWindows, KeepsLimits}
@@ -34,13 +34,13 @@ pub record DeliversThen (from_a : Bool) (trace : List (Bool × EndAction)) (last
   pub reports : (early late : List (Event Carried)) → (emitted_by last (side_of from_a (run trace w)) (side_of (not from_a) (run trace w))).events ≡ early ++ late
       → endings early ≡ 0
       → ReportsAreTrue (accepted from_a (trace ++ (from_a, last) ∷ []) w) ((side_of from_a (run trace w)).emitted ++ early)
-      (take (length (readied_messages (not from_a) trace w)) delivers.places)
+      (take (length (messages_made_ready (not from_a) trace w)) delivers.places)
   pub none_refused : (early late : List (Event Carried)) → (emitted_by last (side_of from_a (run trace w)) (side_of (not from_a) (run trace w))).events ≡ early ++ late
       → endings early ≡ 0 → failed_in ((side_of from_a (run trace w)).emitted ++ early) ≡ false
 
 -- Along each trace that follows the rules, and one more action, which may end an association.
 abbrev pub MessagesAreDeliveredThen : Type 0
 MessagesAreDeliveredThen =
-    (a b : Options) (words_a words_b : Stream) (trace : List (Bool × EndAction)) (from_a : Bool) (last : EndAction) → AreValidOptions a → AreValidOptions b
-    → KeepsOpeningRules (trace ++ (from_a, last) ∷ []) (start a b words_a words_b) → NeitherHasEnded (run trace (start a b words_a words_b))
-    → IsInBoundsThen from_a trace last (start a b words_a words_b) → DeliversThen from_a trace last (start a b words_a words_b)
+    (a b : Options) (draws_a draws_b : Stream) (trace : List (Bool × EndAction)) (from_a : Bool) (last : EndAction) → AreValidOptions a → AreValidOptions b
+    → KeepsRules (trace ++ (from_a, last) ∷ []) (start a b draws_a draws_b) → NoAssociationHasEnded (run trace (start a b draws_a draws_b))
+    → IsInBoundsThen from_a trace last (start a b draws_a draws_b) → DeliversThen from_a trace last (start a b draws_a draws_b)

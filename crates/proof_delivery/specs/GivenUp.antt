@@ -1,34 +1,34 @@
 -- Along a trace: the messages that an end gave up, by their places, and whether anything is left to be sent.
 use Rattle.std.specs.Prelude.{◌≡◌, ℕ, Bool, true, false, Option, Some, None, List, [], ◌∷◌, ◌++◌, map, slice_get}
 use Rattle.sctp_packet.specs.Packet.{PacketTree}
-use Rattle.sctp_state.specs.Events.{GivenUp, Emitted, silent}
+use Rattle.sctp_state.specs.Events.{GivenUp, Emitted, nothing_emitted}
 use Rattle.sctp_tx_queue.specs.SendQueue.{is_empty}
 use Rattle.sctp_tx_outstanding.specs.Item.{Item}
 use Rattle.spec_endpoint.specs.Association.{State, Closed, CookieWait, Open, Endpoint}
-use Rattle.spec_endpoint.specs.Input.{refusal}
-use Rattle.spec_endpoint.specs.Laws.{Packet, called}
+use Rattle.spec_endpoint.specs.Input.{packet_refusal}
+use Rattle.spec_endpoint.specs.Laws.{ReceivePacket, called}
 use Rattle.proof_endpoint.specs.Mapped.{Carried}
 use Rattle.proof_pair.specs.Trace.{Side, Pair, emitted_packets, EndAction, Calls, Gives, Refuses, as_received, goes, state_of}
 use Rattle.proof_delivery.specs.Windows.{queue_of}
 
 -- ---- one action
 
-abbrev pub emitted_of : Endpoint Carried → Emitted Carried
-emitted_of e = e.endpoint_state.context.emitted
+abbrev pub pending_emitted : Endpoint Carried → Emitted Carried
+pending_emitted e = e.endpoint_state.context.emitted
 
 abbrev pub emitted_given : Option Carried → (checksum : ℕ) → Side → Emitted Carried
-emitted_given None checksum x = silent
-emitted_given (Some p) checksum x = emitted_of (called (Packet (as_received p checksum)) x.end)
+emitted_given None checksum x = nothing_emitted
+emitted_given (Some p) checksum x = pending_emitted (called (ReceivePacket (as_received p checksum)) x.end)
 
 abbrev pub emitted_foreign : (refusal : Option (List ℕ)) → PacketTree → Side → Emitted Carried
-emitted_foreign None p x = silent
-emitted_foreign (Some text) p x = emitted_of (called (Packet p) x.end)
+emitted_foreign None p x = nothing_emitted
+emitted_foreign (Some text) p x = pending_emitted (called (ReceivePacket p) x.end)
 
 -- what an end emits, before it is taken
 abbrev pub emitted_by : EndAction → (x y : Side) → Emitted Carried
-emitted_by (Calls call) x y = emitted_of (called call x.end)
+emitted_by (Calls call) x y = pending_emitted (called call x.end)
 emitted_by (Gives which checksum) x y = emitted_given (slice_get (emitted_packets y) which) checksum x
-emitted_by (Refuses p) x y = emitted_foreign (refusal p.header.verification_tag p.chunks (state_of x)) p x
+emitted_by (Refuses p) x y = emitted_foreign (packet_refusal p.header.verification_tag p.chunks (state_of x)) p x
 
 -- the messages that its records name
 abbrev pub given_up_by : EndAction → (x y : Side) → List ℕ

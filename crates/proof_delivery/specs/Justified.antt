@@ -12,11 +12,11 @@ use Rattle.sctp_state.specs.declared.api.GivenUpCause.{GivenUpCause}
 use Rattle.sctp_state.specs.declared.api.GivenUpCause.TheVariants.{Lifetime, Retransmissions, Reset}
 use Rattle.sctp_state.specs.declared.api.errors.ResetStreamsError.{ResetStreamsError}
 use Rattle.spec_endpoint.specs.Association.{Endpoint}
-use Rattle.spec_endpoint.specs.Input.{refusal}
+use Rattle.spec_endpoint.specs.Input.{packet_refusal}
 use Rattle.spec_endpoint.specs.StreamReset.{reset_refusal}
-use Rattle.spec_endpoint.specs.Laws.{Send, ResetStreams, Advance, Restore, Packet, called}
+use Rattle.spec_endpoint.specs.Laws.{Send, ResetStreams, Advance, Restore, ReceivePacket, called}
 use Rattle.proof_endpoint.specs.Mapped.{Carried}
-use Rattle.proof_pair.specs.Trace.{Side, Pair, emitted_packets, EndAction, Calls, Gives, Refuses, as_received, goes, run, side_of, KeepsOpeningRules, NeitherHasEnded, start, state_of}
+use Rattle.proof_pair.specs.Trace.{Side, Pair, emitted_packets, EndAction, Calls, Gives, Refuses, as_received, goes, run, side_of, KeepsRules, NoAssociationHasEnded, start, state_of}
 use Rattle.proof_pair.specs.Opens.{at_first, one_connects}
 use Rattle.proof_delivery.specs.Accepted.{AcceptedMessage, accepted_at, accepted}
 
@@ -45,17 +45,17 @@ records_of e = e.endpoint_state.context.emitted.given_up
 
 abbrev pub records_given : Option Carried → (checksum : ℕ) → Side → List GivenUp
 records_given None checksum x = []
-records_given (Some p) checksum x = records_of (called (Packet (as_received p checksum)) x.end)
+records_given (Some p) checksum x = records_of (called (ReceivePacket (as_received p checksum)) x.end)
 
-abbrev pub records_if : (refusal : Option (List ℕ)) → PacketTree → Side → List GivenUp
-records_if None p x = []
-records_if (Some text) p x = records_of (called (Packet p) x.end)
+abbrev pub records_foreign : (refusal : Option (List ℕ)) → PacketTree → Side → List GivenUp
+records_foreign None p x = []
+records_foreign (Some text) p x = records_of (called (ReceivePacket p) x.end)
 
 -- what one end gives up at its action, beside the other
 abbrev pub records_by : EndAction → (x y : Side) → List GivenUp
 records_by (Calls call) x y = records_of (called call x.end)
 records_by (Gives which checksum) x y = records_given (slice_get (emitted_packets y) which) checksum x
-records_by (Refuses p) x y = records_if (refusal p.header.verification_tag p.chunks (state_of x)) p x
+records_by (Refuses p) x y = records_foreign (packet_refusal p.header.verification_tag p.chunks (state_of x)) p x
 
 -- true is end a: what end x gives up at an action of this end
 abbrev pub records_at : (x acts : Bool) → EndAction → Pair → List GivenUp
@@ -134,9 +134,9 @@ RestoresNone trace = list_any (λ (e : Bool × EndAction). restores e.1) trace �
 -- so far, where these are fewer than 2^32.
 abbrev pub RecordsAreJustified : Type 0
 RecordsAreJustified =
-    (a b : Options) (words_a words_b : Stream) (trace : List (Bool × EndAction)) → RestoresNone trace → (x : Bool)
-    → length (accepted x trace (start a b words_a words_b)) < 2 ^ 32
-    → AllByRecursion (IsJustified (acceptances x trace (start a b words_a words_b))) (dated_records x trace (start a b words_a words_b))
+    (a b : Options) (draws_a draws_b : Stream) (trace : List (Bool × EndAction)) → RestoresNone trace → (x : Bool)
+    → length (accepted x trace (start a b draws_a draws_b)) < 2 ^ 32
+    → AllByRecursion (IsJustified (acceptances x trace (start a b draws_a draws_b))) (dated_records x trace (start a b draws_a draws_b))
 
 -- acceptances are those of the accepted messages, one by one
 abbrev pub AcceptancesAreAccepted : Type 0
@@ -157,8 +157,8 @@ two_are_lost =
     ∷ (true, Calls (Advance ten_seconds)) ∷ [])
 
 pub record TwoAreGivenUp : Type 0 where
-  pub follows : KeepsOpeningRules two_are_lost at_first
+  pub follows : KeepsRules two_are_lost at_first
   pub restores_none : RestoresNone two_are_lost
-  pub not_ended : NeitherHasEnded (run two_are_lost at_first)
+  pub not_ended : NoAssociationHasEnded (run two_are_lost at_first)
   pub gives_up : dated_records true two_are_lost at_first
       ≡ dated_record ten_seconds [] (record { number = 0; cause = Retransmissions 0 }) ∷ dated_record ten_seconds [] (record { number = 1; cause = Lifetime }) ∷ []

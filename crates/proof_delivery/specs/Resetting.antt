@@ -2,10 +2,10 @@
 use Rattle.std.specs.Prelude.{◌≡◌, Bool, true, false, List, [], ◌∷◌, ◌++◌}
 use Rattle.sctp_state.specs.Options.{plainly}
 use Rattle.spec_endpoint.specs.Laws.{Send, ResetStreams}
-use Rattle.proof_pair.specs.Trace.{EndAction, Calls, Gives, run, KeepsOpeningRules, NeitherHasEnded}
-use Rattle.proof_pair.specs.Handing.{readied_messages, text}
+use Rattle.proof_pair.specs.Trace.{EndAction, Calls, Gives, run, KeepsRules, NoAssociationHasEnded}
+use Rattle.proof_pair.specs.Handing.{messages_made_ready, text}
 use Rattle.proof_pair.specs.Opens.{at_first, one_connects}
-use Rattle.proof_delivery.specs.StreamEpochs.{all_open, message_epochs, performed_of, resets_emitted, emitted_of, NoneIsRefused}
+use Rattle.proof_delivery.specs.StreamEpochs.{all_open, message_epochs, performed_of, resets_emitted, emitted_along, NoneIsRefused}
 use Rattle.proof_delivery.specs.Delivery.{IsInBounds}
 
 -- A message is sent; its stream is reset twice at once, and another message is accepted; the packets come in order. The second call
@@ -18,11 +18,11 @@ one_is_reset =
 
 -- both become ready, and the reset is emitted once at either end
 pub record OneIsReset : Type 0 where
-  pub follows : KeepsOpeningRules one_is_reset at_first
-  pub not_ended : NeitherHasEnded (run one_is_reset at_first)
+  pub follows : KeepsRules one_is_reset at_first
+  pub not_ended : NoAssociationHasEnded (run one_is_reset at_first)
   pub bounds : IsInBounds one_is_reset at_first
   pub epochs : message_epochs true one_is_reset at_first all_open ≡ 0 ∷ 1 ∷ []
-  pub readies : readied_messages false one_is_reset at_first ≡ text 97 ∷ text 98 ∷ []
-  pub emitted : resets_emitted 1 (emitted_of false one_is_reset at_first) ≡ 1
-  pub performed : performed_of (emitted_of true one_is_reset at_first) ≡ 1 ∷ []
+  pub readies : messages_made_ready false one_is_reset at_first ≡ text 97 ∷ text 98 ∷ []
+  pub emitted : resets_emitted 1 (emitted_along false one_is_reset at_first) ≡ 1
+  pub performed : performed_of (emitted_along true one_is_reset at_first) ≡ 1 ∷ []
   pub none_refused : NoneIsRefused one_is_reset at_first

@@ -6,7 +6,7 @@ use Rattle.std.specs.List.{list_any}
 use Rattle.sctp_state.specs.Events.{Event, OnStreamsResetPerformed, OnStreamsResetFailed, OnIncomingStreamReset}
 use Rattle.proof_endpoint.specs.Mapped.{Carried}
 use Rattle.proof_pair.specs.Trace.{Pair, EndAction, goes, run, side_of}
-use Rattle.proof_pair.specs.Handing.{readied_messages}
+use Rattle.proof_pair.specs.Handing.{messages_made_ready}
 use Rattle.proof_delivery.specs.Accepted.{AcceptedMessage, accepted_at, accepted}
 use Rattle.proof_delivery.specs.GivenUp.{emitted_by}
 use Rattle.proof_delivery.specs.Justified.{reset_at}
@@ -73,8 +73,8 @@ resets_emitted s [] = 0
 resets_emitted s (OnIncomingStreamReset streams ∷ es) = cond (are_named streams s) (1 + resets_emitted s es) (resets_emitted s es)
 resets_emitted s (e ∷ es) = resets_emitted s es
 
-abbrev pub emitted_of : (x : Bool) → List (Bool × EndAction) → Pair → List (Event Carried)
-emitted_of x trace w = (side_of x (run trace w)).emitted
+abbrev pub emitted_along : (x : Bool) → List (Bool × EndAction) → Pair → List (Event Carried)
+emitted_along x trace w = (side_of x (run trace w)).emitted
 
 -- ---- what is observed
 
@@ -82,13 +82,13 @@ emitted_of x trace w = (side_of x (run trace w)).emitted
 -- that it emitted up to its end.
 pub record AreInTheirEpochs (from_a : Bool) (trace : List (Bool × EndAction)) (w : Pair) (places : List ℕ) : Type 0 where
   pub least : (early late : List (Bool × EndAction)) (e : Bool × EndAction) → trace ≡ early ++ e ∷ late → (k n : ℕ) (o : AcceptedMessage)
-      → length (readied_messages (not from_a) early w) ≤ k → k < length (readied_messages (not from_a) (early ++ e ∷ []) w)
+      → length (messages_made_ready (not from_a) early w) ≤ k → k < length (messages_made_ready (not from_a) (early ++ e ∷ []) w)
       → slice_get (accepted from_a trace w) (slice_index places k) ≡ Some o → slice_get (message_epochs from_a trace w all_open) (slice_index places k) ≡ Some n
-      → resets_emitted o.message.stream (emitted_of (not from_a) early w) ≤ n
+      → resets_emitted o.message.stream (emitted_along (not from_a) early w) ≤ n
   pub most : (early late : List (Bool × EndAction)) (e : Bool × EndAction) → trace ≡ early ++ e ∷ late → (k n : ℕ) (o : AcceptedMessage)
-      → length (readied_messages (not from_a) early w) ≤ k → k < length (readied_messages (not from_a) (early ++ e ∷ []) w)
+      → length (messages_made_ready (not from_a) early w) ≤ k → k < length (messages_made_ready (not from_a) (early ++ e ∷ []) w)
       → slice_get (accepted from_a trace w) (slice_index places k) ≡ Some o → slice_get (message_epochs from_a trace w all_open) (slice_index places k) ≡ Some n
-      → n ≤ resets_emitted o.message.stream (emitted_of (not from_a) (early ++ e ∷ []) w)
+      → n ≤ resets_emitted o.message.stream (emitted_along (not from_a) (early ++ e ∷ []) w)
 
 -- no reset is emitted as failed
 abbrev pub failed_in : {P : Type 0} → List (Event P) → Bool
@@ -97,4 +97,4 @@ failed_in (OnStreamsResetFailed streams ∷ es) = true
 failed_in (e ∷ es) = failed_in es
 
 abbrev pub NoneIsRefused : List (Bool × EndAction) → Pair → Type 0
-NoneIsRefused trace w = (x : Bool) → failed_in (emitted_of x trace w) ≡ false
+NoneIsRefused trace w = (x : Bool) → failed_in (emitted_along x trace w) ≡ false

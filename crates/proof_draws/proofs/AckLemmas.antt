@@ -12,8 +12,8 @@ use Rattle.sctp_state.specs.Timer.{Timer}
 use Rattle.spec_endpoint.specs.Association.{State, Closed, CookieWait, Open, Context, Endpoint}
 use Rattle.spec_endpoint.specs.Shown.{Association}
 use Rattle.spec_endpoint.specs.Opening.{init_ack_of, agreed_by, cookie_for, cookie_in}
-use Rattle.spec_endpoint.specs.Input.{my_tag, refusal, counts, taken_if}
-use Rattle.spec_endpoint.specs.Laws.{Call, Packet, called}
+use Rattle.spec_endpoint.specs.Input.{my_tag, packet_refusal, count_packet_at, packet_if}
+use Rattle.spec_endpoint.specs.Laws.{Call, ReceivePacket, called}
 use Rattle.proof_endpoint.specs.Mapped.{Carried}
 use Rattle.proof_endpoint.specs.Acts.{is_opened}
 use Rattle.proof_pair.specs.Trace.{Side, as_carried, as_received, state_of}
@@ -45,25 +45,25 @@ IsThat i chunk = Unit {0}
 module _ (ps : List (Drawn × Drawn)) (k : Knows ps) (law : EachCallIsNamed) (o q : Options) (x y z : Side) (t : Twin ps x y z) (p r : Carried)
     (checksum other : ℕ) (packing : x.end.endpoint_state.context.pack ≡ as_carried) (quiet : x.end.endpoint_state.context.emitted.events ≡ []) (i : InitTree)
     (n : IsNamedBy ps (state_of y) (state_of x) p r) (alone : p.chunks ≡ init_ack_chunk i ∷ [])
-    (none : refusal p.header.verification_tag (map carried p.chunks) (state_of x) ≡ None) (numbers : NumbersFitIn (state_of x)) (said : IsInitAck q o (seen y) (seen x) y.got_init i)
+    (none : packet_refusal p.header.verification_tag (map carried p.chunks) (state_of x) ≡ None) (numbers : NumbersFitIn (state_of x)) (said : IsInitAck q o (seen y) (seen x) y.got_init i)
     (taken : IsTaken i n.mine n.cookie_tie) where
   abbrev call : Call
-  call = Packet (as_received p checksum)
+  call = ReceivePacket (as_received p checksum)
 
   abbrev f : Endpoint Carried
-  f = called (Packet (as_received r other)) z.end
+  f = called (ReceivePacket (as_received r other)) z.end
 
   abbrev received : List ChunkTree
   received = map carried p.chunks
 
   abbrev tie : ℕ → ℕ
-  tie old = (next_u64 z.end.random).0
+  tie old = (next_u64 z.end.draws).0
 
   received_alone : received ≡ init_ack_chunk i ∷ []
   received_alone = ap (λ (cs : List ChunkTree). map carried cs) alone
 
   silent : receives_init call ≡ false
-  silent = ap (λ (cs : List ChunkTree). receives_init (Packet (record (as_received p checksum) { chunks = cs }))) received_alone
+  silent = ap (λ (cs : List ChunkTree). receives_init (ReceivePacket (record (as_received p checksum) { chunks = cs }))) received_alone
 
   guides : (mine : ℕ) → Guides call mine i.initiate_tag
   guides mine =
@@ -103,12 +103,12 @@ module _ (ps : List (Drawn × Drawn)) (k : Knows ps) (law : EachCallIsNamed) (o 
         ∙ (ap (λ (j : InitTree). init_ack_chunk j ∷ []) (init_received i said.is (ap (λ (a : ℕ). far ps a) (sym taken.own)))
         ∙ sym (ap (λ (cs : List ChunkTree). named_chunks (flip m) cs) received_alone))
 
-    echo_of : (c : Option (List ℕ)) → EchoIsNamed m c x.end.random z.end.random
+    echo_of : (c : Option (List ℕ)) → EchoIsNamed m c x.end.draws z.end.draws
     echo_of None = tt
     echo_of (Some cookie) = record { maker = (cookies_named (cookie_under ps same_tie)).same_maker cookie; draws = record { tie = refl } }
 
-    ack_is : InitAckIsNamed m i (state_of x) x.end.random z.end.random
-    ack_is = subst (λ (s : State). InitAckIsNamed m i s x.end.random z.end.random) (sym waits) (echo_of (cookie_in i.parameters))
+    ack_is : InitAckIsNamed m i (state_of x) x.end.draws z.end.draws
+    ack_is = subst (λ (s : State). InitAckIsNamed m i s x.end.draws z.end.draws) (sym waits) (echo_of (cookie_in i.parameters))
 
     pub ack_named : Named ps x z (state_of y) call f
     ack_named = record {
@@ -127,16 +127,16 @@ module _ (ps : List (Drawn × Drawn)) (k : Knows ps) (law : EachCallIsNamed) (o 
 -- ---- an end with a control block does nothing with it
 
 abbrev at_state : State → Context Carried → Stream → Endpoint Carried
-at_state s c w = record { endpoint_state = record { state = s; context = c }; random = w }
+at_state s c w = record { endpoint_state = record { state = s; context = c }; draws = w }
 
 any_ack : (tag : ℕ) (i j : InitTree) (s : State) (c : Context Carried) (w : Stream) → is_opened s ≡ true
     → on_chunks tag (init_ack_chunk i ∷ []) (at_state s c w) ≡ on_chunks tag (init_ack_chunk j ∷ []) (at_state s c w)
 any_ack tag i j Closed c w h = cc
 any_ack tag i j (CookieWait own first t1) c w h = cc
-any_ack tag i j (Open phase t) c w h = any_taken (refusal tag (init_ack_chunk i ∷ []) (Open phase t))
+any_ack tag i j (Open phase t) c w h = any_taken (packet_refusal tag (init_ack_chunk i ∷ []) (Open phase t))
   where
-    any_taken : (r : Option (List ℕ)) → taken_if r tag (init_ack_chunk i ∷ []) (counts (at_state (Open phase t) c w))
-        ≡ taken_if r tag (init_ack_chunk j ∷ []) (counts (at_state (Open phase t) c w))
+    any_taken : (r : Option (List ℕ)) → packet_if r tag (init_ack_chunk i ∷ []) (count_packet_at (at_state (Open phase t) c w))
+        ≡ packet_if r tag (init_ack_chunk j ∷ []) (count_packet_at (at_state (Open phase t) c w))
     any_taken None = refl
     any_taken (Some text) = refl
 
@@ -163,8 +163,8 @@ does_nothing n i (Open phase t) w v h = tt
 module _ (ps : List (Drawn × Drawn)) (k : Knows ps) (law : EachCallIsNamed) (x y z : Side) (t : Twin ps x y z) (p r : Carried)
     (checksum other : ℕ) (packing : x.end.endpoint_state.context.pack ≡ as_carried) (quiet : x.end.endpoint_state.context.emitted.events ≡ []) (i : InitTree)
     (n : IsNamedBy ps (state_of y) (state_of x) p r) (alone : p.chunks ≡ init_ack_chunk i ∷ [])
-    (none : refusal p.header.verification_tag (map carried p.chunks) (state_of x) ≡ None) (numbers : NumbersFitIn (state_of x)) (opened : is_opened (state_of x) ≡ true) where
-  pub ack_unheard : Named ps x z (state_of y) (Packet (as_received p checksum)) (called (Packet (as_received r other)) z.end)
+    (none : packet_refusal p.header.verification_tag (map carried p.chunks) (state_of x) ≡ None) (numbers : NumbersFitIn (state_of x)) (opened : is_opened (state_of x) ≡ true) where
+  pub ack_unheard : Named ps x z (state_of y) (ReceivePacket (as_received p checksum)) (called (ReceivePacket (as_received r other)) z.end)
   ack_unheard =
       let s : State = state_of x in
       let tag : ℕ = p.header.verification_tag in
@@ -179,7 +179,7 @@ module _ (ps : List (Drawn × Drawn)) (k : Knows ps) (law : EachCallIsNamed) (x 
       ap (λ (cs : List ChunkTree). named_chunks (flip m) cs) is_received in
       let does : (on_chunks (l.tag tag) (map carried (named_chunks l p.chunks)) e).endpoint_state ≡ (on_chunks (l.tag tag) (named_chunks (flip m) (map carried p.chunks)) e).endpoint_state =
       ap (λ (cs : List ChunkTree). (on_chunks (l.tag tag) cs e).endpoint_state) first
-      ∙ (ap (λ (f : Endpoint Carried). f.endpoint_state) (any_ack (l.tag tag) (named_init l i) (named_init (flip m) i) (state_of z) e.endpoint_state.context e.random open_too)
+      ∙ (ap (λ (f : Endpoint Carried). f.endpoint_state) (any_ack (l.tag tag) (named_init l i) (named_init (flip m) i) (state_of z) e.endpoint_state.context e.draws open_too)
       ∙ sym (ap (λ (cs : List ChunkTree). (on_chunks (l.tag tag) cs e).endpoint_state) second)) in
       record {
         mine = my_tag s;
@@ -188,11 +188,11 @@ module _ (ps : List (Drawn × Drawn)) (k : Knows ps) (law : EachCallIsNamed) (x 
         cookie_tie = same_tie;
         before = t.state;
         is = taken_as ps k x z p r checksum other n.mine n.peer n.tie n.cookie_tie n.is t.tie t.state law packing quiet t.context none numbers (my_tag s) (peer_in s) t.tie same_tie
-            t.state does (init_ack i is_received (does_nothing m i s x.end.random z.end.random opened));
-        tags = λ stand. stand_tags s (called (Packet (as_received p checksum)) x.end).endpoint_state.state stand opened;
+            t.state does (init_ack i is_received (does_nothing m i s x.end.draws z.end.draws opened));
+        tags = λ stand. stand_tags s (called (ReceivePacket (as_received p checksum)) x.end).endpoint_state.state stand opened;
         ties = inl refl;
         drew = λ receives closed.
-            let silent : receives_init (Packet (as_received p checksum)) ≡ false =
-            ap (λ (cs : List ChunkTree). receives_init (Packet (record (as_received p checksum) { chunks = cs }))) is_received in
-            absurd (both_ways (receives_init (Packet (as_received p checksum))) silent receives);
+            let silent : receives_init (ReceivePacket (as_received p checksum)) ≡ false =
+            ap (λ (cs : List ChunkTree). receives_init (ReceivePacket (record (as_received p checksum) { chunks = cs }))) is_received in
+            absurd (both_ways (receives_init (ReceivePacket (as_received p checksum))) silent receives);
       }

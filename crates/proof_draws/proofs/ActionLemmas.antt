@@ -6,12 +6,12 @@ use Rattle.sctp_packet.specs.Grammar.{carried}
 use Rattle.sctp_state.specs.Options.{Options}
 use Rattle.sctp_state.specs.Events.{GivenUp}
 use Rattle.spec_endpoint.specs.Association.{Tcb, Phase, State, Closed, CookieWait, Open, Endpoint}
-use Rattle.spec_endpoint.specs.Sending.{is_alone}
-use Rattle.spec_endpoint.specs.Input.{refusal}
-use Rattle.spec_endpoint.specs.Laws.{Call, Connect, Restore, Packet, called, endings}
+use Rattle.spec_endpoint.specs.Sending.{is_before_cookie_ack}
+use Rattle.spec_endpoint.specs.Input.{packet_refusal}
+use Rattle.spec_endpoint.specs.Laws.{Call, Connect, Restore, ReceivePacket, called, endings}
 use Rattle.proof_endpoint.specs.Mapped.{Carried}
 use Rattle.proof_endpoint.proofs.LawsLemmas.{stays_within}
-use Rattle.proof_pair.specs.Trace.{Side, emitted_packets, EndAction, Calls, Gives, Refuses, as_carried, drain, as_received, give, act, MayCall, MayAct, AreValidOptions, state_of}
+use Rattle.proof_pair.specs.Trace.{Side, emitted_packets, EndAction, Calls, Gives, Refuses, as_carried, drain, as_received, give_carried, act, MayCall, MayAct, AreValidOptions, state_of}
 use Rattle.proof_pair.specs.Agreement.{Draw as Drawn, Has, drawn_to_connect, drawn_given, drawn_in}
 use Rattle.proof_pair.proofs.AddedLemmas.{all_get}
 use Rattle.proof_pair.proofs.TraceLemmas.{SaysAll, seen, Half, Halves, none_of, actions}
@@ -35,7 +35,7 @@ use Rattle.proof_draws.proofs.GivenLemmas.{given_outcome}
 
 -- a packet that is received is of a kind, and no record of a handover is taken up
 abbrev pub ReceivesKind : Call → Type 0
-ReceivesKind (Packet p) = IsKind p.chunks
+ReceivesKind (ReceivePacket p) = IsKind p.chunks
 ReceivesKind (Restore h) = ⊥
 ReceivesKind c = ⊤
 
@@ -50,9 +50,9 @@ LateInitsAreNamed ps =
     (o q : Options) (x y z : Side) (p r : Carried) (checksum other : ℕ) → AreValidOptions q → Halves o q x y → (t : Twin ps x y z)
     → (n : IsNamedBy ps (state_of y) (state_of x) p r) → SaysAll q o (seen y) (seen x) y.got_init p
     → ((d e : Drawn) → Has (d, e) (pairs_of (drawn_given (Some p) checksum x) (drawn_given (Some r) other z)) → Has (d, e) ps)
-    → (i : InitTree) → p.chunks ≡ init_chunk i ∷ [] → refusal p.header.verification_tag (map carried p.chunks) (state_of x) ≡ None
-    → NumbersFitIn (state_of x) → (phase : Phase) (u : Tcb) → state_of x ≡ Open phase u → is_alone phase ≡ false
-    → Named ps x z (state_of y) (Packet (as_received p checksum)) (called (Packet (as_received r other)) z.end)
+    → (i : InitTree) → p.chunks ≡ init_chunk i ∷ [] → packet_refusal p.header.verification_tag (map carried p.chunks) (state_of x) ≡ None
+    → NumbersFitIn (state_of x) → (phase : Phase) (u : Tcb) → state_of x ≡ Open phase u → is_before_cookie_ack phase ≡ false
+    → Named ps x z (state_of y) (ReceivePacket (as_received p checksum)) (called (ReceivePacket (as_received r other)) z.end)
 
 pub kind_received : (cs : List ChunkTree) → IsKind cs → IsKind (map carried cs)
 kind_received cs (an_init i alone) = an_init i (ap (λ (z : List ChunkTree). map carried z) alone)
@@ -134,7 +134,7 @@ module _ (ps : List (Drawn × Drawn)) (k : Knows ps) (o q : Options) (own : AreV
 -- ---- the actions
 
 receives_call : (x : Side) (c : Call) → MayCall c x → ReceivesKind c
-receives_call x (Packet p) may = absurd may
+receives_call x (ReceivePacket p) may = absurd may
 receives_call x (Restore h) may = absurd may
 receives_call x c may = tt
 
@@ -188,13 +188,13 @@ module _ (ps : List (Drawn × Drawn)) (k : Knows ps) (law : EachCallIsNamed) (la
 
   some_actions : (p r : Carried) (which checksum other_checksum : ℕ) → slice_get (emitted_packets y) which ≡ Some p → IsNamedBy ps (state_of y) (state_of x) p r
       → ((d e : Drawn) → Has (d, e) (pairs_of (drawn_given (Some p) checksum x) (drawn_given (Some r) other_checksum z)) → Has (d, e) ps)
-      → Turning ps x z (state_of y) (give (Some p) checksum x) (give (Some r) other_checksum z) (records_given (Some p) checksum x) (records_given (Some r) other_checksum z)
+      → Turning ps x z (state_of y) (give_carried (Some p) checksum x) (give_carried (Some r) other_checksum z) (records_given (Some p) checksum x) (records_given (Some r) other_checksum z)
   some_actions p r which checksum other_checksum there n pair =
       let kind : IsKind p.chunks = all_get (λ (c : Carried). IsKind c.chunks) (emitted_packets y) which p there kinds in
       let says : SaysAll q o (seen y) (seen x) y.got_init p = all_get (SaysAll q o (seen y) (seen x) y.got_init) (emitted_packets y) which p there h.other.said in
       record {
-        call = Packet (as_received p checksum);
-        second = called (Packet (as_received r other_checksum)) z.end;
+        call = ReceivePacket (as_received p checksum);
+        second = called (ReceivePacket (as_received r other_checksum)) z.end;
         asked = x.got_init || (p.header.verification_tag == 0);
         both_asked = z.got_init || (r.header.verification_tag == 0);
         same = ap (λ (a : Bool). a || (r.header.verification_tag == 0)) t.asked ∙ ap (λ (a : Bool). x.got_init || a) (asked_too p r n);
@@ -214,8 +214,8 @@ module _ (ps : List (Drawn × Drawn)) (k : Knows ps) (law : EachCallIsNamed) (la
 
   abbrev GoesAs : Option Carried → Option Carried → (checksum other_checksum : ℕ) → Type 0
   GoesAs a c checksum other_checksum =
-      Turning ps x z (state_of y) (give a checksum x) (give c other_checksum z) (records_given a checksum x) (records_given c other_checksum z)
-      ⊎ Idle x z (give a checksum x) (give c other_checksum z) (records_given a checksum x) (records_given c other_checksum z)
+      Turning ps x z (state_of y) (give_carried a checksum x) (give_carried c other_checksum z) (records_given a checksum x) (records_given c other_checksum z)
+      ⊎ Idle x z (give_carried a checksum x) (give_carried c other_checksum z) (records_given a checksum x) (records_given c other_checksum z)
 
   give_by : (a : Option Carried) (which checksum other_checksum : ℕ) → slice_get (emitted_packets y) which ≡ a → Drew (Gives which checksum) (Gives which other_checksum)
       → Goes (Gives which checksum) (Gives which other_checksum)

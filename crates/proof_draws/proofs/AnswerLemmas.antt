@@ -2,18 +2,18 @@
 use Rattle.std.proofs.Common.{◌≡◌, ℕ, ◌+◌, ◌-◌, ◌%◌, ◌||◌, not, Bool, true, false, List, [], ◌∷◌, ◌++◌, map, min, refl, sym, ap, ◌∙◌, arith}
 use Rattle.std.specs.List.{list_any}
 use Rattle.std.proofs.lemmas.List.{map-append}
-use Rattle.sctp_serial.specs.Unwrapped.{words}
+use Rattle.sctp_serial.specs.Unwrapped.{u32_space}
 use Rattle.sctp_wire.specs.Parameter.{ParameterTree, heartbeat_info, state_cookie, outgoing_reset_request, incoming_reset_request, ssn_tsn_reset_request, reset_response, add_outgoing_streams_request, add_incoming_streams_request, supported_extensions, forward_tsn_supported, zero_checksum_acceptable, unknown_parameter}
 use Rattle.sctp_packet.specs.Chunk.{ChunkTree, InitTree, init_ack_chunk, cookie_ack_chunk, cookie_echo_chunk}
 use Rattle.sctp_state.specs.Options.{Options}
 use Rattle.sctp_state.specs.declared.api.SctpImplementation.{SctpImplementation}
-use Rattle.sctp_capabilities.specs.Capabilities.{Capabilities, i_data, re_config, forward_tsn, announce, extensions_in, method_in, is_forward_tsn_supported, has_type, announced_by, negotiate, zero_checksum_enabled}
+use Rattle.sctp_capabilities.specs.Capabilities.{Capabilities, i_data, re_config, forward_tsn, announced_parameters, extensions_in, method_in, is_forward_tsn_supported, has_type, announced_by, negotiate, zero_checksum_enabled}
 use Rattle.sctp_capabilities.specs.StateCookie.{Cookie, cookie_bytes}
 use Rattle.spec_endpoint.specs.Association.{Identity, Tcb, tcb, Phase, CookieEchoed, Established, Context, EndpointState, Packing}
-use Rattle.spec_endpoint.specs.ResetRequests.{before}
-use Rattle.spec_endpoint.specs.Packets.{Packet, fits, add, packet_to, emit}
-use Rattle.spec_endpoint.specs.Sending.{Sent, open_with, send_with, cookie_if, send_cookie}
-use Rattle.spec_endpoint.specs.Opening.{init_of, cookie_for, agreed_by, answer, maker, queue_anew, t1_cookie, echo, connected_context, establish, cookie_ack, identity_of, queue_for, tcb_by, anew}
+use Rattle.spec_endpoint.specs.ResetRequests.{previous_number}
+use Rattle.spec_endpoint.specs.Packets.{PacketDraft, fits, add, packet_to, emit}
+use Rattle.spec_endpoint.specs.Sending.{AfterSending, open_with, send_with, cookie_if, send_cookie}
+use Rattle.spec_endpoint.specs.Opening.{init_of, cookie_for, agreed_by, answer, maker, queue_anew, t1_cookie, echo, enter_connected, establish, cookie_ack, identity_of, queue_for, tcb_by, anew}
 use Rattle.proof_draws.specs.NamedChunks.{Names, AreNames, flip, move_by, named_parameter, named_init}
 use Rattle.proof_draws.specs.Names.{named_packet, named_identity, named_tcb, named_endpoint_state, named_cookie, plain}
 use Rattle.proof_draws.specs.Laws.{Makes}
@@ -98,10 +98,10 @@ module _ (n : Names) where
 
   -- ---- a new control block
 
-  before_named : (by k : ℕ) → before (move_by by k) ≡ move_by by (before k)
+  before_named : (by k : ℕ) → previous_number (move_by by k) ≡ move_by by (previous_number k)
   before_named by k =
-      let at : (j : ℕ) → (j + words - 1) % words ≡ (j + (words - 1)) % words = λ j. let same : j + words - 1 ≡ j + (words - 1) = omega arith in ap (λ x. x % words) same in
-      at (move_by by k) ∙ (sum_moved words k (words - 1) by ∙ ap (λ x. move_by by x) (sym (at k)))
+      let at : (j : ℕ) → (j + u32_space - 1) % u32_space ≡ (j + (u32_space - 1)) % u32_space = λ j. let same : j + u32_space - 1 ≡ j + (u32_space - 1) = omega arith in ap (λ x. x % u32_space) same in
+      at (move_by by k) ∙ (sum_moved u32_space k (u32_space - 1) by ∙ ap (λ x. move_by by x) (sym (at k)))
 
   pub tcb_named : (o : Options) (i : Identity) (a_rwnd : ℕ) (k : Capabilities) → tcb o (named_identity n i) a_rwnd k ≡ named_tcb n (tcb o i a_rwnd k)
   tcb_named o i a_rwnd k = ap (λ (last : ℕ). last_in last (named_tcb n (tcb o i a_rwnd k))) (before_named n.peer i.peer_first)
@@ -115,7 +115,7 @@ cookie_with i tag first tie k = record (cookie_for i tag first tie) { peer_capab
 -- an INIT ACK with this cookie, by what was agreed
 abbrev answered_by : {P : Type 0} → (to tag first : ℕ) → Capabilities → (cookie : List ℕ) → Context P → Context P
 answered_by to tag first k cookie c =
-    emit (add (init_ack_chunk (init_of c.options tag first (announce c.options k.zero_checksum_method ++ state_cookie cookie ∷ [])))
+    emit (add (init_ack_chunk (init_of c.options tag first (announced_parameters c.options k.zero_checksum_method ++ state_cookie cookie ∷ [])))
     (record (packet_to to c.options.mtu) { is_summed = not (zero_checksum_enabled k) })) c
 
 -- a cookie is echoed, by what was agreed
@@ -127,14 +127,14 @@ module _ {P : Type 0} (n : Names) (are : AreNames n) (pack : Packing P) where
   written_named : (to tag first : ℕ) (k : Capabilities) (cookie : List ℕ) (c : Context P) → Knows n pack c
       → answered_by (n.tag to) (n.tag tag) (move_by n.own first) k (n.cookie cookie) (plain pack c) ≡ plain pack (answered_by to tag first k cookie c)
   written_named to tag first k cookie c knows =
-      let ps : List ParameterTree = announce c.options k.zero_checksum_method in
-      let p : Packet = record (packet_to to c.options.mtu) { is_summed = not (zero_checksum_enabled k) } in
+      let ps : List ParameterTree = announced_parameters c.options k.zero_checksum_method in
+      let p : PacketDraft = record (packet_to to c.options.mtu) { is_summed = not (zero_checksum_enabled k) } in
       let chunk : ChunkTree = init_ack_chunk (init_of c.options tag first (ps ++ state_cookie cookie ∷ [])) in
       let each : map (named_parameter n) (ps ++ state_cookie cookie ∷ []) ≡ ps ++ state_cookie (n.cookie cookie) ∷ [] =
       map-append (named_parameter n) ps (state_cookie cookie ∷ [])
       ∙ ap (λ (qs : List ParameterTree). qs ++ state_cookie (n.cookie cookie) ∷ []) (announced_named n c.options k.zero_checksum_method) in
       ap (λ (qs : List ParameterTree). emit (add (init_ack_chunk (init_of c.options (n.tag tag) (move_by n.own first) qs)) (named_packet n p)) (plain pack c)) (sym each)
-      ∙ (ap (λ (q : Packet). emit q (plain pack c)) (named_add n are chunk p) ∙ named_emit n are pack (add chunk p) c knows)
+      ∙ (ap (λ (q : PacketDraft). emit q (plain pack c)) (named_add n are chunk p) ∙ named_emit n are pack (add chunk p) c knows)
 
   pub answer_named : (i : InitTree) (tag first tie : ℕ) (c : Context P) → Makes n (cookie_for i tag first tie) → Knows n pack c
       → answer (named_init (flip n) i) (n.tag tag) (move_by n.own first) (n.cookie_tie tie) (plain pack c) ≡ plain pack (answer i tag first tie c)
@@ -151,35 +151,35 @@ module _ {P : Type 0} (n : Names) (are : AreNames n) (pack : Packing P) where
 
   pub cookie_ack_named : (tag : ℕ) (t : Tcb) (c : Context P) → Knows n pack c → cookie_ack (n.tag tag) (named_tcb n t) (plain pack c) ≡ named_sent n pack (cookie_ack tag t c)
   cookie_ack_named tag t c knows =
-      let p : Packet = record (packet_to tag c.options.mtu) { is_summed = not (zero_checksum_enabled t.capabilities) } in
-      ap (λ (q : Packet). send_with false q (named_tcb n t) (plain pack c)) (named_add n are cookie_ack_chunk p)
+      let p : PacketDraft = record (packet_to tag c.options.mtu) { is_summed = not (zero_checksum_enabled t.capabilities) } in
+      ap (λ (q : PacketDraft). send_with false q (named_tcb n t) (plain pack c)) (named_add n are cookie_ack_chunk p)
       ∙ send_with_named n are pack false (add cookie_ack_chunk p) t c knows
 
   pub anew_named : (resets : Bool) (k : Cookie) (tie : ℕ) (c : Context P) → Knows n pack c
       → anew resets (named_cookie n k) (n.tie tie) (plain pack c) ≡ named_endpoint_state n pack (anew resets k tie c)
   anew_named resets k tie c knows =
-      let d : Context P = connected_context (record c { queue = queue_for resets (negotiate c.options k.peer_capabilities).message_interleaving c.queue }) in
+      let d : Context P = enter_connected (record c { queue = queue_for resets (negotiate c.options k.peer_capabilities).message_interleaving c.queue }) in
       ap (λ (t : Tcb). open_with Established (cookie_ack (n.tag k.peer_tag) t (plain pack d)))
       (tcb_named n c.options (identity_of k tie) (min k.a_rwnd c.options.max_send_buffer_size) (negotiate c.options k.peer_capabilities))
-      ∙ ap (λ (x : Sent P). open_with Established x) (cookie_ack_named k.peer_tag (tcb_by c.options k tie) d knows)
+      ∙ ap (λ (x : AfterSending P). open_with Established x) (cookie_ack_named k.peer_tag (tcb_by c.options k tie) d knows)
 
   -- ---- COOKIE ACK, and the cookie that is echoed
 
   pub established_named : (t : Tcb) (c : Context P) → Knows n pack c → establish (named_tcb n t) (plain pack c) ≡ named_endpoint_state n pack (establish t c)
-  established_named t c knows = ap (λ (x : Sent P). open_with Established x) (send_buffered_named n are pack false t (connected_context c) knows)
+  established_named t c knows = ap (λ (x : AfterSending P). open_with Established x) (send_buffered_named n are pack false t (enter_connected c) knows)
 
   cookie_if_named : (b : Bool) (cookie : List ℕ) (t : Tcb) (c : Context P) → Knows n pack c
       → cookie_if b (n.cookie cookie) (named_tcb n t) (plain pack c) ≡ named_sent n pack (cookie_if b cookie t c)
   cookie_if_named true cookie t c knows =
-      let p : Packet = packet_to t.identity.peer_tag c.options.mtu in
-      ap (λ (q : Packet). send_with true q (named_tcb n t) (plain pack c)) (named_add n are (cookie_echo_chunk cookie) p)
+      let p : PacketDraft = packet_to t.identity.peer_tag c.options.mtu in
+      ap (λ (q : PacketDraft). send_with true q (named_tcb n t) (plain pack c)) (named_add n are (cookie_echo_chunk cookie) p)
       ∙ send_with_named n are pack true (add (cookie_echo_chunk cookie) p) t c knows
   cookie_if_named false cookie t c knows = refl
 
   pub send_cookie_named : (cookie : List ℕ) (t : Tcb) (c : Context P) → Knows n pack c
       → send_cookie (n.cookie cookie) (named_tcb n t) (plain pack c) ≡ named_sent n pack (send_cookie cookie t c)
   send_cookie_named cookie t c knows =
-      let p : Packet = packet_to t.identity.peer_tag c.options.mtu in
+      let p : PacketDraft = packet_to t.identity.peer_tag c.options.mtu in
       ap (λ (b : Bool). cookie_if b (n.cookie cookie) (named_tcb n t) (plain pack c)) (same_fits n are p (cookie_echo_chunk cookie))
       ∙ cookie_if_named (fits p (cookie_echo_chunk cookie)) cookie t c knows
 
@@ -193,4 +193,4 @@ module _ {P : Type 0} (n : Names) (are : AreNames n) (pack : Packing P) where
       ap (λ (x : Capabilities). echoed_by p (n.cookie cookie) (maker (n.cookie cookie)) x (named_identity n me) i.a_rwnd (plain pack c)) (agreed_named (flip n) c.options i)
       ∙ (ap (λ (x : SctpImplementation). echoed_by p (n.cookie cookie) x k (named_identity n me) i.a_rwnd (plain pack c)) same
       ∙ (ap (λ (t : Tcb). open_with p (send_cookie (n.cookie cookie) t (plain pack d))) (tcb_named n c.options me i.a_rwnd k)
-      ∙ ap (λ (x : Sent P). open_with p x) (send_cookie_named cookie (tcb c.options me i.a_rwnd k) d knows)))
+      ∙ ap (λ (x : AfterSending P). open_with p x) (send_cookie_named cookie (tcb c.options me i.a_rwnd k) d knows)))

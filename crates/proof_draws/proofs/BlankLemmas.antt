@@ -2,13 +2,13 @@
 use Rattle.std.proofs.Common.{◌≡◌, ℕ, ◌==◌, Bool, true, false, Option, Some, None, List, [], ◌∷◌, map, refl, sym, ap, ◌∙◌}
 use Rattle.sctp_packet.specs.Chunk.{ChunkTree, init_chunk, cookie_echo_chunk, data_chunk, abort_chunk, shutdown_chunk, shutdown_ack_chunk, shutdown_complete_chunk}
 use Rattle.spec_endpoint.specs.Association.{State, Closed, CookieWait, Open, Endpoint}
-use Rattle.spec_endpoint.specs.Input.{abort_flag, complete_flag, has_shutdown_ack, begins_with_cookie, is_single_init, my_tag, plain_refusal, refusal_by, refusal, Received, violation, received_if, receive, receive_rest, receive_all, has_data, handle_chunks, taken_if, counts, on_endpoint_state, repeats_if, end_packet}
+use Rattle.spec_endpoint.specs.Input.{abort_flag, complete_flag, has_shutdown_ack, begins_with_cookie, is_single_init, my_tag, plain_refusal, packet_refusal_by, packet_refusal, AfterChunk, violation, received_if, receive, receive_rest, receive_all, has_data_chunk, on_accepted_packet, packet_if, count_packet_at, in_endpoint_state, repeats_if, on_packet_end}
 use Rattle.spec_endpoint.specs.Association.{where_open}
 use Rattle.proof_endpoint.specs.Mapped.{Carried}
 
 -- under its own tag and the chunks, whatever its checksum
 abbrev pub on_chunks : (tag : ℕ) → List ChunkTree → Endpoint Carried → Endpoint Carried
-on_chunks tag cs e = taken_if (refusal tag cs e.endpoint_state.state) tag cs (counts e)
+on_chunks tag cs e = packet_if (packet_refusal tag cs e.endpoint_state.state) tag cs (count_packet_at e)
 
 -- with 0 in its place
 abbrev pub blank : ChunkTree → ChunkTree
@@ -35,7 +35,7 @@ ack_blank [] = refl
 ack_blank (shutdown_ack_chunk ∷ cs) = refl
 ack_blank (c ∷ cs) = ack_blank cs
 
-data_blank : (cs : List ChunkTree) → has_data (blanks cs) ≡ has_data cs
+data_blank : (cs : List ChunkTree) → has_data_chunk (blanks cs) ≡ has_data_chunk cs
 data_blank [] = refl
 data_blank (data_chunk tsn immediate f ∷ cs) = refl
 data_blank (c ∷ cs) = data_blank cs
@@ -51,15 +51,15 @@ single_blank (init_chunk i ∷ []) = refl
 single_blank (init_chunk i ∷ d ∷ cs) = refl
 single_blank (c ∷ cs) = refl
 
-refusal_blank : (tag : ℕ) (cs : List ChunkTree) (s : State) → refusal tag (blanks cs) s ≡ refusal tag cs s
+refusal_blank : (tag : ℕ) (cs : List ChunkTree) (s : State) → packet_refusal tag (blanks cs) s ≡ packet_refusal tag cs s
 refusal_blank tag cs s =
     let ds : List ChunkTree = blanks cs in
-    ap (λ (a : Option Bool). refusal_by a (complete_flag ds) (has_shutdown_ack ds) tag ds s) (abort_blank cs)
-    ∙ (ap (λ (a : Option Bool). refusal_by (abort_flag cs) a (has_shutdown_ack ds) tag ds s) (complete_blank cs)
-    ∙ (ap (λ (b : Bool). refusal_by (abort_flag cs) (complete_flag cs) b tag ds s) (ack_blank cs)
+    ap (λ (a : Option Bool). packet_refusal_by a (complete_flag ds) (has_shutdown_ack ds) tag ds s) (abort_blank cs)
+    ∙ (ap (λ (a : Option Bool). packet_refusal_by (abort_flag cs) a (has_shutdown_ack ds) tag ds s) (complete_blank cs)
+    ∙ (ap (λ (b : Bool). packet_refusal_by (abort_flag cs) (complete_flag cs) b tag ds s) (ack_blank cs)
     ∙ by_flags (abort_flag cs) (complete_flag cs) (has_shutdown_ack cs)))
   where
-    by_flags : (a c : Option Bool) (b : Bool) → refusal_by a c b tag (blanks cs) s ≡ refusal_by a c b tag cs s
+    by_flags : (a c : Option Bool) (b : Bool) → packet_refusal_by a c b tag (blanks cs) s ≡ packet_refusal_by a c b tag cs s
     by_flags (Some x) c b = refl
     by_flags None (Some x) b = refl
     by_flags None None true = refl
@@ -81,29 +81,29 @@ module _ (tag : ℕ) where
       ∙ sym (ap (λ (v : Option (List ℕ)). received_if v tag (shutdown_chunk tsn) e) (no_violation e.endpoint_state.state tsn))
   receive_blank c e = refl
 
-  rest_alike : (f g : Endpoint Carried → Endpoint Carried) → ((e : Endpoint Carried) → f e ≡ g e) → (h : Received Carried) → receive_rest f h ≡ receive_rest g h
-  rest_alike f g same h = go h.goes_on
+  rest_alike : (f g : Endpoint Carried → Endpoint Carried) → ((e : Endpoint Carried) → f e ≡ g e) → (h : AfterChunk Carried) → receive_rest f h ≡ receive_rest g h
+  rest_alike f g same h = go h.allows_next
     where
-      go : (b : Bool) → receive_rest f (record { end = h.end; goes_on = b }) ≡ receive_rest g (record { end = h.end; goes_on = b })
+      go : (b : Bool) → receive_rest f (record { end = h.end; allows_next = b }) ≡ receive_rest g (record { end = h.end; allows_next = b })
       go true = same h.end
       go false = refl
 
   receive_all_blank : (cs : List ChunkTree) (e : Endpoint Carried) → receive_all tag (blanks cs) e ≡ receive_all tag cs e
   receive_all_blank [] e = refl
   receive_all_blank (c ∷ cs) e =
-      ap (λ (h : Received Carried). receive_rest (receive_all tag (blanks cs)) h) (receive_blank c e)
+      ap (λ (h : AfterChunk Carried). receive_rest (receive_all tag (blanks cs)) h) (receive_blank c e)
       ∙ rest_alike (receive_all tag (blanks cs)) (receive_all tag cs) (receive_all_blank cs) (receive tag c e)
 
-  handled_blank : (cs : List ChunkTree) (e : Endpoint Carried) → handle_chunks tag (blanks cs) e ≡ handle_chunks tag cs e
+  handled_blank : (cs : List ChunkTree) (e : Endpoint Carried) → on_accepted_packet tag (blanks cs) e ≡ on_accepted_packet tag cs e
   handled_blank cs e =
-      ap (λ (b : Bool). on_endpoint_state (where_open end_packet) (receive_all tag (blanks cs) (on_endpoint_state (repeats_if b) e))) (data_blank cs)
-      ∙ ap (λ (f : Endpoint Carried). on_endpoint_state (where_open end_packet) f) (receive_all_blank cs (on_endpoint_state (repeats_if (has_data cs)) e))
+      ap (λ (b : Bool). in_endpoint_state (where_open on_packet_end) (receive_all tag (blanks cs) (in_endpoint_state (repeats_if b) e))) (data_blank cs)
+      ∙ ap (λ (f : Endpoint Carried). in_endpoint_state (where_open on_packet_end) f) (receive_all_blank cs (in_endpoint_state (repeats_if (has_data_chunk cs)) e))
 
-  taken_blank : (r : Option (List ℕ)) (cs : List ChunkTree) (e : Endpoint Carried) → taken_if r tag (blanks cs) e ≡ taken_if r tag cs e
+  taken_blank : (r : Option (List ℕ)) (cs : List ChunkTree) (e : Endpoint Carried) → packet_if r tag (blanks cs) e ≡ packet_if r tag cs e
   taken_blank None cs e = handled_blank cs e
   taken_blank (Some text) cs e = refl
 
   pub chunks_blank : (cs : List ChunkTree) (e : Endpoint Carried) → on_chunks tag (blanks cs) e ≡ on_chunks tag cs e
   chunks_blank cs e =
-      ap (λ (r : Option (List ℕ)). taken_if r tag (blanks cs) (counts e)) (refusal_blank tag cs e.endpoint_state.state)
-      ∙ taken_blank (refusal tag cs e.endpoint_state.state) cs (counts e)
+      ap (λ (r : Option (List ℕ)). packet_if r tag (blanks cs) (count_packet_at e)) (refusal_blank tag cs e.endpoint_state.state)
+      ∙ taken_blank (packet_refusal tag cs e.endpoint_state.state) cs (count_packet_at e)

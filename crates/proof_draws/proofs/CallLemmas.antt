@@ -6,11 +6,11 @@ use Rattle.sctp_state.specs.declared.api.errors.ResetStreamsError.{ResetStreamsE
 use Rattle.sctp_state.specs.declared.api.errors.SendError.{SendError}
 use Rattle.sctp_state.specs.Options.{SendOptions}
 use Rattle.spec_endpoint.specs.Association.{Tcb, Phase, CookieEchoed, Established, ShutdownPending, ShutdownSent, ShutdownReceived, ShutdownAckSent, State, Closed, CookieWait, Open, Context, EndpointState, with_context, where_open, Packing}
-use Rattle.spec_endpoint.specs.Sending.{Sent, is_alone, open_with, send_buffered, send_in}
-use Rattle.spec_endpoint.specs.Calls.{shown_phase, shown_state, refusal, offered, offer, sent_if, send, offer_all, send_many, taken_in, take_message}
+use Rattle.spec_endpoint.specs.Sending.{AfterSending, is_before_cookie_ack, open_with, send_buffered, send_in}
+use Rattle.spec_endpoint.specs.Calls.{shown_phase, shown_state, send_refusal, offered, offer, sent_if, send, offer_all, send_many, without_first_message_in, take_message}
 use Rattle.spec_endpoint.specs.ResetRequests.{Request}
-use Rattle.spec_endpoint.specs.StreamReset.{reset_refusal, prepare_stream, prepare_all, reset_if, reset_streams}
-use Rattle.spec_endpoint.specs.Handover.{is_strict, pending, receiving, readiness_open, readiness_in, readiness, left_in, left_if, hand_over}
+use Rattle.spec_endpoint.specs.StreamReset.{reset_refusal, prepare_reset_stream, prepare_all, reset_if, reset_streams}
+use Rattle.spec_endpoint.specs.Handover.{is_strict, request_bit, receiving, readiness_open, readiness_in, readiness, left_in, left_if, hand_over}
 use Rattle.sctp_tx_queue.specs.Readiness as queued
 use Rattle.sctp_tx.specs.Handover as sender
 use Rattle.proof_draws.specs.NamedChunks.{Names, AreNames}
@@ -35,7 +35,7 @@ module _ (n : Names) where
   shown_named (CookieWait tag first t1) = refl
   shown_named (Open phase t) = shown_phase_named phase
 
-  taken_named : (s : State) → taken_in (named_state n s) ≡ named_state n (taken_in s)
+  taken_named : (s : State) → without_first_message_in (named_state n s) ≡ named_state n (without_first_message_in s)
   taken_named Closed = refl
   taken_named (CookieWait tag first t1) = refl
   taken_named (Open phase t) = refl
@@ -48,7 +48,7 @@ module _ (n : Names) where
 
   -- ---- what stands in the way of a handover
 
-  pending_named : (o : Option Request) → pending (option_map (named_request n) o) ≡ pending o
+  pending_named : (o : Option Request) → request_bit (option_map (named_request n) o) ≡ request_bit o
   pending_named None = refl
   pending_named (Some r) = refl
 
@@ -87,14 +87,14 @@ module _ {P : Type 0} (n : Names) (pack : Packing P) where
 module _ {P : Type 0} (pack : Packing P) where
   prepare_all_named : (ids : List ℕ) (c : Context P) → prepare_all ids (plain pack c) ≡ plain pack (prepare_all ids c)
   prepare_all_named [] c = refl
-  prepare_all_named (id ∷ ids) c = prepare_all_named ids (prepare_stream id c)
+  prepare_all_named (id ∷ ids) c = prepare_all_named ids (prepare_reset_stream id c)
 
   offered_named : (o : Option SendError) (m : Message) (how : SendOptions) (c : Context P) → offered o m how (plain pack c) ≡ plain pack (offered o m how c)
   offered_named None m how c = refl
   offered_named (Some e) m how c = refl
 
   offer_named : (m : Message) (how : SendOptions) (shown : SocketState) (c : Context P) → offer m how shown (plain pack c) ≡ plain pack (offer m how shown c)
-  offer_named m how shown c = offered_named (refusal m shown c) m how c
+  offer_named m how shown c = offered_named (send_refusal m shown c) m how c
 
   offer_all_named : (ms : List Message) (how : SendOptions) (shown : SocketState) (c : Context P) → offer_all ms how shown (plain pack c) ≡ plain pack (offer_all ms how shown c)
   offer_all_named [] how shown c = refl
@@ -104,7 +104,7 @@ module _ {P : Type 0} (pack : Packing P) where
 module _ {P : Type 0} where
   prepare_all_stays : (ids : List ℕ) (c : Context P) → (prepare_all ids c).pack ≡ c.pack
   prepare_all_stays [] c = refl
-  prepare_all_stays (id ∷ ids) c = prepare_all_stays ids (prepare_stream id c)
+  prepare_all_stays (id ∷ ids) c = prepare_all_stays ids (prepare_reset_stream id c)
 
   offered_stays : (o : Option SendError) (m : Message) (how : SendOptions) (c : Context P) → (offered o m how c).pack ≡ c.pack
   offered_stays None m how c = refl
@@ -112,13 +112,13 @@ module _ {P : Type 0} where
 
   offer_all_stays : (ms : List Message) (how : SendOptions) (shown : SocketState) (c : Context P) → (offer_all ms how shown c).pack ≡ c.pack
   offer_all_stays [] how shown c = refl
-  offer_all_stays (m ∷ ms) how shown c = offer_all_stays ms how shown (offer m how shown c) ∙ offered_stays (refusal m shown c) m how c
+  offer_all_stays (m ∷ ms) how shown c = offer_all_stays ms how shown (offer m how shown c) ∙ offered_stays (send_refusal m shown c) m how c
 
 module _ {P : Type 0} (n : Names) (are : AreNames n) (pack : Packing P) where
   send_in_named : OpenIsNamed n pack send_in
   send_in_named phase t c k =
       ap (λ (b : Bool). open_with (named_phase n phase) (send_buffered b (named_tcb n t) (plain pack c))) (alone_named n phase)
-      ∙ ap (λ (x : Sent P). open_with (named_phase n phase) x) (send_buffered_named n are pack (is_alone phase) t c k)
+      ∙ ap (λ (x : AfterSending P). open_with (named_phase n phase) x) (send_buffered_named n are pack (is_before_cookie_ack phase) t c k)
 
   sent_if_named : (o : Option SendError) (s : EndpointState P) → Knows n pack s.context → sent_if o (named_endpoint_state n pack s) ≡ named_endpoint_state n pack (sent_if o s)
   sent_if_named None s k = where_named n are pack send_in s send_in_named k
@@ -128,9 +128,9 @@ module _ {P : Type 0} (n : Names) (are : AreNames n) (pack : Packing P) where
   send_named m how s k =
       let shown : SocketState = shown_state s.state in
       let r : EndpointState P = named_endpoint_state n pack s in
-      ap (λ (x : SocketState). sent_if (refusal m x s.context) (with_context r (offer m how x (plain pack s.context)))) (shown_named n s.state)
-      ∙ (ap (λ (d : Context P). sent_if (refusal m shown s.context) (with_context r d)) (offer_named pack m how shown s.context)
-      ∙ sent_if_named (refusal m shown s.context) (with_context s (offer m how shown s.context)) (offered_stays (refusal m shown s.context) m how s.context ∙ k))
+      ap (λ (x : SocketState). sent_if (send_refusal m x s.context) (with_context r (offer m how x (plain pack s.context)))) (shown_named n s.state)
+      ∙ (ap (λ (d : Context P). sent_if (send_refusal m shown s.context) (with_context r d)) (offer_named pack m how shown s.context)
+      ∙ sent_if_named (send_refusal m shown s.context) (with_context s (offer m how shown s.context)) (offered_stays (send_refusal m shown s.context) m how s.context ∙ k))
 
   pub send_many_named : (ms : List Message) (how : SendOptions) (s : EndpointState P) → Knows n pack s.context → send_many ms how (named_endpoint_state n pack s) ≡ named_endpoint_state n pack (send_many ms how s)
   send_many_named ms how s k =

@@ -8,7 +8,7 @@ use Rattle.sctp_wire.specs.Parameter.{ParameterTree, state_cookie}
 use Rattle.sctp_packet.specs.Chunk.{ChunkTree, InitTree, data_chunk, idata_chunk, init_chunk, init_ack_chunk, sack_chunk, heartbeat_request_chunk, heartbeat_ack_chunk, abort_chunk, shutdown_chunk, shutdown_ack_chunk, error_chunk, cookie_echo_chunk, cookie_ack_chunk, shutdown_complete_chunk, re_config_chunk, forward_tsn_chunk, i_forward_tsn_chunk, unknown_chunk}
 use Rattle.sctp_packet.specs.Grammar.{carried}
 use Rattle.sctp_state.specs.Options.{Options}
-use Rattle.sctp_capabilities.specs.Capabilities.{announce}
+use Rattle.sctp_capabilities.specs.Capabilities.{announced_parameters}
 use Rattle.spec_endpoint.specs.Opening.{init_of}
 use Rattle.proof_pair.specs.Agreement.{Draw}
 use Rattle.proof_pair.proofs.AgreeLemmas.{is_load}
@@ -108,30 +108,30 @@ chunks_bare m n (c ∷ cs) h =
 -- ---- INIT and INIT ACK carry the sender's numbers alone
 
 pub init_received : (m n : Names) (o : Options) (tag first method : ℕ) → m.tag tag ≡ n.tag tag → m.own ≡ n.own
-    → named_init m (init_of o tag first (announce o method)) ≡ named_init n (init_of o tag first (announce o method))
+    → named_init m (init_of o tag first (announced_parameters o method)) ≡ named_init n (init_of o tag first (announced_parameters o method))
 init_received m n o tag first method e f =
     let init_with : (z own : ℕ) → List ParameterTree → InitTree = λ z own ps. init_of o z (move_by own first) ps in
-    ap (λ (z : ℕ). init_with z m.own (map (named_parameter m) (announce o method))) e
-    ∙ (ap (λ (own : ℕ). init_with (n.tag tag) own (map (named_parameter m) (announce o method))) f
+    ap (λ (z : ℕ). init_with z m.own (map (named_parameter m) (announced_parameters o method))) e
+    ∙ (ap (λ (own : ℕ). init_with (n.tag tag) own (map (named_parameter m) (announced_parameters o method))) f
     ∙ ap (λ (ps : List ParameterTree). init_with (n.tag tag) n.own ps) (announced_named m o method ∙ sym (announced_named n o method)))
 
 with_cookie : (n : Names) (o : Options) (method : ℕ) (cookie : List ℕ)
-    → map (named_parameter n) (announce o method ++ state_cookie cookie ∷ []) ≡ announce o method ++ state_cookie (n.cookie cookie) ∷ []
+    → map (named_parameter n) (announced_parameters o method ++ state_cookie cookie ∷ []) ≡ announced_parameters o method ++ state_cookie (n.cookie cookie) ∷ []
 with_cookie n o method cookie =
-    map-append (named_parameter n) (announce o method) (state_cookie cookie ∷ [])
+    map-append (named_parameter n) (announced_parameters o method) (state_cookie cookie ∷ [])
     ∙ ap (λ (qs : List ParameterTree). qs ++ state_cookie (n.cookie cookie) ∷ []) (announced_named n o method)
 
 pub init_ack_received : (m n : Names) (o : Options) (tag first method : ℕ) (cookie : List ℕ) → m.tag tag ≡ n.tag tag → m.own ≡ n.own → m.cookie cookie ≡ n.cookie cookie
-    → named_init m (init_of o tag first (announce o method ++ state_cookie cookie ∷ []))
-    ≡ named_init n (init_of o tag first (announce o method ++ state_cookie cookie ∷ []))
+    → named_init m (init_of o tag first (announced_parameters o method ++ state_cookie cookie ∷ []))
+    ≡ named_init n (init_of o tag first (announced_parameters o method ++ state_cookie cookie ∷ []))
 init_ack_received m n o tag first method cookie e f g =
     let init_with : (z own : ℕ) → List ParameterTree → InitTree = λ z own ps. init_of o z (move_by own first) ps in
-    let all : List ParameterTree = announce o method ++ state_cookie cookie ∷ [] in
+    let all : List ParameterTree = announced_parameters o method ++ state_cookie cookie ∷ [] in
     ap (λ (z : ℕ). init_with z m.own (map (named_parameter m) all)) e
     ∙ (ap (λ (own : ℕ). init_with (n.tag tag) own (map (named_parameter m) all)) f
     ∙ ap (λ (ps : List ParameterTree). init_with (n.tag tag) n.own ps)
     (with_cookie m o method cookie
-    ∙ (ap (λ (c : List ℕ). announce o method ++ state_cookie c ∷ []) g ∙ sym (with_cookie n o method cookie))))
+    ∙ (ap (λ (c : List ℕ). announced_parameters o method ++ state_cookie c ∷ []) g ∙ sym (with_cookie n o method cookie))))
 
 -- ---- what flows is received as flowing
 

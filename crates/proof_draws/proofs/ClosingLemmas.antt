@@ -6,10 +6,10 @@ use Rattle.sctp_state.specs.declared.api.ErrorKind.TheVariants.{TooManyRetries, 
 use Rattle.sctp_state.specs.Events.{Event, OnClosed, OnAborted}
 use Rattle.sctp_rx.specs.DataTracker.{is_ack_due}
 use Rattle.spec_endpoint.specs.Association.{Tcb, Phase, CookieEchoed, Established, ShutdownPending, ShutdownSent, ShutdownReceived, ShutdownAckSent, State, Closed, CookieWait, Open, Context, EndpointState, where_open, Packing}
-use Rattle.spec_endpoint.specs.Packets.{Packet, add, packet_to, new_packet, emit}
-use Rattle.spec_endpoint.specs.Sending.{Sent, ask_for_sack, count_sack_sent, selective_ack, is_alone, open_with, send_with}
-use Rattle.spec_endpoint.specs.Shutdown.{close_with, send_shutdown_ack, Onward, shut_down, open_onward, shutdown_in, shutdown, shut_by_peer, on_shutdown, complete_shutdown, out_of_the_blue, on_shutdown_ack_open, on_shutdown_ack_in, on_shutdown_ack, on_shutdown_complete, abort, close_in, close, too_many, violate, on_abort, on_error}
-use Rattle.spec_endpoint.specs.Input.{ended_if, at_end, end_packet, repeats}
+use Rattle.spec_endpoint.specs.Packets.{PacketDraft, add, packet_to, new_packet, emit}
+use Rattle.spec_endpoint.specs.Sending.{AfterSending, take_due_ack, without_duplicates, selective_ack, is_before_cookie_ack, open_with, send_with}
+use Rattle.spec_endpoint.specs.Shutdown.{close_with, send_shutdown_ack, PhaseStep, shutdown_in_phase, open_phase_step, shutdown_in, shutdown, shut_by_peer, on_shutdown, complete_shutdown, out_of_the_blue, on_shutdown_ack_open, on_shutdown_ack_in, on_shutdown_ack, on_shutdown_complete, abort, close_in, close, too_many, abort_for_violation, on_abort, on_error}
+use Rattle.spec_endpoint.specs.Input.{ack_if_due, at_end, on_packet_end, repeats}
 use Rattle.spec_endpoint.specs.Opening.{on_cookie_ack}
 use Rattle.proof_draws.specs.NamedChunks.{Names, AreNames}
 use Rattle.proof_draws.specs.Names.{named_packet, named_phase, named_tcb, named_state, named_endpoint_state, plain}
@@ -38,7 +38,7 @@ module _ {P : Type 0} (n : Names) (are : AreNames n) (pack : Packing P) where
 
   -- ---- shutdown
 
-  shut_named : (phase : Phase) (t : Tcb) (c : Context P) → Knows n pack c → shut_down (named_phase n phase) (named_tcb n t) (plain pack c) ≡ named_onward n pack (shut_down phase t c)
+  shut_named : (phase : Phase) (t : Tcb) (c : Context P) → Knows n pack c → shutdown_in_phase (named_phase n phase) (named_tcb n t) (plain pack c) ≡ named_onward n pack (shutdown_in_phase phase t c)
   shut_named (CookieEchoed t1 cookie) t c k = go_on_named n are pack ShutdownPending t c k
   shut_named Established t c k = go_on_named n are pack ShutdownPending t c k
   shut_named ShutdownPending t c k = refl
@@ -46,13 +46,13 @@ module _ {P : Type 0} (n : Names) (are : AreNames n) (pack : Packing P) where
   shut_named ShutdownReceived t c k = refl
   shut_named (ShutdownAckSent t2) t c k = refl
 
-  onward_named : (t : Tcb) (o x : Onward P) → x ≡ named_onward n pack o → open_onward (named_tcb n t) x ≡ named_endpoint_state n pack (open_onward t o)
-  onward_named t o x h = ap (λ (y : Onward P). open_onward (named_tcb n t) y) h
+  onward_named : (t : Tcb) (o x : PhaseStep P) → x ≡ named_onward n pack o → open_phase_step (named_tcb n t) x ≡ named_endpoint_state n pack (open_phase_step t o)
+  onward_named t o x h = ap (λ (y : PhaseStep P). open_phase_step (named_tcb n t) y) h
 
   shutdown_in_named : (st : State) (c : Context P) → Knows n pack c → shutdown_in (named_state n st) (plain pack c) ≡ named_endpoint_state n pack (shutdown_in st c)
   shutdown_in_named Closed c k = refl
   shutdown_in_named (CookieWait tag first t1) c k = refl
-  shutdown_in_named (Open phase t) c k = onward_named t (shut_down phase t c) _ (shut_named phase t c k)
+  shutdown_in_named (Open phase t) c k = onward_named t (shutdown_in_phase phase t c) _ (shut_named phase t c k)
 
   pub shutdown_named : (s : EndpointState P) → Knows n pack s.context → shutdown (named_endpoint_state n pack s) ≡ named_endpoint_state n pack (shutdown s)
   shutdown_named s k = shutdown_in_named s.state s.context k
@@ -76,8 +76,8 @@ module _ {P : Type 0} (n : Names) (are : AreNames n) (pack : Packing P) where
 
   blue_named : (tag : ℕ) (c : Context P) → Knows n pack c → out_of_the_blue (n.tag tag) (plain pack c) ≡ plain pack (out_of_the_blue tag c)
   blue_named tag c k =
-      let p : Packet = packet_to tag c.options.mtu in
-      ap (λ (q : Packet). emit q (plain pack c)) (named_add n are (shutdown_complete_chunk true) p) ∙ named_emit n are pack (add (shutdown_complete_chunk true) p) c k
+      let p : PacketDraft = packet_to tag c.options.mtu in
+      ap (λ (q : PacketDraft). emit q (plain pack c)) (named_add n are (shutdown_complete_chunk true) p) ∙ named_emit n are pack (add (shutdown_complete_chunk true) p) c k
 
   in_blue : (tag : ℕ) (st : State) (c : Context P) → Knows n pack c
       → endpoint_state_in (named_state n st) (out_of_the_blue (n.tag tag) (plain pack c)) ≡ named_endpoint_state n pack (endpoint_state_in st (out_of_the_blue tag c))
@@ -125,8 +125,8 @@ module _ {P : Type 0} (n : Names) (are : AreNames n) (pack : Packing P) where
   pub too_many_named : (t : Tcb) (c : Context P) → Knows n pack c → too_many (named_tcb n t) (plain pack c) ≡ named_endpoint_state n pack (too_many t c)
   too_many_named t c k = abort_named (user_initiated_abort (codes "Too many retransmissions")) (OnAborted TooManyRetries (codes "Too many retransmissions")) t c k
 
-  pub violated_named : (reason : List ℕ) (t : Tcb) (c : Context P) → Knows n pack c → violate reason (named_tcb n t) (plain pack c) ≡ named_endpoint_state n pack (violate reason t c)
-  violated_named reason t c k = abort_named (protocol_violation reason) (OnAborted ProtocolViolation reason) t c k
+  pub abort_for_violation_named : (reason : List ℕ) (t : Tcb) (c : Context P) → Knows n pack c → abort_for_violation reason (named_tcb n t) (plain pack c) ≡ named_endpoint_state n pack (abort_for_violation reason t c)
+  abort_for_violation_named reason t c k = abort_named (protocol_violation reason) (OnAborted ProtocolViolation reason) t c k
 
   pub on_abort_named : (causes : List CauseTree) → OpenIsNamed n pack (on_abort causes)
   on_abort_named causes phase t c k = refl
@@ -154,17 +154,17 @@ module _ {P : Type 0} (n : Names) (are : AreNames n) (pack : Packing P) where
   repeats_named ShutdownReceived t c k = refl
   repeats_named (ShutdownAckSent t2) t c k = refl
 
-  ended_if_named : (b : Bool) → OpenIsNamed n pack (ended_if b)
+  ended_if_named : (b : Bool) → OpenIsNamed n pack (ack_if_due b)
   ended_if_named true phase t c k =
-      let p : Packet = new_packet c.options t in
-      let u : Tcb = named_tcb n (count_sack_sent t) in
+      let p : PacketDraft = new_packet c.options t in
+      let u : Tcb = named_tcb n (without_duplicates t) in
       ap (λ (b : Bool). open_with (named_phase n phase) (send_with b (add (selective_ack (named_tcb n t)) (named_packet n p)) u (plain pack c))) (alone_named n phase)
-      ∙ (ap (λ (chunk : ChunkTree). open_with (named_phase n phase) (send_with (is_alone phase) (add chunk (named_packet n p)) u (plain pack c))) (ack_named n t)
-      ∙ (ap (λ (q : Packet). open_with (named_phase n phase) (send_with (is_alone phase) q u (plain pack c))) (named_add n are (selective_ack t) p)
-      ∙ ap (λ (x : Sent P). open_with (named_phase n phase) x) (send_with_named n are pack (is_alone phase) (add (selective_ack t) p) (count_sack_sent t) c k)))
+      ∙ (ap (λ (chunk : ChunkTree). open_with (named_phase n phase) (send_with (is_before_cookie_ack phase) (add chunk (named_packet n p)) u (plain pack c))) (ack_named n t)
+      ∙ (ap (λ (q : PacketDraft). open_with (named_phase n phase) (send_with (is_before_cookie_ack phase) q u (plain pack c))) (named_add n are (selective_ack t) p)
+      ∙ ap (λ (x : AfterSending P). open_with (named_phase n phase) x) (send_with_named n are pack (is_before_cookie_ack phase) (add (selective_ack t) p) (without_duplicates t) c k)))
   ended_if_named false phase t c k = refl
 
-  pub ended_named : OpenIsNamed n pack end_packet
+  pub ended_named : OpenIsNamed n pack on_packet_end
   ended_named phase t c k =
       let u : Tcb = at_end c.now t in
-      ended_if_named (is_ack_due false u.tracker.tracker.ack) phase (ask_for_sack false u) c k
+      ended_if_named (is_ack_due false u.tracker.tracker.ack) phase (take_due_ack false u) c k

@@ -4,7 +4,7 @@ use Rattle.std.specs.List.{list_all}
 use Rattle.std.proofs.lemmas.Bool.{both_ways, eq-eqb}
 use Rattle.std.proofs.lemmas.List.Elements.{All-cons, All-weaker}
 use Rattle.std.proofs.lemmas.Option.{same_Some}
-use Rattle.sctp_serial.specs.Unwrapped.{words}
+use Rattle.sctp_serial.specs.Unwrapped.{u32_space}
 use Rattle.rand_core.specs.Stream.{next_u64}
 use Rattle.sctp_packet.specs.Chunk.{ChunkTree, init_ack_chunk, cookie_echo_chunk}
 use Rattle.sctp_packet.specs.Grammar.{carried}
@@ -12,9 +12,9 @@ use Rattle.sctp_state.specs.Options.{Options}
 use Rattle.sctp_capabilities.specs.StateCookie.{Cookie, read_cookie}
 use Rattle.spec_endpoint.specs.Association.{Phase, Tcb, Identity, State, Closed, CookieWait, Open, Endpoint}
 use Rattle.spec_endpoint.specs.Shown.{Association}
-use Rattle.spec_endpoint.specs.Opening.{by_tags, compare_tags, resolve_cookie}
-use Rattle.spec_endpoint.specs.Input.{my_tag, refusal}
-use Rattle.spec_endpoint.specs.Laws.{Call, Packet, called}
+use Rattle.spec_endpoint.specs.Opening.{by_tags, resolve_by_tags, resolve_cookie}
+use Rattle.spec_endpoint.specs.Input.{my_tag, packet_refusal}
+use Rattle.spec_endpoint.specs.Laws.{Call, ReceivePacket, called}
 use Rattle.proof_endpoint.specs.Mapped.{Carried}
 use Rattle.proof_endpoint.specs.Acts.{IsEchoed}
 use Rattle.proof_pair.specs.Trace.{Side, AreValidOptions, as_carried, as_received, state_of}
@@ -48,7 +48,7 @@ kept_by false false x y e f = refl
 kept_by true b x y e f = cc
 kept_by false true x y e f = cc
 
-kept_association : (tag : ℕ) (i : Identity) (k : Cookie) → tag ≡ i.my_tag → k.peer_tag ≡ i.peer_tag → is_new (compare_tags tag i k) ≡ false
+kept_association : (tag : ℕ) (i : Identity) (k : Cookie) → tag ≡ i.my_tag → k.peer_tag ≡ i.peer_tag → is_new (resolve_by_tags tag i k) ≡ false
 kept_association tag i k e f =
     kept_by (not (tag == i.my_tag)) (not (k.peer_tag == i.peer_tag)) (k.tie_tag == i.tie) (k.tie_tag == 0) (eq_test tag i.my_tag e) (eq_test k.peer_tag i.peer_tag f)
 
@@ -64,11 +64,11 @@ picked ps mine peer tie cookie_tie new Closed = refl
 picked ps mine peer tie cookie_tie new (CookieWait tag first t1) = refl
 picked ps mine peer tie cookie_tie new (Open phase t) = refl
 
-draws_by : (tag : ℕ) (k : Cookie) (s : State) (tie : ℕ → ℕ) (new old : ℕ) → ((phase : Phase) (t : Tcb) → s ≡ Open phase t → is_new (compare_tags tag t.identity k) ≡ false)
+draws_by : (tag : ℕ) (k : Cookie) (s : State) (tie : ℕ → ℕ) (new old : ℕ) → ((phase : Phase) (t : Tcb) → s ≡ Open phase t → is_new (resolve_by_tags tag t.identity k) ≡ false)
     → is_new (resolve_cookie tag k s) ≡ true → new ≡ pick s tie new old
 draws_by tag k Closed tie new old f h = refl
 draws_by tag k (CookieWait own first t1) tie new old f h = refl
-draws_by tag k (Open phase t) tie new old f h = absurd (both_ways (is_new (compare_tags tag t.identity k)) (f phase t refl) h)
+draws_by tag k (Open phase t) tie new old f h = absurd (both_ways (is_new (resolve_by_tags tag t.identity k)) (f phase t refl) h)
 
 -- the association that is held, seen either way
 both_tags_held : (s : State) (mine peer : ℕ) (b : Both) → Holds s mine peer → (view_of s).holds ≡ Some b → (b.mine.tag ≡ mine) × (b.peer.tag ≡ peer)
@@ -101,13 +101,13 @@ flows_as_that cookie c h = tt
 module _ (ps : List (Drawn × Drawn)) (k : Knows ps) (law : EachCallIsNamed) (o q : Options) (given : AreValidOptions q) (x y z : Side) (t : Twin ps x y z) (p r : Carried)
     (checksum other : ℕ) (packing : x.end.endpoint_state.context.pack ≡ as_carried) (quiet : x.end.endpoint_state.context.emitted.events ≡ []) (cookie : List ℕ)
     (rest : List ChunkTree) (n : IsNamedBy ps (state_of y) (state_of x) p r) (begins : p.chunks ≡ cookie_echo_chunk cookie ∷ rest)
-    (flows : list_all is_flowing rest ≡ true) (none : refusal p.header.verification_tag (map carried p.chunks) (state_of x) ≡ None) (numbers : NumbersFitIn (state_of x))
+    (flows : list_all is_flowing rest ≡ true) (none : packet_refusal p.header.verification_tag (map carried p.chunks) (state_of x) ≡ None) (numbers : NumbersFitIn (state_of x))
     (said : IsEcho q (seen y) p.header.verification_tag cookie) (echoing : IsEchoing (state_of y) n.mine n.peer n.cookie_tie) where
   abbrev call : Call
-  call = Packet (as_received p checksum)
+  call = ReceivePacket (as_received p checksum)
 
   abbrev f : Endpoint Carried
-  f = called (Packet (as_received r other)) z.end
+  f = called (ReceivePacket (as_received r other)) z.end
 
   abbrev received : List ChunkTree
   received = map carried p.chunks
@@ -116,7 +116,7 @@ module _ (ps : List (Drawn × Drawn)) (k : Knows ps) (law : EachCallIsNamed) (o 
   made = cookie_by q said.both.mine said.both.peer
 
   abbrev new_tie : ℕ → ℕ
-  new_tie = pick (state_of x) t.tie (next_u64 z.end.random).0
+  new_tie = pick (state_of x) t.tie (next_u64 z.end.draws).0
 
   received_begins : received ≡ cookie_echo_chunk cookie ∷ map carried rest
   received_begins = ap (λ (cs : List ChunkTree). map carried cs) begins
@@ -145,7 +145,7 @@ module _ (ps : List (Drawn × Drawn)) (k : Knows ps) (law : EachCallIsNamed) (o 
       }
 
   silent : receives_init call ≡ false
-  silent = ap (λ (cs : List ChunkTree). receives_init (Packet (record (as_received p checksum) { chunks = cs }))) received_begins
+  silent = ap (λ (cs : List ChunkTree). receives_init (ReceivePacket (record (as_received p checksum) { chunks = cs }))) received_begins
 
   module _ (tags : TagsAre n.peer n.mine (state_of x)) where
     abbrev m : Names
@@ -156,7 +156,7 @@ module _ (ps : List (Drawn × Drawn)) (k : Knows ps) (law : EachCallIsNamed) (o 
         t.state
         ∙ (state_by ps n.peer n.mine t.tie (state_of x) tags
         ∙ (ap (λ (g : ℕ → ℕ). named_state (names ps n.peer n.mine t.tie g) (state_of x)) (sym echoing.tie)
-        ∙ picked ps n.peer n.mine t.tie n.cookie_tie (next_u64 z.end.random).0 (state_of x)))
+        ∙ picked ps n.peer n.mine t.tie n.cookie_tie (next_u64 z.end.draws).0 (state_of x)))
 
     own_cookie : IsOwn ps k n.peer n.mine new_tie n.cookie_tie made
     own_cookie = record { own = ap (λ (tag : ℕ). far ps tag) sender_tags.1; other = ap (λ (tag : ℕ). far ps tag) sender_tags.0 }
@@ -174,20 +174,20 @@ module _ (ps : List (Drawn × Drawn)) (k : Knows ps) (law : EachCallIsNamed) (o 
     under_own phase u e = said.under ∙ (sender_tags.1 ∙ sym (tags_at n.peer n.mine (state_of x) phase u e tags).0)
 
     keeps : (c : Cookie) → read_cookie cookie ≡ Ok c → (phase : Phase) (u : Tcb) → state_of x ≡ Open phase u
-        → is_new (compare_tags p.header.verification_tag u.identity c) ≡ false
+        → is_new (resolve_by_tags p.header.verification_tag u.identity c) ≡ false
     keeps c e phase u is =
         kept_association p.header.verification_tag u.identity c (under_own phase u is)
         (ap (λ (d : Cookie). d.peer_tag) (read_back q said.both.mine said.both.peer cookie c given said.mine said.peer said.is e)
         ∙ (sender_tags.0 ∙ sym (tags_at n.peer n.mine (state_of x) phase u is tags).1))
 
-    echo_is : CookieIsNamed m p.header.verification_tag cookie (state_of x) x.end.random z.end.random
+    echo_is : CookieIsNamed m p.header.verification_tag cookie (state_of x) x.end.draws z.end.draws
     echo_is = record {
       reads = reads_too;
       ties = λ c e phase u is. TiesTell.under_own (eq-eqb p.header.verification_tag u.identity.my_tag (under_own phase u is));
       draws = λ c e new. record {
-        tie = draws_by p.header.verification_tag c (state_of x) t.tie (next_u64 z.end.random).0 (next_u64 x.end.random).0 (keeps c e) new;
+        tie = draws_by p.header.verification_tag c (state_of x) t.tie (next_u64 z.end.draws).0 (next_u64 x.end.draws).0 (keeps c e) new;
       };
-      first = λ c e. subst (λ (d : Cookie). d.my_initial_tsn < words)
+      first = λ c e. subst (λ (d : Cookie). d.my_initial_tsn < u32_space)
           (sym (read_back q said.both.mine said.both.peer cookie c given said.mine said.peer said.is e)) said.peer.first;
     }
 

@@ -11,8 +11,8 @@ use Rattle.sctp_state.specs.declared.api.ErrorKind.TheVariants.{ParseFailed}
 use Rattle.spec_endpoint.specs.Association.{State, Closed, CookieWait, Open, Context, Endpoint, Packing}
 use Rattle.spec_endpoint.specs.Packets.{fits, added_if, emit_if, has_chunks, packet_to, header_to}
 use Rattle.spec_endpoint.specs.Opening.{tag_from, tsn_from, word, drew_word, init_ack_of, agreed_by}
-use Rattle.spec_endpoint.specs.Input.{refusal, counts, taken_if, handle_chunks}
-use Rattle.spec_endpoint.specs.Laws.{Call, Restore, Packet as Given, called, endings, is_closed}
+use Rattle.spec_endpoint.specs.Input.{packet_refusal, count_packet_at, packet_if, on_accepted_packet}
+use Rattle.spec_endpoint.specs.Laws.{Call, Restore, ReceivePacket as Given, called, endings, is_closed}
 use Rattle.proof_endpoint.specs.Mapped.{Carried}
 use Rattle.proof_pair.specs.Trace.{as_carried}
 use Rattle.proof_draws.specs.Laws.{is_flowing}
@@ -21,7 +21,7 @@ use Rattle.proof_draws.proofs.ReceivedLemmas.{all_received}
 use Rattle.proof_draws.proofs.FlowLemmas.{all_true}
 use Rattle.proof_draws.proofs.InitLemmas.{at_state, init_leaves}
 use Rattle.proof_draws.specs.Kinds.{IsKind, an_init, an_answer, an_echo, a_flow}
-use Rattle.proof_draws.proofs.OwnLemmas.{Receives, May, each_both, each_weaker, emits_may}
+use Rattle.proof_draws.proofs.EmittedByActsLemmas.{Receives, May, each_both, each_weaker, emits_may}
 use Rattle.proof_draws.proofs.ActionLemmas.{ReceivesKind, EndsEmitEventOwn}
 
 -- ---- what is received of each kind
@@ -123,27 +123,27 @@ module _ (p : PacketTree) (e : Endpoint Carried) (packing : e.endpoint_state.con
   abbrev EmitsP : Endpoint Carried → Type 0
   EmitsP x = EachChunk P x.endpoint_state.context.emitted.events
 
-  closed_emits : EmitsP (handle_chunks tag (init_chunk i ∷ []) (at_state Closed (counts e).endpoint_state.context (counts e).random))
+  closed_emits : EmitsP (on_accepted_packet tag (init_chunk i ∷ []) (at_state Closed (count_packet_at e).endpoint_state.context (count_packet_at e).draws))
   closed_emits =
-      let d : Context Carried = (counts e).endpoint_state.context in
+      let d : Context Carried = (count_packet_at e).endpoint_state.context in
       let a : InitTree = init_ack_of d.options i (tag_from (word (drew_word e))) (tsn_from (word e)) 0 in
       answer_emits P (fits (record (packet_to i.initiate_tag d.options.mtu) { is_summed = not (zero_checksum_enabled (agreed_by d.options i)) }) (init_ack_chunk a))
       (not (zero_checksum_enabled (agreed_by d.options i))) i.initiate_tag d.options.mtu (init_ack_chunk a) d packing quiet (λ closed. (receives, refl))
 
-  refused_emits : (text : List ℕ) → refusal tag p.chunks e.endpoint_state.state ≡ Some text → EmitsP (called call e)
+  refused_emits : (text : List ℕ) → packet_refusal tag p.chunks e.endpoint_state.state ≡ Some text → EmitsP (called call e)
   refused_emits text is =
-      subst EmitsP (sym (ap (λ (r : Option (List ℕ)). taken_if r tag p.chunks (counts e)) is))
+      subst EmitsP (sym (ap (λ (r : Option (List ℕ)). packet_if r tag p.chunks (count_packet_at e)) is))
       (each_both P e.endpoint_state.context.emitted.events (OnError ParseFailed text ∷ []) (subst (EachChunk P) (sym quiet) tt) tt)
 
-  module _ (none : refusal tag p.chunks e.endpoint_state.state ≡ None) where
-    goes : (s : State) → e.endpoint_state.state ≡ s → called call e ≡ handle_chunks tag (init_chunk i ∷ []) (at_state s (counts e).endpoint_state.context (counts e).random)
+  module _ (none : packet_refusal tag p.chunks e.endpoint_state.state ≡ None) where
+    goes : (s : State) → e.endpoint_state.state ≡ s → called call e ≡ on_accepted_packet tag (init_chunk i ∷ []) (at_state s (count_packet_at e).endpoint_state.context (count_packet_at e).draws)
     goes s is =
-        ap (λ (r : Option (List ℕ)). taken_if r tag p.chunks (counts e)) none
-        ∙ (ap (λ (cs : List ChunkTree). handle_chunks tag cs (counts e)) alone
-        ∙ ap (λ (u : State). handle_chunks tag (init_chunk i ∷ []) (at_state u (counts e).endpoint_state.context (counts e).random)) is)
+        ap (λ (r : Option (List ℕ)). packet_if r tag p.chunks (count_packet_at e)) none
+        ∙ (ap (λ (cs : List ChunkTree). on_accepted_packet tag cs (count_packet_at e)) alone
+        ∙ ap (λ (u : State). on_accepted_packet tag (init_chunk i ∷ []) (at_state u (count_packet_at e).endpoint_state.context (count_packet_at e).draws)) is)
 
     not_closed : (s : State) → e.endpoint_state.state ≡ s → is_closed s ≡ false → is_closed (called call e).endpoint_state.state ≡ false
-    not_closed s is h = ap (λ (x : Endpoint Carried). is_closed x.endpoint_state.state) (goes s is) ∙ init_leaves tag i s (counts e).endpoint_state.context (counts e).random h
+    not_closed s is h = ap (λ (x : Endpoint Carried). is_closed x.endpoint_state.state) (goes s is) ∙ init_leaves tag i s (count_packet_at e).endpoint_state.context (count_packet_at e).draws h
 
     init_by_state : (s : State) → e.endpoint_state.state ≡ s → endings (called call e).endpoint_state.context.emitted.events ≡ 0 → EmitsP (called call e)
     init_by_state Closed is no_end = subst EmitsP (sym (goes Closed is)) closed_emits
@@ -154,7 +154,7 @@ module _ (p : PacketTree) (e : Endpoint Carried) (packing : e.endpoint_state.con
         emits_by call e packing quiet no_end (receives_one p i alone)
         (λ closed. absurd (both_ways (is_closed (called call e).endpoint_state.state) (not_closed (Open phase t) is refl) closed))
 
-  init_emits : (r : Option (List ℕ)) → refusal tag p.chunks e.endpoint_state.state ≡ r → endings (called call e).endpoint_state.context.emitted.events ≡ 0 → EmitsP (called call e)
+  init_emits : (r : Option (List ℕ)) → packet_refusal tag p.chunks e.endpoint_state.state ≡ r → endings (called call e).endpoint_state.context.emitted.events ≡ 0 → EmitsP (called call e)
   init_emits None is no_end = init_by_state is e.endpoint_state.state refl no_end
   init_emits (Some text) is no_end = refused_emits text is
 
@@ -163,7 +163,7 @@ module _ (p : PacketTree) (e : Endpoint Carried) (packing : e.endpoint_state.con
 packet_emits : (p : PacketTree) (e : Endpoint Carried) → e.endpoint_state.context.pack ≡ as_carried → e.endpoint_state.context.emitted.events ≡ [] → IsKind p.chunks
     → endings (called (Given p) e).endpoint_state.context.emitted.events ≡ 0 → EmitsOwn (Given p) e
 packet_emits p e packing quiet (an_init i alone) none =
-    init_emits p e packing quiet i alone (refusal p.header.verification_tag p.chunks e.endpoint_state.state) refl none
+    init_emits p e packing quiet i alone (packet_refusal p.header.verification_tag p.chunks e.endpoint_state.state) refl none
 packet_emits p e packing quiet (an_answer i alone) none =
     let all : All IsNoInit p.chunks = subst (All IsNoInit) (sym alone) (All-cons IsNoInit (init_ack_chunk i) [] tt (All-nil IsNoInit)) in
     emits_by (Given p) e packing quiet none (receives_others p all) (λ closed. flowing_first p.chunks all)

@@ -13,10 +13,10 @@ use Rattle.sctp_tx_outstanding.specs.declared.item.ItemState.{ItemState}
 use Rattle.sctp_tx_outstanding.specs.declared.item.ItemState.TheVariants.{InFlight, Missing, Queued, QueuedFast, Acked, GivenUp}
 use Rattle.sctp_tx_outstanding.specs.Item as item
 use Rattle.sctp_tx_outstanding.specs.Item.{Item, is_in_flight, waits, waits_fast, is_given_up, is_of, is_lost, is_fast, should_be_retransmitted, nack_state, mark_as_retransmitted, miss_fast}
-use Rattle.sctp_tx_outstanding.specs.OutstandingData.{Items, Outstanding, change_at, lay_down, last_of}
-use Rattle.sctp_tx_outstanding.specs.Losses.{placeholder, placeholders, close_message, Step, given_up, change_items, gives_up, loses, nack_item, nack_below, nack_all, first_step, expired_at, given_up_if, expire_below, expire_outstanding}
-use Rattle.sctp_tx_outstanding.specs.Sack.{leaving, staying, settle, ack_or_nack, reported_below, receive_sack_first, receive_sack}
-use Rattle.sctp_tx_outstanding.specs.Resending.{Resent, size_in, allowance, again_of, again_at, passed_over, fast_turn, queued_turn, turn_of, take_item, resent_below, empty_packet, resend}
+use Rattle.sctp_tx_outstanding.specs.OutstandingData.{Items, Outstanding, change_at, abandon_if_of, last_of}
+use Rattle.sctp_tx_outstanding.specs.Losses.{placeholder, placeholders, end_with_placeholder, Step, abandon_with_record, change_items, is_to_be_abandoned, loses, nack_item, nack_below, nack_all, first_step, expired_at, given_up_if, expire_below, expire_outstanding}
+use Rattle.sctp_tx_outstanding.specs.Sack.{leaving, staying, ack_or_uncover_all, ack_or_uncover, reported_below, receive_sack_first, receive_sack}
+use Rattle.sctp_tx_outstanding.specs.Resending.{Resent, size_in, allowance, again_of, again_at, passed_over, fast_turn, queued_turn, turn_of, apply_turn, resent_below, empty_packet, resend}
 use Rattle.proof_endpoint.proofs.ReceivedLemmas.{each_append, each_push, each_drop}
 
 -- ---- an item
@@ -83,23 +83,23 @@ placeholders_filled number (Some f) = go f.is_end
     go true = tt
     go false = (inl refl, tt)
 
-laid_filled : (number : ℕ) (i : Item) → IsFilled i → IsFilled (lay_down number i)
+laid_filled : (number : ℕ) (i : Item) → IsFilled i → IsFilled (abandon_if_of number i)
 laid_filled number i h = go (is_of number i)
   where
     go : (b : Bool) → IsFilled (cond b (item.abandon i) i)
     go true = inl refl
     go false = h
 
-closed_filled : (number : ℕ) (s : Items) → AreFilled s → AreFilled (close_message number s)
+closed_filled : (number : ℕ) (s : Items) → AreFilled s → AreFilled (end_with_placeholder number s)
 closed_filled number s h = each_append IsFilled s.kept (placeholders number (last_of number s.kept)) h (placeholders_filled number (last_of number s.kept))
 
-settled_filled : (b : Bool) (i : Item) → IsFilled i → IsFilled (ack_or_nack b i)
-settled_filled true i h = goes i (item.ack i) refl (λ e. ap (λ (s : ItemState). is_given_up (item.acked s)) e) h
-settled_filled false i h = goes i (item.uncover i) refl (λ e. ap (λ (s : ItemState). is_given_up (item.uncovered s)) e) h
+ack_or_uncover_filled : (b : Bool) (i : Item) → IsFilled i → IsFilled (ack_or_uncover b i)
+ack_or_uncover_filled true i h = goes i (item.ack i) refl (λ e. ap (λ (s : ItemState). is_given_up (item.acked s)) e) h
+ack_or_uncover_filled false i h = goes i (item.uncover i) refl (λ e. ap (λ (s : ItemState). is_given_up (item.uncovered s)) e) h
 
-settle_filled : (blocks : List GapAckBlock) (offset : ℕ) (is : List Item) → AreAll is → AreAll (settle blocks offset is)
+settle_filled : (blocks : List GapAckBlock) (offset : ℕ) (is : List Item) → AreAll is → AreAll (ack_or_uncover_all blocks offset is)
 settle_filled blocks offset [] h = tt
-settle_filled blocks offset (i ∷ is) h = (settled_filled (is_covered blocks offset) i h.0, settle_filled blocks (suc offset) is h.1)
+settle_filled blocks offset (i ∷ is) h = (ack_or_uncover_filled (is_covered blocks offset) i h.0, settle_filled blocks (suc offset) is h.1)
 
 nack_filled : (at_once fast : Bool) (i : Item) → IsFilled i → IsFilled (item.nack at_once fast i)
 nack_filled at_once fast i h =
@@ -109,19 +109,19 @@ resent_filled : (i : Item) → IsFilled i → IsFilled (mark_as_retransmitted i)
 resent_filled i h = goes i (mark_as_retransmitted i) refl (λ e. ap (λ (s : ItemState). is_given_up (item.resent s)) e) h
 
 missed_filled : (i : Item) → IsFilled i → IsFilled (miss_fast i)
-missed_filled i h = goes i (miss_fast i) refl (λ e. ap (λ (s : ItemState). is_given_up (item.slow s)) e) h
+missed_filled i h = goes i (miss_fast i) refl (λ e. ap (λ (s : ItemState). is_given_up (item.demote_fast s)) e) h
 
 abbrev StepIsFilled : {P : Type 0} → Step P → Type 0
 StepIsFilled x = AreFilled x.items
 
 module _ {P : Type 0} where
-  given_up_filled : (number : ℕ) (cause : GivenUpCause) (x : Step P) → StepIsFilled x → StepIsFilled (given_up number cause x)
-  given_up_filled number cause x h = map_filled (lay_down number) (laid_filled number) (close_message number x.items).kept (closed_filled number x.items h)
+  given_up_filled : (number : ℕ) (cause : GivenUpCause) (x : Step P) → StepIsFilled x → StepIsFilled (abandon_with_record number cause x)
+  given_up_filled number cause x h = map_filled (abandon_if_of number) (laid_filled number) (end_with_placeholder number x.items).kept (closed_filled number x.items h)
 
   nack_item_filled : (at_once fast : Bool) (k : ℕ) (i : Item) (x : Step P) → StepIsFilled x → StepIsFilled (nack_item at_once fast k i x)
-  nack_item_filled at_once fast k i x h = go (gives_up x.items.is_partial at_once i)
+  nack_item_filled at_once fast k i x h = go (is_to_be_abandoned x.items.is_partial at_once i)
     where
-      go : (b : Bool) → StepIsFilled (cond b (given_up i.number (Retransmissions (i.sent - 1)) x)
+      go : (b : Bool) → StepIsFilled (cond b (abandon_with_record i.number (Retransmissions (i.sent - 1)) x)
           (record x { items = change_items k (item.nack at_once fast) x.items; is_lossy = x.is_lossy || loses at_once i }))
       go true = given_up_filled i.number (Retransmissions (i.sent - 1)) x h
       go false = change_filled (item.nack at_once fast) (nack_filled at_once fast) k x.items.kept h
@@ -183,20 +183,20 @@ here : (k : ℕ) (i : Item) (x : Resent) → slice_get x.outstanding.items.kept 
 here k i x there h = subst IsGot there (got x.outstanding.items.kept k h.items)
 
 fast_filled : (a b : Bool) (i : Item) (k : ℕ) (x : Resent) → slice_get x.outstanding.items.kept k ≡ Some i → is_fast i ≡ a → nat_le (size_in x i) x.room ≡ b
-    → ResentIsFilled x → ResentIsFilled (take_item (fast_turn i x) k x)
+    → ResentIsFilled x → ResentIsFilled (apply_turn (fast_turn i x) k x)
 fast_filled true true i k x there e f h = rw (e, f) (again_filled k i x there (waiting_fast i e (here k i x there h)) h)
 fast_filled true false i k x there e f h = rw (e, f) (passed_over_filled k x h)
 fast_filled false b i k x there e f h = rw e h
 
 queued_filled : (b : Bool) (i : Item) (k : ℕ) (x : Resent) → slice_get x.outstanding.items.kept k ≡ Some i
-    → (should_be_retransmitted i && nat_le (size_in x i) (allowance x)) ≡ b → ResentIsFilled x → ResentIsFilled (take_item (queued_turn i x) k x)
+    → (should_be_retransmitted i && nat_le (size_in x i) (allowance x)) ≡ b → ResentIsFilled x → ResentIsFilled (apply_turn (queued_turn i x) k x)
 queued_filled true i k x there e h =
     let w : should_be_retransmitted i ≡ true = (and_parts (should_be_retransmitted i) (nat_le (size_in x i) (allowance x)) e).0 in
     rw e (again_filled k i x there (waiting i w (here k i x there h)) h)
 queued_filled false i k x there e h = rw e h
 
 action_filled : (fast : Bool) (o : Option Item) (k : ℕ) (x : Resent) → slice_get x.outstanding.items.kept k ≡ o → ResentIsFilled x
-    → ResentIsFilled (take_item (turn_of fast o x) k x)
+    → ResentIsFilled (apply_turn (turn_of fast o x) k x)
 action_filled fast None k x there h = h
 action_filled true (Some i) k x there h = fast_filled (is_fast i) (nat_le (size_in x i) x.room) i k x there refl refl h
 action_filled false (Some i) k x there h = queued_filled (should_be_retransmitted i && nat_le (size_in x i) (allowance x)) i k x there refl h

@@ -12,9 +12,9 @@ use Rattle.sctp_tx_queue.specs.Settings.{Changed, discard}
 use Rattle.sctp_tx_queue.proofs.RestLemmas.{calls_leave_rests}
 use Rattle.sctp_tx.specs.Windows.{is_open}
 use Rattle.sctp_tx.specs.RetransmissionQueue.{Sender, sender_if}
-use Rattle.sctp_tx.specs.Resent.{may_send_new, resent, resent_fast, timed_if, send_fast}
-use Rattle.sctp_tx.specs.ForwardPoints.{expire}
-use Rattle.sctp_tx.specs.Sending.{Filling, Turned, item_of, append, offered_payload, turned_if, next_turn, fill, discard_all, without_discards, filled_with, send}
+use Rattle.sctp_tx.specs.Resent.{may_send_new, resent, resent_fast, start_t3_if, send_fast}
+use Rattle.sctp_tx.specs.ForwardPoints.{abandon_expired}
+use Rattle.sctp_tx.specs.Sending.{Filling, QueueStep, item_of, append, offered_payload, queue_step_if, next_turn, fill, discard_all, without_discards, filled_with, send}
 use Rattle.proof_endpoint.specs.Mapped.{Carried, Mapping, map_emitted}
 use Rattle.proof_endpoint.proofs.EmittedMapsLemmas.{map_fragments, maps_fragments_sent}
 use Rattle.proof_endpoint.proofs.ReceivedLemmas.{each_push}
@@ -30,12 +30,12 @@ module _ {P : Type 0} where
   received_filled true now n a_rwnd blocks s t h = receive_filled n blocks (not (is_open n s.windows)) s.outstanding.items t h
   received_filled false now n a_rwnd blocks s t h = h
 
-  pub sender_expired_filled : (now : ℕ) (s : Sender) (t : Emitted P) → SenderIsFilled s → SenderIsFilled (expire now s t)
+  pub sender_expired_filled : (now : ℕ) (s : Sender) (t : Emitted P) → SenderIsFilled s → SenderIsFilled (abandon_expired now s t)
   sender_expired_filled now s t h = expired_filled now s.outstanding.items t h
 
 -- ---- what is sent again
 
-timed_filled : (b : Bool) (now : ℕ) (s : Sender) → SenderIsFilled s → SenderIsFilled (timed_if b now s)
+timed_filled : (b : Bool) (now : ℕ) (s : Sender) → SenderIsFilled s → SenderIsFilled (start_t3_if b now s)
 timed_filled true now s h = h
 timed_filled false now s h = h
 
@@ -77,7 +77,7 @@ appended_filled now (Some p) x f h = record {
 }
 
 turned_if_filled : (b : Bool) (now : ℕ) (x : Filling (List ℕ)) → (b ≡ true → 0 < offered_payload x.left x.sender) → FillingIsFilled x
-    → FillingIsFilled (turned_if b now x).filling
+    → FillingIsFilled (queue_step_if b now x).filling
 turned_if_filled true now x some h =
     let n : ℕ = offered_payload x.left x.sender in
     let y : Turn (List ℕ) = produce now n x.queue x.emitted in
@@ -98,7 +98,7 @@ filled_if false x y h k = k
 fill_filled : (n now : ℕ) (x : Filling (List ℕ)) → FillingIsFilled x → FillingIsFilled (fill n now x)
 fill_filled zero now x h = h
 fill_filled (suc n) now x h =
-    let y : Turned (List ℕ) = next_turn now x in
+    let y : QueueStep (List ℕ) = next_turn now x in
     let k : FillingIsFilled y.filling = turned_filled now x h in
     filled_if y.is_more (fill n now y.filling) y.filling (fill_filled n now y.filling k) k
 

@@ -1,7 +1,7 @@
 -- Bursts: each packet takes the same under other names, and goes out written under them.
 use Rattle.std.proofs.Common.{◌≡◌, ℕ, zero, suc, ◌+◌, ◌-◌, ◌*◌, ◌/◌, ◌==◌, not, nat_le, nat_lt, Bool, true, false, is_some, Option, Some, None, option_map, List, [], ◌∷◌, length, map, refl, ap, ◌∙◌}
 use Rattle.sctp_serial.specs.declared.types.tsn.Tsn.{Tsn}
-use Rattle.sctp_serial.specs.Unwrapped.{words}
+use Rattle.sctp_serial.specs.Unwrapped.{u32_space}
 use Rattle.sctp_packet.specs.Chunk.{ChunkTree, FragmentTree, sack_chunk, forward_tsn_chunk, i_forward_tsn_chunk}
 use Rattle.sctp_state.specs.RetransmissionTimeout.{rto}
 use Rattle.sctp_tx_outstanding.specs.OutstandingData.{wire_tsn, fast_items}
@@ -12,17 +12,17 @@ use Rattle.sctp_rx.specs.DataTracker.{is_ack_due}
 use Rattle.sctp_rx.specs.DataTracker as tracker
 use Rattle.sctp_rx.specs.Sack.{gap_ack_blocks, tsns}
 use Rattle.sctp_rx.specs.Sack as sacks
-use Rattle.sctp_tx_queue.specs.Resets.{requested_streams, request_resets}
+use Rattle.sctp_tx_queue.specs.Resets.{streams_to_request, request_resets}
 use Rattle.sctp_tx.specs.RetransmissionQueue.{Sender}
 use Rattle.sctp_tx.specs.Resent.{is_interleaved, resent_fast}
 use Rattle.sctp_tx.specs.ForwardPoints.{point_of, forward_chunk, chunk_if}
 use Rattle.sctp_tx.specs.Sending as fragments
 use Rattle.sctp_tx.specs.Sending.{send}
 use Rattle.spec_endpoint.specs.Association.{Tcb, Context, Packing}
-use Rattle.spec_endpoint.specs.Heartbeats.{beating_if}
+use Rattle.spec_endpoint.specs.Heartbeats.{restart_interval_if}
 use Rattle.spec_endpoint.specs.ResetRequests.{Request, Requests, request_chunk, start_request}
-use Rattle.spec_endpoint.specs.Packets.{Packet, empty_packet, room, fits, add, add_all, has_chunks, new_packet, emit}
-use Rattle.spec_endpoint.specs.Sending.{Filling, window, selective_ack, ask_for_sack, count_sack_sent, ack_if, goes_along, with_ack, forward_later, forward_added_if, forward_if, test_forward_point, tested_if, with_forward, most_streams, last_assigned, begin_burst, request_started, add_request, carrying, request_of, request_at_most, request_if, with_request, data_chunk_of, is_small, fill_packet, with_data, filled_as, emit_packet, Turned, turned_if, next_packet, go_on, burst, is_alone, Sent, send_lost_data, sent_by, send_with, send_buffered, fast_most, fast_packet, fast_if, send_lost}
+use Rattle.spec_endpoint.specs.Packets.{PacketDraft, clear_chunks, room, fits, add, add_all, has_chunks, new_packet, emit}
+use Rattle.spec_endpoint.specs.Sending.{Filling, window, selective_ack, take_due_ack, without_duplicates, ack_if, has_data_to_send, with_ack, forward_later, forward_added_if, forward_if, with_expired_abandoned, forward_if_time, with_forward, most_streams, last_assigned, add_reset_breakpoint, request_started, add_request, carrying, request_of, request_at_most, request_if, with_request, data_chunk_of, is_small, with_fragments, with_data, filled_as, emit_packet, BurstStep, burst_step_if, next_packet, continue_burst, burst, is_before_cookie_ack, AfterSending, after_sending, sent_by, send_with, send_buffered, fast_most, fast_packet, fast_if, send_lost}
 use Rattle.proof_draws.specs.NamedChunks.{Names, AreNames, move_by, moved_tsn, named_chunk, named_chunks}
 use Rattle.proof_draws.specs.Names.{named_packet, named_sender, named_request, named_requests, named_tcb, plain}
 use Rattle.proof_draws.proofs.MovedLemmas.{moved_wire, sum_moved}
@@ -34,10 +34,10 @@ use Rattle.proof_endpoint.proofs.SendingMapsLemmas.{filling_with, turned_with}
 abbrev pub named_filling : {P : Type 0} → Names → Packing P → Filling P → Filling P
 named_filling n pack x = record { packet = named_packet n x.packet; tcb = named_tcb n x.tcb; context = plain pack x.context }
 
-abbrev pub named_sent : {P : Type 0} → Names → Packing P → Sent P → Sent P
+abbrev pub named_sent : {P : Type 0} → Names → Packing P → AfterSending P → AfterSending P
 named_sent n pack x = record { tcb = named_tcb n x.tcb; context = plain pack x.context }
 
-abbrev named_turned : {P : Type 0} → Names → Packing P → Turned P → Turned P
+abbrev named_turned : {P : Type 0} → Names → Packing P → BurstStep P → BurstStep P
 named_turned n pack x = record { filling = named_filling n pack x.filling; is_more = x.is_more }
 
 -- ---- chunks
@@ -57,8 +57,8 @@ abbrev pub with_requests : Tcb → Requests → Tcb
 with_requests t r = record t { requests = r }
 
 -- with this packet, where so many fragments were sent
-abbrev filled_by : {P : Type 0} → Filling P → Packet → Filling P → (count : ℕ) → Filling P
-filled_by y p x count = record y { packet = p; context = record y.context { heartbeats = beating_if (not (count == 0)) x.context.now x.context.heartbeats } }
+abbrev filled_by : {P : Type 0} → Filling P → PacketDraft → Filling P → (count : ℕ) → Filling P
+filled_by y p x count = record y { packet = p; context = record y.context { heartbeats = restart_interval_if (not (count == 0)) x.context.now x.context.heartbeats } }
 
 module _ (n : Names) where
   tsns_named : (by first : ℕ) (ns : List ℕ) → tsns (move_by by first) ns ≡ map (moved_tsn by) (tsns first ns)
@@ -84,11 +84,11 @@ module _ (n : Names) where
   -- a request to reset streams
   pub started_named : (now : ℕ) (streams : List ℕ) (t : Tcb) → request_started now streams (named_tcb n t) ≡ named_tcb n (request_started now streams t)
   started_named now streams t =
-      let s : Sender = begin_burst t.sender in
+      let s : Sender = add_reset_breakpoint t.sender in
       let r : Requests = named_requests n t.requests in
       let u : Tcb = named_tcb n (request_started now streams t) in
       ap (λ (w : ℕ). with_requests u (start_request now (rto t.rtt) w streams r)) (moved_wire n.own s.outstanding.first (items.next_number s.outstanding.items - 1))
-      ∙ ap (λ (next : ℕ). with_requests u (record (start_request now (rto t.rtt) (move_by n.own (last_assigned s)) streams r) { next = next })) (sum_moved words t.requests.next 1 n.own)
+      ∙ ap (λ (next : ℕ). with_requests u (record (start_request now (rto t.rtt) (move_by n.own (last_assigned s)) streams r) { next = next })) (sum_moved u32_space t.requests.next 1 n.own)
 
   pub data_named : (m is_immediate : Bool) (cs : List (ℕ × FragmentTree))
       → map (data_chunk_of m is_immediate) (named_pairs n cs) ≡ named_chunks n (map (data_chunk_of m is_immediate) cs)
@@ -101,19 +101,19 @@ module _ (n : Names) where
 module _ {P : Type 0} (n : Names) (are : AreNames n) (pack : Packing P) where
   ack_if_named : (b : Bool) (x : Filling P) → ack_if b (named_filling n pack x) ≡ named_filling n pack (ack_if b x)
   ack_if_named true x =
-      let t : Tcb = named_tcb n (count_sack_sent x.tcb) in
+      let t : Tcb = named_tcb n (without_duplicates x.tcb) in
       ap (λ (c : ChunkTree). filling_with (add c (named_packet n x.packet)) t (plain pack x.context)) (ack_named n x.tcb)
-      ∙ ap (λ (p : Packet). filling_with p t (plain pack x.context)) (named_add n are (selective_ack x.tcb) x.packet)
+      ∙ ap (λ (p : PacketDraft). filling_with p t (plain pack x.context)) (named_add n are (selective_ack x.tcb) x.packet)
   ack_if_named false x = refl
 
   pub with_ack_named : (x : Filling P) → with_ack (named_filling n pack x) ≡ named_filling n pack (with_ack x)
-  with_ack_named x = ack_if_named (is_ack_due (goes_along x) x.tcb.tracker.tracker.ack) (record x { tcb = ask_for_sack (goes_along x) x.tcb })
+  with_ack_named x = ack_if_named (is_ack_due (has_data_to_send x) x.tcb.tracker.tracker.ack) (record x { tcb = take_due_ack (has_data_to_send x) x.tcb })
 
   forward_added_named : (b : Bool) (x : Filling P) → forward_added_if b (named_filling n pack x) ≡ named_filling n pack (forward_added_if b x)
   forward_added_named true x =
       let c : Context P = plain pack (forward_later x.tcb x.context) in
       ap (λ (k : ChunkTree). filling_with (add k (named_packet n x.packet)) (named_tcb n x.tcb) c) (forward_named n x.tcb.sender)
-      ∙ ap (λ (p : Packet). filling_with p (named_tcb n x.tcb) c) (named_add n are (forward_chunk x.tcb.sender) x.packet)
+      ∙ ap (λ (p : PacketDraft). filling_with p (named_tcb n x.tcb) c) (named_add n are (forward_chunk x.tcb.sender) x.packet)
   forward_added_named false x = refl
 
   forward_if_named : (b : Bool) (x : Filling P) → forward_if b (named_filling n pack x) ≡ named_filling n pack (forward_if b x)
@@ -124,19 +124,19 @@ module _ {P : Type 0} (n : Names) (are : AreNames n) (pack : Packing P) where
       ∙ forward_added_named (fits x.packet (forward_chunk x.tcb.sender)) x)
   forward_if_named false x = refl
 
-  tested_if_named : (b : Bool) (x : Filling P) → tested_if b (named_filling n pack x) ≡ named_filling n pack (tested_if b x)
-  tested_if_named true x = forward_if_named (is_forward_due (test_forward_point x).tcb.sender.outstanding.items) (test_forward_point x)
+  tested_if_named : (b : Bool) (x : Filling P) → forward_if_time b (named_filling n pack x) ≡ named_filling n pack (forward_if_time b x)
+  tested_if_named true x = forward_if_named (is_forward_due (with_expired_abandoned x).tcb.sender.outstanding.items) (with_expired_abandoned x)
   tested_if_named false x = refl
 
   with_forward_named : (x : Filling P) → with_forward (named_filling n pack x) ≡ named_filling n pack (with_forward x)
   with_forward_named x = tested_if_named (nat_le x.context.forward_from x.context.now) x
 
-  pub add_request_named : (o : Option Request) (p : Packet) → add_request (option_map (named_request n) o) (named_packet n p) ≡ named_packet n (add_request o p)
+  pub add_request_named : (o : Option Request) (p : PacketDraft) → add_request (option_map (named_request n) o) (named_packet n p) ≡ named_packet n (add_request o p)
   add_request_named None p = refl
   add_request_named (Some r) p = named_add n are (request_chunk r) p
 
   carrying_named : (t : Tcb) (x : Filling P) → carrying (named_tcb n t) (named_filling n pack x) ≡ named_filling n pack (carrying t x)
-  carrying_named t x = ap (λ (p : Packet). filling_with p (named_tcb n t) (plain pack x.context)) (add_request_named t.requests.current x.packet)
+  carrying_named t x = ap (λ (p : PacketDraft). filling_with p (named_tcb n t) (plain pack x.context)) (add_request_named t.requests.current x.packet)
 
   request_of_named : (streams : List ℕ) (x : Filling P) → request_of streams (named_filling n pack x) ≡ named_filling n pack (request_of streams x)
   request_of_named [] x = refl
@@ -144,12 +144,12 @@ module _ {P : Type 0} (n : Names) (are : AreNames n) (pack : Packing P) where
       ap (λ (t : Tcb). carrying t (named_filling n pack x)) (started_named n x.context.now (id ∷ ids) x.tcb)
       ∙ carrying_named (request_started x.context.now (id ∷ ids) x.tcb) x
 
-  most_named : (p : Packet) → room (named_packet n p) ≡ room p
+  most_named : (p : PacketDraft) → room (named_packet n p) ≡ room p
   most_named p = ap (λ (k : ℕ). p.limit - (12 + k)) (sizes_named n are p.chunks)
 
   request_at_named : (most : ℕ) (x : Filling P) → request_at_most most (named_filling n pack x) ≡ named_filling n pack (request_at_most most x)
   request_at_named most x =
-      request_of_named (requested_streams most x.context.queue) (record x { context = record x.context { queue = request_resets most x.context.queue } })
+      request_of_named (streams_to_request most x.context.queue) (record x { context = record x.context { queue = request_resets most x.context.queue } })
 
   request_if_named : (b : Bool) (x : Filling P) → request_if b (named_filling n pack x) ≡ named_filling n pack (request_if b x)
   request_if_named true x = refl
@@ -164,20 +164,20 @@ module _ {P : Type 0} (n : Names) (are : AreNames n) (pack : Packing P) where
   with_request_named x =
       ap (λ (b : Bool). request_if b (named_filling n pack x)) (some_request x.tcb.requests.current) ∙ request_if_named (is_some x.tcb.requests.current) x
 
-  filled_named : (f : fragments.Filling P) (x : Filling P) → fill_packet (named_fragments n f) (named_filling n pack x) ≡ named_filling n pack (fill_packet f x)
+  filled_named : (f : fragments.Filling P) (x : Filling P) → with_fragments (named_fragments n f) (named_filling n pack x) ≡ named_filling n pack (with_fragments f x)
   filled_named f x =
-      let y : Filling P = named_filling n pack (fill_packet f x) in
+      let y : Filling P = named_filling n pack (with_fragments f x) in
       let m : Bool = x.tcb.capabilities.message_interleaving in
       let small : Bool = is_small x.context.options f.sender in
       ap (λ (k : ℕ). filled_by y (add_all (map (data_chunk_of m small) (named_pairs n f.chunks)) (named_packet n x.packet)) x k) (length_pairs n f.chunks)
       ∙ (ap (λ (cs : List ChunkTree). filled_by y (add_all cs (named_packet n x.packet)) x (length f.chunks)) (data_named n m small f.chunks)
-      ∙ ap (λ (p : Packet). filled_by y p x (length f.chunks)) (named_add_all n are (map (data_chunk_of m small) f.chunks) x.packet))
+      ∙ ap (λ (p : PacketDraft). filled_by y p x (length f.chunks)) (named_add_all n are (map (data_chunk_of m small) f.chunks) x.packet))
 
   with_data_named : (x : Filling P) → with_data (named_filling n pack x) ≡ named_filling n pack (with_data x)
   with_data_named x =
       let c : Context P = x.context in
-      ap (λ (k : ℕ). fill_packet (send c.now k (named_sender n x.tcb.sender) c.queue c.emitted) (named_filling n pack x)) (most_named x.packet)
-      ∙ (ap (λ (f : fragments.Filling P). fill_packet f (named_filling n pack x)) (send_named n c.now (room x.packet) x.tcb.sender c.queue c.emitted)
+      ap (λ (k : ℕ). with_fragments (send c.now k (named_sender n x.tcb.sender) c.queue c.emitted) (named_filling n pack x)) (most_named x.packet)
+      ∙ (ap (λ (f : fragments.Filling P). with_fragments f (named_filling n pack x)) (send_named n c.now (room x.packet) x.tcb.sender c.queue c.emitted)
       ∙ filled_named (send c.now (room x.packet) x.tcb.sender c.queue c.emitted) x)
 
   filled_as_named : (is_first : Bool) (x : Filling P) → filled_as is_first (named_filling n pack x) ≡ named_filling n pack (filled_as is_first x)
@@ -204,8 +204,8 @@ module _ {P : Type 0} where
   forward_stays true x = forward_added_stays (fits x.packet (forward_chunk x.tcb.sender)) x
   forward_stays false x = refl
 
-  tested_stays : (b : Bool) (x : Filling P) → (tested_if b x).context.pack ≡ x.context.pack
-  tested_stays true x = forward_stays (is_forward_due (test_forward_point x).tcb.sender.outstanding.items) (test_forward_point x)
+  tested_stays : (b : Bool) (x : Filling P) → (forward_if_time b x).context.pack ≡ x.context.pack
+  tested_stays true x = forward_stays (is_forward_due (with_expired_abandoned x).tcb.sender.outstanding.items) (with_expired_abandoned x)
   tested_stays false x = refl
 
   request_of_stays : (streams : List ℕ) (x : Filling P) → (request_of streams x).context.pack ≡ x.context.pack
@@ -216,7 +216,7 @@ module _ {P : Type 0} where
   request_stays true x = refl
   request_stays false x =
       let most : ℕ = most_streams x.packet in
-      request_of_stays (requested_streams most x.context.queue) (record x { context = record x.context { queue = request_resets most x.context.queue } })
+      request_of_stays (streams_to_request most x.context.queue) (record x { context = record x.context { queue = request_resets most x.context.queue } })
 
   filled_stays : (is_first : Bool) (x : Filling P) → (filled_as is_first x).context.pack ≡ x.context.pack
   filled_stays true x =
@@ -224,10 +224,10 @@ module _ {P : Type 0} where
       let r : Filling P = with_forward y in
       request_stays (is_some r.tcb.requests.current) r
       ∙ (tested_stays (nat_le y.context.forward_from y.context.now) y
-      ∙ ack_stays (is_ack_due (goes_along x) x.tcb.tracker.tracker.ack) (record x { tcb = ask_for_sack (goes_along x) x.tcb }))
+      ∙ ack_stays (is_ack_due (has_data_to_send x) x.tcb.tracker.tracker.ack) (record x { tcb = take_due_ack (has_data_to_send x) x.tcb }))
   filled_stays false x = refl
 
-  turned_if_stays : (b is_alone : Bool) (x : Filling P) → (turned_if b is_alone x).filling.context.pack ≡ x.context.pack
+  turned_if_stays : (b is_alone : Bool) (x : Filling P) → (burst_step_if b is_alone x).filling.context.pack ≡ x.context.pack
   turned_if_stays true is_alone x = emit_stays x.packet x.context
   turned_if_stays false is_alone x = refl
 
@@ -235,38 +235,38 @@ module _ {P : Type 0} where
   turned_stays is_first is_alone x = let y : Filling P = filled_as is_first x in turned_if_stays (has_chunks y.packet) is_alone y ∙ filled_stays is_first x
 
   go_on_stays : (rest : Filling P → Filling P) (b : Bool) (x : Filling P) → ((y : Filling P) → (rest y).context.pack ≡ y.context.pack)
-      → (go_on rest (turned_with b x)).context.pack ≡ x.context.pack
+      → (continue_burst rest (turned_with b x)).context.pack ≡ x.context.pack
   go_on_stays rest true x h = h x
   go_on_stays rest false x h = refl
 
   burst_stays : (most : ℕ) (is_first is_alone : Bool) (x : Filling P) → (burst most is_first is_alone x).context.pack ≡ x.context.pack
   burst_stays zero is_first is_alone x = refl
   burst_stays (suc most) is_first is_alone x =
-      let t : Turned P = next_packet is_first is_alone x in
+      let t : BurstStep P = next_packet is_first is_alone x in
       go_on_stays (burst most false is_alone) t.is_more t.filling (burst_stays most false is_alone) ∙ turned_stays is_first is_alone x
 
-  pub send_with_stays : (is_alone : Bool) (p : Packet) (t : Tcb) (c : Context P) → (send_with is_alone p t c).context.pack ≡ c.pack
+  pub send_with_stays : (is_alone : Bool) (p : PacketDraft) (t : Tcb) (c : Context P) → (send_with is_alone p t c).context.pack ≡ c.pack
   send_with_stays is_alone p t c = burst_stays c.options.max_burst true is_alone (filling_with p t c)
 
 -- ---- bursts
 
 module _ {P : Type 0} (n : Names) (are : AreNames n) (pack : Packing P) where
   emitted_named : (x : Filling P) → Knows n pack x.context → emit_packet (named_filling n pack x) ≡ named_filling n pack (emit_packet x)
-  emitted_named x k = ap (λ (c : Context P). filling_with (named_packet n (empty_packet x.packet)) (named_tcb n x.tcb) c) (named_emit n are pack x.packet x.context k)
+  emitted_named x k = ap (λ (c : Context P). filling_with (named_packet n (clear_chunks x.packet)) (named_tcb n x.tcb) c) (named_emit n are pack x.packet x.context k)
 
-  turned_if_named : (b is_alone : Bool) (x : Filling P) → Knows n pack x.context → turned_if b is_alone (named_filling n pack x) ≡ named_turned n pack (turned_if b is_alone x)
+  turned_if_named : (b is_alone : Bool) (x : Filling P) → Knows n pack x.context → burst_step_if b is_alone (named_filling n pack x) ≡ named_turned n pack (burst_step_if b is_alone x)
   turned_if_named true is_alone x k = ap (λ (y : Filling P). turned_with (not is_alone) y) (emitted_named x k)
   turned_if_named false is_alone x k = refl
 
   turned_named : (is_first is_alone : Bool) (x : Filling P) → Knows n pack x.context → next_packet is_first is_alone (named_filling n pack x) ≡ named_turned n pack (next_packet is_first is_alone x)
   turned_named is_first is_alone x k =
       let y : Filling P = filled_as is_first x in
-      ap (λ (z : Filling P). turned_if (has_chunks z.packet) is_alone z) (filled_as_named n are pack is_first x)
-      ∙ (ap (λ (b : Bool). turned_if b is_alone (named_filling n pack y)) (some_in n are y.packet)
+      ap (λ (z : Filling P). burst_step_if (has_chunks z.packet) is_alone z) (filled_as_named n are pack is_first x)
+      ∙ (ap (λ (b : Bool). burst_step_if b is_alone (named_filling n pack y)) (some_in n are y.packet)
       ∙ turned_if_named (has_chunks y.packet) is_alone y (filled_stays is_first x ∙ k))
 
   go_on_named : (rest : Filling P → Filling P) (b : Bool) (x : Filling P) → (rest (named_filling n pack x) ≡ named_filling n pack (rest x))
-      → go_on rest (turned_with b (named_filling n pack x)) ≡ named_filling n pack (go_on rest (turned_with b x))
+      → continue_burst rest (turned_with b (named_filling n pack x)) ≡ named_filling n pack (continue_burst rest (turned_with b x))
   go_on_named rest true x h = h
   go_on_named rest false x h = refl
 
@@ -274,11 +274,11 @@ module _ {P : Type 0} (n : Names) (are : AreNames n) (pack : Packing P) where
       → burst most is_first is_alone (named_filling n pack x) ≡ named_filling n pack (burst most is_first is_alone x)
   burst_named zero is_first is_alone x k = refl
   burst_named (suc most) is_first is_alone x k =
-      let t : Turned P = next_packet is_first is_alone x in
-      ap (λ (y : Turned P). go_on (burst most false is_alone) y) (turned_named is_first is_alone x k)
+      let t : BurstStep P = next_packet is_first is_alone x in
+      ap (λ (y : BurstStep P). continue_burst (burst most false is_alone) y) (turned_named is_first is_alone x k)
       ∙ go_on_named (burst most false is_alone) t.is_more t.filling (burst_named most false is_alone t.filling (turned_stays is_first is_alone x ∙ k))
 
-  pub send_with_named : (is_alone : Bool) (p : Packet) (t : Tcb) (c : Context P) → Knows n pack c
+  pub send_with_named : (is_alone : Bool) (p : PacketDraft) (t : Tcb) (c : Context P) → Knows n pack c
       → send_with is_alone (named_packet n p) (named_tcb n t) (plain pack c) ≡ named_sent n pack (send_with is_alone p t c)
   send_with_named is_alone p t c k = ap (λ (x : Filling P). sent_by x) (burst_named c.options.max_burst true is_alone (filling_with p t c) k)
 
@@ -291,7 +291,7 @@ module _ {P : Type 0} (n : Names) (are : AreNames n) (pack : Packing P) where
   fast_packet_named : (t : Tcb) (c : Context P) → fast_packet c.options (named_tcb n t) ≡ named_packet n (fast_packet c.options t)
   fast_packet_named t c =
       let m : Bool = t.capabilities.message_interleaving in
-      let p : Packet = named_packet n (new_packet c.options t) in
+      let p : PacketDraft = named_packet n (new_packet c.options t) in
       let cs : List (ℕ × FragmentTree) = (resent_fast (fast_most c.options) t.sender).chunks in
       ap (λ (xs : List (ℕ × FragmentTree)). add_all (map (data_chunk_of m false) xs) p) (fast_chunks_named n (fast_most c.options) t.sender)
       ∙ (ap (λ (xs : List ChunkTree). add_all xs p) (data_named n m false cs) ∙ named_add_all n are (map (data_chunk_of m false) cs) (new_packet c.options t))
@@ -299,9 +299,9 @@ module _ {P : Type 0} (n : Names) (are : AreNames n) (pack : Packing P) where
   fast_if_named : (b : Bool) (t : Tcb) (c : Context P) → Knows n pack c → fast_if b (named_tcb n t) (plain pack c) ≡ named_sent n pack (fast_if b t c)
   fast_if_named true t c k =
       let u : Tcb = named_tcb n t in
-      ap (λ (s : Sender). send_lost_data (record u { sender = s }) (emit (fast_packet c.options u) (plain pack c))) (send_fast_named n c.now (fast_most c.options) t.sender)
-      ∙ (ap (λ (p : Packet). send_lost_data (named_tcb n (fast_if true t c).tcb) (emit p (plain pack c))) (fast_packet_named t c)
-      ∙ ap (λ (d : Context P). send_lost_data (named_tcb n (fast_if true t c).tcb) d) (named_emit n are pack (fast_packet c.options t) c k))
+      ap (λ (s : Sender). after_sending (record u { sender = s }) (emit (fast_packet c.options u) (plain pack c))) (send_fast_named n c.now (fast_most c.options) t.sender)
+      ∙ (ap (λ (p : PacketDraft). after_sending (named_tcb n (fast_if true t c).tcb) (emit p (plain pack c))) (fast_packet_named t c)
+      ∙ ap (λ (d : Context P). after_sending (named_tcb n (fast_if true t c).tcb) d) (named_emit n are pack (fast_packet c.options t) c k))
   fast_if_named false t c k = refl
 
   pub send_lost_named : (t : Tcb) (c : Context P) → Knows n pack c → send_lost (named_tcb n t) (plain pack c) ≡ named_sent n pack (send_lost t c)

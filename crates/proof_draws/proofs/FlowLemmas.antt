@@ -9,8 +9,8 @@ use Rattle.sctp_packet.specs.Chunk.{ChunkTree, data_chunk, idata_chunk, init_chu
 use Rattle.sctp_packet.specs.Grammar.{carried}
 use Rattle.spec_endpoint.specs.Association.{Tcb, State, Closed, CookieWait, Open, Endpoint}
 use Rattle.spec_endpoint.specs.Shown.{Association}
-use Rattle.spec_endpoint.specs.Input.{my_tag, refusal}
-use Rattle.spec_endpoint.specs.Laws.{Call, Packet, called}
+use Rattle.spec_endpoint.specs.Input.{my_tag, packet_refusal}
+use Rattle.spec_endpoint.specs.Laws.{Call, ReceivePacket, called}
 use Rattle.proof_endpoint.specs.Mapped.{Carried}
 use Rattle.proof_pair.specs.Trace.{Side, as_carried, as_received, state_of}
 use Rattle.proof_pair.specs.Agreement.{Draw as Drawn}
@@ -157,13 +157,13 @@ module _ (s u : State) (mine peer : ℕ) (cookie_tie : ℕ → ℕ) where
 
 module _ (ps : List (Drawn × Drawn)) (k : Knows ps) (law : EachCallIsNamed) (x y z : Side) (t : Twin ps x y z) (p q : Carried) (checksum other : ℕ)
     (packing : x.end.endpoint_state.context.pack ≡ as_carried) (quiet : x.end.endpoint_state.context.emitted.events ≡ [])
-    (none : refusal p.header.verification_tag (map carried p.chunks) (state_of x) ≡ None) (numbers : NumbersFitIn (state_of x)) (n : IsNamedBy ps (state_of y) (state_of x) p q)
+    (none : packet_refusal p.header.verification_tag (map carried p.chunks) (state_of x) ≡ None) (numbers : NumbersFitIn (state_of x)) (n : IsNamedBy ps (state_of y) (state_of x) p q)
     (flows : list_all is_flowing p.chunks ≡ true) where
   abbrev call : Call
-  call = Packet (as_received p checksum)
+  call = ReceivePacket (as_received p checksum)
 
   abbrev f : Endpoint Carried
-  f = called (Packet (as_received q other)) z.end
+  f = called (ReceivePacket (as_received q other)) z.end
 
   abbrev received : List ChunkTree
   received = map carried p.chunks

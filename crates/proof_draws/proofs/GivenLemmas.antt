@@ -6,9 +6,9 @@ use Rattle.sctp_packet.specs.Chunk.{ChunkTree, InitTree, init_chunk, init_ack_ch
 use Rattle.sctp_packet.specs.Grammar.{carried}
 use Rattle.sctp_state.specs.Options.{Options}
 use Rattle.spec_endpoint.specs.Association.{Tcb, Phase, CookieEchoed, Established, ShutdownPending, ShutdownSent, ShutdownReceived, ShutdownAckSent, State, Closed, CookieWait, Open, Context, Endpoint}
-use Rattle.spec_endpoint.specs.Sending.{is_alone}
-use Rattle.spec_endpoint.specs.Input.{refusal, counts, on_endpoint_state, repeats_if, has_data}
-use Rattle.spec_endpoint.specs.Laws.{Call, Packet, called}
+use Rattle.spec_endpoint.specs.Sending.{is_before_cookie_ack}
+use Rattle.spec_endpoint.specs.Input.{packet_refusal, count_packet_at, in_endpoint_state, repeats_if, has_data_chunk}
+use Rattle.spec_endpoint.specs.Laws.{Call, ReceivePacket, called}
 use Rattle.proof_endpoint.specs.Mapped.{Carried}
 use Rattle.proof_endpoint.specs.Acts.{is_opened}
 use Rattle.proof_pair.specs.Trace.{Side, AreValidOptions, as_received, state_of}
@@ -33,16 +33,16 @@ use Rattle.proof_draws.proofs.InitLemmas.{closed_named, waiting_named, echoing_n
 -- ---- what a closed end draws for an INIT
 
 abbrev at_state : State → Context Carried → Stream → Endpoint Carried
-at_state s c w = record { endpoint_state = record { state = s; context = c }; random = w }
+at_state s c w = record { endpoint_state = record { state = s; context = c }; draws = w }
 
 drew_two : (p : Carried) (checksum : ℕ) (x : Side) (i : InitTree) → map carried p.chunks ≡ init_chunk i ∷ []
-    → refusal p.header.verification_tag (map carried p.chunks) (state_of x) ≡ None → state_of x ≡ Closed → drawn_given (Some p) checksum x ≡ two_of x.end ∷ []
+    → packet_refusal p.header.verification_tag (map carried p.chunks) (state_of x) ≡ None → state_of x ≡ Closed → drawn_given (Some p) checksum x ≡ two_of x.end ∷ []
 drew_two p checksum x i alone none closed =
     let tag : ℕ = p.header.verification_tag in
-    let e : Endpoint Carried = counts x.end in
+    let e : Endpoint Carried = count_packet_at x.end in
     ap (λ (r : Option (List ℕ)). drawn_taking r (as_received p checksum) x.end) none
-    ∙ (ap (λ (cs : List ChunkTree). drawn_receiving tag cs (on_endpoint_state (repeats_if (has_data cs)) e)) alone
-    ∙ ap (λ (s : State). drawn_receiving tag (init_chunk i ∷ []) (at_state s e.endpoint_state.context e.random)) closed)
+    ∙ (ap (λ (cs : List ChunkTree). drawn_receiving tag cs (in_endpoint_state (repeats_if (has_data_chunk cs)) e)) alone
+    ∙ ap (λ (s : State). drawn_receiving tag (init_chunk i ∷ []) (at_state s e.endpoint_state.context e.draws)) closed)
 
 pub two_paired : (ps : List (Drawn × Drawn)) (xs ys : List Drawn) (a b : Drawn) → xs ≡ a ∷ [] → ys ≡ b ∷ []
     → ((d e : Drawn) → Has (d, e) (pairs_of xs ys) → Has (d, e) ps) → Has (a, b) ps
@@ -72,8 +72,8 @@ module _ (ps : List (Drawn × Drawn)) (k : Knows ps) (law : EachCallIsNamed) (o 
     (t : Twin ps x y z) (p r : Carried) (checksum other : ℕ) (n : IsNamedBy ps (state_of y) (state_of x) p r)
     (says : SaysAll q o (seen y) (seen x) y.got_init p)
     (numbers : NumbersFitIn (state_of x))
-    (late : (i : InitTree) → p.chunks ≡ init_chunk i ∷ [] → refusal p.header.verification_tag (map carried p.chunks) (state_of x) ≡ None
-    → (phase : Phase) (u : Tcb) → state_of x ≡ Open phase u → is_alone phase ≡ false → Named ps x z (state_of y) (Packet (as_received p checksum)) (called (Packet (as_received r other)) z.end))
+    (late : (i : InitTree) → p.chunks ≡ init_chunk i ∷ [] → packet_refusal p.header.verification_tag (map carried p.chunks) (state_of x) ≡ None
+    → (phase : Phase) (u : Tcb) → state_of x ≡ Open phase u → is_before_cookie_ack phase ≡ false → Named ps x z (state_of y) (ReceivePacket (as_received p checksum)) (called (ReceivePacket (as_received r other)) z.end))
     (pair : (d e : Drawn) → Has (d, e) (pairs_of (drawn_given (Some p) checksum x) (drawn_given (Some r) other z)) → Has (d, e) ps) where
   abbrev tag : ℕ
   tag = p.header.verification_tag
@@ -85,10 +85,10 @@ module _ (ps : List (Drawn × Drawn)) (k : Knows ps) (law : EachCallIsNamed) (o 
   u = state_of y
 
   abbrev call : Call
-  call = Packet (as_received p checksum)
+  call = ReceivePacket (as_received p checksum)
 
   abbrev f : Endpoint Carried
-  f = called (Packet (as_received r other)) z.end
+  f = called (ReceivePacket (as_received r other)) z.end
 
   abbrev Marks : ChunkTree → Type 0
   Marks c = Marked u (state_of x) n.mine n.peer n.cookie_tie c
@@ -99,7 +99,7 @@ module _ (ps : List (Drawn × Drawn)) (k : Knows ps) (law : EachCallIsNamed) (o 
   first_of : (P : ChunkTree → Type 0) (c : ChunkTree) (cs : List ChunkTree) → p.chunks ≡ c ∷ cs → All P p.chunks → P c
   first_of P c cs e all = All-head P c cs (subst (All P) e all)
 
-  module _ (none : refusal tag received (state_of x) ≡ None) where
+  module _ (none : packet_refusal tag received (state_of x) ≡ None) where
     -- ---- INIT
 
     closed_pair : (i : InitTree) → p.chunks ≡ init_chunk i ∷ [] → state_of x ≡ Closed → Has (two_of x.end, two_of z.end) ps
@@ -163,9 +163,9 @@ module _ (ps : List (Drawn × Drawn)) (k : Knows ps) (law : EachCallIsNamed) (o 
         (faced_tags (state_of x) u n.mine n.peer mark.holds h.own.stands.faced h.own.stands.faces)
     by_kind (a_flow flows) = flow_named ps k law x y z t p r checksum other h.own.packing h.own.quiet none numbers n flows h.own.stands.faced h.own.stands.faces
 
-  by_refusal : (a : Option (List ℕ)) → refusal tag received (state_of x) ≡ a → IsKind p.chunks → Outcome ps x z u call f
+  by_refusal : (a : Option (List ℕ)) → packet_refusal tag received (state_of x) ≡ a → IsKind p.chunks → Outcome ps x z u call f
   by_refusal None is kind = inl (by_kind is kind)
   by_refusal (Some text) is kind = inr (refused_too ps k x z p r checksum other n.mine n.peer n.tie n.cookie_tie n.is t.tie t.state text is)
 
   pub given_outcome : IsKind p.chunks → Outcome ps x z u call f
-  given_outcome kind = by_refusal (refusal tag received (state_of x)) refl kind
+  given_outcome kind = by_refusal (packet_refusal tag received (state_of x)) refl kind

@@ -6,13 +6,13 @@ use Rattle.sctp_state.specs.Handover.{HandoverState}
 use Rattle.spec_endpoint.specs.Association.{Endpoint}
 use Rattle.spec_endpoint.specs.Laws.{Call, Connect, Restore, called}
 use Rattle.proof_endpoint.specs.Mapped.{Carried}
-use Rattle.proof_endpoint.specs.Acts.{EndWithPacket, PacketAct, begins, adds_plain, emits, complains, counts, before_packets, after_packets, OpeningAct, connects, adds_init, answers_new, answers_waiting, answers_echoed, answers_again, echoes, adds_cookie, establishes, opens, restarts, opens_again, maintains, adds_cookie_ack, before_opening, after_opening, ClosingAct, closes, shuts, shuts_on, before_closing, after_closing, DataAct, takes_data, takes_idata, takes_forward, takes_iforward, before_data, after_data, SackAct, takes_sack, samples, counts_errors, before_sack, after_sack, SendingAct, asks, adds_ack, expires, adds_forward, forwards_later, asks_no_reset, asks_reset, adds_request, sends, sends_fast, before_sending, after_sending, TimeAct, advances, delay_ends, times_out, beats, times_init, times_cookie, times_request, wakes_request, before_time, after_time, CallAct, accepts, refuses, takes_message, sets_low_threshold, sets_priority, sets_max_message_size, before_call, after_call, ResetAct, prepares, defers, performs, processes, takes_response, adds_responses, before_reset, after_reset, HandoverAct, leaves, takes_up, before_handover, after_handover, InputAct, ends_packet, before_input, after_input, IsReceived, IsEchoed, Preserves}
+use Rattle.proof_endpoint.specs.Acts.{EndWithPacket, PacketAct, begins, adds_plain, emits, emits_error, counts, before_packets, after_packets, OpeningAct, connects, adds_init, answers_new, answers_waiting, answers_echoed, answers_again, echoes, adds_cookie, establishes, opens, restarts, opens_again, maintains, adds_cookie_ack, before_opening, after_opening, ClosingAct, closes, shuts, shuts_on, before_closing, after_closing, DataAct, takes_data, takes_idata, takes_forward, takes_iforward, before_data, after_data, SackAct, takes_sack, samples, counts_errors, before_sack, after_sack, SendingAct, asks, adds_ack, expires, adds_forward, forwards_later, asks_no_reset, asks_reset, adds_request, sends, sends_fast, before_sending, after_sending, TimeAct, advances, delay_ends, times_out, beats, times_init, times_cookie, times_request, wakes_request, before_time, after_time, CallAct, accepts, refuses, takes_message, sets_low_threshold, sets_priority, sets_max_message_size, before_call, after_call, ResetAct, prepares, defers, performs, processes, takes_response, adds_responses, before_reset, after_reset, HandoverAct, leaves, takes_up, before_handover, after_handover, InputAct, ends_packet, before_input, after_input, BringsChunk, IsEchoed, Preserves}
 use Rattle.proof_endpoint.proofs.ActsLemmas.{keeps_call}
 use Rattle.proof_draws.proofs.NamesLemmas.{TagsAre}
 
 -- whoever opens an association by this call has these tags
 pub record Guides (call : Call) (mine peer : ℕ) : Type 0 where
-  pub answers : (tag : ℕ) (i : InitTree) → IsReceived call tag (init_ack_chunk i) → i.initiate_tag ≡ peer
+  pub answers : (tag : ℕ) (i : InitTree) → BringsChunk call tag (init_ack_chunk i) → i.initiate_tag ≡ peer
   pub own : (tag : ℕ) (k : Cookie) → IsEchoed call tag k → k.my_tag ≡ mine
   pub other : (tag : ℕ) (k : Cookie) → IsEchoed call tag k → k.peer_tag ≡ peer
   pub connects : call ≡ Connect → ⊥
@@ -26,7 +26,7 @@ module _ (call : Call) (mine peer : ℕ) (g : Guides call mine peer) where
   stays_packets (begins p m new summed to) = λ h. h
   stays_packets (adds_plain chunk m plain others fair) = λ h. h
   stays_packets (emits m some bundled) = λ h. h
-  stays_packets (complains kind text m) = λ h. h
+  stays_packets (emits_error kind text m) = λ h. h
   stays_packets (counts m) = λ h. h
 
   stays_opening : (act : OpeningAct Carried call) → Stays (before_opening act) (after_opening act)
@@ -40,9 +40,9 @@ module _ (call : Call) (mine peer : ℕ) (g : Guides call mine peer) where
   stays_opening (adds_cookie t1 cookie t m to) = λ h. h
   stays_opening (establishes tag t1 cookie t m received) = λ h. h
   stays_opening (opens tag k m echoed none own) = λ h. (g.own tag k echoed, g.other tag k echoed)
-  stays_opening (restarts tag k phase t m echoed verdict) = λ h. (g.own tag k echoed, g.other tag k echoed)
-  stays_opening (opens_again tag k phase t m echoed verdict) = λ h. (g.own tag k echoed, g.other tag k echoed)
-  stays_opening (maintains tag k t1 cookie t m echoed verdict) = λ h. h
+  stays_opening (restarts tag k phase t m echoed resolution) = λ h. (g.own tag k echoed, g.other tag k echoed)
+  stays_opening (opens_again tag k phase t m echoed resolution) = λ h. (g.own tag k echoed, g.other tag k echoed)
+  stays_opening (maintains tag k t1 cookie t m echoed resolution) = λ h. h
   stays_opening (adds_cookie_ack tag back phase t m echoed late) = λ h. h
 
   stays_closing : (act : ClosingAct Carried call) → Stays (before_closing act) (after_closing act)

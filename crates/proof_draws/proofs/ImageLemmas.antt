@@ -3,8 +3,8 @@ use Rattle.std.proofs.Common.{◌≡◌, ℕ, Bool, List, [], ◌∷◌, ◌++�
 use Rattle.sctp_state.specs.declared.api.ErrorKind.TheVariants.{ParseFailed}
 use Rattle.sctp_state.specs.Events.{Event, SendPacket, OnError, OnAborted}
 use Rattle.spec_endpoint.specs.Association.{State, Context, EndpointState, Endpoint, Packing}
-use Rattle.spec_endpoint.specs.Opening.{complains}
-use Rattle.spec_endpoint.specs.Input.{counts, count_packet}
+use Rattle.spec_endpoint.specs.Opening.{emit_parse_error}
+use Rattle.spec_endpoint.specs.Input.{count_packet_at, count_packet}
 use Rattle.spec_endpoint.specs.Laws.{Call, called}
 use Rattle.proof_endpoint.specs.Mapped.{Carried, map_event, map_context}
 use Rattle.proof_pair.specs.Trace.{Side, drain, state_of}
@@ -12,7 +12,7 @@ use Rattle.proof_draws.specs.NamedChunks.{Names, AreNames}
 use Rattle.proof_draws.specs.Names.{named_state, plain, with_random}
 use Rattle.proof_draws.specs.NamedCalls.{named_call, CallIsNamed, EachCallIsNamed}
 use Rattle.proof_draws.specs.Images.{as_carried, named_carried, as_named, image}
-use Rattle.proof_draws.specs.Alike.{IsAlike, AreEmitted, AreAlike}
+use Rattle.proof_draws.specs.Alike.{IsAlike, AreEventsAlike, AreAlike}
 
 abbrev pub endpoint_state : State → Context Carried → EndpointState Carried
 endpoint_state s c = record { state = s; context = c }
@@ -34,14 +34,14 @@ is_image n s t packing quiet state context =
 module _ (named : EachCallIsNamed) where
   pub mirrored : (n : Names) → AreNames n → (call : Call) (e f : Endpoint Carried) → e.endpoint_state.context.pack ≡ as_carried
       → e.endpoint_state.context.emitted.events ≡ [] → f.endpoint_state.state ≡ named_state n e.endpoint_state.state → f.endpoint_state.context ≡ e.endpoint_state.context
-      → CallIsNamed n call e.endpoint_state.state e.random f.random → (called (named_call n call) f).endpoint_state ≡ image n (called call e).endpoint_state
+      → CallIsNamed n call e.endpoint_state.state e.draws f.draws → (called (named_call n call) f).endpoint_state ≡ image n (called call e).endpoint_state
   mirrored n are call e f packing quiet state context is =
-      ap (λ (s : EndpointState Carried). (called (named_call n call) (with_random f.random s)).endpoint_state) (is_image n e.endpoint_state f.endpoint_state packing quiet state context)
-      ∙ named n are call e.endpoint_state e.random f.random packing is
+      ap (λ (s : EndpointState Carried). (called (named_call n call) (with_random f.draws s)).endpoint_state) (is_image n e.endpoint_state f.endpoint_state packing quiet state context)
+      ∙ named n are call e.endpoint_state e.draws f.draws packing is
 
 -- ---- what is emitted
 
-pub emitted_both : (es fs gs hs : List (Event Carried)) → AreEmitted es fs → AreEmitted gs hs → AreEmitted (es ++ gs) (fs ++ hs)
+pub emitted_both : (es fs gs hs : List (Event Carried)) → AreEventsAlike es fs → AreEventsAlike gs hs → AreEventsAlike (es ++ gs) (fs ++ hs)
 emitted_both [] [] gs hs p q = q
 emitted_both [] (f ∷ fs) gs hs p q = absurd p
 emitted_both (e ∷ es) [] gs hs p q = absurd p
@@ -54,7 +54,7 @@ module _ (n : Names) (are : AreNames n) where
   event_under (OnAborted kind text) = (text, refl)
   event_under e = refl
 
-  pub emitted_alike : (es : List (Event Carried)) → AreEmitted es (emitted_under n es)
+  pub emitted_alike : (es : List (Event Carried)) → AreEventsAlike es (emitted_under n es)
   emitted_alike [] = tt
   emitted_alike (e ∷ es) = (event_under e, emitted_alike es)
 
@@ -63,7 +63,7 @@ module _ (n : Names) (are : AreNames n) where
 -- it is the image, or both have refused a packet
 pub data Mirrors (x y : Side) (e f : Endpoint Carried) : Type 0 where
   named : (n : Names) → AreNames n → state_of y ≡ named_state n (state_of x) → f.endpoint_state ≡ image n e.endpoint_state → e.endpoint_state.context.pack ≡ as_carried → Mirrors x y e f
-  refused : (text other : List ℕ) → e ≡ complains text (counts x.end) → f ≡ complains other (counts y.end) → Mirrors x y e f
+  refused : (text other : List ℕ) → e ≡ emit_parse_error text (count_packet_at x.end) → f ≡ emit_parse_error other (count_packet_at y.end) → Mirrors x y e f
 
 -- without what was emitted
 abbrev pub taken : Context Carried → Context Carried
@@ -74,14 +74,14 @@ asked_as b x = record x { got_init = b }
 
 -- an error whose text holds other tags
 error_alike : (text other : List ℕ) (es fs : List (Event Carried)) → es ≡ [] → fs ≡ []
-    → AreEmitted (es ++ OnError ParseFailed text ∷ []) (fs ++ OnError ParseFailed other ∷ [])
+    → AreEventsAlike (es ++ OnError ParseFailed text ∷ []) (fs ++ OnError ParseFailed other ∷ [])
 error_alike text other [] [] p q = ((other, refl), tt)
 error_alike text other [] (f ∷ fs) p q = cc
 error_alike text other (e ∷ es) fs p q = cc
 
 module _ (x y : Side) (alike : AreAlike x y) (quiet : x.end.endpoint_state.context.emitted.events ≡ []) where
   refused_alike : (text other : List ℕ) (a b : Bool) → b ≡ a
-      → AreAlike (asked_as a (drain (complains text (counts x.end)) x)) (asked_as b (drain (complains other (counts y.end)) y))
+      → AreAlike (asked_as a (drain (emit_parse_error text (count_packet_at x.end)) x)) (asked_as b (drain (emit_parse_error other (count_packet_at y.end)) y))
   refused_alike text other a b asked = record {
     names = alike.names;
     are = alike.are;
@@ -102,7 +102,7 @@ module _ (x y : Side) (alike : AreAlike x y) (quiet : x.end.endpoint_state.conte
     state = ap (λ (s : EndpointState Carried). s.state) is;
     context = ap (λ (s : EndpointState Carried). taken s.context) is
         ∙ ap (λ (w : Packing Carried). record (taken e.endpoint_state.context) { pack = w }) (sym packing);
-    emitted = subst (λ (es : List (Event Carried)). AreEmitted (x.emitted ++ e.endpoint_state.context.emitted.events) (y.emitted ++ es))
+    emitted = subst (λ (es : List (Event Carried)). AreEventsAlike (x.emitted ++ e.endpoint_state.context.emitted.events) (y.emitted ++ es))
         (sym (ap (λ (s : EndpointState Carried). s.context.emitted.events) is))
         (emitted_both x.emitted y.emitted e.endpoint_state.context.emitted.events (emitted_under n e.endpoint_state.context.emitted.events) alike.emitted
         (emitted_alike n are e.endpoint_state.context.emitted.events));
@@ -110,7 +110,7 @@ module _ (x y : Side) (alike : AreAlike x y) (quiet : x.end.endpoint_state.conte
   }
   alike_after e f a b asked (refused text other is so) =
       subst (λ (z : Endpoint Carried). AreAlike (asked_as a (drain z x)) (asked_as b (drain f y))) (sym is)
-      (subst (λ (z : Endpoint Carried). AreAlike (asked_as a (drain (complains text (counts x.end)) x)) (asked_as b (drain z y))) (sym so)
+      (subst (λ (z : Endpoint Carried). AreAlike (asked_as a (drain (emit_parse_error text (count_packet_at x.end)) x)) (asked_as b (drain z y))) (sym so)
       (refused_alike text other a b asked))
 
   -- and so were the messages given up

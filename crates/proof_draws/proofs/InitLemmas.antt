@@ -9,8 +9,8 @@ use Rattle.sctp_state.specs.Options.{Options}
 use Rattle.sctp_state.specs.Timer.{Timer}
 use Rattle.spec_endpoint.specs.Association.{Tcb, Phase, CookieEchoed, Established, ShutdownPending, ShutdownSent, ShutdownReceived, ShutdownAckSent, State, Closed, CookieWait, Open, Context, Endpoint}
 use Rattle.spec_endpoint.specs.Opening.{tsn_from, tag_from, word, drew_word, cookie_for}
-use Rattle.spec_endpoint.specs.Input.{refusal, counts, taken_if, handle_chunks, ended_if}
-use Rattle.spec_endpoint.specs.Laws.{Call, Packet, called, is_closed}
+use Rattle.spec_endpoint.specs.Input.{packet_refusal, count_packet_at, packet_if, on_accepted_packet, ack_if_due}
+use Rattle.spec_endpoint.specs.Laws.{Call, ReceivePacket, called, is_closed}
 use Rattle.proof_endpoint.specs.Mapped.{Carried}
 use Rattle.proof_pair.specs.Trace.{Side, AreValidOptions, as_carried, as_received, state_of}
 use Rattle.proof_pair.specs.Agreement.{Draw as Drawn, Has}
@@ -31,16 +31,16 @@ use Rattle.proof_draws.proofs.EchoLemmas.{cookie_made}
 
 -- ---- an end that receives an INIT alone keeps its state
 
-pub ended_stays : (b : Bool) (phase : Phase) (t : Tcb) (c : Context Carried) → is_closed (ended_if b phase t c).state ≡ false
+pub ended_stays : (b : Bool) (phase : Phase) (t : Tcb) (c : Context Carried) → is_closed (ack_if_due b phase t c).state ≡ false
 ended_stays true phase t c = refl
 ended_stays false phase t c = refl
 
 abbrev pub at_state : State → Context Carried → Stream → Endpoint Carried
-at_state s c w = record { endpoint_state = record { state = s; context = c }; random = w }
+at_state s c w = record { endpoint_state = record { state = s; context = c }; draws = w }
 
 module _ (tag : ℕ) (i : InitTree) where
   pub init_leaves : (s : State) (c : Context Carried) (w : Stream) → is_closed s ≡ false
-      → is_closed (handle_chunks tag (init_chunk i ∷ []) (at_state s c w)).endpoint_state.state ≡ false
+      → is_closed (on_accepted_packet tag (init_chunk i ∷ []) (at_state s c w)).endpoint_state.state ≡ false
   init_leaves Closed c w h = cc
   init_leaves (CookieWait own first t1) c w h = refl
   init_leaves (Open (CookieEchoed t1 cookie) t) c w h = ended_stays _ _ _ _
@@ -60,13 +60,13 @@ IsThat chunk = Unit {0}
 module _ (ps : List (Drawn × Drawn)) (k : Knows ps) (law : EachCallIsNamed) (o q : Options) (given : AreValidOptions q) (x y z : Side) (t : Twin ps x y z) (p r : Carried)
     (checksum other : ℕ) (packing : x.end.endpoint_state.context.pack ≡ as_carried) (quiet : x.end.endpoint_state.context.emitted.events ≡ []) (i : InitTree)
     (n : IsNamedBy ps (state_of y) (state_of x) p r) (alone : p.chunks ≡ init_chunk i ∷ [])
-    (none : refusal p.header.verification_tag (map carried p.chunks) (state_of x) ≡ None) (numbers : NumbersFitIn (state_of x)) (said : IsInit q (seen y) p.header.verification_tag i)
+    (none : packet_refusal p.header.verification_tag (map carried p.chunks) (state_of x) ≡ None) (numbers : NumbersFitIn (state_of x)) (said : IsInit q (seen y) p.header.verification_tag i)
     (peer_is : IsDraw said.draw) (mark : i.initiate_tag ≡ n.mine) where
   abbrev call : Call
-  call = Packet (as_received p checksum)
+  call = ReceivePacket (as_received p checksum)
 
   abbrev f : Endpoint Carried
-  f = called (Packet (as_received r other)) z.end
+  f = called (ReceivePacket (as_received r other)) z.end
 
   abbrev received : List ChunkTree
   received = map carried p.chunks
@@ -89,10 +89,10 @@ module _ (ps : List (Drawn × Drawn)) (k : Knows ps) (law : EachCallIsNamed) (o 
   stays_open : is_closed (state_of x) ≡ false → is_closed (called call x.end).endpoint_state.state ≡ false
   stays_open h =
       let tag : ℕ = p.header.verification_tag in
-      let e : Endpoint Carried = counts x.end in
-      ap (λ (a : Option (List ℕ)). is_closed (taken_if a tag received e).endpoint_state.state) none
-      ∙ (ap (λ (cs : List ChunkTree). is_closed (handle_chunks tag cs e).endpoint_state.state) received_alone
-      ∙ init_leaves tag i (state_of x) e.endpoint_state.context e.random h)
+      let e : Endpoint Carried = count_packet_at x.end in
+      ap (λ (a : Option (List ℕ)). is_closed (packet_if a tag received e).endpoint_state.state) none
+      ∙ (ap (λ (cs : List ChunkTree). is_closed (on_accepted_packet tag cs e).endpoint_state.state) received_alone
+      ∙ init_leaves tag i (state_of x) e.endpoint_state.context e.draws h)
 
   -- answered with this draw
   module _ (own : Draw) (own_is : IsDraw own) (tags : TagsAre own.tag i.initiate_tag (state_of x)) where
@@ -122,7 +122,7 @@ module _ (ps : List (Drawn × Drawn)) (k : Knows ps) (law : EachCallIsNamed) (o 
     pub answer_known : KnowsAnswer m i own.tag own.first 0 0
     answer_known = record { makes = makes_cookie; cookie_tie = refl }
 
-    pub init_named : InitIsNamed m i (state_of x) x.end.random z.end.random → (is_closed (state_of x) ≡ true → drawn_tag x.end ≡ own.tag)
+    pub init_named : InitIsNamed m i (state_of x) x.end.draws z.end.draws → (is_closed (state_of x) ≡ true → drawn_tag x.end ≡ own.tag)
         → Named ps x z (state_of y) call f
     init_named is drew = record {
       mine = own.tag;
@@ -151,7 +151,7 @@ module _ (ps : List (Drawn × Drawn)) (k : Knows ps) (law : EachCallIsNamed) (o 
       let own_is : IsDraw own = drawn_is (word x.end) (word (drew_word x.end)) in
       let tags : TagsAre own.tag i.initiate_tag (state_of x) = subst (TagsAre own.tag i.initiate_tag) (sym is) tt in
       init_named own own_is tags
-      (subst (λ (s : State). InitIsNamed (names ps own.tag i.initiate_tag t.tie same_tie) i s x.end.random z.end.random) (sym is)
+      (subst (λ (s : State). InitIsNamed (names ps own.tag i.initiate_tag t.tie same_tie) i s x.end.draws z.end.draws) (sym is)
       (record {
         draws = record { first = sym (k.firsts mine theirs there); tag = sym (k.tags mine theirs there) };
         knows = answer_known own own_is tags;
@@ -163,7 +163,7 @@ module _ (ps : List (Drawn × Drawn)) (k : Knows ps) (law : EachCallIsNamed) (o 
       let own : Draw = record { tag = tag; first = first } in
       let tags : TagsAre own.tag i.initiate_tag (state_of x) = subst (TagsAre own.tag i.initiate_tag) (sym is) refl in
       init_named own own_is tags
-      (subst (λ (s : State). InitIsNamed (names ps own.tag i.initiate_tag t.tie same_tie) i s x.end.random z.end.random) (sym is) (answer_known own own_is tags))
+      (subst (λ (s : State). InitIsNamed (names ps own.tag i.initiate_tag t.tie same_tie) i s x.end.draws z.end.draws) (sym is) (answer_known own own_is tags))
       (λ closed. absurd (both_ways (is_closed (state_of x)) (ap is_closed is) closed))
 
   pub echoing_named : (t1 : Timer) (cookie : List ℕ) (u : Tcb) → state_of x ≡ Open (CookieEchoed t1 cookie) u
@@ -172,5 +172,5 @@ module _ (ps : List (Drawn × Drawn)) (k : Knows ps) (law : EachCallIsNamed) (o 
       let own : Draw = record { tag = u.identity.my_tag; first = u.identity.my_first } in
       let tags : TagsAre own.tag i.initiate_tag (state_of x) = subst (TagsAre own.tag i.initiate_tag) (sym is) (refl, peer) in
       init_named own own_is tags
-      (subst (λ (s : State). InitIsNamed (names ps own.tag i.initiate_tag t.tie same_tie) i s x.end.random z.end.random) (sym is) (answer_known own own_is tags))
+      (subst (λ (s : State). InitIsNamed (names ps own.tag i.initiate_tag t.tie same_tie) i s x.end.draws z.end.draws) (sym is) (answer_known own own_is tags))
       (λ closed. absurd (both_ways (is_closed (state_of x)) (ap is_closed is) closed))

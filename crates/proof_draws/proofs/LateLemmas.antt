@@ -7,10 +7,10 @@ use Rattle.sctp_packet.specs.Chunk.{ChunkTree, InitTree, init_chunk, init_ack_ch
 use Rattle.sctp_packet.specs.Grammar.{carried}
 use Rattle.sctp_capabilities.specs.StateCookie.{Cookie, CookieFits, cookie_bytes}
 use Rattle.spec_endpoint.specs.Association.{Tcb, Phase, CookieEchoed, Established, ShutdownPending, ShutdownSent, ShutdownReceived, ShutdownAckSent, State, Open, Context, Endpoint}
-use Rattle.spec_endpoint.specs.Sending.{is_alone}
+use Rattle.spec_endpoint.specs.Sending.{is_before_cookie_ack}
 use Rattle.spec_endpoint.specs.Opening.{tag_from, word, next_first, cookie_for}
-use Rattle.spec_endpoint.specs.Input.{my_tag, refusal, counts, taken_if, handle_chunks, on_endpoint_state, repeats_if, has_data, ended_if}
-use Rattle.spec_endpoint.specs.Laws.{Call, Packet, called, is_closed}
+use Rattle.spec_endpoint.specs.Input.{my_tag, packet_refusal, count_packet_at, packet_if, on_accepted_packet, in_endpoint_state, repeats_if, has_data_chunk, ack_if_due}
+use Rattle.spec_endpoint.specs.Laws.{Call, ReceivePacket, called, is_closed}
 use Rattle.proof_endpoint.specs.Mapped.{Carried}
 use Rattle.proof_pair.specs.Trace.{Side, as_received, state_of}
 use Rattle.proof_pair.specs.Agreement.{Draw as Drawn, Has, drawn_receiving, drawn_taking, drawn_given}
@@ -22,7 +22,7 @@ use Rattle.proof_draws.specs.NamedChunks.{Names, flip, move_by, named_init, name
 use Rattle.proof_draws.specs.Names.{named_state, named_tcb}
 use Rattle.proof_draws.specs.Laws.{Makes}
 use Rattle.proof_draws.specs.NamedCalls.{AnswersAgain, InitIsNamedOpen, InitIsNamed, init, EachCallIsNamed}
-use Rattle.proof_draws.proofs.ComingLemmas.{next_first_named}
+use Rattle.proof_draws.proofs.HandshakeNamedLemmas.{next_first_named}
 use Rattle.proof_draws.specs.Pairing.{distance, far, names, Knows}
 use Rattle.proof_draws.proofs.PairingLemmas.{far_below, moved_distance}
 use Rattle.proof_draws.proofs.NamesLemmas.{same_tie, names_in, TagsAre, state_by, makes}
@@ -59,12 +59,12 @@ with_tie c tie small f = record {
 
 -- ---- it keeps its state, and no cookie is kept
 
-ended_past : (b : Bool) (phase : Phase) (t : Tcb) (c : Context Carried) → is_past (ended_if b phase t c).state ≡ not (is_alone phase)
+ended_past : (b : Bool) (phase : Phase) (t : Tcb) (c : Context Carried) → is_past (ack_if_due b phase t c).state ≡ not (is_before_cookie_ack phase)
 ended_past true phase t c = refl
 ended_past false phase t c = refl
 
-init_leaves_past : (tag : ℕ) (i : InitTree) (phase : Phase) (t : Tcb) (c : Context Carried) (w : Stream) → is_alone phase ≡ false
-    → is_past (handle_chunks tag (init_chunk i ∷ []) (at_state (Open phase t) c w)).endpoint_state.state ≡ true
+init_leaves_past : (tag : ℕ) (i : InitTree) (phase : Phase) (t : Tcb) (c : Context Carried) (w : Stream) → is_before_cookie_ack phase ≡ false
+    → is_past (on_accepted_packet tag (init_chunk i ∷ []) (at_state (Open phase t) c w)).endpoint_state.state ≡ true
 init_leaves_past tag i (CookieEchoed t1 cookie) t c w h = cc
 init_leaves_past tag i Established t c w h = ended_past _ _ _ _
 init_leaves_past tag i ShutdownPending t c w h = ended_past _ _ _ _
@@ -72,8 +72,8 @@ init_leaves_past tag i (ShutdownSent t2) t c w h = ended_past _ _ _ _
 init_leaves_past tag i ShutdownReceived t c w h = ended_past _ _ _ _
 init_leaves_past tag i (ShutdownAckSent t2) t c w h = ended_past _ _ _ _
 
-init_leaves_open : (tag : ℕ) (i : InitTree) (phase : Phase) (t : Tcb) (c : Context Carried) (w : Stream) → is_alone phase ≡ false
-    → is_closed (handle_chunks tag (init_chunk i ∷ []) (at_state (Open phase t) c w)).endpoint_state.state ≡ false
+init_leaves_open : (tag : ℕ) (i : InitTree) (phase : Phase) (t : Tcb) (c : Context Carried) (w : Stream) → is_before_cookie_ack phase ≡ false
+    → is_closed (on_accepted_packet tag (init_chunk i ∷ []) (at_state (Open phase t) c w)).endpoint_state.state ≡ false
 init_leaves_open tag i (CookieEchoed t1 cookie) t c w h = cc
 init_leaves_open tag i Established t c w h = ended_stays _ _ _ _
 init_leaves_open tag i ShutdownPending t c w h = ended_stays _ _ _ _
@@ -82,7 +82,7 @@ init_leaves_open tag i ShutdownReceived t c w h = ended_stays _ _ _ _
 init_leaves_open tag i (ShutdownAckSent t2) t c w h = ended_stays _ _ _ _
 
 -- the same under one tie
-late_state : (ps : List (Drawn × Drawn)) (mine peer : ℕ) (tie : ℕ → ℕ) (phase : Phase) (u : Tcb) → is_alone phase ≡ false
+late_state : (ps : List (Drawn × Drawn)) (mine peer : ℕ) (tie : ℕ → ℕ) (phase : Phase) (u : Tcb) → is_before_cookie_ack phase ≡ false
     → named_state (names ps mine peer tie same_tie) (Open phase u)
     ≡ named_state (names ps mine peer (λ old. tie u.identity.tie) (λ old. tie u.identity.tie)) (Open phase u)
 late_state ps mine peer tie (CookieEchoed t1 cookie) u h = cc
@@ -115,15 +115,15 @@ drew_in tag i ShutdownReceived t c w h = refl
 drew_in tag i (ShutdownAckSent t2) t c w h = cc
 
 drew_one : (p : Carried) (checksum : ℕ) (x : Side) (i : InitTree) → map carried p.chunks ≡ init_chunk i ∷ []
-    → refusal p.header.verification_tag (map carried p.chunks) (state_of x) ≡ None → (phase : Phase) (t : Tcb) → state_of x ≡ Open phase t → answers phase ≡ true
+    → packet_refusal p.header.verification_tag (map carried p.chunks) (state_of x) ≡ None → (phase : Phase) (t : Tcb) → state_of x ≡ Open phase t → answers phase ≡ true
     → drawn_given (Some p) checksum x ≡ one_of t x.end ∷ []
 drew_one p checksum x i alone none phase t is late =
     let tag : ℕ = p.header.verification_tag in
-    let e : Endpoint Carried = counts x.end in
+    let e : Endpoint Carried = count_packet_at x.end in
     ap (λ (r : Option (List ℕ)). drawn_taking r (as_received p checksum) x.end) none
-    ∙ (ap (λ (cs : List ChunkTree). drawn_receiving tag cs (on_endpoint_state (repeats_if (has_data cs)) e)) alone
-    ∙ (ap (λ (s : State). drawn_receiving tag (init_chunk i ∷ []) (at_state s e.endpoint_state.context e.random)) is
-    ∙ drew_in tag i phase t e.endpoint_state.context e.random late))
+    ∙ (ap (λ (cs : List ChunkTree). drawn_receiving tag cs (in_endpoint_state (repeats_if (has_data_chunk cs)) e)) alone
+    ∙ (ap (λ (s : State). drawn_receiving tag (init_chunk i ∷ []) (at_state s e.endpoint_state.context e.draws)) is
+    ∙ drew_in tag i phase t e.endpoint_state.context e.draws late))
 
 -- in the second trace too
 named_open : (n : Names) (phase : Phase) (t : Tcb) → answers phase ≡ true → named_state n (Open phase t) ≡ Open phase (named_tcb n t)
@@ -134,7 +134,7 @@ named_open n (ShutdownSent t2) t h = refl
 named_open n ShutdownReceived t h = refl
 named_open n (ShutdownAckSent t2) t h = cc
 
-open_is : (n : Names) (i : InitTree) (phase : Phase) (u : Tcb) (w v : Stream) → is_alone phase ≡ false → (answers phase ≡ true → AnswersAgain n i u w v)
+open_is : (n : Names) (i : InitTree) (phase : Phase) (u : Tcb) (w v : Stream) → is_before_cookie_ack phase ≡ false → (answers phase ≡ true → AnswersAgain n i u w v)
     → InitIsNamedOpen n i phase u w v
 open_is n i (CookieEchoed t1 cookie) u w v h f = cc
 open_is n i Established u w v h f = f refl
@@ -143,7 +143,7 @@ open_is n i (ShutdownSent t2) u w v h f = f refl
 open_is n i ShutdownReceived u w v h f = f refl
 open_is n i (ShutdownAckSent t2) u w v h f = tt
 
-opened_late : (s u : State) (phase : Phase) (t : Tcb) → s ≡ Open phase t → is_alone phase ≡ false → ((view_of s).is_late ≡ true → (view_of u).is_opened ≡ true)
+opened_late : (s u : State) (phase : Phase) (t : Tcb) → s ≡ Open phase t → is_before_cookie_ack phase ≡ false → ((view_of s).is_late ≡ true → (view_of u).is_opened ≡ true)
     → (view_of u).is_opened ≡ true
 opened_late s u phase t is late f = f (ap (λ (z : State). (view_of z).is_late) is ∙ ap not late)
 
@@ -153,7 +153,7 @@ module _ (ps : List (Drawn × Drawn)) (k : Knows ps) (law : EachCallIsNamed) whe
       let tag : ℕ = p.header.verification_tag in
       let received : map carried p.chunks ≡ init_chunk i ∷ [] = ap (λ (cs : List ChunkTree). map carried cs) alone in
       let s : State = state_of x in
-      let call : Call = Packet (as_received p checksum) in
+      let call : Call = ReceivePacket (as_received p checksum) in
       let l : Names = names ps n.mine n.peer n.tie n.cookie_tie in
       let own : ℕ = u.identity.my_tag in
       let peer : ℕ = i.initiate_tag in
@@ -178,7 +178,7 @@ module _ (ps : List (Drawn × Drawn)) (k : Knows ps) (law : EachCallIsNamed) whe
       ap (λ (cs : List ChunkTree). map carried (named_chunks l cs)) alone
       ∙ (ap (λ (j : InitTree). init_chunk j ∷ []) (received_as i said.is (ap (λ (a : ℕ). far ps a) (sym mark)))
       ∙ sym (ap (λ (cs : List ChunkTree). named_chunks (flip m) cs) received)) in
-      let again : answers phase ≡ true → AnswersAgain m i u x.end.random z.end.random =
+      let again : answers phase ≡ true → AnswersAgain m i u x.end.draws z.end.draws =
       λ answering.
       let before : Names = names_in ps s t.tie in
       let open_too : state_of z ≡ Open phase (named_tcb before u) = t.state ∙ (ap (λ (a : State). named_state before a) is ∙ named_open before phase u answering) in
@@ -216,11 +216,11 @@ module _ (ps : List (Drawn × Drawn)) (k : Knows ps) (law : EachCallIsNamed) whe
         connects = λ e. cc;
         restores = λ a e. cc;
       } in
-      let e : Endpoint Carried = counts x.end in
-      let after : (P : State → Bool) → P (called call x.end).endpoint_state.state ≡ P (handle_chunks tag (init_chunk i ∷ []) (at_state (Open phase u) e.endpoint_state.context e.random)).endpoint_state.state =
-      λ P. ap (λ (a : Option (List ℕ)). P (taken_if a tag (map carried p.chunks) e).endpoint_state.state) none
-      ∙ (ap (λ (cs : List ChunkTree). P (handle_chunks tag cs e).endpoint_state.state) received
-      ∙ ap (λ (a : State). P (handle_chunks tag (init_chunk i ∷ []) (at_state a e.endpoint_state.context e.random)).endpoint_state.state) is) in
+      let e : Endpoint Carried = count_packet_at x.end in
+      let after : (P : State → Bool) → P (called call x.end).endpoint_state.state ≡ P (on_accepted_packet tag (init_chunk i ∷ []) (at_state (Open phase u) e.endpoint_state.context e.draws)).endpoint_state.state =
+      λ P. ap (λ (a : Option (List ℕ)). P (packet_if a tag (map carried p.chunks) e).endpoint_state.state) none
+      ∙ (ap (λ (cs : List ChunkTree). P (on_accepted_packet tag cs e).endpoint_state.state) received
+      ∙ ap (λ (a : State). P (on_accepted_packet tag (init_chunk i ∷ []) (at_state a e.endpoint_state.context e.draws)).endpoint_state.state) is) in
       record {
         mine = own;
         peer = peer;
@@ -228,13 +228,13 @@ module _ (ps : List (Drawn × Drawn)) (k : Knows ps) (law : EachCallIsNamed) whe
         cookie_tie = tie;
         before = state;
         is = taken_too ps k x z p r checksum other n.mine n.peer n.tie n.cookie_tie n.is t.tie t.state law h.own.packing h.own.quiet t.context none numbers own peer tie tie state
-            chunks (init i received (subst (λ (a : State). InitIsNamed m i a x.end.random z.end.random) (sym is) (open_is m i phase u x.end.random z.end.random late again)));
+            chunks (init i received (subst (λ (a : State). InitIsNamed m i a x.end.draws z.end.draws) (sym is) (open_is m i phase u x.end.draws z.end.draws late again)));
         tags = λ stand. tags_after call own peer guides x.end tags;
         ties = inr (record {
-          receives = ap (λ (cs : List ChunkTree). receives_init (Packet (record (as_received p checksum) { chunks = cs }))) received;
+          receives = ap (λ (cs : List ChunkTree). receives_init (ReceivePacket (record (as_received p checksum) { chunks = cs }))) received;
           held = one_held (state_of y) (opened_late s (state_of y) phase u is late h.own.stands.late);
-          past = after is_past ∙ init_leaves_past tag i phase u e.endpoint_state.context e.random late;
+          past = after is_past ∙ init_leaves_past tag i phase u e.endpoint_state.context e.draws late;
         });
         drew = λ receives closed.
-            absurd (both_ways (is_closed (called call x.end).endpoint_state.state) (after is_closed ∙ init_leaves_open tag i phase u e.endpoint_state.context e.random late) closed);
+            absurd (both_ways (is_closed (called call x.end).endpoint_state.state) (after is_closed ∙ init_leaves_open tag i phase u e.endpoint_state.context e.draws late) closed);
       }

@@ -16,7 +16,7 @@ pub mod CookieLemmas
 pub mod NumberLemmas
 pub mod ResetLemmas
 pub mod ReceiveLemmas
-pub mod ComingLemmas
+pub mod HandshakeNamedLemmas
 pub mod TakenLemmas
 pub mod NamedLawLemmas
 pub mod PairingLemmas
@@ -43,7 +43,7 @@ pub mod WholeActsLemmas
 pub mod WholeTraceLemmas
 pub mod TraceLemmas
 pub mod LateLemmas
-pub mod OwnLemmas
+pub mod EmittedByActsLemmas
 pub mod EmitsLemmas
 pub mod PassLemmas
 pub mod LawLemmas

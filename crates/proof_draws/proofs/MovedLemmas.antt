@@ -4,7 +4,7 @@ use Rattle.std.proofs.lemmas.Bool.{cases_lt}
 use Rattle.std.proofs.lemmas.Nat.{mod_below}
 use Rattle.std.proofs.Math.Nat.{mod-eq_of_lt, mod-eq-sub-mod, mod-add-mod, add-mod_right}
 use Rattle.sctp_serial.specs.SerialNumber.{serial_difference, serial_sum}
-use Rattle.sctp_serial.specs.Unwrapped.{words, wire, nearest, stepped}
+use Rattle.sctp_serial.specs.Unwrapped.{u32_space, wire, nearest, stepped}
 use Rattle.proof_draws.specs.NamedChunks.{move_by}
 
 -- sums that are taken round the circle in either order
@@ -14,8 +14,8 @@ sum_moved space a b d =
     mod-add-mod (a + d) space b ∙ (ap (λ k. k % space) swap ∙ sym (mod-add-mod (a + b) space d))
 
 -- how a number is written
-pub moved_wire : (by first n : ℕ) → wire words (move_by by first) n ≡ move_by by (wire words first n)
-moved_wire by first n = sum_moved words first n by
+pub moved_wire : (by first n : ℕ) → wire u32_space (move_by by first) n ≡ move_by by (wire u32_space first n)
+moved_wire by first n = sum_moved u32_space first n by
 
 -- both moved by less than a round
 difference_near : (space a b d : ℕ) → b < space → d < space → serial_difference space (serial_sum space a d) (serial_sum space b d) ≡ serial_difference space a b
@@ -46,8 +46,8 @@ difference_moved space a b d small =
     ∙ (ap (λ x. serial_difference space ((a + d % space) % space) x) (at b) ∙ difference_near space a b (d % space) small some)
 
 -- what a TSN stands for near another number
-pub moved_nearest : (by first near tsn : ℕ) → nearest words (move_by by first) near (move_by by tsn) ≡ nearest words first near tsn
+pub moved_nearest : (by first near tsn : ℕ) → nearest u32_space (move_by by first) near (move_by by tsn) ≡ nearest u32_space first near tsn
 moved_nearest by first near tsn =
-    let small : wire words first near < words = mod_below (first + near) words (omega arith) in
-    ap (λ w. stepped words near (serial_difference words (move_by by tsn) w)) (moved_wire by first near)
-    ∙ ap (λ d. stepped words near d) (difference_moved words tsn (wire words first near) by small)
+    let small : wire u32_space first near < u32_space = mod_below (first + near) u32_space (omega arith) in
+    ap (λ w. stepped u32_space near (serial_difference u32_space (move_by by tsn) w)) (moved_wire by first near)
+    ∙ ap (λ d. stepped u32_space near d) (difference_moved u32_space tsn (wire u32_space first near) by small)

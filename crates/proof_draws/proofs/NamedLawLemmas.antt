@@ -3,8 +3,8 @@ use Rattle.std.proofs.Common.{◌≡◌, ℕ, Option, is_some, List, refl, ap, �
 use Rattle.rand_core.specs.Stream.{Stream}
 use Rattle.sctp_packet.specs.Chunk.{ChunkTree}
 use Rattle.spec_endpoint.specs.Association.{Context, EndpointState, Endpoint, Packing}
-use Rattle.spec_endpoint.specs.Input.{refusal, counts, taken_if}
-use Rattle.spec_endpoint.specs.Laws.{Call, Connect, Close, Shutdown, Send, SendMany, ResetStreams, TakeMessage, SetLowThreshold, SetPriority, SetMaxMessageSize, Advance, HandOver, Restore, Packet, NoPacket, called}
+use Rattle.spec_endpoint.specs.Input.{packet_refusal, count_packet_at, packet_if}
+use Rattle.spec_endpoint.specs.Laws.{Call, Connect, Close, Shutdown, Send, SendMany, ResetStreams, TakeMessage, SetLowThreshold, SetPriority, SetMaxMessageSize, Advance, HandOver, Restore, ReceivePacket, ReceiveNoPacket, called}
 use Rattle.proof_endpoint.specs.Mapped.{Carried, map_context, map_endpoint_state}
 use Rattle.proof_endpoint.proofs.MappedLemmas.{maps_called}
 use Rattle.proof_draws.specs.NamedChunks.{Names, AreNames, flip, named_chunks}
@@ -35,8 +35,8 @@ module _ {P : Type 0} (n : Names) (are : AreNames n) (pack : Packing P) where
   call_named (Advance now) s w v is k = advance_named n are pack now s k
   call_named HandOver s w v is k = hand_over_named n pack s
   call_named (Restore h) s w v is k = absurd is
-  call_named (Packet p) s w v is k = packet_named n are pack p s w v is k
-  call_named NoPacket s w v is k = refl
+  call_named (ReceivePacket p) s w v is k = packet_named n are pack p s w v is k
+  call_named ReceiveNoPacket s w v is k = refl
 
 -- packets that are named as they are emitted are written by one who knows the names
 abbrev naming : Names → Packing Carried → Packing Carried
@@ -58,10 +58,10 @@ pub each_refusal : EachRefusalIsNamed
 each_refusal n are p s w v text e =
     let tag : ℕ = p.header.verification_tag in
     let ds : List ChunkTree = named_chunks (flip n) p.chunks in
-    let other = some_of (refusal (n.tag tag) ds (named_state n s.state)) (refused_named n are (flip n) tag p.chunks s.state ∙ ap (λ (o : Option (List ℕ)). is_some o) e) in
+    let other = some_of (packet_refusal (n.tag tag) ds (named_state n s.state)) (refused_named n are (flip n) tag p.chunks s.state ∙ ap (λ (o : Option (List ℕ)). is_some o) e) in
     record {
       text = text;
       named_text = other.0;
-      first = ap (λ (o : Option (List ℕ)). taken_if o tag p.chunks (counts (with_random w s))) e;
-      second = ap (λ (o : Option (List ℕ)). taken_if o (n.tag tag) ds (counts (with_random v (image n s)))) other.1;
+      first = ap (λ (o : Option (List ℕ)). packet_if o tag p.chunks (count_packet_at (with_random w s))) e;
+      second = ap (λ (o : Option (List ℕ)). packet_if o (n.tag tag) ds (count_packet_at (with_random v (image n s)))) other.1;
     }

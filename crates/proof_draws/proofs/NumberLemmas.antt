@@ -5,7 +5,7 @@ use Rattle.std.proofs.lemmas.Bool.{ltb-true, and_parts}
 use Rattle.std.proofs.lemmas.Nat.{mod_below}
 use Rattle.rand_core.specs.Stream.{Stream}
 use Rattle.sctp_serial.specs.declared.api.StreamId.{StreamId}
-use Rattle.sctp_serial.specs.Unwrapped.{words}
+use Rattle.sctp_serial.specs.Unwrapped.{u32_space}
 use Rattle.sctp_wire.specs.Parameter.{ParameterTree, outgoing_reset_request, incoming_reset_request, reset_response}
 use Rattle.sctp_chunk.specs.declared.sack.GapAckBlock.{GapAckBlock}
 use Rattle.sctp_packet.specs.Chunk.{ChunkTree, FragmentTree, SackTree, data_chunk, idata_chunk, init_chunk, init_ack_chunk, sack_chunk, heartbeat_request_chunk, heartbeat_ack_chunk, abort_chunk, shutdown_chunk, shutdown_ack_chunk, error_chunk, cookie_echo_chunk, cookie_ack_chunk, shutdown_complete_chunk, re_config_chunk, forward_tsn_chunk, i_forward_tsn_chunk, unknown_chunk}
@@ -18,26 +18,26 @@ use Rattle.sctp_tx_outstanding.specs.Sack.{is_valid}
 use Rattle.sctp_tx_outstanding.specs.Forward.{is_forward_due}
 use Rattle.sctp_rx.specs.DataTracker.{is_ack_due}
 use Rattle.sctp_rx.specs.DataTracker as tracker
-use Rattle.sctp_tx_queue.specs.Resets.{requested_streams, request_resets}
+use Rattle.sctp_tx_queue.specs.Resets.{streams_to_request, request_resets}
 use Rattle.sctp_tx.specs.RetransmissionQueue.{SackAnswer, Invalid, Valid, sender_if, emitted_if, answer_if}
 use Rattle.sctp_tx.specs.ForwardPoints.{forward_chunk}
 use Rattle.spec_endpoint.specs.Association.{Tcb, Phase, CookieEchoed, Established, ShutdownPending, ShutdownSent, ShutdownReceived, ShutdownAckSent, State, Closed, CookieWait, Open, Context, EndpointState, Endpoint, where_open}
-use Rattle.spec_endpoint.specs.Packets.{Packet, fits, add, has_chunks, packet_to, new_packet, say}
-use Rattle.spec_endpoint.specs.ResetRequests.{Request, Requests, is_final, is_last, is_next, is_known, answered_by, answered_if, answered_in}
-use Rattle.spec_endpoint.specs.Sending.{Filling, ask_for_sack, ack_if, goes_along, with_ack, forward_added_if, forward_if, test_forward_point, tested_if, with_forward, most_streams, request_of, request_if, filled_as, Turned, turned_if, next_packet, go_on, burst, is_alone, send_with, fast_if, send_lost}
-use Rattle.spec_endpoint.specs.Shutdown.{on_shutdown, on_shutdown_ack_in, on_shutdown_complete, violate, on_abort, on_error}
+use Rattle.spec_endpoint.specs.Packets.{PacketDraft, fits, add, has_chunks, packet_to, new_packet, emit_event_in}
+use Rattle.spec_endpoint.specs.ResetRequests.{Request, Requests, is_final, is_last_request, is_next_request, is_known_request, end_or_defer, response_if, handle_response_in}
+use Rattle.spec_endpoint.specs.Sending.{Filling, take_due_ack, ack_if, has_data_to_send, with_ack, forward_added_if, forward_if, with_expired_abandoned, forward_if_time, with_forward, most_streams, request_of, request_if, filled_as, BurstStep, burst_step_if, next_packet, continue_burst, burst, is_before_cookie_ack, send_with, fast_if, send_lost}
+use Rattle.spec_endpoint.specs.Shutdown.{on_shutdown, on_shutdown_ack_in, on_shutdown_complete, abort_for_violation, on_abort, on_error}
 use Rattle.spec_endpoint.specs.Shutdown as closing
-use Rattle.spec_endpoint.specs.Data.{on_data_in, on_data_if, on_data, takes, taken_if, forwarded_if, forwarded_in}
+use Rattle.spec_endpoint.specs.Data.{on_data_in, on_data_if, on_data, accepts_tsn, fragment_if, handle_forward_tsn_if, handle_forward_tsn_in}
 use Rattle.spec_endpoint.specs.Sack.{clean_blocks, sample_rtt, after_sack, on_sack_in}
 use Rattle.spec_endpoint.specs.Sack as acks
-use Rattle.spec_endpoint.specs.Opening.{on_cookie_ack, connected_context, tcb_by, queue_for, cookie_ack, anew, keep_association, keep, restarts, restarts_in, restart, CookieResolution, EstablishNew, RestartDetected, SimultaneousInit, MaintainExisting, Discard, InvalidTag, resolve_cookie, on_verdict, on_read_cookie, on_cookie_echo, long_word}
-use Rattle.spec_endpoint.specs.StreamReset.{Handling, handling, is_ahead, resets_if, outgoing_by, incoming_if, on_parameter, is_outgoing, Handled, handle_next, handle_all, send_responses, finished_if, on_reconfig}
+use Rattle.spec_endpoint.specs.Opening.{on_cookie_ack, enter_connected, tcb_by, queue_for, cookie_ack, anew, maintain_existing, maintain_existing_in, restarts, restarts_in, restart, CookieResolution, EstablishNew, RestartDetected, SimultaneousInit, MaintainExisting, Discard, InvalidTag, resolve_cookie, on_resolution, on_read_cookie, on_cookie_echo, long_word}
+use Rattle.spec_endpoint.specs.StreamReset.{Handling, handling, is_ahead, resets_if, outgoing_by, incoming_if, on_parameter, is_outgoing, HandledParameters, handle_next, handle_all, send_responses, finish_reconfig_if, on_reconfig}
 use Rattle.spec_endpoint.specs.Input.{violation, on_unknown_if, is_reported, on_heartbeat, on_chunk, received_if, receive, repeats, repeats_if}
 use Rattle.proof_draws.specs.Laws.{NumberFits, NumbersFit, NumbersFitIn, number_fits, is_flowing}
 use Rattle.proof_endpoint.proofs.RowMapsLemmas.{endpoint_state_in}
 
-pub next_fits : (n : ℕ) → (n + 1) % words < words
-next_fits n = mod_below (n + 1) words (omega arith)
+pub next_fits : (n : ℕ) → (n + 1) % u32_space < u32_space
+next_fits n = mod_below (n + 1) u32_space (omega arith)
 
 -- ---- bursts
 
@@ -54,8 +54,8 @@ module _ {P : Type 0} where
   forward_fits true x h = added_fits (fits x.packet (forward_chunk x.tcb.sender)) x h
   forward_fits false x h = h
 
-  tested_fits : (b : Bool) (x : Filling P) → NumbersFit x.tcb.requests → NumbersFit (tested_if b x).tcb.requests
-  tested_fits true x h = let y : Filling P = test_forward_point x in forward_fits (is_forward_due y.tcb.sender.outstanding.items) y h
+  tested_fits : (b : Bool) (x : Filling P) → NumbersFit x.tcb.requests → NumbersFit (forward_if_time b x).tcb.requests
+  tested_fits true x h = let y : Filling P = with_expired_abandoned x in forward_fits (is_forward_due y.tcb.sender.outstanding.items) y h
   tested_fits false x h = h
 
   -- the next number is that of the request, and the one behind it the next
@@ -67,7 +67,7 @@ module _ {P : Type 0} where
   request_fits true x h = h
   request_fits false x h =
       let most : ℕ = most_streams x.packet in
-      request_of_fits (requested_streams most x.context.queue) (record x { context = record x.context { queue = request_resets most x.context.queue } }) h
+      request_of_fits (streams_to_request most x.context.queue) (record x { context = record x.context { queue = request_resets most x.context.queue } }) h
 
   filled_fits : (is_first : Bool) (x : Filling P) → NumbersFit x.tcb.requests → NumbersFit (filled_as is_first x).tcb.requests
   filled_fits true x h =
@@ -75,15 +75,15 @@ module _ {P : Type 0} where
       let r : Filling P = with_forward y in
       request_fits (is_some r.tcb.requests.current) r
       (tested_fits (nat_le y.context.forward_from y.context.now) y
-      (ack_fits (is_ack_due (goes_along x) x.tcb.tracker.tracker.ack) (record x { tcb = ask_for_sack (goes_along x) x.tcb }) h))
+      (ack_fits (is_ack_due (has_data_to_send x) x.tcb.tracker.tracker.ack) (record x { tcb = take_due_ack (has_data_to_send x) x.tcb }) h))
   filled_fits false x h = h
 
-  turned_if_fits : (b is_alone : Bool) (x : Filling P) → NumbersFit x.tcb.requests → NumbersFit (turned_if b is_alone x).filling.tcb.requests
+  turned_if_fits : (b is_alone : Bool) (x : Filling P) → NumbersFit x.tcb.requests → NumbersFit (burst_step_if b is_alone x).filling.tcb.requests
   turned_if_fits true is_alone x h = h
   turned_if_fits false is_alone x h = h
 
   go_on_fits : (rest : Filling P → Filling P) (b : Bool) (x : Filling P) → ((y : Filling P) → NumbersFit y.tcb.requests → NumbersFit (rest y).tcb.requests)
-      → NumbersFit x.tcb.requests → NumbersFit (go_on rest (record { filling = x; is_more = b })).tcb.requests
+      → NumbersFit x.tcb.requests → NumbersFit (continue_burst rest (record { filling = x; is_more = b })).tcb.requests
   go_on_fits rest true x f h = f x h
   go_on_fits rest false x f h = h
 
@@ -91,11 +91,11 @@ module _ {P : Type 0} where
   burst_fits zero is_first is_alone x h = h
   burst_fits (suc most) is_first is_alone x h =
       let y : Filling P = filled_as is_first x in
-      let t : Turned P = next_packet is_first is_alone x in
+      let t : BurstStep P = next_packet is_first is_alone x in
       go_on_fits (burst most false is_alone) t.is_more t.filling (burst_fits most false is_alone)
       (turned_if_fits (has_chunks y.packet) is_alone y (filled_fits is_first x h))
 
-  send_with_fits : (is_alone : Bool) (p : Packet) (t : Tcb) (c : Context P) → NumbersFit t.requests → NumbersFit (send_with is_alone p t c).tcb.requests
+  send_with_fits : (is_alone : Bool) (p : PacketDraft) (t : Tcb) (c : Context P) → NumbersFit t.requests → NumbersFit (send_with is_alone p t c).tcb.requests
   send_with_fits is_alone p t c h = burst_fits c.options.max_burst true is_alone (record { packet = p; tcb = t; context = c }) h
 
   fast_fits : (b : Bool) (t : Tcb) (c : Context P) → NumbersFit t.requests → NumbersFit (fast_if b t c).tcb.requests
@@ -107,7 +107,7 @@ module _ {P : Type 0} where
 
 -- ---- control blocks
 
-taken_fits : (b : Bool) (tsn : ℕ) (immediate : Bool) (f : FragmentTree) (t : Tcb) → NumbersFit t.requests → NumbersFit (taken_if b tsn immediate f t).requests
+taken_fits : (b : Bool) (tsn : ℕ) (immediate : Bool) (f : FragmentTree) (t : Tcb) → NumbersFit t.requests → NumbersFit (fragment_if b tsn immediate f t).requests
 taken_fits true tsn immediate f t h = h
 taken_fits false tsn immediate f t h = h
 
@@ -115,24 +115,24 @@ sampled_fits : (o : Option ℕ) (t : Tcb) → NumbersFit t.requests → NumbersF
 sampled_fits None t h = h
 sampled_fits (Some sample) t h = h
 
-forwarded_fits : (b : Bool) (tsn : ℕ) (es : List _) (t : Tcb) → NumbersFit t.requests → NumbersFit (forwarded_if b tsn es t).requests
+forwarded_fits : (b : Bool) (tsn : ℕ) (es : List _) (t : Tcb) → NumbersFit t.requests → NumbersFit (handle_forward_tsn_if b tsn es t).requests
 forwarded_fits true tsn es t h = h
 forwarded_fits false tsn es t h = h
 
-forward_in_fits : (st : State) (tsn : ℕ) (es : List _) → NumbersFitIn st → NumbersFitIn (forwarded_in st tsn es)
+forward_in_fits : (st : State) (tsn : ℕ) (es : List _) → NumbersFitIn st → NumbersFitIn (handle_forward_tsn_in st tsn es)
 forward_in_fits Closed tsn es h = tt
 forward_in_fits (CookieWait tag first t1) tsn es h = tt
 forward_in_fits (Open phase t) tsn es h = forwarded_fits (tracker.is_valid t.tracker.tracker (tracker.number_of t.tracker tsn)) tsn es t h
 
-answered_by_fits : (b : Bool) (now rto : ℕ) (r : Request) (x : Requests) → r.number < words → NumbersFit x → NumbersFit (answered_by b now rto r x)
+answered_by_fits : (b : Bool) (now rto : ℕ) (r : Request) (x : Requests) → r.number < u32_space → NumbersFit x → NumbersFit (end_or_defer b now rto r x)
 answered_by_fits true now rto r x k h = record { next = h.next; current = tt; last = h.last }
 answered_by_fits false now rto r x k h = record { next = h.next; current = k; last = h.last }
 
-answered_if_fits : (b : Bool) (now rto result : ℕ) (r : Request) (x : Requests) → r.number < words → NumbersFit x → NumbersFit (answered_if b now rto result r x)
+answered_if_fits : (b : Bool) (now rto result : ℕ) (r : Request) (x : Requests) → r.number < u32_space → NumbersFit x → NumbersFit (response_if b now rto result r x)
 answered_if_fits true now rto result r x k h = answered_by_fits (is_final result) now rto r x k h
 answered_if_fits false now rto result r x k h = h
 
-pub answered_in_fits : (o : Option Request) (now rto number result : ℕ) (x : Requests) → NumberFits o → NumbersFit x → NumbersFit (answered_in o now rto number result x)
+pub answered_in_fits : (o : Option Request) (now rto number result : ℕ) (x : Requests) → NumberFits o → NumbersFit x → NumbersFit (handle_response_in o now rto number result x)
 answered_in_fits None now rto number result x k h = h
 answered_in_fits (Some r) now rto number result x k h = answered_if_fits (r.number == number) now rto result r x k h
 
@@ -155,7 +155,7 @@ module _ {P : Type 0} where
   data_in_fits : (st : State) (tsn : ℕ) (immediate : Bool) (f : FragmentTree) (c : Context P) → NumbersFitIn st → NumbersFitIn (on_data_in st tsn immediate f c).state
   data_in_fits Closed tsn immediate f c h = tt
   data_in_fits (CookieWait tag first t1) tsn immediate f c h = tt
-  data_in_fits (Open phase t) tsn immediate f c h = taken_fits (takes tsn t) tsn immediate f t h
+  data_in_fits (Open phase t) tsn immediate f c h = taken_fits (accepts_tsn tsn t) tsn immediate f t h
 
   data_if_fits : (b : Bool) (tsn : ℕ) (immediate : Bool) (f : FragmentTree) (s : EndpointState P) → NumbersFitIn s.state → NumbersFitIn (on_data_if b tsn immediate f s).state
   data_if_fits true tsn immediate f s h = h
@@ -168,9 +168,9 @@ module _ {P : Type 0} where
   received_fits Invalid phase t c h = h
   received_fits (Valid rtt progress) phase t c h =
       let v : Tcb = sample_rtt rtt t in
-      let o = closing.go_on phase v (acks.clear_errors_if progress c) in
+      let o = closing.maybe_send_shutdown_or_ack phase v (acks.clear_errors_if progress c) in
       let x = send_lost v o.context in
-      send_with_fits (is_alone o.phase) (new_packet x.context.options x.tcb) x.tcb x.context (lost_fits v o.context (sampled_fits rtt t h))
+      send_with_fits (is_before_cookie_ack o.phase) (new_packet x.context.options x.tcb) x.tcb x.context (lost_fits v o.context (sampled_fits rtt t h))
 
   sack_in_fits : (st : State) (k : SackTree) (c : Context P) → NumbersFitIn st → NumbersFitIn (on_sack_in st k c).state
   sack_in_fits Closed k c h = tt
@@ -182,7 +182,7 @@ module _ {P : Type 0} where
       received_fits (answer_if valid c.now m bs t.sender) phase (record t { sender = sender_if valid c.now m k.a_rwnd bs t.sender c.emitted }) (record c { emitted = emitted_if valid m bs t.sender c.emitted }) h
 
   cookie_ack_fits : OpenFits {P = P} on_cookie_ack
-  cookie_ack_fits (CookieEchoed t1 cookie) t c h = send_with_fits false (new_packet c.options t) t (connected_context c) h
+  cookie_ack_fits (CookieEchoed t1 cookie) t c h = send_with_fits false (new_packet c.options t) t (enter_connected c) h
   cookie_ack_fits Established t c h = h
   cookie_ack_fits ShutdownPending t c h = h
   cookie_ack_fits (ShutdownSent t2) t c h = h
@@ -211,30 +211,30 @@ module _ {P : Type 0} where
   unknown_fits true typ flags value s h = h
   unknown_fits false typ flags value s h = h
 
-  resets_fit : (b : Bool) (number last_tsn : ℕ) (streams : List StreamId) (x : Handling P) → number < words → NumbersFit x.tcb.requests
+  resets_fit : (b : Bool) (number last_tsn : ℕ) (streams : List StreamId) (x : Handling P) → number < u32_space → NumbersFit x.tcb.requests
       → NumbersFit (resets_if b number last_tsn streams x).tcb.requests
   resets_fit true number last_tsn streams x k h = record { next = h.next; current = h.current; last = k }
   resets_fit false number last_tsn streams x k h = record { next = h.next; current = h.current; last = k }
 
-  outgoing_fits : (a b d : Bool) (number last_tsn : ℕ) (streams : List StreamId) (x : Handling P) → number < words → NumbersFit x.tcb.requests
+  outgoing_fits : (a b d : Bool) (number last_tsn : ℕ) (streams : List StreamId) (x : Handling P) → number < u32_space → NumbersFit x.tcb.requests
       → NumbersFit (outgoing_by a b d number last_tsn streams x).tcb.requests
   outgoing_fits true b true number last_tsn streams x k h = h
   outgoing_fits true b false number last_tsn streams x k h = resets_fit (is_ahead last_tsn x.tcb) number last_tsn streams x k h
   outgoing_fits false true d number last_tsn streams x k h = resets_fit (is_ahead last_tsn x.tcb) number last_tsn streams x k h
   outgoing_fits false false d number last_tsn streams x k h = h
 
-  incoming_fits : (b : Bool) (number : ℕ) (x : Handling P) → number < words → NumbersFit x.tcb.requests → NumbersFit (incoming_if b number x).tcb.requests
+  incoming_fits : (b : Bool) (number : ℕ) (x : Handling P) → number < u32_space → NumbersFit x.tcb.requests → NumbersFit (incoming_if b number x).tcb.requests
   incoming_fits true number x k h = record { next = h.next; current = h.current; last = k }
   incoming_fits false number x k h = h
 
   pub parameter_fits : (p : ParameterTree) (x : Handling P) → number_fits p ≡ true → NumbersFit x.tcb.requests → NumbersFit (on_parameter p x).tcb.requests
   parameter_fits (outgoing_reset_request number response last_tsn streams) x k h =
-      outgoing_fits (is_last number x.tcb.requests) (is_next number x.tcb.requests) (is_final x.tcb.requests.result) number last_tsn.0 streams x (ltb-true number words k) h
-  parameter_fits (incoming_reset_request number streams) x k h = incoming_fits (is_known number x.tcb.requests) number x (ltb-true number words k) h
+      outgoing_fits (is_last_request number x.tcb.requests) (is_next_request number x.tcb.requests) (is_final x.tcb.requests.result) number last_tsn.0 streams x (ltb-true number u32_space k) h
+  parameter_fits (incoming_reset_request number streams) x k h = incoming_fits (is_known_request number x.tcb.requests) number x (ltb-true number u32_space k) h
   parameter_fits (reset_response number result sender receiver) x k h = answered_in_fits x.tcb.requests.current x.context.now _ number result x.tcb.requests h.current h
   parameter_fits p x k h = h
 
-  next_fits_by : (b : Bool) (rest : Handling P → Handled P) (p : ParameterTree) (x : Handling P) → number_fits p ≡ true
+  next_fits_by : (b : Bool) (rest : Handling P → HandledParameters P) (p : ParameterTree) (x : Handling P) → number_fits p ≡ true
       → ((y : Handling P) → NumbersFit y.tcb.requests → NumbersFit (rest y).handling.tcb.requests) → NumbersFit x.tcb.requests
       → NumbersFit (handle_next b rest p x).handling.tcb.requests
   next_fits_by true rest p x k f h = h
@@ -247,16 +247,16 @@ module _ {P : Type 0} where
       let both = and_parts (number_fits p) (list_all number_fits ps) k in
       next_fits_by (is_outgoing p && b) (handle_all ps (is_outgoing p || b)) p x both.0 (λ y. handled_fits ps (is_outgoing p || b) y both.1) h
 
-  finished_fits : (b : Bool) (phase : Phase) (x : Handling P) → NumbersFit x.tcb.requests → NumbersFitIn (finished_if b phase x).state
+  finished_fits : (b : Bool) (phase : Phase) (x : Handling P) → NumbersFit x.tcb.requests → NumbersFitIn (finish_reconfig_if b phase x).state
   finished_fits true phase x h =
       let d : Context P = send_responses x.responses x.tcb x.context in
-      send_with_fits (is_alone phase) (new_packet d.options x.tcb) x.tcb d h
+      send_with_fits (is_before_cookie_ack phase) (new_packet d.options x.tcb) x.tcb d h
   finished_fits false phase x h = h
 
   reconfig_fits : (ps : List ParameterTree) → list_all number_fits ps ≡ true → OpenFits {P = P} (on_reconfig ps)
   reconfig_fits [] k phase t c h = h
   reconfig_fits (p ∷ ps) k phase t c h =
-      let x : Handled P = handle_all (p ∷ ps) false (handling t c) in
+      let x : HandledParameters P = handle_all (p ∷ ps) false (handling t c) in
       finished_fits x.is_whole phase x.handling (handled_fits (p ∷ ps) false (handling t c) k h)
 
   -- ---- chunks
@@ -283,7 +283,7 @@ module _ {P : Type 0} where
 
   received_if_fits : (o : Option (List ℕ)) (tag : ℕ) (chunk : ChunkTree) (e : Endpoint P) → is_flowing chunk ≡ true → NumbersFitIn e.endpoint_state.state
       → NumbersFitIn (received_if o tag chunk e).end.endpoint_state.state
-  received_if_fits (Some reason) tag chunk e k h = where_fits (λ phase t c. violate reason t c) e.endpoint_state (λ phase t c j. tt) h
+  received_if_fits (Some reason) tag chunk e k h = where_fits (λ phase t c. abort_for_violation reason t c) e.endpoint_state (λ phase t c j. tt) h
   received_if_fits None tag chunk e k h = chunk_fits tag chunk e k h
 
   pub receive_fits : (tag : ℕ) (chunk : ChunkTree) (e : Endpoint P) → is_flowing chunk ≡ true → NumbersFitIn e.endpoint_state.state
@@ -304,35 +304,35 @@ module _ {P : Type 0} where
 
   -- ---- COOKIE ECHO
 
-  new_fits : (k : Cookie) (c : Context P) (tie : ℕ) → k.my_initial_tsn < words → NumbersFit (tcb_by c.options k tie).requests
-  new_fits k c tie first = record { next = first; current = tt; last = mod_below (k.peer_initial_tsn + words - 1) words (omega arith) }
+  new_fits : (k : Cookie) (c : Context P) (tie : ℕ) → k.my_initial_tsn < u32_space → NumbersFit (tcb_by c.options k tie).requests
+  new_fits k c tie first = record { next = first; current = tt; last = mod_below (k.peer_initial_tsn + u32_space - 1) u32_space (omega arith) }
 
   sent_fits : (tag : ℕ) (t : Tcb) (c : Context P) → NumbersFit t.requests → NumbersFit (cookie_ack tag t c).tcb.requests
   sent_fits tag t c h =
       send_with_fits false (add cookie_ack_chunk (record (packet_to tag c.options.mtu) { is_summed = not (zero_checksum_enabled t.capabilities) })) t c h
 
-  anew_fits : (resets : Bool) (k : Cookie) (tie : ℕ) (c : Context P) → k.my_initial_tsn < words → NumbersFitIn (anew resets k tie c).state
+  anew_fits : (resets : Bool) (k : Cookie) (tie : ℕ) (c : Context P) → k.my_initial_tsn < u32_space → NumbersFitIn (anew resets k tie c).state
   anew_fits resets k tie c first =
       sent_fits k.peer_tag (tcb_by c.options k tie)
-      (connected_context (record c { queue = queue_for resets (negotiate c.options k.peer_capabilities).message_interleaving c.queue })) (new_fits k c tie first)
+      (enter_connected (record c { queue = queue_for resets (negotiate c.options k.peer_capabilities).message_interleaving c.queue })) (new_fits k c tie first)
 
-  kept_fits : (k : Cookie) → OpenFits {P = P} (keep_association k)
-  kept_fits k (CookieEchoed t1 cookie) t c h = sent_fits k.peer_tag t (connected_context c) h
+  kept_fits : (k : Cookie) → OpenFits {P = P} (maintain_existing k)
+  kept_fits k (CookieEchoed t1 cookie) t c h = sent_fits k.peer_tag t (enter_connected c) h
   kept_fits k Established t c h = sent_fits k.peer_tag t c h
   kept_fits k ShutdownPending t c h = sent_fits k.peer_tag t c h
   kept_fits k (ShutdownSent t2) t c h = sent_fits k.peer_tag t c h
   kept_fits k ShutdownReceived t c h = sent_fits k.peer_tag t c h
   kept_fits k (ShutdownAckSent t2) t c h = sent_fits k.peer_tag t c h
 
-  keep_fits : (k : Cookie) (st : State) (c : Context P) → NumbersFitIn st → NumbersFitIn (keep k (endpoint_state_in st c)).state
+  keep_fits : (k : Cookie) (st : State) (c : Context P) → NumbersFitIn st → NumbersFitIn (maintain_existing_in k (endpoint_state_in st c)).state
   keep_fits k Closed c h = tt
   keep_fits k (CookieWait tag first t1) c h = tt
   keep_fits k (Open phase t) c h = kept_fits k phase t c h
 
-  restarted_fits : (k : Cookie) (e : Endpoint P) → k.my_initial_tsn < words → NumbersFitIn (restarts k e).endpoint_state.state
-  restarted_fits k e first = anew_fits true k (long_word e) (say OnConnectionRestarted e.endpoint_state.context) first
+  restarted_fits : (k : Cookie) (e : Endpoint P) → k.my_initial_tsn < u32_space → NumbersFitIn (restarts k e).endpoint_state.state
+  restarted_fits k e first = anew_fits true k (long_word e) (emit_event_in OnConnectionRestarted e.endpoint_state.context) first
 
-  restarts_fit : (phase : Phase) (t : Tcb) (k : Cookie) (e : Endpoint P) → k.my_initial_tsn < words → NumbersFitIn e.endpoint_state.state
+  restarts_fit : (phase : Phase) (t : Tcb) (k : Cookie) (e : Endpoint P) → k.my_initial_tsn < u32_space → NumbersFitIn e.endpoint_state.state
       → NumbersFitIn (restarts_in phase t k e).endpoint_state.state
   restarts_fit (CookieEchoed t1 cookie) t k e first h = restarted_fits k e first
   restarts_fit Established t k e first h = restarted_fits k e first
@@ -341,25 +341,25 @@ module _ {P : Type 0} where
   restarts_fit ShutdownReceived t k e first h = restarted_fits k e first
   restarts_fit (ShutdownAckSent t2) t k e first h = h
 
-  restart_fits : (st : State) (k : Cookie) (c : Context P) (w : Stream) → k.my_initial_tsn < words → NumbersFitIn st
-      → NumbersFitIn (restart k (record { endpoint_state = endpoint_state_in st c; random = w })).endpoint_state.state
+  restart_fits : (st : State) (k : Cookie) (c : Context P) (w : Stream) → k.my_initial_tsn < u32_space → NumbersFitIn st
+      → NumbersFitIn (restart k (record { endpoint_state = endpoint_state_in st c; draws = w })).endpoint_state.state
   restart_fits Closed k c w first h = h
   restart_fits (CookieWait tag mine t1) k c w first h = h
-  restart_fits (Open phase t) k c w first h = restarts_fit phase t k (record { endpoint_state = endpoint_state_in (Open phase t) c; random = w }) first h
+  restart_fits (Open phase t) k c w first h = restarts_fit phase t k (record { endpoint_state = endpoint_state_in (Open phase t) c; draws = w }) first h
 
-  verdict_fits : (v : CookieResolution) (k : Cookie) (e : Endpoint P) → k.my_initial_tsn < words → NumbersFitIn e.endpoint_state.state → NumbersFitIn (on_verdict v k e).endpoint_state.state
+  verdict_fits : (v : CookieResolution) (k : Cookie) (e : Endpoint P) → k.my_initial_tsn < u32_space → NumbersFitIn e.endpoint_state.state → NumbersFitIn (on_resolution v k e).endpoint_state.state
   verdict_fits EstablishNew k e first h = anew_fits false k (long_word e) e.endpoint_state.context first
-  verdict_fits RestartDetected k e first h = restart_fits e.endpoint_state.state k e.endpoint_state.context e.random first h
+  verdict_fits RestartDetected k e first h = restart_fits e.endpoint_state.state k e.endpoint_state.context e.draws first h
   verdict_fits SimultaneousInit k e first h = anew_fits true k (long_word e) e.endpoint_state.context first
   verdict_fits MaintainExisting k e first h = keep_fits k e.endpoint_state.state e.endpoint_state.context h
   verdict_fits Discard k e first h = h
   verdict_fits InvalidTag k e first h = h
 
-  read_fits : (tag : ℕ) (r : Result Cookie StateCookieError) (e : Endpoint P) → ((k : Cookie) → r ≡ Ok k → k.my_initial_tsn < words) → NumbersFitIn e.endpoint_state.state
+  read_fits : (tag : ℕ) (r : Result Cookie StateCookieError) (e : Endpoint P) → ((k : Cookie) → r ≡ Ok k → k.my_initial_tsn < u32_space) → NumbersFitIn e.endpoint_state.state
       → NumbersFitIn (on_read_cookie tag r e).endpoint_state.state
   read_fits tag (Ok k) e first h = verdict_fits (resolve_cookie tag k e.endpoint_state.state) k e (first k refl) h
   read_fits tag (Err fault) e first h = h
 
-  pub cookie_echo_fits : (tag : ℕ) (cookie : List ℕ) (e : Endpoint P) → ((k : Cookie) → read_cookie cookie ≡ Ok k → k.my_initial_tsn < words) → NumbersFitIn e.endpoint_state.state
+  pub cookie_echo_fits : (tag : ℕ) (cookie : List ℕ) (e : Endpoint P) → ((k : Cookie) → read_cookie cookie ≡ Ok k → k.my_initial_tsn < u32_space) → NumbersFitIn e.endpoint_state.state
       → NumbersFitIn (on_cookie_echo tag cookie e).endpoint_state.state
   cookie_echo_fits tag cookie e first h = read_fits tag (read_cookie cookie) e first h

@@ -5,9 +5,9 @@ use Rattle.std.proofs.lemmas.List.{map-append}
 use Rattle.sctp_wire.specs.Parameter.{ParameterTree, supported_extensions, forward_tsn_supported, zero_checksum_acceptable}
 use Rattle.sctp_packet.specs.Chunk.{ChunkTree, init_chunk}
 use Rattle.sctp_state.specs.Options.{Options}
-use Rattle.sctp_capabilities.specs.Capabilities.{where_enabled, extensions, announce}
+use Rattle.sctp_capabilities.specs.Capabilities.{where_enabled, extensions, announced_parameters}
 use Rattle.spec_endpoint.specs.Association.{State, Closed, CookieWait, Open, Context, EndpointState, Endpoint, Packing}
-use Rattle.spec_endpoint.specs.Packets.{Packet, add, packet_to, emit}
+use Rattle.spec_endpoint.specs.Packets.{PacketDraft, add, packet_to, emit}
 use Rattle.spec_endpoint.specs.Opening.{tsn_from, tag_from, word, drew_word, init_of, send_init, t1_init, waiting, connect_in, connect}
 use Rattle.proof_draws.specs.NamedChunks.{Names, AreNames, move_by, named_parameter, named_chunk}
 use Rattle.proof_draws.specs.Names.{named_state, named_endpoint_state, plain, with_random}
@@ -21,7 +21,7 @@ module _ (n : Names) where
   where_named false p h = refl
 
   -- what is announced is not drawn
-  pub announced_named : (o : Options) (method : ℕ) → map (named_parameter n) (announce o method) ≡ announce o method
+  pub announced_named : (o : Options) (method : ℕ) → map (named_parameter n) (announced_parameters o method) ≡ announced_parameters o method
   announced_named o method =
       let first : List ParameterTree = where_enabled o.enable_partial_reliability (forward_tsn_supported ∷ []) in
       let second : List ParameterTree = where_enabled (not (method == 0)) (zero_checksum_acceptable method ∷ []) in
@@ -35,12 +35,12 @@ module _ (n : Names) where
 module _ {P : Type 0} (n : Names) (are : AreNames n) (pack : Packing P) where
   pub named_send_init : (tag first : ℕ) (c : Context P) → Knows n pack c → send_init (n.tag tag) (move_by n.own first) (plain pack c) ≡ plain pack (send_init tag first c)
   named_send_init tag first c k =
-      let ps : List ParameterTree = announce c.options c.options.zero_checksum_method in
+      let ps : List ParameterTree = announced_parameters c.options c.options.zero_checksum_method in
       let chunk : ChunkTree = init_chunk (init_of c.options tag first ps) in
-      let to : Packet = packet_to 0 c.options.mtu in
+      let to : PacketDraft = packet_to 0 c.options.mtu in
       ap (λ (qs : List ParameterTree). emit (add (init_chunk (init_of c.options (n.tag tag) (move_by n.own first) qs)) to) (plain pack c)) (sym (announced_named n c.options c.options.zero_checksum_method))
       ∙ (ap (λ (none : ℕ). emit (add (named_chunk n chunk) (packet_to none c.options.mtu)) (plain pack c)) (sym are.none)
-      ∙ (ap (λ (p : Packet). emit p (plain pack c)) (named_add n are chunk to) ∙ named_emit n are pack (add chunk to) c k))
+      ∙ (ap (λ (p : PacketDraft). emit p (plain pack c)) (named_add n are chunk to) ∙ named_emit n are pack (add chunk to) c k))
 
   named_waiting : (tag first : ℕ) (c : Context P) → Knows n pack c → waiting (n.tag tag) (move_by n.own first) (plain pack c) ≡ named_endpoint_state n pack (waiting tag first c)
   named_waiting tag first c k =

@@ -5,7 +5,7 @@ use Rattle.rand_core.specs.Stream.{Stream}
 use Rattle.spec_endpoint.specs.Association.{State, Closed, CookieWait, Open}
 use Rattle.spec_endpoint.specs.Opening.{connect_in}
 use Rattle.spec_endpoint.specs.Input.{my_tag}
-use Rattle.spec_endpoint.specs.Laws.{Call, Connect, Close, Shutdown, Send, SendMany, ResetStreams, TakeMessage, SetLowThreshold, SetPriority, SetMaxMessageSize, Advance, HandOver, Restore, Packet, NoPacket, called}
+use Rattle.spec_endpoint.specs.Laws.{Call, Connect, Close, Shutdown, Send, SendMany, ResetStreams, TakeMessage, SetLowThreshold, SetPriority, SetMaxMessageSize, Advance, HandOver, Restore, ReceivePacket, ReceiveNoPacket, called}
 use Rattle.proof_pair.specs.Trace.{Side, as_carried, MayCall, state_of}
 use Rattle.proof_pair.specs.Agreement.{Draw, Has}
 use Rattle.proof_draws.specs.NamedChunks.{Names}
@@ -23,17 +23,17 @@ use Rattle.proof_draws.proofs.FlowLemmas.{own_tags}
 -- ---- calls that receive nothing
 
 silent_call : (x : Side) (c : Call) → MayCall c x → receives_init c ≡ false
-silent_call x (Packet p) may = absurd may
+silent_call x (ReceivePacket p) may = absurd may
 silent_call x c may = refl
 
 same_call : (x : Side) (n : Names) (c : Call) → MayCall c x → named_call n c ≡ c
-same_call x n (Packet p) may = absurd may
+same_call x n (ReceivePacket p) may = absurd may
 same_call x n c may = refl
 
 call_is : (x : Side) (n : Names) (c : Call) (w v : Stream) → MayCall c x → (c ≡ Connect → state_of x ≡ Closed → DrawsTwo n w v)
     → CallIsNamed n c (state_of x) w v
 call_is x n Connect w v may f = f refl
-call_is x n (Packet p) w v may f = absurd may
+call_is x n (ReceivePacket p) w v may f = absurd may
 call_is x n (Restore h) w v may f = absurd may
 call_is x n c w v may f = tt
 
@@ -66,7 +66,7 @@ module _ (ps : List (Draw × Draw)) (k : Knows ps) (law : EachCallIsNamed) (x y 
           before = t.state;
           is = second n
               ∙ mirrored law n (are_names ps k (my_tag s) (peer_in s) t.tie same_tie) c x.end z.end packing quiet t.state t.context
-              (call_is x n c x.end.random z.end.random may (λ e f. absurd (other e f)));
+              (call_is x n c x.end.draws z.end.draws may (λ e f. absurd (other e f)));
           tags = λ stand. tags;
           ties = inl refl;
           drew = λ receives closed. absurd (both_ways (receives_init c) (silent_call x c may) receives);
@@ -130,5 +130,5 @@ module _ (ps : List (Draw × Draw)) (k : Knows ps) (law : EachCallIsNamed) (x y 
   call_named (Advance now) may pair = other_named (Advance now) may (λ e. cc)
   call_named HandOver may pair = other_named HandOver may (λ e. cc)
   call_named (Restore h) may pair = absurd may
-  call_named (Packet p) may pair = absurd may
-  call_named NoPacket may pair = other_named NoPacket may (λ e. cc)
+  call_named (ReceivePacket p) may pair = absurd may
+  call_named ReceiveNoPacket may pair = other_named ReceiveNoPacket may (λ e. cc)

@@ -4,7 +4,7 @@ use Rattle.std.proofs.lemmas.Bool.{eq-eqb, ne_eqb}
 use Rattle.sctp_packet.specs.Chunk.{ChunkTree, init_chunk}
 use Rattle.sctp_packet.specs.Packet.{PacketTree}
 use Rattle.spec_endpoint.specs.Association.{Tcb, Phase, CookieEchoed, Established, ShutdownPending, ShutdownSent, ShutdownReceived, ShutdownAckSent, State, Closed, CookieWait, Open, Endpoint}
-use Rattle.spec_endpoint.specs.Input.{Received, refusal, counts, on_endpoint_state, repeats_if, has_data, receive}
+use Rattle.spec_endpoint.specs.Input.{AfterChunk, packet_refusal, count_packet_at, in_endpoint_state, repeats_if, has_data_chunk, receive}
 use Rattle.spec_endpoint.specs.Laws.{Connect}
 use Rattle.proof_endpoint.specs.Mapped.{Carried}
 use Rattle.proof_pair.specs.Trace.{Side, Pair, emitted_packets, as_received, EndAction, Calls, Gives, Refuses, goes, state_of}
@@ -54,28 +54,28 @@ module _ {P : Type 0} where
   chunk_fits c e d h = absurd h
 
   behind_fit : (b : Bool) (rest : Endpoint P → List Draw) (e : Endpoint P) (d : Draw) → (Has d (rest e) → FitsDraw d)
-      → Has d (drawn_behind rest (record { end = e; goes_on = b })) → FitsDraw d
+      → Has d (drawn_behind rest (record { end = e; allows_next = b })) → FitsDraw d
   behind_fit true rest e d f h = f h
   behind_fit false rest e d f h = absurd h
 
   receiving_fits : (tag : ℕ) (cs : List ChunkTree) (e : Endpoint P) (d : Draw) → Has d (drawn_receiving tag cs e) → FitsDraw d
   receiving_fits tag [] e d h = absurd h
   receiving_fits tag (c ∷ cs) e d h =
-      let x : Received P = receive tag c e in
+      let x : AfterChunk P = receive tag c e in
       elim (has_either d (drawn_behind (drawn_receiving tag cs) x) (drawn_for c e) h) [
-        | inl k ↦ behind_fit x.goes_on (drawn_receiving tag cs) x.end d (receiving_fits tag cs x.end d) k
+        | inl k ↦ behind_fit x.allows_next (drawn_receiving tag cs) x.end d (receiving_fits tag cs x.end d) k
         | inr k ↦ chunk_fits c e d k
       ]
 
   taking_fits : (r : Option (List ℕ)) (p : PacketTree) (e : Endpoint P) (d : Draw) → Has d (drawn_taking r p e) → FitsDraw d
-  taking_fits None p e d h = receiving_fits p.header.verification_tag p.chunks (on_endpoint_state (repeats_if (has_data p.chunks)) (counts e)) d h
+  taking_fits None p e d h = receiving_fits p.header.verification_tag p.chunks (in_endpoint_state (repeats_if (has_data_chunk p.chunks)) (count_packet_at e)) d h
   taking_fits (Some text) p e d h = absurd h
 
 given_fits : (p : Option Carried) (checksum : ℕ) (x : Side) (d : Draw) → Has d (drawn_given p checksum x) → FitsDraw d
 given_fits None checksum x d h = absurd h
 given_fits (Some p) checksum x d h =
     let q : PacketTree = as_received p checksum in
-    taking_fits (refusal q.header.verification_tag q.chunks (state_of x)) q x.end d h
+    taking_fits (packet_refusal q.header.verification_tag q.chunks (state_of x)) q x.end d h
 
 connect_fits : (s : State) (x : Side) (d : Draw) → Has d (drawn_to_connect s x.end) → FitsDraw d
 connect_fits Closed x d h = two_fit x.end d h

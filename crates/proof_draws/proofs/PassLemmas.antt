@@ -5,14 +5,14 @@ use Rattle.sctp_state.specs.Events.{Event, SendPacket, OnError, OnAborted}
 use Rattle.spec_endpoint.specs.Association.{Context}
 use Rattle.proof_endpoint.specs.Mapped.{Carried}
 use Rattle.proof_pair.specs.Trace.{Side, packets_in}
-use Rattle.proof_draws.specs.Alike.{IsImage, AreEmitted, PassesAt, ImagesPass}
+use Rattle.proof_draws.specs.Alike.{IsImage, AreEventsAlike, PassesAt, ImagesPass}
 
 module _ (y z : Side) (same : z.end.endpoint_state.context ≡ y.end.endpoint_state.context) where
   passes : (p q : Carried) → IsImage p q → PassesAt y p → PassesAt z q
   passes p q i h e =
       ap (λ (c : Context Carried). c.options.zero_checksum_method == 0) same ∙ h (sym (ap (λ (r : Carried). r.is_summed) i.is) ∙ e)
 
-  passed : (es fs : List (Event Carried)) → AreEmitted es fs → All (PassesAt y) (packets_in es) → All (PassesAt z) (packets_in fs)
+  passed : (es fs : List (Event Carried)) → AreEventsAlike es fs → All (PassesAt y) (packets_in es) → All (PassesAt z) (packets_in fs)
   passed [] [] t h = All-nil (PassesAt z)
   passed [] (f ∷ fs) t h = absurd t
   passed (e ∷ es) [] t h = absurd t

@@ -6,12 +6,12 @@ use Rattle.sctp_packet.specs.Chunk.{FragmentTree}
 use Rattle.sctp_rx.specs.DataTracker.{DataTracker}
 use Rattle.sctp_rx.specs.DataTracker as tracker
 use Rattle.sctp_rx.specs.ReassemblyStreams.{is_far, entries_in}
-use Rattle.sctp_rx.specs.ReassemblyQueue.{Reassembly, fragment_waits, point_waits, add_or_wait, forward_or_wait}
+use Rattle.sctp_rx.specs.ReassemblyQueue.{Reassembly, is_kept_back, point_waits, add_or_keep_back, forward_or_wait}
 use Rattle.sctp_rx.specs.ReassemblyQueue as reassembly
 use Rattle.sctp_tx_outstanding.specs.OutstandingData.{Outstanding}
 use Rattle.sctp_tx_outstanding.specs.OutstandingData as items
 use Rattle.spec_endpoint.specs.Association.{Tcb, Phase, State, Closed, CookieWait, Open, Context, EndpointState, Packing}
-use Rattle.spec_endpoint.specs.Data.{is_full, takes, added_unless, take_fragment, taken_if, on_data_in, on_data_if, on_data, skipped_if, forward_to, forwarded_if, forwarded_in, on_forward}
+use Rattle.spec_endpoint.specs.Data.{is_full, accepts_tsn, added_unless, take_fragment, fragment_if, on_data_in, on_data_if, on_data, skipped_if, handle_forward_tsn, handle_forward_tsn_if, handle_forward_tsn_in, on_forward}
 use Rattle.proof_draws.specs.NamedChunks.{Names, move_by}
 use Rattle.proof_draws.specs.Names.{named_phase, named_tracker, named_reassembly, named_outstanding, named_tcb, named_state, named_endpoint_state, plain}
 use Rattle.proof_draws.proofs.MovedLemmas.{moved_nearest}
@@ -30,7 +30,7 @@ abbrev came_at : (number first : ℕ) → Reassembly → Reassembly
 came_at number first r = record r { first = Some first; near = max origin number }
 
 abbrev added_at : (number first : ℕ) → FragmentTree → Reassembly → Reassembly
-added_at number first f r = cond (is_far number) r (add_or_wait number f (came_at number first r))
+added_at number first f r = cond (is_far number) r (add_or_keep_back number f (came_at number first r))
 
 abbrev skipped_at : (number first : ℕ) → List SkippedStream → Reassembly → Reassembly
 skipped_at number first es r = cond (is_far number) r (forward_or_wait number es (came_at number first r))
@@ -63,8 +63,8 @@ module _ (n : Names) where
 
   -- with another first number each queue does the same
   added_any : (far waits : Bool) (number first : ℕ) (f : FragmentTree) (r : Reassembly)
-      → cond far (named_reassembly n r) (cond waits (reassembly.waits (reassembly.Added number f) (came_at number (move_by n.peer first) (named_reassembly n r))) (reassembly.add_now number f (came_at number (move_by n.peer first) (named_reassembly n r))))
-      ≡ named_reassembly n (cond far r (cond waits (reassembly.waits (reassembly.Added number f) (came_at number first r)) (reassembly.add_now number f (came_at number first r))))
+      → cond far (named_reassembly n r) (cond waits (reassembly.keep_back (reassembly.Added number f) (came_at number (move_by n.peer first) (named_reassembly n r))) (reassembly.add_now number f (came_at number (move_by n.peer first) (named_reassembly n r))))
+      ≡ named_reassembly n (cond far r (cond waits (reassembly.keep_back (reassembly.Added number f) (came_at number first r)) (reassembly.add_now number f (came_at number first r))))
   added_any true waits number first f r = refl
   added_any false true number first f r = refl
   added_any false false number first f r = refl
@@ -73,7 +73,7 @@ module _ (n : Names) where
   abbrev taken_in_part : (none : Bool) (number : ℕ) → List SkippedStream → Reassembly → Reassembly
   taken_in_part none number es r =
       let part : Reassembly = reassembly.forward_now number (entries_in false (reassembly.resetting r.deferred) es) r in
-      cond none part (reassembly.waits (reassembly.Forwarded number (entries_in true (reassembly.resetting r.deferred) es)) part)
+      cond none part (reassembly.keep_back (reassembly.Forwarded number (entries_in true (reassembly.resetting r.deferred) es)) part)
 
   skipped_any : (far waits none : Bool) (number first : ℕ) (es : List SkippedStream) (r : Reassembly)
       → cond far (named_reassembly n r) (cond waits (taken_in_part none number es (came_at number (move_by n.peer first) (named_reassembly n r))) (reassembly.forward_now number es (came_at number (move_by n.peer first) (named_reassembly n r))))
@@ -89,7 +89,7 @@ module _ (n : Names) where
       let first : ℕ = unwrap_or r.first tsn in
       ap (λ (k : ℕ). added_at k (unwrap_or (option_map (move_by n.peer) r.first) (move_by n.peer tsn)) f (named_reassembly n r)) (queue_number r tsn)
       ∙ (ap (λ (k : ℕ). added_at number k f (named_reassembly n r)) (first_named r.first tsn)
-      ∙ added_any (is_far number) (fragment_waits number f.stream_id r.deferred) number first f r)
+      ∙ added_any (is_far number) (is_kept_back number f.stream_id r.deferred) number first f r)
 
   pub named_skipped : (tsn : ℕ) (es : List SkippedStream) (r : Reassembly) → reassembly.forward (move_by n.peer tsn) es (named_reassembly n r) ≡ named_reassembly n (reassembly.forward tsn es r)
   named_skipped tsn es r =
@@ -119,11 +119,11 @@ module _ (n : Names) where
       (added_named (tracker.has_seen t.tracker.tracker number) tsn f t.reassembly)
 
   taken_if_named : (b : Bool) (tsn : ℕ) (is_immediate : Bool) (f : FragmentTree) (t : Tcb)
-      → taken_if b (move_by n.peer tsn) is_immediate f (named_tcb n t) ≡ named_tcb n (taken_if b tsn is_immediate f t)
+      → fragment_if b (move_by n.peer tsn) is_immediate f (named_tcb n t) ≡ named_tcb n (fragment_if b tsn is_immediate f t)
   taken_if_named true tsn is_immediate f t = taken_named tsn is_immediate f t
   taken_if_named false tsn is_immediate f t = refl
 
-  takes_named : (tsn : ℕ) (t : Tcb) → takes (move_by n.peer tsn) (named_tcb n t) ≡ takes tsn t
+  takes_named : (tsn : ℕ) (t : Tcb) → accepts_tsn (move_by n.peer tsn) (named_tcb n t) ≡ accepts_tsn tsn t
   takes_named tsn t = ap (λ (k : ℕ). takes_at k t) (received_number t.tracker tsn)
 
   -- ---- a forward point
@@ -137,7 +137,7 @@ module _ (n : Names) where
       ≡ tracker.is_valid t.tracker.tracker (tracker.number_of t.tracker tsn)
   valid_named tsn t = ap (λ (k : ℕ). tracker.is_valid t.tracker.tracker k) (received_number t.tracker tsn)
 
-  forwarded_named : (tsn : ℕ) (es : List SkippedStream) (t : Tcb) → forward_to (move_by n.peer tsn) es (named_tcb n t) ≡ named_tcb n (forward_to tsn es t)
+  forwarded_named : (tsn : ℕ) (es : List SkippedStream) (t : Tcb) → handle_forward_tsn (move_by n.peer tsn) es (named_tcb n t) ≡ named_tcb n (handle_forward_tsn tsn es t)
   forwarded_named tsn es t =
       let d : DataTracker = named_tracker n t.tracker in
       let r : Reassembly = named_reassembly n t.reassembly in
@@ -149,15 +149,15 @@ module _ (n : Names) where
       (skipped_named (tracker.moves_on number t.tracker.tracker) tsn es t.reassembly)
 
   forwarded_if_named : (b : Bool) (tsn : ℕ) (es : List SkippedStream) (t : Tcb)
-      → forwarded_if b (move_by n.peer tsn) es (named_tcb n t) ≡ named_tcb n (forwarded_if b tsn es t)
+      → handle_forward_tsn_if b (move_by n.peer tsn) es (named_tcb n t) ≡ named_tcb n (handle_forward_tsn_if b tsn es t)
   forwarded_if_named true tsn es t = forwarded_named tsn es t
   forwarded_if_named false tsn es t = refl
 
-  forwarded_in_named : (s : State) (tsn : ℕ) (es : List SkippedStream) → forwarded_in (named_state n s) (move_by n.peer tsn) es ≡ named_state n (forwarded_in s tsn es)
+  forwarded_in_named : (s : State) (tsn : ℕ) (es : List SkippedStream) → handle_forward_tsn_in (named_state n s) (move_by n.peer tsn) es ≡ named_state n (handle_forward_tsn_in s tsn es)
   forwarded_in_named Closed tsn es = refl
   forwarded_in_named (CookieWait tag first t1) tsn es = refl
   forwarded_in_named (Open phase t) tsn es =
-      ap (λ (b : Bool). open_state n phase (forwarded_if b (move_by n.peer tsn) es (named_tcb n t))) (valid_named tsn t)
+      ap (λ (b : Bool). open_state n phase (handle_forward_tsn_if b (move_by n.peer tsn) es (named_tcb n t))) (valid_named tsn t)
       ∙ ap (λ (u : Tcb). open_state n phase u) (forwarded_if_named (tracker.is_valid t.tracker.tracker (tracker.number_of t.tracker tsn)) tsn es t)
 
 -- ---- the rows
@@ -168,8 +168,8 @@ module _ {P : Type 0} (n : Names) (pack : Packing P) where
   data_in_named Closed tsn is_immediate f c = refl
   data_in_named (CookieWait tag first t1) tsn is_immediate f c = refl
   data_in_named (Open phase t) tsn is_immediate f c =
-      ap (λ (b : Bool). open_endpoint_state n phase (taken_if b (move_by n.peer tsn) is_immediate f (named_tcb n t)) (plain pack c)) (takes_named n tsn t)
-      ∙ ap (λ (u : Tcb). open_endpoint_state n phase u (plain pack c)) (taken_if_named n (takes tsn t) tsn is_immediate f t)
+      ap (λ (b : Bool). open_endpoint_state n phase (fragment_if b (move_by n.peer tsn) is_immediate f (named_tcb n t)) (plain pack c)) (takes_named n tsn t)
+      ∙ ap (λ (u : Tcb). open_endpoint_state n phase u (plain pack c)) (taken_if_named n (accepts_tsn tsn t) tsn is_immediate f t)
 
   -- a fragment with a payload
   pub named_data : (tsn : ℕ) (is_immediate : Bool) (f : FragmentTree) (s : EndpointState P) → (length f.payload == 0) ≡ false

@@ -12,16 +12,16 @@ use Rattle.sctp_tx_outstanding.specs.Sack.{is_valid}
 use Rattle.sctp_rx.specs.DataTracker.{wire_tsn}
 use Rattle.sctp_tx.specs.RetransmissionQueue.{SackAnswer, Invalid, Valid, sender_if, emitted_if, answer_if}
 use Rattle.spec_endpoint.specs.Association.{Tcb, Phase, CookieEchoed, Established, ShutdownPending, ShutdownSent, ShutdownReceived, ShutdownAckSent, State, Closed, CookieWait, Open, Context, EndpointState, Endpoint, in_context, where_open, Packing}
-use Rattle.spec_endpoint.specs.Heartbeats.{info_in, is_last, answered_if, answered_by, answer_heartbeat, on_heartbeat_ack}
+use Rattle.spec_endpoint.specs.Heartbeats.{info_in, is_last_info, clear_if_last, ack_by_length, on_heartbeat_info, on_heartbeat_ack}
 use Rattle.spec_endpoint.specs.Packets.{add, packet_to, new_packet}
-use Rattle.spec_endpoint.specs.Sending.{is_alone, send_lost}
-use Rattle.spec_endpoint.specs.Shutdown.{on_shutdown, out_of_the_blue, on_shutdown_ack_open, on_shutdown_ack_in, on_shutdown_ack, on_shutdown_complete, violate, on_abort, on_error, go_on}
+use Rattle.spec_endpoint.specs.Sending.{is_before_cookie_ack, send_lost}
+use Rattle.spec_endpoint.specs.Shutdown.{on_shutdown, out_of_the_blue, on_shutdown_ack_open, on_shutdown_ack_in, on_shutdown_ack, on_shutdown_complete, abort_for_violation, on_abort, on_error, maybe_send_shutdown_or_ack}
 use Rattle.spec_endpoint.specs.Data.{on_no_data, no_data, on_data_in, on_data_if, on_data, on_forward}
 use Rattle.spec_endpoint.specs.Sack.{clean_blocks, sample_rtt, after_sack, on_sack_in, on_sack}
 use Rattle.spec_endpoint.specs.Sack as acks
-use Rattle.spec_endpoint.specs.Opening.{on_cookie_ack, stands, connected_context}
+use Rattle.spec_endpoint.specs.Opening.{on_cookie_ack, with_endpoint_state, enter_connected}
 use Rattle.spec_endpoint.specs.StreamReset.{on_reconfig}
-use Rattle.spec_endpoint.specs.Input.{misuse, violation, is_reported, echo_unknown, echoed_in, complain_of_unknown, on_unknown_if, on_unknown, on_heartbeat, Received, on_endpoint_state, on_chunk, goes_on, received_if, receive, receive_rest, receive_all, has_data, repeats, repeats_if, end_packet, handle_chunks}
+use Rattle.spec_endpoint.specs.Input.{misuse, violation, is_reported, unrecognized_chunk_error, report_unrecognized_in, emit_unknown_chunk_error, on_unknown_if, on_unknown, on_heartbeat, AfterChunk, in_endpoint_state, on_chunk, allows_next, received_if, receive, receive_rest, receive_all, has_data_chunk, repeats, repeats_if, on_packet_end, on_accepted_packet}
 use Rattle.proof_draws.specs.NamedChunks.{Names, AreNames, flip, move_by, named_parameter, named_sack, named_chunk, named_chunks}
 use Rattle.proof_draws.specs.Names.{named_state, named_endpoint_state, named_end, plain}
 use Rattle.proof_draws.specs.Laws.{NumbersFitIn, number_fits, is_flowing}
@@ -32,7 +32,7 @@ use Rattle.proof_draws.proofs.FillingLemmas.{send_with_stays, send_lost_stays}
 use Rattle.proof_draws.proofs.SackLemmas.{named_on_sack, go_on_stays}
 use Rattle.proof_draws.proofs.NumberLemmas.{receive_fits, repeats_if_fits}
 use Rattle.proof_draws.proofs.ResetLemmas.{reconfig_stays, reconfig_named}
-use Rattle.proof_draws.proofs.ClosingLemmas.{OpenIsNamed, where_named, on_shutdown_named, shutdown_ack_named, shutdown_complete_named, violated_named, on_abort_named, on_error_named, on_cookie_ack_named, repeats_named, ended_named}
+use Rattle.proof_draws.proofs.ClosingLemmas.{OpenIsNamed, where_named, on_shutdown_named, shutdown_ack_named, shutdown_complete_named, abort_for_violation_named, on_abort_named, on_error_named, on_cookie_ack_named, repeats_named, ended_named}
 use Rattle.proof_endpoint.proofs.InputMapsLemmas.{received_as}
 
 -- ---- who writes stays
@@ -70,9 +70,9 @@ module _ {P : Type 0} where
   received_stays (Valid rtt progress) phase t c =
       let v : Tcb = sample_rtt rtt t in
       let d : Context P = acks.clear_errors_if progress c in
-      let o = go_on phase v d in
+      let o = maybe_send_shutdown_or_ack phase v d in
       let x = send_lost v o.context in
-      send_with_stays (is_alone o.phase) (new_packet x.context.options x.tcb) x.tcb x.context ∙ (send_lost_stays v o.context ∙ go_on_stays phase v d)
+      send_with_stays (is_before_cookie_ack o.phase) (new_packet x.context.options x.tcb) x.tcb x.context ∙ (send_lost_stays v o.context ∙ go_on_stays phase v d)
 
   sack_in_stays : (st : State) (k : SackTree) (c : Context P) → (on_sack_in st k c).context.pack ≡ c.pack
   sack_in_stays Closed k c = refl
@@ -86,33 +86,33 @@ module _ {P : Type 0} where
   sack_stays : (k : SackTree) (s : EndpointState P) → (on_sack k s).context.pack ≡ s.context.pack
   sack_stays k s = sack_in_stays s.state k s.context
 
-  answered_if_stays : (b : Bool) (c : Context P) → (answered_if b c).pack ≡ c.pack
+  answered_if_stays : (b : Bool) (c : Context P) → (clear_if_last b c).pack ≡ c.pack
   answered_if_stays true c = refl
   answered_if_stays false c = refl
 
-  answered_by_stays : (b : Bool) (info : List ℕ) (c : Context P) → (answered_by b info c).pack ≡ c.pack
-  answered_by_stays true info c = answered_if_stays (is_last info c) c
+  answered_by_stays : (b : Bool) (info : List ℕ) (c : Context P) → (ack_by_length b info c).pack ≡ c.pack
+  answered_by_stays true info c = answered_if_stays (is_last_info info c) c
   answered_by_stays false info c = refl
 
-  answered_stays : (o : Option (List ℕ)) (c : Context P) → (answer_heartbeat o c).pack ≡ c.pack
-  answered_stays None c = refl
-  answered_stays (Some info) c = answered_by_stays (length info == 4) info c
+  heartbeat_info_stays : (o : Option (List ℕ)) (c : Context P) → (on_heartbeat_info o c).pack ≡ c.pack
+  heartbeat_info_stays None c = refl
+  heartbeat_info_stays (Some info) c = answered_by_stays (length info == 4) info c
 
   cookie_ack_stays : (phase : Phase) (t : Tcb) (c : Context P) → (on_cookie_ack phase t c).context.pack ≡ c.pack
-  cookie_ack_stays (CookieEchoed t1 cookie) t c = send_with_stays false (new_packet c.options t) t (connected_context c)
+  cookie_ack_stays (CookieEchoed t1 cookie) t c = send_with_stays false (new_packet c.options t) t (enter_connected c)
   cookie_ack_stays Established t c = refl
   cookie_ack_stays ShutdownPending t c = refl
   cookie_ack_stays (ShutdownSent t2) t c = refl
   cookie_ack_stays ShutdownReceived t c = refl
   cookie_ack_stays (ShutdownAckSent t2) t c = refl
 
-  echoed_stays : (st : State) (typ flags : ℕ) (value : List ℕ) (c : Context P) → (echoed_in st typ flags value c).pack ≡ c.pack
+  echoed_stays : (st : State) (typ flags : ℕ) (value : List ℕ) (c : Context P) → (report_unrecognized_in st typ flags value c).pack ≡ c.pack
   echoed_stays Closed typ flags value c = refl
   echoed_stays (CookieWait tag first t1) typ flags value c = refl
-  echoed_stays (Open phase t) typ flags value c = emit_stays (add (echo_unknown c.options.mtu typ flags value) (new_packet c.options t)) c
+  echoed_stays (Open phase t) typ flags value c = emit_stays (add (unrecognized_chunk_error c.options.mtu typ flags value) (new_packet c.options t)) c
 
   unknown_stays : (b : Bool) (typ flags : ℕ) (value : List ℕ) (s : EndpointState P) → (on_unknown_if b typ flags value s).context.pack ≡ s.context.pack
-  unknown_stays true typ flags value s = echoed_stays s.state typ flags value (complain_of_unknown typ flags value s.context)
+  unknown_stays true typ flags value s = echoed_stays s.state typ flags value (emit_unknown_chunk_error typ flags value s.context)
   unknown_stays false typ flags value s = refl
 
   shutdown_stays : (phase : Phase) (t : Tcb) (c : Context P) → (on_shutdown phase t c).context.pack ≡ c.pack
@@ -154,7 +154,7 @@ module _ {P : Type 0} where
   chunk_stays tag (init_ack_chunk i) e h = cc
   chunk_stays tag (sack_chunk k) e h = sack_stays k e.endpoint_state
   chunk_stays tag (heartbeat_request_chunk parameters) e h = where_stays (on_heartbeat parameters) e.endpoint_state (λ phase t c. emit_stays (add (heartbeat_ack_chunk parameters) (new_packet c.options t)) c)
-  chunk_stays tag (heartbeat_ack_chunk parameters) e h = answered_stays (info_in parameters) e.endpoint_state.context
+  chunk_stays tag (heartbeat_ack_chunk parameters) e h = heartbeat_info_stays (info_in parameters) e.endpoint_state.context
   chunk_stays tag (abort_chunk reflected causes) e h = where_stays (on_abort causes) e.endpoint_state (λ phase t c. refl)
   chunk_stays tag (shutdown_chunk tsn) e h = where_stays on_shutdown e.endpoint_state shutdown_stays
   chunk_stays tag shutdown_ack_chunk e h = shutdown_ack_stays tag e.endpoint_state.state e.endpoint_state.context
@@ -169,7 +169,7 @@ module _ {P : Type 0} where
 
   received_if_stays : (o : Option (List ℕ)) (tag : ℕ) (chunk : ChunkTree) (e : Endpoint P) → is_flowing chunk ≡ true → (received_if o tag chunk e).end.endpoint_state.context.pack ≡ e.endpoint_state.context.pack
   received_if_stays (Some reason) tag chunk e h =
-      where_stays (λ phase t c. violate reason t c) e.endpoint_state (λ phase t c. emit_stays (add (abort_chunk false (protocol_violation reason ∷ [])) (new_packet c.options t)) c)
+      where_stays (λ phase t c. abort_for_violation reason t c) e.endpoint_state (λ phase t c. emit_stays (add (abort_chunk false (protocol_violation reason ∷ [])) (new_packet c.options t)) c)
   received_if_stays None tag chunk e h = chunk_stays tag chunk e h
 
   rest_stays : (rest : Endpoint P → Endpoint P) (b : Bool) (e : Endpoint P) → ((x : Endpoint P) → (rest x).endpoint_state.context.pack ≡ x.endpoint_state.context.pack)
@@ -181,8 +181,8 @@ module _ {P : Type 0} where
   all_stay tag [] e h = refl
   all_stay tag (c ∷ cs) e h =
       let both = and_parts (is_flowing c) (list_all is_flowing cs) h in
-      let x : Received P = receive tag c e in
-      rest_stays (receive_all tag cs) x.goes_on x.end (λ y. all_stay tag cs y both.1) ∙ received_if_stays (violation e.endpoint_state.state c) tag c e both.0
+      let x : AfterChunk P = receive tag c e in
+      rest_stays (receive_all tag cs) x.allows_next x.end (λ y. all_stay tag cs y both.1) ∙ received_if_stays (violation e.endpoint_state.state c) tag c e both.0
 
   repeats_stay : (phase : Phase) (t : Tcb) (c : Context P) → (repeats phase t c).context.pack ≡ c.pack
   repeats_stay (CookieEchoed t1 cookie) t c = refl
@@ -219,7 +219,7 @@ module _ (m : Names) where
   misused_named k (i_forward_tsn_chunk tsn skipped) = refl
   misused_named k (unknown_chunk typ flags value) = refl
 
-  goes_on_named : (chunk : ChunkTree) → goes_on (named_chunk m chunk) ≡ goes_on chunk
+  goes_on_named : (chunk : ChunkTree) → allows_next (named_chunk m chunk) ≡ allows_next chunk
   goes_on_named (data_chunk tsn immediate f) = refl
   goes_on_named (idata_chunk tsn immediate f) = refl
   goes_on_named (init_chunk i) = refl
@@ -246,38 +246,38 @@ violation_named n m (Open phase t) chunk = misused_named m t.capabilities chunk
 
 module _ {P : Type 0} (n : Names) (are : AreNames n) (pack : Packing P) where
   on_named : (row named : EndpointState P → EndpointState P) (e : Endpoint P) → named (named_endpoint_state n pack e.endpoint_state) ≡ named_endpoint_state n pack (row e.endpoint_state)
-      → on_endpoint_state named (named_end n pack e) ≡ named_end n pack (on_endpoint_state row e)
-  on_named row named e h = ap (λ (s : EndpointState P). stands s e) h
+      → in_endpoint_state named (named_end n pack e) ≡ named_end n pack (in_endpoint_state row e)
+  on_named row named e h = ap (λ (s : EndpointState P). with_endpoint_state s e) h
 
   on_open : (row : Phase → Tcb → Context P → EndpointState P) (e : Endpoint P) → OpenIsNamed n pack row → Knows n pack e.endpoint_state.context
-      → on_endpoint_state (where_open row) (named_end n pack e) ≡ named_end n pack (on_endpoint_state (where_open row) e)
+      → in_endpoint_state (where_open row) (named_end n pack e) ≡ named_end n pack (in_endpoint_state (where_open row) e)
   on_open row e h knows = on_named (where_open row) (where_open row) e (where_named n are pack row e.endpoint_state h knows)
 
   heartbeat_named : (parameters : List ParameterTree) → OpenIsNamed n pack (on_heartbeat parameters)
   heartbeat_named parameters phase t c k =
       ap (λ (d : Context P). record (named_endpoint_state n pack (on_heartbeat parameters phase t c)) { context = d }) (named_emit_chunk n are pack (heartbeat_ack_chunk parameters) t c k)
 
-  answered_if_named : (b : Bool) (c : Context P) → answered_if b (plain pack c) ≡ plain pack (answered_if b c)
+  answered_if_named : (b : Bool) (c : Context P) → clear_if_last b (plain pack c) ≡ plain pack (clear_if_last b c)
   answered_if_named true c = refl
   answered_if_named false c = refl
 
-  answered_by_named : (b : Bool) (info : List ℕ) (c : Context P) → answered_by b info (plain pack c) ≡ plain pack (answered_by b info c)
-  answered_by_named true info c = answered_if_named (is_last info c) c
+  answered_by_named : (b : Bool) (info : List ℕ) (c : Context P) → ack_by_length b info (plain pack c) ≡ plain pack (ack_by_length b info c)
+  answered_by_named true info c = answered_if_named (is_last_info info c) c
   answered_by_named false info c = refl
 
-  answered_named : (o : Option (List ℕ)) (c : Context P) → answer_heartbeat o (plain pack c) ≡ plain pack (answer_heartbeat o c)
-  answered_named None c = refl
-  answered_named (Some info) c = answered_by_named (length info == 4) info c
+  heartbeat_info_named : (o : Option (List ℕ)) (c : Context P) → on_heartbeat_info o (plain pack c) ≡ plain pack (on_heartbeat_info o c)
+  heartbeat_info_named None c = refl
+  heartbeat_info_named (Some info) c = answered_by_named (length info == 4) info c
 
-  echoed_named : (st : State) (typ flags : ℕ) (value : List ℕ) (c : Context P) → Knows n pack c → echoed_in (named_state n st) typ flags value (plain pack c) ≡ plain pack (echoed_in st typ flags value c)
+  echoed_named : (st : State) (typ flags : ℕ) (value : List ℕ) (c : Context P) → Knows n pack c → report_unrecognized_in (named_state n st) typ flags value (plain pack c) ≡ plain pack (report_unrecognized_in st typ flags value c)
   echoed_named Closed typ flags value c k = refl
   echoed_named (CookieWait tag first t1) typ flags value c k = refl
-  echoed_named (Open phase t) typ flags value c k = named_emit_chunk n are pack (echo_unknown c.options.mtu typ flags value) t c k
+  echoed_named (Open phase t) typ flags value c k = named_emit_chunk n are pack (unrecognized_chunk_error c.options.mtu typ flags value) t c k
 
   unknown_named : (b : Bool) (typ flags : ℕ) (value : List ℕ) (s : EndpointState P) → Knows n pack s.context
       → on_unknown_if b typ flags value (named_endpoint_state n pack s) ≡ named_endpoint_state n pack (on_unknown_if b typ flags value s)
   unknown_named true typ flags value s k =
-      ap (λ (c : Context P). record (named_endpoint_state n pack s) { context = c }) (echoed_named s.state typ flags value (complain_of_unknown typ flags value s.context) k)
+      ap (λ (c : Context P). record (named_endpoint_state n pack s) { context = c }) (echoed_named s.state typ flags value (emit_unknown_chunk_error typ flags value s.context) k)
   unknown_named false typ flags value s k = refl
 
   -- RE-CONFIG, in an end whose request numbers are of 32 bits
@@ -296,7 +296,7 @@ module _ {P : Type 0} (n : Names) (are : AreNames n) (pack : Packing P) where
   chunk_named tag (init_ack_chunk i) e h f knows = cc
   chunk_named tag (sack_chunk k) e h f knows = on_named (on_sack k) (on_sack (named_sack (flip n) k)) e (named_on_sack n are pack k e.endpoint_state knows)
   chunk_named tag (heartbeat_request_chunk parameters) e h f knows = on_open (on_heartbeat parameters) e (heartbeat_named parameters) knows
-  chunk_named tag (heartbeat_ack_chunk parameters) e h f knows = on_named (in_context (on_heartbeat_ack parameters)) (in_context (on_heartbeat_ack parameters)) e (ap (λ (c : Context P). record (named_endpoint_state n pack e.endpoint_state) { context = c }) (answered_named (info_in parameters) e.endpoint_state.context))
+  chunk_named tag (heartbeat_ack_chunk parameters) e h f knows = on_named (in_context (on_heartbeat_ack parameters)) (in_context (on_heartbeat_ack parameters)) e (ap (λ (c : Context P). record (named_endpoint_state n pack e.endpoint_state) { context = c }) (heartbeat_info_named (info_in parameters) e.endpoint_state.context))
   chunk_named tag (abort_chunk reflected causes) e h f knows = on_open (on_abort causes) e (on_abort_named n are pack causes) knows
   chunk_named tag (shutdown_chunk tsn) e h f knows = on_open on_shutdown e (on_shutdown_named n are pack) knows
   chunk_named tag shutdown_ack_chunk e h f knows = on_named (on_shutdown_ack tag) (on_shutdown_ack (n.tag tag)) e (shutdown_ack_named n are pack tag e.endpoint_state knows)
@@ -310,15 +310,15 @@ module _ {P : Type 0} (n : Names) (are : AreNames n) (pack : Packing P) where
   chunk_named tag (unknown_chunk typ flags value) e h f knows = on_named (on_unknown typ flags value) (on_unknown typ flags value) e (unknown_named (is_reported typ) typ flags value e.endpoint_state knows)
 
   received_if_named : (o : Option (List ℕ)) (tag : ℕ) (chunk : ChunkTree) (e : Endpoint P) → is_flowing chunk ≡ true → NumbersFitIn e.endpoint_state.state → Knows n pack e.endpoint_state.context
-      → received_if o (n.tag tag) (named_chunk (flip n) chunk) (named_end n pack e) ≡ received_as (received_if o tag chunk e).goes_on (named_end n pack (received_if o tag chunk e).end)
+      → received_if o (n.tag tag) (named_chunk (flip n) chunk) (named_end n pack e) ≡ received_as (received_if o tag chunk e).allows_next (named_end n pack (received_if o tag chunk e).end)
   received_if_named (Some reason) tag chunk e h f k =
-      ap (λ (x : Endpoint P). received_as false x) (on_open (λ phase t c. violate reason t c) e (λ phase t c knows. violated_named n are pack reason t c knows) k)
+      ap (λ (x : Endpoint P). received_as false x) (on_open (λ phase t c. abort_for_violation reason t c) e (λ phase t c knows. abort_for_violation_named n are pack reason t c knows) k)
   received_if_named None tag chunk e h f k =
       ap (λ (b : Bool). received_as b (on_chunk (n.tag tag) (named_chunk (flip n) chunk) (named_end n pack e))) (goes_on_named (flip n) chunk)
-      ∙ ap (λ (x : Endpoint P). received_as (goes_on chunk) x) (chunk_named tag chunk e h f k)
+      ∙ ap (λ (x : Endpoint P). received_as (allows_next chunk) x) (chunk_named tag chunk e h f k)
 
   receive_named : (tag : ℕ) (chunk : ChunkTree) (e : Endpoint P) → is_flowing chunk ≡ true → NumbersFitIn e.endpoint_state.state → Knows n pack e.endpoint_state.context
-      → receive (n.tag tag) (named_chunk (flip n) chunk) (named_end n pack e) ≡ received_as (receive tag chunk e).goes_on (named_end n pack (receive tag chunk e).end)
+      → receive (n.tag tag) (named_chunk (flip n) chunk) (named_end n pack e) ≡ received_as (receive tag chunk e).allows_next (named_end n pack (receive tag chunk e).end)
   receive_named tag chunk e h f k =
       ap (λ (o : Option (List ℕ)). received_if o (n.tag tag) (named_chunk (flip n) chunk) (named_end n pack e)) (violation_named n (flip n) e.endpoint_state.state chunk)
       ∙ received_if_named (violation e.endpoint_state.state chunk) tag chunk e h f k
@@ -333,9 +333,9 @@ module _ {P : Type 0} (n : Names) (are : AreNames n) (pack : Packing P) where
   all_named tag [] e h f k = refl
   all_named tag (c ∷ cs) e h f k =
       let both = and_parts (is_flowing c) (list_all is_flowing cs) h in
-      let x : Received P = receive tag c e in
-      ap (λ (y : Received P). receive_rest (receive_all (n.tag tag) (named_chunks (flip n) cs)) y) (receive_named tag c e both.0 f k)
-      ∙ rest_named (receive_all tag cs) (receive_all (n.tag tag) (named_chunks (flip n) cs)) x.goes_on x.end
+      let x : AfterChunk P = receive tag c e in
+      ap (λ (y : AfterChunk P). receive_rest (receive_all (n.tag tag) (named_chunks (flip n) cs)) y) (receive_named tag c e both.0 f k)
+      ∙ rest_named (receive_all tag cs) (receive_all (n.tag tag) (named_chunks (flip n) cs)) x.allows_next x.end
       (all_named tag cs x.end both.1 (receive_fits tag c e both.0 f) (received_if_stays (violation e.endpoint_state.state c) tag c e both.0 ∙ k))
 
   pub repeats_if_named : (b : Bool) (s : EndpointState P) → Knows n pack s.context → repeats_if b (named_endpoint_state n pack s) ≡ named_endpoint_state n pack (repeats_if b s)
@@ -343,12 +343,12 @@ module _ {P : Type 0} (n : Names) (are : AreNames n) (pack : Packing P) where
   repeats_if_named false s k = refl
 
   pub handled_named : (tag : ℕ) (cs : List ChunkTree) (e : Endpoint P) → list_all is_flowing cs ≡ true → NumbersFitIn e.endpoint_state.state → Knows n pack e.endpoint_state.context
-      → handle_chunks (n.tag tag) (named_chunks (flip n) cs) (named_end n pack e) ≡ named_end n pack (handle_chunks tag cs e)
+      → on_accepted_packet (n.tag tag) (named_chunks (flip n) cs) (named_end n pack e) ≡ named_end n pack (on_accepted_packet tag cs e)
   handled_named tag cs e h f k =
       let ds : List ChunkTree = named_chunks (flip n) cs in
-      let first : Endpoint P = on_endpoint_state (repeats_if (has_data cs)) e in
-      let at_first : Knows n pack first.endpoint_state.context = repeats_if_stays (has_data cs) e.endpoint_state ∙ k in
-      ap (λ (b : Bool). on_endpoint_state (where_open end_packet) (receive_all (n.tag tag) ds (on_endpoint_state (repeats_if b) (named_end n pack e)))) (data_named (flip n) cs)
-      ∙ (ap (λ (x : Endpoint P). on_endpoint_state (where_open end_packet) (receive_all (n.tag tag) ds x)) (on_named (repeats_if (has_data cs)) (repeats_if (has_data cs)) e (repeats_if_named (has_data cs) e.endpoint_state k))
-      ∙ (ap (λ (x : Endpoint P). on_endpoint_state (where_open end_packet) x) (all_named tag cs first h (repeats_if_fits (has_data cs) e.endpoint_state f) at_first)
-      ∙ on_open end_packet (receive_all tag cs first) (ended_named n are pack) (all_stay tag cs first h ∙ at_first)))
+      let first : Endpoint P = in_endpoint_state (repeats_if (has_data_chunk cs)) e in
+      let at_first : Knows n pack first.endpoint_state.context = repeats_if_stays (has_data_chunk cs) e.endpoint_state ∙ k in
+      ap (λ (b : Bool). in_endpoint_state (where_open on_packet_end) (receive_all (n.tag tag) ds (in_endpoint_state (repeats_if b) (named_end n pack e)))) (data_named (flip n) cs)
+      ∙ (ap (λ (x : Endpoint P). in_endpoint_state (where_open on_packet_end) (receive_all (n.tag tag) ds x)) (on_named (repeats_if (has_data_chunk cs)) (repeats_if (has_data_chunk cs)) e (repeats_if_named (has_data_chunk cs) e.endpoint_state k))
+      ∙ (ap (λ (x : Endpoint P). in_endpoint_state (where_open on_packet_end) x) (all_named tag cs first h (repeats_if_fits (has_data_chunk cs) e.endpoint_state f) at_first)
+      ∙ on_open on_packet_end (receive_all tag cs first) (ended_named n are pack) (all_stay tag cs first h ∙ at_first)))

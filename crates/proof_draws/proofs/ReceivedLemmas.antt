@@ -4,11 +4,11 @@ use Rattle.sctp_packet.specs.Chunk.{ChunkTree}
 use Rattle.sctp_packet.specs.Grammar.{carried}
 use Rattle.sctp_packet.specs.Packet.{PacketTree}
 use Rattle.spec_endpoint.specs.Association.{CookieEchoed, Established, ShutdownPending, ShutdownSent, ShutdownReceived, ShutdownAckSent, State, Closed, CookieWait, Open, Endpoint}
-use Rattle.spec_endpoint.specs.Opening.{complains}
-use Rattle.spec_endpoint.specs.Input.{my_tag, has_tag_in, abort_flag, complete_flag, has_shutdown_ack, begins_with_cookie, is_single_init, is_early, unless, plain_refusal, refusal_by, refusal, counts, taken_if}
-use Rattle.spec_endpoint.specs.Laws.{Call, Packet, called}
+use Rattle.spec_endpoint.specs.Opening.{emit_parse_error}
+use Rattle.spec_endpoint.specs.Input.{my_tag, has_tag_in, abort_flag, complete_flag, has_shutdown_ack, begins_with_cookie, is_single_init, is_early, unless, plain_refusal, packet_refusal_by, packet_refusal, count_packet_at, packet_if}
+use Rattle.spec_endpoint.specs.Laws.{Call, ReceivePacket, called}
 use Rattle.proof_endpoint.specs.Mapped.{Carried}
-use Rattle.proof_endpoint.specs.Acts.{IsReceived}
+use Rattle.proof_endpoint.specs.Acts.{BringsChunk}
 use Rattle.proof_pair.specs.Trace.{Side, as_carried, as_received, state_of}
 use Rattle.proof_pair.specs.Agreement.{Draw}
 use Rattle.proof_pair.proofs.AddedLemmas.{all_at}
@@ -28,7 +28,7 @@ use Rattle.proof_draws.proofs.BlankLemmas.{on_chunks}
 use Rattle.proof_draws.proofs.StepLemmas.{Refused}
 
 -- a fact of each chunk that is received
-pub all_received : (Q : ChunkTree → Type 0) (p : PacketTree) → All Q p.chunks → (tag : ℕ) (c : ChunkTree) → IsReceived (Packet p) tag c → Q c
+pub all_received : (Q : ChunkTree → Type 0) (p : PacketTree) → All Q p.chunks → (tag : ℕ) (c : ChunkTree) → BringsChunk (ReceivePacket p) tag c → Q c
 all_received Q p all tag c h =
     let same : p ≡ h.packet = ap (λ (k : Call). packet_of k p) h.given in
     let there : All Q h.packet.chunks = subst (λ (z : PacketTree). All Q z.chunks) same all in
@@ -37,7 +37,7 @@ all_received Q p all tag c h =
 -- ---- refused by one, refused by the other
 
 refusal_same : (tag : ℕ) (cs : List ChunkTree) (s u : State) → ((r : Bool) → has_tag_in s r tag ≡ has_tag_in u r tag) → is_early s ≡ is_early u → my_tag s ≡ my_tag u
-    → (a c : Option Bool) (b : Bool) → refusal_by a c b tag cs s ≡ refusal_by a c b tag cs u
+    → (a c : Option Bool) (b : Bool) → packet_refusal_by a c b tag cs s ≡ packet_refusal_by a c b tag cs u
 refusal_same tag cs s u f g h (Some r) c b = ap (λ (x : Bool). unless x (codes "ABORT chunk verification tag was wrong")) (f r)
 refusal_same tag cs s u f g h None (Some r) b = ap (λ (x : Bool). unless x (codes "SHUTDOWN_COMPLETE chunk verification tag was wrong")) (f r)
 refusal_same tag cs s u f g h None None true =
@@ -48,8 +48,8 @@ refusal_same tag cs s u f g h None None false =
 
 -- which packets are refused is decided by tags alone
 refusal_by_tags : (tag : ℕ → ℕ) (own peer a b : ℕ) (cookie other : List ℕ → List ℕ) (t c u d : ℕ → ℕ) (n : ℕ) (cs : List ChunkTree) (s : State)
-    → refusal n cs (named_state (record { tag = tag; tie = t; cookie_tie = c; own = own; peer = peer; cookie = cookie }) s)
-    ≡ refusal n cs (named_state (record { tag = tag; tie = u; cookie_tie = d; own = a; peer = b; cookie = other }) s)
+    → packet_refusal n cs (named_state (record { tag = tag; tie = t; cookie_tie = c; own = own; peer = peer; cookie = cookie }) s)
+    ≡ packet_refusal n cs (named_state (record { tag = tag; tie = u; cookie_tie = d; own = a; peer = b; cookie = other }) s)
 refusal_by_tags tag own peer a b cookie other t c u d n cs s =
     let first : Names = record { tag = tag; tie = t; cookie_tie = c; own = own; peer = peer; cookie = cookie } in
     let second : Names = record { tag = tag; tie = u; cookie_tie = d; own = a; peer = b; cookie = other } in
@@ -90,9 +90,9 @@ some_text : (o : Option (List ℕ)) → is_some o ≡ true → SomeText o
 some_text None h = cc
 some_text (Some text) h = record { text = text; is = refl }
 
-refused_end : (tag : ℕ) (cs : List ChunkTree) (e : Endpoint Carried) (text : List ℕ) → refusal tag cs e.endpoint_state.state ≡ Some text
-    → on_chunks tag cs e ≡ complains text (counts e)
-refused_end tag cs e text is = ap (λ (r : Option (List ℕ)). taken_if r tag cs (counts e)) is
+refused_end : (tag : ℕ) (cs : List ChunkTree) (e : Endpoint Carried) (text : List ℕ) → packet_refusal tag cs e.endpoint_state.state ≡ Some text
+    → on_chunks tag cs e ≡ emit_parse_error text (count_packet_at e)
+refused_end tag cs e text is = ap (λ (r : Option (List ℕ)). packet_if r tag cs (count_packet_at e)) is
 
 module _ (ps : List (Draw × Draw)) (k : Knows ps) (x z : Side) (p q : Carried) (checksum other : ℕ) (mine peer : ℕ) (tie cookie_tie : ℕ → ℕ)
     (named : q ≡ named_carried (names ps mine peer tie cookie_tie) p) (own_tie : ℕ → ℕ)
@@ -110,26 +110,26 @@ module _ (ps : List (Draw × Draw)) (k : Knows ps) (x z : Side) (p q : Carried) 
   received_too = map carried (named_chunks m p.chunks)
 
   abbrev call : Call
-  call = Packet (as_received p checksum)
+  call = ReceivePacket (as_received p checksum)
 
   abbrev call_too : Call
-  call_too = Packet (as_received q other)
+  call_too = ReceivePacket (as_received q other)
 
   second_is : called call_too z.end ≡ on_chunks (m.tag tag) received_too z.end
   second_is = ap (λ (r : Carried). on_chunks r.header.verification_tag (map carried r.chunks) z.end) named
 
-  both_refuse : is_some (refusal (m.tag tag) received_too (state_of z)) ≡ is_some (refusal tag received (state_of x))
+  both_refuse : is_some (packet_refusal (m.tag tag) received_too (state_of z)) ≡ is_some (packet_refusal tag received (state_of x))
   both_refuse =
       let n : Names = names_in ps (state_of x) own_tie in
-      ap (λ (s : State). is_some (refusal (m.tag tag) received_too s)) image_is
+      ap (λ (s : State). is_some (packet_refusal (m.tag tag) received_too s)) image_is
       ∙ (ap (λ (r : Option (List ℕ)). is_some r)
       (refusal_by_tags m.tag n.own n.peer m.own m.peer n.cookie m.cookie n.tie n.cookie_tie m.tie m.cookie_tie (m.tag tag) received_too (state_of x))
-      ∙ (ap (λ (cs : List ChunkTree). is_some (refusal (m.tag tag) cs (named_state m (state_of x)))) (all_carried_named m p.chunks)
+      ∙ (ap (λ (cs : List ChunkTree). is_some (packet_refusal (m.tag tag) cs (named_state m (state_of x)))) (all_carried_named m p.chunks)
       ∙ refused_named m (are_names ps k mine peer tie cookie_tie) m tag received (state_of x)))
 
-  pub refused_too : (text : List ℕ) → refusal tag received (state_of x) ≡ Some text → Refused x z call (called call_too z.end)
+  pub refused_too : (text : List ℕ) → packet_refusal tag received (state_of x) ≡ Some text → Refused x z call (called call_too z.end)
   refused_too text is =
-      let there : SomeText (refusal (m.tag tag) received_too (state_of z)) = some_text _ (both_refuse ∙ ap (λ (r : Option (List ℕ)). is_some r) is) in
+      let there : SomeText (packet_refusal (m.tag tag) received_too (state_of z)) = some_text _ (both_refuse ∙ ap (λ (r : Option (List ℕ)). is_some r) is) in
       record {
         text = text;
         other = there.text;
@@ -138,19 +138,19 @@ module _ (ps : List (Draw × Draw)) (k : Knows ps) (x z : Side) (p q : Carried) 
       }
 
   -- and what the one takes, the other takes
-  pub refused_as_well : refusal tag received (state_of x) ≡ None → refusal q.header.verification_tag (map carried q.chunks) (state_of z) ≡ None
+  pub refused_as_well : packet_refusal tag received (state_of x) ≡ None → packet_refusal q.header.verification_tag (map carried q.chunks) (state_of z) ≡ None
   refused_as_well none =
-      ap (λ (a : Carried). refusal a.header.verification_tag (map carried a.chunks) (state_of z)) named
-      ∙ none_of (refusal (m.tag tag) received_too (state_of z)) (both_refuse ∙ ap (λ (a : Option (List ℕ)). is_some a) none)
+      ap (λ (a : Carried). packet_refusal a.header.verification_tag (map carried a.chunks) (state_of z)) named
+      ∙ none_of (packet_refusal (m.tag tag) received_too (state_of z)) (both_refuse ∙ ap (λ (a : Option (List ℕ)). is_some a) none)
 
   -- ---- taken by both
 
   module _ (law : EachCallIsNamed) (packing : x.end.endpoint_state.context.pack ≡ as_carried) (quiet : x.end.endpoint_state.context.emitted.events ≡ [])
-      (same : z.end.endpoint_state.context ≡ x.end.endpoint_state.context) (none : refusal tag received (state_of x) ≡ None) (numbers : NumbersFitIn (state_of x)) where
+      (same : z.end.endpoint_state.context ≡ x.end.endpoint_state.context) (none : packet_refusal tag received (state_of x) ≡ None) (numbers : NumbersFitIn (state_of x)) where
     -- under names by which the reader's image receives it, or what does the same
     pub taken_as : (own other_tag : ℕ) (t c : ℕ → ℕ) → state_of z ≡ named_state (names ps own other_tag t c) (state_of x)
         → (on_chunks (m.tag tag) received_too z.end).endpoint_state ≡ (on_chunks (m.tag tag) (named_chunks (flip (names ps own other_tag t c)) received) z.end).endpoint_state
-        → AreNamed (names ps own other_tag t c) tag received (state_of x) x.end.random z.end.random
+        → AreNamed (names ps own other_tag t c) tag received (state_of x) x.end.draws z.end.draws
         → (called call_too z.end).endpoint_state ≡ image (names ps own other_tag t c) (called call x.end).endpoint_state
     taken_as own other_tag t c state does are =
         let n : Names = names ps own other_tag t c in
@@ -159,7 +159,7 @@ module _ (ps : List (Draw × Draw)) (k : Knows ps) (x z : Side) (p q : Carried) 
 
     pub taken_too : (own other_tag : ℕ) (t c : ℕ → ℕ) → state_of z ≡ named_state (names ps own other_tag t c) (state_of x)
         → received_too ≡ named_chunks (flip (names ps own other_tag t c)) received
-        → AreNamed (names ps own other_tag t c) tag received (state_of x) x.end.random z.end.random
+        → AreNamed (names ps own other_tag t c) tag received (state_of x) x.end.draws z.end.draws
         → (called call_too z.end).endpoint_state ≡ image (names ps own other_tag t c) (called call x.end).endpoint_state
     taken_too own other_tag t c state chunks are =
         taken_as own other_tag t c state (ap (λ (cs : List ChunkTree). (on_chunks (m.tag tag) cs z.end).endpoint_state) chunks) are

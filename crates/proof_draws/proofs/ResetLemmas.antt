@@ -7,7 +7,7 @@ use Rattle.std.proofs.lemmas.Nat.{mod_below}
 use Rattle.std.proofs.Math.Nat.{mod-eq_of_lt, add-mod_right}
 use Rattle.sctp_serial.specs.declared.api.StreamId.{StreamId}
 use Rattle.sctp_serial.specs.SerialNumber.{serial_difference}
-use Rattle.sctp_serial.specs.Unwrapped.{words}
+use Rattle.sctp_serial.specs.Unwrapped.{u32_space}
 use Rattle.sctp_wire.specs.Parameter.{ParameterTree, outgoing_reset_request, incoming_reset_request, reset_response}
 use Rattle.sctp_packet.specs.Chunk.{re_config_chunk}
 use Rattle.sctp_state.specs.Events.{OnIncomingStreamReset, numbers_of}
@@ -17,11 +17,11 @@ use Rattle.sctp_rx.specs.ReassemblyQueue as reassembly
 use Rattle.sctp_rx.specs.ReassemblyStreams as streams_of
 use Rattle.sctp_rx.specs.DataTracker as tracker
 use Rattle.spec_endpoint.specs.Association.{Tcb, Phase, Context, EndpointState, Packing}
-use Rattle.spec_endpoint.specs.Packets.{say}
-use Rattle.spec_endpoint.specs.ResetRequests.{Request, Requests, nothing_to_do, performed, bad_number, in_progress, is_final, Outcome, Unsettled, Done, Denied, outcome_if, outcome, answered_by, answered_if, answered_in, answer_request, is_last, is_next, is_known, after}
-use Rattle.spec_endpoint.specs.Sending.{Sent, is_alone, open_with, send_buffered}
+use Rattle.spec_endpoint.specs.Packets.{emit_event_in}
+use Rattle.spec_endpoint.specs.ResetRequests.{Request, Requests, nothing_to_do, performed, bad_number, in_progress, is_final, Outcome, Unsettled, Done, Denied, outcome_if, outcome, end_or_defer, response_if, handle_response_in, handle_response, is_last_request, is_next_request, is_known_request, next_number}
+use Rattle.spec_endpoint.specs.Sending.{AfterSending, is_before_cookie_ack, open_with, send_buffered}
 use Rattle.spec_endpoint.specs.StreamReset as resets_rows
-use Rattle.spec_endpoint.specs.StreamReset.{Handling, handling, respond, process, is_ahead, resets_if, resets, outgoing_by, on_outgoing, incoming_if, on_outcome, on_response, is_outgoing, on_parameter, Handled, handle_next, handle_all, send_responses, finished_if, finish_resets, on_reconfig}
+use Rattle.spec_endpoint.specs.StreamReset.{Handling, handling, respond, process, is_ahead, resets_if, resets, outgoing_by, on_outgoing, incoming_if, on_outcome, on_response, is_outgoing, on_parameter, HandledParameters, handle_next, handle_all, send_responses, finish_reconfig_if, finish_reconfig, on_reconfig}
 use Rattle.proof_draws.specs.NamedChunks.{Names, AreNames, flip, move_by, named_parameter}
 use Rattle.proof_draws.specs.Names.{named_phase, named_reassembly, named_request, named_requests, named_tcb, named_endpoint_state, plain}
 use Rattle.proof_draws.specs.Laws.{NumberFits, NumbersFit, number_fits}
@@ -34,22 +34,22 @@ use Rattle.proof_draws.proofs.NumberLemmas.{parameter_fits}
 
 -- ---- numbers that are moved are told apart as before
 
-moved_back : (by number : ℕ) → number < words → serial_difference words (move_by by number) (move_by by 0) ≡ number
+moved_back : (by number : ℕ) → number < u32_space → serial_difference u32_space (move_by by number) (move_by by 0) ≡ number
 moved_back by number small =
-    let whole : number + words - 0 ≡ number + words = omega arith in
-    difference_moved words number 0 by (omega arith) ∙ (ap (λ (k : ℕ). k % words) whole ∙ (add-mod_right number words ∙ mod-eq_of_lt small))
+    let whole : number + u32_space - 0 ≡ number + u32_space = omega arith in
+    difference_moved u32_space number 0 by (omega arith) ∙ (ap (λ (k : ℕ). k % u32_space) whole ∙ (add-mod_right number u32_space ∙ mod-eq_of_lt small))
 
-same_moved : (by a b : ℕ) → a < words → b < words → (move_by by a == move_by by b) ≡ (a == b)
+same_moved : (by a b : ℕ) → a < u32_space → b < u32_space → (move_by by a == move_by by b) ≡ (a == b)
 same_moved by a b small less =
     elim (cases_eq a b) [
       | inl e ↦ eq-eqb (move_by by a) (move_by by b) (ap (λ (k : ℕ). move_by by k) e) ∙ sym (eq-eqb a b e)
       | inr d ↦
           ne_eqb (move_by by a) (move_by by b)
-          (λ e. d (sym (moved_back by a small) ∙ (ap (λ (k : ℕ). serial_difference words k (move_by by 0)) e ∙ moved_back by b less))) ∙ sym (ne_eqb a b d)
+          (λ e. d (sym (moved_back by a small) ∙ (ap (λ (k : ℕ). serial_difference u32_space k (move_by by 0)) e ∙ moved_back by b less))) ∙ sym (ne_eqb a b d)
     ]
 
-next_moved : (by number : ℕ) → after (move_by by number) ≡ move_by by (after number)
-next_moved by number = sum_moved words number 1 by
+next_moved : (by number : ℕ) → next_number (move_by by number) ≡ move_by by (next_number number)
+next_moved by number = sum_moved u32_space number 1 by
 
 -- a reset that waits, unless one does already
 abbrev deferred_at : Option Deferred → (first number : ℕ) → List StreamId → Reassembly → Reassembly
@@ -59,16 +59,16 @@ deferred_at o first number ids r = record r {
 }
 
 module _ (n : Names) where
-  last_named : (number : ℕ) (r : Requests) → number < words → NumbersFit r → is_last (move_by n.peer number) (named_requests n r) ≡ is_last number r
+  last_named : (number : ℕ) (r : Requests) → number < u32_space → NumbersFit r → is_last_request (move_by n.peer number) (named_requests n r) ≡ is_last_request number r
   last_named number r small h = same_moved n.peer number r.last small h.last
 
-  next_named : (number : ℕ) (r : Requests) → number < words → is_next (move_by n.peer number) (named_requests n r) ≡ is_next number r
+  next_named : (number : ℕ) (r : Requests) → number < u32_space → is_next_request (move_by n.peer number) (named_requests n r) ≡ is_next_request number r
   next_named number r small =
-      ap (λ (k : ℕ). move_by n.peer number == k) (next_moved n.peer r.last) ∙ same_moved n.peer number (after r.last) small (mod_below (r.last + 1) words (omega arith))
+      ap (λ (k : ℕ). move_by n.peer number == k) (next_moved n.peer r.last) ∙ same_moved n.peer number (next_number r.last) small (mod_below (r.last + 1) u32_space (omega arith))
 
-  known_named : (number : ℕ) (r : Requests) → number < words → NumbersFit r → is_known (move_by n.peer number) (named_requests n r) ≡ is_known number r
+  known_named : (number : ℕ) (r : Requests) → number < u32_space → NumbersFit r → is_known_request (move_by n.peer number) (named_requests n r) ≡ is_known_request number r
   known_named number r small h =
-      ap (λ (b : Bool). b || is_next (move_by n.peer number) (named_requests n r)) (last_named number r small h) ∙ ap (λ (b : Bool). is_last number r || b) (next_named number r small)
+      ap (λ (b : Bool). b || is_next_request (move_by n.peer number) (named_requests n r)) (last_named number r small h) ∙ ap (λ (b : Bool). is_last_request number r || b) (next_named number r small)
 
   -- ---- reassembly
 
@@ -97,25 +97,25 @@ module _ (n : Names) where
 
   -- ---- an answer to the own request
 
-  outcome_named : (o : Option Request) (number result : ℕ) → number < words → NumberFits o → outcome (move_by n.own number) result (option_map (named_request n) o) ≡ outcome number result o
+  outcome_named : (o : Option Request) (number result : ℕ) → number < u32_space → NumberFits o → outcome (move_by n.own number) result (option_map (named_request n) o) ≡ outcome number result o
   outcome_named None number result small h = refl
   outcome_named (Some r) number result small h = ap (λ (b : Bool). outcome_if b result r.streams) (same_moved n.own r.number number h small)
 
   answered_by_named : (b : Bool) (now rto : ℕ) (r : Request) (x : Requests)
-      → answered_by b now rto (named_request n r) (named_requests n x) ≡ named_requests n (answered_by b now rto r x)
+      → end_or_defer b now rto (named_request n r) (named_requests n x) ≡ named_requests n (end_or_defer b now rto r x)
   answered_by_named true now rto r x = refl
   answered_by_named false now rto r x = refl
 
   answered_if_named : (b : Bool) (now rto result : ℕ) (r : Request) (x : Requests)
-      → answered_if b now rto result (named_request n r) (named_requests n x) ≡ named_requests n (answered_if b now rto result r x)
+      → response_if b now rto result (named_request n r) (named_requests n x) ≡ named_requests n (response_if b now rto result r x)
   answered_if_named true now rto result r x = answered_by_named (is_final result) now rto r x
   answered_if_named false now rto result r x = refl
 
-  answered_in_named : (o : Option Request) (now rto number result : ℕ) (x : Requests) → number < words → NumberFits o
-      → answered_in (option_map (named_request n) o) now rto (move_by n.own number) result (named_requests n x) ≡ named_requests n (answered_in o now rto number result x)
+  answered_in_named : (o : Option Request) (now rto number result : ℕ) (x : Requests) → number < u32_space → NumberFits o
+      → handle_response_in (option_map (named_request n) o) now rto (move_by n.own number) result (named_requests n x) ≡ named_requests n (handle_response_in o now rto number result x)
   answered_in_named None now rto number result x small h = refl
   answered_in_named (Some r) now rto number result x small h =
-      ap (λ (b : Bool). answered_if b now rto result (named_request n r) (named_requests n x)) (same_moved n.own r.number number h small)
+      ap (λ (b : Bool). response_if b now rto result (named_request n r) (named_requests n x)) (same_moved n.own r.number number h small)
       ∙ answered_if_named (r.number == number) now rto result r x
 
 -- ---- RE-CONFIG
@@ -123,7 +123,7 @@ module _ (n : Names) where
 abbrev named_handling : {P : Type 0} → Names → Packing P → Handling P → Handling P
 named_handling n pack x = record { tcb = named_tcb n x.tcb; context = plain pack x.context; responses = map (named_parameter n) x.responses }
 
-abbrev named_handled : {P : Type 0} → Names → Packing P → Handled P → Handled P
+abbrev named_handled : {P : Type 0} → Names → Packing P → HandledParameters P → HandledParameters P
 named_handled n pack h = record { handling = named_handling n pack h.handling; is_whole = h.is_whole }
 
 abbrev with_responses : {P : Type 0} → Tcb → Context P → List ParameterTree → Handling P
@@ -133,7 +133,7 @@ abbrev with_reassembly : Tcb → Reassembly → Tcb
 with_reassembly t r = record t { reassembly = r }
 
 abbrev said : {P : Type 0} → List StreamId → Context P → Context P
-said streams c = say (OnIncomingStreamReset (numbers_of streams)) c
+said streams c = emit_event_in (OnIncomingStreamReset (numbers_of streams)) c
 
 module _ {P : Type 0} where
   outcome_stays : (o : Outcome) (c : Context P) → (on_outcome o c).pack ≡ c.pack
@@ -157,12 +157,12 @@ module _ {P : Type 0} where
 
   parameter_stays : (p : ParameterTree) (x : Handling P) → (on_parameter p x).context.pack ≡ x.context.pack
   parameter_stays (outgoing_reset_request number response last_tsn streams) x =
-      outgoing_stays (is_last number x.tcb.requests) (is_next number x.tcb.requests) (is_final x.tcb.requests.result) number last_tsn.0 streams x
-  parameter_stays (incoming_reset_request number streams) x = incoming_stays (is_known number x.tcb.requests) number x
+      outgoing_stays (is_last_request number x.tcb.requests) (is_next_request number x.tcb.requests) (is_final x.tcb.requests.result) number last_tsn.0 streams x
+  parameter_stays (incoming_reset_request number streams) x = incoming_stays (is_known_request number x.tcb.requests) number x
   parameter_stays (reset_response number result sender receiver) x = outcome_stays (outcome number result x.tcb.requests.current) x.context
   parameter_stays p x = refl
 
-  next_stays : (b : Bool) (rest : Handling P → Handled P) (p : ParameterTree) (x : Handling P) → ((y : Handling P) → (rest y).handling.context.pack ≡ y.context.pack)
+  next_stays : (b : Bool) (rest : Handling P → HandledParameters P) (p : ParameterTree) (x : Handling P) → ((y : Handling P) → (rest y).handling.context.pack ≡ y.context.pack)
       → (handle_next b rest p x).handling.context.pack ≡ x.context.pack
   next_stays true rest p x h = refl
   next_stays false rest p x h = h (on_parameter p x) ∙ parameter_stays p x
@@ -175,16 +175,16 @@ module _ {P : Type 0} where
   responses_stay [] t c = refl
   responses_stay (r ∷ rs) t c = emit_stays _ c
 
-  finished_stays : (b : Bool) (phase : Phase) (x : Handling P) → (finished_if b phase x).context.pack ≡ x.context.pack
+  finished_stays : (b : Bool) (phase : Phase) (x : Handling P) → (finish_reconfig_if b phase x).context.pack ≡ x.context.pack
   finished_stays true phase x =
       let d : Context P = send_responses x.responses x.tcb x.context in
-      send_with_stays (is_alone phase) _ x.tcb d ∙ responses_stay x.responses x.tcb x.context
+      send_with_stays (is_before_cookie_ack phase) _ x.tcb d ∙ responses_stay x.responses x.tcb x.context
   finished_stays false phase x = refl
 
   pub reconfig_stays : (ps : List ParameterTree) (phase : Phase) (t : Tcb) (c : Context P) → (on_reconfig ps phase t c).context.pack ≡ c.pack
   reconfig_stays [] phase t c = refl
   reconfig_stays (p ∷ ps) phase t c =
-      let h : Handled P = handle_all (p ∷ ps) false (handling t c) in
+      let h : HandledParameters P = handle_all (p ∷ ps) false (handling t c) in
       finished_stays h.is_whole phase h.handling ∙ all_stays (p ∷ ps) false (handling t c)
 
 module _ {P : Type 0} (n : Names) (are : AreNames n) (pack : Packing P) where
@@ -222,15 +222,15 @@ module _ {P : Type 0} (n : Names) (are : AreNames n) (pack : Packing P) where
   outgoing_by_named false true d number last_tsn streams x = resets_named number last_tsn streams x
   outgoing_by_named false false d number last_tsn streams x = respond_named number bad_number x
 
-  outgoing_named : (number last_tsn : ℕ) (streams : List StreamId) (x : Handling P) → number < words → NumbersFit x.tcb.requests
+  outgoing_named : (number last_tsn : ℕ) (streams : List StreamId) (x : Handling P) → number < u32_space → NumbersFit x.tcb.requests
       → on_outgoing (move_by n.peer number) (move_by n.peer last_tsn) streams (named_handling n pack x) ≡ named_handling n pack (on_outgoing number last_tsn streams x)
   outgoing_named number last_tsn streams x small h =
       let r : Requests = x.tcb.requests in
       let d : Bool = is_final r.result in
       let y : Handling P = named_handling n pack x in
-      ap (λ (a : Bool). outgoing_by a (is_next (move_by n.peer number) (named_requests n r)) d (move_by n.peer number) (move_by n.peer last_tsn) streams y) (last_named n number r small h)
-      ∙ (ap (λ (b : Bool). outgoing_by (is_last number r) b d (move_by n.peer number) (move_by n.peer last_tsn) streams y) (next_named n number r small)
-      ∙ outgoing_by_named (is_last number r) (is_next number r) d number last_tsn streams x)
+      ap (λ (a : Bool). outgoing_by a (is_next_request (move_by n.peer number) (named_requests n r)) d (move_by n.peer number) (move_by n.peer last_tsn) streams y) (last_named n number r small h)
+      ∙ (ap (λ (b : Bool). outgoing_by (is_last_request number r) b d (move_by n.peer number) (move_by n.peer last_tsn) streams y) (next_named n number r small)
+      ∙ outgoing_by_named (is_last_request number r) (is_next_request number r) d number last_tsn streams x)
 
   incoming_if_named : (b : Bool) (number : ℕ) (x : Handling P) → incoming_if b (move_by n.peer number) (named_handling n pack x) ≡ named_handling n pack (incoming_if b number x)
   incoming_if_named true number x = process_named number nothing_to_do x
@@ -238,38 +238,38 @@ module _ {P : Type 0} (n : Names) (are : AreNames n) (pack : Packing P) where
 
   -- ---- an answer to the own one
 
-  settled_named : (o : Outcome) (c : Context P) → on_outcome o (plain pack c) ≡ plain pack (on_outcome o c)
-  settled_named Unsettled c = refl
-  settled_named (Done streams) c = refl
-  settled_named (Denied streams) c = refl
+  on_outcome_named : (o : Outcome) (c : Context P) → on_outcome o (plain pack c) ≡ plain pack (on_outcome o c)
+  on_outcome_named Unsettled c = refl
+  on_outcome_named (Done streams) c = refl
+  on_outcome_named (Denied streams) c = refl
 
-  response_named : (number result : ℕ) (x : Handling P) → number < words → NumbersFit x.tcb.requests
-      → resets_rows.answered_by (on_response (move_by n.own number) result (named_tcb n x.tcb) (plain pack x.context)) (named_handling n pack x)
-      ≡ named_handling n pack (resets_rows.answered_by (on_response number result x.tcb x.context) x)
+  response_named : (number result : ℕ) (x : Handling P) → number < u32_space → NumbersFit x.tcb.requests
+      → resets_rows.with_sent (on_response (move_by n.own number) result (named_tcb n x.tcb) (plain pack x.context)) (named_handling n pack x)
+      ≡ named_handling n pack (resets_rows.with_sent (on_response number result x.tcb x.context) x)
   response_named number result x small h =
       let r : Requests = x.tcb.requests in
       let after_it : Requests → Outcome → Handling P = λ q o. with_responses (with_requests (named_tcb n x.tcb) q) (on_outcome o (plain pack x.context)) (map (named_parameter n) x.responses) in
       ap (λ (q : Requests). after_it q (outcome (move_by n.own number) result (option_map (named_request n) r.current))) (answered_in_named n r.current x.context.now (rto x.tcb.rtt) number result r small h.current)
-      ∙ (ap (λ (o : Outcome). after_it (named_requests n (answer_request x.context.now (rto x.tcb.rtt) number result r)) o) (outcome_named n r.current number result small h.current)
-      ∙ ap (λ (c : Context P). with_responses (with_requests (named_tcb n x.tcb) (named_requests n (answer_request x.context.now (rto x.tcb.rtt) number result r))) c (map (named_parameter n) x.responses))
-      (settled_named (outcome number result r.current) x.context))
+      ∙ (ap (λ (o : Outcome). after_it (named_requests n (handle_response x.context.now (rto x.tcb.rtt) number result r)) o) (outcome_named n r.current number result small h.current)
+      ∙ ap (λ (c : Context P). with_responses (with_requests (named_tcb n x.tcb) (named_requests n (handle_response x.context.now (rto x.tcb.rtt) number result r))) c (map (named_parameter n) x.responses))
+      (on_outcome_named (outcome number result r.current) x.context))
 
   -- ---- parameters, one after the other
 
   parameter_named : (p : ParameterTree) (x : Handling P) → number_fits p ≡ true → NumbersFit x.tcb.requests
       → on_parameter (named_parameter (flip n) p) (named_handling n pack x) ≡ named_handling n pack (on_parameter p x)
-  parameter_named (outgoing_reset_request number response last_tsn streams) x k h = outgoing_named number last_tsn.0 streams x (ltb-true number words k) h
+  parameter_named (outgoing_reset_request number response last_tsn streams) x k h = outgoing_named number last_tsn.0 streams x (ltb-true number u32_space k) h
   parameter_named (incoming_reset_request number streams) x k h =
-      ap (λ (b : Bool). incoming_if b (move_by n.peer number) (named_handling n pack x)) (known_named n number x.tcb.requests (ltb-true number words k) h)
-      ∙ incoming_if_named (is_known number x.tcb.requests) number x
-  parameter_named (reset_response number result sender receiver) x k h = response_named number result x (ltb-true number words k) h
+      ap (λ (b : Bool). incoming_if b (move_by n.peer number) (named_handling n pack x)) (known_named n number x.tcb.requests (ltb-true number u32_space k) h)
+      ∙ incoming_if_named (is_known_request number x.tcb.requests) number x
+  parameter_named (reset_response number result sender receiver) x k h = response_named number result x (ltb-true number u32_space k) h
   parameter_named p x k h = refl
 
   outgoing_is : (p : ParameterTree) → is_outgoing (named_parameter (flip n) p) ≡ is_outgoing p
   outgoing_is (outgoing_reset_request number response last_tsn streams) = refl
   outgoing_is p = refl
 
-  handle_next_named : (b : Bool) (rest named : Handling P → Handled P) (p : ParameterTree) (x : Handling P) → number_fits p ≡ true → NumbersFit x.tcb.requests
+  handle_next_named : (b : Bool) (rest named : Handling P → HandledParameters P) (p : ParameterTree) (x : Handling P) → number_fits p ≡ true → NumbersFit x.tcb.requests
       → (named (named_handling n pack (on_parameter p x)) ≡ named_handled n pack (rest (on_parameter p x)))
       → handle_next b named (named_parameter (flip n) p) (named_handling n pack x) ≡ named_handled n pack (handle_next b rest p x)
   handle_next_named true rest named p x k h f = refl
@@ -293,19 +293,19 @@ module _ {P : Type 0} (n : Names) (are : AreNames n) (pack : Packing P) where
   responses_named (r ∷ rs) t c k = named_emit_chunk n are pack (re_config_chunk (r ∷ rs)) t c k
 
   finished_named : (b : Bool) (phase : Phase) (x : Handling P) → Knows n pack x.context
-      → finished_if b (named_phase n phase) (named_handling n pack x) ≡ named_endpoint_state n pack (finished_if b phase x)
+      → finish_reconfig_if b (named_phase n phase) (named_handling n pack x) ≡ named_endpoint_state n pack (finish_reconfig_if b phase x)
   finished_named true phase x k =
       let d : Context P = send_responses x.responses x.tcb x.context in
       let go : Bool → Context P → EndpointState P = λ b c. open_with (named_phase n phase) (send_buffered b (named_tcb n x.tcb) c) in
       ap (λ (b : Bool). go b (send_responses (map (named_parameter n) x.responses) (named_tcb n x.tcb) (plain pack x.context))) (alone_named n phase)
-      ∙ (ap (λ (c : Context P). go (is_alone phase) c) (responses_named x.responses x.tcb x.context k)
-      ∙ ap (λ (s : Sent P). open_with (named_phase n phase) s) (send_buffered_named n are pack (is_alone phase) x.tcb d (responses_stay x.responses x.tcb x.context ∙ k)))
+      ∙ (ap (λ (c : Context P). go (is_before_cookie_ack phase) c) (responses_named x.responses x.tcb x.context k)
+      ∙ ap (λ (s : AfterSending P). open_with (named_phase n phase) s) (send_buffered_named n are pack (is_before_cookie_ack phase) x.tcb d (responses_stay x.responses x.tcb x.context ∙ k)))
   finished_named false phase x k = refl
 
   pub reconfig_named : (ps : List ParameterTree) (phase : Phase) (t : Tcb) (c : Context P) → list_all number_fits ps ≡ true → NumbersFit t.requests → Knows n pack c
       → on_reconfig (map (named_parameter (flip n)) ps) (named_phase n phase) (named_tcb n t) (plain pack c) ≡ named_endpoint_state n pack (on_reconfig ps phase t c)
   reconfig_named [] phase t c all h k = refl
   reconfig_named (p ∷ ps) phase t c all h k =
-      let x : Handled P = handle_all (p ∷ ps) false (handling t c) in
-      ap (λ (y : Handled P). finish_resets (named_phase n phase) y) (handle_all_named (p ∷ ps) false (handling t c) all h)
+      let x : HandledParameters P = handle_all (p ∷ ps) false (handling t c) in
+      ap (λ (y : HandledParameters P). finish_reconfig (named_phase n phase) y) (handle_all_named (p ∷ ps) false (handling t c) all h)
       ∙ finished_named x.is_whole phase x.handling (all_stays (p ∷ ps) false (handling t c) ∙ k)

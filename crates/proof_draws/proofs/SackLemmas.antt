@@ -6,11 +6,11 @@ use Rattle.sctp_state.specs.Events.{Emitted}
 use Rattle.sctp_tx_outstanding.specs.OutstandingData.{number_of}
 use Rattle.sctp_tx_outstanding.specs.Sack.{is_valid}
 use Rattle.sctp_rx.specs.DataTracker as tracker
-use Rattle.sctp_tx.specs.RetransmissionQueue.{Sender, SackAnswer, Invalid, Valid, sender_if, emitted_if, answer_if, is_quiet}
+use Rattle.sctp_tx.specs.RetransmissionQueue.{Sender, SackAnswer, Invalid, Valid, sender_if, emitted_if, answer_if, nothing_in_flight}
 use Rattle.spec_endpoint.specs.Association.{Tcb, Phase, CookieEchoed, Established, ShutdownPending, ShutdownSent, ShutdownReceived, ShutdownAckSent, State, Closed, CookieWait, Open, Context, EndpointState, Packing}
 use Rattle.spec_endpoint.specs.Packets.{add, new_packet, emit_chunk}
-use Rattle.spec_endpoint.specs.Sending.{Sent, is_alone, open_with, send_buffered, send_lost}
-use Rattle.spec_endpoint.specs.Shutdown.{t2_shutdown, send_shutdown, Onward, onward, pending, received, go_on}
+use Rattle.spec_endpoint.specs.Sending.{AfterSending, is_before_cookie_ack, open_with, send_buffered, send_lost}
+use Rattle.spec_endpoint.specs.Shutdown.{t2_shutdown, send_shutdown, PhaseStep, phase_step, pending_next, received_next, maybe_send_shutdown_or_ack}
 use Rattle.spec_endpoint.specs.Sack.{clean_blocks, sample_rtt, clear_errors_if, send_after, after_sack, on_clean_sack, on_sack_in, on_sack}
 use Rattle.spec_endpoint.specs.Sack as acks
 use Rattle.proof_draws.specs.NamedChunks.{Names, AreNames, flip, named_sack}
@@ -22,24 +22,24 @@ use Rattle.proof_draws.proofs.TagLemmas.{alone_named}
 use Rattle.proof_draws.proofs.FillingLemmas.{named_sent, send_lost_named, send_buffered_named, send_lost_stays}
 use Rattle.proof_endpoint.proofs.RowMapsLemmas.{received_with}
 
-abbrev pub named_onward : {P : Type 0} → Names → Packing P → Onward P → Onward P
+abbrev pub named_onward : {P : Type 0} → Names → Packing P → PhaseStep P → PhaseStep P
 named_onward n pack o = record { phase = named_phase n o.phase; context = plain pack o.context }
 
 module _ {P : Type 0} where
-  pending_stays : (b : Bool) (t : Tcb) (c : Context P) → (pending b t c).context.pack ≡ c.pack
+  pending_stays : (b : Bool) (t : Tcb) (c : Context P) → (pending_next b t c).context.pack ≡ c.pack
   pending_stays true t c = emit_stays (add (shutdown_chunk (tracker.wire_tsn t.tracker t.tracker.tracker.seen.front)) (new_packet c.options t)) c
   pending_stays false t c = refl
 
-  received_stays : (b : Bool) (t : Tcb) (c : Context P) → (received b t c).context.pack ≡ c.pack
+  received_stays : (b : Bool) (t : Tcb) (c : Context P) → (received_next b t c).context.pack ≡ c.pack
   received_stays true t c = emit_stays (add shutdown_ack_chunk (new_packet c.options t)) c
   received_stays false t c = refl
 
-  pub go_on_stays : (phase : Phase) (t : Tcb) (c : Context P) → (go_on phase t c).context.pack ≡ c.pack
+  pub go_on_stays : (phase : Phase) (t : Tcb) (c : Context P) → (maybe_send_shutdown_or_ack phase t c).context.pack ≡ c.pack
   go_on_stays (CookieEchoed t1 cookie) t c = refl
   go_on_stays Established t c = refl
-  go_on_stays ShutdownPending t c = pending_stays (is_quiet t.sender.outstanding.items) t c
+  go_on_stays ShutdownPending t c = pending_stays (nothing_in_flight t.sender.outstanding.items) t c
   go_on_stays (ShutdownSent t2) t c = refl
-  go_on_stays ShutdownReceived t c = received_stays (is_quiet t.sender.outstanding.items) t c
+  go_on_stays ShutdownReceived t c = received_stays (nothing_in_flight t.sender.outstanding.items) t c
   go_on_stays (ShutdownAckSent t2) t c = refl
 
 -- ---- what the items make of it
@@ -72,40 +72,40 @@ module _ {P : Type 0} (n : Names) (are : AreNames n) (pack : Packing P) where
       ap (λ (w : ℕ). emit_chunk (shutdown_chunk w) (named_tcb n t) (plain pack c)) (moved_wire n.peer t.tracker.first front)
       ∙ named_emit_chunk n are pack (shutdown_chunk (tracker.wire_tsn t.tracker front)) t c k
 
-  pending_named : (b : Bool) (t : Tcb) (c : Context P) → Knows n pack c → pending b (named_tcb n t) (plain pack c) ≡ named_onward n pack (pending b t c)
-  pending_named true t c k = ap (λ (d : Context P). onward (ShutdownSent (t2_shutdown t c)) d) (send_shutdown_named t c k)
+  pending_named : (b : Bool) (t : Tcb) (c : Context P) → Knows n pack c → pending_next b (named_tcb n t) (plain pack c) ≡ named_onward n pack (pending_next b t c)
+  pending_named true t c k = ap (λ (d : Context P). phase_step (ShutdownSent (t2_shutdown t c)) d) (send_shutdown_named t c k)
   pending_named false t c k = refl
 
-  received_named : (b : Bool) (t : Tcb) (c : Context P) → Knows n pack c → received b (named_tcb n t) (plain pack c) ≡ named_onward n pack (received b t c)
-  received_named true t c k = ap (λ (d : Context P). onward (ShutdownAckSent (t2_shutdown t c)) d) (named_emit_chunk n are pack shutdown_ack_chunk t c k)
+  received_named : (b : Bool) (t : Tcb) (c : Context P) → Knows n pack c → received_next b (named_tcb n t) (plain pack c) ≡ named_onward n pack (received_next b t c)
+  received_named true t c k = ap (λ (d : Context P). phase_step (ShutdownAckSent (t2_shutdown t c)) d) (named_emit_chunk n are pack shutdown_ack_chunk t c k)
   received_named false t c k = refl
 
-  pub go_on_named : (phase : Phase) (t : Tcb) (c : Context P) → Knows n pack c → go_on (named_phase n phase) (named_tcb n t) (plain pack c) ≡ named_onward n pack (go_on phase t c)
+  pub go_on_named : (phase : Phase) (t : Tcb) (c : Context P) → Knows n pack c → maybe_send_shutdown_or_ack (named_phase n phase) (named_tcb n t) (plain pack c) ≡ named_onward n pack (maybe_send_shutdown_or_ack phase t c)
   go_on_named (CookieEchoed t1 cookie) t c k = refl
   go_on_named Established t c k = refl
-  go_on_named ShutdownPending t c k = pending_named (is_quiet t.sender.outstanding.items) t c k
+  go_on_named ShutdownPending t c k = pending_named (nothing_in_flight t.sender.outstanding.items) t c k
   go_on_named (ShutdownSent t2) t c k = refl
-  go_on_named ShutdownReceived t c k = received_named (is_quiet t.sender.outstanding.items) t c k
+  go_on_named ShutdownReceived t c k = received_named (nothing_in_flight t.sender.outstanding.items) t c k
   go_on_named (ShutdownAckSent t2) t c k = refl
 
   send_after_named : (is_alone : Bool) (t : Tcb) (c : Context P) → Knows n pack c → send_after is_alone (named_tcb n t) (plain pack c) ≡ named_sent n pack (send_after is_alone t c)
   send_after_named is_alone t c k =
-      let x : Sent P = send_lost t c in
-      ap (λ (y : Sent P). send_buffered is_alone y.tcb y.context) (send_lost_named n are pack t c k)
+      let x : AfterSending P = send_lost t c in
+      ap (λ (y : AfterSending P). send_buffered is_alone y.tcb y.context) (send_lost_named n are pack t c k)
       ∙ send_buffered_named n are pack is_alone x.tcb x.context (send_lost_stays t c ∙ k)
 
-  goes_on_named : (t : Tcb) (o : Onward P) → Knows n pack o.context → acks.goes_on (named_tcb n t) (named_onward n pack o) ≡ named_endpoint_state n pack (acks.goes_on t o)
+  goes_on_named : (t : Tcb) (o : PhaseStep P) → Knows n pack o.context → acks.send_after_sack (named_tcb n t) (named_onward n pack o) ≡ named_endpoint_state n pack (acks.send_after_sack t o)
   goes_on_named t o k =
       ap (λ (b : Bool). open_with (named_phase n o.phase) (send_after b (named_tcb n t) (plain pack o.context))) (alone_named n o.phase)
-      ∙ ap (λ (x : Sent P). open_with (named_phase n o.phase) x) (send_after_named (is_alone o.phase) t o.context k)
+      ∙ ap (λ (x : AfterSending P). open_with (named_phase n o.phase) x) (send_after_named (is_before_cookie_ack o.phase) t o.context k)
 
   receives_named : (a : SackAnswer) (phase : Phase) (t : Tcb) (c : Context P) → Knows n pack c → after_sack a (named_phase n phase) (named_tcb n t) (plain pack c) ≡ named_endpoint_state n pack (after_sack a phase t c)
   receives_named Invalid phase t c k = refl
   receives_named (Valid rtt is_progress) phase t c k =
       let d : Context P = clear_errors_if is_progress c in
       let v : Tcb = sample_rtt rtt t in
-      ap (λ (u : Tcb). acks.goes_on u (go_on (named_phase n phase) u (plain pack d))) (sampled_named n rtt t)
-      ∙ (ap (λ (o : Onward P). acks.goes_on (named_tcb n v) o) (go_on_named phase v d k) ∙ goes_on_named v (go_on phase v d) (go_on_stays phase v d ∙ k))
+      ap (λ (u : Tcb). acks.send_after_sack u (maybe_send_shutdown_or_ack (named_phase n phase) u (plain pack d))) (sampled_named n rtt t)
+      ∙ (ap (λ (o : PhaseStep P). acks.send_after_sack (named_tcb n v) o) (go_on_named phase v d k) ∙ goes_on_named v (maybe_send_shutdown_or_ack phase v d) (go_on_stays phase v d ∙ k))
 
   clean_sack_named : (m a_rwnd : ℕ) (bs : List GapAckBlock) (phase : Phase) (t : Tcb) (c : Context P) → Knows n pack c
       → on_clean_sack m a_rwnd bs (named_phase n phase) (named_tcb n t) (plain pack c) ≡ named_endpoint_state n pack (on_clean_sack m a_rwnd bs phase t c)

@@ -9,10 +9,10 @@ use Rattle.sctp_state.specs.Options.{Options}
 use Rattle.sctp_state.specs.declared.api.ErrorKind.TheVariants.{ParseFailed}
 use Rattle.sctp_state.specs.Events.{Event, SendPacket, OnError}
 use Rattle.spec_endpoint.specs.Association.{CookieEchoed, Established, ShutdownPending, ShutdownSent, ShutdownReceived, ShutdownAckSent, State, Closed, CookieWait, Open, Context, EndpointState, Endpoint}
-use Rattle.spec_endpoint.specs.Sending.{is_alone}
-use Rattle.spec_endpoint.specs.Opening.{tsn_from, tag_from, word, drew_word, complains}
-use Rattle.spec_endpoint.specs.Input.{counts, count_packet}
-use Rattle.spec_endpoint.specs.Laws.{Call, Packet, called, is_closed}
+use Rattle.spec_endpoint.specs.Sending.{is_before_cookie_ack}
+use Rattle.spec_endpoint.specs.Opening.{tsn_from, tag_from, word, drew_word, emit_parse_error}
+use Rattle.spec_endpoint.specs.Input.{count_packet_at, count_packet}
+use Rattle.spec_endpoint.specs.Laws.{Call, ReceivePacket, called, is_closed}
 use Rattle.proof_endpoint.specs.Mapped.{Carried}
 use Rattle.proof_endpoint.specs.Acts.{is_opened}
 use Rattle.proof_pair.specs.Trace.{Side, packets_in, drain, state_of}
@@ -35,7 +35,7 @@ first_is_init (init_chunk i ∷ cs) = true
 first_is_init (c ∷ cs) = false
 
 abbrev pub receives_init : Call → Bool
-receives_init (Packet p) = first_is_init p.chunks
+receives_init (ReceivePacket p) = first_is_init p.chunks
 receives_init c = false
 
 -- the tag that a closed end draws for the answer to an INIT
@@ -50,7 +50,7 @@ two_of e = record { tag = tag_from (word (drew_word e)); first = tsn_from (word 
 abbrev pub is_past : State → Bool
 is_past Closed = true
 is_past (CookieWait tag first t1) = true
-is_past (Open phase t) = not (is_alone phase)
+is_past (Open phase t) = not (is_before_cookie_ack phase)
 
 -- What holds numbers is emitted by an end with a control block; an INIT ACK by a closed end to an INIT, with the tag drawn for it; and where
 -- an INIT is received, a cookie by an end that keeps it.
@@ -154,8 +154,8 @@ pub record Named (ps : List (Drawn × Drawn)) (x z : Side) (u : State) (c : Call
 pub record Refused (x z : Side) (c : Call) (f : Endpoint Carried) : Type 0 where
   pub text : List ℕ
   pub other : List ℕ
-  pub is : called c x.end ≡ complains text (counts x.end)
-  pub so : f ≡ complains other (counts z.end)
+  pub is : called c x.end ≡ emit_parse_error text (count_packet_at x.end)
+  pub so : f ≡ emit_parse_error other (count_packet_at z.end)
 
 abbrev pub Outcome : List (Drawn × Drawn) → (x z : Side) (u : State) → Call → Endpoint Carried → Type 0
 Outcome ps x z u c f = Named ps x z u c f ⊎ Refused x z c f
@@ -277,7 +277,7 @@ module _ (ps : List (Drawn × Drawn)) (k : Knows ps) where
         (ap (λ (d : Context Carried). d.emitted.events) t.context ∙ quiet))
 
     refused_both : (text other : List ℕ) → x.end.endpoint_state.context.emitted.events ≡ []
-        → Twin ps (asked_as asked (drain (complains text (counts x.end)) x)) y (asked_as both_asked (drain (complains other (counts z.end)) z))
+        → Twin ps (asked_as asked (drain (emit_parse_error text (count_packet_at x.end)) x)) y (asked_as both_asked (drain (emit_parse_error other (count_packet_at z.end)) z))
     refused_both text other quiet = record {
       tie = t.tie;
       state = t.state;
@@ -289,7 +289,7 @@ module _ (ps : List (Drawn × Drawn)) (k : Knows ps) where
     refused_after : Refused x z c f → x.end.endpoint_state.context.emitted.events ≡ [] → Twin ps after y (asked_as both_asked (drain f z))
     refused_after r quiet =
         subst (λ (w : Endpoint Carried). Twin ps (asked_as asked (drain w x)) y (asked_as both_asked (drain f z))) (sym r.is)
-        (subst (λ (w : Endpoint Carried). Twin ps (asked_as asked (drain (complains r.text (counts x.end)) x)) y (asked_as both_asked (drain w z))) (sym r.so)
+        (subst (λ (w : Endpoint Carried). Twin ps (asked_as asked (drain (emit_parse_error r.text (count_packet_at x.end)) x)) y (asked_as both_asked (drain w z))) (sym r.so)
         (refused_both r.text r.other quiet))
 
     pub twin_after : Outcome ps x z (state_of y) c f → x.end.endpoint_state.context.emitted.events ≡ [] → SaidAfter → Twin ps after y (asked_as both_asked (drain f z))

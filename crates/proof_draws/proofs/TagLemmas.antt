@@ -3,9 +3,9 @@ use Rattle.std.proofs.Common.{◌≡◌, ℕ, ◌==◌, ◌||◌, not, Bool, tru
 use Rattle.sctp_packet.specs.Chunk.{ChunkTree, data_chunk, init_chunk, init_ack_chunk, sack_chunk, heartbeat_request_chunk, heartbeat_ack_chunk, abort_chunk, shutdown_chunk, shutdown_ack_chunk, error_chunk, cookie_echo_chunk, cookie_ack_chunk, shutdown_complete_chunk, idata_chunk, re_config_chunk, forward_tsn_chunk, i_forward_tsn_chunk, unknown_chunk}
 use Rattle.sctp_capabilities.specs.StateCookie.{Cookie}
 use Rattle.spec_endpoint.specs.Association.{Identity, Tcb, Phase, CookieEchoed, Established, ShutdownPending, ShutdownSent, ShutdownReceived, ShutdownAckSent, State, Closed, CookieWait, Open}
-use Rattle.spec_endpoint.specs.Sending.{is_alone}
-use Rattle.spec_endpoint.specs.Input.{my_tag, has_tag_in, abort_flag, complete_flag, has_shutdown_ack, has_data, begins_with_cookie, is_single_init, is_early, unless, plain_refusal, refusal_by, refusal}
-use Rattle.spec_endpoint.specs.Opening.{by_tags, new_if, compare_tags, resolve_cookie}
+use Rattle.spec_endpoint.specs.Sending.{is_before_cookie_ack}
+use Rattle.spec_endpoint.specs.Input.{my_tag, has_tag_in, abort_flag, complete_flag, has_shutdown_ack, has_data_chunk, begins_with_cookie, is_single_init, is_early, unless, plain_refusal, packet_refusal_by, packet_refusal}
+use Rattle.spec_endpoint.specs.Opening.{by_tags, new_if, resolve_by_tags, resolve_cookie}
 use Rattle.proof_draws.specs.NamedChunks.{Names, AreNames, named_chunks}
 use Rattle.proof_draws.specs.Names.{named_identity, named_phase, named_state, named_cookie}
 use Rattle.proof_draws.specs.Laws.{TiesTell}
@@ -76,7 +76,7 @@ module _ (n : Names) where
   shut_named (i_forward_tsn_chunk tsn skipped ∷ cs) = shut_named cs
   shut_named (unknown_chunk typ flags value ∷ cs) = shut_named cs
 
-  pub data_named : (cs : List ChunkTree) → has_data (named_chunks n cs) ≡ has_data cs
+  pub data_named : (cs : List ChunkTree) → has_data_chunk (named_chunks n cs) ≡ has_data_chunk cs
   data_named [] = refl
   data_named (data_chunk tsn immediate f ∷ cs) = refl
   data_named (idata_chunk tsn immediate f ∷ cs) = data_named cs
@@ -140,7 +140,7 @@ module _ (n : Names) where
   single_named (i_forward_tsn_chunk tsn skipped ∷ cs) = refl
   single_named (unknown_chunk typ flags value ∷ cs) = refl
 
-  pub alone_named : (phase : Phase) → is_alone (named_phase n phase) ≡ is_alone phase
+  pub alone_named : (phase : Phase) → is_before_cookie_ack (named_phase n phase) ≡ is_before_cookie_ack phase
   alone_named (CookieEchoed t1 cookie) = refl
   alone_named Established = refl
   alone_named ShutdownPending = refl
@@ -202,7 +202,7 @@ module _ (n : Names) (are : AreNames n) where
 
   -- whose chunks have names of any kind
   refused_by_named : (m : Names) (abort complete : Option Bool) (shut : Bool) (tag : ℕ) (cs : List ChunkTree) (s : State)
-      → is_some (refusal_by abort complete shut (n.tag tag) (named_chunks m cs) (named_state n s)) ≡ is_some (refusal_by abort complete shut tag cs s)
+      → is_some (packet_refusal_by abort complete shut (n.tag tag) (named_chunks m cs) (named_state n s)) ≡ is_some (packet_refusal_by abort complete shut tag cs s)
   refused_by_named m (Some reflected) complete shut tag cs s = refused_unless _ _ _ _ (has_tag_named s reflected tag)
   refused_by_named m None (Some reflected) shut tag cs s = refused_unless _ _ _ _ (has_tag_named s reflected tag)
   refused_by_named m None None true tag cs s =
@@ -215,20 +215,20 @@ module _ (n : Names) (are : AreNames n) where
       (cookie_named m cs) (is_none_named tag) (single_named m cs) (is_own_named s tag)
 
   pub refused_named : (m : Names) (tag : ℕ) (cs : List ChunkTree) (s : State)
-      → is_some (refusal (n.tag tag) (named_chunks m cs) (named_state n s)) ≡ is_some (refusal tag cs s)
+      → is_some (packet_refusal (n.tag tag) (named_chunks m cs) (named_state n s)) ≡ is_some (packet_refusal tag cs s)
   refused_named m tag cs s =
       let ds : List ChunkTree = named_chunks m cs in
       let r : State = named_state n s in
-      ap (λ (o : Option Bool). is_some (refusal_by o (complete_flag ds) (has_shutdown_ack ds) (n.tag tag) ds r)) (abort_named m cs)
-      ∙ (ap (λ (o : Option Bool). is_some (refusal_by (abort_flag cs) o (has_shutdown_ack ds) (n.tag tag) ds r)) (complete_named m cs)
-      ∙ (ap (λ (b : Bool). is_some (refusal_by (abort_flag cs) (complete_flag cs) b (n.tag tag) ds r)) (shut_named m cs)
+      ap (λ (o : Option Bool). is_some (packet_refusal_by o (complete_flag ds) (has_shutdown_ack ds) (n.tag tag) ds r)) (abort_named m cs)
+      ∙ (ap (λ (o : Option Bool). is_some (packet_refusal_by (abort_flag cs) o (has_shutdown_ack ds) (n.tag tag) ds r)) (complete_named m cs)
+      ∙ (ap (λ (b : Bool). is_some (packet_refusal_by (abort_flag cs) (complete_flag cs) b (n.tag tag) ds r)) (shut_named m cs)
       ∙ refused_by_named m (abort_flag cs) (complete_flag cs) (has_shutdown_ack cs) tag cs s))
 
   -- ---- a cookie that came back
 
   -- where the ties say the same
   by_ties : (tag : ℕ) (i : Identity) (k : Cookie) → (n.cookie_tie k.tie_tag == n.tie i.tie) ≡ (k.tie_tag == i.tie) → (n.cookie_tie k.tie_tag == 0) ≡ (k.tie_tag == 0)
-      → compare_tags (n.tag tag) (named_identity n i) (named_cookie n k) ≡ compare_tags tag i k
+      → resolve_by_tags (n.tag tag) (named_identity n i) (named_cookie n k) ≡ resolve_by_tags tag i k
   by_ties tag i k same none =
       ap (λ (b : Bool). by_tags (not b) (not (n.tag k.peer_tag == n.tag i.peer_tag)) (n.cookie_tie k.tie_tag == n.tie i.tie) (n.cookie_tie k.tie_tag == 0)) (are.apart tag i.my_tag)
       ∙ (ap (λ (b : Bool). by_tags (not (tag == i.my_tag)) (not b) (n.cookie_tie k.tie_tag == n.tie i.tie) (n.cookie_tie k.tie_tag == 0)) (are.apart k.peer_tag i.peer_tag)
@@ -236,7 +236,7 @@ module _ (n : Names) (are : AreNames n) where
       ∙ ap (λ (b : Bool). by_tags (not (tag == i.my_tag)) (not (k.peer_tag == i.peer_tag)) (k.tie_tag == i.tie) b) none))
 
   -- under the own tag no tie is looked at
-  pub by_own_tag : (tag : ℕ) (i : Identity) (k : Cookie) → (tag == i.my_tag) ≡ true → compare_tags (n.tag tag) (named_identity n i) (named_cookie n k) ≡ compare_tags tag i k
+  pub by_own_tag : (tag : ℕ) (i : Identity) (k : Cookie) → (tag == i.my_tag) ≡ true → resolve_by_tags (n.tag tag) (named_identity n i) (named_cookie n k) ≡ resolve_by_tags tag i k
   by_own_tag tag i k own =
       let other : Bool = n.tag k.peer_tag == n.tag i.peer_tag in
       ap (λ (b : Bool). by_tags (not b) (not other) (n.cookie_tie k.tie_tag == n.tie i.tie) (n.cookie_tie k.tie_tag == 0)) (are.apart tag i.my_tag ∙ own)
@@ -244,7 +244,7 @@ module _ (n : Names) (are : AreNames n) where
       ∙ (ap (λ (b : Bool). by_tags false (not b) (k.tie_tag == i.tie) (k.tie_tag == 0)) (are.apart k.peer_tag i.peer_tag)
       ∙ ap (λ (b : Bool). by_tags (not b) (not (k.peer_tag == i.peer_tag)) (k.tie_tag == i.tie) (k.tie_tag == 0)) (sym own)))
 
-  compared_named : (tag : ℕ) (i : Identity) (k : Cookie) → TiesTell n tag i k → compare_tags (n.tag tag) (named_identity n i) (named_cookie n k) ≡ compare_tags tag i k
+  compared_named : (tag : ℕ) (i : Identity) (k : Cookie) → TiesTell n tag i k → resolve_by_tags (n.tag tag) (named_identity n i) (named_cookie n k) ≡ resolve_by_tags tag i k
   compared_named tag i k (TiesTell.under_own own) = by_own_tag tag i k own
   compared_named tag i k (TiesTell.apart same none) = by_ties tag i k same none
 

@@ -8,7 +8,7 @@ use Rattle.sctp_packet.specs.Packet.{PacketTree}
 use Rattle.sctp_capabilities.specs.StateCookie.{Cookie}
 use Rattle.spec_endpoint.specs.Association.{Tcb, Phase, CookieEchoed, Established, ShutdownPending, ShutdownSent, ShutdownReceived, ShutdownAckSent, State, Closed, CookieWait, Open, Context, EndpointState, Endpoint, with_context, where_open, Packing}
 use Rattle.spec_endpoint.specs.Opening.{resolve_cookie}
-use Rattle.spec_endpoint.specs.Input.{refusal, violation, on_chunk, goes_on, Received, received_if, receive, receive_rest, receive_all, has_data, repeats_if, end_packet, handle_chunks, count_packet, counts, taken_if, on_packet}
+use Rattle.spec_endpoint.specs.Input.{packet_refusal, violation, on_chunk, allows_next, AfterChunk, received_if, receive, receive_rest, receive_all, has_data_chunk, repeats_if, on_packet_end, on_accepted_packet, count_packet, count_packet_at, packet_if, on_packet}
 use Rattle.proof_endpoint.proofs.OpeningStepsLemmas.{steps_init, steps_init_ack, steps_cookie_echo}
 use Rattle.proof_endpoint.proofs.RowMapsLemmas.{endpoint_state_in}
 use Rattle.proof_endpoint.proofs.InputMapsLemmas.{received_as}
@@ -21,7 +21,7 @@ use Rattle.proof_draws.proofs.TagLemmas.{data_named, refused_named}
 use Rattle.proof_draws.proofs.ClosingLemmas.{where_named, ended_named}
 use Rattle.proof_draws.proofs.NumberLemmas.{repeats_if_fits, cookie_echo_fits}
 use Rattle.proof_draws.proofs.ReceiveLemmas.{all_stay, repeats_if_stays, violation_named, all_named, repeats_if_named}
-use Rattle.proof_draws.proofs.ComingLemmas.{init_named, init_ack_named, cookie_echo_named}
+use Rattle.proof_draws.proofs.HandshakeNamedLemmas.{init_named, init_ack_named, cookie_echo_named}
 
 -- ---- chunks that open nothing draw nothing
 
@@ -51,9 +51,9 @@ module _ {P : Type 0} (v : Stream) where
   chunk_quiet tag (unknown_chunk typ flags value) e h = refl
 
   received_quiet : (o : Option (List ℕ)) (tag : ℕ) (chunk : ChunkTree) (e : Endpoint P) → is_flowing chunk ≡ true
-      → received_if o tag chunk (worded v e) ≡ received_as (received_if o tag chunk e).goes_on (worded v (received_if o tag chunk e).end)
+      → received_if o tag chunk (worded v e) ≡ received_as (received_if o tag chunk e).allows_next (worded v (received_if o tag chunk e).end)
   received_quiet (Some reason) tag chunk e h = refl
-  received_quiet None tag chunk e h = ap (λ (x : Endpoint P). received_as (goes_on chunk) x) (chunk_quiet tag chunk e h)
+  received_quiet None tag chunk e h = ap (λ (x : Endpoint P). received_as (allows_next chunk) x) (chunk_quiet tag chunk e h)
 
   rest_quiet : (rest : Endpoint P → Endpoint P) (b : Bool) (e : Endpoint P) → rest (worded v e) ≡ worded v (rest e)
       → receive_rest rest (received_as b (worded v e)) ≡ worded v (receive_rest rest (received_as b e))
@@ -64,15 +64,15 @@ module _ {P : Type 0} (v : Stream) where
   all_quiet tag [] e h = refl
   all_quiet tag (c ∷ cs) e h =
       let both = and_parts (is_flowing c) (list_all is_flowing cs) h in
-      let x : Received P = receive tag c e in
-      ap (λ (y : Received P). receive_rest (receive_all tag cs) y) (received_quiet (violation e.endpoint_state.state c) tag c e both.0)
-      ∙ rest_quiet (receive_all tag cs) x.goes_on x.end (all_quiet tag cs x.end both.1)
+      let x : AfterChunk P = receive tag c e in
+      ap (λ (y : AfterChunk P). receive_rest (receive_all tag cs) y) (received_quiet (violation e.endpoint_state.state c) tag c e both.0)
+      ∙ rest_quiet (receive_all tag cs) x.allows_next x.end (all_quiet tag cs x.end both.1)
 
 -- ---- the first chunk
 
 module _ {P : Type 0} where
   -- one that nothing forbids
-  first_received : (tag : ℕ) (c : ChunkTree) (cs : List ChunkTree) (e : Endpoint P) → violation e.endpoint_state.state c ≡ None → goes_on c ≡ true
+  first_received : (tag : ℕ) (c : ChunkTree) (cs : List ChunkTree) (e : Endpoint P) → violation e.endpoint_state.state c ≡ None → allows_next c ≡ true
       → receive_all tag (c ∷ cs) e ≡ receive_all tag cs (on_chunk tag c e)
   first_received tag c cs e allowed on =
       ap (λ (o : Option (List ℕ)). receive_rest (receive_all tag cs) (received_if o tag c e)) allowed
@@ -160,7 +160,7 @@ record ReceivedAlike {P : Type 0} (n : Names) (pack : Packing P) (tag : ℕ) (cs
 
 abbrev HandledAlike : {P : Type 0} → Names → Packing P → (tag : ℕ) → List ChunkTree → EndpointState P → (w v : Stream) → Type 0
 HandledAlike {P} n pack tag cs s w v =
-    (handle_chunks (n.tag tag) (named_chunks (flip n) cs) (with_random v (named_endpoint_state n pack s))).endpoint_state ≡ named_endpoint_state n pack (handle_chunks tag cs (with_random w s)).endpoint_state
+    (on_accepted_packet (n.tag tag) (named_chunks (flip n) cs) (with_random v (named_endpoint_state n pack s))).endpoint_state ≡ named_endpoint_state n pack (on_accepted_packet tag cs (with_random w s)).endpoint_state
 
 module _ {P : Type 0} (n : Names) (are : AreNames n) (pack : Packing P) where
   -- ends that stand alike
@@ -168,9 +168,9 @@ module _ {P : Type 0} (n : Names) (are : AreNames n) (pack : Packing P) where
       → y.endpoint_state ≡ named_endpoint_state n pack x.endpoint_state → (receive_all (n.tag tag) (named_chunks (flip n) cs) y).endpoint_state ≡ named_endpoint_state n pack (receive_all tag cs x).endpoint_state
   flow_alike tag [] x y h f k same = same
   flow_alike tag (c ∷ cs) x y h f k same =
-      ap (λ (s : EndpointState P). (receive_all (n.tag tag) (named_chunks (flip n) (c ∷ cs)) (with_random y.random s)).endpoint_state) same
-      ∙ (ap (λ (e : Endpoint P). e.endpoint_state) (all_named n are pack tag (c ∷ cs) (worded y.random x) h f k)
-      ∙ ap (λ (e : Endpoint P). named_endpoint_state n pack e.endpoint_state) (all_quiet y.random tag (c ∷ cs) x h))
+      ap (λ (s : EndpointState P). (receive_all (n.tag tag) (named_chunks (flip n) (c ∷ cs)) (with_random y.draws s)).endpoint_state) same
+      ∙ (ap (λ (e : Endpoint P). e.endpoint_state) (all_named n are pack tag (c ∷ cs) (worded y.draws x) h f k)
+      ∙ ap (λ (e : Endpoint P). named_endpoint_state n pack e.endpoint_state) (all_quiet y.draws tag (c ∷ cs) x h))
 
   flow_received : (tag : ℕ) (cs : List ChunkTree) (s : EndpointState P) (w v : Stream) → list_all is_flowing cs ≡ true → NumbersFitIn s.state → Knows n pack s.context → ReceivedAlike n pack tag cs s w v
   flow_received tag cs s w v h f k = record {
@@ -180,7 +180,7 @@ module _ {P : Type 0} (n : Names) (are : AreNames n) (pack : Packing P) where
 
   -- behind a first chunk that both take alike
   first_alike : (tag : ℕ) (c : ChunkTree) (cs : List ChunkTree) (s : EndpointState P) (w v : Stream)
-      → violation s.state c ≡ None → goes_on c ≡ true → goes_on (named_chunk (flip n) c) ≡ true → list_all is_flowing cs ≡ true
+      → violation s.state c ≡ None → allows_next c ≡ true → allows_next (named_chunk (flip n) c) ≡ true → list_all is_flowing cs ≡ true
       → FitsFor cs (on_chunk tag c (with_random w s)).endpoint_state.state → Knows n pack (on_chunk tag c (with_random w s)).endpoint_state.context
       → (on_chunk (n.tag tag) (named_chunk (flip n) c) (with_random v (named_endpoint_state n pack s))).endpoint_state ≡ named_endpoint_state n pack (on_chunk tag c (with_random w s)).endpoint_state
       → ReceivedAlike n pack tag (c ∷ cs) s w v
@@ -199,15 +199,15 @@ module _ {P : Type 0} (n : Names) (are : AreNames n) (pack : Packing P) where
       }
 
   -- the beginning and the end of a packet
-  handled_alike : (tag : ℕ) (cs : List ChunkTree) (s : EndpointState P) (w v : Stream) → ReceivedAlike n pack tag cs (repeats_if (has_data cs) s) w v → Knows n pack s.context
+  handled_alike : (tag : ℕ) (cs : List ChunkTree) (s : EndpointState P) (w v : Stream) → ReceivedAlike n pack tag cs (repeats_if (has_data_chunk cs) s) w v → Knows n pack s.context
       → HandledAlike n pack tag cs s w v
   handled_alike tag cs s w v h k =
       let ds : List ChunkTree = named_chunks (flip n) cs in
-      let x : EndpointState P = (receive_all tag cs (with_random w (repeats_if (has_data cs) s))).endpoint_state in
-      ap (λ (b : Bool). where_open end_packet (receive_all (n.tag tag) ds (with_random v (repeats_if b (named_endpoint_state n pack s)))).endpoint_state) (data_named (flip n) cs)
-      ∙ (ap (λ (r : EndpointState P). where_open end_packet (receive_all (n.tag tag) ds (with_random v r)).endpoint_state) (repeats_if_named n are pack (has_data cs) s k)
-      ∙ (ap (λ (r : EndpointState P). where_open end_packet r) h.alike
-      ∙ where_named n are pack end_packet x (ended_named n are pack) h.knows))
+      let x : EndpointState P = (receive_all tag cs (with_random w (repeats_if (has_data_chunk cs) s))).endpoint_state in
+      ap (λ (b : Bool). where_open on_packet_end (receive_all (n.tag tag) ds (with_random v (repeats_if b (named_endpoint_state n pack s)))).endpoint_state) (data_named (flip n) cs)
+      ∙ (ap (λ (r : EndpointState P). where_open on_packet_end (receive_all (n.tag tag) ds (with_random v r)).endpoint_state) (repeats_if_named n are pack (has_data_chunk cs) s k)
+      ∙ (ap (λ (r : EndpointState P). where_open on_packet_end r) h.alike
+      ∙ where_named n are pack on_packet_end x (ended_named n are pack) h.knows))
 
   cookie_after : (b : Bool) (tag : ℕ) (cookie : List ℕ) (st : State) (c : Context P) (w v : Stream) → CookieIsNamed n tag cookie st w v
       → CookieIsNamed n tag cookie (repeats_if b (endpoint_state_in st c)).state w v
@@ -220,8 +220,8 @@ module _ {P : Type 0} (n : Names) (are : AreNames n) (pack : Packing P) where
 
   taken_as : (tag : ℕ) (cs : List ChunkTree) (s : EndpointState P) (w v : Stream) → AreNamed n tag cs s.state w v → NumbersFitIn s.state → Knows n pack s.context → HandledAlike n pack tag cs s w v
   taken_as tag cs s w v (AreNamed.flow h) f k =
-      let r : EndpointState P = repeats_if (has_data cs) s in
-      handled_alike tag cs s w v (flow_received tag cs r w v h (repeats_if_fits (has_data cs) s f) (repeats_if_stays (has_data cs) s ∙ k)) k
+      let r : EndpointState P = repeats_if (has_data_chunk cs) s in
+      handled_alike tag cs s w v (flow_received tag cs r w v h (repeats_if_fits (has_data_chunk cs) s f) (repeats_if_stays (has_data_chunk cs) s ∙ k)) k
   taken_as tag cs s w v (AreNamed.init i e is) f k =
       subst (λ (ds : List ChunkTree). HandledAlike n pack tag ds s w v) (sym e)
       (handled_alike tag (init_chunk i ∷ []) s w v
@@ -231,7 +231,7 @@ module _ {P : Type 0} (n : Names) (are : AreNames n) (pack : Packing P) where
       (handled_alike tag (init_ack_chunk i ∷ []) s w v
       (first_alike tag (init_ack_chunk i) [] s w v (init_ack_allowed s.state i) refl refl refl tt ((steps_init_ack i (with_random w s)).pack ∙ k) (init_ack_named n are pack i s w v is k)) k)
   taken_as tag cs s w v (AreNamed.cookie_echo cookie rest e is h) f k =
-      let b : Bool = has_data rest in
+      let b : Bool = has_data_chunk rest in
       let r : EndpointState P = repeats_if b s in
       let at : Knows n pack r.context = repeats_if_stays b s ∙ k in
       subst (λ (ds : List ChunkTree). HandledAlike n pack tag ds s w v) (sym e)
@@ -246,7 +246,7 @@ module _ {P : Type 0} (n : Names) (are : AreNames n) (pack : Packing P) where
   packet_named p s w v is k =
       let tag : ℕ = p.header.verification_tag in
       let ds : List ChunkTree = named_chunks (flip n) p.chunks in
-      let other : refusal (n.tag tag) ds (named_state n s.state) ≡ None = none_of (refusal (n.tag tag) ds (named_state n s.state)) (refused_named n are (flip n) tag p.chunks s.state ∙ ap (λ (o : Option (List ℕ)). is_some o) is.taken) in
-      ap (λ (o : Option (List ℕ)). (taken_if o (n.tag tag) ds (counts (with_random v (named_endpoint_state n pack s)))).endpoint_state) other
+      let other : packet_refusal (n.tag tag) ds (named_state n s.state) ≡ None = none_of (packet_refusal (n.tag tag) ds (named_state n s.state)) (refused_named n are (flip n) tag p.chunks s.state ∙ ap (λ (o : Option (List ℕ)). is_some o) is.taken) in
+      ap (λ (o : Option (List ℕ)). (packet_if o (n.tag tag) ds (count_packet_at (with_random v (named_endpoint_state n pack s)))).endpoint_state) other
       ∙ (taken_as tag p.chunks (with_context s (count_packet s.context)) w v is.chunks is.numbers k
-      ∙ sym (ap (λ (o : Option (List ℕ)). named_endpoint_state n pack (taken_if o tag p.chunks (counts (with_random w s))).endpoint_state) is.taken))
+      ∙ sym (ap (λ (o : Option (List ℕ)). named_endpoint_state n pack (packet_if o tag p.chunks (count_packet_at (with_random w s))).endpoint_state) is.taken))

@@ -6,12 +6,12 @@ use Rattle.sctp_state.specs.TxErrorCounter.{is_exhausted}
 use Rattle.sctp_state.specs.RetransmissionTimeout.{rto}
 use Rattle.sctp_state.specs.Timer.{Timer, is_due, is_running, expire}
 use Rattle.spec_endpoint.specs.Association.{Tcb, Phase, CookieEchoed, Established, ShutdownPending, ShutdownSent, ShutdownReceived, ShutdownAckSent, State, Closed, CookieWait, Open, Context, EndpointState, Packing}
-use Rattle.spec_endpoint.specs.Packets.{Packet, fits, add, packet_to, new_packet, emit}
-use Rattle.spec_endpoint.specs.ResetRequests.{Request, Requests, lasting, expire_request, wake_request, awake, is_unanswered}
-use Rattle.spec_endpoint.specs.Sending.{Sent, add_request, cookie_if, send_cookie}
+use Rattle.spec_endpoint.specs.Packets.{PacketDraft, fits, add, packet_to, new_packet, emit}
+use Rattle.spec_endpoint.specs.ResetRequests.{Request, Requests, lasting, expire_reconfig_timer, clear_deferral, without_deferral, is_unanswered}
+use Rattle.spec_endpoint.specs.Sending.{AfterSending, add_request, cookie_if, send_cookie}
 use Rattle.spec_endpoint.specs.Shutdown.{send_shutdown, send_shutdown_ack, too_many}
-use Rattle.spec_endpoint.specs.Heartbeats.{counted_on, heartbeat, beat_if, unanswered_if}
-use Rattle.spec_endpoint.specs.Timers.{Ticking, tick_ack, t3_if, tick_t3, tick_interval, tick_timeout, request_again, errs_if, requests_again, heartbeat_timeout, requests_if, tick_requests, ticking, tick_timers, Left, left_after, endpoint_state_if, endpoint_state_left, ended_if, end_association, ended_or_sent, goes_on, settled_if, settle_ticks, t2_expired, t2_if, tick_t2, waits_if, echoed_again, t1_expired, t1_if, tick_cookie, Waited, wait_on, waiting_if, endpoint_state_waited, init_expired, init_if, tick_init, tick_open, tick_in, advance_if, advance}
+use Rattle.spec_endpoint.specs.Heartbeats.{counted_on, heartbeat_chunk, send_heartbeat_if, heartbeat_timeout_if}
+use Rattle.spec_endpoint.specs.Timers.{Ticking, tick_ack, t3_if, tick_t3, tick_interval, tick_timeout, request_again, errs_if, requests_again, reconfig_timeout, requests_if, tick_requests, ticking, tick_timers, TimerOutcome, timer_outcome, closed_if, after_timers, abort_if, abort_if_exhausted, abort_or_send_if, abort_or_send, after_ticks_if, after_ticks, t2_expired, t2_if, tick_t2, waits_if, echoed_again, t1_expired, t1_if, tick_cookie, InitOutcome, init_outcome, waiting_if, after_init_timer, init_expired, init_if, tick_init, tick_open, tick_in, advance_if, advance}
 use Rattle.proof_draws.specs.NamedChunks.{Names, AreNames, move_by}
 use Rattle.proof_draws.specs.Names.{named_request, named_requests, named_phase, named_tcb, named_state, named_endpoint_state, plain}
 use Rattle.proof_draws.proofs.WritingLemmas.{Knows, named_emit, named_emit_chunk, emit_stays}
@@ -25,10 +25,10 @@ use Rattle.proof_endpoint.proofs.TimeMapsLemmas.{ticking_as}
 abbrev named_ticking : {P : Type 0} → Names → Packing P → Ticking P → Ticking P
 named_ticking n pack x = record { tcb = named_tcb n x.tcb; context = plain pack x.context; has_expired = x.has_expired }
 
-abbrev named_left : {P : Type 0} → Names → Packing P → Left P → Left P
+abbrev named_left : {P : Type 0} → Names → Packing P → TimerOutcome P → TimerOutcome P
 named_left n pack x = record { tcb = named_tcb n x.tcb; context = plain pack x.context; has_ended = x.has_ended }
 
-abbrev plain_waited : {P : Type 0} → Packing P → Waited P → Waited P
+abbrev plain_waited : {P : Type 0} → Packing P → InitOutcome P → InitOutcome P
 plain_waited pack x = record { context = plain pack x.context; has_ended = x.has_ended }
 
 -- ---- who writes stays
@@ -51,11 +51,11 @@ module _ {P : Type 0} where
   t3_stays true x = refl
   t3_stays false x = refl
 
-  beat_stays : (b : Bool) (t : Tcb) (c : Context P) → (beat_if b t c).pack ≡ c.pack
-  beat_stays true t c = emit_stays (add (heartbeat (counted_on c).heartbeats.counter) (new_packet c.options t)) (counted_on c)
+  beat_stays : (b : Bool) (t : Tcb) (c : Context P) → (send_heartbeat_if b t c).pack ≡ c.pack
+  beat_stays true t c = emit_stays (add (heartbeat_chunk (counted_on c).heartbeats.counter) (new_packet c.options t)) (counted_on c)
   beat_stays false t c = refl
 
-  unanswered_stays : (b : Bool) (c : Context P) → (unanswered_if b c).pack ≡ c.pack
+  unanswered_stays : (b : Bool) (c : Context P) → (heartbeat_timeout_if b c).pack ≡ c.pack
   unanswered_stays true c = refl
   unanswered_stays false c = refl
 
@@ -71,7 +71,7 @@ module _ {P : Type 0} where
   requests_stay : (b : Bool) (x : Ticking P) → (requests_if b x).context.pack ≡ x.context.pack
   requests_stay true x =
       let c : Context P = errs_if (is_unanswered x.tcb.requests.current) x.context in
-      let t : Tcb = record x.tcb { requests = wake_request (expire_request x.context.now x.tcb.requests) } in
+      let t : Tcb = record x.tcb { requests = clear_deferral (expire_reconfig_timer x.context.now x.tcb.requests) } in
       again_stays (is_exhausted c.errors) (ticking_as t c true) ∙ errs_stays (is_unanswered x.tcb.requests.current) x.context
   requests_stay false x = refl
 
@@ -91,8 +91,8 @@ module _ {P : Type 0} (n : Names) (are : AreNames n) (pack : Packing P) where
   t3_named true x = refl
   t3_named false x = refl
 
-  beat_named : (b : Bool) (t : Tcb) (c : Context P) → Knows n pack c → beat_if b (named_tcb n t) (plain pack c) ≡ plain pack (beat_if b t c)
-  beat_named true t c k = let d : Context P = counted_on c in named_emit_chunk n are pack (heartbeat d.heartbeats.counter) t d k
+  beat_named : (b : Bool) (t : Tcb) (c : Context P) → Knows n pack c → send_heartbeat_if b (named_tcb n t) (plain pack c) ≡ plain pack (send_heartbeat_if b t c)
+  beat_named true t c k = let d : Context P = counted_on c in named_emit_chunk n are pack (heartbeat_chunk d.heartbeats.counter) t d k
   beat_named false t c k = refl
 
   interval_named : (x : Ticking P) → Knows n pack x.context → tick_interval (named_ticking n pack x) ≡ named_ticking n pack (tick_interval x)
@@ -100,7 +100,7 @@ module _ {P : Type 0} (n : Names) (are : AreNames n) (pack : Packing P) where
       ap (λ (c : Context P). ticking_as (named_tcb n x.tcb) c (tick_interval x).has_expired)
       (beat_named (is_due x.context.now x.context.heartbeats.interval) x.tcb x.context k)
 
-  unanswered_if_named : (b : Bool) (c : Context P) → unanswered_if b (plain pack c) ≡ plain pack (unanswered_if b c)
+  unanswered_if_named : (b : Bool) (c : Context P) → heartbeat_timeout_if b (plain pack c) ≡ plain pack (heartbeat_timeout_if b c)
   unanswered_if_named true c = refl
   unanswered_if_named false c = refl
 
@@ -113,8 +113,8 @@ module _ {P : Type 0} (n : Names) (are : AreNames n) (pack : Packing P) where
   again_named true x k = refl
   again_named false x k =
       let t : Tcb = record x.tcb { requests = lasting (rto x.tcb.rtt) x.tcb.requests } in
-      let p : Packet = new_packet x.context.options t in
-      ap (λ (q : Packet). ticking_as (named_tcb n t) (emit q (plain pack x.context)) x.has_expired) (add_request_named n are pack t.requests.current p)
+      let p : PacketDraft = new_packet x.context.options t in
+      ap (λ (q : PacketDraft). ticking_as (named_tcb n t) (emit q (plain pack x.context)) x.has_expired) (add_request_named n are pack t.requests.current p)
       ∙ ap (λ (d : Context P). ticking_as (named_tcb n t) d x.has_expired) (named_emit n are pack (add_request t.requests.current p) x.context k)
 
   errs_named : (b : Bool) (c : Context P) → errs_if b (plain pack c) ≡ plain pack (errs_if b c)
@@ -125,18 +125,18 @@ module _ {P : Type 0} (n : Names) (are : AreNames n) (pack : Packing P) where
   waits_named None = refl
   waits_named (Some r) = refl
 
-  in_order : (o : Option Request) → option_map awake (option_map (named_request n) o) ≡ option_map (named_request n) (option_map awake o)
+  in_order : (o : Option Request) → option_map without_deferral (option_map (named_request n) o) ≡ option_map (named_request n) (option_map without_deferral o)
   in_order None = refl
   in_order (Some r) = refl
 
-  woken_named : (r : Requests) → wake_request (named_requests n r) ≡ named_requests n (wake_request r)
+  woken_named : (r : Requests) → clear_deferral (named_requests n r) ≡ named_requests n (clear_deferral r)
   woken_named r = ap (λ (o : Option Request). record (named_requests n r) { current = o }) (in_order r.current)
 
-  unanswered_named : (x : Ticking P) → Knows n pack x.context → heartbeat_timeout (named_ticking n pack x) ≡ named_ticking n pack (heartbeat_timeout x)
-  unanswered_named x k =
+  reconfig_timeout_named : (x : Ticking P) → Knows n pack x.context → reconfig_timeout (named_ticking n pack x) ≡ named_ticking n pack (reconfig_timeout x)
+  reconfig_timeout_named x k =
       let is_error : Bool = is_unanswered x.tcb.requests.current in
-      let r : Requests = expire_request x.context.now x.tcb.requests in
-      let t : Tcb = record x.tcb { requests = wake_request r } in
+      let r : Requests = expire_reconfig_timer x.context.now x.tcb.requests in
+      let t : Tcb = record x.tcb { requests = clear_deferral r } in
       let c : Context P = plain pack x.context in
       let y : Ticking P = ticking_as t (errs_if is_error x.context) true in
       ap (λ (s : Requests). requests_again (ticking_as (with_requests (named_tcb n t) s) (errs_if (is_unanswered (option_map (named_request n) x.tcb.requests.current)) c) true)) (woken_named r)
@@ -145,7 +145,7 @@ module _ {P : Type 0} (n : Names) (are : AreNames n) (pack : Packing P) where
       ∙ again_named (is_exhausted y.context.errors) y (errs_stays is_error x.context ∙ k)))
 
   requests_if_named : (b : Bool) (x : Ticking P) → Knows n pack x.context → requests_if b (named_ticking n pack x) ≡ named_ticking n pack (requests_if b x)
-  requests_if_named true x k = unanswered_named x k
+  requests_if_named true x k = reconfig_timeout_named x k
   requests_if_named false x k = refl
 
   ticked_named : (t : Tcb) (c : Context P) → Knows n pack c → tick_timers (named_tcb n t) (plain pack c) ≡ named_ticking n pack (tick_timers t c)
@@ -164,35 +164,35 @@ module _ {P : Type 0} (n : Names) (are : AreNames n) (pack : Packing P) where
 
   -- ---- what an expiry leads to
 
-  endpoint_state_if_named : (b : Bool) (phase : Phase) (t : Tcb) (c : Context P) → endpoint_state_if b (named_phase n phase) (named_tcb n t) (plain pack c) ≡ named_endpoint_state n pack (endpoint_state_if b phase t c)
+  endpoint_state_if_named : (b : Bool) (phase : Phase) (t : Tcb) (c : Context P) → closed_if b (named_phase n phase) (named_tcb n t) (plain pack c) ≡ named_endpoint_state n pack (closed_if b phase t c)
   endpoint_state_if_named true phase t c = refl
   endpoint_state_if_named false phase t c = refl
 
-  endpoint_state_left_named : (phase : Phase) (x y : Left P) → y ≡ named_left n pack x → endpoint_state_left (named_phase n phase) y ≡ named_endpoint_state n pack (endpoint_state_left phase x)
-  endpoint_state_left_named phase x y h = ap (λ (z : Left P). endpoint_state_left (named_phase n phase) z) h ∙ endpoint_state_if_named x.has_ended phase x.tcb x.context
+  endpoint_state_left_named : (phase : Phase) (x y : TimerOutcome P) → y ≡ named_left n pack x → after_timers (named_phase n phase) y ≡ named_endpoint_state n pack (after_timers phase x)
+  endpoint_state_left_named phase x y h = ap (λ (z : TimerOutcome P). after_timers (named_phase n phase) z) h ∙ endpoint_state_if_named x.has_ended phase x.tcb x.context
 
-  given_up_named : (t : Tcb) (c : Context P) → Knows n pack c → left_after (named_tcb n t) (too_many (named_tcb n t) (plain pack c)).context true ≡ named_left n pack (left_after t (too_many t c).context true)
-  given_up_named t c k = ap (λ (s : EndpointState P). left_after (named_tcb n t) s.context true) (too_many_named n are pack t c k)
+  given_up_named : (t : Tcb) (c : Context P) → Knows n pack c → timer_outcome (named_tcb n t) (too_many (named_tcb n t) (plain pack c)).context true ≡ named_left n pack (timer_outcome t (too_many t c).context true)
+  given_up_named t c k = ap (λ (s : EndpointState P). timer_outcome (named_tcb n t) s.context true) (too_many_named n are pack t c k)
 
-  ended_if_named : (b : Bool) (t : Tcb) (c : Context P) → Knows n pack c → ended_if b (named_tcb n t) (plain pack c) ≡ named_left n pack (ended_if b t c)
+  ended_if_named : (b : Bool) (t : Tcb) (c : Context P) → Knows n pack c → abort_if b (named_tcb n t) (plain pack c) ≡ named_left n pack (abort_if b t c)
   ended_if_named true t c k = given_up_named t c k
   ended_if_named false t c k = refl
 
-  ended_named : (t : Tcb) (c : Context P) → Knows n pack c → end_association (named_tcb n t) (plain pack c) ≡ named_left n pack (end_association t c)
-  ended_named t c k = ended_if_named (is_exhausted c.errors) t c k
+  abort_if_exhausted_named : (t : Tcb) (c : Context P) → Knows n pack c → abort_if_exhausted (named_tcb n t) (plain pack c) ≡ named_left n pack (abort_if_exhausted t c)
+  abort_if_exhausted_named t c k = ended_if_named (is_exhausted c.errors) t c k
 
-  or_sent_named : (b : Bool) (t : Tcb) (c : Context P) → Knows n pack c → ended_or_sent b (named_tcb n t) (plain pack c) ≡ named_left n pack (ended_or_sent b t c)
+  or_sent_named : (b : Bool) (t : Tcb) (c : Context P) → Knows n pack c → abort_or_send_if b (named_tcb n t) (plain pack c) ≡ named_left n pack (abort_or_send_if b t c)
   or_sent_named true t c k = given_up_named t c k
-  or_sent_named false t c k = ap (λ (x : Sent P). left_after x.tcb x.context false) (send_buffered_named n are pack false t c k)
+  or_sent_named false t c k = ap (λ (x : AfterSending P). timer_outcome x.tcb x.context false) (send_buffered_named n are pack false t c k)
 
-  on_named : (t : Tcb) (c : Context P) → Knows n pack c → goes_on (named_tcb n t) (plain pack c) ≡ named_left n pack (goes_on t c)
+  on_named : (t : Tcb) (c : Context P) → Knows n pack c → abort_or_send (named_tcb n t) (plain pack c) ≡ named_left n pack (abort_or_send t c)
   on_named t c k = or_sent_named (is_exhausted c.errors) t c k
 
-  settled_if_named : (b : Bool) (t : Tcb) (c : Context P) → Knows n pack c → settled_if b (named_tcb n t) (plain pack c) ≡ named_left n pack (settled_if b t c)
+  settled_if_named : (b : Bool) (t : Tcb) (c : Context P) → Knows n pack c → after_ticks_if b (named_tcb n t) (plain pack c) ≡ named_left n pack (after_ticks_if b t c)
   settled_if_named true t c k = on_named t c k
   settled_if_named false t c k = refl
 
-  settled_named : (x : Ticking P) → Knows n pack x.context → settle_ticks (named_ticking n pack x) ≡ named_left n pack (settle_ticks x)
+  settled_named : (x : Ticking P) → Knows n pack x.context → after_ticks (named_ticking n pack x) ≡ named_left n pack (after_ticks x)
   settled_named x k = settled_if_named x.has_expired x.tcb x.context k
 
   -- ---- T2-shutdown
@@ -203,7 +203,7 @@ module _ {P : Type 0} (n : Names) (are : AreNames n) (pack : Packing P) where
 
   t2_expired_named : (b : Bool) (again : Tcb → Context P → Context P) → Again again → (t : Tcb) (c : Context P) → Knows n pack c
       → t2_expired b again (named_tcb n t) (plain pack c) ≡ named_left n pack (t2_expired b again t c)
-  t2_expired_named true again h t c k = ap (λ (d : Context P). goes_on (named_tcb n t) d) (h t c k).0 ∙ on_named t (again t c) ((h t c k).1 ∙ k)
+  t2_expired_named true again h t c k = ap (λ (d : Context P). abort_or_send (named_tcb n t) d) (h t c k).0 ∙ on_named t (again t c) ((h t c k).1 ∙ k)
   t2_expired_named false again h t c k = given_up_named t c k
 
   t2_if_named : (b : Bool) (now : ℕ) (again : Tcb → Context P → Context P) → Again again → (t2 : Timer) (x : Ticking P) → Knows n pack x.context
@@ -220,14 +220,14 @@ module _ {P : Type 0} (n : Names) (are : AreNames n) (pack : Packing P) where
   -- ---- T1-cookie
 
   waits_if_named : (b : Bool) (t : Tcb) (c : Context P) → Knows n pack c → waits_if b (named_tcb n t) (plain pack c) ≡ named_left n pack (waits_if b t c)
-  waits_if_named true t c k = ended_named t c k
+  waits_if_named true t c k = abort_if_exhausted_named t c k
   waits_if_named false t c k = refl
 
   t1_expired_named : (b : Bool) (cookie : List ℕ) (t : Tcb) (c : Context P) → Knows n pack c
       → t1_expired b (n.cookie cookie) (named_tcb n t) (plain pack c) ≡ named_left n pack (t1_expired b cookie t c)
   t1_expired_named true cookie t c k =
-      let x : Sent P = send_cookie cookie t c in
-      ap (λ (y : Sent P). echoed_again y) (send_cookie_named n are pack cookie t c k) ∙ ended_named x.tcb x.context (send_cookie_stays cookie t c ∙ k)
+      let x : AfterSending P = send_cookie cookie t c in
+      ap (λ (y : AfterSending P). echoed_again y) (send_cookie_named n are pack cookie t c k) ∙ abort_if_exhausted_named x.tcb x.context (send_cookie_stays cookie t c ∙ k)
   t1_expired_named false cookie t c k = refl
 
   t1_if_named : (b : Bool) (t1 : Timer) (cookie : List ℕ) (x : Ticking P) → Knows n pack x.context
@@ -243,7 +243,7 @@ module _ {P : Type 0} (n : Names) (are : AreNames n) (pack : Packing P) where
 
   init_expired_named : (b : Bool) (tag first : ℕ) (c : Context P) → Knows n pack c
       → init_expired b (n.tag tag) (move_by n.own first) (plain pack c) ≡ plain_waited pack (init_expired b tag first c)
-  init_expired_named true tag first c k = ap (λ (d : Context P). wait_on d false) (named_send_init n are pack tag first c k)
+  init_expired_named true tag first c k = ap (λ (d : Context P). init_outcome d false) (named_send_init n are pack tag first c k)
   init_expired_named false tag first c k = refl
 
   init_if_named : (b : Bool) (tag first : ℕ) (t1 : Timer) (c : Context P) → Knows n pack c
@@ -259,9 +259,9 @@ module _ {P : Type 0} (n : Names) (are : AreNames n) (pack : Packing P) where
   -- ---- by state
 
   settled_in_named : (phase : Phase) (t : Tcb) (c : Context P) → Knows n pack c
-      → endpoint_state_left (named_phase n phase) (settle_ticks (tick_timers (named_tcb n t) (plain pack c))) ≡ named_endpoint_state n pack (endpoint_state_left phase (settle_ticks (tick_timers t c)))
+      → after_timers (named_phase n phase) (after_ticks (tick_timers (named_tcb n t) (plain pack c))) ≡ named_endpoint_state n pack (after_timers phase (after_ticks (tick_timers t c)))
   settled_in_named phase t c k =
-      endpoint_state_left_named phase (settle_ticks (tick_timers t c)) _ (ap (λ (x : Ticking P). settle_ticks x) (ticked_named t c k) ∙ settled_named (tick_timers t c) (ticked_stays t c ∙ k))
+      endpoint_state_left_named phase (after_ticks (tick_timers t c)) _ (ap (λ (x : Ticking P). after_ticks x) (ticked_named t c k) ∙ settled_named (tick_timers t c) (ticked_stays t c ∙ k))
 
   shuts_again : Again send_shutdown
   shuts_again t c k = (send_shutdown_named n are pack t c k, shutdown_stays t c)
@@ -280,8 +280,8 @@ module _ {P : Type 0} (n : Names) (are : AreNames n) (pack : Packing P) where
   tick_named : (st : State) (c : Context P) → Knows n pack c → tick_in (named_state n st) (plain pack c) ≡ named_endpoint_state n pack (tick_in st c)
   tick_named Closed c k = refl
   tick_named (CookieWait tag first t1) c k =
-      let x : Waited P = tick_init tag first t1 c in
-      ap (λ (y : Waited P). endpoint_state_waited (n.tag tag) (move_by n.own first) (expire c.now t1) y) (init_if_named (is_due c.now t1) tag first t1 c k)
+      let x : InitOutcome P = tick_init tag first t1 c in
+      ap (λ (y : InitOutcome P). after_init_timer (n.tag tag) (move_by n.own first) (expire c.now t1) y) (init_if_named (is_due c.now t1) tag first t1 c k)
       ∙ waiting_if_named x.has_ended tag first (expire c.now t1) x.context
   tick_named (Open phase t) c k = tick_open_named phase t c k
 

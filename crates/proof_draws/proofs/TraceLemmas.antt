@@ -4,7 +4,7 @@ use Rattle.rand_core.specs.Stream.{Stream}
 use Rattle.sctp_state.specs.Options.{Options}
 use Rattle.spec_endpoint.specs.Laws.{endings}
 use Rattle.proof_endpoint.specs.Mapped.{Carried}
-use Rattle.proof_pair.specs.Trace.{Side, Pair, emitted_packets, EndAction, act, goes, run, MayAct, side_of, KeepsOpeningRules, NeitherHasEnded, AreValidOptions, start, state_of, new_side}
+use Rattle.proof_pair.specs.Trace.{Side, Pair, emitted_packets, EndAction, act, goes, run, MayAct, side_of, KeepsRules, NoAssociationHasEnded, AreValidOptions, start, state_of, new_side}
 use Rattle.proof_pair.specs.Agreement.{Draw as Drawn, Has}
 use Rattle.proof_pair.proofs.TraceLemmas.{Halves, swapped, before_run, follows_front}
 use Rattle.proof_pair.proofs.HandingLemmas.{first_halves}
@@ -91,7 +91,7 @@ module _ (ps : List (Drawn × Drawn)) (k : Knows ps) (law : EachCallIsNamed) (la
 
   module _ (a b : Options) (given_a : AreValidOptions a) (given_b : AreValidOptions b) where
     goes_both : (at_a : Bool) (t u : EndAction) (w v : Pair) → Both a b w v → AreOfAKind w → SameAction t u → MayAct t (side_of at_a w) → Among at_a t u w v
-        → NeitherHasEnded (goes at_a t w) → Both a b (goes at_a t w) (goes at_a u v)
+        → NoAssociationHasEnded (goes at_a t w) → Both a b (goes at_a t w) (goes at_a u v)
     goes_both true t u w v h kinds same may drew none =
         beside_after a b given_a given_b w.a w.b v.a v.b h kinds.b kinds.a_numbers t u same may drew none.a
     goes_both false t u w v h kinds same may drew none =
@@ -125,7 +125,7 @@ module _ (ps : List (Drawn × Drawn)) (k : Knows ps) (law : EachCallIsNamed) (la
         (subst (λ (c : Bool). (d e : Drawn) → Has (d, e) (pairs_of (drawn_at at_a t w) (drawn_at c u v)) → Has (d, e) ps) is drew))
 
     goes_by : (at_a too : Bool) (t u : EndAction) (w v : Pair) → too ≡ at_a → Both a b w v → AreOfAKind w → SameAction t u → MayAct t (side_of at_a w)
-        → ((d e : Drawn) → Has (d, e) (pairs_of (drawn_at at_a t w) (drawn_at too u v)) → Has (d, e) ps) → NeitherHasEnded (goes at_a t w)
+        → ((d e : Drawn) → Has (d, e) (pairs_of (drawn_at at_a t w) (drawn_at too u v)) → Has (d, e) ps) → NoAssociationHasEnded (goes at_a t w)
         → Both a b (goes at_a t w) (goes too u v)
     goes_by at_a too t u w v is h kinds same may drew none =
         subst (λ (c : Bool). Both a b (goes at_a t w) (goes c u v)) (sym is)
@@ -142,8 +142,8 @@ module _ (ps : List (Drawn × Drawn)) (k : Knows ps) (law : EachCallIsNamed) (la
     none_left [] e h = h
     none_left (g ∷ es) e h = h
 
-    pub along : (es fs : List (Bool × EndAction)) (e f : Bool × EndAction) (w v : Pair) → SameActions (es ++ e ∷ []) (fs ++ f ∷ []) → KeepsOpeningRules (es ++ e ∷ []) w
-        → NeitherHasEnded (run es w) → KindsAlong es w → ((d c : Drawn) → Has (d, c) (pairs (es ++ e ∷ []) (fs ++ f ∷ []) w v) → Has (d, c) ps) → Both a b w v
+    pub along : (es fs : List (Bool × EndAction)) (e f : Bool × EndAction) (w v : Pair) → SameActions (es ++ e ∷ []) (fs ++ f ∷ []) → KeepsRules (es ++ e ∷ []) w
+        → NoAssociationHasEnded (run es w) → KindsAlong es w → ((d c : Drawn) → Has (d, c) (pairs (es ++ e ∷ []) (fs ++ f ∷ []) w v) → Has (d, c) ps) → Both a b w v
         → ActionIsAlike e f (run es w) (run fs v)
     along [] [] e f w v same follows none kinds among h =
         last_by e.0 f.0 e.1 f.1 w v same.0 h kinds same.1 follows.0
@@ -164,15 +164,15 @@ first_twin ps o q w v s = record { tie = same_tie; state = refl; context = refl;
 
 -- The first trace follows the rules, so that its packets are of a kind.
 pub traces_alike : EachCallIsNamed → EndsEmitEventOwn → ((ps : List (Drawn × Drawn)) → Knows ps → LateInitsAreNamed ps) → TracesAreAlike
-traces_alike law emits late a b words_a words_b others_a others_b es fs e f given_a given_b same follows none once once_too =
-    let w : Pair = start a b words_a words_b in
+traces_alike law emits late a b draws_a draws_b others_a others_b es fs e f given_a given_b same follows none once once_too =
+    let w : Pair = start a b draws_a draws_b in
     let v : Pair = start a b others_a others_b in
     let ps : List (Drawn × Drawn) = pairs (es ++ e ∷ []) (fs ++ f ∷ []) w v in
     let k : Knows ps = pairs_know (es ++ e ∷ []) (fs ++ f ∷ []) w v once once_too in
-    let kinds : KindsAlong es w = along_of_a_kind a b words_a words_b es given_a given_b (follows_front es (e ∷ []) w follows) none in
+    let kinds : KindsAlong es w = along_of_a_kind a b draws_a draws_b es given_a given_b (follows_front es (e ∷ []) w follows) none in
     along ps k law (late ps k) emits a b given_a given_b es fs e f w v same follows none kinds (λ d c m. m)
     (record {
-      halves = first_halves a b words_a words_b;
-      own = first_twin ps a b words_a others_a words_b;
-      other = first_twin ps b a words_b others_b words_a;
+      halves = first_halves a b draws_a draws_b;
+      own = first_twin ps a b draws_a others_a draws_b;
+      other = first_twin ps b a draws_b others_b draws_a;
     })

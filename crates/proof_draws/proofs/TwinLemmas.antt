@@ -14,7 +14,7 @@ use Rattle.proof_pair.proofs.AgreeLemmas.{is_load}
 use Rattle.proof_draws.specs.Names.{named_state}
 use Rattle.proof_draws.specs.Images.{named_carried}
 use Rattle.proof_draws.specs.Pairing.{names, Knows}
-use Rattle.proof_draws.specs.Alike.{IsAlike, AreEmitted, AreAlike}
+use Rattle.proof_draws.specs.Alike.{IsAlike, AreEventsAlike, AreAlike}
 use Rattle.proof_draws.proofs.NamesLemmas.{same_tie, names_in, are_names}
 use Rattle.proof_draws.proofs.ImageLemmas.{emitted_under}
 
@@ -121,7 +121,7 @@ module _ (ps : List (Draw × Draw)) (k : Knows ps) where
   twin_alike s u (OnAborted kind text) f h = h
   twin_alike s u e f h = h
 
-  twins_alike : (s u : State) (es fs : List (Event Carried)) → Twins ps s u es fs → AreEmitted es fs
+  twins_alike : (s u : State) (es fs : List (Event Carried)) → Twins ps s u es fs → AreEventsAlike es fs
   twins_alike s u [] [] h = tt
   twins_alike s u [] (f ∷ fs) h = absurd h
   twins_alike s u (e ∷ es) [] h = absurd h

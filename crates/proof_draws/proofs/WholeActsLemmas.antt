@@ -6,16 +6,16 @@ use Rattle.std.proofs.lemmas.Bool.{and_parts, both_ways, ltb-true}
 use Rattle.std.proofs.lemmas.List.Elements.{All-push}
 use Rattle.std.proofs.lemmas.List.Folds.{list_all-append}
 use Rattle.sctp_serial.specs.Messages.{Message}
-use Rattle.sctp_serial.specs.Unwrapped.{words}
+use Rattle.sctp_serial.specs.Unwrapped.{u32_space}
 use Rattle.sctp_wire.specs.Parameter.{ParameterTree, outgoing_reset_request, incoming_reset_request}
 use Rattle.sctp_packet.specs.Chunk.{ChunkTree, InitTree, init_chunk, init_ack_chunk, cookie_echo_chunk, cookie_ack_chunk, re_config_chunk}
-use Rattle.sctp_state.specs.Events.{Event, SendPacket, OnConnected, OnError, OnClosed, OnStreamsResetPerformed, OnStreamsResetFailed, Emitted, silent}
+use Rattle.sctp_state.specs.Events.{Event, SendPacket, OnConnected, OnError, OnClosed, OnStreamsResetPerformed, OnStreamsResetFailed, Emitted, nothing_emitted}
 use Rattle.sctp_state.specs.Options.{Options, SendOptions}
-use Rattle.sctp_capabilities.specs.Capabilities.{announce, negotiate, agreed}
+use Rattle.sctp_capabilities.specs.Capabilities.{announced_parameters, negotiate, agreed}
 use Rattle.sctp_capabilities.proofs.CapabilitiesLemmas.{negotiated_by_init}
 use Rattle.sctp_tx_queue.specs.declared.send_queue.stream.ResetStep.TheVariants.{Requested, Performed, Refused}
 use Rattle.sctp_tx_queue.specs.SendQueue.{Queue}
-use Rattle.sctp_tx_queue.specs.Resets.{requested_streams}
+use Rattle.sctp_tx_queue.specs.Resets.{streams_to_request}
 use Rattle.sctp_tx_queue.specs.InOrder.{HasRests}
 use Rattle.sctp_tx_queue.proofs.RestLemmas.{calls_leave_rests}
 use Rattle.sctp_tx.specs.Resent.{is_interleaved, resent_fast}
@@ -23,20 +23,20 @@ use Rattle.sctp_tx.specs.ForwardPoints.{chunk_if}
 use Rattle.sctp_tx.specs.Sending as fragments
 use Rattle.spec_endpoint.specs.Association.{Tcb, Phase, CookieEchoed, State, Closed, CookieWait, Open, Context, Packing}
 use Rattle.spec_endpoint.specs.Sack.{clean_blocks}
-use Rattle.spec_endpoint.specs.Packets.{Packet, room, add, add_all, header_to}
+use Rattle.spec_endpoint.specs.Packets.{PacketDraft, room, add, add_all, header_to}
 use Rattle.spec_endpoint.specs.ResetRequests.{Requests, Outcome, Unsettled, Done, Denied, outcome, request_chunk}
 use Rattle.spec_endpoint.specs.StreamReset.{on_outcome}
 use Rattle.spec_endpoint.specs.Sending.{selective_ack, data_chunks, fast_most, is_small}
 use Rattle.spec_endpoint.specs.Opening.{init_of, init_ack_of, next_first, agreed_by}
-use Rattle.spec_endpoint.specs.Calls.{shown_state, is_shutting_down, is_queue_full, refusal, queue_entry, accept}
+use Rattle.spec_endpoint.specs.Calls.{shown_state, is_shutting_down, is_queue_full, send_refusal, queue_entry, accept}
 use Rattle.spec_endpoint.specs.Laws.{Call}
 use Rattle.proof_endpoint.specs.Mapped.{Carried}
-use Rattle.proof_endpoint.specs.Acts.{EndWithPacket, drawn_tag, drawn_first, drawn_tag_alone, PacketAct, begins, adds_plain, emits, complains, counts, before_packets, after_packets, OpeningAct, connects, adds_init, answers_new, answers_waiting, answers_echoed, answers_again, echoes, adds_cookie, establishes, opens, restarts, opens_again, maintains, adds_cookie_ack, before_opening, after_opening, ClosingAct, closes, shuts, shuts_on, before_closing, after_closing, DataAct, takes_data, takes_idata, takes_forward, takes_iforward, before_data, after_data, SackAct, takes_sack, samples, counts_errors, before_sack, after_sack, SendingAct, asks, adds_ack, expires, adds_forward, forwards_later, asks_no_reset, asks_reset, adds_request, sends, sends_fast, before_sending, after_sending, TimeAct, advances, delay_ends, times_out, beats, times_init, times_cookie, times_request, wakes_request, before_time, after_time, CallAct, accepts, refuses, takes_message, sets_low_threshold, sets_priority, sets_max_message_size, before_call, after_call, ResetAct, prepares, defers, performs, processes, takes_response, adds_responses, before_reset, after_reset, HandoverAct, leaves, takes_up, before_handover, after_handover, InputAct, ends_packet, before_input, after_input, point_of, IsReceived, IsAsked, HasRequest, for_outgoing, for_incoming, IsSummedSo, always, as_held, as_asked, as_before, fragments_of, HasNoEnd, PreservesUntilEnd}
+use Rattle.proof_endpoint.specs.Acts.{EndWithPacket, drawn_tag, drawn_first, drawn_tag_alone, PacketAct, begins, adds_plain, emits, emits_error, counts, before_packets, after_packets, OpeningAct, connects, adds_init, answers_new, answers_waiting, answers_echoed, answers_again, echoes, adds_cookie, establishes, opens, restarts, opens_again, maintains, adds_cookie_ack, before_opening, after_opening, ClosingAct, closes, shuts, shuts_on, before_closing, after_closing, DataAct, takes_data, takes_idata, takes_forward, takes_iforward, before_data, after_data, SackAct, takes_sack, samples, counts_errors, before_sack, after_sack, SendingAct, asks, adds_ack, expires, adds_forward, forwards_later, asks_no_reset, asks_reset, adds_request, sends, sends_fast, before_sending, after_sending, TimeAct, advances, delay_ends, times_out, beats, times_init, times_cookie, times_request, wakes_request, before_time, after_time, CallAct, accepts, refuses, takes_message, sets_low_threshold, sets_priority, sets_max_message_size, before_call, after_call, ResetAct, prepares, defers, performs, processes, takes_response, adds_responses, before_reset, after_reset, HandoverAct, leaves, takes_up, before_handover, after_handover, InputAct, ends_packet, before_input, after_input, point_of, BringsChunk, IsAsked, HasRequest, for_outgoing, for_incoming, IsSummedSo, always, as_held, as_asked, as_before, fragments_of, HasNoEnd, PreservesUntilEnd}
 use Rattle.proof_pair.specs.Trace.{as_carried, packets_in}
-use Rattle.proof_pair.proofs.EmittedLemmas.{EmitsLightly}
-use Rattle.proof_pair.proofs.UntilLemmas.{light_sack, light_sending, light_time, light_call, light_reset, no_end}
+use Rattle.proof_pair.proofs.EmittedLemmas.{EmitsNoPacketOrStatus}
+use Rattle.proof_pair.proofs.UntilLemmas.{sack_act_emits_no_packet_or_status, sending_act_emits_no_packet_or_status, time_act_emits_no_packet_or_status, call_act_emits_no_packet_or_status, reset_act_emits_no_packet_or_status, no_end}
 use Rattle.proof_pair.proofs.JoinLemmas.{view_of, IsInit, Can}
-use Rattle.proof_pair.proofs.JoinActsLemmas.{packets_both, light_packets, Setting, InvAt}
+use Rattle.proof_pair.proofs.JoinActsLemmas.{packets_both, no_packet_or_status_has_no_packets, Setting, InvAt}
 use Rattle.proof_pair.proofs.JoinKeepsLemmas.{Rules, init_said, same_verdict, no_restart, no_again}
 use Rattle.proof_pair.proofs.JoinFrameLemmas.{joins}
 use Rattle.proof_pair.proofs.AskedKeepsLemmas.{some_payload, has_bytes}
@@ -68,7 +68,7 @@ pub record IsSaid (method : ℕ) (p : Carried) : Type 0 where
   pub passes : Passes method p.is_summed
 
 -- the state, the queue, the packet that is put together, its checksum, and the packets that went out
-abbrev pub IsWhole : (method : ℕ) → State → Queue → List (Event Carried) → Packet → Type 0
+abbrev pub IsWhole : (method : ℕ) → State → Queue → List (Event Carried) → PacketDraft → Type 0
 IsWhole method s q es p =
     StateIsWhole s × HasRests q × (list_all is_whole p.chunks ≡ true) × Passes method p.is_summed × All (IsSaid method) (packets_in es)
 
@@ -84,10 +84,10 @@ module _ (method : ℕ) where
       subst (All (IsSaid method))
       (sym (ap packets_in behind ∙ (packets_both es more ∙ (ap (λ (ps : List Carried). packets_in es ++ ps) none ∙ append-nil (packets_in es))))) h
 
-  pub said_lightly : (t u : Emitted Carried) → EmitsLightly t u → AreSaid t.events → AreSaid u.events
-  said_lightly t u l h = said_none t.events l.events u.events l.behind (light_packets l.events l.all) h
+  pub said_no_packet_or_status : (t u : Emitted Carried) → EmitsNoPacketOrStatus t u → AreSaid t.events → AreSaid u.events
+  said_no_packet_or_status t u l h = said_none t.events l.events u.events l.behind (no_packet_or_status_has_no_packets l.events l.all) h
 
-  said_emitted : (es : List (Event Carried)) (pack : Packing Carried) (o : Options) (p : Packet) → pack ≡ as_carried → IsKind p.chunks → Passes method p.is_summed
+  said_emitted : (es : List (Event Carried)) (pack : Packing Carried) (o : Options) (p : PacketDraft) → pack ≡ as_carried → IsKind p.chunks → Passes method p.is_summed
       → AreSaid es → AreSaid (es ++ SendPacket (pack.write (header_to o p.tag) p.is_summed p.chunks) ∷ [])
   said_emitted es pack o p packing kind passes h =
       let c : Carried = pack.write (header_to o p.tag) p.is_summed p.chunks in
@@ -97,17 +97,17 @@ module _ (method : ℕ) where
 
   -- ---- chunks that are put in
 
-  whole_added : (s : State) (q : Queue) (es : List (Event Carried)) (c : ChunkTree) (p : Packet) → is_whole c ≡ true → IsWhole method s q es p
+  whole_added : (s : State) (q : Queue) (es : List (Event Carried)) (c : ChunkTree) (p : PacketDraft) → is_whole c ≡ true → IsWhole method s q es p
       → IsWhole method s q es (add c p)
   whole_added s q es c p e h = (h.0, h.1, added_whole c p h.2 e, subst (Passes method) (sym (added_summed c p)) h.3, h.4)
 
-  whole_added_all : (s : State) (q : Queue) (es : List (Event Carried)) (cs : List ChunkTree) (p : Packet) → list_all is_whole cs ≡ true → IsWhole method s q es p
+  whole_added_all : (s : State) (q : Queue) (es : List (Event Carried)) (cs : List ChunkTree) (p : PacketDraft) → list_all is_whole cs ≡ true → IsWhole method s q es p
       → IsWhole method s q es (add_all cs p)
   whole_added_all s q es cs p e h = (h.0, h.1, added_all_whole cs p h.2 e, subst (Passes method) (sym (added_all_summed cs p)) h.3, h.4)
 
 -- ---- a message that is accepted
 
-accepted_rests : (m : Message) (o : SendOptions) (s : State) (c : Context Carried) → refusal m (shown_state s) c ≡ None → HasRests c.queue
+accepted_rests : (m : Message) (o : SendOptions) (s : State) (c : Context Carried) → send_refusal m (shown_state s) c ≡ None → HasRests c.queue
     → HasRests (accept m o c).queue
 accepted_rests m o s c fine h =
     let some : (length m.payload == 0) ≡ false =
@@ -117,7 +117,7 @@ accepted_rests m o s c fine h =
 
 -- ---- act by act
 
-module _ (g : Setting) (call : Call) (r : Rules g call) (receives : (tag : ℕ) (chunk : ChunkTree) → IsReceived call tag chunk → is_whole chunk ≡ true) where
+module _ (g : Setting) (call : Call) (r : Rules g call) (receives : (tag : ℕ) (chunk : ChunkTree) → BringsChunk call tag chunk → is_whole chunk ≡ true) where
   abbrev method : ℕ
   method = g.other.zero_checksum_method
 
@@ -129,13 +129,13 @@ module _ (g : Setting) (call : Call) (r : Rules g call) (receives : (tag : ℕ) 
   method_in : (s : State) (phase : Phase) (t : Tcb) → s ≡ Open phase t → Can (agreed g.own g.other) (view_of s).can → t.capabilities ≡ agreed g.own g.other
   method_in s phase t e h = subst (λ (u : State). Can (agreed g.own g.other) (view_of u).can) e h
 
-  asked_for : (m : EndWithPacket Carried) (tag : ℕ) (i : InitTree) → IsReceived call tag (init_chunk i) → InvAt g m → agreed_by m.context.options i ≡ agreed g.own g.other
+  asked_for : (m : EndWithPacket Carried) (tag : ℕ) (i : InitTree) → BringsChunk call tag (init_chunk i) → InvAt g m → agreed_by m.context.options i ≡ agreed g.own g.other
   asked_for m tag i h inv =
       let said : IsInit g.other (view_of g.beside) tag i = init_said g call r tag i m h inv in
       ap (λ (o : Options). agreed_by o i) inv.options
       ∙ (ap (λ (j : InitTree). agreed_by g.own j) said.is ∙ negotiated_by_init g.own g.other)
 
-  summed_so : (m : EndWithPacket Carried) (p : Packet) → InvAt g m → WholeAt m → IsSummedSo call m p → Passes method p.is_summed
+  summed_so : (m : EndWithPacket Carried) (p : PacketDraft) → InvAt g m → WholeAt m → IsSummedSo call m p → Passes method p.is_summed
   summed_so m p inv h (always e) none = absurd (both_ways true (sym e ∙ none) refl)
   summed_so m p inv h (as_held phase t at_s e) none =
       agreed_method g.own g.other t.capabilities (method_in m.state phase t at_s inv.stands.can) (sym e ∙ none)
@@ -149,7 +149,7 @@ module _ (g : Setting) (call : Call) (r : Rules g call) (receives : (tag : ℕ) 
       whole_added method m.state m.context.queue m.context.emitted.events chunk m.packet (plain_whole chunk plain) h
   w_packets (emits m some bundled) inv h =
       (h.0, h.1, refl, h.3, said_emitted method m.context.emitted.events m.context.pack m.context.options m.packet inv.packing (kind_of m.packet.chunks bundled h.2) h.3 h.4)
-  w_packets (complains kind text m) inv h =
+  w_packets (emits_error kind text m) inv h =
       (h.0, h.1, h.2, h.3, said_none method m.context.emitted.events (OnError kind text ∷ []) (m.context.emitted.events ++ OnError kind text ∷ []) refl refl h.4)
   w_packets (counts m) inv h = h
 
@@ -167,7 +167,7 @@ module _ (g : Setting) (call : Call) (r : Rules g call) (receives : (tag : ℕ) 
   w_opening : (act : OpeningAct Carried call) → InvAt g (before_opening act) → InvAt g (after_opening act) → WholeAt (before_opening act) → WholeAt (after_opening act)
   w_opening (connects m is) inv next h = (tt, h.1, h.2, h.3, h.4)
   w_opening (adds_init tag first t1 m to) inv next h =
-      adds_other (CookieWait tag first t1) m (init_chunk (init_of m.context.options tag first (announce m.context.options m.context.options.zero_checksum_method))) refl h
+      adds_other (CookieWait tag first t1) m (init_chunk (init_of m.context.options tag first (announced_parameters m.context.options m.context.options.zero_checksum_method))) refl h
   w_opening (answers_new tag i m received to) inv next h =
       adds_other Closed m (init_ack_chunk (init_ack_of m.context.options i (drawn_tag m) (drawn_first m) 0)) refl h
   w_opening (answers_waiting tag i my_tag first t1 m received to) inv next h =
@@ -192,9 +192,9 @@ module _ (g : Setting) (call : Call) (r : Rules g call) (receives : (tag : ℕ) 
     h.3,
     connected_said m h.4,
   )
-  w_opening (restarts tag k phase t m echoed verdict) inv next h = absurd (no_restart _ (same_verdict g call r tag k phase t m echoed inv) verdict)
-  w_opening (opens_again tag k phase t m echoed verdict) inv next h = absurd (no_again _ (same_verdict g call r tag k phase t m echoed inv) verdict)
-  w_opening (maintains tag k t1 cookie t m echoed verdict) inv next h = (h.0, h.1, h.2, h.3, connected_said m h.4)
+  w_opening (restarts tag k phase t m echoed resolution) inv next h = absurd (no_restart _ (same_verdict g call r tag k phase t m echoed inv) resolution)
+  w_opening (opens_again tag k phase t m echoed resolution) inv next h = absurd (no_again _ (same_verdict g call r tag k phase t m echoed inv) resolution)
+  w_opening (maintains tag k t1 cookie t m echoed resolution) inv next h = (h.0, h.1, h.2, h.3, connected_said m h.4)
   w_opening (adds_cookie_ack tag back phase t m echoed late) inv next h = adds_other (Open phase t) m cookie_ack_chunk refl h
 
   -- ---- closing
@@ -219,7 +219,7 @@ module _ (g : Setting) (call : Call) (r : Rules g call) (receives : (tag : ℕ) 
         h.1,
         h.2,
         h.3,
-        said_lightly method m.context.emitted (after_sack act).context.emitted (light_sack act) h.4,
+        said_no_packet_or_status method m.context.emitted (after_sack act).context.emitted (sack_act_emits_no_packet_or_status act) h.4,
       )
   w_sack (samples k phase t m) h = h
   w_sack (counts_errors e m) h = h
@@ -235,15 +235,15 @@ module _ (g : Setting) (call : Call) (r : Rules g call) (receives : (tag : ℕ) 
         h.1,
         h.2,
         h.3,
-        said_lightly method m.context.emitted (after_sending act).context.emitted (light_sending act) h.4,
+        said_no_packet_or_status method m.context.emitted (after_sending act).context.emitted (sending_act_emits_no_packet_or_status act) h.4,
       )
   w_sending (adds_forward phase t m due) h =
       whole_added method (Open phase t) m.context.queue m.context.emitted.events (chunk_if (is_interleaved t.sender) t.sender) m.packet (forward_whole (is_interleaved t.sender) t.sender) h
   w_sending (forwards_later n m) h = h
-  w_sending (asks_no_reset most m none) h = (h.0, calls_leave_rests.steps Requested (requested_streams most m.context.queue) m.context.queue h.1, h.2, h.3, h.4)
+  w_sending (asks_no_reset most m none) h = (h.0, calls_leave_rests.steps Requested (streams_to_request most m.context.queue) m.context.queue h.1, h.2, h.3, h.4)
   w_sending (asks_reset most stream streams phase t m some free) h = (
     (record { next = next_fits t.requests.next; current = h.0.0.next; last = h.0.0.last }, h.0.1),
-    calls_leave_rests.steps Requested (requested_streams most m.context.queue) m.context.queue h.1,
+    calls_leave_rests.steps Requested (streams_to_request most m.context.queue) m.context.queue h.1,
     h.2,
     h.3,
     h.4,
@@ -258,7 +258,7 @@ module _ (g : Setting) (call : Call) (r : Rules g call) (receives : (tag : ℕ) 
       let p : IsWhole method (Open phase t) m.context.queue m.context.emitted.events (add_all cs m.packet) =
       whole_added_all method (Open phase t) m.context.queue m.context.emitted.events cs m.packet
       (data_chunks_whole t (is_small m.context.options f.sender) f.chunks k.chunks) h in
-      ((h.0.0, k.sender), k.queue, p.2, p.3, said_lightly method m.context.emitted (after_sending act).context.emitted (light_sending act) h.4)
+      ((h.0.0, k.sender), k.queue, p.2, p.3, said_no_packet_or_status method m.context.emitted (after_sending act).context.emitted (sending_act_emits_no_packet_or_status act) h.4)
   w_sending (sends_fast phase t m some) h =
       let most : ℕ = fast_most m.context.options in
       let cs : List ChunkTree = data_chunks t false (resent_fast most t.sender).chunks in
@@ -278,7 +278,7 @@ module _ (g : Setting) (call : Call) (r : Rules g call) (receives : (tag : ℕ) 
         h.1,
         h.2,
         h.3,
-        said_lightly method m.context.emitted (after_time act).context.emitted (light_time act) h.4,
+        said_no_packet_or_status method m.context.emitted (after_time act).context.emitted (time_act_emits_no_packet_or_status act) h.4,
       )
   w_time (beats b m) h = h
   w_time (times_init tag first old new m) h = h
@@ -292,15 +292,15 @@ module _ (g : Setting) (call : Call) (r : Rules g call) (receives : (tag : ℕ) 
   w_calls (accepts message o m offered fine) h = (h.0, accepted_rests message o m.state m.context fine h.1, h.2, h.3, h.4)
   w_calls (refuses message o e m offered is) h =
       let act : CallAct Carried call = refuses message o e m offered is in
-      (h.0, h.1, h.2, h.3, said_lightly method m.context.emitted (after_call act).context.emitted (light_call act) h.4)
+      (h.0, h.1, h.2, h.3, said_no_packet_or_status method m.context.emitted (after_call act).context.emitted (call_act_emits_no_packet_or_status act) h.4)
   w_calls (takes_message phase t m is) h = h
   w_calls (sets_low_threshold stream bytes m is) h =
       let act : CallAct Carried call = sets_low_threshold stream bytes m is in (
         h.0,
-        calls_leave_rests.threshold stream bytes m.context.queue silent h.1,
+        calls_leave_rests.threshold stream bytes m.context.queue nothing_emitted h.1,
         h.2,
         h.3,
-        said_lightly method m.context.emitted (after_call act).context.emitted (light_call act) h.4,
+        said_no_packet_or_status method m.context.emitted (after_call act).context.emitted (call_act_emits_no_packet_or_status act) h.4,
       )
   w_calls (sets_priority stream priority m is) h = (h.0, calls_leave_rests.priority stream priority m.context.queue h.1, h.2, h.3, h.4)
   w_calls (sets_max_message_size bytes m is) h = h
@@ -316,35 +316,35 @@ module _ (g : Setting) (call : Call) (r : Rules g call) (receives : (tag : ℕ) 
       (sym (list_all-append number_fits a.among.before (p ∷ a.among.behind)) ∙ split)).1 in
       (and_parts (number_fits p) (list_all number_fits a.among.behind) behind).0
 
-  number_small : (number : ℕ) → HasRequest call number → number < words
+  number_small : (number : ℕ) → HasRequest call number → number < u32_space
   number_small number (for_outgoing response last_tsn streams a) =
-      ltb-true number words (parameter_fits (outgoing_reset_request number response last_tsn streams) a)
-  number_small number (for_incoming streams a) = ltb-true number words (parameter_fits (incoming_reset_request number streams) a)
+      ltb-true number u32_space (parameter_fits (outgoing_reset_request number response last_tsn streams) a)
+  number_small number (for_incoming streams a) = ltb-true number u32_space (parameter_fits (incoming_reset_request number streams) a)
 
-  settled_whole : (o : Outcome) (s : State) (c : Context Carried) (p : Packet) → IsWhole method s c.queue c.emitted.events p
+  on_outcome_whole : (o : Outcome) (s : State) (c : Context Carried) (p : PacketDraft) → IsWhole method s c.queue c.emitted.events p
       → IsWhole method s (on_outcome o c).queue (on_outcome o c).emitted.events p
-  settled_whole Unsettled s c p h = h
-  settled_whole (Done streams) s c p h =
+  on_outcome_whole Unsettled s c p h = h
+  on_outcome_whole (Done streams) s c p h =
       (h.0, calls_leave_rests.steps Performed streams c.queue h.1, h.2, h.3, said_none method c.emitted.events (OnStreamsResetPerformed streams ∷ []) (on_outcome (Done streams) c).emitted.events refl refl h.4)
-  settled_whole (Denied streams) s c p h =
+  on_outcome_whole (Denied streams) s c p h =
       (h.0, calls_leave_rests.steps Refused streams c.queue h.1, h.2, h.3, said_none method c.emitted.events (OnStreamsResetFailed streams ∷ []) (on_outcome (Denied streams) c).emitted.events refl refl h.4)
 
-  processed_fits : (number : ℕ) (q : Requests) (next : Requests) → number < words → next.next ≡ q.next → next.current ≡ q.current → next.last ≡ number → NumbersFit q
+  processed_fits : (number : ℕ) (q : Requests) (next : Requests) → number < u32_space → next.next ≡ q.next → next.current ≡ q.current → next.last ≡ number → NumbersFit q
       → NumbersFit next
   processed_fits number q next small e f l h = record {
-    next = subst (λ (n : ℕ). n < words) (sym e) h.next;
+    next = subst (λ (n : ℕ). n < u32_space) (sym e) h.next;
     current = subst NumberFits (sym f) h.current;
-    last = subst (λ (n : ℕ). n < words) (sym l) small;
+    last = subst (λ (n : ℕ). n < u32_space) (sym l) small;
   }
 
   w_resets : (act : ResetAct Carried call) → WholeAt (before_reset act) → WholeAt (after_reset act)
   w_resets (prepares stream phase t m asked can) h =
       let act : ResetAct Carried call = prepares stream phase t m asked can in (
         h.0,
-        calls_leave_rests.prepared stream m.context.queue silent h.1,
+        calls_leave_rests.prepared stream m.context.queue nothing_emitted h.1,
         h.2,
         h.3,
-        said_lightly method m.context.emitted (after_reset act).context.emitted (light_reset act) h.4,
+        said_no_packet_or_status method m.context.emitted (after_reset act).context.emitted (reset_act_emits_no_packet_or_status act) h.4,
       )
   w_resets (defers number response last_tsn streams phase t m asked known ahead) h =
       ((processed_fits number t.requests _ (known_small number t.requests known.known h.0.0) refl refl refl h.0.0, h.0.1), h.1, h.2, h.3, h.4)
@@ -354,13 +354,13 @@ module _ (g : Setting) (call : Call) (r : Rules g call) (receives : (tag : ℕ) 
         h.1,
         h.2,
         h.3,
-        said_lightly method m.context.emitted (after_reset act).context.emitted (light_reset act) h.4,
+        said_no_packet_or_status method m.context.emitted (after_reset act).context.emitted (reset_act_emits_no_packet_or_status act) h.4,
       )
   w_resets (processes number streams phase t m asked known) h =
       ((processed_fits number t.requests _ (known_small number t.requests known h.0.0) refl refl refl h.0.0, h.0.1), h.1, h.2, h.3, h.4)
   w_resets (takes_response rto number result sender receiver phase t m asked) h =
       let s : State = (after_reset {call = call} (takes_response rto number result sender receiver phase t m asked)).state in
-      settled_whole (outcome number result t.requests.current) s m.context m.packet
+      on_outcome_whole (outcome number result t.requests.current) s m.context m.packet
       ((answered_in_fits t.requests.current m.context.now rto number result t.requests h.0.0.current h.0.0, h.0.1), h.1, h.2, h.3, h.4)
   w_resets (adds_responses responses phase t m are answers) h =
       whole_added method (Open phase t) m.context.queue m.context.emitted.events (re_config_chunk responses) m.packet

@@ -7,7 +7,7 @@ use Rattle.std.proofs.lemmas.Bool.Decides.{nat_tests}
 use Rattle.std.proofs.lemmas.List.Folds.{list_all-append}
 use Rattle.std.proofs.lemmas.List.Elements.{All-head, All-tail}
 use Rattle.std.proofs.lemmas.Nat.{mod_below}
-use Rattle.sctp_serial.specs.Unwrapped.{words}
+use Rattle.sctp_serial.specs.Unwrapped.{u32_space}
 use Rattle.sctp_wire.specs.Parameter.{ParameterTree, reset_response}
 use Rattle.sctp_packet.specs.Chunk.{ChunkTree, FragmentTree, data_chunk, idata_chunk, init_chunk, init_ack_chunk, cookie_echo_chunk, re_config_chunk}
 use Rattle.sctp_packet.specs.Grammar.{Each}
@@ -19,8 +19,8 @@ use Rattle.sctp_tx_queue.proofs.RestLemmas.{calls_leave_rests}
 use Rattle.sctp_tx.specs.RetransmissionQueue.{Sender}
 use Rattle.sctp_tx.specs.ForwardPoints.{chunk_if}
 use Rattle.spec_endpoint.specs.Association.{Tcb}
-use Rattle.spec_endpoint.specs.Packets.{Packet, fits, added_if, add, add_all}
-use Rattle.spec_endpoint.specs.ResetRequests.{Request, Requests, requests, request_chunk, is_known, is_last, is_next, awake, wake_request, after}
+use Rattle.spec_endpoint.specs.Packets.{PacketDraft, fits, added_if, add, add_all}
+use Rattle.spec_endpoint.specs.ResetRequests.{Request, Requests, requests, request_chunk, is_known_request, is_last_request, is_next_request, without_deferral, clear_deferral, next_number}
 use Rattle.spec_endpoint.specs.Sending.{data_chunk_of, data_chunks}
 use Rattle.spec_endpoint.specs.Opening.{queue_if, other_mode, queue_for, queue_anew}
 use Rattle.spec_endpoint.specs.Laws.{Call}
@@ -94,29 +94,29 @@ kind_whole cs (a_flow flows) = flows_whole_all cs flows
 
 -- ---- packets
 
-added_if_whole : (b : Bool) (c : ChunkTree) (p : Packet) → list_all is_whole p.chunks ≡ true → is_whole c ≡ true → list_all is_whole (added_if b c p).chunks ≡ true
+added_if_whole : (b : Bool) (c : ChunkTree) (p : PacketDraft) → list_all is_whole p.chunks ≡ true → is_whole c ≡ true → list_all is_whole (added_if b c p).chunks ≡ true
 added_if_whole true c p h e =
     list_all-append is_whole p.chunks (c ∷ [])
     ∙ and_from (list_all is_whole p.chunks) (is_whole c && true) h (and_from (is_whole c) true e refl)
 added_if_whole false c p h e = h
 
-pub added_whole : (c : ChunkTree) (p : Packet) → list_all is_whole p.chunks ≡ true → is_whole c ≡ true → list_all is_whole (add c p).chunks ≡ true
+pub added_whole : (c : ChunkTree) (p : PacketDraft) → list_all is_whole p.chunks ≡ true → is_whole c ≡ true → list_all is_whole (add c p).chunks ≡ true
 added_whole c p h e = added_if_whole (fits p c) c p h e
 
-pub added_all_whole : (cs : List ChunkTree) (p : Packet) → list_all is_whole p.chunks ≡ true → list_all is_whole cs ≡ true → list_all is_whole (add_all cs p).chunks ≡ true
+pub added_all_whole : (cs : List ChunkTree) (p : PacketDraft) → list_all is_whole p.chunks ≡ true → list_all is_whole cs ≡ true → list_all is_whole (add_all cs p).chunks ≡ true
 added_all_whole [] p h e = h
 added_all_whole (c ∷ cs) p h e =
     let a = and_parts (is_whole c) (list_all is_whole cs) e in
     added_all_whole cs (add c p) (added_whole c p h a.0) a.1
 
-added_if_summed : (b : Bool) (c : ChunkTree) (p : Packet) → (added_if b c p).is_summed ≡ p.is_summed
+added_if_summed : (b : Bool) (c : ChunkTree) (p : PacketDraft) → (added_if b c p).is_summed ≡ p.is_summed
 added_if_summed true c p = refl
 added_if_summed false c p = refl
 
-pub added_summed : (c : ChunkTree) (p : Packet) → (add c p).is_summed ≡ p.is_summed
+pub added_summed : (c : ChunkTree) (p : PacketDraft) → (add c p).is_summed ≡ p.is_summed
 added_summed c p = added_if_summed (fits p c) c p
 
-pub added_all_summed : (cs : List ChunkTree) (p : Packet) → (add_all cs p).is_summed ≡ p.is_summed
+pub added_all_summed : (cs : List ChunkTree) (p : PacketDraft) → (add_all cs p).is_summed ≡ p.is_summed
 added_all_summed [] p = refl
 added_all_summed (c ∷ cs) p = added_all_summed cs (add c p) ∙ added_summed c p
 
@@ -137,15 +137,15 @@ pub forward_whole : (b : Bool) (s : Sender) → is_whole (chunk_if b s) ≡ true
 forward_whole true s = refl
 forward_whole false s = refl
 
-pub request_whole : (r : Request) → r.number < words → is_whole (request_chunk r) ≡ true
-request_whole r h = and_from (nat_lt r.number words) true (lt-ltb r.number words h) refl
+pub request_whole : (r : Request) → r.number < u32_space → is_whole (request_chunk r) ≡ true
+request_whole r h = and_from (nat_lt r.number u32_space) true (lt-ltb r.number u32_space h) refl
 
 -- an answer has the number of a request that was received
-response_fits : (call : Call) → ((number : ℕ) → HasRequest call number → number < words) → (r : Requests) (p : ParameterTree) → Answers call r p → number_fits p ≡ true
-response_fits call f r (reset_response number result sender receiver) h = lt-ltb number words (f number h.0)
+response_fits : (call : Call) → ((number : ℕ) → HasRequest call number → number < u32_space) → (r : Requests) (p : ParameterTree) → Answers call r p → number_fits p ≡ true
+response_fits call f r (reset_response number result sender receiver) h = lt-ltb number u32_space (f number h.0)
 response_fits call f r p h = absurd h
 
-pub responses_whole : (call : Call) → ((number : ℕ) → HasRequest call number → number < words) → (r : Requests) (ps : List ParameterTree) → All (Answers call r) ps
+pub responses_whole : (call : Call) → ((number : ℕ) → HasRequest call number → number < u32_space) → (r : Requests) (ps : List ParameterTree) → All (Answers call r) ps
     → list_all number_fits ps ≡ true
 responses_whole call f r [] h = refl
 responses_whole call f r (p ∷ ps) h =
@@ -154,25 +154,25 @@ responses_whole call f r (p ∷ ps) h =
 
 -- ---- request numbers
 
-pub new_numbers : (o : Options) (first peer : ℕ) → first < words → NumbersFit (requests o first peer)
-new_numbers o first peer h = record { next = h; current = tt; last = mod_below _ words (omega arith) }
+pub new_numbers : (o : Options) (first peer : ℕ) → first < u32_space → NumbersFit (requests o first peer)
+new_numbers o first peer h = record { next = h; current = tt; last = mod_below _ u32_space (omega arith) }
 
-same_number : (a b : ℕ) → (a == b) ≡ true → b < words → a < words
+same_number : (a b : ℕ) → (a == b) ≡ true → b < u32_space → a < u32_space
 same_number a b e h = omega (arith, eqb-true a b e, h)
 
-known_by : (a b : Bool) (number : ℕ) (r : Requests) → is_last number r ≡ a → is_next number r ≡ b → (a || b) ≡ true → NumbersFit r → number < words
+known_by : (a b : Bool) (number : ℕ) (r : Requests) → is_last_request number r ≡ a → is_next_request number r ≡ b → (a || b) ≡ true → NumbersFit r → number < u32_space
 known_by true b number r e f k h = same_number number r.last e h.last
-known_by false true number r e f k h = same_number number (after r.last) f (next_fits r.last)
+known_by false true number r e f k h = same_number number (next_number r.last) f (next_fits r.last)
 known_by false false number r e f k h = cc
 
-pub known_small : (number : ℕ) (r : Requests) → is_known number r ≡ true → NumbersFit r → number < words
-known_small number r k h = known_by (is_last number r) (is_next number r) number r refl refl k h
+pub known_small : (number : ℕ) (r : Requests) → is_known_request number r ≡ true → NumbersFit r → number < u32_space
+known_small number r k h = known_by (is_last_request number r) (is_next_request number r) number r refl refl k h
 
-awake_fits : (o : Option Request) → NumberFits o → NumberFits (option_map awake o)
+awake_fits : (o : Option Request) → NumberFits o → NumberFits (option_map without_deferral o)
 awake_fits None h = tt
 awake_fits (Some r) h = h
 
-pub woken_fits : (r : Requests) → NumbersFit r → NumbersFit (wake_request r)
+pub woken_fits : (r : Requests) → NumbersFit r → NumbersFit (clear_deferral r)
 woken_fits r h = record { next = h.next; current = awake_fits r.current h.current; last = h.last }
 
 -- ---- the queue of an association that begins

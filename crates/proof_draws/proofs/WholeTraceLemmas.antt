@@ -13,12 +13,12 @@ use Rattle.sctp_state.specs.Options.{Options}
 use Rattle.sctp_state.specs.Events.{Event, OnError}
 use Rattle.sctp_tx_queue.specs.InOrder.{HasRests}
 use Rattle.spec_endpoint.specs.Association.{Endpoint}
-use Rattle.spec_endpoint.specs.Opening.{complains}
-use Rattle.spec_endpoint.specs.Input.{refusal, counts, taken_if}
-use Rattle.spec_endpoint.specs.Laws.{Call, Packet, called, endings}
+use Rattle.spec_endpoint.specs.Opening.{emit_parse_error}
+use Rattle.spec_endpoint.specs.Input.{packet_refusal, count_packet_at, packet_if}
+use Rattle.spec_endpoint.specs.Laws.{Call, ReceivePacket, called, endings}
 use Rattle.proof_endpoint.specs.Mapped.{Carried}
-use Rattle.proof_endpoint.specs.Acts.{calm, IsReceived}
-use Rattle.proof_pair.specs.Trace.{Side, Pair, new_side, packets_in, emitted_packets, EndAction, Calls, Gives, Refuses, drain, as_received, give, foreign_if, act, goes, run, MayCall, MayAct, side_of, KeepsOpeningRules, NeitherHasEnded, AreValidOptions, start, state_of}
+use Rattle.proof_endpoint.specs.Acts.{calm, BringsChunk}
+use Rattle.proof_pair.specs.Trace.{Side, Pair, new_side, packets_in, emitted_packets, EndAction, Calls, Gives, Refuses, drain, as_received, give_carried, foreign_if, act, goes, run, MayCall, MayAct, side_of, KeepsRules, NoAssociationHasEnded, AreValidOptions, start, state_of}
 use Rattle.proof_pair.proofs.UntilLemmas.{until_end}
 use Rattle.proof_pair.proofs.AddedLemmas.{all_get}
 use Rattle.proof_pair.proofs.JoinActsLemmas.{packets_both, Setting}
@@ -70,7 +70,7 @@ module _ (o q : Options) (x y : Side) (own : AreValidOptions o) (other : AreVali
       (none_of x.emitted e.endpoint_state.context.emitted.events none) (begins o q x y x.got_init (λ z. z) h.own h.other, whole_begins x.got_init)).1
 
   -- each chunk of a packet of a kind is whole
-  received_whole : (p : Carried) (checksum : ℕ) → IsKind p.chunks → (tag : ℕ) (chunk : ChunkTree) → IsReceived (Packet (as_received p checksum)) tag chunk
+  received_whole : (p : Carried) (checksum : ℕ) → IsKind p.chunks → (tag : ℕ) (chunk : ChunkTree) → BringsChunk (ReceivePacket (as_received p checksum)) tag chunk
       → is_whole chunk ≡ true
   received_whole p checksum kind tag chunk received =
       let same : as_received p checksum ≡ received.packet = ap (λ (c : Call). packet_of c (as_received p checksum)) received.given in
@@ -84,13 +84,13 @@ module _ (o q : Options) (x y : Side) (own : AreValidOptions o) (other : AreVali
       (and_parts (is_whole chunk) (list_all is_whole behind) rest).0
 
   module _ (b : SideIsWhole o.zero_checksum_method y) where
-    whole_given : (p : Option Carried) (checksum n : ℕ) → slice_get (emitted_packets y) n ≡ p → endings (give p checksum x).emitted ≡ 0
-        → SideIsWhole q.zero_checksum_method (give p checksum x)
+    whole_given : (p : Option Carried) (checksum n : ℕ) → slice_get (emitted_packets y) n ≡ p → endings (give_carried p checksum x).emitted ≡ 0
+        → SideIsWhole q.zero_checksum_method (give_carried p checksum x)
     whole_given None checksum n there none = a
     whole_given (Some p) checksum n there none =
         let now : Bool = x.got_init || (p.header.verification_tag == 0) in
         let g : Setting = setting o q x y now in
-        let call : Call = Packet (as_received p checksum) in
+        let call : Call = ReceivePacket (as_received p checksum) in
         let e : Endpoint Carried = called call x.end in
         let kind : IsKind p.chunks = (all_get (IsSaid o.zero_checksum_method) (emitted_packets y) n p there b.said).kind in
         whole_ends now e
@@ -98,24 +98,24 @@ module _ (o q : Options) (x y : Side) (own : AreValidOptions o) (other : AreVali
         (none_of x.emitted e.endpoint_state.context.emitted.events none)
         (begins o q x y now (or_left x.got_init (p.header.verification_tag == 0)) h.own h.other, whole_begins now)).1
 
-    whole_refused : (r : Option (List ℕ)) (p : PacketTree) → refusal p.header.verification_tag p.chunks (state_of x) ≡ r
+    whole_refused : (r : Option (List ℕ)) (p : PacketTree) → packet_refusal p.header.verification_tag p.chunks (state_of x) ≡ r
         → SideIsWhole q.zero_checksum_method (foreign_if r p x)
     whole_refused None p is = a
     whole_refused (Some text) p is =
         let s : Endpoint Carried = x.end in
-        let same : called (Packet p) s ≡ complains text (counts s) =
-        ap (λ (r : Option (List ℕ)). taken_if r p.header.verification_tag p.chunks (counts s)) is in
+        let same : called (ReceivePacket p) s ≡ emit_parse_error text (count_packet_at s) =
+        ap (λ (r : Option (List ℕ)). packet_if r p.header.verification_tag p.chunks (count_packet_at s)) is in
         let w = whole_begins x.got_init in
         let none : packets_in (s.endpoint_state.context.emitted.events ++ OnError ParseFailed text ∷ []) ≡ [] =
         ap (λ (es : List (Event Carried)). packets_in (es ++ OnError ParseFailed text ∷ [])) h.own.quiet in
-        whole_ends x.got_init (called (Packet p) s)
+        whole_ends x.got_init (called (ReceivePacket p) s)
         (subst (λ (e : Endpoint Carried). IsWhole q.zero_checksum_method e.endpoint_state.state e.endpoint_state.context.queue e.endpoint_state.context.emitted.events (calm e).packet) (sym same)
         (w.0, w.1, refl, λ e. cc, subst (All (IsSaid q.zero_checksum_method)) (sym none) (All-nil (IsSaid q.zero_checksum_method))))
 
     pub whole_turned : (t : EndAction) → MayAct t x → endings (act t x y).emitted ≡ 0 → SideIsWhole q.zero_checksum_method (act t x y)
     whole_turned (Calls call) may none = whole_call call may none
     whole_turned (Gives which checksum) may none = whole_given (slice_get (emitted_packets y) which) checksum which refl none
-    whole_turned (Refuses p) may none = whole_refused (refusal p.header.verification_tag p.chunks (state_of x)) p refl
+    whole_turned (Refuses p) may none = whole_refused (packet_refusal p.header.verification_tag p.chunks (state_of x)) p refl
 
 -- ---- traces
 
@@ -125,7 +125,7 @@ pub record AreWhole (o q : Options) (w : Pair) : Type 0 where
   pub b : SideIsWhole o.zero_checksum_method w.b
 
 module _ (o q : Options) (own : AreValidOptions o) (other : AreValidOptions q) where
-  whole_goes : (at_a : Bool) (t : EndAction) (w : Pair) → MayAct t (side_of at_a w) → NeitherHasEnded (goes at_a t w) → AreWhole o q w → AreWhole o q (goes at_a t w)
+  whole_goes : (at_a : Bool) (t : EndAction) (w : Pair) → MayAct t (side_of at_a w) → NoAssociationHasEnded (goes at_a t w) → AreWhole o q w → AreWhole o q (goes at_a t w)
   whole_goes true t w may none h = record {
     halves = goes_consistent o q own other true t w may none h.halves;
     a = whole_turned o q w.a w.b own other h.halves h.a h.b t may none.a;
@@ -137,7 +137,7 @@ module _ (o q : Options) (own : AreValidOptions o) (other : AreValidOptions q) w
     b = whole_turned q o w.b w.a other own (swapped o q w.a w.b h.halves) h.b h.a t may none.b;
   }
 
-  whole_run : (es : List (Bool × EndAction)) (w : Pair) → KeepsOpeningRules es w → NeitherHasEnded (run es w) → AreWhole o q w → AreWhole o q (run es w)
+  whole_run : (es : List (Bool × EndAction)) (w : Pair) → KeepsRules es w → NoAssociationHasEnded (run es w) → AreWhole o q w → AreWhole o q (run es w)
   whole_run [] w follows none h = h
   whole_run (e ∷ es) w follows none h =
       whole_run es (goes e.0 e.1 w) follows.1 none (whole_goes e.0 e.1 w follows.0 (before_run es (goes e.0 e.1 w) none) h)
@@ -155,7 +155,7 @@ module _ (o q : Options) (own : AreValidOptions o) (other : AreValidOptions q) w
     b_numbers = numbers_in (state_of w.b) h.b.state;
   }
 
-  kinds_along : (es : List (Bool × EndAction)) (w : Pair) → KeepsOpeningRules es w → NeitherHasEnded (run es w) → AreWhole o q w → KindsAlong es w
+  kinds_along : (es : List (Bool × EndAction)) (w : Pair) → KeepsRules es w → NoAssociationHasEnded (run es w) → AreWhole o q w → KindsAlong es w
   kinds_along [] w follows none h = are_of_a_kind w h
   kinds_along (e ∷ es) w follows none h = (
     are_of_a_kind w h,
@@ -170,30 +170,30 @@ module _ (o q : Options) (own : AreValidOptions o) (other : AreValidOptions q) w
       All-weaker (IsSaid q.zero_checksum_method) (PassesAt y)
       (λ p s none. ap (λ (z : Options). z.zero_checksum_method == 0) is ∙ s.passes none) (emitted_packets x) h.said
 
-new_whole : (method : ℕ) (o : Options) (words : Stream) → SideIsWhole method (new_side o words)
-new_whole method o words = record { state = tt; queue = calls_leave_rests.new o; said = All-nil (IsSaid method) }
+new_whole : (method : ℕ) (o : Options) (draws : Stream) → SideIsWhole method (new_side o draws)
+new_whole method o draws = record { state = tt; queue = calls_leave_rests.new o; said = All-nil (IsSaid method) }
 
-pub start_whole : (a b : Options) (words_a words_b : Stream) → AreWhole a b (start a b words_a words_b)
-start_whole a b words_a words_b = record {
-  halves = first_halves a b words_a words_b;
-  a = new_whole b.zero_checksum_method a words_a;
-  b = new_whole a.zero_checksum_method b words_b;
+pub start_whole : (a b : Options) (draws_a draws_b : Stream) → AreWhole a b (start a b draws_a draws_b)
+start_whole a b draws_a draws_b = record {
+  halves = first_halves a b draws_a draws_b;
+  a = new_whole b.zero_checksum_method a draws_a;
+  b = new_whole a.zero_checksum_method b draws_b;
 }
 
 pub packets_of_a_kind : PacketsAreOfAKind
-packets_of_a_kind a b words_a words_b es own other follows none =
-    let w : Pair = start a b words_a words_b in
-    are_of_a_kind a b own other (run es w) (whole_run a b own other es w follows none (start_whole a b words_a words_b))
+packets_of_a_kind a b draws_a draws_b es own other follows none =
+    let w : Pair = start a b draws_a draws_b in
+    are_of_a_kind a b own other (run es w) (whole_run a b own other es w follows none (start_whole a b draws_a draws_b))
 
-pub along_of_a_kind : (a b : Options) (words_a words_b : Stream) (es : List (Bool × EndAction)) → AreValidOptions a → AreValidOptions b
-    → KeepsOpeningRules es (start a b words_a words_b) → NeitherHasEnded (run es (start a b words_a words_b)) → KindsAlong es (start a b words_a words_b)
-along_of_a_kind a b words_a words_b es own other follows none =
-    kinds_along a b own other es (start a b words_a words_b) follows none (start_whole a b words_a words_b)
+pub along_of_a_kind : (a b : Options) (draws_a draws_b : Stream) (es : List (Bool × EndAction)) → AreValidOptions a → AreValidOptions b
+    → KeepsRules es (start a b draws_a draws_b) → NoAssociationHasEnded (run es (start a b draws_a draws_b)) → KindsAlong es (start a b draws_a draws_b)
+along_of_a_kind a b draws_a draws_b es own other follows none =
+    kinds_along a b own other es (start a b draws_a draws_b) follows none (start_whole a b draws_a draws_b)
 
 pub packets_pass : PacketsPass
-packets_pass a b words_a words_b es own other follows none =
-    let w : Pair = start a b words_a words_b in
-    let h : AreWhole a b (run es w) = whole_run a b own other es w follows none (start_whole a b words_a words_b) in
+packets_pass a b draws_a draws_b es own other follows none =
+    let w : Pair = start a b draws_a draws_b in
+    let h : AreWhole a b (run es w) = whole_run a b own other es w follows none (start_whole a b draws_a draws_b) in
     record {
       a = passes_at a b own other (run es w).a (run es w).b h.halves.other.size h.halves.other.options h.a;
       b = passes_at b a other own (run es w).b (run es w).a h.halves.own.size h.halves.own.options h.b;

@@ -3,10 +3,10 @@ use Rattle.std.specs.Prelude.{◌≡◌, ℕ, ◌==◌, not, Bool, false, Option
 use Rattle.rand_core.specs.Stream.{Stream}
 use Rattle.sctp_state.specs.Events.{Event, SendPacket, OnError, OnAborted, GivenUp}
 use Rattle.sctp_state.specs.Options.{Options}
-use Rattle.spec_endpoint.specs.Laws.{Packet, called, endings}
+use Rattle.spec_endpoint.specs.Laws.{ReceivePacket, called, endings}
 use Rattle.spec_endpoint.specs.Shown.{association_in}
 use Rattle.proof_endpoint.specs.Mapped.{Carried}
-use Rattle.proof_pair.specs.Trace.{Side, Pair, emitted_packets, EndAction, Calls, Gives, Refuses, as_received, act, goes, run, side_of, KeepsOpeningRules, NeitherHasEnded, AreValidOptions, start, state_of}
+use Rattle.proof_pair.specs.Trace.{Side, Pair, emitted_packets, EndAction, Calls, Gives, Refuses, as_received, act, goes, run, side_of, KeepsRules, NoAssociationHasEnded, AreValidOptions, start, state_of}
 use Rattle.proof_draws.specs.NamedChunks.{Names, AreNames}
 use Rattle.proof_draws.specs.Names.{named_state}
 use Rattle.proof_draws.specs.Images.{named_carried}
@@ -28,11 +28,11 @@ IsAlike (OnAborted kind text) e = (other : List ℕ) × (e ≡ OnAborted kind ot
 IsAlike event e = e ≡ event
 
 -- place by place
-abbrev pub AreEmitted : List (Event Carried) → List (Event Carried) → Type 0
-AreEmitted [] [] = ⊤
-AreEmitted [] (f ∷ fs) = ⊥
-AreEmitted (e ∷ es) [] = ⊥
-AreEmitted (e ∷ es) (f ∷ fs) = IsAlike e f × AreEmitted es fs
+abbrev pub AreEventsAlike : List (Event Carried) → List (Event Carried) → Type 0
+AreEventsAlike [] [] = ⊤
+AreEventsAlike [] (f ∷ fs) = ⊥
+AreEventsAlike (e ∷ es) [] = ⊥
+AreEventsAlike (e ∷ es) (f ∷ fs) = IsAlike e f × AreEventsAlike es fs
 
 -- ---- between actions
 
@@ -42,7 +42,7 @@ pub record AreAlike (x y : Side) : Type 0 where
   pub are : AreNames names
   pub state : state_of y ≡ named_state names (state_of x)
   pub context : y.end.endpoint_state.context ≡ x.end.endpoint_state.context
-  pub emitted : AreEmitted x.emitted y.emitted
+  pub emitted : AreEventsAlike x.emitted y.emitted
   pub asked : y.got_init ≡ x.got_init
 
 pub record ArePairsAlike (w v : Pair) : Type 0 where
@@ -53,7 +53,7 @@ pub record ArePairsAlike (w v : Pair) : Type 0 where
 
 abbrev pub records_given : Option Carried → (checksum : ℕ) → Side → List GivenUp
 records_given None checksum x = []
-records_given (Some p) checksum x = (called (Packet (as_received p checksum)) x.end).endpoint_state.context.emitted.given_up
+records_given (Some p) checksum x = (called (ReceivePacket (as_received p checksum)) x.end).endpoint_state.context.emitted.given_up
 
 -- what an end records as given up
 abbrev pub records_by : EndAction → (x y : Side) → List GivenUp
@@ -96,11 +96,11 @@ pub record ActionIsAlike (e f : Bool × EndAction) (w v : Pair) : Type 0 where
 -- The first trace follows the rules, and no association has ended in it before the last action; no tag is drawn twice in either.
 abbrev pub TracesAreAlike : Type 0
 TracesAreAlike =
-    (a b : Options) (words_a words_b others_a others_b : Stream) (es fs : List (Bool × EndAction)) (e f : Bool × EndAction) → AreValidOptions a → AreValidOptions b
-    → SameActions (es ++ e ∷ []) (fs ++ f ∷ []) → KeepsOpeningRules (es ++ e ∷ []) (start a b words_a words_b)
-    → NeitherHasEnded (run es (start a b words_a words_b)) → AllDrawnTagsAreDistinct (es ++ e ∷ []) (start a b words_a words_b)
+    (a b : Options) (draws_a draws_b others_a others_b : Stream) (es fs : List (Bool × EndAction)) (e f : Bool × EndAction) → AreValidOptions a → AreValidOptions b
+    → SameActions (es ++ e ∷ []) (fs ++ f ∷ []) → KeepsRules (es ++ e ∷ []) (start a b draws_a draws_b)
+    → NoAssociationHasEnded (run es (start a b draws_a draws_b)) → AllDrawnTagsAreDistinct (es ++ e ∷ []) (start a b draws_a draws_b)
     → AllDrawnTagsAreDistinct (fs ++ f ∷ []) (start a b others_a others_b)
-    → ActionIsAlike e f (run es (start a b words_a words_b)) (run fs (start a b others_a others_b))
+    → ActionIsAlike e f (run es (start a b draws_a draws_b)) (run fs (start a b others_a others_b))
 
 -- ---- checksums
 
@@ -115,8 +115,8 @@ pub record ArePassed (w : Pair) : Type 0 where
 -- along each trace that follows the rules, until an association first ends
 abbrev pub PacketsPass : Type 0
 PacketsPass =
-    (a b : Options) (words_a words_b : Stream) (es : List (Bool × EndAction)) → AreValidOptions a → AreValidOptions b → KeepsOpeningRules es (start a b words_a words_b)
-    → NeitherHasEnded (run es (start a b words_a words_b)) → ArePassed (run es (start a b words_a words_b))
+    (a b : Options) (draws_a draws_b : Stream) (es : List (Bool × EndAction)) → AreValidOptions a → AreValidOptions b → KeepsRules es (start a b draws_a draws_b)
+    → NoAssociationHasEnded (run es (start a b draws_a draws_b)) → ArePassed (run es (start a b draws_a draws_b))
 
 -- and so it is in a trace that is alike
 abbrev pub ImagesPass : Type 0

@@ -5,7 +5,7 @@ use Rattle.rand_core.specs.Stream.{Stream}
 use Rattle.sctp_packet.specs.Chunk.{ChunkTree, InitTree, init_chunk, init_ack_chunk, cookie_echo_chunk}
 use Rattle.sctp_state.specs.Options.{Options}
 use Rattle.proof_endpoint.specs.Mapped.{Carried}
-use Rattle.proof_pair.specs.Trace.{Pair, emitted_packets, EndAction, goes, run, KeepsOpeningRules, NeitherHasEnded, AreValidOptions, start, state_of}
+use Rattle.proof_pair.specs.Trace.{Pair, emitted_packets, EndAction, goes, run, KeepsRules, NoAssociationHasEnded, AreValidOptions, start, state_of}
 use Rattle.proof_draws.specs.Laws.{NumbersFitIn, is_flowing}
 
 -- INIT and INIT ACK are alone in their packets, and a COOKIE ECHO comes first (RFC 9260 sections 3.3.2, 3.3.3, 3.3.11). What else there is
@@ -33,5 +33,5 @@ KindsAlong (e ∷ es) w = AreOfAKind w × KindsAlong es (goes e.0 e.1 w)
 -- along each trace that follows the rules, until an association first ends
 abbrev pub PacketsAreOfAKind : Type 0
 PacketsAreOfAKind =
-    (a b : Options) (words_a words_b : Stream) (es : List (Bool × EndAction)) → AreValidOptions a → AreValidOptions b → KeepsOpeningRules es (start a b words_a words_b)
-    → NeitherHasEnded (run es (start a b words_a words_b)) → AreOfAKind (run es (start a b words_a words_b))
+    (a b : Options) (draws_a draws_b : Stream) (es : List (Bool × EndAction)) → AreValidOptions a → AreValidOptions b → KeepsRules es (start a b draws_a draws_b)
+    → NoAssociationHasEnded (run es (start a b draws_a draws_b)) → AreOfAKind (run es (start a b draws_a draws_b))

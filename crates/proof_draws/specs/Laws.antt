@@ -3,7 +3,7 @@ use Rattle.std.specs.Prelude.{◌≡◌, ℕ, ◌<◌, ◌==◌, not, nat_lt, Bo
 use Rattle.std.specs.List.{list_all}
 use Rattle.rand_core.specs.Stream.{Stream, next_u32}
 use Rattle.sctp_chunk.specs.declared.forward_tsn.SkippedStream.{SkippedStream}
-use Rattle.sctp_serial.specs.Unwrapped.{words}
+use Rattle.sctp_serial.specs.Unwrapped.{u32_space}
 use Rattle.sctp_wire.specs.Cause.{CauseTree}
 use Rattle.sctp_wire.specs.Parameter.{ParameterTree, state_cookie, outgoing_reset_request, incoming_reset_request, reset_response}
 use Rattle.sctp_packet.specs.Chunk.{ChunkTree, FragmentTree, InitTree, SackTree, data_chunk, idata_chunk, init_chunk, init_ack_chunk, sack_chunk, heartbeat_request_chunk, heartbeat_ack_chunk, abort_chunk, shutdown_chunk, shutdown_ack_chunk, error_chunk, cookie_echo_chunk, cookie_ack_chunk, shutdown_complete_chunk, re_config_chunk, forward_tsn_chunk, i_forward_tsn_chunk, unknown_chunk}
@@ -11,15 +11,15 @@ use Rattle.sctp_serial.specs.Messages.{Message}
 use Rattle.sctp_state.specs.Options.{SendOptions}
 use Rattle.sctp_capabilities.specs.StateCookie.{Cookie, cookie_bytes}
 use Rattle.spec_endpoint.specs.Association.{Identity, Tcb, Phase, State, Closed, CookieWait, Open, Context, EndpointState, Endpoint, where_open, Packing}
-use Rattle.spec_endpoint.specs.Packets.{Packet}
+use Rattle.spec_endpoint.specs.Packets.{PacketDraft}
 use Rattle.spec_endpoint.specs.ResetRequests.{Request, Requests}
-use Rattle.spec_endpoint.specs.Sending.{send_lost_data, send_with}
+use Rattle.spec_endpoint.specs.Sending.{after_sending, send_with}
 use Rattle.spec_endpoint.specs.Opening.{tsn_from, tag_from, connect, resolve_cookie, cookie_for, answer, anew, echo, maker, on_cookie_ack}
 use Rattle.spec_endpoint.specs.Calls.{send, send_many, take_message}
 use Rattle.spec_endpoint.specs.Shutdown.{close, shutdown, on_shutdown, on_shutdown_complete, on_abort}
 use Rattle.spec_endpoint.specs.Data.{on_data, on_forward}
 use Rattle.spec_endpoint.specs.Sack.{on_sack}
-use Rattle.spec_endpoint.specs.Input.{refusal, end_packet, handle_chunks}
+use Rattle.spec_endpoint.specs.Input.{packet_refusal, on_packet_end, on_accepted_packet}
 use Rattle.spec_endpoint.specs.Timers.{advance}
 use Rattle.proof_draws.specs.NamedChunks.{Names, AreNames, flip, move_by, named_init, named_sack, named_chunks}
 use Rattle.proof_draws.specs.Names.{named_cookie, named_identity, named_packet, named_tcb, named_state, named_endpoint_state, named_end, plain, under, with_random}
@@ -48,10 +48,10 @@ pub data TiesTell (n : Names) (tag : ℕ) (i : Identity) (k : Cookie) : Type 0 w
 abbrev pub RefusalsAreNamed : Type 0
 RefusalsAreNamed =
     (n : Names) → AreNames n → (tag : ℕ) (chunks : List ChunkTree) (s : State)
-    → is_some (refusal (n.tag tag) (named_chunks (flip n) chunks) (named_state n s)) ≡ is_some (refusal tag chunks s)
+    → is_some (packet_refusal (n.tag tag) (named_chunks (flip n) chunks) (named_state n s)) ≡ is_some (packet_refusal tag chunks s)
 
-abbrev pub VerdictsAreNamed : Type 0
-VerdictsAreNamed =
+abbrev pub ResolutionsAreNamed : Type 0
+ResolutionsAreNamed =
     (n : Names) → AreNames n → (tag : ℕ) (k : Cookie) (s : State) → ((phase : Phase) (t : Tcb) → s ≡ Open phase t → TiesTell n tag t.identity k)
     → resolve_cookie (n.tag tag) (named_cookie n k) (named_state n s) ≡ resolve_cookie tag k s
 
@@ -72,9 +72,9 @@ ForwardPointsAreNamed =
 -- the chunks of acknowledgements, forward points, requests and data are the same under other names, and so are the packets
 abbrev pub BurstsAreNamed : Type 0
 BurstsAreNamed =
-    (n : Names) → AreNames n → (pack : Packing (List ℕ)) (is_alone : Bool) (p : Packet) (t : Tcb) (c : Context (List ℕ)) → c.pack ≡ under n pack
+    (n : Names) → AreNames n → (pack : Packing (List ℕ)) (is_alone : Bool) (p : PacketDraft) (t : Tcb) (c : Context (List ℕ)) → c.pack ≡ under n pack
     → send_with is_alone (named_packet n p) (named_tcb n t) (plain pack c)
-    ≡ send_lost_data (named_tcb n (send_with is_alone p t c).tcb) (plain pack (send_with is_alone p t c).context)
+    ≡ after_sending (named_tcb n (send_with is_alone p t c).tcb) (plain pack (send_with is_alone p t c).context)
 
 -- ---- acknowledgements
 
@@ -125,7 +125,7 @@ pub record EndingsAreNamed : Type 0 where
   pub on_shutdown_complete : RowIsNamed (where_open on_shutdown_complete)
   pub on_abort : (causes : List CauseTree) → RowIsNamed (where_open (on_abort causes))
   pub on_cookie_ack : RowIsNamed (where_open on_cookie_ack)
-  pub packet_end : RowIsNamed (where_open end_packet)
+  pub packet_end : RowIsNamed (where_open on_packet_end)
 
 -- the passing of time, with all timers
 abbrev pub MomentsAreNamed : Type 0
@@ -141,12 +141,12 @@ pub record CallsAreNamed : Type 0 where
 
 abbrev pub NumberFits : Option Request → Type 0
 NumberFits None = Unit {0}
-NumberFits (Some r) = r.number < words
+NumberFits (Some r) = r.number < u32_space
 
 pub record NumbersFit (r : Requests) : Type 0 where
-  pub next : r.next < words
+  pub next : r.next < u32_space
   pub current : NumberFits r.current
-  pub last : r.last < words
+  pub last : r.last < u32_space
 
 abbrev pub NumbersFitIn : State → Type 0
 NumbersFitIn Closed = Unit {0}
@@ -156,9 +156,9 @@ NumbersFitIn (Open phase t) = NumbersFit t.requests
 -- and an INIT ACK alone has a cookie
 abbrev pub number_fits : ParameterTree → Bool
 number_fits (state_cookie cookie) = false
-number_fits (outgoing_reset_request number response last_tsn streams) = nat_lt number words
-number_fits (incoming_reset_request number streams) = nat_lt number words
-number_fits (reset_response number result sender receiver) = nat_lt number words
+number_fits (outgoing_reset_request number response last_tsn streams) = nat_lt number u32_space
+number_fits (incoming_reset_request number streams) = nat_lt number u32_space
+number_fits (reset_response number result sender receiver) = nat_lt number u32_space
 number_fits parameter = true
 
 -- ---- packets
@@ -189,4 +189,4 @@ abbrev pub PacketsAreNamed : Type 0
 PacketsAreNamed =
     (n : Names) → AreNames n → (pack : Packing (List ℕ)) (tag : ℕ) (chunks : List ChunkTree) (e : Endpoint (List ℕ)) → list_all is_flowing chunks ≡ true
     → NumbersFitIn e.endpoint_state.state → e.endpoint_state.context.pack ≡ under n pack
-    → handle_chunks (n.tag tag) (named_chunks (flip n) chunks) (named_end n pack e) ≡ named_end n pack (handle_chunks tag chunks e)
+    → on_accepted_packet (n.tag tag) (named_chunks (flip n) chunks) (named_end n pack e) ≡ named_end n pack (on_accepted_packet tag chunks e)

@@ -2,15 +2,15 @@
 use Rattle.std.specs.Prelude.{◌≡◌, ℕ, ◌<◌, Bool, true, false, Option, Some, None, Result, Ok, Err, List, [], ◌∷◌, ⊤}
 use Rattle.std.specs.List.{list_all}
 use Rattle.rand_core.specs.Stream.{Stream, next_u32, next_u64}
-use Rattle.sctp_serial.specs.Unwrapped.{words}
+use Rattle.sctp_serial.specs.Unwrapped.{u32_space}
 use Rattle.sctp_packet.specs.Chunk.{ChunkTree, InitTree, init_chunk, init_ack_chunk, cookie_echo_chunk}
 use Rattle.sctp_packet.specs.Packet.{PacketTree}
 use Rattle.sctp_capabilities.specs.declared.state_cookie.StateCookieError.{StateCookieError}
 use Rattle.sctp_capabilities.specs.StateCookie.{Cookie, read_cookie}
 use Rattle.spec_endpoint.specs.Association.{Tcb, Phase, CookieEchoed, Established, ShutdownPending, ShutdownSent, ShutdownReceived, ShutdownAckSent, State, Closed, CookieWait, Open, EndpointState}
-use Rattle.spec_endpoint.specs.Opening.{tsn_from, tag_from, next_first, cookie_for, cookie_in, maker, CookieResolution, EstablishNew, RestartDetected, SimultaneousInit, MaintainExisting, Discard, InvalidTag, resolve_cookie, complains}
-use Rattle.spec_endpoint.specs.Input.{refusal, counts}
-use Rattle.spec_endpoint.specs.Laws.{Call, Connect, Restore, Packet, called}
+use Rattle.spec_endpoint.specs.Opening.{tsn_from, tag_from, next_first, cookie_for, cookie_in, maker, CookieResolution, EstablishNew, RestartDetected, SimultaneousInit, MaintainExisting, Discard, InvalidTag, resolve_cookie, emit_parse_error}
+use Rattle.spec_endpoint.specs.Input.{packet_refusal, count_packet_at}
+use Rattle.spec_endpoint.specs.Laws.{Call, Connect, Restore, ReceivePacket, called}
 use Rattle.proof_endpoint.specs.Mapped.{Carried}
 use Rattle.proof_draws.specs.NamedChunks.{Names, AreNames, flip, named_header, named_chunks}
 use Rattle.proof_draws.specs.Names.{named_cookie, with_random}
@@ -93,7 +93,7 @@ pub record CookieIsNamed (n : Names) (tag : ℕ) (cookie : List ℕ) (s : State)
   pub reads : read_cookie (n.cookie cookie) ≡ read_under n (read_cookie cookie)
   pub ties : (k : Cookie) → read_cookie cookie ≡ Ok k → (phase : Phase) (t : Tcb) → s ≡ Open phase t → TiesTell n tag t.identity k
   pub draws : (k : Cookie) → read_cookie cookie ≡ Ok k → is_new (resolve_cookie tag k s) ≡ true → DrawsTie n w v
-  pub first : (k : Cookie) → read_cookie cookie ≡ Ok k → k.my_initial_tsn < words
+  pub first : (k : Cookie) → read_cookie cookie ≡ Ok k → k.my_initial_tsn < u32_space
 
 -- ---- packets
 
@@ -107,7 +107,7 @@ pub data AreNamed (n : Names) (tag : ℕ) (chunks : List ChunkTree) (s : State) 
 
 -- a packet that is taken in this state, whose request numbers are of 32 bits
 pub record IsNamed (n : Names) (p : PacketTree) (s : State) (w v : Stream) : Type 0 where
-  pub taken : refusal p.header.verification_tag p.chunks s ≡ None
+  pub taken : packet_refusal p.header.verification_tag p.chunks s ≡ None
   pub numbers : NumbersFitIn s
   pub chunks : AreNamed n p.header.verification_tag p.chunks s w v
 
@@ -118,13 +118,13 @@ named_received n p = record p { header = named_header n p.header; chunks = named
 -- ---- calls
 
 abbrev pub named_call : Names → Call → Call
-named_call n (Packet p) = Packet (named_received n p)
+named_call n (ReceivePacket p) = ReceivePacket (named_received n p)
 named_call n call = call
 
 -- no record is taken up
 abbrev pub CallIsNamed : Names → Call → State → (w v : Stream) → Type 0
 CallIsNamed n Connect s w v = s ≡ Closed → DrawsTwo n w v
-CallIsNamed n (Packet p) s w v = IsNamed n p s w v
+CallIsNamed n (ReceivePacket p) s w v = IsNamed n p s w v
 CallIsNamed n (Restore h) s w v = ⊥
 CallIsNamed n call s w v = ⊤
 
@@ -140,10 +140,10 @@ EachCallIsNamed =
 pub record BothRefuse (n : Names) (p : PacketTree) (s : EndpointState Carried) (w v : Stream) : Type 0 where
   pub text : List ℕ
   pub named_text : List ℕ
-  pub first : called (Packet p) (with_random w s) ≡ complains text (counts (with_random w s))
-  pub second : called (Packet (named_received n p)) (with_random v (image n s)) ≡ complains named_text (counts (with_random v (image n s)))
+  pub first : called (ReceivePacket p) (with_random w s) ≡ emit_parse_error text (count_packet_at (with_random w s))
+  pub second : called (ReceivePacket (named_received n p)) (with_random v (image n s)) ≡ emit_parse_error named_text (count_packet_at (with_random v (image n s)))
 
 abbrev pub EachRefusalIsNamed : Type 0
 EachRefusalIsNamed =
     (n : Names) → AreNames n → (p : PacketTree) (s : EndpointState Carried) (w v : Stream) (text : List ℕ)
-    → refusal p.header.verification_tag p.chunks s.state ≡ Some text → BothRefuse n p s w v
+    → packet_refusal p.header.verification_tag p.chunks s.state ≡ Some text → BothRefuse n p s w v

@@ -2,7 +2,7 @@
 use Rattle.std.specs.Prelude.{◌≡◌, ℕ, ◌==◌, option_map, List, length, map}
 use Rattle.sctp_serial.specs.declared.types.tsn.Tsn.{Tsn}
 use Rattle.sctp_serial.specs.SerialNumber.{serial_sum}
-use Rattle.sctp_serial.specs.Unwrapped.{words}
+use Rattle.sctp_serial.specs.Unwrapped.{u32_space}
 use Rattle.sctp_wire.specs.Parameter.{ParameterTree, heartbeat_info, state_cookie, outgoing_reset_request, incoming_reset_request, ssn_tsn_reset_request, reset_response, add_outgoing_streams_request, add_incoming_streams_request, supported_extensions, forward_tsn_supported, zero_checksum_acceptable, unknown_parameter}
 use Rattle.sctp_packet.specs.Chunk.{ChunkTree, InitTree, SackTree, data_chunk, init_chunk, init_ack_chunk, sack_chunk, heartbeat_request_chunk, heartbeat_ack_chunk, abort_chunk, shutdown_chunk, shutdown_ack_chunk, error_chunk, cookie_echo_chunk, cookie_ack_chunk, shutdown_complete_chunk, idata_chunk, re_config_chunk, forward_tsn_chunk, i_forward_tsn_chunk, unknown_chunk}
 use Rattle.sctp_packet.specs.Packet.{HeaderTree}
@@ -29,7 +29,7 @@ pub record AreNames (n : Names) : Type 0 where
 -- ---- numbers
 
 abbrev pub move_by : (by : ℕ) → ℕ → ℕ
-move_by by number = serial_sum words number by
+move_by by number = serial_sum u32_space number by
 
 abbrev pub moved_tsn : (by : ℕ) → Tsn → Tsn
 moved_tsn by tsn = record { 0 = move_by by tsn.0 }

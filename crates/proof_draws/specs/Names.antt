@@ -9,11 +9,11 @@ use Rattle.sctp_tx_outstanding.specs.OutstandingData.{Outstanding}
 use Rattle.sctp_tx.specs.RetransmissionQueue.{Sender}
 use Rattle.spec_endpoint.specs.Association.{Identity, Tcb, Phase, CookieEchoed, Established, ShutdownPending, ShutdownSent, ShutdownReceived, ShutdownAckSent, State, Closed, CookieWait, Open, Context, EndpointState, Endpoint, Packing}
 use Rattle.spec_endpoint.specs.ResetRequests.{Request, Requests}
-use Rattle.spec_endpoint.specs.Packets.{Packet}
+use Rattle.spec_endpoint.specs.Packets.{PacketDraft}
 use Rattle.proof_draws.specs.NamedChunks.{Names, move_by, named_chunks, named_header}
 
 -- a packet that is put together
-abbrev pub named_packet : Names → Packet → Packet
+abbrev pub named_packet : Names → PacketDraft → PacketDraft
 named_packet n p = record p { tag = n.tag p.tag; chunks = named_chunks n p.chunks }
 
 -- ---- the end
@@ -93,7 +93,7 @@ abbrev pub named_end : {P : Type 0} → Names → Packing P → Endpoint P → E
 named_end n pack e = record e { endpoint_state = named_endpoint_state n pack e.endpoint_state }
 
 abbrev pub with_random : {P : Type 0} → Stream → EndpointState P → Endpoint P
-with_random w s = record { endpoint_state = s; random = w }
+with_random w s = record { endpoint_state = s; draws = w }
 
 -- ---- what a cookie says, to the end that made it
 

@@ -2,7 +2,7 @@
 //! traces of two ends that differ in what their ends drew alone are alike until an association first ends.
 #![tactic(auto)]
 
-ghost use Rattle.proof_draws.specs.Laws.{AnswersAreNamed, BurstsAreNamed, CallsAreNamed, ConnectIsNamed, DataIsNamed, EchoesAreNamed, EndingsAreNamed, ForwardPointsAreNamed, MomentsAreNamed, NewBlocksAreNamed, PacketsAreNamed, RefusalsAreNamed, SacksAreNamed, VerdictsAreNamed};
+ghost use Rattle.proof_draws.specs.Laws.{AnswersAreNamed, BurstsAreNamed, CallsAreNamed, ConnectIsNamed, DataIsNamed, EchoesAreNamed, EndingsAreNamed, ForwardPointsAreNamed, MomentsAreNamed, NewBlocksAreNamed, PacketsAreNamed, RefusalsAreNamed, SacksAreNamed, ResolutionsAreNamed};
 ghost use Rattle.proof_draws.specs.NamedCalls.{EachCallIsNamed, EachRefusalIsNamed};
 ghost use Rattle.proof_draws.specs.NamedCookies.{CookiesAreNamed};
 ghost use Rattle.proof_draws.specs.Renamed.{PairsAreRenamed};
@@ -18,7 +18,7 @@ pub fn what_is_drawn_is_named()
 /// Tags and ties are told apart by any names that tell them apart.
 pub fn tags_are_told_apart()
     ensures refusals { RefusalsAreNamed }
-    ensures verdicts { VerdictsAreNamed }
+    ensures verdicts { ResolutionsAreNamed }
 {}
 
 /// TSNs that come stand for the same numbers.

@@ -8,14 +8,14 @@ use Rattle.sctp_tx.specs.RetransmissionQueue.{Sender}
 use Rattle.sctp_tx.specs.Resent.{is_interleaved}
 use Rattle.sctp_tx.specs.ForwardPoints.{chunk_if, forward_chunk}
 use Rattle.sctp_tx.specs.Sending.{send}
-use Rattle.sctp_tx_queue.specs.Resets.{requested_streams, request_resets}
+use Rattle.sctp_tx_queue.specs.Resets.{streams_to_request, request_resets}
 use Rattle.sctp_rx.specs.DataTracker.{is_ack_due}
 use Rattle.sctp_tx_outstanding.specs.Forward.{is_forward_due}
 use Rattle.spec_endpoint.specs.Association.{Tcb}
-use Rattle.spec_endpoint.specs.Packets.{Packet, room, fits, added_if, add, add_all, has_chunks}
+use Rattle.spec_endpoint.specs.Packets.{PacketDraft, room, fits, added_if, add, add_all, has_chunks}
 use Rattle.spec_endpoint.specs.ResetRequests.{Request, request_chunk}
 use Rattle.spec_endpoint.specs.Sending as sending
-use Rattle.spec_endpoint.specs.Sending.{Filling, selective_ack, test_forward_point, most_streams, request_started, is_small, ack_if, with_ack, forward_added_if, forward_if, tested_if, with_forward, add_request, request_of, request_if, with_request, data_chunk_of, data_chunks, with_data, filled_as, turned_if, next_packet}
+use Rattle.spec_endpoint.specs.Sending.{Filling, selective_ack, with_expired_abandoned, most_streams, request_started, is_small, ack_if, with_ack, forward_added_if, forward_if, forward_if_time, with_forward, add_request, request_of, request_if, with_request, data_chunk_of, data_chunks, with_data, filled_as, burst_step_if, next_packet}
 use Rattle.proof_endpoint.specs.Acts.{is_plain, goes_along, goes_first, takes_more, IsBundled, all_along}
 
 -- ---- chunks
@@ -43,14 +43,14 @@ takes_pushed (d ∷ ds) c h e =
 
 -- ---- packets
 
-added_if_more : (b : Bool) (c : ChunkTree) (p : Packet) → takes_more p.chunks ≡ true → goes_along c ≡ true → takes_more (added_if b c p).chunks ≡ true
+added_if_more : (b : Bool) (c : ChunkTree) (p : PacketDraft) → takes_more p.chunks ≡ true → goes_along c ≡ true → takes_more (added_if b c p).chunks ≡ true
 added_if_more true c p h e = takes_pushed p.chunks c h e
 added_if_more false c p h e = h
 
-pub added_more : (c : ChunkTree) (p : Packet) → takes_more p.chunks ≡ true → goes_along c ≡ true → takes_more (add c p).chunks ≡ true
+pub added_more : (c : ChunkTree) (p : PacketDraft) → takes_more p.chunks ≡ true → goes_along c ≡ true → takes_more (add c p).chunks ≡ true
 added_more c p h e = added_if_more (fits p c) c p h e
 
-pub all_added_more : (cs : List ChunkTree) (p : Packet) → takes_more p.chunks ≡ true → list_all goes_along cs ≡ true → takes_more (add_all cs p).chunks ≡ true
+pub all_added_more : (cs : List ChunkTree) (p : PacketDraft) → takes_more p.chunks ≡ true → list_all goes_along cs ≡ true → takes_more (add_all cs p).chunks ≡ true
 all_added_more [] p h e = h
 all_added_more (c ∷ cs) p h e =
     let parts = and_parts (goes_along c) (list_all goes_along cs) e in
@@ -61,18 +61,18 @@ pub new_more : (cs : List ChunkTree) → cs ≡ [] → takes_more cs ≡ true
 new_more cs new = ap takes_more new
 
 -- one chunk, which is alone or may have others behind it
-one_if : (b : Bool) (c : ChunkTree) (p : Packet) → p.chunks ≡ [] → IsBundled (c ∷ []) → IsBundled (added_if b c p).chunks
+one_if : (b : Bool) (c : ChunkTree) (p : PacketDraft) → p.chunks ≡ [] → IsBundled (c ∷ []) → IsBundled (added_if b c p).chunks
 one_if true c p new h = subst (λ (cs : List ChunkTree). IsBundled (cs ++ c ∷ [])) (sym new) h
 one_if false c p new h = all_along (new_more p.chunks new)
 
-pub one_bundled : (c : ChunkTree) (p : Packet) → p.chunks ≡ [] → IsBundled (c ∷ []) → IsBundled (add c p).chunks
+pub one_bundled : (c : ChunkTree) (p : PacketDraft) → p.chunks ≡ [] → IsBundled (c ∷ []) → IsBundled (add c p).chunks
 one_bundled c p new h = one_if (fits p c) c p new h
 
-first_if : (b : Bool) (c : ChunkTree) (p : Packet) → p.chunks ≡ [] → goes_first c ≡ true → takes_more (added_if b c p).chunks ≡ true
+first_if : (b : Bool) (c : ChunkTree) (p : PacketDraft) → p.chunks ≡ [] → goes_first c ≡ true → takes_more (added_if b c p).chunks ≡ true
 first_if true c p new e = subst (λ (cs : List ChunkTree). takes_more (cs ++ c ∷ []) ≡ true) (sym new) (and_from (goes_first c) true e refl)
 first_if false c p new e = new_more p.chunks new
 
-pub first_more : (c : ChunkTree) (p : Packet) → p.chunks ≡ [] → goes_first c ≡ true → takes_more (add c p).chunks ≡ true
+pub first_more : (c : ChunkTree) (p : PacketDraft) → p.chunks ≡ [] → goes_first c ≡ true → takes_more (add c p).chunks ≡ true
 first_more c p new e = first_if (fits p c) c p new e
 
 -- ---- a burst
@@ -82,12 +82,12 @@ data_along is_interleaved is_immediate [] = refl
 data_along true is_immediate (c ∷ cs) = data_along true is_immediate cs
 data_along false is_immediate (c ∷ cs) = data_along false is_immediate cs
 
-pub data_more : (t : Tcb) (is_immediate : Bool) (cs : List (ℕ × FragmentTree)) (p : Packet) → takes_more p.chunks ≡ true
+pub data_more : (t : Tcb) (is_immediate : Bool) (cs : List (ℕ × FragmentTree)) (p : PacketDraft) → takes_more p.chunks ≡ true
     → takes_more (add_all (data_chunks t is_immediate cs) p).chunks ≡ true
 data_more t is_immediate cs p h =
     all_added_more (data_chunks t is_immediate cs) p h (data_along t.capabilities.message_interleaving is_immediate cs)
 
-pub request_more : (o : Option Request) (p : Packet) → takes_more p.chunks ≡ true → takes_more (add_request o p).chunks ≡ true
+pub request_more : (o : Option Request) (p : PacketDraft) → takes_more p.chunks ≡ true → takes_more (add_request o p).chunks ≡ true
 request_more None p h = h
 request_more (Some r) p h = added_more (request_chunk r) p h refl
 
@@ -111,8 +111,8 @@ module _ {P : Type 0} where
   forward_more true x h = forward_added_more (fits x.packet (forward_chunk x.tcb.sender)) x h
   forward_more false x h = h
 
-  tested_more : (b : Bool) (x : Filling P) → TakesMore x → TakesMore (tested_if b x)
-  tested_more true x h = forward_more (is_forward_due (test_forward_point x).tcb.sender.outstanding.items) (test_forward_point x) h
+  tested_more : (b : Bool) (x : Filling P) → TakesMore x → TakesMore (forward_if_time b x)
+  tested_more true x h = forward_more (is_forward_due (with_expired_abandoned x).tcb.sender.outstanding.items) (with_expired_abandoned x) h
   tested_more false x h = h
 
   request_of_more : (ids : List ℕ) (x : Filling P) → TakesMore x → TakesMore (request_of ids x)
@@ -123,7 +123,7 @@ module _ {P : Type 0} where
   request_if_more true x h = h
   request_if_more false x h =
       let most : ℕ = most_streams x.packet in
-      request_of_more (requested_streams most x.context.queue) (record x { context = record x.context { queue = request_resets most x.context.queue } }) h
+      request_of_more (streams_to_request most x.context.queue) (record x { context = record x.context { queue = request_resets most x.context.queue } }) h
 
   with_data_more : (x : Filling P) → TakesMore x → TakesMore (with_data x)
   with_data_more x h =
@@ -132,21 +132,21 @@ module _ {P : Type 0} where
 
   pub filled_more : (is_first : Bool) (x : Filling P) → TakesMore x → TakesMore (filled_as is_first x)
   filled_more true x h =
-      let b : Bool = sending.goes_along x in
+      let b : Bool = sending.has_data_to_send x in
       let y : Filling P = with_ack x in
       let z : Filling P = with_forward y in
       with_data_more (with_request z)
       (request_if_more (is_some z.tcb.requests.current) z
-      (tested_more (nat_le y.context.forward_from y.context.now) y (ack_more (is_ack_due b x.tcb.tracker.tracker.ack) (record x { tcb = sending.ask_for_sack b x.tcb }) h)))
+      (tested_more (nat_le y.context.forward_from y.context.now) y (ack_more (is_ack_due b x.tcb.tracker.tracker.ack) (record x { tcb = sending.take_due_ack b x.tcb }) h)))
   filled_more false x h = with_data_more x h
 
-  turned_if_more : (b is_alone : Bool) (x : Filling P) → TakesMore x → TakesMore (turned_if b is_alone x).filling
+  turned_if_more : (b is_alone : Bool) (x : Filling P) → TakesMore x → TakesMore (burst_step_if b is_alone x).filling
   turned_if_more true is_alone x h = refl
   turned_if_more false is_alone x h = h
 
   pub turned_more : (is_first is_alone : Bool) (x : Filling P) → TakesMore x → TakesMore (next_packet is_first is_alone x).filling
   turned_more is_first is_alone x h = turned_if_more (has_chunks (filled_as is_first x).packet) is_alone (filled_as is_first x) (filled_more is_first x h)
 
-pub plain_added : (b : Bool) (p : Packet) → p.chunks ≡ [] → list_all is_plain (added_if b shutdown_ack_chunk p).chunks ≡ true
+pub plain_added : (b : Bool) (p : PacketDraft) → p.chunks ≡ [] → list_all is_plain (added_if b shutdown_ack_chunk p).chunks ≡ true
 plain_added true p new = ap (λ (cs : List ChunkTree). list_all is_plain (cs ++ shutdown_ack_chunk ∷ [])) new
 plain_added false p new = ap (list_all is_plain) new

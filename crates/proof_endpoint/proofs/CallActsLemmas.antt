@@ -20,16 +20,16 @@ use Rattle.sctp_state.specs.Options.{SendOptions}
 use Rattle.sctp_state.specs.RetransmissionTimeout.{rto}
 use Rattle.sctp_state.specs.Validity.{is_valid_state}
 use Rattle.spec_endpoint.specs.Association.{Tcb, Phase, Established, State, Closed, CookieWait, Open, Context, EndpointState, with_context}
-use Rattle.spec_endpoint.specs.Packets.{Packet, add, new_packet, say}
-use Rattle.spec_endpoint.specs.ResetRequests.{Request, Requests, performed, nothing_to_do, bad_number, in_progress, is_final, after, is_last, is_next, is_known, process_request, answered_by, answered_if, answered_in, answer_request}
-use Rattle.spec_endpoint.specs.Sending.{is_alone, send_in}
-use Rattle.spec_endpoint.specs.Calls.{shown_state, refusal, refusal_of, offered, offer, sent_if, send, offer_all, send_many, set_low_threshold, set_priority, set_max_message_size, taken_in, take_message}
-use Rattle.spec_endpoint.specs.StreamReset.{Handling, handling, is_ahead, resets_if, resets, outgoing_by, on_outgoing, incoming_if, is_outgoing, on_parameter, Handled, handle_next, handle_all, send_responses, finished_if, on_reconfig, unless_supported, reset_refusal, prepare_stream, prepare_all, reset_if, reset_streams}
-use Rattle.spec_endpoint.specs.Handover.{readiness, left_in, left_if, hand_over, tcb_from, queue_taken, take_up, invalid_unless, refusal_in, taken_as, restored_unless, restore}
+use Rattle.spec_endpoint.specs.Packets.{PacketDraft, add, new_packet, emit_event_in}
+use Rattle.spec_endpoint.specs.ResetRequests.{Request, Requests, performed, nothing_to_do, bad_number, in_progress, is_final, next_number, is_last_request, is_next_request, is_known_request, set_last_request, end_or_defer, response_if, handle_response_in, handle_response}
+use Rattle.spec_endpoint.specs.Sending.{is_before_cookie_ack, send_in}
+use Rattle.spec_endpoint.specs.Calls.{shown_state, send_refusal, send_refusal_of, offered, offer, sent_if, send, offer_all, send_many, set_low_threshold, set_priority, set_max_message_size, without_first_message_in, take_message}
+use Rattle.spec_endpoint.specs.StreamReset.{Handling, handling, is_ahead, resets_if, resets, outgoing_by, on_outgoing, incoming_if, is_outgoing, on_parameter, HandledParameters, handle_next, handle_all, send_responses, finish_reconfig_if, on_reconfig, unless_supported, reset_refusal, prepare_reset_stream, prepare_all, reset_if, reset_streams}
+use Rattle.spec_endpoint.specs.Handover.{readiness, left_in, left_if, hand_over, tcb_from, queue_restored, take_up, invalid_unless, restore_refusal_in, restored_as, restored_unless, restore}
 use Rattle.spec_endpoint.specs.Laws.{Call, SendMany, ResetStreams, TakeMessage, SetLowThreshold, SetPriority, SetMaxMessageSize, HandOver, Restore, Send}
-use Rattle.proof_endpoint.specs.Acts.{EndWithPacket, at, idle, IsReceived, IsOffered, alone, among, IsReset, IsAsked, is_response, all_along, HasRequest, for_outgoing, for_incoming, AsksNoIncoming, IsDue, IsAnswer, Answers, accepts, refuses, takes_message, sets_low_threshold, sets_priority, sets_max_message_size, prepares, defers, performs, processes, takes_response, adds_responses, leaves, takes_up, Preserves}
+use Rattle.proof_endpoint.specs.Acts.{EndWithPacket, at, idle, BringsChunk, IsOffered, alone, among, IsReset, IsAsked, is_response, all_along, HasRequest, for_outgoing, for_incoming, AsksNoIncoming, IsDue, IsAnswer, Answers, accepts, refuses, takes_message, sets_low_threshold, sets_priority, sets_max_message_size, prepares, defers, performs, processes, takes_response, adds_responses, leaves, takes_up, Preserves}
 use Rattle.proof_endpoint.proofs.BundledLemmas.{first_more}
-use Rattle.proof_endpoint.proofs.PacketActsLemmas.{does_out, does_begin_new, does_complain, does_send_buffered}
+use Rattle.proof_endpoint.proofs.PacketActsLemmas.{does_out, does_begin_new, does_emit_error, does_send_buffered}
 use Rattle.proof_endpoint.proofs.RowActsLemmas.{placed, OpenActs, does_where_open}
 
 -- the next one of a list stands behind one more
@@ -40,12 +40,12 @@ module _ {P : Type 0} {call : Call} {R : EndWithPacket P → EndWithPacket P →
   -- ---- messages
 
   does_offered : (o : Option SendError) (m : Message) (how : SendOptions) (s : State) (c : Context P) → IsOffered call m how
-      → refusal m (shown_state s) c ≡ o → R (idle s c w) (idle s (offered o m how c) w)
+      → send_refusal m (shown_state s) c ≡ o → R (idle s c w) (idle s (offered o m how c) w)
   does_offered None m how s c is fine = k.calls (accepts m how (idle s c w) is fine)
   does_offered (Some e) m how s c is fine = k.calls (refuses m how e (idle s c w) is fine)
 
   pub does_offer : (m : Message) (how : SendOptions) (s : State) (c : Context P) → IsOffered call m how → R (idle s c w) (idle s (offer m how (shown_state s) c) w)
-  does_offer m how s c is = does_offered (refusal m (shown_state s) c) m how s c is refl
+  does_offer m how s c is = does_offered (send_refusal m (shown_state s) c) m how s c is refl
 
   pub does_offer_all : (all before ms : List Message) (how : SendOptions) (s : State) (c : Context P) → call ≡ SendMany all how → all ≡ before ++ ms
       → R (idle s c w) (idle s (offer_all ms how (shown_state s) c) w)
@@ -55,7 +55,7 @@ module _ {P : Type 0} {call : Call} {R : EndWithPacket P → EndWithPacket P →
       (does_offer_all all (before ++ m ∷ []) ms how s (offer m how (shown_state s) c) is (next_among before m ms all e))
 
   pub does_send_in : OpenActs R w send_in
-  does_send_in phase t c = does_send_buffered k phase w (is_alone phase) t c
+  does_send_in phase t c = does_send_buffered k phase w (is_before_cookie_ack phase) t c
 
   pub does_sent_if : (o : Option SendError) (s : EndpointState P) → R (placed s w) (placed (sent_if o s) w)
   does_sent_if None s = does_where_open k w send_in s does_send_in
@@ -64,7 +64,7 @@ module _ {P : Type 0} {call : Call} {R : EndWithPacket P → EndWithPacket P →
   pub does_send : (m : Message) (how : SendOptions) (s : EndpointState P) → call ≡ Send m how → R (placed s w) (placed (send m how s) w)
   does_send m how s is =
       let d : Context P = offer m how (shown_state s.state) s.context in
-      k.through (does_offer m how s.state s.context (alone is)) (does_sent_if (refusal_of m s) (with_context s d))
+      k.through (does_offer m how s.state s.context (alone is)) (does_sent_if (send_refusal_of m s) (with_context s d))
 
   pub does_send_many : (ms : List Message) (how : SendOptions) (s : EndpointState P) → call ≡ SendMany ms how → R (placed s w) (placed (send_many ms how s) w)
   does_send_many ms how s is =
@@ -85,7 +85,7 @@ module _ {P : Type 0} {call : Call} {R : EndWithPacket P → EndWithPacket P →
       → R (placed s w) (placed (with_context s (set_max_message_size bytes s.context)) w)
   does_max_message_size bytes s is = k.calls (sets_max_message_size bytes (placed s w) is)
 
-  does_taken_in : (s : State) (c : Context P) → call ≡ TakeMessage → R (idle s c w) (idle (taken_in s) c w)
+  does_taken_in : (s : State) (c : Context P) → call ≡ TakeMessage → R (idle s c w) (idle (without_first_message_in s) c w)
   does_taken_in Closed c is = k.same (idle Closed c w)
   does_taken_in (CookieWait tag first t1) c is = k.same (idle (CookieWait tag first t1) c w)
   does_taken_in (Open phase t) c is = k.calls (takes_message phase t (idle (Open phase t) c w) is)
@@ -114,41 +114,41 @@ module _ {P : Type 0} {call : Call} {R : EndWithPacket P → EndWithPacket P →
 
     does_outgoing_by : (a b d : Bool) (number response : ℕ) (last_tsn : Tsn) (streams : List StreamId) (x : Handling P)
         → IsAsked call (outgoing_reset_request number response last_tsn streams)
-        → is_last number x.tcb.requests ≡ a → is_next number x.tcb.requests ≡ b → is_final x.tcb.requests.result ≡ d
+        → is_last_request number x.tcb.requests ≡ a → is_next_request number x.tcb.requests ≡ b → is_final x.tcb.requests.result ≡ d
         → Handles x (outgoing_by a b d number last_tsn.0 streams x)
     does_outgoing_by true b true number response last_tsn streams x h last next final = k.same (idle (Open phase x.tcb) x.context w)
     does_outgoing_by true b false number response last_tsn streams x h last next final =
         does_resets number response last_tsn streams x h
-        (record { known = ap (λ (a : Bool). a || is_next number x.tcb.requests) last; undone = λ e. final })
+        (record { known = ap (λ (a : Bool). a || is_next_request number x.tcb.requests) last; undone = λ e. final })
     does_outgoing_by false true d number response last_tsn streams x h last next final =
         does_resets number response last_tsn streams x h
-        (record { known = or_right (is_last number x.tcb.requests) (is_next number x.tcb.requests) next; undone = λ e. absurd (both_ways (is_last number x.tcb.requests) last e) })
+        (record { known = or_right (is_last_request number x.tcb.requests) (is_next_request number x.tcb.requests) next; undone = λ e. absurd (both_ways (is_last_request number x.tcb.requests) last e) })
     does_outgoing_by false false d number response last_tsn streams x h last next final = k.same (idle (Open phase x.tcb) x.context w)
 
     does_outgoing : (number response : ℕ) (last_tsn : Tsn) (streams : List StreamId) (x : Handling P)
         → IsAsked call (outgoing_reset_request number response last_tsn streams) → Handles x (on_outgoing number last_tsn.0 streams x)
     does_outgoing number response last_tsn streams x h =
-        does_outgoing_by (is_last number x.tcb.requests) (is_next number x.tcb.requests) (is_final x.tcb.requests.result) number response last_tsn streams x h
+        does_outgoing_by (is_last_request number x.tcb.requests) (is_next_request number x.tcb.requests) (is_final x.tcb.requests.result) number response last_tsn streams x h
         refl refl refl
 
     does_incoming_if : (b : Bool) (number : ℕ) (streams : List StreamId) (x : Handling P) → IsAsked call (incoming_reset_request number streams)
-        → is_known number x.tcb.requests ≡ b → Handles x (incoming_if b number x)
+        → is_known_request number x.tcb.requests ≡ b → Handles x (incoming_if b number x)
     does_incoming_if true number streams x h known = k.resets (processes number streams phase x.tcb (idle (Open phase x.tcb) x.context w) h known)
     does_incoming_if false number streams x h known = k.same (idle (Open phase x.tcb) x.context w)
 
     does_parameter : (p : ParameterTree) (x : Handling P) → IsAsked call p → Handles x (on_parameter p x)
     does_parameter (outgoing_reset_request number response last_tsn streams) x h = does_outgoing number response last_tsn streams x h
-    does_parameter (incoming_reset_request number streams) x h = does_incoming_if (is_known number x.tcb.requests) number streams x h refl
+    does_parameter (incoming_reset_request number streams) x h = does_incoming_if (is_known_request number x.tcb.requests) number streams x h refl
     does_parameter (reset_response number result sender receiver) x h =
         k.resets (takes_response (rto x.tcb.rtt) number result sender receiver phase x.tcb (idle (Open phase x.tcb) x.context w) h)
     does_parameter p x h = k.same (idle (Open phase x.tcb) x.context w)
 
-    does_handle_next : (b : Bool) (rest : Handling P → Handled P) (p : ParameterTree) (x : Handling P) → IsAsked call p
+    does_handle_next : (b : Bool) (rest : Handling P → HandledParameters P) (p : ParameterTree) (x : Handling P) → IsAsked call p
         → ((y : Handling P) → Handles y (rest y).handling) → Handles x (handle_next b rest p x).handling
     does_handle_next true rest p x h f = k.same (idle (Open phase x.tcb) x.context w)
     does_handle_next false rest p x h f = k.through (does_parameter p x h) (f (on_parameter p x))
 
-    does_handle_all : (tag : ℕ) (all before ps : List ParameterTree) (b : Bool) (x : Handling P) → IsReceived call tag (re_config_chunk all)
+    does_handle_all : (tag : ℕ) (all before ps : List ParameterTree) (b : Bool) (x : Handling P) → BringsChunk call tag (re_config_chunk all)
         → all ≡ before ++ ps → Handles x (handle_all ps b x).handling
     does_handle_all tag all before [] b x h e = k.same (idle (Open phase x.tcb) x.context w)
     does_handle_all tag all before (p ∷ ps) b x h e =
@@ -189,21 +189,21 @@ stayed call r s rs last result h = All-weaker (Answers call r) (Answers call s) 
       a.0,
       λ asks. elim (a.1 asks) [
         | inl e ↦ inl (ap (λ (n : ℕ). number == n) last ∙ e.0, e.1 ∙ sym result)
-        | inr e ↦ inr (ap (λ (n : ℕ). (number == n) || (number == after n)) last ∙ e.0, e.1)
+        | inr e ↦ inr (ap (λ (n : ℕ). (number == n) || (number == next_number n)) last ∙ e.0, e.1)
       ],
     )
     one q a = absurd a
 
 pub answers_leave : (o : Option Request) (now rto number result : ℕ) (r : Requests)
-    → ((answered_in o now rto number result r).last ≡ r.last) × ((answered_in o now rto number result r).result ≡ r.result)
+    → ((handle_response_in o now rto number result r).last ≡ r.last) × ((handle_response_in o now rto number result r).result ≡ r.result)
 answers_leave None now rto number result r = (refl, refl)
 answers_leave (Some q) now rto number result r = its (q.number == number)
   where
-    done : (b : Bool) → ((answered_by b now rto q r).last ≡ r.last) × ((answered_by b now rto q r).result ≡ r.result)
+    done : (b : Bool) → ((end_or_defer b now rto q r).last ≡ r.last) × ((end_or_defer b now rto q r).result ≡ r.result)
     done true = (refl, refl)
     done false = (refl, refl)
 
-    its : (a : Bool) → ((answered_if a now rto result q r).last ≡ r.last) × ((answered_if a now rto result q r).result ≡ r.result)
+    its : (a : Bool) → ((response_if a now rto result q r).last ≡ r.last) × ((response_if a now rto result q r).result ≡ r.result)
     its true = done (is_final result)
     its false = (refl, refl)
 
@@ -223,10 +223,10 @@ module _ {P : Type 0} (call : Call) where
 
   -- a request is processed, where none was answered
   responses_processed : (number result : ℕ) (x : Handling P) → HasRequest call number → (AsksNoIncoming call → x.responses ≡ []) → Responds x
-      → AreResponses call (process_request number result x.tcb.requests) (x.responses ++ reset_response number result None None ∷ [])
+      → AreResponses call (set_last_request number result x.tcb.requests) (x.responses ++ reset_response number result None None ∷ [])
   responses_processed number result x a none e =
-      one_more call (process_request number result x.tcb.requests) x.responses number result a (λ asks. inl (eq-eqb number number refl, refl))
-      (record { are = e.are; answer = went_on call x.tcb.requests (process_request number result x.tcb.requests) x.responses none e.answer })
+      one_more call (set_last_request number result x.tcb.requests) x.responses number result a (λ asks. inl (eq-eqb number number refl, refl))
+      (record { are = e.are; answer = went_on call x.tcb.requests (set_last_request number result x.tcb.requests) x.responses none e.answer })
 
   responses_resets_if : (b : Bool) (number last_tsn : ℕ) (streams : List StreamId) (x : Handling P) → HasRequest call number → (AsksNoIncoming call → x.responses ≡ [])
       → Responds x → Responds (resets_if b number last_tsn streams x)
@@ -234,14 +234,14 @@ module _ {P : Type 0} (call : Call) where
   responses_resets_if false number last_tsn streams x a none e = responses_processed number performed x a none e
 
   responses_outgoing_by : (a b d : Bool) (number last_tsn : ℕ) (streams : List StreamId) (x : Handling P) → HasRequest call number → (AsksNoIncoming call → x.responses ≡ [])
-      → is_last number x.tcb.requests ≡ a → is_next number x.tcb.requests ≡ b → Responds x → Responds (outgoing_by a b d number last_tsn streams x)
+      → is_last_request number x.tcb.requests ≡ a → is_next_request number x.tcb.requests ≡ b → Responds x → Responds (outgoing_by a b d number last_tsn streams x)
   responses_outgoing_by true b true number last_tsn streams x h none last next e =
       one_more call x.tcb.requests x.responses number x.tcb.requests.result h (λ asks. inl (last, refl)) e
   responses_outgoing_by true b false number last_tsn streams x h none last next e = responses_resets_if (is_ahead last_tsn x.tcb) number last_tsn streams x h none e
   responses_outgoing_by false true d number last_tsn streams x h none last next e = responses_resets_if (is_ahead last_tsn x.tcb) number last_tsn streams x h none e
   responses_outgoing_by false false d number last_tsn streams x h none last next e =
       one_more call x.tcb.requests x.responses number bad_number h
-      (λ asks. inr (ap (λ (a : Bool). a || is_next number x.tcb.requests) last ∙ next, refl)) e
+      (λ asks. inr (ap (λ (a : Bool). a || is_next_request number x.tcb.requests) last ∙ next, refl)) e
 
   responses_incoming_if : (b : Bool) (number : ℕ) (x : Handling P) → HasRequest call number → (AsksNoIncoming call → ⊥) → Responds x → Responds (incoming_if b number x)
   responses_incoming_if true number x h asks e = responses_processed number nothing_to_do x h (λ none. absurd (asks none)) e
@@ -251,12 +251,12 @@ module _ {P : Type 0} (call : Call) where
   responses_parameter : (b : Bool) (p : ParameterTree) (x : Handling P) → IsAsked call p → (is_outgoing p && b) ≡ false → RespondsSo b x
       → RespondsSo (is_outgoing p || b) (on_parameter p x)
   responses_parameter b (outgoing_reset_request number response last_tsn streams) x h first e = record {
-    all = responses_outgoing_by (is_last number x.tcb.requests) (is_next number x.tcb.requests) (is_final x.tcb.requests.result) number last_tsn.0 streams x
+    all = responses_outgoing_by (is_last_request number x.tcb.requests) (is_next_request number x.tcb.requests) (is_final x.tcb.requests.result) number last_tsn.0 streams x
         (for_outgoing response last_tsn streams h) (λ asks. e.none asks first) refl refl e.all;
     none = λ asks is. cc;
   }
   responses_parameter b (incoming_reset_request number streams) x h first e = record {
-    all = responses_incoming_if (is_known number x.tcb.requests) number x (for_incoming streams h) (λ asks. asks number streams h) e.all;
+    all = responses_incoming_if (is_known_request number x.tcb.requests) number x (for_incoming streams h) (λ asks. asks number streams h) e.all;
     none = λ asks. absurd (asks number streams h);
   }
   responses_parameter b (reset_response number result sender receiver) x h first e =
@@ -264,18 +264,18 @@ module _ {P : Type 0} (call : Call) where
       record {
         all = record {
           are = e.all.are;
-          answer = stayed call x.tcb.requests (answer_request x.context.now (rto x.tcb.rtt) number result x.tcb.requests) x.responses same.0 same.1 e.all.answer;
+          answer = stayed call x.tcb.requests (handle_response x.context.now (rto x.tcb.rtt) number result x.tcb.requests) x.responses same.0 same.1 e.all.answer;
         };
         none = e.none;
       }
   responses_parameter b p x h first e = e
 
-  responses_next : (c b : Bool) (rest : Handling P → Handled P) (p : ParameterTree) (x : Handling P) → IsAsked call p → (is_outgoing p && b) ≡ c
+  responses_next : (c b : Bool) (rest : Handling P → HandledParameters P) (p : ParameterTree) (x : Handling P) → IsAsked call p → (is_outgoing p && b) ≡ c
       → ((y : Handling P) → RespondsSo (is_outgoing p || b) y → Responds (rest y).handling) → RespondsSo b x → Responds (handle_next c rest p x).handling
   responses_next true b rest p x h is f e = e.all
   responses_next false b rest p x h is f e = f (on_parameter p x) (responses_parameter b p x h is e)
 
-  responses_all : (tag : ℕ) (all before ps : List ParameterTree) (b : Bool) (x : Handling P) → IsReceived call tag (re_config_chunk all) → all ≡ before ++ ps
+  responses_all : (tag : ℕ) (all before ps : List ParameterTree) (b : Bool) (x : Handling P) → BringsChunk call tag (re_config_chunk all) → all ≡ before ++ ps
       → RespondsSo b x → Responds (handle_all ps b x).handling
   responses_all tag all before [] b x h is e = e.all
   responses_all tag all before (p ∷ ps) b x h is e =
@@ -288,23 +288,23 @@ module _ {P : Type 0} {call : Call} {R : EndWithPacket P → EndWithPacket P →
       → R (idle (Open phase t) c w) (idle (Open phase t) (send_responses rs t c) w)
   does_send_responses [] phase t c e = k.same (idle (Open phase t) c w)
   does_send_responses (r ∷ rs) phase t c e =
-      let p : Packet = new_packet c.options t in
+      let p : PacketDraft = new_packet c.options t in
       k.through (does_begin_new k phase t c w)
       (k.through (k.resets (adds_responses (r ∷ rs) phase t (at (Open phase t) c w p) e.are e.answer))
       (does_out k (Open phase t) c w (add (re_config_chunk (r ∷ rs)) p) (all_along (first_more (re_config_chunk (r ∷ rs)) p refl refl))))
 
   does_finished_if : (b : Bool) (phase : Phase) (x : Handling P) → AreResponses call x.tcb.requests x.responses
-      → R (idle (Open phase x.tcb) x.context w) (placed (finished_if b phase x) w)
+      → R (idle (Open phase x.tcb) x.context w) (placed (finish_reconfig_if b phase x) w)
   does_finished_if true phase x e =
       k.through (does_send_responses x.responses phase x.tcb x.context e)
-      (does_send_buffered k phase w (is_alone phase) x.tcb (send_responses x.responses x.tcb x.context))
+      (does_send_buffered k phase w (is_before_cookie_ack phase) x.tcb (send_responses x.responses x.tcb x.context))
   does_finished_if false phase x e =
-      does_complain k ProtocolViolation (codes "RE-CONFIG chunk must not have multiple Outgoing SSN Reset Request parameters") (Open phase x.tcb) x.context w
+      does_emit_error k ProtocolViolation (codes "RE-CONFIG chunk must not have multiple Outgoing SSN Reset Request parameters") (Open phase x.tcb) x.context w
 
-  pub does_reconfig : (tag : ℕ) (ps : List ParameterTree) → IsReceived call tag (re_config_chunk ps) → OpenActs R w (on_reconfig ps)
-  does_reconfig tag [] h phase t c = does_complain k ProtocolViolation (codes "RE-CONFIG chunk must have at least one parameter") (Open phase t) c w
+  pub does_reconfig : (tag : ℕ) (ps : List ParameterTree) → BringsChunk call tag (re_config_chunk ps) → OpenActs R w (on_reconfig ps)
+  does_reconfig tag [] h phase t c = does_emit_error k ProtocolViolation (codes "RE-CONFIG chunk must have at least one parameter") (Open phase t) c w
   does_reconfig tag (p ∷ ps) h phase t c =
-      let d : Handled P = handle_all (p ∷ ps) false (handling t c) in
+      let d : HandledParameters P = handle_all (p ∷ ps) false (handling t c) in
       k.through (does_handle_all k w phase tag (p ∷ ps) [] (p ∷ ps) false (handling t c) h refl)
       (does_finished_if d.is_whole phase d.handling
       (responses_all call tag (p ∷ ps) [] (p ∷ ps) false (handling t c) h refl
@@ -318,12 +318,12 @@ module _ {P : Type 0} {call : Call} {R : EndWithPacket P → EndWithPacket P →
   does_prepare_all all before (id ∷ ids) phase t c is e can =
       let asked : IsReset call id = record { streams = all; asked = is; among = record { before = before; behind = ids; split = e } } in
       k.through (k.resets (prepares id phase t (idle (Open phase t) c w) asked can))
-      (does_prepare_all all (before ++ id ∷ []) ids phase t (prepare_stream id c) is (next_among before id ids all e) can)
+      (does_prepare_all all (before ++ id ∷ []) ids phase t (prepare_reset_stream id c) is (next_among before id ids all e) can)
 
   does_reset_open : (b : Bool) (ids : List ℕ) (phase : Phase) (t : Tcb) (c : Context P) → call ≡ ResetStreams ids → t.capabilities.reconfig ≡ b
       → R (idle (Open phase t) c w) (placed (reset_if (unless_supported b) ids (record { state = Open phase t; context = c })) w)
   does_reset_open true ids phase t c is can =
-      k.through (does_prepare_all ids [] ids phase t c is refl can) (does_send_buffered k phase w (is_alone phase) t (prepare_all ids c))
+      k.through (does_prepare_all ids [] ids phase t c is refl can) (does_send_buffered k phase w (is_before_cookie_ack phase) t (prepare_all ids c))
   does_reset_open false ids phase t c is can = k.same (idle (Open phase t) c w)
 
   does_reset_in : (s : State) (ids : List ℕ) (c : Context P) → call ≡ ResetStreams ids
@@ -352,10 +352,10 @@ module _ {P : Type 0} {call : Call} {R : EndWithPacket P → EndWithPacket P →
   does_take_up : (h : HandoverState) (c : Context P) → call ≡ Restore h → is_valid_state h ≡ true → R (idle Closed c w) (placed (take_up h c) w)
   does_take_up h c is valid =
       k.through (k.handover (takes_up h (idle Closed c w) is valid))
-      (does_send_buffered k Established w false (tcb_from c.now c.options h) (say OnConnected (queue_taken h c)))
+      (does_send_buffered k Established w false (tcb_from c.now c.options h) (emit_event_in OnConnected (queue_restored h c)))
 
   does_taken_as : (how : HandoverSocketState) (h : HandoverState) (c : Context P) → call ≡ Restore h → is_valid_state h ≡ true
-      → R (idle Closed c w) (placed (taken_as how h (record { state = Closed; context = c })) w)
+      → R (idle Closed c w) (placed (restored_as how h (record { state = Closed; context = c })) w)
   does_taken_as handed.Closed h c is valid = k.same (idle Closed c w)
   does_taken_as handed.Connected h c is valid = does_take_up h c is valid
 
@@ -365,7 +365,7 @@ module _ {P : Type 0} {call : Call} {R : EndWithPacket P → EndWithPacket P →
   does_restored_if false h c is valid = k.same (idle Closed c w)
 
   does_restore_in : (s : State) (h : HandoverState) (c : Context P) → call ≡ Restore h
-      → R (idle s c w) (placed (restored_unless (refusal_in s h) h (record { state = s; context = c })) w)
+      → R (idle s c w) (placed (restored_unless (restore_refusal_in s h) h (record { state = s; context = c })) w)
   does_restore_in Closed h c is = does_restored_if (is_valid_state h) h c is refl
   does_restore_in (CookieWait tag first t1) h c is = k.same (idle (CookieWait tag first t1) c w)
   does_restore_in (Open phase t) h c is = k.same (idle (Open phase t) c w)

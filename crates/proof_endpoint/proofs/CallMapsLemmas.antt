@@ -9,7 +9,7 @@ use Rattle.sctp_state.specs.Events.{Emitted}
 use Rattle.sctp_tx_queue.specs.Settings.{Changed}
 use Rattle.spec_endpoint.specs.Association.{Context, EndpointState, with_context, where_open}
 use Rattle.spec_endpoint.specs.Sending.{send_in}
-use Rattle.spec_endpoint.specs.Calls.{shown_state, refusal, refusal_of, refusal_events, lifecycle_end, refuse, offered, offer, sent_if, send, offer_all, send_many, set_low_threshold}
+use Rattle.spec_endpoint.specs.Calls.{shown_state, send_refusal, send_refusal_of, refusal_events, lifecycle_end_events, refuse, offered, offer, sent_if, send, offer_all, send_many, set_low_threshold}
 use Rattle.proof_endpoint.specs.Mapped.{Mapping, map_event, map_context, map_endpoint_state}
 use Rattle.proof_endpoint.proofs.EmittedMapsLemmas.{maps_emit_event_all, maps_threshold}
 use Rattle.proof_endpoint.proofs.SendingMapsLemmas.{maps_send_in}
@@ -24,7 +24,7 @@ abbrev changed_to : {P : Type 0} → Context P → Changed P → Context P
 changed_to c x = record c { queue = x.queue; emitted = x.emitted }
 
 module _ {P Q : Type 0} (f : Mapping P Q) where
-  maps_refusal : (l : Option ℕ) (e : SendError) → map (map_event f) (lifecycle_end l ++ refusal_events e) ≡ lifecycle_end l ++ refusal_events e
+  maps_refusal : (l : Option ℕ) (e : SendError) → map (map_event f) (lifecycle_end_events l ++ refusal_events e) ≡ lifecycle_end_events l ++ refusal_events e
   maps_refusal None EmptyPayload = refl
   maps_refusal None (MessageTooLarge len limit) = refl
   maps_refusal None ShuttingDown = refl
@@ -40,14 +40,14 @@ module _ {P Q : Type 0} (f : Mapping P Q) where
 
   maps_refused : (e : SendError) (l : Option ℕ) (c : Context P) → refuse e l (map_context f c) ≡ map_context f (refuse e l c)
   maps_refused e l c =
-      ap (λ (t : Emitted Q). emitting (map_context f c) t) (maps_emit_event_all f (lifecycle_end l ++ refusal_events e) (lifecycle_end l ++ refusal_events e) c.emitted (maps_refusal l e))
+      ap (λ (t : Emitted Q). emitting (map_context f c) t) (maps_emit_event_all f (lifecycle_end_events l ++ refusal_events e) (lifecycle_end_events l ++ refusal_events e) c.emitted (maps_refusal l e))
 
   maps_offered : (o : Option SendError) (m : Message) (how : SendOptions) (c : Context P) → offered o m how (map_context f c) ≡ map_context f (offered o m how c)
   maps_offered None m how c = refl
   maps_offered (Some e) m how c = maps_refused e how.lifecycle_id c
 
   maps_offer : (m : Message) (how : SendOptions) (shown : SocketState) (c : Context P) → offer m how shown (map_context f c) ≡ map_context f (offer m how shown c)
-  maps_offer m how shown c = maps_offered (refusal m shown c) m how c
+  maps_offer m how shown c = maps_offered (send_refusal m shown c) m how c
 
   maps_offer_all : (ms : List Message) (how : SendOptions) (shown : SocketState) (c : Context P)
       → offer_all ms how shown (map_context f c) ≡ map_context f (offer_all ms how shown c)
@@ -62,8 +62,8 @@ module _ {P Q : Type 0} (f : Mapping P Q) where
   pub maps_send : (m : Message) (how : SendOptions) (s : EndpointState P) → send m how (map_endpoint_state f s) ≡ map_endpoint_state f (send m how s)
   maps_send m how s =
       let d : Context P = offer m how (shown_state s.state) s.context in
-      ap (λ (e : Context Q). sent_if (refusal_of m s) (with_context (map_endpoint_state f s) e)) (maps_offer m how (shown_state s.state) s.context)
-      ∙ maps_sent_if (refusal_of m s) (with_context s d)
+      ap (λ (e : Context Q). sent_if (send_refusal_of m s) (with_context (map_endpoint_state f s) e)) (maps_offer m how (shown_state s.state) s.context)
+      ∙ maps_sent_if (send_refusal_of m s) (with_context s d)
 
   pub maps_send_many : (ms : List Message) (how : SendOptions) (s : EndpointState P) → send_many ms how (map_endpoint_state f s) ≡ map_endpoint_state f (send_many ms how s)
   maps_send_many ms how s =

@@ -6,8 +6,8 @@ use Rattle.sctp_state.specs.declared.api.errors.SendError.{SendError}
 use Rattle.sctp_state.specs.Options.{SendOptions}
 use Rattle.sctp_state.specs.Events.{Event}
 use Rattle.spec_endpoint.specs.Association.{State, Closed, CookieWait, Open, Context, EndpointState, with_context}
-use Rattle.spec_endpoint.specs.Sending.{is_alone, send_in}
-use Rattle.spec_endpoint.specs.Calls.{shown_state, refusal, refusal_of, refusal_events, lifecycle_end, refuse, accept, offered, offer, sent_if, send, offer_all, send_many, set_low_threshold, set_priority, set_max_message_size, taken_in, take_message}
+use Rattle.spec_endpoint.specs.Sending.{is_before_cookie_ack, send_in}
+use Rattle.spec_endpoint.specs.Calls.{shown_state, send_refusal, send_refusal_of, refusal_events, lifecycle_end_events, refuse, accept, offered, offer, sent_if, send, offer_all, send_many, set_low_threshold, set_priority, set_max_message_size, without_first_message_in, take_message}
 use Rattle.spec_endpoint.specs.Laws.{ends}
 use Rattle.proof_endpoint.proofs.StepsLemmas.{most_bytes, Goes, Steps}
 use Rattle.proof_endpoint.proofs.EmitsLemmas.{quiet_both, emits_all, emits_threshold, quiet_end, quiet_refusal}
@@ -18,15 +18,15 @@ use Rattle.proof_endpoint.proofs.RowStepsLemmas.{OpenSteps, steps_context, steps
 module _ {P : Type 0} where
   goes_refused : (e : SendError) (l : Option ℕ) (c : Context P) → Goes 0 c (refuse e l c)
   goes_refused e l c =
-      let es : List (Event P) = lifecycle_end l ++ refusal_events e in
-      goes_by 0 c (refuse e l c) refl refl (emits_all c.pack (most_bytes c) es c.emitted (quiet_both (lifecycle_end l) (refusal_events e) (quiet_end P l) (quiet_refusal P e)))
+      let es : List (Event P) = lifecycle_end_events l ++ refusal_events e in
+      goes_by 0 c (refuse e l c) refl refl (emits_all c.pack (most_bytes c) es c.emitted (quiet_both (lifecycle_end_events l) (refusal_events e) (quiet_end P l) (quiet_refusal P e)))
 
   goes_offered : (o : Option SendError) (m : Message) (how : SendOptions) (c : Context P) → Goes 0 c (offered o m how c)
   goes_offered None m how c = goes_silent c (accept m how c) refl refl refl
   goes_offered (Some e) m how c = goes_refused e how.lifecycle_id c
 
   goes_offer : (m : Message) (how : SendOptions) (shown : SocketState) (c : Context P) → Goes 0 c (offer m how shown c)
-  goes_offer m how shown c = goes_offered (refusal m shown c) m how c
+  goes_offer m how shown c = goes_offered (send_refusal m shown c) m how c
 
   goes_offer_all : (ms : List Message) (how : SendOptions) (shown : SocketState) (c : Context P) → Goes 0 c (offer_all ms how shown c)
   goes_offer_all [] how shown c = goes_same c
@@ -35,7 +35,7 @@ module _ {P : Type 0} where
       goes_then 0 c d (offer_all ms how shown d) (goes_offer m how shown c) (goes_offer_all ms how shown d)
 
   pub steps_send_in : OpenSteps (send_in {P = P})
-  steps_send_in phase t c = goes_send_buffered c (is_alone phase) t
+  steps_send_in phase t c = goes_send_buffered c (is_before_cookie_ack phase) t
 
   -- behind a change of the context
   pub steps_then : (s : EndpointState P) (d : Context P) (t : EndpointState P) → Goes 0 s.context d → Steps (with_context s d) t → Steps s t
@@ -48,7 +48,7 @@ module _ {P : Type 0} where
   pub steps_send : (m : Message) (how : SendOptions) (s : EndpointState P) → Steps s (send m how s)
   steps_send m how s =
       let d : Context P = offer m how (shown_state s.state) s.context in
-      steps_then s d (send m how s) (goes_offer m how (shown_state s.state) s.context) (steps_sent_if (refusal_of m s) (with_context s d))
+      steps_then s d (send m how s) (goes_offer m how (shown_state s.state) s.context) (steps_sent_if (send_refusal_of m s) (with_context s d))
 
   pub steps_send_many : (ms : List Message) (how : SendOptions) (s : EndpointState P) → Steps s (send_many ms how s)
   steps_send_many ms how s =
@@ -69,7 +69,7 @@ module _ {P : Type 0} where
   pub steps_max_message_size : (n : ℕ) (s : EndpointState P) → Steps s (with_context s (set_max_message_size n s.context))
   steps_max_message_size n s = steps_context s (set_max_message_size n s.context) (goes_silent s.context (set_max_message_size n s.context) refl refl refl)
 
-  steps_taken : (st : State) (c : Context P) → Goes (ends st (taken_in st)) c c
+  steps_taken : (st : State) (c : Context P) → Goes (ends st (without_first_message_in st)) c c
   steps_taken Closed c = goes_same c
   steps_taken (CookieWait tag first t1) c = goes_same c
   steps_taken (Open phase t) c = goes_same c

@@ -9,24 +9,24 @@ use Rattle.sctp_state.specs.declared.api.GivenUpCause.{GivenUpCause}
 use Rattle.sctp_state.specs.declared.api.GivenUpCause.TheVariants.{Lifetime, Retransmissions}
 use Rattle.sctp_state.specs.declared.api.errors.SendError.{SendError}
 use Rattle.sctp_state.specs.declared.api.errors.SendError.TheVariants.{EmptyPayload, MessageTooLarge, ShuttingDown, ResourceExhaustion as QueueFull, Memory, Failed}
-use Rattle.sctp_state.specs.Events.{Event, SendPacket, OnClosed, OnAborted, OnBufferedAmountLow, OnTotalBufferedAmountLow, Emitted, emit_event, emit_events, give_up, expiry}
+use Rattle.sctp_state.specs.Events.{Event, SendPacket, OnClosed, OnAborted, OnBufferedAmountLow, OnTotalBufferedAmountLow, Emitted, emit_event, emit_events, emit_given_up, expired_events}
 use Rattle.sctp_tx_outstanding.specs.Item.{Item, is_abandoned}
 use Rattle.sctp_tx_outstanding.specs.OutstandingData.{Items, Discard}
-use Rattle.sctp_tx_outstanding.specs.Losses.{Step, first_step, given_up, gives_up, loses, change_items, nack_item, nack_below, nack_all, given_up_if, expired_at, expire_below, expire_outstanding}
+use Rattle.sctp_tx_outstanding.specs.Losses.{Step, first_step, abandon_with_record, is_to_be_abandoned, loses, change_items, nack_item, nack_below, nack_all, given_up_if, expired_at, expire_below, expire_outstanding}
 use Rattle.sctp_tx_outstanding.specs.Item as item
-use Rattle.sctp_tx_outstanding.specs.Sack.{report, reports, leaving, staying, reported_below, receive_sack_first, receive_sack}
+use Rattle.sctp_tx_outstanding.specs.Sack.{leaving_events, all_leaving_events, leaving, staying, reported_below, receive_sack_first, receive_sack}
 use Rattle.sctp_tx_outstanding.specs.Sack as sack
 use Rattle.sctp_state.specs.ThresholdWatcher.{crosses}
 use Rattle.sctp_tx_queue.specs.SendQueue.{Queued, Stream, Streams, Queue, stream, watched_amount, watched_total}
-use Rattle.sctp_tx_queue.specs.Produced.{Produced, Turn, is_stale, drop_expired, when, fully_sent, production, emitted_made, emitted_of, streams_after, streams_without_stale, advance, next_fragment, turn, next_stream, idle, produce_within, produce}
+use Rattle.sctp_tx_queue.specs.Produced.{Produced, Turn, is_stale, emit_expired, when, fully_sent, production, emitted_made, emitted_of, streams_after, streams_without_stale, advance, next_fragment, turn, next_stream, idle, produce_within, produce}
 use Rattle.sctp_tx_queue.specs.Settings.{Changed, set_low_threshold, with_threshold, front_discarded, streams_discarded, discard_from, discard}
 use Rattle.sctp_tx.specs.RetransmissionQueue.{Sender, emitted_if}
 use Rattle.sctp_tx.specs.Windows.{is_open}
 use Rattle.sctp_tx.specs.Resent.{resent, may_send_new}
-use Rattle.sctp_tx.specs.Sending.{Filling, Turned, append, turned_if, next_turn, offered_payload, fill, discard_all, without_discards, filled_with, fill_all, send}
+use Rattle.sctp_tx.specs.Sending.{Filling, QueueStep, append, queue_step_if, next_turn, offered_payload, fill, discard_all, without_discards, filled_with, fill_and_start_t3, send}
 use Rattle.spec_endpoint.specs.Association.{Packing}
 use Rattle.spec_endpoint.specs.Laws.{IsShort, ending, endings}
-use Rattle.spec_endpoint.specs.Calls.{lifecycle_end, refusal_events}
+use Rattle.spec_endpoint.specs.Calls.{lifecycle_end_events, refusal_events}
 use Rattle.proof_endpoint.proofs.StepsLemmas.{Emits}
 
 -- ---- events that are neither packets nor endings
@@ -53,7 +53,7 @@ quiet_endings (e ∷ es) h =
     let both = and_parts (is_quiet e) (list_all is_quiet es) h in
     omega (arith, quiet_ending e both.0, quiet_endings es both.1)
 
-pub quiet_expiry : (P : Type 0) (l : Option ℕ) → list_all is_quiet (expiry {P = P} l) ≡ true
+pub quiet_expiry : (P : Type 0) (l : Option ℕ) → list_all is_quiet (expired_events {P = P} l) ≡ true
 quiet_expiry P None = refl
 quiet_expiry P (Some id) = refl
 
@@ -69,9 +69,9 @@ quiet_ended_if : (P : Type 0) (is_end b : Bool) (l : Option ℕ) → list_all is
 quiet_ended_if P true b l = quiet_ended P b l
 quiet_ended_if P false b l = refl
 
-quiet_reports : (P : Type 0) (is : List Item) → list_all is_quiet (reports {P = P} is) ≡ true
+quiet_reports : (P : Type 0) (is : List Item) → list_all is_quiet (all_leaving_events {P = P} is) ≡ true
 quiet_reports P [] = refl
-quiet_reports P (i ∷ is) = quiet_both (report i) (reports is) (quiet_ended_if P i.fragment.is_end (is_abandoned i) i.lifecycle) (quiet_reports P is)
+quiet_reports P (i ∷ is) = quiet_both (leaving_events i) (all_leaving_events is) (quiet_ended_if P i.fragment.is_end (is_abandoned i) i.lifecycle) (quiet_reports P is)
 
 quiet_when : {P : Type 0} (b : Bool) (e : Event P) → is_quiet e ≡ true → list_all is_quiet (when b e) ≡ true
 quiet_when true e h = ap (λ (x : Bool). x && true) h
@@ -102,7 +102,7 @@ module _ {P : Type 0} (pack : Packing P) (most : ℕ) where
   pub emits_nothing : (t : Emitted P) → Emits pack most 0 t t
   emits_nothing t = record { events = []; behind = sym (append-nil t.events); short = All-nil (IsShort pack most); ended = refl }
 
-  pub emits_given_up : (n : ℕ) (cause : GivenUpCause) (t : Emitted P) → Emits pack most 0 t (give_up n cause t)
+  pub emits_given_up : (n : ℕ) (cause : GivenUpCause) (t : Emitted P) → Emits pack most 0 t (emit_given_up n cause t)
   emits_given_up n cause t = record { events = []; behind = sym (append-nil t.events); short = All-nil (IsShort pack most); ended = refl }
 
   pub emits_one : (n : ℕ) (e : Event P) (t : Emitted P) → IsShort pack most e → ending e ≡ n → Emits pack most n t (emit_event e t)
@@ -130,14 +130,14 @@ module _ {P : Type 0} (pack : Packing P) (most : ℕ) where
   -- ---- items
 
   nacks_item : (b at_once fast : Bool) (k : ℕ) (i : Item) (t : Emitted P) (x : Step P) → Emits pack most 0 t x.emitted
-      → Emits pack most 0 t (cond b (given_up i.number (Retransmissions (i.sent - 1)) x) (record x { items = change_items k (item.nack at_once fast) x.items; is_lossy = x.is_lossy || loses at_once i })).emitted
-  nacks_item true at_once fast k i t x h = emits_then t x.emitted (give_up i.number (Retransmissions (i.sent - 1)) x.emitted) h (emits_given_up i.number (Retransmissions (i.sent - 1)) x.emitted)
+      → Emits pack most 0 t (cond b (abandon_with_record i.number (Retransmissions (i.sent - 1)) x) (record x { items = change_items k (item.nack at_once fast) x.items; is_lossy = x.is_lossy || loses at_once i })).emitted
+  nacks_item true at_once fast k i t x h = emits_then t x.emitted (emit_given_up i.number (Retransmissions (i.sent - 1)) x.emitted) h (emits_given_up i.number (Retransmissions (i.sent - 1)) x.emitted)
   nacks_item false at_once fast k i t x h = h
 
   nacks_at : (o : Option Item) (at_once fast : Bool) (k : ℕ) (t : Emitted P) (x : Step P) → Emits pack most 0 t x.emitted
       → Emits pack most 0 t (unwrap_or (option_map (λ i. nack_item at_once fast k i x) o) x).emitted
   nacks_at None at_once fast k t x h = h
-  nacks_at (Some i) at_once fast k t x h = nacks_item (gives_up x.items.is_partial at_once i) at_once fast k i t x h
+  nacks_at (Some i) at_once fast k t x h = nacks_item (is_to_be_abandoned x.items.is_partial at_once i) at_once fast k i t x h
 
   nacks_below : (at_once fast : Bool) (n : ℕ) (t : Emitted P) (x : Step P) → Emits pack most 0 t x.emitted → Emits pack most 0 t (nack_below at_once fast n x).emitted
   nacks_below at_once fast zero t x h = h
@@ -150,7 +150,7 @@ module _ {P : Type 0} (pack : Packing P) (most : ℕ) where
 
   gives_up_if : (o : Option ℕ) (t : Emitted P) (x : Step P) → Emits pack most 0 t x.emitted → Emits pack most 0 t (given_up_if o x).emitted
   gives_up_if None t x h = h
-  gives_up_if (Some n) t x h = emits_then t x.emitted (give_up n Lifetime x.emitted) h (emits_given_up n Lifetime x.emitted)
+  gives_up_if (Some n) t x h = emits_then t x.emitted (emit_given_up n Lifetime x.emitted) h (emits_given_up n Lifetime x.emitted)
 
   expires_below : (now n : ℕ) (t : Emitted P) (x : Step P) → Emits pack most 0 t x.emitted → Emits pack most 0 t (expire_below now n x).emitted
   expires_below now zero t x h = h
@@ -163,7 +163,7 @@ module _ {P : Type 0} (pack : Packing P) (most : ℕ) where
 
   receives : (n : ℕ) (blocks : List GapAckBlock) (fast : Bool) (s : Items) (t : Emitted P) → Emits pack most 0 t (receive_sack n blocks fast s t).emitted
   receives n blocks fast s t =
-      nacks_below false (not fast) (reported_below blocks (staying n s)) t (receive_sack_first n blocks s t) (emits_all (reports (take (leaving n s) s.kept)) t (quiet_reports P (take (leaving n s) s.kept)))
+      nacks_below false (not fast) (reported_below blocks (staying n s)) t (receive_sack_first n blocks s t) (emits_all (all_leaving_events (take (leaving n s) s.kept)) t (quiet_reports P (take (leaving n s) s.kept)))
 
   pub emits_sack : (is_valid : Bool) (n : ℕ) (blocks : List GapAckBlock) (s : Sender) (t : Emitted P) → Emits pack most 0 t (emitted_if is_valid n blocks s t)
   emits_sack true n blocks s t = receives n blocks (not (is_open n s.windows)) s.outstanding.items t
@@ -175,14 +175,14 @@ module _ {P : Type 0} (pack : Packing P) (most : ℕ) where
   drops_if true t u v h k = emits_then t u v h k
   drops_if false t u v h k = emits_nothing t
 
-  drops : (now : ℕ) (ms : List Queued) (t : Emitted P) → Emits pack most 0 t (drop_expired now ms t)
-  drops now [] t = emits_nothing t
-  drops now (m ∷ ms) t =
-      let recorded : Emitted P = give_up m.number Lifetime t in
-      let said : Emitted P = emit_events (expiry m.lifecycle) recorded in
-      drops_if (is_stale now m) t said (drop_expired now ms said)
-      (emits_then t recorded said (emits_given_up m.number Lifetime t) (emits_all (expiry m.lifecycle) recorded (quiet_expiry P m.lifecycle)))
-      (drops now ms said)
+  emits_each_expired : (now : ℕ) (ms : List Queued) (t : Emitted P) → Emits pack most 0 t (emit_expired now ms t)
+  emits_each_expired now [] t = emits_nothing t
+  emits_each_expired now (m ∷ ms) t =
+      let recorded : Emitted P = emit_given_up m.number Lifetime t in
+      let said : Emitted P = emit_events (expired_events m.lifecycle) recorded in
+      drops_if (is_stale now m) t said (emit_expired now ms said)
+      (emits_then t recorded said (emits_given_up m.number Lifetime t) (emits_all (expired_events m.lifecycle) recorded (quiet_expiry P m.lifecycle)))
+      (emits_each_expired now ms said)
 
   makes : (id : ℕ) (is_low is_total_low : Bool) (o : Option Produced) (t : Emitted P) → Emits pack most 0 t (emitted_made id is_low is_total_low o t)
   makes id is_low is_total_low None t = emits_nothing t
@@ -190,9 +190,9 @@ module _ {P : Type 0} (pack : Packing P) (most : ℕ) where
 
   turns : (now id size : ℕ) (q : Queue) (t : Emitted P) → Emits pack most 0 t (turn now id size q t).emitted
   turns now id size q t =
-      let first : Emitted P = drop_expired now (stream id q.streams).messages t in
+      let first : Emitted P = emit_expired now (stream id q.streams).messages t in
       let ss : Streams = streams_without_stale now id q.streams in
-      emits_then t first (emitted_of id size ss first) (drops now (stream id q.streams).messages t)
+      emits_then t first (emitted_of id size ss first) (emits_each_expired now (stream id q.streams).messages t)
       (makes id (crosses (watched_amount (stream id ss)) (watched_amount (advance size (stream id ss)))) (crosses (watched_total ss) (watched_total (streams_after id size ss))) (next_fragment id size (stream id ss)) first)
 
   produces_if : (b : Bool) (t : Emitted P) (x y : Turn P) → Emits pack most 0 t x.emitted → Emits pack most 0 x.emitted y.emitted → Emits pack most 0 t (cond b x y).emitted
@@ -217,7 +217,7 @@ module _ {P : Type 0} (pack : Packing P) (most : ℕ) where
 
   discards_from : (id : ℕ) (ss : Streams) (o : Option (Option ℕ)) (q : Queue) (t : Emitted P) → Emits pack most 0 t (discard_from id ss o q t).emitted
   discards_from id ss None q t = emits_nothing t
-  discards_from id ss (Some l) q t = emits_all (expiry l) t (quiet_expiry P l)
+  discards_from id ss (Some l) q t = emits_all (expired_events l) t (quiet_expiry P l)
 
   discards : (ds : List Discard) (q : Queue) (t : Emitted P) → Emits pack most 0 t (discard_all ds q t).emitted
   discards [] q t = emits_nothing t
@@ -239,7 +239,7 @@ module _ {P : Type 0} (pack : Packing P) (most : ℕ) where
   appends now None t x h = h
   appends now (Some p) t x h = h
 
-  turns_if : (b : Bool) (now : ℕ) (x : Filling P) → Emits pack most 0 x.emitted (turned_if b now x).filling.emitted
+  turns_if : (b : Bool) (now : ℕ) (x : Filling P) → Emits pack most 0 x.emitted (queue_step_if b now x).filling.emitted
   turns_if true now x =
       let y : Turn P = produce now (offered_payload x.left x.sender) x.queue x.emitted in
       appends now y.made x.emitted (record x { queue = y.queue; emitted = y.emitted }) (emits_produced now (offered_payload x.left x.sender) x.queue x.emitted)
@@ -252,14 +252,14 @@ module _ {P : Type 0} (pack : Packing P) (most : ℕ) where
   fills : (n now : ℕ) (x : Filling P) → Emits pack most 0 x.emitted (fill n now x).emitted
   fills zero now x = emits_nothing x.emitted
   fills (suc n) now x =
-      let y : Turned P = next_turn now x in
+      let y : QueueStep P = next_turn now x in
       fills_if y.is_more x.emitted y.filling (fill n now y.filling) (turns_if (may_send_new x.sender && nat_lt 0 (offered_payload x.left x.sender)) now x) (fills n now y.filling)
 
   pub emits_sent : (now size : ℕ) (s : Sender) (q : Queue) (t : Emitted P) → Emits pack most 0 t (send now size s q t).emitted
   emits_sent now size s q t =
       let left : Changed P = discard_all s.outstanding.items.discards q t in
       let x : Filling P = filled_with size (without_discards s) (resent size (without_discards s)) left in
-      emits_then t left.emitted (fill_all now x).emitted (discards s.outstanding.items.discards q t) (fills (suc x.left) now x)
+      emits_then t left.emitted (fill_and_start_t3 now x).emitted (discards s.outstanding.items.discards q t) (fills (suc x.left) now x)
 
 pub quiet_refusal : (P : Type 0) (e : SendError) → list_all is_quiet (refusal_events {P = P} e) ≡ true
 quiet_refusal P EmptyPayload = refl
@@ -269,6 +269,6 @@ quiet_refusal P QueueFull = refl
 quiet_refusal P Memory = refl
 quiet_refusal P Failed = refl
 
-pub quiet_end : (P : Type 0) (l : Option ℕ) → list_all is_quiet (lifecycle_end {P = P} l) ≡ true
+pub quiet_end : (P : Type 0) (l : Option ℕ) → list_all is_quiet (lifecycle_end_events {P = P} l) ≡ true
 quiet_end P None = refl
 quiet_end P (Some id) = refl

@@ -4,21 +4,21 @@ use Rattle.std.proofs.Common.{◌≡◌, ℕ, zero, suc, ◌+◌, ◌-◌, ◌&&
 use Rattle.std.proofs.lemmas.List.{map-append}
 use Rattle.sctp_chunk.specs.declared.sack.GapAckBlock.{GapAckBlock}
 use Rattle.sctp_state.specs.declared.api.GivenUpCause.TheVariants.{Lifetime, Retransmissions}
-use Rattle.sctp_state.specs.Events.{Event, OnBufferedAmountLow, OnTotalBufferedAmountLow, GivenUp, Emitted, emit_event, emit_events, give_up, expiry}
+use Rattle.sctp_state.specs.Events.{Event, OnBufferedAmountLow, OnTotalBufferedAmountLow, GivenUp, Emitted, emit_event, emit_events, emit_given_up, expired_events}
 use Rattle.sctp_tx_outstanding.specs.Item.{Item, is_abandoned}
 use Rattle.sctp_tx_outstanding.specs.OutstandingData.{Items, Discard}
-use Rattle.sctp_tx_outstanding.specs.Losses.{Step, first_step, given_up, gives_up, loses, change_items, nack_item, nack_at, nack_below, nack_all, given_up_if, expired_at, expire_at, expire_below, expire_outstanding}
+use Rattle.sctp_tx_outstanding.specs.Losses.{Step, first_step, abandon_with_record, is_to_be_abandoned, loses, change_items, nack_item, nack_at, nack_below, nack_all, given_up_if, expired_at, expire_at, expire_below, expire_outstanding}
 use Rattle.sctp_tx_outstanding.specs.Item as item
-use Rattle.sctp_tx_outstanding.specs.Sack.{report, reports, leaving, staying, acked_by, reported_below, receive_sack_first, receive_sack}
+use Rattle.sctp_tx_outstanding.specs.Sack.{leaving_events, all_leaving_events, leaving, staying, acked_by, reported_below, receive_sack_first, receive_sack}
 use Rattle.sctp_tx_outstanding.specs.Sack as sack
 use Rattle.sctp_state.specs.ThresholdWatcher.{crosses}
 use Rattle.sctp_tx_queue.specs.SendQueue.{Queued, Stream, Streams, Queue, stream, watched_amount, watched_total}
-use Rattle.sctp_tx_queue.specs.Produced.{Produced, Turn, is_stale, drop_expired, when, fully_sent, production, emitted_made, streams_after, streams_without_stale, advance, next_fragment, turn_from, turn, next_stream, idle, produce_within, produce}
+use Rattle.sctp_tx_queue.specs.Produced.{Produced, Turn, is_stale, emit_expired, when, fully_sent, production, emitted_made, streams_after, streams_without_stale, advance, next_fragment, turn_from, turn, next_stream, idle, produce_within, produce}
 use Rattle.sctp_tx_queue.specs.Settings.{Changed, set_low_threshold, with_threshold, front_discarded, streams_discarded, discard_from, discard}
 use Rattle.sctp_tx.specs.RetransmissionQueue.{Sender, step_of, handle_sack_by, sender_if, emitted_if}
 use Rattle.sctp_tx.specs.Windows.{is_open}
 use Rattle.sctp_tx.specs.Resent.{resent, may_send_new}
-use Rattle.sctp_tx.specs.Sending.{Filling, Turned, append, ask_queue, is_made, turned_if, next_turn, offered_payload, fill, discard_all, without_discards, filled_with, timed_filling, fill_all, send}
+use Rattle.sctp_tx.specs.Sending.{Filling, QueueStep, append, take_turn, is_made, queue_step_if, next_turn, offered_payload, fill, discard_all, without_discards, filled_with, timed_filling, fill_and_start_t3, send}
 use Rattle.proof_endpoint.specs.Mapped.{Mapping, map_event, map_emitted}
 
 -- ---- what holds what was emitted
@@ -35,7 +35,7 @@ map_changed f x = record { queue = x.queue; emitted = map_emitted f x.emitted }
 abbrev pub map_fragments : {P Q : Type 0} → Mapping P Q → Filling P → Filling Q
 map_fragments f x = record { sender = x.sender; queue = x.queue; emitted = map_emitted f x.emitted; chunks = x.chunks; left = x.left }
 
-abbrev map_turned : {P Q : Type 0} → Mapping P Q → Turned P → Turned Q
+abbrev map_turned : {P Q : Type 0} → Mapping P Q → QueueStep P → QueueStep Q
 map_turned f x = record { filling = map_fragments f x.filling; is_more = x.is_more }
 
 -- with other events
@@ -48,7 +48,7 @@ turn_with q made t = record { queue = q; emitted = t; made = made }
 abbrev changed_with : {P : Type 0} → Queue → Emitted P → Changed P
 changed_with q t = record { queue = q; emitted = t }
 
-abbrev turned_with : {P : Type 0} → Bool → Filling P → Turned P
+abbrev turned_with : {P : Type 0} → Bool → Filling P → QueueStep P
 turned_with is_more x = record { filling = x; is_more = is_more }
 
 pub maps_cond : {A B : Type 0} (g : A → B) (b : Bool) (x y : A) (u v : B) → u ≡ g x → v ≡ g y → cond b u v ≡ g (cond b x y)
@@ -70,7 +70,7 @@ module _ {P Q : Type 0} (f : Mapping P Q) where
   maps_emit_event_all es fs t h =
       ap (λ (xs : List (Event Q)). with_events t.given_up xs) (sym (maps_both t.events es (map (map_event f) t.events) fs refl h))
 
-  pub maps_expiry : (l : Option ℕ) → map (map_event f) (expiry l) ≡ expiry l
+  pub maps_expiry : (l : Option ℕ) → map (map_event f) (expired_events l) ≡ expired_events l
   maps_expiry None = refl
   maps_expiry (Some id) = refl
 
@@ -83,10 +83,10 @@ module _ {P Q : Type 0} (f : Mapping P Q) where
   maps_report true b l = maps_ending b l
   maps_report false b l = refl
 
-  maps_reports : (is : List Item) → map (map_event f) (reports is) ≡ reports is
+  maps_reports : (is : List Item) → map (map_event f) (all_leaving_events is) ≡ all_leaving_events is
   maps_reports [] = refl
   maps_reports (i ∷ is) =
-      maps_both (report i) (reports is) (report i) (reports is) (maps_report i.fragment.is_end (is_abandoned i) i.lifecycle) (maps_reports is)
+      maps_both (leaving_events i) (all_leaving_events is) (leaving_events i) (all_leaving_events is) (maps_report i.fragment.is_end (is_abandoned i) i.lifecycle) (maps_reports is)
 
   maps_when_low : (b : Bool) (id : ℕ) → map (map_event f) (when b (OnBufferedAmountLow id)) ≡ when b (OnBufferedAmountLow id)
   maps_when_low true id = refl
@@ -110,15 +110,15 @@ module _ {P Q : Type 0} (f : Mapping P Q) where
   -- ---- items
 
   maps_nacked : (b at_once fast : Bool) (k : ℕ) (i : Item) (x : Step P)
-      → cond b (given_up i.number (Retransmissions (i.sent - 1)) (map_step f x)) (record (map_step f x) { items = change_items k (item.nack at_once fast) x.items; is_lossy = x.is_lossy || loses at_once i })
-      ≡ map_step f (cond b (given_up i.number (Retransmissions (i.sent - 1)) x) (record x { items = change_items k (item.nack at_once fast) x.items; is_lossy = x.is_lossy || loses at_once i }))
+      → cond b (abandon_with_record i.number (Retransmissions (i.sent - 1)) (map_step f x)) (record (map_step f x) { items = change_items k (item.nack at_once fast) x.items; is_lossy = x.is_lossy || loses at_once i })
+      ≡ map_step f (cond b (abandon_with_record i.number (Retransmissions (i.sent - 1)) x) (record x { items = change_items k (item.nack at_once fast) x.items; is_lossy = x.is_lossy || loses at_once i }))
   maps_nacked true at_once fast k i x = refl
   maps_nacked false at_once fast k i x = refl
 
   maps_nack_at : (o : Option Item) (at_once fast : Bool) (k : ℕ) (x : Step P)
       → unwrap_or (option_map (λ i. nack_item at_once fast k i (map_step f x)) o) (map_step f x) ≡ map_step f (unwrap_or (option_map (λ i. nack_item at_once fast k i x) o) x)
   maps_nack_at None at_once fast k x = refl
-  maps_nack_at (Some i) at_once fast k x = maps_nacked (gives_up x.items.is_partial at_once i) at_once fast k i x
+  maps_nack_at (Some i) at_once fast k x = maps_nacked (is_to_be_abandoned x.items.is_partial at_once i) at_once fast k i x
 
   maps_nack_below : (at_once fast : Bool) (n : ℕ) (x : Step P) → nack_below at_once fast n (map_step f x) ≡ map_step f (nack_below at_once fast n x)
   maps_nack_below at_once fast zero x = refl
@@ -145,7 +145,7 @@ module _ {P Q : Type 0} (f : Mapping P Q) where
   maps_received_first : (n : ℕ) (blocks : List GapAckBlock) (s : Items) (t : Emitted P) → receive_sack_first n blocks s (map_emitted f t) ≡ map_step f (receive_sack_first n blocks s t)
   maps_received_first n blocks s t =
       let is : List Item = take (leaving n s) s.kept in
-      ap (λ (u : Emitted Q). first_step (acked_by blocks (staying n s)) u) (maps_emit_event_all (reports is) (reports is) t (maps_reports is))
+      ap (λ (u : Emitted Q). first_step (acked_by blocks (staying n s)) u) (maps_emit_event_all (all_leaving_events is) (all_leaving_events is) t (maps_reports is))
 
   maps_receive : (n : ℕ) (blocks : List GapAckBlock) (fast : Bool) (s : Items) (t : Emitted P) → receive_sack n blocks fast s (map_emitted f t) ≡ map_step f (receive_sack n blocks fast s t)
   maps_receive n blocks fast s t =
@@ -167,13 +167,13 @@ module _ {P Q : Type 0} (f : Mapping P Q) where
 
   -- ---- the queue
 
-  maps_dropped : (now : ℕ) (ms : List Queued) (t : Emitted P) → drop_expired now ms (map_emitted f t) ≡ map_emitted f (drop_expired now ms t)
-  maps_dropped now [] t = refl
-  maps_dropped now (m ∷ ms) t =
-      let recorded : Emitted P = give_up m.number Lifetime t in
-      let said : Emitted P = emit_events (expiry m.lifecycle) recorded in
-      maps_cond (map_emitted f) (is_stale now m) (drop_expired now ms said) t _ (map_emitted f t)
-      (ap (λ (u : Emitted Q). drop_expired now ms u) (maps_emit_event_all (expiry m.lifecycle) (expiry m.lifecycle) recorded (maps_expiry m.lifecycle)) ∙ maps_dropped now ms said) refl
+  maps_emit_expired : (now : ℕ) (ms : List Queued) (t : Emitted P) → emit_expired now ms (map_emitted f t) ≡ map_emitted f (emit_expired now ms t)
+  maps_emit_expired now [] t = refl
+  maps_emit_expired now (m ∷ ms) t =
+      let recorded : Emitted P = emit_given_up m.number Lifetime t in
+      let said : Emitted P = emit_events (expired_events m.lifecycle) recorded in
+      maps_cond (map_emitted f) (is_stale now m) (emit_expired now ms said) t _ (map_emitted f t)
+      (ap (λ (u : Emitted Q). emit_expired now ms u) (maps_emit_event_all (expired_events m.lifecycle) (expired_events m.lifecycle) recorded (maps_expiry m.lifecycle)) ∙ maps_emit_expired now ms said) refl
 
   maps_made : (id : ℕ) (is_low is_total_low : Bool) (o : Option Produced) (t : Emitted P)
       → emitted_made id is_low is_total_low o (map_emitted f t) ≡ map_emitted f (emitted_made id is_low is_total_low o t)
@@ -192,7 +192,7 @@ module _ {P Q : Type 0} (f : Mapping P Q) where
   maps_turn now id size q t =
       let ms : List Queued = (stream id q.streams).messages in
       let ss : Streams = streams_without_stale now id q.streams in
-      ap (λ (u : Emitted Q). turn_from id size ss q u) (maps_dropped now ms t) ∙ maps_turn_from id size ss q (drop_expired now ms t)
+      ap (λ (u : Emitted Q). turn_from id size ss q u) (maps_emit_expired now ms t) ∙ maps_turn_from id size ss q (emit_expired now ms t)
 
   maps_from : (o : Option ℕ) (next : ℕ → Turn P) (mapped : ℕ → Turn Q) (x : Turn P) → ((id : ℕ) → mapped id ≡ map_turn f (next id))
       → unwrap_or (option_map mapped o) (map_turn f x) ≡ map_turn f (unwrap_or (option_map next o) x)
@@ -216,7 +216,7 @@ module _ {P Q : Type 0} (f : Mapping P Q) where
   maps_discard_from id ss None q t = refl
   maps_discard_from id ss (Some l) q t =
       let x : Changed P = discard_from id ss (Some l) q t in
-      ap (λ (u : Emitted Q). changed_with x.queue u) (maps_emit_event_all (expiry l) (expiry l) t (maps_expiry l))
+      ap (λ (u : Emitted Q). changed_with x.queue u) (maps_emit_event_all (expired_events l) (expired_events l) t (maps_expiry l))
 
   maps_discard : (id number : ℕ) (q : Queue) (t : Emitted P) → discard id number q (map_emitted f t) ≡ map_changed f (discard id number q t)
   maps_discard id number q t = maps_discard_from id (streams_discarded id number q.streams) (front_discarded number (stream id q.streams).messages) q t
@@ -241,29 +241,29 @@ module _ {P Q : Type 0} (f : Mapping P Q) where
   maps_appended now None x = refl
   maps_appended now (Some p) x = refl
 
-  maps_asked : (now : ℕ) (y : Turn P) (x : Filling P) → ask_queue now (map_turn f y) (map_fragments f x) ≡ map_turned f (ask_queue now y x)
-  maps_asked now y x = ap (λ (z : Filling Q). turned_with (is_made y.made) z) (maps_appended now y.made (record x { queue = y.queue; emitted = y.emitted }))
+  maps_take_turn : (now : ℕ) (y : Turn P) (x : Filling P) → take_turn now (map_turn f y) (map_fragments f x) ≡ map_turned f (take_turn now y x)
+  maps_take_turn now y x = ap (λ (z : Filling Q). turned_with (is_made y.made) z) (maps_appended now y.made (record x { queue = y.queue; emitted = y.emitted }))
 
-  maps_turned_if : (b : Bool) (now : ℕ) (x : Filling P) → turned_if b now (map_fragments f x) ≡ map_turned f (turned_if b now x)
+  maps_turned_if : (b : Bool) (now : ℕ) (x : Filling P) → queue_step_if b now (map_fragments f x) ≡ map_turned f (queue_step_if b now x)
   maps_turned_if true now x =
       let size : ℕ = offered_payload x.left x.sender in
-      ap (λ (y : Turn Q). ask_queue now y (map_fragments f x)) (maps_produce now size x.queue x.emitted) ∙ maps_asked now (produce now size x.queue x.emitted) x
+      ap (λ (y : Turn Q). take_turn now y (map_fragments f x)) (maps_produce now size x.queue x.emitted) ∙ maps_take_turn now (produce now size x.queue x.emitted) x
   maps_turned_if false now x = refl
 
   maps_fill : (n now : ℕ) (x : Filling P) → fill n now (map_fragments f x) ≡ map_fragments f (fill n now x)
   maps_fill zero now x = refl
   maps_fill (suc n) now x =
-      let y : Turned P = next_turn now x in
-      ap (λ (z : Turned Q). cond z.is_more (fill n now z.filling) z.filling) (maps_turned_if (may_send_new x.sender && nat_lt 0 (offered_payload x.left x.sender)) now x)
+      let y : QueueStep P = next_turn now x in
+      ap (λ (z : QueueStep Q). cond z.is_more (fill n now z.filling) z.filling) (maps_turned_if (may_send_new x.sender && nat_lt 0 (offered_payload x.left x.sender)) now x)
       ∙ maps_cond (map_fragments f) y.is_more (fill n now y.filling) y.filling (fill n now (map_fragments f y.filling)) (map_fragments f y.filling)
       (maps_fill n now y.filling) refl
 
-  maps_filled : (now : ℕ) (x : Filling P) → fill_all now (map_fragments f x) ≡ map_fragments f (fill_all now x)
+  maps_filled : (now : ℕ) (x : Filling P) → fill_and_start_t3 now (map_fragments f x) ≡ map_fragments f (fill_and_start_t3 now x)
   maps_filled now x = ap (λ (y : Filling Q). timed_filling now y) (maps_fill (suc x.left) now x)
 
   pub maps_fragments_sent : (now size : ℕ) (s : Sender) (q : Queue) (t : Emitted P) → send now size s q (map_emitted f t) ≡ map_fragments f (send now size s q t)
   maps_fragments_sent now size s q t =
       let left : Changed P = discard_all s.outstanding.items.discards q t in
       let u : Sender = without_discards s in
-      ap (λ (y : Changed Q). fill_all now (filled_with size u (resent size u) y)) (maps_discard_all s.outstanding.items.discards q t)
+      ap (λ (y : Changed Q). fill_and_start_t3 now (filled_with size u (resent size u) y)) (maps_discard_all s.outstanding.items.discards q t)
       ∙ maps_filled now (filled_with size u (resent size u) left)

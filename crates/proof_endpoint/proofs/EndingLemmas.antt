@@ -5,9 +5,9 @@ use Rattle.sctp_packet.specs.Chunk.{ChunkTree}
 use Rattle.sctp_packet.specs.Packet.{PacketTree}
 use Rattle.sctp_rx.specs.DataTracker.{is_ack_due}
 use Rattle.spec_endpoint.specs.Association.{Tcb, Phase, CookieEchoed, Established, ShutdownPending, ShutdownSent, ShutdownReceived, ShutdownAckSent, State, Closed, CookieWait, Open, Context, EndpointState, Endpoint, where_open}
-use Rattle.spec_endpoint.specs.Sending.{ask_for_sack}
-use Rattle.spec_endpoint.specs.Input.{refusal, Received, receive, receive_rest, receive_all, has_data, repeats, repeats_if, ended_if, at_end, end_packet, on_endpoint_state, handle_chunks, counts, taken_if, on_packet}
-use Rattle.spec_endpoint.specs.Laws.{Call, Connect, Close, Shutdown, Send, SendMany, TakeMessage, SetLowThreshold, SetPriority, SetMaxMessageSize, Advance, HandOver, Restore, Packet, NoPacket, called, is_closed, ends, ended_after, ended_by, ended_unless, ended_in, ended_in_call, ResetStreams}
+use Rattle.spec_endpoint.specs.Sending.{take_due_ack}
+use Rattle.spec_endpoint.specs.Input.{packet_refusal, AfterChunk, receive, receive_rest, receive_all, has_data_chunk, repeats, repeats_if, ack_if_due, at_end, on_packet_end, in_endpoint_state, on_accepted_packet, count_packet_at, packet_if, on_packet}
+use Rattle.spec_endpoint.specs.Laws.{Call, Connect, Close, Shutdown, Send, SendMany, TakeMessage, SetLowThreshold, SetPriority, SetMaxMessageSize, Advance, HandOver, Restore, ReceivePacket, ReceiveNoPacket, called, is_closed, ends, endings_after, endings_by, endings_unless, endings_in, endings_in_call, ResetStreams}
 
 one_ends : (s t : State) → is_closed s ≡ false → is_closed t ≡ true → 1 ≤ ends s t
 one_ends Closed t e f = absurd (both_ways true e refl)
@@ -42,19 +42,19 @@ module _ {P : Type 0} where
   same_repeats true s = stays_open repeats s open_repeats
   same_repeats false s = refl
 
-  open_ended_if : (b : Bool) (phase : Phase) (t : Tcb) (c : Context P) → is_closed (ended_if b phase t c).state ≡ false
+  open_ended_if : (b : Bool) (phase : Phase) (t : Tcb) (c : Context P) → is_closed (ack_if_due b phase t c).state ≡ false
   open_ended_if true phase t c = refl
   open_ended_if false phase t c = refl
 
-  open_ended : (phase : Phase) (t : Tcb) (c : Context P) → is_closed (end_packet phase t c).state ≡ false
-  open_ended phase t c = open_ended_if (is_ack_due false (at_end c.now t).tracker.tracker.ack) phase (ask_for_sack false (at_end c.now t)) c
+  open_ended : (phase : Phase) (t : Tcb) (c : Context P) → is_closed (on_packet_end phase t c).state ≡ false
+  open_ended phase t c = open_ended_if (is_ack_due false (at_end c.now t).tracker.tracker.ack) phase (take_due_ack false (at_end c.now t)) c
 
   -- ---- the chunks
 
   some_rest : (b closed : Bool) (n : ℕ) (rest : Endpoint P → Endpoint P) (count : Endpoint P → ℕ) (s : Endpoint P) → is_closed s.endpoint_state.state ≡ closed
       → (closed ≡ true → 1 ≤ n)
       → ((t : Endpoint P) → is_closed t.endpoint_state.state ≡ false → is_closed (rest t).endpoint_state.state ≡ true → 1 ≤ count t)
-      → is_closed (receive_rest rest (record { end = s; goes_on = b })).endpoint_state.state ≡ true → 1 ≤ n + ended_after count (record { end = s; goes_on = b })
+      → is_closed (receive_rest rest (record { end = s; allows_next = b })).endpoint_state.state ≡ true → 1 ≤ n + endings_after count (record { end = s; allows_next = b })
   some_rest b true n rest count s e one more f =
       let k : 1 ≤ n = one refl in
       omega (arith, k)
@@ -64,31 +64,31 @@ module _ {P : Type 0} where
   some_rest false false n rest count s e one more f = absurd (both_ways (is_closed s.endpoint_state.state) e f)
 
   some_by : (tag : ℕ) (chunks : List ChunkTree) (s : Endpoint P) → is_closed s.endpoint_state.state ≡ false → is_closed (receive_all tag chunks s).endpoint_state.state ≡ true
-      → 1 ≤ ended_by tag chunks s
+      → 1 ≤ endings_by tag chunks s
   some_by tag [] s e f = absurd (both_ways (is_closed s.endpoint_state.state) e f)
   some_by tag (chunk ∷ chunks) s e f =
-      let h : Received P = receive tag chunk s in
-      some_rest h.goes_on (is_closed h.end.endpoint_state.state) (ends s.endpoint_state.state h.end.endpoint_state.state) (receive_all tag chunks) (ended_by tag chunks) h.end refl
+      let h : AfterChunk P = receive tag chunk s in
+      some_rest h.allows_next (is_closed h.end.endpoint_state.state) (ends s.endpoint_state.state h.end.endpoint_state.state) (receive_all tag chunks) (endings_by tag chunks) h.end refl
       (one_ends s.endpoint_state.state h.end.endpoint_state.state e) (some_by tag chunks) f
 
-  some_handled : (tag : ℕ) (chunks : List ChunkTree) (s : Endpoint P) → is_closed s.endpoint_state.state ≡ false → is_closed (handle_chunks tag chunks s).endpoint_state.state ≡ true
-      → 1 ≤ ended_by tag chunks (on_endpoint_state (repeats_if (has_data chunks)) s)
+  some_handled : (tag : ℕ) (chunks : List ChunkTree) (s : Endpoint P) → is_closed s.endpoint_state.state ≡ false → is_closed (on_accepted_packet tag chunks s).endpoint_state.state ≡ true
+      → 1 ≤ endings_by tag chunks (in_endpoint_state (repeats_if (has_data_chunk chunks)) s)
   some_handled tag chunks s e f =
-      let first : Endpoint P = on_endpoint_state (repeats_if (has_data chunks)) s in
+      let first : Endpoint P = in_endpoint_state (repeats_if (has_data_chunk chunks)) s in
       let middle : Endpoint P = receive_all tag chunks first in
-      some_by tag chunks first (same_repeats (has_data chunks) s.endpoint_state ∙ e) (sym (stays_open end_packet middle.endpoint_state open_ended) ∙ f)
+      some_by tag chunks first (same_repeats (has_data_chunk chunks) s.endpoint_state ∙ e) (sym (stays_open on_packet_end middle.endpoint_state open_ended) ∙ f)
 
   some_unless : (o : Option (List ℕ)) (tag : ℕ) (chunks : List ChunkTree) (s : Endpoint P) → is_closed s.endpoint_state.state ≡ false
-      → is_closed (taken_if o tag chunks s).endpoint_state.state ≡ true → 1 ≤ ended_unless o tag chunks s
+      → is_closed (packet_if o tag chunks s).endpoint_state.state ≡ true → 1 ≤ endings_unless o tag chunks s
   some_unless None tag chunks s e f = some_handled tag chunks s e f
   some_unless (Some text) tag chunks s e f = absurd (both_ways (is_closed s.endpoint_state.state) e f)
 
-  some_packet : (p : PacketTree) (s : Endpoint P) → is_closed s.endpoint_state.state ≡ false → is_closed (on_packet p s).endpoint_state.state ≡ true → 1 ≤ ended_in p s
+  some_packet : (p : PacketTree) (s : Endpoint P) → is_closed s.endpoint_state.state ≡ false → is_closed (on_packet p s).endpoint_state.state ≡ true → 1 ≤ endings_in p s
   some_packet p s e f =
-      some_unless (refusal p.header.verification_tag p.chunks s.endpoint_state.state) p.header.verification_tag p.chunks (counts s) e f
+      some_unless (packet_refusal p.header.verification_tag p.chunks s.endpoint_state.state) p.header.verification_tag p.chunks (count_packet_at s) e f
 
-  pub some_call : (call : Call) (s : Endpoint P) → is_closed s.endpoint_state.state ≡ false → is_closed (called call s).endpoint_state.state ≡ true → 1 ≤ ended_in_call call s
-  some_call (Packet p) s e f = some_packet p s e f
+  pub some_call : (call : Call) (s : Endpoint P) → is_closed s.endpoint_state.state ≡ false → is_closed (called call s).endpoint_state.state ≡ true → 1 ≤ endings_in_call call s
+  some_call (ReceivePacket p) s e f = some_packet p s e f
   some_call Connect s e f = one_ends s.endpoint_state.state (called Connect s).endpoint_state.state e f
   some_call Close s e f = one_ends s.endpoint_state.state (called Close s).endpoint_state.state e f
   some_call Shutdown s e f = one_ends s.endpoint_state.state (called Shutdown s).endpoint_state.state e f
@@ -102,4 +102,4 @@ module _ {P : Type 0} where
   some_call (Advance now) s e f = one_ends s.endpoint_state.state (called (Advance now) s).endpoint_state.state e f
   some_call HandOver s e f = one_ends s.endpoint_state.state (called HandOver s).endpoint_state.state e f
   some_call (Restore h) s e f = one_ends s.endpoint_state.state (called (Restore h) s).endpoint_state.state e f
-  some_call NoPacket s e f = one_ends s.endpoint_state.state (called NoPacket s).endpoint_state.state e f
+  some_call ReceiveNoPacket s e f = one_ends s.endpoint_state.state (called ReceiveNoPacket s).endpoint_state.state e f

@@ -4,9 +4,9 @@ use Rattle.rand_core.specs.Stream.{Stream}
 use Rattle.sctp_serial.specs.Messages.{Message}
 use Rattle.sctp_state.specs.Options.{SendOptions}
 use Rattle.spec_endpoint.specs.Association.{Endpoint, Packing}
-use Rattle.spec_endpoint.specs.Calls.{refusal_of}
+use Rattle.spec_endpoint.specs.Calls.{send_refusal_of}
 use Rattle.spec_endpoint.specs.Shown.{is_at_rest}
-use Rattle.proof_endpoint.specs.FirstRun.{quiet, sending, taking, resting, IsSmall, association, Crosses, Rests}
+use Rattle.proof_endpoint.specs.FirstRun.{drained, sending, taking, resting, IsSmall, association, Crosses, Rests}
 use Rattle.proof_endpoint.proofs.OpeningRunLemmas.{opens, shows_by}
 use Rattle.proof_endpoint.proofs.SendRunLemmas.{accepts_message, sent_end, sends}
 use Rattle.proof_endpoint.proofs.TakeRunLemmas.{taken_end, takes_it}
@@ -15,7 +15,7 @@ use Rattle.proof_endpoint.proofs.RestRunLemmas.{rested_end, rests}
 module _ {P : Type 0} (pack : Packing P) (a b : Stream) (m : Message) (o : SendOptions) (small : IsSmall m) where
   pub it_crosses : Crosses pack a b m o
   it_crosses = record {
-    accepted = ap (λ (s : Endpoint P). refusal_of m (quiet s).endpoint_state) (opens pack a b) ∙ accepts_message pack m small;
+    accepted = ap (λ (s : Endpoint P). send_refusal_of m (drained s).endpoint_state) (opens pack a b) ∙ accepts_message pack m small;
     sent = shows_by pack (sending pack a b m o) (sent_end pack a b m o) _ (Some (association a b)) [] (sends pack a b m o small) refl refl;
     came = shows_by pack (taking pack a b m o) (taken_end pack a b m o) _ (Some (association b a)) (m ∷ []) (takes_it pack a b m o small) refl refl;
   }

@@ -9,14 +9,14 @@ use Rattle.sctp_packet.proofs.BuilderLemmas.{holds_more}
 use Rattle.sctp_state.specs.declared.api.ErrorKind.{ErrorKind}
 use Rattle.sctp_state.specs.Events.{Event, SendPacket, OnError, Emitted, emit_event}
 use Rattle.spec_endpoint.specs.Association.{Tcb, Context, Packing}
-use Rattle.spec_endpoint.specs.Packets.{Packet, room, fits, added_if, add, add_all, has_chunks, round_up, new_packet, complain, header_to, emit_if, emit, emit_chunk}
+use Rattle.spec_endpoint.specs.Packets.{PacketDraft, room, fits, added_if, add, add_all, has_chunks, round_down_to_4, new_packet, emit_error, header_to, emit_if, emit, emit_chunk}
 use Rattle.spec_endpoint.specs.Laws.{IsWithin, IsShort, ending}
 use Rattle.proof_endpoint.proofs.StepsLemmas.{Emits, most_bytes, Goes}
 use Rattle.proof_endpoint.proofs.EmitsLemmas.{emits_nothing, emits_one, emits_through}
 
 -- ---- packets that are put together
 
-pub record IsSmall (most : ℕ) (p : Packet) : Type 0 where
+pub record IsSmall (most : ℕ) (p : PacketDraft) : Type 0 where
   pub limit : p.limit ≤ most
   pub short : 12 + length (chunks_bytes p.chunks) ≤ most
 
@@ -24,11 +24,11 @@ pub no_bytes : length (chunks_bytes []) ≡ 0
 unfolding chunks_bytes
 no_bytes = refl
 
-pub rounded_le : (mtu : ℕ) → round_up mtu ≤ max 12 mtu
-rounded_le mtu = omega arith
+pub rounded_down_le : (mtu : ℕ) → round_down_to_4 mtu ≤ max 12 mtu
+rounded_down_le mtu = omega arith
 
 -- with nothing in it
-pub small_empty : (most : ℕ) (p : Packet) → 12 ≤ most → p.limit ≤ most → p.chunks ≡ [] → IsSmall most p
+pub small_empty : (most : ℕ) (p : PacketDraft) → 12 ≤ most → p.limit ≤ most → p.chunks ≡ [] → IsSmall most p
 small_empty most p least h e = record {
   limit = h;
   short = omega (arith, least, no_bytes, ap (λ (cs : List ChunkTree). length (chunks_bytes cs)) e);
@@ -40,16 +40,16 @@ longer most limit front c within h fit =
     let joined = holds_more (chunks_bytes front) (chunks_bytes front ++ chunk_bytes c) front c refl refl in
     omega (arith, within, h, fit, ap length joined, length-append (chunks_bytes front) (chunk_bytes c))
 
-small_added : (most : ℕ) (p : Packet) (c : ChunkTree) (b : Bool) → fits p c ≡ b → IsSmall most p → IsSmall most (added_if b c p)
+small_added : (most : ℕ) (p : PacketDraft) (c : ChunkTree) (b : Bool) → fits p c ≡ b → IsSmall most p → IsSmall most (added_if b c p)
 small_added most p c true e h =
     let room_for = leb-true _ _ (and_parts (is_encodable (chunk_item c) (chunk_is_whole c)) (nat_le (length (chunk_bytes c)) (room p)) e).1 in
     record { limit = h.limit; short = longer most p.limit p.chunks c h.limit h.short room_for }
 small_added most p c false e h = h
 
-pub small_add : (most : ℕ) (p : Packet) (c : ChunkTree) → IsSmall most p → IsSmall most (add c p)
+pub small_add : (most : ℕ) (p : PacketDraft) (c : ChunkTree) → IsSmall most p → IsSmall most (add c p)
 small_add most p c h = small_added most p c (fits p c) refl h
 
-pub small_add_all : (most : ℕ) (p : Packet) (cs : List ChunkTree) → IsSmall most p → IsSmall most (add_all cs p)
+pub small_add_all : (most : ℕ) (p : PacketDraft) (cs : List ChunkTree) → IsSmall most p → IsSmall most (add_all cs p)
 small_add_all most p [] h = h
 small_add_all most p (c ∷ cs) h = small_add_all most (add c p) cs (small_add most p c h)
 
@@ -57,10 +57,10 @@ small_add_all most p (c ∷ cs) h = small_add_all most (add c p) cs (small_add m
 
 module _ {P : Type 0} where
   pub small_new : (t : Tcb) (c : Context P) → IsSmall (most_bytes c) (new_packet c.options t)
-  small_new t c = small_empty (most_bytes c) (new_packet c.options t) (omega arith) (rounded_le c.options.mtu) refl
+  small_new t c = small_empty (most_bytes c) (new_packet c.options t) (omega arith) (rounded_down_le c.options.mtu) refl
 
   -- an empty packet of the mtu
-  pub small_whole : (c : Context P) (p : Packet) → p.limit ≡ c.options.mtu → p.chunks ≡ [] → IsSmall (most_bytes c) p
+  pub small_whole : (c : Context P) (p : PacketDraft) → p.limit ≡ c.options.mtu → p.chunks ≡ [] → IsSmall (most_bytes c) p
   small_whole c p h e = small_empty (most_bytes c) p (omega arith) (omega (arith, h)) e
 
   -- one with the same options and packing
@@ -102,7 +102,7 @@ module _ {P : Type 0} where
       subst (λ (k : ℕ). Goes k c e) sum (goes_through n 0 c d e a b)
 
   -- what is small stays so
-  pub small_after : (c d : Context P) (p : Packet) → Goes 0 c d → IsSmall (most_bytes c) p → IsSmall (most_bytes d) p
+  pub small_after : (c d : Context P) (p : PacketDraft) → Goes 0 c d → IsSmall (most_bytes c) p → IsSmall (most_bytes d) p
   small_after c d p g h = subst (λ (m : ℕ). IsSmall (max 12 m) p) (sym g.mtu) h
 
   -- ---- what is said
@@ -115,10 +115,10 @@ module _ {P : Type 0} where
     emits = subst (λ (t : Emitted P). Emits c.pack (most_bytes c) n c.emitted t) (sym emitted) (emits_one c.pack (most_bytes c) n e c.emitted short is);
   }
 
-  pub goes_complained : (kind : ErrorKind) (text : List ℕ) (c : Context P) → Goes 0 c (complain kind text c)
-  goes_complained kind text c = goes_said 0 c (complain kind text c) (OnError kind text) refl refl refl tt refl
+  pub goes_emit_error : (kind : ErrorKind) (text : List ℕ) (c : Context P) → Goes 0 c (emit_error kind text c)
+  goes_emit_error kind text c = goes_said 0 c (emit_error kind text c) (OnError kind text) refl refl refl tt refl
 
-  goes_emitted : (b : Bool) (p : Packet) (c : Context P) → IsSmall (most_bytes c) p → Goes 0 c (emit_if b p c)
+  goes_emitted : (b : Bool) (p : PacketDraft) (c : Context P) → IsSmall (most_bytes c) p → Goes 0 c (emit_if b p c)
   goes_emitted true p c h =
       let header = header_to c.options p.tag in
       let short : IsWithin c.pack (most_bytes c) (c.pack.write header p.is_summed p.chunks) = record {
@@ -131,7 +131,7 @@ module _ {P : Type 0} where
       goes_said 0 c (emit_if true p c) (SendPacket (c.pack.write header p.is_summed p.chunks)) refl refl refl short refl
   goes_emitted false p c h = goes_same c
 
-  pub goes_emit : (p : Packet) (c : Context P) → IsSmall (most_bytes c) p → Goes 0 c (emit p c)
+  pub goes_emit : (p : PacketDraft) (c : Context P) → IsSmall (most_bytes c) p → Goes 0 c (emit p c)
   goes_emit p c h = goes_emitted (has_chunks p) p c h
 
   pub goes_emit_chunk : (chunk : ChunkTree) (t : Tcb) (c : Context P) → Goes 0 c (emit_chunk chunk t c)

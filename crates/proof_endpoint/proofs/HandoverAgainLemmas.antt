@@ -8,7 +8,7 @@ use Rattle.std.proofs.lemmas.Nat.{le_or_l, le_or_r}
 use Rattle.std.proofs.lemmas.Bool.{and_from, eqb-true}
 use Rattle.rand_core.specs.Stream.{Stream as Words}
 use Rattle.sctp_serial.specs.SerialNumber.{serial_sum}
-use Rattle.sctp_serial.specs.Unwrapped.{words, halves, wire}
+use Rattle.sctp_serial.specs.Unwrapped.{u32_space, halves, wire}
 use Rattle.sctp_state.specs.Numbers.{most_u32}
 use Rattle.sctp_capabilities.specs.Capabilities.{Capabilities, zero_checksum_enabled, same_method}
 use Rattle.sctp_state.specs.Handover.{HandoverState, Transmission}
@@ -16,7 +16,7 @@ use Rattle.sctp_stream_scheduler.specs.StreamScheduler.{scheduler, enable_messag
 use Rattle.sctp_state.specs.Validity.{rises_from, outgoing_ids, ordered_ids, unordered_ids, has_small_numbers, is_valid_reception, are_valid_messages, message_ids_differ, first_alone_is_partly_sent, partly_sent_count, has_valid_queue, are_valid_items, has_valid_items, payload_fits, queued_bytes, outstanding_bytes, is_valid_transmission, is_valid_state}
 use Rattle.sctp_rx.specs.Delivery.{OrderedStream, UnorderedStream}
 use Rattle.sctp_rx.specs.Seen.{has_gap}
-use Rattle.sctp_rx.specs.DataTracker.{place}
+use Rattle.sctp_rx.specs.DataTracker.{unwrapped_from}
 use Rattle.sctp_rx.specs.ReassemblyStreams as received
 use Rattle.sctp_rx.specs.ReassemblyQueue.{Deferred}
 use Rattle.sctp_rx.specs.ReassemblyHandover.{ordered_records, unordered_records, deferred_readiness}
@@ -39,8 +39,8 @@ use Rattle.sctp_tx_queue.proofs.TakenUpLemmas.{restored_in_order, written_as_sen
 use Rattle.sctp_tx.specs.Handover as sender
 use Rattle.spec_endpoint.specs.Association.{Tcb, Context, Packing}
 use Rattle.spec_endpoint.specs.ResetRequests.{Request}
-use Rattle.spec_endpoint.specs.Handover.{is_strict, receiving, pending, request_readiness, block_readiness, readiness, handover_state, handed_over, method_if, left_if, restored_unless, invalid_unless}
-use Rattle.proof_endpoint.specs.HandoverRoundTrip.{IsConnected, IsQueue, Fits, queue_bytes, item_bytes, endpoint_state, successor, block_again, context_again, ItemsComeBack, QueueComesBack, ordered_again, unordered_again, ReceptionComesBack, NothingWaits, HandoverGoesOn, MadeConnected}
+use Rattle.spec_endpoint.specs.Handover.{is_strict, receiving, request_bit, request_readiness, block_readiness, readiness, handover_state, handed_over, method_if, left_if, restored_unless, invalid_unless}
+use Rattle.proof_endpoint.specs.HandoverRoundTrip.{IsConnected, IsQueue, Fits, queue_bytes, item_bytes, established_state, successor, block_again, context_again, ItemsComeBack, QueueComesBack, ordered_again, unordered_again, ReceptionComesBack, NothingWaits, HandoverGoesOn, MadeConnected}
 use Rattle.proof_endpoint.proofs.HandoverValidLemmas.{rises, outgoing_rise, Each, each, AreLeft, messages_are_valid, numbers_differ, IsOrdered, first_alone, one_is_begun, in_one_state, count_items, next_is, queue_bytes_are, item_bytes_are}
 use Rattle.sctp_reassembly.proofs.WrittenLemmas.{small_number}
 
@@ -82,8 +82,8 @@ unordered_back [] = refl
 unordered_back (e ∷ es) = ap (λ (xs : received.Entries UnorderedStream). unordered_again e ∷ xs) (unordered_back es)
 
 -- the least number that is written so, from the first one on
-front_back : (first other n : ℕ) → first ≡ other → other < words
-    → wire words other (place other (serial_sum words (wire words first n) 1) - 1) ≡ wire words first n
+front_back : (first other n : ℕ) → first ≡ other → other < u32_space
+    → wire u32_space other (unwrapped_from other (serial_sum u32_space (wire u32_space first n) 1) - 1) ≡ wire u32_space first n
 front_back first other n same small = omega (arith, same, small)
 
 -- ---- the queue and the items
@@ -121,9 +121,9 @@ queue_valid now mode q same h =
 
 items_valid : (now first acked : ℕ) (is : List Item) → length is < 2 ^ 30
     → (nat_lt (length (item_records now is)) (2 ^ 30)
-    && ((wire words first (acked + 1 + length is) == (wire words first acked + 1 + length (item_records now is)) % 2 ^ 32) && are_valid_items (item_records now is))) ≡ true
+    && ((wire u32_space first (acked + 1 + length is) == (wire u32_space first acked + 1 + length (item_records now is)) % 2 ^ 32) && are_valid_items (item_records now is))) ≡ true
 items_valid now first acked is h =
-    let next : Bool = wire words first (acked + 1 + length is) == (wire words first acked + 1 + length (item_records now is)) % 2 ^ 32 in
+    let next : Bool = wire u32_space first (acked + 1 + length is) == (wire u32_space first acked + 1 + length (item_records now is)) % 2 ^ 32 in
     let few : length (item_records now is) < 2 ^ 30 = omega (arith, h, count_items now is) in
     and_from (nat_lt (length (item_records now is)) (2 ^ 30)) (next && are_valid_items (item_records now is)) (lt-ltb (length (item_records now is)) (2 ^ 30) few)
     (and_from next (are_valid_items (item_records now is)) (next_is first acked (length is) (length (item_records now is)) (count_items now is)) (in_one_state now is))
@@ -164,7 +164,7 @@ module _ (t : Tcb) (c : Context (List ℕ)) (k : IsConnected t c) (q : IsQueue c
       and_from (nat_lt 0 t.identity.my_tag) (nat_lt 0 t.identity.peer_tag && tags) (lt-ltb 0 t.identity.my_tag k.my_tag)
       (and_from (nat_lt 0 t.identity.peer_tag) tags (lt-ltb 0 t.identity.peer_tag k.peer_tag)
       (and_from (is_valid_reception mode its_record.rx) (is_valid_transmission mode its_record.tx)
-      (reception_valid mode t.reassembly.streams.is_interleaved t.reassembly.streams.ordered t.reassembly.streams.unordered k.mode_received f.ordered f.unordered)
+      (reception_valid mode t.reassembly.streams.is_interleaved t.reassembly.streams.ordered t.reassembly.streams.unordered k.receiver_mode f.ordered f.unordered)
       transmission_valid))
 
   -- ---- what comes back
@@ -181,18 +181,18 @@ module _ (t : Tcb) (c : Context (List ℕ)) (k : IsConnected t c) (q : IsQueue c
 
 reception_back : (t : Tcb) (c : Context (List ℕ)) → IsConnected t c → ReceptionComesBack t (block_again t c)
 reception_back t c k = record {
-  cumulative = front_back t.tracker.first t.identity.peer_first t.tracker.tracker.seen.front k.first_received k.small_received;
+  cumulative = front_back t.tracker.first t.identity.peer_first t.tracker.tracker.seen.front k.peer_first k.peer_first_small;
   seen_packet = refl;
   ordered = ordered_back t.reassembly.streams.is_interleaved t.reassembly.streams.ordered;
   unordered = unordered_back t.reassembly.streams.unordered;
-  mode = sym k.mode_received;
+  mode = sym k.receiver_mode;
 }
 
-module _ (t : Tcb) (c : Context (List ℕ)) (pack : Packing (List ℕ)) (random : Words) (k : IsConnected t c) (q : IsQueue c.queue) (f : Fits t c.queue) where
-  queue_back_again : QueueComesBack c.now c.options.default_stream_buffered_amount_low_threshold c.queue (context_again t c pack random).queue
+module _ (t : Tcb) (c : Context (List ℕ)) (pack : Packing (List ℕ)) (draws : Words) (k : IsConnected t c) (q : IsQueue c.queue) (f : Fits t c.queue) where
+  queue_back_again : QueueComesBack c.now c.options.default_stream_buffered_amount_low_threshold c.queue (context_again t c pack draws).queue
   queue_back_again =
       let tx : Transmission = (handover_state t c).tx in
-      let other : Queue = (successor c pack random).context.queue in
+      let other : Queue = (successor c pack draws).context.queue in
       let is_interleaved : Bool = t.capabilities.message_interleaving in
       let w : queue_again.ComesBack c.now is_interleaved tx c.queue other = queue_back.comes_back c.now is_interleaved tx c.queue other q.sorted in
       let numbered : list_all is_numbered_as_sent tx.queued_messages ≡ true = written_as_sent c.now tx c.queue q.sorted q.order in
@@ -212,7 +212,7 @@ unset : (b : Bool) (n : ℕ) → 0 < n → cond b n 0 ≡ 0 → b ≡ false
 unset true n some h = absurd (omega (arith, some, h))
 unset false n some h = refl
 
-none_pending : (o : Option Request) → pending o ≡ 0 → is_some o ≡ false
+none_pending : (o : Option Request) → request_bit o ≡ 0 → is_some o ≡ false
 none_pending None h = refl
 none_pending (Some r) h = absurd (omega (arith, h))
 
@@ -220,7 +220,7 @@ none_deferred : (o : Option Deferred) → deferred_readiness o ≡ 0 → is_some
 none_deferred None h = refl
 none_deferred (Some d) h = absurd (omega (arith, h))
 
-nothing_waits : (t : Tcb) (c : Context (List ℕ)) → readiness (endpoint_state t c) ≡ 0 → NothingWaits t c.queue
+nothing_waits : (t : Tcb) (c : Context (List ℕ)) → readiness (established_state t c) ≡ 0 → NothingWaits t c.queue
 nothing_waits t c h =
     let strict : Bool = is_strict c.options in
     let halves_of = no_bits (queued.readiness strict c.queue) (block_readiness strict t) h in
@@ -264,29 +264,29 @@ made_connected i a_rwnd peer c mine theirs small small_received mode = record {
   peer_tag = theirs;
   first = refl;
   small = small;
-  first_received = refl;
-  small_received = small_received;
+  peer_first = refl;
+  peer_first_small = small_received;
   partial = refl;
   mode = refl;
-  mode_received = refl;
+  receiver_mode = refl;
   mode_queued = mode;
   method = same_or_none c.options.zero_checksum_method peer.zero_checksum_method;
 }
 
 -- ---- all of it
 
-connected_again : (t : Tcb) (c : Context (List ℕ)) (pack : Packing (List ℕ)) (random : Words) → IsConnected t c
-    → (context_again t c pack random).queue.scheduler.is_interleaved ≡ t.capabilities.message_interleaving → IsConnected (block_again t c) (context_again t c pack random)
-connected_again t c pack random k mode = record {
+connected_again : (t : Tcb) (c : Context (List ℕ)) (pack : Packing (List ℕ)) (draws : Words) → IsConnected t c
+    → (context_again t c pack draws).queue.scheduler.is_interleaved ≡ t.capabilities.message_interleaving → IsConnected (block_again t c) (context_again t c pack draws)
+connected_again t c pack draws k mode = record {
   my_tag = k.my_tag;
   peer_tag = k.peer_tag;
   first = refl;
   small = k.small;
-  first_received = refl;
-  small_received = k.small_received;
+  peer_first = refl;
+  peer_first_small = k.peer_first_small;
   partial = refl;
   mode = refl;
-  mode_received = refl;
+  receiver_mode = refl;
   mode_queued = mode;
   method = read_again (zero_checksum_enabled t.capabilities) c.options.zero_checksum_method;
 }
@@ -296,16 +296,16 @@ method_again : (k : Capabilities) (own : ℕ) → k.zero_checksum_method ≡ met
 method_again k own h = ap (λ (n : ℕ). let again : Capabilities = record k { zero_checksum_method = n } in again) (sym h)
 
 pub goes_on : HandoverGoesOn
-goes_on t c pack random ready k q f =
-    let valid : is_valid_state (handed_over (endpoint_state t c)) ≡ true = is_valid t c k q f in
-    let is_ready : (readiness (endpoint_state t c) == 0) ≡ true = ap (λ (n : ℕ). n == 0) ready in
-    let in_queue : QueueComesBack c.now c.options.default_stream_buffered_amount_low_threshold c.queue (context_again t c pack random).queue =
-    queue_back_again t c pack random k q f in
+goes_on t c pack draws ready k q f =
+    let valid : is_valid_state (handed_over (established_state t c)) ≡ true = is_valid t c k q f in
+    let is_ready : (readiness (established_state t c) == 0) ≡ true = ap (λ (n : ℕ). n == 0) ready in
+    let in_queue : QueueComesBack c.now c.options.default_stream_buffered_amount_low_threshold c.queue (context_again t c pack draws).queue =
+    queue_back_again t c pack draws k q f in
     record {
-      left = ap (λ (b : Bool). left_if b (endpoint_state t c)) is_ready;
+      left = ap (λ (b : Bool). left_if b (established_state t c)) is_ready;
       nothing = nothing_waits t c ready;
       valid = valid;
-      taken = ap (λ (b : Bool). restored_unless (invalid_unless b) (handed_over (endpoint_state t c)) (successor c pack random)) valid;
+      taken = ap (λ (b : Bool). restored_unless (invalid_unless b) (handed_over (established_state t c)) (successor c pack draws)) valid;
       association = refl;
       capabilities = method_again t.capabilities c.options.zero_checksum_method k.method;
       items = items_back t c k q f;
@@ -313,5 +313,5 @@ goes_on t c pack random ready k q f =
       received = reception_back t c k;
       next_request = refl;
       last_request = refl;
-      connected = connected_again t c pack random k (in_queue.mode ∙ k.mode_queued);
+      connected = connected_again t c pack draws k (in_queue.mode ∙ k.mode_queued);
     }

@@ -6,9 +6,9 @@ use Rattle.sctp_state.specs.declared.api.handover.HandoverSocketState.TheVariant
 use Rattle.sctp_state.specs.Events.{OnConnected, OnClosed}
 use Rattle.sctp_state.specs.Handover.{HandoverState}
 use Rattle.spec_endpoint.specs.Association.{Tcb, Phase, CookieEchoed, Established, ShutdownPending, ShutdownSent, ShutdownReceived, ShutdownAckSent, State, Closed, CookieWait, Open, Context, EndpointState}
-use Rattle.spec_endpoint.specs.Packets.{say}
-use Rattle.spec_endpoint.specs.Sending.{Sent, open_with, send_buffered}
-use Rattle.spec_endpoint.specs.Handover.{readiness_open, readiness, left_in, left_if, hand_over, tcb_from, queue_taken, take_up, refusal_in, taken_as, restored_unless, restore}
+use Rattle.spec_endpoint.specs.Packets.{emit_event_in}
+use Rattle.spec_endpoint.specs.Sending.{AfterSending, open_with, send_buffered}
+use Rattle.spec_endpoint.specs.Handover.{readiness_open, readiness, left_in, left_if, hand_over, tcb_from, queue_restored, take_up, restore_refusal_in, restored_as, restored_unless, restore}
 use Rattle.proof_endpoint.specs.Mapped.{Mapping, map_context, map_endpoint_state}
 use Rattle.proof_endpoint.proofs.SendingMapsLemmas.{maps_say, maps_send_buffered}
 use Rattle.proof_endpoint.proofs.RowMapsLemmas.{maps_in_state}
@@ -17,7 +17,7 @@ module _ {P Q : Type 0} (f : Mapping P Q) where
   maps_left_in : (st : State) (c : Context P) → left_in st (map_context f c) ≡ map_endpoint_state f (left_in st c)
   maps_left_in Closed c = refl
   maps_left_in (CookieWait tag first t1) c = refl
-  maps_left_in (Open phase t) c = maps_in_state f Closed (say OnClosed c) (say OnClosed (map_context f c)) (maps_say f OnClosed c)
+  maps_left_in (Open phase t) c = maps_in_state f Closed (emit_event_in OnClosed c) (emit_event_in OnClosed (map_context f c)) (maps_say f OnClosed c)
 
   maps_left_if : (b : Bool) (s : EndpointState P) → left_if b (map_endpoint_state f s) ≡ map_endpoint_state f (left_if b s)
   maps_left_if true s = maps_left_in s.state s.context
@@ -43,12 +43,12 @@ module _ {P Q : Type 0} (f : Mapping P Q) where
 
   maps_take_up : (h : HandoverState) (c : Context P) → take_up h (map_context f c) ≡ map_endpoint_state f (take_up h c)
   maps_take_up h c =
-      let d : Context P = queue_taken h c in
+      let d : Context P = queue_restored h c in
       let t : Tcb = tcb_from c.now c.options h in
       ap (λ (e : Context Q). open_with Established (send_buffered false t e)) (maps_say f OnConnected d)
-      ∙ ap (λ (x : Sent Q). open_with Established x) (maps_send_buffered f false t (say OnConnected d))
+      ∙ ap (λ (x : AfterSending Q). open_with Established x) (maps_send_buffered f false t (emit_event_in OnConnected d))
 
-  maps_taken_as : (how : HandoverSocketState) (h : HandoverState) (s : EndpointState P) → taken_as how h (map_endpoint_state f s) ≡ map_endpoint_state f (taken_as how h s)
+  maps_taken_as : (how : HandoverSocketState) (h : HandoverState) (s : EndpointState P) → restored_as how h (map_endpoint_state f s) ≡ map_endpoint_state f (restored_as how h s)
   maps_taken_as handed.Closed h s = refl
   maps_taken_as handed.Connected h s = maps_take_up h s.context
 
@@ -57,4 +57,4 @@ module _ {P Q : Type 0} (f : Mapping P Q) where
   maps_restored_unless (Some e) h s = refl
 
   pub maps_restore : (h : HandoverState) (s : EndpointState P) → restore h (map_endpoint_state f s) ≡ map_endpoint_state f (restore h s)
-  maps_restore h s = maps_restored_unless (refusal_in s.state h) h s
+  maps_restore h s = maps_restored_unless (restore_refusal_in s.state h) h s

@@ -6,8 +6,8 @@ use Rattle.sctp_state.specs.declared.api.handover.HandoverSocketState.TheVariant
 use Rattle.sctp_state.specs.Events.{OnConnected, OnClosed}
 use Rattle.sctp_state.specs.Handover.{HandoverState}
 use Rattle.spec_endpoint.specs.Association.{Tcb, State, Closed, CookieWait, Open, Context, EndpointState}
-use Rattle.spec_endpoint.specs.Packets.{say}
-use Rattle.spec_endpoint.specs.Handover.{readiness, left_in, left_if, hand_over, tcb_from, queue_taken, take_up, refusal_in, taken_as, restored_unless, restore}
+use Rattle.spec_endpoint.specs.Packets.{emit_event_in}
+use Rattle.spec_endpoint.specs.Handover.{readiness, left_in, left_if, hand_over, tcb_from, queue_restored, take_up, restore_refusal_in, restored_as, restored_unless, restore}
 use Rattle.proof_endpoint.proofs.StepsLemmas.{Goes, Steps}
 use Rattle.proof_endpoint.proofs.GoesLemmas.{goes_silent, goes_same, goes_then, goes_said}
 use Rattle.proof_endpoint.proofs.SendingStepsLemmas.{goes_send_buffered}
@@ -17,7 +17,7 @@ module _ {P : Type 0} where
   steps_left_in : (st : State) (c : Context P) → StepsFrom st c (left_in st c)
   steps_left_in Closed c = goes_same c
   steps_left_in (CookieWait tag first t1) c = goes_same c
-  steps_left_in (Open phase t) c = goes_said 1 c (say OnClosed c) OnClosed refl refl refl tt refl
+  steps_left_in (Open phase t) c = goes_said 1 c (emit_event_in OnClosed c) OnClosed refl refl refl tt refl
 
   steps_left_if : (b : Bool) (s : EndpointState P) → Steps s (left_if b s)
   steps_left_if true s = steps_left_in s.state s.context
@@ -28,13 +28,13 @@ module _ {P : Type 0} where
 
   goes_take_up : (h : HandoverState) (c : Context P) → Goes 0 c (take_up h c).context
   goes_take_up h c =
-      let d : Context P = queue_taken h c in
-      let e : Context P = say OnConnected d in
+      let d : Context P = queue_restored h c in
+      let e : Context P = emit_event_in OnConnected d in
       let t : Tcb = tcb_from c.now c.options h in
       goes_then 0 c d (take_up h c).context (goes_silent c d refl refl refl)
       (goes_then 0 d e (take_up h c).context (goes_said 0 d e OnConnected refl refl refl tt refl) (goes_send_buffered e false t))
 
-  steps_taken_as : (how : HandoverSocketState) (h : HandoverState) (s : EndpointState P) → Steps s (taken_as how h s)
+  steps_taken_as : (how : HandoverSocketState) (h : HandoverState) (s : EndpointState P) → Steps s (restored_as how h s)
   steps_taken_as handed.Closed h s = steps_same s
   steps_taken_as handed.Connected h s = steps_opened s.state s.context _ _ (take_up h s.context).context (goes_take_up h s.context)
 
@@ -43,4 +43,4 @@ module _ {P : Type 0} where
   steps_restored_unless (Some e) h s = steps_same s
 
   pub steps_restore : (h : HandoverState) (s : EndpointState P) → Steps s (restore h s)
-  steps_restore h s = steps_restored_unless (refusal_in s.state h) h s
+  steps_restore h s = steps_restored_unless (restore_refusal_in s.state h) h s

@@ -10,7 +10,7 @@ use Rattle.std.proofs.lemmas.List.Folds.{list_all-append}
 use Rattle.std.proofs.lemmas.List.Sums.{sum_by-cons, sum_by-append}
 use Rattle.std.proofs.lemmas.Bool.{and_from, and_parts, eq-eqb, or_from, or_right}
 use Rattle.std.proofs.Math.Bool.{and-false}
-use Rattle.sctp_serial.specs.Unwrapped.{words, wire}
+use Rattle.sctp_serial.specs.Unwrapped.{u32_space, wire}
 use Rattle.sctp_state.specs.declared.api.handover.HandoverOutgoingStream.{HandoverOutgoingStream}
 use Rattle.sctp_state.specs.Handover.{StreamMessage, OutstandingData}
 use Rattle.sctp_state.specs.Validity.{rises_from, outgoing_ids, has_stream, is_valid_message, are_valid_messages, has_message_id, message_ids_differ, is_partly_sent, has_partly_sent, first_alone_is_partly_sent, partly_sent_count, is_valid_item, are_valid_items, queued_bytes, outstanding_bytes}
@@ -20,9 +20,10 @@ use Rattle.sctp_tx_outstanding.specs.Item.{Item, has_ack, is_given_up, waits}
 use Rattle.sctp_tx_outstanding.specs.Handover.{item_record, item_records}
 use Rattle.sctp_tx_queue.specs.SendQueue.{Queued, Stream, Entries}
 use Rattle.sctp_tx_queue.specs.Handover.{queued_message, messages_of, outgoing_stream, outgoing_streams, queued_messages}
-use Rattle.sctp_tx_queue.specs.InOrder.{is_waiting, is_begun_or_waiting, are_in_order, is_first_begun, is_this, has_rest}
+use Rattle.sctp_tx_queue.specs.InOrder.{is_unsent, is_begun_or_waiting, are_in_order, is_first_begun, is_this, has_rest}
 use Rattle.sctp_tx_queue.proofs.AgainLemmas.{AreAbove, are_above}
-use Rattle.proof_endpoint.specs.HandoverRoundTrip.{one_if, numbered_count, numbered_in, message_bytes, queue_bytes, item_bytes}
+use Rattle.proof_endpoint.specs.HandoverRoundTrip.{count_with_number, numbered_in, message_bytes, queue_bytes, item_bytes}
+use Rattle.proof_endpoint.specs.Lifecycles.{one_if}
 use Rattle.sctp_serial.proofs.NumberLemmas.{at_itself, greater_differs, zero_not_positive}
 
 -- ---- ids that ascend
@@ -142,11 +143,11 @@ given : (b : Bool) (k : ℕ) → 1 + k ≤ one_if b → b ≡ true
 given true k h = refl
 given false k h = absurd (omega (arith, h))
 
-are_below : (next k : ℕ) (ms : List Queued) → ((n : ℕ) → numbered_count n ms ≤ one_if (nat_lt n next)) → AreBelow next k ms
+are_below : (next k : ℕ) (ms : List Queued) → ((n : ℕ) → count_with_number n ms ≤ one_if (nat_lt n next)) → AreBelow next k ms
 are_below next k [] h = refl
 are_below next k (m ∷ ms) h =
     and_from (is_below next m) (list_all (is_below next) ms)
-    (given (nat_lt m.number next) (numbered_count m.number ms) (omega (arith, h m.number, ap one_if (eq-eqb m.number m.number refl))))
+    (given (nat_lt m.number next) (count_with_number m.number ms) (omega (arith, h m.number, ap one_if (eq-eqb m.number m.number refl))))
     (are_below next k ms (λ n. omega (arith, h n)))
 
 all_below : (next : ℕ) (es : Entries) → ((n : ℕ) → numbered_in n es ≤ one_if (nat_lt n next)) → Each (AreBelow next) es
@@ -168,7 +169,7 @@ unfolding ids
 ids_append n [] ys = omega arith
 ids_append n (x ∷ xs) ys = omega (arith, ids_append n xs ys)
 
-ids_numbered : (n now id : ℕ) (ms : List Queued) → ids n (map (queued_message now id) ms) ≡ numbered_count n ms
+ids_numbered : (n now id : ℕ) (ms : List Queued) → ids n (map (queued_message now id) ms) ≡ count_with_number n ms
 unfolding ids
 ids_numbered n now id [] = refl
 ids_numbered n now id (m ∷ ms) = omega (arith, ids_numbered n now id ms)
@@ -215,13 +216,13 @@ partly_append k (x ∷ xs) ys p q = go ((x.stream_id == k) && is_partly_sent x) 
     go true e ih = absurd (cc)
     go false e ih = ih e
 
-waiting_unsent : (m : Queued) → is_waiting m ≡ true → nat_lt 0 m.offset ≡ false
+waiting_unsent : (m : Queued) → is_unsent m ≡ true → nat_lt 0 m.offset ≡ false
 waiting_unsent m h = zero_not_positive m.offset (and_parts (not (is_some m.numbers)) (m.offset == 0) h).1
 
-waiting_none : (now id k : ℕ) (ms : List Queued) → list_all is_waiting ms ≡ true → has_partly_sent k (map (queued_message now id) ms) ≡ false
+waiting_none : (now id k : ℕ) (ms : List Queued) → list_all is_unsent ms ≡ true → has_partly_sent k (map (queued_message now id) ms) ≡ false
 waiting_none now id k [] h = refl
 waiting_none now id k (m ∷ ms) h =
-    let hs = and_parts (is_waiting m) (list_all is_waiting ms) h in
+    let hs = and_parts (is_unsent m) (list_all is_unsent ms) h in
     or_from ((id == k) && nat_lt 0 m.offset) (has_partly_sent k (map (queued_message now id) ms))
     (ap (λ (b : Bool). (id == k) && b) (waiting_unsent m hs.0) ∙ and-false (id == k)) (waiting_none now id k ms hs.1)
 
@@ -236,11 +237,11 @@ above_none now k [] h = refl
 above_none now k (e ∷ es) h =
     partly_append k (messages_of now e.0 e.1) (queued_messages now es) (other_none now e.0 k e.1.messages (greater_differs k e.0 h.0)) (above_none now k es h.1)
 
-waiting_alone : (now id : ℕ) (ms : List Queued) (rest : List StreamMessage) → list_all is_waiting ms ≡ true → has_partly_sent id rest ≡ false
+waiting_alone : (now id : ℕ) (ms : List Queued) (rest : List StreamMessage) → list_all is_unsent ms ≡ true → has_partly_sent id rest ≡ false
     → first_alone_is_partly_sent rest ≡ true → first_alone_is_partly_sent (map (queued_message now id) ms ++ rest) ≡ true
 waiting_alone now id [] rest h none alone = alone
 waiting_alone now id (m ∷ ms) rest h none alone =
-    let hs = and_parts (is_waiting m) (list_all is_waiting ms) h in
+    let hs = and_parts (is_unsent m) (list_all is_unsent ms) h in
     let front : List StreamMessage = map (queued_message now id) ms in
     and_from (not (has_partly_sent id (front ++ rest))) (first_alone_is_partly_sent (front ++ rest))
     (ap not (partly_append id front rest (waiting_none now id id ms hs.1) none)) (waiting_alone now id ms rest hs.1 none alone)
@@ -249,7 +250,7 @@ order_alone : (now id : ℕ) (ms : List Queued) (rest : List StreamMessage) → 
     → first_alone_is_partly_sent rest ≡ true → first_alone_is_partly_sent (map (queued_message now id) ms ++ rest) ≡ true
 order_alone now id [] rest h none alone = alone
 order_alone now id (m ∷ ms) rest h none alone =
-    let hs = and_parts (is_begun_or_waiting m) (list_all is_waiting ms) h in
+    let hs = and_parts (is_begun_or_waiting m) (list_all is_unsent ms) h in
     let front : List StreamMessage = map (queued_message now id) ms in
     and_from (not (has_partly_sent id (front ++ rest))) (first_alone_is_partly_sent (front ++ rest))
     (ap not (partly_append id front rest (waiting_none now id id ms hs.1) none)) (waiting_alone now id ms rest hs.1 none alone)
@@ -269,10 +270,10 @@ part b = cond b 1 0
 abbrev one_of : StreamMessage → ℕ
 one_of m = part (is_partly_sent m)
 
-waiting_count : (now id : ℕ) (ms : List Queued) → list_all is_waiting ms ≡ true → partly_sent_count (map (queued_message now id) ms) ≡ 0
+waiting_count : (now id : ℕ) (ms : List Queued) → list_all is_unsent ms ≡ true → partly_sent_count (map (queued_message now id) ms) ≡ 0
 waiting_count now id [] h = refl
 waiting_count now id (m ∷ ms) h =
-    let hs = and_parts (is_waiting m) (list_all is_waiting ms) h in
+    let hs = and_parts (is_unsent m) (list_all is_unsent ms) h in
     let none : part (nat_lt 0 m.offset) ≡ 0 = ap part (waiting_unsent m hs.0) in
     omega (arith, sum_by-cons one_of (queued_message now id m) (map (queued_message now id) ms), none, waiting_count now id ms hs.1)
 
@@ -287,7 +288,7 @@ front_count b false n h e = omega (arith, ap part (zero_not_positive n h))
 order_count : (now id : ℕ) (b : Bool) (ms : List Queued) → are_in_order ms ≡ true → is_first_begun ms ≡ b → partly_sent_count (map (queued_message now id) ms) ≤ one_if b
 order_count now id b [] h e = omega arith
 order_count now id b (m ∷ ms) h e =
-    let hs = and_parts (is_begun_or_waiting m) (list_all is_waiting ms) h in
+    let hs = and_parts (is_begun_or_waiting m) (list_all is_unsent ms) h in
     omega (arith, sum_by-cons one_of (queued_message now id m) (map (queued_message now id) ms), front_count b (is_some m.numbers) m.offset hs.0 e, waiting_count now id ms hs.1)
 
 these : Option ℕ → Entries → ℕ
@@ -346,10 +347,10 @@ count_items now [] = refl
 count_items now (i ∷ is) = ap suc (count_items now is)
 
 -- the next number is as far on as there are items
-pub next_is : (first acked count more : ℕ) → more ≡ count → (wire words first (acked + 1 + count) == (wire words first acked + 1 + more) % 2 ^ 32) ≡ true
+pub next_is : (first acked count more : ℕ) → more ≡ count → (wire u32_space first (acked + 1 + count) == (wire u32_space first acked + 1 + more) % 2 ^ 32) ≡ true
 next_is first acked count more e =
-    let same : wire words first (acked + 1 + count) ≡ (wire words first acked + 1 + more) % 2 ^ 32 = omega (arith, e) in
-    ap (λ (n : ℕ). wire words first (acked + 1 + count) == n) (sym same) ∙ (eq-eqb (wire words first (acked + 1 + count)) (wire words first (acked + 1 + count)) refl)
+    let same : wire u32_space first (acked + 1 + count) ≡ (wire u32_space first acked + 1 + more) % 2 ^ 32 = omega (arith, e) in
+    ap (λ (n : ℕ). wire u32_space first (acked + 1 + count) == n) (sym same) ∙ (eq-eqb (wire u32_space first (acked + 1 + count)) (wire u32_space first (acked + 1 + count)) refl)
 
 -- ---- bytes
 

@@ -9,20 +9,20 @@ use Rattle.sctp_tx_outstanding.specs.Resending.{Resent, resend, empty_packet}
 use Rattle.sctp_tx_queue.specs.SendQueue.{Streams, Queue}
 use Rattle.sctp_tx_queue.specs.Settings.{Changed}
 use Rattle.sctp_tx.specs.declared.retransmission_queue.windows.Windows.{Windows}
-use Rattle.sctp_tx.specs.Windows.{take_payload}
+use Rattle.sctp_tx.specs.Windows.{consume_rwnd}
 use Rattle.sctp_tx.specs.RetransmissionQueue.{Sender}
 use Rattle.sctp_tx.specs.Resent.{may_send_new}
 use Rattle.sctp_tx.specs.Sending as fragments
 use Rattle.sctp_tx.specs.Sending.{filling, fill, offered_payload, filled_with, timed_filling, send}
 use Rattle.spec_endpoint.specs.Association.{Tcb, Context}
-use Rattle.spec_endpoint.specs.Packets.{Packet, has_chunks, room}
-use Rattle.spec_endpoint.specs.Sending.{Filling, fill_packet, with_data, turned_if, go_on, burst}
+use Rattle.spec_endpoint.specs.Packets.{PacketDraft, has_chunks, room}
+use Rattle.spec_endpoint.specs.Sending.{Filling, with_fragments, with_data, burst_step_if, continue_burst, burst}
 
 minus_none : (n : ℕ) → n - 0 ≡ n
 minus_none n = omega arith
 
-taken_none : (w : Windows) → take_payload 0 w ≡ w
-taken_none w = ap (λ (n : ℕ). record w { rwnd = n }) (minus_none w.rwnd)
+consume_none : (w : Windows) → consume_rwnd 0 w ≡ w
+consume_none w = ap (λ (n : ℕ). record w { rwnd = n }) (minus_none w.rwnd)
 
 -- a sender that never sent anything again, with these items
 abbrev pub kept_items : (first acked : ℕ) → List Item → Outstanding
@@ -49,14 +49,14 @@ module _ {P : Type 0} (ss : Streams) (time most_payload number : ℕ) (emitted :
   }
 
   turned_idle : (now : ℕ) (may : Bool) (s : Sender) (chunks : List (ℕ × FragmentTree)) (left : ℕ)
-      → fragments.turned_if may now (filling s idle_queue emitted chunks left) ≡ record { filling = filling s idle_queue emitted chunks left; is_more = false }
+      → fragments.queue_step_if may now (filling s idle_queue emitted chunks left) ≡ record { filling = filling s idle_queue emitted chunks left; is_more = false }
   turned_idle now true s chunks left = refl
   turned_idle now false s chunks left = refl
 
   pub fill_idle : (turns now : ℕ) (s : Sender) (chunks : List (ℕ × FragmentTree)) (left : ℕ)
       → fill (suc turns) now (filling s idle_queue emitted chunks left) ≡ filling s idle_queue emitted chunks left
   fill_idle turns now s chunks left =
-      ap (λ (t : fragments.Turned P). if t.is_more then fill turns now t.filling else t.filling)
+      ap (λ (t : fragments.QueueStep P). if t.is_more then fill turns now t.filling else t.filling)
       (turned_idle now (may_send_new s && nat_lt 0 (offered_payload left s)) s chunks left)
 
   -- ---- and nothing is to be sent again
@@ -72,20 +72,20 @@ module _ {P : Type 0} (ss : Streams) (time most_payload number : ℕ) (emitted :
       send_idle : (now most : ℕ) → send now most s idle_queue emitted ≡ filling s idle_queue emitted [] (most - 0)
       send_idle now most =
           let left : Changed P = record { queue = idle_queue; emitted = emitted } in
-          ap (λ (x : Resent). fragments.fill_all now (filled_with most s x left)) (none _ _)
-          ∙ ap (λ (x : fragments.Filling P). timed_filling now x) (fill_idle (most - 0) now (still d (take_payload 0 w) t3) [] (most - 0))
-          ∙ ap (λ (v : Windows). filling (still d v t3) idle_queue emitted [] (most - 0)) (taken_none w)
+          ap (λ (x : Resent). fragments.fill_and_start_t3 now (filled_with most s x left)) (none _ _)
+          ∙ ap (λ (x : fragments.Filling P). timed_filling now x) (fill_idle (most - 0) now (still d (consume_rwnd 0 w) t3) [] (most - 0))
+          ∙ ap (λ (v : Windows). filling (still d v t3) idle_queue emitted [] (most - 0)) (consume_none w)
 
-      pub data_idle : (p : Packet) (t : Tcb) (c : Context P)
+      pub data_idle : (p : PacketDraft) (t : Tcb) (c : Context P)
           → with_data (record { packet = p; tcb = record t { sender = s }; context = record c { queue = idle_queue; emitted = emitted } })
           ≡ record { packet = p; tcb = record t { sender = s }; context = record c { queue = idle_queue; emitted = emitted } }
       data_idle p t c =
-          ap (λ (f : fragments.Filling P). fill_packet f (record { packet = p; tcb = record t { sender = s }; context = record c { queue = idle_queue; emitted = emitted } }))
+          ap (λ (f : fragments.Filling P). with_fragments f (record { packet = p; tcb = record t { sender = s }; context = record c { queue = idle_queue; emitted = emitted } }))
           (send_idle c.now (room p))
 
       -- a further packet of a burst isn't sent
-      pub burst_ends : (turns : ℕ) (p : Packet) (t : Tcb) (c : Context P)
+      pub burst_ends : (turns : ℕ) (p : PacketDraft) (t : Tcb) (c : Context P)
           → burst (suc turns) false false (record { packet = record p { chunks = [] }; tcb = record t { sender = s }; context = record c { queue = idle_queue; emitted = emitted } })
           ≡ record { packet = record p { chunks = [] }; tcb = record t { sender = s }; context = record c { queue = idle_queue; emitted = emitted } }
       burst_ends turns p t c =
-          ap (λ (y : Filling P). go_on (burst turns false false) (turned_if (has_chunks y.packet) false y)) (data_idle (record p { chunks = [] }) t c)
+          ap (λ (y : Filling P). continue_burst (burst turns false false) (burst_step_if (has_chunks y.packet) false y)) (data_idle (record p { chunks = [] }) t c)

@@ -7,54 +7,54 @@ use Rattle.sctp_wire.specs.Parameter.{ParameterTree}
 use Rattle.sctp_state.specs.declared.api.ErrorKind.TheVariants.{ParseFailed}
 use Rattle.sctp_rx.specs.DataTracker.{is_ack_due}
 use Rattle.spec_endpoint.specs.Association.{Tcb, Phase, CookieEchoed, Established, ShutdownPending, ShutdownSent, ShutdownReceived, ShutdownAckSent, State, Closed, CookieWait, Open, Context, EndpointState, Endpoint, in_context, where_open}
-use Rattle.spec_endpoint.specs.Heartbeats.{info_in, answered_if, is_last, no_info, answered_by, answer_heartbeat, on_heartbeat_ack}
+use Rattle.spec_endpoint.specs.Heartbeats.{info_in, clear_if_last, is_last_info, no_info, ack_by_length, on_heartbeat_info, on_heartbeat_ack}
 use Rattle.spec_endpoint.specs.Packets.{add, new_packet, emit_chunk}
-use Rattle.spec_endpoint.specs.Sending.{Sent, ask_for_sack, count_sack_sent, selective_ack, is_alone, open_with}
-use Rattle.spec_endpoint.specs.Shutdown.{send_shutdown, violate, on_abort, on_error, on_shutdown, on_shutdown_ack, on_shutdown_complete}
+use Rattle.spec_endpoint.specs.Sending.{AfterSending, take_due_ack, without_duplicates, selective_ack, is_before_cookie_ack, open_with}
+use Rattle.spec_endpoint.specs.Shutdown.{send_shutdown, abort_for_violation, on_abort, on_error, on_shutdown, on_shutdown_ack, on_shutdown_complete}
 use Rattle.spec_endpoint.specs.Data.{on_data, on_forward}
 use Rattle.spec_endpoint.specs.Sack.{on_sack}
 use Rattle.spec_endpoint.specs.Opening.{on_cookie_ack}
 use Rattle.spec_endpoint.specs.StreamReset.{on_reconfig}
-use Rattle.spec_endpoint.specs.Input.{refusal, is_reported, echo_unknown, echoed_in, complain_of_unknown, on_unknown_if, on_unknown, on_heartbeat, Received, on_endpoint_state, on_chunk, goes_on, violation, received_if, receive, receive_rest, receive_all, has_data, repeats, repeats_if, ended_if, at_end, end_packet, handle_chunks, counts, taken_if, on_packet, on_no_packet}
+use Rattle.spec_endpoint.specs.Input.{packet_refusal, is_reported, unrecognized_chunk_error, report_unrecognized_in, emit_unknown_chunk_error, on_unknown_if, on_unknown, on_heartbeat, AfterChunk, in_endpoint_state, on_chunk, allows_next, violation, received_if, receive, receive_rest, receive_all, has_data_chunk, repeats, repeats_if, ack_if_due, at_end, on_packet_end, on_accepted_packet, count_packet_at, packet_if, on_packet, on_no_packet}
 use Rattle.proof_endpoint.specs.Mapped.{Mapping, map_context, map_endpoint_state, map_end}
-use Rattle.proof_endpoint.proofs.SendingMapsLemmas.{maps_complain, maps_emit_chunk, maps_send_with}
-use Rattle.proof_endpoint.proofs.RowMapsLemmas.{OpenMaps, maps_where_open, maps_in_state, maps_send_shutdown, maps_on_shutdown, maps_shutdown_ack, maps_shutdown_complete, maps_violated, maps_on_abort, maps_on_error, maps_data, maps_forward, maps_on_sack}
+use Rattle.proof_endpoint.proofs.SendingMapsLemmas.{maps_emit_error, maps_emit_chunk, maps_send_with}
+use Rattle.proof_endpoint.proofs.RowMapsLemmas.{OpenMaps, maps_where_open, maps_in_state, maps_send_shutdown, maps_on_shutdown, maps_shutdown_ack, maps_shutdown_complete, maps_abort_for_violation, maps_on_abort, maps_on_error, maps_data, maps_forward, maps_on_sack}
 use Rattle.proof_endpoint.proofs.ResetMapsLemmas.{maps_reconfig}
-use Rattle.proof_endpoint.proofs.OpeningMapsLemmas.{maps_stands, maps_init, maps_init_ack, maps_cookie_ack, maps_cookie_echo, maps_complains}
+use Rattle.proof_endpoint.proofs.OpeningMapsLemmas.{maps_stands, maps_init, maps_init_ack, maps_cookie_ack, maps_cookie_echo, maps_emit_parse_error}
 
-abbrev map_received : {P Q : Type 0} → Mapping P Q → Received P → Received Q
-map_received f h = record { end = map_end f h.end; goes_on = h.goes_on }
+abbrev map_received : {P Q : Type 0} → Mapping P Q → AfterChunk P → AfterChunk Q
+map_received f h = record { end = map_end f h.end; allows_next = h.allows_next }
 
-abbrev pub received_as : {P : Type 0} → Bool → Endpoint P → Received P
-received_as on s = record { end = s; goes_on = on }
+abbrev pub received_as : {P : Type 0} → Bool → Endpoint P → AfterChunk P
+received_as on s = record { end = s; allows_next = on }
 
 module _ {P Q : Type 0} (f : Mapping P Q) where
   -- a row that the random stream has no part in
   pub maps_on_endpoint_state : (row : EndpointState P → EndpointState P) (mapped : EndpointState Q → EndpointState Q) (s : Endpoint P)
-      → mapped (map_endpoint_state f s.endpoint_state) ≡ map_endpoint_state f (row s.endpoint_state) → on_endpoint_state mapped (map_end f s) ≡ map_end f (on_endpoint_state row s)
+      → mapped (map_endpoint_state f s.endpoint_state) ≡ map_endpoint_state f (row s.endpoint_state) → in_endpoint_state mapped (map_end f s) ≡ map_end f (in_endpoint_state row s)
   maps_on_endpoint_state row mapped s h = maps_stands f s (row s.endpoint_state) (mapped (map_endpoint_state f s.endpoint_state)) h
 
   maps_on_open : (row : Phase → Tcb → Context P → EndpointState P) (mapped : Phase → Tcb → Context Q → EndpointState Q) (s : Endpoint P) → OpenMaps f row mapped
-      → on_endpoint_state (where_open mapped) (map_end f s) ≡ map_end f (on_endpoint_state (where_open row) s)
+      → in_endpoint_state (where_open mapped) (map_end f s) ≡ map_end f (in_endpoint_state (where_open row) s)
   maps_on_open row mapped s h = maps_on_endpoint_state (where_open row) (where_open mapped) s (maps_where_open f row mapped s.endpoint_state h)
 
   -- ---- one chunk
 
-  maps_echoed_in : (st : State) (typ flags : ℕ) (value : List ℕ) (c : Context P) → echoed_in st typ flags value (map_context f c) ≡ map_context f (echoed_in st typ flags value c)
+  maps_echoed_in : (st : State) (typ flags : ℕ) (value : List ℕ) (c : Context P) → report_unrecognized_in st typ flags value (map_context f c) ≡ map_context f (report_unrecognized_in st typ flags value c)
   maps_echoed_in Closed typ flags value c = refl
   maps_echoed_in (CookieWait tag first t1) typ flags value c = refl
-  maps_echoed_in (Open phase t) typ flags value c = maps_emit_chunk f (echo_unknown c.options.mtu typ flags value) t c
+  maps_echoed_in (Open phase t) typ flags value c = maps_emit_chunk f (unrecognized_chunk_error c.options.mtu typ flags value) t c
 
   maps_unknown : (st : State) (typ flags : ℕ) (value : List ℕ) (c : Context P)
-      → echoed_in st typ flags value (complain_of_unknown typ flags value (map_context f c)) ≡ map_context f (echoed_in st typ flags value (complain_of_unknown typ flags value c))
+      → report_unrecognized_in st typ flags value (emit_unknown_chunk_error typ flags value (map_context f c)) ≡ map_context f (report_unrecognized_in st typ flags value (emit_unknown_chunk_error typ flags value c))
   maps_unknown st typ flags value c =
-      ap (λ (d : Context Q). echoed_in st typ flags value d)
-      (maps_complain f ParseFailed (codes "Received " ++ (chunk_text (unknown_chunk typ flags value) ++ codes ", ")) c)
-      ∙ maps_echoed_in st typ flags value (complain_of_unknown typ flags value c)
+      ap (λ (d : Context Q). report_unrecognized_in st typ flags value d)
+      (maps_emit_error f ParseFailed (codes "Received " ++ (chunk_text (unknown_chunk typ flags value) ++ codes ", ")) c)
+      ∙ maps_echoed_in st typ flags value (emit_unknown_chunk_error typ flags value c)
 
   maps_unknown_if : (b : Bool) (typ flags : ℕ) (value : List ℕ) (s : EndpointState P)
       → on_unknown_if b typ flags value (map_endpoint_state f s) ≡ map_endpoint_state f (on_unknown_if b typ flags value s)
-  maps_unknown_if true typ flags value s = maps_in_state f s.state (echoed_in s.state typ flags value (complain_of_unknown typ flags value s.context)) _ (maps_unknown s.state typ flags value s.context)
+  maps_unknown_if true typ flags value s = maps_in_state f s.state (report_unrecognized_in s.state typ flags value (emit_unknown_chunk_error typ flags value s.context)) _ (maps_unknown s.state typ flags value s.context)
   maps_unknown_if false typ flags value s = refl
 
   maps_on_unknown : (typ flags : ℕ) (value : List ℕ) (s : EndpointState P) → on_unknown typ flags value (map_endpoint_state f s) ≡ map_endpoint_state f (on_unknown typ flags value s)
@@ -63,24 +63,24 @@ module _ {P Q : Type 0} (f : Mapping P Q) where
   maps_heartbeat : (parameters : List ParameterTree) → OpenMaps f (on_heartbeat parameters) (on_heartbeat parameters)
   maps_heartbeat parameters phase t c = maps_in_state f (Open phase t) (emit_chunk (heartbeat_ack_chunk parameters) t c) _ (maps_emit_chunk f (heartbeat_ack_chunk parameters) t c)
 
-  maps_acked_if : (b : Bool) (c : Context P) → answered_if b (map_context f c) ≡ map_context f (answered_if b c)
+  maps_acked_if : (b : Bool) (c : Context P) → clear_if_last b (map_context f c) ≡ map_context f (clear_if_last b c)
   maps_acked_if true c = refl
   maps_acked_if false c = refl
 
   maps_no_info : (c : Context P) → no_info (map_context f c) ≡ map_context f (no_info c)
-  maps_no_info c = maps_complain f ParseFailed (codes "Failed to parse HEARTBEAT-ACK; Invalid info parameter") c
+  maps_no_info c = maps_emit_error f ParseFailed (codes "Failed to parse HEARTBEAT-ACK; Invalid info parameter") c
 
-  maps_acked_by : (b : Bool) (info : List ℕ) (c : Context P) → answered_by b info (map_context f c) ≡ map_context f (answered_by b info c)
-  maps_acked_by true info c = maps_acked_if (is_last info c) c
+  maps_acked_by : (b : Bool) (info : List ℕ) (c : Context P) → ack_by_length b info (map_context f c) ≡ map_context f (ack_by_length b info c)
+  maps_acked_by true info c = maps_acked_if (is_last_info info c) c
   maps_acked_by false info c = maps_no_info c
 
-  maps_acked : (o : Option (List ℕ)) (c : Context P) → answer_heartbeat o (map_context f c) ≡ map_context f (answer_heartbeat o c)
-  maps_acked None c = maps_no_info c
-  maps_acked (Some info) c = maps_acked_by (length info == 4) info c
+  maps_heartbeat_info : (o : Option (List ℕ)) (c : Context P) → on_heartbeat_info o (map_context f c) ≡ map_context f (on_heartbeat_info o c)
+  maps_heartbeat_info None c = maps_no_info c
+  maps_heartbeat_info (Some info) c = maps_acked_by (length info == 4) info c
 
   maps_heartbeat_ack : (parameters : List ParameterTree) (s : EndpointState P)
       → in_context (on_heartbeat_ack parameters) (map_endpoint_state f s) ≡ map_endpoint_state f (in_context (on_heartbeat_ack parameters) s)
-  maps_heartbeat_ack parameters s = maps_in_state f s.state (answer_heartbeat (info_in parameters) s.context) _ (maps_acked (info_in parameters) s.context)
+  maps_heartbeat_ack parameters s = maps_in_state f s.state (on_heartbeat_info (info_in parameters) s.context) _ (maps_heartbeat_info (info_in parameters) s.context)
 
   maps_chunk : (tag : ℕ) (chunk : ChunkTree) (s : Endpoint P) → on_chunk tag chunk (map_end f s) ≡ map_end f (on_chunk tag chunk s)
   maps_chunk tag (data_chunk tsn immediate g) s = maps_on_endpoint_state (on_data tsn immediate g) (on_data tsn immediate g) s (maps_data f tsn immediate g s.endpoint_state)
@@ -106,8 +106,8 @@ module _ {P Q : Type 0} (f : Mapping P Q) where
   maps_received_if : (o : Option (List ℕ)) (tag : ℕ) (chunk : ChunkTree) (s : Endpoint P) → received_if o tag chunk (map_end f s) ≡ map_received f (received_if o tag chunk s)
   maps_received_if (Some reason) tag chunk s =
       ap (λ (e : Endpoint Q). received_as false e)
-      (maps_on_open (λ phase t c. violate reason t c) (λ phase t c. violate reason t c) s (λ phase t c. maps_violated f reason t c))
-  maps_received_if None tag chunk s = ap (λ (e : Endpoint Q). received_as (goes_on chunk) e) (maps_chunk tag chunk s)
+      (maps_on_open (λ phase t c. abort_for_violation reason t c) (λ phase t c. abort_for_violation reason t c) s (λ phase t c. maps_abort_for_violation f reason t c))
+  maps_received_if None tag chunk s = ap (λ (e : Endpoint Q). received_as (allows_next chunk) e) (maps_chunk tag chunk s)
 
   maps_receive : (tag : ℕ) (chunk : ChunkTree) (s : Endpoint P) → receive tag chunk (map_end f s) ≡ map_received f (receive tag chunk s)
   maps_receive tag chunk s = maps_received_if (violation s.endpoint_state.state chunk) tag chunk s
@@ -120,9 +120,9 @@ module _ {P Q : Type 0} (f : Mapping P Q) where
   maps_receive_all : (tag : ℕ) (chunks : List ChunkTree) (s : Endpoint P) → receive_all tag chunks (map_end f s) ≡ map_end f (receive_all tag chunks s)
   maps_receive_all tag [] s = refl
   maps_receive_all tag (chunk ∷ chunks) s =
-      let x : Received P = receive tag chunk s in
-      ap (λ (h : Received Q). receive_rest (receive_all tag chunks) h) (maps_receive tag chunk s)
-      ∙ maps_receive_rest (receive_all tag chunks) (receive_all tag chunks) x.goes_on x.end (maps_receive_all tag chunks)
+      let x : AfterChunk P = receive tag chunk s in
+      ap (λ (h : AfterChunk Q). receive_rest (receive_all tag chunks) h) (maps_receive tag chunk s)
+      ∙ maps_receive_rest (receive_all tag chunks) (receive_all tag chunks) x.allows_next x.end (maps_receive_all tag chunks)
 
   -- ---- before the chunks, and at the end of a packet
 
@@ -140,33 +140,33 @@ module _ {P Q : Type 0} (f : Mapping P Q) where
   maps_repeats_if true s = maps_where_open f repeats repeats s maps_repeats
   maps_repeats_if false s = refl
 
-  maps_ended_if : (b : Bool) → OpenMaps f (ended_if b) (ended_if b)
+  maps_ended_if : (b : Bool) → OpenMaps f (ack_if_due b) (ack_if_due b)
   maps_ended_if true phase t c =
-      ap (λ (x : Sent Q). open_with phase x) (maps_send_with f (is_alone phase) (add (selective_ack t) (new_packet c.options t)) (count_sack_sent t) c)
+      ap (λ (x : AfterSending Q). open_with phase x) (maps_send_with f (is_before_cookie_ack phase) (add (selective_ack t) (new_packet c.options t)) (without_duplicates t) c)
   maps_ended_if false phase t c = refl
 
-  maps_ended : OpenMaps f end_packet end_packet
+  maps_ended : OpenMaps f on_packet_end on_packet_end
   maps_ended phase t c =
       let u : Tcb = at_end c.now t in
-      maps_ended_if (is_ack_due false u.tracker.tracker.ack) phase (ask_for_sack false u) c
+      maps_ended_if (is_ack_due false u.tracker.tracker.ack) phase (take_due_ack false u) c
 
-  maps_handled : (tag : ℕ) (chunks : List ChunkTree) (s : Endpoint P) → handle_chunks tag chunks (map_end f s) ≡ map_end f (handle_chunks tag chunks s)
+  maps_handled : (tag : ℕ) (chunks : List ChunkTree) (s : Endpoint P) → on_accepted_packet tag chunks (map_end f s) ≡ map_end f (on_accepted_packet tag chunks s)
   maps_handled tag chunks s =
-      let first : Endpoint P = on_endpoint_state (repeats_if (has_data chunks)) s in
-      ap (λ (e : Endpoint Q). on_endpoint_state (where_open end_packet) (receive_all tag chunks e))
-      (maps_on_endpoint_state (repeats_if (has_data chunks)) (repeats_if (has_data chunks)) s (maps_repeats_if (has_data chunks) s.endpoint_state))
-      ∙ (ap (λ (e : Endpoint Q). on_endpoint_state (where_open end_packet) e) (maps_receive_all tag chunks first)
-      ∙ maps_on_open end_packet end_packet (receive_all tag chunks first) maps_ended)
+      let first : Endpoint P = in_endpoint_state (repeats_if (has_data_chunk chunks)) s in
+      ap (λ (e : Endpoint Q). in_endpoint_state (where_open on_packet_end) (receive_all tag chunks e))
+      (maps_on_endpoint_state (repeats_if (has_data_chunk chunks)) (repeats_if (has_data_chunk chunks)) s (maps_repeats_if (has_data_chunk chunks) s.endpoint_state))
+      ∙ (ap (λ (e : Endpoint Q). in_endpoint_state (where_open on_packet_end) e) (maps_receive_all tag chunks first)
+      ∙ maps_on_open on_packet_end on_packet_end (receive_all tag chunks first) maps_ended)
 
   -- ---- packets
 
-  maps_taken_if : (o : Option (List ℕ)) (tag : ℕ) (chunks : List ChunkTree) (s : Endpoint P) → taken_if o tag chunks (map_end f s) ≡ map_end f (taken_if o tag chunks s)
+  maps_taken_if : (o : Option (List ℕ)) (tag : ℕ) (chunks : List ChunkTree) (s : Endpoint P) → packet_if o tag chunks (map_end f s) ≡ map_end f (packet_if o tag chunks s)
   maps_taken_if None tag chunks s = maps_handled tag chunks s
-  maps_taken_if (Some text) tag chunks s = maps_complains f text s
+  maps_taken_if (Some text) tag chunks s = maps_emit_parse_error f text s
 
   pub maps_packet : (p : PacketTree) (s : Endpoint P) → on_packet p (map_end f s) ≡ map_end f (on_packet p s)
   maps_packet p s =
-      maps_taken_if (refusal p.header.verification_tag p.chunks s.endpoint_state.state) p.header.verification_tag p.chunks (counts s)
+      maps_taken_if (packet_refusal p.header.verification_tag p.chunks s.endpoint_state.state) p.header.verification_tag p.chunks (count_packet_at s)
 
   pub maps_no_packet : (s : Endpoint P) → on_no_packet (map_end f s) ≡ map_end f (on_no_packet s)
-  maps_no_packet s = maps_complains f (codes "Failed to parse SCTP packet") (counts s)
+  maps_no_packet s = maps_emit_parse_error f (codes "Failed to parse SCTP packet") (count_packet_at s)

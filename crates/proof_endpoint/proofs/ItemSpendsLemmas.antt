@@ -8,25 +8,25 @@ use Rattle.sctp_state.specs.declared.api.GivenUpCause.TheVariants.{Lifetime, Ret
 use Rattle.sctp_state.specs.Events.{Emitted}
 use Rattle.sctp_tx_outstanding.specs.Item.{Item, is_of, is_fast, should_be_retransmitted, abandon, mark_as_retransmitted, miss_fast}
 use Rattle.sctp_tx_outstanding.specs.Item as item
-use Rattle.sctp_tx_outstanding.specs.OutstandingData.{Items, change_at, lay_down, last_of}
-use Rattle.sctp_tx_outstanding.specs.Losses.{placeholder, placeholders, abandon_message, Step, given_up, change_items, loses, gives_up, nack_item, nack_below, nack_all, first_step, expired_at, given_up_if, expire_below, expire_outstanding}
-use Rattle.sctp_tx_outstanding.specs.Resending.{Resent, size_in, again_of, allowance, fast_turn, queued_turn, turn_of, take_item, resent_below, empty_packet}
-use Rattle.sctp_tx_outstanding.specs.Sack.{reports, leaving, staying, ack_or_nack, settle, reported_below, receive_sack_first, receive_sack}
+use Rattle.sctp_tx_outstanding.specs.OutstandingData.{Items, change_at, abandon_if_of, last_of}
+use Rattle.sctp_tx_outstanding.specs.Losses.{placeholder, placeholders, abandon_message, Step, abandon_with_record, change_items, loses, is_to_be_abandoned, nack_item, nack_below, nack_all, first_step, expired_at, given_up_if, expire_below, expire_outstanding}
+use Rattle.sctp_tx_outstanding.specs.Resending.{Resent, size_in, again_of, allowance, fast_turn, queued_turn, turn_of, apply_turn, resent_below, empty_packet}
+use Rattle.sctp_tx_outstanding.specs.Sack.{all_leaving_events, leaving, staying, ack_or_uncover, ack_or_uncover_all, reported_below, receive_sack_first, receive_sack}
 use Rattle.sctp_tx_queue.specs.SendQueue.{Queue}
 use Rattle.sctp_tx_queue.specs.Produced as queued
 use Rattle.sctp_tx_queue.specs.Settings.{Changed}
 use Rattle.sctp_tx.specs.Windows.{is_open}
 use Rattle.sctp_tx.specs.RetransmissionQueue.{Sender, sender_if, emitted_if}
-use Rattle.sctp_tx.specs.Resent.{resent_by, resent, resent_fast, may_send_new, timed_if, send_fast}
-use Rattle.sctp_tx.specs.Sending.{Filling, offered_payload, item_of, append, Turned, turned_if, next_turn, fill, discard_all, without_discards, filled_with, fill_all, send}
-use Rattle.proof_endpoint.specs.Lifecycles.{names_lifecycle, where_end, kept_ends}
+use Rattle.sctp_tx.specs.Resent.{resent_by, resent, resent_fast, may_send_new, start_t3_if, send_fast}
+use Rattle.sctp_tx.specs.Sending.{Filling, offered_payload, item_of, append, QueueStep, queue_step_if, next_turn, fill, discard_all, without_discards, filled_with, fill_and_start_t3, send}
+use Rattle.proof_endpoint.specs.Lifecycles.{lifecycle_count, where_end, kept_ends}
 use Rattle.proof_endpoint.proofs.SpendsLemmas.{Spends, kept_append, kept_split, ends_reports, spends_nothing, spends_given_up, spends_all, spends_then, spends_within}
 use Rattle.proof_endpoint.proofs.QueueSpendsLemmas.{made_end, in_queue, spends_produced, spends_discards}
 
 module _ (l : ℕ) where
   -- what the end of an item counts
   abbrev part : Item → ℕ
-  part i = where_end i.fragment.is_end (names_lifecycle l i.lifecycle)
+  part i = where_end i.fragment.is_end (lifecycle_count l i.lifecycle)
 
   abbrev pub kept_of : Sender → ℕ
   kept_of s = kept_ends l s.outstanding.items.kept
@@ -38,14 +38,14 @@ module _ (l : ℕ) where
   kept_changed zero f (i ∷ is) h = ap (λ (n : ℕ). n + kept_ends l is) (h i)
   kept_changed (suc k) f (i ∷ is) h = ap (λ (n : ℕ). part i + n) (kept_changed k f is h)
 
-  part_laid : (number : ℕ) (i : Item) → part (lay_down number i) ≡ part i
+  part_laid : (number : ℕ) (i : Item) → part (abandon_if_of number i) ≡ part i
   part_laid number i = go (is_of number i)
     where
       go : (b : Bool) → part (cond b (abandon i) i) ≡ part i
       go true = refl
       go false = refl
 
-  kept_laid : (number : ℕ) (is : List Item) → kept_ends l (map (lay_down number) is) ≡ kept_ends l is
+  kept_laid : (number : ℕ) (is : List Item) → kept_ends l (map (abandon_if_of number) is) ≡ kept_ends l is
   kept_laid number [] = refl
   kept_laid number (i ∷ is) = omega (arith, part_laid number i, kept_laid number is)
 
@@ -62,13 +62,13 @@ module _ (l : ℕ) where
       let more : List Item = placeholders number (last_of number s.kept) in
       omega (arith, kept_laid number (s.kept ++ more), kept_append l s.kept more, kept_placeholders number (last_of number s.kept))
 
-  kept_settled : (covered : Bool) (i : Item) → part (ack_or_nack covered i) ≡ part i
-  kept_settled true i = refl
-  kept_settled false i = refl
+  kept_ack_or_uncover : (covered : Bool) (i : Item) → part (ack_or_uncover covered i) ≡ part i
+  kept_ack_or_uncover true i = refl
+  kept_ack_or_uncover false i = refl
 
-  kept_settle : (blocks : List GapAckBlock) (offset : ℕ) (is : List Item) → kept_ends l (settle blocks offset is) ≡ kept_ends l is
+  kept_settle : (blocks : List GapAckBlock) (offset : ℕ) (is : List Item) → kept_ends l (ack_or_uncover_all blocks offset is) ≡ kept_ends l is
   kept_settle blocks offset [] = refl
-  kept_settle blocks offset (i ∷ is) = omega (arith, kept_settled (is_covered blocks offset) i, kept_settle blocks (suc offset) is)
+  kept_settle blocks offset (i ∷ is) = omega (arith, kept_ack_or_uncover (is_covered blocks offset) i, kept_settle blocks (suc offset) is)
 
   -- ---- losses and lifetimes
 
@@ -77,13 +77,13 @@ module _ (l : ℕ) where
     abbrev Reaches : Step P → Type 0
     Reaches x = Spends l t x.emitted w (kept_ends l x.items.kept)
 
-    given_up_too : (number : ℕ) (cause : GivenUpCause) (x : Step P) → Reaches x → Reaches (given_up number cause x)
+    given_up_too : (number : ℕ) (cause : GivenUpCause) (x : Step P) → Reaches x → Reaches (abandon_with_record number cause x)
     given_up_too number cause x h =
         spends_then l h
         (spends_given_up l number cause x.emitted (kept_ends l x.items.kept) (kept_ends l (abandon_message number x.items).kept) (omega (arith, kept_abandoned number x.items)))
 
     nacks_item : (b at_once fast is_lossy : Bool) (k : ℕ) (i : Item) (x : Step P) → Reaches x
-        → Reaches (cond b (given_up i.number (Retransmissions (i.sent - 1)) x) (record x { items = change_items k (item.nack at_once fast) x.items; is_lossy = is_lossy }))
+        → Reaches (cond b (abandon_with_record i.number (Retransmissions (i.sent - 1)) x) (record x { items = change_items k (item.nack at_once fast) x.items; is_lossy = is_lossy }))
     nacks_item true at_once fast is_lossy k i x h = given_up_too i.number (Retransmissions (i.sent - 1)) x h
     nacks_item false at_once fast is_lossy k i x h =
         spends_within l w (kept_ends l (change_items k (item.nack at_once fast) x.items).kept) h (omega (arith, kept_changed k (item.nack at_once fast) x.items.kept (λ j. refl)))
@@ -92,7 +92,7 @@ module _ (l : ℕ) where
         → Reaches (unwrap_or (option_map (λ i. nack_item at_once fast k i x) o) x)
     nacks_at None at_once fast k x h = h
     nacks_at (Some i) at_once fast k x h =
-        nacks_item (gives_up x.items.is_partial at_once i) at_once fast (x.is_lossy || loses at_once i) k i x h
+        nacks_item (is_to_be_abandoned x.items.is_partial at_once i) at_once fast (x.is_lossy || loses at_once i) k i x h
 
     nacks_below : (at_once fast : Bool) (n : ℕ) (x : Step P) → Reaches x → Reaches (nack_below at_once fast n x)
     nacks_below at_once fast zero x h = h
@@ -130,7 +130,7 @@ module _ (l : ℕ) where
         let stay : List Item = drop (leaving n s) s.kept in
         let x : Step P = receive_sack_first n blocks s t in
         nacks_below t (kept_ends l s.kept) false (not fast) (reported_below blocks (staying n s)) x
-        (spends_all l (reports removed) t (kept_ends l s.kept) (kept_ends l x.items.kept)
+        (spends_all l (all_leaving_events removed) t (kept_ends l s.kept) (kept_ends l x.items.kept)
         (omega (arith, ends_reports P l removed, kept_settle blocks 1 stay, kept_split l (leaving n s) s.kept)))
 
     pub spends_sack : (is_valid : Bool) (now n a_rwnd : ℕ) (blocks : List GapAckBlock) (s : Sender) (t : Emitted P)
@@ -147,22 +147,22 @@ module _ (l : ℕ) where
   kept_again k None x = refl
   kept_again k (Some i) x = kept_changed k mark_as_retransmitted x.outstanding.items.kept (λ j. refl)
 
-  kept_fast_turn : (i : Item) (k : ℕ) (x : Resent) → kept_resent (take_item (fast_turn i x) k x) ≡ kept_resent x
+  kept_fast_turn : (i : Item) (k : ℕ) (x : Resent) → kept_resent (apply_turn (fast_turn i x) k x) ≡ kept_resent x
   kept_fast_turn i k x = go (is_fast i) refl (nat_le (size_in x i) x.room) refl
     where
-      go : (b : Bool) → is_fast i ≡ b → (d : Bool) → nat_le (size_in x i) x.room ≡ d → kept_resent (take_item (fast_turn i x) k x) ≡ kept_resent x
+      go : (b : Bool) → is_fast i ≡ b → (d : Bool) → nat_le (size_in x i) x.room ≡ d → kept_resent (apply_turn (fast_turn i x) k x) ≡ kept_resent x
       go true e true f = rw (e, f) (kept_again k (slice_get x.outstanding.items.kept k) x)
       go true e false f = rw (e, f) (kept_changed k miss_fast x.outstanding.items.kept (λ j. refl))
       go false e d f = rw e refl
 
-  kept_queued_turn : (i : Item) (k : ℕ) (x : Resent) → kept_resent (take_item (queued_turn i x) k x) ≡ kept_resent x
+  kept_queued_turn : (i : Item) (k : ℕ) (x : Resent) → kept_resent (apply_turn (queued_turn i x) k x) ≡ kept_resent x
   kept_queued_turn i k x = go (should_be_retransmitted i && nat_le (size_in x i) (allowance x)) refl
     where
-      go : (b : Bool) → (should_be_retransmitted i && nat_le (size_in x i) (allowance x)) ≡ b → kept_resent (take_item (queued_turn i x) k x) ≡ kept_resent x
+      go : (b : Bool) → (should_be_retransmitted i && nat_le (size_in x i) (allowance x)) ≡ b → kept_resent (apply_turn (queued_turn i x) k x) ≡ kept_resent x
       go true e = rw e (kept_again k (slice_get x.outstanding.items.kept k) x)
       go false e = rw e refl
 
-  kept_turn : (fast : Bool) (o : Option Item) (k : ℕ) (x : Resent) → kept_resent (take_item (turn_of fast o x) k x) ≡ kept_resent x
+  kept_turn : (fast : Bool) (o : Option Item) (k : ℕ) (x : Resent) → kept_resent (apply_turn (turn_of fast o x) k x) ≡ kept_resent x
   kept_turn fast None k x = refl
   kept_turn true (Some i) k x = kept_fast_turn i k x
   kept_turn false (Some i) k x = kept_queued_turn i k x
@@ -173,7 +173,7 @@ module _ (l : ℕ) where
       let y : Resent = resent_below fast n x in
       kept_turn fast (slice_get y.outstanding.items.kept n) n y ∙ kept_below fast n x
 
-  kept_timed : (b : Bool) (now : ℕ) (s : Sender) → kept_of (timed_if b now s) ≡ kept_of s
+  kept_timed : (b : Bool) (now : ℕ) (s : Sender) → kept_of (start_t3_if b now s) ≡ kept_of s
   kept_timed true now s = refl
   kept_timed false now s = refl
 
@@ -198,7 +198,7 @@ module _ (l : ℕ) where
     appends now w (Some p) t x h =
         spends_within l w (in_filling (append now (Some p) x)) h (omega (arith, kept_append l x.sender.outstanding.items.kept (item_of now p ∷ [])))
 
-    turns_if : (b : Bool) (now : ℕ) (x : Filling P) → Spends l x.emitted (turned_if b now x).filling.emitted (in_filling x) (in_filling (turned_if b now x).filling)
+    turns_if : (b : Bool) (now : ℕ) (x : Filling P) → Spends l x.emitted (queue_step_if b now x).filling.emitted (in_filling x) (in_filling (queue_step_if b now x).filling)
     turns_if true now x =
         let y : queued.Turn P = queued.produce now (offered_payload x.left x.sender) x.queue x.emitted in
         let z : Filling P = record x { queue = y.queue; emitted = y.emitted } in
@@ -214,7 +214,7 @@ module _ (l : ℕ) where
     fills : (n now : ℕ) (x : Filling P) → Spends l x.emitted (fill n now x).emitted (in_filling x) (in_filling (fill n now x))
     fills zero now x = spends_nothing l x.emitted (in_filling x) (in_filling x) (omega arith)
     fills (suc n) now x =
-        let y : Turned P = next_turn now x in
+        let y : QueueStep P = next_turn now x in
         fills_if y.is_more (in_filling x) x.emitted y.filling (fill n now y.filling) (turns_if (may_send_new x.sender && nat_lt 0 (offered_payload x.left x.sender)) now x)
         (fills n now y.filling)
 
@@ -225,4 +225,4 @@ module _ (l : ℕ) where
         let y : Filling P = fill (suc x.left) now x in
         spends_then l
         (spends_within l (in_queue l q + kept_of s) (in_filling x) (spends_discards l s.outstanding.items.discards q t) (omega (arith, kept_after most (without_discards s))))
-        (spends_within l (in_filling x) (in_filling (fill_all now x)) (fills (suc x.left) now x) (omega (arith, kept_timed (nat_lt 0 (length y.chunks)) now y.sender)))
+        (spends_within l (in_filling x) (in_filling (fill_and_start_t3 now x)) (fills (suc x.left) now x) (omega (arith, kept_timed (nat_lt 0 (length y.chunks)) now y.sender)))

@@ -4,7 +4,7 @@ use Rattle.std.proofs.lemmas.List.Elements.{All-cons, All-nil, All-head, All-tai
 use Rattle.sctp_state.specs.Events.{Event, SendPacket}
 use Rattle.spec_endpoint.specs.Association.{Context, Endpoint, Packing}
 use Rattle.spec_endpoint.specs.Wire.{field_of, writing}
-use Rattle.spec_endpoint.specs.Laws.{Call, Connect, Close, Shutdown, Send, SendMany, TakeMessage, SetLowThreshold, SetPriority, SetMaxMessageSize, Advance, HandOver, Restore, Packet, NoPacket, called, IsWithin, IsShort, StaysWithin, HasAtMost, SendsAtMost, ended_in_call, EmitsEndings, ResetStreams}
+use Rattle.spec_endpoint.specs.Laws.{Call, Connect, Close, Shutdown, Send, SendMany, TakeMessage, SetLowThreshold, SetPriority, SetMaxMessageSize, Advance, HandOver, Restore, ReceivePacket, ReceiveNoPacket, called, IsWithin, IsShort, StaysWithin, HasAtMost, SendsAtMost, endings_in_call, EmitsEndings, ResetStreams}
 use Rattle.proof_endpoint.proofs.StepsLemmas.{Goes}
 use Rattle.proof_endpoint.proofs.RowStepsLemmas.{steps_close, steps_shutdown}
 use Rattle.proof_endpoint.proofs.OpeningStepsLemmas.{steps_connect}
@@ -16,7 +16,7 @@ use Rattle.proof_endpoint.proofs.InputStepsLemmas.{goes_packet, steps_no_packet}
 use Rattle.proof_endpoint.proofs.ReceivedBackLemmas.{length_written}
 
 module _ {P : Type 0} where
-  goes_call : (call : Call) (s : Endpoint P) → Goes (ended_in_call call s) s.endpoint_state.context (called call s).endpoint_state.context
+  goes_call : (call : Call) (s : Endpoint P) → Goes (endings_in_call call s) s.endpoint_state.context (called call s).endpoint_state.context
   goes_call Connect s = steps_connect s
   goes_call Close s = steps_close s.endpoint_state
   goes_call Shutdown s = steps_shutdown s.endpoint_state
@@ -30,8 +30,8 @@ module _ {P : Type 0} where
   goes_call (Advance now) s = steps_advance now s.endpoint_state
   goes_call HandOver s = steps_hand_over s.endpoint_state
   goes_call (Restore h) s = steps_restore h s.endpoint_state
-  goes_call (Packet p) s = goes_packet p s
-  goes_call NoPacket s = steps_no_packet s
+  goes_call (ReceivePacket p) s = goes_packet p s
+  goes_call ReceiveNoPacket s = steps_no_packet s
 
   within_of : (n : ℕ) (c d : Context P) → 12 ≤ c.options.mtu → Goes n c d → StaysWithin c d
   within_of n c d least g =
@@ -45,13 +45,13 @@ module _ {P : Type 0} where
       }
 
   pub stays_within : (call : Call) (s : Endpoint P) → 12 ≤ s.endpoint_state.context.options.mtu → StaysWithin s.endpoint_state.context (called call s).endpoint_state.context
-  stays_within call s least = within_of (ended_in_call call s) s.endpoint_state.context (called call s).endpoint_state.context least (goes_call call s)
+  stays_within call s least = within_of (endings_in_call call s) s.endpoint_state.context (called call s).endpoint_state.context least (goes_call call s)
 
   endings_of : (n : ℕ) (c d : Context P) → Goes n c d → EmitsEndings n c d
   endings_of n c d g = record { events = g.emits.events; behind = g.emits.behind; counted = g.emits.ended }
 
-  pub emits_endings : (call : Call) (s : Endpoint P) → EmitsEndings (ended_in_call call s) s.endpoint_state.context (called call s).endpoint_state.context
-  emits_endings call s = endings_of (ended_in_call call s) s.endpoint_state.context (called call s).endpoint_state.context (goes_call call s)
+  pub emits_endings : (call : Call) (s : Endpoint P) → EmitsEndings (endings_in_call call s) s.endpoint_state.context (called call s).endpoint_state.context
+  emits_endings call s = endings_of (endings_in_call call s) s.endpoint_state.context (called call s).endpoint_state.context (goes_call call s)
 
 -- ---- packets as bytes
 

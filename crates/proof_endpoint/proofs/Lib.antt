@@ -36,7 +36,7 @@ pub mod ReceivedBackLemmas
 pub mod RunPacketsLemmas
 pub mod FairLemmas
 pub mod ReceivedLemmas
-pub mod OwnLemmas
+pub mod OwnChunksLemmas
 pub mod SoundItemsLemmas
 pub mod SoundTrackerLemmas
 pub mod SoundQueueLemmas

@@ -8,18 +8,18 @@ use Rattle.sctp_state.specs.Options.{SendOptions}
 use Rattle.sctp_state.specs.Events.{Event, SendPacket, OnError, OnConnected, OnConnectionRestarted, OnClosed, OnIncomingStreamReset, OnStreamsResetPerformed, OnStreamsResetFailed, OnLifecycleEnd, Emitted, numbers_of}
 use Rattle.sctp_tx_queue.specs.declared.send_queue.stream.ResetStep.TheVariants.{Requested, Performed, Refused}
 use Rattle.sctp_tx_queue.specs.SendQueue.{Queue}
-use Rattle.sctp_tx_queue.specs.Resets.{requested_streams, request_resets}
+use Rattle.sctp_tx_queue.specs.Resets.{streams_to_request, request_resets}
 use Rattle.sctp_tx_queue.specs.Settings.{set_priority}
 use Rattle.spec_endpoint.specs.Association.{Closed, Established}
-use Rattle.spec_endpoint.specs.Packets.{room, header_to, say}
+use Rattle.spec_endpoint.specs.Packets.{room, header_to, emit_event_in}
 use Rattle.spec_endpoint.specs.ResetRequests.{Outcome, Unsettled, Done, Denied, outcome}
 use Rattle.spec_endpoint.specs.Sending.{fast_most}
 use Rattle.spec_endpoint.specs.Opening.{agreed_by, queue_anew, queue_if, other_mode}
 use Rattle.spec_endpoint.specs.Sack.{clean_blocks}
 use Rattle.spec_endpoint.specs.StreamReset.{on_outcome}
 use Rattle.spec_endpoint.specs.Laws.{Call, Send, SendMany, ending}
-use Rattle.proof_endpoint.specs.Lifecycles.{emitted_end, kept_in, waits, alive, is_restore}
-use Rattle.proof_endpoint.specs.Acts.{EndWithPacket, end_of, in_state, in_open, with_context, opened_by, point_of, IsOffered, alone, among, PacketAct, emits, complains, before_packets, after_packets, OpeningAct, echoes, establishes, opens, restarts, opens_again, maintains, before_opening, after_opening, ClosingAct, closes, before_closing, after_closing, DataAct, takes_data, before_data, after_data, SackAct, takes_sack, before_sack, after_sack, SendingAct, expires, asks_no_reset, asks_reset, sends, sends_fast, before_sending, after_sending, TimeAct, times_out, before_time, after_time, CallAct, accepts, refuses, sets_low_threshold, sets_priority, before_call, after_call, ResetAct, prepares, performs, takes_response, before_reset, after_reset, HandoverAct, leaves, takes_up, before_handover, after_handover, InputAct, ends_packet, before_input, after_input, Preserves}
+use Rattle.proof_endpoint.specs.Lifecycles.{end_count, kept_in, waiting_count, alive_count, is_restore}
+use Rattle.proof_endpoint.specs.Acts.{EndWithPacket, end_of, in_state, in_open, with_context, opened_by, point_of, IsOffered, alone, among, PacketAct, emits, emits_error, before_packets, after_packets, OpeningAct, echoes, establishes, opens, restarts, opens_again, maintains, before_opening, after_opening, ClosingAct, closes, before_closing, after_closing, DataAct, takes_data, before_data, after_data, SackAct, takes_sack, before_sack, after_sack, SendingAct, expires, asks_no_reset, asks_reset, sends, sends_fast, before_sending, after_sending, TimeAct, times_out, before_time, after_time, CallAct, accepts, refuses, sets_low_threshold, sets_priority, before_call, after_call, ResetAct, prepares, performs, takes_response, before_reset, after_reset, HandoverAct, leaves, takes_up, before_handover, after_handover, InputAct, ends_packet, before_input, after_input, Preserves}
 use Rattle.proof_endpoint.proofs.SpendsLemmas.{Spends, spends_nothing, spends_one, spends_then, spends_within}
 use Rattle.proof_endpoint.proofs.QueueSpendsLemmas.{in_queue, waiting_priority, waiting_each_stepped, waiting_reset, spends_prepared, spends_threshold}
 use Rattle.proof_endpoint.proofs.ItemSpendsLemmas.{kept_fast, spends_nack_all, spends_expired, spends_sack, spends_sent}
@@ -40,7 +40,7 @@ waiting_if l false q = omega arith
 
 module _ {P : Type 0} (l : ℕ) where
   abbrev living : EndWithPacket P → ℕ
-  living m = alive l (end_of m).endpoint_state
+  living m = alive_count l (end_of m).endpoint_state
 
   abbrev pub Lives : (before after : EndWithPacket P) → Type 0
   Lives m n = Spends l m.context.emitted n.context.emitted (living m) (living n)
@@ -60,14 +60,14 @@ module _ {P : Type 0} (l : ℕ) where
   requeued q m h = spends_nothing l m.context.emitted (living m) (in_queue l q + kept_in l m.state) (omega (arith, h))
 
   -- an event of something else
-  said : (e : Event P) (m : EndWithPacket P) → emitted_end l e ≡ 0 → Lives m (with_context (say e m.context) m)
+  said : (e : Event P) (m : EndWithPacket P) → end_count l e ≡ 0 → Lives m (with_context (emit_event_in e m.context) m)
   said e m is = spends_one l e m.context.emitted (living m) (living m) (omega (arith, is))
 
   -- what is kept is forgotten
-  ended : (e : Event P) (m : EndWithPacket P) → emitted_end l e ≡ 0 → Lives m (in_state Closed (with_context (say e m.context) m))
-  ended e m is = spends_one l e m.context.emitted (living m) (waits l m.context + 0) (omega (arith, is))
+  ended : (e : Event P) (m : EndWithPacket P) → end_count l e ≡ 0 → Lives m (in_state Closed (with_context (emit_event_in e m.context) m))
+  ended e m is = spends_one l e m.context.emitted (living m) (waiting_count l m.context + 0) (omega (arith, is))
 
-  no_lifecycle : (e : Event P) → ending e ≡ 1 → emitted_end l e ≡ 0
+  no_lifecycle : (e : Event P) → ending e ≡ 1 → end_count l e ≡ 0
   no_lifecycle (OnLifecycleEnd id) is = cc
   no_lifecycle e is = refl
 
@@ -93,7 +93,7 @@ module _ {P : Type 0} (l : ℕ) where
     lives_packets : (act : PacketAct P call) → Lives (before_packets act) (after_packets act)
     lives_packets (emits m some bundled) =
         said (SendPacket (m.context.pack.write (header_to m.context.options m.packet.tag) m.packet.is_summed m.packet.chunks)) m refl
-    lives_packets (complains kind text m) = said (OnError kind text) m refl
+    lives_packets (emits_error kind text m) = said (OnError kind text) m refl
     lives_packets act = same (before_packets act)
 
     lives_opening : (act : OpeningAct P call) → Lives (before_opening act) (after_opening act)
@@ -101,11 +101,11 @@ module _ {P : Type 0} (l : ℕ) where
         requeued (queue_anew (agreed_by m.context.options i).message_interleaving m.context.queue) (in_state Closed m) (waiting_reset l m.context.queue)
     lives_opening (establishes tag t1 cookie t m received) = said OnConnected (in_open Established t m) refl
     lives_opening (opens tag k m echoed none own) = opened false k m
-    lives_opening (restarts tag k phase t m echoed verdict) =
+    lives_opening (restarts tag k phase t m echoed resolution) =
         let a : EndWithPacket P = in_open phase t m in
-        spends_then l (said OnConnectionRestarted a refl) (opened true k (with_context (say OnConnectionRestarted m.context) a))
-    lives_opening (opens_again tag k phase t m echoed verdict) = opened true k (in_open phase t m)
-    lives_opening (maintains tag k t1 cookie t m echoed verdict) = said OnConnected (in_open Established t m) refl
+        spends_then l (said OnConnectionRestarted a refl) (opened true k (with_context (emit_event_in OnConnectionRestarted m.context) a))
+    lives_opening (opens_again tag k phase t m echoed resolution) = opened true k (in_open phase t m)
+    lives_opening (maintains tag k t1 cookie t m echoed resolution) = said OnConnected (in_open Established t m) refl
     lives_opening act = same (before_opening act)
 
     lives_closing : (act : ClosingAct P call) → Lives (before_closing act) (after_closing act)
@@ -118,17 +118,17 @@ module _ {P : Type 0} (l : ℕ) where
 
     lives_sack : (act : SackAct P call) → Lives (before_sack act) (after_sack act)
     lives_sack (takes_sack tag k phase t m received valid) =
-        kept_on (waits l m.context) (spends_sack l true m.context.now (point_of k t) k.a_rwnd (clean_blocks k.gap_ack_blocks) t.sender m.context.emitted)
+        kept_on (waiting_count l m.context) (spends_sack l true m.context.now (point_of k t) k.a_rwnd (clean_blocks k.gap_ack_blocks) t.sender m.context.emitted)
     lives_sack act = same (before_sack act)
 
     lives_sending : (act : SendingAct P call) → Lives (before_sending act) (after_sending act)
-    lives_sending (expires phase t m) = kept_on (waits l m.context) (spends_expired l m.context.now t.sender.outstanding.items m.context.emitted)
+    lives_sending (expires phase t m) = kept_on (waiting_count l m.context) (spends_expired l m.context.now t.sender.outstanding.items m.context.emitted)
     lives_sending (asks_no_reset most m some) =
         let q : Queue = m.context.queue in
-        requeued (request_resets most q) m (waiting_each_stepped l Requested (requested_streams most q) q)
+        requeued (request_resets most q) m (waiting_each_stepped l Requested (streams_to_request most q) q)
     lives_sending (asks_reset most stream streams phase t m some free) =
         let q : Queue = m.context.queue in
-        requeued (request_resets most q) (in_open phase t m) (waiting_each_stepped l Requested (requested_streams most q) q)
+        requeued (request_resets most q) (in_open phase t m) (waiting_each_stepped l Requested (streams_to_request most q) q)
     lives_sending (sends phase t m) = spends_sent l m.context.now (room m.packet) t.sender m.context.queue m.context.emitted
     lives_sending (sends_fast phase t m some) =
         spends_nothing l m.context.emitted (living (in_open phase t m)) (living (after_sending {call = call} (sends_fast phase t m some)))
@@ -136,7 +136,7 @@ module _ {P : Type 0} (l : ℕ) where
     lives_sending act = same (before_sending act)
 
     lives_time : (act : TimeAct P call) → Lives (before_time act) (after_time act)
-    lives_time (times_out phase t m due) = kept_on (waits l m.context) (spends_nack_all l t.sender.outstanding.items m.context.emitted)
+    lives_time (times_out phase t m due) = kept_on (waiting_count l m.context) (spends_nack_all l t.sender.outstanding.items m.context.emitted)
     lives_time act = same (before_time act)
 
     lives_calls : (act : CallAct P call) → Lives (before_call act) (after_call act)

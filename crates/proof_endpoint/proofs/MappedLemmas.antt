@@ -6,7 +6,7 @@ use Rattle.spec_endpoint.specs.Calls.{send, send_many, set_low_threshold}
 use Rattle.spec_endpoint.specs.StreamReset.{reset_streams}
 use Rattle.spec_endpoint.specs.Timers.{advance}
 use Rattle.spec_endpoint.specs.Handover.{hand_over, restore}
-use Rattle.spec_endpoint.specs.Laws.{Call, Connect, Close, Shutdown, Send, SendMany, TakeMessage, SetLowThreshold, SetPriority, SetMaxMessageSize, Advance, HandOver, Restore, Packet, NoPacket, called, ResetStreams}
+use Rattle.spec_endpoint.specs.Laws.{Call, Connect, Close, Shutdown, Send, SendMany, TakeMessage, SetLowThreshold, SetPriority, SetMaxMessageSize, Advance, HandOver, Restore, ReceivePacket, ReceiveNoPacket, called, ResetStreams}
 use Rattle.proof_endpoint.specs.Mapped.{Mapping, map_end, as_bytes, BytesAreWrittenChunks}
 use Rattle.proof_endpoint.proofs.RowMapsLemmas.{maps_in_state, maps_close, maps_shutdown}
 use Rattle.proof_endpoint.proofs.OpeningMapsLemmas.{maps_connect}
@@ -32,8 +32,8 @@ maps_called f (SetMaxMessageSize bytes) s = refl
 maps_called f (Advance now) s = maps_on_endpoint_state f (advance now) (advance now) s (maps_advance f now s.endpoint_state)
 maps_called f HandOver s = maps_on_endpoint_state f hand_over hand_over s (maps_hand_over f s.endpoint_state)
 maps_called f (Restore h) s = maps_on_endpoint_state f (restore h) (restore h) s (maps_restore f h s.endpoint_state)
-maps_called f (Packet p) s = maps_packet f p s
-maps_called f NoPacket s = maps_no_packet f s
+maps_called f (ReceivePacket p) s = maps_packet f p s
+maps_called f ReceiveNoPacket s = maps_no_packet f s
 
 pub bytes_written : BytesAreWrittenChunks
 bytes_written word_of call s = maps_called (as_bytes word_of) call s

@@ -3,9 +3,9 @@ use Rattle.std.proofs.Common.{◌≡◌, ℕ, ◌<◌, ◌≤◌, min, Bool, fal
 use Rattle.std.proofs.lemmas.Bool.{lt-ltb, le-ltb, lt-leb}
 use Rattle.sctp_state.specs.Timer.{Timer, due_by, is_due, moment_of, next_expiry, expire_once, expire}
 use Rattle.spec_endpoint.specs.Association.{Tcb, Phase, CookieEchoed, Established, ShutdownPending, ShutdownSent, ShutdownReceived, ShutdownAckSent, State, Closed, CookieWait, Open, Context, EndpointState, open_as}
-use Rattle.spec_endpoint.specs.Sending.{is_alone}
+use Rattle.spec_endpoint.specs.Sending.{is_before_cookie_ack}
 use Rattle.spec_endpoint.specs.Shutdown.{send_shutdown, send_shutdown_ack}
-use Rattle.spec_endpoint.specs.Timers.{Ticking, ticking, tick_ack, t3_if, tick_t3, tick_interval, tick_timeout, requests_if, tick_requests, tick_timers, endpoint_state_left, settle_ticks, t2_if, tick_t2, endpoint_state_waited, init_if, tick_init, tick_open, tick_in, advance_if, advance, running_expiry, phase_expiry, timeout_in, poll_timeout}
+use Rattle.spec_endpoint.specs.Timers.{Ticking, ticking, tick_ack, t3_if, tick_t3, tick_interval, tick_timeout, requests_if, tick_requests, tick_timers, after_timers, after_ticks, t2_if, tick_t2, after_init_timer, init_if, tick_init, tick_open, tick_in, advance_if, advance, running_expiry, phase_expiry, timeout_in, poll_timeout}
 use Rattle.spec_endpoint.specs.Moments.{at_moment, is_cookie_echoed}
 
 not_due_by : (now : ℕ) (o : Option ℕ) → now < moment_of o → due_by o now ≡ false
@@ -62,21 +62,21 @@ module _ {P : Type 0} where
       ∙ (ap (λ (x : Ticking P). tick_requests (tick_timeout x)) (same_interval t c w)
       ∙ (ap (λ (x : Ticking P). tick_requests x) (same_timeout t c w) ∙ same_requests t c w)))
 
-  same_settled : (phase : Phase) (t : Tcb) (c : Context P) → c.now < running_expiry t c.heartbeats → endpoint_state_left phase (settle_ticks (tick_timers t c)) ≡ open_as phase t c
-  same_settled phase t c h = ap (λ (x : Ticking P). endpoint_state_left phase (settle_ticks x)) (same_ticked t c (waits t c h))
+  same_settled : (phase : Phase) (t : Tcb) (c : Context P) → c.now < running_expiry t c.heartbeats → after_timers phase (after_ticks (tick_timers t c)) ≡ open_as phase t c
+  same_settled phase t c h = ap (λ (x : Ticking P). after_timers phase (after_ticks x)) (same_ticked t c (waits t c h))
 
   -- T2-shutdown isn't due either
   same_t2 : (phase : Timer → Phase) (again : Tcb → Context P → Context P) (t2 : Timer) (t : Tcb) (c : Context P)
       → c.now < min (next_expiry t2) (running_expiry t c.heartbeats)
-      → endpoint_state_left (phase (expire c.now t2)) (tick_t2 c.now again t2 (tick_timers t c)) ≡ open_as (phase t2) t c
+      → after_timers (phase (expire c.now t2)) (tick_t2 c.now again t2 (tick_timers t c)) ≡ open_as (phase t2) t c
   same_t2 phase again t2 t c h =
       let own : c.now < next_expiry t2 = omega (arith, h) in
       let others : c.now < running_expiry t c.heartbeats = omega (arith, h) in
-      ap (λ (x : Ticking P). endpoint_state_left (phase (expire c.now t2)) (tick_t2 c.now again t2 x)) (same_ticked t c (waits t c others))
-      ∙ (ap (λ (b : Bool). endpoint_state_left (phase (expire c.now t2)) (t2_if b c.now again t2 (ticking t c))) (not_due c.now t2 own)
+      ap (λ (x : Ticking P). after_timers (phase (expire c.now t2)) (tick_t2 c.now again t2 x)) (same_ticked t c (waits t c others))
+      ∙ (ap (λ (b : Bool). after_timers (phase (expire c.now t2)) (t2_if b c.now again t2 (ticking t c))) (not_due c.now t2 own)
       ∙ ap (λ (u : Timer). open_as (phase u) t c) (same_timer c.now t2 own))
 
-  same_open : (phase : Phase) (t : Tcb) (c : Context P) → is_alone phase ≡ false → c.now < phase_expiry phase t c.heartbeats → tick_open phase t c ≡ open_as phase t c
+  same_open : (phase : Phase) (t : Tcb) (c : Context P) → is_before_cookie_ack phase ≡ false → c.now < phase_expiry phase t c.heartbeats → tick_open phase t c ≡ open_as phase t c
   same_open (CookieEchoed t1 cookie) t c e h = absurd (cc)
   same_open Established t c e h = same_settled Established t c h
   same_open ShutdownPending t c e h = same_settled ShutdownPending t c h
@@ -85,9 +85,9 @@ module _ {P : Type 0} where
   same_open (ShutdownAckSent t2) t c e h = same_t2 (λ (u : Timer). ShutdownAckSent u) send_shutdown_ack t2 t c h
 
   same_waiting : (tag first : ℕ) (t1 : Timer) (c : Context P) → c.now < next_expiry t1
-      → endpoint_state_waited tag first (expire c.now t1) (tick_init tag first t1 c) ≡ record { state = CookieWait tag first t1; context = c }
+      → after_init_timer tag first (expire c.now t1) (tick_init tag first t1 c) ≡ record { state = CookieWait tag first t1; context = c }
   same_waiting tag first t1 c h =
-      ap (λ (b : Bool). endpoint_state_waited tag first (expire c.now t1) (init_if b tag first t1 c)) (not_due c.now t1 h)
+      ap (λ (b : Bool). after_init_timer tag first (expire c.now t1) (init_if b tag first t1 c)) (not_due c.now t1 h)
       ∙ ap (λ (u : Timer). record { state = CookieWait tag first u; context = c }) (same_timer c.now t1 h)
 
   -- the clock at `was` before

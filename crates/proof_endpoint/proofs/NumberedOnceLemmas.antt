@@ -9,42 +9,43 @@ use Rattle.sctp_state.specs.Events.{Emitted}
 use Rattle.sctp_tx_queue.specs.declared.send_queue.message.MessageNumbers.{MessageNumbers}
 use Rattle.sctp_tx_queue.specs.declared.send_queue.stream.ResetStep.{ResetStep}
 use Rattle.sctp_tx_queue.specs.declared.send_queue.stream.ResetStep.TheVariants.{Requested, Performed, Refused}
-use Rattle.sctp_tx_queue.specs.SendQueue.{Queued, Stream, Streams, Entries, Queue, blank, stream, open_stream, put_stream, push, add}
-use Rattle.sctp_tx_queue.specs.Produced.{Turn, is_stale, fresh, without_stale, ends as is_last, move_past, moved_front, front_numbers, advance, settle_pause, streams_without_stale, turn, next_stream, idle, produce_within, produce}
+use Rattle.sctp_tx_queue.specs.SendQueue.{Queued, Stream, Streams, Entries, Queue, blank, stream, with_stream, put_stream, push, add}
+use Rattle.sctp_tx_queue.specs.Produced.{Turn, is_stale, fresh, without_stale, ends as is_last, move_past, moved_front, front_numbers, advance, pause_if_pending, streams_without_stale, turn, next_stream, idle, produce_within, produce}
 use Rattle.sctp_tx_queue.specs.Settings.{with_threshold, set_low_threshold, with_priority, set_priority, front_discarded, without_front, streams_discarded, discard_from, discard}
-use Rattle.sctp_tx_queue.specs.Resets.{is_partly, prepare_stream, prepare_reset, after_step, step_stream, each_stepped}
+use Rattle.sctp_tx_queue.specs.Resets.{is_partly, prepare_stream, prepare_reset, after_step, apply_reset_step, each_stepped}
 use Rattle.sctp_tx_queue.specs.Restarted.{whole_front, restart, restarted_one, each_restarted, reset}
-use Rattle.proof_endpoint.specs.HandoverRoundTrip.{one_if, numbered_count, numbered_in, IsNumberedOnce, CallsNumberOnce}
+use Rattle.proof_endpoint.specs.HandoverRoundTrip.{count_with_number, numbered_in, IsNumberedOnce, CallsNumberOnce}
+use Rattle.proof_endpoint.specs.Lifecycles.{one_if}
 
 module _ (n : ℕ) where
   -- ---- the streams when one of them changes
 
-  written : (test : ℕ → Bool) (es : Entries) (s none : Stream) → numbered_count n none.messages ≡ 0
-      → numbered_in n (set_value test es s) + numbered_count n (unwrap_or (lookup test es) none).messages ≤ numbered_in n es + numbered_count n s.messages
+  written : (test : ℕ → Bool) (es : Entries) (s none : Stream) → count_with_number n none.messages ≡ 0
+      → numbered_in n (set_value test es s) + count_with_number n (unwrap_or (lookup test es) none).messages ≤ numbered_in n es + count_with_number n s.messages
   written test [] s none h = omega (arith, h)
   written test (e ∷ es) s none h = go (test e.0) (written test es s none h)
     where
-      go : (b : Bool) → numbered_in n (set_value test es s) + numbered_count n (unwrap_or (lookup test es) none).messages ≤ numbered_in n es + numbered_count n s.messages
-          → numbered_in n (cond b ((e.0, s) ∷ es) (e ∷ set_value test es s)) + numbered_count n (unwrap_or (cond b (Some e.1) (lookup test es)) none).messages
-          ≤ numbered_in n (e ∷ es) + numbered_count n s.messages
+      go : (b : Bool) → numbered_in n (set_value test es s) + count_with_number n (unwrap_or (lookup test es) none).messages ≤ numbered_in n es + count_with_number n s.messages
+          → numbered_in n (cond b ((e.0, s) ∷ es) (e ∷ set_value test es s)) + count_with_number n (unwrap_or (cond b (Some e.1) (lookup test es)) none).messages
+          ≤ numbered_in n (e ∷ es) + count_with_number n s.messages
       go true ih = omega arith
       go false ih = omega (arith, ih)
 
   put_numbered : (id : ℕ) (s : Stream) (ss : Streams)
-      → numbered_in n (put_stream id s ss).entries + numbered_count n (stream id ss).messages ≤ numbered_in n ss.entries + numbered_count n s.messages
+      → numbered_in n (put_stream id s ss).entries + count_with_number n (stream id ss).messages ≤ numbered_in n ss.entries + count_with_number n s.messages
   put_numbered id s ss = written (is_at (nat_cmp id)) ss.entries s (blank ss) refl
 
-  inserted : (id : ℕ) (s : Stream) (es : Entries) → numbered_in n (insert_entry nat_cmp es id s) ≤ numbered_in n es + numbered_count n s.messages
+  inserted : (id : ℕ) (s : Stream) (es : Entries) → numbered_in n (insert_entry nat_cmp es id s) ≤ numbered_in n es + count_with_number n s.messages
   inserted id s [] = omega arith
   inserted id s (e ∷ es) = go (nat_cmp id e.0) (inserted id s es)
     where
-      go : (o : Ordering) → numbered_in n (insert_entry nat_cmp es id s) ≤ numbered_in n es + numbered_count n s.messages
-          → numbered_in n (match_ordering o ((id, s) ∷ e ∷ es) ((e.0, s) ∷ es) (e ∷ insert_entry nat_cmp es id s)) ≤ numbered_in n (e ∷ es) + numbered_count n s.messages
+      go : (o : Ordering) → numbered_in n (insert_entry nat_cmp es id s) ≤ numbered_in n es + count_with_number n s.messages
+          → numbered_in n (match_ordering o ((id, s) ∷ e ∷ es) ((e.0, s) ∷ es) (e ∷ insert_entry nat_cmp es id s)) ≤ numbered_in n (e ∷ es) + count_with_number n s.messages
       go Less ih = omega arith
       go Equal ih = omega arith
       go Greater ih = omega (arith, ih)
 
-  opened_numbered : (id : ℕ) (ss : Streams) → numbered_in n (open_stream id ss).entries ≤ numbered_in n ss.entries
+  opened_numbered : (id : ℕ) (ss : Streams) → numbered_in n (with_stream id ss).entries ≤ numbered_in n ss.entries
   opened_numbered id ss = go (is_some (lookup (is_at (nat_cmp id)) ss.entries))
     where
       more : Streams
@@ -55,65 +56,65 @@ module _ (n : ℕ) where
       go false = omega (arith, inserted id (blank ss) ss.entries)
 
   put_opened : (id : ℕ) (s : Stream) (ss : Streams)
-      → numbered_in n (put_stream id s (open_stream id ss)).entries + numbered_count n (stream id ss).messages ≤ numbered_in n ss.entries + numbered_count n s.messages
+      → numbered_in n (put_stream id s (with_stream id ss)).entries + count_with_number n (stream id ss).messages ≤ numbered_in n ss.entries + count_with_number n s.messages
   put_opened id s ss = go (lookup (is_at (nat_cmp id)) ss.entries) refl
     where
       more : Streams
       more = record ss { entries = insert_entry nat_cmp ss.entries id (blank ss) }
 
       go : (o : Option Stream) → lookup (is_at (nat_cmp id)) ss.entries ≡ o
-          → numbered_in n (put_stream id s (open_stream id ss)).entries + numbered_count n (stream id ss).messages ≤ numbered_in n ss.entries + numbered_count n s.messages
+          → numbered_in n (put_stream id s (with_stream id ss)).entries + count_with_number n (stream id ss).messages ≤ numbered_in n ss.entries + count_with_number n s.messages
       go None e =
-          let none_numbered : numbered_count n (stream id ss).messages ≡ 0 = ap (λ (o : Option Stream). numbered_count n (unwrap_or o (blank ss)).messages) e in
-          omega (arith, none_numbered, put_numbered id s (open_stream id ss), opened_numbered id ss)
+          let none_numbered : count_with_number n (stream id ss).messages ≡ 0 = ap (λ (o : Option Stream). count_with_number n (unwrap_or o (blank ss)).messages) e in
+          omega (arith, none_numbered, put_numbered id s (with_stream id ss), opened_numbered id ss)
       go (Some v) e =
-          let same : open_stream id ss ≡ ss = ap (λ (o : Option Stream). cond (is_some o) ss more) e in
-          subst (λ (r : Streams). numbered_in n (put_stream id s r).entries + numbered_count n (stream id ss).messages ≤ numbered_in n ss.entries + numbered_count n s.messages)
+          let same : with_stream id ss ≡ ss = ap (λ (o : Option Stream). cond (is_some o) ss more) e in
+          subst (λ (r : Streams). numbered_in n (put_stream id s r).entries + count_with_number n (stream id ss).messages ≤ numbered_in n ss.entries + count_with_number n s.messages)
           (sym same) (put_numbered id s ss)
 
   -- ---- the messages of a stream
 
-  appended : (ms ns : List Queued) → numbered_count n (ms ++ ns) ≡ numbered_count n ms + numbered_count n ns
+  appended : (ms ns : List Queued) → count_with_number n (ms ++ ns) ≡ count_with_number n ms + count_with_number n ns
   appended [] ns = omega arith
   appended (m ∷ ms) ns = omega (arith, appended ms ns)
 
-  fresh_numbered : (now : ℕ) (ms : List Queued) → numbered_count n (fresh now ms) ≤ numbered_count n ms
+  fresh_numbered : (now : ℕ) (ms : List Queued) → count_with_number n (fresh now ms) ≤ count_with_number n ms
   fresh_numbered now [] = omega arith
   fresh_numbered now (m ∷ ms) = go (is_stale now m) (fresh_numbered now ms)
     where
-      go : (b : Bool) → numbered_count n (fresh now ms) ≤ numbered_count n ms → numbered_count n (cond b (fresh now ms) (m ∷ ms)) ≤ numbered_count n (m ∷ ms)
+      go : (b : Bool) → count_with_number n (fresh now ms) ≤ count_with_number n ms → count_with_number n (cond b (fresh now ms) (m ∷ ms)) ≤ count_with_number n (m ∷ ms)
       go true ih = omega (arith, ih)
       go false ih = omega arith
 
-  moved_numbered : (size : ℕ) (x : MessageNumbers) (ms : List Queued) → numbered_count n (moved_front size x ms) ≤ numbered_count n ms
+  moved_numbered : (size : ℕ) (x : MessageNumbers) (ms : List Queued) → count_with_number n (moved_front size x ms) ≤ count_with_number n ms
   moved_numbered size x [] = omega arith
   moved_numbered size x (m ∷ ms) = go (is_last size m)
     where
-      go : (b : Bool) → numbered_count n (cond b ms (move_past size x m ∷ ms)) ≤ numbered_count n (m ∷ ms)
+      go : (b : Bool) → count_with_number n (cond b ms (move_past size x m ∷ ms)) ≤ count_with_number n (m ∷ ms)
       go true = omega arith
       go false = omega arith
 
-  partly_numbered : (ms : List Queued) → numbered_count n (filter is_partly ms) ≤ numbered_count n ms
+  partly_numbered : (ms : List Queued) → count_with_number n (filter is_partly ms) ≤ count_with_number n ms
   partly_numbered [] = omega arith
   partly_numbered (m ∷ ms) = go (is_partly m) (partly_numbered ms)
     where
-      go : (b : Bool) → numbered_count n (filter is_partly ms) ≤ numbered_count n ms → numbered_count n (cond b (m ∷ filter is_partly ms) (filter is_partly ms)) ≤ numbered_count n (m ∷ ms)
+      go : (b : Bool) → count_with_number n (filter is_partly ms) ≤ count_with_number n ms → count_with_number n (cond b (m ∷ filter is_partly ms) (filter is_partly ms)) ≤ count_with_number n (m ∷ ms)
       go true ih = omega (arith, ih)
       go false ih = omega (arith, ih)
 
-  without_numbered : (number : ℕ) (ms : List Queued) (s : Stream) → s.messages ≡ ms → numbered_count n (without_front number ms s).messages ≤ numbered_count n ms
-  without_numbered number [] s e = omega (arith, ap (numbered_count n) e)
+  without_numbered : (number : ℕ) (ms : List Queued) (s : Stream) → s.messages ≡ ms → count_with_number n (without_front number ms s).messages ≤ count_with_number n ms
+  without_numbered number [] s e = omega (arith, ap (count_with_number n) e)
   without_numbered number (m ∷ ms) s e = go (m.number == number)
     where
-      go : (b : Bool) → numbered_count n (cond b (record s { messages = ms; pause = settle_pause s.pause }) s).messages ≤ numbered_count n (m ∷ ms)
+      go : (b : Bool) → count_with_number n (cond b (record s { messages = ms; pause = pause_if_pending s.pause }) s).messages ≤ count_with_number n (m ∷ ms)
       go true = omega arith
-      go false = omega (arith, ap (numbered_count n) e)
+      go false = omega (arith, ap (count_with_number n) e)
 
-  whole_numbered : (ms : List Queued) → numbered_count n (whole_front ms) ≡ numbered_count n ms
+  whole_numbered : (ms : List Queued) → count_with_number n (whole_front ms) ≡ count_with_number n ms
   whole_numbered [] = refl
   whole_numbered (m ∷ ms) = refl
 
-  step_numbered : (step : ResetStep) (s : Stream) → numbered_count n (after_step step s).messages ≡ numbered_count n s.messages
+  step_numbered : (step : ResetStep) (s : Stream) → count_with_number n (after_step step s).messages ≡ count_with_number n s.messages
   step_numbered Requested s = refl
   step_numbered Performed s = refl
   step_numbered Refused s = refl
@@ -139,7 +140,7 @@ module _ (n : ℕ) where
       let s : Stream = stream id q.streams in
       omega (arith, put_opened id (prepare_stream s) q.streams, partly_numbered s.messages)
 
-  stepped_numbered : (step : ResetStep) (id : ℕ) (q : Queue) → in_queue (step_stream step id q) ≤ in_queue q
+  stepped_numbered : (step : ResetStep) (id : ℕ) (q : Queue) → in_queue (apply_reset_step step id q) ≤ in_queue q
   stepped_numbered step id q =
       let s : Stream = stream id q.streams in
       omega (arith, put_numbered id (after_step step s) q.streams, step_numbered step s)
@@ -192,7 +193,7 @@ once_fewer q r f h n = omega (arith, f.less n, h n, ap (λ (k : ℕ). one_if (na
 fewer_steps : (step : ResetStep) (ids : List ℕ) (q : Queue) → Fewer q (each_stepped step ids q)
 fewer_steps step [] q = fewer_same q
 fewer_steps step (id ∷ ids) q =
-    let r : Queue = step_stream step id q in
+    let r : Queue = apply_reset_step step id q in
     fewer_then q r (each_stepped step ids r) (record { less = λ n. stepped_numbered n step id q; next = refl }) (fewer_steps step ids r)
 
 fewer_restarted : (ids : List ℕ) (q : Queue) → Fewer q (each_restarted ids q)

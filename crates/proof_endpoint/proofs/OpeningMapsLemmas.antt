@@ -4,17 +4,17 @@ use Rattle.sctp_wire.specs.Cause.{missing_mandatory_parameter, cookie_received_w
 use Rattle.sctp_packet.specs.Chunk.{InitTree, init_chunk, init_ack_chunk, abort_chunk, error_chunk, cookie_ack_chunk, shutdown_ack_chunk}
 use Rattle.sctp_state.specs.declared.api.ErrorKind.TheVariants.{ParseFailed, ProtocolViolation, WrongSequence}
 use Rattle.sctp_capabilities.specs.declared.state_cookie.StateCookieError.{StateCookieError}
-use Rattle.sctp_capabilities.specs.Capabilities.{announce, negotiate, zero_checksum_enabled}
+use Rattle.sctp_capabilities.specs.Capabilities.{announced_parameters, negotiate, zero_checksum_enabled}
 use Rattle.sctp_capabilities.specs.StateCookie.{Cookie, read_cookie, refusal_text}
 use Rattle.sctp_state.specs.Events.{OnConnected, OnConnectionRestarted, OnAborted}
 use Rattle.spec_endpoint.specs.Association.{Identity, Tcb, tcb, Phase, CookieEchoed, Established, ShutdownPending, ShutdownSent, ShutdownReceived, ShutdownAckSent, State, Closed, CookieWait, Open, Context, EndpointState, Endpoint, with_context}
-use Rattle.spec_endpoint.specs.Heartbeats.{beating}
-use Rattle.spec_endpoint.specs.Packets.{Packet, add, packet_to, new_packet, round_up, say, complain, emit}
-use Rattle.spec_endpoint.specs.Sending.{Sent, open_with, send_buffered, send_cookie}
+use Rattle.spec_endpoint.specs.Heartbeats.{restart_interval}
+use Rattle.spec_endpoint.specs.Packets.{PacketDraft, add, packet_to, new_packet, round_down_to_4, emit_event_in, emit_error, emit}
+use Rattle.spec_endpoint.specs.Sending.{AfterSending, open_with, send_buffered, send_cookie}
 use Rattle.spec_endpoint.specs.Shutdown.{send_shutdown_ack}
-use Rattle.spec_endpoint.specs.Opening.{tsn_from, tag_from, word, drew_word, long_word, drew_long_word, stands, init_of, send_init, t1_init, waiting, connect_in, connect, agreed_by, init_ack_of, answer, answers, answers_new, next_first, answers_again, on_init_open, on_init_in, on_init, cookie_in, maker, without_cookie, queue_anew, t1_cookie, echo, names, echo_cookie, on_init_ack_in, on_init_ack, connected_context, establish, on_cookie_ack, CookieResolution, EstablishNew, RestartDetected, SimultaneousInit, MaintainExisting, Discard, InvalidTag, resolve_cookie, cookie_ack, queue_for, tcb_by, anew, establishes, keep_association, keep, too_late, restarts, restarts_in, restart, complains, on_verdict, on_read_cookie, on_cookie_echo}
+use Rattle.spec_endpoint.specs.Opening.{tsn_from, tag_from, word, drew_word, long_word, drew_long_word, with_endpoint_state, init_of, send_init, t1_init, waiting, connect_in, connect, agreed_by, init_ack_of, answer, answers, answers_new, next_first, answers_again, on_init_open, on_init_in, on_init, cookie_in, maker, without_cookie, queue_anew, t1_cookie, echo, identity_of_init_ack, echo_or_abort, on_init_ack_in, on_init_ack, enter_connected, establish, on_cookie_ack, CookieResolution, EstablishNew, RestartDetected, SimultaneousInit, MaintainExisting, Discard, InvalidTag, resolve_cookie, cookie_ack, queue_for, tcb_by, anew, establishes, maintain_existing, maintain_existing_in, too_late, restarts, restarts_in, restart, emit_parse_error, on_resolution, on_read_cookie, on_cookie_echo}
 use Rattle.proof_endpoint.specs.Mapped.{Mapping, map_context, map_endpoint_state, map_end}
-use Rattle.proof_endpoint.proofs.SendingMapsLemmas.{map_sent, maps_say, maps_complain, maps_emit, maps_send_with, maps_send_buffered, maps_send_cookie}
+use Rattle.proof_endpoint.proofs.SendingMapsLemmas.{map_sent, maps_say, maps_emit_error, maps_emit, maps_send_with, maps_send_buffered, maps_send_cookie}
 use Rattle.proof_endpoint.proofs.RowMapsLemmas.{endpoint_state_in, beating_as, OpenMaps, maps_in_state, maps_closed_by, maps_send_shutdown_ack}
 
 -- an end in a state
@@ -23,22 +23,22 @@ end_in st s = record s { endpoint_state = endpoint_state_in st s.endpoint_state.
 
 module _ {P Q : Type 0} (f : Mapping P Q) where
   -- this endpoint state, and the end's random stream
-  pub maps_stands : (s : Endpoint P) (x : EndpointState P) (y : EndpointState Q) → y ≡ map_endpoint_state f x → stands y (map_end f s) ≡ map_end f (stands x s)
-  maps_stands s x y h = ap (λ (z : EndpointState Q). stands z (map_end f s)) h
+  pub maps_stands : (s : Endpoint P) (x : EndpointState P) (y : EndpointState Q) → y ≡ map_endpoint_state f x → with_endpoint_state y (map_end f s) ≡ map_end f (with_endpoint_state x s)
+  maps_stands s x y h = ap (λ (z : EndpointState Q). with_endpoint_state z (map_end f s)) h
 
   -- the state stays
   pub maps_stands_in : (s : Endpoint P) (c : Context P) (d : Context Q) → d ≡ map_context f c
-      → stands (with_context (map_endpoint_state f s.endpoint_state) d) (map_end f s) ≡ map_end f (stands (with_context s.endpoint_state c) s)
-  maps_stands_in s c d h = ap (λ (e : Context Q). stands (with_context (map_endpoint_state f s.endpoint_state) e) (map_end f s)) h
+      → with_endpoint_state (with_context (map_endpoint_state f s.endpoint_state) d) (map_end f s) ≡ map_end f (with_endpoint_state (with_context s.endpoint_state c) s)
+  maps_stands_in s c d h = ap (λ (e : Context Q). with_endpoint_state (with_context (map_endpoint_state f s.endpoint_state) e) (map_end f s)) h
 
-  maps_open_with : (phase : Phase) (x : Sent P) (y : Sent Q) → y ≡ map_sent f x → open_with phase y ≡ map_endpoint_state f (open_with phase x)
-  maps_open_with phase x y h = ap (λ (z : Sent Q). open_with phase z) h
+  maps_open_with : (phase : Phase) (x : AfterSending P) (y : AfterSending Q) → y ≡ map_sent f x → open_with phase y ≡ map_endpoint_state f (open_with phase x)
+  maps_open_with phase x y h = ap (λ (z : AfterSending Q). open_with phase z) h
 
   -- ---- INIT
 
   pub maps_send_init : (tag first : ℕ) (c : Context P) → send_init tag first (map_context f c) ≡ map_context f (send_init tag first c)
   maps_send_init tag first c =
-      maps_emit f (add (init_chunk (init_of c.options tag first (announce c.options c.options.zero_checksum_method))) (packet_to 0 c.options.mtu)) c
+      maps_emit f (add (init_chunk (init_of c.options tag first (announced_parameters c.options c.options.zero_checksum_method))) (packet_to 0 c.options.mtu)) c
 
   maps_waiting : (tag first : ℕ) (c : Context P) → waiting tag first (map_context f c) ≡ map_endpoint_state f (waiting tag first c)
   maps_waiting tag first c = maps_in_state f (CookieWait tag first (t1_init c)) (send_init tag first c) (send_init tag first (map_context f c)) (maps_send_init tag first c)
@@ -57,7 +57,7 @@ module _ {P Q : Type 0} (f : Mapping P Q) where
 
   maps_answer : (i : InitTree) (tag first tie : ℕ) (c : Context P) → answer i tag first tie (map_context f c) ≡ map_context f (answer i tag first tie c)
   maps_answer i tag first tie c =
-      let p : Packet = record (packet_to i.initiate_tag c.options.mtu) { is_summed = not (zero_checksum_enabled (agreed_by c.options i)) } in
+      let p : PacketDraft = record (packet_to i.initiate_tag c.options.mtu) { is_summed = not (zero_checksum_enabled (agreed_by c.options i)) } in
       maps_emit f (add (init_ack_chunk (init_ack_of c.options i tag first tie)) p) c
 
   maps_answers : (i : InitTree) (tag first tie : ℕ) (s : Endpoint P) → answers i tag first tie (map_end f s) ≡ map_end f (answers i tag first tie s)
@@ -92,7 +92,7 @@ module _ {P Q : Type 0} (f : Mapping P Q) where
 
   maps_without_cookie : (tag : ℕ) (c : Context P) → without_cookie tag (map_context f c) ≡ map_endpoint_state f (without_cookie tag c)
   maps_without_cookie tag c =
-      let p : Packet = add (abort_chunk false (missing_mandatory_parameter (7 ∷ []) ∷ [])) (packet_to tag (round_up c.options.mtu)) in
+      let p : PacketDraft = add (abort_chunk false (missing_mandatory_parameter (7 ∷ []) ∷ [])) (packet_to tag (round_down_to_4 c.options.mtu)) in
       maps_closed_by f (OnAborted ProtocolViolation (codes "InitAck chunk doesn't contain a cookie")) (emit p c) (emit p (map_context f c)) (maps_emit f p c)
 
   maps_echo : (i : InitTree) (cookie : List ℕ) (me : Identity) (c : Context P) → echo i cookie me (map_context f c) ≡ map_endpoint_state f (echo i cookie me c)
@@ -101,12 +101,12 @@ module _ {P Q : Type 0} (f : Mapping P Q) where
       maps_open_with (CookieEchoed (t1_cookie c) cookie) (send_cookie cookie (tcb c.options me i.a_rwnd (agreed_by c.options i)) d) _
       (maps_send_cookie f cookie (tcb c.options me i.a_rwnd (agreed_by c.options i)) d)
 
-  maps_echoed : (i : InitTree) (o : Option (List ℕ)) (tag first : ℕ) (s : Endpoint P) → echo_cookie i o tag first (map_end f s) ≡ map_end f (echo_cookie i o tag first s)
+  maps_echoed : (i : InitTree) (o : Option (List ℕ)) (tag first : ℕ) (s : Endpoint P) → echo_or_abort i o tag first (map_end f s) ≡ map_end f (echo_or_abort i o tag first s)
   maps_echoed i None tag first s =
       maps_stands s (without_cookie i.initiate_tag s.endpoint_state.context) (without_cookie i.initiate_tag (map_context f s.endpoint_state.context))
       (maps_without_cookie i.initiate_tag s.endpoint_state.context)
   maps_echoed i (Some cookie) tag first s =
-      let me : Identity = names i tag first (long_word s) in
+      let me : Identity = identity_of_init_ack i tag first (long_word s) in
       maps_stands (drew_long_word s) (echo i cookie me s.endpoint_state.context) (echo i cookie me (map_context f s.endpoint_state.context)) (maps_echo i cookie me s.endpoint_state.context)
 
   maps_init_ack_in : (st : State) (i : InitTree) (s : Endpoint P) → on_init_ack_in st i (map_end f s) ≡ map_end f (on_init_ack_in st i s)
@@ -119,13 +119,13 @@ module _ {P Q : Type 0} (f : Mapping P Q) where
 
   -- ---- COOKIE ACK
 
-  maps_connected : (c : Context P) → connected_context (map_context f c) ≡ map_context f (connected_context c)
-  maps_connected c = ap (λ (d : Context Q). beating_as d (beating c.now c.heartbeats)) (maps_say f OnConnected c)
+  maps_connected : (c : Context P) → enter_connected (map_context f c) ≡ map_context f (enter_connected c)
+  maps_connected c = ap (λ (d : Context Q). beating_as d (restart_interval c.now c.heartbeats)) (maps_say f OnConnected c)
 
   maps_established : (t : Tcb) (c : Context P) → establish t (map_context f c) ≡ map_endpoint_state f (establish t c)
   maps_established t c =
       ap (λ (d : Context Q). open_with Established (send_buffered false t d)) (maps_connected c)
-      ∙ maps_open_with Established (send_buffered false t (connected_context c)) _ (maps_send_buffered f false t (connected_context c))
+      ∙ maps_open_with Established (send_buffered false t (enter_connected c)) _ (maps_send_buffered f false t (enter_connected c))
 
   pub maps_cookie_ack : OpenMaps f on_cookie_ack on_cookie_ack
   maps_cookie_ack (CookieEchoed t1 cookie) t c = maps_established t c
@@ -139,7 +139,7 @@ module _ {P Q : Type 0} (f : Mapping P Q) where
 
   maps_acked : (peer_tag : ℕ) (t : Tcb) (c : Context P) → cookie_ack peer_tag t (map_context f c) ≡ map_sent f (cookie_ack peer_tag t c)
   maps_acked peer_tag t c =
-      let p : Packet = record (packet_to peer_tag c.options.mtu) { is_summed = not (zero_checksum_enabled t.capabilities) } in
+      let p : PacketDraft = record (packet_to peer_tag c.options.mtu) { is_summed = not (zero_checksum_enabled t.capabilities) } in
       maps_send_with f false (add cookie_ack_chunk p) t c
 
   maps_acked_in : (phase : Phase) (peer_tag : ℕ) (t : Tcb) (c : Context P)
@@ -148,9 +148,9 @@ module _ {P Q : Type 0} (f : Mapping P Q) where
 
   -- behind what says that it is connected
   maps_acked_connected : (peer_tag : ℕ) (t : Tcb) (c : Context P)
-      → open_with Established (cookie_ack peer_tag t (connected_context (map_context f c))) ≡ map_endpoint_state f (open_with Established (cookie_ack peer_tag t (connected_context c)))
+      → open_with Established (cookie_ack peer_tag t (enter_connected (map_context f c))) ≡ map_endpoint_state f (open_with Established (cookie_ack peer_tag t (enter_connected c)))
   maps_acked_connected peer_tag t c =
-      ap (λ (d : Context Q). open_with Established (cookie_ack peer_tag t d)) (maps_connected c) ∙ maps_acked_in Established peer_tag t (connected_context c)
+      ap (λ (d : Context Q). open_with Established (cookie_ack peer_tag t d)) (maps_connected c) ∙ maps_acked_in Established peer_tag t (enter_connected c)
 
   maps_anew : (resets : Bool) (k : Cookie) (tie : ℕ) (c : Context P) → anew resets k tie (map_context f c) ≡ map_endpoint_state f (anew resets k tie c)
   maps_anew resets k tie c =
@@ -162,7 +162,7 @@ module _ {P Q : Type 0} (f : Mapping P Q) where
   maps_establishes resets k c s =
       maps_stands (drew_long_word s) (anew resets k (long_word s) c) (anew resets k (long_word s) (map_context f c)) (maps_anew resets k (long_word s) c)
 
-  maps_kept : (k : Cookie) → OpenMaps f (keep_association k) (keep_association k)
+  maps_kept : (k : Cookie) → OpenMaps f (maintain_existing k) (maintain_existing k)
   maps_kept k (CookieEchoed t1 cookie) t c = maps_acked_connected k.peer_tag t c
   maps_kept k Established t c = maps_acked_in Established k.peer_tag t c
   maps_kept k ShutdownPending t c = maps_acked_in ShutdownPending k.peer_tag t c
@@ -170,24 +170,24 @@ module _ {P Q : Type 0} (f : Mapping P Q) where
   maps_kept k ShutdownReceived t c = maps_acked_in ShutdownReceived k.peer_tag t c
   maps_kept k (ShutdownAckSent t2) t c = maps_acked_in (ShutdownAckSent t2) k.peer_tag t c
 
-  maps_keep_from : (k : Cookie) (st : State) (c : Context P) → keep k (endpoint_state_in st (map_context f c)) ≡ map_endpoint_state f (keep k (endpoint_state_in st c))
+  maps_keep_from : (k : Cookie) (st : State) (c : Context P) → maintain_existing_in k (endpoint_state_in st (map_context f c)) ≡ map_endpoint_state f (maintain_existing_in k (endpoint_state_in st c))
   maps_keep_from k Closed c = refl
   maps_keep_from k (CookieWait tag first t1) c = refl
   maps_keep_from k (Open phase t) c = maps_kept k phase t c
 
-  maps_keep : (k : Cookie) (s : EndpointState P) → keep k (map_endpoint_state f s) ≡ map_endpoint_state f (keep k s)
+  maps_keep : (k : Cookie) (s : EndpointState P) → maintain_existing_in k (map_endpoint_state f s) ≡ map_endpoint_state f (maintain_existing_in k s)
   maps_keep k s = maps_keep_from k s.state s.context
 
   maps_too_late : (t : Tcb) (c : Context P) → too_late t (map_context f c) ≡ map_context f (too_late t c)
   maps_too_late t c =
-      let p : Packet = add (error_chunk (cookie_received_while_shutting_down ∷ [])) (add shutdown_ack_chunk (new_packet c.options t)) in
+      let p : PacketDraft = add (error_chunk (cookie_received_while_shutting_down ∷ [])) (add shutdown_ack_chunk (new_packet c.options t)) in
       let text : List ℕ = codes "Received COOKIE-ECHO while shutting down" in
-      ap (λ (d : Context Q). complain WrongSequence text d) (maps_emit f p c) ∙ maps_complain f WrongSequence text (emit p c)
+      ap (λ (d : Context Q). emit_error WrongSequence text d) (maps_emit f p c) ∙ maps_emit_error f WrongSequence text (emit p c)
 
   maps_restarts : (k : Cookie) (s : Endpoint P) → restarts k (map_end f s) ≡ map_end f (restarts k s)
   maps_restarts k s =
       ap (λ (d : Context Q). establishes true k d (map_end f s)) (maps_say f OnConnectionRestarted s.endpoint_state.context)
-      ∙ maps_establishes true k (say OnConnectionRestarted s.endpoint_state.context) s
+      ∙ maps_establishes true k (emit_event_in OnConnectionRestarted s.endpoint_state.context) s
 
   maps_restarts_in : (phase : Phase) (t : Tcb) (k : Cookie) (s : Endpoint P) → restarts_in phase t k (map_end f s) ≡ map_end f (restarts_in phase t k s)
   maps_restarts_in (CookieEchoed t1 cookie) t k s = maps_restarts k s
@@ -206,22 +206,22 @@ module _ {P Q : Type 0} (f : Mapping P Q) where
   maps_restart : (k : Cookie) (s : Endpoint P) → restart k (map_end f s) ≡ map_end f (restart k s)
   maps_restart k s = maps_restart_from s.endpoint_state.state k s
 
-  pub maps_complains : (text : List ℕ) (s : Endpoint P) → complains text (map_end f s) ≡ map_end f (complains text s)
-  maps_complains text s =
-      maps_stands_in s (complain ParseFailed text s.endpoint_state.context) (complain ParseFailed text (map_context f s.endpoint_state.context))
-      (maps_complain f ParseFailed text s.endpoint_state.context)
+  pub maps_emit_parse_error : (text : List ℕ) (s : Endpoint P) → emit_parse_error text (map_end f s) ≡ map_end f (emit_parse_error text s)
+  maps_emit_parse_error text s =
+      maps_stands_in s (emit_error ParseFailed text s.endpoint_state.context) (emit_error ParseFailed text (map_context f s.endpoint_state.context))
+      (maps_emit_error f ParseFailed text s.endpoint_state.context)
 
-  maps_verdict : (v : CookieResolution) (k : Cookie) (s : Endpoint P) → on_verdict v k (map_end f s) ≡ map_end f (on_verdict v k s)
+  maps_verdict : (v : CookieResolution) (k : Cookie) (s : Endpoint P) → on_resolution v k (map_end f s) ≡ map_end f (on_resolution v k s)
   maps_verdict EstablishNew k s = maps_establishes false k s.endpoint_state.context s
   maps_verdict RestartDetected k s = maps_restart k s
   maps_verdict SimultaneousInit k s = maps_establishes true k s.endpoint_state.context s
-  maps_verdict MaintainExisting k s = maps_stands s (keep k s.endpoint_state) (keep k (map_endpoint_state f s.endpoint_state)) (maps_keep k s.endpoint_state)
+  maps_verdict MaintainExisting k s = maps_stands s (maintain_existing_in k s.endpoint_state) (maintain_existing_in k (map_endpoint_state f s.endpoint_state)) (maps_keep k s.endpoint_state)
   maps_verdict Discard k s = refl
-  maps_verdict InvalidTag k s = maps_complains (codes "Received CookieEcho with invalid verification tag") s
+  maps_verdict InvalidTag k s = maps_emit_parse_error (codes "Received CookieEcho with invalid verification tag") s
 
   maps_read_cookie : (tag : ℕ) (r : Result Cookie StateCookieError) (s : Endpoint P) → on_read_cookie tag r (map_end f s) ≡ map_end f (on_read_cookie tag r s)
   maps_read_cookie tag (Ok k) s = maps_verdict (resolve_cookie tag k s.endpoint_state.state) k s
-  maps_read_cookie tag (Err fault) s = maps_complains (refusal_text fault) s
+  maps_read_cookie tag (Err fault) s = maps_emit_parse_error (refusal_text fault) s
 
   pub maps_cookie_echo : (tag : ℕ) (cookie : List ℕ) (s : Endpoint P) → on_cookie_echo tag cookie (map_end f s) ≡ map_end f (on_cookie_echo tag cookie s)
   maps_cookie_echo tag cookie s = maps_read_cookie tag (read_cookie cookie) s

@@ -17,13 +17,13 @@ use Rattle.sctp_capabilities.proofs.CookieLemmas.{read_cookie_bytes}
 use Rattle.sctp_state.specs.Events.{Event, OnConnected}
 use Rattle.sctp_state.specs.declared.api.SctpImplementation.TheVariants.{DcsctpRs}
 use Rattle.spec_endpoint.specs.Association.{Identity, Tcb, tcb, State, CookieEchoed, Established, Closed, CookieWait, Open, Context, Endpoint, context, where_open, Packing}
-use Rattle.spec_endpoint.specs.Opening.{t1_init, t1_cookie, cookie_for, init_ack_of, new_if, on_verdict, on_read_cookie}
+use Rattle.spec_endpoint.specs.Opening.{t1_init, t1_cookie, cookie_for, init_ack_of, new_if, on_resolution, on_read_cookie}
 use Rattle.spec_endpoint.specs.Calls.{ready_in}
-use Rattle.spec_endpoint.specs.Input.{my_tag, abort_flag, complete_flag, has_shutdown_ack, begins_with_cookie, refusal, taken_if, counts, end_packet, on_endpoint_state}
+use Rattle.spec_endpoint.specs.Input.{my_tag, abort_flag, complete_flag, has_shutdown_ack, begins_with_cookie, packet_refusal, packet_if, count_packet_at, on_packet_end, in_endpoint_state}
 use Rattle.spec_endpoint.specs.Shown.{Association, association_in}
 use Rattle.spec_endpoint.specs.Association.{heartbeats}
-use Rattle.spec_endpoint.specs.Heartbeats.{beating}
-use Rattle.proof_endpoint.specs.FirstRun.{first_of, tag_of, init_tree, init_packet, init_ack_packet, cookie_echo_packet, cookie_ack_packet, give, quiet, pack_event, asking, answering, echoing, accepting, opening, association, Shows, Opens}
+use Rattle.spec_endpoint.specs.Heartbeats.{restart_interval}
+use Rattle.proof_endpoint.specs.FirstRun.{first_of, tag_of, init_tree, init_packet, init_ack_packet, cookie_echo_packet, cookie_ack_packet, give, drained, packet_event, asking, answering, echoing, accepting, opening, association, Shows, Opens}
 use Rattle.sctp_serial.proofs.NumberLemmas.{is_itself}
 
 -- ---- the ends, by their parts
@@ -37,39 +37,39 @@ module _ {P : Type 0} where
   counted pack rx tx = record (context defaults pack) { counts = record { rx_packets = rx; tx_packets = tx; tx_messages = 0 } }
 
 abbrev pub drawn : Stream → Stream
-drawn words = (next_u32 (next_u32 words).1).1
+drawn draws = (next_u32 (next_u32 draws).1).1
 
 -- ---- numbers
 
-pub tag_some : (words : Stream) → (tag_of words == 0) ≡ false
-tag_some words = grind (arith, nat_tests)
+pub tag_some : (draws : Stream) → (tag_of draws == 0) ≡ false
+tag_some draws = grind (arith, nat_tests)
 
-pub tag_small : (words : Stream) → tag_of words < 2 ^ 32
-tag_small words = omega arith
+pub tag_small : (draws : Stream) → tag_of draws < 2 ^ 32
+tag_small draws = omega arith
 
-pub first_small : (words : Stream) → first_of words < 2 ^ 32
-first_small words = omega arith
+pub first_small : (draws : Stream) → first_of draws < 2 ^ 32
+first_small draws = omega arith
 
 -- a packet under the own tag is taken
 pub own_taken : (chunk : ChunkTree) (tag : ℕ) (s : State) → abort_flag (chunk ∷ []) ≡ None → complete_flag (chunk ∷ []) ≡ None → has_shutdown_ack (chunk ∷ []) ≡ false
-    → begins_with_cookie (chunk ∷ []) ≡ false → (tag == 0) ≡ false → my_tag s ≡ tag → refusal tag (chunk ∷ []) s ≡ None
+    → begins_with_cookie (chunk ∷ []) ≡ false → (tag == 0) ≡ false → my_tag s ≡ tag → packet_refusal tag (chunk ∷ []) s ≡ None
 own_taken chunk tag s no_abort no_end no_ack no_cookie some own = rw (no_abort, no_end, no_ack, no_cookie, some, own, is_itself tag) refl
 
 module _ {P : Type 0} (pack : Packing P) where
   abbrev pub waiting : Stream → Endpoint P
   waiting a = record {
     endpoint_state = record { state = CookieWait (tag_of a) (first_of a) (t1_init (context defaults pack)); context = counted pack 0 1 };
-    random = drawn a;
+    draws = drawn a;
   }
 
-  pub asks : (a b : Stream) → asking pack a b ≡ emitting (pack_event pack (init_packet a) ∷ []) (waiting a)
+  pub asks : (a b : Stream) → asking pack a b ≡ emitting (packet_event pack (init_packet a) ∷ []) (waiting a)
   unfolding be16 be32 padded_item inner_items parameter_value chunk_bytes chunks_bytes chunk_value init_fields
   asks a b = refl
 
   abbrev pub answered : Stream → Endpoint P
-  answered b = record { endpoint_state = record { state = Closed; context = counted pack 1 1 }; random = drawn b }
+  answered b = record { endpoint_state = record { state = Closed; context = counted pack 1 1 }; draws = drawn b }
 
-  pub answers : (a b : Stream) → answering pack a b ≡ emitting (pack_event pack (init_ack_packet a b) ∷ []) (answered b)
+  pub answers : (a b : Stream) → answering pack a b ≡ emitting (packet_event pack (init_ack_packet a b) ∷ []) (answered b)
   unfolding be16 be32 be64 padded_item inner_items parameter_value chunk_bytes chunks_bytes chunk_value init_fields cookie_bytes capability_bytes
   answers a b = refl
 
@@ -91,10 +91,10 @@ module _ {P : Type 0} (pack : Packing P) where
 
   -- with the association open
   abbrev pub open_a : (rx tx : ℕ) → Context P
-  open_a rx tx = record (counted pack rx tx) { peer = DcsctpRs; heartbeats = beating 0 (heartbeats defaults) }
+  open_a rx tx = record (counted pack rx tx) { peer = DcsctpRs; heartbeats = restart_interval 0 (heartbeats defaults) }
 
   abbrev pub open_b : (rx tx : ℕ) → Context P
-  open_b rx tx = record (counted pack rx tx) { heartbeats = beating 0 (heartbeats defaults) }
+  open_b rx tx = record (counted pack rx tx) { heartbeats = restart_interval 0 (heartbeats defaults) }
 
   abbrev pub echoed : (a b : Stream) → Endpoint P
   echoed a b = record {
@@ -102,17 +102,17 @@ module _ {P : Type 0} (pack : Packing P) where
       state = Open (CookieEchoed (t1_cookie (context defaults pack)) (cookie_bytes (cookie_of a b))) (block a b 5242880);
       context = record (counted pack 1 2) { peer = DcsctpRs };
     };
-    random = (next_u64 (drawn a)).1;
+    draws = (next_u64 (drawn a)).1;
   }
 
-  receives_ack : (a b : Stream) → give (init_ack_packet a b) (waiting a) ≡ emitting (pack_event pack (cookie_echo_packet a b) ∷ []) (echoed a b)
+  receives_ack : (a b : Stream) → give (init_ack_packet a b) (waiting a) ≡ emitting (packet_event pack (cookie_echo_packet a b) ∷ []) (echoed a b)
   unfolding be16 be32 be64 padded_item inner_items parameter_value chunk_bytes chunks_bytes chunk_value init_fields cookie_bytes capability_bytes
   receives_ack a b =
-      ap (λ (r : Option (List ℕ)). taken_if r (tag_of a) (init_ack_packet a b).chunks (counts (waiting a)))
+      ap (λ (r : Option (List ℕ)). packet_if r (tag_of a) (init_ack_packet a b).chunks (count_packet_at (waiting a)))
       (own_taken (init_ack_chunk (init_ack_of defaults (init_tree a) (tag_of b) (first_of b) 0)) (tag_of a) (waiting a).endpoint_state.state refl refl refl refl (tag_some a) refl)
 
-  pub echoes : (a b : Stream) → echoing pack a b ≡ emitting (pack_event pack (cookie_echo_packet a b) ∷ []) (echoed a b)
-  echoes a b = ap (λ (s : Endpoint P). give (init_ack_packet a b) (quiet s)) (asks a b) ∙ receives_ack a b
+  pub echoes : (a b : Stream) → echoing pack a b ≡ emitting (packet_event pack (cookie_echo_packet a b) ∷ []) (echoed a b)
+  echoes a b = ap (λ (s : Endpoint P). give (init_ack_packet a b) (drained s)) (asks a b) ∙ receives_ack a b
 
   cookie_fits : (a b : Stream) → CookieFits (cookie_of a b)
   cookie_fits a b = record {
@@ -131,32 +131,32 @@ module _ {P : Type 0} (pack : Packing P) where
   abbrev pub opened_b : (a b : Stream) → Endpoint P
   opened_b a b = record {
     endpoint_state = record { state = Open Established (block b a 2000000); context = open_b 2 2 };
-    random = (next_u64 (drawn b)).1;
+    draws = (next_u64 (drawn b)).1;
   }
 
-  receives_cookie : (a b : Stream) → give (cookie_echo_packet a b) (answered b) ≡ emitting (OnConnected ∷ pack_event pack (cookie_ack_packet a) ∷ []) (opened_b a b)
+  receives_cookie : (a b : Stream) → give (cookie_echo_packet a b) (answered b) ≡ emitting (OnConnected ∷ packet_event pack (cookie_ack_packet a) ∷ []) (opened_b a b)
   unfolding padded_item chunk_bytes chunks_bytes chunk_value
   receives_cookie a b =
-      ap (λ (r : Result Cookie StateCookieError). on_endpoint_state (where_open end_packet) (on_read_cookie (tag_of b) r (counts (answered b)))) (reads a b)
-      ∙ ap (λ (v : Bool). on_endpoint_state (where_open end_packet) (on_verdict (new_if v) (cookie_of a b) (counts (answered b)))) (is_itself (tag_of b))
+      ap (λ (r : Result Cookie StateCookieError). in_endpoint_state (where_open on_packet_end) (on_read_cookie (tag_of b) r (count_packet_at (answered b)))) (reads a b)
+      ∙ ap (λ (v : Bool). in_endpoint_state (where_open on_packet_end) (on_resolution (new_if v) (cookie_of a b) (count_packet_at (answered b)))) (is_itself (tag_of b))
 
-  pub accepts : (a b : Stream) → accepting pack a b ≡ emitting (OnConnected ∷ pack_event pack (cookie_ack_packet a) ∷ []) (opened_b a b)
-  accepts a b = ap (λ (s : Endpoint P). give (cookie_echo_packet a b) (quiet s)) (answers a b) ∙ receives_cookie a b
+  pub accepts : (a b : Stream) → accepting pack a b ≡ emitting (OnConnected ∷ packet_event pack (cookie_ack_packet a) ∷ []) (opened_b a b)
+  accepts a b = ap (λ (s : Endpoint P). give (cookie_echo_packet a b) (drained s)) (answers a b) ∙ receives_cookie a b
 
   abbrev pub opened_a : (a b : Stream) → Endpoint P
   opened_a a b = record {
     endpoint_state = record { state = Open Established (block a b 5242880); context = open_a 2 2 };
-    random = (next_u64 (drawn a)).1;
+    draws = (next_u64 (drawn a)).1;
   }
 
   receives_cookie_ack : (a b : Stream) → give (cookie_ack_packet a) (echoed a b) ≡ emitting (OnConnected ∷ []) (opened_a a b)
   unfolding chunks_bytes
   receives_cookie_ack a b =
-      ap (λ (r : Option (List ℕ)). taken_if r (tag_of a) (cookie_ack_chunk ∷ []) (counts (echoed a b)))
+      ap (λ (r : Option (List ℕ)). packet_if r (tag_of a) (cookie_ack_chunk ∷ []) (count_packet_at (echoed a b)))
       (own_taken cookie_ack_chunk (tag_of a) (echoed a b).endpoint_state.state refl refl refl refl (tag_some a) refl)
 
   pub opens : (a b : Stream) → opening pack a b ≡ emitting (OnConnected ∷ []) (opened_a a b)
-  opens a b = ap (λ (s : Endpoint P). give (cookie_ack_packet a) (quiet s)) (echoes a b) ∙ receives_cookie_ack a b
+  opens a b = ap (λ (s : Endpoint P). give (cookie_ack_packet a) (drained s)) (echoes a b) ∙ receives_cookie_ack a b
 
   pub shows_by : (s t : Endpoint P) (events : List (Event P)) (held : Option Association) (ready : List Message) → s ≡ emitting events t
       → association_in t.endpoint_state.state ≡ held → ready_in t.endpoint_state.state ≡ ready → Shows s events held ready

@@ -7,7 +7,7 @@ use Rattle.sctp_serial.specs.Messages.{Message}
 use Rattle.sctp_state.specs.Options.{SendOptions, defaults}
 use Rattle.sctp_stream_scheduler.specs.StreamScheduler.{scheduler}
 use Rattle.sctp_tx_queue.specs.SendQueue.{Queued, Stream, Queue, queue, no_streams, blank, add, expiry_of}
-use Rattle.sctp_tx_queue.specs.Produced.{Produced, is_due, produce, took}
+use Rattle.sctp_tx_queue.specs.Produced.{Produced, is_expired, produce, took}
 use Rattle.sctp_serial.specs.Time.{later}
 use Rattle.sctp_state.specs.Numbers.{ms}
 use Rattle.sctp_state.specs.Events.{Emitted, emit_events, OnBufferedAmountLow}
@@ -37,7 +37,7 @@ positive_due : (n : ℕ) → nat_le (later (later 0 n) ms) 0 ≡ false
 positive_due n = grind (arith)
 
 -- what was accepted now is not expired
-pub not_due : (lifetime : Option ℕ) → is_due 0 (expiry_of 0 lifetime) ≡ false
+pub not_due : (lifetime : Option ℕ) → is_expired 0 (expiry_of 0 lifetime) ≡ false
 not_due None = refl
 not_due (Some n) = positive_due n
 

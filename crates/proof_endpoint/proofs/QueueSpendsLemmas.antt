@@ -6,18 +6,18 @@ use Rattle.std.specs.Map.{lookup, set_value, keys_of}
 use Rattle.std.specs.BTreeMap.{is_at, insert_entry}
 use Rattle.sctp_state.specs.declared.api.GivenUpCause.TheVariants.{Lifetime, Reset}
 use Rattle.sctp_state.specs.ThresholdWatcher.{crosses}
-use Rattle.sctp_state.specs.Events.{OnBufferedAmountLow, Emitted, emit_events, give_up, expiry}
+use Rattle.sctp_state.specs.Events.{OnBufferedAmountLow, Emitted, emit_events, emit_given_up, expired_events}
 use Rattle.sctp_tx_outstanding.specs.OutstandingData.{Discard}
 use Rattle.sctp_tx_queue.specs.declared.send_queue.message.MessageNumbers.{MessageNumbers}
 use Rattle.sctp_tx_queue.specs.declared.send_queue.stream.ResetStep.{ResetStep}
 use Rattle.sctp_tx_queue.specs.declared.send_queue.stream.ResetStep.TheVariants.{Requested, Performed, Refused}
-use Rattle.sctp_tx_queue.specs.SendQueue.{Queued, Stream, Streams, Entries, Queue, blank, stream, open_stream, put_stream, push, add, watched_amount, watched_total}
-use Rattle.sctp_tx_queue.specs.Produced.{Produced, Turn, is_stale, fresh, drop_expired, without_stale, ends as is_last, move_past, moved_front, front_numbers, front_made, next_fragment, advance, settle_pause, when, production, emitted_made, streams_without_stale, streams_after, turn, next_stream, idle, produce_within, produce}
+use Rattle.sctp_tx_queue.specs.SendQueue.{Queued, Stream, Streams, Entries, Queue, blank, stream, with_stream, put_stream, push, add, watched_amount, watched_total}
+use Rattle.sctp_tx_queue.specs.Produced.{Produced, Turn, is_stale, fresh, emit_expired, without_stale, ends as is_last, move_past, moved_front, front_numbers, front_made, next_fragment, advance, pause_if_pending, when, production, emitted_made, streams_without_stale, streams_after, turn, next_stream, idle, produce_within, produce}
 use Rattle.sctp_tx_queue.specs.Settings.{Changed, with_threshold, set_low_threshold, with_priority, set_priority, front_discarded, without_front, streams_discarded, discard_from, discard}
-use Rattle.sctp_tx_queue.specs.Resets.{is_partly, emitted_waiting, prepare_stream, prepare_reset, after_step, step_stream, each_stepped}
+use Rattle.sctp_tx_queue.specs.Resets.{is_partly, emit_unsent, prepare_stream, prepare_reset, after_step, apply_reset_step, each_stepped}
 use Rattle.sctp_tx_queue.specs.Restarted.{whole_front, restart, restarted_one, each_restarted, reset}
 use Rattle.sctp_tx.specs.Sending.{discard_all}
-use Rattle.proof_endpoint.specs.Lifecycles.{names_lifecycle, waiting, waiting_in, where_end}
+use Rattle.proof_endpoint.specs.Lifecycles.{lifecycle_count, waiting, waiting_in, where_end}
 use Rattle.proof_endpoint.proofs.SpendsLemmas.{Spends, waiting_append, ends_expiry, ends_production, ends_low, spends_nothing, spends_given_up, spends_all, spends_then, spends_within}
 
 module _ (l : ℕ) where
@@ -48,7 +48,7 @@ module _ (l : ℕ) where
       go Equal ih = omega arith
       go Greater ih = omega (arith, ih)
 
-  waiting_opened : (id : ℕ) (ss : Streams) → waiting_in l (open_stream id ss).entries ≤ waiting_in l ss.entries
+  waiting_opened : (id : ℕ) (ss : Streams) → waiting_in l (with_stream id ss).entries ≤ waiting_in l ss.entries
   waiting_opened id ss = go (is_some (lookup (is_at (nat_cmp id)) ss.entries))
     where
       more : Streams
@@ -59,19 +59,19 @@ module _ (l : ℕ) where
       go false = omega (arith, inserted id (blank ss) ss.entries)
 
   pub waiting_put_opened : (id : ℕ) (s : Stream) (ss : Streams)
-      → waiting_in l (put_stream id s (open_stream id ss)).entries + waiting l (stream id ss).messages ≤ waiting_in l ss.entries + waiting l s.messages
+      → waiting_in l (put_stream id s (with_stream id ss)).entries + waiting l (stream id ss).messages ≤ waiting_in l ss.entries + waiting l s.messages
   waiting_put_opened id s ss = go (lookup (is_at (nat_cmp id)) ss.entries) refl
     where
       more : Streams
       more = record ss { entries = insert_entry nat_cmp ss.entries id (blank ss) }
 
       go : (o : Option Stream) → lookup (is_at (nat_cmp id)) ss.entries ≡ o
-          → waiting_in l (put_stream id s (open_stream id ss)).entries + waiting l (stream id ss).messages ≤ waiting_in l ss.entries + waiting l s.messages
+          → waiting_in l (put_stream id s (with_stream id ss)).entries + waiting l (stream id ss).messages ≤ waiting_in l ss.entries + waiting l s.messages
       go None e =
           let none_waits : waiting l (stream id ss).messages ≡ 0 = ap (λ (o : Option Stream). waiting l (unwrap_or o (blank ss)).messages) e in
-          omega (arith, none_waits, waiting_put id s (open_stream id ss), waiting_opened id ss)
+          omega (arith, none_waits, waiting_put id s (with_stream id ss), waiting_opened id ss)
       go (Some v) e =
-          let same : open_stream id ss ≡ ss = ap (λ (o : Option Stream). cond (is_some o) ss more) e in
+          let same : with_stream id ss ≡ ss = ap (λ (o : Option Stream). cond (is_some o) ss more) e in
           subst (λ (r : Streams). waiting_in l (put_stream id s r).entries + waiting l (stream id ss).messages ≤ waiting_in l ss.entries + waiting l s.messages)
           (sym same) (waiting_put id s ss)
 
@@ -89,14 +89,14 @@ module _ (l : ℕ) where
   -- what a fragment takes along: the end of its message
   abbrev pub made_end : Option Produced → ℕ
   made_end None = 0
-  made_end (Some p) = where_end p.fragment.is_end (names_lifecycle l p.lifecycle)
+  made_end (Some p) = where_end p.fragment.is_end (lifecycle_count l p.lifecycle)
 
   waiting_moved : (id size : ℕ) (n : MessageNumbers) (ms : List Queued)
       → waiting l (moved_front size n ms) + made_end (front_made id size n ms) ≡ waiting l ms
   waiting_moved id size n [] = refl
   waiting_moved id size n (m ∷ ms) = go (is_last size m)
     where
-      go : (b : Bool) → waiting l (cond b ms (move_past size n m ∷ ms)) + where_end b (names_lifecycle l (cond b m.lifecycle None)) ≡ names_lifecycle l m.lifecycle + waiting l ms
+      go : (b : Bool) → waiting l (cond b ms (move_past size n m ∷ ms)) + where_end b (lifecycle_count l (cond b m.lifecycle None)) ≡ lifecycle_count l m.lifecycle + waiting l ms
       go true = omega arith
       go false = omega arith
 
@@ -105,15 +105,15 @@ module _ (l : ℕ) where
 
   abbrev lost : Option (Option ℕ) → ℕ
   lost None = 0
-  lost (Some o) = names_lifecycle l o
+  lost (Some o) = lifecycle_count l o
 
   waiting_without : (number : ℕ) (ms : List Queued) (s : Stream) → s.messages ≡ ms
       → waiting l (without_front number ms s).messages + lost (front_discarded number ms) ≤ waiting l ms
   waiting_without number [] s e = omega (arith, ap (waiting l) e)
   waiting_without number (m ∷ ms) s e = go (m.number == number)
     where
-      go : (b : Bool) → waiting l (cond b (record s { messages = ms; pause = settle_pause s.pause }) s).messages + lost (cond b (Some m.lifecycle) None)
-          ≤ names_lifecycle l m.lifecycle + waiting l ms
+      go : (b : Bool) → waiting l (cond b (record s { messages = ms; pause = pause_if_pending s.pause }) s).messages + lost (cond b (Some m.lifecycle) None)
+          ≤ lifecycle_count l m.lifecycle + waiting l ms
       go true = omega arith
       go false = omega (arith, ap (waiting l) e)
 
@@ -122,25 +122,25 @@ module _ (l : ℕ) where
   abbrev pub in_queue : Queue → ℕ
   in_queue q = waiting_in l q.streams.entries
 
-  pub waiting_added : (id : ℕ) (m : Queued) (q : Queue) → in_queue (add id m q) ≤ in_queue q + names_lifecycle l m.lifecycle
+  pub waiting_added : (id : ℕ) (m : Queued) (q : Queue) → in_queue (add id m q) ≤ in_queue q + lifecycle_count l m.lifecycle
   waiting_added id m q =
       let s : Stream = stream id q.streams in
       omega (arith, waiting_put_opened id (push m s) q.streams, waiting_append l s.messages (m ∷ []))
 
-  pub waiting_threshold : (id bytes : ℕ) (q : Queue) → waiting_in l (put_stream id (with_threshold bytes (stream id q.streams)) (open_stream id q.streams)).entries ≤ in_queue q
+  pub waiting_threshold : (id bytes : ℕ) (q : Queue) → waiting_in l (put_stream id (with_threshold bytes (stream id q.streams)) (with_stream id q.streams)).entries ≤ in_queue q
   waiting_threshold id bytes q = omega (arith, waiting_put_opened id (with_threshold bytes (stream id q.streams)) q.streams)
 
   pub waiting_priority : (id priority : ℕ) (q : Queue) → in_queue (set_priority id priority q) ≤ in_queue q
   waiting_priority id priority q = omega (arith, waiting_put_opened id (with_priority priority (stream id q.streams)) q.streams)
 
-  waiting_stepped : (step : ResetStep) (id : ℕ) (q : Queue) → in_queue (step_stream step id q) ≤ in_queue q
+  waiting_stepped : (step : ResetStep) (id : ℕ) (q : Queue) → in_queue (apply_reset_step step id q) ≤ in_queue q
   waiting_stepped step id q =
       let s : Stream = stream id q.streams in
       omega (arith, waiting_put id (after_step step s) q.streams, waiting_step step s)
 
   pub waiting_each_stepped : (step : ResetStep) (ids : List ℕ) (q : Queue) → in_queue (each_stepped step ids q) ≤ in_queue q
   waiting_each_stepped step [] q = omega arith
-  waiting_each_stepped step (id ∷ ids) q = omega (arith, waiting_stepped step id q, waiting_each_stepped step ids (step_stream step id q))
+  waiting_each_stepped step (id ∷ ids) q = omega (arith, waiting_stepped step id q, waiting_each_stepped step ids (apply_reset_step step id q))
 
   waiting_restarted : (id : ℕ) (q : Queue) → in_queue (restarted_one id q) ≤ in_queue q
   waiting_restarted id q =
@@ -157,42 +157,42 @@ module _ (l : ℕ) where
   -- ---- messages that are dropped
 
   module _ {P : Type 0} where
-    drops_stale : (now : ℕ) (ms : List Queued) (t : Emitted P) → Spends l t (drop_expired now ms t) (waiting l ms) (waiting l (fresh now ms))
-    drops_stale now [] t = spends_nothing l t 0 0 (omega arith)
-    drops_stale now (m ∷ ms) t = go (is_stale now m) (drops_stale now ms said)
+    emit_expired_spends : (now : ℕ) (ms : List Queued) (t : Emitted P) → Spends l t (emit_expired now ms t) (waiting l ms) (waiting l (fresh now ms))
+    emit_expired_spends now [] t = spends_nothing l t 0 0 (omega arith)
+    emit_expired_spends now (m ∷ ms) t = go (is_stale now m) (emit_expired_spends now ms said)
       where
         given_up : Emitted P
-        given_up = give_up m.number Lifetime t
+        given_up = emit_given_up m.number Lifetime t
 
         said : Emitted P
-        said = emit_events (expiry m.lifecycle) given_up
+        said = emit_events (expired_events m.lifecycle) given_up
 
-        go : (b : Bool) → Spends l said (drop_expired now ms said) (waiting l ms) (waiting l (fresh now ms))
-            → Spends l t (cond b (drop_expired now ms said) t) (names_lifecycle l m.lifecycle + waiting l ms) (waiting l (cond b (fresh now ms) (m ∷ ms)))
+        go : (b : Bool) → Spends l said (emit_expired now ms said) (waiting l ms) (waiting l (fresh now ms))
+            → Spends l t (cond b (emit_expired now ms said) t) (lifecycle_count l m.lifecycle + waiting l ms) (waiting l (cond b (fresh now ms) (m ∷ ms)))
         go true ih =
-            let x : ℕ = names_lifecycle l m.lifecycle + waiting l ms in
+            let x : ℕ = lifecycle_count l m.lifecycle + waiting l ms in
             spends_then l (spends_given_up l m.number Lifetime t x x (omega arith))
-            (spends_then l (spends_all l (expiry m.lifecycle) given_up x (waiting l ms) (omega (arith, ends_expiry P l m.lifecycle))) ih)
-        go false ih = spends_nothing l t (names_lifecycle l m.lifecycle + waiting l ms) (names_lifecycle l m.lifecycle + waiting l ms) (omega arith)
+            (spends_then l (spends_all l (expired_events m.lifecycle) given_up x (waiting l ms) (omega (arith, ends_expiry P l m.lifecycle))) ih)
+        go false ih = spends_nothing l t (lifecycle_count l m.lifecycle + waiting l ms) (lifecycle_count l m.lifecycle + waiting l ms) (omega arith)
 
-    drops_waiting : (ms : List Queued) (t : Emitted P) → Spends l t (emitted_waiting ms t) (waiting l ms) (waiting l (filter is_partly ms))
+    drops_waiting : (ms : List Queued) (t : Emitted P) → Spends l t (emit_unsent ms t) (waiting l ms) (waiting l (filter is_partly ms))
     drops_waiting [] t = spends_nothing l t 0 0 (omega arith)
     drops_waiting (m ∷ ms) t = go (is_partly m) (drops_waiting ms)
       where
         given_up : Emitted P
-        given_up = give_up m.number Reset t
+        given_up = emit_given_up m.number Reset t
 
         said : Emitted P
-        said = emit_events (expiry m.lifecycle) given_up
+        said = emit_events (expired_events m.lifecycle) given_up
 
-        go : (b : Bool) → ((u : Emitted P) → Spends l u (emitted_waiting ms u) (waiting l ms) (waiting l (filter is_partly ms)))
-            → Spends l t (emitted_waiting ms (cond b t said)) (names_lifecycle l m.lifecycle + waiting l ms) (waiting l (cond b (m ∷ filter is_partly ms) (filter is_partly ms)))
+        go : (b : Bool) → ((u : Emitted P) → Spends l u (emit_unsent ms u) (waiting l ms) (waiting l (filter is_partly ms)))
+            → Spends l t (emit_unsent ms (cond b t said)) (lifecycle_count l m.lifecycle + waiting l ms) (waiting l (cond b (m ∷ filter is_partly ms) (filter is_partly ms)))
         go true ih =
-            spends_within l (names_lifecycle l m.lifecycle + waiting l ms) (waiting l (m ∷ filter is_partly ms)) (ih t) (omega arith)
+            spends_within l (lifecycle_count l m.lifecycle + waiting l ms) (waiting l (m ∷ filter is_partly ms)) (ih t) (omega arith)
         go false ih =
-            let x : ℕ = names_lifecycle l m.lifecycle + waiting l ms in
+            let x : ℕ = lifecycle_count l m.lifecycle + waiting l ms in
             spends_then l (spends_given_up l m.number Reset t x x (omega arith))
-            (spends_then l (spends_all l (expiry m.lifecycle) given_up x (waiting l ms) (omega (arith, ends_expiry P l m.lifecycle))) (ih said))
+            (spends_then l (spends_all l (expired_events m.lifecycle) given_up x (waiting l ms) (omega (arith, ends_expiry P l m.lifecycle))) (ih said))
 
     pub spends_prepared : (id : ℕ) (q : Queue) (t : Emitted P) → Spends l t (prepare_reset id q t).emitted (in_queue q) (in_queue (prepare_reset id q t).queue)
     spends_prepared id q t =
@@ -210,7 +210,7 @@ module _ (l : ℕ) where
     discards_from : (id : ℕ) (ss : Streams) (o : Option (Option ℕ)) (q : Queue) (t : Emitted P) → waiting_in l ss.entries + lost o ≤ in_queue q
         → Spends l t (discard_from id ss o q t).emitted (in_queue q) (in_queue (discard_from id ss o q t).queue)
     discards_from id ss None q t h = spends_nothing l t (in_queue q) (waiting_in l ss.entries) (omega (arith, h))
-    discards_from id ss (Some o) q t h = spends_all l (expiry o) t (in_queue q) (waiting_in l ss.entries) (omega (arith, h, ends_expiry P l o))
+    discards_from id ss (Some o) q t h = spends_all l (expired_events o) t (in_queue q) (waiting_in l ss.entries) (omega (arith, h, ends_expiry P l o))
 
     spends_discard : (id number : ℕ) (q : Queue) (t : Emitted P) → Spends l t (discard id number q t).emitted (in_queue q) (in_queue (discard id number q t).queue)
     spends_discard id number q t =
@@ -238,11 +238,11 @@ module _ (l : ℕ) where
     turns : (now id size : ℕ) (q : Queue) (t : Emitted P) → Spends l t (turn now id size q t).emitted (in_queue q) (after_turn (turn now id size q t))
     turns now id size q t =
         let s : Stream = stream id q.streams in
-        let first : Emitted P = drop_expired now s.messages t in
+        let first : Emitted P = emit_expired now s.messages t in
         let ss : Streams = streams_without_stale now id q.streams in
         let r : Stream = stream id ss in
         let x : Turn P = turn now id size q t in
-        spends_then l (spends_within l (in_queue q) (waiting_in l ss.entries) (drops_stale now s.messages t) (omega (arith, waiting_put id (without_stale now s) q.streams)))
+        spends_then l (spends_within l (in_queue q) (waiting_in l ss.entries) (emit_expired_spends now s.messages t) (omega (arith, waiting_put id (without_stale now s) q.streams)))
         (makes id (crosses (watched_amount r) (watched_amount (advance size r))) (crosses (watched_total ss) (watched_total (streams_after id size ss)))
         (next_fragment id size r) first (waiting_in l ss.entries) (after_turn x) (omega (arith, waiting_put id (advance size r) ss, waiting_advanced id size r)))
 

@@ -16,9 +16,9 @@ use Rattle.sctp_packet.proofs.LawLemmas.{one_packet_lem, never_both_lem}
 use Rattle.sctp_state.specs.Options.{Options}
 use Rattle.spec_endpoint.specs.Input.{on_packet}
 use Rattle.spec_endpoint.specs.Wire.{word_in, field_of, word_at}
-use Rattle.spec_endpoint.specs.Receiving.{policy_of, received, not_read}
+use Rattle.spec_endpoint.specs.Receiving.{policy_of, read, not_read}
 use Rattle.proof_endpoint.specs.Mapped.{Carried, as_written}
-use Rattle.proof_endpoint.specs.ReceivedBack.{IsHearable, as_received, WrittenPacketsAreReceived, WrittenPacketsAreOne}
+use Rattle.proof_endpoint.specs.ReceivedBack.{IsReceivable, as_received, WrittenPacketsAreReceived, WrittenPacketsAreOne}
 
 -- ---- the checksum
 
@@ -64,7 +64,7 @@ pub length_written : (h : HeaderTree) (field : ℕ) (cs : List ChunkTree) → le
 unfolding packet_bytes
 length_written h field cs = length_joined h field (chunks_bytes cs)
 
-pub is_accepted : (word_of : List ℕ → ℕ) (p : Carried) (o : Options) → IsHearable o p
+pub is_accepted : (word_of : List ℕ → ℕ) (p : Carried) (o : Options) → IsReceivable o p
     → Accepts (policy_of o) (word_at word_of (as_written word_of p)) (as_written word_of p) (as_received word_of p)
 is_accepted word_of p o h =
     let field : ℕ = field_of word_of p.header p.is_summed p.chunks in
@@ -77,10 +77,10 @@ is_accepted word_of p o h =
     }
 
 pub written_received : WrittenPacketsAreReceived
-written_received word_of p s h = received (as_received word_of p) (is_accepted word_of p s.endpoint_state.context.options h) refl
+written_received word_of p s h = read (as_received word_of p) (is_accepted word_of p s.endpoint_state.context.options h) refl
 
 pub written_alone : WrittenPacketsAreOne
-written_alone word_of p s t h (received q accepts e) =
+written_alone word_of p s t h (read q accepts e) =
     e ∙ ap (λ (x : PacketTree). on_packet x s)
     (one_packet_lem (as_written word_of p) q (as_received word_of p) accepts.packet (is_accepted word_of p s.endpoint_state.context.options h).packet)
 written_alone word_of p s t h (not_read fault is refuses e) =

@@ -7,7 +7,7 @@ use Rattle.sctp_wire.proofs.SerializeLemmas.{length_item_bytes, length_padded_it
 use Rattle.sctp_parameter.proofs.ParameterLemmas.{length_outgoing}
 use Rattle.sctp_packet.specs.Written.{chunk_item, chunk_value, chunk_bytes}
 use Rattle.spec_endpoint.specs.ResetRequests.{Request, ids, request_chunk}
-use Rattle.spec_endpoint.specs.Packets.{Packet, room, fits}
+use Rattle.spec_endpoint.specs.Packets.{PacketDraft, room, fits}
 use Rattle.spec_endpoint.specs.Sending.{most_streams}
 use Rattle.spec_endpoint.proofs.SizeLemmas.{size_of_chunk}
 
@@ -25,7 +25,7 @@ length_request_chunk : (r : Request) → length (chunk_bytes (request_chunk r)) 
 length_request_chunk r =
     omega (arith, sym (size_of_chunk (request_chunk r)), length_padded_item (chunk_item (request_chunk r)), length_request r, length_ids r.streams)
 
-pub request_fits : (p : Packet) (r : Request) → room p < 2 ^ 16 → 0 < length r.streams → length r.streams ≤ most_streams p → fits p (request_chunk r) ≡ true
+pub request_fits : (p : PacketDraft) (r : Request) → room p < 2 ^ 16 → 0 < length r.streams → length r.streams ≤ most_streams p → fits p (request_chunk r) ≡ true
 request_fits p r small some most =
     and_from _ _
     (and_from _ _ (lt-ltb (4 + length (chunk_item (request_chunk r)).value) (2 ^ 16) (omega (arith, length_request r, length_ids r.streams, small, some, most))) refl)

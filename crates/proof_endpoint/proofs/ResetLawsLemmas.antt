@@ -3,7 +3,7 @@ use Rattle.std.proofs.Common.{◌≡◌, ℕ, Bool, true, false, List, refl}
 use Rattle.std.proofs.lemmas.Bool.{lt-ltb}
 use Rattle.sctp_serial.specs.declared.api.StreamId.{StreamId}
 use Rattle.sctp_rx.specs.DataTracker.{number_of}
-use Rattle.spec_endpoint.specs.ResetRequests.{is_final, is_last, is_next}
+use Rattle.spec_endpoint.specs.ResetRequests.{is_final, is_last_request, is_next_request}
 use Rattle.spec_endpoint.specs.StreamReset.{Handling, is_ahead, resets_if, outgoing_by}
 use Rattle.spec_endpoint.specs.ResetLaws.{DoneRequestsAreAnswered, IsNotPerformed, ResetsWait, RequestsFit}
 use Rattle.proof_endpoint.proofs.RequestSizeLemmas.{request_fits}
@@ -26,7 +26,7 @@ waits_by false false d number last_tsn streams x e = record { context = refl; st
 
 pub resets_wait : ResetsWait
 resets_wait number last_tsn streams x h =
-    waits_by (is_last number x.tcb.requests) (is_next number x.tcb.requests) (is_final x.tcb.requests.result) number last_tsn streams x
+    waits_by (is_last_request number x.tcb.requests) (is_next_request number x.tcb.requests) (is_final x.tcb.requests.result) number last_tsn streams x
     (lt-ltb x.tcb.tracker.tracker.seen.front (number_of x.tcb.tracker last_tsn) h)
 
 pub requests_fit : RequestsFit

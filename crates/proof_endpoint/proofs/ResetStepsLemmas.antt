@@ -5,17 +5,17 @@ use Rattle.sctp_wire.specs.Parameter.{ParameterTree, outgoing_reset_request, inc
 use Rattle.sctp_packet.specs.Chunk.{re_config_chunk}
 use Rattle.sctp_state.specs.declared.api.ErrorKind.TheVariants.{ProtocolViolation}
 use Rattle.sctp_state.specs.declared.api.errors.ResetStreamsError.{ResetStreamsError}
-use Rattle.sctp_state.specs.Events.{OnIncomingStreamReset, OnStreamsResetPerformed, OnStreamsResetFailed, Emitted, emit_events, give_up, expiry, numbers_of}
+use Rattle.sctp_state.specs.Events.{OnIncomingStreamReset, OnStreamsResetPerformed, OnStreamsResetFailed, Emitted, emit_events, emit_given_up, expired_events, numbers_of}
 use Rattle.sctp_state.specs.declared.api.GivenUpCause.TheVariants.{Reset}
 use Rattle.sctp_tx_queue.specs.SendQueue.{Queued, Queue, stream}
-use Rattle.sctp_tx_queue.specs.Resets.{is_partly, emitted_waiting, prepare_reset}
+use Rattle.sctp_tx_queue.specs.Resets.{is_partly, emit_unsent, prepare_reset}
 use Rattle.spec_endpoint.specs.Association.{Tcb, Phase, Open, Context, EndpointState, with_context, Packing}
-use Rattle.spec_endpoint.specs.ResetRequests.{is_final, Outcome, Unsettled, Done, Denied, outcome, is_last, is_next, is_known}
-use Rattle.spec_endpoint.specs.Sending.{is_alone, send_in}
-use Rattle.spec_endpoint.specs.StreamReset.{Handling, handling, performs, is_ahead, resets_if, resets, outgoing_by, incoming_if, on_outcome, is_outgoing, on_parameter, Handled, handle_next, handle_all, send_responses, finished_if, on_reconfig, reset_refusal, prepare_stream, prepare_all, reset_if, reset_streams}
+use Rattle.spec_endpoint.specs.ResetRequests.{is_final, Outcome, Unsettled, Done, Denied, outcome, is_last_request, is_next_request, is_known_request}
+use Rattle.spec_endpoint.specs.Sending.{is_before_cookie_ack, send_in}
+use Rattle.spec_endpoint.specs.StreamReset.{Handling, handling, performs, is_ahead, resets_if, resets, outgoing_by, incoming_if, on_outcome, is_outgoing, on_parameter, HandledParameters, handle_next, handle_all, send_responses, finish_reconfig_if, on_reconfig, reset_refusal, prepare_reset_stream, prepare_all, reset_if, reset_streams}
 use Rattle.proof_endpoint.proofs.StepsLemmas.{Emits, most_bytes, Goes, Steps}
 use Rattle.proof_endpoint.proofs.EmitsLemmas.{quiet_expiry, emits_nothing, emits_given_up, emits_all, emits_then}
-use Rattle.proof_endpoint.proofs.GoesLemmas.{goes_by, goes_same, goes_then, goes_said, goes_complained, goes_emit_chunk}
+use Rattle.proof_endpoint.proofs.GoesLemmas.{goes_by, goes_same, goes_then, goes_said, goes_emit_error, goes_emit_chunk}
 use Rattle.proof_endpoint.proofs.SendingStepsLemmas.{goes_send_buffered}
 use Rattle.proof_endpoint.proofs.RowStepsLemmas.{StepsFrom, OpenSteps, steps_same, steps_where_open}
 use Rattle.proof_endpoint.proofs.CallStepsLemmas.{steps_send_in, steps_then}
@@ -27,14 +27,14 @@ module _ {P : Type 0} (pack : Packing P) (most : ℕ) where
   drops_if true t u h = emits_nothing pack most t
   drops_if false t u h = h
 
-  drops : (ms : List Queued) (t : Emitted P) → Emits pack most 0 t (emitted_waiting ms t)
+  drops : (ms : List Queued) (t : Emitted P) → Emits pack most 0 t (emit_unsent ms t)
   drops [] t = emits_nothing pack most t
   drops (m ∷ ms) t =
-      let given_up : Emitted P = give_up m.number Reset t in
-      let said : Emitted P = emit_events (expiry m.lifecycle) given_up in
+      let given_up : Emitted P = emit_given_up m.number Reset t in
+      let said : Emitted P = emit_events (expired_events m.lifecycle) given_up in
       let u : Emitted P = cond (is_partly m) t said in
-      emits_then pack most t u (emitted_waiting ms u)
-      (drops_if (is_partly m) t said (emits_then pack most t given_up said (emits_given_up pack most m.number Reset t) (emits_all pack most (expiry m.lifecycle) given_up (quiet_expiry P m.lifecycle))))
+      emits_then pack most t u (emit_unsent ms u)
+      (drops_if (is_partly m) t said (emits_then pack most t given_up said (emits_given_up pack most m.number Reset t) (emits_all pack most (expired_events m.lifecycle) given_up (quiet_expiry P m.lifecycle))))
       (drops ms u)
 
   emits_prepared : (id : ℕ) (q : Queue) (t : Emitted P) → Emits pack most 0 t (prepare_reset id q t).emitted
@@ -76,12 +76,12 @@ module _ {P : Type 0} where
 
   goes_parameter : (p : ParameterTree) (x : Handling P) → Goes 0 x.context (on_parameter p x).context
   goes_parameter (outgoing_reset_request number response last_tsn streams) x =
-      goes_outgoing_by (is_last number x.tcb.requests) (is_next number x.tcb.requests) (is_final x.tcb.requests.result) number last_tsn.0 streams x
-  goes_parameter (incoming_reset_request number streams) x = goes_incoming_if (is_known number x.tcb.requests) number x
+      goes_outgoing_by (is_last_request number x.tcb.requests) (is_next_request number x.tcb.requests) (is_final x.tcb.requests.result) number last_tsn.0 streams x
+  goes_parameter (incoming_reset_request number streams) x = goes_incoming_if (is_known_request number x.tcb.requests) number x
   goes_parameter (reset_response number result sender receiver) x = goes_on_outcome (outcome number result x.tcb.requests.current) x.context
   goes_parameter p x = goes_same x.context
 
-  goes_handle_next : (b : Bool) (rest : Handling P → Handled P) (p : ParameterTree) (x : Handling P)
+  goes_handle_next : (b : Bool) (rest : Handling P → HandledParameters P) (p : ParameterTree) (x : Handling P)
       → ((y : Handling P) → Goes 0 y.context (rest y).handling.context) → Goes 0 x.context (handle_next b rest p x).handling.context
   goes_handle_next true rest p x h = goes_same x.context
   goes_handle_next false rest p x h =
@@ -98,19 +98,19 @@ module _ {P : Type 0} where
   goes_send_responses (r ∷ rs) t c = goes_emit_chunk (re_config_chunk (r ∷ rs)) t c
 
   steps_finished_if : (b : Bool) (phase old : Phase) (u : Tcb) (c : Context P) (x : Handling P) → Goes 0 c x.context
-      → StepsFrom (Open old u) c (finished_if b phase x)
+      → StepsFrom (Open old u) c (finish_reconfig_if b phase x)
   steps_finished_if true phase old u c x g =
       let d : Context P = send_responses x.responses x.tcb x.context in
-      goes_then 0 c x.context (finished_if true phase x).context g
-      (goes_then 0 x.context d (finished_if true phase x).context (goes_send_responses x.responses x.tcb x.context) (goes_send_buffered d (is_alone phase) x.tcb))
+      goes_then 0 c x.context (finish_reconfig_if true phase x).context g
+      (goes_then 0 x.context d (finish_reconfig_if true phase x).context (goes_send_responses x.responses x.tcb x.context) (goes_send_buffered d (is_before_cookie_ack phase) x.tcb))
   steps_finished_if false phase old u c x g =
-      goes_then 0 c x.context (finished_if false phase x).context g
-      (goes_complained ProtocolViolation (codes "RE-CONFIG chunk must not have multiple Outgoing SSN Reset Request parameters") x.context)
+      goes_then 0 c x.context (finish_reconfig_if false phase x).context g
+      (goes_emit_error ProtocolViolation (codes "RE-CONFIG chunk must not have multiple Outgoing SSN Reset Request parameters") x.context)
 
   pub steps_reconfig : (ps : List ParameterTree) → OpenSteps (on_reconfig {P = P} ps)
-  steps_reconfig [] phase t c = goes_complained ProtocolViolation (codes "RE-CONFIG chunk must have at least one parameter") c
+  steps_reconfig [] phase t c = goes_emit_error ProtocolViolation (codes "RE-CONFIG chunk must have at least one parameter") c
   steps_reconfig (p ∷ ps) phase t c =
-      let h : Handled P = handle_all (p ∷ ps) false (handling t c) in
+      let h : HandledParameters P = handle_all (p ∷ ps) false (handling t c) in
       steps_finished_if h.is_whole phase phase t c h.handling (goes_handle_all (p ∷ ps) false (handling t c))
 
   -- ---- the call
@@ -118,7 +118,7 @@ module _ {P : Type 0} where
   goes_prepare_all : (ids : List ℕ) (c : Context P) → Goes 0 c (prepare_all ids c)
   goes_prepare_all [] c = goes_same c
   goes_prepare_all (id ∷ ids) c =
-      let d : Context P = prepare_stream id c in
+      let d : Context P = prepare_reset_stream id c in
       goes_then 0 c d (prepare_all ids d) (goes_by 0 c d refl refl (emits_prepared c.pack (most_bytes c) id c.queue c.emitted)) (goes_prepare_all ids d)
 
   steps_reset_if : (o : Option ResetStreamsError) (ids : List ℕ) (s : EndpointState P) → Steps s (reset_if o ids s)

@@ -7,16 +7,16 @@ use Rattle.sctp_packet.specs.Chunk.{SackTree, sack_chunk}
 use Rattle.sctp_packet.specs.Written.{chunks_bytes}
 use Rattle.sctp_state.specs.Options.{SendOptions, defaults}
 use Rattle.sctp_state.specs.TxErrorCounter.{ErrorCounter, no_errors}
-use Rattle.sctp_state.specs.Events.{silent}
+use Rattle.sctp_state.specs.Events.{nothing_emitted}
 use Rattle.sctp_tx_outstanding.specs.Sack.{acked_bytes}
 use Rattle.sctp_tx.specs.RetransmissionQueue.{Sender, handle_sack}
 use Rattle.spec_endpoint.specs.Association.{Tcb, Established, Open, Context, EndpointState, Endpoint, where_open, Packing}
 use Rattle.spec_endpoint.specs.Packets.{has_chunks, new_packet}
-use Rattle.spec_endpoint.specs.Sending.{Filling, turned_if, go_on, burst, sent_by, open_with}
-use Rattle.spec_endpoint.specs.Sack.{answered_if, sample_rtt, on_clean_sack, goes_on}
-use Rattle.spec_endpoint.specs.Shutdown.{onward}
-use Rattle.spec_endpoint.specs.Input.{counts, end_packet, taken_if}
-use Rattle.proof_endpoint.specs.FirstRun.{first_of, tag_of, sack_packet, delivered_events, give, quiet, resting, IsSmall}
+use Rattle.spec_endpoint.specs.Sending.{Filling, burst_step_if, continue_burst, burst, sent_by, open_with}
+use Rattle.spec_endpoint.specs.Sack.{errors_unless_progress, sample_rtt, on_clean_sack, send_after_sack}
+use Rattle.spec_endpoint.specs.Shutdown.{phase_step}
+use Rattle.spec_endpoint.specs.Input.{count_packet_at, on_packet_end, packet_if}
+use Rattle.proof_endpoint.specs.FirstRun.{first_of, tag_of, sack_packet, delivered_events, give, drained, resting, IsSmall}
 use Rattle.proof_endpoint.proofs.OpeningRunLemmas.{emitting, first_small, tag_some, own_taken, drawn, open_a}
 use Rattle.proof_endpoint.proofs.QueueRunLemmas.{emptied}
 use Rattle.proof_endpoint.proofs.IdleRunLemmas.{data_idle, none_kept}
@@ -24,7 +24,7 @@ use Rattle.proof_endpoint.proofs.SendRunLemmas.{sent_tcb, sent_end, sends}
 use Rattle.proof_endpoint.proofs.TakeRunLemmas.{near_first}
 
 -- where there were no errors, there are none
-none_again : (is_progress : Bool) (limit : Option ℕ) → answered_if is_progress (no_errors limit) ≡ no_errors limit
+none_again : (is_progress : Bool) (limit : Option ℕ) → errors_unless_progress is_progress (no_errors limit) ≡ no_errors limit
 none_again true limit = refl
 none_again false limit = refl
 
@@ -46,19 +46,19 @@ module _ {P : Type 0} (pack : Packing P) (a b : rng.Stream) (m : Message) (lifet
     received_context = record (open_a pack 3 3) { queue = emptied m o; counts = record { rx_packets = 3; tx_packets = 3; tx_messages = 1 } }
 
     abbrev acked_sender : Sender
-    acked_sender = handle_sack {P = P} 0 4294967296 window [] tcb.sender silent
+    acked_sender = handle_sack {P = P} 0 4294967296 window [] tcb.sender nothing_emitted
 
     abbrev pub rested_tcb : Tcb
     rested_tcb = sample_rtt (Some 0) (record tcb { sender = acked_sender })
 
     abbrev pub rested_end : Endpoint P
-    rested_end = record { endpoint_state = record { state = Open Established rested_tcb; context = received_context }; random = (next_u64 (drawn a)).1 }
+    rested_end = record { endpoint_state = record { state = Open Established rested_tcb; context = received_context }; draws = (next_u64 (drawn a)).1 }
 
     abbrev emitted_context : Context P
     emitted_context = record received_context { emitted = record { events = delivered_events lifecycle; given_up = [] } }
 
     abbrev rest : Filling P → Filling P
-    rest y = go_on (burst 3 false false) (turned_if (has_chunks y.packet) false y)
+    rest y = continue_burst (burst 3 false false) (burst_step_if (has_chunks y.packet) false y)
 
     bursts : burst 4 true false (record { packet = new_packet defaults rested_tcb; tcb = rested_tcb; context = emitted_context })
         ≡ record { packet = new_packet defaults rested_tcb; tcb = rested_tcb; context = emitted_context }
@@ -71,23 +71,23 @@ module _ {P : Type 0} (pack : Packing P) (a b : rng.Stream) (m : Message) (lifet
     abbrev k : SackTree
     k = record { cumulative_tsn_ack = first_of a; a_rwnd = window; gap_ack_blocks = []; duplicate_tsns = [] }
 
-    receives_by : on_clean_sack 4294967296 window [] Established tcb received_context ≡ goes_on rested_tcb (onward Established emitted_context)
+    receives_by : on_clean_sack 4294967296 window [] Established tcb received_context ≡ send_after_sack rested_tcb (phase_step Established emitted_context)
         → give (sack_packet a m) (sent_end pack a b m o) ≡ emitting (delivered_events lifecycle) rested_end
     receives_by acked =
-        ap (λ (r : Option (List ℕ)). taken_if r (tag_of a) (sack_chunk k ∷ []) (counts (sent_end pack a b m o)))
+        ap (λ (r : Option (List ℕ)). packet_if r (tag_of a) (sack_chunk k ∷ []) (count_packet_at (sent_end pack a b m o)))
         (own_taken (sack_chunk k) (tag_of a) (sent_end pack a b m o).endpoint_state.state refl refl refl refl (tag_some a) refl)
-        ∙ ap (λ (n : ℕ). record (sent_end pack a b m o) { endpoint_state = where_open end_packet (on_clean_sack n window [] Established tcb received_context) }) (near_first (first_of a) (first_small a))
-        ∙ ap (λ (s : EndpointState P). record (sent_end pack a b m o) { endpoint_state = where_open end_packet s }) acked
-        ∙ ap (λ (x : Filling P). record (sent_end pack a b m o) { endpoint_state = where_open end_packet (open_with Established (sent_by x)) }) bursts
+        ∙ ap (λ (n : ℕ). record (sent_end pack a b m o) { endpoint_state = where_open on_packet_end (on_clean_sack n window [] Established tcb received_context) }) (near_first (first_of a) (first_small a))
+        ∙ ap (λ (s : EndpointState P). record (sent_end pack a b m o) { endpoint_state = where_open on_packet_end s }) acked
+        ∙ ap (λ (x : Filling P). record (sent_end pack a b m o) { endpoint_state = where_open on_packet_end (open_with Established (sent_by x)) }) bursts
 
   -- what the SACK says, by the message's lifecycle
   acks : (lifecycle : Option ℕ) → on_clean_sack 4294967296 window [] Established (tcb lifecycle) (received_context lifecycle)
-      ≡ goes_on (rested_tcb lifecycle) (onward Established (emitted_context lifecycle))
+      ≡ send_after_sack (rested_tcb lifecycle) (phase_step Established (emitted_context lifecycle))
   acks None =
-      ap (λ (e : ErrorCounter). goes_on (rested_tcb None) (onward Established (record (emitted_context None) { errors = e })))
+      ap (λ (e : ErrorCounter). send_after_sack (rested_tcb None) (phase_step Established (record (emitted_context None) { errors = e })))
       (none_again (nat_lt 0 (acked_bytes 4294967296 [] (tcb None).sender.outstanding.items)) (Some 10))
   acks (Some id) =
-      ap (λ (e : ErrorCounter). goes_on (rested_tcb (Some id)) (onward Established (record (emitted_context (Some id)) { errors = e })))
+      ap (λ (e : ErrorCounter). send_after_sack (rested_tcb (Some id)) (phase_step Established (record (emitted_context (Some id)) { errors = e })))
       (none_again (nat_lt 0 (acked_bytes 4294967296 [] (tcb (Some id)).sender.outstanding.items)) (Some 10))
 
   pub receives_sack : (lifecycle : Option ℕ) → give (sack_packet a m) (sent_end pack a b m (options lifecycle)) ≡ emitting (delivered_events lifecycle) (rested_end lifecycle)
@@ -96,5 +96,5 @@ module _ {P : Type 0} (pack : Packing P) (a b : rng.Stream) (m : Message) (lifet
 module _ {P : Type 0} (pack : Packing P) (a b : rng.Stream) (m : Message) (o : SendOptions) (small : IsSmall m) where
   pub rests : resting pack a b m o ≡ emitting (delivered_events o.lifecycle_id) (rested_end pack a b m o.lifetime o.max_retransmissions o.unordered o.lifecycle_id)
   rests =
-      ap (λ (s : Endpoint P). give (sack_packet a m) (quiet s)) (sends pack a b m o small)
+      ap (λ (s : Endpoint P). give (sack_packet a m) (drained s)) (sends pack a b m o small)
       ∙ receives_sack pack a b m o.lifetime o.max_retransmissions o.unordered o.lifecycle_id

@@ -10,19 +10,19 @@ use Rattle.sctp_state.specs.Events.{Event, OnClosed, OnAborted}
 use Rattle.sctp_state.specs.RetransmissionTimeout.{observe_rto}
 use Rattle.sctp_tx_outstanding.specs.Sack.{is_valid}
 use Rattle.sctp_rx.specs.DataTracker as tracker
-use Rattle.sctp_tx.specs.RetransmissionQueue.{is_quiet, SackAnswer, Invalid, Valid, sender_if, emitted_if, answer_if}
+use Rattle.sctp_tx.specs.RetransmissionQueue.{nothing_in_flight, SackAnswer, Invalid, Valid, sender_if, emitted_if, answer_if}
 use Rattle.spec_endpoint.specs.Association.{Tcb, Phase, CookieEchoed, Established, ShutdownPending, ShutdownSent, ShutdownReceived, ShutdownAckSent, State, Closed, CookieWait, Open, Context, EndpointState, where_open}
-use Rattle.spec_endpoint.specs.Packets.{Packet, packet_to, emit_chunk}
-use Rattle.spec_endpoint.specs.Sending.{Sent, is_alone, send_lost}
-use Rattle.spec_endpoint.specs.Shutdown.{t2_shutdown, close_with, send_shutdown, send_shutdown_ack, Onward, pending, received, go_on, shut_down, shutdown_in, shutdown, shut_by_peer, on_shutdown, complete_shutdown, out_of_the_blue, on_shutdown_ack_open, on_shutdown_ack_in, on_shutdown_ack, on_shutdown_complete, abort, close_in, close, too_many, violate, causes_text, on_abort, on_error}
-use Rattle.spec_endpoint.specs.Data.{no_data, on_no_data, not_connected, takes, take_fragment, taken_if, on_data_in, on_data_if, on_data, forward_to, forwarded_if, forwarded_in, on_forward}
+use Rattle.spec_endpoint.specs.Packets.{PacketDraft, packet_to, emit_chunk}
+use Rattle.spec_endpoint.specs.Sending.{AfterSending, is_before_cookie_ack, send_lost}
+use Rattle.spec_endpoint.specs.Shutdown.{t2_shutdown, close_with, send_shutdown, send_shutdown_ack, PhaseStep, pending_next, received_next, maybe_send_shutdown_or_ack, shutdown_in_phase, shutdown_in, shutdown, shut_by_peer, on_shutdown, complete_shutdown, out_of_the_blue, on_shutdown_ack_open, on_shutdown_ack_in, on_shutdown_ack, on_shutdown_complete, abort, close_in, close, too_many, abort_for_violation, causes_text, on_abort, on_error}
+use Rattle.spec_endpoint.specs.Data.{no_data, on_no_data, not_connected, accepts_tsn, take_fragment, fragment_if, on_data_in, on_data_if, on_data, handle_forward_tsn, handle_forward_tsn_if, handle_forward_tsn_in, on_forward}
 use Rattle.spec_endpoint.specs.Sack.{clean_blocks, sample_rtt, clear_errors_if, send_after, after_sack, no_block, on_sack_in, on_sack}
 use Rattle.spec_endpoint.specs.Input.{misuse, violation}
 use Rattle.spec_endpoint.specs.Laws.{Call, Shutdown, ending, is_closed}
 use Rattle.proof_endpoint.specs.Fair.{IsFairCause}
-use Rattle.proof_endpoint.specs.Acts.{always, EndWithPacket, idle, in_open, IsReceived, Fitting, point_of, closes, shuts, shuts_on, takes_data, takes_idata, takes_forward, takes_iforward, takes_sack, samples, counts_errors, Preserves}
-use Rattle.proof_endpoint.proofs.OwnLemmas.{fair_user_abort, fair_abort, fair_error, fair_shutdown, fair_shutdown_ack, fair_complete}
-use Rattle.proof_endpoint.proofs.PacketActsLemmas.{whole_addressed, does_plain, does_chunk, does_complain, does_send_buffered, does_send_lost}
+use Rattle.proof_endpoint.specs.Acts.{always, EndWithPacket, idle, in_open, BringsChunk, Fitting, point_of, closes, shuts, shuts_on, takes_data, takes_idata, takes_forward, takes_iforward, takes_sack, samples, counts_errors, Preserves}
+use Rattle.proof_endpoint.proofs.OwnChunksLemmas.{fair_user_abort, fair_abort, fair_error, fair_shutdown, fair_shutdown_ack, fair_complete}
+use Rattle.proof_endpoint.proofs.PacketActsLemmas.{whole_addressed, does_plain, does_chunk, does_emit_error, does_send_buffered, does_send_lost}
 
 -- an end with this endpoint state and this random stream, and nothing begun
 abbrev pub placed : {P : Type 0} → EndpointState P → Stream → EndWithPacket P
@@ -52,28 +52,28 @@ module _ {P : Type 0} {call : Call} {R : EndWithPacket P → EndWithPacket P →
   does_send_shutdown_ack phase t c = does_chunk k shutdown_ack_chunk phase t c w refl (λ f. fair_shutdown_ack)
 
   -- to another phase of a shutdown
-  pub does_shut_on : (phase next : Phase) (t : Tcb) (c : Context P) → is_alone phase ≡ false → is_alone next ≡ false
+  pub does_shut_on : (phase next : Phase) (t : Tcb) (c : Context P) → is_before_cookie_ack phase ≡ false → is_before_cookie_ack next ≡ false
       → R (idle (Open phase t) c w) (idle (Open next t) c w)
   does_shut_on phase next t c late later = k.closing (shuts_on phase next t (idle (Open phase t) c w) late later)
 
   does_pending : (b : Bool) (t : Tcb) (c : Context P)
-      → R (idle (Open ShutdownPending t) c w) (idle (Open (pending b t c).phase t) (pending b t c).context w)
+      → R (idle (Open ShutdownPending t) c w) (idle (Open (pending_next b t c).phase t) (pending_next b t c).context w)
   does_pending true t c =
       k.through (does_shut_on ShutdownPending (ShutdownSent (t2_shutdown t c)) t c refl refl) (does_send_shutdown (ShutdownSent (t2_shutdown t c)) t c)
   does_pending false t c = k.same (idle (Open ShutdownPending t) c w)
 
   does_received : (b : Bool) (t : Tcb) (c : Context P)
-      → R (idle (Open ShutdownReceived t) c w) (idle (Open (received b t c).phase t) (received b t c).context w)
+      → R (idle (Open ShutdownReceived t) c w) (idle (Open (received_next b t c).phase t) (received_next b t c).context w)
   does_received true t c =
       k.through (does_shut_on ShutdownReceived (ShutdownAckSent (t2_shutdown t c)) t c refl refl) (does_send_shutdown_ack (ShutdownAckSent (t2_shutdown t c)) t c)
   does_received false t c = k.same (idle (Open ShutdownReceived t) c w)
 
-  does_on : (phase : Phase) (t : Tcb) (c : Context P) → R (idle (Open phase t) c w) (idle (Open (go_on phase t c).phase t) (go_on phase t c).context w)
+  does_on : (phase : Phase) (t : Tcb) (c : Context P) → R (idle (Open phase t) c w) (idle (Open (maybe_send_shutdown_or_ack phase t c).phase t) (maybe_send_shutdown_or_ack phase t c).context w)
   does_on (CookieEchoed t1 cookie) t c = k.same (idle (Open (CookieEchoed t1 cookie) t) c w)
   does_on Established t c = k.same (idle (Open Established t) c w)
-  does_on ShutdownPending t c = does_pending (is_quiet t.sender.outstanding.items) t c
+  does_on ShutdownPending t c = does_pending (nothing_in_flight t.sender.outstanding.items) t c
   does_on (ShutdownSent t2) t c = k.same (idle (Open (ShutdownSent t2) t) c w)
-  does_on ShutdownReceived t c = does_received (is_quiet t.sender.outstanding.items) t c
+  does_on ShutdownReceived t c = does_received (nothing_in_flight t.sender.outstanding.items) t c
   does_on (ShutdownAckSent t2) t c = k.same (idle (Open (ShutdownAckSent t2) t) c w)
 
   -- the association is over
@@ -97,7 +97,7 @@ module _ {P : Type 0} {call : Call} {R : EndWithPacket P → EndWithPacket P →
   -- ---- the call for a shutdown, and its chunks
 
   does_shut : (phase : Phase) (t : Tcb) (c : Context P) → call ≡ Shutdown
-      → R (idle (Open phase t) c w) (idle (Open (shut_down phase t c).phase t) (shut_down phase t c).context w)
+      → R (idle (Open phase t) c w) (idle (Open (shutdown_in_phase phase t c).phase t) (shutdown_in_phase phase t c).context w)
   does_shut (CookieEchoed t1 cookie) t c is =
       k.through (k.closing (shuts (CookieEchoed t1 cookie) t (idle (Open (CookieEchoed t1 cookie) t) c w) is refl)) (does_on ShutdownPending t c)
   does_shut Established t c is =
@@ -132,10 +132,10 @@ module _ {P : Type 0} {call : Call} {R : EndWithPacket P → EndWithPacket P →
       k.through (does_chunk k (shutdown_complete_chunk false) phase t c w refl (λ f. fair_complete false))
       (does_closed OnClosed (Open phase t) (emit_chunk (shutdown_complete_chunk false) t c) refl refl)
 
-  module _ (tag : ℕ) (h : IsReceived call tag shutdown_ack_chunk) where
+  module _ (tag : ℕ) (h : BringsChunk call tag shutdown_ack_chunk) where
     does_out_of_the_blue : (s : State) (c : Context P) → R (idle s c w) (idle s (out_of_the_blue tag c) w)
     does_out_of_the_blue s c =
-        let p : Packet = packet_to tag c.options.mtu in
+        let p : PacketDraft = packet_to tag c.options.mtu in
         does_plain k (shutdown_complete_chunk true) p s c w refl refl (always refl)
         (whole_addressed s c w p refl (λ f held. (f.chunks tag shutdown_ack_chunk h).0)) (λ f. fair_complete true)
 
@@ -168,20 +168,20 @@ module _ {P : Type 0} {call : Call} {R : EndWithPacket P → EndWithPacket P →
       does_aborted (user_initiated_abort (codes "Too many retransmissions")) (OnAborted TooManyRetries (codes "Too many retransmissions")) phase t c refl
       (fair_user_abort (codes "Too many retransmissions") refl)
 
-  pub does_violated : (reason : List ℕ) → IsUtf8 reason → OpenActs R w (λ phase t c. violate reason t c)
-  does_violated reason text phase t c =
+  pub does_abort_for_violation : (reason : List ℕ) → IsUtf8 reason → OpenActs R w (λ phase t c. abort_for_violation reason t c)
+  does_abort_for_violation reason text phase t c =
       does_aborted (protocol_violation reason) (OnAborted ProtocolViolation reason) phase t c refl (record { fits = tt; text = text; of_its_variant = tt })
 
   pub does_abort : (causes : List CauseTree) → OpenActs R w (on_abort causes)
   does_abort causes phase t c = does_closed (OnAborted PeerReported (causes_text causes)) (Open phase t) c refl refl
 
   pub does_error : (causes : List CauseTree) → OpenActs R w (on_error causes)
-  does_error causes phase t c = does_complain k PeerReported (causes_text causes) (Open phase t) c w
+  does_error causes phase t c = does_emit_error k PeerReported (causes_text causes) (Open phase t) c w
 
   -- ---- data
 
   does_no_data : (s : State) (c : Context P) → R (idle s c w) (idle s (no_data c) w)
-  does_no_data s c = does_complain k ProtocolViolation (codes "Received DATA chunk with no user data") s c w
+  does_no_data s c = does_emit_error k ProtocolViolation (codes "Received DATA chunk with no user data") s c w
 
   does_on_no_data : (tsn : ℕ) (s : State) (c : Context P) → (Fitting call → tsn < 2 ^ 32) → R (idle s c w) (idle s (on_no_data tsn s c) w)
   does_on_no_data tsn Closed c small = does_no_data Closed c
@@ -192,17 +192,17 @@ module _ {P : Type 0} {call : Call} {R : EndWithPacket P → EndWithPacket P →
       (does_chunk k (error_chunk (cause ∷ [])) phase t (no_data c) w refl (λ f. fair_error cause (record { fits = small f; text = tt; of_its_variant = tt })))
 
   does_not_connected : (s : State) (c : Context P) → R (idle s c w) (idle s (not_connected c) w)
-  does_not_connected s c = does_complain k NotConnected (codes "Received unexpected commands on socket that is not connected") s c w
+  does_not_connected s c = does_emit_error k NotConnected (codes "Received unexpected commands on socket that is not connected") s c w
 
   -- a fragment that came in such a chunk may be taken
   abbrev pub MayTake : (chunk : ChunkTree) (tsn : ℕ) (is_immediate : Bool) (f : FragmentTree) → Type 0
   MayTake chunk tsn is_immediate f =
-      (phase : Phase) (t : Tcb) (m : EndWithPacket P) → misuse t.capabilities chunk ≡ None → (length f.payload == 0) ≡ false → takes tsn t ≡ true
+      (phase : Phase) (t : Tcb) (m : EndWithPacket P) → misuse t.capabilities chunk ≡ None → (length f.payload == 0) ≡ false → accepts_tsn tsn t ≡ true
       → R (in_open phase t m) (in_open phase (take_fragment tsn is_immediate f t) m)
 
   does_taken_if : (chunk : ChunkTree) (tsn : ℕ) (is_immediate : Bool) (f : FragmentTree) → MayTake chunk tsn is_immediate f → (b : Bool) (phase : Phase) (t : Tcb)
-      (c : Context P) → misuse t.capabilities chunk ≡ None → (length f.payload == 0) ≡ false → takes tsn t ≡ b
-      → R (idle (Open phase t) c w) (idle (Open phase (taken_if b tsn is_immediate f t)) c w)
+      (c : Context P) → misuse t.capabilities chunk ≡ None → (length f.payload == 0) ≡ false → accepts_tsn tsn t ≡ b
+      → R (idle (Open phase t) c w) (idle (Open phase (fragment_if b tsn is_immediate f t)) c w)
   does_taken_if chunk tsn is_immediate f may true phase t c right some is = may phase t (idle (Open phase t) c w) right some is
   does_taken_if chunk tsn is_immediate f may false phase t c right some is = k.same (idle (Open phase t) c w)
 
@@ -210,21 +210,21 @@ module _ {P : Type 0} {call : Call} {R : EndWithPacket P → EndWithPacket P →
       → violation s chunk ≡ None → (length f.payload == 0) ≡ false → R (idle s c w) (placed (on_data_in s tsn is_immediate f c) w)
   does_data_in chunk tsn is_immediate f may Closed c right some = does_not_connected Closed c
   does_data_in chunk tsn is_immediate f may (CookieWait tag first t1) c right some = does_not_connected (CookieWait tag first t1) c
-  does_data_in chunk tsn is_immediate f may (Open phase t) c right some = does_taken_if chunk tsn is_immediate f may (takes tsn t) phase t c right some refl
+  does_data_in chunk tsn is_immediate f may (Open phase t) c right some = does_taken_if chunk tsn is_immediate f may (accepts_tsn tsn t) phase t c right some refl
 
   does_data_if : (chunk : ChunkTree) (tsn : ℕ) (is_immediate : Bool) (f : FragmentTree) → MayTake chunk tsn is_immediate f → (b : Bool) (s : EndpointState P)
       → (Fitting call → tsn < 2 ^ 32) → violation s.state chunk ≡ None → (length f.payload == 0) ≡ b → R (placed s w) (placed (on_data_if b tsn is_immediate f s) w)
   does_data_if chunk tsn is_immediate f may true s small right is = does_on_no_data tsn s.state s.context small
   does_data_if chunk tsn is_immediate f may false s small right is = does_data_in chunk tsn is_immediate f may s.state s.context right is
 
-  pub does_data_chunk : (tag tsn : ℕ) (is_immediate : Bool) (f : FragmentTree) (s : EndpointState P) → IsReceived call tag (data_chunk tsn is_immediate f)
+  pub does_data_chunk : (tag tsn : ℕ) (is_immediate : Bool) (f : FragmentTree) (s : EndpointState P) → BringsChunk call tag (data_chunk tsn is_immediate f)
       → violation s.state (data_chunk tsn is_immediate f) ≡ None → R (placed s w) (placed (on_data tsn is_immediate f s) w)
   does_data_chunk tag tsn is_immediate f s h right =
       does_data_if (data_chunk tsn is_immediate f) tsn is_immediate f
       (λ phase t m fine some is. k.data_acts (takes_data tag tsn is_immediate f phase t m h fine some is)) (length f.payload == 0) s
       (λ g. (g.chunks tag (data_chunk tsn is_immediate f) h).1) right refl
 
-  pub does_idata_chunk : (tag tsn : ℕ) (is_immediate : Bool) (f : FragmentTree) (s : EndpointState P) → IsReceived call tag (idata_chunk tsn is_immediate f)
+  pub does_idata_chunk : (tag tsn : ℕ) (is_immediate : Bool) (f : FragmentTree) (s : EndpointState P) → BringsChunk call tag (idata_chunk tsn is_immediate f)
       → violation s.state (idata_chunk tsn is_immediate f) ≡ None → R (placed s w) (placed (on_data tsn is_immediate f s) w)
   does_idata_chunk tag tsn is_immediate f s h right =
       does_data_if (idata_chunk tsn is_immediate f) tsn is_immediate f
@@ -236,28 +236,28 @@ module _ {P : Type 0} {call : Call} {R : EndWithPacket P → EndWithPacket P →
   abbrev pub MayForward : (chunk : ChunkTree) (tsn : ℕ) (skipped : List SkippedStream) → Type 0
   MayForward chunk tsn skipped =
       (phase : Phase) (t : Tcb) (m : EndWithPacket P) → misuse t.capabilities chunk ≡ None → tracker.is_valid t.tracker.tracker (tracker.number_of t.tracker tsn) ≡ true
-      → R (in_open phase t m) (in_open phase (forward_to tsn skipped t) m)
+      → R (in_open phase t m) (in_open phase (handle_forward_tsn tsn skipped t) m)
 
   does_forwarded_if : (chunk : ChunkTree) (tsn : ℕ) (skipped : List SkippedStream) → MayForward chunk tsn skipped → (b : Bool) (phase : Phase) (t : Tcb)
       (c : Context P) → misuse t.capabilities chunk ≡ None → tracker.is_valid t.tracker.tracker (tracker.number_of t.tracker tsn) ≡ b
-      → R (idle (Open phase t) c w) (idle (Open phase (forwarded_if b tsn skipped t)) c w)
+      → R (idle (Open phase t) c w) (idle (Open phase (handle_forward_tsn_if b tsn skipped t)) c w)
   does_forwarded_if chunk tsn skipped may true phase t c right is = may phase t (idle (Open phase t) c w) right is
   does_forwarded_if chunk tsn skipped may false phase t c right is = k.same (idle (Open phase t) c w)
 
   does_forward_in : (chunk : ChunkTree) (tsn : ℕ) (skipped : List SkippedStream) → MayForward chunk tsn skipped → (s : State) (c : Context P)
-      → violation s chunk ≡ None → R (idle s c w) (idle (forwarded_in s tsn skipped) c w)
+      → violation s chunk ≡ None → R (idle s c w) (idle (handle_forward_tsn_in s tsn skipped) c w)
   does_forward_in chunk tsn skipped may Closed c right = k.same (idle Closed c w)
   does_forward_in chunk tsn skipped may (CookieWait tag first t1) c right = k.same (idle (CookieWait tag first t1) c w)
   does_forward_in chunk tsn skipped may (Open phase t) c right =
       does_forwarded_if chunk tsn skipped may (tracker.is_valid t.tracker.tracker (tracker.number_of t.tracker tsn)) phase t c right refl
 
-  pub does_forward_chunk : (tag tsn : ℕ) (skipped : List SkippedStream) (s : EndpointState P) → IsReceived call tag (forward_tsn_chunk tsn skipped)
+  pub does_forward_chunk : (tag tsn : ℕ) (skipped : List SkippedStream) (s : EndpointState P) → BringsChunk call tag (forward_tsn_chunk tsn skipped)
       → violation s.state (forward_tsn_chunk tsn skipped) ≡ None → R (placed s w) (placed (on_forward tsn skipped s) w)
   does_forward_chunk tag tsn skipped s h right =
       does_forward_in (forward_tsn_chunk tsn skipped) tsn skipped (λ phase t m fine is. k.data_acts (takes_forward tag tsn skipped phase t m h fine is)) s.state
       s.context right
 
-  pub does_iforward_chunk : (tag tsn : ℕ) (skipped : List SkippedStream) (s : EndpointState P) → IsReceived call tag (i_forward_tsn_chunk tsn skipped)
+  pub does_iforward_chunk : (tag tsn : ℕ) (skipped : List SkippedStream) (s : EndpointState P) → BringsChunk call tag (i_forward_tsn_chunk tsn skipped)
       → violation s.state (i_forward_tsn_chunk tsn skipped) ≡ None → R (placed s w) (placed (on_forward tsn skipped s) w)
   does_iforward_chunk tag tsn skipped s h right =
       does_forward_in (i_forward_tsn_chunk tsn skipped) tsn skipped (λ phase t m fine is. k.data_acts (takes_iforward tag tsn skipped phase t m h fine is)) s.state
@@ -266,10 +266,10 @@ module _ {P : Type 0} {call : Call} {R : EndWithPacket P → EndWithPacket P →
   -- ---- acknowledgements
 
   does_send_after : (phase : Phase) (t : Tcb) (c : Context P)
-      → R (idle (Open phase t) c w) (idle (Open phase (send_after (is_alone phase) t c).tcb) (send_after (is_alone phase) t c).context w)
+      → R (idle (Open phase t) c w) (idle (Open phase (send_after (is_before_cookie_ack phase) t c).tcb) (send_after (is_before_cookie_ack phase) t c).context w)
   does_send_after phase t c =
-      let x : Sent P = send_lost t c in
-      k.through (does_send_lost k phase w t c) (does_send_buffered k phase w (is_alone phase) x.tcb x.context)
+      let x : AfterSending P = send_lost t c in
+      k.through (does_send_lost k phase w t c) (does_send_buffered k phase w (is_before_cookie_ack phase) x.tcb x.context)
 
   does_sampled : (o : Option ℕ) (phase : Phase) (t : Tcb) (c : Context P) → R (idle (Open phase t) c w) (idle (Open phase (sample_rtt o t)) c w)
   does_sampled None phase t c = k.same (idle (Open phase t) c w)
@@ -283,11 +283,11 @@ module _ {P : Type 0} {call : Call} {R : EndWithPacket P → EndWithPacket P →
   does_receive (Valid rtt is_progress) phase t c =
       let d : Context P = clear_errors_if is_progress c in
       let u : Tcb = sample_rtt rtt t in
-      let o : Onward P = go_on phase u d in
+      let o : PhaseStep P = maybe_send_shutdown_or_ack phase u d in
       k.through (does_sampled rtt phase t c)
       (k.through (does_answered is_progress (Open phase u) c) (k.through (does_on phase u d) (does_send_after o.phase u o.context)))
 
-  does_sack_if : (b : Bool) (tag : ℕ) (a : SackTree) (phase : Phase) (t : Tcb) (c : Context P) → IsReceived call tag (sack_chunk a)
+  does_sack_if : (b : Bool) (tag : ℕ) (a : SackTree) (phase : Phase) (t : Tcb) (c : Context P) → BringsChunk call tag (sack_chunk a)
       → is_valid (point_of a t) (clean_blocks a.gap_ack_blocks) t.sender.outstanding.items ≡ b
       → R (idle (Open phase t) c w) (placed (after_sack (answer_if b c.now (point_of a t) (clean_blocks a.gap_ack_blocks) t.sender) phase
       (record t { sender = sender_if b c.now (point_of a t) a.a_rwnd (clean_blocks a.gap_ack_blocks) t.sender c.emitted })
@@ -300,13 +300,13 @@ module _ {P : Type 0} {call : Call} {R : EndWithPacket P → EndWithPacket P →
   does_sack_if false tag a phase t c h is = k.same (idle (Open phase t) c w)
 
   does_no_block : (s : State) (c : Context P) → R (idle s c w) (idle s (no_block c) w)
-  does_no_block s c = does_complain k NotConnected (codes "No TCB") s c w
+  does_no_block s c = does_emit_error k NotConnected (codes "No TCB") s c w
 
-  does_sack_in : (s : State) (tag : ℕ) (a : SackTree) (c : Context P) → IsReceived call tag (sack_chunk a) → R (idle s c w) (placed (on_sack_in s a c) w)
+  does_sack_in : (s : State) (tag : ℕ) (a : SackTree) (c : Context P) → BringsChunk call tag (sack_chunk a) → R (idle s c w) (placed (on_sack_in s a c) w)
   does_sack_in Closed tag a c h = does_no_block Closed c
   does_sack_in (CookieWait my_tag first t1) tag a c h = does_no_block (CookieWait my_tag first t1) c
   does_sack_in (Open phase t) tag a c h =
       does_sack_if (is_valid (point_of a t) (clean_blocks a.gap_ack_blocks) t.sender.outstanding.items) tag a phase t c h refl
 
-  pub does_sack : (tag : ℕ) (a : SackTree) (s : EndpointState P) → IsReceived call tag (sack_chunk a) → R (placed s w) (placed (on_sack a s) w)
+  pub does_sack : (tag : ℕ) (a : SackTree) (s : EndpointState P) → BringsChunk call tag (sack_chunk a) → R (placed s w) (placed (on_sack a s) w)
   does_sack tag a s h = does_sack_in s.state tag a s.context h

@@ -9,23 +9,23 @@ use Rattle.sctp_state.specs.Events.{Event, OnClosed, OnAborted, Emitted}
 use Rattle.sctp_tx_outstanding.specs.OutstandingData.{number_of}
 use Rattle.sctp_tx_outstanding.specs.Sack.{is_valid}
 use Rattle.sctp_rx.specs.DataTracker as tracker
-use Rattle.sctp_tx.specs.RetransmissionQueue.{Sender, SackAnswer, Invalid, Valid, sender_if, emitted_if, answer_if, is_quiet}
+use Rattle.sctp_tx.specs.RetransmissionQueue.{Sender, SackAnswer, Invalid, Valid, sender_if, emitted_if, answer_if, nothing_in_flight}
 use Rattle.spec_endpoint.specs.Association.{Tcb, Phase, CookieEchoed, Established, ShutdownPending, ShutdownSent, ShutdownReceived, ShutdownAckSent, State, Closed, CookieWait, Open, Heartbeats, Context, EndpointState, where_open}
-use Rattle.spec_endpoint.specs.Heartbeats.{silence}
-use Rattle.spec_endpoint.specs.Packets.{add, packet_to, complain, emit_chunk}
-use Rattle.spec_endpoint.specs.Sending.{Sent, is_alone, open_with, send_buffered, send_lost}
-use Rattle.spec_endpoint.specs.Shutdown.{over, close_with, t2_shutdown, send_shutdown, send_shutdown_ack, Onward, onward, pending, received, go_on, shut_down, open_onward, shutdown_in, shutdown, shut_by_peer, on_shutdown, complete_shutdown, out_of_the_blue, on_shutdown_ack_open, on_shutdown_ack_in, on_shutdown_ack, on_shutdown_complete, abort, close_in, close, too_many, violate, causes_text, on_abort, on_error}
+use Rattle.spec_endpoint.specs.Heartbeats.{stop_heartbeats}
+use Rattle.spec_endpoint.specs.Packets.{add, packet_to, emit_error, emit_chunk}
+use Rattle.spec_endpoint.specs.Sending.{AfterSending, is_before_cookie_ack, open_with, send_buffered, send_lost}
+use Rattle.spec_endpoint.specs.Shutdown.{over, close_with, t2_shutdown, send_shutdown, send_shutdown_ack, PhaseStep, phase_step, pending_next, received_next, maybe_send_shutdown_or_ack, shutdown_in_phase, open_phase_step, shutdown_in, shutdown, shut_by_peer, on_shutdown, complete_shutdown, out_of_the_blue, on_shutdown_ack_open, on_shutdown_ack_in, on_shutdown_ack, on_shutdown_complete, abort, close_in, close, too_many, abort_for_violation, causes_text, on_abort, on_error}
 use Rattle.spec_endpoint.specs.Data.{no_data, on_no_data, not_connected, on_data_in, on_data_if, on_data, on_forward}
 use Rattle.spec_endpoint.specs.Sack.{clean_blocks, sample_rtt, clear_errors_if, send_after, after_sack, on_clean_sack, no_block, on_sack_in, on_sack}
 use Rattle.spec_endpoint.specs.Sack as acks
 use Rattle.proof_endpoint.specs.Mapped.{Mapping, map_event, map_emitted, map_context, map_endpoint_state}
 use Rattle.proof_endpoint.proofs.EmittedMapsLemmas.{same_sender, maps_sack}
-use Rattle.proof_endpoint.proofs.SendingMapsLemmas.{map_sent, maps_say, maps_complain, maps_emit, maps_emit_chunk, maps_send_buffered, maps_send_lost}
+use Rattle.proof_endpoint.proofs.SendingMapsLemmas.{map_sent, maps_say, maps_emit_error, maps_emit, maps_emit_chunk, maps_send_buffered, maps_send_lost}
 
 abbrev pub endpoint_state_in : {P : Type 0} → State → Context P → EndpointState P
 endpoint_state_in st c = record { state = st; context = c }
 
-abbrev map_onward : {P Q : Type 0} → Mapping P Q → Onward P → Onward Q
+abbrev map_onward : {P Q : Type 0} → Mapping P Q → PhaseStep P → PhaseStep Q
 map_onward f o = record { phase = o.phase; context = map_context f o.context }
 
 -- a row for states with a control block
@@ -55,8 +55,8 @@ module _ {P Q : Type 0} (f : Mapping P Q) where
   pub maps_in_state : (st : State) (c : Context P) (d : Context Q) → d ≡ map_context f c → endpoint_state_in st d ≡ map_endpoint_state f (endpoint_state_in st c)
   maps_in_state st c d h = ap (λ (e : Context Q). endpoint_state_in st e) h
 
-  maps_onward : (phase : Phase) (c : Context P) (d : Context Q) → d ≡ map_context f c → onward phase d ≡ map_onward f (onward phase c)
-  maps_onward phase c d h = ap (λ (e : Context Q). onward phase e) h
+  maps_onward : (phase : Phase) (c : Context P) (d : Context Q) → d ≡ map_context f c → phase_step phase d ≡ map_onward f (phase_step phase c)
+  maps_onward phase c d h = ap (λ (e : Context Q). phase_step phase e) h
 
   -- ---- shutdown and aborts
 
@@ -66,24 +66,24 @@ module _ {P Q : Type 0} (f : Mapping P Q) where
   pub maps_send_shutdown_ack : (t : Tcb) (c : Context P) → send_shutdown_ack t (map_context f c) ≡ map_context f (send_shutdown_ack t c)
   maps_send_shutdown_ack t c = maps_emit_chunk f shutdown_ack_chunk t c
 
-  maps_pending : (b : Bool) (t : Tcb) (c : Context P) → pending b t (map_context f c) ≡ map_onward f (pending b t c)
+  maps_pending : (b : Bool) (t : Tcb) (c : Context P) → pending_next b t (map_context f c) ≡ map_onward f (pending_next b t c)
   maps_pending true t c = maps_onward (ShutdownSent (t2_shutdown t c)) (send_shutdown t c) (send_shutdown t (map_context f c)) (maps_send_shutdown t c)
   maps_pending false t c = refl
 
-  maps_received : (b : Bool) (t : Tcb) (c : Context P) → received b t (map_context f c) ≡ map_onward f (received b t c)
+  maps_received : (b : Bool) (t : Tcb) (c : Context P) → received_next b t (map_context f c) ≡ map_onward f (received_next b t c)
   maps_received true t c = maps_onward (ShutdownAckSent (t2_shutdown t c)) (send_shutdown_ack t c) (send_shutdown_ack t (map_context f c)) (maps_send_shutdown_ack t c)
   maps_received false t c = refl
 
-  maps_go_on : (phase : Phase) (t : Tcb) (c : Context P) → go_on phase t (map_context f c) ≡ map_onward f (go_on phase t c)
+  maps_go_on : (phase : Phase) (t : Tcb) (c : Context P) → maybe_send_shutdown_or_ack phase t (map_context f c) ≡ map_onward f (maybe_send_shutdown_or_ack phase t c)
   maps_go_on (CookieEchoed t1 cookie) t c = refl
   maps_go_on Established t c = refl
-  maps_go_on ShutdownPending t c = maps_pending (is_quiet t.sender.outstanding.items) t c
+  maps_go_on ShutdownPending t c = maps_pending (nothing_in_flight t.sender.outstanding.items) t c
   maps_go_on (ShutdownSent t2) t c = refl
-  maps_go_on ShutdownReceived t c = maps_received (is_quiet t.sender.outstanding.items) t c
+  maps_go_on ShutdownReceived t c = maps_received (nothing_in_flight t.sender.outstanding.items) t c
   maps_go_on (ShutdownAckSent t2) t c = refl
 
   pub maps_over : (e : Event P) (c : Context P) → over (map_event f e) (map_context f c) ≡ map_context f (over e c)
-  maps_over e c = ap (λ (d : Context Q). beating_as d (silence c.heartbeats)) (maps_say f e c)
+  maps_over e c = ap (λ (d : Context Q). beating_as d (stop_heartbeats c.heartbeats)) (maps_say f e c)
 
   pub maps_closed : (e : Event P) (c : Context P) → close_with (map_event f e) (map_context f c) ≡ map_endpoint_state f (close_with e c)
   maps_closed e c = maps_in_state Closed (over e c) _ (maps_over e c)
@@ -105,10 +105,10 @@ module _ {P Q : Type 0} (f : Mapping P Q) where
 
   -- ---- the call for a shutdown, and its chunks
 
-  maps_open_onward : (t : Tcb) (o : Onward P) (x : Onward Q) → x ≡ map_onward f o → open_onward t x ≡ map_endpoint_state f (open_onward t o)
-  maps_open_onward t o x h = ap (λ (y : Onward Q). open_onward t y) h
+  maps_open_onward : (t : Tcb) (o : PhaseStep P) (x : PhaseStep Q) → x ≡ map_onward f o → open_phase_step t x ≡ map_endpoint_state f (open_phase_step t o)
+  maps_open_onward t o x h = ap (λ (y : PhaseStep Q). open_phase_step t y) h
 
-  maps_shut : (phase : Phase) (t : Tcb) (c : Context P) → shut_down phase t (map_context f c) ≡ map_onward f (shut_down phase t c)
+  maps_shut : (phase : Phase) (t : Tcb) (c : Context P) → shutdown_in_phase phase t (map_context f c) ≡ map_onward f (shutdown_in_phase phase t c)
   maps_shut (CookieEchoed t1 cookie) t c = maps_go_on ShutdownPending t c
   maps_shut Established t c = maps_go_on ShutdownPending t c
   maps_shut ShutdownPending t c = refl
@@ -119,7 +119,7 @@ module _ {P Q : Type 0} (f : Mapping P Q) where
   maps_shutdown_in : (st : State) (c : Context P) → shutdown_in st (map_context f c) ≡ map_endpoint_state f (shutdown_in st c)
   maps_shutdown_in Closed c = refl
   maps_shutdown_in (CookieWait tag first t1) c = maps_closed OnClosed c
-  maps_shutdown_in (Open phase t) c = maps_open_onward t (shut_down phase t c) (shut_down phase t (map_context f c)) (maps_shut phase t c)
+  maps_shutdown_in (Open phase t) c = maps_open_onward t (shutdown_in_phase phase t c) (shutdown_in_phase phase t (map_context f c)) (maps_shut phase t c)
 
   pub maps_shutdown : (s : EndpointState P) → shutdown (map_endpoint_state f s) ≡ map_endpoint_state f (shutdown s)
   maps_shutdown s = maps_shutdown_in s.state s.context
@@ -129,11 +129,11 @@ module _ {P Q : Type 0} (f : Mapping P Q) where
   maps_shut_by_peer Established t c = maps_go_on ShutdownReceived t c
   maps_shut_by_peer ShutdownPending t c = maps_go_on ShutdownReceived t c
   maps_shut_by_peer (ShutdownSent t2) t c =
-      let o : Onward P = shut_by_peer (ShutdownSent t2) t c in
+      let o : PhaseStep P = shut_by_peer (ShutdownSent t2) t c in
       maps_onward o.phase o.context (send_shutdown_ack t (map_context f c)) (maps_send_shutdown_ack t c)
   maps_shut_by_peer ShutdownReceived t c = refl
   maps_shut_by_peer (ShutdownAckSent t2) t c =
-      let o : Onward P = shut_by_peer (ShutdownAckSent t2) t c in
+      let o : PhaseStep P = shut_by_peer (ShutdownAckSent t2) t c in
       maps_onward o.phase o.context (send_shutdown_ack t (map_context f c)) (maps_send_shutdown_ack t c)
 
   pub maps_on_shutdown : OpenMaps f on_shutdown on_shutdown
@@ -175,19 +175,19 @@ module _ {P Q : Type 0} (f : Mapping P Q) where
   pub maps_too_many : (t : Tcb) (c : Context P) → too_many t (map_context f c) ≡ map_endpoint_state f (too_many t c)
   maps_too_many t c = maps_abort (user_initiated_abort (codes "Too many retransmissions")) (OnAborted TooManyRetries (codes "Too many retransmissions")) t c
 
-  pub maps_violated : (reason : List ℕ) (t : Tcb) (c : Context P) → violate reason t (map_context f c) ≡ map_endpoint_state f (violate reason t c)
-  maps_violated reason t c = maps_abort (protocol_violation reason) (OnAborted ProtocolViolation reason) t c
+  pub maps_abort_for_violation : (reason : List ℕ) (t : Tcb) (c : Context P) → abort_for_violation reason t (map_context f c) ≡ map_endpoint_state f (abort_for_violation reason t c)
+  maps_abort_for_violation reason t c = maps_abort (protocol_violation reason) (OnAborted ProtocolViolation reason) t c
 
   pub maps_on_abort : (causes : List CauseTree) → OpenMaps f (on_abort causes) (on_abort causes)
   maps_on_abort causes phase t c = maps_closed (OnAborted PeerReported (causes_text causes)) c
 
   pub maps_on_error : (causes : List CauseTree) → OpenMaps f (on_error causes) (on_error causes)
-  maps_on_error causes phase t c = maps_in_state (Open phase t) (complain PeerReported (causes_text causes) c) _ (maps_complain f PeerReported (causes_text causes) c)
+  maps_on_error causes phase t c = maps_in_state (Open phase t) (emit_error PeerReported (causes_text causes) c) _ (maps_emit_error f PeerReported (causes_text causes) c)
 
   -- ---- data and forward points
 
   maps_no_data : (c : Context P) → no_data (map_context f c) ≡ map_context f (no_data c)
-  maps_no_data c = maps_complain f ProtocolViolation (codes "Received DATA chunk with no user data") c
+  maps_no_data c = maps_emit_error f ProtocolViolation (codes "Received DATA chunk with no user data") c
 
   maps_on_no_data : (tsn : ℕ) (st : State) (c : Context P) → on_no_data tsn st (map_context f c) ≡ map_context f (on_no_data tsn st c)
   maps_on_no_data tsn Closed c = maps_no_data c
@@ -197,7 +197,7 @@ module _ {P Q : Type 0} (f : Mapping P Q) where
       ap (λ (d : Context Q). emit_chunk chunk t d) (maps_no_data c) ∙ maps_emit_chunk f chunk t (no_data c)
 
   maps_not_connected : (c : Context P) → not_connected (map_context f c) ≡ map_context f (not_connected c)
-  maps_not_connected c = maps_complain f NotConnected (codes "Received unexpected commands on socket that is not connected") c
+  maps_not_connected c = maps_emit_error f NotConnected (codes "Received unexpected commands on socket that is not connected") c
 
   maps_data_in : (st : State) (tsn : ℕ) (is_immediate : Bool) (g : FragmentTree) (c : Context P)
       → on_data_in st tsn is_immediate g (map_context f c) ≡ map_endpoint_state f (on_data_in st tsn is_immediate g c)
@@ -221,18 +221,18 @@ module _ {P Q : Type 0} (f : Mapping P Q) where
 
   maps_send_after : (is_alone : Bool) (t : Tcb) (c : Context P) → send_after is_alone t (map_context f c) ≡ map_sent f (send_after is_alone t c)
   maps_send_after is_alone t c =
-      let x : Sent P = send_lost t c in
-      ap (λ (y : Sent Q). send_buffered is_alone y.tcb y.context) (maps_send_lost f t c) ∙ maps_send_buffered f is_alone x.tcb x.context
+      let x : AfterSending P = send_lost t c in
+      ap (λ (y : AfterSending Q). send_buffered is_alone y.tcb y.context) (maps_send_lost f t c) ∙ maps_send_buffered f is_alone x.tcb x.context
 
-  maps_goes_on : (t : Tcb) (o : Onward P) → acks.goes_on t (map_onward f o) ≡ map_endpoint_state f (acks.goes_on t o)
-  maps_goes_on t o = ap (λ (x : Sent Q). open_with o.phase x) (maps_send_after (is_alone o.phase) t o.context)
+  maps_goes_on : (t : Tcb) (o : PhaseStep P) → acks.send_after_sack t (map_onward f o) ≡ map_endpoint_state f (acks.send_after_sack t o)
+  maps_goes_on t o = ap (λ (x : AfterSending Q). open_with o.phase x) (maps_send_after (is_before_cookie_ack o.phase) t o.context)
 
   maps_receive : (a : SackAnswer) (phase : Phase) (t : Tcb) (c : Context P) → after_sack a phase t (map_context f c) ≡ map_endpoint_state f (after_sack a phase t c)
   maps_receive Invalid phase t c = refl
   maps_receive (Valid rtt is_progress) phase t c =
       let d : Context P = clear_errors_if is_progress c in
       let v : Tcb = sample_rtt rtt t in
-      ap (λ (o : Onward Q). acks.goes_on v o) (maps_go_on phase v d) ∙ maps_goes_on v (go_on phase v d)
+      ap (λ (o : PhaseStep Q). acks.send_after_sack v o) (maps_go_on phase v d) ∙ maps_goes_on v (maybe_send_shutdown_or_ack phase v d)
 
   maps_clean_sack : (n a_rwnd : ℕ) (blocks : List GapAckBlock) → OpenMaps f (on_clean_sack n a_rwnd blocks) (on_clean_sack n a_rwnd blocks)
   maps_clean_sack n a_rwnd blocks phase t c =
@@ -245,7 +245,7 @@ module _ {P Q : Type 0} (f : Mapping P Q) where
       ∙ maps_receive a phase (record t { sender = s }) (record c { emitted = u }))
 
   maps_no_block : (c : Context P) → no_block (map_context f c) ≡ map_context f (no_block c)
-  maps_no_block c = maps_complain f NotConnected (codes "No TCB") c
+  maps_no_block c = maps_emit_error f NotConnected (codes "No TCB") c
 
   maps_sack_in : (st : State) (k : SackTree) (c : Context P) → on_sack_in st k (map_context f c) ≡ map_endpoint_state f (on_sack_in st k c)
   maps_sack_in Closed k c = maps_in_state Closed (no_block c) _ (maps_no_block c)

@@ -9,18 +9,18 @@ use Rattle.sctp_state.specs.Events.{Event, OnClosed, OnAborted}
 use Rattle.sctp_tx_outstanding.specs.OutstandingData.{number_of}
 use Rattle.sctp_tx_outstanding.specs.Sack.{is_valid}
 use Rattle.sctp_rx.specs.DataTracker as tracker
-use Rattle.sctp_tx.specs.RetransmissionQueue.{is_quiet, SackAnswer, Invalid, Valid, sender_if, emitted_if, answer_if}
+use Rattle.sctp_tx.specs.RetransmissionQueue.{nothing_in_flight, SackAnswer, Invalid, Valid, sender_if, emitted_if, answer_if}
 use Rattle.spec_endpoint.specs.Association.{Tcb, Phase, CookieEchoed, Established, ShutdownPending, ShutdownSent, ShutdownReceived, ShutdownAckSent, State, Closed, CookieWait, Open, Context, EndpointState, open_as, with_context, where_open}
-use Rattle.spec_endpoint.specs.Packets.{Packet, add, packet_to, emit_chunk}
-use Rattle.spec_endpoint.specs.Sending.{is_alone, send_lost}
-use Rattle.spec_endpoint.specs.Shutdown.{close_with, send_shutdown, send_shutdown_ack, Onward, pending, received, go_on, shut_down, shutdown_in, shutdown, on_shutdown, complete_shutdown, out_of_the_blue, on_shutdown_ack_open, on_shutdown_ack_in, on_shutdown_ack, on_shutdown_complete, abort, close_in, close, too_many, violate, causes_text, on_abort, on_error}
-use Rattle.spec_endpoint.specs.Data.{no_data, on_no_data, not_connected, on_data_in, on_data_if, on_data, forwarded_in, on_forward}
+use Rattle.spec_endpoint.specs.Packets.{PacketDraft, add, packet_to, emit_chunk}
+use Rattle.spec_endpoint.specs.Sending.{is_before_cookie_ack, send_lost}
+use Rattle.spec_endpoint.specs.Shutdown.{close_with, send_shutdown, send_shutdown_ack, PhaseStep, pending_next, received_next, maybe_send_shutdown_or_ack, shutdown_in_phase, shutdown_in, shutdown, on_shutdown, complete_shutdown, out_of_the_blue, on_shutdown_ack_open, on_shutdown_ack_in, on_shutdown_ack, on_shutdown_complete, abort, close_in, close, too_many, abort_for_violation, causes_text, on_abort, on_error}
+use Rattle.spec_endpoint.specs.Data.{no_data, on_no_data, not_connected, on_data_in, on_data_if, on_data, handle_forward_tsn_in, on_forward}
 use Rattle.spec_endpoint.specs.Sack.{clean_blocks, sample_rtt, clear_errors_if, send_after, after_sack, on_clean_sack, no_block, on_sack_in, on_sack}
 use Rattle.spec_endpoint.specs.Sack as acks
 use Rattle.spec_endpoint.specs.Laws.{IsShort, ending, ends}
 use Rattle.proof_endpoint.proofs.StepsLemmas.{most_bytes, Goes, Steps}
 use Rattle.proof_endpoint.proofs.EmitsLemmas.{emits_sack}
-use Rattle.proof_endpoint.proofs.GoesLemmas.{small_add, small_whole, goes_emit, goes_by, goes_silent, goes_same, goes_then, goes_said, goes_complained, goes_emit_chunk}
+use Rattle.proof_endpoint.proofs.GoesLemmas.{small_add, small_whole, goes_emit, goes_by, goes_silent, goes_same, goes_then, goes_said, goes_emit_error, goes_emit_chunk}
 use Rattle.proof_endpoint.proofs.SendingStepsLemmas.{goes_send_buffered, goes_send_lost}
 
 -- from a state and a context
@@ -70,20 +70,20 @@ module _ {P : Type 0} where
   pub goes_send_shutdown_ack : (t : Tcb) (c : Context P) → Goes 0 c (send_shutdown_ack t c)
   goes_send_shutdown_ack t c = goes_emit_chunk shutdown_ack_chunk t c
 
-  goes_pending : (b : Bool) (t : Tcb) (c : Context P) → Goes 0 c (pending b t c).context
+  goes_pending : (b : Bool) (t : Tcb) (c : Context P) → Goes 0 c (pending_next b t c).context
   goes_pending true t c = goes_send_shutdown t c
   goes_pending false t c = goes_same c
 
-  goes_received : (b : Bool) (t : Tcb) (c : Context P) → Goes 0 c (received b t c).context
+  goes_received : (b : Bool) (t : Tcb) (c : Context P) → Goes 0 c (received_next b t c).context
   goes_received true t c = goes_send_shutdown_ack t c
   goes_received false t c = goes_same c
 
-  goes_on : (phase : Phase) (t : Tcb) (c : Context P) → Goes 0 c (go_on phase t c).context
+  goes_on : (phase : Phase) (t : Tcb) (c : Context P) → Goes 0 c (maybe_send_shutdown_or_ack phase t c).context
   goes_on (CookieEchoed t1 cookie) t c = goes_same c
   goes_on Established t c = goes_same c
-  goes_on ShutdownPending t c = goes_pending (is_quiet t.sender.outstanding.items) t c
+  goes_on ShutdownPending t c = goes_pending (nothing_in_flight t.sender.outstanding.items) t c
   goes_on (ShutdownSent t2) t c = goes_same c
-  goes_on ShutdownReceived t c = goes_received (is_quiet t.sender.outstanding.items) t c
+  goes_on ShutdownReceived t c = goes_received (nothing_in_flight t.sender.outstanding.items) t c
   goes_on (ShutdownAckSent t2) t c = goes_same c
 
   -- one ending
@@ -107,7 +107,7 @@ module _ {P : Type 0} where
 
   -- ---- the call for a shutdown, and its chunks
 
-  goes_shut : (phase : Phase) (t : Tcb) (c : Context P) → Goes 0 c (shut_down phase t c).context
+  goes_shut : (phase : Phase) (t : Tcb) (c : Context P) → Goes 0 c (shutdown_in_phase phase t c).context
   goes_shut (CookieEchoed t1 cookie) t c = goes_on ShutdownPending t c
   goes_shut Established t c = goes_on ShutdownPending t c
   goes_shut ShutdownPending t c = goes_same c
@@ -138,7 +138,7 @@ module _ {P : Type 0} where
 
   goes_out_of_the_blue : (tag : ℕ) (c : Context P) → Goes 0 c (out_of_the_blue tag c)
   goes_out_of_the_blue tag c =
-      let p : Packet = packet_to tag c.options.mtu in
+      let p : PacketDraft = packet_to tag c.options.mtu in
       goes_emit (add (shutdown_complete_chunk true) p) c (small_add (most_bytes c) p (shutdown_complete_chunk true) (small_whole c p refl refl))
 
   steps_shutdown_ack_open : (tag : ℕ) → OpenSteps (on_shutdown_ack_open {P = P} tag)
@@ -169,19 +169,19 @@ module _ {P : Type 0} where
   goes_too_many t c =
       goes_aborted (user_initiated_abort (codes "Too many retransmissions")) (OnAborted TooManyRetries (codes "Too many retransmissions")) t c (λ d. tt) refl
 
-  pub steps_violated : (reason : List ℕ) → OpenSteps (λ phase t c. violate {P = P} reason t c)
-  steps_violated reason phase t c = goes_aborted (protocol_violation reason) (OnAborted ProtocolViolation reason) t c (λ d. tt) refl
+  pub steps_abort_for_violation : (reason : List ℕ) → OpenSteps (λ phase t c. abort_for_violation {P = P} reason t c)
+  steps_abort_for_violation reason phase t c = goes_aborted (protocol_violation reason) (OnAborted ProtocolViolation reason) t c (λ d. tt) refl
 
   pub steps_abort : (causes : List CauseTree) → OpenSteps (on_abort {P = P} causes)
   steps_abort causes phase t c = goes_closed (OnAborted PeerReported (causes_text causes)) c tt refl
 
   pub steps_error : (causes : List CauseTree) → OpenSteps (on_error {P = P} causes)
-  steps_error causes phase t c = goes_complained PeerReported (causes_text causes) c
+  steps_error causes phase t c = goes_emit_error PeerReported (causes_text causes) c
 
   -- ---- data and forward points
 
   goes_no_data : (c : Context P) → Goes 0 c (no_data c)
-  goes_no_data c = goes_complained ProtocolViolation (codes "Received DATA chunk with no user data") c
+  goes_no_data c = goes_emit_error ProtocolViolation (codes "Received DATA chunk with no user data") c
 
   goes_on_no_data : (tsn : ℕ) (st : State) (c : Context P) → Goes 0 c (on_no_data tsn st c)
   goes_on_no_data tsn Closed c = goes_no_data c
@@ -191,7 +191,7 @@ module _ {P : Type 0} where
       goes_then 0 c (no_data c) (emit_chunk chunk t (no_data c)) (goes_no_data c) (goes_emit_chunk chunk t (no_data c))
 
   goes_not_connected : (c : Context P) → Goes 0 c (not_connected c)
-  goes_not_connected c = goes_complained NotConnected (codes "Received unexpected commands on socket that is not connected") c
+  goes_not_connected c = goes_emit_error NotConnected (codes "Received unexpected commands on socket that is not connected") c
 
   steps_data_in : (st : State) (tsn : ℕ) (is_immediate : Bool) (f : FragmentTree) (c : Context P) → StepsFrom st c (on_data_in st tsn is_immediate f c)
   steps_data_in Closed tsn is_immediate f c = goes_not_connected c
@@ -205,7 +205,7 @@ module _ {P : Type 0} where
   pub steps_data : (tsn : ℕ) (is_immediate : Bool) (f : FragmentTree) (s : EndpointState P) → Steps s (on_data tsn is_immediate f s)
   steps_data tsn is_immediate f s = steps_data_if (length f.payload == 0) tsn is_immediate f s
 
-  steps_forward_in : (st : State) (tsn : ℕ) (skipped : List SkippedStream) (c : Context P) → Goes (ends st (forwarded_in st tsn skipped)) c c
+  steps_forward_in : (st : State) (tsn : ℕ) (skipped : List SkippedStream) (c : Context P) → Goes (ends st (handle_forward_tsn_in st tsn skipped)) c c
   steps_forward_in Closed tsn skipped c = goes_same c
   steps_forward_in (CookieWait tag first t1) tsn skipped c = goes_same c
   steps_forward_in (Open phase t) tsn skipped c = goes_same c
@@ -220,17 +220,17 @@ module _ {P : Type 0} where
       let x = send_lost t c in
       goes_then 0 c x.context (send_after is_alone t c).context (goes_send_lost c t) (goes_send_buffered x.context is_alone x.tcb)
 
-  goes_received_on : (t : Tcb) (o : Onward P) → Goes 0 o.context (acks.goes_on t o).context
-  goes_received_on t o = goes_send_after (is_alone o.phase) t o.context
+  goes_received_on : (t : Tcb) (o : PhaseStep P) → Goes 0 o.context (acks.send_after_sack t o).context
+  goes_received_on t o = goes_send_after (is_before_cookie_ack o.phase) t o.context
 
   steps_received : (a : SackAnswer) (phase : Phase) (t : Tcb) (c : Context P) (old : Phase) (u : Tcb) → StepsFrom (Open old u) c (after_sack a phase t c)
   steps_received Invalid phase t c old u = goes_same c
   steps_received (Valid rtt is_progress) phase t c old u =
       let d : Context P = clear_errors_if is_progress c in
       let v : Tcb = sample_rtt rtt t in
-      let o : Onward P = go_on phase v d in
-      goes_then 0 c d (acks.goes_on v o).context (goes_silent c d refl refl refl)
-      (goes_then 0 d o.context (acks.goes_on v o).context (goes_on phase v d) (goes_received_on v o))
+      let o : PhaseStep P = maybe_send_shutdown_or_ack phase v d in
+      goes_then 0 c d (acks.send_after_sack v o).context (goes_silent c d refl refl refl)
+      (goes_then 0 d o.context (acks.send_after_sack v o).context (goes_on phase v d) (goes_received_on v o))
 
   steps_clean_sack : (n a_rwnd : ℕ) (blocks : List GapAckBlock) (phase : Phase) (t : Tcb) (c : Context P)
       → StepsFrom (Open phase t) c (on_clean_sack n a_rwnd blocks phase t c)
@@ -243,7 +243,7 @@ module _ {P : Type 0} where
       (steps_received (answer_if valid c.now n blocks t.sender) phase u d phase t)
 
   goes_no_block : (c : Context P) → Goes 0 c (no_block c)
-  goes_no_block c = goes_complained NotConnected (codes "No TCB") c
+  goes_no_block c = goes_emit_error NotConnected (codes "No TCB") c
 
   steps_sack_in : (st : State) (k : SackTree) (c : Context P) → StepsFrom st c (on_sack_in st k c)
   steps_sack_in Closed k c = goes_no_block c

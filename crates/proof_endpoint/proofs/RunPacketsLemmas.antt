@@ -17,7 +17,7 @@ use Rattle.sctp_packet.specs.Written.{chunk_item, chunk_value, chunk_bytes, chun
 use Rattle.sctp_packet.specs.ReadBack.{ChunkReadsBack}
 use Rattle.sctp_chunk.proofs.ValueLemmas.{length_data, length_init, length_init_ack, length_sack}
 use Rattle.sctp_state.specs.Options.{Options, SendOptions, defaults}
-use Rattle.sctp_capabilities.specs.Capabilities.{announce}
+use Rattle.sctp_capabilities.specs.Capabilities.{announced_parameters}
 use Rattle.sctp_capabilities.specs.StateCookie.{Cookie, cookie_bytes}
 use Rattle.sctp_capabilities.proofs.CookieLemmas.{length_cookie_bytes, cookie_bytes_writable}
 use Rattle.spec_endpoint.specs.Association.{Endpoint, fresh, Packing}
@@ -25,8 +25,8 @@ use Rattle.spec_endpoint.specs.Opening.{init_of, cookie_for, init_ack_of}
 use Rattle.spec_endpoint.specs.Wire.{writing}
 use Rattle.spec_endpoint.specs.Receiving.{Receives}
 use Rattle.proof_endpoint.specs.Mapped.{Carried, as_written}
-use Rattle.proof_endpoint.specs.FirstRun.{first_of, tag_of, packet, init_tree, fragment, init_packet, init_ack_packet, cookie_echo_packet, cookie_ack_packet, data_packet, sack_packet, give, quiet, asking, answering, echoing, accepting, sending, IsSmall, LeadsOn}
-use Rattle.proof_endpoint.specs.ReceivedBack.{IsHearable}
+use Rattle.proof_endpoint.specs.FirstRun.{first_of, tag_of, packet, init_tree, fragment, init_packet, init_ack_packet, cookie_echo_packet, cookie_ack_packet, data_packet, sack_packet, give, drained, asking, answering, echoing, accepting, sending, IsSmall, LeadsOn}
+use Rattle.proof_endpoint.specs.ReceivedBack.{IsReceivable}
 use Rattle.proof_endpoint.proofs.OpeningRunLemmas.{tag_small, first_small, asks, answers, echoes, accepts}
 use Rattle.proof_endpoint.proofs.SendRunLemmas.{sends, padding_small}
 use Rattle.proof_endpoint.proofs.ReceivedBackLemmas.{written_alone}
@@ -44,7 +44,7 @@ length_one : (c : ChunkTree) → length (chunks_bytes (c ∷ [])) ≡ length (ch
 unfolding chunks_bytes
 length_one c = ap length (flat_map-cons chunk_bytes c []) ∙ ap length (append-nil (chunk_bytes c))
 
-hearable : (tag : ℕ) (c : ChunkTree) → tag < 2 ^ 32 → IsShort c → IsHearable defaults (packet tag c)
+hearable : (tag : ℕ) (c : ChunkTree) → tag < 2 ^ 32 → IsShort c → IsReceivable defaults (packet tag c)
 hearable tag c fits h = record {
   header = record { source_port = omega arith; destination_port = omega arith; verification_tag = fits };
   chunks = All-cons ChunkReadsBack c [] h.reads_back (All-nil ChunkReadsBack);
@@ -59,7 +59,7 @@ IsGiven word_of p = (s t : Endpoint (List ℕ)) → s.endpoint_state.context.opt
 -- such a chunk alone in a packet, of which all is carried
 is_given : (word_of : List ℕ → ℕ) (tag : ℕ) (c : ChunkTree) → carried c ≡ c → tag < 2 ^ 32 → IsShort c → IsGiven word_of (packet tag c)
 is_given word_of tag c whole fits h s t e receives =
-    written_alone word_of (packet tag c) s t (subst (λ (o : Options). IsHearable o (packet tag c)) (sym e) (hearable tag c fits h)) receives
+    written_alone word_of (packet tag c) s t (subst (λ (o : Options). IsReceivable o (packet tag c)) (sym e) (hearable tag c fits h)) receives
     ∙ ap (λ (x : ChunkTree). give (packet tag x) s) whole
 
 -- ---- what INIT and INIT ACK announce
@@ -75,7 +75,7 @@ extensions_read = record { encodable = omega arith; fits = tt; whole = refl; of_
 cookie_reads : (k : Cookie) → ParameterReadsBack (state_cookie (cookie_bytes k))
 cookie_reads k = record { encodable = cookie_bytes_writable k; fits = tt; whole = refl; of_its_variant = tt }
 
-length_announced : length (inner_items (map parameter_item (announce defaults 0))) ≡ 10
+length_announced : length (inner_items (map parameter_item (announced_parameters defaults 0))) ≡ 10
 unfolding inner_items padded_item parameter_value be16 be32
 length_announced = refl
 
@@ -83,18 +83,18 @@ length_cookie_value : (k : Cookie) → length (parameter_value (state_cookie (co
 unfolding parameter_value
 length_cookie_value k = length_cookie_bytes k
 
-length_with_cookie : (k : Cookie) → length (inner_items (map parameter_item (announce defaults 0 ++ state_cookie (cookie_bytes k) ∷ []))) ≡ 64
+length_with_cookie : (k : Cookie) → length (inner_items (map parameter_item (announced_parameters defaults 0 ++ state_cookie (cookie_bytes k) ∷ []))) ≡ 64
 length_with_cookie k =
-    length_inner_items_more (map parameter_item (announce defaults 0)) (parameter_item (state_cookie (cookie_bytes k)))
+    length_inner_items_more (map parameter_item (announced_parameters defaults 0)) (parameter_item (state_cookie (cookie_bytes k)))
     ∙ ap (λ (n : ℕ). n + (padding n + (4 + length (parameter_value (state_cookie (cookie_bytes k)))))) length_announced
     ∙ ap (λ (n : ℕ). 10 + (2 + (4 + n))) (length_cookie_value k)
 
 -- ---- the chunks
 
-init_short : (tag first : ℕ) → tag < 2 ^ 32 → first < 2 ^ 32 → IsShort (init_chunk (init_of defaults tag first (announce defaults 0)))
+init_short : (tag first : ℕ) → tag < 2 ^ 32 → first < 2 ^ 32 → IsShort (init_chunk (init_of defaults tag first (announced_parameters defaults 0)))
 init_short tag first t f =
-    let size : length (chunk_value (init_chunk (init_of defaults tag first (announce defaults 0)))) ≡ 26 =
-    length_init (init_of defaults tag first (announce defaults 0)) ∙ ap (λ (n : ℕ). 16 + n) length_announced in
+    let size : length (chunk_value (init_chunk (init_of defaults tag first (announced_parameters defaults 0)))) ≡ 26 =
+    length_init (init_of defaults tag first (announced_parameters defaults 0)) ∙ ap (λ (n : ℕ). 16 + n) length_announced in
     record {
       reads_back = record {
         encodable = omega (arith, size);
@@ -107,9 +107,9 @@ init_short tag first t f =
     }
 
 init_ack_short : (tag first : ℕ) (k : Cookie) → tag < 2 ^ 32 → first < 2 ^ 32
-    → IsShort (init_ack_chunk (init_of defaults tag first (announce defaults 0 ++ state_cookie (cookie_bytes k) ∷ [])))
+    → IsShort (init_ack_chunk (init_of defaults tag first (announced_parameters defaults 0 ++ state_cookie (cookie_bytes k) ∷ [])))
 init_ack_short tag first k t f =
-    let ps : List ParameterTree = announce defaults 0 ++ state_cookie (cookie_bytes k) ∷ [] in
+    let ps : List ParameterTree = announced_parameters defaults 0 ++ state_cookie (cookie_bytes k) ∷ [] in
     let size : length (chunk_value (init_ack_chunk (init_of defaults tag first ps))) ≡ 80 =
     length_init_ack (init_of defaults tag first ps) ∙ ap (λ (n : ℕ). 16 + n) (length_with_cookie k) in
     record {
@@ -212,9 +212,9 @@ module _ (word_of : List ℕ → ℕ) (a b : rng.Stream) (m : Message) (o : Send
   pub leads_on : LeadsOn word_of a b m o
   leads_on = record {
     init = λ t. gives_init (fresh defaults pack b) t refl;
-    init_ack = λ t. gives_init_ack (quiet (asking pack a b)) t (ap options (asks pack a b));
-    cookie_echo = λ t. gives_cookie_echo (quiet (answering pack a b)) t (ap options (answers pack a b));
-    cookie_ack = λ t. gives_cookie_ack (quiet (echoing pack a b)) t (ap options (echoes pack a b));
-    message = λ t. gives_data (quiet (accepting pack a b)) t (ap options (accepts pack a b));
-    sack = λ t. gives_sack (quiet (sending pack a b m o)) t (ap options (sends pack a b m o small));
+    init_ack = λ t. gives_init_ack (drained (asking pack a b)) t (ap options (asks pack a b));
+    cookie_echo = λ t. gives_cookie_echo (drained (answering pack a b)) t (ap options (answers pack a b));
+    cookie_ack = λ t. gives_cookie_ack (drained (echoing pack a b)) t (ap options (echoes pack a b));
+    message = λ t. gives_data (drained (accepting pack a b)) t (ap options (accepts pack a b));
+    sack = λ t. gives_sack (drained (sending pack a b m o)) t (ap options (sends pack a b m o small));
   }

@@ -12,7 +12,7 @@ use Rattle.sctp_packet.specs.Written.{chunk_item, chunk_bytes, chunks_bytes}
 use Rattle.sctp_chunk.proofs.ValueLemmas.{length_data}
 use Rattle.sctp_state.specs.Options.{SendOptions, defaults}
 use Rattle.sctp_state.specs.Timer.{Timer, start}
-use Rattle.sctp_state.specs.Events.{Event, Emitted, OnBufferedAmountLow, silent, emit_events}
+use Rattle.sctp_state.specs.Events.{Event, Emitted, OnBufferedAmountLow, nothing_emitted, emit_events}
 use Rattle.sctp_state.specs.declared.api.SocketState.TheVariants.{Connected}
 use Rattle.sctp_state.specs.declared.api.errors.SendError.{SendError}
 use Rattle.sctp_tx_outstanding.specs.Item.{Item, size_of}
@@ -21,16 +21,16 @@ use Rattle.sctp_tx_outstanding.specs.Resending.{resend, empty_packet}
 use Rattle.sctp_tx_queue.specs.SendQueue.{Queue, expiry_of}
 use Rattle.sctp_tx_queue.specs.Produced.{Turn}
 use Rattle.sctp_tx.specs.declared.retransmission_queue.windows.Windows.{Windows}
-use Rattle.sctp_tx.specs.Windows.{at_first, take_payload}
+use Rattle.sctp_tx.specs.Windows.{at_first, consume_rwnd}
 use Rattle.sctp_tx.specs.RetransmissionQueue.{Sender}
 use Rattle.sctp_tx.specs.Sending as fragments
-use Rattle.sctp_tx.specs.Sending.{filling, fill, ask_queue, timed_filling}
+use Rattle.sctp_tx.specs.Sending.{filling, fill, take_turn, timed_filling}
 use Rattle.spec_endpoint.specs.Association.{Tcb, Established, Open, Context, EndpointState, Endpoint, with_context, where_open, Packing}
-use Rattle.spec_endpoint.specs.Packets.{Packet, fits, added_if, room, has_chunks, new_packet}
-use Rattle.spec_endpoint.specs.Sending.{Filling, fill_packet, emit_packet, turned_if, go_on, burst, sent_by, open_with, send_in}
-use Rattle.spec_endpoint.specs.Calls.{refusal, offered, sent_if, send}
-use Rattle.spec_endpoint.specs.Input.{on_endpoint_state}
-use Rattle.proof_endpoint.specs.FirstRun.{first_of, tag_of, fragment, fully_sent, data_packet, pack_event, quiet, sending, IsSmall}
+use Rattle.spec_endpoint.specs.Packets.{PacketDraft, fits, added_if, room, has_chunks, new_packet}
+use Rattle.spec_endpoint.specs.Sending.{Filling, with_fragments, emit_packet, burst_step_if, continue_burst, burst, sent_by, open_with, send_in}
+use Rattle.spec_endpoint.specs.Calls.{send_refusal, offered, sent_if, send}
+use Rattle.spec_endpoint.specs.Input.{in_endpoint_state}
+use Rattle.proof_endpoint.specs.FirstRun.{first_of, tag_of, fragment, fully_sent, data_packet, packet_event, drained, sending, IsSmall}
 use Rattle.proof_endpoint.proofs.OpeningRunLemmas.{emitting, first_small, drawn, block, open_a, opened_a, opens}
 use Rattle.proof_endpoint.proofs.QueueRunLemmas.{holding, emptied, queues, produces}
 use Rattle.proof_endpoint.proofs.IdleRunLemmas.{fill_idle, burst_ends}
@@ -60,7 +60,7 @@ length_chunk chunk n h = omega (arith, length_padded_item (chunk_item chunk), pa
 pub data_fits : (tsn : ℕ) (is_summed : Bool) (tag : ℕ) (f : FragmentTree) → length f.payload ≤ 1000
     → fits (record { tag = tag; is_summed = is_summed; limit = 1188; chunks = [] }) (data_chunk tsn false f) ≡ true
 data_fits tsn is_summed tag f few =
-    let p : Packet = record { tag = tag; is_summed = is_summed; limit = 1188; chunks = [] } in
+    let p : PacketDraft = record { tag = tag; is_summed = is_summed; limit = 1188; chunks = [] } in
     let size : length (chunk_item (data_chunk tsn false f)).value ≡ 12 + length f.payload = length_data tsn false f in
     let long : length (chunk_bytes (data_chunk tsn false f)) ≤ 7 + (12 + length f.payload) = length_chunk (data_chunk tsn false f) (12 + length f.payload) size in
     ap (λ (n : ℕ). (nat_lt (4 + n) 65536 && true) && nat_le (length (chunk_bytes (data_chunk tsn false f))) (room p)) size
@@ -68,7 +68,7 @@ data_fits tsn is_summed tag f few =
     ∙ le-leb (length (chunk_bytes (data_chunk tsn false f))) (room p) (omega (arith, long, few, no_bytes))
 
 -- the queue takes it
-pub accepts_message : {P : Type 0} (pack : Packing P) (m : Message) → IsSmall m → refusal m Connected (open_a pack 2 2) ≡ None
+pub accepts_message : {P : Type 0} (pack : Packing P) (m : Message) → IsSmall m → send_refusal m Connected (open_a pack 2 2) ≡ None
 accepts_message pack m small = simp (not_zero (length m.payload) small.some, not_large (length m.payload) small.few) refl
 
 module _ {P : Type 0} (pack : Packing P) (a b : rng.Stream) (m : Message) (o : SendOptions) where
@@ -91,10 +91,10 @@ module _ {P : Type 0} (pack : Packing P) (a b : rng.Stream) (m : Message) (o : S
   item = first_sent 0 (fragment m o) 0 (unwrap_or o.max_retransmissions 65535) (expiry_of 0 o.lifetime) o.lifecycle_id
 
   abbrev pub sent_windows : Windows
-  sent_windows = take_payload (size_of false (fragment m o)) (at_first defaults 5242880)
+  sent_windows = consume_rwnd (size_of false (fragment m o)) (at_first defaults 5242880)
 
   abbrev emitted : Emitted P
-  emitted = emit_events (OnBufferedAmountLow m.stream ∷ fully_sent o.lifecycle_id) silent
+  emitted = emit_events (OnBufferedAmountLow m.stream ∷ fully_sent o.lifecycle_id) nothing_emitted
 
   abbrev given_t3 : Timer → Sender
   given_t3 t3 = record tcb_a.sender {
@@ -107,17 +107,17 @@ module _ {P : Type 0} (pack : Packing P) (a b : rng.Stream) (m : Message) (o : S
   numbered = ((first_of a + 4294967296) % 4294967296, fragment m o) ∷ []
 
   -- the packet's data, from what the queue gives
-  fills : IsSmall m → fill 1177 0 (filling tcb_a.sender (holding m o) silent [] 1176)
+  fills : IsSmall m → fill 1177 0 (filling tcb_a.sender (holding m o) nothing_emitted [] 1176)
       ≡ filling (given_t3 tcb_a.sender.t3) (emptied m o) emitted numbered (1176 - size_of false (fragment m o))
   fills small =
-      let start : fragments.Filling P = filling tcb_a.sender (holding m o) silent [] 1176 in
-      ap (λ (t : Turn P). let u = ask_queue 0 t start in if u.is_more then fill 1176 0 u.filling else u.filling) (produces m o silent small.some small.few)
+      let start : fragments.Filling P = filling tcb_a.sender (holding m o) nothing_emitted [] 1176 in
+      ap (λ (t : Turn P). let u = take_turn 0 t start in if u.is_more then fill 1176 0 u.filling else u.filling) (produces m o nothing_emitted small.some small.few)
       ∙ fill_idle (emptied m o).streams 1 1159 1 emitted 1175 0 (given_t3 tcb_a.sender.t3) numbered (1176 - size_of false (fragment m o))
 
   abbrev t3 : Timer
   t3 = start 0 tcb_a.sender.t3
 
-  abbrev empty : Packet
+  abbrev empty : PacketDraft
   empty = new_packet defaults tcb_a
 
   abbrev chunk_at : ℕ → ChunkTree
@@ -126,14 +126,14 @@ module _ {P : Type 0} (pack : Packing P) (a b : rng.Stream) (m : Message) (o : S
   abbrev before : Filling P
   before = record { packet = empty; tcb = tcb_a; context = holding_context (holding m o) }
 
-  abbrev filling_with : Packet → Filling P
+  abbrev filling_with : PacketDraft → Filling P
   filling_with p = record { packet = p; tcb = record tcb_a { sender = given_t3 t3 }; context = record (holding_context (emptied m o)) { emitted = emitted } }
 
-  abbrev pub with_message : Packet
+  abbrev pub with_message : PacketDraft
   with_message = record empty { chunks = chunk_at (first_of a) ∷ [] }
 
   abbrev rest : Filling P → Filling P
-  rest y = go_on (burst 3 false false) (turned_if (has_chunks y.packet) false y)
+  rest y = continue_burst (burst 3 false false) (burst_step_if (has_chunks y.packet) false y)
 
   not_again : (room window : ℕ) → resend false room window (given_t3 t3).outstanding ≡ empty_packet room window (given_t3 t3).outstanding
   not_again room window = refl
@@ -141,7 +141,7 @@ module _ {P : Type 0} (pack : Packing P) (a b : rng.Stream) (m : Message) (o : S
   bursts : IsSmall m → burst 4 true false before ≡ emit_packet (filling_with with_message)
   unfolding chunks_bytes
   bursts small =
-      ap (λ (f : fragments.Filling P). rest (fill_packet (timed_filling 0 f) before)) (fills small)
+      ap (λ (f : fragments.Filling P). rest (with_fragments (timed_filling 0 f) before)) (fills small)
       ∙ ap (λ (n : ℕ). rest (filling_with (added_if (fits empty (chunk_at n)) (chunk_at n) empty))) (first_written (first_of a) (first_small a))
       ∙ ap (λ (t : Bool). rest (filling_with (added_if t (chunk_at (first_of a)) empty))) (data_fits (first_of a) true (tag_of b) (fragment m o) small.few)
       ∙ burst_ends (emptied m o).streams 1 1159 1 (emit_packet (filling_with with_message)).context.emitted (first_of a) 4294967295 (item ∷ []) sent_windows t3 not_again 2
@@ -156,14 +156,14 @@ module _ {P : Type 0} (pack : Packing P) (a b : rng.Stream) (m : Message) (o : S
       state = Open Established sent_tcb;
       context = record (open_a pack 2 3) { queue = emptied m o; counts = record { rx_packets = 2; tx_packets = 3; tx_messages = 1 } };
     };
-    random = (next_u64 (drawn a)).1;
+    draws = (next_u64 (drawn a)).1;
   }
 
   abbrev pub sent_events : List (Event P)
-  sent_events = OnBufferedAmountLow m.stream ∷ (fully_sent o.lifecycle_id ++ pack_event pack (data_packet a b m o) ∷ [])
+  sent_events = OnBufferedAmountLow m.stream ∷ (fully_sent o.lifecycle_id ++ packet_event pack (data_packet a b m o) ∷ [])
 
   pub sends : IsSmall m → sending pack a b m o ≡ emitting sent_events sent_end
   sends small =
-      ap (λ (s : Endpoint P). on_endpoint_state (send m o) (quiet s)) (opens pack a b)
+      ap (λ (s : Endpoint P). in_endpoint_state (send m o) (drained s)) (opens pack a b)
       ∙ ap (λ (s : EndpointState P). record (opened_a pack a b) { endpoint_state = s }) (offers small)
       ∙ ap (λ (x : Filling P). record (opened_a pack a b) { endpoint_state = open_with Established (sent_by x) }) (bursts small)

@@ -7,42 +7,42 @@ use Rattle.sctp_wire.specs.Parameter.{ParameterTree, state_cookie, reset_respons
 use Rattle.sctp_packet.specs.Chunk.{init_ack_chunk, cookie_echo_chunk}
 use Rattle.sctp_packet.specs.Grammar.{Each}
 use Rattle.sctp_state.specs.declared.api.GivenUpCause.TheVariants.{Reset}
-use Rattle.sctp_state.specs.Events.{Event, SendPacket, OnError, OnConnected, OnConnectionRestarted, OnClosed, OnStreamsResetPerformed, OnStreamsResetFailed, Emitted, emit_events, give_up, expiry}
+use Rattle.sctp_state.specs.Events.{Event, SendPacket, OnError, OnConnected, OnConnectionRestarted, OnClosed, OnStreamsResetPerformed, OnStreamsResetFailed, Emitted, emit_events, emit_given_up, expired_events}
 use Rattle.sctp_state.specs.Options.{Options, SendOptions}
 use Rattle.sctp_state.specs.RetransmissionTimeout.{rto}
 use Rattle.sctp_capabilities.specs.Capabilities.{negotiate}
 use Rattle.sctp_capabilities.specs.StateCookie.{Cookie}
 use Rattle.sctp_tx_queue.specs.declared.send_queue.stream.ResetStep.TheVariants.{Requested, Performed, Refused}
 use Rattle.sctp_tx_queue.specs.SendQueue.{Queued, Queue, stream}
-use Rattle.sctp_tx_queue.specs.Resets.{is_partly, emitted_waiting, requested_streams}
+use Rattle.sctp_tx_queue.specs.Resets.{is_partly, emit_unsent, streams_to_request}
 use Rattle.sctp_tx.specs.RetransmissionQueue.{emitted_if}
 use Rattle.sctp_tx.specs.Resent.{resent_fast}
 use Rattle.sctp_tx.specs.ForwardPoints.{forward_chunk}
 use Rattle.sctp_tx.specs.Sending as fragments
 use Rattle.sctp_tx_outstanding.specs.Losses.{expire_outstanding}
 use Rattle.spec_endpoint.specs.Association.{Tcb, Phase, CookieEchoed, Established, ShutdownPending, ShutdownSent, ShutdownReceived, ShutdownAckSent, State, Closed, CookieWait, Open, Context, Packing}
-use Rattle.spec_endpoint.specs.Packets.{Packet, room, empty_packet, header_to, say}
+use Rattle.spec_endpoint.specs.Packets.{PacketDraft, room, clear_chunks, header_to, emit_event_in}
 use Rattle.spec_endpoint.specs.ResetRequests.{Requests, Outcome, Unsettled, Done, Denied, outcome, request_chunk}
-use Rattle.spec_endpoint.specs.Sending.{is_alone, selective_ack, begin_burst, last_assigned, is_small, fast_most}
-use Rattle.spec_endpoint.specs.Opening.{tag_from, tsn_from, next_first, word, long_word, drew_word, names, agreed_by, cookie_in, queue_if, other_mode, identity_of}
+use Rattle.spec_endpoint.specs.Sending.{is_before_cookie_ack, selective_ack, add_reset_breakpoint, last_assigned, is_small, fast_most}
+use Rattle.spec_endpoint.specs.Opening.{tag_from, tsn_from, next_first, word, long_word, drew_word, identity_of_init_ack, agreed_by, cookie_in, queue_if, other_mode, identity_of}
 use Rattle.spec_endpoint.specs.Sack.{clean_blocks}
-use Rattle.spec_endpoint.specs.Calls.{lifecycle_end, refusal_events, refuse, queue_entry, set_low_threshold}
-use Rattle.spec_endpoint.specs.StreamReset.{on_outcome, prepare_stream}
-use Rattle.spec_endpoint.specs.Laws.{Call, Packet as Given, IsShort, ending}
+use Rattle.spec_endpoint.specs.Calls.{lifecycle_end_events, refusal_events, refuse, queue_entry, set_low_threshold}
+use Rattle.spec_endpoint.specs.StreamReset.{on_outcome, prepare_reset_stream}
+use Rattle.spec_endpoint.specs.Laws.{Call, ReceivePacket as Given, IsShort, ending}
 use Rattle.proof_endpoint.proofs.StepsLemmas.{Emits}
 use Rattle.proof_endpoint.proofs.EmitsLemmas.{quiet_both, quiet_expiry, quiet_end, quiet_refusal, emits_nothing, emits_given_up, emits_all, emits_then, emits_sack, emits_expired, emits_sent, emits_nack_all, emits_threshold}
 use Rattle.proof_endpoint.proofs.GoesLemmas.{small_empty}
 use Rattle.proof_endpoint.specs.Sound.{OptionsFit, FitsQueue, FitsRequest, FitsPhase, FitsState, FitsMessage, HasBytes, ArgumentFits}
 use Rattle.proof_endpoint.specs.ReadBack.{CanBeRead}
 use Rattle.proof_endpoint.specs.Fair.{IsFairParameter}
-use Rattle.proof_endpoint.specs.Acts.{EndWithPacket, end_of, in_open, with_context, drawn_tag, drawn_first, opened_by, point_of, fragments_of, IsOffered, alone, among, Fitting, HasRequest, for_outgoing, for_incoming, Answers, PacketAct, begins, adds_plain, emits, complains, counts, before_packets, after_packets, OpeningAct, connects, adds_init, answers_new, answers_waiting, answers_echoed, answers_again, echoes, adds_cookie, establishes, opens, restarts, opens_again, maintains, adds_cookie_ack, before_opening, after_opening, ClosingAct, closes, shuts, shuts_on, before_closing, after_closing, DataAct, takes_data, takes_idata, takes_forward, takes_iforward, before_data, after_data, SackAct, takes_sack, samples, counts_errors, before_sack, after_sack, SendingAct, asks, adds_ack, expires, adds_forward, forwards_later, asks_no_reset, asks_reset, adds_request, sends, sends_fast, before_sending, after_sending, TimeAct, advances, delay_ends, times_out, beats, times_init, times_cookie, times_request, wakes_request, timeout_of, before_time, after_time, CallAct, accepts, refuses, takes_message, sets_low_threshold, sets_priority, sets_max_message_size, before_call, after_call, ResetAct, prepares, defers, performs, processes, takes_response, adds_responses, before_reset, after_reset, HandoverAct, leaves, takes_up, before_handover, after_handover, InputAct, ends_packet, before_input, after_input, Preserves}
+use Rattle.proof_endpoint.specs.Acts.{EndWithPacket, end_of, in_open, with_context, drawn_tag, drawn_first, opened_by, point_of, fragments_of, IsOffered, alone, among, Fitting, HasRequest, for_outgoing, for_incoming, Answers, PacketAct, begins, adds_plain, emits, emits_error, counts, before_packets, after_packets, OpeningAct, connects, adds_init, answers_new, answers_waiting, answers_echoed, answers_again, echoes, adds_cookie, establishes, opens, restarts, opens_again, maintains, adds_cookie_ack, before_opening, after_opening, ClosingAct, closes, shuts, shuts_on, before_closing, after_closing, DataAct, takes_data, takes_idata, takes_forward, takes_iforward, before_data, after_data, SackAct, takes_sack, samples, counts_errors, before_sack, after_sack, SendingAct, asks, adds_ack, expires, adds_forward, forwards_later, asks_no_reset, asks_reset, adds_request, sends, sends_fast, before_sending, after_sending, TimeAct, advances, delay_ends, times_out, beats, times_init, times_cookie, times_request, wakes_request, timeout_of, before_time, after_time, CallAct, accepts, refuses, takes_message, sets_low_threshold, sets_priority, sets_max_message_size, before_call, after_call, ResetAct, prepares, defers, performs, processes, takes_response, adds_responses, before_reset, after_reset, HandoverAct, leaves, takes_up, before_handover, after_handover, InputAct, ends_packet, before_input, after_input, Preserves}
 use Rattle.proof_endpoint.proofs.ReceivedLemmas.{FitsCookie}
 use Rattle.proof_endpoint.proofs.OpeningActsLemmas.{echoed_fits}
 use Rattle.proof_endpoint.proofs.SoundTrackerLemmas.{ack_fits, end_fits, timeout_fits, reported_fits}
 use Rattle.proof_endpoint.proofs.SoundQueueLemmas.{added_fits, threshold_fits, priority_fits, reset_fits, prepare_fits, steps_fit, requested_fits, restore_fits}
 use Rattle.proof_endpoint.proofs.SoundItemsLemmas.{word_small, nack_all_fits}
 use Rattle.proof_endpoint.proofs.SoundTxLemmas.{received_fits, sender_expired_fits, resent_fast_fits, sent_fast_fits, FitsFilling, send_fits}
-use Rattle.proof_endpoint.proofs.SoundTcbLemmas.{with_tracker, with_sender, with_requests, with_reassembly, took_fits, passed_fits, timed_fits, started_fits, woken_fits, answered_fits, tcb_fits, names_fit, cookie_identity, taken_fits}
+use Rattle.proof_endpoint.proofs.SoundTcbLemmas.{with_tracker, with_sender, with_requests, with_reassembly, took_fits, passed_fits, timed_fits, started_fits, woken_fits, handle_response_fits, tcb_fits, names_fit, cookie_identity, taken_fits}
 use Rattle.proof_endpoint.proofs.SoundPacketLemmas.{IsSoundChunk, IsGood, good_add, good_data, all_read_back, all_cookies, own_plain, own_sack, own_forward, own_request, own_responses, own_init, own_init_ack, own_cookie_echo, own_cookie_ack}
 
 -- ---- an end at work
@@ -58,7 +58,7 @@ pub record EmittedSince {P : Type 0} (g : Start P) (es : List (Event P)) : Type 
   pub behind : es ≡ g.past ++ events
   pub can_be_read : All (CanBeRead g.pack g.most) events
 
-pub record Sound {P : Type 0} (g : Start P) (o : Options) (pack : Packing P) (q : Queue) (es : List (Event P)) (s : State) (p : Packet) : Type 0 where
+pub record Sound {P : Type 0} (g : Start P) (o : Options) (pack : Packing P) (q : Queue) (es : List (Event P)) (s : State) (p : PacketDraft) : Type 0 where
   pub options : OptionsFit o
   pub mtu : o.mtu ≡ g.most
   pub packing : pack ≡ g.pack
@@ -75,11 +75,11 @@ event_quiet : {P : Type 0} (pack : Packing P) (most : ℕ) (e : Event P) → IsS
 event_quiet pack most (SendPacket p) w = absurd (omega (arith, w.short))
 event_quiet pack most e w = tt
 
-module _ {P : Type 0} {g : Start P} {o : Options} {pack : Packing P} {q : Queue} {es : List (Event P)} {s : State} {p : Packet} (h : Sound g o pack q es s p) where
+module _ {P : Type 0} {g : Start P} {o : Options} {pack : Packing P} {q : Queue} {es : List (Event P)} {s : State} {p : PacketDraft} (h : Sound g o pack q es s p) where
   pub in_the_state : (t : State) → FitsState t → Sound g o pack q es t p
   in_the_state t f = record { options = h.options; mtu = h.mtu; packing = h.packing; queue = h.queue; since = h.since; state = f; packet = h.packet }
 
-  pub with_the_packet : (r : Packet) → IsGood g.most r → Sound g o pack q es s r
+  pub with_the_packet : (r : PacketDraft) → IsGood g.most r → Sound g o pack q es s r
   with_the_packet r f = record { options = h.options; mtu = h.mtu; packing = h.packing; queue = h.queue; since = h.since; state = h.state; packet = f }
 
   with_the_queue : (r : Queue) → FitsQueue r → Sound g o pack r es s p
@@ -113,8 +113,8 @@ module _ {P : Type 0} {g : Start P} {o : Options} {pack : Packing P} {q : Queue}
       telling e.events u.events (e.behind ∙ ap (λ (fs : List (Event P)). fs ++ e.events) is)
       (All-weaker (IsShort g.pack 0) (CanBeRead g.pack g.most) (event_quiet g.pack g.most) e.events e.short)
 
-module _ {P : Type 0} {g : Start P} {o : Options} {pack : Packing P} {q : Queue} {es : List (Event P)} {s : State} {p : Packet} (h : Sound g o pack q es s p) where
-  goes_out : Sound g o pack q (es ++ SendPacket (pack.write (header_to o p.tag) p.is_summed p.chunks) ∷ []) s (empty_packet p)
+module _ {P : Type 0} {g : Start P} {o : Options} {pack : Packing P} {q : Queue} {es : List (Event P)} {s : State} {p : PacketDraft} (h : Sound g o pack q es s p) where
+  goes_out : Sound g o pack q (es ++ SendPacket (pack.write (header_to o p.tag) p.is_summed p.chunks) ∷ []) s (clear_chunks p)
   goes_out = with_the_packet (saying h (SendPacket (pack.write (header_to o p.tag) p.is_summed p.chunks)) (record {
     carried = record { header = header_to o p.tag; is_summed = p.is_summed; chunks = p.chunks };
     made = ap (λ (k : Packing P). k.write (header_to o p.tag) p.is_summed p.chunks) h.packing;
@@ -124,8 +124,8 @@ module _ {P : Type 0} {g : Start P} {o : Options} {pack : Packing P} {q : Queue}
       cookies = all_cookies p.chunks h.packet.chunks;
       short = h.packet.small.short;
     };
-  })) (empty_packet p) (record {
-    small = small_empty g.most (empty_packet p) (omega (arith, h.options.mtu_least, h.mtu)) h.packet.small.limit refl;
+  })) (clear_chunks p) (record {
+    small = small_empty g.most (clear_chunks p) (omega (arith, h.options.mtu_least, h.mtu)) h.packet.small.limit refl;
     tag = h.packet.tag;
     chunks = tt;
   })
@@ -180,7 +180,7 @@ queue_if_fits : (b : Bool) (q : Queue) → FitsQueue q → FitsQueue (queue_if b
 queue_if_fits true q h = reset_fits q h
 queue_if_fits false q h = h
 
-later_fits : (phase : Phase) → is_alone phase ≡ false → FitsPhase phase
+later_fits : (phase : Phase) → is_before_cookie_ack phase ≡ false → FitsPhase phase
 later_fits (CookieEchoed t1 cookie) e = cc
 later_fits Established e = tt
 later_fits ShutdownPending e = tt
@@ -192,14 +192,14 @@ drops_if : {P : Type 0} (pack : Packing P) (b : Bool) (t u : Emitted P) → Emit
 drops_if pack true t u h = emits_nothing pack 0 t
 drops_if pack false t u h = h
 
-drops : {P : Type 0} (pack : Packing P) (ms : List Queued) (t : Emitted P) → Emits pack 0 0 t (emitted_waiting ms t)
+drops : {P : Type 0} (pack : Packing P) (ms : List Queued) (t : Emitted P) → Emits pack 0 0 t (emit_unsent ms t)
 drops pack [] t = emits_nothing pack 0 t
 drops {P} pack (m ∷ ms) t =
-    let gone : Emitted P = give_up m.number Reset t in
-    let said : Emitted P = emit_events (expiry m.lifecycle) gone in
+    let gone : Emitted P = emit_given_up m.number Reset t in
+    let said : Emitted P = emit_events (expired_events m.lifecycle) gone in
     let u : Emitted P = cond (is_partly m) t said in
-    emits_then pack 0 t u (emitted_waiting ms u)
-    (drops_if pack (is_partly m) t said (emits_then pack 0 t gone said (emits_given_up pack 0 m.number Reset t) (emits_all pack 0 (expiry m.lifecycle) gone (quiet_expiry P m.lifecycle))))
+    emits_then pack 0 t u (emit_unsent ms u)
+    (drops_if pack (is_partly m) t said (emits_then pack 0 t gone said (emits_given_up pack 0 m.number Reset t) (emits_all pack 0 (expired_events m.lifecycle) gone (quiet_expiry P m.lifecycle))))
     (drops pack ms u)
 
 ends_can : {P : Type 0} (pack : Packing P) (most : ℕ) (e : Event P) → ending e ≡ 1 → CanBeRead pack most e
@@ -235,7 +235,7 @@ module _ {P : Type 0} (g : Start P) (call : Call) (a : Argument call) where
   goes_packets (adds_plain chunk m plain others fair) h =
       with_the_packet h _ (good_add g.most m.packet chunk (own_plain chunk plain (fair a.fitting)) h.packet)
   goes_packets (emits m some bundled) h = goes_out h
-  goes_packets (complains kind text m) h = saying h (OnError kind text) tt
+  goes_packets (emits_error kind text m) h = saying h (OnError kind text) tt
   goes_packets (counts m) h = h
 
   goes_opening : (act : OpeningAct P call) → Onward (before_opening act) (after_opening act)
@@ -256,17 +256,17 @@ module _ {P : Type 0} (g : Start P) (call : Call) (a : Argument call) where
       let some : 0 < length cookie = subst IsSomeCookie brought (some_cookie i.parameters brings.1) in
       in_the_state (with_the_queue h _ (reset_fits m.context.queue h.queue)) _ (
         some,
-        tcb_fits m.context.options (names i my_tag first (long_word (end_of m))) i.a_rwnd (agreed_by m.context.options i) h.options
+        tcb_fits m.context.options (identity_of_init_ack i my_tag first (long_word (end_of m))) i.a_rwnd (agreed_by m.context.options i) h.options
             (names_fit i my_tag first (long_word (end_of m)) brings.0 h.state.0 h.state.1),
       )
   goes_opening (adds_cookie t1 cookie t m to) h =
       with_the_packet h _ (good_add g.most m.packet (cookie_echo_chunk cookie) (own_cookie_echo cookie h.state.0) h.packet)
   goes_opening (establishes tag t1 cookie t m received) h = saying (in_the_state h (Open Established t) (tt, h.state.1)) OnConnected tt
   goes_opening (opens tag k m echoed none own) h = opened g false k m (echoed_fits tag k echoed a.fitting) h
-  goes_opening (restarts tag k phase t m echoed verdict) h =
-      opened g true k (with_context (say OnConnectionRestarted m.context) (in_open phase t m)) (echoed_fits tag k echoed a.fitting) (saying h OnConnectionRestarted tt)
-  goes_opening (opens_again tag k phase t m echoed verdict) h = opened g true k (in_open phase t m) (echoed_fits tag k echoed a.fitting) h
-  goes_opening (maintains tag k t1 cookie t m echoed verdict) h = saying (in_the_state h (Open Established t) (tt, h.state.1)) OnConnected tt
+  goes_opening (restarts tag k phase t m echoed resolution) h =
+      opened g true k (with_context (emit_event_in OnConnectionRestarted m.context) (in_open phase t m)) (echoed_fits tag k echoed a.fitting) (saying h OnConnectionRestarted tt)
+  goes_opening (opens_again tag k phase t m echoed resolution) h = opened g true k (in_open phase t m) (echoed_fits tag k echoed a.fitting) h
+  goes_opening (maintains tag k t1 cookie t m echoed resolution) h = saying (in_the_state h (Open Established t) (tt, h.state.1)) OnConnected tt
   goes_opening (adds_cookie_ack tag back phase t m echoed late) h = with_the_packet h _ (good_add g.most m.packet _ own_cookie_ack h.packet)
 
   goes_closing : (act : ClosingAct P call) → Onward (before_closing act) (after_closing act)
@@ -302,13 +302,13 @@ module _ {P : Type 0} (g : Start P) (call : Call) (a : Argument call) where
   goes_sending (adds_forward phase t m due) h =
       with_the_packet h _ (good_add g.most m.packet (forward_chunk t.sender) (own_forward t.sender h.state.1.items) h.packet)
   goes_sending (forwards_later n m) h = h
-  goes_sending (asks_no_reset most m none) h = with_the_queue h _ (steps_fit Requested (requested_streams most m.context.queue) m.context.queue h.queue)
+  goes_sending (asks_no_reset most m none) h = with_the_queue h _ (steps_fit Requested (streams_to_request most m.context.queue) m.context.queue h.queue)
   goes_sending (asks_reset most stream streams phase t m some free) h =
       let q : Queue = m.context.queue in
-      let s = begin_burst t.sender in
+      let s = add_reset_breakpoint t.sender in
       let ids = subst (Each (λ (id : ℕ). id < 2 ^ 16)) some (requested_fits most q h.queue) in
       let r = started_fits m.context.now (rto t.rtt) (last_assigned s) (stream ∷ streams) t.requests (word_small s.outstanding.first _) ids h.state.1.requests in
-      in_the_state (with_the_queue h _ (steps_fit Requested (requested_streams most q) q h.queue)) _
+      in_the_state (with_the_queue h _ (steps_fit Requested (streams_to_request most q) q h.queue)) _
       (h.state.0, with_requests (record t { sender = s }) _ r (with_sender t s h.state.1.items h.state.1))
   goes_sending (adds_request r phase t m is) h =
       let fits : FitsRequest r = subst (λ (x : Option _). IfSome x FitsRequest) is h.state.1.requests.current in
@@ -351,9 +351,9 @@ module _ {P : Type 0} (g : Start P) (call : Call) (a : Argument call) where
       let zero_small : 0 < 2 ^ 32 = omega arith in
       with_the_queue h _ (added_fits message.stream (queue_entry c.queue.next_number c.now message o) c.queue f.stream (record { ppid = f.ppid; fsn = zero_small }) h.queue)
   goes_calls (refuses message o e m offered is) h =
-      let es : List (Event P) = lifecycle_end o.lifecycle_id ++ refusal_events e in
+      let es : List (Event P) = lifecycle_end_events o.lifecycle_id ++ refusal_events e in
       quietly h m.context.emitted (refuse e o.lifecycle_id m.context).emitted refl
-      (emits_all g.pack 0 es m.context.emitted (quiet_both (lifecycle_end o.lifecycle_id) (refusal_events e) (quiet_end P o.lifecycle_id) (quiet_refusal P e)))
+      (emits_all g.pack 0 es m.context.emitted (quiet_both (lifecycle_end_events o.lifecycle_id) (refusal_events e) (quiet_end P o.lifecycle_id) (quiet_refusal P e)))
   goes_calls (takes_message phase t m is) h = in_the_state h _ (h.state.0, with_reassembly t _ refl h.state.1)
   goes_calls (sets_low_threshold stream bytes m is) h =
       let c : Context P = m.context in
@@ -386,14 +386,14 @@ module _ {P : Type 0} (g : Start P) (call : Call) (a : Argument call) where
   goes_resets (prepares id phase t m asked can) h =
       let c : Context P = m.context in
       let small : id < 2 ^ 16 = each_among (λ (n : ℕ). n < 2 ^ 16) id asked.streams asked.among.before asked.among.behind asked.among.split (subst FitsBesides asked.asked a.fits) in
-      quietly (with_the_queue h _ (prepare_fits id c.queue c.emitted small h.queue)) c.emitted (prepare_stream id c).emitted refl
+      quietly (with_the_queue h _ (prepare_fits id c.queue c.emitted small h.queue)) c.emitted (prepare_reset_stream id c).emitted refl
       (drops g.pack (stream id c.queue.streams).messages c.emitted)
   goes_resets (defers number response last_tsn streams phase t m asked known ahead) h = absurd (a.quiet number (for_outgoing response last_tsn streams asked))
   goes_resets (performs number response last_tsn streams phase t m asked known there) h = absurd (a.quiet number (for_outgoing response last_tsn streams asked))
   goes_resets (processes number streams phase t m asked known) h = absurd (a.quiet number (for_incoming streams asked))
   goes_resets (takes_response span number result sender receiver phase t m asked) h =
       after_outcome g (outcome number result t.requests.current) (in_open phase (record t { requests = _ }) m)
-      (in_the_state h _ (h.state.0, with_requests t _ (answered_fits m.context.now span number result t.requests h.state.1.requests) h.state.1))
+      (in_the_state h _ (h.state.0, with_requests t _ (handle_response_fits m.context.now span number result t.requests h.state.1.requests) h.state.1))
   goes_resets (adds_responses responses phase t m are answers) h =
       with_the_packet h _ (good_add g.most m.packet _ (own_responses responses (no_responses t.requests responses answers)) h.packet)
 

@@ -3,7 +3,7 @@ use Rattle.std.proofs.Common.{◌≡◌, ℕ, zero, suc, ◌+◌, ◌-◌, ◌^�
 use Rattle.std.specs.Prelude.{unwrap_or, option_map, map, slice_get, nat_le, ◌&&◌}
 use Rattle.sctp_serial.specs.declared.types.StreamKey.TheVariants.{Ordered, Unordered}
 use Rattle.sctp_serial.specs.declared.api.StreamId.{StreamId}
-use Rattle.sctp_serial.specs.Unwrapped.{words, wire}
+use Rattle.sctp_serial.specs.Unwrapped.{u32_space, wire}
 use Rattle.sctp_chunk.specs.declared.sack.GapAckBlock.{GapAckBlock}
 use Rattle.sctp_packet.specs.Covered.{is_covered}
 use Rattle.sctp_packet.specs.Chunk.{FragmentTree}
@@ -16,12 +16,12 @@ use Rattle.sctp_state.specs.Handover.{OutstandingData}
 use Rattle.sctp_tx_outstanding.specs.declared.skips.SkipEntry.{SkipEntry}
 use Rattle.sctp_tx_outstanding.specs.Item as item
 use Rattle.sctp_tx_outstanding.specs.Item.{Item, is_of, is_fast, should_be_retransmitted, mark_as_retransmitted, miss_fast}
-use Rattle.sctp_tx_outstanding.specs.OutstandingData.{Items, Outstanding, change_at, lay_down, without_payload, later_of, last_of}
-use Rattle.sctp_tx_outstanding.specs.Losses.{placeholder, placeholders, close_message, Step, given_up, change_items, gives_up, loses, nack_item, nack_below, nack_all, first_step, expired_at, given_up_if, expire_below, expire_outstanding}
-use Rattle.sctp_tx_outstanding.specs.Sack.{leaving, staying, settle, ack_or_nack, reported_below, receive_sack_first, receive_sack}
-use Rattle.sctp_tx_outstanding.specs.Forward.{entry_of, is_before, is_alike, name_stream, with_entry, ForwardPoint, passes, pass_item, walk, forward_point}
+use Rattle.sctp_tx_outstanding.specs.OutstandingData.{Items, Outstanding, change_at, abandon_if_of, without_payload, later_of, last_of}
+use Rattle.sctp_tx_outstanding.specs.Losses.{placeholder, placeholders, end_with_placeholder, Step, abandon_with_record, change_items, is_to_be_abandoned, loses, nack_item, nack_below, nack_all, first_step, expired_at, given_up_if, expire_below, expire_outstanding}
+use Rattle.sctp_tx_outstanding.specs.Sack.{leaving, staying, ack_or_uncover_all, ack_or_uncover, reported_below, receive_sack_first, receive_sack}
+use Rattle.sctp_tx_outstanding.specs.Forward.{entry_of, is_before, is_alike, put_entry, with_entry, ForwardPoint, passes, pass_item, walk, forward_point}
 use Rattle.sctp_tx_outstanding.specs.Entries.{ssn_skip, mid_skip}
-use Rattle.sctp_tx_outstanding.specs.Resending.{Resent, size_in, allowance, again_of, again_at, passed_over, fast_turn, queued_turn, turn_of, take_item, resent_below, resend}
+use Rattle.sctp_tx_outstanding.specs.Resending.{Resent, size_in, allowance, again_of, again_at, passed_over, fast_turn, queued_turn, turn_of, apply_turn, resent_below, resend}
 use Rattle.sctp_tx_outstanding.specs.Handover.{fragment_from, items_from}
 use Rattle.proof_endpoint.specs.Sound.{FitsItem, FitsItems}
 use Rattle.proof_endpoint.proofs.ReceivedLemmas.{each_append, each_push, each_drop}
@@ -75,36 +75,36 @@ placeholders_fit number (Some f) h = go f.is_end
     go true = tt
     go false = (record { stream_id = h.stream_id; ssn = h.ssn; mid = h.mid; fsn = omega arith; ppid = h.ppid }, tt)
 
-laid_fits : (number : ℕ) (i : Item) → FitsItem i → FitsItem (lay_down number i)
+laid_fits : (number : ℕ) (i : Item) → FitsItem i → FitsItem (abandon_if_of number i)
 laid_fits number i h = go (is_of number i)
   where
     go : (b : Bool) → FitsItem (cond b (item.abandon i) i)
     go true = record { stream_id = h.stream_id; ssn = h.ssn; mid = h.mid; fsn = h.fsn; ppid = h.ppid }
     go false = h
 
-closed_fits : (number : ℕ) (s : Items) → FitsItems s → FitsItems (close_message number s)
+closed_fits : (number : ℕ) (s : Items) → FitsItems s → FitsItems (end_with_placeholder number s)
 closed_fits number s h =
     each_append FitsItem s.kept (placeholders number (last_of number s.kept)) h (placeholders_fit number (last_of number s.kept) (later_fits number None s.kept tt h))
 
-settled_fits : (b : Bool) (i : Item) → FitsItem i → FitsItem (ack_or_nack b i)
-settled_fits true i h = record { stream_id = h.stream_id; ssn = h.ssn; mid = h.mid; fsn = h.fsn; ppid = h.ppid }
-settled_fits false i h = record { stream_id = h.stream_id; ssn = h.ssn; mid = h.mid; fsn = h.fsn; ppid = h.ppid }
+ack_or_uncover_fits : (b : Bool) (i : Item) → FitsItem i → FitsItem (ack_or_uncover b i)
+ack_or_uncover_fits true i h = record { stream_id = h.stream_id; ssn = h.ssn; mid = h.mid; fsn = h.fsn; ppid = h.ppid }
+ack_or_uncover_fits false i h = record { stream_id = h.stream_id; ssn = h.ssn; mid = h.mid; fsn = h.fsn; ppid = h.ppid }
 
-settle_fits : (blocks : List GapAckBlock) (offset : ℕ) (is : List Item) → AreKept is → AreKept (settle blocks offset is)
+settle_fits : (blocks : List GapAckBlock) (offset : ℕ) (is : List Item) → AreKept is → AreKept (ack_or_uncover_all blocks offset is)
 settle_fits blocks offset [] h = tt
-settle_fits blocks offset (i ∷ is) h = (settled_fits (is_covered blocks offset) i h.0, settle_fits blocks (suc offset) is h.1)
+settle_fits blocks offset (i ∷ is) h = (ack_or_uncover_fits (is_covered blocks offset) i h.0, settle_fits blocks (suc offset) is h.1)
 
 abbrev FitsStep : {P : Type 0} → Step P → Type 0
 FitsStep x = FitsItems x.items
 
 module _ {P : Type 0} where
-  given_up_fits : (number : ℕ) (cause : GivenUpCause) (x : Step P) → FitsStep x → FitsStep (given_up number cause x)
-  given_up_fits number cause x h = map_fits (lay_down number) (laid_fits number) (close_message number x.items).kept (closed_fits number x.items h)
+  given_up_fits : (number : ℕ) (cause : GivenUpCause) (x : Step P) → FitsStep x → FitsStep (abandon_with_record number cause x)
+  given_up_fits number cause x h = map_fits (abandon_if_of number) (laid_fits number) (end_with_placeholder number x.items).kept (closed_fits number x.items h)
 
   nack_item_fits : (at_once fast : Bool) (k : ℕ) (i : Item) (x : Step P) → FitsStep x → FitsStep (nack_item at_once fast k i x)
-  nack_item_fits at_once fast k i x h = go (gives_up x.items.is_partial at_once i)
+  nack_item_fits at_once fast k i x h = go (is_to_be_abandoned x.items.is_partial at_once i)
     where
-      go : (b : Bool) → FitsStep (cond b (given_up i.number (Retransmissions (i.sent - 1)) x)
+      go : (b : Bool) → FitsStep (cond b (abandon_with_record i.number (Retransmissions (i.sent - 1)) x)
           (record x { items = change_items k (item.nack at_once fast) x.items; is_lossy = x.is_lossy || loses at_once i }))
       go true = given_up_fits i.number (Retransmissions (i.sent - 1)) x h
       go false = change_fits (item.nack at_once fast) (λ j f. record { stream_id = f.stream_id; ssn = f.ssn; mid = f.mid; fsn = f.fsn; ppid = f.ppid }) k x.items.kept h
@@ -145,7 +145,7 @@ module _ {P : Type 0} where
 abbrev pub FitsSent : ℕ × FragmentTree → Type 0
 FitsSent c = (c.0 < 2 ^ 32) × FitsFragment c.1
 
-pub word_small : (first n : ℕ) → wire words first n < 2 ^ 32
+pub word_small : (first n : ℕ) → wire u32_space first n < 2 ^ 32
 word_small first n = omega arith
 
 pub record FitsResent (x : Resent) : Type 0 where
@@ -168,17 +168,17 @@ passed_over_fits k x h = record {
   chunks = h.chunks;
 }
 
-fast_fits : (a b : Bool) (i : Item) (k : ℕ) (x : Resent) → is_fast i ≡ a → nat_le (size_in x i) x.room ≡ b → FitsResent x → FitsResent (take_item (fast_turn i x) k x)
+fast_fits : (a b : Bool) (i : Item) (k : ℕ) (x : Resent) → is_fast i ≡ a → nat_le (size_in x i) x.room ≡ b → FitsResent x → FitsResent (apply_turn (fast_turn i x) k x)
 fast_fits true true i k x e f h = rw (e, f) (again_at_fits k x h)
 fast_fits true false i k x e f h = rw (e, f) (passed_over_fits k x h)
 fast_fits false b i k x e f h = rw e h
 
 queued_fits : (b : Bool) (i : Item) (k : ℕ) (x : Resent) → (should_be_retransmitted i && nat_le (size_in x i) (allowance x)) ≡ b → FitsResent x
-    → FitsResent (take_item (queued_turn i x) k x)
+    → FitsResent (apply_turn (queued_turn i x) k x)
 queued_fits true i k x e h = rw e (again_at_fits k x h)
 queued_fits false i k x e h = rw e h
 
-turn_fits : (fast : Bool) (o : Option Item) (k : ℕ) (x : Resent) → FitsResent x → FitsResent (take_item (turn_of fast o x) k x)
+turn_fits : (fast : Bool) (o : Option Item) (k : ℕ) (x : Resent) → FitsResent x → FitsResent (apply_turn (turn_of fast o x) k x)
 turn_fits fast None k x h = h
 turn_fits true (Some i) k x h = fast_fits (is_fast i) (nat_le (size_in x i) x.room) i k x refl refl h
 turn_fits false (Some i) k x h = queued_fits (should_be_retransmitted i && nat_le (size_in x i) (allowance x)) i k x refl h
@@ -213,11 +213,11 @@ entry_fits m i h = go (m || not i.fragment.is_unordered) m
     go true d = record { stream_id = h.stream_id; number = number d }
     go false d = tt
 
-named_fits : (e : SkipEntry) (es : List SkipEntry) → FitsEntry e → Each FitsEntry es → Each FitsEntry (name_stream e es)
+named_fits : (e : SkipEntry) (es : List SkipEntry) → FitsEntry e → Each FitsEntry es → Each FitsEntry (put_entry e es)
 named_fits e [] f h = (f, tt)
 named_fits e (d ∷ ds) f h = go (is_before d e) (is_alike e d) (named_fits e ds f h.1)
   where
-    go : (a b : Bool) → Each FitsEntry (name_stream e ds) → Each FitsEntry (cond a (d ∷ name_stream e ds) (cond b (e ∷ ds) (e ∷ d ∷ ds)))
+    go : (a b : Bool) → Each FitsEntry (put_entry e ds) → Each FitsEntry (cond a (d ∷ put_entry e ds) (cond b (e ∷ ds) (e ∷ d ∷ ds)))
     go true b rest = (h.0, rest)
     go false true rest = (f, h.1)
     go false false rest = (f, h)

@@ -10,14 +10,14 @@ use Rattle.sctp_packet.specs.Grammar.{Each, FitsChunk}
 use Rattle.sctp_packet.specs.Written.{chunk_item, chunk_is_whole, chunk_bytes}
 use Rattle.sctp_packet.specs.ReadBack.{ChunkReadsBack}
 use Rattle.sctp_state.specs.Options.{Options}
-use Rattle.sctp_capabilities.specs.Capabilities.{announce}
+use Rattle.sctp_capabilities.specs.Capabilities.{announced_parameters}
 use Rattle.sctp_capabilities.specs.StateCookie.{cookie_bytes}
 use Rattle.sctp_tx.specs.RetransmissionQueue.{Sender}
 use Rattle.sctp_tx.specs.Resent.{is_interleaved}
 use Rattle.sctp_tx.specs.ForwardPoints.{chunk_if, forward_chunk}
 use Rattle.spec_endpoint.specs.Association.{Tcb}
 use Rattle.spec_endpoint.specs.ResetRequests.{Request, ids, request_chunk}
-use Rattle.spec_endpoint.specs.Packets.{Packet, room, fits, added_if, add, add_all}
+use Rattle.spec_endpoint.specs.Packets.{PacketDraft, room, fits, added_if, add, add_all}
 use Rattle.spec_endpoint.specs.Sending.{selective_ack, data_chunk_of, data_chunks}
 use Rattle.spec_endpoint.specs.Opening.{init_of, cookie_for, agreed_by, init_ack_of}
 use Rattle.proof_endpoint.specs.Sound.{OptionsFit, FitsRequest, FitsTcb, HasSomeCookie}
@@ -26,7 +26,7 @@ use Rattle.proof_endpoint.specs.Acts.{is_plain}
 use Rattle.proof_endpoint.proofs.GoesLemmas.{IsSmall, small_add}
 use Rattle.proof_endpoint.proofs.FairLemmas.{fair_reads}
 use Rattle.proof_endpoint.proofs.ReceivedLemmas.{each_push}
-use Rattle.proof_endpoint.proofs.OwnLemmas.{IsOwn, own_announced, own_with_cookie, own_fair, own_cookies, same_method_fits}
+use Rattle.proof_endpoint.proofs.OwnChunksLemmas.{IsOwn, own_announced, own_with_cookie, own_fair, own_cookies, same_method_fits}
 use Rattle.proof_endpoint.proofs.SoundTrackerLemmas.{sack_fits, window_small}
 use Rattle.proof_endpoint.proofs.SoundItemsLemmas.{FitsSent}
 use Rattle.proof_endpoint.proofs.SoundTxLemmas.{FitsSender, forward_chunk_fits}
@@ -42,30 +42,30 @@ pub record IsSoundChunk (c : ChunkTree) : Type 0 where
   pub reads_back : ChunkReadsBack c
   pub cookie : HasSomeCookie c
 
-pub record IsGood (most : ℕ) (p : Packet) : Type 0 where
+pub record IsGood (most : ℕ) (p : PacketDraft) : Type 0 where
   pub small : IsSmall most p
   pub tag : p.tag < 2 ^ 32
   pub chunks : Each IsSoundChunk p.chunks
 
-chunks_added : (b : Bool) (p : Packet) (c : ChunkTree) → fits p c ≡ b → IsOwnChunk c → Each IsSoundChunk p.chunks → Each IsSoundChunk (added_if b c p).chunks
+chunks_added : (b : Bool) (p : PacketDraft) (c : ChunkTree) → fits p c ≡ b → IsOwnChunk c → Each IsSoundChunk p.chunks → Each IsSoundChunk (added_if b c p).chunks
 chunks_added true p c e own h =
     let can : is_encodable (chunk_item c) (chunk_is_whole c) ≡ true =
     (and_parts (is_encodable (chunk_item c) (chunk_is_whole c)) (nat_le (length (chunk_bytes c)) (room p)) e).0 in
     each_push IsSoundChunk p.chunks c h (record { reads_back = fair_reads c own.fair can; cookie = own.cookie })
 chunks_added false p c e own h = h
 
-tag_added : (b : Bool) (p : Packet) (c : ChunkTree) → (added_if b c p).tag ≡ p.tag
+tag_added : (b : Bool) (p : PacketDraft) (c : ChunkTree) → (added_if b c p).tag ≡ p.tag
 tag_added true p c = refl
 tag_added false p c = refl
 
-pub good_add : (most : ℕ) (p : Packet) (c : ChunkTree) → IsOwnChunk c → IsGood most p → IsGood most (add c p)
+pub good_add : (most : ℕ) (p : PacketDraft) (c : ChunkTree) → IsOwnChunk c → IsGood most p → IsGood most (add c p)
 good_add most p c own h = record {
   small = small_add most p c h.small;
   tag = subst (λ (n : ℕ). n < 2 ^ 32) (sym (tag_added (fits p c) p c)) h.tag;
   chunks = chunks_added (fits p c) p c refl own h.chunks;
 }
 
-good_add_all : (most : ℕ) (p : Packet) (cs : List ChunkTree) → Each IsOwnChunk cs → IsGood most p → IsGood most (add_all cs p)
+good_add_all : (most : ℕ) (p : PacketDraft) (cs : List ChunkTree) → Each IsOwnChunk cs → IsGood most p → IsGood most (add_all cs p)
 good_add_all most p [] own h = h
 good_add_all most p (c ∷ cs) own h = good_add_all most (add c p) cs own.1 (good_add most p c own.0 h)
 
@@ -116,14 +116,14 @@ own_data : (b is_immediate : Bool) (cs : List (ℕ × FragmentTree)) → Each Fi
 own_data b is_immediate [] h = tt
 own_data b is_immediate (c ∷ cs) h = (own_datum b is_immediate c h.0, own_data b is_immediate cs h.1)
 
-pub good_data : (most : ℕ) (p : Packet) (t : Tcb) (is_immediate : Bool) (cs : List (ℕ × FragmentTree)) → Each FitsSent cs → IsGood most p
+pub good_data : (most : ℕ) (p : PacketDraft) (t : Tcb) (is_immediate : Bool) (cs : List (ℕ × FragmentTree)) → Each FitsSent cs → IsGood most p
     → IsGood most (add_all (data_chunks t is_immediate cs) p)
 good_data most p t is_immediate cs f h =
     good_add_all most p (data_chunks t is_immediate cs) (own_data t.capabilities.message_interleaving is_immediate cs f) h
 
 -- an INIT or an INIT ACK, which has a cookie
 module _ (o : Options) (h : OptionsFit o) (tag first : ℕ) (t : tag < 2 ^ 32) (f : first < 2 ^ 32) where
-  pub own_init : IsOwnChunk (init_chunk (init_of o tag first (announce o o.zero_checksum_method)))
+  pub own_init : IsOwnChunk (init_chunk (init_of o tag first (announced_parameters o o.zero_checksum_method)))
   own_init = record {
     fair = record {
       fits = record { initiate_tag = t; a_rwnd = h.receiver_window; nbr_outbound_streams = h.outgoing_streams; nbr_inbound_streams = h.incoming_streams; initial_tsn = f };
@@ -135,7 +135,7 @@ module _ (o : Options) (h : OptionsFit o) (tag first : ℕ) (t : tag < 2 ^ 32) (
   pub own_init_ack : (i : InitTree) (tie : ℕ) → IsOwnChunk (init_ack_chunk (init_ack_of o i tag first tie))
   own_init_ack i tie =
       let method : ℕ = (agreed_by o i).zero_checksum_method in
-      let ps : List ParameterTree = announce o method in
+      let ps : List ParameterTree = announced_parameters o method in
       let own : Each IsOwn (ps ++ state_cookie (cookie_bytes (cookie_for i tag first tie)) ∷ []) =
       own_with_cookie ps (cookie_for i tag first tie) (own_announced o method (same_method_fits o.zero_checksum_method _ h.zero_checksum_method)) in
       record {

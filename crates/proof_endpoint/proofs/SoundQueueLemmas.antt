@@ -5,18 +5,18 @@ use Rattle.std.specs.Map.{lookup, set_value, keys_of}
 use Rattle.std.specs.Ordering.{nat_cmp, match_ordering}
 use Rattle.std.specs.declared.cmp.Ordering.{Ordering}
 use Rattle.std.specs.BTreeMap.{is_at, insert_entry}
-use Rattle.sctp_serial.specs.Unwrapped.{words, halves, wire}
+use Rattle.sctp_serial.specs.Unwrapped.{u32_space, halves, wire}
 use Rattle.sctp_packet.specs.Grammar.{Each, FitsFragment}
 use Rattle.sctp_state.specs.declared.api.handover.HandoverOutgoingStream.{HandoverOutgoingStream}
 use Rattle.sctp_state.specs.Events.{Emitted}
 use Rattle.sctp_state.specs.Handover.{StreamMessage, Transmission}
 use Rattle.sctp_tx_queue.specs.declared.send_queue.message.MessageNumbers.{MessageNumbers}
 use Rattle.sctp_tx_queue.specs.declared.send_queue.stream.ResetStep.{ResetStep}
-use Rattle.sctp_tx_queue.specs.SendQueue.{Queued, Stream, Streams, Entries, Queue, stream, open_stream, put_stream, blank, push, add}
-use Rattle.sctp_tx_queue.specs.Produced.{Produced, Turn, is_stale, fresh, without_stale, streams_without_stale, settle_pause, ends, move_past, moved_front, front_made, front_numbers, advance, turn, next_stream, idle, produce_within, produce}
+use Rattle.sctp_tx_queue.specs.SendQueue.{Queued, Stream, Streams, Entries, Queue, stream, with_stream, put_stream, blank, push, add}
+use Rattle.sctp_tx_queue.specs.Produced.{Produced, Turn, is_stale, fresh, without_stale, streams_without_stale, pause_if_pending, ends, move_past, moved_front, front_made, front_numbers, advance, turn, next_stream, idle, produce_within, produce}
 use Rattle.sctp_tx_queue.specs.Settings.{with_threshold, with_priority, set_low_threshold, set_priority, without_front, streams_discarded, front_discarded, discard_from, discard}
 use Rattle.sctp_tx_queue.specs.Restarted.{whole_front, restart, restarted_one, each_restarted, reset}
-use Rattle.sctp_tx_queue.specs.Resets.{is_partly, prepare_stream, prepare_reset, is_ready, ready, after_step, step_stream, each_stepped, requested_streams}
+use Rattle.sctp_tx_queue.specs.Resets.{is_partly, prepare_stream, prepare_reset, is_ready, ready, after_step, apply_reset_step, each_stepped, streams_to_request}
 use Rattle.sctp_tx_queue.specs.Restored.{is_on, message_from, entries_from, restore}
 use Rattle.sctp_tx_queue.proofs.StreamLemmas.{step_messages}
 use Rattle.proof_endpoint.specs.Sound.{FitsQueued, FitsStream, FitsQueue, FitsStreamMessage}
@@ -85,7 +85,7 @@ stream_fits id ss h = each_off id (stream id ss).messages (stream_on id ss h)
 put_fits : (id : ℕ) (s : Stream) (ss : Streams) → AreFit s.messages → FitEntries ss.entries → FitEntries (put_stream id s ss).entries
 put_fits id s ss f h = set_fits id s ss.entries f h
 
-opened_fits : (id : ℕ) (ss : Streams) → id < 2 ^ 16 → FitEntries ss.entries → FitEntries (open_stream id ss).entries
+opened_fits : (id : ℕ) (ss : Streams) → id < 2 ^ 16 → FitEntries ss.entries → FitEntries (with_stream id ss).entries
 opened_fits id ss small h = go (is_some (lookup (is_at (nat_cmp id)) ss.entries))
   where
     go : (b : Bool) → FitEntries (cond b ss (record ss { entries = insert_entry nat_cmp ss.entries id (blank ss) })).entries
@@ -96,16 +96,16 @@ opened_fits id ss small h = go (is_some (lookup (is_at (nat_cmp id)) ss.entries)
 
 pub added_fits : (id : ℕ) (m : Queued) (q : Queue) → id < 2 ^ 16 → FitsQueued m → FitsQueue q → FitsQueue (add id m q)
 added_fits id m q small f h =
-    put_fits id (push m (stream id q.streams)) (open_stream id q.streams) (each_push FitsQueued (stream id q.streams).messages m (stream_fits id q.streams h) f)
+    put_fits id (push m (stream id q.streams)) (with_stream id q.streams) (each_push FitsQueued (stream id q.streams).messages m (stream_fits id q.streams h) f)
     (opened_fits id q.streams small h)
 
 pub threshold_fits : {P : Type 0} (id bytes : ℕ) (q : Queue) (t : Emitted P) → id < 2 ^ 16 → FitsQueue q → FitsQueue (set_low_threshold id bytes q t).queue
 threshold_fits id bytes q t small h =
-    put_fits id (with_threshold bytes (stream id q.streams)) (open_stream id q.streams) (stream_fits id q.streams h) (opened_fits id q.streams small h)
+    put_fits id (with_threshold bytes (stream id q.streams)) (with_stream id q.streams) (stream_fits id q.streams h) (opened_fits id q.streams small h)
 
 pub priority_fits : (id priority : ℕ) (q : Queue) → id < 2 ^ 16 → FitsQueue q → FitsQueue (set_priority id priority q)
 priority_fits id priority q small h =
-    put_fits id (with_priority priority (stream id q.streams)) (open_stream id q.streams) (stream_fits id q.streams h) (opened_fits id q.streams small h)
+    put_fits id (with_priority priority (stream id q.streams)) (with_stream id q.streams) (stream_fits id q.streams h) (opened_fits id q.streams small h)
 
 -- ---- messages that are given up
 
@@ -113,7 +113,7 @@ cut_fits : (number : ℕ) (ms : List Queued) (s : Stream) → AreFit ms → AreF
 cut_fits number [] s h k = k
 cut_fits number (m ∷ rest) s h k = go (m.number == number)
   where
-    go : (b : Bool) → AreFit (cond b (record s { messages = rest; pause = settle_pause s.pause }) s).messages
+    go : (b : Bool) → AreFit (cond b (record s { messages = rest; pause = pause_if_pending s.pause }) s).messages
     go true = h.1
     go false = k
 
@@ -156,7 +156,7 @@ moved_fits size n (m ∷ rest) h = go (ends size m)
 half_small : (n : ℕ) → wire halves 0 n < 2 ^ 16
 half_small n = omega arith
 
-word_small : (n : ℕ) → wire words 0 n < 2 ^ 32
+word_small : (n : ℕ) → wire u32_space 0 n < 2 ^ 32
 word_small n = omega arith
 
 made_fits : (id size : ℕ) (n : MessageNumbers) (ms : List Queued) → Each (FitsOn id) ms → FitsMade (front_made id size n ms)
@@ -223,14 +223,14 @@ partly_fits (m ∷ rest) h = go (is_partly m) (partly_fits rest h.1)
 
 pub prepare_fits : {P : Type 0} (id : ℕ) (q : Queue) (t : Emitted P) → id < 2 ^ 16 → FitsQueue q → FitsQueue (prepare_reset id q t).queue
 prepare_fits id q t small h =
-    put_fits id (prepare_stream (stream id q.streams)) (open_stream id q.streams) (partly_fits (stream id q.streams).messages (stream_fits id q.streams h))
+    put_fits id (prepare_stream (stream id q.streams)) (with_stream id q.streams) (partly_fits (stream id q.streams).messages (stream_fits id q.streams h))
     (opened_fits id q.streams small h)
 
 pub steps_fit : (step : ResetStep) (ids : List ℕ) (q : Queue) → FitsQueue q → FitsQueue (each_stepped step ids q)
 steps_fit step [] q h = h
 steps_fit step (id ∷ ids) q h =
     let s : Stream = stream id q.streams in
-    steps_fit step ids (step_stream step id q)
+    steps_fit step ids (apply_reset_step step id q)
     (put_fits id (after_step step s) q.streams (subst AreFit (sym (step_messages step s)) (stream_fits id q.streams h)) h)
 
 ready_fits : (es : Entries) → FitEntries es → Each (λ (id : ℕ). id < 2 ^ 16) (ready es)
@@ -241,7 +241,7 @@ ready_fits (e ∷ es) h = go (is_ready e.1) (ready_fits es h.1)
     go true behind = (h.0.id, behind)
     go false behind = behind
 
-pub requested_fits : (most : ℕ) (q : Queue) → FitsQueue q → Each (λ (id : ℕ). id < 2 ^ 16) (requested_streams most q)
+pub requested_fits : (most : ℕ) (q : Queue) → FitsQueue q → Each (λ (id : ℕ). id < 2 ^ 16) (streams_to_request most q)
 requested_fits most q h = each_take (λ (id : ℕ). id < 2 ^ 16) most (ready q.streams.entries) (ready_fits q.streams.entries h)
 
 -- ---- taken up

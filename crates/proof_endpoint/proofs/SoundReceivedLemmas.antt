@@ -14,16 +14,16 @@ use Rattle.spec_endpoint.specs.Wire.{field_of, writing}
 use Rattle.spec_endpoint.specs.Receiving.{Receives}
 use Rattle.spec_endpoint.specs.Laws.{Call, called}
 use Rattle.proof_endpoint.specs.Mapped.{Carried, as_written}
-use Rattle.proof_endpoint.specs.ReceivedBack.{IsHearable, as_received}
+use Rattle.proof_endpoint.specs.ReceivedBack.{IsReceivable, as_received}
 use Rattle.proof_endpoint.specs.Sound.{IsSound, ArgumentFits, HasSomeCookie}
-use Rattle.proof_endpoint.specs.ReadBack.{ReadsBack, CanBeRead, EmitsWhatCanBeRead, LetsThrough, IsReceivedAs, CanBeReceived, EmitsWhatCanBeReceived, as_carried, ReadsBackIn, EmitsWhatReadsBack, IsReceived, EmitsWhatIsReceived, AreBytes, AcceptedPacketsFit, EmittedPacketsFit}
+use Rattle.proof_endpoint.specs.ReadBack.{ReadsBack, CanBeRead, EmitsWhatCanBeRead, LetsThrough, IsReceivedAs, CanBeReceived, EmitsWhatCanBeReceived, as_carried, ReadsBackIn, EmitsWhatReadsBack, IsReceivedAsWritten, EmitsWhatIsReceived, AreBytes, AcceptedPacketsFit, EmittedPacketsFit}
 use Rattle.proof_endpoint.proofs.ReceivedBackLemmas.{is_accepted, written_received, written_alone, length_written}
 use Rattle.proof_endpoint.proofs.ReceivedLemmas.{IsByte, each_back, each_of_all}
 use Rattle.proof_endpoint.proofs.SoundLawsLemmas.{can_be_read, chunks_read_back}
 
 -- ---- received
 
-hearable : (o : Options) (most : ℕ) (p : Carried) → most ≤ 65535 → ReadsBack most p → LetsThrough o p → IsHearable o p
+hearable : (o : Options) (most : ℕ) (p : Carried) → most ≤ 65535 → ReadsBack most p → LetsThrough o p → IsReceivable o p
 hearable o most p m r lets = record { header = r.header; chunks = r.chunks; short = omega (arith, r.short, m); sum = lets }
 
 module _ (word_of : List ℕ → ℕ) (most : ℕ) (m : most ≤ 65535) where
@@ -38,7 +38,7 @@ module _ (word_of : List ℕ → ℕ) (most : ℕ) (m : most ≤ 65535) where
   event_received (SendPacket bytes) w = (w.carried, received_as bytes w.carried w.made w.reads_back)
   event_received e w = tt
 
-chunks_event_received : (word_of : List ℕ → ℕ) (most : ℕ) → most ≤ 65535 → (e : Event Carried) → ReadsBackIn most e → IsReceived word_of e
+chunks_event_received : (word_of : List ℕ → ℕ) (most : ℕ) → most ≤ 65535 → (e : Event Carried) → ReadsBackIn most e → IsReceivedAsWritten word_of e
 chunks_event_received word_of most m (SendPacket p) r = received_as word_of most m (as_written word_of p) p refl r
 chunks_event_received word_of most m e r = tt
 
@@ -46,7 +46,7 @@ chunks_received_of : (word_of : List ℕ → ℕ) (c d : Context Carried) → c.
 chunks_received_of word_of c d most w = record {
   events = w.events;
   behind = w.behind;
-  received = All-weaker (ReadsBackIn c.options.mtu) (IsReceived word_of) (chunks_event_received word_of c.options.mtu most) w.events w.reads_back;
+  received = All-weaker (ReadsBackIn c.options.mtu) (IsReceivedAsWritten word_of) (chunks_event_received word_of c.options.mtu most) w.events w.reads_back;
 }
 
 pub chunks_are_received : (word_of : List ℕ → ℕ) (call : Call) (s : Endpoint Carried) → s.endpoint_state.context.pack ≡ as_carried → IsSound s → ArgumentFits call
@@ -98,7 +98,7 @@ open_options = record defaults { disable_checksum_verification = true }
 received_packet : (word_of : List ℕ → ℕ) (most : ℕ) (p : Carried) → ReadsBack most p → length (as_written word_of p) ≤ 65535 → IsPacket (as_written word_of p) (as_received word_of p)
 received_packet word_of most p r short =
     let field : ℕ = field_of word_of p.header p.is_summed p.chunks in
-    let h : IsHearable open_options p = record {
+    let h : IsReceivable open_options p = record {
       header = r.header;
       chunks = r.chunks;
       short = omega (arith, short, length_written p.header field p.chunks);

@@ -10,18 +10,18 @@ use Rattle.sctp_state.specs.Events.{OnIncomingStreamReset, numbers_of}
 use Rattle.sctp_state.specs.RetransmissionTimeout.{rto}
 use Rattle.sctp_rx.specs.ReassemblyQueue as reassembly
 use Rattle.spec_endpoint.specs.Association.{Tcb, Phase, Open, Context}
-use Rattle.spec_endpoint.specs.Packets.{Packet, add, new_packet, say}
-use Rattle.spec_endpoint.specs.ResetRequests.{is_final, in_progress, performed, nothing_to_do, bad_number, outcome, is_last, is_next, is_known}
-use Rattle.spec_endpoint.specs.Sending.{is_alone}
-use Rattle.spec_endpoint.specs.StreamReset.{Handling, handling, respond, process, is_ahead, resets_if, outgoing_by, incoming_if, is_outgoing, on_parameter, Handled, handle_next, handle_all, send_responses, finished_if, on_reconfig}
+use Rattle.spec_endpoint.specs.Packets.{PacketDraft, add, new_packet, emit_event_in}
+use Rattle.spec_endpoint.specs.ResetRequests.{is_final, in_progress, performed, nothing_to_do, bad_number, outcome, is_last_request, is_next_request, is_known_request}
+use Rattle.spec_endpoint.specs.Sending.{is_before_cookie_ack}
+use Rattle.spec_endpoint.specs.StreamReset.{Handling, handling, respond, process, is_ahead, resets_if, outgoing_by, incoming_if, is_outgoing, on_parameter, HandledParameters, handle_next, handle_all, send_responses, finish_reconfig_if, on_reconfig}
 use Rattle.spec_endpoint.specs.Laws.{Call}
 use Rattle.proof_endpoint.specs.Acts.{EndWithPacket, idle, all_along, Preserves}
 use Rattle.proof_endpoint.specs.Fair.{IsFairParameter}
 use Rattle.proof_endpoint.proofs.BundledLemmas.{first_more}
-use Rattle.proof_endpoint.proofs.PacketActsLemmas.{does_out, does_begin_new, does_complain, does_send_buffered}
+use Rattle.proof_endpoint.proofs.PacketActsLemmas.{does_out, does_begin_new, does_emit_error, does_send_buffered}
 use Rattle.proof_endpoint.proofs.ReceivedLemmas.{each_push}
 use Rattle.proof_endpoint.proofs.SoundTrackerLemmas.{size_reset}
-use Rattle.proof_endpoint.proofs.SoundTcbLemmas.{with_requests, with_reassembly, answered_fits, processed_fits, response_fits}
+use Rattle.proof_endpoint.proofs.SoundTcbLemmas.{with_requests, with_reassembly, handle_response_fits, set_last_request_fits, response_fits}
 use Rattle.proof_endpoint.proofs.SoundPacketLemmas.{good_add, own_responses}
 use Rattle.proof_endpoint.proofs.SoundActsLemmas.{Start, SoundAt, in_the_state, with_the_packet, saying, after_outcome}
 
@@ -41,7 +41,7 @@ module _ {P : Type 0} (g : Start P) (phase : Phase) (w : Stream) where
   processed number result x n r h =
       let s = h.sound.state in
       record {
-        sound = in_the_state h.sound _ (s.0, with_requests x.tcb _ (processed_fits number result x.tcb.requests r s.1.requests) s.1);
+        sound = in_the_state h.sound _ (s.0, with_requests x.tcb _ (set_last_request_fits number result x.tcb.requests r s.1.requests) s.1);
         responses = each_push IsFairParameter x.responses _ h.responses (response_fits number result n r);
       }
 
@@ -56,7 +56,7 @@ module _ {P : Type 0} (g : Start P) (phase : Phase) (w : Stream) where
       let s = h.sound.state in
       let one : performed ≤ 6 = omega arith in
       let t : Tcb = record x.tcb { reassembly = reassembly.reset streams x.tcb.reassembly } in
-      let c : Context P = say (OnIncomingStreamReset (numbers_of streams)) x.context in
+      let c : Context P = emit_event_in (OnIncomingStreamReset (numbers_of streams)) x.context in
       processed number performed (record x { tcb = t; context = c }) n one (record {
         sound = saying (in_the_state h.sound (Open phase t) (s.0, with_reassembly x.tcb _ (size_reset streams x.tcb.reassembly) s.1))
             (OnIncomingStreamReset (numbers_of streams)) tt;
@@ -82,19 +82,19 @@ module _ {P : Type 0} (g : Start P) (phase : Phase) (w : Stream) where
 
   parameter : (p : ParameterTree) (x : Handling P) → IsFairParameter p → Done x → Done (on_parameter p x)
   parameter (outgoing_reset_request number response last_tsn streams) x f h =
-      outgoing (is_last number x.tcb.requests) (is_next number x.tcb.requests) (is_final x.tcb.requests.result) number last_tsn.0 streams x f.fits.0 h
-  parameter (incoming_reset_request number streams) x f h = incoming (is_known number x.tcb.requests) number x f.fits.0 h
+      outgoing (is_last_request number x.tcb.requests) (is_next_request number x.tcb.requests) (is_final x.tcb.requests.result) number last_tsn.0 streams x f.fits.0 h
+  parameter (incoming_reset_request number streams) x f h = incoming (is_known_request number x.tcb.requests) number x f.fits.0 h
   parameter (reset_response number result sender receiver) x f h =
       let s = h.sound.state in
       let t : Tcb = (on_parameter (reset_response number result sender receiver) x).tcb in
       record {
         sound = after_outcome g (outcome number result x.tcb.requests.current) (idle (Open phase t) x.context w) (in_the_state h.sound (Open phase t)
-            (s.0, with_requests x.tcb _ (answered_fits x.context.now (rto x.tcb.rtt) number result x.tcb.requests s.1.requests) s.1));
+            (s.0, with_requests x.tcb _ (handle_response_fits x.context.now (rto x.tcb.rtt) number result x.tcb.requests s.1.requests) s.1));
         responses = h.responses;
       }
   parameter p x f h = h
 
-  next : (b : Bool) (rest : Handling P → Handled P) (p : ParameterTree) (x : Handling P) → ((y : Handling P) → Done y → Done (rest y).handling)
+  next : (b : Bool) (rest : Handling P → HandledParameters P) (p : ParameterTree) (x : Handling P) → ((y : Handling P) → Done y → Done (rest y).handling)
       → IsFairParameter p → Done x → Done (handle_next b rest p x).handling
   next true rest p x on f h = h
   next false rest p x on f h = on (on_parameter p x) (parameter p x f h)
@@ -110,21 +110,21 @@ module _ {P : Type 0} (g : Start P) (phase : Phase) (w : Stream) where
         → SoundAt g (idle (Open phase t) (send_responses rs t c) w)
     sends_responses [] t c f h = h
     sends_responses (r ∷ rs) t c f h =
-        let p : Packet = new_packet c.options t in
+        let p : PacketDraft = new_packet c.options t in
         let begun = does_begin_new k phase t c w h in
         does_out k (Open phase t) c w (add (re_config_chunk (r ∷ rs)) p) (all_along (first_more (re_config_chunk (r ∷ rs)) p refl refl))
         (with_the_packet begun _ (good_add g.most p (re_config_chunk (r ∷ rs)) (own_responses (r ∷ rs) f) begun.packet))
 
-    finished : (b : Bool) (x : Handling P) → Done x → SoundAt g (idle (finished_if b phase x).state (finished_if b phase x).context w)
+    finished : (b : Bool) (x : Handling P) → Done x → SoundAt g (idle (finish_reconfig_if b phase x).state (finish_reconfig_if b phase x).context w)
     finished true x h =
-        does_send_buffered k phase w (is_alone phase) x.tcb (send_responses x.responses x.tcb x.context)
+        does_send_buffered k phase w (is_before_cookie_ack phase) x.tcb (send_responses x.responses x.tcb x.context)
         (sends_responses x.responses x.tcb x.context h.responses h.sound)
     finished false x h =
-        does_complain k ProtocolViolation (codes "RE-CONFIG chunk must not have multiple Outgoing SSN Reset Request parameters") (Open phase x.tcb) x.context w h.sound
+        does_emit_error k ProtocolViolation (codes "RE-CONFIG chunk must not have multiple Outgoing SSN Reset Request parameters") (Open phase x.tcb) x.context w h.sound
 
     pub reconfigured : (ps : List ParameterTree) (t : Tcb) (c : Context P) → Each IsFairParameter ps → SoundAt g (idle (Open phase t) c w)
         → SoundAt g (idle (on_reconfig ps phase t c).state (on_reconfig ps phase t c).context w)
-    reconfigured [] t c f h = does_complain k ProtocolViolation (codes "RE-CONFIG chunk must have at least one parameter") (Open phase t) c w h
+    reconfigured [] t c f h = does_emit_error k ProtocolViolation (codes "RE-CONFIG chunk must have at least one parameter") (Open phase t) c w h
     reconfigured (p ∷ ps) t c f h =
-        let x : Handled P = handle_all (p ∷ ps) false (handling t c) in
+        let x : HandledParameters P = handle_all (p ∷ ps) false (handling t c) in
         finished x.is_whole x.handling (handles_all (p ∷ ps) false (handling t c) f (record { sound = h; responses = tt }))

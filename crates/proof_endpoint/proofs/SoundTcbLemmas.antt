@@ -14,10 +14,10 @@ use Rattle.sctp_rx.specs.DataTracker.{DataTracker}
 use Rattle.sctp_rx.specs.ReassemblyQueue.{Reassembly}
 use Rattle.sctp_tx.specs.RetransmissionQueue.{Sender}
 use Rattle.spec_endpoint.specs.Association.{Identity, Tcb, tcb}
-use Rattle.spec_endpoint.specs.ResetRequests.{Request, Requests, start_request, awake, wake_request, is_final, answered_by, answered_if, answered_in}
+use Rattle.spec_endpoint.specs.ResetRequests.{Request, Requests, start_request, without_deferral, clear_deferral, is_final, end_or_defer, response_if, handle_response_in}
 use Rattle.spec_endpoint.specs.ResetRequests as requests
-use Rattle.spec_endpoint.specs.Opening.{names, identity_of}
-use Rattle.spec_endpoint.specs.Data.{added_unless, take_fragment, skipped_if, forward_to}
+use Rattle.spec_endpoint.specs.Opening.{identity_of_init_ack, identity_of}
+use Rattle.spec_endpoint.specs.Data.{added_unless, take_fragment, skipped_if, handle_forward_tsn}
 use Rattle.spec_endpoint.specs.Sack.{timed_by}
 use Rattle.spec_endpoint.specs.Handover.{identity_from, capabilities_from, tcb_from}
 use Rattle.proof_endpoint.specs.Sound.{OptionsFit, FitsTracker, FitsRequest, FitsRequests, FitsIdentity, FitsTcb, FitsRecord}
@@ -65,7 +65,7 @@ size_skipped : (b : Bool) (tsn : ℕ) (es : List SkippedStream) (r : Reassembly)
 size_skipped true tsn es r = size_forwarded tsn es r
 size_skipped false tsn es r = refl
 
-pub passed_fits : (tsn : ℕ) (es : List SkippedStream) (t : Tcb) → FitsTcb t → FitsTcb (forward_to tsn es t)
+pub passed_fits : (tsn : ℕ) (es : List SkippedStream) (t : Tcb) → FitsTcb t → FitsTcb (handle_forward_tsn tsn es t)
 passed_fits tsn es t h = record {
   identity = h.identity;
   tracker = forward_fits _ t.tracker.tracker h.tracker;
@@ -88,31 +88,31 @@ started_fits now span last streams r l f h = record {
   result = h.result;
 }
 
-awake_fits : (o : Option Request) → IfSome o FitsRequest → IfSome (option_map awake o) FitsRequest
+awake_fits : (o : Option Request) → IfSome o FitsRequest → IfSome (option_map without_deferral o) FitsRequest
 awake_fits None h = tt
 awake_fits (Some r) h = record { number = h.number; last_tsn = h.last_tsn; streams = h.streams }
 
-pub woken_fits : (r : Requests) → FitsRequests r → FitsRequests (wake_request r)
+pub woken_fits : (r : Requests) → FitsRequests r → FitsRequests (clear_deferral r)
 woken_fits r h = record { next = h.next; current = awake_fits r.current h.current; result = h.result }
 
-outcome_fits : (b : Bool) (now span : ℕ) (r : Request) (x : Requests) → FitsRequest r → FitsRequests x → FitsRequests (answered_by b now span r x)
+outcome_fits : (b : Bool) (now span : ℕ) (r : Request) (x : Requests) → FitsRequest r → FitsRequests x → FitsRequests (end_or_defer b now span r x)
 outcome_fits true now span r x f h = record { next = h.next; current = tt; result = h.result }
 outcome_fits false now span r x f h =
     record { next = h.next; current = record { number = f.number; last_tsn = f.last_tsn; streams = f.streams }; result = h.result }
 
-answered_if_fits : (b : Bool) (now span result : ℕ) (r : Request) (x : Requests) → FitsRequest r → FitsRequests x → FitsRequests (answered_if b now span result r x)
+answered_if_fits : (b : Bool) (now span result : ℕ) (r : Request) (x : Requests) → FitsRequest r → FitsRequests x → FitsRequests (response_if b now span result r x)
 answered_if_fits true now span result r x f h = outcome_fits (is_final result) now span r x f h
 answered_if_fits false now span result r x f h = h
 
-answered_in_fits : (o : Option Request) (now span number result : ℕ) (x : Requests) → IfSome o FitsRequest → FitsRequests x → FitsRequests (answered_in o now span number result x)
+answered_in_fits : (o : Option Request) (now span number result : ℕ) (x : Requests) → IfSome o FitsRequest → FitsRequests x → FitsRequests (handle_response_in o now span number result x)
 answered_in_fits None now span number result x f h = h
 answered_in_fits (Some r) now span number result x f h = answered_if_fits (r.number == number) now span result r x f h
 
-pub answered_fits : (now span number result : ℕ) (x : Requests) → FitsRequests x → FitsRequests (requests.answer_request now span number result x)
-answered_fits now span number result x h = answered_in_fits x.current now span number result x h.current h
+pub handle_response_fits : (now span number result : ℕ) (x : Requests) → FitsRequests x → FitsRequests (requests.handle_response now span number result x)
+handle_response_fits now span number result x h = answered_in_fits x.current now span number result x h.current h
 
-pub processed_fits : (number result : ℕ) (x : Requests) → result ≤ 6 → FitsRequests x → FitsRequests (requests.process_request number result x)
-processed_fits number result x r h = record { next = h.next; current = h.current; result = r }
+pub set_last_request_fits : (number result : ℕ) (x : Requests) → result ≤ 6 → FitsRequests x → FitsRequests (requests.set_last_request number result x)
+set_last_request_fits number result x r h = record { next = h.next; current = h.current; result = r }
 
 pub response_fits : (number result : ℕ) → number < 2 ^ 32 → result ≤ 6 → IsFairParameter (reset_response number result None None)
 response_fits number result n r =
@@ -130,7 +130,7 @@ tcb_fits o i a_rwnd k h f = record {
   requests = record { next = f.my_first; current = tt; result = omega arith };
 }
 
-pub names_fit : (i : InitTree) (tag first tie : ℕ) → i.initiate_tag < 2 ^ 32 → tag < 2 ^ 32 → first < 2 ^ 32 → FitsIdentity (names i tag first tie)
+pub names_fit : (i : InitTree) (tag first tie : ℕ) → i.initiate_tag < 2 ^ 32 → tag < 2 ^ 32 → first < 2 ^ 32 → FitsIdentity (identity_of_init_ack i tag first tie)
 names_fit i tag first tie p t f = record { my_tag = t; my_first = f; peer_tag = p }
 
 pub cookie_identity : (k : Cookie) (tie : ℕ) → FitsCookie k → FitsIdentity (identity_of k tie)

@@ -4,17 +4,17 @@ use Rattle.std.specs.Prelude.{All, nat_lt, nat_le, ◌==◌, filter}
 use Rattle.std.proofs.lemmas.List.Elements.{All-cons, All-nil}
 use Rattle.sctp_serial.specs.declared.api.StreamId.{StreamId}
 use Rattle.sctp_serial.specs.SerialNumber.{serial_difference}
-use Rattle.sctp_serial.specs.Unwrapped.{origin, words}
+use Rattle.sctp_serial.specs.Unwrapped.{origin, u32_space}
 use Rattle.sctp_chunk.specs.declared.forward_tsn.SkippedStream.{SkippedStream}
 use Rattle.sctp_packet.specs.Chunk.{FragmentTree}
 use Rattle.sctp_packet.specs.Grammar.{Each, FitsBlock, FitsTsn, FitsSack}
 use Rattle.sctp_state.specs.Options.{Options}
 use Rattle.sctp_state.specs.Handover.{Receive}
-use Rattle.sctp_rx.specs.Seen.{Run, AreRuns, contains, with_number, settle}
+use Rattle.sctp_rx.specs.Seen.{Run, AreRuns, contains, with_number, absorb_runs}
 use Rattle.sctp_rx.specs.DataTracker.{Tracker, DataTracker, tracker, update_rto, take_ack, packet_end, ack_timeout, insert_number, with_duplicate, has_seen, observe, forward}
 use Rattle.sctp_rx.specs.TrackerHandover.{restore}
-use Rattle.sctp_rx.specs.Sack.{block, is_near, blocks_of, tsns, sack, report}
-use Rattle.sctp_rx.specs.ReassemblyQueue.{Reassembly, Waiting, Added, Forwarded, watermark, queued_bytes, number_of, came, fragment_waits, point_waits, waits, add_now, forward_now, add_or_wait, forward_or_wait, apply, apply_each, waiting_in, wait_with, resetting}
+use Rattle.sctp_rx.specs.Sack.{block, is_near, blocks_of, tsns, sack, clear_duplicates}
+use Rattle.sctp_rx.specs.ReassemblyQueue.{Reassembly, Waiting, Added, Forwarded, watermark, queued_bytes, number_of, came, is_kept_back, point_waits, keep_back, add_now, forward_now, add_or_keep_back, forward_or_wait, apply, apply_each, waiting_in, wait_with, resetting}
 use Rattle.sctp_rx.specs.ReassemblyStreams.{is_far, entries_in}
 use Rattle.sctp_rx.specs.ReassemblyQueue as reassembly
 use Rattle.sctp_tracker.proofs.SeenOneFormLemmas.{IsInRuns_add, IsInRuns_up_to}
@@ -39,15 +39,15 @@ end_fits now t h = record { front = h.front; runs = h.runs; duplicates = h.dupli
 pub timeout_fits : (now : ℕ) (t : Tracker) → FitsTracker t → FitsTracker (ack_timeout now t)
 timeout_fits now t h = record { front = h.front; runs = h.runs; duplicates = h.duplicates }
 
-pub reported_fits : (t : Tracker) → FitsTracker t → FitsTracker (report t)
+pub reported_fits : (t : Tracker) → FitsTracker t → FitsTracker (clear_duplicates t)
 reported_fits t h = record { front = h.front; runs = h.runs; duplicates = omega arith }
 
-settle_low : (front : ℕ) (rs : List Run) → front ≤ (settle front rs).front
+settle_low : (front : ℕ) (rs : List Run) → front ≤ (absorb_runs front rs).front
 settle_low front [] = omega arith
 settle_low front (r ∷ rs) = go (nat_le r.first (suc front)) (settle_low (max front r.last) rs)
   where
-    go : (b : Bool) → max front r.last ≤ (settle (max front r.last) rs).front
-        → front ≤ (cond b (settle (max front r.last) rs) (record { front = front; runs = r ∷ rs })).front
+    go : (b : Bool) → max front r.last ≤ (absorb_runs (max front r.last) rs).front
+        → front ≤ (cond b (absorb_runs (max front r.last) rs) (record { front = front; runs = r ∷ rs })).front
     go true h = omega (arith, h)
     go false h = omega arith
 
@@ -89,7 +89,7 @@ forward_fits n t h = record {
   duplicates = h.duplicates;
 }
 
-front_some : (first tsn : ℕ) → 0 < origin + serial_difference words tsn first - 1
+front_some : (first tsn : ℕ) → 0 < origin + serial_difference u32_space tsn first - 1
 front_some first tsn = omega arith
 
 pub restored_fits : (r : Receive) (d : DataTracker) → FitsTracker d.tracker → FitsTracker (restore r d).tracker
@@ -168,8 +168,8 @@ same_if false x y m h k = k
 pub size_added : (tsn : ℕ) (f : FragmentTree) (r : Reassembly) → (reassembly.add tsn f r).max_size ≡ r.max_size
 size_added tsn f r =
     let n : ℕ = number_of r tsn in
-    same_if (is_far n) r (add_or_wait n f (came tsn r)) r.max_size refl
-    (same_if (fragment_waits n f.stream_id (came tsn r).deferred) (waits (Added n f) (came tsn r)) (add_now n f (came tsn r)) r.max_size refl refl)
+    same_if (is_far n) r (add_or_keep_back n f (came tsn r)) r.max_size refl
+    (same_if (is_kept_back n f.stream_id (came tsn r).deferred) (keep_back (Added n f) (came tsn r)) (add_now n f (came tsn r)) r.max_size refl refl)
 
 pub size_forwarded : (tsn : ℕ) (es : List SkippedStream) (r : Reassembly) → (reassembly.forward tsn es r).max_size ≡ r.max_size
 size_forwarded tsn es r =
@@ -179,7 +179,7 @@ size_forwarded tsn es r =
     let part : Reassembly = forward_now n (entries_in false ids es) (came tsn r) in
     same_if (is_far n) r (forward_or_wait n es (came tsn r)) r.max_size refl
     (same_if (point_waits n r.deferred) (wait_with n named part) (forward_now n es (came tsn r)) r.max_size
-    (same_if ((length named == 0) && (length (waiting_in r.deferred) == 0)) part (waits (Forwarded n named) part) r.max_size refl refl) refl)
+    (same_if ((length named == 0) && (length (waiting_in r.deferred) == 0)) part (keep_back (Forwarded n named) part) r.max_size refl refl) refl)
 
 size_applied : (w : Waiting) (r : Reassembly) → (apply w r).max_size ≡ r.max_size
 size_applied (Added n f) r = refl

@@ -13,9 +13,9 @@ use Rattle.sctp_tx_queue.specs.Produced.{Produced, Turn, produce}
 use Rattle.sctp_tx_queue.specs.Settings.{Changed, discard}
 use Rattle.sctp_tx.specs.Windows.{is_open}
 use Rattle.sctp_tx.specs.RetransmissionQueue.{Sender, sender_if}
-use Rattle.sctp_tx.specs.Resent.{is_interleaved, may_send_new, resent, resent_fast, timed_if, send_fast}
-use Rattle.sctp_tx.specs.ForwardPoints.{expire, most_of, chunk_if, forward_chunk}
-use Rattle.sctp_tx.specs.Sending.{Filling, Turned, item_of, append, offered_payload, turned_if, next_turn, fill, discard_all, without_discards, filled_with, send}
+use Rattle.sctp_tx.specs.Resent.{is_interleaved, may_send_new, resent, resent_fast, start_t3_if, send_fast}
+use Rattle.sctp_tx.specs.ForwardPoints.{abandon_expired, most_of, chunk_if, forward_chunk}
+use Rattle.sctp_tx.specs.Sending.{Filling, QueueStep, item_of, append, offered_payload, queue_step_if, next_turn, fill, discard_all, without_discards, filled_with, send}
 use Rattle.sctp_tx.specs.Handover.{restore}
 use Rattle.proof_endpoint.specs.Sound.{FitsItem, FitsItems, FitsQueue}
 use Rattle.proof_endpoint.proofs.ReceivedLemmas.{each_push}
@@ -30,7 +30,7 @@ module _ {P : Type 0} where
   received_fits true now n a_rwnd blocks s t h = receive_fits n blocks (not (is_open n s.windows)) s.outstanding.items t h
   received_fits false now n a_rwnd blocks s t h = h
 
-  pub sender_expired_fits : (now : ℕ) (s : Sender) (t : Emitted P) → FitsSender s → FitsSender (expire now s t)
+  pub sender_expired_fits : (now : ℕ) (s : Sender) (t : Emitted P) → FitsSender s → FitsSender (abandon_expired now s t)
   sender_expired_fits now s t h = expired_fits now s.outstanding.items t h
 
 pub sender_restored_fits : (now : ℕ) (tx : Transmission) (s : Sender) → Each (λ (d : OutstandingData). FitsFragment (fragment_from d)) tx.outstanding_data → FitsSender (restore now tx s)
@@ -47,7 +47,7 @@ forward_chunk_fits s h = point_chunk_fits (is_interleaved s) s h
 
 -- ---- what is sent again
 
-timed_fits : (b : Bool) (now : ℕ) (s : Sender) → FitsSender s → FitsSender (timed_if b now s)
+timed_fits : (b : Bool) (now : ℕ) (s : Sender) → FitsSender s → FitsSender (start_t3_if b now s)
 timed_fits true now s h = h
 timed_fits false now s h = h
 
@@ -79,7 +79,7 @@ module _ {P : Type 0} where
     chunks = each_push FitsSent x.chunks _ h.chunks (word_small x.sender.outstanding.first (next_number x.sender.outstanding.items), f);
   }
 
-  turned_fits : (b : Bool) (now : ℕ) (x : Filling P) → FitsFilling x → FitsFilling (turned_if b now x).filling
+  turned_fits : (b : Bool) (now : ℕ) (x : Filling P) → FitsFilling x → FitsFilling (queue_step_if b now x).filling
   turned_fits true now x h =
       let y : Turn P = produce now (offered_payload x.left x.sender) x.queue x.emitted in
       let k : FitsTurn y = produce_fits now (offered_payload x.left x.sender) x.queue x.emitted h.queue in
@@ -93,7 +93,7 @@ module _ {P : Type 0} where
   fill_fits : (n now : ℕ) (x : Filling P) → FitsFilling x → FitsFilling (fill n now x)
   fill_fits zero now x h = h
   fill_fits (suc n) now x h =
-      let y : Turned P = next_turn now x in
+      let y : QueueStep P = next_turn now x in
       let k : FitsFilling y.filling = turned_fits (may_send_new x.sender && nat_lt 0 (offered_payload x.left x.sender)) now x h in
       fits_if y.is_more (fill n now y.filling) y.filling (fill_fits n now y.filling k) k
 

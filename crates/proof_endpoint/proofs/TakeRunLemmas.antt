@@ -4,7 +4,7 @@ use Rattle.std.proofs.lemmas.List.{append-nil}
 use Rattle.rand_core.specs.Stream.{next_u64}
 use Rattle.rand_core.specs.Stream as rng
 use Rattle.sctp_serial.specs.Messages.{Message}
-use Rattle.sctp_serial.specs.Unwrapped.{words, nearest}
+use Rattle.sctp_serial.specs.Unwrapped.{u32_space, nearest}
 use Rattle.sctp_serial.proofs.UnwrappedLemmas.{nearest_ahead}
 use Rattle.sctp_wire.specs.Field.{be16, be32}
 use Rattle.sctp_wire.specs.Serialize.{padded_item}
@@ -18,20 +18,20 @@ use Rattle.sctp_rx.specs.ReassemblyQueue.{Reassembly}
 use Rattle.sctp_rx.specs.ReassemblyQueue as reassembly
 use Rattle.spec_endpoint.specs.Association.{Tcb, Established, Open, Context, EndpointState, Endpoint, open_as, where_open, Packing}
 use Rattle.spec_endpoint.specs.Packets.{add, new_packet}
-use Rattle.spec_endpoint.specs.Sending.{window, ask_for_sack, count_sack_sent, open_with, send_with}
-use Rattle.spec_endpoint.specs.Data.{is_full, takes, added_unless, take_fragment, taken_if, on_data_if, on_data}
+use Rattle.spec_endpoint.specs.Sending.{window, take_due_ack, without_duplicates, open_with, send_with}
+use Rattle.spec_endpoint.specs.Data.{is_full, accepts_tsn, added_unless, take_fragment, fragment_if, on_data_if, on_data}
 use Rattle.spec_endpoint.specs.Input as input
-use Rattle.spec_endpoint.specs.Input.{counts, end_packet}
-use Rattle.proof_endpoint.specs.FirstRun.{first_of, tag_of, fragment, data_packet, sack_packet, pack_event, give, quiet, taking, IsSmall}
+use Rattle.spec_endpoint.specs.Input.{count_packet_at, on_packet_end}
+use Rattle.proof_endpoint.specs.FirstRun.{first_of, tag_of, fragment, data_packet, sack_packet, packet_event, give, drained, taking, IsSmall}
 use Rattle.proof_endpoint.proofs.OpeningRunLemmas.{emitting, open_b, first_small, tag_some, own_taken, drawn, block, opened_b, accepts}
 use Rattle.proof_endpoint.proofs.QueueRunLemmas.{not_below_itself}
 use Rattle.proof_endpoint.proofs.SendRunLemmas.{first_written}
 use Rattle.sctp_serial.proofs.NumberLemmas.{is_itself, not_zero}
 
 -- the first TSN is read as the first number
-pub near_first : (first : ℕ) → first < 2 ^ 32 → nearest words first 4294967295 first ≡ 4294967296
+pub near_first : (first : ℕ) → first < 2 ^ 32 → nearest u32_space first 4294967295 first ≡ 4294967296
 near_first first small =
-    ap (nearest words first 4294967295) (sym (first_written first small)) ∙ nearest_ahead words first 4294967295 1 (omega arith)
+    ap (nearest u32_space first 4294967295) (sym (first_written first small)) ∙ nearest_ahead u32_space first 4294967295 1 (omega arith)
 
 plus_none : (n : ℕ) → 4718592 - (0 + 0 + (0 + (0 + n))) ≡ 4718592 - n
 plus_none n = omega arith
@@ -85,7 +85,7 @@ module _ {P : Type 0} (pack : Packing P) (a b : rng.Stream) (m : Message) (o : S
   numbers : number_of tcb_b.tracker first ≡ 4294967296
   numbers = near_first first (first_small a)
 
-  is_taken : takes first tcb_b ≡ true
+  is_taken : accepts_tsn first tcb_b ≡ true
   is_taken = ap (λ (n : ℕ). not (is_full tcb_b.reassembly) && is_valid tcb_b.tracker.tracker n) numbers
 
   abbrev arrived : ℕ → Tcb
@@ -102,13 +102,13 @@ module _ {P : Type 0} (pack : Packing P) (a b : rng.Stream) (m : Message) (o : S
   receives_data : IsSmall m → on_data first false (fragment m o) (open_as Established tcb_b received_context) ≡ open_as Established filled_tcb received_context
   receives_data small =
       ap (λ (t : Bool). on_data_if t first false (fragment m o) (open_as Established tcb_b received_context)) (not_zero (length m.payload) small.some)
-      ∙ ap (λ (t : Bool). open_as Established (taken_if t first false (fragment m o) tcb_b) received_context) is_taken
+      ∙ ap (λ (t : Bool). open_as Established (fragment_if t first false (fragment m o) tcb_b) received_context) is_taken
       ∙ ap (λ (t : Tcb). open_as Established t received_context) fills
 
   -- ---- the acknowledgement
 
   abbrev pub acked_tcb : Tcb
-  acked_tcb = count_sack_sent (ask_for_sack false filled_tcb)
+  acked_tcb = without_duplicates (take_due_ack false filled_tcb)
 
   abbrev sack_with : (cumulative window : ℕ) → ChunkTree
   sack_with cumulative window = sack_chunk (record { cumulative_tsn_ack = cumulative; a_rwnd = window; gap_ack_blocks = []; duplicate_tsns = [] })
@@ -117,20 +117,20 @@ module _ {P : Type 0} (pack : Packing P) (a b : rng.Stream) (m : Message) (o : S
   acked_with chunk = open_with Established (send_with false (add chunk (new_packet defaults filled_tcb)) acked_tcb received_context)
 
   abbrev pub taken_end : Endpoint P
-  taken_end = record { endpoint_state = record { state = Open Established acked_tcb; context = open_b pack 3 3 }; random = (next_u64 (drawn b)).1 }
+  taken_end = record { endpoint_state = record { state = Open Established acked_tcb; context = open_b pack 3 3 }; draws = (next_u64 (drawn b)).1 }
 
-  acknowledges : end_packet Established filled_tcb received_context ≡ (emitting (pack_event pack (sack_packet a m) ∷ []) taken_end).endpoint_state
+  acknowledges : on_packet_end Established filled_tcb received_context ≡ (emitting (packet_event pack (sack_packet a m) ∷ []) taken_end).endpoint_state
   unfolding be16 be32 padded_item chunk_bytes chunks_bytes chunk_value sack_value
   acknowledges =
       ap (λ (n : ℕ). acked_with (sack_with n (window (filled m first o.unordered)))) (first_written first (first_small a))
       ∙ ap (λ (n : ℕ). acked_with (sack_with first n)) (window_left m first o.unordered)
 
-  receives : IsSmall m → give (data_packet a b m o) (opened_b pack a b) ≡ emitting (pack_event pack (sack_packet a m) ∷ []) taken_end
+  receives : IsSmall m → give (data_packet a b m o) (opened_b pack a b) ≡ emitting (packet_event pack (sack_packet a m) ∷ []) taken_end
   receives small =
-      ap (λ (r : Option (List ℕ)). input.taken_if r (tag_of b) (data_packet a b m o).chunks (counts (opened_b pack a b)))
+      ap (λ (r : Option (List ℕ)). input.packet_if r (tag_of b) (data_packet a b m o).chunks (count_packet_at (opened_b pack a b)))
       (own_taken (data_chunk first false (fragment m o)) (tag_of b) (opened_b pack a b).endpoint_state.state refl refl refl refl (tag_some b) refl)
-      ∙ ap (λ (s : EndpointState P). record (opened_b pack a b) { endpoint_state = where_open end_packet s }) (receives_data small)
+      ∙ ap (λ (s : EndpointState P). record (opened_b pack a b) { endpoint_state = where_open on_packet_end s }) (receives_data small)
       ∙ ap (λ (s : EndpointState P). record (opened_b pack a b) { endpoint_state = s }) acknowledges
 
-  pub takes_it : IsSmall m → taking pack a b m o ≡ emitting (pack_event pack (sack_packet a m) ∷ []) taken_end
-  takes_it small = ap (λ (s : Endpoint P). give (data_packet a b m o) (quiet s)) (accepts pack a b) ∙ receives small
+  pub takes_it : IsSmall m → taking pack a b m o ≡ emitting (packet_event pack (sack_packet a m) ∷ []) taken_end
+  takes_it small = ap (λ (s : Endpoint P). give (data_packet a b m o) (drained s)) (accepts pack a b) ∙ receives small

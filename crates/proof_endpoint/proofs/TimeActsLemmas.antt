@@ -7,16 +7,16 @@ use Rattle.sctp_state.specs.RetransmissionTimeout.{rto}
 use Rattle.sctp_state.specs.Timer.{Timer, is_due, is_running, expire}
 use Rattle.sctp_state.specs.Events.{OnAborted}
 use Rattle.spec_endpoint.specs.Association.{Tcb, Phase, CookieEchoed, Established, ShutdownPending, ShutdownSent, ShutdownReceived, ShutdownAckSent, State, Closed, CookieWait, Open, Context, EndpointState}
-use Rattle.spec_endpoint.specs.Packets.{Packet, new_packet}
-use Rattle.spec_endpoint.specs.ResetRequests.{lasting, expire_request, wake_request, is_unanswered}
-use Rattle.spec_endpoint.specs.Sending.{Sent, add_request, send_cookie}
+use Rattle.spec_endpoint.specs.Packets.{PacketDraft, new_packet}
+use Rattle.spec_endpoint.specs.ResetRequests.{lasting, expire_reconfig_timer, clear_deferral, is_unanswered}
+use Rattle.spec_endpoint.specs.Sending.{AfterSending, add_request, send_cookie}
 use Rattle.spec_endpoint.specs.Shutdown.{send_shutdown, send_shutdown_ack}
-use Rattle.spec_endpoint.specs.Heartbeats.{counted_on, heartbeat, beat_if, unanswered_if}
-use Rattle.spec_endpoint.specs.Timers.{Ticking, tick_ack, t3_if, tick_t3, tick_interval, tick_timeout, request_again, errs_if, heartbeat_timeout, requests_if, ticking, tick_timers, Left, endpoint_state_left, ended_if, end_association, ended_or_sent, goes_on, settled_if, settle_ticks, t2_expired, t2_if, tick_t2, waits_if, t1_expired, t1_if, endpoint_state_waited, init_expired, init_if, tick_open, tick_in, advance_if, advance}
+use Rattle.spec_endpoint.specs.Heartbeats.{counted_on, heartbeat_chunk, send_heartbeat_if, heartbeat_timeout_if}
+use Rattle.spec_endpoint.specs.Timers.{Ticking, tick_ack, t3_if, tick_t3, tick_interval, tick_timeout, request_again, errs_if, reconfig_timeout, requests_if, ticking, tick_timers, TimerOutcome, after_timers, abort_if, abort_if_exhausted, abort_or_send_if, abort_or_send, after_ticks_if, after_ticks, t2_expired, t2_if, tick_t2, waits_if, t1_expired, t1_if, after_init_timer, init_expired, init_if, tick_open, tick_in, advance_if, advance}
 use Rattle.spec_endpoint.specs.Laws.{Call, Advance}
 use Rattle.proof_endpoint.specs.Acts.{all_along, EndWithPacket, idle, advances, delay_ends, times_out, beats, times_init, times_cookie, times_request, wakes_request, counts_errors, Preserves}
 use Rattle.proof_endpoint.proofs.BundledLemmas.{request_more}
-use Rattle.proof_endpoint.proofs.OwnLemmas.{fair_heartbeat}
+use Rattle.proof_endpoint.proofs.OwnChunksLemmas.{fair_heartbeat}
 use Rattle.proof_endpoint.proofs.PacketActsLemmas.{does_out, does_begin_new, does_chunk, does_add_request, does_send_buffered, does_send_cookie}
 use Rattle.proof_endpoint.proofs.RowActsLemmas.{placed, OpenActs, does_closed, does_shut_on, does_too_many, does_send_shutdown, does_send_shutdown_ack}
 use Rattle.proof_endpoint.proofs.OpeningActsLemmas.{does_send_init}
@@ -35,16 +35,16 @@ module _ {P : Type 0} {call : Call} {R : EndWithPacket P → EndWithPacket P →
     does_t3_if true x due = k.time (times_out phase x.tcb (idle (Open phase x.tcb) x.context w) due)
     does_t3_if false x due = k.same (idle (Open phase x.tcb) x.context w)
 
-    does_beat_if : (b : Bool) (t : Tcb) (c : Context P) → R (idle (Open phase t) c w) (idle (Open phase t) (beat_if b t c) w)
+    does_beat_if : (b : Bool) (t : Tcb) (c : Context P) → R (idle (Open phase t) c w) (idle (Open phase t) (send_heartbeat_if b t c) w)
     does_beat_if true t c =
         let d : Context P = counted_on c in
-        k.through (k.time (beats d.heartbeats (idle (Open phase t) c w))) (does_chunk k (heartbeat d.heartbeats.counter) phase t d w refl (λ f. fair_heartbeat d.heartbeats.counter))
+        k.through (k.time (beats d.heartbeats (idle (Open phase t) c w))) (does_chunk k (heartbeat_chunk d.heartbeats.counter) phase t d w refl (λ f. fair_heartbeat d.heartbeats.counter))
     does_beat_if false t c = k.same (idle (Open phase t) c w)
 
-    does_unanswered_if : (b : Bool) (t : Tcb) (c : Context P) → R (idle (Open phase t) c w) (idle (Open phase t) (unanswered_if b c) w)
+    does_unanswered_if : (b : Bool) (t : Tcb) (c : Context P) → R (idle (Open phase t) c w) (idle (Open phase t) (heartbeat_timeout_if b c) w)
     does_unanswered_if true t c =
-        let d : Context P = record c { heartbeats = (unanswered_if true c).heartbeats } in
-        k.through (k.time (beats d.heartbeats (idle (Open phase t) c w))) (k.acknowledging (counts_errors (unanswered_if true c).errors (idle (Open phase t) d w)))
+        let d : Context P = record c { heartbeats = (heartbeat_timeout_if true c).heartbeats } in
+        k.through (k.time (beats d.heartbeats (idle (Open phase t) c w))) (k.acknowledging (counts_errors (heartbeat_timeout_if true c).errors (idle (Open phase t) d w)))
     does_unanswered_if false t c = k.same (idle (Open phase t) c w)
 
     does_request_again : (b : Bool) (x : Ticking P) → Ticks x (request_again b x)
@@ -52,7 +52,7 @@ module _ {P : Type 0} {call : Call} {R : EndWithPacket P → EndWithPacket P →
     does_request_again false x =
         let c : Context P = x.context in
         let t : Tcb = record x.tcb { requests = lasting (rto x.tcb.rtt) x.tcb.requests } in
-        let p : Packet = new_packet c.options t in
+        let p : PacketDraft = new_packet c.options t in
         k.through (k.time (times_request t.requests.timer phase x.tcb (idle (Open phase x.tcb) c w)))
         (k.through (does_begin_new k phase t c w)
         (k.through (does_add_request k phase w t.requests.current t c p refl) (does_out k (Open phase t) c w (add_request t.requests.current p) (all_along (request_more t.requests.current p refl)))))
@@ -61,19 +61,19 @@ module _ {P : Type 0} {call : Call} {R : EndWithPacket P → EndWithPacket P →
     does_errs_if true t c = k.acknowledging (counts_errors (errs_if true c).errors (idle (Open phase t) c w))
     does_errs_if false t c = k.same (idle (Open phase t) c w)
 
-    does_unanswered : (x : Ticking P) → Ticks x (heartbeat_timeout x)
-    does_unanswered x =
+    does_reconfig_timeout : (x : Ticking P) → Ticks x (reconfig_timeout x)
+    does_reconfig_timeout x =
         let is_error : Bool = is_unanswered x.tcb.requests.current in
         let d : Context P = errs_if is_error x.context in
-        let u : Tcb = record x.tcb { requests = expire_request x.context.now x.tcb.requests } in
-        let v : Tcb = record x.tcb { requests = wake_request (expire_request x.context.now x.tcb.requests) } in
+        let u : Tcb = record x.tcb { requests = expire_reconfig_timer x.context.now x.tcb.requests } in
+        let v : Tcb = record x.tcb { requests = clear_deferral (expire_reconfig_timer x.context.now x.tcb.requests) } in
         let y : Ticking P = record { tcb = v; context = d; has_expired = true } in
         k.through (k.time (times_request u.requests.timer phase x.tcb (idle (Open phase x.tcb) x.context w)))
         (k.through (k.time (wakes_request phase u (idle (Open phase u) x.context w)))
         (k.through (does_errs_if is_error v x.context) (does_request_again (is_exhausted d.errors) y)))
 
     does_requests_if : (b : Bool) (x : Ticking P) → Ticks x (requests_if b x)
-    does_requests_if true x = does_unanswered x
+    does_requests_if true x = does_reconfig_timeout x
     does_requests_if false x = k.same (idle (Open phase x.tcb) x.context w)
 
     does_ticked : (t : Tcb) (c : Context P) → R (idle (Open phase t) c w) (idle (Open phase (tick_timers t c).tcb) (tick_timers t c).context w)
@@ -91,32 +91,32 @@ module _ {P : Type 0} {call : Call} {R : EndWithPacket P → EndWithPacket P →
 
     -- ---- what an expiry leads to at last
 
-    abbrev Leaves : EndWithPacket P → Left P → Type 0
-    Leaves m x = R m (placed (endpoint_state_left phase x) w)
+    abbrev Leaves : EndWithPacket P → TimerOutcome P → Type 0
+    Leaves m x = R m (placed (after_timers phase x) w)
 
-    does_ended_if : (b : Bool) (t : Tcb) (c : Context P) → Leaves (idle (Open phase t) c w) (ended_if b t c)
+    does_ended_if : (b : Bool) (t : Tcb) (c : Context P) → Leaves (idle (Open phase t) c w) (abort_if b t c)
     does_ended_if true t c = does_too_many k w phase t c
     does_ended_if false t c = k.same (idle (Open phase t) c w)
 
-    does_ended : (t : Tcb) (c : Context P) → Leaves (idle (Open phase t) c w) (end_association t c)
-    does_ended t c = does_ended_if (is_exhausted c.errors) t c
+    does_abort_if_exhausted : (t : Tcb) (c : Context P) → Leaves (idle (Open phase t) c w) (abort_if_exhausted t c)
+    does_abort_if_exhausted t c = does_ended_if (is_exhausted c.errors) t c
 
-    does_or_sent : (b : Bool) (t : Tcb) (c : Context P) → Leaves (idle (Open phase t) c w) (ended_or_sent b t c)
+    does_or_sent : (b : Bool) (t : Tcb) (c : Context P) → Leaves (idle (Open phase t) c w) (abort_or_send_if b t c)
     does_or_sent true t c = does_too_many k w phase t c
     does_or_sent false t c = does_send_buffered k phase w false t c
 
-    does_goes_on : (t : Tcb) (c : Context P) → Leaves (idle (Open phase t) c w) (goes_on t c)
+    does_goes_on : (t : Tcb) (c : Context P) → Leaves (idle (Open phase t) c w) (abort_or_send t c)
     does_goes_on t c = does_or_sent (is_exhausted c.errors) t c
 
-    does_settled_if : (b : Bool) (t : Tcb) (c : Context P) → Leaves (idle (Open phase t) c w) (settled_if b t c)
+    does_settled_if : (b : Bool) (t : Tcb) (c : Context P) → Leaves (idle (Open phase t) c w) (after_ticks_if b t c)
     does_settled_if true t c = does_goes_on t c
     does_settled_if false t c = k.same (idle (Open phase t) c w)
 
-    does_settled : (x : Ticking P) → Leaves (idle (Open phase x.tcb) x.context w) (settle_ticks x)
+    does_settled : (x : Ticking P) → Leaves (idle (Open phase x.tcb) x.context w) (after_ticks x)
     does_settled x = does_settled_if x.has_expired x.tcb x.context
 
     -- the timers, and then this
-    does_ticked_settled : (t : Tcb) (c : Context P) → Leaves (idle (Open phase t) c w) (settle_ticks (tick_timers t c))
+    does_ticked_settled : (t : Tcb) (c : Context P) → Leaves (idle (Open phase t) c w) (after_ticks (tick_timers t c))
     does_ticked_settled t c = k.through (does_ticked t c) (does_settled (tick_timers t c))
 
     -- ---- T2-shutdown
@@ -142,14 +142,14 @@ module _ {P : Type 0} {call : Call} {R : EndWithPacket P → EndWithPacket P →
 
   module _ (new : Timer) (cookie : List ℕ) where
     does_waits_if : (b : Bool) (t : Tcb) (c : Context P) → Leaves (CookieEchoed new cookie) (idle (Open (CookieEchoed new cookie) t) c w) (waits_if b t c)
-    does_waits_if true t c = does_ended (CookieEchoed new cookie) t c
+    does_waits_if true t c = does_abort_if_exhausted (CookieEchoed new cookie) t c
     does_waits_if false t c = k.same (idle (Open (CookieEchoed new cookie) t) c w)
 
     does_t1_expired : (b : Bool) (t : Tcb) (c : Context P)
         → Leaves (CookieEchoed new cookie) (idle (Open (CookieEchoed new cookie) t) c w) (t1_expired b cookie t c)
     does_t1_expired true t c =
-        let x : Sent P = send_cookie cookie t c in
-        k.through (does_send_cookie k new cookie w t c) (does_ended (CookieEchoed new cookie) x.tcb x.context)
+        let x : AfterSending P = send_cookie cookie t c in
+        k.through (does_send_cookie k new cookie w t c) (does_abort_if_exhausted (CookieEchoed new cookie) x.tcb x.context)
     does_t1_expired false t c =
         does_closed k w (OnAborted TooManyRetries (codes "No COOKIE_ACK received")) (Open (CookieEchoed new cookie) t) c refl refl
 
@@ -161,13 +161,13 @@ module _ {P : Type 0} {call : Call} {R : EndWithPacket P → EndWithPacket P →
   -- ---- T1-init
 
   does_init_expired : (b : Bool) (tag first : ℕ) (t1 : Timer) (c : Context P)
-      → R (idle (CookieWait tag first t1) c w) (placed (endpoint_state_waited tag first t1 (init_expired b tag first c)) w)
+      → R (idle (CookieWait tag first t1) c w) (placed (after_init_timer tag first t1 (init_expired b tag first c)) w)
   does_init_expired true tag first t1 c = does_send_init k tag first t1 c w
   does_init_expired false tag first t1 c =
       does_closed k w (OnAborted TooManyRetries (codes "No INIT_ACK received")) (CookieWait tag first t1) c refl refl
 
   does_init_if : (b : Bool) (tag first : ℕ) (old new : Timer) (c : Context P)
-      → R (idle (CookieWait tag first new) c w) (placed (endpoint_state_waited tag first new (init_if b tag first old c)) w)
+      → R (idle (CookieWait tag first new) c w) (placed (after_init_timer tag first new (init_if b tag first old c)) w)
   does_init_if true tag first old new c = does_init_expired (is_running (expire c.now old)) tag first new c
   does_init_if false tag first old new c = k.same (idle (CookieWait tag first new) c w)
 

@@ -8,12 +8,12 @@ use Rattle.sctp_state.specs.Events.{Event, OnAborted}
 use Rattle.sctp_tx_outstanding.specs.Losses.{Step}
 use Rattle.spec_endpoint.specs.Association.{Tcb, Phase, CookieEchoed, Established, ShutdownPending, ShutdownSent, ShutdownReceived, ShutdownAckSent, State, Closed, CookieWait, Open, Context, EndpointState}
 use Rattle.spec_endpoint.specs.Packets.{new_packet}
-use Rattle.spec_endpoint.specs.ResetRequests.{lasting, expire_request, wake_request, is_unanswered}
-use Rattle.spec_endpoint.specs.Sending.{Sent, add_request, send_cookie}
+use Rattle.spec_endpoint.specs.ResetRequests.{lasting, expire_reconfig_timer, clear_deferral, is_unanswered}
+use Rattle.spec_endpoint.specs.Sending.{AfterSending, add_request, send_cookie}
 use Rattle.spec_endpoint.specs.Shutdown.{over, send_shutdown, send_shutdown_ack, too_many}
 use Rattle.spec_endpoint.specs.Opening.{send_init}
-use Rattle.spec_endpoint.specs.Heartbeats.{counted_on, heartbeat, beat_if, unanswered_if}
-use Rattle.spec_endpoint.specs.Timers.{Ticking, tick_ack, timed_out, t3_if, tick_t3, tick_interval, tick_timeout, request_again, errs_if, requests_again, heartbeat_timeout, requests_if, tick_requests, ticking, tick_timers, Left, left_after, endpoint_state_if, endpoint_state_left, ended_if, end_association, ended_or_sent, goes_on, settled_if, settle_ticks, t2_expired, t2_if, tick_t2, waits_if, echoed_again, t1_expired, t1_if, tick_cookie, Waited, wait_on, waiting_if, endpoint_state_waited, init_expired, init_if, tick_init, tick_open, tick_in, advance_if, advance}
+use Rattle.spec_endpoint.specs.Heartbeats.{counted_on, heartbeat_chunk, send_heartbeat_if, heartbeat_timeout_if}
+use Rattle.spec_endpoint.specs.Timers.{Ticking, tick_ack, timed_out, t3_if, tick_t3, tick_interval, tick_timeout, request_again, errs_if, requests_again, reconfig_timeout, requests_if, tick_requests, ticking, tick_timers, TimerOutcome, timer_outcome, closed_if, after_timers, abort_if, abort_if_exhausted, abort_or_send_if, abort_or_send, after_ticks_if, after_ticks, t2_expired, t2_if, tick_t2, waits_if, echoed_again, t1_expired, t1_if, tick_cookie, InitOutcome, init_outcome, waiting_if, after_init_timer, init_expired, init_if, tick_init, tick_open, tick_in, advance_if, advance}
 use Rattle.proof_endpoint.specs.Mapped.{Mapping, map_context, map_endpoint_state}
 use Rattle.proof_endpoint.proofs.EmittedMapsLemmas.{maps_nack_all}
 use Rattle.proof_endpoint.proofs.SendingMapsLemmas.{maps_emit, maps_emit_chunk, maps_send_buffered, maps_send_cookie}
@@ -26,10 +26,10 @@ map_ticking f x = record { tcb = x.tcb; context = map_context f x.context; has_e
 abbrev pub ticking_as : {P : Type 0} → Tcb → Context P → Bool → Ticking P
 ticking_as t c has_expired = record { tcb = t; context = c; has_expired = has_expired }
 
-abbrev map_left : {P Q : Type 0} → Mapping P Q → Left P → Left Q
+abbrev map_left : {P Q : Type 0} → Mapping P Q → TimerOutcome P → TimerOutcome Q
 map_left f x = record { tcb = x.tcb; context = map_context f x.context; has_ended = x.has_ended }
 
-abbrev map_waited : {P Q : Type 0} → Mapping P Q → Waited P → Waited Q
+abbrev map_waited : {P Q : Type 0} → Mapping P Q → InitOutcome P → InitOutcome Q
 map_waited f x = record { context = map_context f x.context; has_ended = x.has_ended }
 
 module _ {P Q : Type 0} (f : Mapping P Q) where
@@ -38,10 +38,10 @@ module _ {P Q : Type 0} (f : Mapping P Q) where
       ap (λ (step : Step Q). timed_out step (map_ticking f x)) (maps_nack_all f x.tcb.sender.outstanding.items x.context.emitted)
   maps_t3_if false x = refl
 
-  maps_beat_if : (b : Bool) (t : Tcb) (c : Context P) → beat_if b t (map_context f c) ≡ map_context f (beat_if b t c)
+  maps_beat_if : (b : Bool) (t : Tcb) (c : Context P) → send_heartbeat_if b t (map_context f c) ≡ map_context f (send_heartbeat_if b t c)
   maps_beat_if true t c =
       let d : Context P = counted_on c in
-      maps_emit_chunk f (heartbeat d.heartbeats.counter) t d
+      maps_emit_chunk f (heartbeat_chunk d.heartbeats.counter) t d
   maps_beat_if false t c = refl
 
   maps_interval : (x : Ticking P) → tick_interval (map_ticking f x) ≡ map_ticking f (tick_interval x)
@@ -49,7 +49,7 @@ module _ {P Q : Type 0} (f : Mapping P Q) where
       ap (λ (c : Context Q). ticking_as x.tcb c (tick_interval x).has_expired)
       (maps_beat_if (is_due x.context.now x.context.heartbeats.interval) x.tcb x.context)
 
-  maps_unanswered_if : (b : Bool) (c : Context P) → unanswered_if b (map_context f c) ≡ map_context f (unanswered_if b c)
+  maps_unanswered_if : (b : Bool) (c : Context P) → heartbeat_timeout_if b (map_context f c) ≡ map_context f (heartbeat_timeout_if b c)
   maps_unanswered_if true c = refl
   maps_unanswered_if false c = refl
 
@@ -68,15 +68,15 @@ module _ {P Q : Type 0} (f : Mapping P Q) where
   maps_errs_if true c = refl
   maps_errs_if false c = refl
 
-  maps_unanswered : (x : Ticking P) → heartbeat_timeout (map_ticking f x) ≡ map_ticking f (heartbeat_timeout x)
-  maps_unanswered x =
+  maps_reconfig_timeout : (x : Ticking P) → reconfig_timeout (map_ticking f x) ≡ map_ticking f (reconfig_timeout x)
+  maps_reconfig_timeout x =
       let is_error : Bool = is_unanswered x.tcb.requests.current in
-      let t : Tcb = record x.tcb { requests = wake_request (expire_request x.context.now x.tcb.requests) } in
+      let t : Tcb = record x.tcb { requests = clear_deferral (expire_reconfig_timer x.context.now x.tcb.requests) } in
       let y : Ticking P = ticking_as t (errs_if is_error x.context) true in
       ap (λ (d : Context Q). requests_again (ticking_as t d true)) (maps_errs_if is_error x.context) ∙ maps_request_again (is_exhausted y.context.errors) y
 
   maps_requests_if : (b : Bool) (x : Ticking P) → requests_if b (map_ticking f x) ≡ map_ticking f (requests_if b x)
-  maps_requests_if true x = maps_unanswered x
+  maps_requests_if true x = maps_reconfig_timeout x
   maps_requests_if false x = refl
 
   maps_ticked : (t : Tcb) (c : Context P) → tick_timers t (map_context f c) ≡ map_ticking f (tick_timers t c)
@@ -90,40 +90,40 @@ module _ {P Q : Type 0} (f : Mapping P Q) where
       ∙ (ap (λ (v : Ticking Q). tick_requests (tick_timeout v)) (maps_interval y)
       ∙ (ap (λ (v : Ticking Q). tick_requests v) (maps_timeout z) ∙ maps_requests_if (is_due w.context.now w.tcb.requests.timer) w))
 
-  maps_left : (t : Tcb) (has_ended : Bool) (c : Context P) (d : Context Q) → d ≡ map_context f c → left_after t d has_ended ≡ map_left f (left_after t c has_ended)
-  maps_left t has_ended c d h = ap (λ (e : Context Q). left_after t e has_ended) h
+  maps_left : (t : Tcb) (has_ended : Bool) (c : Context P) (d : Context Q) → d ≡ map_context f c → timer_outcome t d has_ended ≡ map_left f (timer_outcome t c has_ended)
+  maps_left t has_ended c d h = ap (λ (e : Context Q). timer_outcome t e has_ended) h
 
-  maps_endpoint_state_if : (b : Bool) (phase : Phase) (t : Tcb) (c : Context P) → endpoint_state_if b phase t (map_context f c) ≡ map_endpoint_state f (endpoint_state_if b phase t c)
+  maps_endpoint_state_if : (b : Bool) (phase : Phase) (t : Tcb) (c : Context P) → closed_if b phase t (map_context f c) ≡ map_endpoint_state f (closed_if b phase t c)
   maps_endpoint_state_if true phase t c = refl
   maps_endpoint_state_if false phase t c = refl
 
-  maps_endpoint_state_left : (phase : Phase) (x : Left P) (y : Left Q) → y ≡ map_left f x → endpoint_state_left phase y ≡ map_endpoint_state f (endpoint_state_left phase x)
-  maps_endpoint_state_left phase x y h = ap (λ (z : Left Q). endpoint_state_left phase z) h ∙ maps_endpoint_state_if x.has_ended phase x.tcb x.context
+  maps_endpoint_state_left : (phase : Phase) (x : TimerOutcome P) (y : TimerOutcome Q) → y ≡ map_left f x → after_timers phase y ≡ map_endpoint_state f (after_timers phase x)
+  maps_endpoint_state_left phase x y h = ap (λ (z : TimerOutcome Q). after_timers phase z) h ∙ maps_endpoint_state_if x.has_ended phase x.tcb x.context
 
   -- too many errors
-  maps_given_up : (t : Tcb) (c : Context P) → left_after t (too_many t (map_context f c)).context true ≡ map_left f (left_after t (too_many t c).context true)
+  maps_given_up : (t : Tcb) (c : Context P) → timer_outcome t (too_many t (map_context f c)).context true ≡ map_left f (timer_outcome t (too_many t c).context true)
   maps_given_up t c =
       maps_left t true (too_many t c).context (too_many t (map_context f c)).context (ap (λ (s : EndpointState Q). s.context) (maps_too_many f t c))
 
-  maps_ended_if : (b : Bool) (t : Tcb) (c : Context P) → ended_if b t (map_context f c) ≡ map_left f (ended_if b t c)
+  maps_ended_if : (b : Bool) (t : Tcb) (c : Context P) → abort_if b t (map_context f c) ≡ map_left f (abort_if b t c)
   maps_ended_if true t c = maps_given_up t c
   maps_ended_if false t c = refl
 
-  maps_ended : (t : Tcb) (c : Context P) → end_association t (map_context f c) ≡ map_left f (end_association t c)
-  maps_ended t c = maps_ended_if (is_exhausted c.errors) t c
+  maps_abort_if_exhausted : (t : Tcb) (c : Context P) → abort_if_exhausted t (map_context f c) ≡ map_left f (abort_if_exhausted t c)
+  maps_abort_if_exhausted t c = maps_ended_if (is_exhausted c.errors) t c
 
-  maps_or_sent : (b : Bool) (t : Tcb) (c : Context P) → ended_or_sent b t (map_context f c) ≡ map_left f (ended_or_sent b t c)
+  maps_or_sent : (b : Bool) (t : Tcb) (c : Context P) → abort_or_send_if b t (map_context f c) ≡ map_left f (abort_or_send_if b t c)
   maps_or_sent true t c = maps_given_up t c
-  maps_or_sent false t c = ap (λ (x : Sent Q). left_after x.tcb x.context false) (maps_send_buffered f false t c)
+  maps_or_sent false t c = ap (λ (x : AfterSending Q). timer_outcome x.tcb x.context false) (maps_send_buffered f false t c)
 
-  maps_on : (t : Tcb) (c : Context P) → goes_on t (map_context f c) ≡ map_left f (goes_on t c)
+  maps_on : (t : Tcb) (c : Context P) → abort_or_send t (map_context f c) ≡ map_left f (abort_or_send t c)
   maps_on t c = maps_or_sent (is_exhausted c.errors) t c
 
-  maps_settled_if : (b : Bool) (t : Tcb) (c : Context P) → settled_if b t (map_context f c) ≡ map_left f (settled_if b t c)
+  maps_settled_if : (b : Bool) (t : Tcb) (c : Context P) → after_ticks_if b t (map_context f c) ≡ map_left f (after_ticks_if b t c)
   maps_settled_if true t c = maps_on t c
   maps_settled_if false t c = refl
 
-  maps_settled : (x : Ticking P) → settle_ticks (map_ticking f x) ≡ map_left f (settle_ticks x)
+  maps_settled : (x : Ticking P) → after_ticks (map_ticking f x) ≡ map_left f (after_ticks x)
   maps_settled x = maps_settled_if x.has_expired x.tcb x.context
 
   -- ---- T2-shutdown
@@ -133,7 +133,7 @@ module _ {P Q : Type 0} (f : Mapping P Q) where
 
   maps_t2_expired : (b : Bool) (again : Tcb → Context P → Context P) (mapped : Tcb → Context Q → Context Q) → Again again mapped → (t : Tcb) (c : Context P)
       → t2_expired b mapped t (map_context f c) ≡ map_left f (t2_expired b again t c)
-  maps_t2_expired true again mapped h t c = ap (λ (d : Context Q). goes_on t d) (h t c) ∙ maps_on t (again t c)
+  maps_t2_expired true again mapped h t c = ap (λ (d : Context Q). abort_or_send t d) (h t c) ∙ maps_on t (again t c)
   maps_t2_expired false again mapped h t c = maps_given_up t c
 
   maps_t2_if : (b : Bool) (now : ℕ) (again : Tcb → Context P → Context P) (mapped : Tcb → Context Q → Context Q) → Again again mapped → (t2 : Timer) (x : Ticking P)
@@ -150,13 +150,13 @@ module _ {P Q : Type 0} (f : Mapping P Q) where
   -- ---- T1-cookie
 
   maps_waits_if : (b : Bool) (t : Tcb) (c : Context P) → waits_if b t (map_context f c) ≡ map_left f (waits_if b t c)
-  maps_waits_if true t c = maps_ended t c
+  maps_waits_if true t c = maps_abort_if_exhausted t c
   maps_waits_if false t c = refl
 
   maps_t1_expired : (b : Bool) (cookie : List ℕ) (t : Tcb) (c : Context P) → t1_expired b cookie t (map_context f c) ≡ map_left f (t1_expired b cookie t c)
   maps_t1_expired true cookie t c =
-      let x : Sent P = send_cookie cookie t c in
-      ap (λ (y : Sent Q). echoed_again y) (maps_send_cookie f cookie t c) ∙ maps_ended x.tcb x.context
+      let x : AfterSending P = send_cookie cookie t c in
+      ap (λ (y : AfterSending Q). echoed_again y) (maps_send_cookie f cookie t c) ∙ maps_abort_if_exhausted x.tcb x.context
   maps_t1_expired false cookie t c =
       let e : Event P = OnAborted TooManyRetries (codes "No COOKIE_ACK received") in
       maps_left t true (over e c) _ (maps_over f e c)
@@ -171,8 +171,8 @@ module _ {P Q : Type 0} (f : Mapping P Q) where
 
   -- ---- T1-init
 
-  maps_waited : (has_ended : Bool) (c : Context P) (d : Context Q) → d ≡ map_context f c → wait_on d has_ended ≡ map_waited f (wait_on c has_ended)
-  maps_waited has_ended c d h = ap (λ (e : Context Q). wait_on e has_ended) h
+  maps_waited : (has_ended : Bool) (c : Context P) (d : Context Q) → d ≡ map_context f c → init_outcome d has_ended ≡ map_waited f (init_outcome c has_ended)
+  maps_waited has_ended c d h = ap (λ (e : Context Q). init_outcome e has_ended) h
 
   maps_init_expired : (b : Bool) (tag first : ℕ) (c : Context P) → init_expired b tag first (map_context f c) ≡ map_waited f (init_expired b tag first c)
   maps_init_expired true tag first c = maps_waited false (send_init tag first c) (send_init tag first (map_context f c)) (maps_send_init f tag first c)
@@ -191,10 +191,10 @@ module _ {P Q : Type 0} (f : Mapping P Q) where
   -- ---- by state
 
   maps_settled_in : (phase : Phase) (t : Tcb) (c : Context P)
-      → endpoint_state_left phase (settle_ticks (tick_timers t (map_context f c))) ≡ map_endpoint_state f (endpoint_state_left phase (settle_ticks (tick_timers t c)))
+      → after_timers phase (after_ticks (tick_timers t (map_context f c))) ≡ map_endpoint_state f (after_timers phase (after_ticks (tick_timers t c)))
   maps_settled_in phase t c =
-      maps_endpoint_state_left phase (settle_ticks (tick_timers t c)) (settle_ticks (tick_timers t (map_context f c)))
-      (ap (λ (x : Ticking Q). settle_ticks x) (maps_ticked t c) ∙ maps_settled (tick_timers t c))
+      maps_endpoint_state_left phase (after_ticks (tick_timers t c)) (after_ticks (tick_timers t (map_context f c)))
+      (ap (λ (x : Ticking Q). after_ticks x) (maps_ticked t c) ∙ maps_settled (tick_timers t c))
 
   maps_tick_open : OpenMaps f tick_open tick_open
   maps_tick_open (CookieEchoed t1 cookie) t c =
@@ -212,8 +212,8 @@ module _ {P Q : Type 0} (f : Mapping P Q) where
   maps_tick : (st : State) (c : Context P) → tick_in st (map_context f c) ≡ map_endpoint_state f (tick_in st c)
   maps_tick Closed c = refl
   maps_tick (CookieWait tag first t1) c =
-      let x : Waited P = tick_init tag first t1 c in
-      ap (λ (y : Waited Q). endpoint_state_waited tag first (expire c.now t1) y) (maps_init_if (is_due c.now t1) tag first t1 c)
+      let x : InitOutcome P = tick_init tag first t1 c in
+      ap (λ (y : InitOutcome Q). after_init_timer tag first (expire c.now t1) y) (maps_init_if (is_due c.now t1) tag first t1 c)
       ∙ maps_waiting_if x.has_ended tag first (expire c.now t1) x.context
   maps_tick (Open phase t) c = maps_tick_open phase t c
 

@@ -6,12 +6,12 @@ use Rattle.sctp_state.specs.RetransmissionTimeout.{rto}
 use Rattle.sctp_state.specs.Timer.{Timer, is_due, is_running, expire}
 use Rattle.sctp_state.specs.Events.{OnAborted}
 use Rattle.spec_endpoint.specs.Association.{Tcb, Phase, CookieEchoed, Established, ShutdownPending, ShutdownSent, ShutdownReceived, ShutdownAckSent, State, Closed, CookieWait, Open, Context, EndpointState}
-use Rattle.spec_endpoint.specs.Packets.{Packet, new_packet}
-use Rattle.spec_endpoint.specs.ResetRequests.{lasting, expire_request, wake_request, is_unanswered}
-use Rattle.spec_endpoint.specs.Sending.{Sent, add_request, send_cookie}
+use Rattle.spec_endpoint.specs.Packets.{PacketDraft, new_packet}
+use Rattle.spec_endpoint.specs.ResetRequests.{lasting, expire_reconfig_timer, clear_deferral, is_unanswered}
+use Rattle.spec_endpoint.specs.Sending.{AfterSending, add_request, send_cookie}
 use Rattle.spec_endpoint.specs.Shutdown.{send_shutdown, send_shutdown_ack}
-use Rattle.spec_endpoint.specs.Heartbeats.{counted_on, heartbeat, beat_if, unanswered_if}
-use Rattle.spec_endpoint.specs.Timers.{Ticking, tick_ack, t3_if, tick_t3, tick_interval, tick_timeout, request_again, errs_if, requests_again, heartbeat_timeout, requests_if, ticking, tick_timers, Left, endpoint_state_if, endpoint_state_left, ended_if, end_association, ended_or_sent, goes_on, settled_if, settle_ticks, t2_expired, t2_if, tick_t2, waits_if, echoed_again, t1_expired, t1_if, tick_cookie, Waited, waiting_if, init_expired, init_if, tick_init, tick_open, tick_in, advance_if, advance}
+use Rattle.spec_endpoint.specs.Heartbeats.{counted_on, heartbeat_chunk, send_heartbeat_if, heartbeat_timeout_if}
+use Rattle.spec_endpoint.specs.Timers.{Ticking, tick_ack, t3_if, tick_t3, tick_interval, tick_timeout, request_again, errs_if, requests_again, reconfig_timeout, requests_if, ticking, tick_timers, TimerOutcome, closed_if, after_timers, abort_if, abort_if_exhausted, abort_or_send_if, abort_or_send, after_ticks_if, after_ticks, t2_expired, t2_if, tick_t2, waits_if, echoed_again, t1_expired, t1_if, tick_cookie, InitOutcome, waiting_if, init_expired, init_if, tick_init, tick_open, tick_in, advance_if, advance}
 use Rattle.spec_endpoint.specs.Laws.{ends}
 use Rattle.proof_endpoint.proofs.StepsLemmas.{most_bytes, Goes, Steps}
 use Rattle.proof_endpoint.proofs.EmitsLemmas.{emits_nack_all}
@@ -25,12 +25,12 @@ abbrev once : (has_ended : Bool) → ℕ
 once true = 1
 once false = 0
 
-abbrev pub Leaves : {P : Type 0} → Context P → Left P → Type 0
+abbrev pub Leaves : {P : Type 0} → Context P → TimerOutcome P → Type 0
 Leaves c x = Goes (once x.has_ended) c x.context
 
 module _ {P : Type 0} where
   -- behind what emitted no ending
-  leaves_then : (c d : Context P) (x : Left P) → Goes 0 c d → Leaves d x → Leaves c x
+  leaves_then : (c d : Context P) (x : TimerOutcome P) → Goes 0 c d → Leaves d x → Leaves c x
   leaves_then c d x g h = goes_then (once x.has_ended) c d x.context g h
 
   goes_t3_if : (b : Bool) (x : Ticking P) → Goes 0 x.context (t3_if b x).context
@@ -38,14 +38,14 @@ module _ {P : Type 0} where
       goes_by 0 x.context (t3_if true x).context refl refl (emits_nack_all x.context.pack (most_bytes x.context) x.tcb.sender.outstanding.items x.context.emitted)
   goes_t3_if false x = goes_same x.context
 
-  goes_beat_if : (b : Bool) (t : Tcb) (c : Context P) → Goes 0 c (beat_if b t c)
+  goes_beat_if : (b : Bool) (t : Tcb) (c : Context P) → Goes 0 c (send_heartbeat_if b t c)
   goes_beat_if true t c =
       let d : Context P = counted_on c in
-      goes_then 0 c d (beat_if true t c) (goes_silent c d refl refl refl) (goes_emit_chunk (heartbeat d.heartbeats.counter) t d)
+      goes_then 0 c d (send_heartbeat_if true t c) (goes_silent c d refl refl refl) (goes_emit_chunk (heartbeat_chunk d.heartbeats.counter) t d)
   goes_beat_if false t c = goes_same c
 
-  goes_unanswered_if : (b : Bool) (c : Context P) → Goes 0 c (unanswered_if b c)
-  goes_unanswered_if true c = goes_silent c (unanswered_if true c) refl refl refl
+  goes_unanswered_if : (b : Bool) (c : Context P) → Goes 0 c (heartbeat_timeout_if b c)
+  goes_unanswered_if true c = goes_silent c (heartbeat_timeout_if true c) refl refl refl
   goes_unanswered_if false c = goes_same c
 
   goes_request_again : (b : Bool) (x : Ticking P) → Goes 0 x.context (request_again b x).context
@@ -53,26 +53,26 @@ module _ {P : Type 0} where
   goes_request_again false x =
       let c : Context P = x.context in
       let t : Tcb = record x.tcb { requests = lasting (rto x.tcb.rtt) x.tcb.requests } in
-      let p : Packet = new_packet c.options t in
+      let p : PacketDraft = new_packet c.options t in
       goes_emit (add_request t.requests.current p) c (small_add_request (most_bytes c) p t.requests.current (small_new t c))
 
   goes_errs_if : (b : Bool) (c : Context P) → Goes 0 c (errs_if b c)
   goes_errs_if true c = goes_silent c (errs_if true c) refl refl refl
   goes_errs_if false c = goes_same c
 
-  goes_unanswered : (x : Ticking P) → Goes 0 x.context (heartbeat_timeout x).context
-  goes_unanswered x =
+  goes_reconfig_timeout : (x : Ticking P) → Goes 0 x.context (reconfig_timeout x).context
+  goes_reconfig_timeout x =
       let is_error : Bool = is_unanswered x.tcb.requests.current in
       let d : Context P = errs_if is_error x.context in
       let y : Ticking P = record {
-        tcb = record x.tcb { requests = wake_request (expire_request x.context.now x.tcb.requests) };
+        tcb = record x.tcb { requests = clear_deferral (expire_reconfig_timer x.context.now x.tcb.requests) };
         context = d;
         has_expired = true;
       } in
       goes_then 0 x.context d (requests_again y).context (goes_errs_if is_error x.context) (goes_request_again (is_exhausted d.errors) y)
 
   goes_requests_if : (b : Bool) (x : Ticking P) → Goes 0 x.context (requests_if b x).context
-  goes_requests_if true x = goes_unanswered x
+  goes_requests_if true x = goes_reconfig_timeout x
   goes_requests_if false x = goes_same x.context
 
   goes_ticked : (t : Tcb) (c : Context P) → Goes 0 c (tick_timers t c).context
@@ -87,33 +87,33 @@ module _ {P : Type 0} where
       (goes_then 0 z.context w.context (tick_timers t c).context (goes_unanswered_if (is_due z.context.now z.context.heartbeats.timeout) z.context)
       (goes_requests_if (is_due w.context.now w.tcb.requests.timer) w)))
 
-  steps_if : (b : Bool) (phase new : Phase) (t u : Tcb) (c d : Context P) → Goes (once b) c d → StepsFrom (Open phase t) c (endpoint_state_if b new u d)
+  steps_if : (b : Bool) (phase new : Phase) (t u : Tcb) (c d : Context P) → Goes (once b) c d → StepsFrom (Open phase t) c (closed_if b new u d)
   steps_if true phase new t u c d g = g
   steps_if false phase new t u c d g = g
 
-  steps_left : (phase new : Phase) (t : Tcb) (c : Context P) (x : Left P) → Leaves c x → StepsFrom (Open phase t) c (endpoint_state_left new x)
+  steps_left : (phase new : Phase) (t : Tcb) (c : Context P) (x : TimerOutcome P) → Leaves c x → StepsFrom (Open phase t) c (after_timers new x)
   steps_left phase new t c x g = steps_if x.has_ended phase new t x.tcb c x.context g
 
-  leaves_ended_if : (b : Bool) (t : Tcb) (c : Context P) → Leaves c (ended_if b t c)
+  leaves_ended_if : (b : Bool) (t : Tcb) (c : Context P) → Leaves c (abort_if b t c)
   leaves_ended_if true t c = goes_too_many t c
   leaves_ended_if false t c = goes_same c
 
-  leaves_ended : (t : Tcb) (c : Context P) → Leaves c (end_association t c)
-  leaves_ended t c = leaves_ended_if (is_exhausted c.errors) t c
+  leaves_abort_if_exhausted : (t : Tcb) (c : Context P) → Leaves c (abort_if_exhausted t c)
+  leaves_abort_if_exhausted t c = leaves_ended_if (is_exhausted c.errors) t c
 
-  leaves_or_sent : (b : Bool) (t : Tcb) (c : Context P) → Leaves c (ended_or_sent b t c)
+  leaves_or_sent : (b : Bool) (t : Tcb) (c : Context P) → Leaves c (abort_or_send_if b t c)
   leaves_or_sent true t c = goes_too_many t c
   leaves_or_sent false t c = goes_send_buffered c false t
 
-  leaves_on : (t : Tcb) (c : Context P) → Leaves c (goes_on t c)
+  leaves_on : (t : Tcb) (c : Context P) → Leaves c (abort_or_send t c)
   leaves_on t c = leaves_or_sent (is_exhausted c.errors) t c
 
-  leaves_settled_if : (b : Bool) (t : Tcb) (c : Context P) → Leaves c (settled_if b t c)
+  leaves_settled_if : (b : Bool) (t : Tcb) (c : Context P) → Leaves c (after_ticks_if b t c)
   leaves_settled_if true t c = leaves_on t c
   leaves_settled_if false t c = goes_same c
 
-  leaves_settled : (c : Context P) (x : Ticking P) → Goes 0 c x.context → Leaves c (settle_ticks x)
-  leaves_settled c x g = leaves_then c x.context (settle_ticks x) g (leaves_settled_if x.has_expired x.tcb x.context)
+  leaves_settled : (c : Context P) (x : Ticking P) → Goes 0 c x.context → Leaves c (after_ticks x)
+  leaves_settled c x g = leaves_then c x.context (after_ticks x) g (leaves_settled_if x.has_expired x.tcb x.context)
 
   -- ---- T2-shutdown
 
@@ -121,7 +121,7 @@ module _ {P : Type 0} where
   Again again = (t : Tcb) (c : Context P) → Goes 0 c (again t c)
 
   leaves_t2_expired : (b : Bool) (again : Tcb → Context P → Context P) → Again again → (t : Tcb) (c : Context P) → Leaves c (t2_expired b again t c)
-  leaves_t2_expired true again h t c = leaves_then c (again t c) (goes_on t (again t c)) (h t c) (leaves_on t (again t c))
+  leaves_t2_expired true again h t c = leaves_then c (again t c) (abort_or_send t (again t c)) (h t c) (leaves_on t (again t c))
   leaves_t2_expired false again h t c = goes_too_many t c
 
   leaves_t2_if : (b : Bool) (now : ℕ) (again : Tcb → Context P → Context P) → Again again → (t2 : Timer) (c : Context P) (x : Ticking P) → Goes 0 c x.context
@@ -139,13 +139,13 @@ module _ {P : Type 0} where
   -- ---- T1-cookie
 
   leaves_waits_if : (b : Bool) (t : Tcb) (c : Context P) → Leaves c (waits_if b t c)
-  leaves_waits_if true t c = leaves_ended t c
+  leaves_waits_if true t c = leaves_abort_if_exhausted t c
   leaves_waits_if false t c = goes_same c
 
   leaves_t1_expired : (b : Bool) (cookie : List ℕ) (t : Tcb) (c : Context P) → Leaves c (t1_expired b cookie t c)
   leaves_t1_expired true cookie t c =
-      let x : Sent P = send_cookie cookie t c in
-      leaves_then c x.context (echoed_again x) (goes_send_cookie c cookie t) (leaves_ended x.tcb x.context)
+      let x : AfterSending P = send_cookie cookie t c in
+      leaves_then c x.context (echoed_again x) (goes_send_cookie c cookie t) (leaves_abort_if_exhausted x.tcb x.context)
   leaves_t1_expired false cookie t c =
       goes_said 1 c (t1_expired false cookie t c).context (OnAborted TooManyRetries (codes "No COOKIE_ACK received")) refl refl refl tt refl
 
@@ -177,11 +177,11 @@ module _ {P : Type 0} where
   steps_tick_open : (phase : Phase) (t : Tcb) (c : Context P) → StepsFrom (Open phase t) c (tick_open phase t c)
   steps_tick_open (CookieEchoed t1 cookie) t c =
       steps_left (CookieEchoed t1 cookie) (CookieEchoed (expire c.now t1) cookie) t c (tick_cookie t1 cookie (tick_ack (ticking t c))) (leaves_cookie t1 cookie t c)
-  steps_tick_open Established t c = steps_left Established Established t c (settle_ticks (tick_timers t c)) (leaves_settled c (tick_timers t c) (goes_ticked t c))
-  steps_tick_open ShutdownPending t c = steps_left ShutdownPending ShutdownPending t c (settle_ticks (tick_timers t c)) (leaves_settled c (tick_timers t c) (goes_ticked t c))
+  steps_tick_open Established t c = steps_left Established Established t c (after_ticks (tick_timers t c)) (leaves_settled c (tick_timers t c) (goes_ticked t c))
+  steps_tick_open ShutdownPending t c = steps_left ShutdownPending ShutdownPending t c (after_ticks (tick_timers t c)) (leaves_settled c (tick_timers t c) (goes_ticked t c))
   steps_tick_open (ShutdownSent t2) t c =
       steps_left (ShutdownSent t2) (ShutdownSent (expire c.now t2)) t c (tick_t2 c.now send_shutdown t2 (tick_timers t c)) (leaves_t2 send_shutdown goes_send_shutdown t2 t c)
-  steps_tick_open ShutdownReceived t c = steps_left ShutdownReceived ShutdownReceived t c (settle_ticks (tick_timers t c)) (leaves_settled c (tick_timers t c) (goes_ticked t c))
+  steps_tick_open ShutdownReceived t c = steps_left ShutdownReceived ShutdownReceived t c (after_ticks (tick_timers t c)) (leaves_settled c (tick_timers t c) (goes_ticked t c))
   steps_tick_open (ShutdownAckSent t2) t c =
       steps_left (ShutdownAckSent t2) (ShutdownAckSent (expire c.now t2)) t c (tick_t2 c.now send_shutdown_ack t2 (tick_timers t c))
       (leaves_t2 send_shutdown_ack goes_send_shutdown_ack t2 t c)
@@ -189,7 +189,7 @@ module _ {P : Type 0} where
   steps_tick : (st : State) (c : Context P) → StepsFrom st c (tick_in st c)
   steps_tick Closed c = goes_same c
   steps_tick (CookieWait tag first t1) c =
-      let x : Waited P = tick_init tag first t1 c in
+      let x : InitOutcome P = tick_init tag first t1 c in
       steps_waiting_if x.has_ended tag first t1 (expire c.now t1) c x.context (goes_init_if (is_due c.now t1) tag first t1 c)
   steps_tick (Open phase t) c = steps_tick_open phase t c
 

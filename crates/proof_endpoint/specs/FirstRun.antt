@@ -5,14 +5,14 @@ use Rattle.rand_core.specs.Stream.{Stream, next_u32}
 use Rattle.sctp_serial.specs.Messages.{Message}
 use Rattle.sctp_packet.specs.Chunk.{ChunkTree, FragmentTree, InitTree, init_chunk, init_ack_chunk, data_chunk, sack_chunk, cookie_echo_chunk, cookie_ack_chunk}
 use Rattle.sctp_state.specs.Options.{SendOptions, defaults}
-use Rattle.sctp_capabilities.specs.Capabilities.{announce}
+use Rattle.sctp_capabilities.specs.Capabilities.{announced_parameters}
 use Rattle.sctp_capabilities.specs.StateCookie.{cookie_bytes}
-use Rattle.sctp_state.specs.Events.{Event, SendPacket, OnConnected, OnBufferedAmountLow, OnLifecycleMessageFullySent, OnLifecycleMessageDelivered, OnLifecycleEnd, silent}
+use Rattle.sctp_state.specs.Events.{Event, SendPacket, OnConnected, OnBufferedAmountLow, OnLifecycleMessageFullySent, OnLifecycleMessageDelivered, OnLifecycleEnd, nothing_emitted}
 use Rattle.spec_endpoint.specs.Association.{Endpoint, fresh, Packing}
 use Rattle.spec_endpoint.specs.Packets.{header_to}
 use Rattle.spec_endpoint.specs.Opening.{tsn_from, tag_from, init_of, cookie_for, init_ack_of, connect}
-use Rattle.spec_endpoint.specs.Calls.{refusal_of, send, ready_in}
-use Rattle.spec_endpoint.specs.Input.{on_packet, on_endpoint_state}
+use Rattle.spec_endpoint.specs.Calls.{send_refusal_of, send, ready_in}
+use Rattle.spec_endpoint.specs.Input.{on_packet, in_endpoint_state}
 use Rattle.spec_endpoint.specs.Shown.{Association, association_in, is_at_rest}
 use Rattle.spec_endpoint.specs.Receiving.{Receives}
 use Rattle.spec_endpoint.specs.Wire.{writing}
@@ -21,10 +21,10 @@ use Rattle.proof_endpoint.specs.Mapped.{Carried, as_written}
 -- ---- what an end draws as it opens an association
 
 abbrev pub first_of : Stream → ℕ
-first_of words = tsn_from (next_u32 words).0
+first_of draws = tsn_from (next_u32 draws).0
 
 abbrev pub tag_of : Stream → ℕ
-tag_of words = tag_from (next_u32 (next_u32 words).1).0
+tag_of draws = tag_from (next_u32 (next_u32 draws).1).0
 
 -- ---- the packets
 
@@ -33,7 +33,7 @@ abbrev pub packet : (tag : ℕ) → ChunkTree → Carried
 packet tag chunk = record { header = header_to defaults tag; is_summed = true; chunks = chunk ∷ [] }
 
 abbrev pub init_tree : Stream → InitTree
-init_tree a = init_of defaults (tag_of a) (first_of a) (announce defaults 0)
+init_tree a = init_of defaults (tag_of a) (first_of a) (announced_parameters defaults 0)
 
 abbrev pub init_packet : Stream → Carried
 init_packet a = packet 0 (init_chunk (init_tree a))
@@ -81,8 +81,8 @@ abbrev pub give : {P : Type 0} → Carried → Endpoint P → Endpoint P
 give p s = on_packet (record { header = p.header; checksum = 0; chunks = p.chunks }) s
 
 -- what was emitted is taken
-abbrev pub quiet : {P : Type 0} → Endpoint P → Endpoint P
-quiet s = record s { endpoint_state = record s.endpoint_state { context = record s.endpoint_state.context { emitted = silent } } }
+abbrev pub drained : {P : Type 0} → Endpoint P → Endpoint P
+drained s = record s { endpoint_state = record s.endpoint_state { context = record s.endpoint_state.context { emitted = nothing_emitted } } }
 
 module _ {P : Type 0} (pack : Packing P) (a b : Stream) where
   abbrev pub asking : Endpoint P
@@ -92,27 +92,27 @@ module _ {P : Type 0} (pack : Packing P) (a b : Stream) where
   answering = give (init_packet a) (fresh defaults pack b)
 
   abbrev pub echoing : Endpoint P
-  echoing = give (init_ack_packet a b) (quiet asking)
+  echoing = give (init_ack_packet a b) (drained asking)
 
   abbrev pub accepting : Endpoint P
-  accepting = give (cookie_echo_packet a b) (quiet answering)
+  accepting = give (cookie_echo_packet a b) (drained answering)
 
   abbrev pub opening : Endpoint P
-  opening = give (cookie_ack_packet a) (quiet echoing)
+  opening = give (cookie_ack_packet a) (drained echoing)
 
   abbrev pub sending : Message → SendOptions → Endpoint P
-  sending m o = on_endpoint_state (send m o) (quiet opening)
+  sending m o = in_endpoint_state (send m o) (drained opening)
 
   abbrev pub taking : Message → SendOptions → Endpoint P
-  taking m o = give (data_packet a b m o) (quiet accepting)
+  taking m o = give (data_packet a b m o) (drained accepting)
 
   abbrev pub resting : Message → SendOptions → Endpoint P
-  resting m o = give (sack_packet a m) (quiet (sending m o))
+  resting m o = give (sack_packet a m) (drained (sending m o))
 
 -- ---- what is emitted
 
-abbrev pub pack_event : {P : Type 0} → Packing P → Carried → Event P
-pack_event pack p = SendPacket (pack.write p.header p.is_summed p.chunks)
+abbrev pub packet_event : {P : Type 0} → Packing P → Carried → Event P
+packet_event pack p = SendPacket (pack.write p.header p.is_summed p.chunks)
 
 abbrev pub fully_sent : {P : Type 0} → Option ℕ → List (Event P)
 fully_sent None = []
@@ -147,18 +147,18 @@ pub record Shows {P : Type 0} (s : Endpoint P) (events : List (Event P)) (held :
 
 -- Four packets open the association: each end emits so once, and what the two hold is mirrored.
 pub record Opens {P : Type 0} (pack : Packing P) (a b : Stream) : Type 0 where
-  pub asked : Shows (asking pack a b) (pack_event pack (init_packet a) ∷ []) None []
-  pub answered : Shows (answering pack a b) (pack_event pack (init_ack_packet a b) ∷ []) None []
-  pub echoed : Shows (echoing pack a b) (pack_event pack (cookie_echo_packet a b) ∷ []) (Some (association a b)) []
-  pub accepted : Shows (accepting pack a b) (OnConnected ∷ pack_event pack (cookie_ack_packet a) ∷ []) (Some (association b a)) []
+  pub asked : Shows (asking pack a b) (packet_event pack (init_packet a) ∷ []) None []
+  pub answered : Shows (answering pack a b) (packet_event pack (init_ack_packet a b) ∷ []) None []
+  pub echoed : Shows (echoing pack a b) (packet_event pack (cookie_echo_packet a b) ∷ []) (Some (association a b)) []
+  pub accepted : Shows (accepting pack a b) (OnConnected ∷ packet_event pack (cookie_ack_packet a) ∷ []) (Some (association b a)) []
   pub opened : Shows (opening pack a b) (OnConnected ∷ []) (Some (association a b)) []
 
 -- A message is accepted, crosses in one packet, and is ready: it, and nothing else. One packet acknowledges it.
 pub record Crosses {P : Type 0} (pack : Packing P) (a b : Stream) (m : Message) (o : SendOptions) : Type 0 where
-  pub accepted : refusal_of m (quiet (opening pack a b)).endpoint_state ≡ None
-  pub sent : Shows (sending pack a b m o) (OnBufferedAmountLow m.stream ∷ (fully_sent o.lifecycle_id ++ pack_event pack (data_packet a b m o) ∷ []))
+  pub accepted : send_refusal_of m (drained (opening pack a b)).endpoint_state ≡ None
+  pub sent : Shows (sending pack a b m o) (OnBufferedAmountLow m.stream ∷ (fully_sent o.lifecycle_id ++ packet_event pack (data_packet a b m o) ∷ []))
       (Some (association a b)) []
-  pub came : Shows (taking pack a b m o) (pack_event pack (sack_packet a m) ∷ []) (Some (association b a)) (m ∷ [])
+  pub came : Shows (taking pack a b m o) (packet_event pack (sack_packet a m) ∷ []) (Some (association b a)) (m ∷ [])
 
 -- The acknowledgement leaves the sender at rest.
 pub record Rests {P : Type 0} (pack : Packing P) (a b : Stream) (m : Message) (o : SendOptions) : Type 0 where
@@ -172,11 +172,11 @@ Leads word_of p before after = (t : Endpoint (List ℕ)) → Receives word_of (a
 -- In bytes each packet of the run leads from end to end.
 pub record LeadsOn (word_of : List ℕ → ℕ) (a b : Stream) (m : Message) (o : SendOptions) : Type 0 where
   pub init : Leads word_of (init_packet a) (fresh defaults (writing word_of) b) (answering (writing word_of) a b)
-  pub init_ack : Leads word_of (init_ack_packet a b) (quiet (asking (writing word_of) a b)) (echoing (writing word_of) a b)
-  pub cookie_echo : Leads word_of (cookie_echo_packet a b) (quiet (answering (writing word_of) a b)) (accepting (writing word_of) a b)
-  pub cookie_ack : Leads word_of (cookie_ack_packet a) (quiet (echoing (writing word_of) a b)) (opening (writing word_of) a b)
-  pub message : Leads word_of (data_packet a b m o) (quiet (accepting (writing word_of) a b)) (taking (writing word_of) a b m o)
-  pub sack : Leads word_of (sack_packet a m) (quiet (sending (writing word_of) a b m o)) (resting (writing word_of) a b m o)
+  pub init_ack : Leads word_of (init_ack_packet a b) (drained (asking (writing word_of) a b)) (echoing (writing word_of) a b)
+  pub cookie_echo : Leads word_of (cookie_echo_packet a b) (drained (answering (writing word_of) a b)) (accepting (writing word_of) a b)
+  pub cookie_ack : Leads word_of (cookie_ack_packet a) (drained (echoing (writing word_of) a b)) (opening (writing word_of) a b)
+  pub message : Leads word_of (data_packet a b m o) (drained (accepting (writing word_of) a b)) (taking (writing word_of) a b m o)
+  pub sack : Leads word_of (sack_packet a m) (drained (sending (writing word_of) a b m o)) (resting (writing word_of) a b m o)
 
 -- ---- for all words, messages and options of sending
 

@@ -5,7 +5,7 @@ use Rattle.std.specs.List.Sorted.{IsStrictlySortedBy}
 use Rattle.std.specs.Map.{keys_of, values_of}
 use Rattle.std.specs.Ordering.{nat_cmp}
 use Rattle.rand_core.specs.Stream.{Stream as Words}
-use Rattle.sctp_serial.specs.Unwrapped.{words}
+use Rattle.sctp_serial.specs.Unwrapped.{u32_space}
 use Rattle.sctp_state.specs.Numbers.{most_u32}
 use Rattle.sctp_state.specs.Options.{Options}
 use Rattle.sctp_capabilities.specs.Capabilities.{Capabilities, zero_checksum_enabled, negotiate}
@@ -25,12 +25,13 @@ use Rattle.sctp_tx_queue.specs.Settings.{set_low_threshold, set_priority, set_mo
 use Rattle.sctp_tx_queue.specs.Resets.{prepare_reset, each_stepped}
 use Rattle.sctp_tx_queue.specs.Restarted.{reset}
 use Rattle.sctp_tx_queue.specs.InOrder.{IsInOrder, HasRests}
-use Rattle.sctp_tx_queue.specs.Readiness.{is_waiting}
+use Rattle.sctp_tx_queue.specs.Readiness.{has_reset_pending}
 use Rattle.sctp_tx_queue.specs.Again.{again, entries_again}
 use Rattle.spec_endpoint.specs.Association.{Identity, Tcb, tcb, Established, Closed, Open, Context, context, EndpointState, fresh, Packing}
-use Rattle.spec_endpoint.specs.Packets.{say}
+use Rattle.spec_endpoint.specs.Packets.{emit_event_in}
 use Rattle.spec_endpoint.specs.Sending.{open_with, send_buffered}
-use Rattle.spec_endpoint.specs.Handover.{readiness, handover_state, handed_over, hand_over, method_if, tcb_from, queue_taken, restore}
+use Rattle.spec_endpoint.specs.Handover.{readiness, handover_state, handed_over, hand_over, method_if, tcb_from, queue_restored, restore}
+use Rattle.proof_endpoint.specs.Lifecycles.{one_if}
 
 -- ---- what each end with an association has
 
@@ -41,28 +42,24 @@ pub record IsConnected (t : Tcb) (c : Context (List ℕ)) : Type 0 where
   pub my_tag : 0 < t.identity.my_tag
   pub peer_tag : 0 < t.identity.peer_tag
   pub first : t.sender.outstanding.first ≡ t.identity.my_first
-  pub small : t.identity.my_first < words
-  pub first_received : t.tracker.first ≡ t.identity.peer_first
-  pub small_received : t.identity.peer_first < words
+  pub small : t.identity.my_first < u32_space
+  pub peer_first : t.tracker.first ≡ t.identity.peer_first
+  pub peer_first_small : t.identity.peer_first < u32_space
   pub partial : t.sender.outstanding.items.is_partial ≡ t.capabilities.partial_reliability
   pub mode : t.sender.outstanding.items.is_interleaved ≡ t.capabilities.message_interleaving
-  pub mode_received : t.reassembly.streams.is_interleaved ≡ t.capabilities.message_interleaving
+  pub receiver_mode : t.reassembly.streams.is_interleaved ≡ t.capabilities.message_interleaving
   pub mode_queued : c.queue.scheduler.is_interleaved ≡ t.capabilities.message_interleaving
   -- packets go without a checksum by the own method or by none
   pub method : t.capabilities.zero_checksum_method ≡ method_if (zero_checksum_enabled t.capabilities) c.options.zero_checksum_method
 
 -- how many messages have this number
-abbrev pub one_if : Bool → ℕ
-one_if true = 1
-one_if false = 0
-
-abbrev pub numbered_count : ℕ → List Queued → ℕ
-numbered_count n [] = 0
-numbered_count n (m ∷ ms) = one_if (m.number == n) + numbered_count n ms
+abbrev pub count_with_number : ℕ → List Queued → ℕ
+count_with_number n [] = 0
+count_with_number n (m ∷ ms) = one_if (m.number == n) + count_with_number n ms
 
 abbrev pub numbered_in : ℕ → Entries → ℕ
 numbered_in n [] = 0
-numbered_in n (e ∷ es) = numbered_count n e.1.messages + numbered_in n es
+numbered_in n (e ∷ es) = count_with_number n e.1.messages + numbered_in n es
 
 -- No two messages have one number, and none has one that is still to be given.
 abbrev pub IsNumberedOnce : Queue → Type 0
@@ -100,13 +97,13 @@ pub record Fits (t : Tcb) (q : Queue) : Type 0 where
 
 -- ---- both ends
 
-abbrev pub endpoint_state : Tcb → Context (List ℕ) → EndpointState (List ℕ)
-endpoint_state t c = record { state = Open Established t; context = c }
+abbrev pub established_state : Tcb → Context (List ℕ) → EndpointState (List ℕ)
+established_state t c = record { state = Open Established t; context = c }
 
 -- a new one, with the same options, at the same moment
 abbrev pub successor : Context (List ℕ) → Packing (List ℕ) → Words → EndpointState (List ℕ)
-successor c pack random =
-    let s : EndpointState (List ℕ) = (fresh c.options pack random).endpoint_state in
+successor c pack draws =
+    let s : EndpointState (List ℕ) = (fresh c.options pack draws).endpoint_state in
     record s { context = record s.context { now = c.now } }
 
 -- its control block and its queue, as the record has them, before anything is sent
@@ -114,7 +111,7 @@ abbrev pub block_again : Tcb → Context (List ℕ) → Tcb
 block_again t c = tcb_from c.now c.options (handover_state t c)
 
 abbrev pub context_again : Tcb → Context (List ℕ) → Packing (List ℕ) → Words → Context (List ℕ)
-context_again t c pack random = say OnConnected (queue_taken (handover_state t c) (successor c pack random).context)
+context_again t c pack draws = emit_event_in OnConnected (queue_restored (handover_state t c) (successor c pack draws).context)
 
 -- The items come back under their TSNs, with what the record doesn't hold read anew.
 pub record ItemsComeBack (now : ℕ) (d after : Outstanding) : Type 0 where
@@ -147,7 +144,7 @@ pub record ReceptionComesBack (t after : Tcb) : Type 0 where
 
 -- What no record speaks of isn't there: nothing waits but messages and items.
 pub record NothingWaits (t : Tcb) (q : Queue) : Type 0 where
-  pub no_reset : list_any is_waiting (values_of q.streams.entries) ≡ false
+  pub no_reset : list_any has_reset_pending (values_of q.streams.entries) ≡ false
   pub no_request : is_some t.requests.current ≡ false
   pub no_recovery : is_some t.sender.windows.fast_recovery_exit ≡ false
   pub no_gap : has_gap t.tracker.tracker.seen ≡ false
@@ -156,33 +153,33 @@ pub record NothingWaits (t : Tcb) (q : Queue) : Type 0 where
 
 -- The end closes. Its record is valid, a new end takes it up and sends what may be sent, and it has the association, what was
 -- negotiated, the items, the queue, what was received and the numbers of reset requests again.
-pub record GoesOn (t : Tcb) (c : Context (List ℕ)) (pack : Packing (List ℕ)) (random : Words) : Type 0 where
-  pub left : hand_over (endpoint_state t c) ≡ record { state = Closed; context = say OnClosed c }
+pub record GoesOn (t : Tcb) (c : Context (List ℕ)) (pack : Packing (List ℕ)) (draws : Words) : Type 0 where
+  pub left : hand_over (established_state t c) ≡ record { state = Closed; context = emit_event_in OnClosed c }
   pub nothing : NothingWaits t c.queue
-  pub valid : is_valid_state (handed_over (endpoint_state t c)) ≡ true
-  pub taken : restore (handed_over (endpoint_state t c)) (successor c pack random)
-      ≡ open_with Established (send_buffered false (block_again t c) (context_again t c pack random))
+  pub valid : is_valid_state (handed_over (established_state t c)) ≡ true
+  pub taken : restore (handed_over (established_state t c)) (successor c pack draws)
+      ≡ open_with Established (send_buffered false (block_again t c) (context_again t c pack draws))
   pub association : (block_again t c).identity ≡ t.identity
   pub capabilities : (block_again t c).capabilities ≡ t.capabilities
   pub items : ItemsComeBack c.now t.sender.outstanding (block_again t c).sender.outstanding
-  pub queue : QueueComesBack c.now c.options.default_stream_buffered_amount_low_threshold c.queue (context_again t c pack random).queue
+  pub queue : QueueComesBack c.now c.options.default_stream_buffered_amount_low_threshold c.queue (context_again t c pack draws).queue
   pub received : ReceptionComesBack t (block_again t c)
   pub next_request : (block_again t c).requests.next ≡ t.requests.next
   pub last_request : (block_again t c).requests.last ≡ t.requests.last
-  pub connected : IsConnected (block_again t c) (context_again t c pack random)
+  pub connected : IsConnected (block_again t c) (context_again t c pack draws)
 
 -- where nothing stands in the way
 abbrev pub HandoverGoesOn : Type 0
 HandoverGoesOn =
-    (t : Tcb) (c : Context (List ℕ)) (pack : Packing (List ℕ)) (random : Words) → readiness (endpoint_state t c) ≡ 0
-    → IsConnected t c → IsQueue c.queue → Fits t c.queue → GoesOn t c pack random
+    (t : Tcb) (c : Context (List ℕ)) (pack : Packing (List ℕ)) (draws : Words) → readiness (established_state t c) ≡ 0
+    → IsConnected t c → IsQueue c.queue → Fits t c.queue → GoesOn t c pack draws
 
 -- ---- a control block that the handshake makes
 
 -- by what was drawn and what the peer announced, with the queue put in its mode
 abbrev pub MadeConnected : Type 0
 MadeConnected =
-    (i : Identity) (a_rwnd : ℕ) (peer : Capabilities) (c : Context (List ℕ)) → 0 < i.my_tag → 0 < i.peer_tag → i.my_first < words → i.peer_first < words
+    (i : Identity) (a_rwnd : ℕ) (peer : Capabilities) (c : Context (List ℕ)) → 0 < i.my_tag → 0 < i.peer_tag → i.my_first < u32_space → i.peer_first < u32_space
     → c.queue.scheduler.is_interleaved ≡ (negotiate c.options peer).message_interleaving
     → IsConnected (tcb c.options i a_rwnd (negotiate c.options peer)) c
 
@@ -191,15 +188,15 @@ abbrev pub new_context : Options → Packing (List ℕ) → Capabilities → Con
 new_context o pack peer = record (context o pack) { queue = set_mode (negotiate o peer).message_interleaving (queue o) }
 
 pub record IsReady (t : Tcb) (c : Context (List ℕ)) : Type 0 where
-  pub ready : readiness (endpoint_state t c) ≡ 0
+  pub ready : readiness (established_state t c) ≡ 0
   pub connected : IsConnected t c
   pub queued : IsQueue c.queue
   pub fits : Fits t c.queue
 
 abbrev pub NewEndsAreReady : Type 0
 NewEndsAreReady =
-    (o : Options) (pack : Packing (List ℕ)) (i : Identity) (a_rwnd : ℕ) (peer : Capabilities) → 0 < i.my_tag → 0 < i.peer_tag → i.my_first < words
-    → i.peer_first < words → 0 < o.cwnd_mtus_initial * o.mtu → IsReady (tcb o i a_rwnd (negotiate o peer)) (new_context o pack peer)
+    (o : Options) (pack : Packing (List ℕ)) (i : Identity) (a_rwnd : ℕ) (peer : Capabilities) → 0 < i.my_tag → 0 < i.peer_tag → i.my_first < u32_space
+    → i.peer_first < u32_space → 0 < o.cwnd_mtus_initial * o.mtu → IsReady (tcb o i a_rwnd (negotiate o peer)) (new_context o pack peer)
 
 -- ---- numbers, call by call
 

@@ -54,7 +54,7 @@ abbrev pub map_endpoint_state : {P Q : Type 0} → Mapping P Q → EndpointState
 map_endpoint_state f s = record { state = s.state; context = map_context f s.context }
 
 abbrev pub map_end : {P Q : Type 0} → Mapping P Q → Endpoint P → Endpoint Q
-map_end f s = record { endpoint_state = map_endpoint_state f s.endpoint_state; random = s.random }
+map_end f s = record { endpoint_state = map_endpoint_state f s.endpoint_state; draws = s.draws }
 
 -- ---- packets as lists of chunks
 

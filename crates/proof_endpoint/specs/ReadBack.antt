@@ -9,10 +9,10 @@ use Rattle.sctp_packet.specs.ReadBack.{ChunkReadsBack}
 use Rattle.sctp_state.specs.Options.{Options}
 use Rattle.sctp_state.specs.Events.{Event, SendPacket}
 use Rattle.spec_endpoint.specs.Association.{Context, Endpoint, fresh, Packing}
-use Rattle.spec_endpoint.specs.Input.{refusal, on_packet}
+use Rattle.spec_endpoint.specs.Input.{packet_refusal, on_packet}
 use Rattle.spec_endpoint.specs.Wire.{writing}
 use Rattle.spec_endpoint.specs.Receiving.{Receives}
-use Rattle.spec_endpoint.specs.Laws.{Call, Packet, called}
+use Rattle.spec_endpoint.specs.Laws.{Call, ReceivePacket, called}
 use Rattle.proof_endpoint.specs.Mapped.{Carried, as_written}
 use Rattle.proof_endpoint.specs.ReceivedBack.{as_received}
 use Rattle.proof_endpoint.specs.Sound.{OptionsFit, IsSound, ArgumentFits, HasSomeCookie}
@@ -78,19 +78,19 @@ pub record EmitsWhatCanBeReceived (word_of : List ℕ → ℕ) (before after : C
   pub can_be_received : All (CanBeReceived word_of) events
 
 -- the packet as the chunks that were put together
-abbrev pub IsReceived : (word_of : List ℕ → ℕ) → Event Carried → Type 0
-IsReceived word_of (SendPacket p) = IsReceivedAs word_of (as_written word_of p) p
-IsReceived word_of e = Unit {0}
+abbrev pub IsReceivedAsWritten : (word_of : List ℕ → ℕ) → Event Carried → Type 0
+IsReceivedAsWritten word_of (SendPacket p) = IsReceivedAs word_of (as_written word_of p) p
+IsReceivedAsWritten word_of e = Unit {0}
 
 pub record EmitsWhatIsReceived (word_of : List ℕ → ℕ) (before after : Context Carried) : Type 0 where
   pub events : List (Event Carried)
   pub behind : after.emitted.events ≡ before.emitted.events ++ events
-  pub received : All (IsReceived word_of) events
+  pub received : All (IsReceivedAsWritten word_of) events
 
 -- ---- the laws
 
 abbrev pub NewEndsAreSound : Type 0
-NewEndsAreSound = (o : Options) (pack : Packing (List ℕ)) (words : Stream) → OptionsFit o → IsSound (fresh o pack words)
+NewEndsAreSound = (o : Options) (pack : Packing (List ℕ)) (draws : Stream) → OptionsFit o → IsSound (fresh o pack draws)
 
 abbrev pub EachCallKeepsEndsSound : Type 0
 EachCallKeepsEndsSound = (call : Call) (s : Endpoint (List ℕ)) → IsSound s → ArgumentFits call → IsSound (called call s)
@@ -98,7 +98,7 @@ EachCallKeepsEndsSound = (call : Call) (s : Endpoint (List ℕ)) → IsSound s �
 -- a packet that an end refuses may hold anything
 abbrev pub RefusedPacketsKeepEndsSound : Type 0
 RefusedPacketsKeepEndsSound =
-    (p : PacketTree) (text : List ℕ) (s : Endpoint (List ℕ)) → IsSound s → refusal p.header.verification_tag p.chunks s.endpoint_state.state ≡ Some text
+    (p : PacketTree) (text : List ℕ) (s : Endpoint (List ℕ)) → IsSound s → packet_refusal p.header.verification_tag p.chunks s.endpoint_state.state ≡ Some text
     → IsSound (on_packet p s)
 
 -- each packet as the chunks that were put together
@@ -120,7 +120,7 @@ EmittedPacketsCanBeRead =
 
 abbrev pub RefusalsCanBeRead : Type 0
 RefusalsCanBeRead =
-    (p : PacketTree) (text : List ℕ) (s : Endpoint (List ℕ)) → IsSound s → refusal p.header.verification_tag p.chunks s.endpoint_state.state ≡ Some text
+    (p : PacketTree) (text : List ℕ) (s : Endpoint (List ℕ)) → IsSound s → packet_refusal p.header.verification_tag p.chunks s.endpoint_state.state ≡ Some text
     → EmitsWhatCanBeRead s.endpoint_state.context (on_packet p s).endpoint_state.context
 
 abbrev pub EmittedPacketsCanBeReceived : Type 0
@@ -137,10 +137,10 @@ AreBytes bytes = All (λ (b : ℕ). b < 2 ^ 8) bytes
 abbrev pub AcceptedPacketsFit : Type 0
 AcceptedPacketsFit =
     (policy : Policy) (word : ℕ) (bytes : List ℕ) (p : PacketTree) → AreBytes bytes → Accepts policy word bytes p → Each HasSomeCookie p.chunks
-    → ArgumentFits (Packet p)
+    → ArgumentFits (ReceivePacket p)
 
 -- what a reader makes of the bytes that a sound end emitted
 abbrev pub EmittedPacketsFit : Type 0
 EmittedPacketsFit =
     (word_of : List ℕ → ℕ) (most : ℕ) (p : Carried) (policy : Policy) (word : ℕ) (q : PacketTree) → ReadsBack most p → AreBytes (as_written word_of p)
-    → Accepts policy word (as_written word_of p) q → ArgumentFits (Packet q)
+    → Accepts policy word (as_written word_of p) q → ArgumentFits (ReceivePacket q)

@@ -13,7 +13,7 @@ use Rattle.proof_endpoint.specs.Mapped.{Carried, as_written}
 
 -- Each chunk can be read back, numbers and length fit their fields, and a packet without a checksum is let through: its
 -- receiver has a method other than 0 (RFC 9653 section 5.3), or looks at no checksum.
-pub record IsHearable (o : Options) (p : Carried) : Type 0 where
+pub record IsReceivable (o : Options) (p : Carried) : Type 0 where
   pub header : FitsHeader p.header
   pub chunks : All ChunkReadsBack p.chunks
   pub short : 12 + length (chunks_bytes p.chunks) ≤ 65535
@@ -26,11 +26,11 @@ as_received word_of p = record { header = p.header; checksum = field_of word_of 
 -- such a packet may be received as itself
 abbrev pub WrittenPacketsAreReceived : Type 0
 WrittenPacketsAreReceived =
-    (word_of : List ℕ → ℕ) (p : Carried) (s : Endpoint (List ℕ)) → IsHearable s.endpoint_state.context.options p
+    (word_of : List ℕ → ℕ) (p : Carried) (s : Endpoint (List ℕ)) → IsReceivable s.endpoint_state.context.options p
     → Receives word_of (as_written word_of p) s (on_packet (as_received word_of p) s)
 
 -- and as nothing else
 abbrev pub WrittenPacketsAreOne : Type 0
 WrittenPacketsAreOne =
-    (word_of : List ℕ → ℕ) (p : Carried) (s t : Endpoint (List ℕ)) → IsHearable s.endpoint_state.context.options p
+    (word_of : List ℕ → ℕ) (p : Carried) (s t : Endpoint (List ℕ)) → IsReceivable s.endpoint_state.context.options p
     → Receives word_of (as_written word_of p) s t → t ≡ on_packet (as_received word_of p) s

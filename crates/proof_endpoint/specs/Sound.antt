@@ -18,7 +18,7 @@ use Rattle.sctp_tx_outstanding.specs.Handover.{fragment_from}
 use Rattle.sctp_tx_queue.specs.SendQueue.{Queued, Stream, Queue}
 use Rattle.spec_endpoint.specs.Association.{Identity, Tcb, Phase, CookieEchoed, Established, ShutdownPending, ShutdownSent, ShutdownReceived, ShutdownAckSent, State, Closed, CookieWait, Open, Endpoint}
 use Rattle.spec_endpoint.specs.ResetRequests.{Request, Requests}
-use Rattle.spec_endpoint.specs.Laws.{Call, Connect, Close, Shutdown, Send, SendMany, ResetStreams, TakeMessage, SetLowThreshold, SetPriority, SetMaxMessageSize, Advance, HandOver, Restore, Packet, NoPacket}
+use Rattle.spec_endpoint.specs.Laws.{Call, Connect, Close, Shutdown, Send, SendMany, ResetStreams, TakeMessage, SetLowThreshold, SetPriority, SetMaxMessageSize, Advance, HandOver, Restore, ReceivePacket, ReceiveNoPacket}
 
 -- ---- an end
 
@@ -154,5 +154,5 @@ ArgumentFits (SetMaxMessageSize bytes) = Unit {0}
 ArgumentFits (Advance now) = Unit {0}
 ArgumentFits HandOver = Unit {0}
 ArgumentFits (Restore h) = FitsRecord h
-ArgumentFits (Packet p) = FitsPacket p
-ArgumentFits NoPacket = Unit {0}
+ArgumentFits (ReceivePacket p) = FitsPacket p
+ArgumentFits ReceiveNoPacket = Unit {0}

@@ -2,19 +2,19 @@
 use Rattle.std.proofs.Common.{◌≡◌, ℕ, zero, suc, Bool, true, false, Option, Some, None, List, [], ◌∷◌, ◌++◌, slice_get, All, ap, subst}
 use Rattle.std.proofs.lemmas.List.Elements.{All-head, All-push, All-tail}
 use Rattle.sctp_packet.specs.Chunk.{ChunkTree}
-use Rattle.spec_endpoint.specs.Packets.{Packet, fits, added_if, add, add_all}
+use Rattle.spec_endpoint.specs.Packets.{PacketDraft, fits, added_if, add, add_all}
 
 -- ---- chunks that are put into a packet, a fact of its tag and the chunk
 
 module _ (Q : ℕ → ChunkTree → Type 0) where
-  added_by : (b : Bool) (p : Packet) (c : ChunkTree) → All (Q p.tag) p.chunks → Q p.tag c → All (Q (added_if b c p).tag) (added_if b c p).chunks
+  added_by : (b : Bool) (p : PacketDraft) (c : ChunkTree) → All (Q p.tag) p.chunks → Q p.tag c → All (Q (added_if b c p).tag) (added_if b c p).chunks
   added_by true p c h q = All-push (Q p.tag) p.chunks c h q
   added_by false p c h q = h
 
-  pub holds_added : (p : Packet) (c : ChunkTree) → All (Q p.tag) p.chunks → Q p.tag c → All (Q (add c p).tag) (add c p).chunks
+  pub holds_added : (p : PacketDraft) (c : ChunkTree) → All (Q p.tag) p.chunks → Q p.tag c → All (Q (add c p).tag) (add c p).chunks
   holds_added p c h q = added_by (fits p c) p c h q
 
-  pub holds_all_added : (cs : List ChunkTree) (p : Packet) → All (Q p.tag) p.chunks → ((tag : ℕ) → All (Q tag) cs)
+  pub holds_all_added : (cs : List ChunkTree) (p : PacketDraft) → All (Q p.tag) p.chunks → ((tag : ℕ) → All (Q tag) cs)
       → All (Q (add_all cs p).tag) (add_all cs p).chunks
   holds_all_added [] p h f = h
   holds_all_added (c ∷ cs) p h f =

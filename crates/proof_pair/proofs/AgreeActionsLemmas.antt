@@ -11,14 +11,14 @@ use Rattle.sctp_state.specs.declared.api.ErrorKind.TheVariants.{ParseFailed}
 use Rattle.sctp_state.specs.Events.{Event}
 use Rattle.sctp_state.specs.Options.{Options}
 use Rattle.spec_endpoint.specs.Association.{State, Closed, CookieWait, Open, Endpoint}
-use Rattle.spec_endpoint.specs.Opening.{complains}
-use Rattle.spec_endpoint.specs.Input.{refusal, counts, taken_if, handle_chunks, receive, misuse, violation, on_endpoint_state, repeats_if, has_data}
-use Rattle.spec_endpoint.specs.Laws.{Call, Connect, Packet, NoPacket, called}
+use Rattle.spec_endpoint.specs.Opening.{emit_parse_error}
+use Rattle.spec_endpoint.specs.Input.{packet_refusal, count_packet_at, packet_if, on_accepted_packet, receive, misuse, violation, in_endpoint_state, repeats_if, has_data_chunk}
+use Rattle.spec_endpoint.specs.Laws.{Call, Connect, ReceivePacket, ReceiveNoPacket, called}
 use Rattle.proof_endpoint.specs.Mapped.{Carried}
-use Rattle.proof_endpoint.specs.Acts.{calm, is_opened, IsReceived}
-use Rattle.proof_pair.specs.Trace.{Side, Pair, as_carried, new_side, packets_in, emitted_packets, has_connected, EndAction, Calls, Gives, Refuses, drain, as_received, give, foreign_if, act, goes, AreValidOptions, start, state_of}
-use Rattle.proof_pair.specs.Agreement.{Draw, Association, mirrored, Has, History, association_of, held_in, drawn_in, history_by, Histories, no_history, no_histories, histories_after, histories_along, AreDistinct, AreDistinctPerEnd, IsPlainCall, IsAllowed, AreAllowed, emitted_since, Agrees, AgreesAlong, EndsAgree}
-use Rattle.proof_endpoint.proofs.PacketActsLemmas.{does_complain}
+use Rattle.proof_endpoint.specs.Acts.{calm, is_opened, BringsChunk}
+use Rattle.proof_pair.specs.Trace.{Side, Pair, as_carried, new_side, packets_in, emitted_packets, has_connected, EndAction, Calls, Gives, Refuses, drain, as_received, give_carried, foreign_if, act, goes, AreValidOptions, start, state_of}
+use Rattle.proof_pair.specs.Agreement.{Draw, Association, mirrored, Has, History, association_of, held_in, drawn_in, history_after, Histories, no_history, no_histories, histories_after, histories_along, AreDistinct, AreDistinctPerEnd, IsPlainCall, IsAllowed, AreAllowed, emitted_since, Agrees, AgreesAlong, EndsAgree}
+use Rattle.proof_endpoint.proofs.PacketActsLemmas.{does_emit_error}
 use Rattle.proof_endpoint.proofs.ActsLemmas.{keeps_call, does_receive, does_repeats_if}
 use Rattle.proof_pair.proofs.AddedLemmas.{all_at, all_get}
 use Rattle.proof_pair.proofs.NegotiatedLemmas.{Emits, emits_carried, emits_right, Able}
@@ -26,11 +26,11 @@ use Rattle.proof_pair.proofs.NegotiatedLemmas as negotiated
 use Rattle.proof_pair.proofs.NegotiatedActsLemmas.{Setting, EmitsAll, InvAt, Receives, negotiates}
 use Rattle.proof_pair.proofs.AgreeLemmas.{Past, Shape, Said}
 use Rattle.proof_pair.proofs.AgreeNotesLemmas.{noted_taking, noted_given, noted_in, noted_all, same_draws}
-use Rattle.proof_pair.proofs.AgreeCalmLemmas.{IsCalm, RestsAt, rests}
+use Rattle.proof_pair.proofs.AgreeWithoutOpeningLemmas.{BringsNoOpening, RestsAt, rests}
 use Rattle.proof_pair.proofs.AgreeCookieLemmas.{past_of, has_behind}
 use Rattle.proof_pair.proofs.AgreePacketLemmas.{shape_carried, distinct_behind}
 use Rattle.proof_pair.proofs.AgreeTraceLemmas.{Knows, Turned, drop_emitted, knows_other, actions, knows_start}
-use Rattle.proof_pair.proofs.AgreeWithinLemmas.{calm_nothing, Stands, not_yet, has_either, receives_within}
+use Rattle.proof_pair.proofs.AgreeWithinLemmas.{no_packet_brings_no_opening, Stands, not_yet, has_either, receives_within}
 
 -- ---- what was negotiated, between actions
 
@@ -45,8 +45,8 @@ record Negotiated (o q : Options) (x : Side) : Type 0 where
 abbrev setting : (o q : Options) → Side → Setting
 setting o q x = record { own = o; other = q; past = x.emitted }
 
-negotiated_start : (o q : Options) (words : Stream) → Negotiated o q (new_side o words)
-negotiated_start o q words = record {
+negotiated_start : (o q : Options) (draws : Stream) → Negotiated o q (new_side o draws)
+negotiated_start o q draws = record {
   able = tt;
   size = o.max_message_size;
   options = refl;
@@ -87,13 +87,13 @@ module _ (o q : Options) (x : Side) (own : AreValidOptions o) (other : AreValidO
     other = other;
   }
 
-  receives_nothing : Receives g NoPacket
-  receives_nothing = receives_user NoPacket tt
+  receives_nothing : Receives g ReceiveNoPacket
+  receives_nothing = receives_user ReceiveNoPacket tt
 
-  receives_packet : (p : PacketTree) → All (Emits q o) p.chunks → Receives g (Packet p)
+  receives_packet : (p : PacketTree) → All (Emits q o) p.chunks → Receives g (ReceivePacket p)
   receives_packet p all = record {
     says = λ tag chunk h.
-        let same : p ≡ h.packet = ap (λ call. elim call [ Packet r ↦ r | call ↦ p ]) h.given in
+        let same : p ≡ h.packet = ap (λ call. elim call [ ReceivePacket r ↦ r | call ↦ p ]) h.given in
         let there : All (Emits q o) h.packet.chunks = subst (λ (r : PacketTree). All (Emits q o) r.chunks) same all in
         all_at (Emits q o) h.among.before h.among.behind chunk (subst (All (Emits q o)) h.among.split there);
     restores = λ h e. cc;
@@ -105,9 +105,9 @@ module _ (o q : Options) (x : Side) (own : AreValidOptions o) (other : AreValidO
   receives_chunk : (p : PacketTree) (c : ChunkTree) (e : Endpoint Carried) → Emits q o c → InvAt g (calm e) → InvAt g (calm (receive p.header.verification_tag c e).end)
   receives_chunk p c e said i =
       let one : PacketTree = record p { chunks = c ∷ [] } in
-      let h : IsReceived (Packet one) p.header.verification_tag c =
+      let h : BringsChunk (ReceivePacket one) p.header.verification_tag c =
       record { packet = one; given = refl; under = refl; among = record { before = []; behind = []; split = refl } } in
-      does_receive (negotiates g (Packet one) (receives_packet one (All-cons (Emits q o) c [] said (All-nil (Emits q o))))) p.header.verification_tag c e h i
+      does_receive (negotiates g (ReceivePacket one) (receives_packet one (All-cons (Emits q o) c [] said (All-nil (Emits q o))))) p.header.verification_tag c e h i
 
   right_in : (c : ChunkTree) (s : State) → Emits q o c → Able o q (negotiated.view_of s) → violation s c ≡ None
   right_in c Closed said able = refl
@@ -120,31 +120,31 @@ module _ (o q : Options) (x : Side) (own : AreValidOptions o) (other : AreValidO
   negotiated_call call u k =
       negotiated_ends o q x (called call x.end) x.got_init (keeps_call call (negotiates g call (receives_user call u)) x.end (negotiated_begins o q x k))
 
-  complained : (text : List ℕ) → Negotiated o q x → InvAt g (calm (complains text (counts x.end)))
-  complained text k =
-      does_complain (negotiates g NoPacket receives_nothing) ParseFailed text (state_of x) (counts x.end).endpoint_state.context x.end.random (negotiated_begins o q x k)
+  emitted_error : (text : List ℕ) → Negotiated o q x → InvAt g (calm (emit_parse_error text (count_packet_at x.end)))
+  emitted_error text k =
+      does_emit_error (negotiates g ReceiveNoPacket receives_nothing) ParseFailed text (state_of x) (count_packet_at x.end).endpoint_state.context x.end.draws (negotiated_begins o q x k)
 
-  negotiated_foreign : (r : Option (List ℕ)) (p : PacketTree) → refusal p.header.verification_tag p.chunks (state_of x) ≡ r → Negotiated o q x
+  negotiated_foreign : (r : Option (List ℕ)) (p : PacketTree) → packet_refusal p.header.verification_tag p.chunks (state_of x) ≡ r → Negotiated o q x
       → Negotiated o q (foreign_if r p x)
   negotiated_foreign None p is k = k
   negotiated_foreign (Some text) p is k =
-      let e : Endpoint Carried = called (Packet p) x.end in
-      let here : e ≡ complains text (counts x.end) = ap (λ (r : Option (List ℕ)). taken_if r p.header.verification_tag p.chunks (counts x.end)) is in
-      negotiated_ends o q x e x.got_init (subst (λ (z : Endpoint Carried). InvAt g (calm z)) (sym here) (complained text k))
+      let e : Endpoint Carried = called (ReceivePacket p) x.end in
+      let here : e ≡ emit_parse_error text (count_packet_at x.end) = ap (λ (r : Option (List ℕ)). packet_if r p.header.verification_tag p.chunks (count_packet_at x.end)) is in
+      negotiated_ends o q x e x.got_init (subst (λ (z : Endpoint Carried). InvAt g (calm z)) (sym here) (emitted_error text k))
 
   negotiated_given : (p : Option Carried) (checksum which : ℕ) (ps : List Carried) → All (EmitsAll q o) ps → slice_get ps which ≡ p → Negotiated o q x
-      → Negotiated o q (give p checksum x)
+      → Negotiated o q (give_carried p checksum x)
   negotiated_given None checksum which ps all is k = k
   negotiated_given (Some p) checksum which ps all is k =
       let h : PacketTree = as_received p checksum in
       let said : All (Emits q o) h.chunks = received_all o q p.chunks (all_get (EmitsAll q o) ps which p is all) in
-      negotiated_ends o q x (called (Packet h) x.end) (x.got_init || (p.header.verification_tag == 0))
-      (keeps_call (Packet h) (negotiates g (Packet h) (receives_packet h said)) x.end (negotiated_begins o q x k))
+      negotiated_ends o q x (called (ReceivePacket h) x.end) (x.got_init || (p.header.verification_tag == 0))
+      (keeps_call (ReceivePacket h) (negotiates g (ReceivePacket h) (receives_packet h said)) x.end (negotiated_begins o q x k))
 
   negotiated_action : (t : EndAction) (y : Side) → IsAllowed t → Negotiated o q x → Negotiated q o y → Negotiated o q (act t x y)
   negotiated_action (Calls call) y may k l = negotiated_call call may k
   negotiated_action (Gives which checksum) y may k l = negotiated_given (slice_get (emitted_packets y) which) checksum which (emitted_packets y) l.said refl k
-  negotiated_action (Refuses p) y may k l = negotiated_foreign (refusal p.header.verification_tag p.chunks (state_of x)) p refl k
+  negotiated_action (Refuses p) y may k l = negotiated_foreign (packet_refusal p.header.verification_tag p.chunks (state_of x)) p refl k
 
 -- ---- within an action
 
@@ -168,13 +168,13 @@ module _ (x : Side) where
   }
 
   -- where no association is taken up
-  holds_calm : (n m : History) (e : Endpoint Carried) (asked : Bool) → m.held ≡ n.held → x.end.endpoint_state.context.emitted.events ≡ [] → RestsAt (calm x.end) (calm e)
+  holds_if_rests : (n m : History) (e : Endpoint Carried) (asked : Bool) → m.held ≡ n.held → x.end.endpoint_state.context.emitted.events ≡ [] → RestsAt (calm x.end) (calm e)
       → Holds x (record (drain e x) { got_init = asked }) n m
-  holds_calm n m e asked same quiet r =
+  holds_if_rests n m e asked same quiet r =
       holds_on n m e asked (λ a h. inl (subst (Has a) same h)) (not_yet x.end e (ap has_connected quiet) r)
 
-calm_user : (call : Call) → IsPlainCall call → IsCalm call
-calm_user call u = record { on_received = λ tag chunk h. absurd (subst IsPlainCall h.given u); restores = λ h e. subst IsPlainCall e u }
+plain_call_brings_no_opening : (call : Call) → IsPlainCall call → BringsNoOpening call
+plain_call_brings_no_opening call u = record { on_received = λ tag chunk h. absurd (subst IsPlainCall h.given u); restores = λ h e. subst IsPlainCall e u }
 
 held_alike : (call : Call) (x y : Side) (n : History) → (noted_in (Calls call) x y n).held ≡ n.held
 held_alike Connect x y n = refl
@@ -183,44 +183,44 @@ held_alike call x y n = refl
 module _ (o q : Options) (x y : Side) (own : AreValidOptions o) (other : AreValidOptions q) (k : Negotiated o q x) (l : Negotiated q o y) where
   holds_call : (call : Call) → IsPlainCall call → (n : History) → Holds x (drain (called call x.end) x) n (noted_in (Calls call) x y n)
   holds_call call u n =
-      holds_calm x n (noted_in (Calls call) x y n) (called call x.end) x.got_init (held_alike call x y n) k.quiet
-      (keeps_call call (rests call (calm_user call u)) x.end)
+      holds_if_rests x n (noted_in (Calls call) x y n) (called call x.end) x.got_init (held_alike call x y n) k.quiet
+      (keeps_call call (rests call (plain_call_brings_no_opening call u)) x.end)
 
-  complains_calmly : (text : List ℕ) → RestsAt (calm x.end) (calm (complains text (counts x.end)))
-  complains_calmly text = does_complain (rests NoPacket calm_nothing) ParseFailed text (state_of x) (counts x.end).endpoint_state.context x.end.random
+  refused_packet_rests : (text : List ℕ) → RestsAt (calm x.end) (calm (emit_parse_error text (count_packet_at x.end)))
+  refused_packet_rests text = does_emit_error (rests ReceiveNoPacket no_packet_brings_no_opening) ParseFailed text (state_of x) (count_packet_at x.end).endpoint_state.context x.end.draws
 
-  holds_foreign : (r : Option (List ℕ)) (p : PacketTree) → refusal p.header.verification_tag p.chunks (state_of x) ≡ r → (n : History) → Holds x (foreign_if r p x) n n
+  holds_foreign : (r : Option (List ℕ)) (p : PacketTree) → packet_refusal p.header.verification_tag p.chunks (state_of x) ≡ r → (n : History) → Holds x (foreign_if r p x) n n
   holds_foreign None p is n = holds_same x n
   holds_foreign (Some text) p is n =
-      let e : Endpoint Carried = called (Packet p) x.end in
-      let here : e ≡ complains text (counts x.end) = ap (λ (r : Option (List ℕ)). taken_if r p.header.verification_tag p.chunks (counts x.end)) is in
-      holds_calm x n n e x.got_init refl k.quiet (subst (λ (z : Endpoint Carried). RestsAt (calm x.end) (calm z)) (sym here) (complains_calmly text))
+      let e : Endpoint Carried = called (ReceivePacket p) x.end in
+      let here : e ≡ emit_parse_error text (count_packet_at x.end) = ap (λ (r : Option (List ℕ)). packet_if r p.header.verification_tag p.chunks (count_packet_at x.end)) is in
+      holds_if_rests x n n e x.got_init refl k.quiet (subst (λ (z : Endpoint Carried). RestsAt (calm x.end) (calm z)) (sym here) (refused_packet_rests text))
 
   holds_taken : (r : Option (List ℕ)) (p : PacketTree) (asked : Bool) → Shape p.chunks → All (Emits q o) p.chunks → (n : History)
-      → Holds x (record (drain (taken_if r p.header.verification_tag p.chunks (counts x.end)) x) { got_init = asked }) n (noted_taking r p x.end n)
-  holds_taken (Some text) p asked shape said n = holds_calm x n n (complains text (counts x.end)) asked refl k.quiet (complains_calmly text)
+      → Holds x (record (drain (packet_if r p.header.verification_tag p.chunks (count_packet_at x.end)) x) { got_init = asked }) n (noted_taking r p x.end n)
+  holds_taken (Some text) p asked shape said n = holds_if_rests x n n (emit_parse_error text (count_packet_at x.end)) asked refl k.quiet (refused_packet_rests text)
   holds_taken None p asked shape said n =
       let tag : ℕ = p.header.verification_tag in
-      let first : Endpoint Carried = on_endpoint_state (repeats_if (has_data p.chunks)) (counts x.end) in
+      let first : Endpoint Carried = in_endpoint_state (repeats_if (has_data_chunk p.chunks)) (count_packet_at x.end) in
       let begun : InvAt (setting o q x) (calm first) =
-      does_repeats_if (negotiates (setting o q x) NoPacket (receives_nothing o q x own other)) (has_data p.chunks) (counts x.end).endpoint_state x.end.random (negotiated_begins o q x k) in
-      let calmly : RestsAt (calm x.end) (calm first) = does_repeats_if (rests NoPacket calm_nothing) (has_data p.chunks) (counts x.end).endpoint_state x.end.random in
+      does_repeats_if (negotiates (setting o q x) ReceiveNoPacket (receives_nothing o q x own other)) (has_data_chunk p.chunks) (count_packet_at x.end).endpoint_state x.end.draws (negotiated_begins o q x k) in
+      let calmly : RestsAt (calm x.end) (calm first) = does_repeats_if (rests ReceiveNoPacket no_packet_brings_no_opening) (has_data_chunk p.chunks) (count_packet_at x.end).endpoint_state x.end.draws in
       let w = receives_within p (λ e. InvAt (setting o q x) (calm e)) (Emits q o) (λ c e said i. receives_chunk o q x own other p c e said i)
       (λ c e said i. right_in o q x own other c e.endpoint_state.state said i.able) p.chunks x.end first n calmly (ap has_connected k.quiet) shape said begun in
-      holds_on x n (noted_taking None p x.end n) (handle_chunks tag p.chunks (counts x.end)) asked w.held w.stands
+      holds_on x n (noted_taking None p x.end n) (on_accepted_packet tag p.chunks (count_packet_at x.end)) asked w.held w.stands
 
   holds_given : (p : Option Carried) (checksum which : ℕ) (ps : List Carried) → All (EmitsAll q o) ps → All (λ r. Shape r.chunks) ps → slice_get ps which ≡ p → (n : History)
-      → Holds x (give p checksum x) n (noted_given p checksum x n)
+      → Holds x (give_carried p checksum x) n (noted_given p checksum x n)
   holds_given None checksum which ps all shapes is n = holds_same x n
   holds_given (Some p) checksum which ps all shapes is n =
       let h : PacketTree = as_received p checksum in
-      holds_taken (refusal h.header.verification_tag h.chunks (state_of x)) h (x.got_init || (p.header.verification_tag == 0))
+      holds_taken (packet_refusal h.header.verification_tag h.chunks (state_of x)) h (x.got_init || (p.header.verification_tag == 0))
       (shape_carried p.chunks (all_get (λ r. Shape r.chunks) ps which p is shapes)) (received_all o q p.chunks (all_get (EmitsAll q o) ps which p is all)) n
 
   holds_action : (t : EndAction) → IsAllowed t → All (λ r. Shape r.chunks) (emitted_packets y) → (n : History) → Holds x (act t x y) n (noted_in t x y n)
   holds_action (Calls call) may shapes n = holds_call call may n
   holds_action (Gives which checksum) may shapes n = holds_given (slice_get (emitted_packets y) which) checksum which (emitted_packets y) l.said shapes refl n
-  holds_action (Refuses p) may shapes n = holds_foreign (refusal p.header.verification_tag p.chunks (state_of x)) p refl n
+  holds_action (Refuses p) may shapes n = holds_foreign (packet_refusal p.header.verification_tag p.chunks (state_of x)) p refl n
 
 -- ---- histories of actions beside those of chunks
 
@@ -239,7 +239,7 @@ record Matches (x : Side) (n m : History) : Type 0 where
   held : (a : Association) → Has a n.held → Has a m.held
   now : (a : Association) → Has a (held_in (state_of x)) → Has a m.held
 
-matches_on : (t : EndAction) (x y : Side) (n m : History) → Holds x (act t x y) n (noted_in t x y n) → Matches x n m → Matches (act t x y) (noted_all t x y n) (history_by t x y m)
+matches_on : (t : EndAction) (x y : Side) (n m : History) → Holds x (act t x y) n (noted_in t x y n) → Matches x n m → Matches (act t x y) (noted_all t x y n) (history_after t x y m)
 matches_on t x y n m w h =
     let z : List Association = held_in (state_of (act t x y)) in
     record {
@@ -338,15 +338,15 @@ matches_start : (x : Side) → state_of x ≡ Closed → Matches x no_history no
 matches_start x is = record { drawn = refl; held = λ a h. h; now = λ a h. absurd (subst (λ (s : State). Has a (held_in s)) is h) }
 
 pub ends_agree : EndsAgree
-ends_agree a b words_a words_b es fine_a fine_b may none =
-    along a b fine_a fine_b es (start a b words_a words_b) no_histories no_histories
+ends_agree a b draws_a draws_b es fine_a fine_b may none =
+    along a b fine_a fine_b es (start a b draws_a draws_b) no_histories no_histories
     (record {
       e1 = [];
       e2 = [];
-      a = knows_start a words_a;
-      b = knows_start b words_b;
-      can_a = negotiated_start a b words_a;
-      can_b = negotiated_start b a words_b;
-      notes_a = matches_start (new_side a words_a) refl;
-      notes_b = matches_start (new_side b words_b) refl;
+      a = knows_start a draws_a;
+      b = knows_start b draws_b;
+      can_a = negotiated_start a b draws_a;
+      can_b = negotiated_start b a draws_b;
+      notes_a = matches_start (new_side a draws_a) refl;
+      notes_b = matches_start (new_side b draws_b) refl;
     }) may none

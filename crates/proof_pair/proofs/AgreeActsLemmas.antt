@@ -6,14 +6,14 @@ use Rattle.std.proofs.Math.Bool.{or-false}
 use Rattle.sctp_packet.specs.Chunk.{ChunkTree, FragmentTree, init_chunk, init_ack_chunk, cookie_echo_chunk, cookie_ack_chunk}
 use Rattle.sctp_state.specs.Options.{Options}
 use Rattle.sctp_state.specs.Events.{Event, SendPacket}
-use Rattle.spec_endpoint.specs.Packets.{Packet, fits, added_if, add, add_all, header_to}
+use Rattle.spec_endpoint.specs.Packets.{PacketDraft, fits, added_if, add, add_all, header_to}
 use Rattle.spec_endpoint.specs.Association.{Tcb, Packing}
 use Rattle.spec_endpoint.specs.Sending.{data_chunk_of, data_chunks}
 use Rattle.proof_endpoint.specs.Mapped.{Carried}
 use Rattle.proof_endpoint.specs.Acts.{EndWithPacket, is_plain}
 use Rattle.proof_pair.specs.Trace.{as_carried, packets_in, has_connected}
-use Rattle.proof_pair.proofs.EmittedLemmas.{is_light}
-use Rattle.proof_pair.proofs.JoinActsLemmas.{light_packets, light_connected, connected_both, packets_now}
+use Rattle.proof_pair.proofs.EmittedLemmas.{is_no_packet_or_status}
+use Rattle.proof_pair.proofs.JoinActsLemmas.{no_packet_or_status_has_no_packets, no_packet_or_status_not_connected, connected_both, packets_now}
 use Rattle.proof_pair.proofs.AgreeLemmas.{Past, View, view_of, Says, says_later, Shape, is_load, shape_with, shape_plain, Stands, stands_later, Agreed, Bound, Tagged, Later, later_same, Said, said_later}
 
 -- the options of the end that acts, what it emitted before this action, and under which tag its packet came
@@ -74,10 +74,10 @@ module _ (g : Setting) (x y : Past) (v : View) (o : Options) (pack : Packing Car
   pub inv_silent : (more : List (Event Carried)) → packets_in more ≡ [] → has_connected more ≡ false → Inv g x y v o pack (es ++ more) tag chunks
   inv_silent more none not_yet = inv_view v more none i.stands (λ h. i.agreed (still more not_yet h)) i.tagged
 
-  pub inv_light : (more now : List (Event Carried)) → now ≡ es ++ more → list_all is_light more ≡ true → Inv g x y v o pack now tag chunks
-  inv_light more now behind light =
+  pub inv_no_packet_or_status : (more now : List (Event Carried)) → now ≡ es ++ more → list_all is_no_packet_or_status more ≡ true → Inv g x y v o pack now tag chunks
+  inv_no_packet_or_status more now behind light =
       subst (λ (z : List (Event Carried)). Inv g x y v o pack z tag chunks) (sym behind)
-      (inv_silent more (light_packets more light) (light_connected more light))
+      (inv_silent more (no_packet_or_status_has_no_packets more light) (no_packet_or_status_not_connected more light))
 
   -- the packet goes out, and another one is begun
   pub inv_emitted : (h : Options) (is_summed : Bool) (new : ℕ) → Inv g x y v o pack (es ++ SendPacket (pack.write (header_to h tag) is_summed chunks) ∷ []) new []
@@ -147,12 +147,12 @@ module _ (g : Setting) (x y : Past) (v : View) (o : Options) (pack : Packing Car
 -- ---- chunks that are put into a packet
 
 module _ (g : Setting) (x y : Past) (v : View) (o : Options) (pack : Packing Carried) (es : List (Event Carried)) where
-  adds_by : (b : Bool) (p : Packet) (c : ChunkTree) → Inv g x y v o pack es p.tag p.chunks → Says x y p.tag c → Shape (p.chunks ++ c ∷ [])
+  adds_by : (b : Bool) (p : PacketDraft) (c : ChunkTree) → Inv g x y v o pack es p.tag p.chunks → Says x y p.tag c → Shape (p.chunks ++ c ∷ [])
       → Inv g x y v o pack es (added_if b c p).tag (added_if b c p).chunks
   adds_by true p c i says shape = inv_made g x y v o pack es p.tag p.chunks i p.tag (p.chunks ++ c ∷ []) (All-push (Says x y p.tag) p.chunks c i.made says) shape
   adds_by false p c i says shape = i
 
-  pub adds : (p : Packet) (c : ChunkTree) → Inv g x y v o pack es p.tag p.chunks → Says x y p.tag c → Shape (p.chunks ++ c ∷ [])
+  pub adds : (p : PacketDraft) (c : ChunkTree) → Inv g x y v o pack es p.tag p.chunks → Says x y p.tag c → Shape (p.chunks ++ c ∷ [])
       → Inv g x y v o pack es (add c p).tag (add c p).chunks
   adds p c i says shape = adds_by (fits p c) p c i says shape
 
@@ -161,21 +161,21 @@ module _ (g : Setting) (x y : Past) (v : View) (o : Options) (pack : Packing Car
     pub says : (tag : ℕ) → Says x y tag c
     pub load : is_load c ≡ true
 
-  pub adds_load : (p : Packet) (c : ChunkTree) → Inv g x y v o pack es p.tag p.chunks → IsLoad c → Inv g x y v o pack es (add c p).tag (add c p).chunks
+  pub adds_load : (p : PacketDraft) (c : ChunkTree) → Inv g x y v o pack es p.tag p.chunks → IsLoad c → Inv g x y v o pack es (add c p).tag (add c p).chunks
   adds_load p c i l = adds p c i (l.says p.tag) (shape_with p.chunks c i.shape l.load)
 
   data_load : (is_interleaved is_immediate : Bool) (c : ℕ × FragmentTree) → IsLoad (data_chunk_of is_interleaved is_immediate c)
   data_load true is_immediate c = record { says = λ tag. tt; load = refl }
   data_load false is_immediate c = record { says = λ tag. tt; load = refl }
 
-  adds_data_by : (is_interleaved is_immediate : Bool) (cs : List (ℕ × FragmentTree)) (p : Packet) → Inv g x y v o pack es p.tag p.chunks
+  adds_data_by : (is_interleaved is_immediate : Bool) (cs : List (ℕ × FragmentTree)) (p : PacketDraft) → Inv g x y v o pack es p.tag p.chunks
       → Inv g x y v o pack es (add_all (map (data_chunk_of is_interleaved is_immediate) cs) p).tag (add_all (map (data_chunk_of is_interleaved is_immediate) cs) p).chunks
   adds_data_by is_interleaved is_immediate [] p i = i
   adds_data_by is_interleaved is_immediate (c ∷ cs) p i =
       let d : ChunkTree = data_chunk_of is_interleaved is_immediate c in
       adds_data_by is_interleaved is_immediate cs (add d p) (adds_load p d i (data_load is_interleaved is_immediate c))
 
-  pub adds_data : (t : Tcb) (is_immediate : Bool) (cs : List (ℕ × FragmentTree)) (p : Packet) → Inv g x y v o pack es p.tag p.chunks
+  pub adds_data : (t : Tcb) (is_immediate : Bool) (cs : List (ℕ × FragmentTree)) (p : PacketDraft) → Inv g x y v o pack es p.tag p.chunks
       → Inv g x y v o pack es (add_all (data_chunks t is_immediate cs) p).tag (add_all (data_chunks t is_immediate cs) p).chunks
   adds_data t is_immediate cs p i = adds_data_by t.capabilities.message_interleaving is_immediate cs p i
 
@@ -186,6 +186,6 @@ module _ (g : Setting) (x y : Past) (v : View) (o : Options) (pack : Packing Car
   says_plain tag cookie_ack_chunk e = cc
   says_plain tag c e = tt
 
-  pub adds_simple : (p : Packet) (c : ChunkTree) → Inv g x y v o pack es p.tag p.chunks → is_plain c ≡ true → list_all is_plain p.chunks ≡ true
+  pub adds_simple : (p : PacketDraft) (c : ChunkTree) → Inv g x y v o pack es p.tag p.chunks → is_plain c ≡ true → list_all is_plain p.chunks ≡ true
       → Inv g x y v o pack es (add c p).tag (add c p).chunks
   adds_simple p c i plain others = adds p c i (says_plain p.tag c plain) (shape_plain p.chunks c others plain)

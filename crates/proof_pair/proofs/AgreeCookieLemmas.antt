@@ -10,16 +10,16 @@ use Rattle.sctp_state.specs.Events.{Event, OnConnected, OnConnectionRestarted}
 use Rattle.sctp_state.specs.Options.{Options}
 use Rattle.sctp_state.specs.declared.api.ErrorKind.TheVariants.{ParseFailed, WrongSequence}
 use Rattle.spec_endpoint.specs.Association.{Tcb, Phase, CookieEchoed, Established, ShutdownPending, ShutdownSent, ShutdownReceived, ShutdownAckSent, State, Closed, CookieWait, Open, Context, Endpoint}
-use Rattle.spec_endpoint.specs.Packets.{Packet, new_packet, fits, add, say, emit}
-use Rattle.spec_endpoint.specs.Opening.{long_word, connected_context, cookie_ack, tcb_by, establishes, CookieResolution, EstablishNew, RestartDetected, SimultaneousInit, MaintainExisting, Discard, InvalidTag, new_if, resolve_cookie, compare_tags, by_tags, keep_association, too_late, restarts_in, on_verdict}
-use Rattle.spec_endpoint.specs.Laws.{NoPacket}
+use Rattle.spec_endpoint.specs.Packets.{PacketDraft, new_packet, fits, add, emit_event_in, emit}
+use Rattle.spec_endpoint.specs.Opening.{long_word, enter_connected, cookie_ack, tcb_by, establishes, CookieResolution, EstablishNew, RestartDetected, SimultaneousInit, MaintainExisting, Discard, InvalidTag, new_if, resolve_cookie, resolve_by_tags, by_tags, maintain_existing, too_late, restarts_in, on_resolution}
+use Rattle.spec_endpoint.specs.Laws.{ReceiveNoPacket}
 use Rattle.proof_endpoint.specs.Mapped.{Carried}
 use Rattle.proof_endpoint.proofs.OpeningStepsLemmas.{end_in}
-use Rattle.proof_endpoint.specs.Acts.{at, nothing, idle, calm, is_opened, all_along, as_held, adds_plain, Preserves}
+use Rattle.proof_endpoint.specs.Acts.{at, no_packet, idle, calm, is_opened, all_along, as_held, adds_plain, Preserves}
 use Rattle.proof_pair.specs.Trace.{AreValidOptions}
 use Rattle.proof_pair.specs.Agreement.{Draw, Association, mirrored, Has, History, association_of, held_in, AreDistinct}
 use Rattle.proof_endpoint.proofs.BundledLemmas.{added_more, first_more, plain_added}
-use Rattle.proof_endpoint.proofs.PacketActsLemmas.{new_addressed, whole_addressed, does_begin, does_out, does_complain, does_send_with}
+use Rattle.proof_endpoint.proofs.PacketActsLemmas.{new_addressed, whole_addressed, does_begin, does_out, does_emit_error, does_send_with}
 use Rattle.proof_endpoint.proofs.OpeningActsLemmas.{accepting}
 use Rattle.proof_pair.proofs.AgreeLemmas.{Past, View, holds, view_of, own_in, peer_in, SaysEcho, SaysAck, Holds, Tagged, Later, later_same, one_draw}
 use Rattle.proof_pair.proofs.AgreeActsLemmas.{Setting, Inv, InvAt, inv_view, inv_silent, inv_later, inv_grown, inv_bound, adds}
@@ -54,7 +54,7 @@ goes_held g y n echoed e known inv =
       more = echoed;
       later = l;
       known = known;
-      inv = inv_grown g (past_of n echoed) y (view_of e.endpoint_state.state) c.options c.pack c.emitted.events nothing.tag [] inv (past_of m echoed) l refl;
+      inv = inv_grown g (past_of n echoed) y (view_of e.endpoint_state.state) c.options c.pack c.emitted.events no_packet.tag [] inv (past_of m echoed) l refl;
     }
 
 same_numbers : (a b : ℕ) → not (a == b) ≡ false → a ≡ b
@@ -101,8 +101,8 @@ module _ (o : Options) (past : List (Event Carried)) (y : Past) (fine : AreValid
       → InvAt h z y (idle (Open phase (cookie_ack k.peer_tag t c).tcb) (cookie_ack k.peer_tag t c).context w)
   accepts h z phase t c w same here inv =
       let own : AreValidOptions h.own = subst AreValidOptions (sym same) fine in
-      let q : Preserves NoPacket (λ a b. InvAt h z y a → InvAt h z y b) = kept_quiet h y own z in
-      let p : Packet = accepting c.options k.peer_tag t in
+      let q : Preserves ReceiveNoPacket (λ a b. InvAt h z y a → InvAt h z y b) = kept_quiet h y own z in
+      let p : PacketDraft = accepting c.options k.peer_tag t in
       let begun : InvAt h z y (at (Open phase t) c w p) = does_begin q (Open phase t) c w p refl (as_held phase t refl refl)
       (whole_addressed (Open phase t) c w p refl (λ f held. absurd (f.some refl))) inv in
       does_send_with q phase w false (add cookie_ack_chunk p) t c (first_more cookie_ack_chunk p refl refl)
@@ -112,7 +112,7 @@ module _ (o : Options) (past : List (Event Carried)) (y : Past) (fine : AreValid
 
   -- what is held then is this association
   ended_as : (st : State) (d : Context Carried) (w : Stream) → InvAt (bounded o past None (Some a)) (past_of (record n { held = a ∷ n.held }) echoed) y (idle st d w)
-      → is_opened st ≡ true → Goes g y n echoed (noted [] st n) (record { endpoint_state = record { state = st; context = d }; random = w })
+      → is_opened st ≡ true → Goes g y n echoed (noted [] st n) (record { endpoint_state = record { state = st; context = d }; draws = w })
   ended_as Closed d w inv is = cc
   ended_as (CookieWait my_tag first t1) d w inv is = cc
   ended_as (Open phase t) d w inv is =
@@ -121,16 +121,16 @@ module _ (o : Options) (past : List (Event Carried)) (y : Past) (fine : AreValid
       let m : History = record n { held = a ∷ n.held } in
       let next : History = noted [] (Open phase t) n in
       let l : Later (past_of m echoed) (past_of next echoed) = record { drawn = λ f h. h; held = λ f h. elim h [ inl e ↦ inl (e ∙ inv.tagged.same) | inr r ↦ inr r ]; echoed = λ f h. h } in
-      let grown : Inv (bounded o past None (Some a)) (past_of next echoed) y v d.options d.pack d.emitted.events nothing.tag [] =
-      inv_grown (bounded o past None (Some a)) (past_of m echoed) y v d.options d.pack d.emitted.events nothing.tag [] inv (past_of next echoed) l refl in
+      let grown : Inv (bounded o past None (Some a)) (past_of next echoed) y v d.options d.pack d.emitted.events no_packet.tag [] =
+      inv_grown (bounded o past None (Some a)) (past_of m echoed) y v d.options d.pack d.emitted.events no_packet.tag [] inv (past_of next echoed) l refl in
       record {
         more = echoed;
         later = record { drawn = λ f h. h; held = λ f h. inr h; echoed = λ f h. h };
         known = known;
-        inv = inv_bound (bounded o past None (Some a)) (past_of next echoed) y v d.options d.pack d.emitted.events nothing.tag [] grown g.under (record { under = tt; same = tt });
+        inv = inv_bound (bounded o past None (Some a)) (past_of next echoed) y v d.options d.pack d.emitted.events no_packet.tag [] grown g.under (record { under = tt; same = tt });
       }
 
-  anew : (resets : Bool) (v : View) (c : Context Carried) (s : Endpoint Carried) → Inv g x y v c.options c.pack c.emitted.events nothing.tag []
+  anew : (resets : Bool) (v : View) (c : Context Carried) (s : Endpoint Carried) → Inv g x y v c.options c.pack c.emitted.events no_packet.tag []
       → Goes g y n echoed (noted [] (establishes resets k c s).endpoint_state.state n) (establishes resets k c s)
   anew resets v c s inv =
       let e : Endpoint Carried = establishes resets k c s in
@@ -138,8 +138,8 @@ module _ (o : Options) (past : List (Event Carried)) (y : Past) (fine : AreValid
       let z : Past = past_of m echoed in
       let l : Later x z = record { drawn = λ d h. h; held = λ b h. inr h; echoed = λ b h. h } in
       let free : Tagged g.under (holds a None) = record { under = tt; same = tt } in
-      let opened : Inv g z y (holds a None) c.options c.pack c.emitted.events nothing.tag [] =
-      inv_later g x y v c.options c.pack c.emitted.events nothing.tag [] inv z y l (later_same y) (holds a None)
+      let opened : Inv g z y (holds a None) c.options c.pack c.emitted.events no_packet.tag [] =
+      inv_later g x y v c.options c.pack c.emitted.events no_packet.tag [] inv z y l (later_same y) (holds a None)
       (record {
         own = subst (λ (d : Draw). Has d n.drawn) (sym own_is) said.other;
         other = subst (λ (d : Draw). Has d y.drawn) (sym peer_is) said.own;
@@ -147,20 +147,20 @@ module _ (o : Options) (past : List (Event Carried)) (y : Past) (fine : AreValid
         is_kept = tt;
       })
       (λ h. there) free in
-      let connected : Inv g z y (holds a None) c.options c.pack (c.emitted.events ++ OnConnected ∷ []) nothing.tag [] =
-      inv_view g z y (holds a None) c.options c.pack c.emitted.events nothing.tag [] opened (holds a None) (OnConnected ∷ []) refl opened.stands (λ h. there) free in
+      let connected : Inv g z y (holds a None) c.options c.pack (c.emitted.events ++ OnConnected ∷ []) no_packet.tag [] =
+      inv_view g z y (holds a None) c.options c.pack c.emitted.events no_packet.tag [] opened (holds a None) (OnConnected ∷ []) refl opened.stands (λ h. there) free in
       let h : Setting = bounded o past None (Some a) in
-      let bound : Inv h z y (holds a None) c.options c.pack (c.emitted.events ++ OnConnected ∷ []) nothing.tag [] =
-      inv_bound g z y (holds a None) c.options c.pack (c.emitted.events ++ OnConnected ∷ []) nothing.tag [] connected h.under (record { under = tt; same = refl }) in
-      let done : InvAt h z y (calm e) = accepts h z Established (tcb_by c.options k (long_word s)) _ e.random refl (inl refl) bound in
-      ended_as e.endpoint_state.state e.endpoint_state.context e.random done refl
+      let bound : Inv h z y (holds a None) c.options c.pack (c.emitted.events ++ OnConnected ∷ []) no_packet.tag [] =
+      inv_bound g z y (holds a None) c.options c.pack (c.emitted.events ++ OnConnected ∷ []) no_packet.tag [] connected h.under (record { under = tt; same = refl }) in
+      let done : InvAt h z y (calm e) = accepts h z Established (tcb_by c.options k (long_word s)) _ e.draws refl (inl refl) bound in
+      ended_as e.endpoint_state.state e.endpoint_state.context e.draws done refl
 
   -- ---- `OnConnected` is emitted again of the own association
 
-  is_own : (t : Tcb) (late : Option (List ℕ)) → AreDistinct n.drawn → AreDistinct y.drawn → compare_tags tag t.identity k ≡ MaintainExisting
+  is_own : (t : Tcb) (late : Option (List ℕ)) → AreDistinct n.drawn → AreDistinct y.drawn → resolve_by_tags tag t.identity k ≡ MaintainExisting
       → Holds x y (association_of t) late → a ≡ association_of t
-  is_own t late mine theirs verdict h =
-      let tests = both_false (not (tag == t.identity.my_tag)) (not (k.peer_tag == t.identity.peer_tag)) (k.tie_tag == t.identity.tie) (k.tie_tag == 0) verdict in
+  is_own t late mine theirs resolution h =
+      let tests = both_false (not (tag == t.identity.my_tag)) (not (k.peer_tag == t.identity.peer_tag)) (k.tie_tag == t.identity.tie) (k.tie_tag == 0) resolution in
       let b : Association = association_of t in
       let first : own_in k ≡ b.mine =
       own_is ∙ one_draw n.drawn said.a.peer b.mine mine said.other h.own (sym said.under ∙ same_numbers tag t.identity.my_tag tests.0) in
@@ -173,62 +173,62 @@ module _ (o : Options) (past : List (Event Carried)) (y : Past) (fine : AreValid
     kept_late : (phase : Phase) (t : Tcb) (c : Context Carried) (w : Stream) → a ≡ association_of t → Has (association_of t) n.held
         → InvAt g x y (idle (Open phase t) c w)
         → Goes g y n echoed (noted [] (Open phase (cookie_ack k.peer_tag t c).tcb) n)
-        (record { endpoint_state = record { state = Open phase (cookie_ack k.peer_tag t c).tcb; context = (cookie_ack k.peer_tag t c).context }; random = w })
+        (record { endpoint_state = record { state = Open phase (cookie_ack k.peer_tag t c).tcb; context = (cookie_ack k.peer_tag t c).context }; draws = w })
     kept_late phase t c w is here inv =
         goes_held g y n echoed
-        (record { endpoint_state = record { state = Open phase (cookie_ack k.peer_tag t c).tcb; context = (cookie_ack k.peer_tag t c).context }; random = w }) known
+        (record { endpoint_state = record { state = Open phase (cookie_ack k.peer_tag t c).tcb; context = (cookie_ack k.peer_tag t c).context }; draws = w }) known
         (accepts g x phase t c w refl (subst (λ (b : Association). Has b n.held) (sym is) here) inv)
 
-    keeps : (phase : Phase) (t : Tcb) (c : Context Carried) (w : Stream) → compare_tags tag t.identity k ≡ MaintainExisting → InvAt g x y (idle (Open phase t) c w)
-        → Goes g y n echoed (noted [] (keep_association k phase t c).state n) (record { endpoint_state = keep_association k phase t c; random = w })
-    keeps (CookieEchoed t1 held) t c w verdict inv =
+    keeps : (phase : Phase) (t : Tcb) (c : Context Carried) (w : Stream) → resolve_by_tags tag t.identity k ≡ MaintainExisting → InvAt g x y (idle (Open phase t) c w)
+        → Goes g y n echoed (noted [] (maintain_existing k phase t c).state n) (record { endpoint_state = maintain_existing k phase t c; draws = w })
+    keeps (CookieEchoed t1 held) t c w resolution inv =
         let b : Association = association_of t in
         let h : Holds x y b (Some held) = inv.stands in
-        let is : a ≡ b = is_own t (Some held) mine theirs verdict h in
-        let connected : Inv g x y (holds b None) c.options c.pack (c.emitted.events ++ OnConnected ∷ []) nothing.tag [] =
-        inv_view g x y (holds b (Some held)) c.options c.pack c.emitted.events nothing.tag [] inv (holds b None) (OnConnected ∷ []) refl
+        let is : a ≡ b = is_own t (Some held) mine theirs resolution h in
+        let connected : Inv g x y (holds b None) c.options c.pack (c.emitted.events ++ OnConnected ∷ []) no_packet.tag [] =
+        inv_view g x y (holds b (Some held)) c.options c.pack c.emitted.events no_packet.tag [] inv (holds b None) (OnConnected ∷ []) refl
         (record { own = h.own; other = h.other; held = h.held; is_kept = tt }) (λ e. subst (λ (z : Association). Has (mirrored z) y.held) is there)
         (record { under = tt; same = tt }) in
-        kept_late Established t (connected_context c) w is h.held connected
-    keeps Established t c w verdict inv =
-        kept_late Established t c w (is_own t None mine theirs verdict inv.stands) inv.stands.held inv
-    keeps ShutdownPending t c w verdict inv =
-        kept_late ShutdownPending t c w (is_own t None mine theirs verdict inv.stands) inv.stands.held inv
-    keeps (ShutdownSent t2) t c w verdict inv =
-        kept_late (ShutdownSent t2) t c w (is_own t None mine theirs verdict inv.stands) inv.stands.held inv
-    keeps ShutdownReceived t c w verdict inv =
-        kept_late ShutdownReceived t c w (is_own t None mine theirs verdict inv.stands) inv.stands.held inv
-    keeps (ShutdownAckSent t2) t c w verdict inv =
-        kept_late (ShutdownAckSent t2) t c w (is_own t None mine theirs verdict inv.stands) inv.stands.held inv
+        kept_late Established t (enter_connected c) w is h.held connected
+    keeps Established t c w resolution inv =
+        kept_late Established t c w (is_own t None mine theirs resolution inv.stands) inv.stands.held inv
+    keeps ShutdownPending t c w resolution inv =
+        kept_late ShutdownPending t c w (is_own t None mine theirs resolution inv.stands) inv.stands.held inv
+    keeps (ShutdownSent t2) t c w resolution inv =
+        kept_late (ShutdownSent t2) t c w (is_own t None mine theirs resolution inv.stands) inv.stands.held inv
+    keeps ShutdownReceived t c w resolution inv =
+        kept_late ShutdownReceived t c w (is_own t None mine theirs resolution inv.stands) inv.stands.held inv
+    keeps (ShutdownAckSent t2) t c w resolution inv =
+        kept_late (ShutdownAckSent t2) t c w (is_own t None mine theirs resolution inv.stands) inv.stands.held inv
 
     -- ---- as it is judged
 
-    quiet_here : Preserves NoPacket (λ p q. InvAt g x y p → InvAt g x y q)
+    quiet_here : Preserves ReceiveNoPacket (λ p q. InvAt g x y p → InvAt g x y q)
     quiet_here = kept_quiet g y fine x
 
     late_by : (phase : Phase) (t : Tcb) (c : Context Carried) (w : Stream) → InvAt g x y (idle (Open phase t) c w) → InvAt g x y (idle (Open phase t) (too_late t c) w)
     late_by phase t c w inv =
-        let p : Packet = new_packet c.options t in
-        let q : Packet = add shutdown_ack_chunk p in
+        let p : PacketDraft = new_packet c.options t in
+        let q : PacketDraft = add shutdown_ack_chunk p in
         let chunk : ChunkTree = error_chunk (cookie_received_while_shutting_down ∷ []) in
         let s : State = Open phase t in
         let begun : InvAt g x y (at s c w p) = does_begin quiet_here s c w p refl (as_held phase t refl refl) (new_addressed phase t c w) inv in
         let one : InvAt g x y (at s c w q) = quiet_here.packets (adds_plain shutdown_ack_chunk (at s c w p) refl refl (λ f. absurd (f.some refl))) begun in
         let two : InvAt g x y (at s c w (add chunk q)) =
         quiet_here.packets (adds_plain chunk (at s c w q) refl (plain_added (fits p shutdown_ack_chunk) p refl) (λ f. absurd (f.some refl))) one in
-        does_complain quiet_here WrongSequence (codes "Received COOKIE-ECHO while shutting down") s (emit (add chunk q) c) w (does_out quiet_here s c w (add chunk q) (all_along (added_more chunk q (first_more shutdown_ack_chunk p refl refl) refl)) two)
+        does_emit_error quiet_here WrongSequence (codes "Received COOKIE-ECHO while shutting down") s (emit (add chunk q) c) w (does_out quiet_here s c w (add chunk q) (all_along (added_more chunk q (first_more shutdown_ack_chunk p refl refl) refl)) two)
 
-    restarts_by : (phase : Phase) (t : Tcb) (c : Context Carried) (s : Endpoint Carried) → InvAt g x y (idle (Open phase t) c s.random)
-        → Goes g y n echoed (noted [] (establishes true k (say OnConnectionRestarted c) s).endpoint_state.state n) (establishes true k (say OnConnectionRestarted c) s)
+    restarts_by : (phase : Phase) (t : Tcb) (c : Context Carried) (s : Endpoint Carried) → InvAt g x y (idle (Open phase t) c s.draws)
+        → Goes g y n echoed (noted [] (establishes true k (emit_event_in OnConnectionRestarted c) s).endpoint_state.state n) (establishes true k (emit_event_in OnConnectionRestarted c) s)
     restarts_by phase t c s inv =
         let v : View = view_of (Open phase t) in
         let es : List (Event Carried) = c.emitted.events in
-        anew true v (say OnConnectionRestarted c) s
+        anew true v (emit_event_in OnConnectionRestarted c) s
         (inv_light_restart v c es inv)
       where
-        inv_light_restart : (v : View) (c : Context Carried) (es : List (Event Carried)) → Inv g x y v c.options c.pack es nothing.tag []
-            → Inv g x y v c.options c.pack (es ++ OnConnectionRestarted ∷ []) nothing.tag []
-        inv_light_restart v c es i = inv_silent g x y v c.options c.pack es nothing.tag [] i (OnConnectionRestarted ∷ []) refl refl
+        inv_light_restart : (v : View) (c : Context Carried) (es : List (Event Carried)) → Inv g x y v c.options c.pack es no_packet.tag []
+            → Inv g x y v c.options c.pack (es ++ OnConnectionRestarted ∷ []) no_packet.tag []
+        inv_light_restart v c es i = inv_silent g x y v c.options c.pack es no_packet.tag [] i (OnConnectionRestarted ∷ []) refl refl
 
     restarted : (phase : Phase) (t : Tcb) (s : Endpoint Carried) → InvAt g x y (calm (end_in (Open phase t) s))
         → Goes g y n echoed (noted [] (restarts_in phase t k (end_in (Open phase t) s)).endpoint_state.state n) (restarts_in phase t k (end_in (Open phase t) s))
@@ -239,30 +239,30 @@ module _ (o : Options) (past : List (Event Carried)) (y : Past) (fine : AreValid
     restarted ShutdownReceived t s inv = restarts_by ShutdownReceived t s.endpoint_state.context (end_in (Open ShutdownReceived t) s) inv
     restarted (ShutdownAckSent t2) t s inv =
         goes_held g y n echoed (restarts_in (ShutdownAckSent t2) t k (end_in (Open (ShutdownAckSent t2) t) s)) known
-        (late_by (ShutdownAckSent t2) t s.endpoint_state.context s.random inv)
+        (late_by (ShutdownAckSent t2) t s.endpoint_state.context s.draws inv)
 
     invalid : (st : State) (s : Endpoint Carried) → InvAt g x y (calm (end_in st s))
-        → Goes g y n echoed (noted [] st n) (on_verdict InvalidTag k (end_in st s))
+        → Goes g y n echoed (noted [] st n) (on_resolution InvalidTag k (end_in st s))
     invalid st s inv =
-        goes_held g y n echoed (on_verdict InvalidTag k (end_in st s)) known
-        (does_complain quiet_here ParseFailed (codes "Received CookieEcho with invalid verification tag") st s.endpoint_state.context s.random inv)
+        goes_held g y n echoed (on_resolution InvalidTag k (end_in st s)) known
+        (does_emit_error quiet_here ParseFailed (codes "Received CookieEcho with invalid verification tag") st s.endpoint_state.context s.draws inv)
 
-    judged_open : (v : CookieResolution) (phase : Phase) (t : Tcb) (s : Endpoint Carried) → compare_tags tag t.identity k ≡ v → InvAt g x y (calm (end_in (Open phase t) s))
-        → Goes g y n echoed (noted [] (on_verdict v k (end_in (Open phase t) s)).endpoint_state.state n) (on_verdict v k (end_in (Open phase t) s))
+    judged_open : (v : CookieResolution) (phase : Phase) (t : Tcb) (s : Endpoint Carried) → resolve_by_tags tag t.identity k ≡ v → InvAt g x y (calm (end_in (Open phase t) s))
+        → Goes g y n echoed (noted [] (on_resolution v k (end_in (Open phase t) s)).endpoint_state.state n) (on_resolution v k (end_in (Open phase t) s))
     judged_open EstablishNew phase t s is inv = anew false (view_of (Open phase t)) s.endpoint_state.context (end_in (Open phase t) s) inv
     judged_open RestartDetected phase t s is inv = restarted phase t s inv
     judged_open SimultaneousInit phase t s is inv = anew true (view_of (Open phase t)) s.endpoint_state.context (end_in (Open phase t) s) inv
-    judged_open MaintainExisting phase t s is inv = keeps phase t s.endpoint_state.context s.random is inv
+    judged_open MaintainExisting phase t s is inv = keeps phase t s.endpoint_state.context s.draws is inv
     judged_open Discard phase t s is inv = goes_held g y n echoed (end_in (Open phase t) s) known inv
     judged_open InvalidTag phase t s is inv = invalid (Open phase t) s inv
 
     judged_new : (b : Bool) (st : State) (s : Endpoint Carried) → InvAt g x y (calm (end_in st s))
-        → Goes g y n echoed (noted [] (on_verdict (new_if b) k (end_in st s)).endpoint_state.state n) (on_verdict (new_if b) k (end_in st s))
+        → Goes g y n echoed (noted [] (on_resolution (new_if b) k (end_in st s)).endpoint_state.state n) (on_resolution (new_if b) k (end_in st s))
     judged_new true st s inv = anew false (view_of st) s.endpoint_state.context (end_in st s) inv
     judged_new false st s inv = invalid st s inv
 
     pub does_judged : (st : State) (s : Endpoint Carried) → InvAt g x y (calm (end_in st s))
-        → Goes g y n echoed (noted [] (on_verdict (resolve_cookie tag k st) k (end_in st s)).endpoint_state.state n) (on_verdict (resolve_cookie tag k st) k (end_in st s))
+        → Goes g y n echoed (noted [] (on_resolution (resolve_cookie tag k st) k (end_in st s)).endpoint_state.state n) (on_resolution (resolve_cookie tag k st) k (end_in st s))
     does_judged Closed s inv = judged_new (tag == k.my_tag) Closed s inv
     does_judged (CookieWait my_tag first t1) s inv = judged_new (tag == k.my_tag) (CookieWait my_tag first t1) s inv
-    does_judged (Open phase t) s inv = judged_open (compare_tags tag t.identity k) phase t s refl inv
+    does_judged (Open phase t) s inv = judged_open (resolve_by_tags tag t.identity k) phase t s refl inv

@@ -9,7 +9,7 @@ use Rattle.sctp_packet.specs.Grammar.{carried}
 use Rattle.sctp_capabilities.specs.Capabilities.{announced_by}
 use Rattle.sctp_capabilities.specs.StateCookie.{Cookie, CapabilitiesFit, read_cookie}
 use Rattle.spec_endpoint.specs.Association.{Tcb, Phase, CookieEchoed, Established, ShutdownPending, ShutdownSent, ShutdownReceived, ShutdownAckSent, State, Closed, CookieWait, Open}
-use Rattle.spec_endpoint.specs.Sending.{is_alone}
+use Rattle.spec_endpoint.specs.Sending.{is_before_cookie_ack}
 use Rattle.spec_endpoint.specs.Opening.{cookie_in}
 use Rattle.proof_endpoint.specs.Mapped.{Carried}
 use Rattle.proof_endpoint.specs.Acts.{is_plain}
@@ -32,7 +32,7 @@ view_of Closed = rests
 view_of (CookieWait tag first t1) = waits (record { tag = tag; first = first })
 view_of (Open phase t) = holds (association_of t) (kept_in phase)
 
-pub late_phase : (phase : Phase) (t : Tcb) → is_alone phase ≡ false → view_of (Open phase t) ≡ holds (association_of t) None
+pub late_phase : (phase : Phase) (t : Tcb) → is_before_cookie_ack phase ≡ false → view_of (Open phase t) ≡ holds (association_of t) None
 late_phase (CookieEchoed t1 cookie) t e = cc
 late_phase Established t e = refl
 late_phase ShutdownPending t e = refl

@@ -12,11 +12,11 @@ use Rattle.sctp_state.specs.Events.{OnConnected}
 use Rattle.sctp_state.specs.Options.{Options}
 use Rattle.sctp_state.specs.Timer.{Timer}
 use Rattle.spec_endpoint.specs.Association.{Tcb, CookieEchoed, State, Closed, CookieWait, Open, Context, Endpoint}
-use Rattle.spec_endpoint.specs.Packets.{Packet, add}
+use Rattle.spec_endpoint.specs.Packets.{PacketDraft, add}
 use Rattle.spec_endpoint.specs.Opening.{tsn_from, tag_from, word, drew_word, t1_init, connect, cookie_for, agreed_by, init_ack_of, answer, next_first, cookie_in}
-use Rattle.spec_endpoint.specs.Laws.{NoPacket, Packet as Given}
+use Rattle.spec_endpoint.specs.Laws.{ReceiveNoPacket, ReceivePacket as Given}
 use Rattle.proof_endpoint.specs.Mapped.{Carried}
-use Rattle.proof_endpoint.specs.Acts.{EndWithPacket, at, nothing, idle, calm, echoing, an_init_ack_alone, Preserves}
+use Rattle.proof_endpoint.specs.Acts.{EndWithPacket, at, no_packet, idle, calm, echo_step, an_init_ack_alone, Preserves}
 use Rattle.proof_pair.specs.Trace.{has_connected, AreValidOptions}
 use Rattle.proof_pair.specs.Agreement.{Draw, Association, mirrored, Has, association_of, two_drawn, AreDistinct}
 use Rattle.proof_endpoint.proofs.BundledLemmas.{one_bundled}
@@ -70,10 +70,10 @@ again_fits t w = record { some = λ e. omega (arith, e); tag = omega arith; firs
 
 -- ---- rows
 
-quiet_call : Quiet NoPacket
+quiet_call : Quiet ReceiveNoPacket
 quiet_call = record { on_received = λ tag chunk h. no_packet h.given; connects = λ e. cc; restores = λ h e. cc }
   where
-    no_packet : {A : Type 0} {p : PacketTree} → NoPacket ≡ Given p → A
+    no_packet : {A : Type 0} {p : PacketTree} → ReceiveNoPacket ≡ Given p → A
     no_packet e = cc
 
 -- each association whose cookie an end echoed is one of a draw of its own
@@ -81,8 +81,8 @@ abbrev pub Known : Past → Type 0
 Known x = (b : Association) → Has b x.echoed → Has b.mine x.drawn
 
 module _ (g : Setting) (y : Past) (own : AreValidOptions g.own) where
-  pub kept_quiet : (x : Past) → Preserves NoPacket (λ a b. InvAt g x y a → InvAt g x y b)
-  kept_quiet x = quiet g x y NoPacket own quiet_call
+  pub kept_quiet : (x : Past) → Preserves ReceiveNoPacket (λ a b. InvAt g x y a → InvAt g x y b)
+  kept_quiet x = quiet g x y ReceiveNoPacket own quiet_call
 
   -- ---- an INIT is answered
 
@@ -103,11 +103,11 @@ module _ (g : Setting) (y : Past) (own : AreValidOptions g.own) where
   pub does_answer : (x : Past) (s : State) (c : Context Carried) (w : Stream) (i : InitTree) (tag first tie : ℕ) → FitsDraw (record { tag = tag; first = first })
       → Has (record { tag = tag; first = first }) x.drawn → SaysInit y i → InvAt g x y (idle s c w) → InvAt g x y (idle s (answer i tag first tie c) w)
   does_answer x s c w i tag first tie mine here said inv =
-      let k : Preserves NoPacket (λ a b. InvAt g x y a → InvAt g x y b) = kept_quiet x in
-      let p : Packet = answering c.options i in
+      let k : Preserves ReceiveNoPacket (λ a b. InvAt g x y a → InvAt g x y b) = kept_quiet x in
+      let p : PacketDraft = answering c.options i in
       let j : InitTree = init_ack_of c.options i tag first tie in
       let begun : InvAt g x y (at s c w p) =
-      inv_made g x y (view_of s) c.options c.pack c.emitted.events nothing.tag [] inv p.tag [] (All-nil (Says x y p.tag)) (inl refl) in
+      inv_made g x y (view_of s) c.options c.pack c.emitted.events no_packet.tag [] inv p.tag [] (All-nil (Says x y p.tag)) (inl refl) in
       does_out k s c w (add (init_ack_chunk j) p) (one_bundled (init_ack_chunk j) p refl (an_init_ack_alone j refl))
       (adds g x y (view_of s) c.options c.pack c.emitted.events p (init_ack_chunk j) begun (says_answer x c.options i tag first tie said.fits mine here said.own) (inr (refl, refl)))
 
@@ -115,19 +115,19 @@ module _ (g : Setting) (y : Past) (own : AreValidOptions g.own) where
 
   pub does_connect : (x : Past) (e : Endpoint Carried) → Known x → AreDistinct (two_drawn e ++ x.drawn) → has_connected e.endpoint_state.context.emitted.events ≡ false
       → Tagged g.under (waits (record { tag = tag_from (word (drew_word e)); first = tsn_from (word e) }))
-      → InvAt g x y (idle Closed e.endpoint_state.context e.random)
+      → InvAt g x y (idle Closed e.endpoint_state.context e.draws)
       → InvAt g (record x { drawn = two_drawn e ++ x.drawn }) y (calm (connect (record e { endpoint_state = record e.endpoint_state { state = Closed } })))
   does_connect x e known distinct silent free inv =
       let d : Draw = record { tag = tag_from (word (drew_word e)); first = tsn_from (word e) } in
       let z : Past = record x { drawn = d ∷ x.drawn } in
       let l : Later x z = record { drawn = λ f h. inr h; held = λ a h. h; echoed = λ a h. h } in
       let c : Context Carried = e.endpoint_state.context in
-      let m : EndWithPacket Carried = idle (CookieWait d.tag d.first (t1_init c)) c (drew_word (drew_word e)).random in
+      let m : EndWithPacket Carried = idle (CookieWait d.tag d.first (t1_init c)) c (drew_word (drew_word e)).draws in
       let drew : InvAt g z y m =
-      inv_later g x y rests c.options c.pack c.emitted.events nothing.tag [] inv z y l (later_same y) (waits d)
+      inv_later g x y rests c.options c.pack c.emitted.events no_packet.tag [] inv z y l (later_same y) (waits d)
       (record { own = inl refl; fits = drawn_fits (word e) (word (drew_word e)); new = λ b h t. distinct.0 b.mine (known b h) t })
       (λ h. no_both h silent) free in
-      does_send_init (kept_quiet z) d.tag d.first (t1_init c) c m.random drew
+      does_send_init (kept_quiet z) d.tag d.first (t1_init c) c m.draws drew
     where
       no_both : {A : Type 0} {b : Bool} → b ≡ true → b ≡ false → A
       no_both e f = cc
@@ -141,7 +141,7 @@ module _ (g : Setting) (y : Past) (own : AreValidOptions g.own) where
       → InvAt g (record x {
         held = record { mine = record { tag = my_tag; first = first }; peer = draw_in i } ∷ x.held;
         echoed = record { mine = record { tag = my_tag; first = first }; peer = draw_in i } ∷ x.echoed;
-      }) y (echoing i cookie my_tag first (idle (CookieWait my_tag first t1) c w))
+      }) y (echo_step i cookie my_tag first (idle (CookieWait my_tag first t1) c w))
   does_echo x tag i cookie my_tag first t1 c w distinct said brought under tagged inv =
       let d : Draw = record { tag = my_tag; first = first } in
       let a : Association = record { mine = d; peer = draw_in i } in
@@ -150,7 +150,7 @@ module _ (g : Setting) (y : Past) (own : AreValidOptions g.own) where
       let there : Waits x d = inv.stands in
       let is : said.peer ≡ d = one_draw x.drawn said.peer d distinct said.other there.own (sym said.under ∙ sym under) in
       let names : Names cookie a.peer a.mine = subst (λ (f : Draw). Names cookie (draw_in i) f) is (said.names cookie brought) in
-      inv_later g x y (waits d) c.options c.pack c.emitted.events nothing.tag [] inv z y l (later_same y) (holds a (Some cookie))
+      inv_later g x y (waits d) c.options c.pack c.emitted.events no_packet.tag [] inv z y l (later_same y) (holds a (Some cookie))
       (record {
         own = there.own;
         other = said.own;
@@ -168,11 +168,11 @@ module _ (g : Setting) (y : Past) (own : AreValidOptions g.own) where
 
   pub does_establish : (x : Past) (tag : ℕ) (t1 : Timer) (cookie : List ℕ) (t : Tcb) (c : Context Carried) (w : Stream) → SaysAck y x tag
       → t.identity.my_tag ≡ tag → InvAt g x y (idle (Open (CookieEchoed t1 cookie) t) c w)
-      → Inv g x y (holds (association_of t) None) c.options c.pack (c.emitted.events ++ OnConnected ∷ []) nothing.tag []
+      → Inv g x y (holds (association_of t) None) c.options c.pack (c.emitted.events ++ OnConnected ∷ []) no_packet.tag []
   does_establish x tag t1 cookie t c w said under inv =
       let a : Association = association_of t in
       let h : Holds x y a (Some cookie) = inv.stands in
       let is : said.a ≡ a = h.is_kept.only said.a said.echoed (sym said.under ∙ sym under) in
-      inv_view g x y (holds a (Some cookie)) c.options c.pack c.emitted.events nothing.tag [] inv (holds a None) (OnConnected ∷ []) refl
+      inv_view g x y (holds a (Some cookie)) c.options c.pack c.emitted.events no_packet.tag [] inv (holds a None) (OnConnected ∷ []) refl
       (record { own = h.own; other = h.other; held = h.held; is_kept = tt })
       (λ e. subst (λ (b : Association). Has (mirrored b) y.held) is said.held) (tagged_holds g.under a (Some cookie) None inv.tagged)

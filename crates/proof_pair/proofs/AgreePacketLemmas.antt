@@ -9,8 +9,8 @@ use Rattle.sctp_packet.specs.Packet.{PacketTree}
 use Rattle.sctp_state.specs.Events.{Event}
 use Rattle.sctp_state.specs.Options.{Options}
 use Rattle.spec_endpoint.specs.Association.{State, Closed, CookieWait, Open, Endpoint}
-use Rattle.spec_endpoint.specs.Input.{my_tag, abort_flag, complete_flag, has_shutdown_ack, begins_with_cookie, is_single_init, plain_refusal, refusal_by, refusal, Received, receive, receive_all, receive_rest, has_data, repeats_if, on_endpoint_state, end_packet, handle_chunks, counts}
-use Rattle.spec_endpoint.specs.Laws.{NoPacket}
+use Rattle.spec_endpoint.specs.Input.{my_tag, abort_flag, complete_flag, has_shutdown_ack, begins_with_cookie, is_single_init, plain_refusal, packet_refusal_by, packet_refusal, AfterChunk, receive, receive_all, receive_rest, has_data_chunk, repeats_if, in_endpoint_state, on_packet_end, on_accepted_packet, count_packet_at}
+use Rattle.spec_endpoint.specs.Laws.{ReceiveNoPacket}
 use Rattle.proof_endpoint.specs.Mapped.{Carried}
 use Rattle.proof_endpoint.specs.Acts.{calm, Preserves}
 use Rattle.proof_pair.specs.Trace.{AreValidOptions}
@@ -114,17 +114,17 @@ comes_by (cookie_ack_chunk ∷ cs) (inr h) = inl (all_pass is_load is_mild load_
 comes_by (cookie_echo_chunk c ∷ cs) (inr h) = inr (all_pass is_load is_no_answer load_answers_nothing cs h.1)
 comes_by (c ∷ cs) (inr h) = let no : is_opening c ≡ true = h.0 in cc
 
-admitted_by : (tag : ℕ) (cs : List ChunkTree) (s : State) → ComesBy cs → refusal tag cs s ≡ None → Admitted tag cs s
+admitted_by : (tag : ℕ) (cs : List ChunkTree) (s : State) → ComesBy cs → packet_refusal tag cs s ≡ None → Admitted tag cs s
 admitted_by tag cs s (inr h) refused = record { under = None; comes = comes_silent tag cs h; fits = tt }
 admitted_by tag cs s (inl h) refused =
     by_tag (tag == 0) (is_single_init cs) (tag == my_tag s) tag (my_tag s) cs s h (λ e. e) (λ e. sym (eqb-true tag (my_tag s) e))
-    (sym (ap (λ (a : Option Bool). refusal_by a (complete_flag cs) (has_shutdown_ack cs) tag cs s) (no_abort cs h)
-    ∙ (ap (λ (a : Option Bool). refusal_by None a (has_shutdown_ack cs) tag cs s) (no_complete cs h)
-    ∙ (ap (λ (a : Bool). refusal_by None None a tag cs s) (no_shutdown_ack cs h)
+    (sym (ap (λ (a : Option Bool). packet_refusal_by a (complete_flag cs) (has_shutdown_ack cs) tag cs s) (no_abort cs h)
+    ∙ (ap (λ (a : Option Bool). packet_refusal_by None a (has_shutdown_ack cs) tag cs s) (no_complete cs h)
+    ∙ (ap (λ (a : Bool). packet_refusal_by None None a tag cs s) (no_shutdown_ack cs h)
     ∙ ap (λ (a : Bool). plain_refusal a (tag == 0) (is_single_init cs) (tag == my_tag s) tag (my_tag s)) (no_cookie cs h))))
     ∙ refused)
 
-pub admitted : (tag : ℕ) (cs : List ChunkTree) (s : State) → Shape cs → refusal tag cs s ≡ None → Admitted tag cs s
+pub admitted : (tag : ℕ) (cs : List ChunkTree) (s : State) → Shape cs → packet_refusal tag cs s ≡ None → Admitted tag cs s
 admitted tag cs s h refused = admitted_by tag cs s (comes_by cs h) refused
 
 all_carried : (test : ChunkTree → Bool) → ((c : ChunkTree) → test (carried c) ≡ test c) → (cs : List ChunkTree) → list_all test (map carried cs) ≡ list_all test cs
@@ -154,17 +154,17 @@ distinct_behind [] es h = h
 distinct_behind (d ∷ ds) es h = distinct_behind ds es h.1
 
 distinct_after : (b : Bool) (rest : Endpoint Carried → History → History) (e : Endpoint Carried) (m : History) → ((k : History) → AreDistinct (rest e k).drawn → AreDistinct k.drawn)
-    → AreDistinct (noted_after rest (record { end = e; goes_on = b }) m).drawn → AreDistinct m.drawn
+    → AreDistinct (noted_after rest (record { end = e; allows_next = b }) m).drawn → AreDistinct m.drawn
 distinct_after true rest e m f h = f m h
 distinct_after false rest e m f h = h
 
 pub distinct_receiving : (tag : ℕ) (cs : List ChunkTree) (e : Endpoint Carried) (n : History) → AreDistinct (noted_receiving tag cs e n).drawn → AreDistinct n.drawn
 distinct_receiving tag [] e n h = h
 distinct_receiving tag (c ∷ cs) e n h =
-    let x : Received Carried = receive tag c e in
+    let x : AfterChunk Carried = receive tag c e in
     let m : History = noted (drawn_for c e) x.end.endpoint_state.state n in
     distinct_behind (drawn_for c e) n.drawn
-    (distinct_after x.goes_on (noted_receiving tag cs) x.end m (λ k q. distinct_receiving tag cs x.end k q) h)
+    (distinct_after x.allows_next (noted_receiving tag cs) x.end m (λ k q. distinct_receiving tag cs x.end k q) h)
 
 -- ---- chunk by chunk
 
@@ -181,8 +181,8 @@ module _ (o : Options) (past : List (Event Carried)) (y : Past) (fine : AreValid
 
   receives_rest : (b : Bool) (rest : Endpoint Carried → History → History) (f : Endpoint Carried → Endpoint Carried) (e : Endpoint Carried) (n m : History) (e1 : List Association)
       → Goes g y n e1 m e → ((a : Goes g y n e1 m e) → AreDistinct (rest e m).drawn → Goes g y m a.more (rest e m) (f e))
-      → AreDistinct (noted_after rest (record { end = e; goes_on = b }) m).drawn
-      → Goes g y n e1 (noted_after rest (record { end = e; goes_on = b }) m) (receive_rest f (record { end = e; goes_on = b }))
+      → AreDistinct (noted_after rest (record { end = e; allows_next = b }) m).drawn
+      → Goes g y n e1 (noted_after rest (record { end = e; allows_next = b }) m) (receive_rest f (record { end = e; allows_next = b }))
   receives_rest true rest f e n m e1 a next h = goes_through g y n e1 m (rest e m) e (f e) a (next a h)
   receives_rest false rest f e n m e1 a next h = a
 
@@ -191,12 +191,12 @@ module _ (o : Options) (past : List (Event Carried)) (y : Past) (fine : AreValid
       → Goes g y n e1 (noted_receiving tag cs e n) (receive_all tag cs e)
   receives_all [] n e1 e known comes said mine inv = record { more = e1; later = later_same (past_of n e1); known = known; inv = inv }
   receives_all (c ∷ cs) n e1 e known comes said mine inv =
-      let x : Received Carried = receive tag c e in
+      let x : AfterChunk Carried = receive tag c e in
       let m : History = noted (drawn_for c e) x.end.endpoint_state.state n in
       let first : Goes g y n e1 m x.end =
       receives o past y fine theirs p under n e1 known c e (All-head (Comes under tag) c cs comes) (All-head (Says y (past_of n e1) tag) c cs said)
       (distinct_receiving tag (c ∷ cs) e n mine) inv in
-      receives_rest x.goes_on (noted_receiving tag cs) (receive_all tag cs) x.end n m e1 first
+      receives_rest x.allows_next (noted_receiving tag cs) (receive_all tag cs) x.end n m e1 first
       (λ a d. receives_all cs m a.more x.end a.known (All-tail (Comes under tag) c cs comes)
       (says_on cs n m e1 a.more a.later (All-tail (Says y (past_of n e1) tag) c cs said)) d a.inv) mine
 
@@ -204,15 +204,15 @@ module _ (o : Options) (past : List (Event Carried)) (y : Past) (fine : AreValid
 
   pub takes_packet : (n : History) (e1 : List Association) (e : Endpoint Carried) → Known (past_of n e1) → All (Comes under tag) p.chunks
       → All (Says y (past_of n e1) tag) p.chunks → AreDistinct (noted_taking None p e n).drawn → InvAt g (past_of n e1) y (calm e)
-      → Goes g y n e1 (noted [] (handle_chunks tag p.chunks (counts e)).endpoint_state.state (noted_taking None p e n)) (handle_chunks tag p.chunks (counts e))
+      → Goes g y n e1 (noted [] (on_accepted_packet tag p.chunks (count_packet_at e)).endpoint_state.state (noted_taking None p e n)) (on_accepted_packet tag p.chunks (count_packet_at e))
   takes_packet n e1 e known comes said mine inv =
       let x : Past = past_of n e1 in
-      let first : Endpoint Carried = on_endpoint_state (repeats_if (has_data p.chunks)) (counts e) in
+      let first : Endpoint Carried = in_endpoint_state (repeats_if (has_data_chunk p.chunks)) (count_packet_at e) in
       let m : History = noted_taking None p e n in
-      let begun : InvAt g x y (calm first) = does_repeats_if (kept_quiet g y fine x) (has_data p.chunks) (counts e).endpoint_state e.random inv in
+      let begun : InvAt g x y (calm first) = does_repeats_if (kept_quiet g y fine x) (has_data_chunk p.chunks) (count_packet_at e).endpoint_state e.draws inv in
       let a : Goes g y n e1 m (receive_all tag p.chunks first) = receives_all p.chunks n e1 first known comes said mine begun in
       let middle : Endpoint Carried = receive_all tag p.chunks first in
-      let last : Endpoint Carried = handle_chunks tag p.chunks (counts e) in
-      let q : Preserves NoPacket (λ s t. InvAt g (past_of m a.more) y s → InvAt g (past_of m a.more) y t) = kept_quiet g y fine (past_of m a.more) in
-      let done : InvAt g (past_of m a.more) y (calm last) = does_where_open q middle.random end_packet middle.endpoint_state (does_ended q middle.random) a.inv in
+      let last : Endpoint Carried = on_accepted_packet tag p.chunks (count_packet_at e) in
+      let q : Preserves ReceiveNoPacket (λ s t. InvAt g (past_of m a.more) y s → InvAt g (past_of m a.more) y t) = kept_quiet g y fine (past_of m a.more) in
+      let done : InvAt g (past_of m a.more) y (calm last) = does_where_open q middle.draws on_packet_end middle.endpoint_state (does_ended q middle.draws) a.inv in
       goes_through g y n e1 m (noted [] last.endpoint_state.state m) middle last a (goes_held g y m a.more last a.known done)

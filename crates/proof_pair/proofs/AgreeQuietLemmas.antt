@@ -3,14 +3,14 @@ use Rattle.std.proofs.Common.{◌≡◌, ℕ, Bool, true, false, Some, None, Lis
 use Rattle.std.proofs.lemmas.List.Elements.{All-nil}
 use Rattle.std.proofs.lemmas.Bool.{both_ways}
 use Rattle.sctp_packet.specs.Chunk.{ChunkTree, InitTree, init_chunk, init_ack_chunk, cookie_echo_chunk, cookie_ack_chunk, re_config_chunk}
-use Rattle.sctp_capabilities.specs.Capabilities.{announce}
+use Rattle.sctp_capabilities.specs.Capabilities.{announced_parameters}
 use Rattle.sctp_capabilities.specs.StateCookie.{Cookie, CapabilitiesFit}
 use Rattle.sctp_state.specs.Handover.{HandoverState}
 use Rattle.sctp_state.specs.Options.{Options}
 use Rattle.sctp_state.specs.Events.{Event, OnError, OnClosed}
 use Rattle.sctp_capabilities.proofs.CapabilitiesLemmas.{announced_with_options}
 use Rattle.spec_endpoint.specs.Association.{Tcb, Phase, CookieEchoed, Established, ShutdownPending, CookieWait, Open, Context}
-use Rattle.spec_endpoint.specs.Packets.{Packet, packet_to, add}
+use Rattle.spec_endpoint.specs.Packets.{PacketDraft, packet_to, add}
 use Rattle.spec_endpoint.specs.ResetRequests.{Outcome, Unsettled, Done, Denied, outcome, request_chunk}
 use Rattle.spec_endpoint.specs.StreamReset.{on_outcome}
 use Rattle.spec_endpoint.specs.Sending.{is_small, selective_ack, fast_most}
@@ -21,13 +21,13 @@ use Rattle.sctp_tx.specs.Resent.{resent_fast}
 use Rattle.sctp_tx.specs.ForwardPoints.{chunk_if, forward_chunk}
 use Rattle.sctp_tx.specs.Sending as fragments
 use Rattle.proof_endpoint.specs.Mapped.{Carried}
-use Rattle.proof_endpoint.specs.Acts.{EndWithPacket, in_open, may_shut, IsReceived, IsEchoed, fragments_of, PacketAct, begins, adds_plain, emits, complains, counts, before_packets, after_packets, OpeningAct, connects, adds_init, answers_new, answers_waiting, answers_echoed, answers_again, echoes, adds_cookie, establishes, opens, restarts, opens_again, maintains, adds_cookie_ack, before_opening, after_opening, ClosingAct, closes, shuts, shuts_on, before_closing, after_closing, DataAct, takes_data, takes_idata, takes_forward, takes_iforward, before_data, after_data, SackAct, takes_sack, samples, counts_errors, before_sack, after_sack, SendingAct, asks, adds_ack, expires, adds_forward, forwards_later, asks_no_reset, asks_reset, adds_request, sends, sends_fast, before_sending, after_sending, TimeAct, advances, delay_ends, times_out, beats, times_init, times_cookie, times_request, wakes_request, before_time, after_time, CallAct, accepts, refuses, takes_message, sets_low_threshold, sets_priority, sets_max_message_size, before_call, after_call, ResetAct, prepares, defers, performs, processes, takes_response, adds_responses, before_reset, after_reset, HandoverAct, leaves, takes_up, before_handover, after_handover, InputAct, ends_packet, before_input, after_input, Preserves}
+use Rattle.proof_endpoint.specs.Acts.{EndWithPacket, in_open, may_shut, BringsChunk, IsEchoed, fragments_of, PacketAct, begins, adds_plain, emits, emits_error, counts, before_packets, after_packets, OpeningAct, connects, adds_init, answers_new, answers_waiting, answers_echoed, answers_again, echoes, adds_cookie, establishes, opens, restarts, opens_again, maintains, adds_cookie_ack, before_opening, after_opening, ClosingAct, closes, shuts, shuts_on, before_closing, after_closing, DataAct, takes_data, takes_idata, takes_forward, takes_iforward, before_data, after_data, SackAct, takes_sack, samples, counts_errors, before_sack, after_sack, SendingAct, asks, adds_ack, expires, adds_forward, forwards_later, asks_no_reset, asks_reset, adds_request, sends, sends_fast, before_sending, after_sending, TimeAct, advances, delay_ends, times_out, beats, times_init, times_cookie, times_request, wakes_request, before_time, after_time, CallAct, accepts, refuses, takes_message, sets_low_threshold, sets_priority, sets_max_message_size, before_call, after_call, ResetAct, prepares, defers, performs, processes, takes_response, adds_responses, before_reset, after_reset, HandoverAct, leaves, takes_up, before_handover, after_handover, InputAct, ends_packet, before_input, after_input, Preserves}
 use Rattle.proof_pair.specs.Trace.{AreValidOptions}
 use Rattle.proof_pair.specs.Agreement.{association_of}
-use Rattle.proof_pair.proofs.EmittedLemmas.{EmitsLightly}
-use Rattle.proof_pair.proofs.UntilLemmas.{light_sack, light_sending, light_time, light_call, light_reset}
+use Rattle.proof_pair.proofs.EmittedLemmas.{EmitsNoPacketOrStatus}
+use Rattle.proof_pair.proofs.UntilLemmas.{sack_act_emits_no_packet_or_status, sending_act_emits_no_packet_or_status, time_act_emits_no_packet_or_status, call_act_emits_no_packet_or_status, reset_act_emits_no_packet_or_status}
 use Rattle.proof_pair.proofs.AgreeLemmas.{Past, View, rests, holds, view_of, late_phase, FitsDraw, FitsInit, Says, Shape, Holds, tagged_rests, tagged_holds, later_same}
-use Rattle.proof_pair.proofs.AgreeActsLemmas.{Setting, Inv, InvAt, inv_made, inv_view, inv_light, inv_emitted, inv_options, inv_later, adds, IsLoad, adds_load, adds_data, adds_simple}
+use Rattle.proof_pair.proofs.AgreeActsLemmas.{Setting, Inv, InvAt, inv_made, inv_view, inv_no_packet_or_status, inv_emitted, inv_options, inv_later, adds, IsLoad, adds_load, adds_data, adds_simple}
 use Rattle.proof_pair.proofs.JoinActsLemmas.{ends_no_packet}
 
 -- chunks that don't open an association
@@ -39,16 +39,16 @@ opens_nothing cookie_ack_chunk = false
 opens_nothing chunk = true
 
 pub record Quiet (call : Call) : Type 0 where
-  pub on_received : (tag : ℕ) (chunk : ChunkTree) → IsReceived call tag chunk → opens_nothing chunk ≡ true
+  pub on_received : (tag : ℕ) (chunk : ChunkTree) → BringsChunk call tag chunk → opens_nothing chunk ≡ true
   pub connects : call ≡ Connect → ⊥
   pub restores : (h : HandoverState) → call ≡ Restore h → ⊥
 
 -- ---- an INIT
 
 pub fits_init : (o os : Options) (size tag first : ℕ) → AreValidOptions o → os ≡ record o { max_message_size = size } → FitsDraw (record { tag = tag; first = first })
-    → FitsInit (init_of os tag first (announce os os.zero_checksum_method))
+    → FitsInit (init_of os tag first (announced_parameters os os.zero_checksum_method))
 fits_init o os size tag first fine e fits =
-    subst (λ (z : Options). FitsInit (init_of z tag first (announce z z.zero_checksum_method))) (sym e)
+    subst (λ (z : Options). FitsInit (init_of z tag first (announced_parameters z z.zero_checksum_method))) (sym e)
     (record {
       draw = fits;
       window = omega (arith, fine.valid.sizes.receiver_window);
@@ -56,14 +56,14 @@ fits_init o os size tag first fine e fits =
           (record { zero_checksum_method = fine.method; incoming = fine.outgoing; outgoing = fine.incoming });
     })
 
-one_alone : (p q : Packet) (c : ChunkTree) → p ≡ q → Shape (q.chunks ++ c ∷ []) → Shape (p.chunks ++ c ∷ [])
-one_alone p q c e h = subst (λ (z : Packet). Shape (z.chunks ++ c ∷ [])) (sym e) h
+one_alone : (p q : PacketDraft) (c : ChunkTree) → p ≡ q → Shape (q.chunks ++ c ∷ []) → Shape (p.chunks ++ c ∷ [])
+one_alone p q c e h = subst (λ (z : PacketDraft). Shape (z.chunks ++ c ∷ [])) (sym e) h
 
 module _ (g : Setting) (x y : Past) (call : Call) (own : AreValidOptions g.own) (q : Quiet call) where
-  emits_all : (v : View) (m n : EndWithPacket Carried) (tag : ℕ) (cs : List ChunkTree) → EmitsLightly m.context.emitted n.context.emitted
+  emits_all : (v : View) (m n : EndWithPacket Carried) (tag : ℕ) (cs : List ChunkTree) → EmitsNoPacketOrStatus m.context.emitted n.context.emitted
       → Inv g x y v m.context.options m.context.pack m.context.emitted.events tag cs → Inv g x y v m.context.options m.context.pack n.context.emitted.events tag cs
   emits_all v m n tag cs l inv =
-      inv_light g x y v m.context.options m.context.pack m.context.emitted.events tag cs inv l.events n.context.emitted.events l.behind l.all
+      inv_no_packet_or_status g x y v m.context.options m.context.pack m.context.emitted.events tag cs inv l.events n.context.emitted.events l.behind l.all
 
   loads : (v : View) (m : EndWithPacket Carried) (c : ChunkTree) → Inv g x y v m.context.options m.context.pack m.context.emitted.events m.packet.tag m.packet.chunks
       → IsLoad g x y v m.context.options m.context.pack m.context.emitted.events c
@@ -81,8 +81,8 @@ module _ (g : Setting) (x y : Past) (call : Call) (own : AreValidOptions g.own) 
   keeps_packets (emits m some bundled) inv =
       inv_emitted g x y (view_of m.state) m.context.options m.context.pack m.context.emitted.events m.packet.tag m.packet.chunks inv m.context.options m.packet.is_summed
       m.packet.tag
-  keeps_packets (complains kind text m) inv =
-      inv_light g x y (view_of m.state) m.context.options m.context.pack m.context.emitted.events m.packet.tag m.packet.chunks inv (OnError kind text ∷ [])
+  keeps_packets (emits_error kind text m) inv =
+      inv_no_packet_or_status g x y (view_of m.state) m.context.options m.context.pack m.context.emitted.events m.packet.tag m.packet.chunks inv (OnError kind text ∷ [])
       (m.context.emitted.events ++ OnError kind text ∷ []) refl refl
   keeps_packets (counts m) inv = inv
 
@@ -96,7 +96,7 @@ module _ (g : Setting) (x y : Past) (call : Call) (own : AreValidOptions g.own) 
   keeps_opening (adds_init tag first t1 m to) inv =
       let v : View = view_of (CookieWait tag first t1) in
       let o : Options = m.context.options in
-      let i : InitTree = init_of o tag first (announce o o.zero_checksum_method) in
+      let i : InitTree = init_of o tag first (announced_parameters o o.zero_checksum_method) in
       adds g x y v o m.context.pack m.context.emitted.events m.packet (init_chunk i) inv
       (record { own = inv.stands.own; fits = fits_init g.own o inv.size tag first own inv.options inv.stands.fits })
       (one_alone m.packet (packet_to 0 o.mtu) (init_chunk i) to (inl refl))
@@ -117,14 +117,14 @@ module _ (g : Setting) (x y : Past) (call : Call) (own : AreValidOptions g.own) 
         names = h.is_kept.names;
         own = h.own;
         other = h.other;
-        under = ap (λ (p : Packet). p.tag) to;
+        under = ap (λ (p : PacketDraft). p.tag) to;
       })
       (one_alone m.packet (packet_to t.identity.peer_tag o.mtu) (cookie_echo_chunk cookie) to (inr (refl, refl)))
   keeps_opening (establishes tag t1 cookie t m h) inv = absurd (both_ways false refl (q.on_received tag cookie_ack_chunk h))
   keeps_opening (opens tag k m h none is) inv = no_echo tag k h
-  keeps_opening (restarts tag k phase t m h verdict) inv = no_echo tag k h
-  keeps_opening (opens_again tag k phase t m h verdict) inv = no_echo tag k h
-  keeps_opening (maintains tag k t1 cookie t m h verdict) inv = no_echo tag k h
+  keeps_opening (restarts tag k phase t m h resolution) inv = no_echo tag k h
+  keeps_opening (opens_again tag k phase t m h resolution) inv = no_echo tag k h
+  keeps_opening (maintains tag k t1 cookie t m h resolution) inv = no_echo tag k h
   keeps_opening (adds_cookie_ack tag back phase t m h late) inv = no_echo tag back h
 
   -- ---- closing
@@ -164,7 +164,7 @@ module _ (g : Setting) (x y : Past) (call : Call) (own : AreValidOptions g.own) 
   keeps_sack : (act : SackAct Carried call) → InvAt g x y (before_sack act) → InvAt g x y (after_sack act)
   keeps_sack (takes_sack tag k phase t m received valid) inv =
       let act : SackAct Carried call = takes_sack tag k phase t m received valid in
-      emits_all (view_of (Open phase t)) m (after_sack act) m.packet.tag m.packet.chunks (light_sack act) inv
+      emits_all (view_of (Open phase t)) m (after_sack act) m.packet.tag m.packet.chunks (sack_act_emits_no_packet_or_status act) inv
   keeps_sack (samples k phase t m) inv = inv
   keeps_sack (counts_errors e m) inv = inv
 
@@ -180,7 +180,7 @@ module _ (g : Setting) (x y : Past) (call : Call) (own : AreValidOptions g.own) 
       loads (view_of (Open phase t)) m (selective_ack t) inv (record { says = λ tag. tt; load = refl })
   keeps_sending (expires phase t m) inv =
       let act : SendingAct Carried call = expires phase t m in
-      emits_all (view_of (Open phase t)) m (after_sending act) m.packet.tag m.packet.chunks (light_sending act) inv
+      emits_all (view_of (Open phase t)) m (after_sending act) m.packet.tag m.packet.chunks (sending_act_emits_no_packet_or_status act) inv
   keeps_sending (adds_forward phase t m due) inv =
       loads (view_of (Open phase t)) m (forward_chunk t.sender) inv (forward_load _ (view_of (Open phase t)) m t.sender)
   keeps_sending (forwards_later n m) inv = inv
@@ -192,7 +192,7 @@ module _ (g : Setting) (x y : Past) (call : Call) (own : AreValidOptions g.own) 
       let act : SendingAct Carried call = sends phase t m in
       let v : View = view_of (Open phase t) in
       let f : fragments.Filling Carried = fragments_of t m in
-      emits_all v m (after_sending act) _ _ (light_sending act)
+      emits_all v m (after_sending act) _ _ (sending_act_emits_no_packet_or_status act)
       (adds_data g x y v m.context.options m.context.pack m.context.emitted.events t (is_small m.context.options f.sender) f.chunks m.packet inv)
   keeps_sending (sends_fast phase t m some) inv =
       let v : View = view_of (Open phase t) in
@@ -203,7 +203,7 @@ module _ (g : Setting) (x y : Past) (call : Call) (own : AreValidOptions g.own) 
   keeps_time : (act : TimeAct Carried call) → InvAt g x y (before_time act) → InvAt g x y (after_time act)
   keeps_time (times_out phase t m due) inv =
       let act : TimeAct Carried call = times_out phase t m due in
-      emits_all (view_of (Open phase t)) m (after_time act) m.packet.tag m.packet.chunks (light_time act) inv
+      emits_all (view_of (Open phase t)) m (after_time act) m.packet.tag m.packet.chunks (time_act_emits_no_packet_or_status act) inv
   keeps_time (advances now m is on) inv = inv
   keeps_time (delay_ends phase t m) inv = inv
   keeps_time (beats h m) inv = inv
@@ -216,11 +216,11 @@ module _ (g : Setting) (x y : Past) (call : Call) (own : AreValidOptions g.own) 
   keeps_calls (accepts message o m offered fine) inv = inv
   keeps_calls (refuses message o e m offered is) inv =
       let act : CallAct Carried call = refuses message o e m offered is in
-      emits_all (view_of m.state) m (after_call act) m.packet.tag m.packet.chunks (light_call act) inv
+      emits_all (view_of m.state) m (after_call act) m.packet.tag m.packet.chunks (call_act_emits_no_packet_or_status act) inv
   keeps_calls (takes_message phase t m is) inv = inv
   keeps_calls (sets_low_threshold stream bytes m is) inv =
       let act : CallAct Carried call = sets_low_threshold stream bytes m is in
-      emits_all (view_of m.state) m (after_call act) m.packet.tag m.packet.chunks (light_call act) inv
+      emits_all (view_of m.state) m (after_call act) m.packet.tag m.packet.chunks (call_act_emits_no_packet_or_status act) inv
   keeps_calls (sets_priority stream priority m is) inv = inv
   keeps_calls (sets_max_message_size bytes m is) inv =
       inv_options g x y (view_of m.state) m.context.options m.context.pack m.context.emitted.events m.packet.tag m.packet.chunks inv
@@ -231,17 +231,17 @@ module _ (g : Setting) (x y : Past) (call : Call) (own : AreValidOptions g.own) 
   with_outcome : (o : Outcome) (v : View) (c : Context Carried) (tag : ℕ) (cs : List ChunkTree) → Inv g x y v c.options c.pack c.emitted.events tag cs
       → Inv g x y v (on_outcome o c).options (on_outcome o c).pack (on_outcome o c).emitted.events tag cs
   with_outcome Unsettled v c tag cs inv = inv
-  with_outcome (Done streams) v c tag cs inv = inv_light g x y v c.options c.pack c.emitted.events tag cs inv _ (on_outcome (Done streams) c).emitted.events refl refl
-  with_outcome (Denied streams) v c tag cs inv = inv_light g x y v c.options c.pack c.emitted.events tag cs inv _ (on_outcome (Denied streams) c).emitted.events refl refl
+  with_outcome (Done streams) v c tag cs inv = inv_no_packet_or_status g x y v c.options c.pack c.emitted.events tag cs inv _ (on_outcome (Done streams) c).emitted.events refl refl
+  with_outcome (Denied streams) v c tag cs inv = inv_no_packet_or_status g x y v c.options c.pack c.emitted.events tag cs inv _ (on_outcome (Denied streams) c).emitted.events refl refl
 
   keeps_resets : (act : ResetAct Carried call) → InvAt g x y (before_reset act) → InvAt g x y (after_reset act)
   keeps_resets (prepares stream phase t m asked can) inv =
       let act : ResetAct Carried call = prepares stream phase t m asked can in
-      emits_all (view_of (Open phase t)) m (after_reset act) m.packet.tag m.packet.chunks (light_reset act) inv
+      emits_all (view_of (Open phase t)) m (after_reset act) m.packet.tag m.packet.chunks (reset_act_emits_no_packet_or_status act) inv
   keeps_resets (defers number response last_tsn streams phase t m asked known ahead) inv = inv
   keeps_resets (performs number response last_tsn streams phase t m asked known there) inv =
       let act : ResetAct Carried call = performs number response last_tsn streams phase t m asked known there in
-      emits_all (view_of (Open phase t)) m (after_reset act) m.packet.tag m.packet.chunks (light_reset act) inv
+      emits_all (view_of (Open phase t)) m (after_reset act) m.packet.tag m.packet.chunks (reset_act_emits_no_packet_or_status act) inv
   keeps_resets (processes number streams phase t m asked known) inv = inv
   keeps_resets (takes_response rto number result sender receiver phase t m asked) inv =
       with_outcome (outcome number result t.requests.current) (view_of (Open phase t)) m.context m.packet.tag m.packet.chunks inv

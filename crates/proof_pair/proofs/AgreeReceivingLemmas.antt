@@ -13,17 +13,17 @@ use Rattle.sctp_state.specs.Events.{Event, OnAborted}
 use Rattle.sctp_state.specs.Options.{Options}
 use Rattle.sctp_state.specs.Timer.{Timer}
 use Rattle.spec_endpoint.specs.Association.{Tcb, tcb, Phase, CookieEchoed, Established, ShutdownPending, ShutdownSent, ShutdownReceived, ShutdownAckSent, State, Closed, CookieWait, Open, Context, Endpoint}
-use Rattle.spec_endpoint.specs.Packets.{Packet, packet_to, round_up, add, emit}
+use Rattle.spec_endpoint.specs.Packets.{PacketDraft, packet_to, round_down_to_4, add, emit}
 use Rattle.spec_endpoint.specs.Sending.{send_cookie}
-use Rattle.spec_endpoint.specs.Opening.{word, drew_word, long_word, tag_from, tsn_from, next_first, answer, names, agreed_by, cookie_in, t1_cookie, connected_context, echo_cookie as echoed_by, on_read_cookie}
+use Rattle.spec_endpoint.specs.Opening.{word, drew_word, long_word, tag_from, tsn_from, next_first, answer, identity_of_init_ack, agreed_by, cookie_in, t1_cookie, enter_connected, echo_or_abort as echoed_by, on_read_cookie}
 use Rattle.spec_endpoint.specs.Input.{receive}
-use Rattle.spec_endpoint.specs.Laws.{Call, Packet as Given, NoPacket}
+use Rattle.spec_endpoint.specs.Laws.{Call, ReceivePacket as Given, ReceiveNoPacket}
 use Rattle.proof_endpoint.specs.Mapped.{Carried}
 use Rattle.proof_endpoint.proofs.OpeningStepsLemmas.{end_in}
-use Rattle.proof_endpoint.specs.Acts.{EndWithPacket, idle, calm, nothing, echoing, IsReceived, always, Preserves}
+use Rattle.proof_endpoint.specs.Acts.{EndWithPacket, idle, calm, no_packet, echo_step, BringsChunk, always, Preserves}
 use Rattle.proof_pair.specs.Trace.{AreValidOptions}
 use Rattle.proof_pair.specs.Agreement.{Draw, Association, Has, History, association_of, held_in, two_drawn, one_drawn, drawn_for, AreDistinct}
-use Rattle.proof_endpoint.proofs.PacketActsLemmas.{rounded_addressed, does_plain, does_complain, does_send_buffered, does_send_cookie}
+use Rattle.proof_endpoint.proofs.PacketActsLemmas.{rounded_addressed, does_plain, does_emit_error, does_send_buffered, does_send_cookie}
 use Rattle.proof_endpoint.proofs.RowActsLemmas.{does_closed, does_send_shutdown_ack}
 use Rattle.proof_endpoint.proofs.ActsLemmas.{does_receive}
 use Rattle.proof_pair.proofs.AddedLemmas.{all_at}
@@ -85,7 +85,7 @@ goes_through g y n e1 m l s t a b = record {
 settled : (o : Options) (past : List (Event Carried)) (y : Past) (under : Option ℕ) (a : Association) (n : History) (e1 e2 : List Association)
     → ((b : Association) → Has b e1 → Has b e2) → Known (past_of n e2) → (phase : Phase) (t : Tcb) (d : Context Carried) (w : Stream)
     → InvAt (bounded o past under (Some a)) (past_of (record n { held = a ∷ n.held }) e2) y (idle (Open phase t) d w)
-    → Goes (bounded o past under None) y n e1 (noted [] (Open phase t) n) (record { endpoint_state = record { state = Open phase t; context = d }; random = w })
+    → Goes (bounded o past under None) y n e1 (noted [] (Open phase t) n) (record { endpoint_state = record { state = Open phase t; context = d }; draws = w })
 settled o past y under a n e1 e2 more known phase t d w inv =
     let b : Association = association_of t in
     let v : View = view_of (Open phase t) in
@@ -94,13 +94,13 @@ settled o past y under a n e1 e2 more known phase t d w inv =
     let next : History = noted [] (Open phase t) n in
     let l : Later (past_of m e2) (past_of next e2) =
     record { drawn = λ f h. h; held = λ f h. elim h [ inl e ↦ inl (e ∙ inv.tagged.same) | inr r ↦ inr r ]; echoed = λ f h. h } in
-    let grown : Inv g (past_of next e2) y v d.options d.pack d.emitted.events nothing.tag [] =
-    inv_grown g (past_of m e2) y v d.options d.pack d.emitted.events nothing.tag [] inv (past_of next e2) l refl in
+    let grown : Inv g (past_of next e2) y v d.options d.pack d.emitted.events no_packet.tag [] =
+    inv_grown g (past_of m e2) y v d.options d.pack d.emitted.events no_packet.tag [] inv (past_of next e2) l refl in
     record {
       more = e2;
       later = record { drawn = λ f h. h; held = λ f h. inr h; echoed = more };
       known = known;
-      inv = inv_bound g (past_of next e2) y v d.options d.pack d.emitted.events nothing.tag [] grown (record { tag = under; only = None })
+      inv = inv_bound g (past_of next e2) y v d.options d.pack d.emitted.events no_packet.tag [] grown (record { tag = under; only = None })
           (record { under = inv.tagged.under; same = tt });
     }
 
@@ -119,7 +119,7 @@ module _ (o : Options) (past : List (Event Carried)) (under : Option ℕ) (y : P
     abbrev Receives : ChunkTree → Endpoint Carried → Type 0
     Receives c e = Goes g y n e1 (noted (drawn_for c e) (receive tag c e).end.endpoint_state.state n) (receive tag c e).end
 
-    k : Preserves NoPacket (λ a b. InvAt g x y a → InvAt g x y b)
+    k : Preserves ReceiveNoPacket (λ a b. InvAt g x y a → InvAt g x y b)
     k = kept_quiet g y fine x
 
     receives_quiet : (c : ChunkTree) (e : Endpoint Carried) → opens_nothing c ≡ true → InvAt g x y (calm e)
@@ -128,7 +128,7 @@ module _ (o : Options) (past : List (Event Carried)) (under : Option ℕ) (y : P
         let one : PacketTree = record p { chunks = c ∷ [] } in
         let all : All (λ d. opens_nothing d ≡ true) (c ∷ []) =
         All-cons (λ d. opens_nothing d ≡ true) c [] nothing_opens (All-nil (λ d. opens_nothing d ≡ true)) in
-        let h : IsReceived (Given one) tag c = record { packet = one; given = refl; under = refl; among = record { before = []; behind = []; split = refl } } in
+        let h : BringsChunk (Given one) tag c = record { packet = one; given = refl; under = refl; among = record { before = []; behind = []; split = refl } } in
         goes_held g y n e1 (receive tag c e).end known (does_receive (quiet g x y (Given one) fine (quiet_packet one all)) tag c e h inv)
 
     -- ---- INIT
@@ -136,7 +136,7 @@ module _ (o : Options) (past : List (Event Carried)) (under : Option ℕ) (y : P
     grown : (ds : List Draw) (held : List Association) (s : State) (c : Context Carried) (w : Stream) → InvAt g x y (idle s c w)
         → InvAt g (past_of (record { drawn = ds ++ n.drawn; held = held ++ n.held }) e1) y (idle s c w)
     grown ds held s c w inv =
-        inv_grown g x y (view_of s) c.options c.pack c.emitted.events nothing.tag [] inv
+        inv_grown g x y (view_of s) c.options c.pack c.emitted.events no_packet.tag [] inv
         (past_of (record { drawn = ds ++ n.drawn; held = held ++ n.held }) e1)
         (record { drawn = λ d h. has_behind d ds n.drawn h; held = λ a h. has_behind a held n.held h; echoed = λ a h. h }) refl
 
@@ -155,12 +155,12 @@ module _ (o : Options) (past : List (Event Carried)) (under : Option ℕ) (y : P
 
     init_again : (i : InitTree) (phase : Phase) (t : Tcb) (s : Endpoint Carried) → SaysInit y i → InvAt g x y (calm (end_in (Open phase t) s))
         → InvAt g (past_of (noted (one_drawn t s) (Open phase t) n) e1) y
-        (idle (Open phase t) (answer i (tag_from (word s)) (next_first t) t.identity.tie s.endpoint_state.context) (drew_word s).random)
+        (idle (Open phase t) (answer i (tag_from (word s)) (next_first t) t.identity.tie s.endpoint_state.context) (drew_word s).draws)
     init_again i phase t s said inv =
         let m : History = noted (one_drawn t s) (Open phase t) n in
         let c : Context Carried = s.endpoint_state.context in
-        does_answer g y fine (past_of m e1) (Open phase t) c (drew_word s).random i (tag_from (word s)) (next_first t) t.identity.tie (again_fits t (word s)) (inl refl) said
-        (grown (one_drawn t s) (association_of t ∷ []) (Open phase t) c s.random inv)
+        does_answer g y fine (past_of m e1) (Open phase t) c (drew_word s).draws i (tag_from (word s)) (next_first t) t.identity.tie (again_fits t (word s)) (inl refl) said
+        (grown (one_drawn t s) (association_of t ∷ []) (Open phase t) c s.draws inv)
 
     init_open : (i : InitTree) (phase : Phase) (t : Tcb) (s : Endpoint Carried) → SaysInit y i → InvAt g x y (calm (end_in (Open phase t) s))
         → Receives (init_chunk i) (end_in (Open phase t) s)
@@ -169,8 +169,8 @@ module _ (o : Options) (past : List (Event Carried)) (under : Option ℕ) (y : P
         let h : Holds x y (association_of t) (Some cookie) = inv.stands in
         let m : History = noted [] st n in
         goes_drawn [] (receive tag (init_chunk i) (end_in st s)).end
-        (does_answer g y fine (past_of m e1) st s.endpoint_state.context s.random i t.identity.my_tag t.identity.my_first 0 h.is_kept.fits h.own said
-        (grown [] (association_of t ∷ []) st s.endpoint_state.context s.random inv))
+        (does_answer g y fine (past_of m e1) st s.endpoint_state.context s.draws i t.identity.my_tag t.identity.my_first 0 h.is_kept.fits h.own said
+        (grown [] (association_of t ∷ []) st s.endpoint_state.context s.draws inv))
     init_open i Established t s said inv =
         goes_drawn (one_drawn t s) (receive tag (init_chunk i) (end_in (Open Established t) s)).end (init_again i Established t s said inv)
     init_open i ShutdownPending t s said inv =
@@ -181,20 +181,20 @@ module _ (o : Options) (past : List (Event Carried)) (under : Option ℕ) (y : P
         goes_drawn (one_drawn t s) (receive tag (init_chunk i) (end_in (Open ShutdownReceived t) s)).end (init_again i ShutdownReceived t s said inv)
     init_open i (ShutdownAckSent t2) t s said inv =
         goes_held g y n e1 (receive tag (init_chunk i) (end_in (Open (ShutdownAckSent t2) t) s)).end known
-        (does_send_shutdown_ack k s.random (ShutdownAckSent t2) t s.endpoint_state.context inv)
+        (does_send_shutdown_ack k s.draws (ShutdownAckSent t2) t s.endpoint_state.context inv)
 
     receives_init : (i : InitTree) (st : State) (s : Endpoint Carried) → SaysInit y i → InvAt g x y (calm (end_in st s)) → Receives (init_chunk i) (end_in st s)
     receives_init i Closed s said inv =
         let m : History = noted (two_drawn s) Closed n in
         let c : Context Carried = s.endpoint_state.context in
         goes_drawn (two_drawn s) (receive tag (init_chunk i) (end_in Closed s)).end
-        (does_answer g y fine (past_of m e1) Closed c (drew_word (drew_word s)).random i (tag_from (word (drew_word s))) (tsn_from (word s)) 0
-        (drawn_fits (word s) (word (drew_word s))) (inl refl) said (grown (two_drawn s) [] Closed c s.random inv))
+        (does_answer g y fine (past_of m e1) Closed c (drew_word (drew_word s)).draws i (tag_from (word (drew_word s))) (tsn_from (word s)) 0
+        (drawn_fits (word s) (word (drew_word s))) (inl refl) said (grown (two_drawn s) [] Closed c s.draws inv))
     receives_init i (CookieWait my_tag first t1) s said inv =
         let st : State = CookieWait my_tag first t1 in
         let h : Waits x (record { tag = my_tag; first = first }) = inv.stands in
         goes_held g y n e1 (receive tag (init_chunk i) (end_in st s)).end known
-        (does_answer g y fine x st s.endpoint_state.context s.random i my_tag first 0 h.fits h.own said inv)
+        (does_answer g y fine x st s.endpoint_state.context s.draws i my_tag first 0 h.fits h.own said inv)
     receives_init i (Open phase t) s said inv = init_open i phase t s said inv
 
     -- ---- INIT ACK
@@ -213,21 +213,21 @@ module _ (o : Options) (past : List (Event Carried)) (under : Option ℕ) (y : P
           let d : Draw = record { tag = my_tag; first = first } in
           let a : Association = record { mine = d; peer = draw_in i } in
           let e : Endpoint Carried = end_in (CookieWait my_tag first t1) s in
-          let m : EndWithPacket Carried = echoing i cookie my_tag first (calm e) in
-          let t : Tcb = tcb c.options (names i my_tag first (long_word s)) i.a_rwnd (agreed_by c.options i) in
+          let m : EndWithPacket Carried = echo_step i cookie my_tag first (calm e) in
+          let t : Tcb = tcb c.options (identity_of_init_ack i my_tag first (long_word s)) i.a_rwnd (agreed_by c.options i) in
           let z : Past = past_of (record n { held = a ∷ n.held }) (a ∷ e1) in
           let u : my_tag ≡ tag = own_tag under d is inv.tagged.under in
           let tagged : Tagged g.under (holds a (Some cookie)) = record { under = subst (λ (o : Option ℕ). IsUnder o (holds a (Some cookie))) (sym is) u; same = tt } in
-          let next : InvAt g z y m = does_echo g y fine x tag i cookie my_tag first t1 c s.random mine said brought u tagged inv in
+          let next : InvAt g z y m = does_echo g y fine x tag i cookie my_tag first t1 c s.draws mine said brought u tagged inv in
           let h : Setting = bounded o past under (Some a) in
           let bound : InvAt h z y m =
-          inv_bound g z y (holds a (Some cookie)) m.context.options m.context.pack m.context.emitted.events nothing.tag [] next h.under
+          inv_bound g z y (holds a (Some cookie)) m.context.options m.context.pack m.context.emitted.events no_packet.tag [] next h.under
           (record { under = tagged.under; same = refl }) in
           let there : Waits x d = inv.stands in
           settled o past y under a n e1 (a ∷ e1) (λ b q. inr q)
           (λ b q. elim q [ inl r ↦ subst (λ (f : Association). Has f.mine n.drawn) (sym r) there.own | inr r ↦ known b r ])
-          (CookieEchoed (t1_cookie c) cookie) (send_cookie cookie t m.context).tcb (send_cookie cookie t m.context).context m.random
-          (does_send_cookie (kept_quiet h y fine z) (t1_cookie c) cookie m.random t m.context bound)
+          (CookieEchoed (t1_cookie c) cookie) (send_cookie cookie t m.context).tcb (send_cookie cookie t m.context).context m.draws
+          (does_send_cookie (kept_quiet h y fine z) (t1_cookie c) cookie m.draws t m.context bound)
 
       without : (my_tag first : ℕ) (t1 : Timer) (s : Endpoint Carried) → InvAt g x y (calm (end_in (CookieWait my_tag first t1) s))
           → Goes g y n e1 (noted [] Closed n) (echoed_by i None my_tag first (end_in (CookieWait my_tag first t1) s))
@@ -235,10 +235,10 @@ module _ (o : Options) (past : List (Event Carried)) (under : Option ℕ) (y : P
           let c : Context Carried = s.endpoint_state.context in
           let st : State = CookieWait my_tag first t1 in
           let chunk : ChunkTree = abort_chunk false (missing_mandatory_parameter (7 ∷ []) ∷ []) in
-          let q : Packet = packet_to i.initiate_tag (round_up c.options.mtu) in
+          let q : PacketDraft = packet_to i.initiate_tag (round_down_to_4 c.options.mtu) in
           goes_held g y n e1 (echoed_by i None my_tag first (end_in st s)) known
-          (does_closed k s.random (OnAborted ProtocolViolation (codes "InitAck chunk doesn't contain a cookie")) st (emit (add chunk q) c) refl refl
-          (does_plain k chunk q st c s.random refl refl (always refl) (rounded_addressed st c s.random i.initiate_tag (λ f. absurd (f.some refl))) (λ f. absurd (f.some refl)) inv))
+          (does_closed k s.draws (OnAborted ProtocolViolation (codes "InitAck chunk doesn't contain a cookie")) st (emit (add chunk q) c) refl refl
+          (does_plain k chunk q st c s.draws refl refl (always refl) (rounded_addressed st c s.draws i.initiate_tag (λ f. absurd (f.some refl))) (λ f. absurd (f.some refl)) inv))
 
       answered : (b : Option (List ℕ)) (my_tag first : ℕ) (t1 : Timer) (s : Endpoint Carried) → cookie_in i.parameters ≡ b
           → InvAt g x y (calm (end_in (CookieWait my_tag first t1) s))
@@ -265,7 +265,7 @@ module _ (o : Options) (past : List (Event Carried)) (under : Option ℕ) (y : P
           let st : State = Open (CookieEchoed t1 cookie) t in
           let own : t.identity.my_tag ≡ tag = mine_under under (association_of t) (Some cookie) is inv.tagged.under in
           goes_held g y n e1 (receive tag cookie_ack_chunk (end_in st s)).end known
-          (does_send_buffered k Established s.random false t (connected_context c) (does_establish g y fine x tag t1 cookie t c s.random said own inv))
+          (does_send_buffered k Established s.draws false t (enter_connected c) (does_establish g y fine x tag t1 cookie t c s.draws said own inv))
       acked_open Established t s inv = goes_held g y n e1 (end_in (Open Established t) s) known inv
       acked_open ShutdownPending t s inv = goes_held g y n e1 (end_in (Open ShutdownPending t) s) known inv
       acked_open (ShutdownSent t2) t s inv = goes_held g y n e1 (end_in (Open (ShutdownSent t2) t) s) known inv
@@ -289,7 +289,7 @@ module _ (o : Options) (past : List (Event Carried)) (y : Past) (fine : AreValid
   read_as (Ok a) st s reads inv = does_judged o past y fine n e1 known p.header.verification_tag cookie said a reads mine theirs st s inv
   read_as (Err fault) st s reads inv =
       goes_held (bounded o past None None) y n e1 (on_read_cookie p.header.verification_tag (Err fault) (end_in st s)) known
-      (does_complain (kept_quiet (bounded o past None None) y fine (past_of n e1)) ParseFailed (refusal_text fault) st s.endpoint_state.context s.random inv)
+      (does_emit_error (kept_quiet (bounded o past None None) y fine (past_of n e1)) ParseFailed (refusal_text fault) st s.endpoint_state.context s.draws inv)
 
   receives_cookie : (st : State) (s : Endpoint Carried) → InvAt (bounded o past None None) (past_of n e1) y (calm (end_in st s))
       → Goes (bounded o past None None) y n e1 (noted [] (receive p.header.verification_tag (cookie_echo_chunk cookie) (end_in st s)).end.endpoint_state.state n)

@@ -11,15 +11,15 @@ use Rattle.sctp_state.specs.declared.api.ErrorKind.TheVariants.{ParseFailed}
 use Rattle.sctp_state.specs.Options.{Options}
 use Rattle.sctp_state.specs.Events.{Event}
 use Rattle.spec_endpoint.specs.Association.{State, Closed, CookieWait, Open, Context, Endpoint}
-use Rattle.spec_endpoint.specs.Opening.{connect, complains}
-use Rattle.spec_endpoint.specs.Input.{refusal, counts, taken_if, handle_chunks}
-use Rattle.spec_endpoint.specs.Laws.{Call, Connect, Restore, Packet, called}
+use Rattle.spec_endpoint.specs.Opening.{connect, emit_parse_error}
+use Rattle.spec_endpoint.specs.Input.{packet_refusal, count_packet_at, packet_if, on_accepted_packet}
+use Rattle.spec_endpoint.specs.Laws.{Call, Connect, Restore, ReceivePacket, called}
 use Rattle.proof_endpoint.specs.Mapped.{Carried}
 use Rattle.proof_endpoint.proofs.OpeningStepsLemmas.{end_in}
-use Rattle.proof_endpoint.specs.Acts.{calm, nothing}
-use Rattle.proof_pair.specs.Trace.{Side, as_carried, new_side, packets_in, emitted_packets, has_connected, EndAction, Calls, Gives, Refuses, drain, as_received, give, foreign_if, act, AreValidOptions, state_of}
+use Rattle.proof_endpoint.specs.Acts.{calm, no_packet}
+use Rattle.proof_pair.specs.Trace.{Side, as_carried, new_side, packets_in, emitted_packets, has_connected, EndAction, Calls, Gives, Refuses, drain, as_received, give_carried, foreign_if, act, AreValidOptions, state_of}
 use Rattle.proof_pair.specs.Agreement.{Association, mirrored, Has, History, held_in, drawn_to_connect, no_history, AreDistinct, IsAllowed, emitted_since}
-use Rattle.proof_endpoint.proofs.PacketActsLemmas.{does_complain}
+use Rattle.proof_endpoint.proofs.PacketActsLemmas.{does_emit_error}
 use Rattle.proof_endpoint.proofs.ActsLemmas.{keeps_call}
 use Rattle.proof_pair.proofs.AddedLemmas.{all_get}
 use Rattle.proof_pair.proofs.AgreeLemmas.{Past, view_of, IsUnder, Says, says_carried, Stands, stands_later, Agreed, Later, later_same, Said, said_later}
@@ -62,7 +62,7 @@ module _ (o : Options) (x : Side) (y : Past) where
   begins u px k fits =
       let g : Setting = bounded o x.emitted u None in
       let c : Context Carried = x.end.endpoint_state.context in
-      let inv : Inv g px y (view_of (state_of x)) c.options c.pack [] nothing.tag [] = record {
+      let inv : Inv g px y (view_of (state_of x)) c.options c.pack [] no_packet.tag [] = record {
         stands = k.stands;
         size = k.size;
         options = k.options;
@@ -70,10 +70,10 @@ module _ (o : Options) (x : Side) (y : Past) where
         agreed = λ e. cc;
         tagged = record { under = fits; same = tt };
         said = subst (λ (es : List (Event Carried)). All (Said px y) (packets_in es)) (sym (append-nil x.emitted)) k.said;
-        made = All-nil (Says px y nothing.tag);
+        made = All-nil (Says px y no_packet.tag);
         shape = inl refl;
       } in
-      subst (λ (es : List (Event Carried)). Inv g px y (view_of (state_of x)) c.options c.pack es nothing.tag []) (sym k.quiet) inv
+      subst (λ (es : List (Event Carried)). Inv g px y (view_of (state_of x)) c.options c.pack es no_packet.tag []) (sym k.quiet) inv
 
   ends : (u : Option ℕ) (n m : History) (e1 : List Association) (asked : Bool) (e : Endpoint Carried) → Goes (bounded o x.emitted u None) y n e1 m e
       → Turned o x (record (drain e x) { got_init = asked }) n e1 m y
@@ -131,7 +131,7 @@ knows_other o y mine theirs now l k = record {
 abbrev IsQuietCall : Call → Type 0
 IsQuietCall Connect = ⊥
 IsQuietCall (Restore h) = ⊥
-IsQuietCall (Packet p) = ⊥
+IsQuietCall (ReceivePacket p) = ⊥
 IsQuietCall call = ⊤
 
 quiet_user : (call : Call) → IsQuietCall call → Quiet call
@@ -175,15 +175,15 @@ module _ (o : Options) (x : Side) (y : Past) (fine : AreValidOptions o) (n : His
 
   -- ---- packets
 
-  refuses : (text : List ℕ) → InvAt g (past_of n e1) y (calm (complains text (counts x.end)))
-  refuses text = does_complain (kept_quiet g y fine (past_of n e1)) ParseFailed text (state_of x) (counts x.end).endpoint_state.context x.end.random started
+  refuses : (text : List ℕ) → InvAt g (past_of n e1) y (calm (emit_parse_error text (count_packet_at x.end)))
+  refuses text = does_emit_error (kept_quiet g y fine (past_of n e1)) ParseFailed text (state_of x) (count_packet_at x.end).endpoint_state.context x.end.draws started
 
-  foreign : (r : Option (List ℕ)) (p : PacketTree) → refusal p.header.verification_tag p.chunks (state_of x) ≡ r
+  foreign : (r : Option (List ℕ)) (p : PacketTree) → packet_refusal p.header.verification_tag p.chunks (state_of x) ≡ r
       → Turned o x (foreign_if r p x) n e1 (noted [] (state_of (foreign_if r p x)) n) y
   foreign None p is = same o x y n e1 k
   foreign (Some text) p is =
-      let e : Endpoint Carried = called (Packet p) x.end in
-      let here : e ≡ complains text (counts x.end) = ap (λ (r : Option (List ℕ)). taken_if r p.header.verification_tag p.chunks (counts x.end)) is in
+      let e : Endpoint Carried = called (ReceivePacket p) x.end in
+      let here : e ≡ emit_parse_error text (count_packet_at x.end) = ap (λ (r : Option (List ℕ)). packet_if r p.header.verification_tag p.chunks (count_packet_at x.end)) is in
       ends o x y None n (noted [] e.endpoint_state.state n) e1 x.got_init e
       (goes_held g y n e1 e k.known (subst (λ (z : Endpoint Carried). InvAt g (past_of n e1) y (calm z)) (sym here) (refuses text)))
 
@@ -197,27 +197,27 @@ module _ (o : Options) (x : Side) (y : Past) (fine : AreValidOptions o) (n : His
     abbrev q : PacketTree
     q = as_received p checksum
 
-    taken_by : (r : Option (List ℕ)) → refusal q.header.verification_tag q.chunks (state_of x) ≡ r → AreDistinct (noted_taking r q x.end n).drawn
-        → Turned o x (record (drain (taken_if r q.header.verification_tag q.chunks (counts x.end)) x) { got_init = asked }) n e1
-        (noted [] (taken_if r q.header.verification_tag q.chunks (counts x.end)).endpoint_state.state (noted_taking r q x.end n)) y
+    taken_by : (r : Option (List ℕ)) → packet_refusal q.header.verification_tag q.chunks (state_of x) ≡ r → AreDistinct (noted_taking r q x.end n).drawn
+        → Turned o x (record (drain (packet_if r q.header.verification_tag q.chunks (count_packet_at x.end)) x) { got_init = asked }) n e1
+        (noted [] (packet_if r q.header.verification_tag q.chunks (count_packet_at x.end)).endpoint_state.state (noted_taking r q x.end n)) y
     taken_by None is mine =
         let tag : ℕ = q.header.verification_tag in
         let may : Admitted tag q.chunks (state_of x) = admitted tag q.chunks (state_of x) (shape_carried p.chunks said.shape) is in
-        let e : Endpoint Carried = handle_chunks tag q.chunks (counts x.end) in
+        let e : Endpoint Carried = on_accepted_packet tag q.chunks (count_packet_at x.end) in
         ends o x y may.under n (noted [] e.endpoint_state.state (noted_taking None q x.end n)) e1 asked e
         (takes_packet o x.emitted y fine theirs q may.under n e1 x.end k.known may.comes (says_all tag p.chunks said.says) mine
         (begins o x y may.under (past_of n e1) k may.fits))
     taken_by (Some text) is mine =
-        let e : Endpoint Carried = complains text (counts x.end) in
+        let e : Endpoint Carried = emit_parse_error text (count_packet_at x.end) in
         ends o x y None n (noted [] e.endpoint_state.state n) e1 asked e (goes_held g y n e1 e k.known (refuses text))
 
   given_by : (theirs : AreDistinct y.drawn) (ps : List Carried) (p : Option Carried) (checksum which : ℕ) → All (Said y (past_of n e1)) ps → slice_get ps which ≡ p
       → AreDistinct (noted_given p checksum x n).drawn
-      → Turned o x (give p checksum x) n e1 (noted [] (state_of (give p checksum x)) (noted_given p checksum x n)) y
+      → Turned o x (give_carried p checksum x) n e1 (noted [] (state_of (give_carried p checksum x)) (noted_given p checksum x n)) y
   given_by theirs ps None checksum which all is mine = same o x y n e1 k
   given_by theirs ps (Some p) checksum which all is mine =
       taken_by theirs p checksum (x.got_init || (p.header.verification_tag == 0)) (all_get (Said y (past_of n e1)) ps which p is all)
-      (refusal (as_received p checksum).header.verification_tag (as_received p checksum).chunks (state_of x)) refl mine
+      (packet_refusal (as_received p checksum).header.verification_tag (as_received p checksum).chunks (state_of x)) refl mine
 
 -- ---- actions
 
@@ -226,11 +226,11 @@ module _ (o q : Options) (x y : Side) (fine : AreValidOptions o) (n r : History)
   pub actions : (t : EndAction) → IsAllowed t → AreDistinct (noted_all t x y n).drawn → Turned o x (act t x y) n e1 (noted_all t x y n) (past_of r e2)
   actions (Calls Connect) may mine = user_connects o x (past_of r e2) fine n e1 k mine
   actions (Calls (Restore h)) may mine = absurd may
-  actions (Calls (Packet p)) may mine = absurd may
+  actions (Calls (ReceivePacket p)) may mine = absurd may
   actions (Calls call) may mine = user_calls o x (past_of r e2) fine n e1 k call tt
   actions (Gives which checksum) may mine =
       given_by o x (past_of r e2) fine n e1 k theirs (emitted_packets y) (slice_get (emitted_packets y) which) checksum which l.said refl mine
-  actions (Refuses p) may mine = foreign o x (past_of r e2) fine n e1 k (refusal p.header.verification_tag p.chunks (state_of x)) p refl
+  actions (Refuses p) may mine = foreign o x (past_of r e2) fine n e1 k (packet_refusal p.header.verification_tag p.chunks (state_of x)) p refl
 
 -- ---- at the start
 

@@ -13,16 +13,16 @@ use Rattle.sctp_capabilities.specs.StateCookie.{Cookie, read_cookie, refusal_tex
 use Rattle.sctp_state.specs.Events.{Event, OnAborted, OnError}
 use Rattle.sctp_tx.specs.RetransmissionQueue.{SackAnswer, Invalid, Valid}
 use Rattle.spec_endpoint.specs.Association.{Tcb, Phase, CookieEchoed, Established, ShutdownPending, ShutdownSent, ShutdownReceived, ShutdownAckSent, State, Closed, CookieWait, Open, Context, Endpoint, where_open}
-use Rattle.spec_endpoint.specs.Packets.{Packet, packet_to, round_up, add, emit}
+use Rattle.spec_endpoint.specs.Packets.{PacketDraft, packet_to, round_down_to_4, add, emit}
 use Rattle.spec_endpoint.specs.Data.{on_data_if}
 use Rattle.spec_endpoint.specs.Sack as acknowledging
-use Rattle.spec_endpoint.specs.StreamReset.{Handling, finished_if}
-use Rattle.spec_endpoint.specs.Opening.{CookieResolution, EstablishNew, RestartDetected, SimultaneousInit, MaintainExisting, Discard, InvalidTag, new_if, compare_tags, cookie_in, echo_cookie, on_verdict, on_read_cookie}
-use Rattle.spec_endpoint.specs.Input.{Received, receive, received_if, receive_all, receive_rest, violation, on_chunk, on_endpoint_state, ended_if, end_packet}
-use Rattle.spec_endpoint.specs.Laws.{Packet as Given, NoPacket}
+use Rattle.spec_endpoint.specs.StreamReset.{Handling, finish_reconfig_if}
+use Rattle.spec_endpoint.specs.Opening.{CookieResolution, EstablishNew, RestartDetected, SimultaneousInit, MaintainExisting, Discard, InvalidTag, new_if, resolve_by_tags, cookie_in, echo_or_abort, on_resolution, on_read_cookie}
+use Rattle.spec_endpoint.specs.Input.{AfterChunk, receive, received_if, receive_all, receive_rest, violation, on_chunk, in_endpoint_state, ack_if_due, on_packet_end}
+use Rattle.spec_endpoint.specs.Laws.{ReceivePacket as Given, ReceiveNoPacket}
 use Rattle.proof_endpoint.specs.Mapped.{Carried}
 use Rattle.proof_endpoint.proofs.OpeningStepsLemmas.{end_in}
-use Rattle.proof_endpoint.specs.Acts.{idle, calm, is_opened, IsReceived, always, Preserves}
+use Rattle.proof_endpoint.specs.Acts.{idle, calm, is_opened, BringsChunk, always, Preserves}
 use Rattle.proof_pair.specs.Trace.{has_connected}
 use Rattle.proof_pair.specs.Agreement.{Association, Has, History, association_of, held_in, drawn_for}
 use Rattle.proof_endpoint.proofs.PacketActsLemmas.{rounded_addressed, does_plain}
@@ -32,7 +32,7 @@ use Rattle.proof_pair.proofs.AddedLemmas.{all_at}
 use Rattle.proof_pair.proofs.JoinActsLemmas.{connected_both}
 use Rattle.proof_pair.proofs.AgreeLemmas.{is_opening, is_silent, is_load, load_is_silent, all_pass, Shape}
 use Rattle.proof_pair.proofs.AgreeNotesLemmas.{noted, noted_after, noted_receiving}
-use Rattle.proof_pair.proofs.AgreeCalmLemmas.{IsCalm, RestsAt, rests}
+use Rattle.proof_pair.proofs.AgreeWithoutOpeningLemmas.{BringsNoOpening, RestsAt, rests}
 
 -- ---- one chunk that opens nothing
 
@@ -45,8 +45,8 @@ silent_opens_nothing c e = refl
 abbrev packet_of : PacketTree → (c : ChunkTree) → PacketTree
 packet_of p c = record p { chunks = c ∷ [] }
 
-calm_packet : (p : PacketTree) → All (λ c. is_opening c ≡ false) p.chunks → IsCalm (Given p)
-calm_packet p all = record {
+packet_brings_no_opening : (p : PacketTree) → All (λ c. is_opening c ≡ false) p.chunks → BringsNoOpening (Given p)
+packet_brings_no_opening p all = record {
   on_received = λ tag chunk h.
       let same : p ≡ h.packet = ap (λ call. elim call [ Given q ↦ q | call ↦ p ]) h.given in
       let there : All (λ c. is_opening c ≡ false) h.packet.chunks = subst (λ (q : PacketTree). All (λ c. is_opening c ≡ false) q.chunks) same all in
@@ -54,10 +54,10 @@ calm_packet p all = record {
   restores = λ h e. cc;
 }
 
-pub calm_nothing : IsCalm NoPacket
-calm_nothing = record { on_received = λ tag chunk h. no_packet h.given; restores = λ h e. cc }
+pub no_packet_brings_no_opening : BringsNoOpening ReceiveNoPacket
+no_packet_brings_no_opening = record { on_received = λ tag chunk h. no_packet h.given; restores = λ h e. cc }
   where
-    no_packet : {A : Type 0} {p : PacketTree} → NoPacket ≡ Given p → A
+    no_packet : {A : Type 0} {p : PacketTree} → ReceiveNoPacket ≡ Given p → A
     no_packet e = cc
 
 -- ---- what is held
@@ -83,11 +83,11 @@ still_held s Closed a f e h = cc
 still_held s (CookieWait tag first t1) a f e h = cc
 still_held s (Open phase u) a f e h = inl (one_held s a (association_of u) h (f (association_of u) (inl refl)))
 
-ended_if_open : (b : Bool) (phase : Phase) (t : Tcb) (c : Context Carried) → is_opened (ended_if b phase t c).state ≡ true
+ended_if_open : (b : Bool) (phase : Phase) (t : Tcb) (c : Context Carried) → is_opened (ack_if_due b phase t c).state ≡ true
 ended_if_open true phase t c = refl
 ended_if_open false phase t c = refl
 
-ended_open : (st : State) (s : Endpoint Carried) → is_opened st ≡ true → is_opened (on_endpoint_state (where_open end_packet) (end_in st s)).endpoint_state.state ≡ true
+ended_open : (st : State) (s : Endpoint Carried) → is_opened st ≡ true → is_opened (in_endpoint_state (where_open on_packet_end) (end_in st s)).endpoint_state.state ≡ true
 ended_open Closed s e = cc
 ended_open (CookieWait tag first t1) s e = cc
 ended_open (Open phase t) s e = ended_if_open _ phase _ _
@@ -113,13 +113,13 @@ module _ (p : PacketTree) where
 
   -- ---- one chunk
 
-  receives_calm : (c : ChunkTree) (e : Endpoint Carried) → is_silent c ≡ true → RestsAt (calm e) (calm (receive tag c e).end)
-  receives_calm c e silent =
+  silent_chunk_rests : (c : ChunkTree) (e : Endpoint Carried) → is_silent c ≡ true → RestsAt (calm e) (calm (receive tag c e).end)
+  silent_chunk_rests c e silent =
       let one : PacketTree = packet_of p c in
       let all : All (λ d. is_opening d ≡ false) (c ∷ []) =
       All-cons (λ d. is_opening d ≡ false) c [] (silent_opens_nothing c silent) (All-nil (λ d. is_opening d ≡ false)) in
-      let h : IsReceived (Given one) tag c = record { packet = one; given = refl; under = refl; among = record { before = []; behind = []; split = refl } } in
-      does_receive (rests (Given one) (calm_packet one all)) tag c e h
+      let h : BringsChunk (Given one) tag c = record { packet = one; given = refl; under = refl; among = record { before = []; behind = []; split = refl } } in
+      does_receive (rests (Given one) (packet_brings_no_opening one all)) tag c e h
 
   -- a load that isn't misused leaves an end open
   data_open : (b : Bool) (tsn : ℕ) (is_immediate : Bool) (f : _) (phase : Phase) (t : Tcb) (c : Context Carried)
@@ -131,7 +131,7 @@ module _ (p : PacketTree) where
   sack_open Invalid phase t c = refl
   sack_open (Valid rtt is_progress) phase t c = refl
 
-  finished_open : (b : Bool) (phase : Phase) (h : Handling Carried) → is_opened (finished_if b phase h).state ≡ true
+  finished_open : (b : Bool) (phase : Phase) (h : Handling Carried) → is_opened (finish_reconfig_if b phase h).state ≡ true
   finished_open true phase h = refl
   finished_open false phase h = refl
 
@@ -170,21 +170,21 @@ module _ (p : PacketTree) where
   acked (Open (ShutdownAckSent t2) t) s none h = refl
 
   echoes_by : (o : Option (List ℕ)) (i : InitTree) (own first : ℕ) (t1 : _) (s : Endpoint Carried) → has_connected s.endpoint_state.context.emitted.events ≡ false
-      → Stands (echo_cookie i o own first (end_in (CookieWait own first t1) s))
+      → Stands (echo_or_abort i o own first (end_in (CookieWait own first t1) s))
   echoes_by (Some cookie) i own first t1 s none h = refl
   echoes_by None i own first t1 s none h =
       let c : Context Carried = s.endpoint_state.context in
       let st : State = CookieWait own first t1 in
-      let k : Preserves NoPacket RestsAt = rests NoPacket calm_nothing in
+      let k : Preserves ReceiveNoPacket RestsAt = rests ReceiveNoPacket no_packet_brings_no_opening in
       let chunk : ChunkTree = abort_chunk false (missing_mandatory_parameter (7 ∷ []) ∷ []) in
-      let q : Packet = packet_to i.initiate_tag (round_up c.options.mtu) in
+      let q : PacketDraft = packet_to i.initiate_tag (round_down_to_4 c.options.mtu) in
       let d : Context Carried = emit (add chunk q) c in
-      let sent : RestsAt (idle st c s.random) (idle st d s.random) =
-      does_plain k chunk q st c s.random refl refl (always refl) (rounded_addressed st c s.random i.initiate_tag (λ f. absurd (f.some refl)))
+      let sent : RestsAt (idle st c s.draws) (idle st d s.draws) =
+      does_plain k chunk q st c s.draws refl refl (always refl) (rounded_addressed st c s.draws i.initiate_tag (λ f. absurd (f.some refl)))
       (λ f. absurd (f.some refl)) in
-      let over : RestsAt (idle st d s.random) (calm (echo_cookie i None own first (end_in st s))) =
-      does_closed k s.random (OnAborted ProtocolViolation (codes "InitAck chunk doesn't contain a cookie")) st d refl refl in
-      not_yet (end_in st s) (echo_cookie i None own first (end_in st s)) none (record { held = λ a b. sent.held a (over.held a b); emitted = over.emitted ∙ sent.emitted }) h
+      let over : RestsAt (idle st d s.draws) (calm (echo_or_abort i None own first (end_in st s))) =
+      does_closed k s.draws (OnAborted ProtocolViolation (codes "InitAck chunk doesn't contain a cookie")) st d refl refl in
+      not_yet (end_in st s) (echo_or_abort i None own first (end_in st s)) none (record { held = λ a b. sent.held a (over.held a b); emitted = over.emitted ∙ sent.emitted }) h
 
   answered : (i : InitTree) (st : State) (s : Endpoint Carried) → has_connected s.endpoint_state.context.emitted.events ≡ false
       → Stands (receive tag (init_ack_chunk i) (end_in st s)).end
@@ -192,7 +192,7 @@ module _ (p : PacketTree) where
   answered i (CookieWait own first t1) s none h = echoes_by (cookie_in i.parameters) i own first t1 s none h
   answered i (Open phase t) s none h = refl
 
-  judged_open : (v : CookieResolution) (k : Cookie) (phase : Phase) (t : Tcb) (s : Endpoint Carried) → is_opened (on_verdict v k (end_in (Open phase t) s)).endpoint_state.state ≡ true
+  judged_open : (v : CookieResolution) (k : Cookie) (phase : Phase) (t : Tcb) (s : Endpoint Carried) → is_opened (on_resolution v k (end_in (Open phase t) s)).endpoint_state.state ≡ true
   judged_open EstablishNew k phase t s = refl
   judged_open RestartDetected k (CookieEchoed t1 cookie) t s = refl
   judged_open RestartDetected k Established t s = refl
@@ -211,7 +211,7 @@ module _ (p : PacketTree) where
   judged_open InvalidTag k phase t s = refl
 
   judged_new : (b : Bool) (k : Cookie) (st : State) (s : Endpoint Carried) → has_connected s.endpoint_state.context.emitted.events ≡ false
-      → Stands (on_verdict (new_if b) k (end_in st s))
+      → Stands (on_resolution (new_if b) k (end_in st s))
   judged_new true k st s none h = refl
   judged_new false k st s none h =
       emitted_error s.endpoint_state.context.emitted.events (OnError ParseFailed (codes "Received CookieEcho with invalid verification tag")) refl none h
@@ -221,7 +221,7 @@ module _ (p : PacketTree) where
   read_as (Err fault) st s none h = emitted_error s.endpoint_state.context.emitted.events (OnError ParseFailed (refusal_text fault)) refl none h
   read_as (Ok k) Closed s none h = judged_new (tag == k.my_tag) k Closed s none h
   read_as (Ok k) (CookieWait own first t1) s none h = judged_new (tag == k.my_tag) k (CookieWait own first t1) s none h
-  read_as (Ok k) (Open phase t) s none h = judged_open (compare_tags tag t.identity k) k phase t s
+  read_as (Ok k) (Open phase t) s none h = judged_open (resolve_by_tags tag t.identity k) k phase t s
 
   came_back : (cookie : List ℕ) (st : State) (s : Endpoint Carried) → has_connected s.endpoint_state.context.emitted.events ≡ false
       → Stands (receive tag (cookie_echo_chunk cookie) (end_in st s)).end
@@ -244,23 +244,23 @@ module _ (p : PacketTree) where
   through a b c f g = record { held = λ x h. f.held x (g.held x h); emitted = g.emitted ∙ f.emitted }
 
   rests_rest : (b : Bool) (f : Endpoint Carried → Endpoint Carried) (s e : Endpoint Carried) → RestsAt (calm s) (calm e) → RestsAt (calm e) (calm (f e))
-      → RestsAt (calm s) (calm (receive_rest f (record { end = e; goes_on = b })))
+      → RestsAt (calm s) (calm (receive_rest f (record { end = e; allows_next = b })))
   rests_rest true f s e r q = through s e (f e) r q
   rests_rest false f s e r q = r
 
   rests_all : (cs : List ChunkTree) (e : Endpoint Carried) → list_all is_silent cs ≡ true → RestsAt (calm e) (calm (receive_all tag cs e))
   rests_all [] e h = record { held = λ a q. q; emitted = refl }
   rests_all (c ∷ cs) e h =
-      let x : Received Carried = receive tag c e in
+      let x : AfterChunk Carried = receive tag c e in
       let parts = silent_tail c cs h in
-      rests_rest x.goes_on (receive_all tag cs) e x.end (receives_calm c e parts.0) (rests_all cs x.end parts.1)
+      rests_rest x.allows_next (receive_all tag cs) e x.end (silent_chunk_rests c e parts.0) (rests_all cs x.end parts.1)
 
   -- what is held between two chunks that open nothing was held before them
   held_rest : (b : Bool) (rest : Endpoint Carried → History → History) (s e : Endpoint Carried) (n m : History) (a : Association)
       → ((b : Association) → Has b (held_in e.endpoint_state.state) → Has b (held_in s.endpoint_state.state))
       → (Has a m.held → Has a n.held ⊎ Has a (held_in s.endpoint_state.state))
       → (Has a (rest e m).held → Has a m.held ⊎ Has a (held_in e.endpoint_state.state))
-      → Has a (noted_after rest (record { end = e; goes_on = b }) m).held → Has a n.held ⊎ Has a (held_in s.endpoint_state.state)
+      → Has a (noted_after rest (record { end = e; allows_next = b }) m).held → Has a n.held ⊎ Has a (held_in s.endpoint_state.state)
   held_rest true rest s e n m a was before f h = elim (f h) [ inl q ↦ before q | inr q ↦ inr (was a q) ]
   held_rest false rest s e n m a was before f h = before h
 
@@ -268,11 +268,11 @@ module _ (p : PacketTree) where
       → Has a n.held ⊎ Has a (held_in e.endpoint_state.state)
   held_within [] e n a silent h = inl h
   held_within (c ∷ cs) e n a silent h =
-      let x : Received Carried = receive tag c e in
+      let x : AfterChunk Carried = receive tag c e in
       let parts = silent_tail c cs silent in
-      let r : RestsAt (calm e) (calm x.end) = receives_calm c e parts.0 in
+      let r : RestsAt (calm e) (calm x.end) = silent_chunk_rests c e parts.0 in
       let m : History = noted (drawn_for c e) x.end.endpoint_state.state n in
-      held_rest x.goes_on (noted_receiving tag cs) e x.end n m a r.held
+      held_rest x.allows_next (noted_receiving tag cs) e x.end n m a r.held
       (λ q. elim (has_either a (held_in x.end.endpoint_state.state) n.held q) [ inl k ↦ inr (r.held a k) | inr k ↦ inl k ])
       (held_within cs x.end m a parts.1) h
 
@@ -283,7 +283,7 @@ module _ (p : PacketTree) where
       (goes : (c : ChunkTree) (e : Endpoint Carried) → Said c → Can e → Can (receive tag c e).end)
       (right : (c : ChunkTree) (e : Endpoint Carried) → Said c → Can e → violation e.endpoint_state.state c ≡ None) where
     stays_rest : (b : Bool) (f : Endpoint Carried → Endpoint Carried) (e : Endpoint Carried) → is_opened e.endpoint_state.state ≡ true → is_opened (f e).endpoint_state.state ≡ true
-        → is_opened (receive_rest f (record { end = e; goes_on = b })).endpoint_state.state ≡ true
+        → is_opened (receive_rest f (record { end = e; allows_next = b })).endpoint_state.state ≡ true
     stays_rest true f e h k = k
     stays_rest false f e h k = h
 
@@ -291,38 +291,38 @@ module _ (p : PacketTree) where
         → is_opened (receive_all tag cs e).endpoint_state.state ≡ true
     loads_stay [] e loads said can open_now = open_now
     loads_stay (c ∷ cs) e loads said can open_now =
-        let x : Received Carried = receive tag c e in
+        let x : AfterChunk Carried = receive tag c e in
         let parts = and_parts (is_load c) (list_all is_load cs) loads in
         let here : Said c = All-head Said c cs said in
         let next : is_opened x.end.endpoint_state.state ≡ true = load_in c e.endpoint_state.state e parts.0 (right c e here can) open_now in
-        stays_rest x.goes_on (receive_all tag cs) x.end next (loads_stay cs x.end parts.1 (All-tail Said c cs said) (goes c e here can) next)
+        stays_rest x.allows_next (receive_all tag cs) x.end next (loads_stay cs x.end parts.1 (All-tail Said c cs said) (goes c e here can) next)
 
     pub record Within (n m : History) (s e : Endpoint Carried) : Type 0 where
       pub held : (a : Association) → Has a m.held → Has a n.held ⊎ (Has a (held_in s.endpoint_state.state) ⊎ Has a (held_in e.endpoint_state.state))
       pub stands : Stands e
 
-    ends_calm : (e : Endpoint Carried) → RestsAt (calm e) (calm (on_endpoint_state (where_open end_packet) e))
-    ends_calm e = let k : Preserves NoPacket RestsAt = rests NoPacket calm_nothing in does_where_open k e.random end_packet e.endpoint_state (does_ended k e.random)
+    packet_end_rests : (e : Endpoint Carried) → RestsAt (calm e) (calm (in_endpoint_state (where_open on_packet_end) e))
+    packet_end_rests e = let k : Preserves ReceiveNoPacket RestsAt = rests ReceiveNoPacket no_packet_brings_no_opening in does_where_open k e.draws on_packet_end e.endpoint_state (does_ended k e.draws)
 
     -- the first chunk opens
     led : (c : ChunkTree) (cs : List ChunkTree) (s e : Endpoint Carried) (n : History) → RestsAt (calm s) (calm e) → has_connected s.endpoint_state.context.emitted.events ≡ false
         → is_opening c ≡ true → list_all is_load cs ≡ true → All Said (c ∷ cs) → Can e
-        → Within n (noted_receiving tag (c ∷ cs) e n) s (on_endpoint_state (where_open end_packet) (receive_all tag (c ∷ cs) e))
+        → Within n (noted_receiving tag (c ∷ cs) e n) s (in_endpoint_state (where_open on_packet_end) (receive_all tag (c ∷ cs) e))
     led c cs s e n r none opening loads said can =
-        let x : Received Carried = receive tag c e in
+        let x : AfterChunk Carried = receive tag c e in
         let m : History = noted (drawn_for c e) x.end.endpoint_state.state n in
         let silent : list_all is_silent cs ≡ true = all_pass is_load is_silent load_is_silent cs loads in
         let mid : Endpoint Carried = receive_all tag (c ∷ cs) e in
-        let last : Endpoint Carried = on_endpoint_state (where_open end_packet) mid in
+        let last : Endpoint Carried = in_endpoint_state (where_open on_packet_end) mid in
         let on : RestsAt (calm x.end) (calm mid) =
-        rests_rest x.goes_on (receive_all tag cs) x.end x.end (record { held = λ a q. q; emitted = refl }) (rests_all cs x.end silent) in
-        let all : RestsAt (calm x.end) (calm last) = through x.end mid last on (ends_calm mid) in
+        rests_rest x.allows_next (receive_all tag cs) x.end x.end (record { held = λ a q. q; emitted = refl }) (rests_all cs x.end silent) in
+        let all : RestsAt (calm x.end) (calm last) = through x.end mid last on (packet_end_rests mid) in
         let stays : is_opened x.end.endpoint_state.state ≡ true → is_opened last.endpoint_state.state ≡ true =
         λ q. ended_open mid.endpoint_state.state mid
-        (stays_rest x.goes_on (receive_all tag cs) x.end q (loads_stay cs x.end loads (All-tail Said c cs said) (goes c e (All-head Said c cs said) can) q)) in
+        (stays_rest x.allows_next (receive_all tag cs) x.end q (loads_stay cs x.end loads (All-tail Said c cs said) (goes c e (All-head Said c cs said) can) q)) in
         let before : has_connected e.endpoint_state.context.emitted.events ≡ false = r.emitted ∙ none in
         record {
-          held = λ a h. elim (held_rest x.goes_on (noted_receiving tag cs) x.end x.end n m a (λ b q. q)
+          held = λ a h. elim (held_rest x.allows_next (noted_receiving tag cs) x.end x.end n m a (λ b q. q)
               (λ q. elim (has_either a (held_in x.end.endpoint_state.state) n.held q) [ inl k ↦ inr k | inr k ↦ inl k ]) (held_within cs x.end m a silent) h) [
                 | inl q ↦ inl q
                 | inr q ↦ inr (inr (still_held x.end.endpoint_state.state last.endpoint_state.state a all.held (stays (held_opened x.end.endpoint_state.state a q)) q))
@@ -331,19 +331,19 @@ module _ (p : PacketTree) where
         }
 
     -- none does
-    calmly : (cs : List ChunkTree) (s e : Endpoint Carried) (n : History) → RestsAt (calm s) (calm e) → has_connected s.endpoint_state.context.emitted.events ≡ false
-        → list_all is_silent cs ≡ true → Within n (noted_receiving tag cs e n) s (on_endpoint_state (where_open end_packet) (receive_all tag cs e))
-    calmly cs s e n r none silent =
+    silent_within : (cs : List ChunkTree) (s e : Endpoint Carried) (n : History) → RestsAt (calm s) (calm e) → has_connected s.endpoint_state.context.emitted.events ≡ false
+        → list_all is_silent cs ≡ true → Within n (noted_receiving tag cs e n) s (in_endpoint_state (where_open on_packet_end) (receive_all tag cs e))
+    silent_within cs s e n r none silent =
         let mid : Endpoint Carried = receive_all tag cs e in
-        let last : Endpoint Carried = on_endpoint_state (where_open end_packet) mid in
-        let all : RestsAt (calm s) (calm last) = through s e last r (through e mid last (rests_all cs e silent) (ends_calm mid)) in
+        let last : Endpoint Carried = in_endpoint_state (where_open on_packet_end) mid in
+        let all : RestsAt (calm s) (calm last) = through s e last r (through e mid last (rests_all cs e silent) (packet_end_rests mid)) in
         record {
           held = λ a h. elim (held_within cs e n a silent h) [ inl q ↦ inl q | inr q ↦ inr (inl (r.held a q)) ];
           stands = not_yet s last none all;
         }
 
     pub receives_within : (cs : List ChunkTree) (s e : Endpoint Carried) (n : History) → RestsAt (calm s) (calm e) → has_connected s.endpoint_state.context.emitted.events ≡ false
-        → Shape cs → All Said cs → Can e → Within n (noted_receiving tag cs e n) s (on_endpoint_state (where_open end_packet) (receive_all tag cs e))
-    receives_within cs s e n r none (inl silent) said can = calmly cs s e n r none silent
+        → Shape cs → All Said cs → Can e → Within n (noted_receiving tag cs e n) s (in_endpoint_state (where_open on_packet_end) (receive_all tag cs e))
+    receives_within cs s e n r none (inl silent) said can = silent_within cs s e n r none silent
     receives_within [] s e n r none (inr h) said can = absurd h
     receives_within (c ∷ cs) s e n r none (inr h) said can = led c cs s e n r none h.0 h.1 said can

@@ -2,7 +2,7 @@
 use Rattle.std.proofs.Common.{◌≡◌, ℕ, ◌^◌, ◌<◌, ◌||◌, ◌==◌, not, Bool, true, false, Result, Ok, Err, List, [], ◌∷◌, ◌++◌, inl, inr, refl, sym, ap, subst, ◌∙◌, arith}
 use Rattle.std.proofs.lemmas.Bool.Decides.{nat_tests}
 use Rattle.std.proofs.lemmas.Bool.{and_parts}
-use Rattle.sctp_serial.specs.Unwrapped.{words}
+use Rattle.sctp_serial.specs.Unwrapped.{u32_space}
 use Rattle.sctp_packet.specs.Chunk.{ChunkTree, cookie_echo_chunk}
 use Rattle.sctp_packet.specs.Packet.{PacketTree}
 use Rattle.sctp_packet.specs.Grammar.{Each}
@@ -20,7 +20,7 @@ use Rattle.spec_endpoint.specs.Opening.{queue_anew, queue_if, other_mode, queue_
 use Rattle.spec_endpoint.specs.Laws.{Call}
 use Rattle.proof_endpoint.specs.HandoverRoundTrip.{IsConnected, IsNumberedOnce, CallsNumberOnce}
 use Rattle.proof_endpoint.proofs.ReceivedLemmas.{IsByte, word_in_fits}
-use Rattle.proof_endpoint.specs.Acts.{IsReceived, IsEchoed}
+use Rattle.proof_endpoint.specs.Acts.{BringsChunk, IsEchoed}
 use Rattle.proof_pair.specs.HandoverInvariants.{IsAssociated, IsOrdered, HandoverInvariantOf, NamesPeer, HandsIn}
 use Rattle.proof_pair.proofs.StayLemmas.{Lasts, lasts_same}
 use Rattle.proof_pair.proofs.QueueGoesLemmas.{Goes, goes_same, reset_sorted, reset_next}
@@ -32,7 +32,7 @@ module _ {X : Type 0} (P : X → Type 0) where
   each_among [] x behind h = h.0
   each_among (y ∷ ys) x behind h = each_among ys x behind h.1
 
-pub names : (call : Call) → HandsIn call → (tag : ℕ) (chunk : ChunkTree) → IsReceived call tag chunk → NamesPeer chunk
+pub names : (call : Call) → HandsIn call → (tag : ℕ) (chunk : ChunkTree) → BringsChunk call tag chunk → NamesPeer chunk
 names call h tag chunk received =
     let p : PacketTree = received.packet in
     let all : Each NamesPeer p.chunks = subst HandsIn received.given h in
@@ -41,10 +41,10 @@ names call h tag chunk received =
 pub record IsNamed (k : Cookie) : Type 0 where
   pub my_tag : 0 < k.my_tag
   pub peer_tag : 0 < k.peer_tag
-  pub my_first : k.my_initial_tsn < words
-  pub peer_first : k.peer_initial_tsn < words
+  pub my_first : k.my_initial_tsn < u32_space
+  pub peer_first : k.peer_initial_tsn < u32_space
 
-firsts_small : (bytes : List ℕ) → Each IsByte bytes → ((cookie_from bytes).my_initial_tsn < words) × ((cookie_from bytes).peer_initial_tsn < words)
+firsts_small : (bytes : List ℕ) → Each IsByte bytes → ((cookie_from bytes).my_initial_tsn < u32_space) × ((cookie_from bytes).peer_initial_tsn < u32_space)
 unfolding cookie_from
 firsts_small bytes h = (word_in_fits 20 bytes h, word_in_fits 16 bytes h)
 
@@ -56,7 +56,7 @@ tags_some k e =
     let parts = and_parts (not (k.peer_tag == 0)) (not (k.my_tag == 0)) e in
     (not_zero k.my_tag parts.1, not_zero k.peer_tag parts.0)
 
-tested_named : (a b c : Bool) (d k : Cookie) → has_tags d ≡ c → (d.my_initial_tsn < words) × (d.peer_initial_tsn < words) → check_cookie a b c d ≡ Ok k → IsNamed k
+tested_named : (a b c : Bool) (d k : Cookie) → has_tags d ≡ c → (d.my_initial_tsn < u32_space) × (d.peer_initial_tsn < u32_space) → check_cookie a b c d ≡ Ok k → IsNamed k
 tested_named false b c d k e f is = absurd (cc)
 tested_named true false c d k e f is = absurd (cc)
 tested_named true true false d k e f is = absurd (cc)
@@ -134,12 +134,12 @@ connected_on t u c d l mode method h = record {
   my_tag = subst (λ i. 0 < i.my_tag) (sym l.identity) h.my_tag;
   peer_tag = subst (λ i. 0 < i.peer_tag) (sym l.identity) h.peer_tag;
   first = l.sent.first ∙ (h.first ∙ ap (λ i. i.my_first) (sym l.identity));
-  small = subst (λ i. i.my_first < words) (sym l.identity) h.small;
-  first_received = l.received ∙ (h.first_received ∙ ap (λ i. i.peer_first) (sym l.identity));
-  small_received = subst (λ i. i.peer_first < words) (sym l.identity) h.small_received;
+  small = subst (λ i. i.my_first < u32_space) (sym l.identity) h.small;
+  peer_first = l.received ∙ (h.peer_first ∙ ap (λ i. i.peer_first) (sym l.identity));
+  peer_first_small = subst (λ i. i.peer_first < u32_space) (sym l.identity) h.peer_first_small;
   partial = l.sent.items.partial ∙ (h.partial ∙ ap (λ k. k.partial_reliability) (sym l.capabilities));
   mode = l.sent.items.mode ∙ (h.mode ∙ ap (λ k. k.message_interleaving) (sym l.capabilities));
-  mode_received = l.mode ∙ (h.mode_received ∙ ap (λ k. k.message_interleaving) (sym l.capabilities));
+  receiver_mode = l.mode ∙ (h.receiver_mode ∙ ap (λ k. k.message_interleaving) (sym l.capabilities));
   mode_queued = mode ∙ (h.mode_queued ∙ ap (λ k. k.message_interleaving) (sym l.capabilities));
   method = subst (λ k. k.zero_checksum_method ≡ method_if (zero_checksum_enabled k) c.options.zero_checksum_method) (sym l.capabilities) h.method
       ∙ ap (λ (n : ℕ). method_if (zero_checksum_enabled u.capabilities) n) (sym method);

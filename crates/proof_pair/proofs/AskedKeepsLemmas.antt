@@ -1,7 +1,7 @@
 -- Each call preserves the handover invariant of an end.
 use Rattle.std.proofs.Common.{◌≡◌, ℕ, ◌+◌, ◌%◌, ◌^◌, ◌<◌, ◌==◌, nat_lt, Bool, true, false, None, List, ◌∷◌, length, refl, sym, ap, subst, ◌∙◌, arith}
 use Rattle.std.proofs.lemmas.Bool.Decides.{nat_tests}
-use Rattle.sctp_serial.specs.Unwrapped.{words}
+use Rattle.sctp_serial.specs.Unwrapped.{u32_space}
 use Rattle.sctp_serial.specs.Messages.{Message}
 use Rattle.sctp_packet.specs.Chunk.{FragmentTree, init_ack_chunk}
 use Rattle.sctp_chunk.specs.declared.forward_tsn.SkippedStream.{SkippedStream}
@@ -17,23 +17,23 @@ use Rattle.sctp_rx.specs.DataTracker.{DataTracker, has_seen, moves_on}
 use Rattle.sctp_rx.specs.ReassemblyQueue.{Reassembly}
 use Rattle.sctp_tx_queue.specs.declared.send_queue.stream.ResetStep.TheVariants.{Requested, Performed, Refused}
 use Rattle.sctp_tx_queue.specs.SendQueue.{Queued, Queue, push, stream}
-use Rattle.sctp_tx_queue.specs.Resets.{requested_streams}
+use Rattle.sctp_tx_queue.specs.Resets.{streams_to_request}
 use Rattle.sctp_tx_queue.proofs.InOrderLemmas.{added_in_order, set_bytes_mode}
 use Rattle.sctp_tx_queue.proofs.RestLemmas.{calls_leave_rests}
 use Rattle.spec_endpoint.specs.Association.{Tcb, Phase, CookieEchoed, Established, State, Closed, CookieWait, Open, Context}
-use Rattle.spec_endpoint.specs.Packets.{say, room}
+use Rattle.spec_endpoint.specs.Packets.{emit_event_in, room}
 use Rattle.spec_endpoint.specs.ResetRequests.{Requests, Outcome, Unsettled, Done, Denied, outcome}
 use Rattle.spec_endpoint.specs.Sending.{request_started, fast_most}
 use Rattle.spec_endpoint.specs.Sack.{timed_by}
-use Rattle.spec_endpoint.specs.Handover.{tcb_from, queue_taken}
+use Rattle.spec_endpoint.specs.Handover.{tcb_from, queue_restored}
 use Rattle.spec_endpoint.specs.Opening as opening
-use Rattle.spec_endpoint.specs.Opening.{tsn_from, tag_from, identity_of, tcb_by, long_word, word, drew_word, connected_context, queue_for}
-use Rattle.spec_endpoint.specs.Data.{added_unless, skipped_if, take_fragment, forward_to}
-use Rattle.spec_endpoint.specs.Calls.{refusal_by, is_shutting_down, is_queue_full, shown_state, refusal, queue_entry, accept}
+use Rattle.spec_endpoint.specs.Opening.{tsn_from, tag_from, identity_of, tcb_by, long_word, word, drew_word, enter_connected, queue_for}
+use Rattle.spec_endpoint.specs.Data.{added_unless, skipped_if, take_fragment, handle_forward_tsn}
+use Rattle.spec_endpoint.specs.Calls.{send_refusal_by, is_shutting_down, is_queue_full, shown_state, send_refusal, queue_entry, accept}
 use Rattle.spec_endpoint.specs.StreamReset.{on_outcome}
 use Rattle.spec_endpoint.specs.Laws.{Call, Restore}
 use Rattle.proof_endpoint.specs.HandoverRoundTrip.{IsNumberedOnce, CallsNumberOnce, MadeConnected}
-use Rattle.proof_endpoint.specs.Acts.{EndWithPacket, end_of, point_of, IsOffered, fragments_of, PacketAct, begins, adds_plain, emits, complains, counts, before_packets, after_packets, OpeningAct, connects, adds_init, answers_new, answers_waiting, answers_echoed, answers_again, echoes, adds_cookie, establishes, opens, restarts, opens_again, maintains, adds_cookie_ack, before_opening, after_opening, ClosingAct, closes, shuts, shuts_on, before_closing, after_closing, DataAct, takes_data, takes_idata, takes_forward, takes_iforward, before_data, after_data, SackAct, takes_sack, samples, counts_errors, before_sack, after_sack, SendingAct, asks, adds_ack, expires, adds_forward, forwards_later, asks_no_reset, asks_reset, adds_request, sends, sends_fast, before_sending, after_sending, TimeAct, advances, delay_ends, times_out, beats, times_init, times_cookie, times_request, wakes_request, before_time, after_time, CallAct, accepts, refuses, takes_message, sets_low_threshold, sets_priority, sets_max_message_size, before_call, after_call, ResetAct, prepares, defers, performs, processes, takes_response, adds_responses, before_reset, after_reset, HandoverAct, leaves, takes_up, before_handover, after_handover, InputAct, ends_packet, before_input, after_input, Preserves}
+use Rattle.proof_endpoint.specs.Acts.{EndWithPacket, end_of, point_of, IsOffered, fragments_of, PacketAct, begins, adds_plain, emits, emits_error, counts, before_packets, after_packets, OpeningAct, connects, adds_init, answers_new, answers_waiting, answers_echoed, answers_again, echoes, adds_cookie, establishes, opens, restarts, opens_again, maintains, adds_cookie_ack, before_opening, after_opening, ClosingAct, closes, shuts, shuts_on, before_closing, after_closing, DataAct, takes_data, takes_idata, takes_forward, takes_iforward, before_data, after_data, SackAct, takes_sack, samples, counts_errors, before_sack, after_sack, SendingAct, asks, adds_ack, expires, adds_forward, forwards_later, asks_no_reset, asks_reset, adds_request, sends, sends_fast, before_sending, after_sending, TimeAct, advances, delay_ends, times_out, beats, times_init, times_cookie, times_request, wakes_request, before_time, after_time, CallAct, accepts, refuses, takes_message, sets_low_threshold, sets_priority, sets_max_message_size, before_call, after_call, ResetAct, prepares, defers, performs, processes, takes_response, adds_responses, before_reset, after_reset, HandoverAct, leaves, takes_up, before_handover, after_handover, InputAct, ends_packet, before_input, after_input, Preserves}
 use Rattle.proof_pair.specs.HandoverInvariants.{IsOrdered, HandoverInvariantOf, HandsIn}
 use Rattle.proof_pair.proofs.StayLemmas.{stays_same, alike_all, alike_outstanding, alike_received, added_mode, forwarded_mode, reset_mode, Lasts, lasts_same, lasts_sent, stays_fast}
 use Rattle.proof_pair.proofs.QueueGoesLemmas.{Goes, goes_same, goes_threshold, goes_priority, goes_prepared, goes_steps, put_opened_sorted, sent_stays, sent_goes}
@@ -42,7 +42,7 @@ use Rattle.proof_pair.proofs.AskedActsLemmas.{names, IsNamed, echo_named, Begins
 tag_some : (w : ℕ) → 0 < tag_from w
 tag_some w = omega arith
 
-first_small : (w : ℕ) → tsn_from w < words
+first_small : (w : ℕ) → tsn_from w < u32_space
 first_small w = omega arith
 
 wrapped : (n : ℕ) → (n + 1) % 2 ^ 32 < 2 ^ 32
@@ -67,7 +67,7 @@ lasts_taken tsn is_immediate f t = record {
   mode = added_unless_mode (has_seen t.tracker.tracker (tracker.number_of t.tracker tsn)) tsn f t.reassembly;
 }
 
-lasts_forwarded : (tsn : ℕ) (es : List SkippedStream) (t : Tcb) → Lasts t (forward_to tsn es t)
+lasts_forwarded : (tsn : ℕ) (es : List SkippedStream) (t : Tcb) → Lasts t (handle_forward_tsn tsn es t)
 lasts_forwarded tsn es t = record {
   identity = refl;
   capabilities = refl;
@@ -78,14 +78,14 @@ lasts_forwarded tsn es t = record {
 
 -- ---- a message is accepted
 
-pub some_payload : (a b c d : Bool) (len limit : ℕ) → refusal_by a b c d len limit ≡ None → a ≡ false
+pub some_payload : (a b c d : Bool) (len limit : ℕ) → send_refusal_by a b c d len limit ≡ None → a ≡ false
 some_payload true b c d len limit e = absurd (cc)
 some_payload false b c d len limit e = refl
 
 pub has_bytes : (n : ℕ) → (n == 0) ≡ false → nat_lt 0 n ≡ true
 has_bytes n e = grind (arith, nat_tests)
 
-accepted_ordered : (m : Message) (o : SendOptions) (s : State) (c : Context (List ℕ)) → refusal m (shown_state s) c ≡ None → IsOrdered c.queue
+accepted_ordered : (m : Message) (o : SendOptions) (s : State) (c : Context (List ℕ)) → send_refusal m (shown_state s) c ≡ None → IsOrdered c.queue
     → IsOrdered (accept m o c).queue
 accepted_ordered m o s c fine h =
     let q : Queued = queue_entry c.queue.next_number c.now m o in
@@ -134,7 +134,7 @@ outcome_method (Denied streams) c = refl
 -- what a record that is taken up makes
 abbrev pub TakesUp : HandoverState → Type 0
 TakesUp h = (c : Context (List ℕ)) → is_valid_state h ≡ true → IsOrdered c.queue
-    → HandoverInvariantOf (Open Established (tcb_from c.now c.options h)) (say OnConnected (queue_taken h c))
+    → HandoverInvariantOf (Open Established (tcb_from c.now c.options h)) (emit_event_in OnConnected (queue_restored h c))
 
 -- of the call no message is offered, and nothing is restored
 pub record IsQuiet (call : Call) : Type 0 where
@@ -170,26 +170,26 @@ module _ (once : CallsNumberOnce) (made : MadeConnected) (call : Call) (fits : H
   keeps_packets (begins p m new summed to) = still m.state m.context m.context refl refl
   keeps_packets (adds_plain chunk m plain others fair) = still m.state m.context m.context refl refl
   keeps_packets (emits m some bundled) = still m.state m.context _ refl refl
-  keeps_packets (complains kind text m) = still m.state m.context _ refl refl
+  keeps_packets (emits_error kind text m) = still m.state m.context _ refl refl
   keeps_packets (counts m) = still m.state m.context _ refl refl
 
   -- ---- opening
 
   opened_asked : (resets : Bool) (k : Cookie) (tie : ℕ) (c : Context (List ℕ)) → IsNamed k → IsOrdered c.queue
       → HandoverInvariantOf (Open Established (tcb_by c.options k tie))
-      (connected_context (record c { queue = queue_for resets (negotiate c.options k.peer_capabilities).message_interleaving c.queue }))
+      (enter_connected (record c { queue = queue_for resets (negotiate c.options k.peer_capabilities).message_interleaving c.queue }))
   opened_asked resets k tie c n h =
       let b = begins_for once resets (negotiate c.options k.peer_capabilities).message_interleaving c.queue in
       record {
         association = made (identity_of k tie) _ k.peer_capabilities
-            (connected_context (record c { queue = queue_for resets (negotiate c.options k.peer_capabilities).message_interleaving c.queue }))
+            (enter_connected (record c { queue = queue_for resets (negotiate c.options k.peer_capabilities).message_interleaving c.queue }))
             n.my_tag n.peer_tag n.my_first n.peer_first b.mode_is;
         queued = b.ordered h;
       }
 
   opens_by : (resets : Bool) (k : Cookie) (tie : ℕ) (s : State) (b c : Context (List ℕ)) → IsNamed k → c.queue ≡ b.queue
       → Leads (IsQuiet call) s b (Open Established (tcb_by c.options k tie))
-      (connected_context (record c { queue = queue_for resets (negotiate c.options k.peer_capabilities).message_interleaving c.queue }))
+      (enter_connected (record c { queue = queue_for resets (negotiate c.options k.peer_capabilities).message_interleaving c.queue }))
   opens_by resets k tie s b c n is =
       let x = begins_for once resets (negotiate c.options k.peer_capabilities).message_interleaving c.queue in
       record {
@@ -212,10 +212,10 @@ module _ (once : CallsNumberOnce) (made : MadeConnected) (call : Call) (fits : H
   keeps_opening (echoes tag i cookie own first t1 m received brought) =
       let mode : Bool = (opening.agreed_by m.context.options i).message_interleaving in
       let b : Begins mode m.context.queue (opening.queue_anew mode m.context.queue) = begins_anew once mode m.context.queue in
-      let peer : (0 < i.initiate_tag) × (i.initial_tsn < words) = names call fits tag (init_ack_chunk i) received in
+      let peer : (0 < i.initiate_tag) × (i.initial_tsn < u32_space) = names call fits tag (init_ack_chunk i) received in
       record {
         asked = λ h. record {
-          association = made (opening.names i own first (long_word (end_of m))) i.a_rwnd (announced_by i.nbr_outbound_streams i.nbr_inbound_streams i.parameters)
+          association = made (opening.identity_of_init_ack i own first (long_word (end_of m))) i.a_rwnd (announced_by i.nbr_outbound_streams i.nbr_inbound_streams i.parameters)
               (record m.context { peer = opening.maker cookie; queue = opening.queue_anew mode m.context.queue })
               h.association.0 peer.0 h.association.1 peer.1 b.mode_is;
           queued = b.ordered h.queued;
@@ -224,14 +224,14 @@ module _ (once : CallsNumberOnce) (made : MadeConnected) (call : Call) (fits : H
         next = λ q. b.next;
       }
   keeps_opening (adds_cookie t1 cookie t m to) = still (Open (CookieEchoed t1 cookie) t) m.context m.context refl refl
-  keeps_opening (establishes tag t1 cookie t m received) = block (CookieEchoed t1 cookie) Established t t m.context (connected_context m.context) (lasts_same t) (goes_same m.context.queue) refl
+  keeps_opening (establishes tag t1 cookie t m received) = block (CookieEchoed t1 cookie) Established t t m.context (enter_connected m.context) (lasts_same t) (goes_same m.context.queue) refl
   keeps_opening (opens tag k m echoed none own) = opens_by false k (long_word (end_of m)) m.state m.context m.context (echo_named call fits tag k echoed) refl
-  keeps_opening (restarts tag k phase t m echoed verdict) =
-      opens_by true k _ (Open phase t) m.context (say OnConnectionRestarted m.context) (echo_named call fits tag k echoed) refl
-  keeps_opening (opens_again tag k phase t m echoed verdict) =
+  keeps_opening (restarts tag k phase t m echoed resolution) =
+      opens_by true k _ (Open phase t) m.context (emit_event_in OnConnectionRestarted m.context) (echo_named call fits tag k echoed) refl
+  keeps_opening (opens_again tag k phase t m echoed resolution) =
       opens_by true k (long_word (end_of m)) (Open phase t) m.context m.context (echo_named call fits tag k echoed) refl
-  keeps_opening (maintains tag k t1 cookie t m echoed verdict) =
-      block (CookieEchoed t1 cookie) Established t t m.context (connected_context m.context) (lasts_same t) (goes_same m.context.queue) refl
+  keeps_opening (maintains tag k t1 cookie t m echoed resolution) =
+      block (CookieEchoed t1 cookie) Established t t m.context (enter_connected m.context) (lasts_same t) (goes_same m.context.queue) refl
   keeps_opening (adds_cookie_ack tag back phase t m echoed late) = still (Open phase t) m.context m.context refl refl
 
   -- ---- closing
@@ -249,9 +249,9 @@ module _ (once : CallsNumberOnce) (made : MadeConnected) (call : Call) (fits : H
   keeps_data (takes_idata tag tsn is_immediate f phase t m received right some is) =
       block phase phase t (take_fragment tsn is_immediate f t) m.context m.context (lasts_taken tsn is_immediate f t) (goes_same m.context.queue) refl
   keeps_data (takes_forward tag tsn skipped phase t m received right valid) =
-      block phase phase t (forward_to tsn skipped t) m.context m.context (lasts_forwarded tsn skipped t) (goes_same m.context.queue) refl
+      block phase phase t (handle_forward_tsn tsn skipped t) m.context m.context (lasts_forwarded tsn skipped t) (goes_same m.context.queue) refl
   keeps_data (takes_iforward tag tsn skipped phase t m received right valid) =
-      block phase phase t (forward_to tsn skipped t) m.context m.context (lasts_forwarded tsn skipped t) (goes_same m.context.queue) refl
+      block phase phase t (handle_forward_tsn tsn skipped t) m.context m.context (lasts_forwarded tsn skipped t) (goes_same m.context.queue) refl
 
   keeps_sack : (act : SackAct (List ℕ) call) → R (before_sack act) (after_sack act)
   keeps_sack (takes_sack tag k phase t m received valid) =
@@ -270,10 +270,10 @@ module _ (once : CallsNumberOnce) (made : MadeConnected) (call : Call) (fits : H
       (lasts_sent t _ (record { first = refl; items = alike_outstanding m.context.now t.sender.outstanding.items m.context.emitted })) (goes_same m.context.queue) refl
   keeps_sending (adds_forward phase t m due) = still (Open phase t) m.context m.context refl refl
   keeps_sending (forwards_later n m) = still m.state m.context _ refl refl
-  keeps_sending (asks_no_reset most m none) = leads_on (IsQuiet call) m.state m.context _ (goes_steps once Requested (requested_streams most m.context.queue) m.context.queue) refl
+  keeps_sending (asks_no_reset most m none) = leads_on (IsQuiet call) m.state m.context _ (goes_steps once Requested (streams_to_request most m.context.queue) m.context.queue) refl
   keeps_sending (asks_reset most stream streams phase t m some free) =
       block phase phase t (request_started m.context.now (stream ∷ streams) t) m.context _ (lasts_started m.context.now (stream ∷ streams) t)
-      (goes_steps once Requested (requested_streams most m.context.queue) m.context.queue) refl
+      (goes_steps once Requested (streams_to_request most m.context.queue) m.context.queue) refl
   keeps_sending (adds_request r phase t m is) = still (Open phase t) m.context m.context refl refl
   keeps_sending (sends phase t m) =
       let n : ℕ = room m.packet in

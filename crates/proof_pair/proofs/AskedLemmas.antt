@@ -13,10 +13,10 @@ use Rattle.sctp_tx_queue.specs.SendQueue.{Queued, Queue}
 use Rattle.sctp_tx_queue.proofs.InOrderLemmas.{new_in_order}
 use Rattle.sctp_tx_queue.proofs.RestLemmas.{calls_leave_rests}
 use Rattle.spec_endpoint.specs.Association.{Context, EndpointState, with_context, Endpoint, fresh}
-use Rattle.spec_endpoint.specs.Calls.{shown_state, refusal, refusal_of, queue_entry, offered, offer, offer_all, sent_if}
-use Rattle.spec_endpoint.specs.Handover.{refusal_in, taken_as, restored_unless}
-use Rattle.spec_endpoint.specs.Laws.{Call, Connect, Close, Shutdown, Send, SendMany, ResetStreams, TakeMessage, SetLowThreshold, SetPriority, SetMaxMessageSize, Advance, HandOver, Restore, Packet, NoPacket, called}
-use Rattle.proof_endpoint.specs.HandoverRoundTrip.{IsNumberedOnce, endpoint_state, HandoverGoesOn, MadeConnected, CallsNumberOnce}
+use Rattle.spec_endpoint.specs.Calls.{shown_state, send_refusal, send_refusal_of, queue_entry, offered, offer, offer_all, sent_if}
+use Rattle.spec_endpoint.specs.Handover.{restore_refusal_in, restored_as, restored_unless}
+use Rattle.spec_endpoint.specs.Laws.{Call, Connect, Close, Shutdown, Send, SendMany, ResetStreams, TakeMessage, SetLowThreshold, SetPriority, SetMaxMessageSize, Advance, HandOver, Restore, ReceivePacket, ReceiveNoPacket, called}
+use Rattle.proof_endpoint.specs.HandoverRoundTrip.{IsNumberedOnce, established_state, HandoverGoesOn, MadeConnected, CallsNumberOnce}
 use Rattle.proof_endpoint.specs.Lifecycles.{is_restore}
 use Rattle.proof_endpoint.specs.Acts.{IsOffered, alone, among}
 use Rattle.proof_pair.specs.HandoverInvariants.{IsOrdered, HandoverInvariantOf, HandoverInvariant, HandsIn, offers, NewEndsMeetHandoverInvariant, EachCallPreservesHandoverInvariant, NumbersOn, EachCallNumbersOnce, Use, Calls, Takes, after_use, after_uses, MayUse, offers_in, offers_along, EachEndGoesOn}
@@ -37,11 +37,11 @@ new_ends_asked o pack random = record {
 -- ---- a record that says that nothing is open changes nothing
 
 restored_closed : (o : Option RestoreError) (h : HandoverState) (s : EndpointState (List ℕ)) → h.socket_state ≡ handed.Closed → restored_unless o h s ≡ s
-restored_closed None h s e = ap (λ (how : HandoverSocketState). taken_as how h s) e
+restored_closed None h s e = ap (λ (how : HandoverSocketState). restored_as how h s) e
 restored_closed (Some x) h s e = refl
 
 called_closed : (h : HandoverState) (e : Endpoint (List ℕ)) → h.socket_state ≡ handed.Closed → called (Restore h) e ≡ e
-called_closed h e is = ap (λ (s : EndpointState (List ℕ)). record e { endpoint_state = s }) (restored_closed (refusal_in e.endpoint_state.state h) h e.endpoint_state is)
+called_closed h e is = ap (λ (s : EndpointState (List ℕ)). record e { endpoint_state = s }) (restored_closed (restore_refusal_in e.endpoint_state.state h) h e.endpoint_state is)
 
 not_restore : (call : Call) (h : HandoverState) → is_restore call ≡ false → call ≡ Restore h → ⊥
 not_restore call h e is = let b : is_restore call ≡ true = ap is_restore is in cc
@@ -95,8 +95,8 @@ module _ (once : CallsNumberOnce) (made : MadeConnected) where
   each_call (SetMaxMessageSize bytes) e fits a = asked_open (SetMaxMessageSize bytes) e fits refl a
   each_call (Advance now) e fits a = asked_open (Advance now) e fits refl a
   each_call HandOver e fits a = asked_open HandOver e fits refl a
-  each_call (Packet p) e fits a = asked_open (Packet p) e fits refl a
-  each_call NoPacket e fits a = asked_open NoPacket e fits refl a
+  each_call (ReceivePacket p) e fits a = asked_open (ReceivePacket p) e fits refl a
+  each_call ReceiveNoPacket e fits a = asked_open ReceiveNoPacket e fits refl a
 
   -- ---- numbers
 
@@ -127,7 +127,7 @@ module _ (once : CallsNumberOnce) (made : MadeConnected) where
   numbers_all [] o shown c small h = numbers_same 0 c.queue c.queue h refl
   numbers_all (m ∷ ms) o shown c small h =
       let d : Context (List ℕ) = offer m o shown c in
-      let first : NumbersOn 1 c.queue d.queue = numbers_offered (refusal m shown c) m o c (omega (arith, small)) h in
+      let first : NumbersOn 1 c.queue d.queue = numbers_offered (send_refusal m shown c) m o c (omega (arith, small)) h in
       let rest : NumbersOn (length ms) d.queue (offer_all ms o shown d).queue = numbers_all ms o shown d (omega (arith, small, first.next)) first.once in
       record { once = rest.once; next = omega (arith, first.next, rest.next) }
 
@@ -150,7 +150,7 @@ module _ (once : CallsNumberOnce) (made : MadeConnected) where
   each_call_numbers (Send m o) e fits a none small h =
       let c : Context (List ℕ) = e.endpoint_state.context in
       let d : Context (List ℕ) = offer m o (shown_state e.endpoint_state.state) c in
-      numbers_sent_if (refusal_of m e.endpoint_state) o c (with_offers e d) (numbers_offered (refusal_of m e.endpoint_state) m o c small h)
+      numbers_sent_if (send_refusal_of m e.endpoint_state) o c (with_offers e d) (numbers_offered (send_refusal_of m e.endpoint_state) m o c small h)
   each_call_numbers (SendMany ms o) e fits a none small h =
       let c : Context (List ℕ) = e.endpoint_state.context in
       let d : Context (List ℕ) = offer_all ms o (shown_state e.endpoint_state.state) c in
@@ -166,8 +166,8 @@ module _ (once : CallsNumberOnce) (made : MadeConnected) where
   each_call_numbers (SetMaxMessageSize bytes) e fits a none small h = quiet_numbers (SetMaxMessageSize bytes) e fits refl (no_offer (SetMaxMessageSize bytes) refl) h
   each_call_numbers (Advance now) e fits a none small h = quiet_numbers (Advance now) e fits refl (no_offer (Advance now) refl) h
   each_call_numbers HandOver e fits a none small h = quiet_numbers HandOver e fits refl (no_offer HandOver refl) h
-  each_call_numbers (Packet p) e fits a none small h = quiet_numbers (Packet p) e fits refl (no_offer (Packet p) refl) h
-  each_call_numbers NoPacket e fits a none small h = quiet_numbers NoPacket e fits refl (no_offer NoPacket refl) h
+  each_call_numbers (ReceivePacket p) e fits a none small h = quiet_numbers (ReceivePacket p) e fits refl (no_offer (ReceivePacket p) refl) h
+  each_call_numbers ReceiveNoPacket e fits a none small h = quiet_numbers ReceiveNoPacket e fits refl (no_offer ReceiveNoPacket refl) h
 
   -- ---- along all uses
 
@@ -200,6 +200,6 @@ module _ (once : CallsNumberOnce) (made : MadeConnected) where
   each_end goes_on o pack random uses may few t c is ready fits other draws =
       let e : Endpoint (List ℕ) = after_uses uses (fresh o pack random) in
       let h : Holds e = along uses (fresh o pack random) may (omega (arith, few)) (record { asked = new_ends_asked o pack random; numbers = once.new o }) in
-      let at : HoldsIn (endpoint_state t c) = subst HoldsIn is (h.asked, h.numbers) in
+      let at : HoldsIn (established_state t c) = subst HoldsIn is (h.asked, h.numbers) in
       let q : IsOrdered c.queue = at.0.queued in
       goes_on t c other draws ready at.0.association (record { sorted = q.sorted; order = q.order; numbers = at.1; next = q.next; rests = q.rests }) fits

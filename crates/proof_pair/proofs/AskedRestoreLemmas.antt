@@ -125,11 +125,11 @@ takes_up h connected r c valid q =
         peer_tag = ltb-true 0 h.peer_verification_tag theirs.0;
         first = refl;
         small = r.my_first;
-        first_received = refl;
-        small_received = r.peer_first;
+        peer_first = refl;
+        peer_first_small = r.peer_first;
         partial = refl;
         mode = refl;
-        mode_received = refl;
+        receiver_mode = refl;
         mode_queued = scheduled_mode (outgoing_ids h.tx.streams) (streams_from c.now h.tx c.queue.streams)
             (enable_message_interleaving mode (scheduler c.queue.scheduler.most_payload));
         method = read_again h.capabilities.zero_checksum c.options.zero_checksum_method;

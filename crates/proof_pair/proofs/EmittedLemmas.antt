@@ -6,41 +6,41 @@ use Rattle.std.proofs.lemmas.Bool.{and_parts, and_from}
 use Rattle.sctp_chunk.specs.declared.sack.GapAckBlock.{GapAckBlock}
 use Rattle.sctp_state.specs.declared.api.GivenUpCause.{GivenUpCause}
 use Rattle.sctp_state.specs.declared.api.GivenUpCause.TheVariants.{Lifetime, Retransmissions, Reset}
-use Rattle.sctp_state.specs.Events.{Event, SendPacket, OnConnected, OnConnectionRestarted, OnClosed, OnAborted, OnBufferedAmountLow, OnTotalBufferedAmountLow, OnLifecycleMessageDelivered, Emitted, emit_events, give_up, expiry, OnError, OnLifecycleMessageFullySent, OnLifecycleMessageMaybeExpired, OnLifecycleMessageExpired, OnLifecycleEnd}
+use Rattle.sctp_state.specs.Events.{Event, SendPacket, OnConnected, OnConnectionRestarted, OnClosed, OnAborted, OnBufferedAmountLow, OnTotalBufferedAmountLow, OnLifecycleMessageDelivered, Emitted, emit_events, emit_given_up, expired_events, OnError, OnLifecycleMessageFullySent, OnLifecycleMessageMaybeExpired, OnLifecycleMessageExpired, OnLifecycleEnd}
 use Rattle.sctp_tx_outstanding.specs.Item.{Item, is_abandoned}
 use Rattle.sctp_tx_outstanding.specs.OutstandingData.{Items, Discard}
-use Rattle.sctp_tx_outstanding.specs.Losses.{Step, first_step, given_up, gives_up, loses, change_items, nack_item, nack_below, nack_all, given_up_if, expired_at, expire_below, expire_outstanding}
+use Rattle.sctp_tx_outstanding.specs.Losses.{Step, first_step, abandon_with_record, is_to_be_abandoned, loses, change_items, nack_item, nack_below, nack_all, given_up_if, expired_at, expire_below, expire_outstanding}
 use Rattle.sctp_tx_outstanding.specs.Item as item
-use Rattle.sctp_tx_outstanding.specs.Sack.{report, reports, leaving, staying, reported_below, receive_sack_first, receive_sack}
+use Rattle.sctp_tx_outstanding.specs.Sack.{leaving_events, all_leaving_events, leaving, staying, reported_below, receive_sack_first, receive_sack}
 use Rattle.sctp_tx_outstanding.specs.Sack as sack
 use Rattle.sctp_state.specs.ThresholdWatcher.{crosses}
 use Rattle.sctp_tx_queue.specs.SendQueue.{Queued, Stream, Streams, Queue, stream, watched_amount, watched_total}
-use Rattle.sctp_tx_queue.specs.Produced.{Produced, Turn, is_stale, drop_expired, when, fully_sent, production, emitted_made, emitted_of, streams_after, streams_without_stale, advance, next_fragment, turn, next_stream, idle, produce_within, produce}
+use Rattle.sctp_tx_queue.specs.Produced.{Produced, Turn, is_stale, emit_expired, when, fully_sent, production, emitted_made, emitted_of, streams_after, streams_without_stale, advance, next_fragment, turn, next_stream, idle, produce_within, produce}
 use Rattle.sctp_tx_queue.specs.Settings.{Changed, set_low_threshold, with_threshold, front_discarded, streams_discarded, discard_from, discard}
 use Rattle.sctp_tx.specs.RetransmissionQueue.{Sender, emitted_if}
 use Rattle.sctp_tx.specs.Windows.{is_open}
 use Rattle.sctp_tx.specs.Resent.{resent, may_send_new}
-use Rattle.sctp_tx.specs.Sending.{Filling, Turned, append, turned_if, next_turn, offered_payload, fill, discard_all, without_discards, filled_with, fill_all, send}
-use Rattle.sctp_tx_queue.specs.Resets.{is_partly, emitted_waiting, prepare_reset}
+use Rattle.sctp_tx.specs.Sending.{Filling, QueueStep, append, queue_step_if, next_turn, offered_payload, fill, discard_all, without_discards, filled_with, fill_and_start_t3, send}
+use Rattle.sctp_tx_queue.specs.Resets.{is_partly, emit_unsent, prepare_reset}
 use Rattle.sctp_state.specs.declared.api.errors.SendError.{SendError}
 use Rattle.sctp_state.specs.declared.api.errors.SendError.TheVariants.{EmptyPayload, MessageTooLarge, ShuttingDown, ResourceExhaustion as QueueFull, Memory, Failed}
 use Rattle.sctp_state.specs.declared.api.ErrorKind.{ErrorKind}
-use Rattle.spec_endpoint.specs.Calls.{refusal_events, lifecycle_end}
+use Rattle.spec_endpoint.specs.Calls.{refusal_events, lifecycle_end_events}
 
 -- ---- events that say nothing of how the association stands, and are no packets
 
-abbrev pub is_light : {P : Type 0} → Event P → Bool
-is_light (SendPacket p) = false
-is_light OnConnected = false
-is_light OnClosed = false
-is_light OnConnectionRestarted = false
-is_light (OnAborted kind text) = false
-is_light e = true
+abbrev pub is_no_packet_or_status : {P : Type 0} → Event P → Bool
+is_no_packet_or_status (SendPacket p) = false
+is_no_packet_or_status OnConnected = false
+is_no_packet_or_status OnClosed = false
+is_no_packet_or_status OnConnectionRestarted = false
+is_no_packet_or_status (OnAborted kind text) = false
+is_no_packet_or_status e = true
 
 -- and report no message as delivered
 abbrev pub is_quiet : {P : Type 0} → Event P → Bool
 is_quiet (OnLifecycleMessageDelivered id) = false
-is_quiet e = is_light e
+is_quiet e = is_no_packet_or_status e
 
 -- a kind of events that has all that is emitted here, but for what was delivered
 pub record Kind {P : Type 0} (kind : Event P → Bool) : Type 0 where
@@ -52,8 +52,8 @@ pub record Kind {P : Type 0} (kind : Event P → Bool) : Type 0 where
   pub expired : (id : ℕ) → kind (OnLifecycleMessageExpired id) ≡ true
   pub ends : (id : ℕ) → kind (OnLifecycleEnd id) ≡ true
 
-light_kind : {P : Type 0} → Kind (is_light {P = P})
-light_kind = record {
+no_packet_or_status_kind : {P : Type 0} → Kind (is_no_packet_or_status {P = P})
+no_packet_or_status_kind = record {
   error = λ e text. refl;
   low = λ stream. refl;
   total_low = refl;
@@ -93,7 +93,7 @@ module _ {P : Type 0} (kind : Event P → Bool) (k : Kind kind) where
   all_when true e h = first e [] h refl
   all_when false e h = refl
 
-  all_expiry : (l : Option ℕ) → list_all kind (expiry l) ≡ true
+  all_expiry : (l : Option ℕ) → list_all kind (expired_events l) ≡ true
   all_expiry None = refl
   all_expiry (Some id) = first (OnLifecycleMessageExpired id) (OnLifecycleEnd id ∷ []) (k.expired id) (first (OnLifecycleEnd id) [] (k.ends id) refl)
 
@@ -106,7 +106,7 @@ module _ {P : Type 0} (kind : Event P → Bool) (k : Kind kind) where
       both (when is_low (OnBufferedAmountLow id)) (when is_total_low OnTotalBufferedAmountLow ++ fully_sent l) (all_when is_low (OnBufferedAmountLow id) (k.low id))
       (both (when is_total_low OnTotalBufferedAmountLow) (fully_sent l) (all_when is_total_low OnTotalBufferedAmountLow k.total_low) (all_fully_sent l))
 
-  all_ended : (l : Option ℕ) → list_all kind (lifecycle_end l) ≡ true
+  all_ended : (l : Option ℕ) → list_all kind (lifecycle_end_events l) ≡ true
   all_ended None = refl
   all_ended (Some id) = first (OnLifecycleEnd id) [] (k.ends id) refl
 
@@ -130,8 +130,8 @@ module _ {P : Type 0} (kind : Event P → Bool) (k : Kind kind) where
   these : (es : List (Event P)) (t : Emitted P) → list_all kind es ≡ true → Emits kind t (emit_events es t)
   these es t h = record { events = es; behind = refl; all = h }
 
-  given : (n : ℕ) (cause : GivenUpCause) (t : Emitted P) → Emits kind t (give_up n cause t)
-  given n cause t = nothing t (give_up n cause t) refl
+  given : (n : ℕ) (cause : GivenUpCause) (t : Emitted P) → Emits kind t (emit_given_up n cause t)
+  given n cause t = nothing t (emit_given_up n cause t) refl
 
   onto : (t u v : Emitted P) → Emits kind t u → Emits kind u v → Emits kind t v
   onto t u v a b = record {
@@ -143,14 +143,14 @@ module _ {P : Type 0} (kind : Event P → Bool) (k : Kind kind) where
   -- ---- items
 
   nacks_item : (b at_once fast : Bool) (place : ℕ) (i : Item) (t : Emitted P) (x : Step P) → Emits kind t x.emitted
-      → Emits kind t (cond b (given_up i.number (Retransmissions (i.sent - 1)) x) (record x { items = change_items place (item.nack at_once fast) x.items; is_lossy = x.is_lossy || loses at_once i })).emitted
-  nacks_item true at_once fast place i t x h = onto t x.emitted (give_up i.number (Retransmissions (i.sent - 1)) x.emitted) h (given i.number (Retransmissions (i.sent - 1)) x.emitted)
+      → Emits kind t (cond b (abandon_with_record i.number (Retransmissions (i.sent - 1)) x) (record x { items = change_items place (item.nack at_once fast) x.items; is_lossy = x.is_lossy || loses at_once i })).emitted
+  nacks_item true at_once fast place i t x h = onto t x.emitted (emit_given_up i.number (Retransmissions (i.sent - 1)) x.emitted) h (given i.number (Retransmissions (i.sent - 1)) x.emitted)
   nacks_item false at_once fast place i t x h = h
 
   nacks_at : (o : Option Item) (at_once fast : Bool) (place : ℕ) (t : Emitted P) (x : Step P) → Emits kind t x.emitted
       → Emits kind t (unwrap_or (option_map (λ i. nack_item at_once fast place i x) o) x).emitted
   nacks_at None at_once fast place t x h = h
-  nacks_at (Some i) at_once fast place t x h = nacks_item (gives_up x.items.is_partial at_once i) at_once fast place i t x h
+  nacks_at (Some i) at_once fast place t x h = nacks_item (is_to_be_abandoned x.items.is_partial at_once i) at_once fast place i t x h
 
   nacks_below : (at_once fast : Bool) (n : ℕ) (t : Emitted P) (x : Step P) → Emits kind t x.emitted → Emits kind t (nack_below at_once fast n x).emitted
   nacks_below at_once fast zero t x h = h
@@ -163,7 +163,7 @@ module _ {P : Type 0} (kind : Event P → Bool) (k : Kind kind) where
 
   gives_up_if : (o : Option ℕ) (t : Emitted P) (x : Step P) → Emits kind t x.emitted → Emits kind t (given_up_if o x).emitted
   gives_up_if None t x h = h
-  gives_up_if (Some n) t x h = onto t x.emitted (give_up n Lifetime x.emitted) h (given n Lifetime x.emitted)
+  gives_up_if (Some n) t x h = onto t x.emitted (emit_given_up n Lifetime x.emitted) h (given n Lifetime x.emitted)
 
   expires_below : (now n : ℕ) (t : Emitted P) (x : Step P) → Emits kind t x.emitted → Emits kind t (expire_below now n x).emitted
   expires_below now zero t x h = h
@@ -180,14 +180,14 @@ module _ {P : Type 0} (kind : Event P → Bool) (k : Kind kind) where
   drops_if true t u v h k = onto t u v h k
   drops_if false t u v h k = same t
 
-  drops : (now : ℕ) (ms : List Queued) (t : Emitted P) → Emits kind t (drop_expired now ms t)
-  drops now [] t = same t
-  drops now (m ∷ ms) t =
-      let recorded : Emitted P = give_up m.number Lifetime t in
-      let said : Emitted P = emit_events (expiry m.lifecycle) recorded in
-      drops_if (is_stale now m) t said (drop_expired now ms said)
-      (onto t recorded said (given m.number Lifetime t) (these (expiry m.lifecycle) recorded (all_expiry m.lifecycle)))
-      (drops now ms said)
+  emits_each_expired : (now : ℕ) (ms : List Queued) (t : Emitted P) → Emits kind t (emit_expired now ms t)
+  emits_each_expired now [] t = same t
+  emits_each_expired now (m ∷ ms) t =
+      let recorded : Emitted P = emit_given_up m.number Lifetime t in
+      let said : Emitted P = emit_events (expired_events m.lifecycle) recorded in
+      drops_if (is_stale now m) t said (emit_expired now ms said)
+      (onto t recorded said (given m.number Lifetime t) (these (expired_events m.lifecycle) recorded (all_expiry m.lifecycle)))
+      (emits_each_expired now ms said)
 
   makes : (id : ℕ) (is_low is_total_low : Bool) (o : Option Produced) (t : Emitted P) → Emits kind t (emitted_made id is_low is_total_low o t)
   makes id is_low is_total_low None t = same t
@@ -195,9 +195,9 @@ module _ {P : Type 0} (kind : Event P → Bool) (k : Kind kind) where
 
   actions : (now id size : ℕ) (q : Queue) (t : Emitted P) → Emits kind t (turn now id size q t).emitted
   actions now id size q t =
-      let first : Emitted P = drop_expired now (stream id q.streams).messages t in
+      let first : Emitted P = emit_expired now (stream id q.streams).messages t in
       let ss : Streams = streams_without_stale now id q.streams in
-      onto t first (emitted_of id size ss first) (drops now (stream id q.streams).messages t)
+      onto t first (emitted_of id size ss first) (emits_each_expired now (stream id q.streams).messages t)
       (makes id (crosses (watched_amount (stream id ss)) (watched_amount (advance size (stream id ss)))) (crosses (watched_total ss) (watched_total (streams_after id size ss))) (next_fragment id size (stream id ss)) first)
 
   produces_if : (b : Bool) (t : Emitted P) (x y : Turn P) → Emits kind t x.emitted → Emits kind x.emitted y.emitted → Emits kind t (cond b x y).emitted
@@ -222,7 +222,7 @@ module _ {P : Type 0} (kind : Event P → Bool) (k : Kind kind) where
 
   discards_from : (id : ℕ) (ss : Streams) (o : Option (Option ℕ)) (q : Queue) (t : Emitted P) → Emits kind t (discard_from id ss o q t).emitted
   discards_from id ss None q t = same t
-  discards_from id ss (Some l) q t = these (expiry l) t (all_expiry l)
+  discards_from id ss (Some l) q t = these (expired_events l) t (all_expiry l)
 
   discards : (ds : List Discard) (q : Queue) (t : Emitted P) → Emits kind t (discard_all ds q t).emitted
   discards [] q t = same t
@@ -244,7 +244,7 @@ module _ {P : Type 0} (kind : Event P → Bool) (k : Kind kind) where
   appends now None t x h = h
   appends now (Some p) t x h = h
 
-  actions_if : (b : Bool) (now : ℕ) (x : Filling P) → Emits kind x.emitted (turned_if b now x).filling.emitted
+  actions_if : (b : Bool) (now : ℕ) (x : Filling P) → Emits kind x.emitted (queue_step_if b now x).filling.emitted
   actions_if true now x =
       let y : Turn P = produce now (offered_payload x.left x.sender) x.queue x.emitted in
       appends now y.made x.emitted (record x { queue = y.queue; emitted = y.emitted }) (makes_one now (offered_payload x.left x.sender) x.queue x.emitted)
@@ -257,14 +257,14 @@ module _ {P : Type 0} (kind : Event P → Bool) (k : Kind kind) where
   fills : (n now : ℕ) (x : Filling P) → Emits kind x.emitted (fill n now x).emitted
   fills zero now x = same x.emitted
   fills (suc n) now x =
-      let y : Turned P = next_turn now x in
+      let y : QueueStep P = next_turn now x in
       fills_if y.is_more x.emitted y.filling (fill n now y.filling) (actions_if (may_send_new x.sender && nat_lt 0 (offered_payload x.left x.sender)) now x) (fills n now y.filling)
 
   pub sends : (now size : ℕ) (s : Sender) (q : Queue) (t : Emitted P) → Emits kind t (send now size s q t).emitted
   sends now size s q t =
       let left : Changed P = discard_all s.outstanding.items.discards q t in
       let x : Filling P = filled_with size (without_discards s) (resent size (without_discards s)) left in
-      onto t left.emitted (fill_all now x).emitted (discards s.outstanding.items.discards q t) (fills (suc x.left) now x)
+      onto t left.emitted (fill_and_start_t3 now x).emitted (discards s.outstanding.items.discards q t) (fills (suc x.left) now x)
 
   -- ---- resets
 
@@ -272,21 +272,21 @@ module _ {P : Type 0} (kind : Event P → Bool) (k : Kind kind) where
   waits_if true t u h = same t
   waits_if false t u h = h
 
-  waits : (ms : List Queued) (t : Emitted P) → Emits kind t (emitted_waiting ms t)
+  waits : (ms : List Queued) (t : Emitted P) → Emits kind t (emit_unsent ms t)
   waits [] t = same t
   waits (m ∷ ms) t =
-      let recorded : Emitted P = give_up m.number Reset t in
-      let said : Emitted P = emit_events (expiry m.lifecycle) recorded in
+      let recorded : Emitted P = emit_given_up m.number Reset t in
+      let said : Emitted P = emit_events (expired_events m.lifecycle) recorded in
       let u : Emitted P = cond (is_partly m) t said in
-      onto t u (emitted_waiting ms u)
-      (waits_if (is_partly m) t said (onto t recorded said (given m.number Reset t) (these (expiry m.lifecycle) recorded (all_expiry m.lifecycle))))
+      onto t u (emit_unsent ms u)
+      (waits_if (is_partly m) t said (onto t recorded said (given m.number Reset t) (these (expired_events m.lifecycle) recorded (all_expiry m.lifecycle))))
       (waits ms u)
 
   pub prepares : (id : ℕ) (q : Queue) (t : Emitted P) → Emits kind t (prepare_reset id q t).emitted
   prepares id q t = waits (stream id q.streams).messages t
 
-  pub refuses : (e : SendError) (l : Option ℕ) (t : Emitted P) → Emits kind t (emit_events (lifecycle_end l ++ refusal_events e) t)
-  refuses e l t = these (lifecycle_end l ++ refusal_events e) t (both (lifecycle_end l) (refusal_events e) (all_ended l) (all_refusal e))
+  pub refuses : (e : SendError) (l : Option ℕ) (t : Emitted P) → Emits kind t (emit_events (lifecycle_end_events l ++ refusal_events e) t)
+  refuses e l t = these (lifecycle_end_events l ++ refusal_events e) t (both (lifecycle_end_events l) (refusal_events e) (all_ended l) (all_refusal e))
 
   -- ---- reports
 
@@ -297,15 +297,15 @@ module _ {P : Type 0} (kind : Event P → Bool) (k : Kind kind) where
     all_ending true true (Some id) = first (OnLifecycleMessageMaybeExpired id) (OnLifecycleEnd id ∷ []) (k.maybe_expired id) (first (OnLifecycleEnd id) [] (k.ends id) refl)
     all_ending true false (Some id) = first (OnLifecycleMessageDelivered id) (OnLifecycleEnd id ∷ []) (delivered id) (first (OnLifecycleEnd id) [] (k.ends id) refl)
 
-    all_reports : (is : List Item) → list_all kind (reports is) ≡ true
+    all_reports : (is : List Item) → list_all kind (all_leaving_events is) ≡ true
     all_reports [] = refl
-    all_reports (i ∷ is) = both (report i) (reports is) (all_ending i.fragment.is_end (is_abandoned i) i.lifecycle) (all_reports is)
+    all_reports (i ∷ is) = both (leaving_events i) (all_leaving_events is) (all_ending i.fragment.is_end (is_abandoned i) i.lifecycle) (all_reports is)
 
     received : (n : ℕ) (blocks : List GapAckBlock) (fast : Bool) (s : Items) (t : Emitted P) → Emits kind t (receive_sack n blocks fast s t).emitted
     received n blocks fast s t =
         let x : Step P = receive_sack_first n blocks s t in
         let y : Step P = nack_below false (not fast) (reported_below blocks (staying n s)) x in
-        onto t x.emitted y.emitted (these (reports (take (leaving n s) s.kept)) t (all_reports (take (leaving n s) s.kept)))
+        onto t x.emitted y.emitted (these (all_leaving_events (take (leaving n s) s.kept)) t (all_reports (take (leaving n s) s.kept)))
         (nacks_below false (not fast) (reported_below blocks (staying n s)) x.emitted x (same x.emitted))
 
     pub receives : (is_valid : Bool) (n : ℕ) (blocks : List GapAckBlock) (s : Sender) (t : Emitted P) → Emits kind t (emitted_if is_valid n blocks s t)
@@ -314,52 +314,52 @@ module _ {P : Type 0} (kind : Event P → Bool) (k : Kind kind) where
 
 -- ---- lightly, and quietly
 
-abbrev pub EmitsLightly : {P : Type 0} → (before after : Emitted P) → Type 0
-EmitsLightly before after = Emits is_light before after
+abbrev pub EmitsNoPacketOrStatus : {P : Type 0} → (before after : Emitted P) → Type 0
+EmitsNoPacketOrStatus before after = Emits is_no_packet_or_status before after
 
 abbrev pub EmitsQuietly : {P : Type 0} → (before after : Emitted P) → Type 0
 EmitsQuietly before after = Emits is_quiet before after
 
-quiet_is_light : {P : Type 0} (e : Event P) → is_quiet e ≡ true → is_light e ≡ true
-quiet_is_light (OnLifecycleMessageDelivered id) h = refl
-quiet_is_light e h = h
+quiet_is_no_packet_or_status : {P : Type 0} (e : Event P) → is_quiet e ≡ true → is_no_packet_or_status e ≡ true
+quiet_is_no_packet_or_status (OnLifecycleMessageDelivered id) h = refl
+quiet_is_no_packet_or_status e h = h
 
-all_light : {P : Type 0} (es : List (Event P)) → list_all is_quiet es ≡ true → list_all is_light es ≡ true
-all_light [] h = refl
-all_light (e ∷ es) h =
+all_no_packet_or_status : {P : Type 0} (es : List (Event P)) → list_all is_quiet es ≡ true → list_all is_no_packet_or_status es ≡ true
+all_no_packet_or_status [] h = refl
+all_no_packet_or_status (e ∷ es) h =
     let parts = and_parts (is_quiet e) (list_all is_quiet es) h in
-    and_from (is_light e) (list_all is_light es) (quiet_is_light e parts.0) (all_light es parts.1)
+    and_from (is_no_packet_or_status e) (list_all is_no_packet_or_status es) (quiet_is_no_packet_or_status e parts.0) (all_no_packet_or_status es parts.1)
 
 module _ {P : Type 0} where
-  pub lightly : (t u : Emitted P) → EmitsQuietly t u → EmitsLightly t u
-  lightly t u q = record { events = q.events; behind = q.behind; all = all_light q.events q.all }
+  pub quiet_emits_no_packet_or_status : (t u : Emitted P) → EmitsQuietly t u → EmitsNoPacketOrStatus t u
+  quiet_emits_no_packet_or_status t u q = record { events = q.events; behind = q.behind; all = all_no_packet_or_status q.events q.all }
 
-  pub emits_same : (t : Emitted P) → EmitsLightly t t
-  emits_same = same is_light light_kind
+  pub emits_same : (t : Emitted P) → EmitsNoPacketOrStatus t t
+  emits_same = same is_no_packet_or_status no_packet_or_status_kind
 
-  pub emits_all : (es : List (Event P)) (t : Emitted P) → list_all is_light es ≡ true → EmitsLightly t (emit_events es t)
-  emits_all = these is_light light_kind
+  pub emits_all : (es : List (Event P)) (t : Emitted P) → list_all is_no_packet_or_status es ≡ true → EmitsNoPacketOrStatus t (emit_events es t)
+  emits_all = these is_no_packet_or_status no_packet_or_status_kind
 
-  pub emits_nack_all : (s : Items) (t : Emitted P) → EmitsLightly t (nack_all s t).emitted
-  emits_nack_all = times_out is_light light_kind
+  pub emits_nack_all : (s : Items) (t : Emitted P) → EmitsNoPacketOrStatus t (nack_all s t).emitted
+  emits_nack_all = times_out is_no_packet_or_status no_packet_or_status_kind
 
-  pub emits_expired : (now : ℕ) (s : Items) (t : Emitted P) → EmitsLightly t (expire_outstanding now s t).emitted
-  emits_expired = expires is_light light_kind
+  pub emits_expired : (now : ℕ) (s : Items) (t : Emitted P) → EmitsNoPacketOrStatus t (expire_outstanding now s t).emitted
+  emits_expired = expires is_no_packet_or_status no_packet_or_status_kind
 
-  pub emits_sack : (is_valid : Bool) (n : ℕ) (blocks : List GapAckBlock) (s : Sender) (t : Emitted P) → EmitsLightly t (emitted_if is_valid n blocks s t)
-  emits_sack = receives is_light light_kind (λ id. refl)
+  pub emits_sack : (is_valid : Bool) (n : ℕ) (blocks : List GapAckBlock) (s : Sender) (t : Emitted P) → EmitsNoPacketOrStatus t (emitted_if is_valid n blocks s t)
+  emits_sack = receives is_no_packet_or_status no_packet_or_status_kind (λ id. refl)
 
-  pub emits_threshold : (id bytes : ℕ) (q : Queue) (t : Emitted P) → EmitsLightly t (set_low_threshold id bytes q t).emitted
-  emits_threshold = sets_threshold is_light light_kind
+  pub emits_threshold : (id bytes : ℕ) (q : Queue) (t : Emitted P) → EmitsNoPacketOrStatus t (set_low_threshold id bytes q t).emitted
+  emits_threshold = sets_threshold is_no_packet_or_status no_packet_or_status_kind
 
-  pub emits_sent : (now size : ℕ) (s : Sender) (q : Queue) (t : Emitted P) → EmitsLightly t (send now size s q t).emitted
-  emits_sent = sends is_light light_kind
+  pub emits_sent : (now size : ℕ) (s : Sender) (q : Queue) (t : Emitted P) → EmitsNoPacketOrStatus t (send now size s q t).emitted
+  emits_sent = sends is_no_packet_or_status no_packet_or_status_kind
 
-  pub emits_prepared : (id : ℕ) (q : Queue) (t : Emitted P) → EmitsLightly t (prepare_reset id q t).emitted
-  emits_prepared = prepares is_light light_kind
+  pub emits_prepared : (id : ℕ) (q : Queue) (t : Emitted P) → EmitsNoPacketOrStatus t (prepare_reset id q t).emitted
+  emits_prepared = prepares is_no_packet_or_status no_packet_or_status_kind
 
-  pub emits_refused : (e : SendError) (l : Option ℕ) (t : Emitted P) → EmitsLightly t (emit_events (lifecycle_end l ++ refusal_events e) t)
-  emits_refused = refuses is_light light_kind
+  pub emits_refused : (e : SendError) (l : Option ℕ) (t : Emitted P) → EmitsNoPacketOrStatus t (emit_events (lifecycle_end_events l ++ refusal_events e) t)
+  emits_refused = refuses is_no_packet_or_status no_packet_or_status_kind
 
   pub quiet_same : (t : Emitted P) → EmitsQuietly t t
   quiet_same = same is_quiet quiet_kind
@@ -379,5 +379,5 @@ module _ {P : Type 0} where
   pub quiet_sent : (now size : ℕ) (s : Sender) (q : Queue) (t : Emitted P) → EmitsQuietly t (send now size s q t).emitted
   quiet_sent = sends is_quiet quiet_kind
 
-  pub quiet_refused : (e : SendError) (l : Option ℕ) (t : Emitted P) → EmitsQuietly t (emit_events (lifecycle_end l ++ refusal_events e) t)
+  pub quiet_refused : (e : SendError) (l : Option ℕ) (t : Emitted P) → EmitsQuietly t (emit_events (lifecycle_end_events l ++ refusal_events e) t)
   quiet_refused = refuses is_quiet quiet_kind

@@ -9,7 +9,7 @@ use Rattle.sctp_state.specs.Events.{OnClosed}
 use Rattle.sctp_rx.specs.DataTracker.{number_of as tsn_of, has_seen, moves_on}
 use Rattle.sctp_rx.specs.Delivery.{Extends}
 use Rattle.sctp_rx.specs.ReassemblyStreams.{is_far, entries_in}
-use Rattle.sctp_rx.specs.ReassemblyQueue.{Reassembly, Waiting, Added, Forwarded, number_of, came, add_now, forward_now, fragment_waits, point_waits, waits, add_or_wait, forward_or_wait, add, forward, apply, apply_each, waiting_in, reset, wait_with, resetting}
+use Rattle.sctp_rx.specs.ReassemblyQueue.{Reassembly, Waiting, Added, Forwarded, number_of, came, add_now, forward_now, is_kept_back, point_waits, keep_back, add_or_keep_back, forward_or_wait, add, forward, apply, apply_each, waiting_in, reset, wait_with, resetting}
 use Rattle.sctp_rx.specs.ReassemblyStreams as streams
 use Rattle.sctp_reassembly.proofs.ExtendsLemmas.{extends_none, extends_by, extends_both}
 use Rattle.spec_endpoint.specs.Association.{State, Closed, CookieWait, Open}
@@ -18,7 +18,7 @@ use Rattle.spec_endpoint.specs.Calls.{ready_in}
 use Rattle.spec_endpoint.specs.Data.{added_unless, skipped_if}
 use Rattle.spec_endpoint.specs.Laws.{Call, TakeMessage}
 use Rattle.proof_endpoint.specs.Mapped.{Carried}
-use Rattle.proof_endpoint.specs.Acts.{EndWithPacket, is_opened, PacketAct, begins, adds_plain, emits, complains, counts, before_packets, after_packets, OpeningAct, connects, adds_init, answers_new, answers_waiting, answers_echoed, answers_again, echoes, adds_cookie, establishes, opens, restarts, opens_again, maintains, adds_cookie_ack, before_opening, after_opening, ClosingAct, closes, shuts, shuts_on, before_closing, after_closing, DataAct, takes_data, takes_idata, takes_forward, takes_iforward, before_data, after_data, SackAct, takes_sack, samples, counts_errors, before_sack, after_sack, SendingAct, asks, adds_ack, expires, adds_forward, forwards_later, asks_no_reset, asks_reset, adds_request, sends, sends_fast, before_sending, after_sending, TimeAct, advances, delay_ends, times_out, beats, times_init, times_cookie, times_request, wakes_request, before_time, after_time, CallAct, accepts, refuses, takes_message, sets_low_threshold, sets_priority, sets_max_message_size, before_call, after_call, ResetAct, prepares, defers, performs, processes, takes_response, adds_responses, before_reset, after_reset, HandoverAct, leaves, takes_up, before_handover, after_handover, InputAct, ends_packet, before_input, after_input, HasNoEnd, PreservesUntilEnd}
+use Rattle.proof_endpoint.specs.Acts.{EndWithPacket, is_opened, PacketAct, begins, adds_plain, emits, emits_error, counts, before_packets, after_packets, OpeningAct, connects, adds_init, answers_new, answers_waiting, answers_echoed, answers_again, echoes, adds_cookie, establishes, opens, restarts, opens_again, maintains, adds_cookie_ack, before_opening, after_opening, ClosingAct, closes, shuts, shuts_on, before_closing, after_closing, DataAct, takes_data, takes_idata, takes_forward, takes_iforward, before_data, after_data, SackAct, takes_sack, samples, counts_errors, before_sack, after_sack, SendingAct, asks, adds_ack, expires, adds_forward, forwards_later, asks_no_reset, asks_reset, adds_request, sends, sends_fast, before_sending, after_sending, TimeAct, advances, delay_ends, times_out, beats, times_init, times_cookie, times_request, wakes_request, before_time, after_time, CallAct, accepts, refuses, takes_message, sets_low_threshold, sets_priority, sets_max_message_size, before_call, after_call, ResetAct, prepares, defers, performs, processes, takes_response, adds_responses, before_reset, after_reset, HandoverAct, leaves, takes_up, before_handover, after_handover, InputAct, ends_packet, before_input, after_input, HasNoEnd, PreservesUntilEnd}
 use Rattle.proof_pair.proofs.UntilLemmas.{no_end}
 use Rattle.proof_pair.proofs.JoinActsLemmas.{Setting, InvAt}
 use Rattle.proof_pair.proofs.JoinKeepsLemmas.{Rules, same_verdict, no_restart, no_again}
@@ -48,8 +48,8 @@ module _ (r : Reassembly) where
   more_add tsn f =
       let n : ℕ = number_of r tsn in
       let q : Reassembly = came tsn r in
-      more_if (is_far n) r.ready r (add_or_wait n f q) (extends_none r.ready)
-      (more_if (fragment_waits n f.stream_id q.deferred) r.ready (waits (Added n f) q) (add_now n f q) (extends_none r.ready)
+      more_if (is_far n) r.ready r (add_or_keep_back n f q) (extends_none r.ready)
+      (more_if (is_kept_back n f.stream_id q.deferred) r.ready (keep_back (Added n f) q) (add_now n f q) (extends_none r.ready)
       (extends_by r.ready (add_now n f q).ready (streams.add n f q.streams).messages refl))
 
   more_forward : (tsn : ℕ) (es : List SkippedStream) → Extends r.ready (forward tsn es r).ready
@@ -63,7 +63,7 @@ module _ (r : Reassembly) where
       let in_part : Extends r.ready part.ready = extends_by r.ready part.ready (streams.forward n others q.streams).messages refl in
       more_if (is_far n) r.ready r (forward_or_wait n es q) (extends_none r.ready)
       (more_if (point_waits n q.deferred) r.ready (wait_with n named part) (forward_now n es q)
-      (more_if ((length named == 0) && (length (waiting_in part.deferred) == 0)) r.ready part (waits (Forwarded n named) part) in_part in_part)
+      (more_if ((length named == 0) && (length (waiting_in part.deferred) == 0)) r.ready part (keep_back (Forwarded n named) part) in_part in_part)
       (extends_by r.ready (forward_now n es q).ready (streams.forward n es q.streams).messages refl))
 
   more_added : (was_seen : Bool) (tsn : ℕ) (f : FragmentTree) → Extends r.ready (added_unless was_seen tsn f r).ready
@@ -110,7 +110,7 @@ module _ (g : Setting) (call : Call) (r : Rules g call) (other : call ≡ TakeMe
   more_packets (begins p m new summed to) = goes_nowhere m.state
   more_packets (adds_plain chunk m plain others fair) = goes_nowhere m.state
   more_packets (emits m some bundled) = goes_nowhere m.state
-  more_packets (complains kind text m) = goes_nowhere m.state
+  more_packets (emits_error kind text m) = goes_nowhere m.state
   more_packets (counts m) = goes_nowhere m.state
 
   more_opening : (act : OpeningAct Carried call) → InvAt g (before_opening act) → More (before_opening act) (after_opening act)
@@ -124,9 +124,9 @@ module _ (g : Setting) (call : Call) (r : Rules g call) (other : call ≡ TakeMe
   more_opening (adds_cookie t1 cookie t m to) inv = record { ready = extends_none t.reassembly.ready; stands = λ a e. e }
   more_opening (establishes tag t1 cookie t m h) inv = record { ready = extends_none t.reassembly.ready; stands = λ a e. e }
   more_opening (opens tag k m h none own) inv = from_unopened m.state _ none
-  more_opening (restarts tag k phase t m h verdict) inv = absurd (no_restart _ (same_verdict g call r tag k phase t m h inv) verdict)
-  more_opening (opens_again tag k phase t m h verdict) inv = absurd (no_again _ (same_verdict g call r tag k phase t m h inv) verdict)
-  more_opening (maintains tag k t1 cookie t m h verdict) inv = record { ready = extends_none t.reassembly.ready; stands = λ a e. e }
+  more_opening (restarts tag k phase t m h resolution) inv = absurd (no_restart _ (same_verdict g call r tag k phase t m h inv) resolution)
+  more_opening (opens_again tag k phase t m h resolution) inv = absurd (no_again _ (same_verdict g call r tag k phase t m h inv) resolution)
+  more_opening (maintains tag k t1 cookie t m h resolution) inv = record { ready = extends_none t.reassembly.ready; stands = λ a e. e }
   more_opening (adds_cookie_ack tag back phase t m echoed late) inv = record { ready = extends_none t.reassembly.ready; stands = λ a e. e }
 
   more_closing : (act : ClosingAct Carried call) → HasNoEnd (after_closing act) → More (before_closing act) (after_closing act)

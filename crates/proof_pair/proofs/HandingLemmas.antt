@@ -12,13 +12,13 @@ use Rattle.sctp_rx.specs.Delivery.{Extends}
 use Rattle.sctp_reassembly.proofs.ExtendsLemmas.{extends_by}
 use Rattle.spec_endpoint.specs.Association.{State, Closed, CookieWait, Open, Endpoint}
 use Rattle.spec_endpoint.specs.Shown.{Association, association_in}
-use Rattle.spec_endpoint.specs.Calls.{ready_in, taken_in}
-use Rattle.spec_endpoint.specs.Opening.{complains}
-use Rattle.spec_endpoint.specs.Input.{refusal, counts, taken_if}
-use Rattle.spec_endpoint.specs.Laws.{Call, TakeMessage, Packet, called, endings}
+use Rattle.spec_endpoint.specs.Calls.{ready_in, without_first_message_in}
+use Rattle.spec_endpoint.specs.Opening.{emit_parse_error}
+use Rattle.spec_endpoint.specs.Input.{packet_refusal, count_packet_at, packet_if}
+use Rattle.spec_endpoint.specs.Laws.{Call, TakeMessage, ReceivePacket, called, endings}
 use Rattle.proof_endpoint.specs.Mapped.{Carried}
-use Rattle.proof_pair.specs.Trace.{Side, Pair, emitted_packets, EndAction, Calls, Gives, Refuses, as_received, give, foreign_if, act, goes, run, MayCall, MayAct, side_of, KeepsOpeningRules, NeitherHasEnded, AreValidOptions, start, state_of}
-use Rattle.proof_pair.specs.Handing.{ready_at, handed_by, handed_at, new_behind, handed_messages, readied_messages, AreHandedInOrder}
+use Rattle.proof_pair.specs.Trace.{Side, Pair, emitted_packets, EndAction, Calls, Gives, Refuses, as_received, give_carried, foreign_if, act, goes, run, MayCall, MayAct, side_of, KeepsRules, NoAssociationHasEnded, AreValidOptions, start, state_of}
+use Rattle.proof_pair.specs.Handing.{ready_at, handed_by, handed_at, new_behind, messages_handed_out, messages_made_ready, AreHandedInOrder}
 use Rattle.proof_pair.proofs.UntilLemmas.{until_end}
 use Rattle.proof_pair.proofs.JoinActsLemmas.{Setting}
 use Rattle.proof_pair.proofs.TraceLemmas.{setting, begins, rules_call, rules_given, Halves, swapped, none_of, before_run, goes_consistent, first_half}
@@ -60,7 +60,7 @@ hands_none s t h = record { all = seam (ready_in s) (ready_in t) h.ready; stands
 pub hands_still : (s : State) → Hands [] s s
 hands_still s = hands_none s s (goes_nowhere s)
 
-hands_taken : (s : State) → Hands (take 1 (ready_in s)) s (taken_in s)
+hands_taken : (s : State) → Hands (take 1 (ready_in s)) s (without_first_message_in s)
 hands_taken Closed = record { all = refl; stands = λ a e. e }
 hands_taken (CookieWait tag first t1) = record { all = refl; stands = λ a e. e }
 hands_taken (Open phase t) = record { all = seam_taken t.reassembly.ready; stands = λ a e. e }
@@ -79,31 +79,31 @@ module _ (o q : Options) (x y : Side) (own : AreValidOptions o) (other : AreVali
   hands_call TakeMessage may none = hands_taken (state_of x)
   hands_call call may none = hands_other call (λ e. cc) may none
 
-  hands_given : (p : Option Carried) (checksum n : ℕ) → slice_get (emitted_packets y) n ≡ p → endings (give p checksum x).emitted ≡ 0
-      → Hands [] (state_of x) (state_of (give p checksum x))
+  hands_given : (p : Option Carried) (checksum n : ℕ) → slice_get (emitted_packets y) n ≡ p → endings (give_carried p checksum x).emitted ≡ 0
+      → Hands [] (state_of x) (state_of (give_carried p checksum x))
   hands_given None checksum n there none = hands_still (state_of x)
   hands_given (Some p) checksum n there none =
       let now : Bool = x.got_init || (p.header.verification_tag == 0) in
       let g : Setting = setting o q x y now in
-      let call : Call = Packet (as_received p checksum) in
+      let call : Call = ReceivePacket (as_received p checksum) in
       let e : Endpoint Carried = called call x.end in
       hands_none (state_of x) e.endpoint_state.state
       (until_end call (readies g call (rules_given o q x y own other p checksum n there) (λ e. cc)) x.end
       (none_of x.emitted e.endpoint_state.context.emitted.events none) (begins o q x y now (or_left x.got_init (p.header.verification_tag == 0)) h.own h.other)).1
 
-  hands_refused : (r : Option (List ℕ)) (p : PacketTree) → refusal p.header.verification_tag p.chunks (state_of x) ≡ r
+  hands_refused : (r : Option (List ℕ)) (p : PacketTree) → packet_refusal p.header.verification_tag p.chunks (state_of x) ≡ r
       → Hands [] (state_of x) (state_of (foreign_if r p x))
   hands_refused None p is = hands_still (state_of x)
   hands_refused (Some text) p is =
       let s : Endpoint Carried = x.end in
-      let same : called (Packet p) s ≡ complains text (counts s) =
-      ap (λ (r : Option (List ℕ)). taken_if r p.header.verification_tag p.chunks (counts s)) is in
+      let same : called (ReceivePacket p) s ≡ emit_parse_error text (count_packet_at s) =
+      ap (λ (r : Option (List ℕ)). packet_if r p.header.verification_tag p.chunks (count_packet_at s)) is in
       subst (λ (t : State). Hands [] (state_of x) t) (sym (ap (λ (e : Endpoint Carried). e.endpoint_state.state) same)) (hands_still (state_of x))
 
   pub hands : (t : EndAction) → MayAct t x → endings (act t x y).emitted ≡ 0 → Hands (handed_by t x) (state_of x) (state_of (act t x y))
   hands (Calls call) may none = hands_call call may none
   hands (Gives which checksum) may none = hands_given (slice_get (emitted_packets y) which) checksum which refl none
-  hands (Refuses p) may none = hands_refused (refusal p.header.verification_tag p.chunks (state_of x)) p refl
+  hands (Refuses p) may none = hands_refused (packet_refusal p.header.verification_tag p.chunks (state_of x)) p refl
 
 -- ---- traces
 
@@ -111,67 +111,67 @@ abbrev held : (x : Bool) → Pair → Option Association
 held x w = association_in (state_of (side_of x w))
 
 module _ (o q : Options) (own : AreValidOptions o) (other : AreValidOptions q) where
-  pub hands_at : (x acts : Bool) (t : EndAction) (w : Pair) → MayAct t (side_of acts w) → NeitherHasEnded (goes acts t w) → Halves o q w.a w.b
+  pub hands_at : (x acts : Bool) (t : EndAction) (w : Pair) → MayAct t (side_of acts w) → NoAssociationHasEnded (goes acts t w) → Halves o q w.a w.b
       → Hands (handed_at x acts t w) (state_of (side_of x w)) (state_of (side_of x (goes acts t w)))
   hands_at true true t w may none h = hands o q w.a w.b own other h t may none.a
   hands_at false false t w may none h = hands q o w.b w.a other own (swapped o q w.a w.b h) t may none.b
   hands_at true false t w may none h = hands_still (state_of w.a)
   hands_at false true t w may none h = hands_still (state_of w.b)
 
-  run_handed : (x : Bool) (es : List (Bool × EndAction)) (w : Pair) → KeepsOpeningRules es w → NeitherHasEnded (run es w) → Halves o q w.a w.b
-      → ready_at (side_of x w) ++ readied_messages x es w ≡ handed_messages x es w ++ ready_at (side_of x (run es w))
+  run_handed : (x : Bool) (es : List (Bool × EndAction)) (w : Pair) → KeepsRules es w → NoAssociationHasEnded (run es w) → Halves o q w.a w.b
+      → ready_at (side_of x w) ++ messages_made_ready x es w ≡ messages_handed_out x es w ++ ready_at (side_of x (run es w))
   run_handed x [] w follows none h = append-nil (ready_at (side_of x w))
   run_handed x (e ∷ es) w follows none h =
       let v : Pair = goes e.0 e.1 w in
-      let not_yet : NeitherHasEnded v = before_run es v none in
-      in_action (ready_at (side_of x w)) (new_behind (ready_at (side_of x w)) (ready_at (side_of x v))) (readied_messages x es v) (handed_at x e.0 e.1 w) (handed_messages x es v)
+      let not_yet : NoAssociationHasEnded v = before_run es v none in
+      in_action (ready_at (side_of x w)) (new_behind (ready_at (side_of x w)) (ready_at (side_of x v))) (messages_made_ready x es v) (handed_at x e.0 e.1 w) (messages_handed_out x es v)
       (ready_at (side_of x v)) (ready_at (side_of x (run es v))) (hands_at x e.0 e.1 w follows.0 not_yet h).all
       (run_handed x es v follows.1 none (goes_consistent o q own other e.0 e.1 w follows.0 not_yet h))
 
-  run_stands : (x : Bool) (p : Association) (es : List (Bool × EndAction)) (w : Pair) → KeepsOpeningRules es w → NeitherHasEnded (run es w) → Halves o q w.a w.b
+  run_stands : (x : Bool) (p : Association) (es : List (Bool × EndAction)) (w : Pair) → KeepsRules es w → NoAssociationHasEnded (run es w) → Halves o q w.a w.b
       → held x w ≡ Some p → held x (run es w) ≡ Some p
   run_stands x p [] w follows none h is = is
   run_stands x p (e ∷ es) w follows none h is =
       let v : Pair = goes e.0 e.1 w in
-      let not_yet : NeitherHasEnded v = before_run es v none in
+      let not_yet : NoAssociationHasEnded v = before_run es v none in
       run_stands x p es v follows.1 none (goes_consistent o q own other e.0 e.1 w follows.0 not_yet h)
       ((hands_at x e.0 e.1 w follows.0 not_yet h).stands p is)
 
-  later_stands : (x : Bool) (p : Association) (es more : List (Bool × EndAction)) (w : Pair) → KeepsOpeningRules (es ++ more) w → NeitherHasEnded (run (es ++ more) w)
+  later_stands : (x : Bool) (p : Association) (es more : List (Bool × EndAction)) (w : Pair) → KeepsRules (es ++ more) w → NoAssociationHasEnded (run (es ++ more) w)
       → Halves o q w.a w.b → held x (run es w) ≡ Some p → held x (run (es ++ more) w) ≡ Some p
   later_stands x p [] more w follows none h is = run_stands x p more w follows none h is
   later_stands x p (e ∷ es) more w follows none h is =
       let v : Pair = goes e.0 e.1 w in
-      let not_yet : NeitherHasEnded v = before_run (es ++ more) v none in
+      let not_yet : NoAssociationHasEnded v = before_run (es ++ more) v none in
       later_stands x p es more v follows.1 none (goes_consistent o q own other e.0 e.1 w follows.0 not_yet h) is
 
-pub first_halves : (a b : Options) (words_a words_b : Stream) → Halves a b (start a b words_a words_b).a (start a b words_a words_b).b
-first_halves a b words_a words_b = record { own = first_half a b words_a words_b; other = first_half b a words_b words_a }
+pub first_halves : (a b : Options) (draws_a draws_b : Stream) → Halves a b (start a b draws_a draws_b).a (start a b draws_a draws_b).b
+first_halves a b draws_a draws_b = record { own = first_half a b draws_a draws_b; other = first_half b a draws_b draws_a }
 
-pub associations_stand : (a b : Options) (words_a words_b : Stream) (es more : List (Bool × EndAction)) → AreValidOptions a → AreValidOptions b
-    → KeepsOpeningRules (es ++ more) (start a b words_a words_b) → NeitherHasEnded (run (es ++ more) (start a b words_a words_b)) → (x : Bool) (p : Association)
-    → association_in (state_of (side_of x (run es (start a b words_a words_b)))) ≡ Some p
-    → association_in (state_of (side_of x (run (es ++ more) (start a b words_a words_b)))) ≡ Some p
-associations_stand a b words_a words_b es more own other follows none x p is =
-    later_stands a b own other x p es more (start a b words_a words_b) follows none (first_halves a b words_a words_b) is
+pub associations_stand : (a b : Options) (draws_a draws_b : Stream) (es more : List (Bool × EndAction)) → AreValidOptions a → AreValidOptions b
+    → KeepsRules (es ++ more) (start a b draws_a draws_b) → NoAssociationHasEnded (run (es ++ more) (start a b draws_a draws_b)) → (x : Bool) (p : Association)
+    → association_in (state_of (side_of x (run es (start a b draws_a draws_b)))) ≡ Some p
+    → association_in (state_of (side_of x (run (es ++ more) (start a b draws_a draws_b)))) ≡ Some p
+associations_stand a b draws_a draws_b es more own other follows none x p is =
+    later_stands a b own other x p es more (start a b draws_a draws_b) follows none (first_halves a b draws_a draws_b) is
 
-pub nothing_ready : (x : Bool) (a b : Options) (words_a words_b : Stream) → ready_at (side_of x (start a b words_a words_b)) ≡ []
-nothing_ready true a b words_a words_b = refl
-nothing_ready false a b words_a words_b = refl
+pub nothing_ready : (x : Bool) (a b : Options) (draws_a draws_b : Stream) → ready_at (side_of x (start a b draws_a draws_b)) ≡ []
+nothing_ready true a b draws_a draws_b = refl
+nothing_ready false a b draws_a draws_b = refl
 
-pub handed_in_order : (a b : Options) (words_a words_b : Stream) (es : List (Bool × EndAction)) → AreValidOptions a → AreValidOptions b
-    → KeepsOpeningRules es (start a b words_a words_b) → NeitherHasEnded (run es (start a b words_a words_b)) → (x : Bool)
-    → AreHandedInOrder x es (start a b words_a words_b)
-handed_in_order a b words_a words_b es own other follows none x =
-    let w : Pair = start a b words_a words_b in
-    ap (λ (ms : List Message). ms ++ readied_messages x es w) (sym (nothing_ready x a b words_a words_b)) ∙ run_handed a b own other x es w follows none (first_halves a b words_a words_b)
+pub handed_in_order : (a b : Options) (draws_a draws_b : Stream) (es : List (Bool × EndAction)) → AreValidOptions a → AreValidOptions b
+    → KeepsRules es (start a b draws_a draws_b) → NoAssociationHasEnded (run es (start a b draws_a draws_b)) → (x : Bool)
+    → AreHandedInOrder x es (start a b draws_a draws_b)
+handed_in_order a b draws_a draws_b es own other follows none x =
+    let w : Pair = start a b draws_a draws_b in
+    ap (λ (ms : List Message). ms ++ messages_made_ready x es w) (sym (nothing_ready x a b draws_a draws_b)) ∙ run_handed a b own other x es w follows none (first_halves a b draws_a draws_b)
 
-pub handed_prefix : (a b : Options) (words_a words_b : Stream) (es : List (Bool × EndAction)) → AreValidOptions a → AreValidOptions b
-    → KeepsOpeningRules es (start a b words_a words_b) → NeitherHasEnded (run es (start a b words_a words_b)) → (x : Bool)
-    → Extends (handed_messages x es (start a b words_a words_b)) (readied_messages x es (start a b words_a words_b))
-handed_prefix a b words_a words_b es own other follows none x =
-    let w : Pair = start a b words_a words_b in
-    extends_by (handed_messages x es w) (readied_messages x es w) (ready_at (side_of x (run es w))) (handed_in_order a b words_a words_b es own other follows none x)
+pub handed_prefix : (a b : Options) (draws_a draws_b : Stream) (es : List (Bool × EndAction)) → AreValidOptions a → AreValidOptions b
+    → KeepsRules es (start a b draws_a draws_b) → NoAssociationHasEnded (run es (start a b draws_a draws_b)) → (x : Bool)
+    → Extends (messages_handed_out x es (start a b draws_a draws_b)) (messages_made_ready x es (start a b draws_a draws_b))
+handed_prefix a b draws_a draws_b es own other follows none x =
+    let w : Pair = start a b draws_a draws_b in
+    extends_by (messages_handed_out x es w) (messages_made_ready x es w) (ready_at (side_of x (run es w))) (handed_in_order a b draws_a draws_b es own other follows none x)
 
 -- ---- as actions follow
 
@@ -180,14 +180,14 @@ extends_behind front before after h =
     extends_by (front ++ before) (front ++ after) h.more
     (ap (λ (ms : List Message). front ++ ms) h.made ∙ sym (append_assoc front before h.more))
 
-pub readied_grows : (x : Bool) (es more : List (Bool × EndAction)) (w : Pair) → Extends (readied_messages x es w) (readied_messages x (es ++ more) w)
-readied_grows x [] more w = extends_by [] (readied_messages x more w) (readied_messages x more w) refl
+pub readied_grows : (x : Bool) (es more : List (Bool × EndAction)) (w : Pair) → Extends (messages_made_ready x es w) (messages_made_ready x (es ++ more) w)
+readied_grows x [] more w = extends_by [] (messages_made_ready x more w) (messages_made_ready x more w) refl
 readied_grows x (e ∷ es) more w =
     let v : Pair = goes e.0 e.1 w in
-    extends_behind (new_behind (ready_at (side_of x w)) (ready_at (side_of x v))) (readied_messages x es v) (readied_messages x (es ++ more) v) (readied_grows x es more v)
+    extends_behind (new_behind (ready_at (side_of x w)) (ready_at (side_of x v))) (messages_made_ready x es v) (messages_made_ready x (es ++ more) v) (readied_grows x es more v)
 
-pub handed_grows : (x : Bool) (es more : List (Bool × EndAction)) (w : Pair) → Extends (handed_messages x es w) (handed_messages x (es ++ more) w)
-handed_grows x [] more w = extends_by [] (handed_messages x more w) (handed_messages x more w) refl
+pub handed_grows : (x : Bool) (es more : List (Bool × EndAction)) (w : Pair) → Extends (messages_handed_out x es w) (messages_handed_out x (es ++ more) w)
+handed_grows x [] more w = extends_by [] (messages_handed_out x more w) (messages_handed_out x more w) refl
 handed_grows x (e ∷ es) more w =
     let v : Pair = goes e.0 e.1 w in
-    extends_behind (handed_at x e.0 e.1 w) (handed_messages x es v) (handed_messages x (es ++ more) v) (handed_grows x es more v)
+    extends_behind (handed_at x e.0 e.1 w) (messages_handed_out x es v) (messages_handed_out x (es ++ more) v) (handed_grows x es more v)

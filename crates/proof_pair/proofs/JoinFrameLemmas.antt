@@ -6,7 +6,7 @@ use Rattle.sctp_state.specs.Options.{Options}
 use Rattle.sctp_capabilities.specs.StateCookie.{Cookie}
 use Rattle.sctp_state.specs.Events.{Event, OnConnected, OnError, OnClosed}
 use Rattle.spec_endpoint.specs.Association.{Tcb, Phase, CookieEchoed, Established, ShutdownPending, State, Closed, CookieWait, Open, Context, Packing}
-use Rattle.spec_endpoint.specs.Packets.{Packet, add, add_all}
+use Rattle.spec_endpoint.specs.Packets.{PacketDraft, add, add_all}
 use Rattle.spec_endpoint.specs.ResetRequests.{Outcome, Unsettled, Done, Denied, outcome, request_chunk}
 use Rattle.spec_endpoint.specs.StreamReset.{on_outcome}
 use Rattle.spec_endpoint.specs.Sending.{is_small, data_chunks, selective_ack, fast_most}
@@ -17,45 +17,45 @@ use Rattle.sctp_tx.specs.Resent.{resent_fast}
 use Rattle.sctp_tx.specs.ForwardPoints.{chunk_if, forward_chunk}
 use Rattle.sctp_tx.specs.Sending as fragments
 use Rattle.proof_endpoint.specs.Mapped.{Carried}
-use Rattle.proof_endpoint.specs.Acts.{EndWithPacket, in_open, in_state, end_of, drawn_tag, drawn_first, drawn_tag_alone, is_opened, may_shut, IsEchoed, fragments_of, PacketAct, begins, adds_plain, emits, complains, counts, before_packets, after_packets, OpeningAct, connects, adds_init, answers_new, answers_waiting, answers_echoed, answers_again, echoes, adds_cookie, establishes, opens, restarts, opens_again, maintains, adds_cookie_ack, before_opening, after_opening, ClosingAct, closes, shuts, shuts_on, before_closing, after_closing, DataAct, takes_data, takes_idata, takes_forward, takes_iforward, before_data, after_data, SackAct, takes_sack, samples, counts_errors, before_sack, after_sack, SendingAct, asks, adds_ack, expires, adds_forward, forwards_later, asks_no_reset, asks_reset, adds_request, sends, sends_fast, before_sending, after_sending, TimeAct, advances, delay_ends, times_out, beats, times_init, times_cookie, times_request, wakes_request, before_time, after_time, CallAct, accepts, refuses, takes_message, sets_low_threshold, sets_priority, sets_max_message_size, before_call, after_call, ResetAct, prepares, defers, performs, processes, takes_response, adds_responses, before_reset, after_reset, HandoverAct, leaves, takes_up, before_handover, after_handover, InputAct, ends_packet, before_input, after_input, HasNoEnd, PreservesUntilEnd}
+use Rattle.proof_endpoint.specs.Acts.{EndWithPacket, in_open, in_state, end_of, drawn_tag, drawn_first, drawn_tag_alone, is_opened, may_shut, IsEchoed, fragments_of, PacketAct, begins, adds_plain, emits, emits_error, counts, before_packets, after_packets, OpeningAct, connects, adds_init, answers_new, answers_waiting, answers_echoed, answers_again, echoes, adds_cookie, establishes, opens, restarts, opens_again, maintains, adds_cookie_ack, before_opening, after_opening, ClosingAct, closes, shuts, shuts_on, before_closing, after_closing, DataAct, takes_data, takes_idata, takes_forward, takes_iforward, before_data, after_data, SackAct, takes_sack, samples, counts_errors, before_sack, after_sack, SendingAct, asks, adds_ack, expires, adds_forward, forwards_later, asks_no_reset, asks_reset, adds_request, sends, sends_fast, before_sending, after_sending, TimeAct, advances, delay_ends, times_out, beats, times_init, times_cookie, times_request, wakes_request, before_time, after_time, CallAct, accepts, refuses, takes_message, sets_low_threshold, sets_priority, sets_max_message_size, before_call, after_call, ResetAct, prepares, defers, performs, processes, takes_response, adds_responses, before_reset, after_reset, HandoverAct, leaves, takes_up, before_handover, after_handover, InputAct, ends_packet, before_input, after_input, HasNoEnd, PreservesUntilEnd}
 use Rattle.proof_pair.specs.Trace.{has_connected}
-use Rattle.proof_pair.proofs.EmittedLemmas.{EmitsLightly}
-use Rattle.proof_pair.proofs.UntilLemmas.{light_sack, light_sending, light_time, light_call, light_reset, no_end}
+use Rattle.proof_pair.proofs.EmittedLemmas.{EmitsNoPacketOrStatus}
+use Rattle.proof_pair.proofs.UntilLemmas.{sack_act_emits_no_packet_or_status, sending_act_emits_no_packet_or_status, time_act_emits_no_packet_or_status, call_act_emits_no_packet_or_status, reset_act_emits_no_packet_or_status, no_end}
 use Rattle.proof_pair.proofs.AddedLemmas.{holds_added, holds_all_added}
 use Rattle.proof_pair.proofs.JoinLemmas.{Draw, drawn_is, View, both_of, view_of, late_view, late_phase, IsPlain, IsEcho}
-use Rattle.proof_pair.proofs.JoinActsLemmas.{Setting, Utters, Inv, InvAt, inv_made, inv_light, inv_emitted, inv_options, utters_plain, utters_data, connected_both}
+use Rattle.proof_pair.proofs.JoinActsLemmas.{Setting, OwnSays, Inv, InvAt, inv_made, inv_no_packet_or_status, inv_emitted, inv_options, own_says_plain, own_says_data, connected_both}
 use Rattle.proof_pair.proofs.JoinKeepsLemmas.{Rules, init_said, does_connects, same_init, says_answer, does_echoes, does_late, does_opened, same_verdict, no_restart, no_again}
 use Rattle.proof_protocol.proofs.ToolsLemmas.{not_both}
 
 module _ (g : Setting) (call : Call) (r : Rules g call) where
   -- a chunk is put into the packet
-  adds : (v : View) (os : Options) (pack : Packing Carried) (es : List (Event Carried)) (p : Packet) (c : ChunkTree) → Inv g v os pack es p.tag p.chunks
-      → Utters g v p.tag c → Inv g v os pack es (add c p).tag (add c p).chunks
-  adds v os pack es p c inv h = inv_made g v os pack es p.tag p.chunks inv (add c p).tag (add c p).chunks (holds_added (Utters g v) p c inv.made h)
+  adds : (v : View) (os : Options) (pack : Packing Carried) (es : List (Event Carried)) (p : PacketDraft) (c : ChunkTree) → Inv g v os pack es p.tag p.chunks
+      → OwnSays g v p.tag c → Inv g v os pack es (add c p).tag (add c p).chunks
+  adds v os pack es p c inv h = inv_made g v os pack es p.tag p.chunks inv (add c p).tag (add c p).chunks (holds_added (OwnSays g v) p c inv.made h)
 
-  adds_many : (v : View) (os : Options) (pack : Packing Carried) (es : List (Event Carried)) (p : Packet) (cs : List ChunkTree)
-      → Inv g v os pack es p.tag p.chunks → ((tag : ℕ) → All (Utters g v tag) cs) → Inv g v os pack es (add_all cs p).tag (add_all cs p).chunks
+  adds_many : (v : View) (os : Options) (pack : Packing Carried) (es : List (Event Carried)) (p : PacketDraft) (cs : List ChunkTree)
+      → Inv g v os pack es p.tag p.chunks → ((tag : ℕ) → All (OwnSays g v tag) cs) → Inv g v os pack es (add_all cs p).tag (add_all cs p).chunks
   adds_many v os pack es p cs inv h =
-      inv_made g v os pack es p.tag p.chunks inv (add_all cs p).tag (add_all cs p).chunks (holds_all_added (Utters g v) cs p inv.made h)
+      inv_made g v os pack es p.tag p.chunks inv (add_all cs p).tag (add_all cs p).chunks (holds_all_added (OwnSays g v) cs p inv.made h)
 
-  emits_all : (v : View) (os : Options) (pack : Packing Carried) (m n : EndWithPacket Carried) (tag : ℕ) (cs : List ChunkTree) → EmitsLightly m.context.emitted n.context.emitted
+  emits_all : (v : View) (os : Options) (pack : Packing Carried) (m n : EndWithPacket Carried) (tag : ℕ) (cs : List ChunkTree) → EmitsNoPacketOrStatus m.context.emitted n.context.emitted
       → Inv g v os pack m.context.emitted.events tag cs → Inv g v os pack n.context.emitted.events tag cs
-  emits_all v os pack m n tag cs l inv = inv_light g v os pack m.context.emitted.events tag cs inv l.events n.context.emitted.events l.behind l.all
+  emits_all v os pack m n tag cs l inv = inv_no_packet_or_status g v os pack m.context.emitted.events tag cs inv l.events n.context.emitted.events l.behind l.all
 
   -- ---- packets
 
   keeps_packets : (act : PacketAct Carried call) → InvAt g (before_packets act) → InvAt g (after_packets act)
   keeps_packets (begins p m new summed to) inv =
       inv_made g (view_of m.state) m.context.options m.context.pack m.context.emitted.events m.packet.tag m.packet.chunks inv p.tag p.chunks
-      (subst (All (Utters g (view_of m.state) p.tag)) (sym new) (All-nil (Utters g (view_of m.state) p.tag)))
+      (subst (All (OwnSays g (view_of m.state) p.tag)) (sym new) (All-nil (OwnSays g (view_of m.state) p.tag)))
   keeps_packets (adds_plain chunk m plain others fair) inv =
       adds (view_of m.state) m.context.options m.context.pack m.context.emitted.events m.packet chunk inv
-      (utters_plain g (view_of m.state) m.packet.tag chunk plain)
+      (own_says_plain g (view_of m.state) m.packet.tag chunk plain)
   keeps_packets (emits m some bundled) inv =
       inv_emitted g (view_of m.state) m.context.options m.context.pack m.context.emitted.events m.packet.tag m.packet.chunks inv m.context.options m.packet.is_summed
       m.packet.tag
-  keeps_packets (complains kind text m) inv =
-      inv_light g (view_of m.state) m.context.options m.context.pack m.context.emitted.events m.packet.tag m.packet.chunks inv (OnError kind text ∷ [])
+  keeps_packets (emits_error kind text m) inv =
+      inv_no_packet_or_status g (view_of m.state) m.context.options m.context.pack m.context.emitted.events m.packet.tag m.packet.chunks inv (OnError kind text ∷ [])
       (m.context.emitted.events ++ OnError kind text ∷ []) refl refl
   keeps_packets (counts m) inv = inv
 
@@ -81,7 +81,7 @@ module _ (g : Setting) (call : Call) (r : Rules g call) where
         draw = record { tag = tag; first = first };
         own = refl;
         is = same_init g call r m.context.options inv.size tag first inv.options;
-        under = ap (λ (p : Packet). p.tag) to;
+        under = ap (λ (p : PacketDraft). p.tag) to;
       })
   keeps_opening (answers_new tag i m h to) inv =
       let v : View = view_of Closed in
@@ -115,7 +115,7 @@ module _ (g : Setting) (call : Call) (r : Rules g call) where
         both = both_of t;
         holds = refl;
         is = inv.stands.kept.is;
-        under = ap (λ (p : Packet). p.tag) to;
+        under = ap (λ (p : PacketDraft). p.tag) to;
         mine = inv.stands.draw;
         peer = inv.stands.kept.peer;
         opened = refl;
@@ -124,9 +124,9 @@ module _ (g : Setting) (call : Call) (r : Rules g call) where
       does_late g call r t1 cookie t m.context.options m.context.pack m.context.emitted.events m.packet.tag m.packet.chunks
       (r.says tag cookie_ack_chunk h (view_of (Open (CookieEchoed t1 cookie) t)) inv.received) inv
   keeps_opening (opens tag k m h none own) inv = opened_from m.state k tag m (long_word (end_of m)) h none inv
-  keeps_opening (restarts tag k phase t m h verdict) inv = absurd (no_restart _ (same_verdict g call r tag k phase t m h inv) verdict)
-  keeps_opening (opens_again tag k phase t m h verdict) inv = absurd (no_again _ (same_verdict g call r tag k phase t m h inv) verdict)
-  keeps_opening (maintains tag k t1 cookie t m h verdict) inv =
+  keeps_opening (restarts tag k phase t m h resolution) inv = absurd (no_restart _ (same_verdict g call r tag k phase t m h inv) resolution)
+  keeps_opening (opens_again tag k phase t m h resolution) inv = absurd (no_again _ (same_verdict g call r tag k phase t m h inv) resolution)
+  keeps_opening (maintains tag k t1 cookie t m h resolution) inv =
       let v : View = view_of (Open (CookieEchoed t1 cookie) t) in
       let said : IsEcho g.other (view_of g.beside) tag h.cookie = r.says tag (cookie_echo_chunk h.cookie) h.received v inv.received in
       does_late g call r t1 cookie t m.context.options m.context.pack m.context.emitted.events m.packet.tag m.packet.chunks said.opened inv
@@ -162,15 +162,15 @@ module _ (g : Setting) (call : Call) (r : Rules g call) where
   keeps_sack : (act : SackAct Carried call) → InvAt g (before_sack act) → InvAt g (after_sack act)
   keeps_sack (takes_sack tag k phase t m received valid) inv =
       let act : SackAct Carried call = takes_sack tag k phase t m received valid in
-      emits_all (view_of (Open phase t)) m.context.options m.context.pack m (after_sack act) m.packet.tag m.packet.chunks (light_sack act) inv
+      emits_all (view_of (Open phase t)) m.context.options m.context.pack m (after_sack act) m.packet.tag m.packet.chunks (sack_act_emits_no_packet_or_status act) inv
   keeps_sack (samples k phase t m) inv = inv
   keeps_sack (counts_errors e m) inv = inv
 
   -- ---- sending
 
-  utters_forward : (b : Bool) (v : View) (tag : ℕ) (s : Sender) → Utters g v tag (chunk_if b s)
-  utters_forward true v tag s = tt
-  utters_forward false v tag s = tt
+  own_says_forward : (b : Bool) (v : View) (tag : ℕ) (s : Sender) → OwnSays g v tag (chunk_if b s)
+  own_says_forward true v tag s = tt
+  own_says_forward false v tag s = tt
 
   keeps_sending : (act : SendingAct Carried call) → InvAt g (before_sending act) → InvAt g (after_sending act)
   keeps_sending (asks also_if_delayed phase t m) inv = inv
@@ -178,10 +178,10 @@ module _ (g : Setting) (call : Call) (r : Rules g call) where
       adds (view_of (Open phase t)) m.context.options m.context.pack m.context.emitted.events m.packet (selective_ack t) inv tt
   keeps_sending (expires phase t m) inv =
       let act : SendingAct Carried call = expires phase t m in
-      emits_all (view_of (Open phase t)) m.context.options m.context.pack m (after_sending act) m.packet.tag m.packet.chunks (light_sending act) inv
+      emits_all (view_of (Open phase t)) m.context.options m.context.pack m (after_sending act) m.packet.tag m.packet.chunks (sending_act_emits_no_packet_or_status act) inv
   keeps_sending (adds_forward phase t m due) inv =
       adds (view_of (Open phase t)) m.context.options m.context.pack m.context.emitted.events m.packet (forward_chunk t.sender) inv
-      (utters_forward _ (view_of (Open phase t)) m.packet.tag t.sender)
+      (own_says_forward _ (view_of (Open phase t)) m.packet.tag t.sender)
   keeps_sending (forwards_later n m) inv = inv
   keeps_sending (asks_no_reset most m none) inv = inv
   keeps_sending (asks_reset most stream streams phase t m some free) inv = inv
@@ -192,20 +192,20 @@ module _ (g : Setting) (call : Call) (r : Rules g call) where
       let v : View = view_of (Open phase t) in
       let f : fragments.Filling Carried = fragments_of t m in
       let small : Bool = is_small m.context.options f.sender in
-      emits_all v m.context.options m.context.pack m (after_sending act) _ _ (light_sending act)
-      (adds_many v m.context.options m.context.pack m.context.emitted.events m.packet (data_chunks t small f.chunks) inv (λ tag. utters_data g v tag t small f.chunks))
+      emits_all v m.context.options m.context.pack m (after_sending act) _ _ (sending_act_emits_no_packet_or_status act)
+      (adds_many v m.context.options m.context.pack m.context.emitted.events m.packet (data_chunks t small f.chunks) inv (λ tag. own_says_data g v tag t small f.chunks))
   keeps_sending (sends_fast phase t m some) inv =
       let v : View = view_of (Open phase t) in
       adds_many v m.context.options m.context.pack m.context.emitted.events m.packet
       (data_chunks t false (resent_fast (fast_most m.context.options) t.sender).chunks) inv
-      (λ tag. utters_data g v tag t false (resent_fast (fast_most m.context.options) t.sender).chunks)
+      (λ tag. own_says_data g v tag t false (resent_fast (fast_most m.context.options) t.sender).chunks)
 
   -- ---- time and calls
 
   keeps_time : (act : TimeAct Carried call) → InvAt g (before_time act) → InvAt g (after_time act)
   keeps_time (times_out phase t m due) inv =
       let act : TimeAct Carried call = times_out phase t m due in
-      emits_all (view_of (Open phase t)) m.context.options m.context.pack m (after_time act) m.packet.tag m.packet.chunks (light_time act) inv
+      emits_all (view_of (Open phase t)) m.context.options m.context.pack m (after_time act) m.packet.tag m.packet.chunks (time_act_emits_no_packet_or_status act) inv
   keeps_time (advances now m is on) inv = inv
   keeps_time (delay_ends phase t m) inv = inv
   keeps_time (beats h m) inv = inv
@@ -218,11 +218,11 @@ module _ (g : Setting) (call : Call) (r : Rules g call) where
   keeps_calls (accepts message o m offered fine) inv = inv
   keeps_calls (refuses message o e m offered is) inv =
       let act : CallAct Carried call = refuses message o e m offered is in
-      emits_all (view_of m.state) m.context.options m.context.pack m (after_call act) m.packet.tag m.packet.chunks (light_call act) inv
+      emits_all (view_of m.state) m.context.options m.context.pack m (after_call act) m.packet.tag m.packet.chunks (call_act_emits_no_packet_or_status act) inv
   keeps_calls (takes_message phase t m is) inv = inv
   keeps_calls (sets_low_threshold stream bytes m is) inv =
       let act : CallAct Carried call = sets_low_threshold stream bytes m is in
-      emits_all (view_of m.state) m.context.options m.context.pack m (after_call act) m.packet.tag m.packet.chunks (light_call act) inv
+      emits_all (view_of m.state) m.context.options m.context.pack m (after_call act) m.packet.tag m.packet.chunks (call_act_emits_no_packet_or_status act) inv
   keeps_calls (sets_priority stream priority m is) inv = inv
   keeps_calls (sets_max_message_size bytes m is) inv =
       inv_options g (view_of m.state) m.context.options m.context.pack m.context.emitted.events m.packet.tag m.packet.chunks inv
@@ -233,17 +233,17 @@ module _ (g : Setting) (call : Call) (r : Rules g call) where
   with_outcome : (o : Outcome) (v : View) (c : Context Carried) (tag : ℕ) (cs : List ChunkTree) → Inv g v c.options c.pack c.emitted.events tag cs
       → Inv g v (on_outcome o c).options (on_outcome o c).pack (on_outcome o c).emitted.events tag cs
   with_outcome Unsettled v c tag cs inv = inv
-  with_outcome (Done streams) v c tag cs inv = inv_light g v c.options c.pack c.emitted.events tag cs inv _ (on_outcome (Done streams) c).emitted.events refl refl
-  with_outcome (Denied streams) v c tag cs inv = inv_light g v c.options c.pack c.emitted.events tag cs inv _ (on_outcome (Denied streams) c).emitted.events refl refl
+  with_outcome (Done streams) v c tag cs inv = inv_no_packet_or_status g v c.options c.pack c.emitted.events tag cs inv _ (on_outcome (Done streams) c).emitted.events refl refl
+  with_outcome (Denied streams) v c tag cs inv = inv_no_packet_or_status g v c.options c.pack c.emitted.events tag cs inv _ (on_outcome (Denied streams) c).emitted.events refl refl
 
   keeps_resets : (act : ResetAct Carried call) → InvAt g (before_reset act) → InvAt g (after_reset act)
   keeps_resets (prepares stream phase t m asked can) inv =
       let act : ResetAct Carried call = prepares stream phase t m asked can in
-      emits_all (view_of (Open phase t)) m.context.options m.context.pack m (after_reset act) m.packet.tag m.packet.chunks (light_reset act) inv
+      emits_all (view_of (Open phase t)) m.context.options m.context.pack m (after_reset act) m.packet.tag m.packet.chunks (reset_act_emits_no_packet_or_status act) inv
   keeps_resets (defers number response last_tsn streams phase t m asked known ahead) inv = inv
   keeps_resets (performs number response last_tsn streams phase t m asked known there) inv =
       let act : ResetAct Carried call = performs number response last_tsn streams phase t m asked known there in
-      emits_all (view_of (Open phase t)) m.context.options m.context.pack m (after_reset act) m.packet.tag m.packet.chunks (light_reset act) inv
+      emits_all (view_of (Open phase t)) m.context.options m.context.pack m (after_reset act) m.packet.tag m.packet.chunks (reset_act_emits_no_packet_or_status act) inv
   keeps_resets (processes number streams phase t m asked known) inv = inv
   keeps_resets (takes_response rto number result sender receiver phase t m asked) inv =
       with_outcome (outcome number result t.requests.current) (view_of (Open phase t)) m.context m.packet.tag m.packet.chunks inv

@@ -9,25 +9,25 @@ use Rattle.sctp_capabilities.specs.declared.state_cookie.StateCookieError.{State
 use Rattle.sctp_state.specs.Handover.{HandoverState}
 use Rattle.sctp_state.specs.Options.{Options}
 use Rattle.sctp_state.specs.Timer.{Timer}
-use Rattle.sctp_capabilities.specs.Capabilities.{where_enabled, announce, announced_by, negotiate, agreed, extensions_in, method_in, is_forward_tsn_supported, has_type, forward_tsn, i_data, re_config}
+use Rattle.sctp_capabilities.specs.Capabilities.{where_enabled, announced_parameters, announced_by, negotiate, agreed, extensions_in, method_in, is_forward_tsn_supported, has_type, forward_tsn, i_data, re_config}
 use Rattle.sctp_capabilities.specs.StateCookie.{Cookie, CapabilitiesFit, CookieFits, cookie_bytes, read_cookie}
 use Rattle.sctp_capabilities.proofs.CapabilitiesLemmas.{announced_with_options, negotiated_by_init, negotiated_by_init_ack}
 use Rattle.sctp_capabilities.proofs.CookieLemmas.{both_tags, read_cookie_bytes}
 use Rattle.sctp_state.specs.Events.{Event, OnConnected}
 use Rattle.spec_endpoint.specs.Association.{Identity, Tcb, Phase, CookieEchoed, Closed, CookieWait, Open, Packing}
-use Rattle.spec_endpoint.specs.Opening.{word, drew_word, init_of, init_ack_of, cookie_for, agreed_by, cookie_in, CookieResolution, RestartDetected, SimultaneousInit, MaintainExisting, by_tags, compare_tags, tcb_by}
+use Rattle.spec_endpoint.specs.Opening.{word, drew_word, init_of, init_ack_of, cookie_for, agreed_by, cookie_in, CookieResolution, RestartDetected, SimultaneousInit, MaintainExisting, by_tags, resolve_by_tags, tcb_by}
 use Rattle.spec_endpoint.specs.Laws.{Call, Connect, Shutdown, Restore}
 use Rattle.proof_endpoint.specs.Mapped.{Carried}
-use Rattle.proof_endpoint.specs.Acts.{EndWithPacket, end_of, drawn_tag, drawn_first, IsReceived, IsEchoed, connects, echoes, before_opening, after_opening}
+use Rattle.proof_endpoint.specs.Acts.{EndWithPacket, end_of, drawn_tag, drawn_first, BringsChunk, IsEchoed, connects, echoes, before_opening, after_opening}
 use Rattle.proof_pair.specs.Trace.{has_connected, AreValidOptions}
 use Rattle.proof_pair.proofs.JoinLemmas.{Draw, Both, IsDraw, drawn_is, View, own_draw, peer_draw, both_of, view_of, late_view, init_by, cookie_by, IsInit, IsPlain, IsInitAck, IsEcho, Faces, faces_plain, faced_by, faced_at, faces_at, holds_mine, faced_none}
-use Rattle.proof_pair.proofs.JoinActsLemmas.{Setting, Uttered, UtteredAll, Inv, InvAt, inv_view, connected_both}
+use Rattle.proof_pair.proofs.JoinActsLemmas.{Setting, OtherSays, OtherSaysAll, Inv, InvAt, inv_view, connected_both}
 use Rattle.proof_protocol.proofs.ToolsLemmas.{not_both}
 
 -- what the call of this action may be, and receives
 pub record Rules (g : Setting) (call : Call) : Type 0 where
-  pub says : (tag : ℕ) (chunk : ChunkTree) → IsReceived call tag chunk → (v : View) → All (UtteredAll g v) g.others → Uttered g v tag chunk
-  pub asks : (tag : ℕ) (chunk : ChunkTree) → IsReceived call tag chunk → tag ≡ 0 → g.asked ≡ true
+  pub says : (tag : ℕ) (chunk : ChunkTree) → BringsChunk call tag chunk → (v : View) → All (OtherSaysAll g v) g.others → OtherSays g v tag chunk
+  pub asks : (tag : ℕ) (chunk : ChunkTree) → BringsChunk call tag chunk → tag ≡ 0 → g.asked ≡ true
   pub connects : call ≡ Connect → (has_connected g.past ≡ true) ⊎ (g.asked ≡ false)
   pub shuts : call ≡ Shutdown → has_connected g.past ≡ true
   pub restores : (h : HandoverState) → call ≡ Restore h → ⊥
@@ -72,7 +72,7 @@ found_by true false method types c = refl
 found_by false true method types c = refl
 found_by false false method types c = refl
 
-pub cookie_found : (o : Options) (method : ℕ) (c : List ℕ) → cookie_in (announce o method ++ state_cookie c ∷ []) ≡ Some c
+pub cookie_found : (o : Options) (method : ℕ) (c : List ℕ) → cookie_in (announced_parameters o method ++ state_cookie c ∷ []) ≡ Some c
 cookie_found o method c = found_by o.enable_partial_reliability (not (method == 0)) method _ c
 
 -- ---- the cookie that comes back
@@ -106,7 +106,7 @@ maintain_by false false x y e f = refl
 maintain_by true b x y e f = cc
 maintain_by false true x y e f = cc
 
-compared_same : (tag : ℕ) (i : Identity) (k : Cookie) → tag ≡ i.my_tag → k.peer_tag ≡ i.peer_tag → compare_tags tag i k ≡ MaintainExisting
+compared_same : (tag : ℕ) (i : Identity) (k : Cookie) → tag ≡ i.my_tag → k.peer_tag ≡ i.peer_tag → resolve_by_tags tag i k ≡ MaintainExisting
 compared_same tag i k e f =
     maintain_by (not (tag == i.my_tag)) (not (k.peer_tag == i.peer_tag)) (k.tie_tag == i.tie) (k.tie_tag == 0) (eq_test tag i.my_tag e)
     (eq_test k.peer_tag i.peer_tag f)
@@ -133,7 +133,7 @@ module _ (g : Setting) (call : Call) (r : Rules g call) where
   u = view_of g.beside
 
   -- an INIT, a cookie was said by the other end
-  pub init_said : (tag : ℕ) (i : InitTree) (m : EndWithPacket Carried) → IsReceived call tag (init_chunk i) → InvAt g m → IsInit g.other u tag i
+  pub init_said : (tag : ℕ) (i : InitTree) (m : EndWithPacket Carried) → BringsChunk call tag (init_chunk i) → InvAt g m → IsInit g.other u tag i
   init_said tag i m h inv = r.says tag (init_chunk i) h (view_of m.state) inv.received
 
   pub does_connects : (m : EndWithPacket Carried) (is : call ≡ Connect) → InvAt g (before_opening {call = call} (connects m is)) → InvAt g (after_opening {call = call} (connects m is))
@@ -161,12 +161,12 @@ module _ (g : Setting) (call : Call) (r : Rules g call) where
       })
 
   pub same_init : (os : Options) (size tag first : ℕ) → os ≡ record g.own { max_message_size = size }
-      → init_of os tag first (announce os os.zero_checksum_method) ≡ init_by g.own (record { tag = tag; first = first })
-  same_init os size tag first e = ap (λ (x : Options). init_of x tag first (announce x x.zero_checksum_method)) e
+      → init_of os tag first (announced_parameters os os.zero_checksum_method) ≡ init_by g.own (record { tag = tag; first = first })
+  same_init os size tag first e = ap (λ (x : Options). init_of x tag first (announced_parameters x x.zero_checksum_method)) e
 
   -- an INIT is answered with this draw
   pub says_answer : (v : View) (os : Options) (size : ℕ) (tag : ℕ) (i : InitTree) (d : Draw) (tie : ℕ) → os ≡ record g.own { max_message_size = size }
-      → IsReceived call tag (init_chunk i) → IsInit g.other u tag i → ((u.is_opened ≡ true) ⊎ IsPlain v d tie)
+      → BringsChunk call tag (init_chunk i) → IsInit g.other u tag i → ((u.is_opened ≡ true) ⊎ IsPlain v d tie)
       → IsInitAck g.own g.other v u g.asked (init_ack_of os i d.tag d.first tie)
   says_answer v os size tag i d tie e h said how = record {
     draw = d;
@@ -199,10 +199,10 @@ module _ (g : Setting) (call : Call) (r : Rules g call) where
         let o : Options = g.other in
         ap (λ (z : Options). agreed_by z i) e
         ∙ (ap (λ (j : InitTree). agreed_by g.own j) is
-        ∙ (ap (negotiate g.own) (emitted_with_cookie o.announced_maximum_outgoing_streams o.announced_maximum_incoming_streams (announce o method) made)
+        ∙ (ap (negotiate g.own) (emitted_with_cookie o.announced_maximum_outgoing_streams o.announced_maximum_incoming_streams (announced_parameters o method) made)
         ∙ negotiated_by_init_ack g.own g.other))
 
-  pub does_echoes : (tag : ℕ) (i : InitTree) (cookie : List ℕ) (my_tag first : ℕ) (t1 : Timer) (m : EndWithPacket Carried) (h : IsReceived call tag (init_ack_chunk i))
+  pub does_echoes : (tag : ℕ) (i : InitTree) (cookie : List ℕ) (my_tag first : ℕ) (t1 : Timer) (m : EndWithPacket Carried) (h : BringsChunk call tag (init_ack_chunk i))
       (brought : cookie_in i.parameters ≡ Some cookie) → InvAt g (before_opening (echoes tag i cookie my_tag first t1 m h brought))
       → InvAt g (after_opening (echoes tag i cookie my_tag first t1 m h brought))
   does_echoes tag i cookie my_tag first t1 m h brought inv =
@@ -287,7 +287,7 @@ module _ (g : Setting) (call : Call) (r : Rules g call) where
   -- a cookie that comes to the association that it made
   pub same_verdict : (tag : ℕ) (k : Cookie) (phase : Phase) (t : Tcb) (m : EndWithPacket Carried) (h : IsEchoed call tag k)
       → Inv g (view_of (Open phase t)) m.context.options m.context.pack m.context.emitted.events m.packet.tag m.packet.chunks
-      → compare_tags tag t.identity k ≡ MaintainExisting
+      → resolve_by_tags tag t.identity k ≡ MaintainExisting
   same_verdict tag k phase t m h inv =
       let said : IsEcho g.other u tag h.cookie = r.says tag (cookie_echo_chunk h.cookie) h.received (view_of (Open phase t)) inv.received in
       let b : Both = said.both in

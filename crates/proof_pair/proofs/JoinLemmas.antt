@@ -5,10 +5,10 @@ use Rattle.std.specs.Prelude.{⊤}
 use Rattle.sctp_packet.specs.Chunk.{ChunkTree, InitTree, init_chunk, init_ack_chunk, cookie_echo_chunk, cookie_ack_chunk}
 use Rattle.sctp_packet.specs.Grammar.{carried}
 use Rattle.sctp_state.specs.Options.{Options}
-use Rattle.sctp_capabilities.specs.Capabilities.{Capabilities, announce, agreed}
+use Rattle.sctp_capabilities.specs.Capabilities.{Capabilities, announced_parameters, agreed}
 use Rattle.sctp_capabilities.specs.StateCookie.{Cookie, cookie_bytes}
 use Rattle.spec_endpoint.specs.Association.{Tcb, Phase, CookieEchoed, Established, ShutdownPending, ShutdownSent, ShutdownReceived, ShutdownAckSent, State, Closed, CookieWait, Open}
-use Rattle.spec_endpoint.specs.Sending.{is_alone}
+use Rattle.spec_endpoint.specs.Sending.{is_before_cookie_ack}
 use Rattle.spec_endpoint.specs.Opening.{tsn_from, tag_from, init_of, init_ack_of, cookie_for}
 use Rattle.proof_protocol.proofs.ToolsLemmas.{not_both}
 
@@ -71,7 +71,7 @@ view_of (Open phase t) = record {
   mine = Some (own_draw t);
   holds = Some (both_of t);
   is_opened = true;
-  is_late = not (is_alone phase);
+  is_late = not (is_before_cookie_ack phase);
   kept = kept_in phase;
   can = Some t.capabilities;
 }
@@ -86,7 +86,7 @@ late_view t = record {
   can = Some t.capabilities;
 }
 
-pub late_phase : (phase : Phase) (t : Tcb) → is_alone phase ≡ false → view_of (Open phase t) ≡ late_view t
+pub late_phase : (phase : Phase) (t : Tcb) → is_before_cookie_ack phase ≡ false → view_of (Open phase t) ≡ late_view t
 late_phase (CookieEchoed t1 cookie) t e = cc
 late_phase Established t e = refl
 late_phase ShutdownPending t e = refl
@@ -97,7 +97,7 @@ late_phase (ShutdownAckSent t2) t e = refl
 -- ---- what was said
 
 abbrev pub init_by : Options → Draw → InitTree
-init_by o d = init_of o d.tag d.first (announce o o.zero_checksum_method)
+init_by o d = init_of o d.tag d.first (announced_parameters o o.zero_checksum_method)
 
 -- the cookie that the end with the second draw makes for an INIT with the first one
 abbrev pub cookie_by : Options → (mine peer : Draw) → Cookie

@@ -23,7 +23,7 @@ pub mod AgreeLemmas
 pub mod AgreeActsLemmas
 pub mod AgreeNotesLemmas
 pub mod AgreeQuietLemmas
-pub mod AgreeCalmLemmas
+pub mod AgreeWithoutOpeningLemmas
 pub mod AgreeWithinLemmas
 pub mod AgreeOpeningLemmas
 pub mod AgreeCookieLemmas

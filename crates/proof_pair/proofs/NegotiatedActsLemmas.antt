@@ -3,7 +3,7 @@ use Rattle.std.proofs.Common.{◌≡◌, ℕ, zero, suc, Bool, true, false, cond
 use Rattle.std.proofs.lemmas.Bool.{and_parts}
 use Rattle.std.proofs.lemmas.List.Elements.{All-nil, All-cons, All-push}
 use Rattle.sctp_packet.specs.Chunk.{ChunkTree, FragmentTree, InitTree, data_chunk, init_chunk, init_ack_chunk, cookie_echo_chunk, cookie_ack_chunk, idata_chunk, re_config_chunk, forward_tsn_chunk, i_forward_tsn_chunk}
-use Rattle.sctp_capabilities.specs.Capabilities.{Capabilities, announce, negotiate, agreed}
+use Rattle.sctp_capabilities.specs.Capabilities.{Capabilities, announced_parameters, negotiate, agreed}
 use Rattle.sctp_capabilities.specs.StateCookie.{Cookie}
 use Rattle.sctp_state.specs.Events.{Event, SendPacket, OnConnected, OnConnectionRestarted, OnError, OnClosed, Emitted}
 use Rattle.sctp_state.specs.Handover.{HandoverState}
@@ -13,26 +13,26 @@ use Rattle.sctp_tx_queue.specs.Produced.{Produced}
 use Rattle.sctp_tx_outstanding.specs.Resending.{Resent}
 use Rattle.sctp_tx.specs.RetransmissionQueue.{Sender, sender_if, timed_out_sender}
 use Rattle.sctp_tx.specs.Resent.{resent, resent_fast, send_fast}
-use Rattle.sctp_tx.specs.ForwardPoints.{expire, chunk_if, forward_chunk}
+use Rattle.sctp_tx.specs.ForwardPoints.{abandon_expired, chunk_if, forward_chunk}
 use Rattle.sctp_tx.specs.Sending as fragments
-use Rattle.sctp_tx.specs.Sending.{Filling, append, turned_if, next_turn, fill, discard_all, without_discards, filled_with, send}
+use Rattle.sctp_tx.specs.Sending.{Filling, append, queue_step_if, next_turn, fill, discard_all, without_discards, filled_with, send}
 use Rattle.spec_endpoint.specs.Association.{Tcb, tcb, Phase, CookieEchoed, Established, ShutdownPending, Closed, CookieWait, Open, Context, Packing}
-use Rattle.spec_endpoint.specs.Packets.{Packet, add, add_all, header_to, room}
+use Rattle.spec_endpoint.specs.Packets.{PacketDraft, add, add_all, header_to, room}
 use Rattle.spec_endpoint.specs.ResetRequests.{Outcome, Unsettled, Done, Denied, outcome, request_chunk}
 use Rattle.spec_endpoint.specs.StreamReset.{on_outcome}
 use Rattle.spec_endpoint.specs.Sending.{is_small, selective_ack, data_chunk_of, data_chunks, fast_most}
 use Rattle.spec_endpoint.specs.Sack.{clean_blocks}
-use Rattle.spec_endpoint.specs.Opening.{init_of, init_ack_of, agreed_by, names, long_word, tcb_by}
+use Rattle.spec_endpoint.specs.Opening.{init_of, init_ack_of, agreed_by, identity_of_init_ack, long_word, tcb_by}
 use Rattle.spec_endpoint.specs.Input.{misuse}
 use Rattle.spec_endpoint.specs.Laws.{Call, Restore}
 use Rattle.proof_endpoint.specs.Mapped.{Carried}
-use Rattle.proof_endpoint.specs.Acts.{EndWithPacket, in_open, end_of, is_plain, may_shut, point_of, IsReceived, IsEchoed, fragments_of, PacketAct, begins, adds_plain, emits, complains, counts, before_packets, after_packets, OpeningAct, connects, adds_init, answers_new, answers_waiting, answers_echoed, answers_again, echoes, adds_cookie, establishes, opens, restarts, opens_again, maintains, adds_cookie_ack, before_opening, after_opening, ClosingAct, closes, shuts, shuts_on, before_closing, after_closing, DataAct, takes_data, takes_idata, takes_forward, takes_iforward, before_data, after_data, SackAct, takes_sack, samples, counts_errors, before_sack, after_sack, SendingAct, asks, adds_ack, expires, adds_forward, forwards_later, asks_no_reset, asks_reset, adds_request, sends, sends_fast, before_sending, after_sending, TimeAct, advances, delay_ends, times_out, beats, times_init, times_cookie, times_request, wakes_request, before_time, timeout_of, after_time, CallAct, accepts, refuses, takes_message, sets_low_threshold, sets_priority, sets_max_message_size, before_call, after_call, ResetAct, prepares, defers, performs, processes, takes_response, adds_responses, before_reset, after_reset, HandoverAct, leaves, takes_up, before_handover, after_handover, InputAct, ends_packet, before_input, after_input, Preserves}
+use Rattle.proof_endpoint.specs.Acts.{EndWithPacket, in_open, end_of, is_plain, may_shut, point_of, BringsChunk, IsEchoed, fragments_of, PacketAct, begins, adds_plain, emits, emits_error, counts, before_packets, after_packets, OpeningAct, connects, adds_init, answers_new, answers_waiting, answers_echoed, answers_again, echoes, adds_cookie, establishes, opens, restarts, opens_again, maintains, adds_cookie_ack, before_opening, after_opening, ClosingAct, closes, shuts, shuts_on, before_closing, after_closing, DataAct, takes_data, takes_idata, takes_forward, takes_iforward, before_data, after_data, SackAct, takes_sack, samples, counts_errors, before_sack, after_sack, SendingAct, asks, adds_ack, expires, adds_forward, forwards_later, asks_no_reset, asks_reset, adds_request, sends, sends_fast, before_sending, after_sending, TimeAct, advances, delay_ends, times_out, beats, times_init, times_cookie, times_request, wakes_request, before_time, timeout_of, after_time, CallAct, accepts, refuses, takes_message, sets_low_threshold, sets_priority, sets_max_message_size, before_call, after_call, ResetAct, prepares, defers, performs, processes, takes_response, adds_responses, before_reset, after_reset, HandoverAct, leaves, takes_up, before_handover, after_handover, InputAct, ends_packet, before_input, after_input, Preserves}
 use Rattle.proof_pair.specs.Trace.{as_carried, packets_in, AreValidOptions}
-use Rattle.proof_pair.proofs.EmittedLemmas.{EmitsLightly}
-use Rattle.proof_pair.proofs.UntilLemmas.{light_sack, light_sending, light_time, light_call, light_reset}
+use Rattle.proof_pair.proofs.EmittedLemmas.{EmitsNoPacketOrStatus}
+use Rattle.proof_pair.proofs.UntilLemmas.{sack_act_emits_no_packet_or_status, sending_act_emits_no_packet_or_status, time_act_emits_no_packet_or_status, call_act_emits_no_packet_or_status, reset_act_emits_no_packet_or_status}
 use Rattle.proof_pair.proofs.AddedLemmas.{holds_added, holds_all_added}
 use Rattle.proof_pair.proofs.StayLemmas.{Stays, stays_same, stays_then, stays_resent, stays_timed, alike_all, alike_outstanding, alike_received, stays_fast}
-use Rattle.proof_pair.proofs.JoinActsLemmas.{light_packets, ends_no_packet, packets_now}
+use Rattle.proof_pair.proofs.JoinActsLemmas.{no_packet_or_status_has_no_packets, ends_no_packet, packets_now}
 use Rattle.proof_pair.proofs.NegotiatedLemmas.{Brings, Emits, emits_back, same_mode, same_partial, forward_right, View, alone, view_of, late_phase, Able, IsAble}
 
 -- ---- what goes out leaves the mode as it was
@@ -41,7 +41,7 @@ stays_appended : {P : Type 0} (now : ℕ) (o : Option Produced) (x : Filling P) 
 stays_appended now None x = stays_same x.sender.outstanding
 stays_appended now (Some p) x = record { first = refl; items = record { partial = refl; mode = refl } }
 
-stays_turned_if : {P : Type 0} (b : Bool) (now : ℕ) (x : Filling P) → Stays x.sender.outstanding (turned_if b now x).filling.sender.outstanding
+stays_turned_if : {P : Type 0} (b : Bool) (now : ℕ) (x : Filling P) → Stays x.sender.outstanding (queue_step_if b now x).filling.sender.outstanding
 stays_turned_if false now x = stays_same x.sender.outstanding
 stays_turned_if true now x = stays_appended now _ (record x { queue = _; emitted = _ })
 
@@ -94,7 +94,7 @@ InvAt g m = Inv g (view_of m.state) m.context.options m.context.pack m.context.e
 
 -- what a call receives of the other end
 pub record Receives (g : Setting) (call : Call) : Type 0 where
-  pub says : (tag : ℕ) (chunk : ChunkTree) → IsReceived call tag chunk → Emits g.other g.own chunk
+  pub says : (tag : ℕ) (chunk : ChunkTree) → BringsChunk call tag chunk → Emits g.other g.own chunk
   pub restores : (h : HandoverState) → call ≡ Restore h → ⊥
   pub own : AreValidOptions g.own
   pub other : AreValidOptions g.other
@@ -155,20 +155,20 @@ able_on : (o q : Options) (k : Capabilities) (a b c d : Bool) (kept : Option (Li
 able_on o q k a b c d kept e f h = record { agrees = h.agrees; partial = e ∙ h.partial; mode = f ∙ h.mode; is_kept = h.is_kept }
 
 module _ (g : Setting) (call : Call) (r : Receives g call) where
-  adds : (v : View) (os : Options) (pack : Packing Carried) (es : List (Event Carried)) (p : Packet) (c : ChunkTree) → Inv g v os pack es p.chunks → Emits g.own g.other c
+  adds : (v : View) (os : Options) (pack : Packing Carried) (es : List (Event Carried)) (p : PacketDraft) (c : ChunkTree) → Inv g v os pack es p.chunks → Emits g.own g.other c
       → Inv g v os pack es (add c p).chunks
   adds v os pack es p c inv h = inv_made g v os pack es p.chunks inv (add c p).chunks (holds_added (λ tag d. Emits g.own g.other d) p c inv.made h)
 
-  adds_many : (v : View) (os : Options) (pack : Packing Carried) (es : List (Event Carried)) (p : Packet) (cs : List ChunkTree) → Inv g v os pack es p.chunks
+  adds_many : (v : View) (os : Options) (pack : Packing Carried) (es : List (Event Carried)) (p : PacketDraft) (cs : List ChunkTree) → Inv g v os pack es p.chunks
       → All (Emits g.own g.other) cs → Inv g v os pack es (add_all cs p).chunks
   adds_many v os pack es p cs inv h =
       inv_made g v os pack es p.chunks inv (add_all cs p).chunks (holds_all_added (λ tag d. Emits g.own g.other d) cs p inv.made (λ tag. h))
 
   -- what is emitted lightly, and a state that is as able
-  lightly : (v w : View) (m n : EndWithPacket Carried) (cs : List ChunkTree) → EmitsLightly m.context.emitted n.context.emitted → Able g.own g.other w
+  inv_emitting_no_packet_or_status : (v w : View) (m n : EndWithPacket Carried) (cs : List ChunkTree) → EmitsNoPacketOrStatus m.context.emitted n.context.emitted → Able g.own g.other w
       → Inv g v m.context.options m.context.pack m.context.emitted.events cs → Inv g w m.context.options m.context.pack n.context.emitted.events cs
-  lightly v w m n cs l able inv =
-      inv_view g v m.context.options m.context.pack m.context.emitted.events cs inv w l.events n.context.emitted.events l.behind (light_packets l.events l.all) able
+  inv_emitting_no_packet_or_status v w m n cs l able inv =
+      inv_view g v m.context.options m.context.pack m.context.emitted.events cs inv w l.events n.context.emitted.events l.behind (no_packet_or_status_has_no_packets l.events l.all) able
 
   -- the sender goes on in the same mode
   sends_on : (phase : Phase) (t : Tcb) (s : Sender) → Stays t.sender.outstanding s.outstanding → Able g.own g.other (view_of (Open phase t))
@@ -190,7 +190,7 @@ module _ (g : Setting) (call : Call) (r : Receives g call) where
       adds (view_of m.state) m.context.options m.context.pack m.context.emitted.events m.packet chunk inv (plain_right g.own g.other chunk plain)
   keeps_packets (emits m some bundled) inv =
       inv_emitted g (view_of m.state) m.context.options m.context.pack m.context.emitted.events m.packet.chunks inv m.context.options m.packet.tag m.packet.is_summed
-  keeps_packets (complains kind text m) inv =
+  keeps_packets (emits_error kind text m) inv =
       inv_view g (view_of m.state) m.context.options m.context.pack m.context.emitted.events m.packet.chunks inv (view_of m.state) (OnError kind text ∷ []) _ refl refl inv.able
   keeps_packets (counts m) inv = inv
 
@@ -226,8 +226,8 @@ module _ (g : Setting) (call : Call) (r : Receives g call) where
   keeps_opening (connects m is) inv = record { able = tt; size = inv.size; options = inv.options; packing = inv.packing; said = inv.said; made = inv.made }
   keeps_opening (adds_init tag first t1 m to) inv =
       let o : Options = m.context.options in
-      adds alone o m.context.pack m.context.emitted.events m.packet (init_chunk (init_of o tag first (announce o o.zero_checksum_method))) inv
-      (subst (λ (z : Options). Emits g.own g.other (init_chunk (init_of z tag first (announce z z.zero_checksum_method)))) (sym inv.options) refl)
+      adds alone o m.context.pack m.context.emitted.events m.packet (init_chunk (init_of o tag first (announced_parameters o o.zero_checksum_method))) inv
+      (subst (λ (z : Options). Emits g.own g.other (init_chunk (init_of z tag first (announced_parameters z z.zero_checksum_method)))) (sym inv.options) refl)
   keeps_opening (answers_new tag i m h to) inv = answers (view_of Closed) m i _ _ _ (r.says tag (init_chunk i) h) inv
   keeps_opening (answers_waiting tag i my_tag first t1 m h to) inv = answers (view_of (CookieWait my_tag first t1)) m i _ _ _ (r.says tag (init_chunk i) h) inv
   keeps_opening (answers_echoed tag i t1 cookie t m h to) inv = answers (view_of (Open (CookieEchoed t1 cookie) t)) m i _ _ _ (r.says tag (init_chunk i) h) inv
@@ -235,7 +235,7 @@ module _ (g : Setting) (call : Call) (r : Receives g call) where
   keeps_opening (echoes tag i cookie my_tag first t1 m h brought) inv =
       let o : Options = m.context.options in
       let said = r.says tag (init_ack_chunk i) h in
-      let t : Tcb = tcb o (names i my_tag first (long_word (end_of m))) i.a_rwnd (agreed_by o i) in
+      let t : Tcb = tcb o (identity_of_init_ack i my_tag first (long_word (end_of m))) i.a_rwnd (agreed_by o i) in
       record {
         able = record {
           agrees = ap (λ (z : Options). agreed_by z i) inv.options ∙ said.can;
@@ -253,12 +253,12 @@ module _ (g : Setting) (call : Call) (r : Receives g call) where
       adds (view_of (Open (CookieEchoed t1 cookie) t)) m.context.options m.context.pack m.context.emitted.events m.packet (cookie_echo_chunk cookie) inv inv.able.is_kept
   keeps_opening (establishes tag t1 cookie t m h) inv = established t1 cookie t m inv
   keeps_opening (opens tag k m h none is) inv = opened (view_of m.state) m tag k (OnConnected ∷ []) (long_word (end_of m)) refl h inv
-  keeps_opening (restarts tag k phase t m h verdict) inv =
+  keeps_opening (restarts tag k phase t m h resolution) inv =
       subst (λ (es : List (Event Carried)). Inv g (view_of (Open Established (tcb_by m.context.options k (long_word (end_of m))))) m.context.options m.context.pack es m.packet.chunks)
       (sym (append_assoc m.context.emitted.events (OnConnectionRestarted ∷ []) (OnConnected ∷ [])))
       (opened (view_of (Open phase t)) m tag k (OnConnectionRestarted ∷ OnConnected ∷ []) (long_word (end_of m)) refl h inv)
-  keeps_opening (opens_again tag k phase t m h verdict) inv = opened (view_of (Open phase t)) m tag k (OnConnected ∷ []) (long_word (end_of m)) refl h inv
-  keeps_opening (maintains tag k t1 cookie t m h verdict) inv = established t1 cookie t m inv
+  keeps_opening (opens_again tag k phase t m h resolution) inv = opened (view_of (Open phase t)) m tag k (OnConnected ∷ []) (long_word (end_of m)) refl h inv
+  keeps_opening (maintains tag k t1 cookie t m h resolution) inv = established t1 cookie t m inv
   keeps_opening (adds_cookie_ack tag back phase t m h late) inv =
       adds (view_of (Open phase t)) m.context.options m.context.pack m.context.emitted.events m.packet cookie_ack_chunk inv refl
 
@@ -294,7 +294,7 @@ module _ (g : Setting) (call : Call) (r : Receives g call) where
   keeps_sack : (act : SackAct Carried call) → InvAt g (before_sack act) → InvAt g (after_sack act)
   keeps_sack (takes_sack tag k phase t m received valid) inv =
       let act : SackAct Carried call = takes_sack tag k phase t m received valid in
-      lightly (view_of (Open phase t)) (view_of (after_sack act).state) m (after_sack act) m.packet.chunks (light_sack act)
+      inv_emitting_no_packet_or_status (view_of (Open phase t)) (view_of (after_sack act).state) m (after_sack act) m.packet.chunks (sack_act_emits_no_packet_or_status act)
       (sends_on phase t (sender_if true m.context.now (point_of k t) k.a_rwnd (clean_blocks k.gap_ack_blocks) t.sender m.context.emitted)
       (record { first = refl; items = alike_received (point_of k t) _ _ t.sender.outstanding.items m.context.emitted }) inv.able) inv
   keeps_sack (samples k phase t m) inv = inv
@@ -308,8 +308,8 @@ module _ (g : Setting) (call : Call) (r : Receives g call) where
       adds (view_of (Open phase t)) m.context.options m.context.pack m.context.emitted.events m.packet (selective_ack t) inv refl
   keeps_sending (expires phase t m) inv =
       let act : SendingAct Carried call = expires phase t m in
-      lightly (view_of (Open phase t)) (view_of (after_sending act).state) m (after_sending act) m.packet.chunks (light_sending act)
-      (sends_on phase t (expire m.context.now t.sender m.context.emitted) (record { first = refl; items = alike_outstanding m.context.now t.sender.outstanding.items m.context.emitted }) inv.able) inv
+      inv_emitting_no_packet_or_status (view_of (Open phase t)) (view_of (after_sending act).state) m (after_sending act) m.packet.chunks (sending_act_emits_no_packet_or_status act)
+      (sends_on phase t (abandon_expired m.context.now t.sender m.context.emitted) (record { first = refl; items = alike_outstanding m.context.now t.sender.outstanding.items m.context.emitted }) inv.able) inv
   keeps_sending (adds_forward phase t m due) inv =
       let parts = and_parts t.sender.outstanding.items.is_partial _ due in
       let k : Capabilities = agreed g.other g.own in
@@ -329,7 +329,7 @@ module _ (g : Setting) (call : Call) (r : Receives g call) where
       let act : SendingAct Carried call = sends phase t m in
       let f : fragments.Filling Carried = fragments_of t m in
       let n : ℕ = room m.packet in
-      lightly (view_of (Open phase t)) (view_of (after_sending act).state) m (after_sending act) _ (light_sending act)
+      inv_emitting_no_packet_or_status (view_of (Open phase t)) (view_of (after_sending act).state) m (after_sending act) _ (sending_act_emits_no_packet_or_status act)
       (sends_on phase t f.sender (stays_sent m.context.now n t.sender m.context.queue m.context.emitted) inv.able)
       (adds_many (view_of (Open phase t)) m.context.options m.context.pack m.context.emitted.events m.packet (data_chunks t (is_small m.context.options f.sender) f.chunks) inv
       (data_all g.own g.other t.capabilities.message_interleaving (is_small m.context.options f.sender) f.chunks (mode_now phase t inv.able)))
@@ -353,7 +353,7 @@ module _ (g : Setting) (call : Call) (r : Receives g call) where
   keeps_time : (act : TimeAct Carried call) → InvAt g (before_time act) → InvAt g (after_time act)
   keeps_time (times_out phase t m due) inv =
       let act : TimeAct Carried call = times_out phase t m due in
-      lightly (view_of (Open phase t)) (view_of (after_time act).state) m (after_time act) m.packet.chunks (light_time act)
+      inv_emitting_no_packet_or_status (view_of (Open phase t)) (view_of (after_time act).state) m (after_time act) m.packet.chunks (time_act_emits_no_packet_or_status act)
       (sends_on phase t (timed_out_sender m.context.now (timeout_of t m).items t.sender) (record { first = refl; items = alike_all t.sender.outstanding.items m.context.emitted }) inv.able) inv
   keeps_time (advances now m is on) inv = inv
   keeps_time (delay_ends phase t m) inv = inv
@@ -367,11 +367,11 @@ module _ (g : Setting) (call : Call) (r : Receives g call) where
   keeps_calls (accepts message o m offered fine) inv = inv
   keeps_calls (refuses message o e m offered is) inv =
       let act : CallAct Carried call = refuses message o e m offered is in
-      lightly (view_of m.state) (view_of m.state) m (after_call act) m.packet.chunks (light_call act) inv.able inv
+      inv_emitting_no_packet_or_status (view_of m.state) (view_of m.state) m (after_call act) m.packet.chunks (call_act_emits_no_packet_or_status act) inv.able inv
   keeps_calls (takes_message phase t m is) inv = inv
   keeps_calls (sets_low_threshold stream bytes m is) inv =
       let act : CallAct Carried call = sets_low_threshold stream bytes m is in
-      lightly (view_of m.state) (view_of m.state) m (after_call act) m.packet.chunks (light_call act) inv.able inv
+      inv_emitting_no_packet_or_status (view_of m.state) (view_of m.state) m (after_call act) m.packet.chunks (call_act_emits_no_packet_or_status act) inv.able inv
   keeps_calls (sets_priority stream priority m is) inv = inv
   keeps_calls (sets_max_message_size bytes m is) inv = record {
     able = inv.able;
@@ -397,16 +397,16 @@ module _ (g : Setting) (call : Call) (r : Receives g call) where
   keeps_resets : (act : ResetAct Carried call) → InvAt g (before_reset act) → InvAt g (after_reset act)
   keeps_resets (prepares stream phase t m asked can) inv =
       let act : ResetAct Carried call = prepares stream phase t m asked can in
-      lightly (view_of (Open phase t)) (view_of (Open phase t)) m (after_reset act) m.packet.chunks (light_reset act) inv.able inv
+      inv_emitting_no_packet_or_status (view_of (Open phase t)) (view_of (Open phase t)) m (after_reset act) m.packet.chunks (reset_act_emits_no_packet_or_status act) inv.able inv
   keeps_resets (defers number response last_tsn streams phase t m asked known ahead) inv = inv
   keeps_resets (performs number response last_tsn streams phase t m asked known there) inv =
       let act : ResetAct Carried call = performs number response last_tsn streams phase t m asked known there in
-      lightly (view_of (Open phase t)) (view_of (Open phase t)) m (after_reset act) m.packet.chunks (light_reset act) inv.able inv
+      inv_emitting_no_packet_or_status (view_of (Open phase t)) (view_of (Open phase t)) m (after_reset act) m.packet.chunks (reset_act_emits_no_packet_or_status act) inv.able inv
   keeps_resets (processes number streams phase t m asked known) inv = inv
   keeps_resets (takes_response rto number result sender receiver phase t m asked) inv =
       let act : ResetAct Carried call = takes_response rto number result sender receiver phase t m asked in
       let o : Outcome = outcome number result t.requests.current in
-      let still = lightly (view_of (Open phase t)) (view_of (Open phase t)) m (after_reset act) m.packet.chunks (light_reset act) inv.able inv in
+      let still = inv_emitting_no_packet_or_status (view_of (Open phase t)) (view_of (Open phase t)) m (after_reset act) m.packet.chunks (reset_act_emits_no_packet_or_status act) inv.able inv in
       record {
         able = still.able;
         size = still.size;

@@ -7,7 +7,7 @@ use Rattle.sctp_wire.specs.Field.{be32, be64}
 use Rattle.sctp_packet.specs.Chunk.{ChunkTree, InitTree, init_chunk, init_ack_chunk, cookie_echo_chunk}
 use Rattle.sctp_packet.specs.Grammar.{carried}
 use Rattle.sctp_capabilities.specs.declared.state_cookie.StateCookieError.{StateCookieError}
-use Rattle.sctp_capabilities.specs.Capabilities.{Capabilities, announce, announced_by, negotiate, agreed, announced_with, announced_by_init}
+use Rattle.sctp_capabilities.specs.Capabilities.{Capabilities, announced_parameters, announced_by, negotiate, agreed, announced_with, announced_by_init}
 use Rattle.sctp_capabilities.specs.StateCookie.{Cookie, CapabilitiesFit, capability_bytes, cookie_bytes, cookie_from, check_cookie, read_cookie}
 use Rattle.sctp_state.specs.Options.{Options}
 use Rattle.sctp_capabilities.proofs.CapabilitiesLemmas.{announced_with_options, negotiated_by_init, negotiated_by_init_ack}
@@ -15,7 +15,7 @@ use Rattle.sctp_capabilities.proofs.CookieLemmas.{cookie_from_spelled, capabilit
 use Rattle.sctp_tx.specs.RetransmissionQueue.{Sender}
 use Rattle.sctp_tx.specs.ForwardPoints.{chunk_if}
 use Rattle.spec_endpoint.specs.Association.{Tcb, Phase, CookieEchoed, Established, ShutdownPending, ShutdownSent, ShutdownReceived, ShutdownAckSent, State, Closed, CookieWait, Open}
-use Rattle.spec_endpoint.specs.Sending.{is_alone}
+use Rattle.spec_endpoint.specs.Sending.{is_before_cookie_ack}
 use Rattle.spec_endpoint.specs.Opening.{cookie_for, agreed_by, init_ack_of, cookie_in}
 use Rattle.spec_endpoint.specs.Input.{misuse}
 use Rattle.proof_pair.specs.Trace.{AreValidOptions}
@@ -131,7 +131,7 @@ emits_back o q i tag first tie fine said =
     let made : Cookie = cookie_for i tag first tie in
     let bytes : List ℕ = cookie_bytes made in
     record {
-      can = ap (negotiate q) (emitted_with_cookie o.announced_maximum_outgoing_streams o.announced_maximum_incoming_streams (announce o method) bytes)
+      can = ap (negotiate q) (emitted_with_cookie o.announced_maximum_outgoing_streams o.announced_maximum_incoming_streams (announced_parameters o method) bytes)
           ∙ (ap (λ (k : Capabilities). negotiate q (announced_with (negotiate o k).zero_checksum_method o)) said ∙ negotiated_by_init_ack q o);
       cookie = λ c brought k reads.
           let same : bytes ≡ c = same_Some bytes c (sym (cookie_found o method bytes) ∙ brought) in
@@ -165,7 +165,7 @@ view_of (Open phase t) = can t.capabilities t.sender.outstanding.items.is_partia
 abbrev late_view : Tcb → View
 late_view t = can t.capabilities t.sender.outstanding.items.is_partial t.sender.outstanding.items.is_interleaved None
 
-pub late_phase : (phase : Phase) (t : Tcb) → is_alone phase ≡ false → view_of (Open phase t) ≡ late_view t
+pub late_phase : (phase : Phase) (t : Tcb) → is_before_cookie_ack phase ≡ false → view_of (Open phase t) ≡ late_view t
 late_phase (CookieEchoed t1 cookie) t e = cc
 late_phase Established t e = refl
 late_phase ShutdownPending t e = refl

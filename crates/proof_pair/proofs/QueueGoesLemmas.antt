@@ -10,16 +10,16 @@ use Rattle.std.proofs.lemmas.Map.{keys-set_value}
 use Rattle.sctp_state.specs.Events.{Emitted}
 use Rattle.sctp_tx_outstanding.specs.OutstandingData.{Discard}
 use Rattle.sctp_tx_queue.specs.declared.send_queue.stream.ResetStep.{ResetStep}
-use Rattle.sctp_tx_queue.specs.SendQueue.{Stream, Streams, Entries, Queue, blank, stream, open_stream, put_stream}
+use Rattle.sctp_tx_queue.specs.SendQueue.{Stream, Streams, Entries, Queue, blank, stream, with_stream, put_stream}
 use Rattle.sctp_tx_queue.specs.Produced.{Produced, Turn, next_fragment, advance, without_stale, streams_without_stale, turn, next_stream, idle, produce_within, produce}
 use Rattle.sctp_tx_queue.specs.Settings.{set_low_threshold, set_priority, front_discarded, without_front, streams_discarded, discard_from, discard}
-use Rattle.sctp_tx_queue.specs.Resets.{prepare_reset, step_stream, each_stepped}
+use Rattle.sctp_tx_queue.specs.Resets.{prepare_reset, apply_reset_step, each_stepped}
 use Rattle.sctp_tx_queue.specs.Restarted.{restarted_one, each_restarted, reset}
 use Rattle.sctp_tx_queue.specs.InOrder.{IsInOrder, HasRests}
 use Rattle.sctp_tx_queue.proofs.AgainLemmas.{AreAbove, are_above}
 use Rattle.sctp_tx_queue.proofs.InOrderLemmas.{set_bytes_mode, threshold_in_order, priority_in_order, prepared_in_order, steps_in_order, produced_in_order, discarded_in_order, line_mode}
 use Rattle.sctp_tx_queue.proofs.RestLemmas.{calls_leave_rests}
-use Rattle.sctp_tx.specs.Sending.{Filling, offered_payload, append, turned_if, next_turn, fill, discard_all, filled_with, send, without_discards}
+use Rattle.sctp_tx.specs.Sending.{Filling, offered_payload, append, queue_step_if, next_turn, fill, discard_all, filled_with, send, without_discards}
 use Rattle.sctp_tx.specs.RetransmissionQueue.{Sender}
 use Rattle.sctp_tx.specs.Resent.{may_send_new, resent}
 use Rattle.sctp_tx_outstanding.specs.Resending.{Resent}
@@ -63,15 +63,15 @@ inserted_sorted id s (e ∷ es) h = go (nat_cmp id e.0) refl (inserted_sorted id
 put_sorted : (id : ℕ) (s : Stream) (ss : Streams) → AreSorted ss.entries → AreSorted (put_stream id s ss).entries
 put_sorted id s ss h = subst (IsStrictlySortedBy nat_cmp) (sym (keys-set_value (is_at (nat_cmp id)) ss.entries s)) h
 
-opened_sorted : (id : ℕ) (ss : Streams) → AreSorted ss.entries → AreSorted (open_stream id ss).entries
+opened_sorted : (id : ℕ) (ss : Streams) → AreSorted ss.entries → AreSorted (with_stream id ss).entries
 opened_sorted id ss h = go (is_some (lookup (is_at (nat_cmp id)) ss.entries))
   where
     go : (b : Bool) → AreSorted (cond b ss (record ss { entries = insert_entry nat_cmp ss.entries id (blank ss) })).entries
     go true = h
     go false = inserted_sorted id (blank ss) ss.entries h
 
-pub put_opened_sorted : (id : ℕ) (s : Stream) (ss : Streams) → AreSorted ss.entries → AreSorted (put_stream id s (open_stream id ss)).entries
-put_opened_sorted id s ss h = put_sorted id s (open_stream id ss) (opened_sorted id ss h)
+pub put_opened_sorted : (id : ℕ) (s : Stream) (ss : Streams) → AreSorted ss.entries → AreSorted (put_stream id s (with_stream id ss)).entries
+put_opened_sorted id s ss h = put_sorted id s (with_stream id ss) (opened_sorted id ss h)
 
 -- ---- ids, the mode and the next number
 
@@ -128,7 +128,7 @@ module _ {P : Type 0} where
 shape_steps : (step : ResetStep) (ids : List ℕ) (q : Queue) → Shape q (each_stepped step ids q)
 shape_steps step [] q = shape_same q
 shape_steps step (id ∷ ids) q =
-    let r : Queue = step_stream step id q in
+    let r : Queue = apply_reset_step step id q in
     shape_then q r (each_stepped step ids r) (record { sorted = put_sorted id _ q.streams; mode = set_bytes_mode id _ _ q.scheduler; next = refl })
     (shape_steps step ids r)
 
@@ -222,7 +222,7 @@ fills_appended now None x = fills_same x
 fills_appended now (Some p) x = record { sent = record { first = refl; items = record { partial = refl; mode = refl } }; queue = goes_same x.queue }
 
 module _ (once : CallsNumberOnce) where
-  fills_turned_if : (b : Bool) (now : ℕ) (x : Filling (List ℕ)) → (b ≡ true → 0 < offered_payload x.left x.sender) → Fills x (turned_if b now x).filling
+  fills_turned_if : (b : Bool) (now : ℕ) (x : Filling (List ℕ)) → (b ≡ true → 0 < offered_payload x.left x.sender) → Fills x (queue_step_if b now x).filling
   fills_turned_if false now x some = fills_same x
   fills_turned_if true now x some =
       let t : Turn (List ℕ) = produce now (offered_payload x.left x.sender) x.queue x.emitted in

@@ -10,17 +10,17 @@ use Rattle.sctp_state.specs.declared.api.GivenUpCause.TheVariants.{Retransmissio
 use Rattle.sctp_state.specs.Events.{Emitted}
 use Rattle.sctp_rx.specs.Held.{Held}
 use Rattle.sctp_rx.specs.Delivery.{fresh_ordered, fresh_unordered, ordered_arrival, ordered_forward, unordered_arrival, unordered_forward}
-use Rattle.sctp_rx.specs.ReassemblyStreams.{Streams, stream_at, change_stream, is_far, unchanged, with_ordered, with_unordered, add_in_order, ordered_number, unordered_number, held_as, skip_ordered, skip_unordered, skip_of, skip, skip_each, by_stream, dropped_to, entries_in}
+use Rattle.sctp_rx.specs.ReassemblyStreams.{Streams, stream_at, set_stream, is_far, unchanged, with_ordered, with_unordered, add_in_order, ordered_number, unordered_number, held_as, skip_ordered, skip_unordered, skip_of, skip, skip_each, by_stream, dropped_to, entries_in}
 use Rattle.sctp_rx.specs.ReassemblyStreams as streams
-use Rattle.sctp_rx.specs.ReassemblyQueue.{Waiting, Added, Forwarded, Reassembly, add_now, forward_now, waits, came, fragment_waits, add_or_wait, point_waits, forward_or_wait, apply, apply_each, waiting_in, wait_with, resetting}
+use Rattle.sctp_rx.specs.ReassemblyQueue.{Waiting, Added, Forwarded, Reassembly, add_now, forward_now, keep_back, came, is_kept_back, add_or_keep_back, point_waits, forward_or_wait, apply, apply_each, waiting_in, wait_with, resetting}
 use Rattle.sctp_rx.specs.ReassemblyQueue as reassembly
 use Rattle.sctp_tx_outstanding.specs.Item.{Item, nack, is_fast, should_be_retransmitted}
 use Rattle.sctp_tx_outstanding.specs.OutstandingData.{Items, Outstanding}
-use Rattle.sctp_tx_outstanding.specs.Losses.{Step, given_up, given_up_if, change_items, loses, gives_up, nack_item, nack_at, nack_below, nack_all, expired_at, expire_at, expire_below, expire_outstanding}
+use Rattle.sctp_tx_outstanding.specs.Losses.{Step, abandon_with_record, given_up_if, change_items, loses, is_to_be_abandoned, nack_item, nack_at, nack_below, nack_all, expired_at, expire_at, expire_below, expire_outstanding}
 use Rattle.sctp_tx_outstanding.specs.Sack.{receive_sack, receive_sack_first, staying, reported_below}
-use Rattle.sctp_tx_outstanding.specs.Resending.{Resent, size_in, allowance, again_of, fast_turn, queued_turn, turn_of, take_item, step_at, resent_below, resend}
+use Rattle.sctp_tx_outstanding.specs.Resending.{Resent, size_in, allowance, again_of, fast_turn, queued_turn, turn_of, apply_turn, step_at, resent_below, resend}
 use Rattle.sctp_tx.specs.RetransmissionQueue.{Sender}
-use Rattle.sctp_tx.specs.Resent.{timed_if, start_timer, resent_fast, send_fast, resent_by}
+use Rattle.sctp_tx.specs.Resent.{start_t3_if, start_t3_if_sent, resent_fast, send_fast, resent_by}
 use Rattle.spec_endpoint.specs.Association.{Tcb}
 
 -- ---- items
@@ -37,9 +37,9 @@ alike_then s r q a b = record { partial = b.partial ∙ a.partial; mode = b.mode
 
 module _ {P : Type 0} where
   alike_item : (at_once fast : Bool) (k : ℕ) (i : Item) (x : Step P) → Alike x.items (nack_item at_once fast k i x).items
-  alike_item at_once fast k i x = go (gives_up x.items.is_partial at_once i)
+  alike_item at_once fast k i x = go (is_to_be_abandoned x.items.is_partial at_once i)
     where
-      go : (b : Bool) → Alike x.items (cond b (given_up i.number (Retransmissions (i.sent - 1)) x)
+      go : (b : Bool) → Alike x.items (cond b (abandon_with_record i.number (Retransmissions (i.sent - 1)) x)
           (record x { items = change_items k (nack at_once fast) x.items; is_lossy = x.is_lossy || loses at_once i })).items
       go true = record { partial = refl; mode = refl }
       go false = record { partial = refl; mode = refl }
@@ -93,22 +93,22 @@ stays_again : (k : ℕ) (o : Option Item) (x : Resent) → Stays x.outstanding (
 stays_again k None x = stays_same x.outstanding
 stays_again k (Some i) x = record { first = refl; items = record { partial = refl; mode = refl } }
 
-stays_fast_action : (i : Item) (k : ℕ) (x : Resent) → Stays x.outstanding (take_item (fast_turn i x) k x).outstanding
+stays_fast_action : (i : Item) (k : ℕ) (x : Resent) → Stays x.outstanding (apply_turn (fast_turn i x) k x).outstanding
 stays_fast_action i k x = go (is_fast i) refl (nat_le (size_in x i) x.room) refl
   where
-    go : (b : Bool) → is_fast i ≡ b → (d : Bool) → nat_le (size_in x i) x.room ≡ d → Stays x.outstanding (take_item (fast_turn i x) k x).outstanding
+    go : (b : Bool) → is_fast i ≡ b → (d : Bool) → nat_le (size_in x i) x.room ≡ d → Stays x.outstanding (apply_turn (fast_turn i x) k x).outstanding
     go true e true f = rw (e, f) (stays_again k (slice_get x.outstanding.items.kept k) x)
     go true e false f = rw (e, f) (record { first = refl; items = record { partial = refl; mode = refl } })
     go false e d f = rw e (stays_same x.outstanding)
 
-stays_queued_action : (i : Item) (k : ℕ) (x : Resent) → Stays x.outstanding (take_item (queued_turn i x) k x).outstanding
+stays_queued_action : (i : Item) (k : ℕ) (x : Resent) → Stays x.outstanding (apply_turn (queued_turn i x) k x).outstanding
 stays_queued_action i k x = go (should_be_retransmitted i && nat_le (size_in x i) (allowance x)) refl
   where
-    go : (b : Bool) → (should_be_retransmitted i && nat_le (size_in x i) (allowance x)) ≡ b → Stays x.outstanding (take_item (queued_turn i x) k x).outstanding
+    go : (b : Bool) → (should_be_retransmitted i && nat_le (size_in x i) (allowance x)) ≡ b → Stays x.outstanding (apply_turn (queued_turn i x) k x).outstanding
     go true e = rw e (stays_again k (slice_get x.outstanding.items.kept k) x)
     go false e = rw e (stays_same x.outstanding)
 
-stays_action : (fast : Bool) (o : Option Item) (k : ℕ) (x : Resent) → Stays x.outstanding (take_item (turn_of fast o x) k x).outstanding
+stays_action : (fast : Bool) (o : Option Item) (k : ℕ) (x : Resent) → Stays x.outstanding (apply_turn (turn_of fast o x) k x).outstanding
 stays_action fast None k x = stays_same x.outstanding
 stays_action true (Some i) k x = stays_fast_action i k x
 stays_action false (Some i) k x = stays_queued_action i k x
@@ -122,11 +122,11 @@ stays_below fast (suc n) x =
 pub stays_resent : (fast : Bool) (room window : ℕ) (d : Outstanding) → Stays d (resend fast room window d).outstanding
 stays_resent fast room window d = stays_below fast (length d.items.kept) (record { outstanding = d; chunks = []; room = room; window = window })
 
-stays_timed_if : (b : Bool) (now : ℕ) (s : Sender) → Stays s.outstanding (timed_if b now s).outstanding
+stays_timed_if : (b : Bool) (now : ℕ) (s : Sender) → Stays s.outstanding (start_t3_if b now s).outstanding
 stays_timed_if true now s = stays_same s.outstanding
 stays_timed_if false now s = stays_same s.outstanding
 
-pub stays_timed : (now : ℕ) (chunks : List (ℕ × FragmentTree)) (s : Sender) → Stays s.outstanding (start_timer now chunks s).outstanding
+pub stays_timed : (now : ℕ) (chunks : List (ℕ × FragmentTree)) (s : Sender) → Stays s.outstanding (start_t3_if_sent now chunks s).outstanding
 stays_timed now chunks s = stays_timed_if _ now s
 
 -- ---- streams that are received
@@ -164,7 +164,7 @@ skip_unordered_mode : (id n : ℕ) (ss : Streams) → mode_of (skip_unordered id
 skip_unordered_mode id n ss = go (is_far n)
   where
     go : (b : Bool) → mode_of (cond b (unchanged ss)
-        (record { streams = record ss { unordered = change_stream fresh_unordered id (unordered_forward n (stream_at fresh_unordered id ss.unordered)) ss.unordered }; messages = [] })).streams ≡ mode_of ss
+        (record { streams = record ss { unordered = set_stream fresh_unordered id (unordered_forward n (stream_at fresh_unordered id ss.unordered)) ss.unordered }; messages = [] })).streams ≡ mode_of ss
     go true = refl
     go false = refl
 
@@ -196,13 +196,13 @@ added_mode tsn f r = far (is_far (reassembly.number_of r tsn))
     q : Reassembly
     q = came tsn r
 
-    late : (b : Bool) → mode_in (cond b (waits (Added n f) q) (add_now n f q)) ≡ mode_in r
+    late : (b : Bool) → mode_in (cond b (keep_back (Added n f) q) (add_now n f q)) ≡ mode_in r
     late true = refl
     late false = add_mode n f r.streams
 
-    far : (b : Bool) → mode_in (cond b r (add_or_wait n f q)) ≡ mode_in r
+    far : (b : Bool) → mode_in (cond b r (add_or_keep_back n f q)) ≡ mode_in r
     far true = refl
-    far false = late (fragment_waits n f.stream_id q.deferred)
+    far false = late (is_kept_back n f.stream_id q.deferred)
 
 pub forwarded_mode : (tsn : ℕ) (es : List SkippedStream) (r : Reassembly) → mode_in (reassembly.forward tsn es r) ≡ mode_in r
 forwarded_mode tsn es r = far (is_far (reassembly.number_of r tsn))
@@ -222,7 +222,7 @@ forwarded_mode tsn es r = far (is_far (reassembly.number_of r tsn))
     part : Reassembly
     part = forward_now n others q
 
-    kept : (b : Bool) → mode_in (cond b part (waits (Forwarded n named) part)) ≡ mode_in r
+    kept : (b : Bool) → mode_in (cond b part (keep_back (Forwarded n named) part)) ≡ mode_in r
     kept true = forward_mode n others r.streams
     kept false = forward_mode n others r.streams
 

@@ -5,7 +5,7 @@ use Rattle.sctp_packet.specs.Chunk.{FragmentTree}
 use Rattle.sctp_rx.specs.DataTracker.{number_of, is_valid, has_seen, moves_on}
 use Rattle.sctp_rx.specs.ReassemblyQueue.{Reassembly, add, forward}
 use Rattle.spec_endpoint.specs.Association.{Tcb, Phase, Open, Context, EndpointState, Endpoint}
-use Rattle.spec_endpoint.specs.Data.{is_full, added_unless, take_fragment, taken_if, on_data_if, on_data, skipped_if, forward_to, forwarded_if, forwarded_in}
+use Rattle.spec_endpoint.specs.Data.{is_full, added_unless, take_fragment, fragment_if, on_data_if, on_data, skipped_if, handle_forward_tsn, handle_forward_tsn_if, handle_forward_tsn_in}
 use Rattle.spec_endpoint.specs.Input.{misuse, received_if, receive}
 use Rattle.proof_pair.specs.Taking.{opened, fragment_chunk, point_chunk, IsTaken, IsPassed, RefusedDataChangesNothing, NewDataIsAdded, InvalidPointsChangeNothing, PointsReachReassembly}
 
@@ -45,14 +45,14 @@ module _ {P : Type 0} (tsn : ℕ) (is_immediate : Bool) (f : FragmentTree) (phas
       → (on_data_if a tsn is_immediate f endpoint_state).state ≡ Open phase t
   refused_by true e = refl
   refused_by false e =
-      ap (λ (b : Bool). Open phase (taken_if b tsn is_immediate f t))
+      ap (λ (b : Bool). Open phase (fragment_if b tsn is_immediate f t))
       (none_taken (is_full t.reassembly) (is_valid t.tracker.tracker (number_of t.tracker tsn)) e)
 
   taken_by : (a : Bool) → (a || (is_full t.reassembly || not (is_valid t.tracker.tracker (number_of t.tracker tsn)))) ≡ false
       → (on_data_if a tsn is_immediate f endpoint_state).state ≡ Open phase (take_fragment tsn is_immediate f t)
   taken_by true e = cc
   taken_by false e =
-      ap (λ (b : Bool). Open phase (taken_if b tsn is_immediate f t))
+      ap (λ (b : Bool). Open phase (fragment_if b tsn is_immediate f t))
       (some_taken (is_full t.reassembly) (is_valid t.tracker.tracker (number_of t.tracker tsn)) e)
 
   is_taken : IsTaken tsn is_immediate f t (take_fragment tsn is_immediate f t)
@@ -72,11 +72,11 @@ module _ {P : Type 0} (tag tsn : ℕ) (is_immediate : Bool) (f : FragmentTree) (
 
 module _ {P : Type 0} (tag tsn : ℕ) (skipped : List SkippedStream) (phase : Phase) (t : Tcb) (e : Endpoint P) where
   point_row : (is_interleaved : Bool) → misuse t.capabilities (point_chunk is_interleaved tsn skipped) ≡ None
-      → (receive tag (point_chunk is_interleaved tsn skipped) (opened phase t e)).end.endpoint_state.state ≡ forwarded_in (Open phase t) tsn skipped
+      → (receive tag (point_chunk is_interleaved tsn skipped) (opened phase t e)).end.endpoint_state.state ≡ handle_forward_tsn_in (Open phase t) tsn skipped
   point_row true right = ap (λ (v : Option (List ℕ)). (received_if v tag (point_chunk true tsn skipped) (opened phase t e)).end.endpoint_state.state) right
   point_row false right = ap (λ (v : Option (List ℕ)). (received_if v tag (point_chunk false tsn skipped) (opened phase t e)).end.endpoint_state.state) right
 
-  is_passed : IsPassed tsn skipped t (forward_to tsn skipped t)
+  is_passed : IsPassed tsn skipped t (handle_forward_tsn tsn skipped t)
   is_passed = record {
     observes = refl;
     forwards = λ h. moved_by (moves_on (number_of t.tracker tsn) t.tracker.tracker) tsn skipped t.reassembly h;
@@ -102,13 +102,13 @@ new_data is_interleaved tag tsn is_immediate f phase t e right fine = (
 
 pub invalid_points : InvalidPointsChangeNothing
 invalid_points is_interleaved tag tsn skipped phase t e right invalid =
-    point_row tag tsn skipped phase t e is_interleaved right ∙ ap (λ (b : Bool). Open phase (forwarded_if b tsn skipped t)) invalid
+    point_row tag tsn skipped phase t e is_interleaved right ∙ ap (λ (b : Bool). Open phase (handle_forward_tsn_if b tsn skipped t)) invalid
 
 pub points_reach : PointsReachReassembly
 points_reach is_interleaved tag tsn skipped phase t e right valid = (
   record {
-    tcb = forward_to tsn skipped t;
-    is = point_row tag tsn skipped phase t e is_interleaved right ∙ ap (λ (b : Bool). Open phase (forwarded_if b tsn skipped t)) valid;
+    tcb = handle_forward_tsn tsn skipped t;
+    is = point_row tag tsn skipped phase t e is_interleaved right ∙ ap (λ (b : Bool). Open phase (handle_forward_tsn_if b tsn skipped t)) valid;
   },
   is_passed tag tsn skipped phase t e,
 )

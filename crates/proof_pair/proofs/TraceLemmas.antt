@@ -13,17 +13,17 @@ use Rattle.sctp_capabilities.specs.Capabilities.{agreed}
 use Rattle.sctp_capabilities.proofs.CapabilitiesLemmas.{agreed_exchanged}
 use Rattle.sctp_state.specs.Events.{Event, OnError}
 use Rattle.spec_endpoint.specs.Association.{State, Endpoint}
-use Rattle.spec_endpoint.specs.Opening.{complains}
-use Rattle.spec_endpoint.specs.Input.{refusal, counts, taken_if}
-use Rattle.spec_endpoint.specs.Laws.{Call, Packet, called, endings}
+use Rattle.spec_endpoint.specs.Opening.{emit_parse_error}
+use Rattle.spec_endpoint.specs.Input.{packet_refusal, count_packet_at, packet_if}
+use Rattle.spec_endpoint.specs.Laws.{Call, ReceivePacket, called, endings}
 use Rattle.proof_endpoint.specs.Mapped.{Carried}
 use Rattle.proof_endpoint.proofs.EmitsLemmas.{endings_append}
-use Rattle.proof_endpoint.specs.Acts.{calm, nothing, IsReceived}
-use Rattle.proof_pair.specs.Trace.{Side, Pair, as_carried, new_side, packets_in, emitted_packets, has_connected, EndAction, Calls, Gives, Refuses, drain, as_received, give, foreign_if, act, goes, run, MayCall, MayAct, side_of, KeepsOpeningRules, NeitherHasEnded, AreValidOptions, start, state_of, AreConsistent}
+use Rattle.proof_endpoint.specs.Acts.{calm, no_packet, BringsChunk}
+use Rattle.proof_pair.specs.Trace.{Side, Pair, as_carried, new_side, packets_in, emitted_packets, has_connected, EndAction, Calls, Gives, Refuses, drain, as_received, give_carried, foreign_if, act, goes, run, MayCall, MayAct, side_of, KeepsRules, NoAssociationHasEnded, AreValidOptions, start, state_of, AreConsistent}
 use Rattle.proof_pair.proofs.UntilLemmas.{until_end}
 use Rattle.proof_pair.proofs.AddedLemmas.{all_at, all_get}
 use Rattle.proof_pair.proofs.JoinLemmas.{Draw, View, own_draw, peer_draw, view_of, Says, says_carried, Faces, Can, Stands}
-use Rattle.proof_pair.proofs.JoinActsLemmas.{Setting, Uttered, UtteredAll, Inv, InvAt, inv_light}
+use Rattle.proof_pair.proofs.JoinActsLemmas.{Setting, OtherSays, OtherSaysAll, Inv, InvAt, inv_no_packet_or_status}
 use Rattle.proof_pair.proofs.JoinKeepsLemmas.{Rules}
 use Rattle.proof_pair.proofs.JoinFrameLemmas.{joins}
 
@@ -93,7 +93,7 @@ module _ (o q : Options) (x y : Side) (asked : Bool) where
         was = λ e d. f (h.stands.was e d);
         other_was = h.stands.other_was;
       } in
-      let inv : Inv g v x.end.endpoint_state.context.options x.end.endpoint_state.context.pack [] nothing.tag [] = record {
+      let inv : Inv g v x.end.endpoint_state.context.options x.end.endpoint_state.context.pack [] no_packet.tag [] = record {
         stands = stands;
         size = h.size;
         options = h.options;
@@ -101,9 +101,9 @@ module _ (o q : Options) (x y : Side) (asked : Bool) where
         connected = λ e. h.connected (sym (ap has_connected emitted_same) ∙ e);
         said = subst (λ (es : List (Event Carried)). All (SaysAll o q v u asked) (packets_in es)) (sym emitted_same) said;
         received = k.said;
-        made = All-nil (Says o q v u asked nothing.tag);
+        made = All-nil (Says o q v u asked no_packet.tag);
       } in
-      subst (λ (es : List (Event Carried)). Inv g v x.end.endpoint_state.context.options x.end.endpoint_state.context.pack es nothing.tag []) (sym h.quiet) inv
+      subst (λ (es : List (Event Carried)). Inv g v x.end.endpoint_state.context.options x.end.endpoint_state.context.pack es no_packet.tag []) (sym h.quiet) inv
 
   -- and ends
   abbrev pub after : Endpoint Carried → Side
@@ -144,16 +144,16 @@ module _ (o q : Options) (x y : Side) (asked : Bool) where
 -- ---- what a call receives
 
 abbrev pub packet_of : Call → PacketTree → PacketTree
-packet_of (Packet p) q = p
+packet_of (ReceivePacket p) q = p
 packet_of c q = q
 
 -- each chunk of a packet as it is received
-all_carried : (g : Setting) (v : View) (tag : ℕ) (cs : List ChunkTree) → All (Uttered g v tag) cs → All (Uttered g v tag) (map carried cs)
-all_carried g v tag [] h = All-nil (Uttered g v tag)
+all_carried : (g : Setting) (v : View) (tag : ℕ) (cs : List ChunkTree) → All (OtherSays g v tag) cs → All (OtherSays g v tag) (map carried cs)
+all_carried g v tag [] h = All-nil (OtherSays g v tag)
 all_carried g v tag (c ∷ cs) h =
-    All-cons (Uttered g v tag) (carried c) (map carried cs)
-    (says_carried g.other g.own (view_of g.beside) v g.other_asked tag c (All-head (Uttered g v tag) c cs h))
-    (all_carried g v tag cs (All-tail (Uttered g v tag) c cs h))
+    All-cons (OtherSays g v tag) (carried c) (map carried cs)
+    (says_carried g.other g.own (view_of g.beside) v g.other_asked tag c (All-head (OtherSays g v tag) c cs h))
+    (all_carried g v tag cs (All-tail (OtherSays g v tag) c cs h))
 
 is_zero : (n : ℕ) → n ≡ 0 → (n == 0) ≡ true
 is_zero n e = grind (arith, nat_tests, e)
@@ -176,21 +176,21 @@ module _ (o q : Options) (x y : Side) (own : AreValidOptions o) (other : AreVali
     abbrev pub asked : Bool
     asked = x.got_init || (p.header.verification_tag == 0)
 
-    same_packet : (tag : ℕ) (chunk : ChunkTree) (h : IsReceived (Packet (as_received p checksum)) tag chunk) → as_received p checksum ≡ h.packet
+    same_packet : (tag : ℕ) (chunk : ChunkTree) (h : BringsChunk (ReceivePacket (as_received p checksum)) tag chunk) → as_received p checksum ≡ h.packet
     same_packet tag chunk h = ap (λ (c : Call). packet_of c (as_received p checksum)) h.given
 
-    says_given : (tag : ℕ) (chunk : ChunkTree) (h : IsReceived (Packet (as_received p checksum)) tag chunk) (v : View)
-        → All (UtteredAll (setting o q x y asked) v) (emitted_packets y) → Uttered (setting o q x y asked) v tag chunk
+    says_given : (tag : ℕ) (chunk : ChunkTree) (h : BringsChunk (ReceivePacket (as_received p checksum)) tag chunk) (v : View)
+        → All (OtherSaysAll (setting o q x y asked) v) (emitted_packets y) → OtherSays (setting o q x y asked) v tag chunk
     says_given tag chunk h v all =
         let g : Setting = setting o q x y asked in
-        let here : All (Uttered g v p.header.verification_tag) (map carried p.chunks) =
-        all_carried g v p.header.verification_tag p.chunks (all_get (UtteredAll g v) (emitted_packets y) n p there all) in
-        let that : All (Uttered g v h.packet.header.verification_tag) h.packet.chunks =
-        subst (λ (z : PacketTree). All (Uttered g v z.header.verification_tag) z.chunks) (same_packet tag chunk h) here in
-        let those : All (Uttered g v tag) h.packet.chunks = subst (λ (z : ℕ). All (Uttered g v z) h.packet.chunks) h.under that in
-        all_at (Uttered g v tag) h.among.before h.among.behind chunk (subst (All (Uttered g v tag)) h.among.split those)
+        let here : All (OtherSays g v p.header.verification_tag) (map carried p.chunks) =
+        all_carried g v p.header.verification_tag p.chunks (all_get (OtherSaysAll g v) (emitted_packets y) n p there all) in
+        let that : All (OtherSays g v h.packet.header.verification_tag) h.packet.chunks =
+        subst (λ (z : PacketTree). All (OtherSays g v z.header.verification_tag) z.chunks) (same_packet tag chunk h) here in
+        let those : All (OtherSays g v tag) h.packet.chunks = subst (λ (z : ℕ). All (OtherSays g v z) h.packet.chunks) h.under that in
+        all_at (OtherSays g v tag) h.among.before h.among.behind chunk (subst (All (OtherSays g v tag)) h.among.split those)
 
-    pub rules_given : Rules (setting o q x y asked) (Packet (as_received p checksum))
+    pub rules_given : Rules (setting o q x y asked) (ReceivePacket (as_received p checksum))
     rules_given = record {
       says = says_given;
       asks = λ tag chunk h e. or_right x.got_init (p.header.verification_tag == 0)
@@ -229,41 +229,41 @@ module _ (o q : Options) (x y : Side) (own : AreValidOptions o) (other : AreVali
       (until_end call (joins g call (rules_call o q x y own other call may)) x.end (none_of x.emitted e.endpoint_state.context.emitted.events none)
       (begins o q x y x.got_init (λ z. z) h.own h.other))
 
-  pub actions_given : (p : Option Carried) (checksum n : ℕ) → slice_get (emitted_packets y) n ≡ p → endings (give p checksum x).emitted ≡ 0
-      → Halves o q (give p checksum x) y
+  pub actions_given : (p : Option Carried) (checksum n : ℕ) → slice_get (emitted_packets y) n ≡ p → endings (give_carried p checksum x).emitted ≡ 0
+      → Halves o q (give_carried p checksum x) y
   actions_given None checksum n there none = h
   actions_given (Some p) checksum n there none =
       let now : Bool = x.got_init || (p.header.verification_tag == 0) in
       let g : Setting = setting o q x y now in
-      let call : Call = Packet (as_received p checksum) in
+      let call : Call = ReceivePacket (as_received p checksum) in
       let e : Endpoint Carried = called call x.end in
       ends_action now e
       (until_end call (joins g call (rules_given o q x y own other p checksum n there)) x.end (none_of x.emitted e.endpoint_state.context.emitted.events none)
       (begins o q x y now (or_left x.got_init (p.header.verification_tag == 0)) h.own h.other))
 
-  pub actions_refused : (r : Option (List ℕ)) (p : PacketTree) → refusal p.header.verification_tag p.chunks (state_of x) ≡ r → Halves o q (foreign_if r p x) y
+  pub actions_refused : (r : Option (List ℕ)) (p : PacketTree) → packet_refusal p.header.verification_tag p.chunks (state_of x) ≡ r → Halves o q (foreign_if r p x) y
   actions_refused None p is = h
   actions_refused (Some text) p is =
       let g : Setting = setting o q x y x.got_init in
       let s : Endpoint Carried = x.end in
-      let same : called (Packet p) s ≡ complains text (counts s) =
-      ap (λ (r : Option (List ℕ)). taken_if r p.header.verification_tag p.chunks (counts s)) is in
+      let same : called (ReceivePacket p) s ≡ emit_parse_error text (count_packet_at s) =
+      ap (λ (r : Option (List ℕ)). packet_if r p.header.verification_tag p.chunks (count_packet_at s)) is in
       let inv : InvAt g (calm s) = begins o q x y x.got_init (λ z. z) h.own h.other in
-      let there : InvAt g (calm (complains text (counts s))) =
-      inv_light g (seen x) s.endpoint_state.context.options s.endpoint_state.context.pack s.endpoint_state.context.emitted.events nothing.tag [] inv (OnError ParseFailed text ∷ [])
+      let there : InvAt g (calm (emit_parse_error text (count_packet_at s))) =
+      inv_no_packet_or_status g (seen x) s.endpoint_state.context.options s.endpoint_state.context.pack s.endpoint_state.context.emitted.events no_packet.tag [] inv (OnError ParseFailed text ∷ [])
       (s.endpoint_state.context.emitted.events ++ OnError ParseFailed text ∷ []) refl refl in
-      ends_action x.got_init (called (Packet p) s) (subst (λ (e : Endpoint Carried). InvAt g (calm e)) (sym same) there)
+      ends_action x.got_init (called (ReceivePacket p) s) (subst (λ (e : Endpoint Carried). InvAt g (calm e)) (sym same) there)
 
   pub actions : (t : EndAction) → MayAct t x → endings (act t x y).emitted ≡ 0 → Halves o q (act t x y) y
   actions (Calls call) may none = actions_call call may none
   actions (Gives which checksum) may none = actions_given (slice_get (emitted_packets y) which) checksum which refl none
-  actions (Refuses p) may none = actions_refused (refusal p.header.verification_tag p.chunks (state_of x)) p refl
+  actions (Refuses p) may none = actions_refused (packet_refusal p.header.verification_tag p.chunks (state_of x)) p refl
 
 -- ---- traces
 
 -- what was emitted before stands
 module _ (x y : Side) where
-  before_given : (p : Option Carried) (checksum : ℕ) → endings (give p checksum x).emitted ≡ 0 → endings x.emitted ≡ 0
+  before_given : (p : Option Carried) (checksum : ℕ) → endings (give_carried p checksum x).emitted ≡ 0 → endings x.emitted ≡ 0
   before_given None checksum none = none
   before_given (Some p) checksum none = none_past x.emitted _ none
 
@@ -274,24 +274,24 @@ module _ (x y : Side) where
   pub before_action : (t : EndAction) → endings (act t x y).emitted ≡ 0 → endings x.emitted ≡ 0
   before_action (Calls call) none = none_past x.emitted _ none
   before_action (Gives which checksum) none = before_given (slice_get (emitted_packets y) which) checksum none
-  before_action (Refuses p) none = before_foreign (refusal p.header.verification_tag p.chunks (state_of x)) p none
+  before_action (Refuses p) none = before_foreign (packet_refusal p.header.verification_tag p.chunks (state_of x)) p none
 
-pub before_goes : (at_a : Bool) (t : EndAction) (w : Pair) → NeitherHasEnded (goes at_a t w) → NeitherHasEnded w
+pub before_goes : (at_a : Bool) (t : EndAction) (w : Pair) → NoAssociationHasEnded (goes at_a t w) → NoAssociationHasEnded w
 before_goes true t w h = record { a = before_action w.a w.b t h.a; b = h.b }
 before_goes false t w h = record { a = h.a; b = before_action w.b w.a t h.b }
 
-pub before_run : (es : List (Bool × EndAction)) (w : Pair) → NeitherHasEnded (run es w) → NeitherHasEnded w
+pub before_run : (es : List (Bool × EndAction)) (w : Pair) → NoAssociationHasEnded (run es w) → NoAssociationHasEnded w
 before_run [] w h = h
 before_run (e ∷ es) w h = before_goes e.0 e.1 w (before_run es (goes e.0 e.1 w) h)
 
 module _ (o q : Options) (own : AreValidOptions o) (other : AreValidOptions q) where
-  pub goes_consistent : (at_a : Bool) (t : EndAction) (w : Pair) → MayAct t (side_of at_a w) → NeitherHasEnded (goes at_a t w) → Halves o q w.a w.b
+  pub goes_consistent : (at_a : Bool) (t : EndAction) (w : Pair) → MayAct t (side_of at_a w) → NoAssociationHasEnded (goes at_a t w) → Halves o q w.a w.b
       → Halves o q (goes at_a t w).a (goes at_a t w).b
   goes_consistent true t w may none h = actions o q w.a w.b own other h t may none.a
   goes_consistent false t w may none h =
       swapped q o (act t w.b w.a) w.a (actions q o w.b w.a other own (swapped o q w.a w.b h) t may none.b)
 
-  pub run_consistent : (es : List (Bool × EndAction)) (w : Pair) → KeepsOpeningRules es w → NeitherHasEnded (run es w) → Halves o q w.a w.b
+  pub run_consistent : (es : List (Bool × EndAction)) (w : Pair) → KeepsRules es w → NoAssociationHasEnded (run es w) → Halves o q w.a w.b
       → Halves o q (run es w).a (run es w).b
   run_consistent [] w follows none h = h
   run_consistent (e ∷ es) w follows none h =
@@ -339,21 +339,21 @@ consistent_of a b w h = record {
   counts = agreed_exchanged a b;
 }
 
-pub ends_consistent : (a b : Options) (words_a words_b : Stream) (es : List (Bool × EndAction)) → AreValidOptions a → AreValidOptions b
-    → KeepsOpeningRules es (start a b words_a words_b) → NeitherHasEnded (run es (start a b words_a words_b)) → AreConsistent a b (run es (start a b words_a words_b))
-ends_consistent a b words_a words_b es own other follows none =
-    let w : Pair = start a b words_a words_b in
-    consistent_of a b (run es w) (run_consistent a b own other es w follows none (record { own = first_half a b words_a words_b; other = first_half b a words_b words_a }))
+pub ends_consistent : (a b : Options) (draws_a draws_b : Stream) (es : List (Bool × EndAction)) → AreValidOptions a → AreValidOptions b
+    → KeepsRules es (start a b draws_a draws_b) → NoAssociationHasEnded (run es (start a b draws_a draws_b)) → AreConsistent a b (run es (start a b draws_a draws_b))
+ends_consistent a b draws_a draws_b es own other follows none =
+    let w : Pair = start a b draws_a draws_b in
+    consistent_of a b (run es w) (run_consistent a b own other es w follows none (record { own = first_half a b draws_a draws_b; other = first_half b a draws_b draws_a }))
 
 pub run_both : (es fs : List (Bool × EndAction)) (c : Pair) → run (es ++ fs) c ≡ run fs (run es c)
 run_both [] fs c = refl
 run_both (e ∷ es) fs c = run_both es fs (goes e.0 e.1 c)
 
-pub follows_more : (es : List (Bool × EndAction)) (e : Bool × EndAction) (c : Pair) → KeepsOpeningRules es c → MayAct e.1 (side_of e.0 (run es c))
-    → KeepsOpeningRules (es ++ e ∷ []) c
+pub follows_more : (es : List (Bool × EndAction)) (e : Bool × EndAction) (c : Pair) → KeepsRules es c → MayAct e.1 (side_of e.0 (run es c))
+    → KeepsRules (es ++ e ∷ []) c
 follows_more [] e c h may = (may, tt)
 follows_more (d ∷ es) e c h may = (h.0, follows_more es e (goes d.0 d.1 c) h.1 may)
 
-pub follows_front : (es fs : List (Bool × EndAction)) (w : Pair) → KeepsOpeningRules (es ++ fs) w → KeepsOpeningRules es w
+pub follows_front : (es fs : List (Bool × EndAction)) (w : Pair) → KeepsRules (es ++ fs) w → KeepsRules es w
 follows_front [] fs w h = tt
 follows_front (e ∷ es) fs w h = (h.0, follows_front es fs (goes e.0 e.1 w) h.1)

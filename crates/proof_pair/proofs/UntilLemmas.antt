@@ -9,74 +9,74 @@ use Rattle.spec_endpoint.specs.ResetRequests.{Outcome, Unsettled, Done, Denied, 
 use Rattle.spec_endpoint.specs.Packets.{room}
 use Rattle.spec_endpoint.specs.StreamReset.{on_outcome}
 use Rattle.spec_endpoint.specs.Laws.{Call, called, ending, endings}
-use Rattle.proof_endpoint.specs.Acts.{EndWithPacket, calm, PacketAct, begins, adds_plain, emits, complains, counts, before_packets, after_packets, OpeningAct, connects, adds_init, answers_new, answers_waiting, answers_echoed, answers_again, echoes, adds_cookie, establishes, opens, restarts, opens_again, maintains, adds_cookie_ack, before_opening, after_opening, ClosingAct, closes, shuts, shuts_on, before_closing, after_closing, DataAct, takes_data, takes_idata, takes_forward, takes_iforward, before_data, after_data, SackAct, takes_sack, samples, counts_errors, point_of, before_sack, after_sack, SendingAct, asks, adds_ack, expires, adds_forward, forwards_later, asks_no_reset, asks_reset, adds_request, sends, sends_fast, before_sending, after_sending, TimeAct, advances, delay_ends, times_out, beats, times_init, times_cookie, times_request, wakes_request, before_time, after_time, CallAct, accepts, refuses, takes_message, sets_low_threshold, sets_priority, sets_max_message_size, before_call, after_call, ResetAct, prepares, defers, performs, processes, takes_response, adds_responses, before_reset, after_reset, HandoverAct, leaves, takes_up, before_handover, after_handover, InputAct, ends_packet, before_input, after_input, Preserves, HasNoEnd, PreservesUntilEnd}
-use Rattle.proof_pair.proofs.EmittedLemmas.{is_light, EmitsLightly, emits_same, emits_all, emits_nack_all, emits_expired, emits_sack, emits_threshold, emits_sent, emits_prepared, emits_refused}
+use Rattle.proof_endpoint.specs.Acts.{EndWithPacket, calm, PacketAct, begins, adds_plain, emits, emits_error, counts, before_packets, after_packets, OpeningAct, connects, adds_init, answers_new, answers_waiting, answers_echoed, answers_again, echoes, adds_cookie, establishes, opens, restarts, opens_again, maintains, adds_cookie_ack, before_opening, after_opening, ClosingAct, closes, shuts, shuts_on, before_closing, after_closing, DataAct, takes_data, takes_idata, takes_forward, takes_iforward, before_data, after_data, SackAct, takes_sack, samples, counts_errors, point_of, before_sack, after_sack, SendingAct, asks, adds_ack, expires, adds_forward, forwards_later, asks_no_reset, asks_reset, adds_request, sends, sends_fast, before_sending, after_sending, TimeAct, advances, delay_ends, times_out, beats, times_init, times_cookie, times_request, wakes_request, before_time, after_time, CallAct, accepts, refuses, takes_message, sets_low_threshold, sets_priority, sets_max_message_size, before_call, after_call, ResetAct, prepares, defers, performs, processes, takes_response, adds_responses, before_reset, after_reset, HandoverAct, leaves, takes_up, before_handover, after_handover, InputAct, ends_packet, before_input, after_input, Preserves, HasNoEnd, PreservesUntilEnd}
+use Rattle.proof_pair.proofs.EmittedLemmas.{is_no_packet_or_status, EmitsNoPacketOrStatus, emits_same, emits_all, emits_nack_all, emits_expired, emits_sack, emits_threshold, emits_sent, emits_prepared, emits_refused}
 use Rattle.proof_endpoint.proofs.ActsLemmas.{keeps_call}
 use Rattle.proof_endpoint.proofs.EmitsLemmas.{endings_append}
 
 -- ---- acts that emit nothing of how the association stands
 
-abbrev pub Light : {P : Type 0} → (before after : EndWithPacket P) → Type 0
-Light a b = EmitsLightly a.context.emitted b.context.emitted
+abbrev pub ActEmitsNoPacketOrStatus : {P : Type 0} → (before after : EndWithPacket P) → Type 0
+ActEmitsNoPacketOrStatus a b = EmitsNoPacketOrStatus a.context.emitted b.context.emitted
 
-light_outcome : {P : Type 0} (o : Outcome) (c : Context P) → EmitsLightly c.emitted (on_outcome o c).emitted
-light_outcome Unsettled c = emits_same c.emitted
-light_outcome (Done streams) c = emits_all (OnStreamsResetPerformed streams ∷ []) c.emitted refl
-light_outcome (Denied streams) c = emits_all (OnStreamsResetFailed streams ∷ []) c.emitted refl
+outcome_emits_no_packet_or_status : {P : Type 0} (o : Outcome) (c : Context P) → EmitsNoPacketOrStatus c.emitted (on_outcome o c).emitted
+outcome_emits_no_packet_or_status Unsettled c = emits_same c.emitted
+outcome_emits_no_packet_or_status (Done streams) c = emits_all (OnStreamsResetPerformed streams ∷ []) c.emitted refl
+outcome_emits_no_packet_or_status (Denied streams) c = emits_all (OnStreamsResetFailed streams ∷ []) c.emitted refl
 
 module _ {P : Type 0} {call : Call} where
-  pub light_data : (act : DataAct P call) → Light (before_data act) (after_data act)
-  light_data (takes_data tag tsn is_immediate f phase t m received right some is) = emits_same m.context.emitted
-  light_data (takes_idata tag tsn is_immediate f phase t m received right some is) = emits_same m.context.emitted
-  light_data (takes_forward tag tsn skipped phase t m received right valid) = emits_same m.context.emitted
-  light_data (takes_iforward tag tsn skipped phase t m received right valid) = emits_same m.context.emitted
+  pub data_act_emits_no_packet_or_status : (act : DataAct P call) → ActEmitsNoPacketOrStatus (before_data act) (after_data act)
+  data_act_emits_no_packet_or_status (takes_data tag tsn is_immediate f phase t m received right some is) = emits_same m.context.emitted
+  data_act_emits_no_packet_or_status (takes_idata tag tsn is_immediate f phase t m received right some is) = emits_same m.context.emitted
+  data_act_emits_no_packet_or_status (takes_forward tag tsn skipped phase t m received right valid) = emits_same m.context.emitted
+  data_act_emits_no_packet_or_status (takes_iforward tag tsn skipped phase t m received right valid) = emits_same m.context.emitted
 
-  pub light_sack : (act : SackAct P call) → Light (before_sack act) (after_sack act)
-  light_sack (takes_sack tag k phase t m received valid) = emits_sack true (point_of k t) (clean_blocks k.gap_ack_blocks) t.sender m.context.emitted
-  light_sack (samples r phase t m) = emits_same m.context.emitted
-  light_sack (counts_errors e m) = emits_same m.context.emitted
+  pub sack_act_emits_no_packet_or_status : (act : SackAct P call) → ActEmitsNoPacketOrStatus (before_sack act) (after_sack act)
+  sack_act_emits_no_packet_or_status (takes_sack tag k phase t m received valid) = emits_sack true (point_of k t) (clean_blocks k.gap_ack_blocks) t.sender m.context.emitted
+  sack_act_emits_no_packet_or_status (samples r phase t m) = emits_same m.context.emitted
+  sack_act_emits_no_packet_or_status (counts_errors e m) = emits_same m.context.emitted
 
-  pub light_sending : (act : SendingAct P call) → Light (before_sending act) (after_sending act)
-  light_sending (expires phase t m) = emits_expired m.context.now t.sender.outstanding.items m.context.emitted
-  light_sending (sends phase t m) = emits_sent m.context.now (room m.packet) t.sender m.context.queue m.context.emitted
-  light_sending (asks also_if_delayed phase t m) = emits_same m.context.emitted
-  light_sending (adds_ack phase t m) = emits_same m.context.emitted
-  light_sending (adds_forward phase t m due) = emits_same m.context.emitted
-  light_sending (forwards_later n m) = emits_same m.context.emitted
-  light_sending (asks_no_reset most m none) = emits_same m.context.emitted
-  light_sending (asks_reset most stream streams phase t m some free) = emits_same m.context.emitted
-  light_sending (adds_request r phase t m is) = emits_same m.context.emitted
-  light_sending (sends_fast phase t m some) = emits_same m.context.emitted
+  pub sending_act_emits_no_packet_or_status : (act : SendingAct P call) → ActEmitsNoPacketOrStatus (before_sending act) (after_sending act)
+  sending_act_emits_no_packet_or_status (expires phase t m) = emits_expired m.context.now t.sender.outstanding.items m.context.emitted
+  sending_act_emits_no_packet_or_status (sends phase t m) = emits_sent m.context.now (room m.packet) t.sender m.context.queue m.context.emitted
+  sending_act_emits_no_packet_or_status (asks also_if_delayed phase t m) = emits_same m.context.emitted
+  sending_act_emits_no_packet_or_status (adds_ack phase t m) = emits_same m.context.emitted
+  sending_act_emits_no_packet_or_status (adds_forward phase t m due) = emits_same m.context.emitted
+  sending_act_emits_no_packet_or_status (forwards_later n m) = emits_same m.context.emitted
+  sending_act_emits_no_packet_or_status (asks_no_reset most m none) = emits_same m.context.emitted
+  sending_act_emits_no_packet_or_status (asks_reset most stream streams phase t m some free) = emits_same m.context.emitted
+  sending_act_emits_no_packet_or_status (adds_request r phase t m is) = emits_same m.context.emitted
+  sending_act_emits_no_packet_or_status (sends_fast phase t m some) = emits_same m.context.emitted
 
-  pub light_time : (act : TimeAct P call) → Light (before_time act) (after_time act)
-  light_time (times_out phase t m due) = emits_nack_all t.sender.outstanding.items m.context.emitted
-  light_time (advances now m is on) = emits_same m.context.emitted
-  light_time (delay_ends phase t m) = emits_same m.context.emitted
-  light_time (beats h m) = emits_same m.context.emitted
-  light_time (times_init tag first old new m) = emits_same m.context.emitted
-  light_time (times_cookie old new cookie t m) = emits_same m.context.emitted
-  light_time (times_request timer phase t m) = emits_same m.context.emitted
-  light_time (wakes_request phase t m) = emits_same m.context.emitted
+  pub time_act_emits_no_packet_or_status : (act : TimeAct P call) → ActEmitsNoPacketOrStatus (before_time act) (after_time act)
+  time_act_emits_no_packet_or_status (times_out phase t m due) = emits_nack_all t.sender.outstanding.items m.context.emitted
+  time_act_emits_no_packet_or_status (advances now m is on) = emits_same m.context.emitted
+  time_act_emits_no_packet_or_status (delay_ends phase t m) = emits_same m.context.emitted
+  time_act_emits_no_packet_or_status (beats h m) = emits_same m.context.emitted
+  time_act_emits_no_packet_or_status (times_init tag first old new m) = emits_same m.context.emitted
+  time_act_emits_no_packet_or_status (times_cookie old new cookie t m) = emits_same m.context.emitted
+  time_act_emits_no_packet_or_status (times_request timer phase t m) = emits_same m.context.emitted
+  time_act_emits_no_packet_or_status (wakes_request phase t m) = emits_same m.context.emitted
 
-  pub light_call : (act : CallAct P call) → Light (before_call act) (after_call act)
-  light_call (accepts message o m offered fine) = emits_same m.context.emitted
-  light_call (refuses message o e m offered is) = emits_refused e o.lifecycle_id m.context.emitted
-  light_call (takes_message phase t m is) = emits_same m.context.emitted
-  light_call (sets_low_threshold stream bytes m is) = emits_threshold stream bytes m.context.queue m.context.emitted
-  light_call (sets_priority stream priority m is) = emits_same m.context.emitted
-  light_call (sets_max_message_size bytes m is) = emits_same m.context.emitted
+  pub call_act_emits_no_packet_or_status : (act : CallAct P call) → ActEmitsNoPacketOrStatus (before_call act) (after_call act)
+  call_act_emits_no_packet_or_status (accepts message o m offered fine) = emits_same m.context.emitted
+  call_act_emits_no_packet_or_status (refuses message o e m offered is) = emits_refused e o.lifecycle_id m.context.emitted
+  call_act_emits_no_packet_or_status (takes_message phase t m is) = emits_same m.context.emitted
+  call_act_emits_no_packet_or_status (sets_low_threshold stream bytes m is) = emits_threshold stream bytes m.context.queue m.context.emitted
+  call_act_emits_no_packet_or_status (sets_priority stream priority m is) = emits_same m.context.emitted
+  call_act_emits_no_packet_or_status (sets_max_message_size bytes m is) = emits_same m.context.emitted
 
-  pub light_reset : (act : ResetAct P call) → Light (before_reset act) (after_reset act)
-  light_reset (prepares stream phase t m asked can) = emits_prepared stream m.context.queue m.context.emitted
-  light_reset (performs number response last_tsn streams phase t m asked known there) =
+  pub reset_act_emits_no_packet_or_status : (act : ResetAct P call) → ActEmitsNoPacketOrStatus (before_reset act) (after_reset act)
+  reset_act_emits_no_packet_or_status (prepares stream phase t m asked can) = emits_prepared stream m.context.queue m.context.emitted
+  reset_act_emits_no_packet_or_status (performs number response last_tsn streams phase t m asked known there) =
       emits_all (OnIncomingStreamReset (numbers_of streams) ∷ []) m.context.emitted refl
-  light_reset (takes_response rto number result sender receiver phase t m asked) = light_outcome (outcome number result t.requests.current) m.context
-  light_reset (defers number response last_tsn streams phase t m asked known ahead) = emits_same m.context.emitted
-  light_reset (processes number streams phase t m asked known) = emits_same m.context.emitted
-  light_reset (adds_responses responses phase t m are answers) = emits_same m.context.emitted
+  reset_act_emits_no_packet_or_status (takes_response rto number result sender receiver phase t m asked) = outcome_emits_no_packet_or_status (outcome number result t.requests.current) m.context
+  reset_act_emits_no_packet_or_status (defers number response last_tsn streams phase t m asked known ahead) = emits_same m.context.emitted
+  reset_act_emits_no_packet_or_status (processes number streams phase t m asked known) = emits_same m.context.emitted
+  reset_act_emits_no_packet_or_status (adds_responses responses phase t m are answers) = emits_same m.context.emitted
 
-  pub light_input : (act : InputAct P call) → Light (before_input act) (after_input act)
-  light_input (ends_packet phase t m) = emits_same m.context.emitted
+  pub input_act_emits_no_packet_or_status : (act : InputAct P call) → ActEmitsNoPacketOrStatus (before_input act) (after_input act)
+  input_act_emits_no_packet_or_status (ends_packet phase t m) = emits_same m.context.emitted
 
 -- ---- what was emitted stands
 
@@ -85,8 +85,8 @@ pub record Grows {P : Type 0} (before after : EndWithPacket P) : Type 0 where
   pub behind : after.context.emitted.events ≡ before.context.emitted.events ++ events
 
 module _ {P : Type 0} where
-  pub grows_light : (a b : EndWithPacket P) → Light a b → Grows a b
-  grows_light a b h = record { events = h.events; behind = h.behind }
+  pub grows_if_no_packet_or_status : (a b : EndWithPacket P) → ActEmitsNoPacketOrStatus a b → Grows a b
+  grows_if_no_packet_or_status a b h = record { events = h.events; behind = h.behind }
 
   grows_same : (a b : EndWithPacket P) → b.context.emitted.events ≡ a.context.emitted.events → Grows a b
   grows_same a b e = record { events = []; behind = e ∙ sym (append-nil a.context.emitted.events) }
@@ -105,7 +105,7 @@ module _ {P : Type 0} {call : Call} where
   grows_packets (begins p m new summed to) = grows_same m (after_packets {call = call} (begins p m new summed to)) refl
   grows_packets (adds_plain chunk m plain others fair) = grows_same m (after_packets {call = call} (adds_plain chunk m plain others fair)) refl
   grows_packets (emits m some bundled) = grows_one _ m (after_packets {call = call} (emits m some bundled)) refl
-  grows_packets (complains kind text m) = grows_one (OnError kind text) m (after_packets {call = call} (complains kind text m)) refl
+  grows_packets (emits_error kind text m) = grows_one (OnError kind text) m (after_packets {call = call} (emits_error kind text m)) refl
   grows_packets (counts m) = grows_same m (after_packets {call = call} (counts m)) refl
 
   grows_opening : (act : OpeningAct P call) → Grows (before_opening act) (after_opening act)
@@ -119,12 +119,12 @@ module _ {P : Type 0} {call : Call} where
   grows_opening (adds_cookie t1 cookie t m to) = record { events = []; behind = sym (append-nil m.context.emitted.events) }
   grows_opening (establishes tag t1 cookie t m received) = record { events = OnConnected ∷ []; behind = refl }
   grows_opening (opens tag k m echoed none own) = record { events = OnConnected ∷ []; behind = refl }
-  grows_opening (restarts tag k phase t m echoed verdict) = record {
+  grows_opening (restarts tag k phase t m echoed resolution) = record {
     events = OnConnectionRestarted ∷ OnConnected ∷ [];
     behind = append_assoc m.context.emitted.events (OnConnectionRestarted ∷ []) (OnConnected ∷ []);
   }
-  grows_opening (opens_again tag k phase t m echoed verdict) = record { events = OnConnected ∷ []; behind = refl }
-  grows_opening (maintains tag k t1 cookie t m echoed verdict) = record { events = OnConnected ∷ []; behind = refl }
+  grows_opening (opens_again tag k phase t m echoed resolution) = record { events = OnConnected ∷ []; behind = refl }
+  grows_opening (maintains tag k t1 cookie t m echoed resolution) = record { events = OnConnected ∷ []; behind = refl }
   grows_opening (adds_cookie_ack tag back phase t m echoed late) = record { events = []; behind = sym (append-nil m.context.emitted.events) }
 
   grows_closing : (act : ClosingAct P call) → Grows (before_closing act) (after_closing act)
@@ -162,14 +162,14 @@ module _ {P : Type 0} where
       packets = λ act. (grows_packets act, k.packets act);
       opening = λ act. (grows_opening act, k.opening act);
       closing = λ act. (grows_closing act, k.closing act);
-      data_acts = λ act. (grows_light (before_data act) (after_data act) (light_data act), k.data_acts act);
-      acknowledging = λ act. (grows_light (before_sack act) (after_sack act) (light_sack act), k.acknowledging act);
-      sending = λ act. (grows_light (before_sending act) (after_sending act) (light_sending act), k.sending act);
-      time = λ act. (grows_light (before_time act) (after_time act) (light_time act), k.time act);
-      calls = λ act. (grows_light (before_call act) (after_call act) (light_call act), k.calls act);
-      resets = λ act. (grows_light (before_reset act) (after_reset act) (light_reset act), k.resets act);
+      data_acts = λ act. (grows_if_no_packet_or_status (before_data act) (after_data act) (data_act_emits_no_packet_or_status act), k.data_acts act);
+      acknowledging = λ act. (grows_if_no_packet_or_status (before_sack act) (after_sack act) (sack_act_emits_no_packet_or_status act), k.acknowledging act);
+      sending = λ act. (grows_if_no_packet_or_status (before_sending act) (after_sending act) (sending_act_emits_no_packet_or_status act), k.sending act);
+      time = λ act. (grows_if_no_packet_or_status (before_time act) (after_time act) (time_act_emits_no_packet_or_status act), k.time act);
+      calls = λ act. (grows_if_no_packet_or_status (before_call act) (after_call act) (call_act_emits_no_packet_or_status act), k.calls act);
+      resets = λ act. (grows_if_no_packet_or_status (before_reset act) (after_reset act) (reset_act_emits_no_packet_or_status act), k.resets act);
       handover = λ act. (grows_handover act, k.handover act);
-      input = λ act. (grows_light (before_input act) (after_input act) (light_input act), k.input act);
+      input = λ act. (grows_if_no_packet_or_status (before_input act) (after_input act) (input_act_emits_no_packet_or_status act), k.input act);
     }
 
 -- What each act preserves as long as no association has ended, each call preserves that emits no end.
@@ -193,11 +193,11 @@ pub record FirstEnd {P : Type 0} (R : EndWithPacket P → EndWithPacket P → Ty
 abbrev pub ToFirstEnd : {P : Type 0} → (EndWithPacket P → EndWithPacket P → Type 0) → EndWithPacket P → EndWithPacket P → Type 0
 ToFirstEnd R a b = (HasNoEnd b × R a b) ⊎ FirstEnd R a b
 
-light_ends : {P : Type 0} (es : List (Event P)) → list_all is_light es ≡ true → endings es ≡ 0
-light_ends [] h = refl
-light_ends (e ∷ es) h = let parts = and_parts (is_light e) (list_all is_light es) h in omega (arith, one e parts.0, light_ends es parts.1)
+no_packet_or_status_has_no_end : {P : Type 0} (es : List (Event P)) → list_all is_no_packet_or_status es ≡ true → endings es ≡ 0
+no_packet_or_status_has_no_end [] h = refl
+no_packet_or_status_has_no_end (e ∷ es) h = let parts = and_parts (is_no_packet_or_status e) (list_all is_no_packet_or_status es) h in omega (arith, one e parts.0, no_packet_or_status_has_no_end es parts.1)
   where
-    one : {P : Type 0} (e : Event P) → is_light e ≡ true → ending e ≡ 0
+    one : {P : Type 0} (e : Event P) → is_no_packet_or_status e ≡ true → ending e ≡ 0
     one OnClosed h = cc
     one (OnAborted kind text) h = cc
     one e h = refl
@@ -210,8 +210,8 @@ module _ {P : Type 0} {call : Call} {R : EndWithPacket P → EndWithPacket P →
   still : (a b : EndWithPacket P) (es : List (Event P)) → b.context.emitted.events ≡ a.context.emitted.events ++ es → endings es ≡ 0 → (HasNoEnd b → R a b) → First a b
   still a b es e none f h = let n : HasNoEnd b = omega (arith, ap endings e, endings_append a.context.emitted.events es, none, h) in inl (n, f n)
 
-  lightly : (a b : EndWithPacket P) → Light a b → (HasNoEnd b → R a b) → First a b
-  lightly a b l f = still a b l.events l.behind (light_ends l.events l.all) f
+  first_if_no_packet_or_status : (a b : EndWithPacket P) → ActEmitsNoPacketOrStatus a b → (HasNoEnd b → R a b) → First a b
+  first_if_no_packet_or_status a b l f = still a b l.events l.behind (no_packet_or_status_has_no_end l.events l.all) f
 
   first_through : (a b c : EndWithPacket P) → Grows b c → First a b → First b c → First a c
   first_through a b c grows f h none = go (f none)
@@ -244,7 +244,7 @@ module _ {P : Type 0} {call : Call} {R : EndWithPacket P → EndWithPacket P →
       quiet (begins p m new summed to) = refl
       quiet (adds_plain chunk m plain others fair) = refl
       quiet (emits m some bundled) = refl
-      quiet (complains kind text m) = refl
+      quiet (emits_error kind text m) = refl
       quiet (counts m) = refl
 
   first_opening : (act : OpeningAct P call) → First (before_opening act) (after_opening act)
@@ -262,9 +262,9 @@ module _ {P : Type 0} {call : Call} {R : EndWithPacket P → EndWithPacket P →
       quiet (adds_cookie t1 cookie t m to) = refl
       quiet (establishes tag t1 cookie t m received) = refl
       quiet (opens tag c m echoed none own) = refl
-      quiet (restarts tag c phase t m echoed verdict) = refl
-      quiet (opens_again tag c phase t m echoed verdict) = refl
-      quiet (maintains tag c t1 cookie t m echoed verdict) = refl
+      quiet (restarts tag c phase t m echoed resolution) = refl
+      quiet (opens_again tag c phase t m echoed resolution) = refl
+      quiet (maintains tag c t1 cookie t m echoed resolution) = refl
       quiet (adds_cookie_ack tag back phase t m echoed late) = refl
 
   first_closing : (act : ClosingAct P call) → First (before_closing act) (after_closing act)
@@ -288,14 +288,14 @@ module _ {P : Type 0} {call : Call} {R : EndWithPacket P → EndWithPacket P →
     packets = λ act. (grows_packets act, first_packets act);
     opening = λ act. (grows_opening act, first_opening act);
     closing = λ act. (grows_closing act, first_closing act);
-    data_acts = λ act. (grows_light (before_data act) (after_data act) (light_data act), lightly (before_data act) (after_data act) (light_data act) (k.data_acts act));
-    acknowledging = λ act. (grows_light (before_sack act) (after_sack act) (light_sack act), lightly (before_sack act) (after_sack act) (light_sack act) (k.acknowledging act));
-    sending = λ act. (grows_light (before_sending act) (after_sending act) (light_sending act), lightly (before_sending act) (after_sending act) (light_sending act) (k.sending act));
-    time = λ act. (grows_light (before_time act) (after_time act) (light_time act), lightly (before_time act) (after_time act) (light_time act) (k.time act));
-    calls = λ act. (grows_light (before_call act) (after_call act) (light_call act), lightly (before_call act) (after_call act) (light_call act) (k.calls act));
-    resets = λ act. (grows_light (before_reset act) (after_reset act) (light_reset act), lightly (before_reset act) (after_reset act) (light_reset act) (k.resets act));
+    data_acts = λ act. (grows_if_no_packet_or_status (before_data act) (after_data act) (data_act_emits_no_packet_or_status act), first_if_no_packet_or_status (before_data act) (after_data act) (data_act_emits_no_packet_or_status act) (k.data_acts act));
+    acknowledging = λ act. (grows_if_no_packet_or_status (before_sack act) (after_sack act) (sack_act_emits_no_packet_or_status act), first_if_no_packet_or_status (before_sack act) (after_sack act) (sack_act_emits_no_packet_or_status act) (k.acknowledging act));
+    sending = λ act. (grows_if_no_packet_or_status (before_sending act) (after_sending act) (sending_act_emits_no_packet_or_status act), first_if_no_packet_or_status (before_sending act) (after_sending act) (sending_act_emits_no_packet_or_status act) (k.sending act));
+    time = λ act. (grows_if_no_packet_or_status (before_time act) (after_time act) (time_act_emits_no_packet_or_status act), first_if_no_packet_or_status (before_time act) (after_time act) (time_act_emits_no_packet_or_status act) (k.time act));
+    calls = λ act. (grows_if_no_packet_or_status (before_call act) (after_call act) (call_act_emits_no_packet_or_status act), first_if_no_packet_or_status (before_call act) (after_call act) (call_act_emits_no_packet_or_status act) (k.calls act));
+    resets = λ act. (grows_if_no_packet_or_status (before_reset act) (after_reset act) (reset_act_emits_no_packet_or_status act), first_if_no_packet_or_status (before_reset act) (after_reset act) (reset_act_emits_no_packet_or_status act) (k.resets act));
     handover = λ act. (grows_handover act, first_handover act);
-    input = λ act. (grows_light (before_input act) (after_input act) (light_input act), lightly (before_input act) (after_input act) (light_input act) (k.input act));
+    input = λ act. (grows_if_no_packet_or_status (before_input act) (after_input act) (input_act_emits_no_packet_or_status act), first_if_no_packet_or_status (before_input act) (after_input act) (input_act_emits_no_packet_or_status act) (k.input act));
   }
 
 -- What each act preserves as long as no association has ended, each call preserves up to the first end that it emits.

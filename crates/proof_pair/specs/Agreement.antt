@@ -7,8 +7,8 @@ use Rattle.sctp_state.specs.Options.{Options}
 use Rattle.sctp_state.specs.Events.{Event}
 use Rattle.spec_endpoint.specs.Association.{Tcb, Phase, CookieEchoed, Established, ShutdownPending, ShutdownSent, ShutdownReceived, ShutdownAckSent, State, Closed, CookieWait, Open, Endpoint}
 use Rattle.spec_endpoint.specs.Opening.{tsn_from, tag_from, word, drew_word, next_first}
-use Rattle.spec_endpoint.specs.Input.{Received, refusal, counts, on_endpoint_state, repeats_if, has_data, receive}
-use Rattle.spec_endpoint.specs.Laws.{Call, Connect, Restore, Packet}
+use Rattle.spec_endpoint.specs.Input.{AfterChunk, packet_refusal, count_packet_at, in_endpoint_state, repeats_if, has_data_chunk, receive}
+use Rattle.spec_endpoint.specs.Laws.{Call, Connect, Restore, ReceivePacket}
 use Rattle.proof_endpoint.specs.Mapped.{Carried}
 use Rattle.proof_pair.specs.Trace.{Side, Pair, has_connected, emitted_packets, as_received, EndAction, Calls, Gives, Refuses, act, goes, AreValidOptions, start, state_of}
 
@@ -75,22 +75,22 @@ drawn_to_connect Closed e = two_drawn e
 drawn_to_connect s e = []
 
 -- chunk by chunk
-abbrev pub drawn_behind : {P : Type 0} → (Endpoint P → List Draw) → Received P → List Draw
-drawn_behind rest h = elim h.goes_on [ true ↦ rest h.end | false ↦ [] ]
+abbrev pub drawn_behind : {P : Type 0} → (Endpoint P → List Draw) → AfterChunk P → List Draw
+drawn_behind rest h = elim h.allows_next [ true ↦ rest h.end | false ↦ [] ]
 
 abbrev pub drawn_receiving : {P : Type 0} → (tag : ℕ) → List ChunkTree → Endpoint P → List Draw
 drawn_receiving tag [] e = []
 drawn_receiving tag (c ∷ cs) e = drawn_behind (drawn_receiving tag cs) (receive tag c e) ++ drawn_for c e
 
 abbrev pub drawn_taking : {P : Type 0} → Option (List ℕ) → PacketTree → Endpoint P → List Draw
-drawn_taking None p e = drawn_receiving p.header.verification_tag p.chunks (on_endpoint_state (repeats_if (has_data p.chunks)) (counts e))
+drawn_taking None p e = drawn_receiving p.header.verification_tag p.chunks (in_endpoint_state (repeats_if (has_data_chunk p.chunks)) (count_packet_at e))
 drawn_taking (Some text) p e = []
 
 abbrev pub drawn_given : Option Carried → (checksum : ℕ) → Side → List Draw
 drawn_given None checksum x = []
 drawn_given (Some p) checksum x =
     let q : PacketTree = as_received p checksum in
-    drawn_taking (refusal q.header.verification_tag q.chunks (state_of x)) q x.end
+    drawn_taking (packet_refusal q.header.verification_tag q.chunks (state_of x)) q x.end
 
 abbrev pub drawn_in : EndAction → (x y : Side) → List Draw
 drawn_in (Calls Connect) x y = drawn_to_connect (state_of x) x.end
@@ -99,8 +99,8 @@ drawn_in (Gives which checksum) x y = drawn_given (slice_get (emitted_packets y)
 drawn_in (Refuses p) x y = []
 
 -- of one action: what was drawn in it, and what is held after it
-abbrev pub history_by : EndAction → (x y : Side) → History → History
-history_by action x y n = record { drawn = drawn_in action x y ++ n.drawn; held = held_in (state_of (act action x y)) ++ n.held }
+abbrev pub history_after : EndAction → (x y : Side) → History → History
+history_after action x y n = record { drawn = drawn_in action x y ++ n.drawn; held = held_in (state_of (act action x y)) ++ n.held }
 
 -- ---- of both ends, along a trace
 
@@ -115,8 +115,8 @@ abbrev pub no_histories : Histories
 no_histories = record { a = no_history; b = no_history }
 
 abbrev pub histories_after : Bool → EndAction → Pair → Histories → Histories
-histories_after true action w k = record k { a = history_by action w.a w.b k.a }
-histories_after false action w k = record k { b = history_by action w.b w.a k.b }
+histories_after true action w k = record k { a = history_after action w.a w.b k.a }
+histories_after false action w k = record k { b = history_after action w.b w.a k.b }
 
 abbrev pub histories_along : List (Bool × EndAction) → Pair → Histories → Histories
 histories_along [] w k = k
@@ -135,7 +135,7 @@ AreDistinctPerEnd k = AreDistinct k.a.drawn × AreDistinct k.b.drawn
 
 abbrev pub IsPlainCall : Call → Type 0
 IsPlainCall (Restore h) = ⊥
-IsPlainCall (Packet p) = ⊥
+IsPlainCall (ReceivePacket p) = ⊥
 IsPlainCall call = ⊤
 
 abbrev pub IsAllowed : EndAction → Type 0
@@ -168,5 +168,5 @@ AgreesAlong (e ∷ es) w k = AgreesAt e.0 e.1 w k × AgreesAlong es (goes e.0 e.
 -- Along each trace in which no end draws a tag twice.
 abbrev pub EndsAgree : Type 0
 EndsAgree =
-    (a b : Options) (words_a words_b : Stream) (trace : List (Bool × EndAction)) → AreValidOptions a → AreValidOptions b → AreAllowed trace
-    → AreDistinctPerEnd (histories_along trace (start a b words_a words_b) no_histories) → AgreesAlong trace (start a b words_a words_b) no_histories
+    (a b : Options) (draws_a draws_b : Stream) (trace : List (Bool × EndAction)) → AreValidOptions a → AreValidOptions b → AreAllowed trace
+    → AreDistinctPerEnd (histories_along trace (start a b draws_a draws_b) no_histories) → AgreesAlong trace (start a b draws_a draws_b) no_histories

@@ -7,7 +7,7 @@ use Rattle.sctp_rx.specs.Delivery.{Extends}
 use Rattle.spec_endpoint.specs.Shown.{Association, association_in}
 use Rattle.spec_endpoint.specs.Calls.{ready_in}
 use Rattle.spec_endpoint.specs.Laws.{Send, TakeMessage}
-use Rattle.proof_pair.specs.Trace.{Side, Pair, EndAction, Calls, Gives, goes, run, side_of, KeepsOpeningRules, NeitherHasEnded, AreValidOptions, start, state_of}
+use Rattle.proof_pair.specs.Trace.{Side, Pair, EndAction, Calls, Gives, goes, run, side_of, KeepsRules, NoAssociationHasEnded, AreValidOptions, start, state_of}
 use Rattle.proof_pair.specs.Opens.{at_first, one_connects}
 
 abbrev pub ready_at : Side → List Message
@@ -32,47 +32,47 @@ new_behind before after = drop (length before) after
 
 -- ---- traces
 
-abbrev pub handed_messages : (x : Bool) → List (Bool × EndAction) → Pair → List Message
-handed_messages x [] w = []
-handed_messages x (e ∷ es) w = handed_at x e.0 e.1 w ++ handed_messages x es (goes e.0 e.1 w)
+abbrev pub messages_handed_out : (x : Bool) → List (Bool × EndAction) → Pair → List Message
+messages_handed_out x [] w = []
+messages_handed_out x (e ∷ es) w = handed_at x e.0 e.1 w ++ messages_handed_out x es (goes e.0 e.1 w)
 
-abbrev pub readied_messages : (x : Bool) → List (Bool × EndAction) → Pair → List Message
-readied_messages x [] w = []
-readied_messages x (e ∷ es) w = new_behind (ready_at (side_of x w)) (ready_at (side_of x (goes e.0 e.1 w))) ++ readied_messages x es (goes e.0 e.1 w)
+abbrev pub messages_made_ready : (x : Bool) → List (Bool × EndAction) → Pair → List Message
+messages_made_ready x [] w = []
+messages_made_ready x (e ∷ es) w = new_behind (ready_at (side_of x w)) (ready_at (side_of x (goes e.0 e.1 w))) ++ messages_made_ready x es (goes e.0 e.1 w)
 
 -- ---- the laws
 
 -- of one end: what became ready was handed out, or is ready still, in this order
 abbrev pub AreHandedInOrder : (x : Bool) → List (Bool × EndAction) → Pair → Type 0
-AreHandedInOrder x trace w = readied_messages x trace w ≡ handed_messages x trace w ++ ready_at (side_of x (run trace w))
+AreHandedInOrder x trace w = messages_made_ready x trace w ≡ messages_handed_out x trace w ++ ready_at (side_of x (run trace w))
 
 -- Along each trace that follows the rules, until an association first ends.
 abbrev pub MessagesAreHandedInOrder : Type 0
 MessagesAreHandedInOrder =
-    (a b : Options) (words_a words_b : Stream) (trace : List (Bool × EndAction)) → AreValidOptions a → AreValidOptions b
-    → KeepsOpeningRules trace (start a b words_a words_b) → NeitherHasEnded (run trace (start a b words_a words_b)) → (x : Bool)
-    → AreHandedInOrder x trace (start a b words_a words_b)
+    (a b : Options) (draws_a draws_b : Stream) (trace : List (Bool × EndAction)) → AreValidOptions a → AreValidOptions b
+    → KeepsRules trace (start a b draws_a draws_b) → NoAssociationHasEnded (run trace (start a b draws_a draws_b)) → (x : Bool)
+    → AreHandedInOrder x trace (start a b draws_a draws_b)
 
 abbrev pub HandedIsAPrefix : Type 0
 HandedIsAPrefix =
-    (a b : Options) (words_a words_b : Stream) (trace : List (Bool × EndAction)) → AreValidOptions a → AreValidOptions b
-    → KeepsOpeningRules trace (start a b words_a words_b) → NeitherHasEnded (run trace (start a b words_a words_b)) → (x : Bool)
-    → Extends (handed_messages x trace (start a b words_a words_b)) (readied_messages x trace (start a b words_a words_b))
+    (a b : Options) (draws_a draws_b : Stream) (trace : List (Bool × EndAction)) → AreValidOptions a → AreValidOptions b
+    → KeepsRules trace (start a b draws_a draws_b) → NoAssociationHasEnded (run trace (start a b draws_a draws_b)) → (x : Bool)
+    → Extends (messages_handed_out x trace (start a b draws_a draws_b)) (messages_made_ready x trace (start a b draws_a draws_b))
 
 -- as actions follow, of any trace
-abbrev pub ReadiedGrows : Type 0
-ReadiedGrows = (x : Bool) (trace more : List (Bool × EndAction)) (w : Pair) → Extends (readied_messages x trace w) (readied_messages x (trace ++ more) w)
+abbrev pub MadeReadyGrows : Type 0
+MadeReadyGrows = (x : Bool) (trace more : List (Bool × EndAction)) (w : Pair) → Extends (messages_made_ready x trace w) (messages_made_ready x (trace ++ more) w)
 
 abbrev pub HandedGrows : Type 0
-HandedGrows = (x : Bool) (trace more : List (Bool × EndAction)) (w : Pair) → Extends (handed_messages x trace w) (handed_messages x (trace ++ more) w)
+HandedGrows = (x : Bool) (trace more : List (Bool × EndAction)) (w : Pair) → Extends (messages_handed_out x trace w) (messages_handed_out x (trace ++ more) w)
 
 -- and an association that an end holds, it holds from then on: no other takes its place
 abbrev pub AssociationsStand : Type 0
 AssociationsStand =
-    (a b : Options) (words_a words_b : Stream) (trace more : List (Bool × EndAction)) → AreValidOptions a → AreValidOptions b
-    → KeepsOpeningRules (trace ++ more) (start a b words_a words_b) → NeitherHasEnded (run (trace ++ more) (start a b words_a words_b)) → (x : Bool) (p : Association)
-    → association_in (state_of (side_of x (run trace (start a b words_a words_b)))) ≡ Some p
-    → association_in (state_of (side_of x (run (trace ++ more) (start a b words_a words_b)))) ≡ Some p
+    (a b : Options) (draws_a draws_b : Stream) (trace more : List (Bool × EndAction)) → AreValidOptions a → AreValidOptions b
+    → KeepsRules (trace ++ more) (start a b draws_a draws_b) → NoAssociationHasEnded (run (trace ++ more) (start a b draws_a draws_b)) → (x : Bool) (p : Association)
+    → association_in (state_of (side_of x (run trace (start a b draws_a draws_b)))) ≡ Some p
+    → association_in (state_of (side_of x (run (trace ++ more) (start a b draws_a draws_b)))) ≡ Some p
 
 -- ---- such a trace, computed: two messages come, and one is handed out
 
@@ -85,7 +85,7 @@ two_come =
     ++ ((true, Calls (Send (text 97) plainly)) ∷ (true, Calls (Send (text 98) plainly)) ∷ (false, Gives 2 0) ∷ (false, Gives 3 0) ∷ (false, Calls TakeMessage) ∷ [])
 
 pub record OneIsHandedOut : Type 0 where
-  pub follows : KeepsOpeningRules two_come at_first
-  pub not_ended : NeitherHasEnded (run two_come at_first)
-  pub hands : handed_messages false two_come at_first ≡ text 97 ∷ []
-  pub readies : readied_messages false two_come at_first ≡ text 97 ∷ text 98 ∷ []
+  pub follows : KeepsRules two_come at_first
+  pub not_ended : NoAssociationHasEnded (run two_come at_first)
+  pub hands : messages_handed_out false two_come at_first ≡ text 97 ∷ []
+  pub readies : messages_made_ready false two_come at_first ≡ text 97 ∷ text 98 ∷ []

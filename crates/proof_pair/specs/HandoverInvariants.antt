@@ -5,7 +5,7 @@ use Rattle.std.specs.List.Sorted.{IsStrictlySortedBy}
 use Rattle.std.specs.Map.{keys_of}
 use Rattle.std.specs.Ordering.{nat_cmp}
 use Rattle.rand_core.specs.Stream.{Stream as Words}
-use Rattle.sctp_serial.specs.Unwrapped.{words}
+use Rattle.sctp_serial.specs.Unwrapped.{u32_space}
 use Rattle.sctp_packet.specs.Chunk.{ChunkTree, init_ack_chunk, cookie_echo_chunk}
 use Rattle.sctp_packet.specs.Grammar.{Each}
 use Rattle.sctp_state.specs.Events.{Emitted}
@@ -16,8 +16,8 @@ use Rattle.sctp_tx_queue.specs.InOrder.{IsInOrder, HasRests}
 use Rattle.sctp_tx_queue.specs.TakenUp.{is_numbered_as_sent}
 use Rattle.spec_endpoint.specs.Association.{Tcb, State, Closed, CookieWait, Open, Context, Endpoint, fresh, Packing}
 use Rattle.spec_endpoint.specs.Handover.{readiness}
-use Rattle.spec_endpoint.specs.Laws.{Call, Send, SendMany, Restore, Packet, called}
-use Rattle.proof_endpoint.specs.HandoverRoundTrip.{IsConnected, IsNumberedOnce, Fits, endpoint_state, GoesOn}
+use Rattle.spec_endpoint.specs.Laws.{Call, Send, SendMany, Restore, ReceivePacket, called}
+use Rattle.proof_endpoint.specs.HandoverRoundTrip.{IsConnected, IsNumberedOnce, Fits, established_state, GoesOn}
 use Rattle.proof_endpoint.specs.Lifecycles.{is_restore}
 
 -- ---- an end
@@ -25,7 +25,7 @@ use Rattle.proof_endpoint.specs.Lifecycles.{is_restore}
 -- A tag above 0 and a first TSN are drawn for an INIT. A control block is connected as a handover asks, in every state.
 abbrev pub IsAssociated : State → Context (List ℕ) → Type 0
 IsAssociated Closed c = Unit {0}
-IsAssociated (CookieWait tag first t1) c = (0 < tag) × (first < words)
+IsAssociated (CookieWait tag first t1) c = (0 < tag) × (first < u32_space)
 IsAssociated (Open phase t) c = IsConnected t c
 
 -- the queue, but for the numbers of its messages, which may wrap
@@ -46,18 +46,18 @@ HandoverInvariant e = HandoverInvariantOf e.endpoint_state.state e.endpoint_stat
 
 -- A peer names a tag above 0 (RFC 9260 section 3.3.3) and a first TSN of 32 bits. Of a cookie bytes are enough.
 abbrev pub NamesPeer : ChunkTree → Type 0
-NamesPeer (init_ack_chunk i) = (0 < i.initiate_tag) × (i.initial_tsn < words)
+NamesPeer (init_ack_chunk i) = (0 < i.initiate_tag) × (i.initial_tsn < u32_space)
 NamesPeer (cookie_echo_chunk cookie) = Each (λ (b : ℕ). b < 2 ^ 8) cookie
 NamesPeer chunk = Unit {0}
 
 -- a record, beside what makes it valid: numbers of 32 bits, and messages with numbers exactly where something of them is sent
 pub record IsRecord (h : HandoverState) : Type 0 where
-  pub my_first : h.my_initial_tsn < words
-  pub peer_first : h.peer_initial_tsn < words
+  pub my_first : h.my_initial_tsn < u32_space
+  pub peer_first : h.peer_initial_tsn < u32_space
   pub numbered : list_all is_numbered_as_sent h.tx.queued_messages ≡ true
 
 abbrev pub HandsIn : Call → Type 0
-HandsIn (Packet p) = Each NamesPeer p.chunks
+HandsIn (ReceivePacket p) = Each NamesPeer p.chunks
 HandsIn (Restore h) = IsRecord h
 HandsIn call = Unit {0}
 
@@ -120,5 +120,5 @@ offers_along (u ∷ us) = offers_in u + offers_along us
 abbrev pub EachEndGoesOn : Type 0
 EachEndGoesOn =
     (o : Options) (pack : Packing (List ℕ)) (random : Words) (uses : List Use) → Each MayUse uses → offers_along uses < 2 ^ 32
-    → (t : Tcb) (c : Context (List ℕ)) → (after_uses uses (fresh o pack random)).endpoint_state ≡ endpoint_state t c → readiness (endpoint_state t c) ≡ 0 → Fits t c.queue
+    → (t : Tcb) (c : Context (List ℕ)) → (after_uses uses (fresh o pack random)).endpoint_state ≡ established_state t c → readiness (established_state t c) ≡ 0 → Fits t c.queue
     → (other : Packing (List ℕ)) (draws : Words) → GoesOn t c other draws

@@ -3,11 +3,11 @@
 use Rattle.std.specs.Prelude.{◌≡◌, Bool, true, false, List, [], ◌∷◌}
 use Rattle.sctp_state.specs.Options.{defaults}
 use Rattle.spec_endpoint.specs.Laws.{Connect}
-use Rattle.spec_endpoint.specs.Pair.{random_from}
-use Rattle.proof_pair.specs.Trace.{Pair, has_connected, EndAction, Calls, Gives, run, KeepsOpeningRules, NeitherHasEnded, AreValidOptions, start}
+use Rattle.spec_endpoint.specs.Pair.{counting_from}
+use Rattle.proof_pair.specs.Trace.{Pair, has_connected, EndAction, Calls, Gives, run, KeepsRules, NoAssociationHasEnded, AreValidOptions, start}
 
 abbrev pub at_first : Pair
-at_first = start defaults defaults (random_from 456) (random_from 1000)
+at_first = start defaults defaults (counting_from 456) (counting_from 1000)
 
 -- INIT, INIT ACK, COOKIE ECHO, COOKIE ACK
 abbrev pub one_connects : List (Bool × EndAction)
@@ -21,8 +21,8 @@ both_connect =
 
 pub record Opens (trace : List (Bool × EndAction)) : Type 0 where
   pub given : AreValidOptions defaults
-  pub follows : KeepsOpeningRules trace at_first
-  pub not_ended : NeitherHasEnded (run trace at_first)
+  pub follows : KeepsRules trace at_first
+  pub not_ended : NoAssociationHasEnded (run trace at_first)
   pub a_connected : has_connected (run trace at_first).a.emitted ≡ true
   pub b_connected : has_connected (run trace at_first).b.emitted ≡ true
 

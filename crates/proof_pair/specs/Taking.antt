@@ -6,7 +6,7 @@ use Rattle.sctp_packet.specs.Chunk.{ChunkTree, FragmentTree, data_chunk, idata_c
 use Rattle.sctp_rx.specs.DataTracker.{number_of, is_valid, has_seen, moves_on}
 use Rattle.sctp_rx.specs.ReassemblyQueue.{add, forward}
 use Rattle.spec_endpoint.specs.Association.{Tcb, Phase, Open, Endpoint}
-use Rattle.spec_endpoint.specs.Data.{is_full, observe_tsn, pass_tsn}
+use Rattle.spec_endpoint.specs.Data.{is_full, observe_tsn, advance_cumulative_tsn}
 use Rattle.spec_endpoint.specs.Input.{misuse, receive}
 
 -- an end in this phase, with this control block
@@ -43,7 +43,7 @@ pub record IsTaken (tsn : ℕ) (is_immediate : Bool) (f : FragmentTree) (before 
 
 -- The tracker has received the point, and reassembly where it moved the cumulative TSN.
 pub record IsPassed (tsn : ℕ) (skipped : List SkippedStream) (before after : Tcb) : Type 0 where
-  pub observes : after.tracker ≡ pass_tsn tsn before.tracker
+  pub observes : after.tracker ≡ advance_cumulative_tsn tsn before.tracker
   pub forwards : moves_on (number_of before.tracker tsn) before.tracker.tracker ≡ true → after.reassembly ≡ forward tsn skipped before.reassembly
   pub keeps : moves_on (number_of before.tracker tsn) before.tracker.tracker ≡ false → after.reassembly ≡ before.reassembly
 

@@ -5,11 +5,11 @@ use Rattle.rand_core.specs.Stream.{Stream}
 use Rattle.sctp_packet.specs.Grammar.{carried}
 use Rattle.sctp_packet.specs.Packet.{PacketTree}
 use Rattle.sctp_state.specs.Options.{Options, IsValid}
-use Rattle.sctp_capabilities.specs.Capabilities.{agreed, exchange}
-use Rattle.sctp_state.specs.Events.{Event, SendPacket, OnConnected, silent}
+use Rattle.sctp_capabilities.specs.Capabilities.{agreed, mirrored_capabilities}
+use Rattle.sctp_state.specs.Events.{Event, SendPacket, OnConnected, nothing_emitted}
 use Rattle.spec_endpoint.specs.Association.{Identity, Tcb, Phase, State, Open, Packing, Endpoint, fresh}
-use Rattle.spec_endpoint.specs.Input.{refusal}
-use Rattle.spec_endpoint.specs.Laws.{Call, Connect, Shutdown, Restore, Packet, called, endings}
+use Rattle.spec_endpoint.specs.Input.{packet_refusal}
+use Rattle.spec_endpoint.specs.Laws.{Call, Connect, Shutdown, Restore, ReceivePacket, called, endings}
 use Rattle.proof_endpoint.specs.Mapped.{Carried}
 
 -- ---- an end, and what it emitted
@@ -27,7 +27,7 @@ abbrev pub as_carried : Packing Carried
 as_carried = record { write = λ header is_summed chunks. record { header = header; is_summed = is_summed; chunks = chunks }; word_of = λ bytes. 0 }
 
 abbrev pub new_side : Options → Stream → Side
-new_side o words = record { end = fresh o as_carried words; emitted = []; got_init = false }
+new_side o draws = record { end = fresh o as_carried draws; emitted = []; got_init = false }
 
 -- all packets that it ever emitted
 abbrev pub packets_in : List (Event Carried) → List Carried
@@ -54,7 +54,7 @@ pub data EndAction : Type 0 where
 -- what was emitted is taken
 abbrev pub drain : Endpoint Carried → Side → Side
 drain e x = record x {
-  end = record e { endpoint_state = record e.endpoint_state { context = record e.endpoint_state.context { emitted = silent } } };
+  end = record e { endpoint_state = record e.endpoint_state { context = record e.endpoint_state.context { emitted = nothing_emitted } } };
   emitted = x.emitted ++ e.endpoint_state.context.emitted.events;
 }
 
@@ -63,19 +63,19 @@ abbrev pub as_received : Carried → (checksum : ℕ) → PacketTree
 as_received p checksum = record { header = p.header; checksum = checksum; chunks = map carried p.chunks }
 
 -- an INIT goes under tag 0
-abbrev pub give : Option Carried → (checksum : ℕ) → Side → Side
-give None checksum x = x
-give (Some p) checksum x = record (drain (called (Packet (as_received p checksum)) x.end) x) { got_init = x.got_init || (p.header.verification_tag == 0) }
+abbrev pub give_carried : Option Carried → (checksum : ℕ) → Side → Side
+give_carried None checksum x = x
+give_carried (Some p) checksum x = record (drain (called (ReceivePacket (as_received p checksum)) x.end) x) { got_init = x.got_init || (p.header.verification_tag == 0) }
 
 abbrev pub foreign_if : (refusal : Option (List ℕ)) → PacketTree → Side → Side
 foreign_if None p x = x
-foreign_if (Some text) p x = drain (called (Packet p) x.end) x
+foreign_if (Some text) p x = drain (called (ReceivePacket p) x.end) x
 
 -- of one end, beside the other
 abbrev pub act : EndAction → (x y : Side) → Side
 act (Calls call) x y = drain (called call x.end) x
-act (Gives which checksum) x y = give (slice_get (emitted_packets y) which) checksum x
-act (Refuses p) x y = foreign_if (refusal p.header.verification_tag p.chunks x.end.endpoint_state.state) p x
+act (Gives which checksum) x y = give_carried (slice_get (emitted_packets y) which) checksum x
+act (Refuses p) x y = foreign_if (packet_refusal p.header.verification_tag p.chunks x.end.endpoint_state.state) p x
 
 -- true is end a
 abbrev pub goes : Bool → EndAction → Pair → Pair
@@ -94,7 +94,7 @@ abbrev pub MayCall : Call → Side → Type 0
 MayCall Connect x = (has_connected x.emitted ≡ true) ⊎ (x.got_init ≡ false)
 MayCall Shutdown x = has_connected x.emitted ≡ true
 MayCall (Restore h) x = ⊥
-MayCall (Packet p) x = ⊥
+MayCall (ReceivePacket p) x = ⊥
 MayCall call x = ⊤
 
 abbrev pub MayAct : EndAction → Side → Type 0
@@ -105,12 +105,12 @@ abbrev pub side_of : Bool → Pair → Side
 side_of true w = w.a
 side_of false w = w.b
 
-abbrev pub KeepsOpeningRules : List (Bool × EndAction) → Pair → Type 0
-KeepsOpeningRules [] w = ⊤
-KeepsOpeningRules (e ∷ es) w = MayAct e.1 (side_of e.0 w) × KeepsOpeningRules es (goes e.0 e.1 w)
+abbrev pub KeepsRules : List (Bool × EndAction) → Pair → Type 0
+KeepsRules [] w = ⊤
+KeepsRules (e ∷ es) w = MayAct e.1 (side_of e.0 w) × KeepsRules es (goes e.0 e.1 w)
 
 -- no association has ended so far, at either end
-pub record NeitherHasEnded (w : Pair) : Type 0 where
+pub record NoAssociationHasEnded (w : Pair) : Type 0 where
   pub a : endings w.a.emitted ≡ 0
   pub b : endings w.b.emitted ≡ 0
 
@@ -123,8 +123,8 @@ pub record AreValidOptions (o : Options) : Type 0 where
   pub outgoing : o.announced_maximum_outgoing_streams < 2 ^ 16
   pub method : o.zero_checksum_method < 2 ^ 32
 
-abbrev pub start : (a b : Options) → (words_a words_b : Stream) → Pair
-start a b words_a words_b = record { a = new_side a words_a; b = new_side b words_b }
+abbrev pub start : (a b : Options) → (draws_a draws_b : Stream) → Pair
+start a b draws_a draws_b = record { a = new_side a draws_a; b = new_side b draws_b }
 
 -- ---- the law
 
@@ -144,11 +144,11 @@ pub record AreConsistent (a b : Options) (w : Pair) : Type 0 where
   pub a_negotiated : (phase : Phase) (t : Tcb) → state_of w.a ≡ Open phase t → t.capabilities ≡ agreed a b
   pub b_negotiated : (phase : Phase) (t : Tcb) → state_of w.b ≡ Open phase t → t.capabilities ≡ agreed b a
   pub mirrored : (phase next : Phase) (t u : Tcb) → state_of w.a ≡ Open phase t → state_of w.b ≡ Open next u → AreMirrored t.identity u.identity
-  pub counts : agreed b a ≡ exchange (agreed a b)
+  pub counts : agreed b a ≡ mirrored_capabilities (agreed a b)
 
 -- Along each trace that follows the rules, until an association first ends.
 abbrev pub EndsAreConsistent : Type 0
 EndsAreConsistent =
-    (a b : Options) (words_a words_b : Stream) (trace : List (Bool × EndAction)) → AreValidOptions a → AreValidOptions b
-    → KeepsOpeningRules trace (start a b words_a words_b) → NeitherHasEnded (run trace (start a b words_a words_b))
-    → AreConsistent a b (run trace (start a b words_a words_b))
+    (a b : Options) (draws_a draws_b : Stream) (trace : List (Bool × EndAction)) → AreValidOptions a → AreValidOptions b
+    → KeepsRules trace (start a b draws_a draws_b) → NoAssociationHasEnded (run trace (start a b draws_a draws_b))
+    → AreConsistent a b (run trace (start a b draws_a draws_b))

@@ -4,7 +4,7 @@
 ghost use Rattle.proof_pair.specs.Agreement.{EndsAgree};
 ghost use Rattle.proof_pair.specs.HandoverInvariants.{EachCallPreservesHandoverInvariant, EachCallNumbersOnce, EachEndGoesOn, NewEndsMeetHandoverInvariant};
 ghost use Rattle.proof_pair.specs.Trace.{EndsAreConsistent};
-ghost use Rattle.proof_pair.specs.Handing.{AssociationsStand, HandedGrows, HandedIsAPrefix, MessagesAreHandedInOrder, OneIsHandedOut, ReadiedGrows};
+ghost use Rattle.proof_pair.specs.Handing.{AssociationsStand, HandedGrows, HandedIsAPrefix, MessagesAreHandedInOrder, OneIsHandedOut, MadeReadyGrows};
 ghost use Rattle.proof_pair.specs.Opens.{BothConnect, OneConnects};
 ghost use Rattle.proof_pair.specs.Reopens.{AnOldCookieOpens, ARestartOpens};
 ghost use Rattle.proof_pair.specs.Taking.{InvalidPointsChangeNothing, NewDataIsAdded, PointsReachReassembly, RefusedDataChangesNothing};
@@ -37,7 +37,7 @@ pub fn data_is_taken()
 pub fn messages_are_handed_out_in_order()
     ensures in_order { MessagesAreHandedInOrder }
     ensures prefix { HandedIsAPrefix }
-    ensures readied_grows { ReadiedGrows }
+    ensures readied_grows { MadeReadyGrows }
     ensures handed_grows { HandedGrows }
     ensures stands { AssociationsStand }
     ensures goes { OneIsHandedOut }

@@ -2,7 +2,7 @@
 use Rattle.std.proofs.Common.{◌≡◌, ℕ, suc, ◌+◌, ◌<◌, ◌≤◌, Bool, true, false, cond, not, ◌&&◌, ◌||◌, ◌⊎◌, inl, inr, List, [], ◌∷◌, refl, sym, ap, ◌∙◌, subst, arith, eqb, ltb}
 use Rattle.std.proofs.lemmas.Bool.{cases_lt, cases_eq, and_parts, eqb-true, ne_eqb, eq-eqb, cond-true, cond-false, not-true, or_left, or_right}
 use Rattle.proof_protocol.specs.State.{Message, Entry, ForwardPoint, IsAmong, put, count, place_of, stream_of, ordered_of}
-use Rattle.proof_protocol.specs.Rules.{Rule, accept, begin, number, end_with_placeholder, give_up, data_comes, late_comes, become_ready, send_sack, ack_point_advances, send_forward, forward_comes, perform_reset, same, covers, drops, IsResettable, AreWritten, IsAllowed, after}
+use Rattle.proof_protocol.specs.Rules.{TransferEvent, accept, begin, number, end_with_placeholder, give_up, data_comes, late_comes, become_ready, send_sack, acknowledge_next, send_forward, forward_comes, perform_reset, same, covers, drops, IsResettable, AreWritten, IsAllowed, after}
 use Rattle.proof_protocol.specs.Resets.{Request, Epochs, ResetEvent, transfers, reset_stream, send_request, perform, commit, first_epoch, rebase, InEpoch, MayReset, epochs_after, goes, MayAll, go_all, EpochInvariant}
 use Rattle.proof_protocol.specs.Based.{Names, IsWritten, LastPerformed, Based, UnseenIsOfCurrentEpoch, InEpochs}
 use Rattle.proof_protocol.proofs.ToolsLemmas.{put_at, put_off, put_true, put_keeps, not_both, raised_up}
@@ -14,7 +14,7 @@ use Rattle.proof_protocol.proofs.ForgetLemmas.{reset_aligned}
 -- ---- what only grows at the receiver
 
 module _ (message : ℕ → Message) (is_interleaved : Bool) (x : Epochs) (k : EpochInvariant message is_interleaved x) where
-  pub seen_stays : (e : Rule) (t : ℕ) → x.transfer.receiver.seen t ≡ true → (after message is_interleaved x.transfer e).receiver.seen t ≡ true
+  pub seen_stays : (e : TransferEvent) (t : ℕ) → x.transfer.receiver.seen t ≡ true → (after message is_interleaved x.transfer e).receiver.seen t ≡ true
   seen_stays accept t h = h
   seen_stays (begin p) t h = h
   seen_stays (number p bytes more) t h = h
@@ -24,7 +24,7 @@ module _ (message : ℕ → Message) (is_interleaved : Bool) (x : Epochs) (k : E
   seen_stays (late_comes u) t h = put_keeps x.transfer.receiver.seen u t h
   seen_stays (become_ready p) t h = h
   seen_stays (send_sack c) t h = h
-  seen_stays (ack_point_advances c) t h = h
+  seen_stays (acknowledge_next c) t h = h
   seen_stays (send_forward f) t h = h
   seen_stays (forward_comes f) t h = or_right (ltb t f.upto) (x.transfer.receiver.seen t) h
   seen_stays (perform_reset s c) t h = h
@@ -40,7 +40,7 @@ module _ (message : ℕ → Message) (is_interleaved : Bool) (x : Epochs) (k : E
       go true h false e = rw (h, e) (omega arith)
       go false h c e = rw h (omega arith)
 
-  pub next_stays : (e : Rule) → IsAllowed message is_interleaved x.transfer e → (s : ℕ) → x.transfer.receiver.next s ≤ (after message is_interleaved x.transfer e).receiver.next s
+  pub next_stays : (e : TransferEvent) → IsAllowed message is_interleaved x.transfer e → (s : ℕ) → x.transfer.receiver.next s ≤ (after message is_interleaved x.transfer e).receiver.next s
   next_stays accept a s = omega arith
   next_stays (begin p) a s = omega arith
   next_stays (number p bytes more) a s = omega arith
@@ -50,12 +50,12 @@ module _ (message : ℕ → Message) (is_interleaved : Bool) (x : Epochs) (k : E
   next_stays (late_comes u) a s = omega arith
   next_stays (become_ready p) a s = next_delivered p a s
   next_stays (send_sack c) a s = omega arith
-  next_stays (ack_point_advances c) a s = omega arith
+  next_stays (acknowledge_next c) a s = omega arith
   next_stays (send_forward f) a s = omega arith
   next_stays (forward_comes f) a s = raised_up f.entries true s (x.transfer.receiver.next s)
   next_stays (perform_reset s c) a b = omega arith
 
-  pub passed_stays : (e : Rule) → InEpoch message is_interleaved x e → (s : ℕ) → x.transfer.receiver.passed_below s ≤ (after message is_interleaved x.transfer e).receiver.passed_below s
+  pub passed_stays : (e : TransferEvent) → InEpoch message is_interleaved x e → (s : ℕ) → x.transfer.receiver.passed_below s ≤ (after message is_interleaved x.transfer e).receiver.passed_below s
   passed_stays accept i s = omega arith
   passed_stays (begin p) i s = omega arith
   passed_stays (number p bytes more) i s = omega arith
@@ -65,13 +65,13 @@ module _ (message : ℕ → Message) (is_interleaved : Bool) (x : Epochs) (k : E
   passed_stays (late_comes u) i s = omega arith
   passed_stays (become_ready p) i s = omega arith
   passed_stays (send_sack c) i s = omega arith
-  passed_stays (ack_point_advances c) i s = omega arith
+  passed_stays (acknowledge_next c) i s = omega arith
   passed_stays (send_forward f) i s = omega arith
   passed_stays (forward_comes f) i s = raised_up f.entries false s (x.transfer.receiver.passed_below s)
   passed_stays (perform_reset s c) i b = absurd i
 
   -- what is held was held, or was not seen
-  pub held_before : (e : Rule) → IsAllowed message is_interleaved x.transfer e → (t : ℕ) → (after message is_interleaved x.transfer e).receiver.held t ≡ true
+  pub held_before : (e : TransferEvent) → IsAllowed message is_interleaved x.transfer e → (t : ℕ) → (after message is_interleaved x.transfer e).receiver.held t ≡ true
       → (x.transfer.receiver.held t ≡ true) ⊎ ((t < count x.transfer.sender) × (x.transfer.receiver.seen t ≡ false))
   held_before accept a t h = inl h
   held_before (begin p) a t h = inl h
@@ -86,7 +86,7 @@ module _ (message : ℕ → Message) (is_interleaved : Bool) (x : Epochs) (k : E
   held_before (late_comes u) a t h = inl h
   held_before (become_ready p) a t h = inl (and_parts (x.transfer.receiver.held t) (not (eqb (place_of x.transfer.sender t) p)) h).0
   held_before (send_sack c) a t h = inl h
-  held_before (ack_point_advances c) a t h = inl h
+  held_before (acknowledge_next c) a t h = inl h
   held_before (send_forward f) a t h = inl h
   held_before (forward_comes f) a t h = inl (and_parts (x.transfer.receiver.held t) (not (drops message is_interleaved x.transfer.sender f t)) h).0
   held_before (perform_reset s c) a t h = inl (and_parts (x.transfer.receiver.held t) (not (eqb (stream_of message (place_of x.transfer.sender t)) s)) h).0
@@ -124,7 +124,7 @@ module _ (message : ℕ → Message) (is_interleaved : Bool) (x : Epochs) (k : E
 
   -- ---- a rule of the transfer
 
-  module _ (e : Rule) (a : IsAllowed message is_interleaved x.transfer e) (i : InEpoch message is_interleaved x e)
+  module _ (e : TransferEvent) (a : IsAllowed message is_interleaved x.transfer e) (i : InEpoch message is_interleaved x e)
       (same : (p : ℕ) → p < x.transfer.sender.accepted → epochs_after message is_interleaved x e p ≡ x.epoch p)
       (begins : (p : ℕ) → (after message is_interleaved x.transfer e).sender.begun p ≡ true
       → (x.transfer.sender.begun p ≡ true) ⊎ ((epochs_after message is_interleaved x e p ≡ x.performed (st p)) × (epochs_after message is_interleaved x e p ≡ x.opened (st p))
@@ -258,7 +258,7 @@ module _ (message : ℕ → Message) (is_interleaved : Bool) (x : Epochs) (k : E
     }
 
   -- a rule that accepts nothing, begins nothing and sends no forward point
-  plain : (e : Rule) (a : IsAllowed message is_interleaved x.transfer e) (i : InEpoch message is_interleaved x e) → ((p : ℕ) → epochs_after message is_interleaved x e p ≡ x.epoch p)
+  plain : (e : TransferEvent) (a : IsAllowed message is_interleaved x.transfer e) (i : InEpoch message is_interleaved x e) → ((p : ℕ) → epochs_after message is_interleaved x e p ≡ x.epoch p)
       → ((p : ℕ) → (after message is_interleaved x.transfer e).sender.begun p ≡ x.transfer.sender.begun p)
       → ((s : ℕ) (kind : Bool) → (after message is_interleaved x.transfer e).sender.counts kind s ≡ x.transfer.sender.counts kind s)
       → ((p : ℕ) → (after message is_interleaved x.transfer e).sender.written p ≡ x.transfer.sender.written p)
@@ -375,7 +375,7 @@ module _ (message : ℕ → Message) (is_interleaved : Bool) (x : Epochs) (k : E
         | inr o ↦ inl o
       ])
 
-  transfer_rule : (e : Rule) → IsAllowed message is_interleaved x.transfer e → InEpoch message is_interleaved x e → Based message (goes message is_interleaved x (transfers e))
+  transfer_rule : (e : TransferEvent) → IsAllowed message is_interleaved x.transfer e → InEpoch message is_interleaved x e → Based message (goes message is_interleaved x (transfers e))
   transfer_rule accept a i = accepts_next a
   transfer_rule (begin p) a i = begins_next p a i
   transfer_rule (number p bytes more) a i = plain (number p bytes more) a i (λ q. refl) (λ q. refl) (λ s kind. refl) (λ q. refl) (λ s kind. refl) (λ f m. m)
@@ -385,7 +385,7 @@ module _ (message : ℕ → Message) (is_interleaved : Bool) (x : Epochs) (k : E
   transfer_rule (late_comes t) a i = plain (late_comes t) a i (λ q. refl) (λ q. refl) (λ s kind. refl) (λ q. refl) (λ s kind. refl) (λ f m. m)
   transfer_rule (become_ready p) a i = plain (become_ready p) a i (λ q. refl) (λ q. refl) (λ s kind. refl) (λ q. refl) (λ s kind. refl) (λ f m. m)
   transfer_rule (send_sack c) a i = plain (send_sack c) a i (λ q. refl) (λ q. refl) (λ s kind. refl) (λ q. refl) (λ s kind. refl) (λ f m. m)
-  transfer_rule (ack_point_advances c) a i = plain (ack_point_advances c) a i (λ q. refl) (λ q. refl) (λ s kind. refl) (λ q. refl) (λ s kind. refl) (λ f m. m)
+  transfer_rule (acknowledge_next c) a i = plain (acknowledge_next c) a i (λ q. refl) (λ q. refl) (λ s kind. refl) (λ q. refl) (λ s kind. refl) (λ f m. m)
   transfer_rule (send_forward f) a i = sends_next f a i
   transfer_rule (forward_comes f) a i = plain (forward_comes f) a i (λ q. refl) (λ q. refl) (λ s kind. refl) (λ q. refl) (λ s kind. refl) (λ f m. m)
   transfer_rule (perform_reset s c) a i = absurd i

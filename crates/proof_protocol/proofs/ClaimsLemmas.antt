@@ -1,11 +1,11 @@
 -- What holds gives_up the claims.
 use Rattle.std.proofs.Common.{◌≡◌, ℕ, ◌<◌, Bool, true, false, ◌⊎◌, inl, inr, List, get_or, sym, ap, ◌∙◌, arith}
 use Rattle.proof_protocol.specs.State.{Message, Transfer, has, start, ordered_of, stream_of}
-use Rattle.proof_protocol.specs.Rules.{Rule, Happens, run}
+use Rattle.proof_protocol.specs.Rules.{TransferEvent, Happens, run}
 use Rattle.proof_protocol.specs.Claims.{Claims, AtRest}
 use Rattle.proof_protocol.specs.Invariant.{Invariant}
 use Rattle.proof_protocol.proofs.ToolsLemmas.{not_both, has_at}
-use Rattle.proof_protocol.proofs.KeepsLemmas.{at_start, all_kept}
+use Rattle.proof_protocol.proofs.RulesKeepLemmas.{at_start, all_kept}
 
 module _ (message : ℕ → Message) (is_interleaved : Bool) (x : Transfer) (k : Invariant message is_interleaved x) where
   skipped : (p q : ℕ) → ordered_of message p ≡ true → ordered_of message q ≡ true → stream_of message p ≡ stream_of message q → p < q → has q x.receiver.places ≡ true → has p x.receiver.places ≡ false → x.sender.given_up p ≡ true
@@ -50,5 +50,5 @@ module _ (message : ℕ → Message) (is_interleaved : Bool) (x : Transfer) (k :
     rest = rest;
   }
 
-pub always : (message : ℕ → Message) (is_interleaved : Bool) (es : List Rule) → Happens message is_interleaved start es → Claims message (run message is_interleaved start es)
+pub always : (message : ℕ → Message) (is_interleaved : Bool) (es : List TransferEvent) → Happens message is_interleaved start es → Claims message (run message is_interleaved start es)
 always message is_interleaved es h = claimed message is_interleaved (run message is_interleaved start es) (all_kept message is_interleaved es start (at_start message is_interleaved) h)

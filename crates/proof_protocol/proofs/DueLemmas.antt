@@ -65,7 +65,7 @@ module _ (message : ℕ → Message) (is_interleaved : Bool) (o : Sender) (out :
   pub forward_true : ForwardTrue message is_interleaved o i f
   forward_true = record {
     within = due.within;
-    reached = λ t h.
+    seen_or_given_up = λ t h.
         elim (cases_lt t left) [
           | inl l ↦ inl (lt.all_seen t l)
           | inr g ↦ inr (

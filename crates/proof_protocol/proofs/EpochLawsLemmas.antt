@@ -2,7 +2,7 @@
 use Rattle.std.proofs.Common.{◌≡◌, ℕ, suc, ◌+◌, ◌<◌, ◌≤◌, Bool, true, false, ◌⊎◌, inl, inr, List, [], ◌∷◌, ◌++◌, refl, sym, ap, ◌∙◌, subst, arith, append-nil, append_assoc, eqb}
 use Rattle.std.proofs.lemmas.Bool.{cases_lt, cases_eq, cases_Bool, or_cases, or_left, or_right, eqb-true, cases_order}
 use Rattle.proof_protocol.specs.State.{Message, ForwardPoint, IsAmong, has, count, place_of, stream_of, ordered_of}
-use Rattle.proof_protocol.specs.Rules.{accept, begin, number, end_with_placeholder, give_up, data_comes, late_comes, become_ready, send_sack, ack_point_advances, send_forward, forward_comes, perform_reset, same, covers, IsAllowed}
+use Rattle.proof_protocol.specs.Rules.{accept, begin, number, end_with_placeholder, give_up, data_comes, late_comes, become_ready, send_sack, acknowledge_next, send_forward, forward_comes, perform_reset, same, covers, IsAllowed}
 use Rattle.proof_protocol.specs.Windows.{IsNear}
 use Rattle.proof_protocol.specs.Resets.{Request, Epochs, ResetEvent, transfers, reset_stream, send_request, perform, commit, MayReset, goes, MayAll, go_all}
 use Rattle.proof_protocol.specs.Lifted.{IsOfCurrentEpoch}
@@ -272,7 +272,7 @@ module _ (message : ℕ → Message) (is_interleaved : Bool) where
   once x k (transfers (late_comes t)) a = none_added x (goes message is_interleaved x (transfers (late_comes t))) refl
   once x k (transfers (become_ready p)) a = delivered x k p a.0
   once x k (transfers (send_sack c)) a = none_added x (goes message is_interleaved x (transfers (send_sack c))) refl
-  once x k (transfers (ack_point_advances c)) a = none_added x (goes message is_interleaved x (transfers (ack_point_advances c))) refl
+  once x k (transfers (acknowledge_next c)) a = none_added x (goes message is_interleaved x (transfers (acknowledge_next c))) refl
   once x k (transfers (send_forward f)) a = none_added x (goes message is_interleaved x (transfers (send_forward f))) refl
   once x k (transfers (forward_comes f)) a = none_added x (goes message is_interleaved x (transfers (forward_comes f))) refl
   once x k (transfers (perform_reset s c)) a = absurd a.1
@@ -308,7 +308,7 @@ module _ (message : ℕ → Message) (is_interleaved : Bool) where
   epoch_once x (transfers (late_comes t)) p h = refl
   epoch_once x (transfers (become_ready q)) p h = refl
   epoch_once x (transfers (send_sack c)) p h = refl
-  epoch_once x (transfers (ack_point_advances c)) p h = refl
+  epoch_once x (transfers (acknowledge_next c)) p h = refl
   epoch_once x (transfers (send_forward f)) p h = refl
   epoch_once x (transfers (forward_comes f)) p h = refl
   epoch_once x (transfers (perform_reset s c)) p h = refl
@@ -327,7 +327,7 @@ module _ (message : ℕ → Message) (is_interleaved : Bool) where
   accepted_once x (transfers (late_comes t)) = omega arith
   accepted_once x (transfers (become_ready q)) = omega arith
   accepted_once x (transfers (send_sack c)) = omega arith
-  accepted_once x (transfers (ack_point_advances c)) = omega arith
+  accepted_once x (transfers (acknowledge_next c)) = omega arith
   accepted_once x (transfers (send_forward f)) = omega arith
   accepted_once x (transfers (forward_comes f)) = omega arith
   accepted_once x (transfers (perform_reset s c)) = omega arith

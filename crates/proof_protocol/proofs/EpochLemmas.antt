@@ -2,10 +2,10 @@
 use Rattle.std.proofs.Common.{◌≡◌, ℕ, suc, ◌<◌, ◌≤◌, Bool, true, false, ◌⊎◌, inl, inr, List, [], ◌∷◌, refl, sym, ap, ◌∙◌, subst, arith}
 use Rattle.std.proofs.lemmas.Bool.{cases_lt, cases_eq}
 use Rattle.proof_protocol.specs.State.{Message, IsAmong, put, count, place_of, stream_of}
-use Rattle.proof_protocol.specs.Rules.{Rule, accept, begin, number, end_with_placeholder, give_up, data_comes, late_comes, become_ready, send_sack, ack_point_advances, send_forward, forward_comes, perform_reset, IsSettled, IsResettable, IsAllowed, after}
+use Rattle.proof_protocol.specs.Rules.{TransferEvent, accept, begin, number, end_with_placeholder, give_up, data_comes, late_comes, become_ready, send_sack, acknowledge_next, send_forward, forward_comes, perform_reset, IsSettled, IsResettable, IsAllowed, after}
 use Rattle.proof_protocol.specs.Resets.{Request, Epochs, ResetEvent, transfers, reset_stream, send_request, perform, commit, first_epoch, InEpoch, MayReset, restarts, goes, MayAll, go_all, RequestTrue, EpochInvariant, EachInItsEpoch}
 use Rattle.proof_protocol.proofs.ToolsLemmas.{put_at, put_off, put_true, not_both}
-use Rattle.proof_protocol.proofs.KeepsLemmas.{keeps, at_start}
+use Rattle.proof_protocol.proofs.RulesKeepLemmas.{keeps, at_start}
 use Rattle.proof_protocol.proofs.BeginLemmas.{unsettled}
 use Rattle.proof_protocol.proofs.StepLemmas.{later, settled_stays, dropped_stays}
 use Rattle.proof_protocol.proofs.ForgetLemmas.{none_held}
@@ -16,7 +16,7 @@ module _ (message : ℕ → Message) (is_interleaved : Bool) (x : Epochs) (k : E
   st p = stream_of message p
 
   -- a rule of the transfer, where new places and newly begun messages keep the order
-  module _ (e : Rule) (a : IsAllowed message is_interleaved x.transfer e) (epoch : ℕ → ℕ)
+  module _ (e : TransferEvent) (a : IsAllowed message is_interleaved x.transfer e) (epoch : ℕ → ℕ)
       (grows : x.transfer.sender.accepted ≤ (after message is_interleaved x.transfer e).sender.accepted)
       (same : (p : ℕ) → p < x.transfer.sender.accepted → epoch p ≡ x.epoch p)
       (new : (p : ℕ) → p < (after message is_interleaved x.transfer e).sender.accepted → (p < x.transfer.sender.accepted) ⊎ (epoch p ≡ x.raised (st p)))
@@ -89,13 +89,13 @@ module _ (message : ℕ → Message) (is_interleaved : Bool) (x : Epochs) (k : E
     }
 
   -- a rule that accepts nothing and begins nothing
-  plain : (e : Rule) (a : IsAllowed message is_interleaved x.transfer e) → (after message is_interleaved x.transfer e).sender.accepted ≡ x.transfer.sender.accepted
+  plain : (e : TransferEvent) (a : IsAllowed message is_interleaved x.transfer e) → (after message is_interleaved x.transfer e).sender.accepted ≡ x.transfer.sender.accepted
       → ((p : ℕ) → (after message is_interleaved x.transfer e).sender.begun p ≡ x.transfer.sender.begun p)
       → EpochInvariant message is_interleaved (record x { transfer = after message is_interleaved x.transfer e })
   plain e a n b =
       moves e a x.epoch (omega (arith, n)) (λ p h. refl) (λ p h. inl (subst (λ z. p < z) n h)) (λ p h. inl (sym (b p) ∙ h))
 
-  transfer_rule : (e : Rule) → IsAllowed message is_interleaved x.transfer e → InEpoch message is_interleaved x e → EpochInvariant message is_interleaved (goes message is_interleaved x (transfers e))
+  transfer_rule : (e : TransferEvent) → IsAllowed message is_interleaved x.transfer e → InEpoch message is_interleaved x e → EpochInvariant message is_interleaved (goes message is_interleaved x (transfers e))
   transfer_rule accept a i =
       let n = x.transfer.sender.accepted in
       moves accept a (put x.epoch n (x.raised (st n))) (omega arith)
@@ -119,7 +119,7 @@ module _ (message : ℕ → Message) (is_interleaved : Bool) (x : Epochs) (k : E
   transfer_rule (late_comes t) a i = plain (late_comes t) a refl (λ q. refl)
   transfer_rule (become_ready p) a i = plain (become_ready p) a refl (λ q. refl)
   transfer_rule (send_sack c) a i = plain (send_sack c) a refl (λ q. refl)
-  transfer_rule (ack_point_advances c) a i = plain (ack_point_advances c) a refl (λ q. refl)
+  transfer_rule (acknowledge_next c) a i = plain (acknowledge_next c) a refl (λ q. refl)
   transfer_rule (send_forward f) a i = plain (send_forward f) a refl (λ q. refl)
   transfer_rule (forward_comes f) a i = plain (forward_comes f) a refl (λ q. refl)
   transfer_rule (perform_reset s c) a i = absurd i

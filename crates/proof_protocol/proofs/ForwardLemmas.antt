@@ -62,7 +62,7 @@ module _ (message : ℕ → Message) (is_interleaved : Bool) (o : Sender) (out :
           elim (or_cases (ltb t f.upto) (i.seen t) s) [
             | inr b ↦ before t b a
             | inl b ↦
-                elim (ft.reached t (ltb-true t f.upto b)) [
+                elim (ft.seen_or_given_up t (ltb-true t f.upto b)) [
                   | inl c ↦ before t c a
                   | inr g ↦ inr (g.0, λ k. raised_covers f.entries true (stream_of message (place_of o t)) (i.next (stream_of message (place_of o t))) (o.number (place_of o t)) (g.1 k))
                 ]

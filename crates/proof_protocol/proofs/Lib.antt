@@ -11,7 +11,7 @@ pub mod DeliverLemmas
 pub mod ForwardLemmas
 pub mod SackLemmas
 pub mod DueLemmas
-pub mod KeepsLemmas
+pub mod RulesKeepLemmas
 pub mod ClaimsLemmas
 pub mod GrowsLemmas
 pub mod PiecesLemmas

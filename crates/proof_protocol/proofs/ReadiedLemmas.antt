@@ -8,7 +8,7 @@ use Rattle.proof_protocol.specs.Invariant.{Invariant}
 use Rattle.proof_protocol.proofs.ToolsLemmas.{not_both}
 use Rattle.proof_protocol.proofs.IndexedLemmas.{joined_same}
 use Rattle.proof_protocol.proofs.PiecesLemmas.{Pieces, which, pieces_complete, pieces_payload, complete_pieces}
-use Rattle.proof_protocol.proofs.KeepsLemmas.{keeps}
+use Rattle.proof_protocol.proofs.RulesKeepLemmas.{keeps}
 use Rattle.proof_protocol.proofs.CommonLemmas.{none_some}
 
 module _ (Key : Type 0) (succ : Key → Key) (message : ℕ → Message) (is_interleaved : Bool) (x : Transfer) (k : Invariant message is_interleaved x)

@@ -1,11 +1,11 @@
 -- Whole rows of the receiver are sequences of the rules, over any key that meets the keys' laws.
 use Rattle.std.proofs.Common.{◌≡◌, ◌≢◌, ℕ, suc, ◌<◌, ◌≤◌, Bool, true, false, Some, List, [], ◌∷◌, map, refl, ◌∙◌, subst, sym, ap, arith, eqb}
 use Rattle.proof_protocol.specs.State.{Message, ForwardPoint, Transfer, fragment, count, IsAmong}
-use Rattle.proof_protocol.specs.Rules.{Rule, data_comes, late_comes, become_ready, forward_comes, perform_reset, send_sack, IsAllowed, IsRipe, IsResettable, Happens, after, run}
+use Rattle.proof_protocol.specs.Rules.{TransferEvent, data_comes, late_comes, become_ready, forward_comes, perform_reset, send_sack, IsAllowed, IsRipe, IsResettable, Happens, after, run}
 use Rattle.proof_protocol.specs.Reassembly.{Chunk, chunk_of, Queue, nth, ReadyRun, IsLate, Readied, Added, Forwarded, ResetPerformed, Sees, KeyLaws, KeyOf, next_of, key_of, below_of}
 use Rattle.proof_protocol.specs.Invariant.{Invariant}
 use Rattle.proof_protocol.specs.Joints.{Leads, Refines}
-use Rattle.proof_protocol.proofs.KeepsLemmas.{keeps, all_kept}
+use Rattle.proof_protocol.proofs.RulesKeepLemmas.{keeps, all_kept}
 use Rattle.std.proofs.lemmas.Bool.{eq-eqb}
 use Rattle.proof_protocol.proofs.ToolsLemmas.{put_off, not_both}
 use Rattle.proof_protocol.proofs.KeysLemmas.{own_keys, message_keys}
@@ -26,7 +26,7 @@ module _ (message : ℕ → Message) (is_interleaved : Bool) where
 module _ (Key : Type 0) (succ : Key → Key) (message : ℕ → Message) (is_interleaved : Bool) (x : Transfer) (k : Invariant message is_interleaved x)
     (key : ℕ → Key) (below : Key → ℕ → Bool) (laws : KeyLaws Key succ is_interleaved x.sender key below) (q : Queue Key succ) (s : Sees Key succ message is_interleaved x.sender x.receiver key q) where
   -- what a first event and the deliveries after it lead to
-  leads : (e : Rule) (ps : List ℕ) (m r : Queue Key succ) → IsAllowed message is_interleaved x e → Invariant message is_interleaved (after message is_interleaved x e)
+  leads : (e : TransferEvent) (ps : List ℕ) (m r : Queue Key succ) → IsAllowed message is_interleaved x e → Invariant message is_interleaved (after message is_interleaved x e)
       → after message is_interleaved x e ≡ record x { receiver = (after message is_interleaved x e).receiver }
       → Happens message is_interleaved (after message is_interleaved x e) (map become_ready ps)
       → Sees Key succ message is_interleaved (run message is_interleaved (after message is_interleaved x e) (map become_ready ps)).sender (run message is_interleaved (after message is_interleaved x e) (map become_ready ps)).receiver key r
@@ -110,13 +110,13 @@ key_laws message false x k = own_keys message x.sender k.outgoing k.indexed (k.r
 key_laws message true x k = message_keys message x.sender k.outgoing k.indexed
 
 -- a fragment's key stays
-pub key_stays : (message : ℕ → Message) (is_interleaved : Bool) (x : Transfer) (e : Rule) → Invariant message is_interleaved x → IsAllowed message is_interleaved x e → (t : ℕ) → t < count x.sender
+pub key_stays : (message : ℕ → Message) (is_interleaved : Bool) (x : Transfer) (e : TransferEvent) → Invariant message is_interleaved x → IsAllowed message is_interleaved x e → (t : ℕ) → t < count x.sender
     → key_of is_interleaved message (after message is_interleaved x e).sender t ≡ key_of is_interleaved message x.sender t
 key_stays message false x e k a t h = refl
 key_stays message true x e k a t h = message_key_same message x.sender (after message true x e).sender k.outgoing (later message true x k e a) t h
 
 -- a sender's step changes nothing that the queue sees
-pub still_sees : (message : ℕ → Message) (is_interleaved : Bool) (x : Transfer) (e : Rule) → Invariant message is_interleaved x → IsAllowed message is_interleaved x e → (after message is_interleaved x e).receiver ≡ x.receiver
+pub still_sees : (message : ℕ → Message) (is_interleaved : Bool) (x : Transfer) (e : TransferEvent) → Invariant message is_interleaved x → IsAllowed message is_interleaved x e → (after message is_interleaved x e).receiver ≡ x.receiver
     → (q : Queue (KeyOf is_interleaved) (next_of is_interleaved)) → Refines message is_interleaved x q → Refines message is_interleaved (after message is_interleaved x e) q
 still_sees message is_interleaved x e k a same q s =
     let y = after message is_interleaved x e in
@@ -125,7 +125,7 @@ still_sees message is_interleaved x e k a same q s =
     subst (λ i. Sees (KeyOf is_interleaved) (next_of is_interleaved) message is_interleaved y.sender i (key_of is_interleaved message y.sender) q) (sym same) z
 
 -- a fragment is carried by the same chunk ever after
-pub chunk_stays : (message : ℕ → Message) (is_interleaved : Bool) (x : Transfer) (e : Rule) → Invariant message is_interleaved x → IsAllowed message is_interleaved x e → (t : ℕ) → t < count x.sender
+pub chunk_stays : (message : ℕ → Message) (is_interleaved : Bool) (x : Transfer) (e : TransferEvent) → Invariant message is_interleaved x → IsAllowed message is_interleaved x e → (t : ℕ) → t < count x.sender
     → (t < count (after message is_interleaved x e).sender) × (fragment (after message is_interleaved x e).sender t ≡ fragment x.sender t)
     × (chunk_of message is_interleaved (after message is_interleaved x e).sender t ≡ chunk_of message is_interleaved x.sender t)
 chunk_stays message is_interleaved x e k a t h =

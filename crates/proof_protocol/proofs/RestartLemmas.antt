@@ -4,7 +4,7 @@ use Rattle.proof_protocol.specs.State.{Message, Sender, Transfer}
 use Rattle.proof_protocol.specs.Invariant.{Outgoing, Invariant}
 use Rattle.proof_protocol.specs.Resets.{restarts}
 use Rattle.proof_protocol.proofs.LaterLemmas.{Later}
-use Rattle.proof_protocol.proofs.KeepsLemmas.{sender_moves}
+use Rattle.proof_protocol.proofs.RulesKeepLemmas.{sender_moves}
 
 module _ (message : ℕ → Message) (o : Sender) (i : Outgoing message o) (s : ℕ) where
   following_counts : (kind : Bool) (a : ℕ) → (restarts o s).following kind a ≤ o.counts kind a

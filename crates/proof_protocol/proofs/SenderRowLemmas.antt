@@ -2,12 +2,12 @@
 use Rattle.std.proofs.Common.{◌≡◌, ℕ, ◌<◌, Bool, true, false, cond, inl, inr, Option, Some, None, List, [], ◌∷◌, ◌++◌, refl, sym, ◌∙◌}
 use Rattle.std.proofs.lemmas.Bool.{cases_eq}
 use Rattle.proof_protocol.specs.State.{Message, Transfer, is_empty, put, stream_of}
-use Rattle.proof_protocol.specs.Rules.{Rule, accept, begin, number, end_with_placeholder, give_up, IsAllowed, Happens, after, run}
+use Rattle.proof_protocol.specs.Rules.{TransferEvent, accept, begin, number, end_with_placeholder, give_up, IsAllowed, Happens, after, run}
 use Rattle.proof_protocol.specs.Sending.{Waiting, Queued}
 use Rattle.proof_protocol.specs.Invariant.{Invariant}
 use Rattle.proof_protocol.specs.Joints.{Sends}
 use Rattle.proof_protocol.proofs.ToolsLemmas.{put_at, put_off}
-use Rattle.proof_protocol.proofs.KeepsLemmas.{keeps, all_kept}
+use Rattle.proof_protocol.proofs.RulesKeepLemmas.{keeps, all_kept}
 use Rattle.proof_protocol.proofs.SendingLemmas.{queued_accept, may_begin, queued_begin, may_number, queued_number, queued_drop, queued_close, queued_give}
 
 -- a queue that says the same of each place
@@ -27,7 +27,7 @@ put_twice f k v w n =
     ]
 
 module _ (message : ℕ → Message) (is_interleaved : Bool) (x : Transfer) (k : Invariant message is_interleaved x) (queue : ℕ → Option Waiting) (q : Queued message x.sender queue) where
-  sends : (es : List Rule) (r : ℕ → Option Waiting) → Happens message is_interleaved x es → Queued message (run message is_interleaved x es).sender r
+  sends : (es : List TransferEvent) (r : ℕ → Option Waiting) → Happens message is_interleaved x es → Queued message (run message is_interleaved x es).sender r
       → run message is_interleaved x es ≡ record x { sender = (run message is_interleaved x es).sender } → Sends message is_interleaved x es r
   sends es r h z e = record { may = h; kept = all_kept message is_interleaved es x k h; queued = z; rest_stays = e }
 

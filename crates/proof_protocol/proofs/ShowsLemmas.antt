@@ -2,7 +2,7 @@
 use Rattle.std.proofs.Common.{◌≡◌, ℕ, zero, suc, ◌+◌, ◌<◌, ◌≤◌, Bool, true, false, not, cond, ◌&&◌, ◌||◌, inl, inr, Option, Some, None, ◌++◌, replicate, refl, sym, ap, ◌∙◌, subst, arith, eqb, ltb, append-nil, append_assoc}
 use Rattle.std.proofs.lemmas.Bool.{cases_eq, and_parts, and_from, or_left, or_right, cond-true, cond-false, not-true, not_from_false}
 use Rattle.proof_protocol.specs.State.{Message, Fragment, ForwardPoint, Sender, Receiver, Transfer, fragment, place_of, count, ordered_of, stream_of}
-use Rattle.proof_protocol.specs.Rules.{ack_point_advances, Happens, after, run, report, drops, skips, takes, performs_reset, covers, raise, floor}
+use Rattle.proof_protocol.specs.Rules.{acknowledge_next, Happens, after, run, report, drops, skips, takes, performs_reset, covers, raise, floor}
 use Rattle.proof_protocol.specs.Reassembly.{Chunk, MessageKey, chunk_with, chunk_of, message_key, Queue, Added, IsLate, keep_undropped, Forwarded, keep_other_streams, ResetPerformed, Sees, KeyLaws}
 use Rattle.proof_protocol.specs.State.{IsAmong}
 use Rattle.proof_protocol.specs.Invariant.{Outgoing, Incoming}
@@ -160,12 +160,12 @@ module _ (Key : Type 0) (succ : Key → Key) (message : ℕ → Message) (is_int
 -- a SACK takes all items below its point away, one after another
 module _ (message : ℕ → Message) (is_interleaved : Bool) where
   pub leave_all : (n c : ℕ) (x : Transfer) → IsAmong c x.sacks → x.acknowledged + n ≤ c
-      → Happens message is_interleaved x (replicate n (ack_point_advances c)) × (run message is_interleaved x (replicate n (ack_point_advances c)) ≡ record x { acknowledged = x.acknowledged + n; reports = x.reports ++ reports_of x.sender x.acknowledged n })
+      → Happens message is_interleaved x (replicate n (acknowledge_next c)) × (run message is_interleaved x (replicate n (acknowledge_next c)) ≡ record x { acknowledged = x.acknowledged + n; reports = x.reports ++ reports_of x.sender x.acknowledged n })
   leave_all zero c x a h =
       let e : x.acknowledged ≡ x.acknowledged + 0 = omega arith in
       (tt, ap (λ z. let y : Transfer = record x { acknowledged = z } in y) e ∙ ap (λ z. let y : Transfer = record x { acknowledged = x.acknowledged + 0; reports = z } in y) (sym (append-nil x.reports)))
   leave_all (suc n) c x a h =
-      let ih = leave_all n c (after message is_interleaved x (ack_point_advances c)) a (omega (arith, h)) in
+      let ih = leave_all n c (after message is_interleaved x (acknowledge_next c)) a (omega (arith, h)) in
       let e : suc x.acknowledged + n ≡ x.acknowledged + suc n = omega arith in
       let lt : x.acknowledged < c = omega (arith, h) in (
         ((a, lt), ih.0),

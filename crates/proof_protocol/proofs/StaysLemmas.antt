@@ -120,9 +120,9 @@ module _ (message : ℕ → Message) (o o' : Sender) (out : Outgoing message o) 
       pub forward_stays : (is_interleaved : Bool) (f : ForwardPoint) → ForwardTrue message is_interleaved o i f → ForwardTrue message is_interleaved o' i' f
       forward_stays is_interleaved f x = record {
         within = let a = x.within in let b = l.count_grows in omega (arith, a, b);
-        reached = λ t h.
+        seen_or_given_up = λ t h.
             let b : t < count o = (let a = x.within in omega (arith, a, h)) in
-            elim (x.reached t h) [
+            elim (x.seen_or_given_up t h) [
               | inl s ↦ inl (w.seen_stays t s)
               | inr g ↦ inr (
                   subst (λ z. (o'.given_up z ≡ true) × (ordered_of message z ≡ true → covers f.entries true (stream_of message z) (o'.number z) ≡ true)) (sym (place_same t b))

@@ -2,7 +2,7 @@
 use Rattle.std.proofs.Common.{◌≡◌, ◌≢◌, ℕ, Bool, true, false, not, ◌++◌, sym, ap, ◌∙◌, subst, eqb, ltb, append-nil}
 use Rattle.std.proofs.lemmas.Bool.{and_left, or_right}
 use Rattle.proof_protocol.specs.State.{Message, Fragment, Transfer, place_of, gather, stream_of}
-use Rattle.proof_protocol.specs.Rules.{Rule, accept, begin, number, end_with_placeholder, give_up, data_comes, late_comes, become_ready, send_sack, ack_point_advances, send_forward, forward_comes, perform_reset, IsAllowed, after, IsSettled, part, placeholder_of, drops, numbers}
+use Rattle.proof_protocol.specs.Rules.{TransferEvent, accept, begin, number, end_with_placeholder, give_up, data_comes, late_comes, become_ready, send_sack, acknowledge_next, send_forward, forward_comes, perform_reset, IsAllowed, after, IsSettled, part, placeholder_of, drops, numbers}
 use Rattle.proof_protocol.specs.Invariant.{Invariant}
 use Rattle.proof_protocol.proofs.LaterLemmas.{Later}
 use Rattle.proof_protocol.proofs.ToolsLemmas.{put_off, put_keeps, not_both}
@@ -10,10 +10,10 @@ use Rattle.proof_protocol.proofs.StaysLemmas.{later_same}
 use Rattle.proof_protocol.proofs.BeginLemmas.{begins_later, moved, unsettled}
 use Rattle.proof_protocol.proofs.NumberedLemmas.{numbers_later}
 use Rattle.proof_protocol.proofs.GivenLemmas.{gives_later, accepts_later, settled_given}
-use Rattle.proof_protocol.proofs.KeepsLemmas.{none_left}
+use Rattle.proof_protocol.proofs.RulesKeepLemmas.{none_left}
 
 module _ (message : ℕ → Message) (is_interleaved : Bool) (x : Transfer) (k : Invariant message is_interleaved x) where
-  pub later : (e : Rule) → IsAllowed message is_interleaved x e → Later message x.sender (after message is_interleaved x e).sender
+  pub later : (e : TransferEvent) → IsAllowed message is_interleaved x e → Later message x.sender (after message is_interleaved x e).sender
   later accept a = accepts_later message x.sender k.outgoing
   later (begin p) a = begins_later message is_interleaved x.sender k.outgoing p a.0 a.1
   later (number p bytes more) a =
@@ -27,7 +27,7 @@ module _ (message : ℕ → Message) (is_interleaved : Bool) (x : Transfer) (k :
   later (late_comes t) a = later_same message x.sender
   later (become_ready p) a = later_same message x.sender
   later (send_sack c) a = later_same message x.sender
-  later (ack_point_advances c) a = later_same message x.sender
+  later (acknowledge_next c) a = later_same message x.sender
   later (send_forward f) a = later_same message x.sender
   later (forward_comes f) a = later_same message x.sender
   later (perform_reset s c) a = later_same message x.sender
@@ -38,7 +38,7 @@ module _ (message : ℕ → Message) (is_interleaved : Bool) (x : Transfer) (k :
       record { not_partly = put_off x.sender.partly f.place (not f.is_end) q d ∙ y.not_partly; begun_or_given_up = y.begun_or_given_up }
 
   -- what is out of the send queue stays out
-  pub settled_stays : (e : Rule) → IsAllowed message is_interleaved x e → (q : ℕ) → IsSettled x.sender q → IsSettled (after message is_interleaved x e).sender q
+  pub settled_stays : (e : TransferEvent) → IsAllowed message is_interleaved x e → (q : ℕ) → IsSettled x.sender q → IsSettled (after message is_interleaved x e).sender q
   settled_stays accept a q y = record { not_partly = y.not_partly; begun_or_given_up = y.begun_or_given_up }
   settled_stays (begin p) a q y =
       moved message is_interleaved x.sender k.outgoing p a.0 a.1 q
@@ -50,13 +50,13 @@ module _ (message : ℕ → Message) (is_interleaved : Bool) (x : Transfer) (k :
   settled_stays (late_comes t) a q y = y
   settled_stays (become_ready p) a q y = y
   settled_stays (send_sack c) a q y = y
-  settled_stays (ack_point_advances c) a q y = y
+  settled_stays (acknowledge_next c) a q y = y
   settled_stays (send_forward f) a q y = y
   settled_stays (forward_comes f) a q y = y
   settled_stays (perform_reset s c) a q y = y
 
   -- a fragment that was seen and isn't held isn't held again
-  pub dropped_stays : (e : Rule) → IsAllowed message is_interleaved x e → (t : ℕ) → x.receiver.seen t ≡ true → x.receiver.held t ≡ false
+  pub dropped_stays : (e : TransferEvent) → IsAllowed message is_interleaved x e → (t : ℕ) → x.receiver.seen t ≡ true → x.receiver.held t ≡ false
       → ((after message is_interleaved x e).receiver.seen t ≡ true) × ((after message is_interleaved x e).receiver.held t ≡ false)
   dropped_stays accept a t y h = (y, h)
   dropped_stays (begin p) a t y h = (y, h)
@@ -69,7 +69,7 @@ module _ (message : ℕ → Message) (is_interleaved : Bool) (x : Transfer) (k :
   dropped_stays (late_comes u) a t y h = (put_keeps x.receiver.seen u t y, h)
   dropped_stays (become_ready p) a t y h = (y, and_left (x.receiver.held t) (not (eqb (place_of x.sender t) p)) h)
   dropped_stays (send_sack c) a t y h = (y, h)
-  dropped_stays (ack_point_advances c) a t y h = (y, h)
+  dropped_stays (acknowledge_next c) a t y h = (y, h)
   dropped_stays (send_forward f) a t y h = (y, h)
   dropped_stays (forward_comes f) a t y h = (or_right (ltb t f.upto) (x.receiver.seen t) y, and_left (x.receiver.held t) (not (drops message is_interleaved x.sender f t)) h)
   dropped_stays (perform_reset s c) a t y h = (y, and_left (x.receiver.held t) (not (eqb (stream_of message (place_of x.sender t)) s)) h)

@@ -1,7 +1,7 @@
 -- No rule of the transfer lets numbers on the wire begin again.
 use Rattle.std.proofs.Common.{◌≡◌, ℕ, suc, ◌&&◌, Bool, cond, inl, inr, List, [], ◌∷◌, refl, sym, ap, ◌∙◌, subst, eqb}
 use Rattle.proof_protocol.specs.State.{Message, Entry, ForwardPoint, Transfer, IsAmong, start, ordered_of, stream_of}
-use Rattle.proof_protocol.specs.Rules.{Rule, accept, begin, number, end_with_placeholder, give_up, data_comes, late_comes, become_ready, send_sack, ack_point_advances, send_forward, forward_comes, perform_reset, same, AreWritten, Happens, IsAllowed, after, run}
+use Rattle.proof_protocol.specs.Rules.{TransferEvent, accept, begin, number, end_with_placeholder, give_up, data_comes, late_comes, become_ready, send_sack, acknowledge_next, send_forward, forward_comes, perform_reset, same, AreWritten, Happens, IsAllowed, after, run}
 use Rattle.proof_protocol.specs.Written.{AreTheirOwn}
 
 pub own_at_start : AreTheirOwn start.sender start.forward_points
@@ -28,7 +28,7 @@ module _ (message : ℕ → Message) (is_interleaved : Bool) (x : Transfer) (h :
       subst (λ (v : Entry). v.written ≡ v.number) (sym is) (sym z.6 ∙ (h.messages _ ∙ z.5))
   own_entries from upto (d ∷ es) w e (inr a) = own_entries from upto es w.1 e a
 
-  pub own_after : (e : Rule) → IsAllowed message is_interleaved x e → AreTheirOwn (after message is_interleaved x e).sender (after message is_interleaved x e).forward_points
+  pub own_after : (e : TransferEvent) → IsAllowed message is_interleaved x e → AreTheirOwn (after message is_interleaved x e).sender (after message is_interleaved x e).forward_points
   own_after accept a = record { messages = h.messages; next = h.next; entries = h.entries }
   own_after (begin p) a = own_begun p
   own_after (number p bytes more) a = record { messages = h.messages; next = h.next; entries = h.entries }
@@ -38,7 +38,7 @@ module _ (message : ℕ → Message) (is_interleaved : Bool) (x : Transfer) (h :
   own_after (late_comes t) a = h
   own_after (become_ready p) a = h
   own_after (send_sack c) a = h
-  own_after (ack_point_advances c) a = h
+  own_after (acknowledge_next c) a = h
   own_after (send_forward f) a = record { messages = h.messages; next = h.next; entries = entries }
     where
       entries : (g : ForwardPoint) → IsAmong g (f ∷ x.forward_points) → (e : Entry) → IsAmong e g.entries → e.written ≡ e.number
@@ -48,7 +48,7 @@ module _ (message : ℕ → Message) (is_interleaved : Bool) (x : Transfer) (h :
   own_after (forward_comes f) a = h
   own_after (perform_reset s c) a = h
 
-pub own_along : (message : ℕ → Message) (is_interleaved : Bool) (es : List Rule) (x : Transfer) → Happens message is_interleaved x es → AreTheirOwn x.sender x.forward_points
+pub own_along : (message : ℕ → Message) (is_interleaved : Bool) (es : List TransferEvent) (x : Transfer) → Happens message is_interleaved x es → AreTheirOwn x.sender x.forward_points
     → AreTheirOwn (run message is_interleaved x es).sender (run message is_interleaved x es).forward_points
 own_along message is_interleaved [] x m h = h
 own_along message is_interleaved (e ∷ es) x m h = own_along message is_interleaved es (after message is_interleaved x e) m.1 (own_after message is_interleaved x h e m.0)

@@ -32,14 +32,14 @@ pub record AtRest (x : Transfer) : Type 0 where
   pub no_item : x.acknowledged ≡ count x.sender
 
 -- at rest, each accepted message is ready or was given up
-abbrev pub Rest : Transfer → Type 0
-Rest x = AtRest x → (p : ℕ) → p < x.sender.accepted → (has p x.receiver.places ≡ true) ⊎ (x.sender.given_up p ≡ true)
+abbrev pub RestClaim : Transfer → Type 0
+RestClaim x = AtRest x → (p : ℕ) → p < x.sender.accepted → (has p x.receiver.places ≡ true) ⊎ (x.sender.given_up p ≡ true)
 
 pub record Claims (message : ℕ → Message) (x : Transfer) : Type 0 where
   pub fits : Fits message x
   pub skipped : Skipped message x
   pub reports : TrueReports x
-  pub rest : Rest x
+  pub rest : RestClaim x
 
 -- from x to y, what became ready only grew at its back
 abbrev pub Grows : Transfer → Transfer → Type 0

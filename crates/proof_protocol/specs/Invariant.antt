@@ -91,7 +91,7 @@ module _ (message : ℕ → Message) where
   -- what a forward point says
   pub record ForwardTrue (is_interleaved : Bool) (o : Sender) (i : Receiver) (f : ForwardPoint) : Type 0 where
     pub within : f.upto ≤ count o
-    pub reached : (t : ℕ) → t < f.upto → (i.seen t ≡ true)
+    pub seen_or_given_up : (t : ℕ) → t < f.upto → (i.seen t ≡ true)
         ⊎ ((o.given_up (place_of o t) ≡ true) × (ordered_of message (place_of o t) ≡ true → covers f.entries true (stream_of message (place_of o t)) (o.number (place_of o t)) ≡ true))
     pub named_done : (p : ℕ) → o.begun p ≡ true → covers f.entries (ordered_of message p) (stream_of message p) (o.number p) ≡ true → IsDone o i p
     pub named_counts : (kind : Bool) (s n : ℕ) → covers f.entries kind s n ≡ true → n < o.counts kind s

@@ -1,7 +1,7 @@
 -- Stream resets over the transfer (RFC 6525). A message belongs to the epoch that its stream is in at its acceptance.
 use Rattle.std.specs.Prelude.{◌≡◌, ℕ, suc, ◌<◌, ◌≤◌, ◌==◌, ◌&&◌, ◌⊎◌, Bool, true, false, cond, List, [], ◌∷◌}
 use Rattle.proof_protocol.specs.State.{Message, Sender, Transfer, IsAmong, put, count, place_of, stream_of, start}
-use Rattle.proof_protocol.specs.Rules.{Rule, accept, begin, send_forward, perform_reset, IsSettled, IsRipe, IsAllowed, after}
+use Rattle.proof_protocol.specs.Rules.{TransferEvent, accept, begin, send_forward, perform_reset, IsSettled, IsRipe, IsAllowed, after}
 use Rattle.proof_protocol.specs.Invariant.{Invariant}
 
 -- an outgoing reset request: with it the epoch begins, and all fragments of the earlier ones are below `upto`
@@ -20,7 +20,7 @@ pub record Epochs : Type 0 where
   pub base : ℕ → ℕ → Bool → ℕ  -- by stream, epoch and kind: how many messages were numbered before the epoch. It is 0 on the wire
 
 pub data ResetEvent : Type 0 where
-  transfers : (e : Rule) → ResetEvent
+  transfers : (e : TransferEvent) → ResetEvent
   reset_stream : (s : ℕ) → ResetEvent  -- `reset_streams` names an open stream
   send_request : (s : ℕ) → ResetEvent
   perform : (r : Request) → ResetEvent
@@ -47,7 +47,7 @@ rebase x r s e kind = cond ((s == r.stream) && (e == r.epoch)) (x.transfer.sende
 
 module _ (message : ℕ → Message) (is_interleaved : Bool) where
   -- a message waits until its stream is open again, and no forward point goes on where a request was sent
-  abbrev pub InEpoch : Epochs → Rule → Type 0
+  abbrev pub InEpoch : Epochs → TransferEvent → Type 0
   InEpoch x (begin p) = x.epoch p ≤ x.opened (stream_of message p)
   InEpoch x (send_forward f) = (r : Request) → IsAmong r x.requests → (f.upto ≤ r.upto) ⊎ (r.upto ≤ x.transfer.acknowledged)
   InEpoch x (perform_reset s c) = ⊥
@@ -64,7 +64,7 @@ module _ (message : ℕ → Message) (is_interleaved : Bool) where
       × ((t : ℕ) → t < r.upto → x.transfer.receiver.seen t ≡ true) × ((p : ℕ) → IsRipe message x.transfer.sender x.transfer.receiver p → ⊥)
   MayReset x (commit s) = (x.raised s ≡ suc (x.opened s)) × (x.raised s ≤ x.performed s)
 
-  abbrev pub epochs_after : Epochs → Rule → ℕ → ℕ
+  abbrev pub epochs_after : Epochs → TransferEvent → ℕ → ℕ
   epochs_after x accept = put x.epoch x.transfer.sender.accepted (x.raised (stream_of message x.transfer.sender.accepted))
   epochs_after x e = x.epoch
 

@@ -3,20 +3,20 @@
 use Rattle.std.specs.Prelude.{◌≡◌, ℕ, suc, ◌<◌, ◌≤◌, ◌==◌, ◌&&◌, ◌||◌, not, nat_lt, nat_le, max, Bool, true, false, cond, ◌⊎◌, List, [], ◌∷◌, ◌++◌}
 use Rattle.proof_protocol.specs.State.{Message, Fragment, Entry, ForwardPoint, Sender, Receiver, Transfer, fragment, place_of, count, put, IsAmong, gather, parts, is_empty, stream_of, ordered_of}
 
-pub data Rule : Type 0 where
-  accept : Rule  -- the next message goes into the send queue
-  begin : (p : ℕ) → Rule  -- a message takes its SSN or MID
-  number : (p : ℕ) (bytes more : List ℕ) → Rule  -- its next fragment takes a TSN, and `more` is left of it
-  end_with_placeholder : (p : ℕ) → Rule  -- a placeholder end takes a TSN
-  give_up : (p : ℕ) → Rule
-  data_comes : (t : ℕ) → Rule
-  late_comes : (t : ℕ) → Rule  -- a fragment of a message that was given up: seen, and not held
-  become_ready : (p : ℕ) → Rule  -- a message becomes ready
-  send_sack : (c : ℕ) → Rule  -- it acknowledges the fragments below c
-  ack_point_advances : (c : ℕ) → Rule  -- such a SACK has come, and one fragment leaves the sender
-  send_forward : (f : ForwardPoint) → Rule
-  forward_comes : (f : ForwardPoint) → Rule
-  perform_reset : (s c : ℕ) → Rule  -- an outgoing reset request of stream s is performed (RFC 6525 section 5.2.2)
+pub data TransferEvent : Type 0 where
+  accept : TransferEvent  -- the next message goes into the send queue
+  begin : (p : ℕ) → TransferEvent  -- a message takes its SSN or MID
+  number : (p : ℕ) (bytes more : List ℕ) → TransferEvent  -- its next fragment takes a TSN, and `more` is left of it
+  end_with_placeholder : (p : ℕ) → TransferEvent  -- a placeholder end takes a TSN
+  give_up : (p : ℕ) → TransferEvent
+  data_comes : (t : ℕ) → TransferEvent
+  late_comes : (t : ℕ) → TransferEvent  -- a fragment of a message that was given up: seen, and not held
+  become_ready : (p : ℕ) → TransferEvent  -- a message becomes ready
+  send_sack : (c : ℕ) → TransferEvent  -- it acknowledges the fragments below c
+  acknowledge_next : (c : ℕ) → TransferEvent  -- such a SACK has come, and one fragment leaves the sender
+  send_forward : (f : ForwardPoint) → TransferEvent
+  forward_comes : (f : ForwardPoint) → TransferEvent
+  perform_reset : (s c : ℕ) → TransferEvent  -- an outgoing reset request of stream s is performed (RFC 6525 section 5.2.2)
 
 -- not numbered, and not given up
 pub record Waits (o : Sender) (p : ℕ) : Type 0 where
@@ -153,7 +153,7 @@ module _ (message : ℕ → Message) (is_interleaved : Bool) where
     pub as_written : AreWritten o acknowledged f.upto f.entries
 
   -- may this happen now?
-  abbrev pub IsAllowed : Transfer → Rule → Type 0
+  abbrev pub IsAllowed : Transfer → TransferEvent → Type 0
   IsAllowed x accept = Unit {0}
   IsAllowed x (begin p) =
       Waits x.sender p × ((q : ℕ) → q < p → stream_of message q ≡ stream_of message p → IsSettled x.sender q)
@@ -167,12 +167,12 @@ module _ (message : ℕ → Message) (is_interleaved : Bool) where
       × (x.sender.number (place_of x.sender t) < floor x.receiver (ordered_of message (place_of x.sender t)) (stream_of message (place_of x.sender t)))
   IsAllowed x (become_ready p) = IsRipe message x.sender x.receiver p
   IsAllowed x (send_sack c) = ((t : ℕ) → t < c → x.receiver.seen t ≡ true) × ((p : ℕ) → IsRipe message x.sender x.receiver p → ⊥)
-  IsAllowed x (ack_point_advances c) = IsAmong c x.sacks × (x.acknowledged < c)
+  IsAllowed x (acknowledge_next c) = IsAmong c x.sacks × (x.acknowledged < c)
   IsAllowed x (send_forward f) = IsDue x.sender x.acknowledged f
   IsAllowed x (forward_comes f) = IsAmong f x.forward_points
   IsAllowed x (perform_reset s c) = IsResettable message x.sender x.receiver s c
 
-  abbrev pub after : Transfer → Rule → Transfer
+  abbrev pub after : Transfer → TransferEvent → Transfer
   after x accept = record x { sender = accepts x.sender }
   after x (begin p) = record x { sender = begins message x.sender p }
   after x (number p bytes more) = record x { sender = numbers x.sender (part x.sender p bytes more) }
@@ -182,16 +182,16 @@ module _ (message : ℕ → Message) (is_interleaved : Bool) where
   after x (late_comes t) = record x { receiver = marks x.receiver t }
   after x (become_ready p) = record x { receiver = makes_ready message x.sender x.receiver p }
   after x (send_sack c) = record x { sacks = c ∷ x.sacks }
-  after x (ack_point_advances c) = record x { acknowledged = suc x.acknowledged; reports = x.reports ++ report x.sender x.acknowledged }
+  after x (acknowledge_next c) = record x { acknowledged = suc x.acknowledged; reports = x.reports ++ report x.sender x.acknowledged }
   after x (send_forward f) = record x { forward_points = f ∷ x.forward_points }
   after x (forward_comes f) = record x { receiver = skips x.sender x.receiver f }
   after x (perform_reset s c) = record x { receiver = performs_reset message x.sender x.receiver s }
 
   -- a whole schedule may happen from this state
-  abbrev pub Happens : Transfer → List Rule → Type 0
+  abbrev pub Happens : Transfer → List TransferEvent → Type 0
   Happens x [] = Unit {0}
   Happens x (e ∷ es) = IsAllowed x e × Happens (after x e) es
 
-  abbrev pub run : Transfer → List Rule → Transfer
+  abbrev pub run : Transfer → List TransferEvent → Transfer
   run x [] = x
   run x (e ∷ es) = run (after x e) es

@@ -10,7 +10,7 @@ ghost use Rattle.proof_protocol.specs.Invariant.{Invariant};
 ghost use Rattle.proof_protocol.specs.Lifted.{AreEntriesOfCurrentEpoch, IsOfCurrentEpoch, IsRebased, lift, wire_chunk, wire_key, wire_point};
 ghost use Rattle.proof_protocol.specs.Reassembly.{Added, Forwarded, ResetPerformed, IsLate, NoneReady, KeyOf, Queue, Readied, below_of, chunk_of, key_of, next_of};
 ghost use Rattle.proof_protocol.specs.Resets.{restarts};
-ghost use Rattle.proof_protocol.specs.Rules.{IsAllowed, data_comes, become_ready, Rule, perform_reset, forward_comes, late_comes, IsResettable, send_sack, after};
+ghost use Rattle.proof_protocol.specs.Rules.{IsAllowed, data_comes, become_ready, TransferEvent, perform_reset, forward_comes, late_comes, IsResettable, send_sack, after};
 ghost use Rattle.proof_protocol.specs.State.{ForwardPoint, IsAmong, Message, Transfer, count, fragment};
 
 /// A chunk that was not seen is put under its key, and then run after run becomes ready until none is left.
@@ -98,14 +98,14 @@ pub fn sack_is_made()
 /// While the sender goes on, the queue refines the state still, and a fragment is carried by the same chunk under the same
 /// key: so what was sent may come at any time. Nor is it shown that a stream's numbers on the wire begin again (`restarted`).
 pub fn sender_goes_on()
-    ensures shows { (message : ℕ → Message) (is_interleaved : Bool) (x : Transfer) (e : Rule) (q : Queue (KeyOf is_interleaved) (next_of is_interleaved)) →
+    ensures shows { (message : ℕ → Message) (is_interleaved : Bool) (x : Transfer) (e : TransferEvent) (q : Queue (KeyOf is_interleaved) (next_of is_interleaved)) →
         Invariant message is_interleaved x → IsAllowed message is_interleaved x e → (after message is_interleaved x e).receiver ≡ x.receiver →
         Refines message is_interleaved x q → Refines message is_interleaved (after message is_interleaved x e) q }
-    ensures chunk { (message : ℕ → Message) (is_interleaved : Bool) (x : Transfer) (e : Rule) (t : ℕ) →
+    ensures chunk { (message : ℕ → Message) (is_interleaved : Bool) (x : Transfer) (e : TransferEvent) (t : ℕ) →
         Invariant message is_interleaved x → IsAllowed message is_interleaved x e → t < count x.sender →
         (t < count (after message is_interleaved x e).sender) × (fragment (after message is_interleaved x e).sender t ≡ fragment x.sender t)
         × (chunk_of message is_interleaved (after message is_interleaved x e).sender t ≡ chunk_of message is_interleaved x.sender t) }
-    ensures key { (message : ℕ → Message) (is_interleaved : Bool) (x : Transfer) (e : Rule) (t : ℕ) →
+    ensures key { (message : ℕ → Message) (is_interleaved : Bool) (x : Transfer) (e : TransferEvent) (t : ℕ) →
         Invariant message is_interleaved x → IsAllowed message is_interleaved x e → t < count x.sender →
         key_of is_interleaved message (after message is_interleaved x e).sender t ≡ key_of is_interleaved message x.sender t }
     ensures restarted { (message : ℕ → Message) (is_interleaved : Bool) (x : Transfer) (q : Queue (KeyOf is_interleaved) (next_of is_interleaved)) (s : ℕ) →

@@ -4,7 +4,7 @@
 ghost use Rattle.std.specs.Prelude.{◌≡◌, ◌+◌, ◌<◌, ◌≤◌, ◌++◌, Bool, List, None, Option, Some, [], ◌∷◌, cond, false, replicate, true, ℕ};
 ghost use Rattle.proof_protocol.specs.Joints.{Sends, reports_of};
 ghost use Rattle.proof_protocol.specs.Invariant.{Invariant};
-ghost use Rattle.proof_protocol.specs.Rules.{accept, begin, end_with_placeholder, give_up, Happens, ack_point_advances, number, run};
+ghost use Rattle.proof_protocol.specs.Rules.{accept, begin, end_with_placeholder, give_up, Happens, acknowledge_next, number, run};
 ghost use Rattle.proof_protocol.specs.Sending.{Queued, Waiting};
 ghost use Rattle.proof_protocol.specs.State.{IsAmong, Message, Transfer, is_empty, put, stream_of};
 
@@ -59,8 +59,8 @@ pub fn sent_is_given_up()
 /// A SACK that was ever sent takes all fragments below its point away, with the reports in the order of their TSNs.
 pub fn sack_comes()
     ensures may { (message : ℕ → Message) (is_interleaved : Bool) (x : Transfer) (n c : ℕ) → IsAmong c x.sacks → x.acknowledged + n ≤ c →
-        Happens message is_interleaved x (replicate n (ack_point_advances c)) }
+        Happens message is_interleaved x (replicate n (acknowledge_next c)) }
     ensures leads { (message : ℕ → Message) (is_interleaved : Bool) (x : Transfer) (n c : ℕ) → IsAmong c x.sacks → x.acknowledged + n ≤ c →
-        run message is_interleaved x (replicate n (ack_point_advances c))
+        run message is_interleaved x (replicate n (acknowledge_next c))
         ≡ record x { acknowledged = x.acknowledged + n; reports = x.reports ++ reports_of x.sender x.acknowledged n } }
 {}

@@ -3,7 +3,7 @@
 ghost use Rattle.std.specs.Prelude.{Bool, List, ℕ, ◌++◌};
 ghost use Rattle.proof_protocol.specs.Claims.{Claims, Grows};
 ghost use Rattle.proof_protocol.specs.Invariant.{Invariant};
-ghost use Rattle.proof_protocol.specs.Rules.{IsAllowed, Rule, Happens, after, run};
+ghost use Rattle.proof_protocol.specs.Rules.{IsAllowed, TransferEvent, Happens, after, run};
 ghost use Rattle.proof_protocol.specs.State.{Message, Transfer, start};
 ghost use Rattle.proof_protocol.specs.Written.{AreTheirOwn};
 
@@ -16,9 +16,9 @@ ghost use Rattle.proof_protocol.specs.Written.{AreTheirOwn};
 /// It does not claim that anything ever arrives, that a message is given up for a good reason, or anything of a peer
 /// that breaks the rules.
 pub fn always()
-    ensures claims { (message : ℕ → Message) (is_interleaved : Bool) (events : List Rule) →
+    ensures claims { (message : ℕ → Message) (is_interleaved : Bool) (events : List TransferEvent) →
         Happens message is_interleaved start events → Claims message (run message is_interleaved start events) }
-    ensures grows { (message : ℕ → Message) (is_interleaved : Bool) (early late : List Rule) →
+    ensures grows { (message : ℕ → Message) (is_interleaved : Bool) (early late : List TransferEvent) →
         Grows (run message is_interleaved start early) (run message is_interleaved start (early ++ late)) }
 {}
 
@@ -26,15 +26,15 @@ pub fn always()
 /// events: it shows that each of its steps is a few rules.
 pub fn keeps()
     ensures first { (message : ℕ → Message) (is_interleaved : Bool) → Invariant message is_interleaved start }
-    ensures step { (message : ℕ → Message) (is_interleaved : Bool) (x : Transfer) (e : Rule) →
+    ensures step { (message : ℕ → Message) (is_interleaved : Bool) (x : Transfer) (e : TransferEvent) →
         Invariant message is_interleaved x → IsAllowed message is_interleaved x e → Invariant message is_interleaved (after message is_interleaved x e) }
     ensures claims { (message : ℕ → Message) (is_interleaved : Bool) (x : Transfer) → Invariant message is_interleaved x → Claims message x }
-    ensures grows { (message : ℕ → Message) (is_interleaved : Bool) (x : Transfer) (e : Rule) → Grows x (after message is_interleaved x e) }
+    ensures grows { (message : ℕ → Message) (is_interleaved : Bool) (x : Transfer) (e : TransferEvent) → Grows x (after message is_interleaved x e) }
 {}
 
 /// As long as no stream is reset, the numbers on the wire are those of the rules: of messages, the next ones, and those that forward
 /// points name.
 pub fn numbers_are_written()
-    ensures along { (message : ℕ → Message) (is_interleaved : Bool) (events : List Rule) → Happens message is_interleaved start events →
+    ensures along { (message : ℕ → Message) (is_interleaved : Bool) (events : List TransferEvent) → Happens message is_interleaved start events →
         AreTheirOwn (run message is_interleaved start events).sender (run message is_interleaved start events).forward_points }
 {}

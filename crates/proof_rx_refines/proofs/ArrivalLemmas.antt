@@ -9,7 +9,7 @@ use Rattle.sctp_rx.specs.ReassemblyKey.{pair_rank}
 use Rattle.sctp_rx.specs.Runs.{is_held, put_in, with_item}
 use Rattle.sctp_rx.specs.Held.{Held, rank_of, intervals_of, is_complete, left_by}
 use Rattle.sctp_rx.specs.SettledLaws.{AreInOrder, AreSettled, IsSettledInOrder, IsSettled}
-use Rattle.sctp_rx.specs.Delivery.{OrderedDelivery, UnorderedDelivery, fresh_ordered, fresh_unordered, deliver, complete_messages, at_rest, deliver_complete, ordered_arrival, unordered_arrival}
+use Rattle.sctp_rx.specs.Delivery.{OrderedDelivery, UnorderedDelivery, fresh_ordered, fresh_unordered, deliver, first_complete, at_rest, deliver_first_complete, ordered_arrival, unordered_arrival}
 use Rattle.sctp_rx.specs.ReassemblyStreams.{Streams, Outcome, with_ordered, with_unordered, unchanged, is_far, add_ordered, add_unordered}
 use Rattle.sctp_reassembly.proofs.SettledInsertLemmas.{came_in}
 use Rattle.proof_protocol.specs.Reassembly.{Queue, KeyOf, next_of, Added}
@@ -167,19 +167,19 @@ module _ (is_interleaved : Bool) (shift : ℕ) (decide : Decided is_interleaved)
   unordered_arrives file current near =
       let hs = with_item rank_of x (held_on ss false id) in
       let s = unordered_at ss id in
-      let d : UnorderedDelivery = deliver_complete (record s { near = max origin x.number; held = hs }) in
+      let d : UnorderedDelivery = deliver_first_complete (record s { near = max origin x.number; held = hs }) in
       let l = completes is_interleaved shift decide (w false file) (m false file) id hs (m_seen false file) (w_held false file) (w_order false file) in
-      let l' = leads_alike is_interleaved shift decide (m false file) (moved (w false file) false id (left_by is_complete hs) 0 (complete_messages hs)) (moved v false id (left_by is_complete hs) 0 (complete_messages hs))
-      (moved_twice v false id (put_in rank_of x (held_on ss false id)) (left_by is_complete hs) (v.next id) 0 [] (complete_messages hs)) l in
-      let l'' = leads_alike is_interleaved shift decide (m false file) (moved v false id (left_by is_complete hs) 0 (complete_messages hs)) (view_with (with_unordered id d ss).streams (ready ++ complete_messages hs)) (unordered_moved ss id ready d refl) l' in
+      let l' = leads_alike is_interleaved shift decide (m false file) (moved (w false file) false id (left_by is_complete hs) 0 (first_complete hs)) (moved v false id (left_by is_complete hs) 0 (first_complete hs))
+      (moved_twice v false id (put_in rank_of x (held_on ss false id)) (left_by is_complete hs) (v.next id) 0 [] (first_complete hs)) l in
+      let l'' = leads_alike is_interleaved shift decide (m false file) (moved v false id (left_by is_complete hs) 0 (first_complete hs)) (view_with (with_unordered id d ss).streams (ready ++ first_complete hs)) (unordered_moved ss id ready d refl) l' in
       subst Arrival (sym is) (record { middle = m false file; comes = m_added false file; leads = l'' })
     where
-      is : add_unordered id x ss ≡ with_unordered id (deliver_complete (let s = unordered_at ss id in record s { near = max origin x.number; held = with_item rank_of x s.held })) ss
+      is : add_unordered id x ss ≡ with_unordered id (deliver_first_complete (let s = unordered_at ss id in record s { near = max origin x.number; held = with_item rank_of x s.held })) ss
       is =
           cond-false (is_far x.number) (unchanged ss) (with_unordered id (unordered_arrival x (unordered_at ss id)) ss) near
           ∙ ap (λ (z : UnorderedDelivery). with_unordered id z ss)
           (cond-false (nat_lt x.number (unordered_at ss id).passed) (let s = unordered_at ss id in record { stream = record s { near = max origin x.number }; messages = [] })
-          (deliver_complete (let s = unordered_at ss id in record s { near = max origin x.number; held = with_item rank_of x s.held })) current)
+          (deliver_first_complete (let s = unordered_at ss id in record s { near = max origin x.number; held = with_item rank_of x s.held })) current)
 
 -- ---- a late fragment
 
@@ -206,4 +206,4 @@ module _ (ss : Streams) (ready : List Message) (id : ℕ) (x : Held) (near : is_
           cond-false (is_far x.number) (unchanged ss) (with_unordered id (unordered_arrival x (unordered_at ss id)) ss) near
           ∙ ap (λ (z : UnorderedDelivery). with_unordered id z ss)
           (cond-true (nat_lt x.number (unordered_at ss id).passed) (let s = unordered_at ss id in record { stream = record s { near = max origin x.number }; messages = [] })
-          (deliver_complete (let s = unordered_at ss id in record s { near = max origin x.number; held = with_item rank_of x s.held })) late)
+          (deliver_first_complete (let s = unordered_at ss id in record s { near = max origin x.number; held = with_item rank_of x s.held })) late)

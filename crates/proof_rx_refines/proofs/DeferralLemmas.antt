@@ -10,7 +10,7 @@ use Rattle.sctp_serial.specs.Unwrapped.{origin}
 use Rattle.sctp_serial.specs.declared.api.StreamId.{StreamId}
 use Rattle.sctp_chunk.specs.declared.forward_tsn.SkippedStream.{SkippedStream}
 use Rattle.sctp_rx.specs.ReassemblyStreams.{Streams, is_named, is_far, entries_in, skipped_id}
-use Rattle.sctp_rx.specs.ReassemblyQueue.{Reassembly, Deferred, number_of, came, fragment_waits, point_waits, resetting, waiting_in, waits, Forwarded, wait_with, forward_now, forward_or_wait, forward}
+use Rattle.sctp_rx.specs.ReassemblyQueue.{Reassembly, Deferred, number_of, came, is_kept_back, point_waits, resetting, waiting_in, keep_back, Forwarded, wait_with, forward_now, forward_or_wait, forward}
 use Rattle.proof_protocol.specs.State.{Message, Entry, ForwardPoint, IsAmong, place_of, count, stream_of}
 use Rattle.proof_protocol.specs.Lifted.{as_written, wire_point}
 use Rattle.proof_protocol.specs.Rules.{covers}
@@ -60,7 +60,7 @@ module _ (message : ℕ → Message) (is_interleaved : Bool) (x : Epochs) (k : I
 
   -- ---- a fragment
 
-  pub fragment_at_once : (n t id : ℕ) → n + shift ≡ origin + t → t < count x.transfer.sender → id ≡ stream_of message (place_of x.transfer.sender t) → fragment_waits n id (Some d) ≡ false
+  pub fragment_at_once : (n t id : ℕ) → n + shift ≡ origin + t → t < count x.transfer.sender → id ≡ stream_of message (place_of x.transfer.sender t) → is_kept_back n id (Some d) ≡ false
   fragment_at_once n t id at numbered on = go (is_named d.streams id) refl
     where
       low : (a b s u : ℕ) → a + s + 1 ≡ origin + u → b + s ≡ origin + t → t < u → nat_lt a b ≡ false
@@ -136,5 +136,5 @@ module _ (message : ℕ → Message) (is_interleaved : Bool) (x : Epochs) (k : I
           (forward_now (number_of r tsn) xs (came tsn r))) deferred
           ∙ (cond-true (nat_lt d.last (number_of r tsn)) (wait_with (number_of r tsn) (entries_in true d.streams xs) part) (forward_now (number_of r tsn) xs (came tsn r)) e
           ∙ (ap (λ (ys : List SkippedStream). wait_with (number_of r tsn) ys part) here
-          ∙ (cond-true (length (waiting_in r.deferred) == 0) part (waits (Forwarded (number_of r tsn) []) part) (ap (λ (o : Option Deferred). length (waiting_in o) == 0) deferred ∙ ap (λ ws. length ws == 0) is.idle)
+          ∙ (cond-true (length (waiting_in r.deferred) == 0) part (keep_back (Forwarded (number_of r tsn) []) part) (ap (λ (o : Option Deferred). length (waiting_in o) == 0) deferred ∙ ap (λ ws. length ws == 0) is.idle)
           ∙ ap (λ (ys : List SkippedStream). forward_now (number_of r tsn) ys (came tsn r)) others))))

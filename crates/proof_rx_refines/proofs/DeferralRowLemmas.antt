@@ -4,15 +4,15 @@ use Rattle.std.specs.Prelude.{unwrap_or, is_some}
 use Rattle.std.specs.List.{list_all}
 use Rattle.std.proofs.lemmas.Bool.{and_parts}
 use Rattle.sctp_serial.specs.Messages as messages
-use Rattle.sctp_serial.specs.Unwrapped.{origin, words, wire}
+use Rattle.sctp_serial.specs.Unwrapped.{origin, u32_space, wire}
 use Rattle.sctp_serial.specs.declared.api.StreamId.{StreamId}
 use Rattle.sctp_packet.specs.Chunk.{FragmentTree}
 use Rattle.sctp_chunk.specs.declared.forward_tsn.SkippedStream.{SkippedStream}
 use Rattle.sctp_rx.specs.DataTracker as tracker
 use Rattle.sctp_rx.specs.DataTracker.{Tracker, IsTracker, moves_on, observe}
-use Rattle.sctp_rx.specs.ReassemblyQueue.{Reassembly, Deferred, number_of, fragment_waits, waiting_in, came, add, forward, defer, forward_now}
+use Rattle.sctp_rx.specs.ReassemblyQueue.{Reassembly, Deferred, number_of, is_kept_back, waiting_in, came, add, forward, defer, forward_now}
 use Rattle.proof_protocol.specs.State.{Message, ForwardPoint, Transfer, IsAmong, count}
-use Rattle.proof_protocol.specs.Rules.{Rule, accept, begin, number, end_with_placeholder, give_up, data_comes, late_comes, become_ready, send_sack, ack_point_advances, send_forward, forward_comes, perform_reset, IsAllowed, Happens, after, run}
+use Rattle.proof_protocol.specs.Rules.{TransferEvent, accept, begin, number, end_with_placeholder, give_up, data_comes, late_comes, become_ready, send_sack, acknowledge_next, send_forward, forward_comes, perform_reset, IsAllowed, Happens, after, run}
 use Rattle.proof_protocol.specs.Lifted.{wire_point, IsOfCurrentEpoch, AreEntriesOfCurrentEpoch}
 use Rattle.proof_protocol.specs.Points.{AreApart}
 use Rattle.proof_protocol.specs.Invariant.{Invariant}
@@ -34,7 +34,7 @@ use Rattle.proof_rx_refines.proofs.DeferralLemmas.{fragment_at_once, point_calle
 
 -- ---- the rules go on
 
-abbrev is_arrival : Rule → Bool
+abbrev is_arrival : TransferEvent → Bool
 is_arrival (data_comes t) = true
 is_arrival (late_comes t) = true
 is_arrival (become_ready p) = true
@@ -46,7 +46,7 @@ all_ready [] = refl
 all_ready (p ∷ ps) = all_ready ps
 
 module _ (message : ℕ → Message) (is_interleaved : Bool) where
-  one_arrives : (x : Epochs) (e : Rule) → is_arrival e ≡ true → IsAllowed message is_interleaved x.transfer e
+  one_arrives : (x : Epochs) (e : TransferEvent) → is_arrival e ≡ true → IsAllowed message is_interleaved x.transfer e
       → MayReset message is_interleaved x (transfers e) × (goes message is_interleaved x (transfers e) ≡ record x { transfer = after message is_interleaved x.transfer e })
   one_arrives x (data_comes t) is may = ((may, tt), refl)
   one_arrives x (late_comes t) is may = ((may, tt), refl)
@@ -58,15 +58,15 @@ module _ (message : ℕ → Message) (is_interleaved : Bool) where
   one_arrives x (end_with_placeholder p) is may = cc
   one_arrives x (give_up p) is may = cc
   one_arrives x (send_sack c) is may = cc
-  one_arrives x (ack_point_advances c) is may = cc
+  one_arrives x (acknowledge_next c) is may = cc
   one_arrives x (send_forward f) is may = cc
   one_arrives x (perform_reset s c) is may = cc
 
-  record Arrived (x : Epochs) (es : List Rule) : Type 0 where
+  record Arrived (x : Epochs) (es : List TransferEvent) : Type 0 where
     may : MayAll message is_interleaved x (map transfers es)
     is : go_all message is_interleaved x (map transfers es) ≡ record x { transfer = run message is_interleaved x.transfer es }
 
-  all_arrive : (es : List Rule) (x : Epochs) → list_all is_arrival es ≡ true → Happens message is_interleaved x.transfer es → Arrived x es
+  all_arrive : (es : List TransferEvent) (x : Epochs) → list_all is_arrival es ≡ true → Happens message is_interleaved x.transfer es → Arrived x es
   all_arrive [] x all h = record { may = tt; is = refl }
   all_arrive (e ∷ es) x all h =
       let a = and_parts (is_arrival e) (list_all is_arrival es) all in
@@ -119,10 +119,10 @@ none_waits shift x first (Some d) h = h.idle
 
 module _ (message : ℕ → Message) (is_interleaved : Bool) (first shift : ℕ) (x : Epochs) (k : InEpochs message is_interleaved x) (windows : IsInWindow x.transfer) (handed : List messages.Message) (t : Tracker) (r : Reassembly)
     (shown : ReceiverRefines message is_interleaved (base_now x) shift x.transfer handed t r) (near : ReadsNear message is_interleaved (base_now x) first shift x.transfer r) (waiting : IsWaitingFor shift x r.first r.deferred) where
-  abbrev kept : Invariant message is_interleaved x.transfer
-  kept = k.order.kept
+  abbrev transfer_invariant : Invariant message is_interleaved x.transfer
+  transfer_invariant = k.order.kept
 
-  comes : (later : ℕ) (es : List Rule) (u : Tracker) (s : Reassembly) → list_all is_arrival es ≡ true → ((w : ℕ) → r.first ≡ Some w → (later ≡ shift) × (s.first ≡ Some w))
+  comes : (later : ℕ) (es : List TransferEvent) (u : Tracker) (s : Reassembly) → list_all is_arrival es ≡ true → ((w : ℕ) → r.first ≡ Some w → (later ≡ shift) × (s.first ≡ Some w))
       → GoesNear message is_interleaved (base_now x) first later x.transfer es handed r.deferred u s → Comes message is_interleaved first later x es handed u s
   comes later es u s all same n =
       let y = run message is_interleaved x.transfer es in
@@ -142,73 +142,73 @@ module _ (message : ℕ → Message) (is_interleaved : Bool) (first shift : ℕ)
 
   -- ---- a fragment
 
-  module _ (is_tracker : IsTracker t) (at tsn : ℕ) (f : FragmentTree) (few : AreFew x.transfer.sender) (tsn_is : tsn ≡ wire words first (origin + at)) (carries : Carries message is_interleaved x.transfer.sender at f)
+  module _ (is_tracker : IsTracker t) (at tsn : ℕ) (f : FragmentTree) (few : AreFew x.transfer.sender) (tsn_is : tsn ≡ wire u32_space first (origin + at)) (carries : Carries message is_interleaved x.transfer.sender at f)
       (written : IsWritten message is_interleaved x.transfer.sender at f) (unseen : was_seen t at ≡ false) (ordered : IsNearNext message x.transfer at) where
     is_now : IsOfCurrentEpoch (base_now x) message x.transfer.sender at
     is_now = unseen_on_wire message is_interleaved x k at carries.numbered (sym (shown.seen at) ∙ unseen)
 
     as_read : IsRead message is_interleaved (shift_after r.first shift at) x.transfer.sender r at tsn f
-    as_read = is_read message is_interleaved (base_now x) first shift x.transfer kept windows handed t r shown near at tsn f tsn_is carries unseen is_now few written ordered
+    as_read = is_read message is_interleaved (base_now x) first shift x.transfer transfer_invariant windows handed t r shown near at tsn f tsn_is carries unseen is_now few written ordered
 
-    at_once : fragment_waits (number_of r tsn) f.stream_id r.deferred ≡ false
+    at_once : is_kept_back (number_of r tsn) f.stream_id r.deferred ≡ false
     at_once = go r.deferred refl waiting
       where
-        go : (o : Option Deferred) → r.deferred ≡ o → IsWaitingFor shift x r.first o → fragment_waits (number_of r tsn) f.stream_id r.deferred ≡ false
-        go None e w = ap (fragment_waits (number_of r tsn) f.stream_id) e
+        go : (o : Option Deferred) → r.deferred ≡ o → IsWaitingFor shift x r.first o → is_kept_back (number_of r tsn) f.stream_id r.deferred ≡ false
+        go None e w = ap (is_kept_back (number_of r tsn) f.stream_id) e
         go (Some d) e w =
             let here = as_read.tsn_is in
             let same = same_shift at w.counts_from w.begun in
-            ap (fragment_waits (number_of r tsn) f.stream_id) e
+            ap (is_kept_back (number_of r tsn) f.stream_id) e
             ∙ fragment_at_once message is_interleaved x k shift r.first d w (number_of r tsn) at f.stream_id (omega (arith, here, same)) carries.numbered carries.stream
 
     begun_then : (w : ℕ) → r.first ≡ Some w → (shift_after r.first shift at ≡ shift) × ((add tsn f r).first ≡ Some w)
     begun_then w e = (
       same_shift at w e,
-      first_is message is_interleaved (base_now x) shift x.transfer kept handed t r shown is_tracker at tsn f at_once carries as_read unseen is_now ∙ ap (λ (o : Option ℕ). Some (unwrap_or o tsn)) e,
+      first_is message is_interleaved (base_now x) shift x.transfer transfer_invariant handed t r shown is_tracker at tsn f at_once carries as_read unseen is_now ∙ ap (λ (o : Option ℕ). Some (unwrap_or o tsn)) e,
     )
 
     pub held_while : (now : Bool) → is_behind message is_interleaved x.transfer.sender x.transfer.receiver at ≡ false
         → (ps : List ℕ) × Comes message is_interleaved first (shift_after r.first shift at) x (data_comes at ∷ map become_ready ps) handed (observe (origin + at) now t) (add tsn f r)
     held_while now current =
-        let l = held_comes message is_interleaved (base_now x) first shift x.transfer kept windows handed t r shown near at tsn f tsn_is carries unseen is_now is_tracker at_once few written ordered now current in
+        let l = held_comes message is_interleaved (base_now x) first shift x.transfer transfer_invariant windows handed t r shown near at tsn f tsn_is carries unseen is_now is_tracker at_once few written ordered now current in
         (l.0, comes (shift_after r.first shift at) (data_comes at ∷ map become_ready l.0) (observe (origin + at) now t) (add tsn f r) (all_ready l.0) begun_then l.1)
 
     pub late_while : (now : Bool) → is_behind message is_interleaved x.transfer.sender x.transfer.receiver at ≡ true
         → Comes message is_interleaved first (shift_after r.first shift at) x (late_comes at ∷ []) handed (observe (origin + at) now t) (add tsn f r)
     late_while now late =
         comes (shift_after r.first shift at) (late_comes at ∷ []) (observe (origin + at) now t) (add tsn f r) refl begun_then
-        (late_comes_then message is_interleaved (base_now x) first shift x.transfer kept windows handed t r shown near at tsn f tsn_is carries unseen is_now is_tracker at_once few written ordered now late)
+        (late_comes_then message is_interleaved (base_now x) first shift x.transfer transfer_invariant windows handed t r shown near at tsn f tsn_is carries unseen is_now is_tracker at_once few written ordered now late)
 
   -- ---- a forward point
 
   module _ (is_tracker : IsTracker t) (at tsn : ℕ) (f : ForwardPoint) (few : AreFew x.transfer.sender) (sent : IsAmong f x.transfer.forward_points) (last : f.upto ≡ suc at) (moves : moves_on (origin + at) t ≡ true)
-      (tsn_is : tsn ≡ wire words first (origin + at)) (apart : AreApart f.entries) (ordered : AreNearNext x.transfer f) (xs : List SkippedStream) (are : AreEntries is_interleaved xs f.entries) where
+      (tsn_is : tsn ≡ wire u32_space first (origin + at)) (apart : AreApart f.entries) (ordered : AreNearNext x.transfer f) (xs : List SkippedStream) (are : AreEntries is_interleaved xs f.entries) where
     are_now : AreEntriesOfCurrentEpoch (base_now x) f
     are_now e a =
-        let u = front message is_interleaved (base_now x) shift x.transfer kept handed t r shown is_tracker in
-        let below = front_below message is_interleaved (base_now x) shift x.transfer kept handed t r shown is_tracker at moves in
-        entries_are_now message is_interleaved x k f u e sent (omega (arith, below, last)) (front_unseen message is_interleaved (base_now x) shift x.transfer kept handed t r shown is_tracker) a (greatest f.entries apart e a)
+        let u = front message is_interleaved (base_now x) shift x.transfer transfer_invariant handed t r shown is_tracker in
+        let below = front_below message is_interleaved (base_now x) shift x.transfer transfer_invariant handed t r shown is_tracker at moves in
+        entries_are_now message is_interleaved x k f u e sent (omega (arith, below, last)) (front_unseen message is_interleaved (base_now x) shift x.transfer transfer_invariant handed t r shown is_tracker) a (greatest f.entries apart e a)
 
     stand : StandForAll is_interleaved r.streams xs (wire_point f).entries
-    stand = entries_read message is_interleaved (base_now x) first shift x.transfer kept windows handed t r shown near is_tracker at tsn f sent last moves are_now few apart ordered xs are
+    stand = entries_read message is_interleaved (base_now x) first shift x.transfer transfer_invariant windows handed t r shown near is_tracker at tsn f sent last moves are_now few apart ordered xs are
 
     there : number_of r tsn + shift_after r.first shift at ≡ origin + at
-    there = read message is_interleaved (base_now x) first shift x.transfer kept windows handed t r shown near is_tracker at tsn f sent last moves are_now tsn_is apart
+    there = read message is_interleaved (base_now x) first shift x.transfer transfer_invariant windows handed t r shown near is_tracker at tsn f sent last moves are_now tsn_is apart
 
     is_called : forward tsn xs r ≡ forward_now (number_of r tsn) xs (came tsn r)
     is_called = go r.deferred refl waiting
       where
         go : (o : Option Deferred) → r.deferred ≡ o → IsWaitingFor shift x r.first o → forward tsn xs r ≡ forward_now (number_of r tsn) xs (came tsn r)
-        go None e w = called message is_interleaved (base_now x) first shift x.transfer kept windows handed t r shown near is_tracker at tsn f sent last moves are_now tsn_is apart e few xs
+        go None e w = called message is_interleaved (base_now x) first shift x.transfer transfer_invariant windows handed t r shown near is_tracker at tsn f sent last moves are_now tsn_is apart e few xs
         go (Some d) e w =
             let here = there in
             let same = same_shift at w.counts_from w.begun in
-            point_called message is_interleaved x k shift r.first d w r e tsn at xs f (omega (arith, here, same)) (point_below message is_interleaved x.transfer kept few at f sent last) last sent stand
+            point_called message is_interleaved x k shift r.first d w r e tsn at xs f (omega (arith, here, same)) (point_below message is_interleaved x.transfer transfer_invariant few at f sent last) last sent stand
 
     pub point_while : (ps : List ℕ) × Comes message is_interleaved first (shift_after r.first shift at) x (forward_comes f ∷ map become_ready ps) handed (tracker.forward (origin + at) t) (forward tsn xs r)
     point_while =
         let c = is_called in
-        let l = point_comes message is_interleaved (base_now x) first shift x.transfer kept windows handed t r shown near is_tracker at tsn f sent last moves are_now tsn_is apart xs c few ordered are in
+        let l = point_comes message is_interleaved (base_now x) first shift x.transfer transfer_invariant windows handed t r shown near is_tracker at tsn f sent last moves are_now tsn_is apart xs c few ordered are in
         let begun : (w : ℕ) → r.first ≡ Some w → (shift_after r.first shift at ≡ shift) × ((forward tsn xs r).first ≡ Some w) =
         λ w e. (same_shift at w e, ap (λ (z : Reassembly). z.first) c ∙ ap (λ (o : Option ℕ). Some (unwrap_or o tsn)) e) in
         (l.0, comes (shift_after r.first shift at) (forward_comes f ∷ map become_ready l.0) (tracker.forward (origin + at) t) (forward tsn xs r) (all_ready l.0) begun l.1)
@@ -216,7 +216,7 @@ module _ (message : ℕ → Message) (is_interleaved : Bool) (first shift : ℕ)
   -- ---- a reset is deferred
 
   module _ (none : r.deferred ≡ None) (at tsn : ℕ) (q : Request) (rs : List Request) (next : AreNextTo x (suc at) (q ∷ rs)) (within : at < count x.transfer.sender)
-      (u : ℕ) (below : u ≤ at) (unseen : was_seen t u ≡ false) (tsn_is : tsn ≡ wire words first (origin + at)) where
+      (u : ℕ) (below : u ≤ at) (unseen : was_seen t u ≡ false) (tsn_is : tsn ≡ wire u32_space first (origin + at)) where
     abbrev later : ℕ
     later = shift_after r.first shift at
 
@@ -227,7 +227,7 @@ module _ (message : ℕ → Message) (is_interleaved : Bool) (first shift : ℕ)
     waits = record { last = number_of r tsn; streams = named_by (q ∷ rs); waiting = [] }
 
     kept_yet : x.transfer.acknowledged ≤ at
-    kept_yet = let a = not_acknowledged message is_interleaved x.transfer kept u (sym (shown.seen u) ∙ unseen) in omega (arith, a, below)
+    kept_yet = let a = not_acknowledged message is_interleaved x.transfer transfer_invariant u (sym (shown.seen u) ∙ unseen) in omega (arith, a, below)
 
     begins : postponed.first ≡ Some (unwrap_or r.first tsn)
     begins = ap (λ (o : Option Deferred). cond (is_some o) r.first (Some (unwrap_or r.first tsn))) none
@@ -242,7 +242,7 @@ module _ (message : ℕ → Message) (is_interleaved : Bool) (first shift : ℕ)
         go None f s =
             let w_is : tsn ≡ w = cc in
             let n = near.start f in
-            let few = counted_from message is_interleaved x.transfer kept windows at kept_yet within in
+            let few = counted_from message is_interleaved x.transfer transfer_invariant windows at kept_yet within in
             record {
               written = sym w_is ∙ tsn_is;
               last = at;
@@ -252,7 +252,7 @@ module _ (message : ℕ → Message) (is_interleaved : Bool) (first shift : ℕ)
               ahead = within;
               window = few;
               numbered = omega arith;
-              seen = λ n h. kept.incoming.seen_below n h;
+              seen = λ n h. transfer_invariant.incoming.seen_below n h;
             }
         go (Some v) f s = let v_is : v ≡ w = cc in near.tsns w (f ∙ ap (λ (n : ℕ). Some n) v_is)
 
@@ -274,7 +274,7 @@ module _ (message : ℕ → Message) (is_interleaved : Bool) (first shift : ℕ)
         start = λ e. absurd (some_none (sym begins ∙ e));
       };
       waiting = subst (λ (o : Option Deferred). IsWaitingFor later x postponed.first o) (sym waits_now)
-          (let here = tsn_is_read message is_interleaved x.transfer kept windows first shift r near.tsns at tsn tsn_is kept_yet within in
+          (let here = tsn_is_read message is_interleaved x.transfer transfer_invariant windows first shift r near.tsns at tsn tsn_is kept_yet within in
           record {
             request = q;
             more = rs;

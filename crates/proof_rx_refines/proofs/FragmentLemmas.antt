@@ -10,7 +10,7 @@ use Rattle.sctp_packet.specs.Chunk.{FragmentTree}
 use Rattle.sctp_rx.specs.Held.{Held}
 use Rattle.sctp_rx.specs.ReassemblyStreams as streams
 use Rattle.sctp_rx.specs.ReassemblyStreams.{is_far, held_as, place_of}
-use Rattle.sctp_rx.specs.ReassemblyQueue.{Reassembly, number_of, came, apply_outcome, add, add_now, add_or_wait, fragment_waits, waits, Added}
+use Rattle.sctp_rx.specs.ReassemblyQueue.{Reassembly, number_of, came, apply_outcome, add, add_now, add_or_keep_back, is_kept_back, keep_back, Added}
 use Rattle.proof_protocol.specs.State as rules
 use Rattle.proof_protocol.specs.State.{Message, Transfer, Sender, fragment, ordered_of, stream_of}
 use Rattle.proof_protocol.specs.Rules.{floor}
@@ -90,10 +90,10 @@ module _ (message : ℕ → Message) (is_interleaved : Bool) (shift : ℕ) (o : 
   number_near = let e = read.number_is in far_is (number_read f.is_unordered f r.streams) (wire_chunk message is_interleaved o k).number (omega (arith, e)) read.number_below
 
   -- the call
-  pub added_now : fragment_waits (number_of r tsn) f.stream_id r.deferred ≡ false → add tsn f r ≡ apply_outcome (streams.add (number_of r tsn) f r.streams) (came tsn r)
+  pub added_now : is_kept_back (number_of r tsn) f.stream_id r.deferred ≡ false → add tsn f r ≡ apply_outcome (streams.add (number_of r tsn) f r.streams) (came tsn r)
   added_now at_once =
-      cond-false (is_far (number_of r tsn)) r (add_or_wait (number_of r tsn) f (came tsn r)) (let e = read.tsn_is in far_is (number_of r tsn) k (omega (arith, e)) read.tsn_below)
-      ∙ cond-false (fragment_waits (number_of r tsn) f.stream_id r.deferred) (waits (Added (number_of r tsn) f) (came tsn r)) (add_now (number_of r tsn) f (came tsn r)) at_once
+      cond-false (is_far (number_of r tsn)) r (add_or_keep_back (number_of r tsn) f (came tsn r)) (let e = read.tsn_is in far_is (number_of r tsn) k (omega (arith, e)) read.tsn_below)
+      ∙ cond-false (is_kept_back (number_of r tsn) f.stream_id r.deferred) (keep_back (Added (number_of r tsn) f) (came tsn r)) (add_now (number_of r tsn) f (came tsn r)) at_once
 
 -- ---- is it late?
 
@@ -109,8 +109,8 @@ module _ (message : ℕ → Message) (is_interleaved : Bool) (shift : ℕ) (x : 
   abbrev written : ℕ
   written = x.sender.written place
 
-  abbrev own : ℕ
-  own = (wire_chunk message is_interleaved x.sender k).number
+  abbrev wire_number : ℕ
+  wire_number = (wire_chunk message is_interleaved x.sender k).number
 
   -- with the base b on both sides
   below : (a c w n d e b : ℕ) → a ≡ origin + w → c ≡ origin + n → b + w ≡ d → b + n ≡ e → nat_lt a c ≡ nat_lt d e
@@ -129,7 +129,7 @@ module _ (message : ℕ → Message) (is_interleaved : Bool) (shift : ℕ) (x : 
   pub ordered_behind : f.is_unordered ≡ false → nat_lt (item r tsn f).number (ordered_at r.streams f.stream_id).next ≡ is_behind message is_interleaved x.sender x.receiver k
   ordered_behind e =
       let o = ordered_is f.is_unordered false (ordered_of message place) carries.kind e in
-      let own_is : own ≡ written = cond-true (ordered_of message place || is_interleaved) written 0 (ap (λ z. z || is_interleaved) o) in
+      let own_is : wire_number ≡ written = cond-true (ordered_of message place || is_interleaved) written 0 (ap (λ z. z || is_interleaved) o) in
       let next_is : (ordered_at r.streams f.stream_id).next ≡ origin + q.next (stream_of message place) = p.next f.stream_id ∙ ap (λ z. origin + q.next z) carries.stream in
       below (item r tsn f).number (ordered_at r.streams f.stream_id).next written (q.next (stream_of message place)) number (x.receiver.next (stream_of message place)) (base true (stream_of message place))
       (read.number_is ∙ ap (λ z. origin + z) own_is) next_is (now_as true o) (shows.next_is (stream_of message place))
@@ -143,10 +143,10 @@ module _ (message : ℕ → Message) (is_interleaved : Bool) (shift : ℕ) (x : 
 
       go : (m : Bool) → is_interleaved ≡ m → nat_lt (item r tsn f).number (unordered_at r.streams f.stream_id).passed ≡ ((false || m) && nat_lt number (x.receiver.passed_below (stream_of message place)))
       go false m =
-          let own_is : own ≡ 0 = cond-false (ordered_of message place || is_interleaved) written 0 (ap (λ z. z || is_interleaved) o ∙ m) in
-          not_below (item r tsn f).number (unordered_at r.streams f.stream_id).passed own read.number_is own_is (p.none_passed m f.stream_id)
+          let own_is : wire_number ≡ 0 = cond-false (ordered_of message place || is_interleaved) written 0 (ap (λ z. z || is_interleaved) o ∙ m) in
+          not_below (item r tsn f).number (unordered_at r.streams f.stream_id).passed wire_number read.number_is own_is (p.none_passed m f.stream_id)
       go true m =
-          let own_is : own ≡ written = cond-true (ordered_of message place || is_interleaved) written 0 (ap (λ z. z || is_interleaved) o ∙ m) in
+          let own_is : wire_number ≡ written = cond-true (ordered_of message place || is_interleaved) written 0 (ap (λ z. z || is_interleaved) o ∙ m) in
           let passed_is : q.passed_below (stream_of message place) ≡ (unordered_at r.streams f.stream_id).passed - origin =
           ap q.passed_below (sym carries.stream) ∙ p.passed m f.stream_id in
           below_passed (item r tsn f).number (unordered_at r.streams f.stream_id).passed written (q.passed_below (stream_of message place)) number (x.receiver.passed_below (stream_of message place))
@@ -162,18 +162,18 @@ module _ (message : ℕ → Message) (is_interleaved : Bool) (shift : ℕ) (x : 
       go : (b : Bool) → ordered_of message place ≡ b → IsLate (KeyOf is_interleaved) (next_of is_interleaved) is_interleaved q (wire_chunk message is_interleaved x.sender k)
       go true o =
           let t : nat_lt number (x.receiver.next (stream_of message place)) ≡ true = sym (ap (λ b. (b || is_interleaved) && nat_lt number (floor x.receiver b (stream_of message place))) o) ∙ h in
-          let own_is : own ≡ written = cond-true (ordered_of message place || is_interleaved) written 0 (ap (λ z. z || is_interleaved) o) in
+          let own_is : wire_number ≡ written = cond-true (ordered_of message place || is_interleaved) written 0 (ap (λ z. z || is_interleaved) o) in
           inl (
             o,
-            less own written (q.next (stream_of message place)) number (x.receiver.next (stream_of message place)) (base true (stream_of message place)) own_is (now_as true o)
+            less wire_number written (q.next (stream_of message place)) number (x.receiver.next (stream_of message place)) (base true (stream_of message place)) own_is (now_as true o)
                 (shows.next_is (stream_of message place)) t,
           )
       go false o =
           let t = and_parts is_interleaved (nat_lt number (x.receiver.passed_below (stream_of message place))) (sym (ap (λ b. (b || is_interleaved) && nat_lt number (floor x.receiver b (stream_of message place))) o) ∙ h) in
-          let own_is : own ≡ written = cond-true (ordered_of message place || is_interleaved) written 0 (ap (λ z. z || is_interleaved) o ∙ t.0) in
+          let own_is : wire_number ≡ written = cond-true (ordered_of message place || is_interleaved) written 0 (ap (λ z. z || is_interleaved) o ∙ t.0) in
           inr (
             t.0,
             o,
-            less own written (q.passed_below (stream_of message place)) number (x.receiver.passed_below (stream_of message place)) (base false (stream_of message place)) own_is (now_as false o)
+            less wire_number written (q.passed_below (stream_of message place)) number (x.receiver.passed_below (stream_of message place)) (base false (stream_of message place)) own_is (now_as false o)
                 (shows.passed_is t.0 (stream_of message place)) t.1,
           )

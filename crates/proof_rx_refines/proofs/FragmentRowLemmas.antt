@@ -10,7 +10,7 @@ use Rattle.sctp_rx.specs.Delivery.{ordered_arrival, unordered_arrival}
 use Rattle.sctp_rx.specs.SettledLaws.{AreInOrder, AreSettled}
 use Rattle.sctp_rx.specs.ReassemblyStreams as streams
 use Rattle.sctp_rx.specs.ReassemblyStreams.{Streams, Outcome, unchanged, with_ordered, with_unordered, is_far, held_as, add_in_order, add_ordered, add_unordered}
-use Rattle.sctp_rx.specs.ReassemblyQueue.{Reassembly, number_of, came, apply_outcome, add, fragment_waits}
+use Rattle.sctp_rx.specs.ReassemblyQueue.{Reassembly, number_of, came, apply_outcome, add, is_kept_back}
 use Rattle.sctp_rx.specs.DataTracker.{Tracker, IsTracker, observe}
 use Rattle.sctp_tracker.proofs.SeenOneFormLemmas.{contains_add}
 use Rattle.sctp_reassembly.proofs.SettledQueueLemmas.{settled_arrives}
@@ -67,7 +67,7 @@ add_mode n f ss = go f.is_unordered
 
 module _ (message : ℕ → Message) (is_interleaved : Bool) (base : Bool → ℕ → ℕ) (before : ℕ) (x : Transfer) (kept : Invariant message is_interleaved x) (handed : List messages.Message) (t : Tracker) (r : Reassembly)
     (shown : ReceiverRefines message is_interleaved base before x handed t r)
-    (is_tracker : IsTracker t) (k tsn : ℕ) (f : FragmentTree) (at_once : fragment_waits (number_of r tsn) f.stream_id r.deferred ≡ false) (carries : Carries message is_interleaved x.sender k f) (read : IsRead message is_interleaved (shift_after r.first before k) x.sender r k tsn f) (unseen : was_seen t k ≡ false) (is_now : IsOfCurrentEpoch base message x.sender k) where
+    (is_tracker : IsTracker t) (k tsn : ℕ) (f : FragmentTree) (at_once : is_kept_back (number_of r tsn) f.stream_id r.deferred ≡ false) (carries : Carries message is_interleaved x.sender k f) (read : IsRead message is_interleaved (shift_after r.first before k) x.sender r k tsn f) (unseen : was_seen t k ≡ false) (is_now : IsOfCurrentEpoch base message x.sender k) where
   abbrev shift : ℕ
   shift = shift_after r.first before k
 
@@ -93,13 +93,13 @@ module _ (message : ℕ → Message) (is_interleaved : Bool) (base : Bool → �
   key_at = key_is message is_interleaved shift x.sender r k tsn f carries read shown.mode
 
   -- its protocol id
-  abbrev own : ℕ
-  own = (wire_chunk message is_interleaved x.sender k).protocol_id
+  abbrev wire_protocol_id : ℕ
+  wire_protocol_id = (wire_chunk message is_interleaved x.sender k).protocol_id
 
-  own_is : f.is_beginning ≡ true → own ≡ f.ppid
-  own_is b = sym (carries.protocol_id b)
+  wire_protocol_id_is : f.is_beginning ≡ true → wire_protocol_id ≡ f.ppid
+  wire_protocol_id_is b = sym (carries.protocol_id b)
 
-  chunk_at : chunk_of_held own (item r tsn f) ≡ wire_chunk message is_interleaved x.sender k
+  chunk_at : chunk_of_held wire_protocol_id (item r tsn f) ≡ wire_chunk message is_interleaved x.sender k
   chunk_at = chunk_is message is_interleaved shift x.sender r k tsn f carries read shown.mode
 
   new : q.chunks (key_of_held is_interleaved shift (item r tsn f)) ≡ None
@@ -156,14 +156,14 @@ module _ (message : ℕ → Message) (is_interleaved : Bool) (base : Bool → �
             (λ n. observed_seen t is_tracker x.receiver.seen shown.seen k n now) mode_is settled (λ e. cc) refl),
       )
     where
-      arrival : (b : Bool) → f.is_unordered ≡ b → Arrival is_interleaved shift decide r.streams (handed ++ r.ready) q seen_as sorted f.stream_id (item r tsn f) own own_is new outcome
+      arrival : (b : Bool) → f.is_unordered ≡ b → Arrival is_interleaved shift decide r.streams (handed ++ r.ready) q seen_as sorted f.stream_id (item r tsn f) wire_protocol_id wire_protocol_id_is new outcome
       arrival false e =
-          subst (Arrival is_interleaved shift decide r.streams (handed ++ r.ready) q seen_as sorted f.stream_id (item r tsn f) own own_is new) (sym (in_order e))
-          (ordered_arrives is_interleaved shift decide r.streams (handed ++ r.ready) q seen_as sorted f.stream_id (item r tsn f) own own_is new (filed message is_interleaved shift x.sender r k tsn f carries read shown.mode true e)
+          subst (Arrival is_interleaved shift decide r.streams (handed ++ r.ready) q seen_as sorted f.stream_id (item r tsn f) wire_protocol_id wire_protocol_id_is new) (sym (in_order e))
+          (ordered_arrives is_interleaved shift decide r.streams (handed ++ r.ready) q seen_as sorted f.stream_id (item r tsn f) wire_protocol_id wire_protocol_id_is new (filed message is_interleaved shift x.sender r k tsn f carries read shown.mode true e)
           (ordered_behind message is_interleaved shift x handed r k tsn f carries read base q shown.refines seen_as is_now e ∙ current) near)
       arrival true e =
-          subst (Arrival is_interleaved shift decide r.streams (handed ++ r.ready) q seen_as sorted f.stream_id (item r tsn f) own own_is new) (sym (out_of_order e))
-          (unordered_arrives is_interleaved shift decide r.streams (handed ++ r.ready) q seen_as sorted f.stream_id (item r tsn f) own own_is new (filed message is_interleaved shift x.sender r k tsn f carries read shown.mode false e)
+          subst (Arrival is_interleaved shift decide r.streams (handed ++ r.ready) q seen_as sorted f.stream_id (item r tsn f) wire_protocol_id wire_protocol_id_is new) (sym (out_of_order e))
+          (unordered_arrives is_interleaved shift decide r.streams (handed ++ r.ready) q seen_as sorted f.stream_id (item r tsn f) wire_protocol_id wire_protocol_id_is new (filed message is_interleaved shift x.sender r k tsn f carries read shown.mode false e)
           (unordered_behind message is_interleaved shift x handed r k tsn f carries read base q shown.refines seen_as is_now e ∙ current) near)
 
       sent : (m : Queue (KeyOf is_interleaved) (next_of is_interleaved)) → queues.Added (KeyOf is_interleaved) (next_of is_interleaved) q m (wire_key is_interleaved message x.sender k) (wire_chunk message is_interleaved x.sender k) → AreSent message is_interleaved base x.sender m

@@ -1,14 +1,14 @@
 -- What comes as it was written is a few of the rules, and what comes next is read as it was meant.
 use Rattle.std.proofs.Common.{◌≡◌, ℕ, suc, ◌+◌, Bool, true, false, Option, Some, None, List, [], ◌∷◌, map, sym, ap, ◌∙◌, subst}
 use Rattle.sctp_serial.specs.Messages as messages
-use Rattle.sctp_serial.specs.Unwrapped.{origin, words, wire}
+use Rattle.sctp_serial.specs.Unwrapped.{origin, u32_space, wire}
 use Rattle.sctp_packet.specs.Chunk.{FragmentTree}
 use Rattle.sctp_chunk.specs.declared.forward_tsn.SkippedStream.{SkippedStream}
 use Rattle.sctp_rx.specs.DataTracker as tracker
 use Rattle.sctp_rx.specs.DataTracker.{Tracker, IsTracker, moves_on, observe}
-use Rattle.sctp_rx.specs.ReassemblyQueue.{Reassembly, Deferred, number_of, fragment_waits, point_waits, came, add, forward, forward_now}
+use Rattle.sctp_rx.specs.ReassemblyQueue.{Reassembly, Deferred, number_of, is_kept_back, point_waits, came, add, forward, forward_now}
 use Rattle.proof_protocol.specs.State.{Message, ForwardPoint, Transfer, IsAmong}
-use Rattle.proof_protocol.specs.Rules.{Rule, data_comes, late_comes, become_ready, forward_comes, run}
+use Rattle.proof_protocol.specs.Rules.{TransferEvent, data_comes, late_comes, become_ready, forward_comes, run}
 use Rattle.proof_protocol.specs.Lifted.{wire_point, IsOfCurrentEpoch, AreEntriesOfCurrentEpoch}
 use Rattle.proof_protocol.specs.Invariant.{Invariant}
 use Rattle.proof_rx_refines.specs.View.{was_seen}
@@ -30,7 +30,7 @@ module _ (message : ℕ → Message) (is_interleaved : Bool) (base : Bool → �
     (shown : ReceiverRefines message is_interleaved base shift x handed t r) (near : ReadsNear message is_interleaved base first shift x r) where
   -- ---- a fragment
 
-  module _ (k tsn : ℕ) (f : FragmentTree) (tsn_is : tsn ≡ wire words first (origin + k)) (carries : Carries message is_interleaved x.sender k f) (unseen : was_seen t k ≡ false)
+  module _ (k tsn : ℕ) (f : FragmentTree) (tsn_is : tsn ≡ wire u32_space first (origin + k)) (carries : Carries message is_interleaved x.sender k f) (unseen : was_seen t k ≡ false)
       (is_now : IsOfCurrentEpoch base message x.sender k) where
     abbrev later : ℕ
     later = shift_after r.first shift k
@@ -41,8 +41,8 @@ module _ (message : ℕ → Message) (is_interleaved : Bool) (base : Bool → �
         (λ m e. fragment_number message is_interleaved base x kept windows r (near.mids m) k f carries written (kept_yet message is_interleaved base first shift x kept windows handed t r shown near.tsns k tsn f tsn_is carries unseen)
         is_now m shown.mode e)
 
-    module _ (is_tracker : IsTracker t) (at_once : fragment_waits (number_of r tsn) f.stream_id r.deferred ≡ false) where
-      pub near_then : IsRead message is_interleaved later x.sender r k tsn f → (now : Bool) (es : List Rule) (waiting : Option Deferred)
+    module _ (is_tracker : IsTracker t) (at_once : is_kept_back (number_of r tsn) f.stream_id r.deferred ≡ false) where
+      pub near_then : IsRead message is_interleaved later x.sender r k tsn f → (now : Bool) (es : List TransferEvent) (waiting : Option Deferred)
           → Goes message is_interleaved base later x es handed waiting (observe (origin + k) now t) (add tsn f r) → ReadsNear message is_interleaved base first later (run message is_interleaved x es) (add tsn f r)
       near_then read now es waiting goes = record {
         tsns = fragment_keeps message is_interleaved base first shift x kept windows handed t r shown near.tsns k tsn f tsn_is carries unseen at_once read es waiting (observe (origin + k) now t) goes;
@@ -66,8 +66,8 @@ module _ (message : ℕ → Message) (is_interleaved : Bool) (base : Bool → �
 
     -- where no reset is deferred
     module _ (is_tracker : IsTracker t) (none : r.deferred ≡ None) where
-      at_once : fragment_waits (number_of r tsn) f.stream_id r.deferred ≡ false
-      at_once = ap (fragment_waits (number_of r tsn) f.stream_id) none
+      at_once : is_kept_back (number_of r tsn) f.stream_id r.deferred ≡ false
+      at_once = ap (is_kept_back (number_of r tsn) f.stream_id) none
 
       pub held_near : AreFew x.sender → IsWritten message is_interleaved x.sender k f → IsNearNext message x k → (now : Bool) → is_behind message is_interleaved x.sender x.receiver k ≡ false
           → (ps : List ℕ) × GoesNear message is_interleaved base first later x (data_comes k ∷ map become_ready ps) handed None (observe (origin + k) now t) (add tsn f r)
@@ -92,12 +92,12 @@ module _ (message : ℕ → Message) (is_interleaved : Bool) (base : Bool → �
         entries_are_read message is_interleaved base shift x kept handed t r shown few f sent are_now ordered
         (λ m e a u. entry_mid message is_interleaved base x kept windows r (near.mids m) f sent ahead apart e a u (are_now e a)) entries are
 
-    module _ (tsn_is : tsn ≡ wire words first (origin + k)) (apart : AreApart f.entries) where
+    module _ (tsn_is : tsn ≡ wire u32_space first (origin + k)) (apart : AreApart f.entries) where
       pub read : number_of r tsn + shift_after r.first shift k ≡ origin + k
       read = point_is_read message is_interleaved base first shift x kept windows handed t r shown near.tsns is_tracker k tsn f sent last moves tsn_is
 
       module _ (entries : List SkippedStream) (call_is : forward tsn entries r ≡ forward_now (number_of r tsn) entries (came tsn r)) where
-        pub point_near_then : StandForAll is_interleaved r.streams entries (wire_point f).entries → (es : List Rule) (waiting : Option Deferred)
+        pub point_near_then : StandForAll is_interleaved r.streams entries (wire_point f).entries → (es : List TransferEvent) (waiting : Option Deferred)
             → Goes message is_interleaved base (shift_after r.first shift k) x es handed waiting (tracker.forward (origin + k) t) (forward tsn entries r)
             → ReadsNear message is_interleaved base first (shift_after r.first shift k) (run message is_interleaved x es) (forward tsn entries r)
         point_near_then stand es waiting goes = record {

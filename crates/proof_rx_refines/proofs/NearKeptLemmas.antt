@@ -9,9 +9,9 @@ use Rattle.sctp_chunk.specs.declared.forward_tsn.SkippedStream.{SkippedStream}
 use Rattle.sctp_rx.specs.ReassemblyStreams.{is_far}
 use Rattle.sctp_rx.specs.DataTracker as tracker
 use Rattle.sctp_rx.specs.DataTracker.{Tracker, IsTracker, observe}
-use Rattle.sctp_rx.specs.ReassemblyQueue.{Reassembly, Deferred, number_of, fragment_waits, came, add, forward, reassembly, forward_now}
+use Rattle.sctp_rx.specs.ReassemblyQueue.{Reassembly, Deferred, number_of, is_kept_back, came, add, forward, reassembly, forward_now}
 use Rattle.proof_protocol.specs.State.{Message, ForwardPoint, Sender, Receiver, Transfer, IsAmong, place_of, count, start, put, ordered_of, stream_of}
-use Rattle.proof_protocol.specs.Rules.{Rule, accept, begin, number, end_with_placeholder, give_up, data_comes, late_comes, become_ready, send_sack, ack_point_advances, send_forward, forward_comes, perform_reset, IsAllowed, IsDue, after, run, covers, raise}
+use Rattle.proof_protocol.specs.Rules.{TransferEvent, accept, begin, number, end_with_placeholder, give_up, data_comes, late_comes, become_ready, send_sack, acknowledge_next, send_forward, forward_comes, perform_reset, IsAllowed, IsDue, after, run, covers, raise}
 use Rattle.proof_protocol.specs.Lifted.{no_base, wire_point, IsOfCurrentEpoch, AreEntriesOfCurrentEpoch}
 use Rattle.proof_protocol.specs.Invariant.{Invariant}
 use Rattle.proof_protocol.proofs.LaterLemmas.{Later}
@@ -51,7 +51,7 @@ module _ (message : ℕ → Message) (is_interleaved : Bool) (base : Bool → �
     (shown : ReceiverRefines message is_interleaved base before x handed t r) (interleaved : is_interleaved ≡ true) (near : AreNearStreams message base x r) where
   -- ---- a fragment
 
-  module _ (is_tracker : IsTracker t) (k tsn : ℕ) (f : FragmentTree) (at_once : fragment_waits (number_of r tsn) f.stream_id r.deferred ≡ false) (carries : Carries message is_interleaved x.sender k f) (read : IsRead message is_interleaved (shift_after r.first before k) x.sender r k tsn f) (unseen : was_seen t k ≡ false)
+  module _ (is_tracker : IsTracker t) (k tsn : ℕ) (f : FragmentTree) (at_once : is_kept_back (number_of r tsn) f.stream_id r.deferred ≡ false) (carries : Carries message is_interleaved x.sender k f) (read : IsRead message is_interleaved (shift_after r.first before k) x.sender r k tsn f) (unseen : was_seen t k ≡ false)
       (is_now : IsOfCurrentEpoch base message x.sender k) where
     abbrev place : ℕ
     place = place_of x.sender k
@@ -101,7 +101,7 @@ module _ (message : ℕ → Message) (is_interleaved : Bool) (base : Bool → �
         points = λ p a. still_named message x i p (λ n h. seen_is n ∙ put_keeps x.receiver.seen k n h) (near.points p a);
       }
 
-    pub fragment_keeps_mids : (now : Bool) (es : List Rule) (waiting : Option Deferred) → Goes message is_interleaved base (shift_after r.first before k) x es handed waiting (observe (origin + k) now t) (add tsn f r) → AreNearStreams message base (run message is_interleaved x es) (add tsn f r)
+    pub fragment_keeps_mids : (now : Bool) (es : List TransferEvent) (waiting : Option Deferred) → Goes message is_interleaved base (shift_after r.first before k) x es handed waiting (observe (origin + k) now t) (add tsn f r) → AreNearStreams message base (run message is_interleaved x es) (add tsn f r)
     fragment_keeps_mids now es waiting goes =
         subst (λ z. AreNearStreams message base z (add tsn f r)) (sym goes.rest_stays)
         (all_kept (run message is_interleaved x es).receiver (λ n. sym (goes.refines.seen n) ∙ observed_seen t is_tracker x.receiver.seen shown.seen k n now))
@@ -167,7 +167,7 @@ module _ (message : ℕ → Message) (is_interleaved : Bool) (base : Bool → �
         points = λ p a. still_named message x i p (λ n h. seen_is n ∙ or_right (nat_lt n f.upto) (x.receiver.seen n) h) (near.points p a);
       }
 
-    pub point_keeps_mids : (es : List Rule) (waiting : Option Deferred) → Goes message is_interleaved base (shift_after r.first before k) x es handed waiting (tracker.forward (origin + k) t) (forward tsn xs r) → AreNearStreams message base (run message is_interleaved x es) (forward tsn xs r)
+    pub point_keeps_mids : (es : List TransferEvent) (waiting : Option Deferred) → Goes message is_interleaved base (shift_after r.first before k) x es handed waiting (tracker.forward (origin + k) t) (forward tsn xs r) → AreNearStreams message base (run message is_interleaved x es) (forward tsn xs r)
     point_keeps_mids es waiting goes =
         subst (λ z. AreNearStreams message base z (forward tsn xs r)) (sym goes.rest_stays)
         (all_pointed (run message is_interleaved x es).receiver (λ n. sym (goes.refines.seen n) ∙ point_seen t x.receiver.seen shown.seen k f.upto n last))
@@ -249,7 +249,7 @@ module _ (message : ℕ → Message) (is_interleaved : Bool) (x : Transfer) (kep
       up_to : (upto s t : ℕ) (on : IsOn message x.sender s t) (l : IsLast message x.sender s t on upto) (u : ℕ) → IsOn message x.sender s u → u < upto → u ≤ l.at
       up_to upto s t on l u h v = elim (cases_lt l.at u) [ inr g ↦ g | inl k ↦ absurd (l.none u h k v) ]
 
-  point_within : (e : Rule) → IsAllowed message is_interleaved x e → (f : ForwardPoint) → IsAmong f (after message is_interleaved x e).forward_points → IsAmong f x.forward_points ⊎ IsDue message is_interleaved x.sender x.acknowledged f
+  point_within : (e : TransferEvent) → IsAllowed message is_interleaved x e → (f : ForwardPoint) → IsAmong f (after message is_interleaved x e).forward_points → IsAmong f x.forward_points ⊎ IsDue message is_interleaved x.sender x.acknowledged f
   point_within accept may f a = inl a
   point_within (begin p) may f a = inl a
   point_within (number p bytes more) may f a = inl a
@@ -259,13 +259,13 @@ module _ (message : ℕ → Message) (is_interleaved : Bool) (x : Transfer) (kep
   point_within (late_comes t) may f a = inl a
   point_within (become_ready p) may f a = inl a
   point_within (send_sack c) may f a = inl a
-  point_within (ack_point_advances c) may f a = inl a
+  point_within (acknowledge_next c) may f a = inl a
   point_within (send_forward g) may f (inl s) = inr (subst (λ z. IsDue message is_interleaved x.sender x.acknowledged z) (sym s) may)
   point_within (send_forward g) may f (inr a) = inl a
   point_within (forward_comes g) may f a = inl a
   point_within (perform_reset s c) may f a = inl a
 
-  module _ (e : Rule) (may : IsAllowed message is_interleaved x e) (same : (after message is_interleaved x e).receiver ≡ x.receiver) where
+  module _ (e : TransferEvent) (may : IsAllowed message is_interleaved x e) (same : (after message is_interleaved x e).receiver ≡ x.receiver) where
     abbrev y : Transfer
     y = after message is_interleaved x e
 

@@ -2,7 +2,7 @@
 use Rattle.std.proofs.Common.{◌≡◌, ℕ, zero, suc, ◌+◌, ◌-◌, ◌^◌, ◌<◌, ◌≤◌, Bool, true, false, inl, inr, refl, sym, ap, ◌∙◌, subst, arith}
 use Rattle.std.specs.Prelude.{not}
 use Rattle.std.proofs.lemmas.Bool.{cases_lt, cases_order}
-use Rattle.sctp_serial.specs.Unwrapped.{origin, words, wire, nearest}
+use Rattle.sctp_serial.specs.Unwrapped.{origin, u32_space, wire, nearest}
 use Rattle.sctp_packet.specs.Chunk.{FragmentTree}
 use Rattle.sctp_rx.specs.ReassemblyStreams.{unordered_number}
 use Rattle.sctp_rx.specs.ReassemblyQueue.{Reassembly}
@@ -143,7 +143,7 @@ module _ (message : ℕ → Message) (is_interleaved : Bool) (base : Bool → �
           ]
 
   pub mid_read : (near : ℕ) → IsNearStream message base s x near → (k upto w : ℕ) → base false s + w ≡ number_at k → IsOn message x.sender s k → ((u : ℕ) → IsOn message x.sender s u → u < upto → number_at u ≤ number_at k)
-      → count x.sender < upto + 2 ^ 30 → nearest words 0 near (wire words 0 (origin + w)) ≡ origin + w
+      → count x.sender < upto + 2 ^ 30 → nearest u32_space 0 near (wire u32_space 0 (origin + w)) ≡ origin + w
   mid_read near q k upto w is on last c =
       let a = not_ahead (base false s + q.number) q.seen k on in
       let b = not_behind near q k upto w is on last c in
@@ -163,7 +163,7 @@ module _ (message : ℕ → Message) (is_interleaved : Bool) (base : Bool → �
 module _ (message : ℕ → Message) (is_interleaved : Bool) (base : Bool → ℕ → ℕ) (x : Transfer) (kept : Invariant message is_interleaved x) (windows : IsInWindow x) (r : Reassembly) (near : AreNearStreams message base x r) where
   -- a fragment that is not acknowledged
   pub fragment_mid : (k : ℕ) → x.acknowledged ≤ k → (s : ℕ) → IsOn message x.sender s k → base false s + x.sender.written (place_of x.sender k) ≡ x.sender.number (place_of x.sender k)
-      → nearest words 0 (unordered_at r.streams s).near (wire words 0 (origin + x.sender.written (place_of x.sender k))) ≡ origin + x.sender.written (place_of x.sender k)
+      → nearest u32_space 0 (unordered_at r.streams s).near (wire u32_space 0 (origin + x.sender.written (place_of x.sender k))) ≡ origin + x.sender.written (place_of x.sender k)
   fragment_mid k a s on is =
       let c = counted_from message is_interleaved x kept windows k a on.numbered in
       mid_read message is_interleaved base x kept windows s (unordered_at r.streams s).near (near.streams s) k (suc k) (x.sender.written (place_of x.sender k)) is on
@@ -171,7 +171,7 @@ module _ (message : ℕ → Message) (is_interleaved : Bool) (base : Bool → �
 
   -- an entry of a forward point that is ahead
   pub entry_mid : (f : ForwardPoint) → IsAmong f x.forward_points → x.acknowledged < f.upto → AreApart f.entries → (e : Entry) → IsAmong e f.entries → e.ordered ≡ false
-      → base e.ordered e.stream + e.written ≡ e.number → nearest words 0 (unordered_at r.streams e.stream).near (wire words 0 (origin + e.written)) ≡ origin + e.written
+      → base e.ordered e.stream + e.written ≡ e.number → nearest u32_space 0 (unordered_at r.streams e.stream).near (wire u32_space 0 (origin + e.written)) ≡ origin + e.written
   entry_mid f sent ahead apart e a u now =
       let named = near.points f sent in
       let z = named.last e.stream e.number (subst (λ z. covers f.entries z e.stream e.number ≡ true) u (among_covers e f.entries a)) in
@@ -192,4 +192,4 @@ module _ (message : ℕ → Message) (is_interleaved : Bool) (base : Bool → �
       let is : base false f.stream_id + x.sender.written (place_of x.sender k) ≡ x.sender.number (place_of x.sender k) =
       subst (λ z. base false z + x.sender.written (place_of x.sender k) ≡ x.sender.number (place_of x.sender k)) on.stream
       (subst (λ z. base z (stream_of message (place_of x.sender k)) + x.sender.written (place_of x.sender k) ≡ x.sender.number (place_of x.sender k)) on.unordered now) in
-      ap (λ z. unordered_number z f (unordered_at r.streams f.stream_id)) (mode ∙ interleaved) ∙ (ap (λ z. nearest words 0 (unordered_at r.streams f.stream_id).near z) (written.mid interleaved) ∙ fragment_mid k a f.stream_id on is)
+      ap (λ z. unordered_number z f (unordered_at r.streams f.stream_id)) (mode ∙ interleaved) ∙ (ap (λ z. nearest u32_space 0 (unordered_at r.streams f.stream_id).near z) (written.mid interleaved) ∙ fragment_mid k a f.stream_id on is)

@@ -3,7 +3,7 @@ use Rattle.std.proofs.Common.{◌≡◌, ℕ, zero, suc, ◌+◌, ◌^◌, ◌<�
 use Rattle.std.specs.Prelude.{◌||◌, ◌&&◌}
 use Rattle.std.proofs.lemmas.Bool.{cond-true, cond-false, or_cases, or_left, or_right, and_parts, leb-true, eqb-true}
 use Rattle.sctp_serial.specs.Messages as messages
-use Rattle.sctp_serial.specs.Unwrapped.{origin, words, halves, wire, nearest}
+use Rattle.sctp_serial.specs.Unwrapped.{origin, u32_space, halves, wire, nearest}
 use Rattle.sctp_serial.specs.declared.types.StreamKey.TheVariants.{Ordered, Unordered}
 use Rattle.sctp_packet.specs.Chunk.{FragmentTree}
 use Rattle.sctp_chunk.specs.declared.forward_tsn.SkippedStream.{SkippedStream}
@@ -92,7 +92,7 @@ module _ (message : ℕ → Message) (is_interleaved : Bool) (base : Bool → �
     (shown : ReceiverRefines message is_interleaved base shift x handed t r) where
   -- number n, which is w on the wire, near a stream's next one, in either mode
   ordered_read : (s w n : ℕ) → base true s + w ≡ n → n < x.receiver.next s + 32001 → x.receiver.next s < n + 32002
-      → (nearest halves 0 (ordered_at r.streams s).next (wire halves 0 (origin + w)) ≡ origin + w) × (nearest words 0 (ordered_at r.streams s).next (wire words 0 (origin + w)) ≡ origin + w)
+      → (nearest halves 0 (ordered_at r.streams s).next (wire halves 0 (origin + w)) ≡ origin + w) × (nearest u32_space 0 (ordered_at r.streams s).next (wire u32_space 0 (origin + w)) ≡ origin + w)
   ordered_read s w n is a b =
       let e = shown.seen_as.next s in
       let v = shown.refines.next_is s in (
@@ -111,10 +111,10 @@ module _ (message : ℕ → Message) (is_interleaved : Bool) (base : Bool → �
     number = x.sender.number place
 
     -- as it is on the wire
-    abbrev own : ℕ
-    own = x.sender.written place
+    abbrev written_number : ℕ
+    written_number = x.sender.written place
 
-    in_order : ordered_of message place ≡ true → number_read false f r.streams ≡ origin + own
+    in_order : ordered_of message place ≡ true → number_read false f r.streams ≡ origin + written_number
     in_order o = ap (λ z. ordered_number z f (ordered_at r.streams f.stream_id)) shown.mode ∙ go is_interleaved refl
       where
         window : (number < x.receiver.next f.stream_id + 32001) × (x.receiver.next f.stream_id < number + 32002)
@@ -125,39 +125,39 @@ module _ (message : ℕ → Message) (is_interleaved : Bool) (base : Bool → �
             let s = ap x.receiver.next carries.stream in
             (omega (arith, b, s), omega (arith, a, s))
 
-        is : base true f.stream_id + own ≡ number
-        is = subst (λ z. base true z + own ≡ number) (sym carries.stream) (subst (λ z. base z (stream_of message place) + own ≡ number) o is_now)
+        is : base true f.stream_id + written_number ≡ number
+        is = subst (λ z. base true z + written_number ≡ number) (sym carries.stream) (subst (λ z. base z (stream_of message place) + written_number ≡ number) o is_now)
 
-        go : (m : Bool) → is_interleaved ≡ m → ordered_number m f (ordered_at r.streams f.stream_id) ≡ origin + own
-        go false m = ap (λ z. nearest halves 0 (ordered_at r.streams f.stream_id).next z) (written.ssn m o) ∙ (ordered_read f.stream_id own number is window.0 window.1).0
-        go true m = ap (λ z. nearest words 0 (ordered_at r.streams f.stream_id).next z) (written.mid m) ∙ (ordered_read f.stream_id own number is window.0 window.1).1
+        go : (m : Bool) → is_interleaved ≡ m → ordered_number m f (ordered_at r.streams f.stream_id) ≡ origin + written_number
+        go false m = ap (λ z. nearest halves 0 (ordered_at r.streams f.stream_id).next z) (written.ssn m o) ∙ (ordered_read f.stream_id written_number number is window.0 window.1).0
+        go true m = ap (λ z. nearest u32_space 0 (ordered_at r.streams f.stream_id).next z) (written.mid m) ∙ (ordered_read f.stream_id written_number number is window.0 window.1).1
 
-    own_is : (ordered_of message place || is_interleaved) ≡ true → (wire_chunk message is_interleaved x.sender k).number ≡ own
-    own_is h = cond-true (ordered_of message place || is_interleaved) own 0 h
+    written_number_is : (ordered_of message place || is_interleaved) ≡ true → (wire_chunk message is_interleaved x.sender k).number ≡ written_number
+    written_number_is h = cond-true (ordered_of message place || is_interleaved) written_number 0 h
 
     pub number_is_read : number_read f.is_unordered f r.streams ≡ origin + (wire_chunk message is_interleaved x.sender k).number
     number_is_read = go f.is_unordered refl
       where
         go : (b : Bool) → f.is_unordered ≡ b → number_read b f r.streams ≡ origin + (wire_chunk message is_interleaved x.sender k).number
-        go false e = let o = ordered_is f.is_unordered false (ordered_of message place) carries.kind e in in_order o ∙ ap (λ z. origin + z) (sym (own_is (or_left (ordered_of message place) is_interleaved o)))
+        go false e = let o = ordered_is f.is_unordered false (ordered_of message place) carries.kind e in in_order o ∙ ap (λ z. origin + z) (sym (written_number_is (or_left (ordered_of message place) is_interleaved o)))
         go true e = by is_interleaved refl
           where
             by : (m : Bool) → is_interleaved ≡ m → number_read true f r.streams ≡ origin + (wire_chunk message is_interleaved x.sender k).number
-            by true m = unordered m e ∙ ap (λ z. origin + z) (sym (own_is (or_right (ordered_of message place) is_interleaved m)))
+            by true m = unordered m e ∙ ap (λ z. origin + z) (sym (written_number_is (or_right (ordered_of message place) is_interleaved m)))
             by false m =
                 ap (λ z. unordered_number z f (unordered_at r.streams f.stream_id)) (shown.mode ∙ m)
-                ∙ ap (λ z. origin + z) (sym (cond-false (ordered_of message place || is_interleaved) own 0 (ap (λ z. z || is_interleaved) (ordered_is f.is_unordered true (ordered_of message place) carries.kind e) ∙ m)))
+                ∙ ap (λ z. origin + z) (sym (cond-false (ordered_of message place || is_interleaved) written_number 0 (ap (λ z. z || is_interleaved) (ordered_is f.is_unordered true (ordered_of message place) carries.kind e) ∙ m)))
 
     pub number_is_below : AreFew x.sender → (wire_chunk message is_interleaved x.sender k).number < 2 ^ 62
     number_is_below few =
         let a = number_below message x.sender kept.outgoing few place (kept.outgoing.place_begun k carries.numbered) in
-        let l : own < 2 ^ 62 = omega (arith, a, is_now) in
-        elim (ordered_of message place || is_interleaved) as (λ b. cond b own 0 < 2 ^ 62) [ true ↦ l | false ↦ omega arith ]
+        let l : written_number < 2 ^ 62 = omega (arith, a, is_now) in
+        elim (ordered_of message place || is_interleaved) as (λ b. cond b written_number 0 < 2 ^ 62) [ true ↦ l | false ↦ omega arith ]
 
   -- ---- entries
 
   module _ (few : AreFew x.sender) (f : ForwardPoint) (sent : IsAmong f x.forward_points) (are_now : AreEntriesOfCurrentEpoch base f) (near : AreNearNext x f)
-      (unordered : is_interleaved ≡ true → (e : Entry) → IsAmong e f.entries → e.ordered ≡ false → nearest words 0 (unordered_at r.streams e.stream).near (wire words 0 (origin + e.written)) ≡ origin + e.written) where
+      (unordered : is_interleaved ≡ true → (e : Entry) → IsAmong e f.entries → e.ordered ≡ false → nearest u32_space 0 (unordered_at r.streams e.stream).near (wire u32_space 0 (origin + e.written)) ≡ origin + e.written) where
     named_below : (e : Entry) → IsAmong e f.entries → e.written < 2 ^ 62
     named_below e a =
         let c = (kept.forwards_true f sent).named_counts e.ordered e.stream e.number (among_covers e f.entries a) in
@@ -188,10 +188,10 @@ module _ (message : ℕ → Message) (is_interleaved : Bool) (base : Bool → �
     entry_read true m (IForwardTsn (Ordered id) mid) e a h =
         let window = named_near e a h.0 in
         let s = h.1 in
-        (h.0, h.1, ap (λ z. nearest words 0 z mid.0) (ap (λ z. (ordered_at r.streams z).next) (sym s)) ∙ (ap (λ z. nearest words 0 (ordered_at r.streams e.stream).next z) h.2 ∙ (ordered_read e.stream e.written e.number (named_is e a h.0) window.0 window.1).1), named_below e a)
+        (h.0, h.1, ap (λ z. nearest u32_space 0 z mid.0) (ap (λ z. (ordered_at r.streams z).next) (sym s)) ∙ (ap (λ z. nearest u32_space 0 (ordered_at r.streams e.stream).next z) h.2 ∙ (ordered_read e.stream e.written e.number (named_is e a h.0) window.0 window.1).1), named_below e a)
     entry_read true m (IForwardTsn (Unordered id) mid) e a h =
         let s = h.1 in
-        (h.0, h.1, ap (λ z. nearest words 0 z mid.0) (ap (λ z. (unordered_at r.streams z).near) (sym s)) ∙ (ap (λ z. nearest words 0 (unordered_at r.streams e.stream).near z) h.2 ∙ unordered m e a h.0), named_below e a)
+        (h.0, h.1, ap (λ z. nearest u32_space 0 z mid.0) (ap (λ z. (unordered_at r.streams z).near) (sym s)) ∙ (ap (λ z. nearest u32_space 0 (unordered_at r.streams e.stream).near z) h.2 ∙ unordered m e a h.0), named_below e a)
 
     each_read : (ys : List SkippedStream) (es : List Entry) → ((e : Entry) → IsAmong e es → IsAmong e f.entries) → AreEntries is_interleaved ys es → StandForAll is_interleaved r.streams ys (map as_written es)
     each_read [] [] all h = tt

@@ -1,13 +1,13 @@
 -- What comes is read as it was meant, and so is what comes after it.
 use Rattle.std.proofs.Common.{◌≡◌, ℕ, suc, ◌+◌, ◌^◌, ◌<◌, ◌≤◌, Bool, true, false, Option, List, sym, ap, ◌∙◌, subst, arith}
 use Rattle.sctp_serial.specs.Messages as messages
-use Rattle.sctp_serial.specs.Unwrapped.{origin, words, wire}
+use Rattle.sctp_serial.specs.Unwrapped.{origin, u32_space, wire}
 use Rattle.sctp_packet.specs.Chunk.{FragmentTree}
 use Rattle.sctp_chunk.specs.declared.forward_tsn.SkippedStream.{SkippedStream}
 use Rattle.sctp_rx.specs.DataTracker.{Tracker, IsTracker, moves_on}
-use Rattle.sctp_rx.specs.ReassemblyQueue.{Reassembly, Deferred, number_of, fragment_waits, came, add, forward, reassembly, forward_now}
+use Rattle.sctp_rx.specs.ReassemblyQueue.{Reassembly, Deferred, number_of, is_kept_back, came, add, forward, reassembly, forward_now}
 use Rattle.proof_protocol.specs.State.{Message, ForwardPoint, Transfer, IsAmong, place_of, count, start}
-use Rattle.proof_protocol.specs.Rules.{Rule, IsAllowed, after, run}
+use Rattle.proof_protocol.specs.Rules.{TransferEvent, IsAllowed, after, run}
 use Rattle.proof_protocol.specs.Lifted.{IsOfCurrentEpoch}
 use Rattle.proof_protocol.specs.Invariant.{Invariant}
 use Rattle.proof_protocol.proofs.StepLemmas.{later}
@@ -35,7 +35,7 @@ module _ (message : ℕ → Message) (is_interleaved : Bool) (base : Bool → �
     (near : IsNearQueue first shift x r) where
   -- ---- a fragment
 
-  module _ (k tsn : ℕ) (f : FragmentTree) (tsn_is : tsn ≡ wire words first (origin + k)) (carries : Carries message is_interleaved x.sender k f) (unseen : was_seen t k ≡ false) where
+  module _ (k tsn : ℕ) (f : FragmentTree) (tsn_is : tsn ≡ wire u32_space first (origin + k)) (carries : Carries message is_interleaved x.sender k f) (unseen : was_seen t k ≡ false) where
     pub kept_yet : x.acknowledged ≤ k
     kept_yet = not_acknowledged message is_interleaved x kept k (sym (shown.seen k) ∙ unseen)
 
@@ -50,7 +50,7 @@ module _ (message : ℕ → Message) (is_interleaved : Bool) (base : Bool → �
       index_below = index_below message is_interleaved x kept few k carries.numbered;
     }
 
-    pub fragment_keeps : fragment_waits (number_of r tsn) f.stream_id r.deferred ≡ false → IsRead message is_interleaved (shift_after r.first shift k) x.sender r k tsn f → (es : List Rule) (waiting : Option Deferred) (u : Tracker)
+    pub fragment_keeps : is_kept_back (number_of r tsn) f.stream_id r.deferred ≡ false → IsRead message is_interleaved (shift_after r.first shift k) x.sender r k tsn f → (es : List TransferEvent) (waiting : Option Deferred) (u : Tracker)
         → Goes message is_interleaved base (shift_after r.first shift k) x es handed waiting u (add tsn f r)
         → IsNearQueue first (shift_after r.first shift k) (run message is_interleaved x es) (add tsn f r)
     fragment_keeps at_once read es waiting u goes =
@@ -59,7 +59,7 @@ module _ (message : ℕ → Message) (is_interleaved : Bool) (base : Bool → �
 
   -- ---- a forward point
 
-  module _ (is_tracker : IsTracker t) (k tsn : ℕ) (f : ForwardPoint) (sent : IsAmong f x.forward_points) (last : f.upto ≡ suc k) (moves : moves_on (origin + k) t ≡ true) (tsn_is : tsn ≡ wire words first (origin + k)) where
+  module _ (is_tracker : IsTracker t) (k tsn : ℕ) (f : ForwardPoint) (sent : IsAmong f x.forward_points) (last : f.upto ≡ suc k) (moves : moves_on (origin + k) t ≡ true) (tsn_is : tsn ≡ wire u32_space first (origin + k)) where
     unpassed : x.acknowledged ≤ k
     unpassed = above_front message is_interleaved base shift x kept handed t r shown is_tracker k moves
 
@@ -67,7 +67,7 @@ module _ (message : ℕ → Message) (is_interleaved : Bool) (base : Bool → �
     point_is_read = tsn_is_read message is_interleaved x kept windows first shift r near k tsn tsn_is unpassed (point_numbered message is_interleaved x kept k f sent last)
 
     pub point_keeps : (entries : List SkippedStream) → forward tsn entries r ≡ forward_now (number_of r tsn) entries (came tsn r)
-        → (es : List Rule) (waiting : Option Deferred) (u : Tracker) → Goes message is_interleaved base (shift_after r.first shift k) x es handed waiting u (forward tsn entries r)
+        → (es : List TransferEvent) (waiting : Option Deferred) (u : Tracker) → Goes message is_interleaved base (shift_after r.first shift k) x es handed waiting u (forward tsn entries r)
         → IsNearQueue first (shift_after r.first shift k) (run message is_interleaved x es) (forward tsn entries r)
     point_keeps entries call_is es waiting u goes =
         subst (λ z. IsNearQueue first (shift_after r.first shift k) (run message is_interleaved x es) z)
@@ -79,7 +79,7 @@ module _ (message : ℕ → Message) (is_interleaved : Bool) (base : Bool → �
 pub new_is_near : (is_interleaved : Bool) (first shift max_size : ℕ) → IsNearQueue first shift start (reassembly max_size is_interleaved)
 new_is_near is_interleaved first shift max_size w e = cc
 
-pub sender_keeps : (message : ℕ → Message) (is_interleaved : Bool) (first shift : ℕ) (x : Transfer) (e : Rule) (r : Reassembly) → Invariant message is_interleaved x → IsAllowed message is_interleaved x e → (after message is_interleaved x e).receiver ≡ x.receiver
+pub sender_keeps : (message : ℕ → Message) (is_interleaved : Bool) (first shift : ℕ) (x : Transfer) (e : TransferEvent) (r : Reassembly) → Invariant message is_interleaved x → IsAllowed message is_interleaved x e → (after message is_interleaved x e).receiver ≡ x.receiver
     → IsNearQueue first shift x r → IsNearQueue first shift (after message is_interleaved x e) r
 sender_keeps message is_interleaved first shift x e r kept may same near w h =
     let q = near w h in

@@ -4,7 +4,7 @@ use Rattle.std.specs.Prelude.{◌||◌, not, nat_lt, unwrap_or}
 use Rattle.std.proofs.lemmas.Bool.{cases_lt, cond-true, cond-false, lt-ltb, le-ltb}
 use Rattle.std.proofs.lemmas.Bool.Decides.{nat_tests}
 use Rattle.sctp_serial.specs.Messages as messages
-use Rattle.sctp_serial.specs.Unwrapped.{origin, words, wire, nearest}
+use Rattle.sctp_serial.specs.Unwrapped.{origin, u32_space, wire, nearest}
 use Rattle.sctp_rx.specs.Seen.{in_runs}
 use Rattle.sctp_rx.specs.DataTracker as tracker
 use Rattle.sctp_rx.specs.DataTracker.{DataTracker, Tracker, IsTracker, moves_on}
@@ -32,7 +32,7 @@ words_near first near n d far =
     ]
 
 -- a fragment is written the same where numbers are counted from fragment `shift`
-written_from : (first shift k n : ℕ) → n + shift ≡ origin + k → wire words (wire words first (origin + shift)) n ≡ wire words first (origin + k)
+written_from : (first shift k n : ℕ) → n + shift ≡ origin + k → wire u32_space (wire u32_space first (origin + shift)) n ≡ wire u32_space first (origin + k)
 written_from first shift k n e = omega (arith, e)
 
 module _ (message : ℕ → Message) (is_interleaved : Bool) (x : Transfer) (kept : Invariant message is_interleaved x) where
@@ -61,7 +61,7 @@ module _ (message : ℕ → Message) (is_interleaved : Bool) (x : Transfer) (kep
         unseen false e = refl
         unseen true e = let l = q.seen q.upto e in absurd (omega (arith, l))
 
-    module _ (first shift : ℕ) (r : Reassembly) (near : IsNearQueue first shift x r) (k tsn : ℕ) (tsn_is : tsn ≡ wire words first (origin + k)) (a : x.acknowledged ≤ k) (b : k < count x.sender) where
+    module _ (first shift : ℕ) (r : Reassembly) (near : IsNearQueue first shift x r) (k tsn : ℕ) (tsn_is : tsn ≡ wire u32_space first (origin + k)) (a : x.acknowledged ≤ k) (b : k < count x.sender) where
       -- the queue reads a TSN that is not acknowledged
       pub tsn_is_read : number_of r tsn + shift_after r.first shift k ≡ origin + k
       tsn_is_read = go r.first refl
@@ -77,9 +77,9 @@ module _ (message : ℕ → Message) (is_interleaved : Bool) (x : Transfer) (kep
               let from = q.from in
               let n = (origin + k) - shift in
               let n_is : n + shift ≡ origin + k = omega (arith, below, from) in
-              let written : wire words w n ≡ tsn = ap (λ z. wire words z n) q.written ∙ (written_from first shift k n n_is ∙ sym tsn_is) in
-              let read : nearest words w r.near (wire words w n) ≡ n = words_read w r.near n (omega (arith, below, at, n_is), omega (arith, above, at, n_is)) (omega (arith, at, from)) in
-              ap (λ z. nearest words w r.near z + shift) (sym written) ∙ (ap (λ z. z + shift) read ∙ n_is)
+              let written : wire u32_space w n ≡ tsn = ap (λ z. wire u32_space z n) q.written ∙ (written_from first shift k n n_is ∙ sym tsn_is) in
+              let read : nearest u32_space w r.near (wire u32_space w n) ≡ n = words_read w r.near n (omega (arith, below, at, n_is), omega (arith, above, at, n_is)) (omega (arith, at, from)) in
+              ap (λ z. nearest u32_space w r.near z + shift) (sym written) ∙ (ap (λ z. z + shift) read ∙ n_is)
 
       -- and is near it after
       pub near_after : (y : Transfer) → Invariant message is_interleaved y → y.sender ≡ x.sender → IsNearQueue first (shift_after r.first shift k) y (came tsn r)
@@ -164,7 +164,7 @@ module _ (message : ℕ → Message) (is_interleaved : Bool) (base : Bool → �
 
 -- a TSN that was emitted when n fragments were numbered, and its own or those above it were kept
 pub tracker_reads : (message : ℕ → Message) (is_interleaved : Bool) (base : Bool → ℕ → ℕ) (shift : ℕ) (x : Transfer) (handed : List messages.Message) (d : DataTracker) (r : Reassembly) (k n : ℕ) → Invariant message is_interleaved x → IsInWindow x → ReceiverRefines message is_interleaved base shift x handed d.tracker r → IsTracker d.tracker
-    → k < n → n ≤ k + 2 ^ 30 → IsTimely x n → tracker.number_of d (wire words d.first (origin + k)) ≡ origin + k
+    → k < n → n ≤ k + 2 ^ 30 → IsTimely x n → tracker.number_of d (wire u32_space d.first (origin + k)) ≡ origin + k
 tracker_reads message is_interleaved base shift x handed d r k n kept windows shown is_tracker below near timely =
     let e = at message is_interleaved base shift x kept handed d.tracker r shown is_tracker in
     let f = front message is_interleaved base shift x kept handed d.tracker r shown is_tracker in

@@ -7,7 +7,7 @@ use Rattle.sctp_rx.specs.ReassemblyStreams.{Streams}
 use Rattle.sctp_rx.specs.ReassemblyQueue.{Reassembly, Deferred}
 use Rattle.sctp_rx.specs.DataTracker.{Tracker}
 use Rattle.proof_protocol.specs.State.{Message, Transfer, IsAmong}
-use Rattle.proof_protocol.specs.Rules.{Rule, after, run}
+use Rattle.proof_protocol.specs.Rules.{TransferEvent, after, run}
 use Rattle.proof_protocol.specs.Invariant.{Invariant}
 use Rattle.proof_protocol.specs.Joints.{Refines, LeadsTo}
 use Rattle.proof_protocol.specs.Reassembly.{Queue, KeyOf, next_of, key_of, NoneReady, Sees}
@@ -34,7 +34,7 @@ module _ (message : ℕ → Message) (is_interleaved : Bool) (base : Bool → �
   none_ready handed t r shown = none_left r.streams (handed ++ r.ready) shown.queue shown.seen_as shown.settled (sent_of shown.queue shown.refines)
 
   -- where the events lead
-  pub goes_to : (e : Rule) (es : List Rule) (q : Queue (KeyOf is_interleaved) (next_of is_interleaved)) → LeadsTo message is_interleaved x e es (lift base is_interleaved q)
+  pub goes_to : (e : TransferEvent) (es : List TransferEvent) (q : Queue (KeyOf is_interleaved) (next_of is_interleaved)) → LeadsTo message is_interleaved x e es (lift base is_interleaved q)
       → (handed : List messages.Message) (waiting : Option Deferred) (t : Tracker) (r : Reassembly) → IsSeenAs is_interleaved shift (view_of handed r) q → ((n : ℕ) → was_seen t n ≡ (after message is_interleaved x e).receiver.seen n)
       → r.streams.is_interleaved ≡ is_interleaved → AreSettled r.streams
       → (r.first ≡ None → (kind : Bool) (s : ℕ) (h : Held) → IsAmong h (held_on r.streams kind s) → ⊥) → r.deferred ≡ waiting → Goes message is_interleaved base shift x (e ∷ es) handed waiting t r

@@ -14,7 +14,7 @@ use Rattle.sctp_rx.specs.ReassemblyQueue.{Reassembly, reassembly}
 use Rattle.sctp_tracker.proofs.SeenOneFormLemmas.{contains_up_to}
 use Rattle.sctp_reassembly.proofs.SettledQueueLemmas.{settled_new}
 use Rattle.proof_protocol.specs.State.{Message, Transfer, IsAmong, start, put}
-use Rattle.proof_protocol.specs.Rules.{Rule, IsAllowed, after, send_sack}
+use Rattle.proof_protocol.specs.Rules.{TransferEvent, IsAllowed, after, send_sack}
 use Rattle.proof_protocol.specs.Invariant.{Invariant}
 use Rattle.proof_protocol.specs.Reassembly.{Queue, KeyOf, next_of}
 use Rattle.proof_protocol.specs.Lifted.{lift, no_base}
@@ -108,7 +108,7 @@ module _ (message : ℕ → Message) (is_interleaved : Bool) (shift : ℕ) where
 
     -- ---- the sender goes on
 
-    pub sender_goes : (e : Rule) → Invariant message is_interleaved x → IsAllowed message is_interleaved x e → (after message is_interleaved x e).receiver ≡ x.receiver → ReceiverRefines message is_interleaved base shift (after message is_interleaved x e) handed t r
+    pub sender_goes : (e : TransferEvent) → Invariant message is_interleaved x → IsAllowed message is_interleaved x e → (after message is_interleaved x e).receiver ≡ x.receiver → ReceiverRefines message is_interleaved base shift (after message is_interleaved x e) handed t r
     sender_goes e kept may same = record {
       queue = shown.queue;
       refines = still_sees message is_interleaved x e kept may same (lift base is_interleaved shown.queue) shown.refines;

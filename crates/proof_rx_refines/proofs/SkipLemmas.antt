@@ -3,7 +3,7 @@ use Rattle.std.proofs.Common.{◌≡◌, ◌≢◌, ℕ, suc, ◌+◌, ◌^◌, 
 use Rattle.std.proofs.lemmas.Bool.{cases_eq, cond-true, cond-false, true≢false}
 use Rattle.std.proofs.lemmas.Bool.Decides.{nat_tests}
 use Rattle.sctp_serial.specs.Messages.{Message}
-use Rattle.sctp_serial.specs.Unwrapped.{origin, words, halves, nearest}
+use Rattle.sctp_serial.specs.Unwrapped.{origin, u32_space, halves, nearest}
 use Rattle.sctp_serial.specs.declared.types.StreamKey.TheVariants.{Ordered, Unordered}
 use Rattle.sctp_chunk.specs.declared.forward_tsn.SkippedStream.{SkippedStream}
 use Rattle.sctp_chunk.specs.declared.forward_tsn.SkippedStream.TheVariants.{ForwardTsn, IForwardTsn}
@@ -12,7 +12,7 @@ use Rattle.sctp_rx.specs.Runs.{from_rank}
 use Rattle.sctp_rx.specs.Held.{rank_of, intervals_of}
 use Rattle.sctp_rx.specs.SettledLaws.{AreInOrder}
 use Rattle.sctp_rx.specs.Delivery.{OrderedDelivery, fresh_ordered, fresh_unordered, ordered_forward, unordered_forward}
-use Rattle.sctp_rx.specs.ReassemblyStreams.{Streams, Outcome, change_stream, with_ordered, unchanged, is_far, skip, skip_of, skip_ordered, skip_unordered, skip_each}
+use Rattle.sctp_rx.specs.ReassemblyStreams.{Streams, Outcome, set_stream, with_ordered, unchanged, is_far, skip, skip_of, skip_ordered, skip_unordered, skip_each}
 use Rattle.sctp_reassembly.proofs.SettledRunsLemmas.{from_order}
 use Rattle.proof_protocol.specs.State.{Entry, IsAmong}
 use Rattle.proof_protocol.specs.Reassembly.{Queue, KeyOf, next_of}
@@ -27,7 +27,7 @@ use Rattle.proof_rx_refines.proofs.PendingLemmas.{is_named, pending, others_apar
 
 -- an entry of an unordered stream
 abbrev pub passed_on : ℕ → ℕ → Streams → Streams
-passed_on id n ss = record ss { unordered = change_stream fresh_unordered id (unordered_forward n (unordered_at ss id)) ss.unordered }
+passed_on id n ss = record ss { unordered = set_stream fresh_unordered id (unordered_forward n (unordered_at ss id)) ss.unordered }
 
 -- what an entry does
 pub data Does (ss : Streams) (x : SkippedStream) (e : Entry) : Type 0 where
@@ -52,8 +52,8 @@ module _ (ss : Streams) (e : Entry) where
   does false (ForwardTsn id ssn) m h = in_order h.0 (ap (λ b. skip_of b (ForwardTsn id ssn) ss) m ∙ ordered_so id.0 (nearest halves 0 (ordered_at ss id.0).next ssn.0) h.1 h.2 h.3)
   does false (IForwardTsn key mid) m h = absurd h
   does true (ForwardTsn id ssn) m h = absurd h
-  does true (IForwardTsn (Ordered id) mid) m h = in_order h.0 (ap (λ b. skip_of b (IForwardTsn (Ordered id) mid) ss) m ∙ ordered_so id.0 (nearest words 0 (ordered_at ss id.0).next mid.0) h.1 h.2 h.3)
-  does true (IForwardTsn (Unordered id) mid) m h = out_of_order h.0 (ap (λ b. skip_of b (IForwardTsn (Unordered id) mid) ss) m ∙ unordered_so id.0 (nearest words 0 (unordered_at ss id.0).near mid.0) h.1 h.2 h.3)
+  does true (IForwardTsn (Ordered id) mid) m h = in_order h.0 (ap (λ b. skip_of b (IForwardTsn (Ordered id) mid) ss) m ∙ ordered_so id.0 (nearest u32_space 0 (ordered_at ss id.0).next mid.0) h.1 h.2 h.3)
+  does true (IForwardTsn (Unordered id) mid) m h = out_of_order h.0 (ap (λ b. skip_of b (IForwardTsn (Unordered id) mid) ss) m ∙ unordered_so id.0 (nearest u32_space 0 (unordered_at ss id.0).near mid.0) h.1 h.2 h.3)
 
 -- the entries stand for the same where their streams stayed as they were
 pub record AreLike (es : List Entry) (ss new : Streams) : Type 0 where
@@ -67,9 +67,9 @@ stands_still false ss new (ForwardTsn id ssn) e o u h =
 stands_still false ss new (IForwardTsn key mid) e o u h = absurd h
 stands_still true ss new (ForwardTsn id ssn) e o u h = absurd h
 stands_still true ss new (IForwardTsn (Ordered id) mid) e o u h =
-    (h.0, h.1, ap (λ z. nearest words 0 z mid.0) (ap (λ z. (ordered_at new z).next) (sym h.1) ∙ (ap (λ z. z.next) (o h.0) ∙ ap (λ z. (ordered_at ss z).next) h.1)) ∙ h.2, h.3)
+    (h.0, h.1, ap (λ z. nearest u32_space 0 z mid.0) (ap (λ z. (ordered_at new z).next) (sym h.1) ∙ (ap (λ z. z.next) (o h.0) ∙ ap (λ z. (ordered_at ss z).next) h.1)) ∙ h.2, h.3)
 stands_still true ss new (IForwardTsn (Unordered id) mid) e o u h =
-    (h.0, h.1, ap (λ z. nearest words 0 z mid.0) (ap (λ z. (unordered_at new z).near) (sym h.1) ∙ (ap (λ z. z.near) (u h.0) ∙ ap (λ z. (unordered_at ss z).near) h.1)) ∙ h.2, h.3)
+    (h.0, h.1, ap (λ z. nearest u32_space 0 z mid.0) (ap (λ z. (unordered_at new z).near) (sym h.1) ∙ (ap (λ z. z.near) (u h.0) ∙ ap (λ z. (unordered_at ss z).near) h.1)) ∙ h.2, h.3)
 
 pub all_still : (is_interleaved : Bool) (ss new : Streams) (xs : List SkippedStream) (es : List Entry) → AreLike es ss new → StandForAll is_interleaved ss xs es → StandForAll is_interleaved new xs es
 all_still is_interleaved ss new [] [] l h = tt

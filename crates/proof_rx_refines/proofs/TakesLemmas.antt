@@ -6,7 +6,7 @@ use Rattle.std.proofs.lemmas.Bool.{cases_eq, and_parts, eqb-true, eq-eqb, ne_eqb
 use Rattle.sctp_serial.specs.Messages.{Message}
 use Rattle.sctp_rx.specs.Held.{Held, rank_of, intervals_of, is_complete, is_in_turn, left_by}
 use Rattle.sctp_rx.specs.SettledLaws.{AreInOrder}
-use Rattle.sctp_rx.specs.Delivery.{OrderedDelivery, preceded_by, delivering, deliver_within, complete_messages}
+use Rattle.sctp_rx.specs.Delivery.{OrderedDelivery, preceded_by, delivering, deliver_within, first_complete}
 use Rattle.sctp_rx.specs.Held.{message_of_run}
 use Rattle.sctp_reassembly.proofs.SettledRunsLemmas.{left_order}
 use Rattle.sctp_reassembly.proofs.FindLemmas.{left_unfound}
@@ -184,7 +184,7 @@ module _ (is_interleaved : Bool) (shift : ℕ) (decide : Decided is_interleaved)
 
   -- on an unordered stream, the first complete message
   pub completes : (v : View) (q : Queue (KeyOf is_interleaved) (next_of is_interleaved)) (s : ℕ) (hs : List Held) → IsSeenAs is_interleaved shift v q → v.held false s ≡ hs → AreInOrder hs
-      → Leads is_interleaved shift q (moved v false s (left_by is_complete hs) 0 (complete_messages hs))
+      → Leads is_interleaved shift q (moved v false s (left_by is_complete hs) 0 (first_complete hs))
   completes v q s hs p here order = go (find is_complete (intervals_of hs)) refl
     where
       go : (o : Option (List Held)) → find is_complete (intervals_of hs) ≡ o → Leads is_interleaved shift q (moved v false s (left_by is_complete hs) 0 (option_to_list (option_map message_of_run o)))

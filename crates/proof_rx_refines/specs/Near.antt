@@ -1,7 +1,7 @@
 -- Wire numbers as the sender writes them, and what keeps the receiver near enough to read them.
 use Rattle.std.specs.Prelude.{◌≡◌, ℕ, ◌+◌, ◌^◌, ◌<◌, ◌≤◌, Bool, true, false, ◌⊎◌, Option, Some, None, List, [], ◌∷◌}
 use Rattle.sctp_serial.specs.Messages as messages
-use Rattle.sctp_serial.specs.Unwrapped.{origin, words, halves, wire}
+use Rattle.sctp_serial.specs.Unwrapped.{origin, u32_space, halves, wire}
 use Rattle.sctp_serial.specs.declared.types.StreamKey.TheVariants.{Ordered, Unordered}
 use Rattle.sctp_packet.specs.Chunk.{FragmentTree}
 use Rattle.sctp_chunk.specs.declared.forward_tsn.SkippedStream.{SkippedStream}
@@ -9,7 +9,7 @@ use Rattle.sctp_chunk.specs.declared.forward_tsn.SkippedStream.TheVariants.{Forw
 use Rattle.sctp_rx.specs.DataTracker.{Tracker}
 use Rattle.sctp_rx.specs.ReassemblyQueue.{Reassembly, Deferred}
 use Rattle.proof_protocol.specs.State.{Message, Entry, ForwardPoint, Sender, Transfer, IsAmong, place_of, count, ordered_of, stream_of}
-use Rattle.proof_protocol.specs.Rules.{Rule, covers, run}
+use Rattle.proof_protocol.specs.Rules.{TransferEvent, covers, run}
 use Rattle.proof_protocol.specs.Windows.{IsNear}
 use Rattle.proof_rx_refines.specs.View.{unordered_at}
 use Rattle.proof_rx_refines.specs.Refinement.{Goes}
@@ -19,15 +19,15 @@ use Rattle.proof_rx_refines.specs.Refinement.{Goes}
 -- an ordered message's number as DATA carries it (SSN) and as I-DATA does (MID). Unordered I-DATA has a MID too
 pub record IsWritten (message : ℕ → Message) (is_interleaved : Bool) (o : Sender) (k : ℕ) (f : FragmentTree) : Type 0 where
   pub ssn : is_interleaved ≡ false → ordered_of message (place_of o k) ≡ true → f.ssn ≡ wire halves 0 (origin + o.written (place_of o k))
-  pub mid : is_interleaved ≡ true → f.mid ≡ wire words 0 (origin + o.written (place_of o k))
+  pub mid : is_interleaved ≡ true → f.mid ≡ wire u32_space 0 (origin + o.written (place_of o k))
 
 -- an entry of a forward point
 abbrev pub IsEntry : Bool → SkippedStream → Entry → Type 0
 IsEntry false (ForwardTsn id ssn) e = (e.ordered ≡ true) × (e.stream ≡ id.0) × (ssn.0 ≡ wire halves 0 (origin + e.written))
 IsEntry false (IForwardTsn key mid) e = ⊥
 IsEntry true (ForwardTsn id ssn) e = ⊥
-IsEntry true (IForwardTsn (Ordered id) mid) e = (e.ordered ≡ true) × (e.stream ≡ id.0) × (mid.0 ≡ wire words 0 (origin + e.written))
-IsEntry true (IForwardTsn (Unordered id) mid) e = (e.ordered ≡ false) × (e.stream ≡ id.0) × (mid.0 ≡ wire words 0 (origin + e.written))
+IsEntry true (IForwardTsn (Ordered id) mid) e = (e.ordered ≡ true) × (e.stream ≡ id.0) × (mid.0 ≡ wire u32_space 0 (origin + e.written))
+IsEntry true (IForwardTsn (Unordered id) mid) e = (e.ordered ≡ false) × (e.stream ≡ id.0) × (mid.0 ≡ wire u32_space 0 (origin + e.written))
 
 -- one by one
 abbrev pub AreEntries : Bool → List SkippedStream → List Entry → Type 0
@@ -61,7 +61,7 @@ AreNearNext x f = (e : Entry) → IsAmong e f.entries → e.ordered ≡ true →
 -- a queue that was given the TSN w of fragment `shift` first reads TSNs near the fragment `last`. When that came, all
 -- fragments that were seen, and itself, were below `upto`, which was at most 2^30 further on
 pub record IsNearLast (first shift : ℕ) (x : Transfer) (near w : ℕ) : Type 0 where
-  pub written : w ≡ wire words first (origin + shift)
+  pub written : w ≡ wire u32_space first (origin + shift)
   pub last : ℕ
   pub upto : ℕ
   pub near_is : near + shift ≡ origin + last
@@ -117,6 +117,6 @@ pub record ReadsNear (message : ℕ → Message) (is_interleaved : Bool) (base :
   pub start : r.first ≡ None → r.near ≡ origin
 
 -- these events lead to these values, and what comes next is read as it was meant too
-pub record GoesNear (message : ℕ → Message) (is_interleaved : Bool) (base : Bool → ℕ → ℕ) (first shift : ℕ) (x : Transfer) (es : List Rule) (handed : List messages.Message) (waiting : Option Deferred) (t : Tracker) (r : Reassembly) : Type 0 where
+pub record GoesNear (message : ℕ → Message) (is_interleaved : Bool) (base : Bool → ℕ → ℕ) (first shift : ℕ) (x : Transfer) (es : List TransferEvent) (handed : List messages.Message) (waiting : Option Deferred) (t : Tracker) (r : Reassembly) : Type 0 where
   pub goes : Goes message is_interleaved base shift x es handed waiting t r
   pub near : ReadsNear message is_interleaved base first shift (run message is_interleaved x es) r

@@ -1,6 +1,6 @@
 -- What comes from the sender of the rules, and is read as it was meant.
 use Rattle.std.specs.Prelude.{◌≡◌, ℕ, ◌+◌, ◌^◌, ◌<◌, ◌==◌, ◌&&◌, ◌||◌, nat_lt, not, Bool, true, false, Option, Some, None, List, [], ◌∷◌}
-use Rattle.sctp_serial.specs.Unwrapped.{origin, words, halves, nearest}
+use Rattle.sctp_serial.specs.Unwrapped.{origin, u32_space, halves, nearest}
 use Rattle.sctp_serial.specs.declared.types.StreamKey.TheVariants.{Ordered, Unordered}
 use Rattle.sctp_packet.specs.Chunk.{FragmentTree}
 use Rattle.sctp_chunk.specs.declared.forward_tsn.SkippedStream.{SkippedStream}
@@ -60,9 +60,9 @@ StandsFor false ss (ForwardTsn id ssn) e =
 StandsFor false ss (IForwardTsn key mid) e = ⊥
 StandsFor true ss (ForwardTsn id ssn) e = ⊥
 StandsFor true ss (IForwardTsn (Ordered id) mid) e =
-    (e.ordered ≡ true) × (e.stream ≡ id.0) × (nearest words 0 (ordered_at ss id.0).next mid.0 ≡ origin + e.number) × (e.number < 2 ^ 62)
+    (e.ordered ≡ true) × (e.stream ≡ id.0) × (nearest u32_space 0 (ordered_at ss id.0).next mid.0 ≡ origin + e.number) × (e.number < 2 ^ 62)
 StandsFor true ss (IForwardTsn (Unordered id) mid) e =
-    (e.ordered ≡ false) × (e.stream ≡ id.0) × (nearest words 0 (unordered_at ss id.0).near mid.0 ≡ origin + e.number) × (e.number < 2 ^ 62)
+    (e.ordered ≡ false) × (e.stream ≡ id.0) × (nearest u32_space 0 (unordered_at ss id.0).near mid.0 ≡ origin + e.number) × (e.number < 2 ^ 62)
 
 -- one by one
 abbrev pub StandForAll : Bool → Streams → List SkippedStream → List Entry → Type 0

@@ -6,7 +6,7 @@ use Rattle.sctp_rx.specs.Held.{Held}
 use Rattle.sctp_rx.specs.SettledLaws.{AreSettled}
 use Rattle.sctp_rx.specs.ReassemblyQueue.{Reassembly, Deferred}
 use Rattle.proof_protocol.specs.State.{Message, Transfer, IsAmong}
-use Rattle.proof_protocol.specs.Rules.{Rule, Happens, run}
+use Rattle.proof_protocol.specs.Rules.{TransferEvent, Happens, run}
 use Rattle.proof_protocol.specs.Invariant.{Invariant}
 use Rattle.proof_protocol.specs.Reassembly.{Queue, KeyOf, next_of}
 use Rattle.proof_protocol.specs.Joints.{Refines}
@@ -27,7 +27,7 @@ pub record ReceiverRefines (message : ℕ → Message) (is_interleaved : Bool) (
 
 -- these events may happen, the invariant is kept, nothing of the sender or of the packets changes, and they lead to
 -- these values, with this reset deferred, or none
-pub record Goes (message : ℕ → Message) (is_interleaved : Bool) (base : Bool → ℕ → ℕ) (shift : ℕ) (x : Transfer) (es : List Rule) (handed : List messages.Message) (waiting : Option Deferred) (t : Tracker) (r : Reassembly) : Type 0 where
+pub record Goes (message : ℕ → Message) (is_interleaved : Bool) (base : Bool → ℕ → ℕ) (shift : ℕ) (x : Transfer) (es : List TransferEvent) (handed : List messages.Message) (waiting : Option Deferred) (t : Tracker) (r : Reassembly) : Type 0 where
   pub may : Happens message is_interleaved x es
   pub kept : Invariant message is_interleaved (run message is_interleaved x es)
   pub rest_stays : run message is_interleaved x es ≡ record x { receiver = (run message is_interleaved x es).receiver }

@@ -6,7 +6,7 @@ use Rattle.sctp_serial.specs.declared.api.StreamId.{StreamId}
 use Rattle.sctp_rx.specs.DataTracker.{Tracker}
 use Rattle.sctp_rx.specs.ReassemblyQueue.{Reassembly, Deferred, reset}
 use Rattle.proof_protocol.specs.State.{Message, IsAmong}
-use Rattle.proof_protocol.specs.Rules.{Rule}
+use Rattle.proof_protocol.specs.Rules.{TransferEvent}
 use Rattle.proof_protocol.specs.Resets.{Request, Epochs, ResetEvent, transfers, perform, MayAll, go_all}
 use Rattle.proof_rx_refines.specs.Refinement.{ReceiverRefines}
 use Rattle.proof_rx_refines.specs.Near.{ReadsNear}
@@ -71,7 +71,7 @@ IsWaitingFor shift x first None = Unit {0}
 IsWaitingFor shift x first (Some d) = IsDeferral shift x first d
 
 -- the rules go on by these events, and these values show the state
-pub record Comes (message : ℕ → Message) (is_interleaved : Bool) (first shift : ℕ) (x : Epochs) (es : List Rule) (handed : List messages.Message) (t : Tracker) (r : Reassembly) : Type 0 where
+pub record Comes (message : ℕ → Message) (is_interleaved : Bool) (first shift : ℕ) (x : Epochs) (es : List TransferEvent) (handed : List messages.Message) (t : Tracker) (r : Reassembly) : Type 0 where
   pub may : MayAll message is_interleaved x (map transfers es)
   pub refines : ReceiverRefines message is_interleaved (base_now (go_all message is_interleaved x (map transfers es))) shift (go_all message is_interleaved x (map transfers es)).transfer handed t r
   pub near : ReadsNear message is_interleaved (base_now (go_all message is_interleaved x (map transfers es))) first shift (go_all message is_interleaved x (map transfers es)).transfer r

@@ -16,12 +16,12 @@ ghost use Rattle.sctp_state.specs.Options.{Options};
 ghost use Rattle.sctp_rx.specs.DataTracker.{IsTracker, Tracker, ack_timeout, acking, moves_on, observe, packet_end, take_ack, tracker, update_rto};
 ghost use Rattle.sctp_rx.specs.DataTracker as tracker;
 ghost use Rattle.sctp_tracker.specs.declared.data_tracker.AckState.{AckState};
-ghost use Rattle.sctp_rx.specs.Sack.{report};
+ghost use Rattle.sctp_rx.specs.Sack.{clear_duplicates};
 ghost use Rattle.sctp_rx.specs.ReassemblyQueue.{Reassembly, add, forward, number_of, reassembly};
 ghost use Rattle.proof_protocol.specs.Invariant.{Invariant};
 ghost use Rattle.proof_protocol.specs.Lifted.{AreEntriesOfCurrentEpoch, IsOfCurrentEpoch, no_base, wire_point};
 ghost use Rattle.proof_protocol.specs.Reassembly.{NoneReady};
-ghost use Rattle.proof_protocol.specs.Rules.{Rule, IsAllowed, after, data_comes, become_ready, forward_comes, late_comes, send_sack};
+ghost use Rattle.proof_protocol.specs.Rules.{TransferEvent, IsAllowed, after, data_comes, become_ready, forward_comes, late_comes, send_sack};
 ghost use Rattle.proof_protocol.specs.State.{ForwardPoint, IsAmong, Message, Transfer, start};
 ghost use Rattle.proof_rx_refines.specs.Read.{Carries, IsRead, StandForAll, is_behind, shift_after};
 ghost use Rattle.proof_protocol.specs.Points.{AreApart};
@@ -103,7 +103,7 @@ pub fn acknowledging_changes_nothing()
     ensures timeout { (message : ℕ → Message) (is_interleaved : Bool) (base : Bool → ℕ → ℕ) (shift : ℕ) (x : Transfer) (handed : List messages.Message) (t : Tracker) (r : Reassembly) (now : ℕ) →
         ReceiverRefines message is_interleaved base shift x handed t r → ReceiverRefines message is_interleaved base shift x handed (ack_timeout now t) r }
     ensures reported { (message : ℕ → Message) (is_interleaved : Bool) (base : Bool → ℕ → ℕ) (shift : ℕ) (x : Transfer) (handed : List messages.Message) (t : Tracker) (r : Reassembly) →
-        ReceiverRefines message is_interleaved base shift x handed t r → ReceiverRefines message is_interleaved base shift x handed (report t) r }
+        ReceiverRefines message is_interleaved base shift x handed t r → ReceiverRefines message is_interleaved base shift x handed (clear_duplicates t) r }
 {}
 
 /// A message that is handed out was ready, and stays so in the rules.
@@ -114,7 +114,7 @@ pub fn message_is_taken()
 
 /// While the sender goes on, the values stay the receiver.
 pub fn sender_goes_on()
-    ensures receives { (message : ℕ → Message) (is_interleaved : Bool) (base : Bool → ℕ → ℕ) (shift : ℕ) (x : Transfer) (e : Rule) (handed : List messages.Message) (t : Tracker) (r : Reassembly) →
+    ensures receives { (message : ℕ → Message) (is_interleaved : Bool) (base : Bool → ℕ → ℕ) (shift : ℕ) (x : Transfer) (e : TransferEvent) (handed : List messages.Message) (t : Tracker) (r : Reassembly) →
         Invariant message is_interleaved x → IsAllowed message is_interleaved x e → (after message is_interleaved x e).receiver ≡ x.receiver →
         ReceiverRefines message is_interleaved base shift x handed t r → ReceiverRefines message is_interleaved base shift (after message is_interleaved x e) handed t r }
 {}

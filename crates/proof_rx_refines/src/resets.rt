@@ -2,7 +2,7 @@
 
 ghost use Rattle.std.specs.Prelude.{◌≡◌, ◌+◌, ◌<◌, ◌≤◌, Bool, List, None, Option, Some, [], ◌∷◌, false, map, suc, true, ℕ};
 ghost use Rattle.sctp_serial.specs.Messages as messages;
-ghost use Rattle.sctp_serial.specs.Unwrapped.{origin, wire, words};
+ghost use Rattle.sctp_serial.specs.Unwrapped.{origin, wire, u32_space};
 ghost use Rattle.sctp_serial.specs.declared.api.StreamId.{StreamId};
 ghost use Rattle.sctp_packet.specs.Chunk.{FragmentTree};
 ghost use Rattle.sctp_chunk.specs.declared.forward_tsn.SkippedStream.{SkippedStream};
@@ -42,7 +42,7 @@ pub fn deferrals_end()
 pub fn reset_is_deferred()
     ensures deferred { (message : ℕ → Message) (is_interleaved : Bool) (first shift : ℕ) (x : Epochs) (handed : List messages.Message) (t : Tracker) (r : Reassembly) (k tsn u : ℕ) (q : Request) (rs : List Request) →
         InEpochs message is_interleaved x → IsInWindow x.transfer → ReceiverRefines message is_interleaved (base_now x) shift x.transfer handed t r → ReadsNear message is_interleaved (base_now x) first shift x.transfer r →
-        r.deferred ≡ None → AreNextTo x (suc k) (q ∷ rs) → k < count x.transfer.sender → u ≤ k → was_seen t u ≡ false → tsn ≡ wire words first (origin + k) →
+        r.deferred ≡ None → AreNextTo x (suc k) (q ∷ rs) → k < count x.transfer.sender → u ≤ k → was_seen t u ≡ false → tsn ≡ wire u32_space first (origin + k) →
         Comes message is_interleaved first (shift_after r.first shift k) x [] handed t (defer tsn (requests.named_by (q ∷ rs)) r) }
     ensures again { (tsn : ℕ) (ids : List StreamId) (r : Reassembly) (d : Deferred) → r.deferred ≡ Some d → defer tsn ids r ≡ r }
 {}
@@ -53,13 +53,13 @@ pub fn fragments_come_in_epochs()
     ensures held { (message : ℕ → Message) (is_interleaved : Bool) (first shift : ℕ) (x : Epochs) (handed : List messages.Message) (t : Tracker) (r : Reassembly) (k tsn : ℕ) (f : FragmentTree) (now : Bool) →
         InEpochs message is_interleaved x → IsInWindow x.transfer → ReceiverRefines message is_interleaved (base_now x) shift x.transfer handed t r → ReadsNear message is_interleaved (base_now x) first shift x.transfer r →
         IsWaitingFor shift x r.first r.deferred → IsTracker t → AreFew x.transfer.sender →
-        tsn ≡ wire words first (origin + k) → Carries message is_interleaved x.transfer.sender k f → IsWritten message is_interleaved x.transfer.sender k f → was_seen t k ≡ false → IsNearNext message x.transfer k →
+        tsn ≡ wire u32_space first (origin + k) → Carries message is_interleaved x.transfer.sender k f → IsWritten message is_interleaved x.transfer.sender k f → was_seen t k ≡ false → IsNearNext message x.transfer k →
         is_behind message is_interleaved x.transfer.sender x.transfer.receiver k ≡ false →
         (ps : List ℕ) × Comes message is_interleaved first (shift_after r.first shift k) x (data_comes k ∷ map become_ready ps) handed (observe (origin + k) now t) (add tsn f r) }
     ensures late { (message : ℕ → Message) (is_interleaved : Bool) (first shift : ℕ) (x : Epochs) (handed : List messages.Message) (t : Tracker) (r : Reassembly) (k tsn : ℕ) (f : FragmentTree) (now : Bool) →
         InEpochs message is_interleaved x → IsInWindow x.transfer → ReceiverRefines message is_interleaved (base_now x) shift x.transfer handed t r → ReadsNear message is_interleaved (base_now x) first shift x.transfer r →
         IsWaitingFor shift x r.first r.deferred → IsTracker t → AreFew x.transfer.sender →
-        tsn ≡ wire words first (origin + k) → Carries message is_interleaved x.transfer.sender k f → IsWritten message is_interleaved x.transfer.sender k f → was_seen t k ≡ false → IsNearNext message x.transfer k →
+        tsn ≡ wire u32_space first (origin + k) → Carries message is_interleaved x.transfer.sender k f → IsWritten message is_interleaved x.transfer.sender k f → was_seen t k ≡ false → IsNearNext message x.transfer k →
         is_behind message is_interleaved x.transfer.sender x.transfer.receiver k ≡ true →
         Comes message is_interleaved first (shift_after r.first shift k) x (late_comes k ∷ []) handed (observe (origin + k) now t) (add tsn f r) }
 {}
@@ -70,7 +70,7 @@ pub fn points_come_in_epochs()
     ensures goes { (message : ℕ → Message) (is_interleaved : Bool) (first shift : ℕ) (x : Epochs) (handed : List messages.Message) (t : Tracker) (r : Reassembly) (k tsn : ℕ) (f : ForwardPoint) (entries : List SkippedStream) →
         InEpochs message is_interleaved x → IsInWindow x.transfer → ReceiverRefines message is_interleaved (base_now x) shift x.transfer handed t r → ReadsNear message is_interleaved (base_now x) first shift x.transfer r →
         IsWaitingFor shift x r.first r.deferred → IsTracker t → AreFew x.transfer.sender →
-        IsAmong f x.transfer.forward_points → f.upto ≡ suc k → moves_on (origin + k) t ≡ true → tsn ≡ wire words first (origin + k) →
+        IsAmong f x.transfer.forward_points → f.upto ≡ suc k → moves_on (origin + k) t ≡ true → tsn ≡ wire u32_space first (origin + k) →
         AreApart f.entries → AreNearNext x.transfer f → AreEntries is_interleaved entries f.entries →
         (ps : List ℕ) × Comes message is_interleaved first (shift_after r.first shift k) x (forward_comes f ∷ map become_ready ps) handed (tracker.forward (origin + k) t) (forward tsn entries r) }
 {}

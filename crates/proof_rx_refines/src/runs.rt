@@ -1,7 +1,7 @@
 //! One run with each kind of chunk, so that no premise is empty. The expected values were worked out by hand.
 
 ghost use Rattle.std.specs.Prelude.{◌≡◌, ◌+◌, [], ◌∷◌, false, true};
-ghost use Rattle.sctp_serial.specs.Unwrapped.{origin, wire, words};
+ghost use Rattle.sctp_serial.specs.Unwrapped.{origin, wire, u32_space};
 ghost use Rattle.proof_protocol.specs.Runs.{over_two, three, woven};
 ghost use Rattle.proof_protocol.specs.Windows.{Windows};
 ghost use Rattle.proof_rx_refines.specs.Near.{AreEntries, AreFew, IsWritten};
@@ -31,10 +31,10 @@ pub fn written_data()
     ensures windows { Windows three numbered_transfer }
     ensures few { AreFew numbered_transfer.sender }
     ensures second { IsWritten three false numbered_transfer.sender 2 second_message }
-    ensures second_tsn { 1 ≡ wire words 4294967295 (origin + 2) }
+    ensures second_tsn { 1 ≡ wire u32_space 4294967295 (origin + 2) }
     ensures third { IsWritten three false numbered_transfer.sender 3 third_message }
     ensures first { IsWritten three false numbered_transfer.sender 0 first_part }
-    ensures first_tsn { 4294967295 ≡ wire words 4294967295 (origin + 0) }
+    ensures first_tsn { 4294967295 ≡ wire u32_space 4294967295 (origin + 0) }
     ensures entries { AreEntries false skipped over_two.entries }
     ensures interleaved { IsWritten woven true woven_numbered.sender 2 woven_part }
 {}

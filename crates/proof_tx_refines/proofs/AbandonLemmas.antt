@@ -8,10 +8,10 @@ use Rattle.std.proofs.lemmas.List.{get_or_push, get_or_append_left, map-append}
 use Rattle.sctp_packet.specs.Chunk.{FragmentTree}
 use Rattle.sctp_tx_queue.specs.SendQueue.{Queued}
 use Rattle.sctp_tx_outstanding.specs.Item.{Item, is_of, abandon}
-use Rattle.sctp_tx_outstanding.specs.OutstandingData.{Items, Discard, lay_down, without_payload, later_of, last_of}
+use Rattle.sctp_tx_outstanding.specs.OutstandingData.{Items, Discard, abandon_if_of, without_payload, later_of, last_of}
 use Rattle.sctp_tx_outstanding.specs.Losses.{placeholder, placeholders, discards_of, abandon_message}
 use Rattle.proof_protocol.specs.State.{Message, Fragment, Sender, Transfer, IsAmong, fragment, place_of, count, parts, blank, put, stream_of}
-use Rattle.proof_protocol.specs.Rules.{Rule, end_with_placeholder, give_up, run, numbers, gives_up, placeholder_of, Happens}
+use Rattle.proof_protocol.specs.Rules.{TransferEvent, end_with_placeholder, give_up, run, numbers, gives_up, placeholder_of, Happens}
 use Rattle.proof_protocol.specs.Invariant.{Invariant}
 use Rattle.proof_protocol.specs.Sending as sending
 use Rattle.proof_protocol.specs.Sending.{Waiting}
@@ -20,7 +20,7 @@ use Rattle.proof_protocol.proofs.IndexedLemmas.{parts_off}
 use Rattle.proof_protocol.proofs.SenderRowLemmas.{rest_dropped, sent_given_up}
 use Rattle.proof_protocol.proofs.CommonLemmas.{none_some}
 use Rattle.proof_tx_refines.specs.Refinement.{find, waiting_of, queue_of, tree_of, StandsFor, AreKept, IsEntry, AreQueued, AreDiscards}
-use Rattle.proof_tx_refines.specs.Led.{is_sending, given_ups}
+use Rattle.proof_tx_refines.specs.Reachable.{is_sending, given_up_places}
 use Rattle.proof_tx_refines.proofs.FoundLemmas.{one_value}
 use Rattle.proof_tx_refines.proofs.QueuedLemmas.{Frame, queue_some, queue_given, queue_as, change, change_discards}
 use Rattle.proof_tx_refines.proofs.ItemsLemmas.{Stays, kept_push}
@@ -95,7 +95,7 @@ module _ (message : ℕ → Message) (lifecycle : ℕ → Option ℕ) where
 
   -- ---- the items that are kept of it
 
-  given_stands : (o : Sender) (p : ℕ) (f : Fragment) (i : Item) → StandsFor message lifecycle o f i → StandsFor message lifecycle (gives_up o p) f (lay_down p i)
+  given_stands : (o : Sender) (p : ℕ) (f : Fragment) (i : Item) → StandsFor message lifecycle o f i → StandsFor message lifecycle (gives_up o p) f (abandon_if_of p i)
   given_stands o p f i a = go (is_of p i) refl
     where
       go : (b : Bool) → is_of p i ≡ b → StandsFor message lifecycle (gives_up o p) f (cond b (abandon i) i)
@@ -112,13 +112,13 @@ module _ (message : ℕ → Message) (lifecycle : ℕ → Option ℕ) where
           not_of : (n p : ℕ) → eqb n p ≡ false → n ≡ p → ⊥
           not_of n p e c = grind (arith, nat_tests)
 
-  laid : (o : Sender) (p t : ℕ) (is : List Item) → AreKept message lifecycle o t is → AreKept message lifecycle (gives_up o p) t (map (lay_down p) is)
+  laid : (o : Sender) (p t : ℕ) (is : List Item) → AreKept message lifecycle o t is → AreKept message lifecycle (gives_up o p) t (map (abandon_if_of p) is)
   laid o p t [] a = a
   laid o p t (i ∷ is) a = (given_stands o p (fragment o t) i a.0, laid o p (suc t) is a.1)
 
   -- ---- the whole
 
-  pub record GivesUp (is_interleaved : Bool) (x : Transfer) (ms : ℕ → List Queued) (s : Items) (p : ℕ) (es : List Rule) : Type 0 where
+  pub record GivesUp (is_interleaved : Bool) (x : Transfer) (ms : ℕ → List Queued) (s : Items) (p : ℕ) (es : List TransferEvent) : Type 0 where
     pub may : Happens message is_interleaved x es
     pub rest_stays : run message is_interleaved x es ≡ record x { sender = (run message is_interleaved x es).sender }
     pub counts_stay : (run message is_interleaved x es).sender.following ≡ x.sender.following
@@ -173,17 +173,17 @@ module _ (message : ℕ → Message) (lifecycle : ℕ → Option ℕ) (is_interl
         let at_own = ap (λ z. find p (ms z)) ((queue.entries k p m h).on_stream) ∙ h in
         none_some waits (waiting_of m) (queue_some message o ms p m live at_own) out
 
-    nothing_more : abandon_message p s ≡ record s { kept = map (lay_down p) s.kept; discards = s.discards }
+    nothing_more : abandon_message p s ≡ record s { kept = map (abandon_if_of p) s.kept; discards = s.discards }
     nothing_more = ap with_last is ∙ (ap ended end ∙ (λ i. shown (append-nil s.kept i) (append-nil s.discards i)))
       where
         with_last : Option FragmentTree → Items
-        with_last d = record s { kept = map (lay_down p) (s.kept ++ placeholders p d); discards = s.discards ++ discards_of p d }
+        with_last d = record s { kept = map (abandon_if_of p) (s.kept ++ placeholders p d); discards = s.discards ++ discards_of p d }
 
         ended : Bool → Items
-        ended b = record s { kept = map (lay_down p) (s.kept ++ cond b [] (placeholder p f ∷ [])); discards = s.discards ++ cond b [] (record { stream = f.stream_id; number = p } ∷ []) }
+        ended b = record s { kept = map (abandon_if_of p) (s.kept ++ cond b [] (placeholder p f ∷ [])); discards = s.discards ++ cond b [] (record { stream = f.stream_id; number = p } ∷ []) }
 
         shown : List Item → List Discard → Items
-        shown is ds = record s { kept = map (lay_down p) is; discards = ds }
+        shown is ds = record s { kept = map (abandon_if_of p) is; discards = ds }
 
     ended_row : GivesUp message lifecycle is_interleaved x ms s p (give_up p ∷ [])
     ended_row =
@@ -271,7 +271,7 @@ module _ (message : ℕ → Message) (lifecycle : ℕ → Option ℕ) (is_interl
     next_index : (a b : ℕ) → suc a ≡ b → (a % 2 ^ 32 + 1) % 2 ^ 32 ≡ b % 2 ^ 32
     next_index a b e = omega (arith, e)
 
-    stands : StandsFor message lifecycle o2 (placeholder_of o p) (lay_down p (placeholder p f))
+    stands : StandsFor message lifecycle o2 (placeholder_of o p) (abandon_if_of p (placeholder p f))
     stands = go (is_of p (placeholder p f))
       where
         tree : (placeholder p f).fragment ≡ tree_of message o2 (placeholder_of o p)
@@ -290,14 +290,14 @@ module _ (message : ℕ → Message) (lifecycle : ℕ → Option ℕ) (is_interl
         go true = record { place = refl; carried = tree; lifecycle_id = refl; given_up = sym (put_at o.given_up p true p refl); placeholder = λ h. put_at o.given_up p true p refl }
         go false = record { place = refl; carried = tree; lifecycle_id = refl; given_up = sym (put_at o.given_up p true p refl); placeholder = λ h. put_at o.given_up p true p refl }
 
-    one_more : abandon_message p s ≡ record s { kept = map (lay_down p) s.kept ++ lay_down p (placeholder p f) ∷ []; discards = s.discards ++ record { stream = f.stream_id; number = p } ∷ [] }
-    one_more = ap with_last is ∙ (ap ended open_end ∙ ap shown (map-append (lay_down p) s.kept (placeholder p f ∷ [])))
+    one_more : abandon_message p s ≡ record s { kept = map (abandon_if_of p) s.kept ++ abandon_if_of p (placeholder p f) ∷ []; discards = s.discards ++ record { stream = f.stream_id; number = p } ∷ [] }
+    one_more = ap with_last is ∙ (ap ended open_end ∙ ap shown (map-append (abandon_if_of p) s.kept (placeholder p f ∷ [])))
       where
         with_last : Option FragmentTree → Items
-        with_last d = record s { kept = map (lay_down p) (s.kept ++ placeholders p d); discards = s.discards ++ discards_of p d }
+        with_last d = record s { kept = map (abandon_if_of p) (s.kept ++ placeholders p d); discards = s.discards ++ discards_of p d }
 
         ended : Bool → Items
-        ended b = record s { kept = map (lay_down p) (s.kept ++ cond b [] (placeholder p f ∷ [])); discards = s.discards ++ cond b [] (record { stream = f.stream_id; number = p } ∷ []) }
+        ended b = record s { kept = map (abandon_if_of p) (s.kept ++ cond b [] (placeholder p f ∷ [])); discards = s.discards ++ cond b [] (record { stream = f.stream_id; number = p } ∷ []) }
 
         shown : List Item → Items
         shown z = record s { kept = z; discards = s.discards ++ record { stream = f.stream_id; number = p } ∷ [] }
@@ -319,9 +319,9 @@ module _ (message : ℕ → Message) (lifecycle : ℕ → Option ℕ) (is_interl
           accepted_stays = refl;
           kept =
               subst (λ (z : Items). AreKept message lifecycle o2 x.acknowledged z.kept) (sym one_more)
-              (kept_push message lifecycle (gives_up o p) o2 stays counts (lay_down p (placeholder p f))
-              (subst (λ (z : Fragment). StandsFor message lifecycle o2 z (lay_down p (placeholder p f))) (sym (get_or_push o.numbered (placeholder_of o p) blank (count o) refl)) stands)
-              x.acknowledged (map (lay_down p) s.kept) (laid message lifecycle o p x.acknowledged s.kept kept));
+              (kept_push message lifecycle (gives_up o p) o2 stays counts (abandon_if_of p (placeholder p f))
+              (subst (λ (z : Fragment). StandsFor message lifecycle o2 z (abandon_if_of p (placeholder p f))) (sym (get_or_push o.numbered (placeholder_of o p) blank (count o) refl)) stands)
+              x.acknowledged (map (abandon_if_of p) s.kept) (laid message lifecycle o p x.acknowledged s.kept kept));
           messages =
               change message lifecycle o o2 ms ms p (λ k r d. refl) frame (omega arith) entry None
               (queue_given message o2 ms p (put_at o.given_up p true p refl)) r.queued queue;
@@ -369,9 +369,9 @@ module _ (message : ℕ → Message) (lifecycle : ℕ → Option ℕ) (is_interl
               | inr e ↦ put_at o.given_up p true d.number (ap (λ (z : Discard). z.number) e)
             ]
 
-  pub gives : (es : List Rule) × GivesUp message lifecycle is_interleaved x ms s p es × (given_ups es ≡ p ∷ []) × (list_all is_sending es ≡ true)
+  pub gives : (es : List TransferEvent) × GivesUp message lifecycle is_interleaved x ms s p es × (given_up_places es ≡ p ∷ []) × (list_all is_sending es ≡ true)
   gives = go f.is_end refl
     where
-      go : (b : Bool) → f.is_end ≡ b → (es : List Rule) × GivesUp message lifecycle is_interleaved x ms s p es × (given_ups es ≡ p ∷ []) × (list_all is_sending es ≡ true)
+      go : (b : Bool) → f.is_end ≡ b → (es : List TransferEvent) × GivesUp message lifecycle is_interleaved x ms s p es × (given_up_places es ≡ p ∷ []) × (list_all is_sending es ≡ true)
       go true e = (give_up p ∷ [], ended_row e, refl, refl)
       go false e = (end_with_placeholder p ∷ give_up p ∷ [], open_row e, refl, refl)

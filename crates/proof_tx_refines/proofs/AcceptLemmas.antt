@@ -11,10 +11,10 @@ use Rattle.std.proofs.Math.Bool.{not-not}
 use Rattle.sctp_serial.specs.declared.api.Message as given
 use Rattle.sctp_state.specs.declared.api.options.SendOptions.{SendOptions}
 use Rattle.sctp_tx_queue.specs.Views.{queued_of}
-use Rattle.sctp_state.specs.Events.{Emitted, silent}
+use Rattle.sctp_state.specs.Events.{Emitted, nothing_emitted}
 use Rattle.sctp_tx_queue.specs.declared.send_queue.message.MessageNumbers.{MessageNumbers}
 use Rattle.sctp_tx_queue.specs.SendQueue as queue
-use Rattle.sctp_tx_queue.specs.SendQueue.{expiry_of, Queued, Queue, Stream, Streams, blank, open_stream, push, stream, add}
+use Rattle.sctp_tx_queue.specs.SendQueue.{expiry_of, Queued, Queue, Stream, Streams, blank, with_stream, push, stream, add}
 use Rattle.sctp_tx_queue.specs.Settings.{with_threshold, with_priority, set_priority, set_low_threshold}
 use Rattle.sctp_tx_queue.specs.InOrder.{IsInOrder, IsNumbered, HasRests}
 use Rattle.sctp_tx_queue.proofs.InOrderLemmas.{set_bytes_mode, opened_same, added_in_order, priority_in_order, threshold_in_order, put_elsewhere}
@@ -37,7 +37,7 @@ use Rattle.proof_tx_refines.proofs.ProduceLemmas.{is_other}
 
 -- ---- a stream is there once it is named
 
-opened_there : (id : ℕ) (ss : Streams) → is_some (lookup (is_at (nat_cmp id)) (open_stream id ss).entries) ≡ true
+opened_there : (id : ℕ) (ss : Streams) → is_some (lookup (is_at (nat_cmp id)) (with_stream id ss).entries) ≡ true
 opened_there id ss = go (is_some (lookup (is_at (nat_cmp id)) ss.entries)) refl
   where
     opened_if : Bool → Streams
@@ -49,17 +49,17 @@ opened_there id ss = go (is_some (lookup (is_at (nat_cmp id)) ss.entries)) refl
     go true e = e
     go false e = ap is_some (inserted_here id (blank ss) ss.entries)
 
-pub written : (id : ℕ) (s : Stream) (ss : Streams) → stream id (queue.put_stream id s (open_stream id ss)) ≡ s
-written id s ss = stream_put id s (open_stream id ss) (opened_there id ss)
+pub written : (id : ℕ) (s : Stream) (ss : Streams) → stream id (queue.put_stream id s (with_stream id ss)) ≡ s
+written id s ss = stream_put id s (with_stream id ss) (opened_there id ss)
 
-pub unwritten : (k id : ℕ) (s : Stream) (ss : Streams) → k ≢ id → stream k (queue.put_stream id s (open_stream id ss)) ≡ stream k ss
-unwritten k id s ss d = put_elsewhere k id s (open_stream id ss) (is_other k id d) ∙ opened_same k id ss
+pub unwritten : (k id : ℕ) (s : Stream) (ss : Streams) → k ≢ id → stream k (queue.put_stream id s (with_stream id ss)) ≡ stream k ss
+unwritten k id s ss d = put_elsewhere k id s (with_stream id ss) (is_other k id d) ∙ opened_same k id ss
 
 -- ---- settings
 
 module _ (message : ℕ → Message) (lifecycle : ℕ → Option ℕ) (is_interleaved : Bool) (x : Transfer) (q : Queue) (s : Items) (sh : SenderRefines message lifecycle is_interleaved x q s) where
   -- a stream has other settings
-  set : (id : ℕ) (t : Stream) (after : Queue) → after.streams ≡ queue.put_stream id t (open_stream id q.streams) → t.messages ≡ (stream id q.streams).messages → IsNext x.sender id t
+  set : (id : ℕ) (t : Stream) (after : Queue) → after.streams ≡ queue.put_stream id t (with_stream id q.streams) → t.messages ≡ (stream id q.streams).messages → IsNext x.sender id t
       → after.scheduler.is_interleaved ≡ q.scheduler.is_interleaved → after.next_number ≡ q.next_number → IsInOrder after → IsNumbered after → HasRests after → SenderRefines message lifecycle is_interleaved x after s
   set id t after streams same next mode count order rising rests = record {
     queue = record {
@@ -101,7 +101,7 @@ module _ (message : ℕ → Message) (lifecycle : ℕ → Option ℕ) (is_interl
         set id (with_priority n (stream id q.streams)) (set_priority id n q) refl refl (record { ssn = next.ssn; ordered_mid = next.ordered_mid; unordered_mid = next.unordered_mid }) refl refl
             (priority_in_order id n q sh.queue.order) (calls_number.priority id n q sh.queue.rising) (calls_leave_rests.priority id n q sh.queue.rests),
         set id (with_threshold n (stream id q.streams)) (set_low_threshold id n q emitted).queue refl refl (record { ssn = next.ssn; ordered_mid = next.ordered_mid; unordered_mid = next.unordered_mid }) refl refl
-            (threshold_in_order id n q emitted sh.queue.order) (calls_number.threshold id n q silent sh.queue.rising) (calls_leave_rests.threshold id n q silent sh.queue.rests),
+            (threshold_in_order id n q emitted sh.queue.order) (calls_number.threshold id n q nothing_emitted sh.queue.rising) (calls_leave_rests.threshold id n q nothing_emitted sh.queue.rests),
       )
 
   -- ---- acceptance

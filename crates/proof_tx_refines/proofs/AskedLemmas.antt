@@ -7,10 +7,10 @@ use Rattle.sctp_tx_queue.specs.declared.send_queue.stream.PauseState.{PauseState
 use Rattle.sctp_tx_queue.specs.declared.send_queue.stream.PauseState.TheVariants.{NotPaused, Pending, Paused, Resetting}
 use Rattle.sctp_tx_queue.specs.declared.send_queue.stream.ResetStep.TheVariants.{Requested, Performed}
 use Rattle.sctp_tx_queue.specs.SendQueue as queue
-use Rattle.sctp_tx_queue.specs.SendQueue.{Queued, Queue, Stream, Streams, stream, add, push, open_stream}
-use Rattle.sctp_tx_queue.specs.Produced.{Produced, Turn, settle_pause, pause_after, front_ends, without_stale, streams_without_stale, advance, turn, next_stream, produce_within, produce}
+use Rattle.sctp_tx_queue.specs.SendQueue.{Queued, Queue, Stream, Streams, stream, add, push, with_stream}
+use Rattle.sctp_tx_queue.specs.Produced.{Produced, Turn, pause_if_pending, pause_after, front_ends, without_stale, streams_without_stale, advance, turn, next_stream, produce_within, produce}
 use Rattle.sctp_tx_queue.specs.Settings.{Changed, with_threshold, with_priority, set_priority, set_low_threshold, without_front, streams_discarded, front_discarded, discard}
-use Rattle.sctp_tx_queue.specs.Resets.{waiting, is_partly, prepare_stream, prepare_reset, requested_streams, request_resets, commit_resets, after_step, step_stream, each_stepped}
+use Rattle.sctp_tx_queue.specs.Resets.{pause_for_reset, is_partly, prepare_stream, prepare_reset, streams_to_request, request_resets, commit_resets, after_step, apply_reset_step, each_stepped}
 use Rattle.sctp_tx_queue.proofs.InOrderLemmas.{put_elsewhere, discard_streams}
 use Rattle.sctp_tx_queue.proofs.ProduceLemmas.{idles, gives, turned}
 use Rattle.sctp_tx_outstanding.specs.OutstandingData.{Discard}
@@ -19,7 +19,7 @@ use Rattle.proof_protocol.proofs.ToolsLemmas.{not_both, has_from}
 use Rattle.sctp_tx.specs.RetransmissionQueue.{Sender}
 use Rattle.sctp_tx.specs.Resent.{may_send_new, resent}
 use Rattle.sctp_tx.specs.Sending as packets
-use Rattle.sctp_tx.specs.Sending.{Filling, offered_payload, append, turned_if, fill, discard_all, without_discards, filled_with, send}
+use Rattle.sctp_tx.specs.Sending.{Filling, offered_payload, append, queue_step_if, fill, discard_all, without_discards, filled_with, send}
 use Rattle.proof_tx_refines.specs.Line.{are_ascending}
 use Rattle.proof_tx_refines.specs.Records.{are_distinct}
 use Rattle.proof_tx_refines.specs.Pauses.{AreEach}
@@ -68,9 +68,9 @@ one_alike id ss ts a elsewhere = record {
 }
 
 -- which is there from then on
-opened_same : (id : ℕ) (t : Stream) (ss : Streams) → Alike (stream id ss) t → Same ss (queue.put_stream id t (open_stream id ss))
+opened_same : (id : ℕ) (t : Stream) (ss : Streams) → Alike (stream id ss) t → Same ss (queue.put_stream id t (with_stream id ss))
 opened_same id t ss a =
-    one_alike id ss (queue.put_stream id t (open_stream id ss)) (subst (λ (z : Stream). Alike (stream id ss) z) (sym (written id t ss)) a) (λ k d. unwritten k id t ss d)
+    one_alike id ss (queue.put_stream id t (with_stream id ss)) (subst (λ (z : Stream). Alike (stream id ss) z) (sym (written id t ss)) a) (λ k d. unwritten k id t ss d)
 
 -- or where it is there
 put_same : (id : ℕ) (t : Stream) (ss : Streams) → Alike (stream id ss) t → Same ss (queue.put_stream id t ss)
@@ -87,35 +87,35 @@ put_same id t ss a = one_alike id ss (queue.put_stream id t ss) here (λ k d. pu
 same_pause : (s t : Stream) → t.pause ≡ s.pause → Alike s t
 same_pause s t h = record { still = λ e. h ∙ e; before = λ e. sym h ∙ e }
 
-waiting_before : (b : Bool) (p : PauseState) → waiting b p ≡ Resetting → p ≡ Resetting
+waiting_before : (b : Bool) (p : PauseState) → pause_for_reset b p ≡ Resetting → p ≡ Resetting
 waiting_before true NotPaused e = absurd (cc)
 waiting_before false NotPaused e = absurd (cc)
 waiting_before b Pending e = absurd (cc)
 waiting_before b Paused e = absurd (cc)
 waiting_before b Resetting e = refl
 
-settled_before : (p : PauseState) → settle_pause p ≡ Resetting → p ≡ Resetting
+settled_before : (p : PauseState) → pause_if_pending p ≡ Resetting → p ≡ Resetting
 settled_before NotPaused e = absurd (cc)
 settled_before Pending e = absurd (cc)
 settled_before Paused e = absurd (cc)
 settled_before Resetting e = refl
 
 prepared_alike : (s : Stream) → Alike s (prepare_stream s)
-prepared_alike s = record { still = λ e. ap (waiting (length (filter is_partly s.messages) == 0)) e; before = waiting_before (length (filter is_partly s.messages) == 0) s.pause }
+prepared_alike s = record { still = λ e. ap (pause_for_reset (length (filter is_partly s.messages) == 0)) e; before = waiting_before (length (filter is_partly s.messages) == 0) s.pause }
 
 cut_alike : (number : ℕ) (ms : List Queued) (s : Stream) → Alike s (without_front number ms s)
 cut_alike number [] s = same_pause s s refl
 cut_alike number (m ∷ rest) s = go (m.number == number)
   where
-    go : (b : Bool) → Alike s (cond b (record s { messages = rest; pause = settle_pause s.pause }) s)
-    go true = record { still = λ e. ap settle_pause e; before = settled_before s.pause }
+    go : (b : Bool) → Alike s (cond b (record s { messages = rest; pause = pause_if_pending s.pause }) s)
+    go true = record { still = λ e. ap pause_if_pending e; before = settled_before s.pause }
     go false = same_pause s s refl
 
 after_alike : (size : ℕ) (s : Stream) → Alike s (advance size s)
 after_alike size s = go (front_ends size s.messages) refl
   where
     go : (b : Bool) → front_ends size s.messages ≡ b → Alike s (advance size s)
-    go true e = record { still = λ c. ap (λ z. pause_after z s.pause) e ∙ ap settle_pause c; before = λ c. settled_before s.pause (sym (ap (λ z. pause_after z s.pause) e) ∙ c) }
+    go true e = record { still = λ c. ap (λ z. pause_after z s.pause) e ∙ ap pause_if_pending c; before = λ c. settled_before s.pause (sym (ap (λ z. pause_after z s.pause) e) ∙ c) }
     go false e = same_pause s (advance size s) (ap (λ z. pause_after z s.pause) e)
 
 module _ {P : Type 0} where
@@ -156,7 +156,7 @@ module _ {P : Type 0} where
       go None c rest = subst (λ (t : Turn P). Same q.streams t.queue.streams) (sym (idles n now size q emitted c)) (same_all q.streams)
       go (Some id) c rest = given id c rest (turn now id size q emitted).made refl
 
-  turned_same : (b : Bool) (now : ℕ) (f : Filling P) → Same f.queue.streams (turned_if b now f).filling.queue.streams
+  turned_same : (b : Bool) (now : ℕ) (f : Filling P) → Same f.queue.streams (queue_step_if b now f).filling.queue.streams
   turned_same false now f = same_all f.queue.streams
   turned_same true now f =
       let t : Turn P = produce now (offered_payload f.left f.sender) f.queue f.emitted in
@@ -205,7 +205,7 @@ calls_keep_asked = record {
 -- ---- a request
 
 -- those that go into it wait from then on
-now_asked : (id : ℕ) (q : Queue) → (stream id q.streams).pause ≡ Paused → IsAsked (step_stream Requested id q).streams id
+now_asked : (id : ℕ) (q : Queue) → (stream id q.streams).pause ≡ Paused → IsAsked (apply_reset_step Requested id q).streams id
 now_asked id q ready = elim (put_cases id (after_step Requested (stream id q.streams)) q.streams) [
   | inl here ↦ ap (λ (z : Stream). z.pause) here
   | inr there ↦ absurd (flows (sym ready ∙ ap (λ (z : Stream). z.pause) there.1))
@@ -214,11 +214,11 @@ now_asked id q ready = elim (put_cases id (after_step Requested (stream id q.str
     flows : Paused ≡ NotPaused → ⊥
     flows e = cc
 
-step_still : (id : ℕ) (q : Queue) (k : ℕ) → IsAsked q.streams k → IsAsked (step_stream Requested id q).streams k
+step_still : (id : ℕ) (q : Queue) (k : ℕ) → IsAsked q.streams k → IsAsked (apply_reset_step Requested id q).streams k
 step_still id q k e = elim (cases_eq k id) [
   | inr d ↦ ap (λ (z : Stream). z.pause) (off Requested id q k d) ∙ e
   | inl c ↦
-      subst (IsAsked (step_stream Requested id q).streams) (sym c) (elim (put_cases id (after_step Requested (stream id q.streams)) q.streams) [
+      subst (IsAsked (apply_reset_step Requested id q).streams) (sym c) (elim (put_cases id (after_step Requested (stream id q.streams)) q.streams) [
         | inl here ↦ ap (λ (z : Stream). z.pause) here
         | inr there ↦ ap (λ (z : Stream). z.pause) there.0 ∙ subst (IsAsked q.streams) c e
       ])
@@ -226,12 +226,12 @@ step_still id q k e = elim (cases_eq k id) [
 
 steps_still : (ids : List ℕ) (q : Queue) (k : ℕ) → IsAsked q.streams k → IsAsked (each_stepped Requested ids q).streams k
 steps_still [] q k e = e
-steps_still (id ∷ ids) q k e = steps_still ids (step_stream Requested id q) k (step_still id q k e)
+steps_still (id ∷ ids) q k e = steps_still ids (apply_reset_step Requested id q) k (step_still id q k e)
 
 pub all_asked : (ids : List ℕ) (q : Queue) → AreEach Paused q ids → AreEach Resetting (each_stepped Requested ids q) ids
 all_asked [] q e = tt
 all_asked (id ∷ ids) q e =
-    let r : Queue = step_stream Requested id q in (
+    let r : Queue = apply_reset_step Requested id q in (
       steps_still ids r id (now_asked id q e.0),
       e.1,
       all_asked ids r (still_each Requested Paused id ids q e.1 e.2),
@@ -242,7 +242,7 @@ has_this k id ids e = or_left (k == id) (has k ids) (eq-eqb k id e)
 
 steps_others : (ids : List ℕ) (q : Queue) (k : ℕ) → IsAsked (each_stepped Requested ids q).streams k → (has k ids ≡ true) ⊎ IsAsked q.streams k
 steps_others [] q k e = inr e
-steps_others (id ∷ ids) q k e = elim (steps_others ids (step_stream Requested id q) k e) [
+steps_others (id ∷ ids) q k e = elim (steps_others ids (apply_reset_step Requested id q) k e) [
   | inl t ↦ inl (or_right (k == id) (has k ids) t)
   | inr t ↦ elim (cases_eq k id) [
     | inl c ↦ inl (has_this k id ids c)
@@ -281,9 +281,9 @@ each_asked q (id ∷ ids) d h =
       each_asked q ids a.1 (λ k t. h k (or_right (k == id) (has k ids) t)),
     )
 
-pub requested_asked : (q : Queue) (most : ℕ) → are_ascending 0 q.streams.entries ≡ true → AreRequested q (request_resets most q) (requested_streams most q)
+pub requested_asked : (q : Queue) (most : ℕ) → are_ascending 0 q.streams.entries ≡ true → AreRequested q (request_resets most q) (streams_to_request most q)
 requested_asked q most h =
-    let ids = requested_streams most q in
+    let ids = streams_to_request most q in
     let e = requested_ready q most h in
     record {
       once = each_once Paused q ids e;
@@ -298,16 +298,16 @@ requested_asked q most h =
 pub answered_open : (ids : List ℕ) (q : Queue) (k : ℕ) → IsAsked (commit_resets ids q).streams k → (has k ids ≡ false) × IsAsked q.streams k
 answered_open [] q k e = (refl, e)
 answered_open (id ∷ ids) q k e =
-    let z = answered_open ids (step_stream Performed id q) k e in
+    let z = answered_open ids (apply_reset_step Performed id q) k e in
     elim (cases_eq k id) [
-      | inl c ↦ absurd (here (subst (IsAsked (step_stream Performed id q).streams) c z.1))
+      | inl c ↦ absurd (here (subst (IsAsked (apply_reset_step Performed id q).streams) c z.1))
       | inr d ↦ (or_from (k == id) (has k ids) (ne_eqb k id d) z.0, ap (λ (s : Stream). s.pause) (sym (off Performed id q k d)) ∙ z.1)
     ]
   where
     flows : NotPaused ≡ Resetting → ⊥
     flows e = cc
 
-    here : IsAsked (step_stream Performed id q).streams id → ⊥
+    here : IsAsked (apply_reset_step Performed id q).streams id → ⊥
     here t = elim (put_cases id (after_step Performed (stream id q.streams)) q.streams) [
       | inl c ↦ flows (sym (ap (λ (s : Stream). s.pause) c) ∙ t)
       | inr c ↦ flows (sym (ap (λ (s : Stream). s.pause) (c.0 ∙ c.1)) ∙ t)

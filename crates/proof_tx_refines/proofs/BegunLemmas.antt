@@ -10,15 +10,15 @@ use Rattle.sctp_tx_queue.specs.SendQueue.{Queued, Queue, stream, is_stopped}
 use Rattle.sctp_tx_queue.specs.Produced.{turn}
 use Rattle.sctp_tx_outstanding.specs.OutstandingData.{Items}
 use Rattle.proof_protocol.specs.State.{Message, Sender, Transfer, stream_of}
-use Rattle.proof_protocol.specs.Rules.{Rule, accept, begin, number, end_with_placeholder, give_up, data_comes, late_comes, become_ready, send_sack, ack_point_advances, send_forward, forward_comes, perform_reset, IsAllowed, Happens, after, run}
+use Rattle.proof_protocol.specs.Rules.{TransferEvent, accept, begin, number, end_with_placeholder, give_up, data_comes, late_comes, become_ready, send_sack, acknowledge_next, send_forward, forward_comes, perform_reset, IsAllowed, Happens, after, run}
 use Rattle.proof_protocol.specs.Invariant.{Invariant}
 use Rattle.proof_protocol.specs.Sending.{Waiting}
 use Rattle.proof_protocol.specs.Resets.{Epochs, transfers, InEpoch, goes, MayAll, go_all}
 use Rattle.proof_protocol.proofs.ToolsLemmas.{put_at, put_off, not_both}
-use Rattle.proof_protocol.proofs.KeepsLemmas.{keeps, all_kept}
+use Rattle.proof_protocol.proofs.RulesKeepLemmas.{keeps, all_kept}
 use Rattle.proof_protocol.proofs.StepLemmas.{later}
 use Rattle.proof_tx_refines.specs.Refinement.{find, messages_of, waiting_of, queue_of, QueueRefines, SenderRefines}
-use Rattle.proof_tx_refines.specs.Led.{is_sending, LeadsTo}
+use Rattle.proof_tx_refines.specs.Reachable.{is_sending, SenderLeadsTo}
 use Rattle.proof_tx_refines.specs.Pauses.{ArePausedAs}
 use Rattle.proof_tx_refines.specs.Following.{WaitsOn}
 use Rattle.proof_tx_refines.proofs.QueuedLemmas.{queue_some, queued_is}
@@ -30,7 +30,7 @@ use Rattle.proof_tx_refines.proofs.WaitsLemmas.{turn_waits}
 
 module _ (message : ℕ → Message) (is_interleaved : Bool) where
   -- what is given up isn't begun any more
-  still_unbegun : (x : Transfer) (e : Rule) → IsAllowed message is_interleaved x e → (p : ℕ) → x.sender.given_up p ≡ true → x.sender.begun p ≡ false → (after message is_interleaved x e).sender.begun p ≡ false
+  still_unbegun : (x : Transfer) (e : TransferEvent) → IsAllowed message is_interleaved x e → (p : ℕ) → x.sender.given_up p ≡ true → x.sender.begun p ≡ false → (after message is_interleaved x e).sender.begun p ≡ false
   still_unbegun x accept a p g n = n
   still_unbegun x (begin r) a p g n = put_off x.sender.begun r true p (λ e. not_both g (ap x.sender.given_up e ∙ a.0.not_given_up)) ∙ n
   still_unbegun x (number r bytes more) a p g n = n
@@ -40,23 +40,23 @@ module _ (message : ℕ → Message) (is_interleaved : Bool) where
   still_unbegun x (late_comes t) a p g n = n
   still_unbegun x (become_ready r) a p g n = n
   still_unbegun x (send_sack c) a p g n = n
-  still_unbegun x (ack_point_advances c) a p g n = n
+  still_unbegun x (acknowledge_next c) a p g n = n
   still_unbegun x (send_forward f) a p g n = n
   still_unbegun x (forward_comes f) a p g n = n
   still_unbegun x (perform_reset s c) a p g n = n
 
-  unbegun : (es : List Rule) (x : Transfer) → Invariant message is_interleaved x → Happens message is_interleaved x es → (p : ℕ) → x.sender.given_up p ≡ true → x.sender.begun p ≡ false
+  unbegun : (es : List TransferEvent) (x : Transfer) → Invariant message is_interleaved x → Happens message is_interleaved x es → (p : ℕ) → x.sender.given_up p ≡ true → x.sender.begun p ≡ false
       → (run message is_interleaved x es).sender.begun p ≡ false
   unbegun [] x k h p g n = n
   unbegun (e ∷ es) x k h p g n =
       unbegun es (after message is_interleaved x e) (keeps message is_interleaved x k e h.0) h.1 p ((later message is_interleaved x k e h.0).given_stays p g) (still_unbegun x e h.0 p g n)
 
-  begun_later : (es : List Rule) (x : Transfer) → Invariant message is_interleaved x → Happens message is_interleaved x es → (p : ℕ) → x.sender.begun p ≡ true → (run message is_interleaved x es).sender.begun p ≡ true
+  begun_later : (es : List TransferEvent) (x : Transfer) → Invariant message is_interleaved x → Happens message is_interleaved x es → (p : ℕ) → x.sender.begun p ≡ true → (run message is_interleaved x es).sender.begun p ≡ true
   begun_later [] x k h p b = b
   begun_later (e ∷ es) x k h p b = begun_later es (after message is_interleaved x e) (keeps message is_interleaved x k e h.0) h.1 p ((later message is_interleaved x k e h.0).begun_stays p b)
 
   -- nothing is accepted
-  accepted_stays : (x : Transfer) (e : Rule) → is_sending e ≡ true → (after message is_interleaved x e).sender.accepted ≡ x.sender.accepted
+  accepted_stays : (x : Transfer) (e : TransferEvent) → is_sending e ≡ true → (after message is_interleaved x e).sender.accepted ≡ x.sender.accepted
   accepted_stays x accept h = cc
   accepted_stays x (begin r) h = refl
   accepted_stays x (number r bytes more) h = refl
@@ -66,19 +66,19 @@ module _ (message : ℕ → Message) (is_interleaved : Bool) where
   accepted_stays x (late_comes t) h = refl
   accepted_stays x (become_ready r) h = refl
   accepted_stays x (send_sack c) h = refl
-  accepted_stays x (ack_point_advances c) h = refl
+  accepted_stays x (acknowledge_next c) h = refl
   accepted_stays x (send_forward f) h = refl
   accepted_stays x (forward_comes f) h = refl
   accepted_stays x (perform_reset s c) h = refl
 
-  accepted_later : (es : List Rule) (x : Transfer) → list_all is_sending es ≡ true → (run message is_interleaved x es).sender.accepted ≡ x.sender.accepted
+  accepted_later : (es : List TransferEvent) (x : Transfer) → list_all is_sending es ≡ true → (run message is_interleaved x es).sender.accepted ≡ x.sender.accepted
   accepted_later [] x h = refl
   accepted_later (e ∷ es) x h =
       let a = and_parts (is_sending e) (list_all is_sending es) h in
       accepted_later es (after message is_interleaved x e) a.1 ∙ accepted_stays x e a.0
 
   -- forward points that were sent stay
-  points_grow : (x : Transfer) (e : Rule) → length x.forward_points ≤ length (after message is_interleaved x e).forward_points
+  points_grow : (x : Transfer) (e : TransferEvent) → length x.forward_points ≤ length (after message is_interleaved x e).forward_points
   points_grow x accept = omega arith
   points_grow x (begin r) = omega arith
   points_grow x (number r bytes more) = omega arith
@@ -88,12 +88,12 @@ module _ (message : ℕ → Message) (is_interleaved : Bool) where
   points_grow x (late_comes t) = omega arith
   points_grow x (become_ready r) = omega arith
   points_grow x (send_sack c) = omega arith
-  points_grow x (ack_point_advances c) = omega arith
+  points_grow x (acknowledge_next c) = omega arith
   points_grow x (send_forward f) = omega arith
   points_grow x (forward_comes f) = omega arith
   points_grow x (perform_reset s c) = omega arith
 
-  points_later : (es : List Rule) (x : Transfer) → length x.forward_points ≤ length (run message is_interleaved x es).forward_points
+  points_later : (es : List TransferEvent) (x : Transfer) → length x.forward_points ≤ length (run message is_interleaved x es).forward_points
   points_later [] x = omega arith
   points_later (e ∷ es) x =
       let a = points_grow x e in
@@ -104,7 +104,7 @@ module _ (message : ℕ → Message) (is_interleaved : Bool) where
   abbrev Begins : Epochs → Transfer → Type 0
   Begins x y = (p : ℕ) → x.transfer.sender.begun p ≡ false → y.sender.begun p ≡ true → x.epoch p ≤ x.opened (stream_of message p)
 
-  in_epoch : (x : Epochs) (e : Rule) (es : List Rule) → Invariant message is_interleaved x.transfer → is_sending e ≡ true → IsAllowed message is_interleaved x.transfer e → Happens message is_interleaved (after message is_interleaved x.transfer e) es
+  in_epoch : (x : Epochs) (e : TransferEvent) (es : List TransferEvent) → Invariant message is_interleaved x.transfer → is_sending e ≡ true → IsAllowed message is_interleaved x.transfer e → Happens message is_interleaved (after message is_interleaved x.transfer e) es
       → length (run message is_interleaved x.transfer (e ∷ es)).forward_points ≡ length x.transfer.forward_points → Begins x (run message is_interleaved x.transfer (e ∷ es)) → InEpoch message is_interleaved x e
   in_epoch x accept es k is a h l bound = tt
   in_epoch x (begin r) es k is a h l bound =
@@ -116,14 +116,14 @@ module _ (message : ℕ → Message) (is_interleaved : Bool) where
   in_epoch x (late_comes t) es k is a h l bound = tt
   in_epoch x (become_ready r) es k is a h l bound = tt
   in_epoch x (send_sack c) es k is a h l bound = tt
-  in_epoch x (ack_point_advances c) es k is a h l bound = tt
+  in_epoch x (acknowledge_next c) es k is a h l bound = tt
   in_epoch x (send_forward f) es k is a h l bound =
       let g : suc (length x.transfer.forward_points) ≤ length (run message is_interleaved x.transfer (send_forward f ∷ es)).forward_points = points_later es (after message is_interleaved x.transfer (send_forward f)) in
       absurd (omega (arith, g, l))
   in_epoch x (forward_comes f) es k is a h l bound = tt
   in_epoch x (perform_reset s c) es k is a h l bound = cc
 
-  pub in_epochs : (es : List Rule) (x : Epochs) → Invariant message is_interleaved x.transfer → list_all is_sending es ≡ true → Happens message is_interleaved x.transfer es
+  pub in_epochs : (es : List TransferEvent) (x : Epochs) → Invariant message is_interleaved x.transfer → list_all is_sending es ≡ true → Happens message is_interleaved x.transfer es
       → length (run message is_interleaved x.transfer es).forward_points ≡ length x.transfer.forward_points → Begins x (run message is_interleaved x.transfer es) → MayAll message is_interleaved x (map transfers es)
   in_epochs [] x k all h l bound = tt
   in_epochs (e ∷ es) x k all h l bound =
@@ -143,7 +143,7 @@ module _ (message : ℕ → Message) (is_interleaved : Bool) where
 -- ---- what leads to a queue in which what waits on streams that aren't open waits still
 
 module _ (message : ℕ → Message) (lifecycle : ℕ → Option ℕ) (is_interleaved : Bool) (x : Epochs) (q r : Queue) (t : Items) (k : Invariant message is_interleaved x.transfer)
-    (sh : QueueRefines message lifecycle is_interleaved x.transfer.sender q) (h : ArePausedAs x q) (still : WaitsOn q r) (es : List Rule) (may : Happens message is_interleaved x.transfer es)
+    (sh : QueueRefines message lifecycle is_interleaved x.transfer.sender q) (h : ArePausedAs x q) (still : WaitsOn q r) (es : List TransferEvent) (may : Happens message is_interleaved x.transfer es)
     (all : list_all is_sending es ≡ true) (shown : SenderRefines message lifecycle is_interleaved (run message is_interleaved x.transfer es) r t) where
   abbrev o : Sender
   o = x.transfer.sender
@@ -161,14 +161,14 @@ module _ (message : ℕ → Message) (lifecycle : ℕ → Option ℕ) (is_interl
 
   -- a message that waited is of the open epoch, if it is begun
   module _ (p : ℕ) (b : o'.begun p ≡ true) (m : Queued) (none : m.numbers ≡ None) (f : find p (messages_of q (stream_of message p)) ≡ Some m) where
-    abbrev own : ℕ
-    own = stream_of message p
+    abbrev stream_of_place : ℕ
+    stream_of_place = stream_of message p
 
-    later_epoch : ((stream own q.streams).pause ≡ NotPaused → ⊥) → x.epoch p ≤ x.opened own
-    later_epoch n = absurd (not_both b (after_unbegun p m (still.waiting own p m n f none) none))
+    later_epoch : ((stream stream_of_place q.streams).pause ≡ NotPaused → ⊥) → x.epoch p ≤ x.opened stream_of_place
+    later_epoch n = absurd (not_both b (after_unbegun p m (still.waiting stream_of_place p m n f none) none))
 
-    waited : (pause : PauseState) → (stream own q.streams).pause ≡ pause → x.epoch p ≤ x.opened own
-    waited NotPaused e = let new = (h own).newest p m f none in let flows = (h own).flows e in omega (arith, new, flows)
+    waited : (pause : PauseState) → (stream stream_of_place q.streams).pause ≡ pause → x.epoch p ≤ x.opened stream_of_place
+    waited NotPaused e = let new = (h stream_of_place).newest p m f none in let flows = (h stream_of_place).flows e in omega (arith, new, flows)
     waited Pending e = later_epoch (λ c. pending_flows (sym e ∙ c))
       where
         pending_flows : Pending ≡ NotPaused → ⊥
@@ -204,7 +204,7 @@ module _ (message : ℕ → Message) (lifecycle : ℕ → Option ℕ) (is_interl
   begins_waiting points = in_epochs message is_interleaved es x k all may (ap length points) newly
 
 -- the epochs stay
-pub goes_sending : (message : ℕ → Message) (is_interleaved : Bool) (es : List Rule) (x : Epochs) → list_all is_sending es ≡ true
+pub goes_sending : (message : ℕ → Message) (is_interleaved : Bool) (es : List TransferEvent) (x : Epochs) → list_all is_sending es ≡ true
     → go_all message is_interleaved x (map transfers es) ≡ record x { transfer = run message is_interleaved x.transfer es }
 goes_sending message is_interleaved [] x all = refl
 goes_sending message is_interleaved (e ∷ es) x all =
@@ -216,7 +216,7 @@ goes_sending message is_interleaved (e ∷ es) x all =
     with_epochs f = record x { transfer = run message is_interleaved x.transfer (e ∷ es); epoch = f }
 
 pub queue_begins : {P : Type 0} (message : ℕ → Message) (lifecycle : ℕ → Option ℕ) (is_interleaved : Bool) (x : Epochs) (q r : Queue) (t : Items) (emitted later : Emitted P) → Invariant message is_interleaved x.transfer
-    → QueueRefines message lifecycle is_interleaved x.transfer.sender q → ArePausedAs x q → WaitsOn q r → (l : LeadsTo message lifecycle is_interleaved x.transfer emitted r t later)
+    → QueueRefines message lifecycle is_interleaved x.transfer.sender q → ArePausedAs x q → WaitsOn q r → (l : SenderLeadsTo message lifecycle is_interleaved x.transfer emitted r t later)
     → MayAll message is_interleaved x (map transfers l.leads.events) × (go_all message is_interleaved x (map transfers l.leads.events) ≡ record x { transfer = l.after })
 queue_begins message lifecycle is_interleaved x q r t emitted later k sh h still l =
     let es = l.leads.events in
@@ -233,7 +233,7 @@ queue_begins message lifecycle is_interleaved x q r t emitted later k sh h still
 
 pub turn_begins : {P : Type 0} (message : ℕ → Message) (lifecycle : ℕ → Option ℕ) (is_interleaved : Bool) (x : Epochs) (q : Queue) (s : Items) → Invariant message is_interleaved x.transfer
     → SenderRefines message lifecycle is_interleaved x.transfer q s → ArePausedAs x q → (now id size : ℕ) (emitted : Emitted P) → is_stopped (stream id q.streams).pause ≡ false
-    → (es : List Rule) → Happens message is_interleaved x.transfer es → list_all is_sending es ≡ true → (t : Items)
+    → (es : List TransferEvent) → Happens message is_interleaved x.transfer es → list_all is_sending es ≡ true → (t : Items)
     → SenderRefines message lifecycle is_interleaved (run message is_interleaved x.transfer es) (turn now id size q emitted).queue t → (run message is_interleaved x.transfer es).forward_points ≡ x.transfer.forward_points
     → MayAll message is_interleaved x (map transfers es)
 turn_begins message lifecycle is_interleaved x q s k sh h now id size emitted goes_on es may all t shown points =

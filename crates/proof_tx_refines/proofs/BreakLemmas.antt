@@ -6,7 +6,7 @@ use Rattle.sctp_serial.specs.Unwrapped.{origin}
 use Rattle.sctp_tx_queue.specs.SendQueue.{Queue}
 use Rattle.sctp_tx_outstanding.specs.Item.{Item}
 use Rattle.sctp_tx_outstanding.specs.OutstandingData.{Items, next_number, begin_reset}
-use Rattle.sctp_tx_outstanding.specs.Losses.{Step, gives_up, nack_item, nack_at, nack_below, option_bind, expired_of, given_up_if, expire_at, expire_below}
+use Rattle.sctp_tx_outstanding.specs.Losses.{Step, is_to_be_abandoned, nack_item, nack_at, nack_below, option_bind, expired_of, given_up_if, expire_at, expire_below}
 use Rattle.sctp_tx_outstanding.specs.Sack.{staying}
 use Rattle.proof_protocol.specs.State.{Message, Transfer, IsAmong, count}
 use Rattle.proof_protocol.specs.Rules.{send_forward}
@@ -49,13 +49,13 @@ module _ {P : Type 0} where
   nacked : (at_once fast : Bool) (n : ℕ) (x : Step P) → (nack_at at_once fast n x).items.breaks ≡ x.items.breaks
   nacked at_once fast n x = go (slice_get x.items.kept n)
     where
-      item : (i : Item) (b : Bool) → gives_up x.items.is_partial at_once i ≡ b → (nack_item at_once fast n i x).items.breaks ≡ x.items.breaks
+      item : (i : Item) (b : Bool) → is_to_be_abandoned x.items.is_partial at_once i ≡ b → (nack_item at_once fast n i x).items.breaks ≡ x.items.breaks
       item i true e = rw e refl
       item i false e = rw e refl
 
       go : (o : Option Item) → (unwrap_or (option_map (λ i. nack_item at_once fast n i x) o) x).items.breaks ≡ x.items.breaks
       go None = refl
-      go (Some i) = item i (gives_up x.items.is_partial at_once i) refl
+      go (Some i) = item i (is_to_be_abandoned x.items.is_partial at_once i) refl
 
   pub nacks_keep : (at_once fast : Bool) (n : ℕ) (x : Step P) → (nack_below at_once fast n x).items.breaks ≡ x.items.breaks
   nacks_keep at_once fast zero x = refl

@@ -3,12 +3,12 @@ use Rattle.std.proofs.Common.{◌≡◌, ◌≢◌, ℕ, Bool, true, false, cond
 use Rattle.std.specs.Prelude.{is_some, ◌==◌}
 use Rattle.std.specs.List.{list_all}
 use Rattle.std.proofs.lemmas.Bool.{cases_eq, ne_eqb, and_parts, eq-eqb, eqb-true}
-use Rattle.sctp_state.specs.Events.{Emitted, silent}
+use Rattle.sctp_state.specs.Events.{Emitted, nothing_emitted}
 use Rattle.sctp_tx_queue.specs.SendQueue as queue
 use Rattle.sctp_tx_queue.specs.SendQueue.{Queued, Queue, Stream, Streams, stream}
-use Rattle.sctp_tx_queue.specs.Produced.{settle_pause}
+use Rattle.sctp_tx_queue.specs.Produced.{pause_if_pending}
 use Rattle.sctp_tx_queue.specs.Settings.{front_discarded, without_front, streams_discarded, discard_from, discard}
-use Rattle.sctp_tx_queue.specs.InOrder.{IsNumbered, HasRests, is_waiting, is_begun_or_waiting, are_in_order, are_rising}
+use Rattle.sctp_tx_queue.specs.InOrder.{IsNumbered, HasRests, is_unsent, is_begun_or_waiting, are_in_order, are_rising}
 use Rattle.sctp_tx_queue.proofs.InOrderLemmas.{set_bytes_mode, put_elsewhere, discard_streams, discarded_in_order}
 use Rattle.sctp_tx_queue.proofs.NumberLemmas.{calls_number}
 use Rattle.sctp_tx_queue.proofs.RestLemmas.{calls_leave_rests}
@@ -57,10 +57,10 @@ module _ {P : Type 0} (message : ℕ → Message) (lifecycle : ℕ → Option �
       go (Some l) = refl
 
   -- whatever was emitted before
-  same_after : (discard id number q (silent {P = List ℕ})).queue ≡ after
+  same_after : (discard id number q (nothing_emitted {P = List ℕ})).queue ≡ after
   same_after = go (front_discarded number s0.messages)
     where
-      go : (f : Option (Option ℕ)) → (discard_from id (streams_discarded id number q.streams) f q (silent {P = List ℕ})).queue ≡ (discard_from id (streams_discarded id number q.streams) f q emitted).queue
+      go : (f : Option (Option ℕ)) → (discard_from id (streams_discarded id number q.streams) f q (nothing_emitted {P = List ℕ})).queue ≡ (discard_from id (streams_discarded id number q.streams) f q emitted).queue
       go None = refl
       go (Some l) = refl
 
@@ -71,7 +71,7 @@ module _ {P : Type 0} (message : ℕ → Message) (lifecycle : ℕ → Option �
       go [] = h
       go (m ∷ rest) = by (m.number == number)
         where
-          by : (b : Bool) → IsNext o id (cond b (record s0 { messages = rest; pause = settle_pause s0.pause }) s0)
+          by : (b : Bool) → IsNext o id (cond b (record s0 { messages = rest; pause = pause_if_pending s0.pause }) s0)
           by true = record { ssn = h.ssn; ordered_mid = h.ordered_mid; unordered_mid = h.unordered_mid }
           by false = h
 
@@ -80,7 +80,7 @@ module _ {P : Type 0} (message : ℕ → Message) (lifecycle : ℕ → Option �
   front_off [] e r d = ap (find r) e
   front_off (m ∷ rest) e r d = by (m.number == number) refl
     where
-      by : (b : Bool) → (m.number == number) ≡ b → find r (let t : Stream = cond b (record s0 { messages = rest; pause = settle_pause s0.pause }) s0 in t).messages ≡ find r (m ∷ rest)
+      by : (b : Bool) → (m.number == number) ≡ b → find r (let t : Stream = cond b (record s0 { messages = rest; pause = pause_if_pending s0.pause }) s0 in t).messages ≡ find r (m ∷ rest)
       by true h = sym (found_off r m rest (λ c. d (sym c ∙ eqb-true m.number number h)))
       by false h = ap (find r) e
 
@@ -91,12 +91,12 @@ module _ {P : Type 0} (message : ℕ → Message) (lifecycle : ℕ → Option �
   front_removed (m ∷ rest) e least most r h has = by (cases_eq m.number number)
     where
       left : Bool → Stream
-      left b = cond b (record s0 { messages = rest; pause = settle_pause s0.pause }) s0
+      left b = cond b (record s0 { messages = rest; pause = pause_if_pending s0.pause }) s0
 
       behind_none : (f : Option Queued) → find number rest ≡ f → m.number ≢ number → find number rest ≡ None
       behind_none None g d = g
       behind_none (Some n) g d =
-          absurd (not_both (has n (found_off number m rest d ∙ g)) (behind_waits number rest n (and_parts (is_begun_or_waiting m) (list_all is_waiting rest) h).1 g))
+          absurd (not_both (has n (found_off number m rest d ∙ g)) (behind_waits number rest n (and_parts (is_begun_or_waiting m) (list_all is_unsent rest) h).1 g))
 
       by : (m.number ≡ number) ⊎ (m.number ≢ number) → find number (left (m.number == number)).messages ≡ None
       by (inl c) = ap (λ b. find number (left b).messages) (eq-eqb m.number number c) ∙ (ap (λ n. find n rest) (sym c) ∙ once least most m rest r)
@@ -128,8 +128,8 @@ module _ {P : Type 0} (message : ℕ → Message) (lifecycle : ℕ → Option �
     discard_queue = record {
       mode = mode_stays ∙ h.mode;
       order = discarded_in_order id number q emitted h.order;
-      rising = subst IsNumbered same_after (calls_number.discarded id number q silent h.rising);
-      rests = subst HasRests same_after (calls_leave_rests.discarded id number q silent h.rests);
+      rising = subst IsNumbered same_after (calls_number.discarded id number q nothing_emitted h.rising);
+      rests = subst HasRests same_after (calls_leave_rests.discarded id number q nothing_emitted h.rests);
       accepted = count_stays ∙ h.accepted;
       few = h.few;
       next = λ k. elim (cases_eq k id) [

@@ -8,7 +8,7 @@ use Rattle.sctp_tx_queue.specs.Produced.{Produced, Turn, produce}
 use Rattle.sctp_tx_outstanding.specs.Item.{header_size}
 use Rattle.sctp_tx.specs.RetransmissionQueue.{Sender}
 use Rattle.sctp_tx.specs.Resent.{is_interleaved, may_send_new, room_of}
-use Rattle.sctp_tx.specs.Sending.{Filling, Turned, offered_payload, append, is_made, turned_if, fill}
+use Rattle.sctp_tx.specs.Sending.{Filling, QueueStep, offered_payload, append, is_made, queue_step_if, fill}
 use Rattle.proof_tx_refines.specs.Filled as filled
 use Rattle.proof_tx_refines.specs.Filled.{windows, nothing, IsFilled, ends, goes_on, began, TakesWhatIsDue}
 use Rattle.proof_tx_refines.proofs.ScheduledLemmas.{idle_where_none}
@@ -25,13 +25,13 @@ has_header true = omega arith
 has_header false = omega arith
 
 module _ {P : Type 0} (now m : ℕ) (x : Filling P) (l : x.left < suc m) (ih : (y : Filling P) → y.left < m → IsFilled now y (fill m now y)) where
-  abbrev Result : Turned P → Type 0
+  abbrev Result : QueueStep P → Type 0
   Result t = IsFilled now x (if t.is_more then fill m now t.filling else t.filling)
 
   abbrev made : Turn P
   made = produce now (offered_payload x.left x.sender) x.queue x.emitted
 
-  abbrev after : Option Produced → Turned P
+  abbrev after : Option Produced → QueueStep P
   after o = record { filling = append now o (record x { queue = made.queue; emitted = made.emitted }); is_more = is_made o }
 
   -- the queue was asked
@@ -42,7 +42,7 @@ module _ {P : Type 0} (now m : ℕ) (x : Filling P) (l : x.left < suc m) (ih : (
       (ih (append now (Some p) (record x { queue = made.queue; emitted = made.emitted }))
       (less_left x.left (room_of x.sender) (header_size (is_interleaved x.sender)) (length p.fragment.payload) m some l (has_header (is_interleaved x.sender))))
 
-  asks : (b c : Bool) → may_send_new x.sender ≡ b → nat_lt 0 (offered_payload x.left x.sender) ≡ c → Result (turned_if (b && c) now x)
+  asks : (b c : Bool) → may_send_new x.sender ≡ b → nat_lt 0 (offered_payload x.left x.sender) ≡ c → Result (queue_step_if (b && c) now x)
   asks false c e f = ends (windows e refl)
   asks true false e f = ends (filled.room (zero_of (offered_payload x.left x.sender) f) refl)
   asks true true e f = answered e (ltb-true 0 (offered_payload x.left x.sender) f) made.made refl
@@ -50,8 +50,8 @@ module _ {P : Type 0} (now m : ℕ) (x : Filling P) (l : x.left < suc m) (ih : (
   pub one_more_turn : IsFilled now x (fill (suc m) now x)
   one_more_turn = by_tests (may_send_new x.sender) (nat_lt 0 (offered_payload x.left x.sender)) refl refl
     where
-      by_tests : (b c : Bool) → may_send_new x.sender ≡ b → nat_lt 0 (offered_payload x.left x.sender) ≡ c → Result (turned_if (may_send_new x.sender && nat_lt 0 (offered_payload x.left x.sender)) now x)
-      by_tests b c e f = subst (λ (z : Bool). Result (turned_if z now x)) (sym (ap (λ (z : Bool). z && nat_lt 0 (offered_payload x.left x.sender)) e ∙ ap (λ (z : Bool). b && z) f)) (asks b c e f)
+      by_tests : (b c : Bool) → may_send_new x.sender ≡ b → nat_lt 0 (offered_payload x.left x.sender) ≡ c → Result (queue_step_if (may_send_new x.sender && nat_lt 0 (offered_payload x.left x.sender)) now x)
+      by_tests b c e f = subst (λ (z : Bool). Result (queue_step_if z now x)) (sym (ap (λ (z : Bool). z && nat_lt 0 (offered_payload x.left x.sender)) e ∙ ap (λ (z : Bool). b && z) f)) (asks b c e f)
 
 pub filled_by : {P : Type 0} (now m : ℕ) (x : Filling P) → x.left < m → IsFilled now x (fill m now x)
 filled_by now zero x l = absurd (omega (arith, l))

@@ -1,14 +1,14 @@
 -- The values keep the epochs through what changes the queue alone: acceptance, settings, and resets from their call to the answer.
 use Rattle.std.proofs.Common.{◌≡◌, ℕ, suc, ◌≤◌, Bool, true, false, inl, inr, Option, None, List, [], ◌∷◌, map, refl, sym, ap, ◌∙◌, subst, arith}
 use Rattle.std.proofs.lemmas.Bool.{cases_eq}
-use Rattle.sctp_state.specs.Events.{Emitted, silent}
+use Rattle.sctp_state.specs.Events.{Emitted, nothing_emitted}
 use Rattle.sctp_tx_queue.specs.declared.send_queue.stream.PauseState.{PauseState}
 use Rattle.sctp_tx_queue.specs.declared.send_queue.stream.PauseState.TheVariants.{NotPaused, Pending, Paused, Resetting}
 use Rattle.sctp_tx_queue.specs.declared.send_queue.stream.ResetStep.TheVariants.{Requested, Performed}
 use Rattle.sctp_tx_queue.specs.SendQueue as queue
 use Rattle.sctp_tx_queue.specs.SendQueue.{Queue, Stream, stream, add, push, is_stopped}
 use Rattle.sctp_tx_queue.specs.Settings.{with_threshold, with_priority, set_priority, set_low_threshold, set_mode, begun_without}
-use Rattle.sctp_tx_queue.specs.Resets.{prepare_stream, requested_streams}
+use Rattle.sctp_tx_queue.specs.Resets.{prepare_stream, streams_to_request}
 use Rattle.sctp_tx_queue.specs.Restarted.{restarted_one, each_restarted, reset}
 use Rattle.sctp_tx_queue.specs.Restarted as restarting
 use Rattle.std.specs.Map.{keys_of}
@@ -20,8 +20,8 @@ use Rattle.proof_protocol.specs.Invariant.{Invariant}
 use Rattle.proof_protocol.specs.Resets.{Epochs, first_epoch, transfers, send_request, commit, goes, go_all}
 use Rattle.proof_protocol.proofs.ToolsLemmas.{put_at, put_off, not_both}
 use Rattle.proof_tx_refines.specs.Refinement.{SenderRefines}
-use Rattle.proof_tx_refines.specs.Rows.{offered_entry, restart}
-use Rattle.proof_tx_refines.specs.Pauses.{unsent_of, give_ups, opens_next, prepare_events, ArePausedAs, AreEach}
+use Rattle.proof_tx_refines.specs.Rows.{offered_entry, restart_numbers}
+use Rattle.proof_tx_refines.specs.Pauses.{unsent_of, give_up_rules, opens_next, prepare_events, ArePausedAs, AreEach}
 use Rattle.proof_tx_refines.specs.Line.{are_ascending, IsInLine}
 use Rattle.proof_tx_refines.specs.Following.{FollowsEpochs, NoneIsReset, BeginningFollows, PreparesFollow, RequestsFollow, AnswerFollows, IsOthers}
 use Rattle.proof_tx_refines.proofs.ProduceLemmas.{stream_changed, is_other}
@@ -182,7 +182,7 @@ module _ (message : ℕ → Message) (lifecycle : ℕ → Option ℕ) (is_interl
         },
         record {
           paused = z.1;
-          line = calls_keep_line.watched id n silent q h.line;
+          line = calls_keep_line.watched id n nothing_emitted q h.line;
           keyed = written_keyed id (with_threshold n (stream id q.streams)) q.streams h.keyed;
           breaks = h.breaks;
         },
@@ -211,7 +211,7 @@ module _ (message : ℕ → Message) (lifecycle : ℕ → Option ℕ) (is_interl
         transfer_is = ap (λ (w : Epochs). w.transfer) leads ∙ opened_transfer (stream id q.streams).pause id given;
         follows = record {
           paused = z.paused;
-          line = calls_keep_line.preparing id silent q h.line;
+          line = calls_keep_line.preparing id nothing_emitted q h.line;
           keyed = written_keyed id (prepare_stream (stream id q.streams)) q.streams h.keyed;
           breaks = breaks_stay x (go_all message is_interleaved x (prepare_events q id)) s s (ap (λ (w : Epochs). w.requests) leads ∙ opened_requests (stream id q.streams).pause id given)
               (omega (arith, left)) refl h.breaks;
@@ -219,11 +219,11 @@ module _ (message : ℕ → Message) (lifecycle : ℕ → Option ℕ) (is_interl
       }
     where
       given : Epochs
-      given = record x { transfer = run message is_interleaved x.transfer (give_ups (unsent_of q id)) }
+      given = record x { transfer = run message is_interleaved x.transfer (give_up_rules (unsent_of q id)) }
 
       leads : go_all message is_interleaved x (prepare_events q id) ≡ go_all message is_interleaved given (opens_next (stream id q.streams).pause id)
       leads =
-          go_more message is_interleaved (map transfers (give_ups (unsent_of q id))) (opens_next (stream id q.streams).pause id) x
+          go_more message is_interleaved (map transfers (give_up_rules (unsent_of q id))) (opens_next (stream id q.streams).pause id) x
           ∙ ap (λ (w : Epochs). go_all message is_interleaved w (opens_next (stream id q.streams).pause id)) (go_given message is_interleaved (unsent_of q id) x)
 
       left : (go_all message is_interleaved x (prepare_events q id)).transfer.acknowledged ≡ x.transfer.acknowledged
@@ -241,7 +241,7 @@ module _ (message : ℕ → Message) (lifecycle : ℕ → Option ℕ) (is_interl
 
   pub requesting_follows : (most : ℕ) → RequestsFollow message lifecycle is_interleaved x q s most
   requesting_follows most =
-      let ids = requested_streams most q in
+      let ids = streams_to_request most q in
       let e = requested_ready q most h.keyed in
       let z = requests_pause message lifecycle is_interleaved s ids x q sh h.paused e in
       record {
@@ -257,7 +257,7 @@ module _ (message : ℕ → Message) (lifecycle : ℕ → Option ℕ) (is_interl
         asked = all_asked ids q e;
       }
 
-  commits_transfer : (ids : List ℕ) (y : Epochs) → (go_all message is_interleaved y (map commit ids)).transfer ≡ restart ids y.transfer
+  commits_transfer : (ids : List ℕ) (y : Epochs) → (go_all message is_interleaved y (map commit ids)).transfer ≡ restart_numbers ids y.transfer
   commits_transfer [] y = refl
   commits_transfer (id ∷ ids) y = commits_transfer ids (goes message is_interleaved y (commit id))
 

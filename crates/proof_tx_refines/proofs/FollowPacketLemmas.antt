@@ -18,16 +18,16 @@ use Rattle.sctp_tx_outstanding.specs.Resending.{Resent, again_of, step_at, resen
 use Rattle.sctp_tx_outstanding.specs.Sack.{leaving, staying, receive_sack_first, reported_below}
 use Rattle.sctp_tx.specs.Windows.{is_open}
 use Rattle.sctp_tx.specs.RetransmissionQueue.{Sender, handle_sack, step_of}
-use Rattle.sctp_tx.specs.Resent.{send_fast, resent, resent_by, flight, resent_fast, may_send_new, timed_if}
-use Rattle.sctp_tx.specs.Sending.{Filling, offered_payload, append, turned_if, next_turn, fill, discard_all, without_discards, filled_with, send}
+use Rattle.sctp_tx.specs.Resent.{send_fast, resent, resent_by, flight, resent_fast, may_send_new, start_t3_if}
+use Rattle.sctp_tx.specs.Sending.{Filling, offered_payload, append, queue_step_if, next_turn, fill, discard_all, without_discards, filled_with, send}
 use Rattle.proof_protocol.specs.State.{Message, Transfer}
-use Rattle.proof_protocol.specs.Rules.{Rule, ack_point_advances, Happens}
+use Rattle.proof_protocol.specs.Rules.{TransferEvent, acknowledge_next, Happens}
 use Rattle.proof_protocol.specs.Invariant.{Invariant}
 use Rattle.proof_protocol.specs.Resets.{Epochs, ResetEvent, transfers, goes, MayAll, go_all}
-use Rattle.proof_protocol.proofs.KeepsLemmas.{all_kept}
+use Rattle.proof_protocol.proofs.RulesKeepLemmas.{all_kept}
 use Rattle.proof_tx_refines.specs.Refinement.{SenderRefines}
-use Rattle.proof_tx_refines.specs.Led.{is_sending, LeadsTo}
-use Rattle.proof_tx_refines.specs.Rows.{leave_places, ReceivesSack, Sends}
+use Rattle.proof_tx_refines.specs.Reachable.{is_sending, SenderLeadsTo}
+use Rattle.proof_tx_refines.specs.Rows.{leave_fragments, ReceivesSack, SenderSends}
 use Rattle.proof_tx_refines.specs.Following.{FollowsEpochs, LeadsInEpochs, BreaksAreKept}
 use Rattle.proof_tx_refines.proofs.SendLemmas.{by_turn}
 use Rattle.proof_tx_refines.proofs.PausedLemmas.{go_more, may_more}
@@ -50,7 +50,7 @@ resent_breaks : (fast : Bool) (n : ℕ) (r : Resent) → (resent_below fast n r)
 resent_breaks fast zero r = refl
 resent_breaks fast (suc n) r = one_breaks fast n (resent_below fast n r) ∙ resent_breaks fast n r
 
-timed_breaks : (b : Bool) (now : ℕ) (s : Sender) → (timed_if b now s).outstanding.items.breaks ≡ s.outstanding.items.breaks
+timed_breaks : (b : Bool) (now : ℕ) (s : Sender) → (start_t3_if b now s).outstanding.items.breaks ≡ s.outstanding.items.breaks
 timed_breaks true now s = refl
 timed_breaks false now s = refl
 
@@ -59,7 +59,7 @@ module _ {P : Type 0} where
   appended_breaks now None f = refl
   appended_breaks now (Some p) f = refl
 
-  turned_breaks : (b : Bool) (now : ℕ) (f : Filling P) → (turned_if b now f).filling.sender.outstanding.items.breaks ≡ f.sender.outstanding.items.breaks
+  turned_breaks : (b : Bool) (now : ℕ) (f : Filling P) → (queue_step_if b now f).filling.sender.outstanding.items.breaks ≡ f.sender.outstanding.items.breaks
   turned_breaks false now f = refl
   turned_breaks true now f =
       let t : Turn P = produce now (offered_payload f.left f.sender) f.queue f.emitted in
@@ -108,7 +108,7 @@ module _ (message : ℕ → Message) (lifecycle : ℕ → Option ℕ) (is_interl
   abbrev items : Items
   items = s.outstanding.items
 
-  pub items_follow : {P : Type 0} (t : Items) (emitted later : Emitted P) → t.breaks ≡ items.breaks → (l : LeadsTo message lifecycle is_interleaved x.transfer emitted q t later)
+  pub items_follow : {P : Type 0} (t : Items) (emitted later : Emitted P) → t.breaks ≡ items.breaks → (l : SenderLeadsTo message lifecycle is_interleaved x.transfer emitted q t later)
       → LeadsInEpochs message is_interleaved x l.leads.events l.after q t
   items_follow t emitted later breaks l =
       let y : Epochs = record x { transfer = l.after } in
@@ -125,7 +125,7 @@ module _ (message : ℕ → Message) (lifecycle : ℕ → Option ℕ) (is_interl
         };
       }
 
-  pub sending_follows : {P : Type 0} (now most : ℕ) (emitted : Emitted P) (l : Sends message lifecycle is_interleaved x.transfer now most s q emitted)
+  pub sending_follows : {P : Type 0} (now most : ℕ) (emitted : Emitted P) (l : SenderSends message lifecycle is_interleaved x.transfer now most s q emitted)
       → LeadsInEpochs message is_interleaved x l.leads.leads.events l.leads.after (send now most s q emitted).queue (send now most s q emitted).sender.outstanding.items
   sending_follows now most emitted l =
       let r : Queue = (send now most s q emitted).queue in
@@ -156,13 +156,13 @@ module _ (message : ℕ → Message) (lifecycle : ℕ → Option ℕ) (is_interl
 
 -- ---- a SACK
 
-pub leaves_send : (n c : ℕ) → list_all is_sending (replicate n (ack_point_advances c)) ≡ true
+pub leaves_send : (n c : ℕ) → list_all is_sending (replicate n (acknowledge_next c)) ≡ true
 leaves_send zero c = refl
-leaves_send (suc n) c = and_from true (list_all is_sending (replicate n (ack_point_advances c))) refl (leaves_send n c)
+leaves_send (suc n) c = and_from true (list_all is_sending (replicate n (acknowledge_next c))) refl (leaves_send n c)
 
-leaves_may : (message : ℕ → Message) (is_interleaved : Bool) (n c : ℕ) (x : Epochs) → Happens message is_interleaved x.transfer (replicate n (ack_point_advances c)) → MayAll message is_interleaved x (map transfers (replicate n (ack_point_advances c)))
+leaves_may : (message : ℕ → Message) (is_interleaved : Bool) (n c : ℕ) (x : Epochs) → Happens message is_interleaved x.transfer (replicate n (acknowledge_next c)) → MayAll message is_interleaved x (map transfers (replicate n (acknowledge_next c)))
 leaves_may message is_interleaved zero c x h = tt
-leaves_may message is_interleaved (suc n) c x h = ((h.0, tt), leaves_may message is_interleaved n c (goes message is_interleaved x (transfers (ack_point_advances c))) h.1)
+leaves_may message is_interleaved (suc n) c x h = ((h.0, tt), leaves_may message is_interleaved n c (goes message is_interleaved x (transfers (acknowledge_next c))) h.1)
 
 module _ {P : Type 0} (message : ℕ → Message) (lifecycle : ℕ → Option ℕ) (is_interleaved : Bool) (x : Epochs) (q : Queue) (s : Sender) (k : Invariant message is_interleaved x.transfer)
     (sh : SenderRefines message lifecycle is_interleaved x.transfer q s.outstanding.items) (h : FollowsEpochs x q s.outstanding.items) (now cumulative c a_rwnd : ℕ) (blocks : List GapAckBlock) (emitted : Emitted P)
@@ -171,14 +171,14 @@ module _ {P : Type 0} (message : ℕ → Message) (lifecycle : ℕ → Option �
   abbrev n : ℕ
   n = leaving cumulative s.outstanding.items
 
-  abbrev es : List Rule
-  es = replicate n (ack_point_advances c)
+  abbrev es : List TransferEvent
+  es = replicate n (acknowledge_next c)
 
-  abbrev fs : List Rule
+  abbrev fs : List TransferEvent
   fs = hr.losses.leads.events
 
   abbrev x1 : Epochs
-  x1 = record x { transfer = leave_places n x.transfer }
+  x1 = record x { transfer = leave_fragments n x.transfer }
 
   abbrev y : Epochs
   y = record x { transfer = hr.losses.after }
@@ -192,7 +192,7 @@ module _ {P : Type 0} (message : ℕ → Message) (lifecycle : ℕ → Option �
       with_transfer : Transfer → Epochs
       with_transfer z = record x { transfer = z }
 
-  kept_on : Invariant message is_interleaved (leave_places n x.transfer)
+  kept_on : Invariant message is_interleaved (leave_fragments n x.transfer)
   kept_on = subst (λ (z : Transfer). Invariant message is_interleaved z) hr.leaves (all_kept message is_interleaved es x.transfer k hr.may)
 
   lost : MayAll message is_interleaved x1 (map transfers fs) × (go_all message is_interleaved x1 (map transfers fs) ≡ y)

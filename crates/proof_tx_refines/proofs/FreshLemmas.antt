@@ -4,10 +4,10 @@ use Rattle.std.specs.Prelude.{is_some}
 use Rattle.std.proofs.lemmas.Bool.{cases_eq, and_parts, not-true, false_from_ne_true}
 use Rattle.std.proofs.lemmas.List.{map-append}
 use Rattle.sctp_state.specs.Events as events
-use Rattle.sctp_state.specs.Events.{Emitted, emit_events, expiry}
+use Rattle.sctp_state.specs.Events.{Emitted, emit_events, expired_events}
 use Rattle.sctp_state.specs.declared.api.GivenUpCause.TheVariants.{Lifetime}
 use Rattle.sctp_tx_queue.specs.SendQueue.{Queued}
-use Rattle.sctp_tx_queue.specs.Produced.{is_stale, is_due, fresh, drop_expired}
+use Rattle.sctp_tx_queue.specs.Produced.{is_stale, is_expired, fresh, emit_expired}
 use Rattle.sctp_tx_queue.specs.InOrder.{are_rising}
 use Rattle.sctp_tx_outstanding.specs.OutstandingData.{Items}
 use Rattle.proof_protocol.specs.State.{Message, Sender, Transfer, place_of, put, stream_of}
@@ -17,7 +17,7 @@ use Rattle.proof_protocol.proofs.ToolsLemmas.{put_at, put_off, put_keeps, not_bo
 use Rattle.proof_protocol.proofs.SenderRowLemmas.{unsent_dropped}
 use Rattle.proof_protocol.proofs.CommonLemmas.{none_some}
 use Rattle.proof_tx_refines.specs.Refinement.{find, waiting_of, queue_of, IsEntry, AreKept, AreQueued, AreDiscards}
-use Rattle.proof_tx_refines.specs.Led.{recorded_places, Leads}
+use Rattle.proof_tx_refines.specs.Reachable.{recorded_places, SenderLeads}
 use Rattle.proof_tx_refines.proofs.FoundLemmas.{funext, found_at, found_off, found_behind, found_alike, once, rises}
 use Rattle.proof_tx_refines.proofs.QueuedLemmas.{Frame, queue_some, queue_given, change, change_discards}
 use Rattle.proof_tx_refines.proofs.ItemsLemmas.{kept_moves}
@@ -113,7 +113,7 @@ module _ (message : ℕ → Message) (lifecycle : ℕ → Option ℕ) where
 
     pub record Drops : Type 0 where
       pub may : IsAllowed message is_interleaved x (give_up p)
-      pub leads : Leads message is_interleaved x (after message is_interleaved x (give_up p)) (p ∷ [])
+      pub leads : SenderLeads message is_interleaved x (after message is_interleaved x (give_up p)) (p ∷ [])
       pub kept_is : Invariant message is_interleaved (after message is_interleaved x (give_up p))
       pub queued : AreQueued message lifecycle (gives_up x.sender p) (put ms id (front ++ rest))
       pub items : AreKept message lifecycle (gives_up x.sender p) x.acknowledged s.kept
@@ -151,14 +151,14 @@ module _ (message : ℕ → Message) (lifecycle : ℕ → Option ℕ) where
   pub record Freshened {P : Type 0} (is_interleaved : Bool) (x : Transfer) (s : Items) (ms : ℕ → List Queued) (now id : ℕ) (front : List Queued) (emitted : Emitted P) : Type 0 where
     pub after : Transfer
     pub places : List ℕ
-    pub leads : Leads message is_interleaved x after places
+    pub leads : SenderLeads message is_interleaved x after places
     pub kept_is : Invariant message is_interleaved after
     pub queued : AreQueued message lifecycle after.sender (put ms id (fresh now front))
     pub items : AreKept message lifecycle after.sender after.acknowledged s.kept
     pub discards_are : AreDiscards after.sender (put ms id (fresh now front)) s.discards
     pub counts_stay : after.sender.following ≡ x.sender.following
     pub accepted_stays : after.sender.accepted ≡ x.sender.accepted
-    pub recorded_are : recorded_places (drop_expired now front emitted) ≡ recorded_places emitted ++ places
+    pub recorded_are : recorded_places (emit_expired now front emitted) ≡ recorded_places emitted ++ places
 
   pub freshens : {P : Type 0} (is_interleaved : Bool) (now id least most : ℕ) (front : List Queued) (x : Transfer) (k : Invariant message is_interleaved x) (s : Items) (ms : ℕ → List Queued) → ms id ≡ front → are_rising least most front ≡ true
       → AreQueued message lifecycle x.sender ms → AreKept message lifecycle x.sender x.acknowledged s.kept → AreDiscards x.sender ms s.discards → (emitted : Emitted P)
@@ -179,11 +179,11 @@ module _ (message : ℕ → Message) (lifecycle : ℕ → Option ℕ) where
       go (is_stale now m) refl (λ y ky my hy ay ty dy emitted. freshens is_interleaved now id (m.number + 1) most rest y ky s my hy (rises least most m rest r).behind ay ty dy emitted)
     where
       Goal : Bool → Type 0
-      Goal b = (after : Transfer) × (places : List ℕ) × Leads message is_interleaved x after places × Invariant message is_interleaved after
+      Goal b = (after : Transfer) × (places : List ℕ) × SenderLeads message is_interleaved x after places × Invariant message is_interleaved after
           × AreQueued message lifecycle after.sender (put ms id (cond b (fresh now rest) (m ∷ rest))) × AreKept message lifecycle after.sender after.acknowledged s.kept
           × AreDiscards after.sender (put ms id (cond b (fresh now rest) (m ∷ rest))) s.discards
           × (after.sender.following ≡ x.sender.following) × (after.sender.accepted ≡ x.sender.accepted)
-          × (recorded_places (cond b (drop_expired now rest (emit_events (expiry m.lifecycle) (events.give_up m.number Lifetime emitted))) emitted) ≡ recorded_places emitted ++ places)
+          × (recorded_places (cond b (emit_expired now rest (emit_events (expired_events m.lifecycle) (events.emit_given_up m.number Lifetime emitted))) emitted) ≡ recorded_places emitted ++ places)
 
       done : (b : Bool) → is_stale now m ≡ b → Goal b → Freshened is_interleaved x s ms now id (m ∷ rest) emitted
       done b e g = record {
@@ -196,7 +196,7 @@ module _ (message : ℕ → Message) (lifecycle : ℕ → Option ℕ) where
         discards_are = subst (λ z. AreDiscards g.0.sender (put ms id (cond z (fresh now rest) (m ∷ rest))) s.discards) (sym e) g.6;
         counts_stay = g.7;
         accepted_stays = g.8;
-        recorded_are = ap (λ z. recorded_places (cond z (drop_expired now rest (emit_events (expiry m.lifecycle) (events.give_up m.number Lifetime emitted))) emitted)) e ∙ g.9;
+        recorded_are = ap (λ z. recorded_places (cond z (emit_expired now rest (emit_events (expired_events m.lifecycle) (events.emit_given_up m.number Lifetime emitted))) emitted)) e ∙ g.9;
       }
 
       go : (b : Bool) → is_stale now m ≡ b
@@ -217,10 +217,10 @@ module _ (message : ℕ → Message) (lifecycle : ℕ → Option ℕ) where
             sym (append-nil (recorded_places emitted)),
           )
       go true e ih =
-          let unsent = not-true (is_some m.numbers) (and_parts (not (is_some m.numbers)) (is_due now m.expires) e).0 in
+          let unsent = not-true (is_some m.numbers) (and_parts (not (is_some m.numbers)) (is_expired now m.expires) e).0 in
           let one = drops is_interleaved x k ms a s kept d id [] m rest h refl (once least most m rest r) unsent in
           let x1 : Transfer = after message is_interleaved x (give_up m.number) in
-          let later : Emitted P = emit_events (expiry m.lifecycle) (events.give_up m.number Lifetime emitted) in
+          let later : Emitted P = emit_events (expired_events m.lifecycle) (events.emit_given_up m.number Lifetime emitted) in
           let f = ih x1 one.kept_is (put ms id rest) (put_at ms id rest id refl) one.queued one.items one.discards_are later in
           let over = put_over ms id rest (fresh now rest) in
           done true e (

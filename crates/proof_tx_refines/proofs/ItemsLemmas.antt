@@ -4,7 +4,7 @@ use Rattle.sctp_chunk.specs.declared.sack.GapAckBlock.{GapAckBlock}
 use Rattle.sctp_packet.specs.Covered.{is_covered}
 use Rattle.sctp_tx_outstanding.specs.Item.{Item, is_lost, is_abandoned, ack, uncover, nack, mark_as_retransmitted, miss_fast}
 use Rattle.sctp_tx_outstanding.specs.OutstandingData.{change_at}
-use Rattle.sctp_tx_outstanding.specs.Sack.{settle, ack_or_nack}
+use Rattle.sctp_tx_outstanding.specs.Sack.{ack_or_uncover_all, ack_or_uncover}
 use Rattle.proof_protocol.specs.State.{Message, Fragment, Sender, fragment, place_of, count}
 use Rattle.proof_tx_refines.specs.Refinement.{tree_of, StandsFor, AreKept}
 use Rattle.sctp_tx_outstanding.proofs.RecordLemmas.{resent_same, slowed_same, acked_same, uncovered_same, nacked_same}
@@ -83,7 +83,7 @@ by_resending i = record { place = refl; carried = refl; lifecycle_id = refl; giv
 pub by_missing : (i : Item) → Alike i (miss_fast i)
 by_missing i = record { place = refl; carried = refl; lifecycle_id = refl; given_up = slowed_same i.state }
 
-by_settling : (b : Bool) (i : Item) → Alike i (ack_or_nack b i)
+by_settling : (b : Bool) (i : Item) → Alike i (ack_or_uncover b i)
 by_settling true i = by_ack i
 by_settling false i = by_uncover i
 
@@ -102,7 +102,7 @@ module _ (message : ℕ → Message) (lifecycle : ℕ → Option ℕ) (o : Sende
   kept_changed g s zero t (i ∷ is) a = (stands_alike (fragment o t) i (g i) (s i) a.0, a.1)
   kept_changed g s (suc k) t (i ∷ is) a = (a.0, kept_changed g s k (suc t) is a.1)
 
-  pub kept_settled : (blocks : List GapAckBlock) (offset t : ℕ) (is : List Item) → AreKept message lifecycle o t is → AreKept message lifecycle o t (settle blocks offset is)
+  pub kept_settled : (blocks : List GapAckBlock) (offset t : ℕ) (is : List Item) → AreKept message lifecycle o t is → AreKept message lifecycle o t (ack_or_uncover_all blocks offset is)
   kept_settled blocks offset t [] a = a
   kept_settled blocks offset t (i ∷ is) a =
-      (stands_alike (fragment o t) i (ack_or_nack (is_covered blocks offset) i) (by_settling (is_covered blocks offset) i) a.0, kept_settled blocks (suc offset) (suc t) is a.1)
+      (stands_alike (fragment o t) i (ack_or_uncover (is_covered blocks offset) i) (by_settling (is_covered blocks offset) i) a.0, kept_settled blocks (suc offset) (suc t) is a.1)

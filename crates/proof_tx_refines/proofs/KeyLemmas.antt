@@ -10,10 +10,10 @@ use Rattle.sctp_tx_queue.specs.declared.send_queue.stream.PauseState.{PauseState
 use Rattle.sctp_tx_queue.specs.declared.send_queue.stream.PauseState.TheVariants.{NotPaused, Pending, Paused, Resetting}
 use Rattle.sctp_tx_queue.specs.declared.send_queue.stream.ResetStep.{ResetStep}
 use Rattle.sctp_tx_queue.specs.SendQueue as queue
-use Rattle.sctp_tx_queue.specs.SendQueue.{Queue, Stream, Streams, Entries, stream, open_stream, blank}
+use Rattle.sctp_tx_queue.specs.SendQueue.{Queue, Stream, Streams, Entries, stream, with_stream, blank}
 use Rattle.sctp_tx_queue.specs.Produced.{without_stale, streams_without_stale, advance, turn}
 use Rattle.sctp_tx_queue.specs.Settings.{without_front, streams_discarded, front_discarded, discard}
-use Rattle.sctp_tx_queue.specs.Resets.{is_paused, is_ready, ready, requested_streams, after_step, step_stream, each_stepped}
+use Rattle.sctp_tx_queue.specs.Resets.{is_paused, is_ready, ready, streams_to_request, after_step, apply_reset_step, each_stepped}
 use Rattle.sctp_tx_queue.specs.Restarted.{restart, restarted_one, each_restarted, reset}
 use Rattle.sctp_tx_queue.proofs.InOrderLemmas.{discard_streams}
 use Rattle.proof_protocol.specs.State.{IsAmong}
@@ -39,7 +39,7 @@ set_keyed id least s (e ∷ es) = go (is_at (nat_cmp id) e.0) (set_keyed id (e.0
 pub put_keyed : (id : ℕ) (s : Stream) (ss : Streams) → are_ascending 0 ss.entries ≡ true → are_ascending 0 (queue.put_stream id s ss).entries ≡ true
 put_keyed id s ss h = set_keyed id 0 s ss.entries ∙ h
 
-opened_keyed : (id : ℕ) (ss : Streams) → are_ascending 0 ss.entries ≡ true → are_ascending 0 (open_stream id ss).entries ≡ true
+opened_keyed : (id : ℕ) (ss : Streams) → are_ascending 0 ss.entries ≡ true → are_ascending 0 (with_stream id ss).entries ≡ true
 opened_keyed id ss h = go (is_some (lookup (is_at (nat_cmp id)) ss.entries))
   where
     opened_if : Bool → Streams
@@ -52,12 +52,12 @@ opened_keyed id ss h = go (is_some (lookup (is_at (nat_cmp id)) ss.entries))
     go false = inserted_ascending id (blank ss) 0 ss.entries (omega arith) h
 
 -- of a stream that is opened where it isn't there
-pub written_keyed : (id : ℕ) (s : Stream) (ss : Streams) → are_ascending 0 ss.entries ≡ true → are_ascending 0 (queue.put_stream id s (open_stream id ss)).entries ≡ true
-written_keyed id s ss h = put_keyed id s (open_stream id ss) (opened_keyed id ss h)
+pub written_keyed : (id : ℕ) (s : Stream) (ss : Streams) → are_ascending 0 ss.entries ≡ true → are_ascending 0 (queue.put_stream id s (with_stream id ss)).entries ≡ true
+written_keyed id s ss h = put_keyed id s (with_stream id ss) (opened_keyed id ss h)
 
 pub steps_keyed : (step : ResetStep) (ids : List ℕ) (q : Queue) → are_ascending 0 q.streams.entries ≡ true → are_ascending 0 (each_stepped step ids q).streams.entries ≡ true
 steps_keyed step [] q h = h
-steps_keyed step (id ∷ ids) q h = steps_keyed step ids (step_stream step id q) (put_keyed id (after_step step (stream id q.streams)) q.streams h)
+steps_keyed step (id ∷ ids) q h = steps_keyed step ids (apply_reset_step step id q) (put_keyed id (after_step step (stream id q.streams)) q.streams h)
 
 each_restart_keyed : (ids : List ℕ) (q : Queue) → are_ascending 0 q.streams.entries ≡ true → are_ascending 0 (each_restarted ids q).streams.entries ≡ true
 each_restart_keyed [] q h = h
@@ -154,10 +154,10 @@ each_is : (p : PauseState) (q : Queue) (ids : List ℕ) → AreOnce ids → ((id
 each_is p q [] once h = tt
 each_is p q (id ∷ ids) once h = (h id (inl refl), once.0, each_is p q ids once.1 (λ j a. h j (inr a)))
 
-pub requested_ready : (q : Queue) (most : ℕ) → are_ascending 0 q.streams.entries ≡ true → AreEach Paused q (requested_streams most q)
-requested_ready q most h = each_is Paused q (requested_streams most q) (taken_once most (ready q.streams.entries) (ready_once 0 q.streams.entries h)) paused
+pub requested_ready : (q : Queue) (most : ℕ) → are_ascending 0 q.streams.entries ≡ true → AreEach Paused q (streams_to_request most q)
+requested_ready q most h = each_is Paused q (streams_to_request most q) (taken_once most (ready q.streams.entries) (ready_once 0 q.streams.entries h)) paused
   where
-    paused : (id : ℕ) → IsAmong id (requested_streams most q) → (stream id q.streams).pause ≡ Paused
+    paused : (id : ℕ) → IsAmong id (streams_to_request most q) → (stream id q.streams).pause ≡ Paused
     paused id a =
         let r = is_ready_in 0 q.streams.entries h id (among_taken most id (ready q.streams.entries) a) in
         ap (λ (o : Option Stream). let s : Stream = unwrap_or o (blank q.streams) in s.pause) r.there ∙ r.paused

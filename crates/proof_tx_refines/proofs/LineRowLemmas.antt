@@ -6,10 +6,10 @@ use Rattle.sctp_state.specs.Events.{Emitted}
 use Rattle.sctp_stream_scheduler.specs.StreamScheduler.{Scheduler, is_active, accept, peek}
 use Rattle.sctp_tx_queue.specs.declared.send_queue.stream.ResetStep.{ResetStep}
 use Rattle.sctp_tx_queue.specs.SendQueue as queue
-use Rattle.sctp_tx_queue.specs.SendQueue.{Queued, Queue, Stream, Streams, stream, add, push, open_stream, is_stopped, front_left, sendable, set_sendable}
-use Rattle.sctp_tx_queue.specs.Produced.{Produced, Turn, settle_pause, without_stale, streams_without_stale, streams_after, advance, next_fragment, in_line, begun_by, turn, next_stream, produce_within, produce}
+use Rattle.sctp_tx_queue.specs.SendQueue.{Queued, Queue, Stream, Streams, stream, add, push, with_stream, is_stopped, front_left, sendable, set_sendable}
+use Rattle.sctp_tx_queue.specs.Produced.{Produced, Turn, pause_if_pending, without_stale, streams_without_stale, streams_after, advance, next_fragment, in_line, begun_by, turn, next_stream, produce_within, produce}
 use Rattle.sctp_tx_queue.specs.Settings.{with_threshold, with_priority, set_priority, set_low_threshold, front_discarded, without_front, streams_discarded, begun_without, discard_from, discard}
-use Rattle.sctp_tx_queue.specs.Resets.{prepare_stream, prepare_reset, step_stream, each_stepped}
+use Rattle.sctp_tx_queue.specs.Resets.{prepare_stream, prepare_reset, apply_reset_step, each_stepped}
 use Rattle.sctp_tx_queue.specs.InOrder.{is_this, IsInOrder, IsNumbered}
 use Rattle.sctp_tx_queue.proofs.InOrderLemmas.{set_bytes_mode, put_elsewhere, turn_in_order, line_mode}
 use Rattle.sctp_tx_queue.proofs.NumberLemmas.{turn_numbered}
@@ -72,12 +72,12 @@ prepared_line : {P : Type 0} (id : ℕ) (emitted : Emitted P) (q : Queue) → Is
 prepared_line id emitted q h =
     received_line q (prepare_reset id q emitted).queue id (stream id (prepare_reset id q emitted).queue.streams) h refl refl (λ k d. unwritten k id (prepare_stream (stream id q.streams)) q.streams d) (λ e. e)
 
-stepped_line : (step : ResetStep) (id : ℕ) (q : Queue) → IsInLine q → IsInLine (step_stream step id q)
-stepped_line step id q h = received_line q (step_stream step id q) id (stream id (step_stream step id q).streams) h refl refl (off step id q) (λ e. e)
+stepped_line : (step : ResetStep) (id : ℕ) (q : Queue) → IsInLine q → IsInLine (apply_reset_step step id q)
+stepped_line step id q h = received_line q (apply_reset_step step id q) id (stream id (apply_reset_step step id q).streams) h refl refl (off step id q) (λ e. e)
 
 steps_line : (step : ResetStep) (ids : List ℕ) (q : Queue) → IsInLine q → IsInLine (each_stepped step ids q)
 steps_line step [] q h = h
-steps_line step (id ∷ ids) q h = steps_line step ids (step_stream step id q) (stepped_line step id q h)
+steps_line step (id ∷ ids) q h = steps_line step ids (apply_reset_step step id q) (stepped_line step id q h)
 
 pub discarded_line : {P : Type 0} (id number : ℕ) (emitted : Emitted P) (q : Queue) → IsInLine q → IsInLine (discard id number q emitted).queue
 discarded_line {P} id number emitted q h = go (front_discarded number s0.messages) refl
@@ -97,7 +97,7 @@ discarded_line {P} id number emitted q h = go (front_discarded number s0.message
       where
         by : (b : Bool) → (m.number == number) ≡ b → without_front number (m ∷ rest) s0 ≡ s0
         by true t = absurd (none_some (front_discarded number (m ∷ rest)) m.lifecycle (ap (λ b. cond b (Some m.lifecycle) None) t) e)
-        by false t = cond-false (m.number == number) (record s0 { messages = rest; pause = settle_pause s0.pause }) s0 t
+        by false t = cond-false (m.number == number) (record s0 { messages = rest; pause = pause_if_pending s0.pause }) s0 t
 
     to : Option (Option ℕ) → Queue
     to f = (discard_from id ss f q emitted).queue
@@ -114,7 +114,7 @@ discarded_line {P} id number emitted q h = go (front_discarded number s0.message
         ]
     go (Some l) e = subst (λ f. IsInLine (to f)) (sym e) (received_line q (to (Some l)) id (stream id ss) h refl refl elsewhere (λ n. ap (begun_without id) n))
 
-set_line : (q r : Queue) (id : ℕ) (s : Stream) → r.scheduler ≡ q.scheduler → r.begun ≡ q.begun → r.streams ≡ queue.put_stream id s (open_stream id q.streams) → s.pause ≡ (stream id q.streams).pause
+set_line : (q r : Queue) (id : ℕ) (s : Stream) → r.scheduler ≡ q.scheduler → r.begun ≡ q.begun → r.streams ≡ queue.put_stream id s (with_stream id q.streams) → s.pause ≡ (stream id q.streams).pause
     → IsInLine q → IsInLine r
 set_line q r id s sch begun streams pause h = same_line q r sch begun each h
   where

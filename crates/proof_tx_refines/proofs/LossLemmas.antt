@@ -15,12 +15,12 @@ use Rattle.sctp_tx_outstanding.specs.declared.item.ItemState.{ItemState}
 use Rattle.sctp_tx_outstanding.specs.declared.item.ItemState.TheVariants.{InFlight, Missing, Queued, QueuedFast, Acked, GivenUp}
 use Rattle.sctp_tx_outstanding.specs.Item.{Item, is_in_flight, has_nack, is_given_up, is_lost, is_used_up, is_outstanding, is_nacked, is_abandoned, has_expired, nack}
 use Rattle.sctp_tx_outstanding.specs.OutstandingData.{Items, later_of}
-use Rattle.sctp_tx_outstanding.specs.Losses.{Step, abandon_message, given_up, given_up_if, gives_up, loses, change_items, nack_item, nack_at, nack_below, expires, expired_of, option_bind, expire_at, expire_below}
+use Rattle.sctp_tx_outstanding.specs.Losses.{Step, abandon_message, abandon_with_record, given_up_if, is_to_be_abandoned, loses, change_items, nack_item, nack_at, nack_below, expires, expired_of, option_bind, expire_at, expire_below}
 use Rattle.proof_protocol.specs.State.{Message, Sender, Transfer, fragment}
-use Rattle.proof_protocol.specs.Rules.{Rule, run}
-use Rattle.proof_protocol.proofs.KeepsLemmas.{all_kept}
+use Rattle.proof_protocol.specs.Rules.{TransferEvent, run}
+use Rattle.proof_protocol.proofs.RulesKeepLemmas.{all_kept}
 use Rattle.proof_tx_refines.specs.Refinement.{StandsFor, AreKept, QueueRefines, AreQueued, messages_of}
-use Rattle.proof_tx_refines.specs.Led.{is_sending, given_ups, recorded_places, LeadsTo}
+use Rattle.proof_tx_refines.specs.Reachable.{is_sending, given_up_places, recorded_places, SenderLeadsTo}
 use Rattle.proof_tx_refines.proofs.ItemsLemmas.{Alike, by_nack, kept_changed}
 use Rattle.proof_tx_refines.proofs.LedLemmas.{leads_on}
 use Rattle.proof_tx_refines.proofs.AbandonLemmas.{GivesUp, gives, some_last}
@@ -74,10 +74,10 @@ module _ (message : ℕ → Message) (lifecycle : ℕ → Option ℕ) where
 
 module _ {P : Type 0} (message : ℕ → Message) (lifecycle : ℕ → Option ℕ) (is_interleaved : Bool) (x : Transfer) (emitted : Emitted P) (q : Queue) where
   abbrev pub To : Items → Emitted P → Type 0
-  To s later = LeadsTo message lifecycle is_interleaved x emitted q s later
+  To s later = SenderLeadsTo message lifecycle is_interleaved x emitted q s later
 
   pub abandoned : (p k : ℕ) (s : Items) (later : Emitted P) (cause : GivenUpCause) (i : Item) → slice_get s.kept k ≡ Some i → i.number ≡ p → is_abandoned i ≡ false
-      → To s later → To (abandon_message p s) (events.give_up p cause later)
+      → To s later → To (abandon_message p s) (events.emit_given_up p cause later)
   abandoned p k s later cause i here number lives a = record {
     after = z;
     places = a.places ++ p ∷ [];
@@ -109,7 +109,7 @@ module _ {P : Type 0} (message : ℕ → Message) (lifecycle : ℕ → Option �
       l : (g : FragmentTree) × (later_of p None s.kept ≡ Some g)
       l = some_last message lifecycle p k None s.kept i here number
 
-      r : (es : List Rule) × GivesUp message lifecycle is_interleaved y (messages_of q) s p es × (given_ups es ≡ p ∷ []) × (list_all is_sending es ≡ true)
+      r : (es : List TransferEvent) × GivesUp message lifecycle is_interleaved y (messages_of q) s p es × (given_up_places es ≡ p ∷ []) × (list_all is_sending es ≡ true)
       r = gives message lifecycle is_interleaved y a.kept (messages_of q) s a.refines.items.kept a.refines.queue.messages a.refines.discards p live l.0 l.1
 
       z : Transfer
@@ -132,12 +132,12 @@ module _ {P : Type 0} (message : ℕ → Message) (lifecycle : ℕ → Option �
 
   module _ (at_once fast : Bool) where
     one_lost : (k : ℕ) (i : Item) (y : Step P) → slice_get y.items.kept k ≡ Some i → To y.items y.emitted → To (nack_item at_once fast k i y).items (nack_item at_once fast k i y).emitted
-    one_lost k i y here a = go (gives_up y.items.is_partial at_once i) refl
+    one_lost k i y here a = go (is_to_be_abandoned y.items.is_partial at_once i) refl
       where
         step : Bool → Step P
-        step b = cond b (given_up i.number (Retransmissions (i.sent - 1)) y) (record y { items = change_items k (nack at_once fast) y.items; is_lossy = y.is_lossy || loses at_once i })
+        step b = cond b (abandon_with_record i.number (Retransmissions (i.sent - 1)) y) (record y { items = change_items k (nack at_once fast) y.items; is_lossy = y.is_lossy || loses at_once i })
 
-        go : (b : Bool) → gives_up y.items.is_partial at_once i ≡ b → To (step b).items (step b).emitted
+        go : (b : Bool) → is_to_be_abandoned y.items.is_partial at_once i ≡ b → To (step b).items (step b).emitted
         go true e =
             let lost = (and_parts (loses at_once i) (y.items.is_partial && is_used_up i) e).0 in
             let flying = (and_parts (is_outstanding i) (is_lost at_once i) lost).0 in

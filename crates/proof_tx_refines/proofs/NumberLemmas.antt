@@ -4,7 +4,7 @@ use Rattle.std.specs.Prelude.{◌==◌, ◌&&◌, nat_le, nat_lt}
 use Rattle.std.proofs.lemmas.Bool.Decides.{nat_tests}
 use Rattle.std.proofs.lemmas.List.{get_or_push, get_or_append_left, drop-drop, length-take}
 use Rattle.std.proofs.lemmas.Bool.{false≢true, ltb-true}
-use Rattle.sctp_serial.specs.Unwrapped.{words, halves, wire}
+use Rattle.sctp_serial.specs.Unwrapped.{u32_space, halves, wire}
 use Rattle.sctp_tx_queue.specs.declared.send_queue.message.MessageNumbers.{MessageNumbers}
 use Rattle.sctp_tx_queue.specs.SendQueue.{Queued}
 use Rattle.sctp_tx_queue.specs.Produced.{move_past, ends, made_of, piece}
@@ -156,7 +156,7 @@ module _ (message : ℕ → Message) (lifecycle : ℕ → Option ℕ) (o : Sende
       stream_id = sym entry.on_stream i;
       is_unordered = entry.kind i;
       ssn = wire halves 0 (named i).ssn;
-      mid = wire words 0 (named i).mid;
+      mid = wire u32_space 0 (named i).mid;
       fsn = entry.index live i;
       ppid = entry.protocol_id i;
       payload = bytes;

@@ -9,8 +9,8 @@ use Rattle.proof_protocol.specs.State.{Message, has, count}
 use Rattle.proof_protocol.specs.Rules.{run}
 use Rattle.proof_protocol.specs.Resets.{Request, Epochs, transfers, send_request, commit, goes, go_all}
 use Rattle.proof_protocol.proofs.ToolsLemmas.{put_at, put_off, not_both}
-use Rattle.proof_tx_refines.specs.Pauses.{unsent_of, give_ups, opens_next, prepare_events}
-use Rattle.proof_tx_refines.specs.Asked.{Raises, Requests, Opens}
+use Rattle.proof_tx_refines.specs.Pauses.{unsent_of, give_up_rules, opens_next, prepare_events}
+use Rattle.proof_tx_refines.specs.Asked.{Raises, SenderRequests, SenderOpens}
 use Rattle.proof_tx_refines.proofs.PausedLemmas.{go_given, go_more}
 
 module _ (message : ℕ → Message) (is_interleaved : Bool) where
@@ -18,7 +18,7 @@ module _ (message : ℕ → Message) (is_interleaved : Bool) where
 
   module _ (x : Epochs) (q : Queue) (id : ℕ) where
     abbrev given : Epochs
-    given = record x { transfer = run message is_interleaved x.transfer (give_ups (unsent_of q id)) }
+    given = record x { transfer = run message is_interleaved x.transfer (give_up_rules (unsent_of q id)) }
 
     raises : (p : PauseState) → (stream id q.streams).pause ≡ p → Raises x (go_all message is_interleaved given (opens_next p id)) q id
     raises NotPaused e = record {
@@ -44,13 +44,13 @@ module _ (message : ℕ → Message) (is_interleaved : Bool) where
     prepared_raises =
         let p = (stream id q.streams).pause in
         let leads : go_all message is_interleaved x (prepare_events q id) ≡ go_all message is_interleaved given (opens_next p id)
-        = go_more message is_interleaved (map transfers (give_ups (unsent_of q id))) (opens_next p id) x
+        = go_more message is_interleaved (map transfers (give_up_rules (unsent_of q id))) (opens_next p id) x
         ∙ ap (λ (w : Epochs). go_all message is_interleaved w (opens_next p id)) (go_given message is_interleaved (unsent_of q id) x) in
         subst (λ (z : Epochs). Raises x z q id) (sym leads) (raises p refl)
 
   -- ---- a request
 
-  pub requests_sent : (ids : List ℕ) (x : Epochs) → Requests x (go_all message is_interleaved x (map send_request ids)) ids
+  pub requests_sent : (ids : List ℕ) (x : Epochs) → SenderRequests x (go_all message is_interleaved x (map send_request ids)) ids
   requests_sent [] x = record { sent = λ s t. absurd (cc); stay = λ r a. a; rest = refl }
   requests_sent (id ∷ ids) x =
       let z = requests_sent ids (goes message is_interleaved x (send_request id)) in
@@ -67,14 +67,14 @@ module _ (message : ℕ → Message) (is_interleaved : Bool) where
 
   -- ---- its answer
 
-  pub answers_open : (ids : List ℕ) (x : Epochs) → Opens x (go_all message is_interleaved x (map commit ids)) ids
+  pub answers_open : (ids : List ℕ) (x : Epochs) → SenderOpens x (go_all message is_interleaved x (map commit ids)) ids
   answers_open [] x = record { opened = λ s t. absurd (cc); others = λ s n. refl; rest = refl }
   answers_open (id ∷ ids) x = next (answers_open ids (goes message is_interleaved x (commit id)))
     where
       y : Epochs
       y = goes message is_interleaved x (commit id)
 
-      next : Opens y (go_all message is_interleaved y (map commit ids)) ids → Opens x (go_all message is_interleaved x (map commit (id ∷ ids))) (id ∷ ids)
+      next : SenderOpens y (go_all message is_interleaved y (map commit ids)) ids → SenderOpens x (go_all message is_interleaved x (map commit (id ∷ ids))) (id ∷ ids)
       next z = record { opened = λ s t. here s t (has s ids) refl; others = off; rest = z.rest }
         where
           here : (s : ℕ) → has s (id ∷ ids) ≡ true → (b : Bool) → has s ids ≡ b → (go_all message is_interleaved y (map commit ids)).opened s ≡ x.raised s

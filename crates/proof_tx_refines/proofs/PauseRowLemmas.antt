@@ -9,20 +9,20 @@ use Rattle.sctp_tx_queue.specs.declared.send_queue.stream.PauseState.TheVariants
 use Rattle.sctp_tx_queue.specs.declared.send_queue.stream.ResetStep.{ResetStep}
 use Rattle.sctp_tx_queue.specs.declared.send_queue.stream.ResetStep.TheVariants.{Requested, Performed}
 use Rattle.sctp_tx_queue.specs.SendQueue.{Queued, Queue, Stream, Streams, stream, is_stopped}
-use Rattle.sctp_tx_queue.specs.Produced.{is_stale, is_due, fresh, without_stale, streams_without_stale, numbers_of, took, move_past, ends, settle_pause, advance, turn}
+use Rattle.sctp_tx_queue.specs.Produced.{is_stale, is_expired, fresh, without_stale, streams_without_stale, numbers_of, took, move_past, ends, pause_if_pending, advance, turn}
 use Rattle.sctp_tx_queue.specs.Settings.{with_threshold, with_priority, set_priority, set_low_threshold, without_front, discard}
-use Rattle.sctp_tx_queue.specs.InOrder.{is_waiting, is_begun_or_waiting, are_in_order, is_first_begun, are_rising, IsInOrder, IsNumbered}
-use Rattle.sctp_tx_queue.specs.Resets.{step_stream, each_stepped, commit_resets}
+use Rattle.sctp_tx_queue.specs.InOrder.{is_unsent, is_begun_or_waiting, are_in_order, is_first_begun, are_rising, IsInOrder, IsNumbered}
+use Rattle.sctp_tx_queue.specs.Resets.{apply_reset_step, each_stepped, commit_resets}
 use Rattle.sctp_tx_queue.proofs.InOrderLemmas.{put_elsewhere}
 use Rattle.sctp_tx_outstanding.specs.OutstandingData.{Items, Discard}
 use Rattle.proof_protocol.specs.State.{Message, Sender, IsAmong}
-use Rattle.proof_protocol.specs.Rules.{Rule, accept, begin, number, end_with_placeholder, give_up, data_comes, late_comes, become_ready, send_sack, ack_point_advances, send_forward, forward_comes, perform_reset}
+use Rattle.proof_protocol.specs.Rules.{TransferEvent, accept, begin, number, end_with_placeholder, give_up, data_comes, late_comes, become_ready, send_sack, acknowledge_next, send_forward, forward_comes, perform_reset}
 use Rattle.proof_protocol.specs.Resets.{Epochs, transfers, send_request, commit, epochs_after, goes, MayAll, go_all}
 use Rattle.proof_protocol.proofs.ToolsLemmas.{not_both}
 use Rattle.proof_protocol.proofs.CommonLemmas.{none_some}
 use Rattle.sctp_tx.specs.Sending.{discard_all}
 use Rattle.proof_tx_refines.specs.Refinement.{find, messages_of, AreDiscards, QueueRefines, SenderRefines}
-use Rattle.proof_tx_refines.specs.Led.{is_sending}
+use Rattle.proof_tx_refines.specs.Reachable.{is_sending}
 use Rattle.proof_tx_refines.specs.Pauses.{IsPausedAs, ArePausedAs, AreEach}
 use Rattle.proof_tx_refines.proofs.FoundLemmas.{one_value, found_at, found_off, once, rises}
 use Rattle.proof_tx_refines.proofs.ProduceLemmas.{stream_changed, is_other}
@@ -60,21 +60,21 @@ keeps_others x q r id elsewhere here h k =
       | inr d ↦ subst (λ (z : Stream). IsPausedAs x k z) (sym (elsewhere k d)) (h k)
     ]
 
-settled_flows : (p : PauseState) → settle_pause p ≡ NotPaused → p ≡ NotPaused
+settled_flows : (p : PauseState) → pause_if_pending p ≡ NotPaused → p ≡ NotPaused
 settled_flows NotPaused e = refl
 settled_flows Pending e = cc
 settled_flows Paused e = cc
 settled_flows Resetting e = cc
 
-settled_pends : (p : PauseState) → settle_pause p ≡ Pending → ⊥
+settled_pends : (p : PauseState) → pause_if_pending p ≡ Pending → ⊥
 settled_pends NotPaused e = cc
 settled_pends Pending e = cc
 settled_pends Paused e = cc
 settled_pends Resetting e = cc
 
-first_waits : (ms : List Queued) → list_all is_waiting ms ≡ true → is_first_begun ms ≡ false
+first_waits : (ms : List Queued) → list_all is_unsent ms ≡ true → is_first_begun ms ≡ false
 first_waits [] h = refl
-first_waits (m ∷ rest) h = not-true (is_some m.numbers) (and_parts (not (is_some m.numbers)) (m.offset == 0) (and_parts (is_waiting m) (list_all is_waiting rest) h).0).0
+first_waits (m ∷ rest) h = not-true (is_some m.numbers) (and_parts (not (is_some m.numbers)) (m.offset == 0) (and_parts (is_unsent m) (list_all is_unsent rest) h).0).0
 
 -- what is found behind the first message
 found_later : (p : ℕ) (m n : Queued) (rest : List Queued) (least most : ℕ) → are_rising least most (m ∷ rest) ≡ true → find p rest ≡ Some n → find p (m ∷ rest) ≡ Some n
@@ -116,17 +116,17 @@ module _ {P : Type 0} (message : ℕ → Message) (lifecycle : ℕ → Option �
   dropped_follows [] e = same_stream
   dropped_follows (m ∷ rest) e = by (m.number == number)
     where
-      waits : list_all is_waiting rest ≡ true
-      waits = (and_parts (is_begun_or_waiting m) (list_all is_waiting rest) (sym (ap are_in_order e) ∙ h.order.order id)).1
+      waits : list_all is_unsent rest ≡ true
+      waits = (and_parts (is_begun_or_waiting m) (list_all is_unsent rest) (sym (ap are_in_order e) ∙ h.order.order id)).1
 
       rising : are_rising 0 q.next_number (m ∷ rest) ≡ true
       rising = sym (ap (are_rising 0 q.next_number) e) ∙ h.rising.rising id
 
-      by : (b : Bool) → Follows s0 (cond b (record s0 { messages = rest; pause = settle_pause s0.pause }) s0)
+      by : (b : Bool) → Follows s0 (cond b (record s0 { messages = rest; pause = pause_if_pending s0.pause }) s0)
       by false = same_stream
       by true = record {
         flows = settled_flows s0.pause;
-        shut = λ f g. f (ap settle_pause g);
+        shut = λ f g. f (ap pause_if_pending g);
         stopped = λ g. first_waits rest waits;
         pending = λ g. absurd (settled_pends s0.pause g);
         new = λ p n f g. ap (find p) e ∙ found_later p m n rest 0 q.next_number rising f;
@@ -155,18 +155,18 @@ pub record IsFresh (now least most : ℕ) (ms : List Queued) : Type 0 where
   pub old : (p : ℕ) (n : Queued) → find p (fresh now ms) ≡ Some n → find p ms ≡ Some n
   pub begun : is_first_begun ms ≡ true → fresh now ms ≡ ms
 
-waiting_ordered : (ms : List Queued) → list_all is_waiting ms ≡ true → are_in_order ms ≡ true
+waiting_ordered : (ms : List Queued) → list_all is_unsent ms ≡ true → are_in_order ms ≡ true
 waiting_ordered [] h = refl
 waiting_ordered (m ∷ rest) h =
-    let a = and_parts (is_waiting m) (list_all is_waiting rest) h in
+    let a = and_parts (is_unsent m) (list_all is_unsent rest) h in
     let w = and_parts (not (is_some m.numbers)) (m.offset == 0) a.0 in
-    and_from (is_begun_or_waiting m) (list_all is_waiting rest) (cond-false (is_some m.numbers) (nat_lt 0 m.offset) (m.offset == 0) (not-true (is_some m.numbers) w.0) ∙ w.1) a.1
+    and_from (is_begun_or_waiting m) (list_all is_unsent rest) (cond-false (is_some m.numbers) (nat_lt 0 m.offset) (m.offset == 0) (not-true (is_some m.numbers) w.0) ∙ w.1) a.1
 
 is_fresh : (now least most : ℕ) (ms : List Queued) → are_rising least most ms ≡ true → are_in_order ms ≡ true → IsFresh now least most ms
 is_fresh now least most [] r h = record { order = refl; rising = refl; old = λ p n f. f; begun = λ e. refl }
 is_fresh now least most (m ∷ rest) r h =
     go (is_stale now m) refl
-    (is_fresh now (m.number + 1) most rest (rises least most m rest r).behind (waiting_ordered rest (and_parts (is_begun_or_waiting m) (list_all is_waiting rest) h).1))
+    (is_fresh now (m.number + 1) most rest (rises least most m rest r).behind (waiting_ordered rest (and_parts (is_begun_or_waiting m) (list_all is_unsent rest) h).1))
   where
     go : (b : Bool) → is_stale now m ≡ b → IsFresh now (m.number + 1) most rest → IsFresh now least most (m ∷ rest)
     go true t z =
@@ -177,7 +177,7 @@ is_fresh now least most (m ∷ rest) r h =
           order = ap are_in_order l ∙ z.order;
           rising = ap (are_rising least most) l ∙ lowered least (m.number + 1) most (fresh now rest) (omega (arith, low)) z.rising;
           old = λ p n f. found_later p m n rest least most r (z.old p n (sym (ap (find p) l) ∙ f));
-          begun = λ e. absurd (not_both e (not-true (is_some m.numbers) (and_parts (not (is_some m.numbers)) (is_due now m.expires) t).0));
+          begun = λ e. absurd (not_both e (not-true (is_some m.numbers) (and_parts (not (is_some m.numbers)) (is_expired now m.expires) t).0));
         }
     go false t z =
         let l : fresh now (m ∷ rest) ≡ m ∷ rest = cond-false (is_stale now m) (fresh now rest) (m ∷ rest) t in
@@ -213,8 +213,8 @@ module _ {P : Type 0} (x : Epochs) (q : Queue) (ordered : IsInOrder q) (numbered
   }
   turned_follows (m ∷ rest) e = by (ends size m)
     where
-      waits : list_all is_waiting rest ≡ true
-      waits = (and_parts (is_begun_or_waiting m) (list_all is_waiting rest) (sym (ap are_in_order e) ∙ freshened.order)).1
+      waits : list_all is_unsent rest ≡ true
+      waits = (and_parts (is_begun_or_waiting m) (list_all is_unsent rest) (sym (ap are_in_order e) ∙ freshened.order)).1
 
       rising : are_rising 0 q.next_number (m ∷ rest) ≡ true
       rising = sym (ap (are_rising 0 q.next_number) e) ∙ freshened.rising
@@ -229,10 +229,10 @@ module _ {P : Type 0} (x : Epochs) (q : Queue) (ordered : IsInOrder q) (numbered
             | inr d ↦ found_off p m rest d ∙ (sym (found_off p part rest d) ∙ f)
           ]
 
-      by : (b : Bool) → Follows t0 (let t : Stream = record (took m (with_these (m ∷ rest))) { messages = cond b rest (part ∷ rest); pause = cond b (settle_pause t0.pause) t0.pause } in t)
+      by : (b : Bool) → Follows t0 (let t : Stream = record (took m (with_these (m ∷ rest))) { messages = cond b rest (part ∷ rest); pause = cond b (pause_if_pending t0.pause) t0.pause } in t)
       by true = record {
         flows = settled_flows t0.pause;
-        shut = λ f g. f (ap settle_pause g);
+        shut = λ f g. f (ap pause_if_pending g);
         stopped = λ g. first_waits rest waits;
         pending = λ g. absurd (settled_pends t0.pause g);
         new = λ p n f g. freshened.old p n (ap (find p) e ∙ found_later p m n rest 0 q.next_number rising f);
@@ -258,7 +258,7 @@ module _ {P : Type 0} (x : Epochs) (q : Queue) (ordered : IsInOrder q) (numbered
 
 -- ---- several streams
 
-pub still_each : (step : ResetStep) (p : PauseState) (id : ℕ) (ids : List ℕ) (q : Queue) → ((j : ℕ) → IsAmong j ids → id ≢ j) → AreEach p q ids → AreEach p (step_stream step id q) ids
+pub still_each : (step : ResetStep) (p : PauseState) (id : ℕ) (ids : List ℕ) (q : Queue) → ((j : ℕ) → IsAmong j ids → id ≢ j) → AreEach p q ids → AreEach p (apply_reset_step step id q) ids
 still_each step p id [] q d e = tt
 still_each step p id (j ∷ ids) q d e = (ap (λ (z : Stream). z.pause) (off step id q j (λ c. d j (inl refl) (sym c))) ∙ e.0, e.1, still_each step p id ids q (λ i a. d i (inr a)) e.2)
 
@@ -267,7 +267,7 @@ module _ (message : ℕ → Message) (lifecycle : ℕ → Option ℕ) (is_interl
       → MayAll message is_interleaved x (map send_request ids) × ArePausedAs (go_all message is_interleaved x (map send_request ids)) (each_stepped Requested ids q)
   requests_pause [] x q sh h e = (tt, h)
   requests_pause (id ∷ ids) x q sh h e =
-      let z = requests_pause ids (goes message is_interleaved x (send_request id)) (step_stream Requested id q) (request_row message lifecycle is_interleaved x.transfer q s sh id)
+      let z = requests_pause ids (goes message is_interleaved x (send_request id)) (apply_reset_step Requested id q) (request_row message lifecycle is_interleaved x.transfer q s sh id)
       (requesting_keeps message lifecycle is_interleaved x q s sh h id e.0) (still_each Requested Paused id ids q e.1 e.2) in
       ((requesting_may message lifecycle is_interleaved x q s sh h id e.0, z.0), z.1)
 
@@ -277,14 +277,14 @@ module _ (message : ℕ → Message) (lifecycle : ℕ → Option ℕ) (is_interl
   answers_pause [] x q sh h e done = (tt, h)
   answers_pause (id ∷ ids) x q sh h e done =
       let one = committing_keeps message lifecycle is_interleaved x q s sh h id e.0 (done id (inl refl)) in
-      let z = answers_pause ids (goes message is_interleaved x (commit id)) (step_stream Performed id q) (commit_row message lifecycle is_interleaved x.transfer q s sh id) one.1
+      let z = answers_pause ids (goes message is_interleaved x (commit id)) (apply_reset_step Performed id q) (commit_row message lifecycle is_interleaved x.transfer q s sh id) one.1
       (still_each Performed Resetting id ids q e.1 e.2) (λ i a. done i (inr a)) in
       ((one.0, z.0), z.1)
 
 -- ---- the rules of a sender
 
 module _ (message : ℕ → Message) (is_interleaved : Bool) where
-  pub same_epochs : (x : Epochs) (e : Rule) → is_sending e ≡ true → epochs_after message is_interleaved x e ≡ x.epoch
+  pub same_epochs : (x : Epochs) (e : TransferEvent) → is_sending e ≡ true → epochs_after message is_interleaved x e ≡ x.epoch
   same_epochs x accept h = cc
   same_epochs x (begin p) h = refl
   same_epochs x (number p bytes more) h = refl
@@ -294,12 +294,12 @@ module _ (message : ℕ → Message) (is_interleaved : Bool) where
   same_epochs x (late_comes t) h = refl
   same_epochs x (become_ready p) h = refl
   same_epochs x (send_sack c) h = refl
-  same_epochs x (ack_point_advances c) h = refl
+  same_epochs x (acknowledge_next c) h = refl
   same_epochs x (send_forward f) h = refl
   same_epochs x (forward_comes f) h = refl
   same_epochs x (perform_reset s c) h = refl
 
-  pub sending_pauses : (es : List Rule) (x : Epochs) (q : Queue) → list_all is_sending es ≡ true → ArePausedAs x q → ArePausedAs (go_all message is_interleaved x (map transfers es)) q
+  pub sending_pauses : (es : List TransferEvent) (x : Epochs) (q : Queue) → list_all is_sending es ≡ true → ArePausedAs x q → ArePausedAs (go_all message is_interleaved x (map transfers es)) q
   sending_pauses [] x q all h = h
   sending_pauses (e ∷ es) x q all h =
       let a = and_parts (is_sending e) (list_all is_sending es) all in

@@ -9,8 +9,8 @@ use Rattle.sctp_tx_queue.specs.declared.send_queue.stream.PauseState.{PauseState
 use Rattle.sctp_tx_queue.specs.declared.send_queue.stream.PauseState.TheVariants.{NotPaused, Pending, Paused, Resetting}
 use Rattle.sctp_tx_queue.specs.declared.send_queue.stream.ResetStep.TheVariants.{Requested, Performed}
 use Rattle.sctp_tx_queue.specs.SendQueue.{Queued, Queue, Stream, stream, add, push, is_stopped}
-use Rattle.sctp_tx_queue.specs.InOrder.{is_waiting, is_begun_or_waiting, are_in_order, is_first_begun}
-use Rattle.sctp_tx_queue.specs.Resets.{is_partly, waiting, prepare_stream, prepare_reset, after_step, step_stream}
+use Rattle.sctp_tx_queue.specs.InOrder.{is_unsent, is_begun_or_waiting, are_in_order, is_first_begun}
+use Rattle.sctp_tx_queue.specs.Resets.{is_partly, pause_for_reset, prepare_stream, prepare_reset, after_step, apply_reset_step}
 use Rattle.sctp_tx_outstanding.specs.OutstandingData.{Items}
 use Rattle.proof_protocol.specs.State.{Message, Transfer, put, stream_of}
 use Rattle.proof_protocol.specs.Rules.{accept, give_up, IsSettled, Happens, run}
@@ -20,7 +20,7 @@ use Rattle.proof_protocol.proofs.ToolsLemmas.{put_at, put_off, not_both}
 use Rattle.proof_protocol.proofs.CommonLemmas.{none_some}
 use Rattle.proof_tx_refines.specs.Refinement.{find, messages_of, queue_of, SenderRefines}
 use Rattle.proof_tx_refines.specs.Rows.{offered_entry}
-use Rattle.proof_tx_refines.specs.Pauses.{unsent_of, give_ups, opens_next, IsPausedAs, ArePausedAs, PreparesPause}
+use Rattle.proof_tx_refines.specs.Pauses.{unsent_of, give_up_rules, opens_next, IsPausedAs, ArePausedAs, PreparesPause}
 use Rattle.proof_tx_refines.proofs.FoundLemmas.{one_value, found_off, found_at, found_push_off}
 use Rattle.proof_tx_refines.proofs.QueuedLemmas.{queued_is}
 use Rattle.proof_tx_refines.proofs.AcceptLemmas.{written, unwritten}
@@ -39,8 +39,8 @@ front : (ms : List Queued) → are_in_order ms ≡ true → Front ms
 front [] h = record { first = refl; empty = refl; begun = λ p m f. absurd (cc) }
 front (m ∷ rest) h = go (is_partly m) refl (is_some m.numbers) refl
   where
-    a : (is_begun_or_waiting m ≡ true) × (list_all is_waiting rest ≡ true)
-    a = and_parts (is_begun_or_waiting m) (list_all is_waiting rest) h
+    a : (is_begun_or_waiting m ≡ true) × (list_all is_unsent rest ≡ true)
+    a = and_parts (is_begun_or_waiting m) (list_all is_unsent rest) h
 
     z : Waits rest
     z = waits rest a.1
@@ -71,10 +71,10 @@ front (m ∷ rest) h = go (is_partly m) refl (is_some m.numbers) refl
         }
 
 -- where the first one isn't begun, none is
-all_new : (ms : List Queued) → list_all is_waiting ms ≡ true → (p : ℕ) (m : Queued) → find p ms ≡ Some m → is_some m.numbers ≡ false
+all_new : (ms : List Queued) → list_all is_unsent ms ≡ true → (p : ℕ) (m : Queued) → find p ms ≡ Some m → is_some m.numbers ≡ false
 all_new [] h p m f = absurd (cc)
 all_new (c ∷ rest) h p m f =
-    let a = and_parts (is_waiting c) (list_all is_waiting rest) h in
+    let a = and_parts (is_unsent c) (list_all is_unsent rest) h in
     elim (cases_eq c.number p) [
       | inl e ↦
           ap (λ (v : Queued). is_some v.numbers) (sym (one_value (find p (c ∷ rest)) c m (found_at p c rest e) f))
@@ -85,7 +85,7 @@ all_new (c ∷ rest) h p m f =
 none_begun : (ms : List Queued) → are_in_order ms ≡ true → is_first_begun ms ≡ false → (p : ℕ) (m : Queued) → find p ms ≡ Some m → is_some m.numbers ≡ false
 none_begun [] h n p m f = absurd (cc)
 none_begun (c ∷ rest) h n p m f =
-    let a = and_parts (is_begun_or_waiting c) (list_all is_waiting rest) h in
+    let a = and_parts (is_begun_or_waiting c) (list_all is_unsent rest) h in
     elim (cases_eq c.number p) [
       | inl e ↦ ap (λ (v : Queued). is_some v.numbers) (sym (one_value (find p (c ∷ rest)) c m (found_at p c rest e) f)) ∙ n
       | inr d ↦ all_new rest a.1 p m (sym (found_off p c rest d) ∙ f)
@@ -102,8 +102,8 @@ module _ (message : ℕ → Message) (lifecycle : ℕ → Option ℕ) (is_interl
   abbrev place : ℕ
   place = x.transfer.sender.accepted
 
-  abbrev own : ℕ
-  own = stream_of message place
+  abbrev stream_of_place : ℕ
+  stream_of_place = stream_of message place
 
   abbrev m : Queued
   m = offered_entry message lifecycle place expires limit
@@ -119,29 +119,29 @@ module _ (message : ℕ → Message) (lifecycle : ℕ → Option ℕ) (is_interl
   old : (k p : ℕ) (n : Queued) → find p (messages_of q k) ≡ Some n → y.epoch p ≡ x.epoch p
   old k p n f =
       let l = (sh.queue.messages.entries k p n f).accepted in
-      put_off x.epoch place (x.raised own) p (λ e. absurd (omega (arith, e, l)))
+      put_off x.epoch place (x.raised stream_of_place) p (λ e. absurd (omega (arith, e, l)))
 
-  pub accepting_keeps : ArePausedAs y (add own m q)
+  pub accepting_keeps : ArePausedAs y (add stream_of_place m q)
   accepting_keeps k =
-      elim (cases_eq k own) [
+      elim (cases_eq k stream_of_place) [
         | inr d ↦
             let i = h k in
-            subst (λ (z : Stream). IsPausedAs y k z) (sym (unwritten k own (push m (stream own q.streams)) q.streams d))
+            subst (λ (z : Stream). IsPausedAs y k z) (sym (unwritten k stream_of_place (push m (stream stream_of_place q.streams)) q.streams d))
             (record { flows = i.flows; shut = i.shut; stopped = i.stopped; pending = i.pending; newest = λ p n f e. old k p n f ∙ i.newest p n f e })
         | inl e ↦
-            let i = h own in
-            subst (λ z. IsPausedAs y z (stream z (add own m q).streams)) (sym e)
-            (subst (λ (z : Stream). IsPausedAs y own z) (sym (written own (push m (stream own q.streams)) q.streams))
+            let i = h stream_of_place in
+            subst (λ z. IsPausedAs y z (stream z (add stream_of_place m q).streams)) (sym e)
+            (subst (λ (z : Stream). IsPausedAs y stream_of_place z) (sym (written stream_of_place (push m (stream stream_of_place q.streams)) q.streams))
             (record {
               flows = i.flows;
               shut = i.shut;
-              stopped = λ b. pushed_first (messages_of q own) ∙ i.stopped b;
-              pending = λ b. pushed_first (messages_of q own) ∙ i.pending b;
+              stopped = λ b. pushed_first (messages_of q stream_of_place) ∙ i.stopped b;
+              pending = λ b. pushed_first (messages_of q stream_of_place) ∙ i.pending b;
               newest = λ p n f b. elim (cases_eq place p) [
-                | inl c ↦ put_at x.epoch place (x.raised own) p (sym c)
+                | inl c ↦ put_at x.epoch place (x.raised stream_of_place) p (sym c)
                 | inr c ↦
-                    let g = sym (found_push_off p (messages_of q own) m c) ∙ f in
-                    old own p n g ∙ i.newest p n g b
+                    let g = sym (found_push_off p (messages_of q stream_of_place) m c) ∙ f in
+                    old stream_of_place p n g ∙ i.newest p n g b
               ];
             }))
       ]
@@ -150,11 +150,11 @@ module _ (message : ℕ → Message) (lifecycle : ℕ → Option ℕ) (is_interl
 
 module _ (message : ℕ → Message) (is_interleaved : Bool) where
   -- that messages are given up changes the transfer alone
-  pub go_given : (ps : List ℕ) (x : Epochs) → go_all message is_interleaved x (map transfers (give_ups ps)) ≡ record x { transfer = run message is_interleaved x.transfer (give_ups ps) }
+  pub go_given : (ps : List ℕ) (x : Epochs) → go_all message is_interleaved x (map transfers (give_up_rules ps)) ≡ record x { transfer = run message is_interleaved x.transfer (give_up_rules ps) }
   go_given [] x = refl
   go_given (p ∷ ps) x = go_given ps (goes message is_interleaved x (transfers (give_up p)))
 
-  may_given : (ps : List ℕ) (x : Epochs) → Happens message is_interleaved x.transfer (give_ups ps) → MayAll message is_interleaved x (map transfers (give_ups ps))
+  may_given : (ps : List ℕ) (x : Epochs) → Happens message is_interleaved x.transfer (give_up_rules ps) → MayAll message is_interleaved x (map transfers (give_up_rules ps))
   may_given [] x h = tt
   may_given (p ∷ ps) x h = ((h.0, tt), may_given ps (goes message is_interleaved x (transfers (give_up p))) h.1)
 
@@ -172,7 +172,7 @@ module _ {P : Type 0} (message : ℕ → Message) (lifecycle : ℕ → Option �
   t = stream id q.streams
 
   abbrev after : Transfer
-  after = run message is_interleaved x.transfer (give_ups (unsent_of q id))
+  after = run message is_interleaved x.transfer (give_up_rules (unsent_of q id))
 
   f : Front t.messages
   f = front t.messages (sh.queue.order.order id)
@@ -204,32 +204,32 @@ module _ {P : Type 0} (message : ℕ → Message) (lifecycle : ℕ → Option �
     newest = λ p m g e. absurd (not_both (f.begun p m g) (ap is_some e));
   }
     where
-      is_shut : (p : PauseState) (b : Bool) → waiting b p ≡ NotPaused → ⊥
+      is_shut : (p : PauseState) (b : Bool) → pause_for_reset b p ≡ NotPaused → ⊥
       is_shut NotPaused true e = cc
       is_shut NotPaused false e = cc
       is_shut Pending b e = cc
       is_shut Paused b e = cc
       is_shut Resetting b e = cc
 
-      stops : (p : PauseState) → t.pause ≡ p → is_stopped (waiting (length (filter is_partly t.messages) == 0) p) ≡ true → is_first_begun t.messages ≡ false
+      stops : (p : PauseState) → t.pause ≡ p → is_stopped (pause_for_reset (length (filter is_partly t.messages) == 0) p) ≡ true → is_first_begun t.messages ≡ false
       stops NotPaused e g = by (is_first_begun t.messages) (f.empty) g
         where
-          by : (b : Bool) → (length (filter is_partly t.messages) == 0) ≡ not b → is_stopped (waiting (length (filter is_partly t.messages) == 0) NotPaused) ≡ true → b ≡ false
+          by : (b : Bool) → (length (filter is_partly t.messages) == 0) ≡ not b → is_stopped (pause_for_reset (length (filter is_partly t.messages) == 0) NotPaused) ≡ true → b ≡ false
           by false n g = refl
-          by true n g = absurd (not_both g (ap (λ c. is_stopped (waiting c NotPaused)) n))
+          by true n g = absurd (not_both g (ap (λ c. is_stopped (pause_for_reset c NotPaused)) n))
       stops Pending e g = cc
       stops Paused e g = (h id).stopped (ap is_stopped e)
       stops Resetting e g = (h id).stopped (ap is_stopped e)
 
-      pends : (p : PauseState) → t.pause ≡ p → waiting (length (filter is_partly t.messages) == 0) p ≡ Pending → is_first_begun t.messages ≡ true
+      pends : (p : PauseState) → t.pause ≡ p → pause_for_reset (length (filter is_partly t.messages) == 0) p ≡ Pending → is_first_begun t.messages ≡ true
       pends NotPaused e g = by (is_first_begun t.messages) (f.empty) g
         where
           paused : Paused ≡ Pending → ⊥
           paused e = cc
 
-          by : (b : Bool) → (length (filter is_partly t.messages) == 0) ≡ not b → waiting (length (filter is_partly t.messages) == 0) NotPaused ≡ Pending → b ≡ true
+          by : (b : Bool) → (length (filter is_partly t.messages) == 0) ≡ not b → pause_for_reset (length (filter is_partly t.messages) == 0) NotPaused ≡ Pending → b ≡ true
           by true n g = refl
-          by false n g = absurd (paused (sym (ap (λ c. waiting c NotPaused) n) ∙ g))
+          by false n g = absurd (paused (sym (ap (λ c. pause_for_reset c NotPaused) n) ∙ g))
       pends Pending e g = (h id).pending e
       pends Paused e g = cc
       pends Resetting e g = cc
@@ -243,7 +243,7 @@ module _ {P : Type 0} (message : ℕ → Message) (lifecycle : ℕ → Option �
             (subst (λ (z : Stream). IsPausedAs (raised_to r) id z) (sym (written id (prepare_stream t) q.streams)) (itself r waits))
       ]
 
-  module _ (may : Happens message is_interleaved x.transfer (give_ups (unsent_of q id))) where
+  module _ (may : Happens message is_interleaved x.transfer (give_up_rules (unsent_of q id))) where
     -- a stream that was open; one that waits already
     opens : (p : PauseState) → t.pause ≡ p → MayAll message is_interleaved (raised_to x.raised) (opens_next p id) × ArePausedAs (go_all message is_interleaved (raised_to x.raised) (opens_next p id)) (prepare_reset id q emitted).queue
     opens NotPaused e =
@@ -266,7 +266,7 @@ module _ {P : Type 0} (message : ℕ → Message) (lifecycle : ℕ → Option �
 
     pub preparing_keeps : PreparesPause message is_interleaved x q id emitted
     preparing_keeps =
-        let es = map transfers (give_ups (unsent_of q id)) in
+        let es = map transfers (give_up_rules (unsent_of q id)) in
         let there : go_all message is_interleaved x es ≡ raised_to x.raised = go_given message is_interleaved (unsent_of q id) x in
         let o = opens t.pause refl in
         record {
@@ -302,7 +302,7 @@ module _ (message : ℕ → Message) (lifecycle : ℕ → Option ℕ) (is_interl
     pub requesting_may : MayReset message is_interleaved x (send_request id)
     requesting_may = (waits_now, settled)
 
-  pub requesting_keeps : (stream id q.streams).pause ≡ Paused → ArePausedAs (goes message is_interleaved x (send_request id)) (step_stream Requested id q)
+  pub requesting_keeps : (stream id q.streams).pause ≡ Paused → ArePausedAs (goes message is_interleaved x (send_request id)) (apply_reset_step Requested id q)
   requesting_keeps ready k =
       elim (cases_eq k id) [
         | inr d ↦
@@ -310,7 +310,7 @@ module _ (message : ℕ → Message) (lifecycle : ℕ → Option ℕ) (is_interl
             subst (λ (z : Stream). IsPausedAs (goes message is_interleaved x (send_request id)) k z) (sym (off Requested id q k d))
             (record { flows = i.flows; shut = i.shut; stopped = i.stopped; pending = i.pending; newest = i.newest })
         | inl e ↦
-            subst (λ z. IsPausedAs (goes message is_interleaved x (send_request id)) z (stream z (step_stream Requested id q).streams)) (sym e)
+            subst (λ z. IsPausedAs (goes message is_interleaved x (send_request id)) z (stream z (apply_reset_step Requested id q).streams)) (sym e)
             (elim (put_cases id (after_step Requested (stream id q.streams)) q.streams) [
               | inr n ↦ absurd (flows (sym ready ∙ ap (λ (z : Stream). z.pause) n.1))
               | inl t ↦
@@ -331,7 +331,7 @@ module _ (message : ℕ → Message) (lifecycle : ℕ → Option ℕ) (is_interl
 
   -- the answer to a reset that was performed
   pub committing_keeps : (stream id q.streams).pause ≡ Resetting → x.raised id ≤ x.performed id
-      → MayReset message is_interleaved x (commit id) × ArePausedAs (goes message is_interleaved x (commit id)) (step_stream Performed id q)
+      → MayReset message is_interleaved x (commit id) × ArePausedAs (goes message is_interleaved x (commit id)) (apply_reset_step Performed id q)
   committing_keeps asked done = ((waits, done), keeps)
     where
       flows : Resetting ≡ NotPaused → ⊥
@@ -340,7 +340,7 @@ module _ (message : ℕ → Message) (lifecycle : ℕ → Option ℕ) (is_interl
       waits : x.raised id ≡ suc (x.opened id)
       waits = (h id).shut (λ e. flows (sym asked ∙ e))
 
-      keeps : ArePausedAs (goes message is_interleaved x (commit id)) (step_stream Performed id q)
+      keeps : ArePausedAs (goes message is_interleaved x (commit id)) (apply_reset_step Performed id q)
       keeps k =
           elim (cases_eq k id) [
             | inr d ↦
@@ -349,7 +349,7 @@ module _ (message : ℕ → Message) (lifecycle : ℕ → Option ℕ) (is_interl
                 subst (λ (z : Stream). IsPausedAs (goes message is_interleaved x (commit id)) k z) (sym (off Performed id q k d))
                 (record { flows = λ e. i.flows e ∙ sym same; shut = λ e. i.shut e ∙ ap suc (sym same); stopped = i.stopped; pending = i.pending; newest = i.newest })
             | inl e ↦
-                subst (λ z. IsPausedAs (goes message is_interleaved x (commit id)) z (stream z (step_stream Performed id q).streams)) (sym e)
+                subst (λ z. IsPausedAs (goes message is_interleaved x (commit id)) z (stream z (apply_reset_step Performed id q).streams)) (sym e)
                 (elim (put_cases id (after_step Performed (stream id q.streams)) q.streams) [
                   | inr n ↦ absurd (flows (sym asked ∙ ap (λ (z : Stream). z.pause) n.1))
                   | inl t ↦

@@ -6,13 +6,13 @@ use Rattle.std.proofs.lemmas.Bool.{leb-true, leb-false}
 use Rattle.std.proofs.lemmas.Bool.Decides.{nat_tests}
 use Rattle.std.proofs.lemmas.List.Sums.{sum_by-append, sum_by-cons}
 use Rattle.sctp_chunk.specs.Chunk.{FragmentTree}
-use Rattle.sctp_serial.specs.Unwrapped.{words, wire}
+use Rattle.sctp_serial.specs.Unwrapped.{u32_space, wire}
 use Rattle.sctp_tx_outstanding.specs.declared.item.ItemState.{ItemState}
 use Rattle.sctp_tx_outstanding.specs.declared.item.ItemState.TheVariants.{InFlight, Missing, Queued, QueuedFast, Acked, GivenUp}
 use Rattle.sctp_tx_outstanding.specs.Item.{Item, is_in_flight, waits, waits_fast, resent, is_fast, should_be_retransmitted, chunk_size, mark_as_retransmitted, miss_fast}
 use Rattle.sctp_tx_outstanding.specs.OutstandingData.{Outstanding, when, flight_part, flight_items, change_at}
-use Rattle.sctp_tx_outstanding.specs.Resending.{Resent, size_in, again, again_of, again_at, passed_over, allowance, turn_of, take_item, step_at, resent_below, empty_packet, resend}
-use Rattle.proof_tx_refines.specs.Picked.{is_due, payload_left, Picks, no_more, goes, has_no_room, is_not_due, tsn_at}
+use Rattle.sctp_tx_outstanding.specs.Resending.{Resent, size_in, again, again_of, again_at, passed_over, allowance, turn_of, apply_turn, step_at, resent_below, empty_packet, resend}
+use Rattle.proof_tx_refines.specs.Picked.{is_due, bytes_allowed, Picks, no_more, goes, has_no_room, is_not_due, tsn_at}
 use Rattle.sctp_tx_outstanding.proofs.RoomLemmas.{slowed_in_flight}
 
 -- ---- lists
@@ -66,7 +66,7 @@ module _ (fast : Bool) where
 
 module _ (fast m : Bool) (first acked : ℕ) where
   abbrev tsn : ℕ → ℕ
-  tsn place = wire words first (acked + 1 + place)
+  tsn place = wire u32_space first (acked + 1 + place)
 
   -- at place k of these items
   pub record IsAt (x : Resent) (pre is : List Item) : Type 0 where
@@ -97,8 +97,8 @@ module _ (fast m : Bool) (first acked : ℕ) where
     abbrev quiet : Bool
     quiet = flight_items x.outstanding.items == 0
 
-    after_turn : (z : Resent) → take_item (turn_of fast (Some i) x) k x ≡ z → step_at fast k x ≡ z
-    after_turn z h = ap (λ (o : Option Item). take_item (turn_of fast o x) k x) here ∙ h
+    after_turn : (z : Resent) → apply_turn (turn_of fast (Some i) x) k x ≡ z → step_at fast k x ≡ z
+    after_turn z h = ap (λ (o : Option Item). apply_turn (turn_of fast o x) k x) here ∙ h
 
     -- ---- nothing is taken
 
@@ -173,12 +173,12 @@ module _ (fast m : Bool) (first acked : ℕ) where
         ∙ ap (λ (b : Bool). sum_by flight_part pre + (when b 1 + sum_by flight_part is)) (due_in_flight fast i.state (due_is fast i due))))
 
     abbrev chunk_from : ℕ → ℕ → ℕ × FragmentTree
-    chunk_from n point = (wire words n (point + 1 + k), i.fragment)
+    chunk_from n point = (wire u32_space n (point + 1 + k), i.fragment)
 
     head_is : chunk_from x.outstanding.first x.outstanding.items.acked ≡ chunk_from first acked
     head_is = ap (λ (n : ℕ). chunk_from n x.outstanding.items.acked) at.begins ∙ ap (λ (n : ℕ). chunk_from first n) at.point
 
-    sends : take_item (turn_of fast (Some i) x) k x ≡ again_at k x → is_due fast i ≡ true → chunk_size m i ≤ payload_left fast quiet x.room x.window → PicksFrom x k (i ∷ is)
+    sends : apply_turn (turn_of fast (Some i) x) k x ≡ again_at k x → is_due fast i ≡ true → chunk_size m i ≤ bytes_allowed fast quiet x.room x.window → PicksFrom x k (i ∷ is)
     sends turn due fits =
         let rest : PicksFrom y (suc k) is = ih (pre ++ mark_as_retransmitted i ∷ []) y (longer (mark_as_retransmitted i)) at_sent in
         let step : step_at fast k x ≡ y = after_turn (again_at k x) turn ∙ ap (λ (o : Option Item). again_of k o x) here in
@@ -197,29 +197,29 @@ module _ (fast m : Bool) (first acked : ℕ) where
 
     -- ---- which it is
 
-    turn_fits : (f : Bool) → is_due f i ≡ true → nat_le (size_in x i) (payload_left f quiet x.room x.window) ≡ true → take_item (turn_of f (Some i) x) k x ≡ again_at k x
+    turn_fits : (f : Bool) → is_due f i ≡ true → nat_le (size_in x i) (bytes_allowed f quiet x.room x.window) ≡ true → apply_turn (turn_of f (Some i) x) k x ≡ again_at k x
     turn_fits true due h = let fast : is_fast i ≡ true = due in let fits : nat_le (size_in x i) x.room ≡ true = h in rw fast (rw fits refl)
     turn_fits false due h = let waiting : should_be_retransmitted i ≡ true = due in let fits : nat_le (size_in x i) (allowance x) ≡ true = h in rw waiting (rw fits refl)
 
-    turn_misses : (f : Bool) → is_due f i ≡ true → nat_le (size_in x i) (payload_left f quiet x.room x.window) ≡ false → take_item (turn_of f (Some i) x) k x ≡ cond f (passed_over k x) x
+    turn_misses : (f : Bool) → is_due f i ≡ true → nat_le (size_in x i) (bytes_allowed f quiet x.room x.window) ≡ false → apply_turn (turn_of f (Some i) x) k x ≡ cond f (passed_over k x) x
     turn_misses true due h = let fast : is_fast i ≡ true = due in let misses : nat_le (size_in x i) x.room ≡ false = h in rw fast (rw misses refl)
     turn_misses false due h = let waiting : should_be_retransmitted i ≡ true = due in let misses : nat_le (size_in x i) (allowance x) ≡ false = h in rw waiting (rw misses refl)
 
-    turn_leaves : (f : Bool) → is_due f i ≡ false → take_item (turn_of f (Some i) x) k x ≡ x
+    turn_leaves : (f : Bool) → is_due f i ≡ false → apply_turn (turn_of f (Some i) x) k x ≡ x
     turn_leaves true due = let fast : is_fast i ≡ false = due in rw fast refl
     turn_leaves false due = let waiting : should_be_retransmitted i ≡ false = due in rw waiting refl
 
     pub by_turn : PicksFrom x k (i ∷ is)
-    by_turn = by_tests (is_due fast i) (nat_le (size_in x i) (payload_left fast quiet x.room x.window)) refl refl
+    by_turn = by_tests (is_due fast i) (nat_le (size_in x i) (bytes_allowed fast quiet x.room x.window)) refl refl
       where
-        by_tests : (b c : Bool) → is_due fast i ≡ b → nat_le (size_in x i) (payload_left fast quiet x.room x.window) ≡ c → PicksFrom x k (i ∷ is)
+        by_tests : (b c : Bool) → is_due fast i ≡ b → nat_le (size_in x i) (bytes_allowed fast quiet x.room x.window) ≡ c → PicksFrom x k (i ∷ is)
         by_tests false c due h = from_same x (after_turn x (turn_leaves fast due)) left_alone (λ cs p. is_not_due i due p)
         by_tests true true due h =
-            sends (turn_fits fast due h) due (subst (λ (n : ℕ). n ≤ payload_left fast quiet x.room x.window) size_is (leb-true (size_in x i) (payload_left fast quiet x.room x.window) h))
+            sends (turn_fits fast due h) due (subst (λ (n : ℕ). n ≤ bytes_allowed fast quiet x.room x.window) size_is (leb-true (size_in x i) (bytes_allowed fast quiet x.room x.window) h))
         by_tests true false due h =
             from_same (cond fast (passed_over k x) x) (after_turn (cond fast (passed_over k x) x) (turn_misses fast due h)) (same_if fast)
             (λ cs p.
-            has_no_room i due (subst (λ (n : ℕ). payload_left fast quiet x.room x.window < n) size_is (leb-false (size_in x i) (payload_left fast quiet x.room x.window) h)) p)
+            has_no_room i due (subst (λ (n : ℕ). bytes_allowed fast quiet x.room x.window < n) size_is (leb-false (size_in x i) (bytes_allowed fast quiet x.room x.window) h)) p)
 
   pub picks_from : (k : ℕ) (pre is : List Item) (x : Resent) → length pre ≡ k → IsAt x pre is → PicksFrom x k is
   picks_from k pre [] x e at = record { chunks = []; picks = no_more; all = sym (append-nil x.chunks) }

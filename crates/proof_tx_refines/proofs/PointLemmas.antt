@@ -4,14 +4,14 @@ use Rattle.std.specs.Prelude.{◌==◌, ◌&&◌, ◌||◌, nat_lt, nat_le}
 use Rattle.std.specs.List.{list_all, list_any}
 use Rattle.std.proofs.lemmas.Bool.{cases_eq, cases_lt, lt-ltb, eq-eqb, eqb-true, or_cases, or_left, or_right, and_parts, and_from, leb-true, le-leb, false_from_ne_true}
 use Rattle.std.proofs.lemmas.Bool.Decides.{nat_tests}
-use Rattle.sctp_serial.specs.Unwrapped.{origin, words, halves, wire}
+use Rattle.sctp_serial.specs.Unwrapped.{origin, u32_space, halves, wire}
 use Rattle.sctp_packet.specs.Chunk.{FragmentTree}
 use Rattle.sctp_tx_queue.specs.SendQueue.{Queue}
 use Rattle.sctp_tx_outstanding.specs.declared.skips.SkipEntry.{SkipEntry}
 use Rattle.sctp_tx_outstanding.specs.Item.{Item, is_abandoned}
 use Rattle.sctp_tx_outstanding.specs.OutstandingData.{Items}
 use Rattle.sctp_tx_outstanding.specs.Forward as points
-use Rattle.sctp_tx_outstanding.specs.Forward.{entry_of, is_before, is_same, is_alike, name_stream, with_entry, size_with, stops, passes, pass_item, walk, forward_point}
+use Rattle.sctp_tx_outstanding.specs.Forward.{entry_of, is_before, is_same, is_alike, put_entry, with_entry, size_with, stops, passes, pass_item, walk, forward_point}
 use Rattle.sctp_tx_outstanding.specs.Point.{Ascend}
 use Rattle.sctp_tx_outstanding.specs.Forward.{is_forward_due}
 use Rattle.sctp_tx_outstanding.specs.Entries.{ssn_skip, mid_skip}
@@ -39,13 +39,13 @@ abbrev entered : Bool → Entry → List Entry → List Entry
 entered is_interleaved e [] = e ∷ []
 entered is_interleaved e (d ∷ ds) = cond (is_before (skip_of is_interleaved d) (skip_of is_interleaved e)) (d ∷ entered is_interleaved e ds) (cond (is_alike (skip_of is_interleaved e) (skip_of is_interleaved d)) (e ∷ ds) (e ∷ d ∷ ds))
 
-entered_written : (is_interleaved : Bool) (e : Entry) (ds : List Entry) → map (skip_of is_interleaved) (entered is_interleaved e ds) ≡ name_stream (skip_of is_interleaved e) (map (skip_of is_interleaved) ds)
+entered_written : (is_interleaved : Bool) (e : Entry) (ds : List Entry) → map (skip_of is_interleaved) (entered is_interleaved e ds) ≡ put_entry (skip_of is_interleaved e) (map (skip_of is_interleaved) ds)
 entered_written is_interleaved e [] = refl
 entered_written is_interleaved e (d ∷ ds) = go (is_before (skip_of is_interleaved d) (skip_of is_interleaved e)) (is_alike (skip_of is_interleaved e) (skip_of is_interleaved d)) (entered_written is_interleaved e ds)
   where
-    go : (a b : Bool) → map (skip_of is_interleaved) (entered is_interleaved e ds) ≡ name_stream (skip_of is_interleaved e) (map (skip_of is_interleaved) ds)
+    go : (a b : Bool) → map (skip_of is_interleaved) (entered is_interleaved e ds) ≡ put_entry (skip_of is_interleaved e) (map (skip_of is_interleaved) ds)
         → map (skip_of is_interleaved) (cond a (d ∷ entered is_interleaved e ds) (cond b (e ∷ ds) (e ∷ d ∷ ds)))
-        ≡ cond a (skip_of is_interleaved d ∷ name_stream (skip_of is_interleaved e) (map (skip_of is_interleaved) ds)) (cond b (skip_of is_interleaved e ∷ map (skip_of is_interleaved) ds) (skip_of is_interleaved e ∷ skip_of is_interleaved d ∷ map (skip_of is_interleaved) ds))
+        ≡ cond a (skip_of is_interleaved d ∷ put_entry (skip_of is_interleaved e) (map (skip_of is_interleaved) ds)) (cond b (skip_of is_interleaved e ∷ map (skip_of is_interleaved) ds) (skip_of is_interleaved e ∷ skip_of is_interleaved d ∷ map (skip_of is_interleaved) ds))
     go true b ih = ap (λ z. skip_of is_interleaved d ∷ z) ih
     go false true ih = refl
     go false false ih = refl
@@ -172,7 +172,7 @@ module _ (message : ℕ → Message) (lifecycle : ℕ → Option ℕ) (is_interl
           cond (is_interleaved || not f.is_unordered) (Some (record { stream_id = record { 0 = f.stream_id }; is_unordered = f.is_unordered; number = cond is_interleaved f.mid f.ssn })) None
 
       go : (m b : Bool) → od t ≡ b
-          → cond (m || not (not (od t))) (Some (record { stream_id = record { 0 = st t }; is_unordered = not (od t); number = cond m (wire words 0 (origin + wr t)) (wire halves 0 (cond (od t) (origin + wr t) origin)) })) None
+          → cond (m || not (not (od t))) (Some (record { stream_id = record { 0 = st t }; is_unordered = not (od t); number = cond m (wire u32_space 0 (origin + wr t)) (wire halves 0 (cond (od t) (origin + wr t) origin)) })) None
           ≡ cond (m || od t) (Some (skip_of m (entry_at t))) None
       go true b e = refl
       go false true e = ap (λ c. cond (not (not c)) (Some (record { stream_id = record { 0 = st t }; is_unordered = not c; number = wire halves 0 (cond c (origin + wr t) origin) })) None) e
@@ -351,8 +351,8 @@ module _ (message : ℕ → Message) (lifecycle : ℕ → Option ℕ) (is_interl
       last = let a = sh.items.point in let c = way.count_is in omega (arith, a, c)
 
       by : (m : Bool) → (forward_point most items).entries ≡ map (skip_of m) way.entries → chunk_if m s ≡ chunk_of m s.outstanding.first point
-      by true e = λ i. i_forward_tsn_chunk (wire words s.outstanding.first (last i)) (map mid_skip (e i))
-      by false e = λ i. forward_tsn_chunk (wire words s.outstanding.first (last i)) (map ssn_skip (e i))
+      by true e = λ i. i_forward_tsn_chunk (wire u32_space s.outstanding.first (last i)) (map mid_skip (e i))
+      by false e = λ i. forward_tsn_chunk (wire u32_space s.outstanding.first (last i)) (map ssn_skip (e i))
 
   -- a breakpoint that is passed would have stopped it
   no_break : (b n : ℕ) → IsAmong b items.breaks → b ≡ items.acked + 1 + n → 0 < n → n < (forward_point most items).count → ⊥

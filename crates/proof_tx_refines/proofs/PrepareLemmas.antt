@@ -4,9 +4,9 @@ use Rattle.std.specs.Prelude.{not, ◌&&◌, ◌==◌, nat_le, nat_lt, is_some}
 use Rattle.std.specs.List.{list_all}
 use Rattle.std.proofs.lemmas.Bool.{cases_eq, and_parts, and_from, cond-true, cond-false, eqb-true, le-leb, lt-ltb, not-true, false_from_ne_true}
 use Rattle.sctp_serial.specs.Unwrapped.{origin}
-use Rattle.sctp_state.specs.Events.{Emitted, silent}
+use Rattle.sctp_state.specs.Events.{Emitted, nothing_emitted}
 use Rattle.sctp_tx_queue.specs.SendQueue.{Queued, Queue, Stream, stream}
-use Rattle.sctp_tx_queue.specs.InOrder.{is_waiting, is_begun_or_waiting, are_in_order, are_rising}
+use Rattle.sctp_tx_queue.specs.InOrder.{is_unsent, is_begun_or_waiting, are_in_order, are_rising}
 use Rattle.sctp_tx_queue.specs.Resets.{is_partly, prepare_stream, prepare_reset}
 use Rattle.sctp_tx_queue.proofs.InOrderLemmas.{set_bytes_mode, prepared_in_order}
 use Rattle.sctp_tx_queue.proofs.NumberLemmas.{calls_number, lowered}
@@ -17,7 +17,7 @@ use Rattle.proof_protocol.specs.Rules.{give_up, Happens, after, run}
 use Rattle.proof_protocol.specs.Invariant.{Invariant}
 use Rattle.proof_protocol.proofs.ToolsLemmas.{put_at, put_off, not_both}
 use Rattle.proof_tx_refines.specs.Refinement.{find, messages_of, AreKept, AreQueued, AreDiscards, IsNext, SenderRefines}
-use Rattle.proof_tx_refines.specs.Pauses.{unsent_of, give_ups, Prepares}
+use Rattle.proof_tx_refines.specs.Pauses.{unsent_of, give_up_rules, Prepares}
 use Rattle.proof_tx_refines.proofs.FoundLemmas.{funext, found_off, once, rises}
 use Rattle.proof_tx_refines.proofs.FreshLemmas.{put_here, put_over, drops}
 use Rattle.proof_tx_refines.proofs.AcceptLemmas.{written, unwritten}
@@ -67,10 +67,10 @@ pub record Waits (ms : List Queued) : Type 0 where
   pub all : filter is_whole ms ≡ ms
   pub new : list_all is_new ms ≡ true
 
-pub waits : (ms : List Queued) → list_all is_waiting ms ≡ true → Waits ms
+pub waits : (ms : List Queued) → list_all is_unsent ms ≡ true → Waits ms
 waits [] h = record { none = refl; all = refl; new = refl }
 waits (m ∷ rest) h =
-    let a = and_parts (is_waiting m) (list_all is_waiting rest) h in
+    let a = and_parts (is_unsent m) (list_all is_unsent rest) h in
     let w = and_parts (not (is_some m.numbers)) (m.offset == 0) a.0 in
     let z = waits rest a.1 in
     let p : is_partly m ≡ false = ap (λ n. nat_lt 0 n) (eqb-true m.offset 0 w.1) in
@@ -88,8 +88,8 @@ splits : (ms : List Queued) → are_in_order ms ≡ true → Splits ms
 splits [] h = record { is = refl; new = refl }
 splits (m ∷ rest) h = go (is_partly m) refl
   where
-    a : (is_begun_or_waiting m ≡ true) × (list_all is_waiting rest ≡ true)
-    a = and_parts (is_begun_or_waiting m) (list_all is_waiting rest) h
+    a : (is_begun_or_waiting m ≡ true) × (list_all is_unsent rest ≡ true)
+    a = and_parts (is_begun_or_waiting m) (list_all is_unsent rest) h
 
     z : Waits rest
     z = waits rest a.1
@@ -116,10 +116,10 @@ splits (m ∷ rest) h = go (is_partly m) refl
 
 module _ (message : ℕ → Message) (lifecycle : ℕ → Option ℕ) (is_interleaved : Bool) (s : Items) (id : ℕ) (front : List Queued) where
   abbrev all_given : Transfer → List Queued → Transfer
-  all_given x ws = run message is_interleaved x (give_ups (map (λ (m : Queued). m.number) ws))
+  all_given x ws = run message is_interleaved x (give_up_rules (map (λ (m : Queued). m.number) ws))
 
   record Emptied (x : Transfer) (ms : ℕ → List Queued) (ws : List Queued) : Type 0 where
-    may : Happens message is_interleaved x (give_ups (map (λ (m : Queued). m.number) ws))
+    may : Happens message is_interleaved x (give_up_rules (map (λ (m : Queued). m.number) ws))
     kept_is : Invariant message is_interleaved (all_given x ws)
     queued : AreQueued message lifecycle (all_given x ws).sender (put ms id front)
     items : AreKept message lifecycle (all_given x ws).sender (all_given x ws).acknowledged s.kept
@@ -198,7 +198,7 @@ module _ {P : Type 0} (message : ℕ → Message) (lifecycle : ℕ → Option �
   pub prepares_row : Prepares message lifecycle is_interleaved x q s id emitted
   prepares_row =
       let e = emptied in
-      let o' = (run message is_interleaved x (give_ups (unsent_of q id))).sender in
+      let o' = (run message is_interleaved x (give_up_rules (unsent_of q id))).sender in
       let same : (kind : Bool) (j : ℕ) → o'.following kind j ≡ x.sender.following kind j = (λ kind j. ap (λ z. z kind j) e.counts_stay) in
       let next : (j : ℕ) (st : Stream) → IsNext x.sender j st → IsNext o' j st =
       (λ j st n. record {
@@ -213,8 +213,8 @@ module _ {P : Type 0} (message : ℕ → Message) (lifecycle : ℕ → Option �
           queue = record {
             mode = set_bytes_mode id _ _ q.scheduler ∙ sh.queue.mode;
             order = prepared_in_order id q emitted sh.queue.order;
-            rising = calls_number.prepared id q silent sh.queue.rising;
-            rests = calls_leave_rests.prepared id q silent sh.queue.rests;
+            rising = calls_number.prepared id q nothing_emitted sh.queue.rising;
+            rests = calls_leave_rests.prepared id q nothing_emitted sh.queue.rests;
             accepted = sh.queue.accepted ∙ sym e.accepted_stays;
             few = subst (λ n. n < 2 ^ 32) (sym e.accepted_stays) sh.queue.few;
             next = λ j. next j (stream j later.streams) (elim (cases_eq j id) [

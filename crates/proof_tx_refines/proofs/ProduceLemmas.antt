@@ -13,15 +13,15 @@ use Rattle.sctp_stream_scheduler.specs.StreamScheduler.{peek}
 use Rattle.sctp_tx_queue.specs.declared.send_queue.message.MessageNumbers.{MessageNumbers}
 use Rattle.sctp_tx_queue.specs.SendQueue as queue
 use Rattle.sctp_tx_queue.specs.SendQueue.{Queued, Queue, Stream, Streams, blank, stream}
-use Rattle.sctp_tx_queue.specs.Produced.{Produced, numbers_of, took, count_on, emitted_made, next_stream}
-use Rattle.sctp_tx_queue.specs.InOrder.{is_waiting, is_begun_or_waiting, are_in_order, is_first_begun, is_this}
+use Rattle.sctp_tx_queue.specs.Produced.{Produced, numbers_of, took, next_wrapping, emitted_made, next_stream}
+use Rattle.sctp_tx_queue.specs.InOrder.{is_unsent, is_begun_or_waiting, are_in_order, is_first_begun, is_this}
 use Rattle.sctp_tx_queue.proofs.InOrderLemmas.{unnumbered}
 use Rattle.sctp_tx_queue.proofs.StreamsLemmas.{stream_put, stream_nowhere, put_nowhere}
 use Rattle.proof_protocol.specs.State.{Message, Sender, stream_of, ordered_of}
 use Rattle.proof_protocol.specs.Rules.{begins, same}
 use Rattle.proof_protocol.proofs.ToolsLemmas.{put_at, not_both}
 use Rattle.proof_tx_refines.specs.Refinement.{find, numbers_at, IsNext}
-use Rattle.proof_tx_refines.specs.Led.{recorded_places}
+use Rattle.proof_tx_refines.specs.Reachable.{recorded_places}
 use Rattle.proof_tx_refines.proofs.FoundLemmas.{one_value, found_at, found_off}
 
 -- ---- streams
@@ -45,10 +45,10 @@ emitted_same id a b (Some made) emitted = refl
 
 -- ---- only the first of a stream has its number
 
-pub behind_waits : (p : ℕ) (ms : List Queued) (m : Queued) → list_all is_waiting ms ≡ true → find p ms ≡ Some m → is_some m.numbers ≡ false
+pub behind_waits : (p : ℕ) (ms : List Queued) (m : Queued) → list_all is_unsent ms ≡ true → find p ms ≡ Some m → is_some m.numbers ≡ false
 behind_waits p [] m h f = absurd (cc)
 behind_waits p (a ∷ rest) m h f =
-    let hs = and_parts (is_waiting a) (list_all is_waiting rest) h in
+    let hs = and_parts (is_unsent a) (list_all is_unsent rest) h in
     elim (cases_eq a.number p) [
       | inl e ↦ subst (λ (z : Queued). is_some z.numbers ≡ false) (one_value (find p (a ∷ rest)) a m (found_at p a rest e) f) (unnumbered (is_some a.numbers) (a.offset == 0) hs.0)
       | inr d ↦ behind_waits p rest m hs.1 (sym (found_off p a rest d) ∙ f)
@@ -59,7 +59,7 @@ begun_first p [] m h f b = absurd (cc)
 begun_first p (a ∷ rest) m h f b =
     elim (cases_eq a.number p) [
       | inl e ↦ subst (λ (z : Queued). is_some z.numbers ≡ true) (sym (one_value (find p (a ∷ rest)) a m (found_at p a rest e) f)) b
-      | inr d ↦ absurd (not_both b (behind_waits p rest m (and_parts (is_begun_or_waiting a) (list_all is_waiting rest) h).1 (sym (found_off p a rest d) ∙ f)))
+      | inr d ↦ absurd (not_both b (behind_waits p rest m (and_parts (is_begun_or_waiting a) (list_all is_unsent rest) h).1 (sym (found_off p a rest d) ∙ f)))
     ]
 
 pub this_is : (k : ℕ) (begun : Option ℕ) → is_this k begun ≡ true → begun ≡ Some k
@@ -71,7 +71,7 @@ next_begun q k id next e = one_value (next_stream q) k id (ap (λ (b : Option �
 
 -- ---- numbers are taken
 
-counted_is : (n c : ℕ) → n ≡ origin + c → c < 2 ^ 32 → count_on n ≡ origin + suc c
+counted_is : (n c : ℕ) → n ≡ origin + c → c < 2 ^ 32 → next_wrapping n ≡ origin + suc c
 counted_is n c e l = mod-eq_of_lt (omega (arith, e, l)) ∙ (omega (arith, e))
 
 module _ (message : ℕ → Message) where
@@ -84,7 +84,7 @@ module _ (message : ℕ → Message) where
       o1 = begins message o m.number
 
       taken : Bool → Stream
-      taken u = cond u (record t { next_unordered_mid = count_on t.next_unordered_mid }) (record t { next_ssn = count_on t.next_ssn; next_ordered_mid = count_on t.next_ordered_mid })
+      taken u = cond u (record t { next_unordered_mid = next_wrapping t.next_unordered_mid }) (record t { next_ssn = next_wrapping t.next_ssn; next_ordered_mid = next_wrapping t.next_ordered_mid })
 
       same_id : (id == stream_of message m.number) ≡ true
       same_id = eq-eqb id (stream_of message m.number) (sym on)

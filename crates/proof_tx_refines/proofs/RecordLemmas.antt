@@ -9,9 +9,9 @@ use Rattle.sctp_tx_queue.specs.SendQueue.{Queue}
 use Rattle.sctp_tx_outstanding.specs.Item.{Item, is_abandoned}
 use Rattle.sctp_tx_outstanding.specs.OutstandingData.{Items}
 use Rattle.proof_protocol.specs.State.{Message, Sender, Transfer, start, has}
-use Rattle.proof_protocol.specs.Rules.{Rule, accept, begin, number, end_with_placeholder, give_up, data_comes, late_comes, become_ready, send_sack, ack_point_advances, send_forward, forward_comes, perform_reset, Happens, after}
+use Rattle.proof_protocol.specs.Rules.{TransferEvent, accept, begin, number, end_with_placeholder, give_up, data_comes, late_comes, become_ready, send_sack, acknowledge_next, send_forward, forward_comes, perform_reset, Happens, after}
 use Rattle.proof_protocol.proofs.ToolsLemmas.{put_at, put_off, not_both}
-use Rattle.proof_tx_refines.specs.Led.{given_ups, recorded_places, LeadsTo}
+use Rattle.proof_tx_refines.specs.Reachable.{given_up_places, recorded_places, SenderLeadsTo}
 use Rattle.proof_tx_refines.specs.Refinement.{SenderRefines, AreKept}
 use Rattle.proof_tx_refines.specs.Records.{are_distinct, all_recorded, OneRecord, HasOneRecord}
 use Rattle.proof_tx_refines.proofs.RestLemmas.{has_more, records_row}
@@ -32,22 +32,22 @@ distinct_more (p ∷ ps) qs a b apart =
 -- ---- the rules give up each message once
 
 module _ (message : ℕ → Message) (is_interleaved : Bool) where
-  pub record GivesOnce (x : Transfer) (es : List Rule) : Type 0 where
-    pub once : are_distinct (given_ups es) ≡ true
-    pub fresh : (p : ℕ) → has p (given_ups es) ≡ true → x.sender.given_up p ≡ false
+  pub record GivesOnce (x : Transfer) (es : List TransferEvent) : Type 0 where
+    pub once : are_distinct (given_up_places es) ≡ true
+    pub fresh : (p : ℕ) → has p (given_up_places es) ≡ true → x.sender.given_up p ≡ false
 
-  gives : (x : Transfer) (q : ℕ) (es : List Rule) → x.sender.given_up q ≡ false → GivesOnce (after message is_interleaved x (give_up q)) es → GivesOnce x (give_up q ∷ es)
+  gives : (x : Transfer) (q : ℕ) (es : List TransferEvent) → x.sender.given_up q ≡ false → GivesOnce (after message is_interleaved x (give_up q)) es → GivesOnce x (give_up q ∷ es)
   gives x q es live g = record {
     once =
-        and_from (not (has q (given_ups es))) (are_distinct (given_ups es))
-        (not_from_false (has q (given_ups es)) (false_from_ne_true (has q (given_ups es)) (λ h. not_both (put_at x.sender.given_up q true q refl) (g.fresh q h)))) g.once;
+        and_from (not (has q (given_up_places es))) (are_distinct (given_up_places es))
+        (not_from_false (has q (given_up_places es)) (false_from_ne_true (has q (given_up_places es)) (λ h. not_both (put_at x.sender.given_up q true q refl) (g.fresh q h)))) g.once;
     fresh = λ p h. elim (cases_eq p q) [ inl e ↦ subst (λ (r : ℕ). x.sender.given_up r ≡ false) (sym e) live | inr d ↦ earlier p d h ];
   }
     where
-      earlier : (p : ℕ) → (p ≡ q → ⊥) → ((p == q) || has p (given_ups es)) ≡ true → x.sender.given_up p ≡ false
-      earlier p d h = sym (put_off x.sender.given_up q true p d) ∙ g.fresh p (ap (λ b. b || has p (given_ups es)) (sym (ne_eqb p q d)) ∙ h)
+      earlier : (p : ℕ) → (p ≡ q → ⊥) → ((p == q) || has p (given_up_places es)) ≡ true → x.sender.given_up p ≡ false
+      earlier p d h = sym (put_off x.sender.given_up q true p d) ∙ g.fresh p (ap (λ b. b || has p (given_up_places es)) (sym (ne_eqb p q d)) ∙ h)
 
-  pub gives_once : (es : List Rule) (x : Transfer) → Happens message is_interleaved x es → GivesOnce x es
+  pub gives_once : (es : List TransferEvent) (x : Transfer) → Happens message is_interleaved x es → GivesOnce x es
   gives_once [] x h = record { once = refl; fresh = λ p e. cc }
   gives_once (accept ∷ es) x h = let g = gives_once es _ h.1 in record { once = g.once; fresh = g.fresh }
   gives_once (begin p ∷ es) x h = let g = gives_once es _ h.1 in record { once = g.once; fresh = g.fresh }
@@ -58,15 +58,15 @@ module _ (message : ℕ → Message) (is_interleaved : Bool) where
   gives_once (late_comes t ∷ es) x h = let g = gives_once es _ h.1 in record { once = g.once; fresh = g.fresh }
   gives_once (become_ready p ∷ es) x h = let g = gives_once es _ h.1 in record { once = g.once; fresh = g.fresh }
   gives_once (send_sack c ∷ es) x h = let g = gives_once es _ h.1 in record { once = g.once; fresh = g.fresh }
-  gives_once (ack_point_advances c ∷ es) x h = let g = gives_once es _ h.1 in record { once = g.once; fresh = g.fresh }
+  gives_once (acknowledge_next c ∷ es) x h = let g = gives_once es _ h.1 in record { once = g.once; fresh = g.fresh }
   gives_once (send_forward f ∷ es) x h = let g = gives_once es _ h.1 in record { once = g.once; fresh = g.fresh }
   gives_once (forward_comes f ∷ es) x h = let g = gives_once es _ h.1 in record { once = g.once; fresh = g.fresh }
   gives_once (perform_reset s c ∷ es) x h = let g = gives_once es _ h.1 in record { once = g.once; fresh = g.fresh }
 
   -- what was given up before, and is now
-  pub one_more : (ps : List ℕ) (es : List Rule) (x : Transfer) → Happens message is_interleaved x es → are_distinct ps ≡ true → ((p : ℕ) → x.sender.given_up p ≡ has p ps)
-      → are_distinct (ps ++ given_ups es) ≡ true
-  one_more ps es x h once exact = let g = gives_once es x h in distinct_more ps (given_ups es) once g.once (λ p m. sym (exact p) ∙ g.fresh p m)
+  pub one_more : (ps : List ℕ) (es : List TransferEvent) (x : Transfer) → Happens message is_interleaved x es → are_distinct ps ≡ true → ((p : ℕ) → x.sender.given_up p ≡ has p ps)
+      → are_distinct (ps ++ given_up_places es) ≡ true
+  one_more ps es x h once exact = let g = gives_once es x h in distinct_more ps (given_up_places es) once g.once (λ p m. sym (exact p) ∙ g.fresh p m)
 
 -- ---- records
 
@@ -74,7 +74,7 @@ pub new_row : {P : Type 0} → (emitted : Emitted P) → emitted.given_up ≡ []
 new_row emitted none = record { once = ap (λ (gs : List GivenUp). are_distinct (map (λ (g : GivenUp). g.number) gs)) none; exact = λ p. sym (ap (λ (gs : List GivenUp). has p (map (λ (g : GivenUp). g.number) gs)) none) }
 
 module _ {P : Type 0} (message : ℕ → Message) (lifecycle : ℕ → Option ℕ) (is_interleaved : Bool) (x : Transfer) (q : Queue) (s : Items) (emitted later : Emitted P) (taken : List ℕ)
-    (l : LeadsTo message lifecycle is_interleaved x emitted q s later) (one : OneRecord taken x.sender emitted) where
+    (l : SenderLeadsTo message lifecycle is_interleaved x emitted q s later) (one : OneRecord taken x.sender emitted) where
   all_more : all_recorded taken later ≡ all_recorded taken emitted ++ l.places
   all_more = ap (λ (ps : List ℕ). taken ++ ps) l.recorded ∙ sym (append_assoc taken (recorded_places emitted) l.places)
 

@@ -5,26 +5,26 @@ use Rattle.std.specs.List.{list_all}
 use Rattle.std.proofs.lemmas.Bool.{and_from}
 use Rattle.std.proofs.lemmas.List.{map-append}
 use Rattle.sctp_state.specs.Events as events
-use Rattle.sctp_state.specs.Events.{Emitted, emit_events, expiry}
+use Rattle.sctp_state.specs.Events.{Emitted, emit_events, expired_events}
 use Rattle.sctp_state.specs.declared.api.GivenUpCause.TheVariants.{Reset}
 use Rattle.sctp_tx_queue.specs.SendQueue.{Queued, Queue, stream}
-use Rattle.sctp_tx_queue.specs.Resets.{is_partly, emitted_waiting}
+use Rattle.sctp_tx_queue.specs.Resets.{is_partly, emit_unsent}
 use Rattle.sctp_tx_outstanding.specs.OutstandingData.{Items}
 use Rattle.proof_protocol.specs.State.{Message, Transfer}
 use Rattle.proof_protocol.specs.Rules.{give_up, after, run}
 use Rattle.proof_protocol.specs.Invariant.{Invariant}
 use Rattle.proof_tx_refines.specs.Refinement.{SenderRefines}
-use Rattle.proof_tx_refines.specs.Led.{is_sending, given_ups, recorded_places}
-use Rattle.proof_tx_refines.specs.Pauses.{unsent_of, give_ups}
+use Rattle.proof_tx_refines.specs.Reachable.{is_sending, given_up_places, recorded_places}
+use Rattle.proof_tx_refines.specs.Pauses.{unsent_of, give_up_rules}
 use Rattle.proof_tx_refines.specs.Following.{PreparesLead}
 use Rattle.proof_tx_refines.proofs.PrepareLemmas.{prepares_row}
 
-emitted_dropped : {P : Type 0} (ms : List Queued) (emitted : Emitted P) → recorded_places (emitted_waiting ms emitted) ≡ recorded_places emitted ++ map (λ (m : Queued). m.number) (filter (λ m. not (is_partly m)) ms)
+emitted_dropped : {P : Type 0} (ms : List Queued) (emitted : Emitted P) → recorded_places (emit_unsent ms emitted) ≡ recorded_places emitted ++ map (λ (m : Queued). m.number) (filter (λ m. not (is_partly m)) ms)
 emitted_dropped [] emitted = sym (append-nil (recorded_places emitted))
 emitted_dropped {P} (m ∷ rest) emitted = go (is_partly m) (emitted_dropped rest)
   where
     later : Emitted P
-    later = emit_events (expiry m.lifecycle) (events.give_up m.number Reset emitted)
+    later = emit_events (expired_events m.lifecycle) (events.emit_given_up m.number Reset emitted)
 
     behind : List Queued
     behind = filter (λ m. not (is_partly m)) rest
@@ -32,24 +32,24 @@ emitted_dropped {P} (m ∷ rest) emitted = go (is_partly m) (emitted_dropped res
     numbers : List Queued → List ℕ
     numbers ms = map (λ (m : Queued). m.number) ms
 
-    go : (b : Bool) → ((t : Emitted P) → recorded_places (emitted_waiting rest t) ≡ recorded_places t ++ numbers behind)
-        → recorded_places (emitted_waiting rest (cond b emitted later)) ≡ recorded_places emitted ++ numbers (cond (not b) (m ∷ behind) behind)
+    go : (b : Bool) → ((t : Emitted P) → recorded_places (emit_unsent rest t) ≡ recorded_places t ++ numbers behind)
+        → recorded_places (emit_unsent rest (cond b emitted later)) ≡ recorded_places emitted ++ numbers (cond (not b) (m ∷ behind) behind)
     go true ih = ih emitted
     go false ih =
         ih later
         ∙ (ap (λ z. z ++ numbers behind) (map-append (λ g. g.number) emitted.given_up (record { number = m.number; cause = Reset } ∷ []))
         ∙ append_assoc (recorded_places emitted) (m.number ∷ []) (numbers behind))
 
-all_sending : (ps : List ℕ) → list_all is_sending (give_ups ps) ≡ true
+all_sending : (ps : List ℕ) → list_all is_sending (give_up_rules ps) ≡ true
 all_sending [] = refl
-all_sending (p ∷ ps) = and_from true (list_all is_sending (give_ups ps)) refl (all_sending ps)
+all_sending (p ∷ ps) = and_from true (list_all is_sending (give_up_rules ps)) refl (all_sending ps)
 
-given_are : (ps : List ℕ) → given_ups (give_ups ps) ≡ ps
+given_are : (ps : List ℕ) → given_up_places (give_up_rules ps) ≡ ps
 given_are [] = refl
 given_are (p ∷ ps) = ap (λ z. p ∷ z) (given_are ps)
 
 -- only the sender changes
-pub rest_same : (message : ℕ → Message) (is_interleaved : Bool) (ps : List ℕ) (x : Transfer) → run message is_interleaved x (give_ups ps) ≡ record x { sender = (run message is_interleaved x (give_ups ps)).sender }
+pub rest_same : (message : ℕ → Message) (is_interleaved : Bool) (ps : List ℕ) (x : Transfer) → run message is_interleaved x (give_up_rules ps) ≡ record x { sender = (run message is_interleaved x (give_up_rules ps)).sender }
 rest_same message is_interleaved [] x = refl
 rest_same message is_interleaved (p ∷ ps) x = rest_same message is_interleaved ps (after message is_interleaved x (give_up p))
 
@@ -60,9 +60,9 @@ prepares_lead message lifecycle is_interleaved x q s k sh id emitted =
     let ps = unsent_of q id in
     record {
       leads = record {
-        after = run message is_interleaved x (give_ups ps);
+        after = run message is_interleaved x (give_up_rules ps);
         places = ps;
-        leads = record { events = give_ups ps; may = z.may; leads = refl; sends = all_sending ps; given_up = given_are ps; rest_stays = rest_same message is_interleaved ps x };
+        leads = record { events = give_up_rules ps; may = z.may; leads = refl; sends = all_sending ps; given_up = given_are ps; rest_stays = rest_same message is_interleaved ps x };
         kept = z.kept;
         refines = z.refines;
         recorded = emitted_dropped (stream id q.streams).messages emitted;

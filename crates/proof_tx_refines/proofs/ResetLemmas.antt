@@ -10,7 +10,7 @@ use Rattle.sctp_tx_queue.specs.declared.send_queue.stream.ResetStep.{ResetStep}
 use Rattle.sctp_tx_queue.specs.declared.send_queue.stream.ResetStep.TheVariants.{Requested, Performed}
 use Rattle.sctp_tx_queue.specs.SendQueue as queue
 use Rattle.sctp_tx_queue.specs.SendQueue.{Queued, Queue, Stream, Streams, stream, blank}
-use Rattle.sctp_tx_queue.specs.Resets.{after_step, step_stream, each_stepped, commit_resets}
+use Rattle.sctp_tx_queue.specs.Resets.{after_step, apply_reset_step, each_stepped, commit_resets}
 use Rattle.sctp_tx_queue.proofs.InOrderLemmas.{set_bytes_mode, put_elsewhere, steps_in_order}
 use Rattle.sctp_tx_queue.proofs.NumberLemmas.{steps_numbered}
 use Rattle.sctp_tx_queue.proofs.RestLemmas.{steps_rests}
@@ -19,7 +19,7 @@ use Rattle.sctp_tx_outstanding.specs.OutstandingData.{Items}
 use Rattle.proof_protocol.specs.State.{Message, Sender, Transfer}
 use Rattle.proof_protocol.specs.Resets.{restarts}
 use Rattle.proof_tx_refines.specs.Refinement.{messages_of, IsEntry, IsNext, AreQueued, AreDiscards, SenderRefines}
-use Rattle.proof_tx_refines.specs.Rows.{restart}
+use Rattle.proof_tx_refines.specs.Rows.{restart_numbers}
 use Rattle.proof_tx_refines.proofs.FoundLemmas.{funext}
 use Rattle.proof_tx_refines.proofs.ItemsLemmas.{kept_moves}
 use Rattle.proof_tx_refines.proofs.ProduceLemmas.{is_other}
@@ -35,7 +35,7 @@ put_cases id t ss = go (lookup (is_at (nat_cmp id)) ss.entries) refl
 
 module _ (step : ResetStep) (id : ℕ) (q : Queue) where
   abbrev later : Queue
-  later = step_stream step id q
+  later = apply_reset_step step id q
 
   pub off : (j : ℕ) → j ≢ id → stream j later.streams ≡ stream j q.streams
   off j d = put_elsewhere j id (after_step step (stream id q.streams)) q.streams (is_other j id d)
@@ -58,19 +58,19 @@ module _ (step : ResetStep) (id : ℕ) (q : Queue) where
 module _ (message : ℕ → Message) (lifecycle : ℕ → Option ℕ) (is_interleaved : Bool) (x : Transfer) (q : Queue) (s : Items) (sh : SenderRefines message lifecycle is_interleaved x q s) where
   -- ---- a stream goes into a request
 
-  requested_next : (id j : ℕ) → IsNext x.sender j (stream j (step_stream Requested id q).streams)
+  requested_next : (id j : ℕ) → IsNext x.sender j (stream j (apply_reset_step Requested id q).streams)
   requested_next id j =
       elim (cases_eq j id) [
         | inr d ↦ subst (λ (z : Stream). IsNext x.sender j z) (sym (off Requested id q j d)) (sh.queue.next j)
         | inl e ↦
-            subst (λ z. IsNext x.sender z (stream z (step_stream Requested id q).streams)) (sym e)
+            subst (λ z. IsNext x.sender z (stream z (apply_reset_step Requested id q).streams)) (sym e)
             (elim (put_cases id (after_step Requested (stream id q.streams)) q.streams) [
               | inl t ↦ let n = sh.queue.next id in subst (λ (z : Stream). IsNext x.sender id z) (sym t) (record { ssn = n.ssn; ordered_mid = n.ordered_mid; unordered_mid = n.unordered_mid })
               | inr t ↦ subst (λ (z : Stream). IsNext x.sender id z) (sym t.0) (sh.queue.next id)
             ])
       ]
 
-  pub request_row : (id : ℕ) → SenderRefines message lifecycle is_interleaved x (step_stream Requested id q) s
+  pub request_row : (id : ℕ) → SenderRefines message lifecycle is_interleaved x (apply_reset_step Requested id q) s
   request_row id = record {
     queue = record {
       mode = set_bytes_mode id _ _ q.scheduler ∙ sh.queue.mode;
@@ -96,7 +96,7 @@ module _ (message : ℕ → Message) (lifecycle : ℕ → Option ℕ) (is_interl
     o' = restarts o id
 
     abbrev after : Queue
-    after = step_stream Performed id q
+    after = apply_reset_step Performed id q
 
     here_is : (kind : Bool) (j : ℕ) → j ≡ id → o'.following kind j ≡ 0
     here_is kind j e = cond-true (eqb j id) 0 (o.following kind j) (eq-eqb j id e)
@@ -183,8 +183,8 @@ module _ (message : ℕ → Message) (lifecycle : ℕ → Option ℕ) (is_interl
 module _ (message : ℕ → Message) (lifecycle : ℕ → Option ℕ) (is_interleaved : Bool) (s : Items) where
   pub requests_row : (ids : List ℕ) (x : Transfer) (q : Queue) → SenderRefines message lifecycle is_interleaved x q s → SenderRefines message lifecycle is_interleaved x (each_stepped Requested ids q) s
   requests_row [] x q sh = sh
-  requests_row (id ∷ ids) x q sh = requests_row ids x (step_stream Requested id q) (request_row message lifecycle is_interleaved x q s sh id)
+  requests_row (id ∷ ids) x q sh = requests_row ids x (apply_reset_step Requested id q) (request_row message lifecycle is_interleaved x q s sh id)
 
-  pub commits_row : (ids : List ℕ) (x : Transfer) (q : Queue) → SenderRefines message lifecycle is_interleaved x q s → SenderRefines message lifecycle is_interleaved (restart ids x) (commit_resets ids q) s
+  pub commits_row : (ids : List ℕ) (x : Transfer) (q : Queue) → SenderRefines message lifecycle is_interleaved x q s → SenderRefines message lifecycle is_interleaved (restart_numbers ids x) (commit_resets ids q) s
   commits_row [] x q sh = sh
-  commits_row (id ∷ ids) x q sh = commits_row ids (record x { sender = restarts x.sender id }) (step_stream Performed id q) (commit_row message lifecycle is_interleaved x q s sh id)
+  commits_row (id ∷ ids) x q sh = commits_row ids (record x { sender = restarts x.sender id }) (apply_reset_step Performed id q) (commit_row message lifecycle is_interleaved x q s sh id)

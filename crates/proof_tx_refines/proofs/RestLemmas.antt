@@ -11,12 +11,12 @@ use Rattle.std.proofs.Math.Bool.{or_assoc}
 use Rattle.sctp_tx_queue.specs.SendQueue.{Queued, Queue, Stream, Entries, blank, has_nothing, is_empty}
 use Rattle.sctp_tx_outstanding.specs.OutstandingData.{Items}
 use Rattle.proof_protocol.specs.State.{Message, Transfer, has, stream_of}
-use Rattle.proof_protocol.specs.Rules.{Rule, accept, begin, number, end_with_placeholder, give_up, data_comes, late_comes, become_ready, send_sack, ack_point_advances, send_forward, forward_comes, perform_reset, after, run, IsSettled}
+use Rattle.proof_protocol.specs.Rules.{TransferEvent, accept, begin, number, end_with_placeholder, give_up, data_comes, late_comes, become_ready, send_sack, acknowledge_next, send_forward, forward_comes, perform_reset, after, run, IsSettled}
 use Rattle.proof_protocol.specs.Claims.{AtRest}
 use Rattle.proof_protocol.specs.Invariant.{Outgoing, Invariant}
 use Rattle.proof_protocol.proofs.ToolsLemmas.{not_both}
 use Rattle.proof_tx_refines.specs.Refinement.{find, messages_of, AreKept, SenderRefines}
-use Rattle.proof_tx_refines.specs.Led.{given_up_by, given_ups, Leads}
+use Rattle.proof_tx_refines.specs.Reachable.{given_up_by, given_up_places, SenderLeads}
 use Rattle.proof_tx_refines.proofs.QueuedLemmas.{queue_lacks}
 
 -- ---- rest
@@ -63,7 +63,7 @@ has_more p [] rs = refl
 has_more p (q ∷ qs) rs = ap (λ b. (p == q) || b) (has_more p qs rs) ∙ sym (or_assoc (p == q) (has p qs) (has p rs))
 
 module _ (message : ℕ → Message) (is_interleaved : Bool) where
-  one_record : (e : Rule) (x : Transfer) (p : ℕ) → (after message is_interleaved x e).sender.given_up p ≡ (has p (given_up_by e) || x.sender.given_up p)
+  one_record : (e : TransferEvent) (x : Transfer) (p : ℕ) → (after message is_interleaved x e).sender.given_up p ≡ (has p (given_up_by e) || x.sender.given_up p)
   one_record accept x p = refl
   one_record (begin q) x p = refl
   one_record (number q bytes more) x p = refl
@@ -77,17 +77,17 @@ module _ (message : ℕ → Message) (is_interleaved : Bool) where
   one_record (late_comes t) x p = refl
   one_record (become_ready q) x p = refl
   one_record (send_sack c) x p = refl
-  one_record (ack_point_advances c) x p = refl
+  one_record (acknowledge_next c) x p = refl
   one_record (send_forward f) x p = refl
   one_record (forward_comes f) x p = refl
   one_record (perform_reset s c) x p = refl
 
-  pub all_records : (es : List Rule) (x : Transfer) (p : ℕ) → (run message is_interleaved x es).sender.given_up p ≡ (has p (given_ups es) || x.sender.given_up p)
+  pub all_records : (es : List TransferEvent) (x : Transfer) (p : ℕ) → (run message is_interleaved x es).sender.given_up p ≡ (has p (given_up_places es) || x.sender.given_up p)
   all_records [] x p = refl
   all_records (e ∷ es) x p =
       all_records es (after message is_interleaved x e) p
-      ∙ (ap (λ b. has p (given_ups es) || b) (one_record e x p)
-      ∙ (swapped (has p (given_ups es)) (has p (given_up_by e)) (x.sender.given_up p) ∙ ap (λ b. b || x.sender.given_up p) (sym (has_more p (given_up_by e) (given_ups es)))))
+      ∙ (ap (λ b. has p (given_up_places es) || b) (one_record e x p)
+      ∙ (swapped (has p (given_up_places es)) (has p (given_up_by e)) (x.sender.given_up p) ∙ ap (λ b. b || x.sender.given_up p) (sym (has_more p (given_up_by e) (given_up_places es)))))
     where
       swapped : (a b c : Bool) → (a || (b || c)) ≡ ((b || a) || c)
       swapped true true c = refl
@@ -95,6 +95,6 @@ module _ (message : ℕ → Message) (is_interleaved : Bool) where
       swapped false true c = refl
       swapped false false c = refl
 
-  pub records_row : (x y : Transfer) (places : List ℕ) → Leads message is_interleaved x y places → (p : ℕ) → y.sender.given_up p ≡ (has p places || x.sender.given_up p)
+  pub records_row : (x y : Transfer) (places : List ℕ) → SenderLeads message is_interleaved x y places → (p : ℕ) → y.sender.given_up p ≡ (has p places || x.sender.given_up p)
   records_row x y places l p =
       ap (λ (z : Transfer). z.sender.given_up p) (sym l.leads) ∙ (all_records l.events x p ∙ ap (λ ps. has p ps || x.sender.given_up p) l.given_up)

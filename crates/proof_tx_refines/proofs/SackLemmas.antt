@@ -10,19 +10,19 @@ use Rattle.sctp_state.specs.declared.api.GivenUpCause.TheVariants.{Retransmissio
 use Rattle.sctp_tx_queue.specs.SendQueue.{Queue}
 use Rattle.sctp_tx_outstanding.specs.Item.{Item, is_abandoned, nack}
 use Rattle.sctp_tx_outstanding.specs.OutstandingData.{Items, next_number}
-use Rattle.sctp_tx_outstanding.specs.Losses.{Step, given_up, gives_up, loses, change_items, nack_item, nack_at, nack_below}
-use Rattle.sctp_tx_outstanding.specs.Sack.{highest_end, bound, is_valid, ending, report, reports, leaving, staying, acked_by, reported_below, receive_sack_first, receive_sack}
+use Rattle.sctp_tx_outstanding.specs.Losses.{Step, abandon_with_record, is_to_be_abandoned, loses, change_items, nack_item, nack_at, nack_below}
+use Rattle.sctp_tx_outstanding.specs.Sack.{highest_end, bound, is_valid, ending, leaving_events, all_leaving_events, leaving, staying, acked_by, reported_below, receive_sack_first, receive_sack}
 use Rattle.proof_protocol.specs.State.{Message, Sender, Transfer, IsAmong, fragment, place_of}
 use Rattle.proof_protocol.specs.Rules as laws
-use Rattle.proof_protocol.specs.Rules.{ack_point_advances, Happens, run}
+use Rattle.proof_protocol.specs.Rules.{acknowledge_next, Happens, run}
 use Rattle.proof_protocol.specs.Joints.{reports_of}
 use Rattle.proof_protocol.specs.Invariant.{Invariant}
-use Rattle.proof_protocol.proofs.KeepsLemmas.{all_kept}
+use Rattle.proof_protocol.proofs.RulesKeepLemmas.{all_kept}
 use Rattle.proof_protocol.proofs.ShowsLemmas.{leave_all}
 use Rattle.proof_protocol.proofs.ToolsLemmas.{not_both}
 use Rattle.proof_tx_refines.specs.Refinement.{StandsFor, AreKept, SenderRefines}
-use Rattle.proof_tx_refines.specs.Led.{recorded_places, delivered_by, delivered_ids, id_of, ids_at, LeadsTo}
-use Rattle.proof_tx_refines.specs.Rows.{leave_places, ReceivesSack}
+use Rattle.proof_tx_refines.specs.Reachable.{recorded_places, delivered_by, delivered_ids, id_of, ids_at, SenderLeadsTo}
+use Rattle.proof_tx_refines.specs.Rows.{leave_fragments, ReceivesSack}
 use Rattle.proof_tx_refines.proofs.ItemsLemmas.{kept_drop, kept_settled}
 use Rattle.proof_tx_refines.proofs.LedLemmas.{leads_none}
 use Rattle.proof_tx_refines.proofs.LossLemmas.{losses}
@@ -31,9 +31,9 @@ use Rattle.proof_tx_refines.proofs.LossLemmas.{losses}
 
 module _ {P : Type 0} (at_once fast : Bool) where
   item_quiet : (k : ℕ) (i : Item) (y : Step P) → (nack_item at_once fast k i y).emitted.events ≡ y.emitted.events
-  item_quiet k i y = go (gives_up y.items.is_partial at_once i)
+  item_quiet k i y = go (is_to_be_abandoned y.items.is_partial at_once i)
     where
-      go : (b : Bool) → (let r : Step P = cond b (given_up i.number (Retransmissions (i.sent - 1)) y) (record y { items = change_items k (nack at_once fast) y.items; is_lossy = y.is_lossy || loses at_once i }) in r.emitted.events) ≡ y.emitted.events
+      go : (b : Bool) → (let r : Step P = cond b (abandon_with_record i.number (Retransmissions (i.sent - 1)) y) (record y { items = change_items k (nack at_once fast) y.items; is_lossy = y.is_lossy || loses at_once i }) in r.emitted.events) ≡ y.emitted.events
       go true = refl
       go false = refl
 
@@ -62,7 +62,7 @@ module _ (P : Type 0) (message : ℕ → Message) (lifecycle : ℕ → Option �
   abbrev emitted_of : Bool → Bool → Option ℕ → List (Event P)
   emitted_of is_end given_up id = cond is_end (ending given_up id) []
 
-  one_report : (t : ℕ) (i : Item) → StandsFor message lifecycle o (fragment o t) i → delivered_ids (report {P = P} i) ≡ ids_at lifecycle (laws.report o t)
+  one_report : (t : ℕ) (i : Item) → StandsFor message lifecycle o (fragment o t) i → delivered_ids (leaving_events {P = P} i) ≡ ids_at lifecycle (laws.report o t)
   one_report t i a =
       ap (λ b. delivered_ids (emitted_of b (is_abandoned i) i.lifecycle)) (ap (λ (z : FragmentTree). z.is_end) a.carried)
       ∙ (ap (λ b. delivered_ids (emitted_of ((fragment o t).is_end) b i.lifecycle)) a.given_up
@@ -84,12 +84,12 @@ module _ (P : Type 0) (message : ℕ → Message) (lifecycle : ℕ → Option �
       go true false true c d = absurd (not_both (a.placeholder d) c)
       go true false false c d = own (lifecycle (place_of o t))
 
-  all_reports : (t n : ℕ) (is : List Item) → n ≤ length is → AreKept message lifecycle o t is → delivered_ids (reports {P = P} (take n is)) ≡ ids_at lifecycle (reports_of o t n)
+  all_reports : (t n : ℕ) (is : List Item) → n ≤ length is → AreKept message lifecycle o t is → delivered_ids (all_leaving_events {P = P} (take n is)) ≡ ids_at lifecycle (reports_of o t n)
   all_reports t zero is l a = refl
   all_reports t (suc n) [] l a = absurd (omega (arith, l))
   all_reports t (suc n) (i ∷ is) l a =
-      delivered_more (report i) (reports (take n is))
-      ∙ (ap (λ z. z ++ delivered_ids (reports {P = P} (take n is))) (one_report t i a.0)
+      delivered_more (leaving_events i) (all_leaving_events (take n is))
+      ∙ (ap (λ z. z ++ delivered_ids (all_leaving_events {P = P} (take n is))) (one_report t i a.0)
       ∙ (ap (λ z. ids_at lifecycle (laws.report o t) ++ z) (all_reports (suc t) n is (omega (arith, l)) a.1) ∙ sym (ids_more lifecycle (laws.report o t) (reports_of o (suc t) n))))
 
 -- ---- the whole
@@ -100,7 +100,7 @@ module _ {P : Type 0} (message : ℕ → Message) (lifecycle : ℕ → Option �
   n = leaving cumulative s
 
   abbrev x1 : Transfer
-  x1 = leave_places n x
+  x1 = leave_fragments n x
 
   parts : (nat_le s.acked cumulative ≡ true) × ((nat_lt (cumulative + highest_end blocks) (next_number s) && nat_lt cumulative bound) ≡ true)
   parts = and_parts (nat_le s.acked cumulative) (nat_lt (cumulative + highest_end blocks) (next_number s) && nat_lt cumulative bound) valid
@@ -117,11 +117,11 @@ module _ {P : Type 0} (message : ℕ → Message) (lifecycle : ℕ → Option �
   point_is : x.acknowledged + n ≡ c
   point_is = let a = sh.items.point in omega (arith, a, upto, ahead)
 
-  all_leave : Happens message is_interleaved x (replicate n (ack_point_advances c)) × (run message is_interleaved x (replicate n (ack_point_advances c)) ≡ x1)
+  all_leave : Happens message is_interleaved x (replicate n (acknowledge_next c)) × (run message is_interleaved x (replicate n (acknowledge_next c)) ≡ x1)
   all_leave = leave_all message is_interleaved n c x sent (omega (arith, point_is))
 
   kept1 : Invariant message is_interleaved x1
-  kept1 = subst (λ (w : Transfer). Invariant message is_interleaved w) all_leave.1 (all_kept message is_interleaved (replicate n (ack_point_advances c)) x k all_leave.0)
+  kept1 = subst (λ (w : Transfer). Invariant message is_interleaved w) all_leave.1 (all_kept message is_interleaved (replicate n (acknowledge_next c)) x k all_leave.0)
 
   shows1 : SenderRefines message lifecycle is_interleaved x1 q (acked_by blocks (staying cumulative s))
   shows1 = record {
@@ -137,7 +137,7 @@ module _ {P : Type 0} (message : ℕ → Message) (lifecycle : ℕ → Option �
   abbrev first : Step P
   first = receive_sack_first cumulative blocks s emitted
 
-  at_first : LeadsTo message lifecycle is_interleaved x1 emitted q first.items first.emitted
+  at_first : SenderLeadsTo message lifecycle is_interleaved x1 emitted q first.items first.emitted
   at_first = record { after = x1; places = []; leads = leads_none message is_interleaved x1; kept = kept1; refines = shows1; recorded = sym (append-nil (recorded_places emitted)) }
 
   pub sack_row : ReceivesSack message lifecycle is_interleaved x q n c emitted (receive_sack cumulative blocks fast s emitted).items (receive_sack cumulative blocks fast s emitted).emitted
@@ -147,6 +147,6 @@ module _ {P : Type 0} (message : ℕ → Message) (lifecycle : ℕ → Option �
     upto = point_is;
     reported =
         ap delivered_ids (below_quiet false (not fast) (reported_below blocks (staying cumulative s)) first)
-        ∙ (delivered_more emitted.events (reports (take n s.kept)) ∙ ap (λ z. delivered_ids emitted.events ++ z) (all_reports P message lifecycle x.sender x.acknowledged n s.kept enough sh.items.kept));
+        ∙ (delivered_more emitted.events (all_leaving_events (take n s.kept)) ∙ ap (λ z. delivered_ids emitted.events ++ z) (all_reports P message lifecycle x.sender x.acknowledged n s.kept enough sh.items.kept));
     losses = losses message lifecycle is_interleaved x1 emitted q false (not fast) (reported_below blocks (staying cumulative s)) first at_first;
   }

@@ -2,7 +2,7 @@
 use Rattle.std.proofs.Common.{◌≡◌, ℕ, zero, suc, ◌+◌, ◌-◌, ◌<◌, ◌≤◌, Bool, true, false, cond, Option, Some, None, List, [], ◌∷◌, ◌++◌, length, length-append, append-nil, refl, sym, ap, ◌∙◌, subst, arith}
 use Rattle.std.specs.Prelude.{slice_get, nat_lt, nat_le, ◌&&◌, min}
 use Rattle.std.proofs.lemmas.Bool.{false_from_ne_true, false≢true}
-use Rattle.sctp_serial.specs.Unwrapped.{origin, words, wire}
+use Rattle.sctp_serial.specs.Unwrapped.{origin, u32_space, wire}
 use Rattle.sctp_packet.specs.Chunk.{FragmentTree}
 use Rattle.sctp_state.specs.Events.{Emitted}
 use Rattle.sctp_tx_queue.specs.SendQueue.{Queue, stream}
@@ -11,22 +11,22 @@ use Rattle.sctp_tx_queue.specs.Produced.{Produced, Turn, produce}
 use Rattle.sctp_tx_outstanding.specs.declared.item.ItemState.{ItemState}
 use Rattle.sctp_tx_outstanding.specs.declared.item.ItemState.TheVariants.{InFlight, Missing, Queued, QueuedFast, Acked, GivenUp}
 use Rattle.sctp_tx_outstanding.specs.Item.{Item, waits, waits_fast, is_given_up, is_fast, should_be_retransmitted, is_abandoned, mark_as_retransmitted, miss_fast}
-use Rattle.sctp_tx_outstanding.specs.OutstandingData.{Items, Discard, Outstanding, next_number, insert, wire_tsn}
+use Rattle.sctp_tx_outstanding.specs.OutstandingData.{Items, Discard, Outstanding, next_number, append_item, wire_tsn}
 use Rattle.sctp_tx_outstanding.specs.Losses.{change_items}
-use Rattle.sctp_tx_outstanding.specs.Resending.{Resent, size_in, allowance, again_of, again_at, passed_over, turn_of, take_item, step_at, resent_below, empty_packet, resend}
+use Rattle.sctp_tx_outstanding.specs.Resending.{Resent, size_in, allowance, again_of, again_at, passed_over, turn_of, apply_turn, step_at, resent_below, empty_packet, resend}
 use Rattle.sctp_tx.specs.RetransmissionQueue.{Sender}
-use Rattle.sctp_tx.specs.Resent.{send_fast, resent, resent_by, flight, resent_fast, may_send_new, timed_if}
-use Rattle.sctp_tx.specs.Sending.{Filling, offered_payload, item_of, append, ask_queue, turned_if, next_turn, fill, discard_all, without_discards, filled_with}
+use Rattle.sctp_tx.specs.Resent.{send_fast, resent, resent_by, flight, resent_fast, may_send_new, start_t3_if}
+use Rattle.sctp_tx.specs.Sending.{Filling, offered_payload, item_of, append, take_turn, queue_step_if, next_turn, fill, discard_all, without_discards, filled_with}
 use Rattle.proof_protocol.specs.State as rules
 use Rattle.proof_protocol.specs.State.{Message, Transfer, fragment, place_of, count}
-use Rattle.proof_protocol.specs.Rules.{Rule, IsAllowed, Happens, after, run}
+use Rattle.proof_protocol.specs.Rules.{TransferEvent, IsAllowed, Happens, after, run}
 use Rattle.proof_protocol.specs.Invariant.{Invariant}
-use Rattle.proof_protocol.proofs.KeepsLemmas.{keeps}
+use Rattle.proof_protocol.proofs.RulesKeepLemmas.{keeps}
 use Rattle.proof_protocol.proofs.StepLemmas.{later}
 use Rattle.proof_protocol.proofs.ToolsLemmas.{not_both}
 use Rattle.proof_tx_refines.specs.Refinement.{tree_of, StandsFor, SenderRefines, ItemsRefine, AreDiscards, messages_of}
-use Rattle.proof_tx_refines.specs.Led.{recorded_places, Leads, LeadsTo}
-use Rattle.proof_tx_refines.specs.Rows.{with_made, Carries, AllCarry, Sends}
+use Rattle.proof_tx_refines.specs.Reachable.{recorded_places, SenderLeads, SenderLeadsTo}
+use Rattle.proof_tx_refines.specs.Rows.{with_made, Carries, AllCarry, SenderSends}
 use Rattle.proof_tx_refines.proofs.ItemsLemmas.{Alike, kept_count, kept_changed, by_resending, by_missing}
 use Rattle.proof_tx_refines.proofs.LedLemmas.{leads_none, led_on, led_none}
 use Rattle.proof_tx_refines.proofs.LossLemmas.{kept_at}
@@ -37,7 +37,7 @@ use Rattle.sctp_serial.proofs.NumberLemmas.{positive_of_both}
 -- ---- what was carried once may come at any later time
 
 module _ (message : ℕ → Message) (is_interleaved : Bool) (first : ℕ) where
-  pub carries_once : (x : Transfer) (k : Invariant message is_interleaved x) (e : Rule) → (l : IsAllowed message is_interleaved x e) → (c : ℕ × FragmentTree)
+  pub carries_once : (x : Transfer) (k : Invariant message is_interleaved x) (e : TransferEvent) → (l : IsAllowed message is_interleaved x e) → (c : ℕ × FragmentTree)
       → (a : Carries message first x.sender c) → (b : Carries message first (after message is_interleaved x e).sender c) × (b.at ≡ a.at)
   carries_once x k e l c a =
       let o = x.sender in
@@ -58,7 +58,7 @@ module _ (message : ℕ → Message) (is_interleaved : Bool) (first : ℕ) where
       } in
       (b, refl)
 
-  pub carries_along : (es : List Rule) (x : Transfer) → Invariant message is_interleaved x → Happens message is_interleaved x es → (c : ℕ × FragmentTree)
+  pub carries_along : (es : List TransferEvent) (x : Transfer) → Invariant message is_interleaved x → Happens message is_interleaved x es → (c : ℕ × FragmentTree)
       → (a : Carries message first x.sender c) → (b : Carries message first (run message is_interleaved x es).sender c) × (b.at ≡ a.at)
   carries_along [] x k h c a = (a, refl)
   carries_along (e ∷ es) x k h c a =
@@ -70,13 +70,13 @@ module _ (message : ℕ → Message) (is_interleaved : Bool) (first : ℕ) where
   abbrev pub CarriesFrom : (least : ℕ) → rules.Sender → ℕ × FragmentTree → Type 0
   CarriesFrom least o c = (carries : Carries message first o c) × (least ≤ carries.at)
 
-  pub carries_on : (least : ℕ) (x y : Transfer) (ps : List ℕ) → Invariant message is_interleaved x → Leads message is_interleaved x y ps → (c : ℕ × FragmentTree)
+  pub carries_on : (least : ℕ) (x y : Transfer) (ps : List ℕ) → Invariant message is_interleaved x → SenderLeads message is_interleaved x y ps → (c : ℕ × FragmentTree)
       → CarriesFrom least x.sender c → CarriesFrom least y.sender c
   carries_on least x y ps k l c a =
       let b = carries_along l.events x k l.may c a.0 in
       subst (λ (z : Transfer). CarriesFrom least z.sender c) l.leads (b.0, subst (λ n. least ≤ n) (sym b.1) a.1)
 
-  pub all_on : (least : ℕ) (x y : Transfer) (ps : List ℕ) → Invariant message is_interleaved x → Leads message is_interleaved x y ps → (cs : List (ℕ × FragmentTree))
+  pub all_on : (least : ℕ) (x y : Transfer) (ps : List ℕ) → Invariant message is_interleaved x → SenderLeads message is_interleaved x y ps → (cs : List (ℕ × FragmentTree))
       → AllCarry message first least x.sender cs → AllCarry message first least y.sender cs
   all_on least x y ps k l [] a = tt
   all_on least x y ps k l (c ∷ cs) a = (carries_on least x y ps k l c a.0, all_on least x y ps k l cs a.1)
@@ -106,17 +106,17 @@ fast_lives GivenUp e = absurd (cc)
 
 -- what becomes of an item: it is sent again where it waits, or passed over, or left
 module _ (P : Resent → Type 0) (k : ℕ) (x : Resent) (sent : (i : Item) → slice_get x.outstanding.items.kept k ≡ Some i → is_abandoned i ≡ false → P (again_at k x)) (missed : P (passed_over k x)) (left : P x) where
-  fast_case : (i : Item) → slice_get x.outstanding.items.kept k ≡ Some i → (b c : Bool) → is_fast i ≡ b → nat_le (size_in x i) x.room ≡ c → P (take_item (turn_of true (Some i) x) k x)
+  fast_case : (i : Item) → slice_get x.outstanding.items.kept k ≡ Some i → (b c : Bool) → is_fast i ≡ b → nat_le (size_in x i) x.room ≡ c → P (apply_turn (turn_of true (Some i) x) k x)
   fast_case i h true true e f = rw e (rw f (sent i h (fast_lives i.state e)))
   fast_case i h true false e f = rw e (rw f missed)
   fast_case i h false c e f = rw e left
 
-  queued_case : (i : Item) → slice_get x.outstanding.items.kept k ≡ Some i → (b c : Bool) → should_be_retransmitted i ≡ b → nat_le (size_in x i) (allowance x) ≡ c → P (take_item (turn_of false (Some i) x) k x)
+  queued_case : (i : Item) → slice_get x.outstanding.items.kept k ≡ Some i → (b c : Bool) → should_be_retransmitted i ≡ b → nat_le (size_in x i) (allowance x) ≡ c → P (apply_turn (turn_of false (Some i) x) k x)
   queued_case i h true true e f = rw e (rw f (sent i h (waits_lives i.state e)))
   queued_case i h true false e f = rw e (rw f left)
   queued_case i h false c e f = rw e left
 
-  by_item : (fast : Bool) (o : Option Item) → slice_get x.outstanding.items.kept k ≡ o → P (take_item (turn_of fast o x) k x)
+  by_item : (fast : Bool) (o : Option Item) → slice_get x.outstanding.items.kept k ≡ o → P (apply_turn (turn_of fast o x) k x)
   by_item true None h = left
   by_item false None h = left
   by_item true (Some i) h = fast_case i h (is_fast i) (nat_le (size_in x i) x.room) refl refl
@@ -146,7 +146,7 @@ module _ (message : ℕ → Message) (lifecycle : ℕ → Option ℕ) (is_interl
         at = acknowledged + k;
         below = below;
         real = false_from_ne_true ((fragment o (acknowledged + k)).placeholder) (λ h. not_both (s.given_up ∙ s.placeholder h) lives);
-        tsn = ap (λ z. wire words z (x.outstanding.items.acked + 1 + k)) a.first_is ∙ ap (wire words first) (let p = a.items.point in let n : x.outstanding.items.acked + 1 + k ≡ origin + (acknowledged + k) = omega (arith, p) in n);
+        tsn = ap (λ z. wire u32_space z (x.outstanding.items.acked + 1 + k)) a.first_is ∙ ap (wire u32_space first) (let p = a.items.point in let n : x.outstanding.items.acked + 1 + k ≡ origin + (acknowledged + k) = omega (arith, p) in n);
         tree = s.carried;
       } in
       subst (λ (o : Option Item). Shown (again_of k o x)) (sym f) (record {
@@ -176,13 +176,13 @@ last_there i (j ∷ is) = last_there i is
 
 module _ {P : Type 0} (message : ℕ → Message) (lifecycle : ℕ → Option ℕ) (is_interleaved : Bool) (x : Transfer) (emitted : Emitted P) (now first : ℕ) where
   pub record Filled (f : Filling P) : Type 0 where
-    pub leads : LeadsTo message lifecycle is_interleaved x emitted f.queue f.sender.outstanding.items f.emitted
+    pub leads : SenderLeadsTo message lifecycle is_interleaved x emitted f.queue f.sender.outstanding.items f.emitted
     pub none_left : f.sender.outstanding.items.discards ≡ []
     pub first_is : f.sender.outstanding.first ≡ first
     pub carried : AllCarry message first x.acknowledged leads.after.sender f.chunks
 
   -- the chunk of a new fragment
-  new_carries : (o : rules.Sender) (acknowledged : ℕ) (s : Items) (d : Outstanding) (p : Produced) → d.first ≡ first → d.items ≡ s → ItemsRefine message lifecycle is_interleaved o acknowledged (insert (item_of now p) s)
+  new_carries : (o : rules.Sender) (acknowledged : ℕ) (s : Items) (d : Outstanding) (p : Produced) → d.first ≡ first → d.items ≡ s → ItemsRefine message lifecycle is_interleaved o acknowledged (append_item (item_of now p) s)
       → (b : Carries message first o (wire_tsn d (next_number d.items), p.fragment)) × (acknowledged ≤ b.at)
   new_carries o acknowledged s d p f e a =
       let i = item_of now p in
@@ -192,13 +192,13 @@ module _ {P : Type 0} (message : ℕ → Message) (lifecycle : ℕ → Option �
         below = (let c = kept_count message lifecycle o acknowledged (s.kept ++ i ∷ []) a.kept in let l = length-append s.kept (i ∷ []) in omega (arith, c, l));
         real = false_from_ne_true ((fragment o (acknowledged + length s.kept)).placeholder) (λ h. false≢true (st.given_up ∙ st.placeholder h));
         tsn =
-            ap (λ z. wire words z (next_number d.items)) f
-            ∙ (ap (λ (z : Items). wire words first (next_number z)) e ∙ ap (wire words first) (let q = a.point in let n : s.acked + 1 + length s.kept ≡ origin + (acknowledged + length s.kept) = omega (arith, q) in n));
+            ap (λ z. wire u32_space z (next_number d.items)) f
+            ∙ (ap (λ (z : Items). wire u32_space first (next_number z)) e ∙ ap (wire u32_space first) (let q = a.point in let n : s.acked + 1 + length s.kept ≡ origin + (acknowledged + length s.kept) = omega (arith, q) in n));
         tree = st.carried;
       } in
       (b, omega arith)
 
-  made_carries : (f : Filling P) (size : ℕ) → 0 < size → Filled f → Filled (ask_queue now (produce now size f.queue f.emitted) f).filling
+  made_carries : (f : Filling P) (size : ℕ) → 0 < size → Filled f → Filled (take_turn now (produce now size f.queue f.emitted) f).filling
   unfolding led_on
   made_carries f size some a = go (produce now size f.queue f.emitted).made refl
     where
@@ -208,12 +208,12 @@ module _ {P : Type 0} (message : ℕ → Message) (lifecycle : ℕ → Option �
       t : Turn P
       t = produce now size f.queue f.emitted
 
-      b : LeadsTo message lifecycle is_interleaved a.leads.after f.emitted t.queue (with_made now t.made s) t.emitted
+      b : SenderLeadsTo message lifecycle is_interleaved a.leads.after f.emitted t.queue (with_made now t.made s) t.emitted
       b =
           produces message lifecycle is_interleaved a.leads.after f.emitted s a.none_left now size some (length f.queue.scheduler.times + 2) f.queue f.emitted
           (led_none message lifecycle is_interleaved a.leads.after f.emitted f.queue s a.leads.kept a.leads.refines)
 
-      one : LeadsTo message lifecycle is_interleaved x emitted t.queue (with_made now t.made s) t.emitted
+      one : SenderLeadsTo message lifecycle is_interleaved x emitted t.queue (with_made now t.made s) t.emitted
       one = led_on message lifecycle is_interleaved x emitted f.emitted t.emitted f.queue t.queue s (with_made now t.made s) a.leads b
 
       step : Option Produced → Filling P
@@ -248,7 +248,7 @@ module _ {P : Type 0} (message : ℕ → Message) (lifecycle : ℕ → Option �
   turn_fills : (f : Filling P) → Filled f → Filled (next_turn now f).filling
   turn_fills f a = go (may_send_new f.sender && nat_lt 0 (offered_payload f.left f.sender)) refl
     where
-      go : (b : Bool) → (may_send_new f.sender && nat_lt 0 (offered_payload f.left f.sender)) ≡ b → Filled (turned_if b now f).filling
+      go : (b : Bool) → (may_send_new f.sender && nat_lt 0 (offered_payload f.left f.sender)) ≡ b → Filled (queue_step_if b now f).filling
       go true e = made_carries f (offered_payload f.left f.sender) (positive_of_both (may_send_new f.sender) (offered_payload f.left f.sender) e) a
       go false e = a
 
@@ -276,7 +276,7 @@ quiet_emitted (d ∷ ds) q emitted =
     quiet_emitted ds one.queue one.emitted ∙ one_quiet d.stream d.number q emitted
 
 module _ (message : ℕ → Message) (lifecycle : ℕ → Option ℕ) (is_interleaved : Bool) (x : Transfer) (s : Sender) (q : Queue) (sh : SenderRefines message lifecycle is_interleaved x q s.outstanding.items) where
-  timed_same : (b : Bool) (now : ℕ) (s : Sender) → (timed_if b now s).outstanding ≡ s.outstanding
+  timed_same : (b : Bool) (now : ℕ) (s : Sender) → (start_t3_if b now s).outstanding ≡ s.outstanding
   timed_same true now s = refl
   timed_same false now s = refl
 
@@ -315,7 +315,7 @@ module _ (message : ℕ → Message) (lifecycle : ℕ → Option ℕ) (is_interl
         quiet_emitted s.outstanding.items.discards q emitted,
       )
 
-  pub send_row : {P : Type 0} → Invariant message is_interleaved x → (now most : ℕ) (emitted : Emitted P) → Sends message lifecycle is_interleaved x now most s q emitted
+  pub send_row : {P : Type 0} → Invariant message is_interleaved x → (now most : ℕ) (emitted : Emitted P) → SenderSends message lifecycle is_interleaved x now most s q emitted
   send_row {P} k now most emitted =
       let quiet = without_discards s in
       let d = discards_all message lifecycle is_interleaved x.sender s.outstanding.items.discards q emitted sh.queue sh.discards in

@@ -10,7 +10,7 @@ use Rattle.sctp_tx_queue.specs.SendQueue as queue
 use Rattle.sctp_tx_queue.specs.SendQueue.{Queued, Queue, Stream, stream}
 use Rattle.sctp_tx_queue.specs.Settings.{set_mode}
 use Rattle.sctp_tx_queue.specs.Restarted.{whole, whole_front, restart, restarted_one, each_restarted, reset}
-use Rattle.sctp_tx_queue.specs.InOrder.{is_waiting, is_begun_or_waiting, are_in_order, is_first_begun, is_this, IsUnsent}
+use Rattle.sctp_tx_queue.specs.InOrder.{is_unsent, is_begun_or_waiting, are_in_order, is_first_begun, is_this, IsUnsent}
 use Rattle.sctp_tx_queue.proofs.InOrderLemmas.{set_bytes_mode, put_elsewhere, new_in_order, mode_in_order, reset_in_order}
 use Rattle.sctp_tx_queue.proofs.NumberLemmas.{calls_number}
 use Rattle.sctp_tx_queue.proofs.RestLemmas.{calls_leave_rests}
@@ -112,7 +112,7 @@ module _ (message : ℕ → Message) (lifecycle : ℕ → Option ℕ) where
     whole_same k [] e = refl
     whole_same k (m ∷ rest) e =
         let order = ap are_in_order (sym e) ∙ sh.queue.order.order k in
-        ap (λ (z : Queued). z ∷ rest) (whole_is k m (ap (find m.number) e ∙ found_at m.number m rest refl) (and_parts (is_begun_or_waiting m) (list_all is_waiting rest) order).0)
+        ap (λ (z : Queued). z ∷ rest) (whole_is k m (ap (find m.number) e ∙ found_at m.number m rest refl) (and_parts (is_begun_or_waiting m) (list_all is_unsent rest) order).0)
 
     -- the same messages, and numbers that begin
     record Same (r : Queue) : Type 0 where

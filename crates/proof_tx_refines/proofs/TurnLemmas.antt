@@ -7,7 +7,7 @@ use Rattle.sctp_serial.specs.Unwrapped.{origin}
 use Rattle.sctp_state.specs.Events.{Emitted}
 use Rattle.sctp_tx_queue.specs.declared.send_queue.message.MessageNumbers.{MessageNumbers}
 use Rattle.sctp_tx_queue.specs.SendQueue.{Queued, Queue, Stream, Streams, stream}
-use Rattle.sctp_tx_queue.specs.Produced.{Produced, Turn, fresh, drop_expired, without_stale, streams_without_stale, numbers_of, took, made_of, move_past, ends, next_fragment, advance, turn, next_stream, produce_within}
+use Rattle.sctp_tx_queue.specs.Produced.{Produced, Turn, fresh, emit_expired, without_stale, streams_without_stale, numbers_of, took, made_of, move_past, ends, next_fragment, advance, turn, next_stream, produce_within}
 use Rattle.sctp_tx_queue.specs.InOrder.{are_in_order, are_rising, has_rest}
 use Rattle.sctp_tx_queue.proofs.InOrderLemmas.{fresh_both, put_elsewhere, turn_in_order, line_mode}
 use Rattle.sctp_tx_queue.proofs.NumberLemmas.{turn_numbered, fresh_rising}
@@ -15,7 +15,7 @@ use Rattle.sctp_tx_queue.proofs.RestLemmas.{turn_rests, without_stale_rests}
 use Rattle.sctp_tx_queue.proofs.ProduceLemmas.{idles, gives, turned}
 use Rattle.sctp_tx_outstanding.specs.OutstandingData.{Items}
 use Rattle.proof_protocol.specs.State.{Message, Sender, Transfer, IsAmong, place_of, count, put, is_empty, stream_of, ordered_of}
-use Rattle.proof_protocol.specs.Rules.{Rule, begin, number, run, begins, numbers, part, same}
+use Rattle.proof_protocol.specs.Rules.{TransferEvent, begin, number, run, begins, numbers, part, same}
 use Rattle.proof_protocol.specs.Invariant.{Invariant}
 use Rattle.proof_protocol.specs.Sending as sending
 use Rattle.proof_protocol.specs.Sending.{Waiting}
@@ -23,7 +23,7 @@ use Rattle.proof_protocol.specs.Joints.{Sends}
 use Rattle.proof_protocol.proofs.ToolsLemmas.{put_at, put_off, not_both}
 use Rattle.proof_protocol.proofs.SenderRowLemmas as sends
 use Rattle.proof_tx_refines.specs.Refinement.{find, messages_of, waiting_of, queue_of, numbers_at, IsEntry, IsNext, AreQueued, AreDiscards, QueueRefines, SenderRefines}
-use Rattle.proof_tx_refines.specs.Led.{is_sending, given_ups, recorded_places, LeadsTo}
+use Rattle.proof_tx_refines.specs.Reachable.{is_sending, given_up_places, recorded_places, SenderLeadsTo}
 use Rattle.proof_tx_refines.specs.Rows.{with_made}
 use Rattle.proof_tx_refines.proofs.CountLemmas.{following_within}
 use Rattle.proof_tx_refines.proofs.FoundLemmas.{funext, once, first_least}
@@ -72,7 +72,7 @@ module _ {P : Type 0} (message : ℕ → Message) (lifecycle : ℕ → Option �
   ms1 = put (messages_of q) id L1
 
   emitted_is : recorded_places (turn now id size q emitted).emitted ≡ recorded_places emitted ++ f.places
-  emitted_is = emitted_same id _ _ (turn now id size q emitted).made (drop_expired now s0.messages emitted) ∙ f.recorded_are
+  emitted_is = emitted_same id _ _ (turn now id size q emitted).made (emit_expired now s0.messages emitted) ∙ f.recorded_are
 
   next_y : (j : ℕ) → IsNext y.sender j (stream j q.streams)
   next_y j =
@@ -127,7 +127,7 @@ module _ {P : Type 0} (message : ℕ → Message) (lifecycle : ℕ → Option �
           ]
 
   abbrev To : Option Produced → Type 0
-  To made = LeadsTo message lifecycle is_interleaved x emitted after (with_made now made s) (turn now id size q emitted).emitted
+  To made = SenderLeadsTo message lifecycle is_interleaved x emitted after (with_made now made s) (turn now id size q emitted).emitted
 
   -- no message is left
   nothing : L1 ≡ [] → To None
@@ -216,7 +216,7 @@ module _ {P : Type 0} (message : ℕ → Message) (lifecycle : ℕ → Option �
     split : drop m.offset m.payload ≡ bytes ++ more
     split = sym (take-append-drop size (drop m.offset m.payload))
 
-    module _ (begun partly : ℕ → Bool) (number written : ℕ → ℕ) (counts following : Bool → ℕ → ℕ) (z : Transfer) (events : List Rule)
+    module _ (begun partly : ℕ → Bool) (number written : ℕ → ℕ) (counts following : Bool → ℕ → ℕ) (z : Transfer) (events : List TransferEvent)
         (number_off : (r : ℕ) → r ≢ p → written r ≡ y.sender.written r) (number_begun : (u : ℕ) → u < count y.sender → written (place_of y.sender u) ≡ y.sender.written (place_of y.sender u)) where
       abbrev o1 : Sender
       o1 = record y.sender { begun = begun; partly = partly; number = number; counts = counts; written = written; following = following }
@@ -225,7 +225,7 @@ module _ {P : Type 0} (message : ℕ → Message) (lifecycle : ℕ → Option �
       o' = numbers o1 (part o1 p bytes more)
 
       finish : Sends message is_interleaved y events (put (queue_of message y.sender ms1) p (cond (is_empty more) None (Some (record { begun = true; rest = more }))))
-          → run message is_interleaved y events ≡ record y { sender = o' } → given_ups events ≡ [] → list_all is_sending events ≡ true → n ≡ numbers_at message o1 p
+          → run message is_interleaved y events ≡ record y { sender = o' } → given_up_places events ≡ [] → list_all is_sending events ≡ true → n ≡ numbers_at message o1 p
           → IsNext o' id (advance size t) → ((j : ℕ) → j ≢ id → IsNext o' j (stream j q.streams)) → To (Some (made_of id size n m))
       finish r run_is quiet sending_all named next_here next_off =
           let z1 : Transfer = record y { sender = o' } in
@@ -333,13 +333,13 @@ module _ {P : Type 0} (message : ℕ → Message) (lifecycle : ℕ → Option �
 
 module _ {P : Type 0} (message : ℕ → Message) (lifecycle : ℕ → Option ℕ) (is_interleaved : Bool) (x : Transfer) (emitted : Emitted P) (s : Items) (none_given : s.discards ≡ []) (now size : ℕ) (some : 0 < size) where
   abbrev Given : Queue → Emitted P → Turn P → Type 0
-  Given q later t = LeadsTo message lifecycle is_interleaved x emitted t.queue (with_made now t.made s) t.emitted
+  Given q later t = SenderLeadsTo message lifecycle is_interleaved x emitted t.queue (with_made now t.made s) t.emitted
 
-  pub produces : (turns : ℕ) (q : Queue) (later : Emitted P) → LeadsTo message lifecycle is_interleaved x emitted q s later → Given q later (produce_within turns now size q later)
+  pub produces : (turns : ℕ) (q : Queue) (later : Emitted P) → SenderLeadsTo message lifecycle is_interleaved x emitted q s later → Given q later (produce_within turns now size q later)
   produces zero q later a = a
   produces (suc m) q later a = go (next_stream q) refl (λ r t b. produces m r t b)
     where
-      go : (o : Option ℕ) → next_stream q ≡ o → ((r : Queue) (t : Emitted P) → LeadsTo message lifecycle is_interleaved x emitted r s t → Given r t (produce_within m now size r t)) → Given q later (produce_within (suc m) now size q later)
+      go : (o : Option ℕ) → next_stream q ≡ o → ((r : Queue) (t : Emitted P) → SenderLeadsTo message lifecycle is_interleaved x emitted r s t → Given r t (produce_within m now size r t)) → Given q later (produce_within (suc m) now size q later)
       go None e ih = subst (λ (t : Turn P). Given q later t) (sym (idles m now size q later e)) a
       go (Some id) e ih = pick (turn now id size q later).made refl
         where
@@ -353,4 +353,4 @@ module _ {P : Type 0} (message : ℕ → Message) (lifecycle : ℕ → Option �
           pick None is =
               subst (λ (t : Turn P). Given q later t) (sym (turned m now size id q later e is))
               (ih (turn now id size q later).queue (turn now id size q later).emitted
-              (subst (λ made. LeadsTo message lifecycle is_interleaved x emitted (turn now id size q later).queue (with_made now made s) (turn now id size q later).emitted) (sym is) one))
+              (subst (λ made. SenderLeadsTo message lifecycle is_interleaved x emitted (turn now id size q later).queue (with_made now made s) (turn now id size q later).emitted) (sym is) one))

@@ -19,7 +19,7 @@ use Rattle.proof_protocol.proofs.ToolsLemmas.{not_both}
 use Rattle.sctp_tx.specs.RetransmissionQueue as tx
 use Rattle.sctp_tx.specs.Resent.{may_send_new, resent}
 use Rattle.sctp_tx.specs.Sending as packets
-use Rattle.sctp_tx.specs.Sending.{Filling, offered_payload, append, turned_if, fill, discard_all, without_discards, filled_with, send}
+use Rattle.sctp_tx.specs.Sending.{Filling, offered_payload, append, queue_step_if, fill, discard_all, without_discards, filled_with, send}
 use Rattle.proof_tx_refines.specs.Refinement.{find, messages_of, AreDiscards, QueueRefines}
 use Rattle.proof_tx_refines.specs.Pauses.{ArePausedAs}
 use Rattle.proof_tx_refines.specs.Line.{are_ascending, IsInLine}
@@ -197,7 +197,7 @@ module _ {P : Type 0} (x : Epochs) (now : ℕ) where
   appended_queue None f = refl
   appended_queue (Some p) f = refl
 
-  turned_stands : (b : Bool) (f : Filling P) → (may_send_new f.sender && nat_lt 0 (offered_payload f.left f.sender)) ≡ b → Stands x f.queue → StandsOn x f.queue (turned_if b now f).filling.queue
+  turned_stands : (b : Bool) (f : Filling P) → (may_send_new f.sender && nat_lt 0 (offered_payload f.left f.sender)) ≡ b → Stands x f.queue → StandsOn x f.queue (queue_step_if b now f).filling.queue
   turned_stands false f e h = stands_same x f.queue h
   turned_stands true f e h =
       let size = offered_payload f.left f.sender in

@@ -9,12 +9,12 @@ use Rattle.sctp_tx_outstanding.specs.Losses.{first_step, nack_all, expire_outsta
 use Rattle.sctp_tx_outstanding.specs.Sack.{is_valid, leaving}
 use Rattle.sctp_tx.specs.Windows.{is_open}
 use Rattle.sctp_tx.specs.RetransmissionQueue.{Sender, handle_sack, step_of, timed_out_sender}
-use Rattle.sctp_tx.specs.ForwardPoints.{expire}
+use Rattle.sctp_tx.specs.ForwardPoints.{abandon_expired}
 use Rattle.proof_protocol.specs.State as rules
 use Rattle.proof_protocol.specs.State.{Message, Transfer, IsAmong}
 use Rattle.proof_protocol.specs.Invariant.{Invariant}
 use Rattle.proof_tx_refines.specs.Refinement.{messages_of, AreDiscards, QueueRefines, ItemsRefine, SenderRefines}
-use Rattle.proof_tx_refines.specs.Led.{LeadsTo}
+use Rattle.proof_tx_refines.specs.Reachable.{SenderLeadsTo}
 use Rattle.proof_tx_refines.specs.Rows.{ReceivesSack}
 use Rattle.proof_tx_refines.proofs.LedLemmas.{led_none}
 use Rattle.proof_tx_refines.proofs.LossLemmas.{losses, lifetimes}
@@ -22,11 +22,11 @@ use Rattle.proof_tx_refines.proofs.SackLemmas.{sack_row}
 
 module _ {P : Type 0} (message : ℕ → Message) (lifecycle : ℕ → Option ℕ) (is_interleaved : Bool) (x : Transfer) (q : Queue) (s : Sender) (k : Invariant message is_interleaved x)
     (sh : SenderRefines message lifecycle is_interleaved x q s.outstanding.items) (emitted : Emitted P) where
-  pub timeout_row : (now : ℕ) → LeadsTo message lifecycle is_interleaved x emitted q (timed_out_sender now (nack_all s.outstanding.items emitted).items s).outstanding.items (nack_all s.outstanding.items emitted).emitted
+  pub timeout_row : (now : ℕ) → SenderLeadsTo message lifecycle is_interleaved x emitted q (timed_out_sender now (nack_all s.outstanding.items emitted).items s).outstanding.items (nack_all s.outstanding.items emitted).emitted
   timeout_row now =
       losses message lifecycle is_interleaved x emitted q true false (length s.outstanding.items.kept) (first_step s.outstanding.items emitted) (led_none message lifecycle is_interleaved x emitted q s.outstanding.items k sh)
 
-  pub expiry_row : (now : ℕ) → LeadsTo message lifecycle is_interleaved x emitted q (expire now s emitted).outstanding.items (expire_outstanding now s.outstanding.items emitted).emitted
+  pub expiry_row : (now : ℕ) → SenderLeadsTo message lifecycle is_interleaved x emitted q (abandon_expired now s emitted).outstanding.items (expire_outstanding now s.outstanding.items emitted).emitted
   expiry_row now =
       lifetimes message lifecycle is_interleaved x emitted q now (length s.outstanding.items.kept) (first_step s.outstanding.items emitted) (led_none message lifecycle is_interleaved x emitted q s.outstanding.items k sh)
 

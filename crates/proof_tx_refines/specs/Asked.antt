@@ -4,7 +4,7 @@ use Rattle.sctp_state.specs.Events.{Emitted}
 use Rattle.sctp_tx_queue.specs.declared.send_queue.stream.PauseState.TheVariants.{NotPaused, Paused, Resetting}
 use Rattle.sctp_tx_queue.specs.SendQueue.{Queued, Queue, stream, add}
 use Rattle.sctp_tx_queue.specs.Settings.{set_priority, set_low_threshold, set_mode}
-use Rattle.sctp_tx_queue.specs.Resets.{prepare_reset, requested_streams, request_resets, commit_resets}
+use Rattle.sctp_tx_queue.specs.Resets.{prepare_reset, streams_to_request, request_resets, commit_resets}
 use Rattle.sctp_tx_outstanding.specs.OutstandingData.{Items}
 use Rattle.sctp_tx.specs.RetransmissionQueue.{Sender}
 use Rattle.sctp_tx.specs.Sending.{send}
@@ -12,7 +12,7 @@ use Rattle.proof_protocol.specs.State.{Message, IsAmong, has, count}
 use Rattle.proof_protocol.specs.Resets.{Request, Epochs, send_request, commit, go_all}
 use Rattle.proof_tx_refines.specs.Line.{are_ascending}
 use Rattle.proof_tx_refines.specs.Records.{are_distinct}
-use Rattle.proof_tx_refines.specs.Rows.{restart}
+use Rattle.proof_tx_refines.specs.Rows.{restart_numbers}
 use Rattle.proof_tx_refines.specs.Pauses.{prepare_events, AreEach}
 use Rattle.proof_tx_refines.specs.Following.{FollowsEpochs, NoneIsReset}
 
@@ -39,7 +39,7 @@ pub record AreRequested (q r : Queue) (ids : List ℕ) : Type 0 where
   pub others : (k : ℕ) → (stream k r.streams).pause ≡ Resetting → (has k ids ≡ true) ⊎ ((stream k q.streams).pause ≡ Resetting)
 
 abbrev pub RequestedAreAsked : Type 0
-RequestedAreAsked = (q : Queue) (most : ℕ) → are_ascending 0 q.streams.entries ≡ true → AreRequested q (request_resets most q) (requested_streams most q)
+RequestedAreAsked = (q : Queue) (most : ℕ) → are_ascending 0 q.streams.entries ≡ true → AreRequested q (request_resets most q) (streams_to_request most q)
 
 -- none of those that have the answer waits any more
 abbrev pub AnsweredAreOpen : Type 0
@@ -66,19 +66,19 @@ abbrev pub PreparingRaises : Type 0
 PreparingRaises = (message : ℕ → Message) (is_interleaved : Bool) (x : Epochs) (q : Queue) (id : ℕ) → Raises x (go_all message is_interleaved x (prepare_events q id)) q id
 
 -- a request of streams is one of each
-pub record Requests (x y : Epochs) (ids : List ℕ) : Type 0 where
+pub record SenderRequests (x y : Epochs) (ids : List ℕ) : Type 0 where
   pub sent : (s : ℕ) → has s ids ≡ true → IsAmong (record { stream = s; upto = count x.transfer.sender; epoch = x.raised s }) y.requests
   pub stay : (r : Request) → IsAmong r x.requests → IsAmong r y.requests
   pub rest : y ≡ record x { requests = y.requests }
 
 abbrev pub RequestingSends : Type 0
-RequestingSends = (message : ℕ → Message) (is_interleaved : Bool) (x : Epochs) (ids : List ℕ) → Requests x (go_all message is_interleaved x (map send_request ids)) ids
+RequestingSends = (message : ℕ → Message) (is_interleaved : Bool) (x : Epochs) (ids : List ℕ) → SenderRequests x (go_all message is_interleaved x (map send_request ids)) ids
 
 -- streams that have the answer are open, and their numbers on the wire begin again
-pub record Opens (x y : Epochs) (ids : List ℕ) : Type 0 where
+pub record SenderOpens (x y : Epochs) (ids : List ℕ) : Type 0 where
   pub opened : (s : ℕ) → has s ids ≡ true → y.opened s ≡ x.raised s
   pub others : (s : ℕ) → has s ids ≡ false → y.opened s ≡ x.opened s
-  pub rest : y ≡ record x { transfer = restart ids x.transfer; opened = y.opened }
+  pub rest : y ≡ record x { transfer = restart_numbers ids x.transfer; opened = y.opened }
 
 abbrev pub AnsweringOpens : Type 0
-AnsweringOpens = (message : ℕ → Message) (is_interleaved : Bool) (x : Epochs) (ids : List ℕ) → Opens x (go_all message is_interleaved x (map commit ids)) ids
+AnsweringOpens = (message : ℕ → Message) (is_interleaved : Bool) (x : Epochs) (ids : List ℕ) → SenderOpens x (go_all message is_interleaved x (map commit ids)) ids

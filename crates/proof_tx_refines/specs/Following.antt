@@ -8,23 +8,23 @@ use Rattle.sctp_state.specs.Options.{Options}
 use Rattle.sctp_tx_queue.specs.declared.send_queue.stream.PauseState.TheVariants.{NotPaused, Paused, Resetting}
 use Rattle.sctp_tx_queue.specs.SendQueue.{Queued, Queue, queue, stream, add}
 use Rattle.sctp_tx_queue.specs.Settings.{set_priority, set_low_threshold, set_mode}
-use Rattle.sctp_tx_queue.specs.Resets.{prepare_reset, requested_streams, request_resets, commit_resets}
+use Rattle.sctp_tx_queue.specs.Resets.{prepare_reset, streams_to_request, request_resets, commit_resets}
 use Rattle.sctp_tx_queue.specs.Restarted.{reset}
 use Rattle.sctp_tx_outstanding.specs.OutstandingData.{Items, no_items, next_number, begin_reset}
 use Rattle.sctp_tx_outstanding.specs.Losses.{abandon_message, first_step, nack_below, nack_all, expire_below}
 use Rattle.sctp_tx_outstanding.specs.Sack.{is_valid, leaving}
 use Rattle.sctp_tx.specs.RetransmissionQueue.{Sender, handle_sack, step_of, timed_out_sender}
-use Rattle.sctp_tx.specs.ForwardPoints.{expire}
+use Rattle.sctp_tx.specs.ForwardPoints.{abandon_expired}
 use Rattle.sctp_tx.specs.Resent.{send_fast}
 use Rattle.sctp_tx.specs.Sending.{send}
 use Rattle.proof_protocol.specs.State.{Message, Transfer, IsAmong, count, stream_of}
-use Rattle.proof_protocol.specs.Rules.{Rule, accept, ack_point_advances, run}
+use Rattle.proof_protocol.specs.Rules.{TransferEvent, accept, acknowledge_next, run}
 use Rattle.proof_protocol.specs.Invariant.{Invariant}
 use Rattle.proof_protocol.specs.Resets.{Epochs, first_epoch, transfers, send_request, commit, goes, MayAll, go_all}
 use Rattle.proof_tx_refines.specs.Refinement.{find, messages_of, SenderRefines}
-use Rattle.proof_tx_refines.specs.Led.{LeadsTo}
-use Rattle.proof_tx_refines.specs.Rows.{offered_entry, restart, waiting, ReceivesSack, Sends, InEachState}
-use Rattle.proof_tx_refines.specs.Pauses.{unsent_of, give_ups, prepare_events, ArePausedAs, HasBreaks, AreEach}
+use Rattle.proof_tx_refines.specs.Reachable.{SenderLeadsTo}
+use Rattle.proof_tx_refines.specs.Rows.{offered_entry, restart_numbers, waiting, ReceivesSack, SenderSends, InEachState}
+use Rattle.proof_tx_refines.specs.Pauses.{unsent_of, give_up_rules, prepare_events, ArePausedAs, HasBreaks, AreEach}
 use Rattle.proof_tx_refines.specs.Line.{are_ascending, IsInLine}
 
 -- pauses agree with the epochs, no stream that is stopped is in line, each stream stands once, and each request has its breakpoint
@@ -40,7 +40,7 @@ InEachFollowed P = (message : ℕ → Message) (lifecycle : ℕ → Option ℕ) 
     → Invariant message is_interleaved x.transfer → SenderRefines message lifecycle is_interleaved x.transfer q s.outstanding.items → FollowsEpochs x q s.outstanding.items → P message lifecycle is_interleaved x q s
 
 -- these rules may happen by the rules with epochs too, they change the transfer alone, and the values keep the epochs then
-pub record LeadsInEpochs (message : ℕ → Message) (is_interleaved : Bool) (x : Epochs) (es : List Rule) (y : Transfer) (q : Queue) (s : Items) : Type 0 where
+pub record LeadsInEpochs (message : ℕ → Message) (is_interleaved : Bool) (x : Epochs) (es : List TransferEvent) (y : Transfer) (q : Queue) (s : Items) : Type 0 where
   pub may : MayAll message is_interleaved x (map transfers es)
   pub goes_to : go_all message is_interleaved x (map transfers es) ≡ record x { transfer = y }
   pub follows : FollowsEpochs (record x { transfer = y }) q s
@@ -55,7 +55,7 @@ pub record WaitsOn (q r : Queue) : Type 0 where
 abbrev pub LeadsBegin : Type 0
 LeadsBegin = (message : ℕ → Message) (lifecycle : ℕ → Option ℕ) (is_interleaved : Bool) (x : Epochs) (q r : Queue) (s t : Items) (emitted later : Emitted (List ℕ))
     → Invariant message is_interleaved x.transfer → SenderRefines message lifecycle is_interleaved x.transfer q s → ArePausedAs x q → WaitsOn q r
-    → (l : LeadsTo message lifecycle is_interleaved x.transfer emitted r t later)
+    → (l : SenderLeadsTo message lifecycle is_interleaved x.transfer emitted r t later)
     → MayAll message is_interleaved x (map transfers l.leads.events) × (go_all message is_interleaved x (map transfers l.leads.events) ≡ record x { transfer = l.after })
 
 -- ---- before anything is sent
@@ -91,9 +91,9 @@ SettingFollows = InEachFollowed (λ message lifecycle is_interleaved x q s.
 
 -- the messages that a reset drops are given up, each with its record
 pub record PreparesLead {P : Type 0} (message : ℕ → Message) (lifecycle : ℕ → Option ℕ) (is_interleaved : Bool) (x : Transfer) (q : Queue) (s : Items) (id : ℕ) (emitted : Emitted P) : Type 0 where
-  pub leads : LeadsTo message lifecycle is_interleaved x emitted (prepare_reset id q emitted).queue s (prepare_reset id q emitted).emitted
-  pub gives_up : leads.leads.events ≡ give_ups (unsent_of q id)
-  pub leads_to : leads.after ≡ run message is_interleaved x (give_ups (unsent_of q id))
+  pub leads : SenderLeadsTo message lifecycle is_interleaved x emitted (prepare_reset id q emitted).queue s (prepare_reset id q emitted).emitted
+  pub gives_up : leads.leads.events ≡ give_up_rules (unsent_of q id)
+  pub leads_to : leads.after ≡ run message is_interleaved x (give_up_rules (unsent_of q id))
   pub places_are : leads.places ≡ unsent_of q id
 
 abbrev pub PreparingLeads : Type 0
@@ -101,7 +101,7 @@ PreparingLeads = InEachState (λ message lifecycle is_interleaved x q s. (id : �
 
 pub record PreparesFollow {P : Type 0} (message : ℕ → Message) (is_interleaved : Bool) (x : Epochs) (q : Queue) (s : Items) (id : ℕ) (emitted : Emitted P) : Type 0 where
   pub may : MayAll message is_interleaved x (prepare_events q id)
-  pub transfer_is : (go_all message is_interleaved x (prepare_events q id)).transfer ≡ run message is_interleaved x.transfer (give_ups (unsent_of q id))
+  pub transfer_is : (go_all message is_interleaved x (prepare_events q id)).transfer ≡ run message is_interleaved x.transfer (give_up_rules (unsent_of q id))
   pub follows : FollowsEpochs (go_all message is_interleaved x (prepare_events q id)) (prepare_reset id q emitted).queue s
 
 abbrev pub PreparingFollows : Type 0
@@ -115,22 +115,22 @@ NextIsCounted = InEachState (λ message lifecycle is_interleaved x q s. next_num
 
 -- the streams that go into a request are ready, each of them once
 abbrev pub RequestedAreReady : Type 0
-RequestedAreReady = (q : Queue) (most : ℕ) → are_ascending 0 q.streams.entries ≡ true → AreEach Paused q (requested_streams most q)
+RequestedAreReady = (q : Queue) (most : ℕ) → are_ascending 0 q.streams.entries ≡ true → AreEach Paused q (streams_to_request most q)
 
 pub record RequestsFollow (message : ℕ → Message) (lifecycle : ℕ → Option ℕ) (is_interleaved : Bool) (x : Epochs) (q : Queue) (s : Items) (most : ℕ) : Type 0 where
-  pub may : MayAll message is_interleaved x (map send_request (requested_streams most q))
-  pub transfer_is : (go_all message is_interleaved x (map send_request (requested_streams most q))).transfer ≡ x.transfer
-  pub follows : FollowsEpochs (go_all message is_interleaved x (map send_request (requested_streams most q))) (request_resets most q) (begin_reset s)
+  pub may : MayAll message is_interleaved x (map send_request (streams_to_request most q))
+  pub transfer_is : (go_all message is_interleaved x (map send_request (streams_to_request most q))).transfer ≡ x.transfer
+  pub follows : FollowsEpochs (go_all message is_interleaved x (map send_request (streams_to_request most q))) (request_resets most q) (begin_reset s)
   pub refines : SenderRefines message lifecycle is_interleaved x.transfer (request_resets most q) (begin_reset s)
   -- they wait for its answer
-  pub asked : AreEach Resetting (request_resets most q) (requested_streams most q)
+  pub asked : AreEach Resetting (request_resets most q) (streams_to_request most q)
 
 abbrev pub RequestingFollows : Type 0
 RequestingFollows = InEachFollowed (λ message lifecycle is_interleaved x q s. (most : ℕ) → RequestsFollow message lifecycle is_interleaved x q s.outstanding.items most)
 
 pub record AnswerFollows (message : ℕ → Message) (is_interleaved : Bool) (x : Epochs) (q : Queue) (s : Items) (ids : List ℕ) : Type 0 where
   pub may : MayAll message is_interleaved x (map commit ids)
-  pub transfer_is : (go_all message is_interleaved x (map commit ids)).transfer ≡ restart ids x.transfer
+  pub transfer_is : (go_all message is_interleaved x (map commit ids)).transfer ≡ restart_numbers ids x.transfer
   pub follows : FollowsEpochs (go_all message is_interleaved x (map commit ids)) (commit_resets ids q) s
 
 -- of streams that wait for it, and that were reset by the receiver
@@ -142,25 +142,25 @@ AnsweringFollows = InEachFollowed (λ message lifecycle is_interleaved x q s.
 
 abbrev pub SendingFollows : Type 0
 SendingFollows = InEachFollowed (λ message lifecycle is_interleaved x q s.
-    (now most : ℕ) (emitted : Emitted (List ℕ)) (l : Sends message lifecycle is_interleaved x.transfer now most s q emitted)
+    (now most : ℕ) (emitted : Emitted (List ℕ)) (l : SenderSends message lifecycle is_interleaved x.transfer now most s q emitted)
     → LeadsInEpochs message is_interleaved x l.leads.leads.events l.leads.after (send now most s q emitted).queue (send now most s q emitted).sender.outstanding.items)
 
 abbrev pub FastFollows : Type 0
 FastFollows = InEachFollowed (λ message lifecycle is_interleaved x q s. (now most : ℕ) → FollowsEpochs x q (send_fast now most s).outstanding.items)
 
 -- a SACK: fragments leave, and then messages may be given up
-abbrev pub ReceivingFollows : Type 0
-ReceivingFollows = InEachFollowed (λ message lifecycle is_interleaved x q s.
+abbrev pub SackFollows : Type 0
+SackFollows = InEachFollowed (λ message lifecycle is_interleaved x q s.
     (now cumulative c a_rwnd : ℕ) (blocks : List GapAckBlock) (emitted : Emitted (List ℕ))
     → is_valid cumulative blocks s.outstanding.items ≡ true → cumulative + 1 ≡ origin + c → IsAmong c x.transfer.sacks
     → (h : ReceivesSack message lifecycle is_interleaved x.transfer q (leaving cumulative s.outstanding.items) c emitted (handle_sack now cumulative a_rwnd blocks s emitted).outstanding.items (step_of cumulative blocks s emitted).emitted)
-    → LeadsInEpochs message is_interleaved x (replicate (leaving cumulative s.outstanding.items) (ack_point_advances c) ++ h.losses.leads.events) h.losses.after q (handle_sack now cumulative a_rwnd blocks s emitted).outstanding.items)
+    → LeadsInEpochs message is_interleaved x (replicate (leaving cumulative s.outstanding.items) (acknowledge_next c) ++ h.losses.leads.events) h.losses.after q (handle_sack now cumulative a_rwnd blocks s emitted).outstanding.items)
 
 -- ---- what changes the items alone
 
 abbrev pub ItemsFollow : Type 0
 ItemsFollow = InEachFollowed (λ message lifecycle is_interleaved x q s.
-    (t : Items) (emitted later : Emitted (List ℕ)) → t.breaks ≡ s.outstanding.items.breaks → (l : LeadsTo message lifecycle is_interleaved x.transfer emitted q t later)
+    (t : Items) (emitted later : Emitted (List ℕ)) → t.breaks ≡ s.outstanding.items.breaks → (l : SenderLeadsTo message lifecycle is_interleaved x.transfer emitted q t later)
     → LeadsInEpochs message is_interleaved x l.leads.events l.after q t)
 
 pub record BreaksAreKept : Type 0 where
@@ -169,7 +169,7 @@ pub record BreaksAreKept : Type 0 where
   pub timeout : (now : ℕ) (s : Sender) (emitted : Emitted (List ℕ))
       → (timed_out_sender now (nack_all s.outstanding.items emitted).items s).outstanding.items.breaks ≡ s.outstanding.items.breaks
   pub lifetimes : (now n : ℕ) (s : Items) (emitted : Emitted (List ℕ)) → (expire_below now n (first_step s emitted)).items.breaks ≡ s.breaks
-  pub expiry : (now : ℕ) (s : Sender) (emitted : Emitted (List ℕ)) → (expire now s emitted).outstanding.items.breaks ≡ s.outstanding.items.breaks
+  pub expiry : (now : ℕ) (s : Sender) (emitted : Emitted (List ℕ)) → (abandon_expired now s emitted).outstanding.items.breaks ≡ s.outstanding.items.breaks
 
 -- ---- what the receiver does
 

@@ -1,4 +1,4 @@
-pub mod Led
+pub mod Reachable
 pub mod Points
 pub mod Records
 pub mod Rows

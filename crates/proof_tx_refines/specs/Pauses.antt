@@ -10,17 +10,17 @@ use Rattle.sctp_tx_queue.specs.SendQueue.{Queued, Stream, Queue, stream, add, is
 use Rattle.sctp_tx_queue.specs.Produced.{turn}
 use Rattle.sctp_tx_queue.specs.Settings.{set_priority, set_low_threshold}
 use Rattle.sctp_tx_queue.specs.InOrder.{is_first_begun}
-use Rattle.sctp_tx_queue.specs.Resets.{is_partly, prepare_reset, step_stream, each_stepped, commit_resets}
+use Rattle.sctp_tx_queue.specs.Resets.{is_partly, prepare_reset, apply_reset_step, each_stepped, commit_resets}
 use Rattle.sctp_tx_outstanding.specs.OutstandingData.{Items, begin_reset}
 use Rattle.sctp_tx_outstanding.specs.Sack.{staying}
 use Rattle.sctp_tx.specs.RetransmissionQueue.{Sender}
 use Rattle.sctp_tx.specs.Sending.{discard_all}
 use Rattle.proof_protocol.specs.State.{Message, Transfer, IsAmong, stream_of}
-use Rattle.proof_protocol.specs.Rules.{Rule, accept, give_up, send_forward, Happens, run}
+use Rattle.proof_protocol.specs.Rules.{TransferEvent, accept, give_up, send_forward, Happens, run}
 use Rattle.proof_protocol.specs.Invariant.{Invariant}
 use Rattle.proof_protocol.specs.Resets.{Request, Epochs, ResetEvent, transfers, reset_stream, send_request, commit, InEpoch, MayReset, goes, MayAll, go_all}
 use Rattle.proof_tx_refines.specs.Refinement.{find, messages_of, SenderRefines}
-use Rattle.proof_tx_refines.specs.Led.{is_sending}
+use Rattle.proof_tx_refines.specs.Reachable.{is_sending}
 use Rattle.proof_tx_refines.specs.Points.{IsSendable}
 use Rattle.proof_tx_refines.specs.Rows.{offered_entry, InEachState}
 
@@ -30,17 +30,17 @@ use Rattle.proof_tx_refines.specs.Rows.{offered_entry, InEachState}
 abbrev pub unsent_of : Queue → ℕ → List ℕ
 unsent_of q id = map (λ (m : Queued). m.number) (filter (λ m. not (is_partly m)) (messages_of q id))
 
-abbrev pub give_ups : List ℕ → List Rule
-give_ups ps = map give_up ps
+abbrev pub give_up_rules : List ℕ → List TransferEvent
+give_up_rules ps = map give_up ps
 
 -- each of these is given up, and nothing else
 pub record Prepares {P : Type 0} (message : ℕ → Message) (lifecycle : ℕ → Option ℕ) (is_interleaved : Bool) (x : Transfer) (q : Queue) (s : Items) (id : ℕ) (emitted : Emitted P) : Type 0 where
-  pub may : Happens message is_interleaved x (give_ups (unsent_of q id))
-  pub kept : Invariant message is_interleaved (run message is_interleaved x (give_ups (unsent_of q id)))
-  pub refines : SenderRefines message lifecycle is_interleaved (run message is_interleaved x (give_ups (unsent_of q id))) (prepare_reset id q emitted).queue s
+  pub may : Happens message is_interleaved x (give_up_rules (unsent_of q id))
+  pub kept : Invariant message is_interleaved (run message is_interleaved x (give_up_rules (unsent_of q id)))
+  pub refines : SenderRefines message lifecycle is_interleaved (run message is_interleaved x (give_up_rules (unsent_of q id))) (prepare_reset id q emitted).queue s
 
-abbrev pub PreparesShow : Type 0
-PreparesShow = InEachState (λ message lifecycle is_interleaved x q s. (id : ℕ) (emitted : Emitted (List ℕ)) → Prepares message lifecycle is_interleaved x q s.outstanding.items id emitted)
+abbrev pub PreparesRefine : Type 0
+PreparesRefine = InEachState (λ message lifecycle is_interleaved x q s. (id : ℕ) (emitted : Emitted (List ℕ)) → Prepares message lifecycle is_interleaved x q s.outstanding.items id emitted)
 
 -- ---- a stream's pause
 
@@ -87,7 +87,7 @@ opens_next Paused id = []
 opens_next Resetting id = []
 
 abbrev pub prepare_events : Queue → ℕ → List ResetEvent
-prepare_events q id = map transfers (give_ups (unsent_of q id)) ++ opens_next (stream id q.streams).pause id
+prepare_events q id = map transfers (give_up_rules (unsent_of q id)) ++ opens_next (stream id q.streams).pause id
 
 pub record PreparesPause {P : Type 0} (message : ℕ → Message) (is_interleaved : Bool) (x : Epochs) (q : Queue) (id : ℕ) (emitted : Emitted P) : Type 0 where
   pub may : MayAll message is_interleaved x (prepare_events q id)
@@ -112,13 +112,13 @@ PreparingPauses = InEachEpochs (λ message lifecycle is_interleaved x q. (id : �
 abbrev pub RequestingPauses : Type 0
 RequestingPauses = InEachEpochs (λ message lifecycle is_interleaved x q.
     (id : ℕ) → (stream id q.streams).pause ≡ Paused
-    → MayReset message is_interleaved x (send_request id) × ArePausedAs (goes message is_interleaved x (send_request id)) (step_stream Requested id q))
+    → MayReset message is_interleaved x (send_request id) × ArePausedAs (goes message is_interleaved x (send_request id)) (apply_reset_step Requested id q))
 
 -- the answer to a reset that was performed
 abbrev pub CommittingPauses : Type 0
 CommittingPauses = InEachEpochs (λ message lifecycle is_interleaved x q.
     (id : ℕ) → (stream id q.streams).pause ≡ Resetting → x.raised id ≤ x.performed id
-    → MayReset message is_interleaved x (commit id) × ArePausedAs (goes message is_interleaved x (commit id)) (step_stream Performed id q))
+    → MayReset message is_interleaved x (commit id) × ArePausedAs (goes message is_interleaved x (commit id)) (apply_reset_step Performed id q))
 
 -- so many streams, each of them once, have this pause
 abbrev pub AreEach : PauseState → Queue → List ℕ → Type 0
@@ -154,13 +154,13 @@ TurningPauses = InEachEpochs (λ message lifecycle is_interleaved x q.
 
 -- the rules of a sender, but for acceptance, leave the epochs
 abbrev pub SendingPauses : Type 0
-SendingPauses = (message : ℕ → Message) (is_interleaved : Bool) (x : Epochs) (q : Queue) (es : List Rule)
+SendingPauses = (message : ℕ → Message) (is_interleaved : Bool) (x : Epochs) (q : Queue) (es : List TransferEvent)
     → list_all is_sending es ≡ true → ArePausedAs x q → ArePausedAs (go_all message is_interleaved x (map transfers es)) q
 
 -- what leads to it may happen by the rules with epochs: what it begins is of the epoch in which its stream is open
 abbrev pub TurnsBegin : Type 0
 TurnsBegin = InEachEpochs (λ message lifecycle is_interleaved x q.
-    (now id size : ℕ) (emitted : Emitted (List ℕ)) (es : List Rule) (t : Items) → is_stopped (stream id q.streams).pause ≡ false
+    (now id size : ℕ) (emitted : Emitted (List ℕ)) (es : List TransferEvent) (t : Items) → is_stopped (stream id q.streams).pause ≡ false
     → Happens message is_interleaved x.transfer es → list_all is_sending es ≡ true → (run message is_interleaved x.transfer es).forward_points ≡ x.transfer.forward_points
     → SenderRefines message lifecycle is_interleaved (run message is_interleaved x.transfer es) (turn now id size q emitted).queue t
     → MayAll message is_interleaved x (map transfers es))

@@ -10,17 +10,17 @@ abbrev pub is_due : (fast : Bool) → Item → Bool
 is_due fast i = if fast then is_fast i else should_be_retransmitted i
 
 -- the bytes that may still be sent. While something is in flight the peer's window counts, but not for the fast packet
-abbrev pub payload_left : (fast is_quiet : Bool) → (room window : ℕ) → ℕ
-payload_left fast is_quiet room window = if fast then room else (if is_quiet then room else min room window)
+abbrev pub bytes_allowed : (fast is_quiet : Bool) → (room window : ℕ) → ℕ
+bytes_allowed fast is_quiet room window = if fast then room else (if is_quiet then room else min room window)
 
 module _ (fast is_interleaved : Bool) (tsn : ℕ → ℕ) where
   -- The items from a place on, in ascending order of their TSNs, and the chunks that the packet takes: an item that is due goes where
   -- it fits, and is passed over only where it doesn't.
   pub data Picks : (is_quiet : Bool) → (room window place : ℕ) → List Item → List (ℕ × FragmentTree) → Type 0 where
     no_more : {q : Bool} {room window k : ℕ} → Picks q room window k [] []
-    goes : {q : Bool} {room window k : ℕ} {is : List Item} {cs : List (ℕ × FragmentTree)} (i : Item) → is_due fast i ≡ true → chunk_size is_interleaved i ≤ payload_left fast q room window
+    goes : {q : Bool} {room window k : ℕ} {is : List Item} {cs : List (ℕ × FragmentTree)} (i : Item) → is_due fast i ≡ true → chunk_size is_interleaved i ≤ bytes_allowed fast q room window
         → Picks false (room - chunk_size is_interleaved i) (window - chunk_size is_interleaved i) (suc k) is cs → Picks q room window k (i ∷ is) ((tsn k, i.fragment) ∷ cs)
-    has_no_room : {q : Bool} {room window k : ℕ} {is : List Item} {cs : List (ℕ × FragmentTree)} (i : Item) → is_due fast i ≡ true → payload_left fast q room window < chunk_size is_interleaved i
+    has_no_room : {q : Bool} {room window k : ℕ} {is : List Item} {cs : List (ℕ × FragmentTree)} (i : Item) → is_due fast i ≡ true → bytes_allowed fast q room window < chunk_size is_interleaved i
         → Picks q room window (suc k) is cs → Picks q room window k (i ∷ is) cs
     is_not_due : {q : Bool} {room window k : ℕ} {is : List Item} {cs : List (ℕ × FragmentTree)} (i : Item) → is_due fast i ≡ false → Picks q room window (suc k) is cs
         → Picks q room window k (i ∷ is) cs

@@ -8,9 +8,9 @@ use Rattle.sctp_tx_outstanding.specs.OutstandingData.{Items}
 use Rattle.proof_protocol.specs.State as rules
 use Rattle.proof_protocol.specs.State.{Message, Transfer, IsAmong, start, has}
 use Rattle.proof_protocol.specs.Rules.{accept, after}
-use Rattle.proof_tx_refines.specs.Led.{recorded_places, LeadsTo}
+use Rattle.proof_tx_refines.specs.Reachable.{recorded_places, SenderLeadsTo}
 use Rattle.proof_tx_refines.specs.Refinement.{SenderRefines, find, messages_of}
-use Rattle.proof_tx_refines.specs.Rows.{leave_places}
+use Rattle.proof_tx_refines.specs.Rows.{leave_fragments}
 
 abbrev pub are_distinct : List ℕ → Bool
 are_distinct [] = true
@@ -36,11 +36,11 @@ AcceptingKeepsOne = (message : ℕ → Message) (is_interleaved : Bool) (x : Tra
 -- fragments are numbered, messages are given up, packets are filled
 abbrev pub SendingKeepsOne : Type 0
 SendingKeepsOne = (message : ℕ → Message) (lifecycle : ℕ → Option ℕ) (is_interleaved : Bool) (x : Transfer) (q : Queue) (s : Items) (emitted later : Emitted (List ℕ)) (taken : List ℕ)
-    → (l : LeadsTo message lifecycle is_interleaved x emitted q s later) → OneRecord taken x.sender emitted → OneRecord taken l.after.sender later
+    → (l : SenderLeadsTo message lifecycle is_interleaved x emitted q s later) → OneRecord taken x.sender emitted → OneRecord taken l.after.sender later
 
 -- n fragments leave
 abbrev pub LeavingKeepsOne : Type 0
-LeavingKeepsOne = (n : ℕ) (x : Transfer) (taken : List ℕ) (emitted : Emitted (List ℕ)) → OneRecord taken x.sender emitted → OneRecord taken (leave_places n x).sender emitted
+LeavingKeepsOne = (n : ℕ) (x : Transfer) (taken : List ℕ) (emitted : Emitted (List ℕ)) → OneRecord taken x.sender emitted → OneRecord taken (leave_fragments n x).sender emitted
 
 -- the user takes the first record
 abbrev pub TakingKeepsOne : Type 0

@@ -2,7 +2,7 @@
 -- items as the fragments from the acknowledged ones on. Two functions say what was accepted at each place: the message and
 -- its lifecycle id. Numbers of the rules begin at 0, those of the values at `origin`.
 use Rattle.std.specs.Prelude.{◌≡◌, ℕ, suc, ◌+◌, ◌%◌, ◌^◌, ◌<◌, ◌==◌, ◌&&◌, not, Bool, true, false, if◌then◌else◌, Option, Some, None, is_some, option_map, List, [], ◌∷◌, drop}
-use Rattle.sctp_serial.specs.Unwrapped.{origin, words, halves, wire}
+use Rattle.sctp_serial.specs.Unwrapped.{origin, u32_space, halves, wire}
 use Rattle.sctp_packet.specs.Chunk.{FragmentTree}
 use Rattle.sctp_tx_queue.specs.declared.send_queue.message.MessageNumbers.{MessageNumbers}
 use Rattle.sctp_tx_queue.specs.SendQueue.{Queued, Stream, Queue, stream}
@@ -52,7 +52,7 @@ module _ (message : ℕ → Message) where
     stream_id = stream_of message f.place;
     is_unordered = not (ordered_of message f.place);
     ssn = wire halves 0 (numbers_at o f.place).ssn;
-    mid = wire words 0 (numbers_at o f.place).mid;
+    mid = wire u32_space 0 (numbers_at o f.place).mid;
     fsn = f.index % 2 ^ 32;
     ppid = (message f.place).protocol_id;
     payload = f.payload;

@@ -5,10 +5,10 @@
 
 ghost use Rattle.proof_tx_refines.specs.Records.{AcceptingKeepsOne, LeavingKeepsOne, NewHaveNone, SendingKeepsOne, TakingKeepsOne, ValuesHaveOneRecord};
 ghost use Rattle.proof_tx_refines.specs.Asked.{AnsweredAreOpen, AnsweringOpens, CallsKeepAsked, EachIsAsked, NoneIsAsked, PreparingRaises, RequestedAreAsked, RequestingSends};
-ghost use Rattle.proof_tx_refines.specs.Following.{AcceptingFollows, AnsweringFollows, BeginningFollows, BreaksAreKept, FastFollows, ReceivingFollows, ItemsFollow, LeadsBegin, NextIsCounted, OthersFollow, PreparingFollows, PreparingLeads, RequestedAreReady, RequestingFollows, SendingFollows, SettingFollows};
+ghost use Rattle.proof_tx_refines.specs.Following.{AcceptingFollows, AnsweringFollows, BeginningFollows, BreaksAreKept, FastFollows, SackFollows, ItemsFollow, LeadsBegin, NextIsCounted, OthersFollow, PreparingFollows, PreparingLeads, RequestedAreReady, RequestingFollows, SendingFollows, SettingFollows};
 ghost use Rattle.proof_tx_refines.specs.Line.{CallsKeepLine, NextFlows, ProducingPauses};
-ghost use Rattle.proof_tx_refines.specs.Pauses.{AcceptingPauses, AnswerPauses, CommittingPauses, DiscardingPauses, PointsEndAtBreaks, PreparesShow, PreparingPauses, RequestPauses, RequestingPauses, RequestsBreak, SacksPassBreaks, SendingPauses, SettingPauses, TurningPauses, TurnsBegin};
-ghost use Rattle.proof_tx_refines.specs.Rows.{Accepts, BeginningsShow, CarryingStays, CommitsShow, DiscardsShow, Expires, FastPacketsAreSent, GivesUp, LifetimesEnd, Loses, NewShow, OffersAreQueued, OthersAreNotShown, PacketsAreSent, PointsAreDue, Produces, RecordsAreExact, RequestsShow, ResetsShow, RestIsRest, SacksAreReceived, SettingsShow, TimesOut};
+ghost use Rattle.proof_tx_refines.specs.Pauses.{AcceptingPauses, AnswerPauses, CommittingPauses, DiscardingPauses, PointsEndAtBreaks, PreparesRefine, PreparingPauses, RequestPauses, RequestingPauses, RequestsBreak, SacksPassBreaks, SendingPauses, SettingPauses, TurningPauses, TurnsBegin};
+ghost use Rattle.proof_tx_refines.specs.Rows.{Accepts, BeginningsRefine, CarryingStays, CommitsRefine, DiscardsRefine, Expires, FastPacketsAreSent, GivesUp, LifetimesEnd, Loses, NewRefine, OffersAreQueued, RefinementReadsTheSender, PacketsAreSent, PointsAreDue, Produces, RecordsAreExact, RequestsRefine, ResetsRefine, RestIsRest, SacksAreReceived, SettingsRefine, TimesOut};
 ghost use Rattle.proof_tx_refines.specs.Filled.{PacketsTakeWhatIsDue};
 ghost use Rattle.proof_tx_refines.specs.Picked.{ResendingPassesNothingOver};
 ghost use Rattle.proof_tx_refines.specs.Scheduled.{ProducesByTheScheduler, ProducesWhatWaits};
@@ -16,31 +16,31 @@ ghost use Rattle.proof_tx_refines.specs.Scheduled.{ProducesByTheScheduler, Produ
 /// A new queue, and no item, show the start. Where messages were accepted and nothing was sent, an association may begin, in
 /// either mode, and the queue may begin anew: all that was accepted waits.
 pub fn new_values_show_the_start()
-    ensures new { NewShow }
-    ensures beginning { BeginningsShow }
-    ensures reset { ResetsShow }
+    ensures new { NewRefine }
+    ensures beginning { BeginningsRefine }
+    ensures reset { ResetsRefine }
 {}
 
 /// The values show the rules' sender, and how many fragments have left it. What the receiver does, and what is under way,
 /// changes nothing.
 pub fn the_receiver_is_not_shown()
-    ensures { OthersAreNotShown }
+    ensures { RefinementReadsTheSender }
 {}
 
 /// A message that is queued is accepted, as long as there are fewer than 2^32. Settings of streams change nothing.
 pub fn messages_are_accepted()
     ensures offered { OffersAreQueued }
     ensures accepted { Accepts }
-    ensures settings { SettingsShow }
+    ensures settings { SettingsRefine }
 {}
 
 /// Where a stream is to be reset, its messages of which nothing was sent are given up, each with its record. Streams that go into a request change nothing of
 /// what the values show. Once its answer has come, their numbers on the wire begin again, and nothing else changes.
 pub fn streams_are_reset()
-    ensures prepared { PreparesShow }
+    ensures prepared { PreparesRefine }
     ensures recorded { PreparingLeads }
-    ensures requested { RequestsShow }
-    ensures committed { CommitsShow }
+    ensures requested { RequestsRefine }
+    ensures committed { CommitsRefine }
 {}
 
 /// By the rules with epochs, a stream's pause says whether it is open: so it is still when a message is accepted, when a stream is
@@ -97,7 +97,7 @@ pub fn epochs_are_followed()
     ensures answering { AnsweringFollows }
     ensures sending { SendingFollows }
     ensures fast { FastFollows }
-    ensures hearing { ReceivingFollows }
+    ensures hearing { SackFollows }
     ensures items { ItemsFollow }
     ensures breaks { BreaksAreKept }
     ensures others { OthersFollow }
@@ -130,7 +130,7 @@ pub fn sacks_are_received()
 /// and lifetimes nothing else is seen.
 pub fn messages_are_given_up()
     ensures message { GivesUp }
-    ensures discards { DiscardsShow }
+    ensures discards { DiscardsRefine }
     ensures losses { Loses }
     ensures timeout { TimesOut }
     ensures lifetimes { Expires }

@@ -13,15 +13,15 @@ use Rattle.sctp_packet.proofs.PacketLemmas.{field_at}
 use Rattle.sctp_packet.specs.Written.{chunks_bytes}
 use Rattle.sctp_packet.proofs.LawLemmas.{one_packet_lem, never_both_lem}
 use Rattle.sctp_state.specs.Options.{Options}
-use Rattle.sctp_state.specs.Events.{Event, GivenUp, Emitted, silent}
+use Rattle.sctp_state.specs.Events.{Event, GivenUp, Emitted, nothing_emitted}
 use Rattle.spec_endpoint.specs.Association.{Context, Endpoint}
-use Rattle.spec_endpoint.specs.Input.{refusal}
-use Rattle.spec_endpoint.specs.Laws.{Call, Packet, NoPacket, called}
-use Rattle.spec_endpoint.specs.Receiving.{Receives, received, not_read, Judges, taken, refused, unread, policy_of}
+use Rattle.spec_endpoint.specs.Input.{packet_refusal}
+use Rattle.spec_endpoint.specs.Laws.{Call, ReceivePacket, ReceiveNoPacket, called}
+use Rattle.spec_endpoint.specs.Receiving.{Receives, read, not_read, Judges, taken, refused, unread, policy_of}
 use Rattle.spec_endpoint.specs.Wire.{field_of, word_at}
 use Rattle.proof_endpoint.proofs.LawsLemmas.{stays_within}
 use Rattle.proof_endpoint.specs.Mapped.{Mapping, Carried, map_end, as_written, as_bytes}
-use Rattle.proof_endpoint.specs.ReceivedBack.{IsHearable}
+use Rattle.proof_endpoint.specs.ReceivedBack.{IsReceivable}
 use Rattle.proof_endpoint.specs.Sound.{IsSound, ArgumentFits}
 use Rattle.proof_endpoint.specs.ReadBack.{EmitsWhatCanBeRead, as_carried, AreBytes}
 use Rattle.proof_endpoint.proofs.MappedLemmas.{maps_called}
@@ -29,11 +29,11 @@ use Rattle.proof_endpoint.proofs.ReceivedBackLemmas.{is_accepted}
 use Rattle.proof_endpoint.proofs.SoundLawsLemmas.{stays_sound, can_be_read, stays_sound_refused, can_be_read_refused}
 use Rattle.proof_endpoint.proofs.SoundReceivedLemmas.{emitted_fit}
 use Rattle.proof_pair.specs.Trace as traces
-use Rattle.proof_pair.specs.Trace.{EndAction, Calls, Refuses, drain, emitted_packets, give, foreign_if, act, as_received}
+use Rattle.proof_pair.specs.Trace.{EndAction, Calls, Refuses, drain, emitted_packets, give_carried, foreign_if, act, as_received}
 use Rattle.proof_delivery.specs.GivenUp as giving
 use Rattle.spec_world.specs.Observations.{End, A, B, same_end, Entry, Given, given_up}
 use Rattle.spec_world.specs.World.{Side, association, ready_at, news_of, take_emitted}
-use Rattle.proof_world.specs.Traces.{is_let_through, receiving, IsReceiving, IsForeign}
+use Rattle.proof_world.specs.Traces.{is_let_through, give_action, IsGiveAction, IsForeign}
 use Rattle.proof_world.specs.Consistent.{gets_init, is_init, is_some_init}
 use Rattle.proof_world.proofs.EventLemmas.{Readable, all_readable, same_itself}
 use Rattle.proof_world.proofs.LoggedLemmas.{given_up_news}
@@ -53,7 +53,7 @@ pub record Goes (word_of : List ℕ → ℕ) (x : End) (log : List Entry) (other
 
 -- ---- what is emitted can be read back
 
-readable_after : (c d : Context Carried) → c.emitted ≡ silent → c.options.mtu ≤ 65535 → c.pack ≡ as_carried → EmitsWhatCanBeRead c d → All Readable (traces.packets_in d.emitted.events)
+readable_after : (c d : Context Carried) → c.emitted ≡ nothing_emitted → c.options.mtu ≤ 65535 → c.pack ≡ as_carried → EmitsWhatCanBeRead c d → All Readable (traces.packets_in d.emitted.events)
 readable_after c d quiet small is t =
     subst (λ (es : List (Event Carried)). All Readable (traces.packets_in es)) (sym (t.behind ∙ ap (λ (z : Emitted Carried). z.events ++ t.events) quiet))
     (all_readable c.options.mtu c.pack small is t.events t.can_be_read)
@@ -88,8 +88,8 @@ module _ (word_of : List ℕ → ℕ) (x : End) (log : List Entry) (first : Entr
   abbrev written_of : Mapping Carried (List ℕ)
   written_of = as_bytes word_of
 
-  abbrev own : Endpoint Carried
-  own = end.end
+  abbrev own_endpoint : Endpoint Carried
+  own_endpoint = end.end
 
   -- such an end as this went on to
   goes_by : (action : EndAction) (s : Endpoint Carried) (asked : Bool) → act action end beside ≡ record (drain s end) { got_init = asked }
@@ -120,11 +120,11 @@ module _ (word_of : List ℕ → ℕ) (x : End) (log : List Entry) (first : Entr
             ∙ (given_up_news x (same_itself x) (length side.packets) (length (ready_at side.socket)) (association side.socket) there ∙ gave_up);
       }
 
-  packing_after : (call : Call) → (called call own).endpoint_state.context.pack ≡ as_carried
-  packing_after call = (stays_within call own g.sound.options.mtu_least).pack ∙ g.packing
+  packing_after : (call : Call) → (called call own_endpoint).endpoint_state.context.pack ≡ as_carried
+  packing_after call = (stays_within call own_endpoint g.sound.options.mtu_least).pack ∙ g.packing
 
-  mapped_after : (call : Call) → called call side.socket ≡ map_end written_of (called call own)
-  mapped_after call = ap (called call) g.image.socket ∙ maps_called written_of call own
+  mapped_after : (call : Call) → called call side.socket ≡ map_end written_of (called call own_endpoint)
+  mapped_after call = ap (called call) g.image.socket ∙ maps_called written_of call own_endpoint
 
   was_before : (more : List Entry) → end.got_init ≡ true → list_any (gets_init x others) (log ++ more) ≡ true
   was_before more e = any_longer x others log more (g.asked e)
@@ -132,9 +132,9 @@ module _ (word_of : List ℕ → ℕ) (x : End) (log : List Entry) (first : Entr
   pub call_goes : (call : Call) → ArgumentFits call → (after : Endpoint (List ℕ)) → after ≡ called call side.socket → new ≡ take_emitted side after
       → longer ≡ log ++ first ∷ news_of x side after → Goes word_of x log others side end beside (Calls call) new longer
   call_goes call fits after is news logged =
-      goes_by (Calls call) (called call own) end.got_init refl refl (stays_sound call own g.sound fits) (packing_after call)
-      (readable_after own.endpoint_state.context (called call own).endpoint_state.context g.image.quiet g.sound.options.mtu_most g.packing (can_be_read call own g.sound fits))
-      (was_before (first ∷ news_of x side (map_end written_of (called call own))))
+      goes_by (Calls call) (called call own_endpoint) end.got_init refl refl (stays_sound call own_endpoint g.sound fits) (packing_after call)
+      (readable_after own_endpoint.endpoint_state.context (called call own_endpoint).endpoint_state.context g.image.quiet g.sound.options.mtu_most g.packing (can_be_read call own_endpoint g.sound fits))
+      (was_before (first ∷ news_of x side (map_end written_of (called call own_endpoint))))
       after (is ∙ mapped_after call) news logged
 
   -- ---- a packet of the other end
@@ -148,9 +148,9 @@ module _ (word_of : List ℕ → ℕ) (x : End) (log : List Entry) (first : Entr
     sum = field_of word_beside p.header p.is_summed p.chunks
 
     abbrev lenient : Options
-    lenient = record own.endpoint_state.context.options { disable_checksum_verification = true }
+    lenient = record own_endpoint.endpoint_state.context.options { disable_checksum_verification = true }
 
-    hearable : IsHearable lenient p
+    hearable : IsReceivable lenient p
     hearable = record { header = reads.header; chunks = reads.chunks; short = reads.short; sum = refl }
 
     received_as : (q : PacketTree) → IsPacket packet q → q ≡ as_received p sum
@@ -173,46 +173,46 @@ module _ (word_of : List ℕ → ℕ) (x : End) (log : List Entry) (first : Entr
         e
 
     abbrev call : Call
-    call = Packet (as_received p sum)
+    call = ReceivePacket (as_received p sum)
 
-    given_as : (q : PacketTree) → q ≡ as_received p sum → ArgumentFits (Packet q) → (after : Endpoint (List ℕ)) → after ≡ called (Packet q) side.socket
+    given_as : (q : PacketTree) → q ≡ as_received p sum → ArgumentFits (ReceivePacket q) → (after : Endpoint (List ℕ)) → after ≡ called (ReceivePacket q) side.socket
         → new ≡ take_emitted side after → longer ≡ log ++ first ∷ news_of x side after → Goes word_of x log others side end beside (traces.Gives n sum) new longer
     given_as q same q_fits after is news logged =
-        let fits : ArgumentFits call = subst (λ (z : PacketTree). ArgumentFits (Packet z)) same q_fits in
-        goes_by (traces.Gives n sum) (called call own) (end.got_init || (p.header.verification_tag == 0)) (ap (λ (o : Option Carried). give o sum end) there)
+        let fits : ArgumentFits call = subst (λ (z : PacketTree). ArgumentFits (ReceivePacket z)) same q_fits in
+        goes_by (traces.Gives n sum) (called call own_endpoint) (end.got_init || (p.header.verification_tag == 0)) (ap (λ (o : Option Carried). give_carried o sum end) there)
         (sym (ap (λ (o : Option Carried). (giving.emitted_given o sum end).given_up) there))
-        (stays_sound call own g.sound fits) (packing_after call)
-        (readable_after own.endpoint_state.context (called call own).endpoint_state.context g.image.quiet g.sound.options.mtu_most g.packing (can_be_read call own g.sound fits))
-        (was_now (news_of x side (map_end written_of (called call own))))
-        after (is ∙ (ap (λ (z : PacketTree). called (Packet z) side.socket) same ∙ mapped_after call)) news logged
+        (stays_sound call own_endpoint g.sound fits) (packing_after call)
+        (readable_after own_endpoint.endpoint_state.context (called call own_endpoint).endpoint_state.context g.image.quiet g.sound.options.mtu_most g.packing (can_be_read call own_endpoint g.sound fits))
+        (was_now (news_of x side (map_end written_of (called call own_endpoint))))
+        after (is ∙ (ap (λ (z : PacketTree). called (ReceivePacket z) side.socket) same ∙ mapped_after call)) news logged
 
     module _ (by : List ℕ → ℕ) (is_own : by ≡ word_of) where
-      same_options : side.socket.endpoint_state.context.options ≡ own.endpoint_state.context.options
+      same_options : side.socket.endpoint_state.context.options ≡ own_endpoint.endpoint_state.context.options
       same_options = ap (λ (z : Endpoint (List ℕ)). z.endpoint_state.context.options) g.image.socket
 
       same_word : word_at by packet ≡ word_at word_of packet
       same_word = ap (λ (f : List ℕ → ℕ). word_at f packet) is_own
 
       abbrev passes : Bool
-      passes = is_let_through word_of word_beside own.endpoint_state.context.options p
+      passes = is_let_through word_of word_beside own_endpoint.endpoint_state.context.options p
 
       passes_as : lets_through (policy_of side.socket.endpoint_state.context.options) (word_at by packet) sum ≡ passes
       passes_as =
           ap (λ (o : Options). lets_through (policy_of o) (word_at by packet) sum) same_options
-          ∙ ap (λ (k : ℕ). lets_through (policy_of own.endpoint_state.context.options) k sum) same_word
+          ∙ ap (λ (k : ℕ). lets_through (policy_of own_endpoint.endpoint_state.context.options) k sum) same_word
 
       accepts_it : passes ≡ true → Accepts (policy_of side.socket.endpoint_state.context.options) (word_at by packet) packet (as_received p sum)
       accepts_it e =
           let lenient_too : Accepts (policy_of lenient) (word_at word_beside packet) packet (as_received p sum) = is_accepted word_beside p lenient hearable in
           record { packet = lenient_too.packet; short_enough = lenient_too.short_enough; sum = passes_as ∙ e }
 
-      received_action : (action : EndAction) (b : Bool) → passes ≡ b → action ≡ receiving b n sum → IsReceiving word_of word_beside n end beside action
-      received_action action b e is = record { carried = p; there = there; received = is ∙ ap (λ (c : Bool). receiving c n sum) (sym e) }
+      received_action : (action : EndAction) (b : Bool) → passes ≡ b → action ≡ give_action b n sum → IsGiveAction word_of word_beside n end beside action
+      received_action action b e is = record { carried = p; there = there; received = is ∙ ap (λ (c : Bool). give_action c n sum) (sym e) }
 
       pub given_goes : (after : Endpoint (List ℕ)) → Receives by packet side.socket after → new ≡ take_emitted side after
           → longer ≡ log ++ first ∷ news_of x side after
-          → (action : EndAction) × IsReceiving word_of word_beside n end beside action × Goes word_of x log others side end beside action new longer
-      given_goes after (received q accepts is) news logged =
+          → (action : EndAction) × IsGiveAction word_of word_beside n end beside action × Goes word_of x log others side end beside action new longer
+      given_goes after (read q accepts is) news logged =
           let same : q ≡ as_received p sum = received_as q accepts.packet in
           let yes_it : passes ≡ true =
           sym passes_as ∙ (sym (ap (λ (z : PacketTree). lets_through (policy_of side.socket.endpoint_state.context.options) (word_at by packet) z.checksum) same) ∙ accepts.sum) in (
@@ -224,49 +224,49 @@ module _ (word_of : List ℕ → ℕ) (x : End) (log : List Entry) (first : Entr
       given_goes after (not_read fault is_fault refuses is) news logged =
           let no_it : passes ≡ false =
           false_from_ne_true passes (λ e. never_both_lem (policy_of side.socket.endpoint_state.context.options) (word_at by packet) packet fault (as_received p sum) is_fault refuses (accepts_it e)) in
-          (Calls NoPacket, received_action (Calls NoPacket) false no_it refl, call_goes NoPacket tt after is news logged)
+          (Calls ReceiveNoPacket, received_action (Calls ReceiveNoPacket) false no_it refl, call_goes ReceiveNoPacket tt after is news logged)
 
   -- ---- bytes from elsewhere
 
-  state_is : side.socket.endpoint_state.state ≡ own.endpoint_state.state
+  state_is : side.socket.endpoint_state.state ≡ own_endpoint.endpoint_state.state
   state_is = ap (λ (z : Endpoint (List ℕ)). z.endpoint_state.state) g.image.socket
 
-  refused_as : (q : PacketTree) (text : List ℕ) → refusal q.header.verification_tag q.chunks side.socket.endpoint_state.state ≡ Some text
-      → (after : Endpoint (List ℕ)) → after ≡ called (Packet q) side.socket → new ≡ take_emitted side after → longer ≡ log ++ first ∷ news_of x side after
+  refused_as : (q : PacketTree) (text : List ℕ) → packet_refusal q.header.verification_tag q.chunks side.socket.endpoint_state.state ≡ Some text
+      → (after : Endpoint (List ℕ)) → after ≡ called (ReceivePacket q) side.socket → new ≡ take_emitted side after → longer ≡ log ++ first ∷ news_of x side after
       → Goes word_of x log others side end beside (Refuses q) new longer
   refused_as q text why after is news logged =
-      let e : refusal q.header.verification_tag q.chunks own.endpoint_state.state ≡ Some text =
-      ap (refusal q.header.verification_tag q.chunks) (sym state_is) ∙ why in
-      goes_by (Refuses q) (called (Packet q) own) end.got_init (ap (λ (o : Option (List ℕ)). foreign_if o q end) e)
+      let e : packet_refusal q.header.verification_tag q.chunks own_endpoint.endpoint_state.state ≡ Some text =
+      ap (packet_refusal q.header.verification_tag q.chunks) (sym state_is) ∙ why in
+      goes_by (Refuses q) (called (ReceivePacket q) own_endpoint) end.got_init (ap (λ (o : Option (List ℕ)). foreign_if o q end) e)
       (sym (ap (λ (o : Option (List ℕ)). (giving.emitted_foreign o q end).given_up) e))
-      (stays_sound_refused q text own g.sound e) (packing_after (Packet q))
-      (readable_after own.endpoint_state.context (called (Packet q) own).endpoint_state.context g.image.quiet g.sound.options.mtu_most g.packing (can_be_read_refused q text own g.sound e))
-      (was_before (first ∷ news_of x side (map_end written_of (called (Packet q) own))))
-      after (is ∙ mapped_after (Packet q)) news logged
+      (stays_sound_refused q text own_endpoint g.sound e) (packing_after (ReceivePacket q))
+      (readable_after own_endpoint.endpoint_state.context (called (ReceivePacket q) own_endpoint).endpoint_state.context g.image.quiet g.sound.options.mtu_most g.packing (can_be_read_refused q text own_endpoint g.sound e))
+      (was_before (first ∷ news_of x side (map_end written_of (called (ReceivePacket q) own_endpoint))))
+      after (is ∙ mapped_after (ReceivePacket q)) news logged
 
   refused_by : (by : List ℕ → ℕ) (bytes : List ℕ) (q : PacketTree) → Accepts (policy_of side.socket.endpoint_state.context.options) (word_at by bytes) bytes q
       → (is_refused : Bool) → is_refused ≡ true → Judges by bytes side.socket.endpoint_state.context.options side.socket.endpoint_state.state is_refused
-      → (text : List ℕ) × (refusal q.header.verification_tag q.chunks side.socket.endpoint_state.state ≡ Some text)
+      → (text : List ℕ) × (packet_refusal q.header.verification_tag q.chunks side.socket.endpoint_state.state ≡ Some text)
   refused_by by bytes q accepts is_refused is_true (taken p a why is) = cc
   refused_by by bytes q accepts is_refused is_true (refused p text a why is) =
-      (text, ap (λ (z : PacketTree). refusal z.header.verification_tag z.chunks side.socket.endpoint_state.state) (one_packet_lem bytes q p accepts.packet a.packet) ∙ why)
+      (text, ap (λ (z : PacketTree). packet_refusal z.header.verification_tag z.chunks side.socket.endpoint_state.state) (one_packet_lem bytes q p accepts.packet a.packet) ∙ why)
   refused_by by bytes q accepts is_refused is_true (unread fault is_fault refuses is) =
       absurd (never_both_lem (policy_of side.socket.endpoint_state.context.options) (word_at by bytes) bytes fault q is_fault refuses accepts)
 
   pub foreign_goes : (by : List ℕ → ℕ) (bytes : List ℕ) → Judges by bytes side.socket.endpoint_state.context.options side.socket.endpoint_state.state true
       → (after : Endpoint (List ℕ)) → Receives by bytes side.socket after → new ≡ take_emitted side after → longer ≡ log ++ first ∷ news_of x side after
       → (action : EndAction) × IsForeign bytes action × Goes word_of x log others side end beside action new longer
-  foreign_goes by bytes judges after (received q accepts is) news logged =
+  foreign_goes by bytes judges after (read q accepts is) news logged =
       let why = refused_by by bytes q accepts true refl judges in
       (Refuses q, inl (q, accepts.packet, refl), refused_as q why.0 why.1 after is news logged)
-  foreign_goes by bytes judges after (not_read fault is_fault refuses is) news logged = (Calls NoPacket, inr refl, call_goes NoPacket tt after is news logged)
+  foreign_goes by bytes judges after (not_read fault is_fault refuses is) news logged = (Calls ReceiveNoPacket, inr refl, call_goes ReceiveNoPacket tt after is news logged)
 
   -- bytes that the end would take are skipped
   pub skipped_goes : (by : List ℕ → ℕ) (bytes : List ℕ) (is_refused : Bool) → is_refused ≡ false → Judges by bytes side.socket.endpoint_state.context.options side.socket.endpoint_state.state is_refused
       → new ≡ side → longer ≡ log ++ first ∷ []
       → (action : EndAction) × IsForeign bytes action × Goes word_of x log others side end beside action new longer
   skipped_goes by bytes is_refused is_false (taken p a why is) same logged =
-      let e : refusal p.header.verification_tag p.chunks own.endpoint_state.state ≡ None = ap (refusal p.header.verification_tag p.chunks) (sym state_is) ∙ why in
+      let e : packet_refusal p.header.verification_tag p.chunks own_endpoint.endpoint_state.state ≡ None = ap (packet_refusal p.header.verification_tag p.chunks) (sym state_is) ∙ why in
       let stays : Good word_of x (log ++ first ∷ []) (others ++ []) side end = stays_good word_of x log (first ∷ []) others [] side end (silent_first x first is_first) g in
       let here : Good word_of x (log ++ first ∷ []) others side end = subst (λ (o : List (List ℕ)). Good word_of x (log ++ first ∷ []) o side end) (append-nil others) stays in
       let moved : Good word_of x longer others side end = subst (λ (l : List Entry). Good word_of x l others side end) (sym logged) here in

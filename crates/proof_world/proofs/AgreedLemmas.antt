@@ -9,20 +9,20 @@ use Rattle.std.proofs.lemmas.List.Elements.{All-nil, All-cons, All-head, All-tai
 use Rattle.sctp_serial.specs.Messages.{Message}
 use Rattle.sctp_state.specs.Events.{Event, GivenUp, SendPacket, OnConnected}
 use Rattle.spec_endpoint.specs.Association.{State, Closed, CookieWait, Open, Endpoint}
-use Rattle.spec_endpoint.specs.Input.{refusal}
+use Rattle.spec_endpoint.specs.Input.{packet_refusal}
 use Rattle.spec_endpoint.specs.Shown.{Association, association_in}
 use Rattle.proof_endpoint.specs.Mapped.{Mapping, Carried, as_bytes}
 use Rattle.proof_pair.specs.Trace as traces
-use Rattle.proof_pair.specs.Trace.{Pair, EndAction, Calls, Gives, Refuses, has_connected, emitted_packets, give, foreign_if, act, goes, start, state_of}
+use Rattle.proof_pair.specs.Trace.{Pair, EndAction, Calls, Gives, Refuses, has_connected, emitted_packets, give_carried, foreign_if, act, goes, start, state_of}
 use Rattle.proof_pair.specs.Agreement as agreement
-use Rattle.proof_pair.specs.Agreement.{Has, History, held_in, history_by, Histories, no_histories, histories_after, IsPlainCall, IsAllowed, AreAllowed, emitted_since, AgreesAlong}
+use Rattle.proof_pair.specs.Agreement.{Has, History, held_in, history_after, Histories, no_histories, histories_after, IsPlainCall, IsAllowed, AreAllowed, emitted_since, AgreesAlong}
 use Rattle.proof_pair.proofs.AgreeTraceLemmas.{drop_emitted}
 use Rattle.proof_pair.proofs.AgreeWithinLemmas.{has_either}
 use Rattle.proof_pair.proofs.AgreeActionsLemmas.{ends_agree}
-use Rattle.spec_world.specs.Observations.{End, A, B, same_end, none_unless, same_association, Entry, Associated, EmittedPacket, EmittedEvent, GaveUp, BecameReady, Call, Connect, Shutdown, Close, Send, SendMany, Receive, Reset, SetPriority, SetMaxMessageSize, SetLowThreshold, HandOver, connected_by, times_connected, held_after, held_from, held}
-use Rattle.spec_world.specs.World.{Side, World, Action, CallOf, Give, GiveForeign, AdvanceTime, InjectsInto, taken_in, withheld, Happens, Runs, side_of, other, packets_in, news_of, emitted_entries, given_up_entries, ready_entries, ready_before, ready_at, association, associated_if, association_entries, call_entry, after_call, time_entry, after_time, table_call}
-use Rattle.proof_world.specs.Traces.{ActionFits, IsInBytes, is_a, end_of, receiving, IsForeign, IsActionOf, AreActionsOf, emitted_in, origin}
-use Rattle.proof_world.specs.Agreed.{IsAgreed, Agrees, WorldsAgree}
+use Rattle.spec_world.specs.Observations.{End, A, B, same_end, none_unless, same_association, Entry, Associated, EmittedPacket, EmittedEvent, GaveUp, BecameReady, Call, Connect, Shutdown, Close, Send, SendMany, TakeMessage, Reset, SetPriority, SetMaxMessageSize, SetLowThreshold, HandOver, connected_by, times_connected, held_after, held_from, held}
+use Rattle.spec_world.specs.World.{Side, World, Action, CallOf, Give, GiveForeign, AdvanceTime, MeetsForeignAt, given, withheld, Happens, Runs, side_of, other, packets_in, news_of, emitted_entries, given_up_entries, ready_entries, ready_before, ready_at, association, associated_if, association_entries, call_entry, after_call, time_entry, after_time, table_call}
+use Rattle.proof_world.specs.Traces.{ActionFits, IsInBytes, is_a, end_of, give_action, IsForeign, IsActionOf, AreActionsOf, emitted_in, initial_world}
+use Rattle.proof_world.specs.Agreed.{IsAgreed, WorldAgrees, WorldsAgree}
 use Rattle.proof_world.proofs.EventLemmas.{mapped, entries_both, same_itself, connected_emitted}
 use Rattle.proof_world.proofs.NewsLemmas.{emitted_both, held_both, connected_by_emitted}
 use Rattle.proof_world.proofs.PrefixLemmas.{one_is_longer}
@@ -86,8 +86,8 @@ data Adds (x : End) (old : Side) (log longer : List Entry) : Type 0 where
   news : (first : Entry) (after : Endpoint (List ℕ)) → IsFirst first → Mute first → longer ≡ log ++ first ∷ news_of x old after → Adds x old log longer
   none : (first : Entry) → IsFirst first → Mute first → longer ≡ log ++ first ∷ [] → Adds x old log longer
 
-comes_adds : (x : End) (bytes : List ℕ) (old new : Side) (log longer : List Entry) → InjectsInto x bytes old new log longer → Adds x old log longer
-comes_adds x bytes old new log longer (taken_in t judged) = news _ t.after (record { emitted = λ y. refl; quiet = λ y o. refl; given_up = λ y. refl }) refl t.logged
+comes_adds : (x : End) (bytes : List ℕ) (old new : Side) (log longer : List Entry) → MeetsForeignAt x bytes old new log longer → Adds x old log longer
+comes_adds x bytes old new log longer (given t judged) = news _ t.after (record { emitted = λ y. refl; quiet = λ y o. refl; given_up = λ y. refl }) refl t.logged
 comes_adds x bytes old new log longer (withheld judged stays logged) = none _ (record { emitted = λ y. refl; quiet = λ y o. refl; given_up = λ y. refl }) refl logged
 
 event_adds : (action : Action) (w u : World) → Happens action w u → Adds (end_of action) (side_of (end_of action) w) w.log u.log
@@ -167,10 +167,10 @@ emitted_grows : (t : EndAction) (x y : traces.Side) → (act t x y).emitted ≡ 
 emitted_grows (Calls call) x y = ap (λ (es : List (Event Carried)). x.emitted ++ es) (sym (drop_emitted x.emitted _))
 emitted_grows (Gives which checksum) x y = by (slice_get (emitted_packets y) which)
   where
-    by : (p : Option Carried) → (give p checksum x).emitted ≡ x.emitted ++ emitted_since x (give p checksum x)
+    by : (p : Option Carried) → (give_carried p checksum x).emitted ≡ x.emitted ++ emitted_since x (give_carried p checksum x)
     by None = sym (ap (λ (es : List (Event Carried)). x.emitted ++ es) (ap (drop (length x.emitted)) (sym (append-nil x.emitted)) ∙ drop_emitted x.emitted []) ∙ append-nil x.emitted)
     by (Some p) = ap (λ (es : List (Event Carried)). x.emitted ++ es) (sym (drop_emitted x.emitted _))
-emitted_grows (Refuses p) x y = by (refusal p.header.verification_tag p.chunks (state_of x))
+emitted_grows (Refuses p) x y = by (packet_refusal p.header.verification_tag p.chunks (state_of x))
   where
     by : (r : Option (List ℕ)) → (foreign_if r p x).emitted ≡ x.emitted ++ emitted_since x (foreign_if r p x)
     by None = sym (ap (λ (es : List (Event Carried)). x.emitted ++ es) (ap (drop (length x.emitted)) (sym (append-nil x.emitted)) ∙ drop_emitted x.emitted []) ∙ append-nil x.emitted)
@@ -251,7 +251,7 @@ were_longer y log longer more n e h = λ a k. was_longer y log longer more a e (
 
 -- the end that went on
 were_turned : (word_of : List ℕ → ℕ) (y : End) (log longer more : List Entry) (others : List (List ℕ)) (new : Side) (end beside : traces.Side) (t : EndAction) (n : History) → longer ≡ log ++ more
-    → Good word_of y longer others new (act t end beside) → WereHeld y log n → WereHeld y longer (history_by t end beside n)
+    → Good word_of y longer others new (act t end beside) → WereHeld y log n → WereHeld y longer (history_after t end beside n)
 were_turned word_of y log longer more others new end beside t n e g h =
     let s : State = state_of (act t end beside) in
     λ a k. elim (has_either a (held_in s) n.held k) [
@@ -322,7 +322,7 @@ module _ (word_of : List ℕ → ℕ) (x : End) (log longer more : List Entry) (
       one_end B A e = cc
       one_end B B e = refl
 
-  agrees_on : Adds x side log longer → Agrees log → Agrees longer
+  agrees_on : Adds x side log longer → WorldAgrees log → WorldAgrees longer
   agrees_on adds before_it y before behind e = elim (stands_in y log more before behind (sym logged ∙ e)) [
     | old rest is ↦ before_it y before rest is
     | added front is new_is ↦ subst (IsAgreed y) (sym is) (by_any y (same_end y x) refl front behind new_is adds)
@@ -334,12 +334,12 @@ module _ (word_of_a word_of_b : List ℕ → ℕ) where
   record Ran (actions : List Action) (w v : World) (c : Pair) (k : Histories) : Type 0 where
     trace : List (Bool × EndAction)
     are : AreActionsOf word_of_a word_of_b actions trace c
-    agrees : AgreesAlong trace c k → Agrees w.log → WereHeld A w.log k.a → WereHeld B w.log k.b → Agrees v.log
+    agrees : AgreesAlong trace c k → WorldAgrees w.log → WereHeld A w.log k.a → WereHeld B w.log k.b → WorldAgrees v.log
 
   step_on : (x : End) (t : EndAction) (w u : World) (c : Pair) (k : Histories) (more : List Entry) → u.log ≡ w.log ++ more → Both word_of_a word_of_b w c
-      → Both word_of_a word_of_b u (goes (is_a x) t c) → Adds x (side_of x w) w.log u.log → agreement.AgreesAt (is_a x) t c k → Agrees w.log
+      → Both word_of_a word_of_b u (goes (is_a x) t c) → Adds x (side_of x w) w.log u.log → agreement.AgreesAt (is_a x) t c k → WorldAgrees w.log
       → WereHeld A w.log k.a → WereHeld B w.log k.b
-      → Agrees u.log × WereHeld A u.log (histories_after (is_a x) t c k).a × WereHeld B u.log (histories_after (is_a x) t c k).b
+      → WorldAgrees u.log × WereHeld A u.log (histories_after (is_a x) t c k).a × WereHeld B u.log (histories_after (is_a x) t c k).b
   step_on A t w u c k more logged h g adds law agrees in_a in_b = (
     agrees_on word_of_a A w.log u.log more w.b.packets u.b.packets w.a u.a c.a c.b t logged h.a g.a k.b in_b law adds agrees,
     were_turned word_of_a A w.log u.log more u.b.packets u.a c.a c.b t k.a logged g.a in_a,
@@ -353,7 +353,7 @@ module _ (word_of_a word_of_b : List ℕ → ℕ) where
 
   unfoldable ran : (actions : List Action) (w v : World) (c : Pair) (k : Histories) → All ActionFits actions → Runs actions w v → IsInBytes v → Both word_of_a word_of_b w c
       → Ran actions w v c k
-  ran [] w v c k fit e small h = record { trace = []; are = tt; agrees = λ law agrees in_a in_b. subst (λ (z : World). Agrees z.log) (sym e) agrees }
+  ran [] w v c k fit e small h = record { trace = []; are = tt; agrees = λ law agrees in_a in_b. subst (λ (z : World). WorldAgrees z.log) (sym e) agrees }
   ran (action ∷ actions) w v c k fit r small h =
       let u : World = r.0 in
       let x : End = end_of action in
@@ -379,14 +379,14 @@ plain_call Shutdown = tt
 plain_call Close = tt
 plain_call (Send m o) = tt
 plain_call (SendMany ms o) = tt
-plain_call Receive = tt
+plain_call TakeMessage = tt
 plain_call (Reset streams) = tt
 plain_call (SetPriority stream priority) = tt
 plain_call (SetMaxMessageSize bytes) = tt
 plain_call (SetLowThreshold stream bytes) = tt
 plain_call HandOver = tt
 
-allowed_receiving : (b : Bool) (n checksum : ℕ) → IsAllowed (receiving b n checksum)
+allowed_receiving : (b : Bool) (n checksum : ℕ) → IsAllowed (give_action b n checksum)
 allowed_receiving true n checksum = tt
 allowed_receiving false n checksum = tt
 
@@ -415,10 +415,10 @@ none_yet (b ∷ before) behind e h = cc
 
 pub worlds_agree : WorldsAgree
 worlds_agree w l distinct =
-    let c : Pair = start l.a l.b l.random_a l.random_b in
-    let r : Ran l.word_of_a l.word_of_b l.actions (origin l) w c no_histories =
-    ran l.word_of_a l.word_of_b l.actions (origin l) w c no_histories l.fit l.runs l.bytes (fresh_both l.a l.b l.random_a l.random_b l.word_of_a l.word_of_b l.fits_a l.fits_b) in
+    let c : Pair = start l.a l.b l.draws_a l.draws_b in
+    let r : Ran l.word_of_a l.word_of_b l.actions (initial_world l) w c no_histories =
+    ran l.word_of_a l.word_of_b l.actions (initial_world l) w c no_histories l.fit l.runs l.bytes (fresh_both l.a l.b l.draws_a l.draws_b l.word_of_a l.word_of_b l.fits_a l.fits_b) in
     r.agrees
-    (ends_agree l.a l.b l.random_a l.random_b r.trace (given_of l.a l.valid_a l.fits_a) (given_of l.b l.valid_b l.fits_b)
+    (ends_agree l.a l.b l.draws_a l.draws_b r.trace (given_of l.a l.valid_a l.fits_a) (given_of l.b l.valid_b l.fits_b)
     (allowed_all l.word_of_a l.word_of_b l.actions r.trace c r.are) (distinct r.trace r.are))
     (λ x before behind e. none_yet before behind (connection x) e) (λ a h. absurd h) (λ a h. absurd h)

@@ -8,7 +8,7 @@ use Rattle.spec_endpoint.specs.Laws as table
 use Rattle.spec_endpoint.specs.Laws.{endings}
 use Rattle.spec_endpoint.specs.Wire.{field_of}
 use Rattle.proof_endpoint.specs.Mapped.{Carried, map_context, as_bytes}
-use Rattle.proof_endpoint.specs.ReceivedBack.{IsHearable}
+use Rattle.proof_endpoint.specs.ReceivedBack.{IsReceivable}
 use Rattle.proof_endpoint.proofs.ReceivedBackLemmas.{is_accepted}
 use Rattle.proof_pair.specs.Trace as traces
 use Rattle.proof_pair.specs.Trace.{Pair, EndAction, Calls, Gives, Refuses, emitted_packets, act, goes, state_of}
@@ -18,16 +18,16 @@ use Rattle.proof_delivery.specs.Justified as justified
 use Rattle.proof_draws.specs.NamedChunks.{Names}
 use Rattle.proof_draws.specs.Names.{named_state}
 use Rattle.proof_draws.specs.Alike as alike
-use Rattle.proof_draws.specs.Alike.{AreEmitted, AreAlike, ArePairsAlike, ActsAlike, SameAction, PassesAt, ArePassed}
+use Rattle.proof_draws.specs.Alike.{AreEventsAlike, AreAlike, ArePairsAlike, ActsAlike, SameAction, PassesAt, ArePassed}
 use Rattle.spec_world.specs.Observations.{End, A, B, Entry, Called, Given, Timed, given_up}
 use Rattle.spec_world.specs.World.{Side, World, Action, CallOf, Give, GiveForeign, AdvanceTime, Happens, take_emitted, news_of, side_of, other, clock, answer_to, call_entry, after_call, time_entry, after_time, table_call}
-use Rattle.proof_world.specs.Traces.{is_a, end_of, is_let_through, receiving, IsReceiving, IsActionOf}
+use Rattle.proof_world.specs.Traces.{is_a, end_of, is_let_through, give_action, IsGiveAction, IsActionOf}
 use Rattle.proof_world.proofs.EventLemmas.{Readable}
 use Rattle.proof_world.proofs.BlockLemmas.{same_front}
 use Rattle.proof_world.proofs.SidesLemmas.{IsFirst, Good}
 use Rattle.proof_world.proofs.WorldLemmas.{Both, Stepped}
 use Rattle.proof_world.specs.Visible.{without_record, shown_by, ShowTheSame}
-use Rattle.proof_world.specs.Alike.{is_foreign}
+use Rattle.proof_world.specs.Worlds.{is_foreign}
 use Rattle.proof_world.proofs.VisibleLemmas.{packets_emitted, emitted_behind}
 use Rattle.proof_world.proofs.AnswerLemmas.{ready_named, answers_alike}
 use Rattle.proof_world.proofs.SeenLemmas.{Grows, emitted_grows, sent, shown_is, ready_alike, same_shown}
@@ -103,7 +103,7 @@ IsOwn (Calls call) = Unit {0}
 IsOwn (Gives which checksum) = Unit {0}
 IsOwn (Refuses p) = ⊥
 
-own_receiving : (b : Bool) (n checksum : ℕ) → IsOwn (receiving b n checksum)
+own_receiving : (b : Bool) (n checksum : ℕ) → IsOwn (give_action b n checksum)
 own_receiving true n checksum = tt
 own_receiving false n checksum = tt
 
@@ -133,15 +133,15 @@ module _ (f : List ℕ → ℕ) where
 
   let_through : (o : Options) (p : Carried) → Readable p → (p.is_summed ≡ false → (o.zero_checksum_method == 0) ≡ false) → is_let_through f f o p ≡ true
   let_through o p reads passes =
-      let hearable : IsHearable o p =
+      let hearable : IsReceivable o p =
       record { header = reads.header; chunks = reads.chunks; short = reads.short; sum = sums o.disable_checksum_verification p.is_summed (o.zero_checksum_method == 0) passes } in
       (is_accepted f p o hearable).sum
 
-  received_given : (n : ℕ) (end beside : traces.Side) (t : EndAction) → IsReceiving f f n end beside t → All Readable (emitted_packets beside) → All (PassesAt end) (emitted_packets beside)
+  received_given : (n : ℕ) (end beside : traces.Side) (t : EndAction) → IsGiveAction f f n end beside t → All Readable (emitted_packets beside) → All (PassesAt end) (emitted_packets beside)
       → (checksum : ℕ) × (t ≡ Gives n checksum)
   received_given n end beside t h reads passes = (
     field_of f h.carried.header h.carried.is_summed h.carried.chunks,
-    h.received ∙ ap (λ (b : Bool). receiving b n (field_of f h.carried.header h.carried.is_summed h.carried.chunks))
+    h.received ∙ ap (λ (b : Bool). give_action b n (field_of f h.carried.header h.carried.is_summed h.carried.chunks))
         (let_through end.end.endpoint_state.context.options h.carried (all_get Readable (emitted_packets beside) n h.carried h.there reads) (all_get (PassesAt end) (emitted_packets beside) n h.carried h.there passes)),
   )
 
@@ -228,9 +228,9 @@ module _ (f : List ℕ → ℕ) where
         let b : AreAlike (act s.turn end beside) (act r.turn end_too beside_too) = alike_after x s.turn r.turn c d after in
         let m : Grows end (act s.turn end beside) = emitted_grows s.turn end beside in
         let n : Grows end_too (act r.turn end_too beside_too) = emitted_grows r.turn end_too beside_too in
-        let emitted : AreEmitted m.since n.since =
+        let emitted : AreEventsAlike m.since n.since =
         emitted_behind end.emitted end_too.emitted m.since n.since a.emitted
-        (subst (λ (es : List (Event Carried)). AreEmitted es (end_too.emitted ++ n.since)) m.is (subst (λ (es : List (Event Carried)). AreEmitted (act s.turn end beside).emitted es) n.is b.emitted)) in
+        (subst (λ (es : List (Event Carried)). AreEventsAlike es (end_too.emitted ++ n.since)) m.is (subst (λ (es : List (Event Carried)). AreEventsAlike (act s.turn end beside).emitted es) n.is b.emitted)) in
         let firsts : shown_by (first_of action v) ≡ shown_by (first_of action w) =
         first_alike action w u v z own a.names (states x _ _ _ _ _ _ _ _ g1 g2 a) (contexts x _ _ _ _ _ _ _ _ g1 g2 a) (contexts x _ _ _ _ _ _ _ _ h1 h2 b) first_happens second_happens in
         let records : records_by r.turn end_too beside_too ≡ records_by s.turn end beside =

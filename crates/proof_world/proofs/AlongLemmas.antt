@@ -3,7 +3,7 @@ use Rattle.std.proofs.Common.{◌≡◌, ℕ, Bool, false, List, [], ◌∷◌, 
 use Rattle.std.proofs.lemmas.List.Elements.{All-nil, All-head, All-tail}
 use Rattle.proof_endpoint.specs.ReadBack.{AreBytes}
 use Rattle.proof_pair.specs.Trace as traces
-use Rattle.proof_pair.specs.Trace.{Pair, EndAction, goes, run, NeitherHasEnded, AreValidOptions, start, MayAct}
+use Rattle.proof_pair.specs.Trace.{Pair, EndAction, goes, run, NoAssociationHasEnded, AreValidOptions, start, MayAct}
 use Rattle.proof_pair.specs.Agreement.{Draw, AreDistinct}
 use Rattle.proof_pair.proofs.AgreeActionsLemmas.{has_front}
 use Rattle.proof_pair.proofs.TraceLemmas.{follows_more, run_both}
@@ -16,13 +16,14 @@ use Rattle.proof_draws.proofs.WholeTraceLemmas.{packets_pass}
 use Rattle.spec_world.specs.Observations.{A, B}
 use Rattle.spec_world.specs.World.{World, Action, Happens, Runs}
 use Rattle.proof_world.specs.Traces.{ActionFits, is_a, end_of, AreActionsOf}
-use Rattle.proof_world.specs.Consistent.{NoneHasEnded}
+use Rattle.proof_world.specs.Consistent.{NoEndingIsLogged}
 use Rattle.proof_world.specs.Delivered.{KeepsFrom}
 use Rattle.proof_world.proofs.ConsistentLemmas.{given_of, none_ended}
 use Rattle.proof_world.proofs.WorldLemmas.{Both, Extends, in_bytes_before, Stepped, steps}
 use Rattle.proof_world.proofs.RunsLemmas.{happens_extends, runs_extends, may_action, Ran, ran, fresh_both}
 use Rattle.proof_world.specs.Visible.{ShowTheSame}
-use Rattle.proof_world.specs.Alike.{ArePaired, AreComparable, ShowAlong, WorldsShowTheSame, NewWorldsArePaired, is_foreign, DrawsDistinctTags, first_new, second_new}
+use Rattle.proof_world.specs.Alike.{ArePaired, AreComparable, ShowAlong, WorldsShowTheSame, NewWorldsArePaired, DrawsDistinctTags, first_new, second_new}
+use Rattle.proof_world.specs.Worlds.{is_foreign}
 use Rattle.proof_world.proofs.AlikeEventLemmas.{same_action, event_shown}
 use Rattle.proof_world.proofs.EndingLemmas.{ended_or_none}
 
@@ -70,7 +71,7 @@ module _ (w v : World) (p : ArePaired w v) (q : AreComparable p) where
   f = p.word_of
 
   abbrev first_start : Pair
-  first_start = start p.a p.b p.random_a p.random_b
+  first_start = start p.a p.b p.draws_a p.draws_b
 
   abbrev second_start : Pair
   second_start = start p.a p.b p.others_a p.others_b
@@ -90,13 +91,13 @@ module _ (w v : World) (p : ArePaired w v) (q : AreComparable p) where
     both : Both f f x (run es first_start)
     both_too : Both f f y (run fs second_start)
     same : SameActions es fs
-    follows : traces.KeepsOpeningRules es first_start
+    follows : traces.KeepsRules es first_start
     alike : ArePairsAlike (run es first_start) (run fs second_start)
     later : Extends x w
     later_too : Extends y v
     shown : ShowTheSame x y
 
-  not_ended : (x : World) (c : Pair) → Both f f x c → NoneHasEnded x.log → NeitherHasEnded c
+  not_ended : (x : World) (c : Pair) → Both f f x c → NoEndingIsLogged x.log → NoAssociationHasEnded c
   not_ended x c h stands = record {
     a = none_ended f A x.log x.b.packets x.a c.a h.a (stands A);
     b = none_ended f B x.log x.a.packets x.b c.b h.b (stands B);
@@ -112,7 +113,7 @@ module _ (w v : World) (p : ArePaired w v) (q : AreComparable p) where
       (apart (es ++ e ∷ fs) (subst (λ (l : List Action). AreActionsOf word_of word_of l (es ++ e ∷ fs) c) (sym split) (actions_both word_of front (action ∷ actions) es (e ∷ fs) c h k))))
 
   next : (front : List Action) (action : Action) (actions : List Action) (x y u z : World) → p.actions ≡ front ++ action ∷ actions → Happens action x u → Happens action y z
-      → Runs actions u w → Runs actions z v → All ActionFits (action ∷ actions) → is_foreign action ≡ false → NoneHasEnded x.log → IsPoint front x y
+      → Runs actions u w → Runs actions z v → All ActionFits (action ∷ actions) → is_foreign action ≡ false → NoEndingIsLogged x.log → IsPoint front x y
       → IsPoint (front ++ action ∷ []) u z
   next front action actions x y u z split happens happens_too left left_too fit own stands at =
       let c : Pair = run at.es first_start in
@@ -125,15 +126,15 @@ module _ (w v : World) (p : ArePaired w v) (q : AreComparable p) where
       let g : Bool × EndAction = (is_a (end_of action), r.turn) in
       let after : Ran f f actions u w (goes e.0 e.1 c) = ran f f actions u w (goes e.0 e.1 c) rest_fits left p.first_bytes s.both in
       let after_too : Ran f f actions z v (goes g.0 g.1 d) = ran f f actions z v (goes g.0 g.1 d) rest_fits left_too p.second_bytes r.both in
-      let still : NeitherHasEnded c = not_ended x c at.both stands in
-      let passed : ArePassed c = packets_pass p.a p.b p.random_a p.random_b at.es given_a given_b at.follows still in
+      let still : NoAssociationHasEnded c = not_ended x c at.both stands in
+      let passed : ArePassed c = packets_pass p.a p.b p.draws_a p.draws_b at.es given_a given_b at.follows still in
       let same : SameAction s.turn r.turn = same_action f action s.turn r.turn x y c d own s.is r.is at.both at.both_too passed (images_pass c d at.alike passed) in
       let sames : SameActions (at.es ++ e ∷ []) (at.fs ++ g ∷ []) = same_more at.es at.fs e g at.same refl same in
       let may : MayAct e.1 (traces.side_of e.0 c) =
       may_action f f action x u w c s.turn happens (happens_extends action x u happens) (runs_extends actions u w left) at.both s.is q.follows stands in
-      let follows : traces.KeepsOpeningRules (at.es ++ e ∷ []) first_start = follows_more at.es e first_start at.follows may in
+      let follows : traces.KeepsRules (at.es ++ e ∷ []) first_start = follows_more at.es e first_start at.follows may in
       let law : ActionIsAlike e g c d =
-      are_always_alike p.a p.b p.random_a p.random_b p.others_a p.others_b at.es at.fs e g given_a given_b sames follows still
+      are_always_alike p.a p.b p.draws_a p.draws_b p.others_a p.others_b at.es at.fs e g given_a given_b sames follows still
       (once f first_start front action actions at.es e after.trace q.first_tags split at.are (refl, s.is, after.are))
       (once f second_start front action actions at.fs g after_too.trace q.second_tags split at.are_too (refl, r.is, after_too.are)) in
       record {
@@ -151,7 +152,7 @@ module _ (w v : World) (p : ArePaired w v) (q : AreComparable p) where
         later_too = runs_extends actions z v left_too;
         shown =
             event_shown f action x u y z c d own happens happens_too at.both at.both_too s r law.before law.after law.acts
-            (ended_or_none p.a p.b p.random_a p.random_b f x at.es s.turn (end_of action) given_a given_b at.follows still may at.both) at.shown;
+            (ended_or_none p.a p.b p.draws_a p.draws_b f x at.es s.turn (end_of action) given_a given_b at.follows still may at.both) at.shown;
       }
 
   along : (front actions : List Action) (x y : World) → p.actions ≡ front ++ actions → (r : Runs actions x w) (s : Runs actions y v) → All ActionFits actions
@@ -169,7 +170,7 @@ module _ (w v : World) (p : ArePaired w v) (q : AreComparable p) where
     fs = [];
     are = tt;
     are_too = tt;
-    both = fresh_both p.a p.b p.random_a p.random_b f f p.fits_a p.fits_b;
+    both = fresh_both p.a p.b p.draws_a p.draws_b f f p.fits_a p.fits_b;
     both_too = fresh_both p.a p.b p.others_a p.others_b f f p.fits_a p.fits_b;
     same = tt;
     follows = tt;
@@ -189,12 +190,12 @@ pub worlds_show : WorldsShowTheSame
 worlds_show w v p q = show_along w v p q
 
 pub new_paired : NewWorldsArePaired
-new_paired a b word_of words_a words_b others_a others_b valid_a valid_b fits_a fits_b = record {
+new_paired a b word_of draws_a draws_b others_a others_b valid_a valid_b fits_a fits_b = record {
   a = a;
   b = b;
   word_of = word_of;
-  random_a = words_a;
-  random_b = words_b;
+  draws_a = draws_a;
+  draws_b = draws_b;
   others_a = others_a;
   others_b = others_b;
   valid_a = valid_a;

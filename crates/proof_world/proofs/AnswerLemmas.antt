@@ -3,14 +3,14 @@ use Rattle.std.proofs.Common.{◌≡◌, ℕ, zero, suc, List, refl, ap, ◌∙�
 use Rattle.sctp_serial.specs.Messages.{Message}
 use Rattle.sctp_state.specs.Events.{first_of}
 use Rattle.spec_endpoint.specs.Association.{State, Closed, CookieWait, Open, Context, Endpoint}
-use Rattle.spec_endpoint.specs.Calls.{shown_state, refusal, refusals, ready_in}
+use Rattle.spec_endpoint.specs.Calls.{shown_state, send_refusal, refusals, ready_in}
 use Rattle.sctp_state.specs.declared.api.SocketState.{SocketState}
 use Rattle.spec_endpoint.specs.StreamReset.{reset_refusal}
 use Rattle.spec_endpoint.specs.Handover.{readiness_in, readiness}
 use Rattle.proof_draws.specs.NamedChunks.{Names}
 use Rattle.proof_draws.specs.Names.{named_state}
 use Rattle.proof_draws.proofs.CallLemmas.{shown_named, reset_refusal_named, readiness_named}
-use Rattle.spec_world.specs.Observations.{Call, Connect, Shutdown, Close, Send, SendMany, Receive, Reset, SetPriority, SetMaxMessageSize, SetLowThreshold, HandOver, Sent, SentMany, Received, AskedReset}
+use Rattle.spec_world.specs.Observations.{Call, Connect, Shutdown, Close, Send, SendMany, TakeMessage, Reset, SetPriority, SetMaxMessageSize, SetLowThreshold, HandOver, Sent, SentMany, TookMessage, AskedReset}
 use Rattle.spec_world.specs.World.{handed_by, answer_to}
 use Rattle.proof_world.specs.Visible.{without_record}
 
@@ -38,12 +38,12 @@ module _ (n : Names) (s r : Endpoint (List ℕ)) (state : r.endpoint_state.state
   answers_alike Shutdown = refl
   answers_alike Close = refl
   answers_alike (Send m o) =
-      ap (λ (u : SocketState). Sent (refusal m u r.endpoint_state.context)) shown_same
-      ∙ ap (λ (c : Context (List ℕ)). Sent (refusal m (shown_state s.endpoint_state.state) c)) context
+      ap (λ (u : SocketState). Sent (send_refusal m u r.endpoint_state.context)) shown_same
+      ∙ ap (λ (c : Context (List ℕ)). Sent (send_refusal m (shown_state s.endpoint_state.state) c)) context
   answers_alike (SendMany ms o) =
       ap (λ (u : SocketState). SentMany (refusals 0 ms o u r.endpoint_state.context)) shown_same
       ∙ ap (λ (c : Context (List ℕ)). SentMany (refusals 0 ms o (shown_state s.endpoint_state.state) c)) context
-  answers_alike Receive = ap (λ (ms : List Message). Received (first_of ms)) (ap ready_in state ∙ ready_named n s.endpoint_state.state)
+  answers_alike TakeMessage = ap (λ (ms : List Message). TookMessage (first_of ms)) (ap ready_in state ∙ ready_named n s.endpoint_state.state)
   answers_alike (Reset streams) = ap AskedReset (ap reset_refusal state ∙ reset_refusal_named n s.endpoint_state.state)
   answers_alike (SetPriority stream priority) = refl
   answers_alike (SetMaxMessageSize bytes) = refl

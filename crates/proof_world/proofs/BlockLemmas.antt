@@ -7,11 +7,11 @@ use Rattle.sctp_serial.specs.Messages.{Message}
 use Rattle.sctp_rx.specs.Delivery.{Extends}
 use Rattle.sctp_reassembly.proofs.ExtendsLemmas.{extends_by}
 use Rattle.spec_endpoint.specs.Association.{State, Closed, CookieWait, Open}
-use Rattle.spec_endpoint.specs.Calls.{ready_in, taken_in}
+use Rattle.spec_endpoint.specs.Calls.{ready_in, without_first_message_in}
 use Rattle.spec_endpoint.specs.Laws.{TakeMessage}
 use Rattle.spec_endpoint.specs.Shown.{Association, association_in}
 use Rattle.proof_pair.specs.Trace.{Side, Pair, EndAction, Calls, Gives, Refuses, act, goes, run, side_of, state_of}
-use Rattle.proof_pair.specs.Handing.{ready_at, new_behind, handed_by, handed_at, handed_messages, readied_messages}
+use Rattle.proof_pair.specs.Handing.{ready_at, new_behind, handed_by, handed_at, messages_handed_out, messages_made_ready}
 use Rattle.proof_delivery.specs.Accepted.{AcceptedMessage, accepted_at, accepted}
 use Rattle.proof_delivery.proofs.LawLemmas.{accepted_more}
 use Rattle.proof_delivery.specs.GivenUp.{given_up_at, given_up}
@@ -20,7 +20,7 @@ use Rattle.proof_delivery.specs.StreamEpochs as delivery
 use Rattle.proof_delivery.specs.StreamEpochs.{StreamEpoch, all_open, are_named, shut_if, shut_streams, opened_if, reopen, performed_of, emitted_at, epochs_of}
 use Rattle.proof_delivery.proofs.TraceResetLemmas.{emitted_goes}
 use Rattle.proof_delivery.proofs.StreamEpochLemmas.{epochs_go_on}
-use Rattle.proof_tx_refines.specs.Led.{delivered_ids}
+use Rattle.proof_tx_refines.specs.Reachable.{delivered_ids}
 use Rattle.proof_endpoint.specs.Mapped.{Carried}
 use Rattle.sctp_state.specs.Events.{Event}
 use Rattle.spec_world.specs.Observations as observations
@@ -42,17 +42,17 @@ same_front (z ∷ a) xs ys h = same_front a xs ys (split_tail z z (a ++ xs) (a +
 abbrev pub readied_at : Bool → (Bool × EndAction) → Pair → List Message
 readied_at x e w = new_behind (ready_at (side_of x w)) (ready_at (side_of x (goes e.0 e.1 w)))
 
-pub readied_more : (x : Bool) (es : List (Bool × EndAction)) (e : Bool × EndAction) (w : Pair) → readied_messages x (es ++ e ∷ []) w ≡ readied_messages x es w ++ readied_at x e (run es w)
+pub readied_more : (x : Bool) (es : List (Bool × EndAction)) (e : Bool × EndAction) (w : Pair) → messages_made_ready x (es ++ e ∷ []) w ≡ messages_made_ready x es w ++ readied_at x e (run es w)
 readied_more x [] e w = append-nil (readied_at x e w)
 readied_more x (d ∷ es) e w =
     ap (λ (l : List Message). readied_at x d w ++ l) (readied_more x es e (goes d.0 d.1 w))
-    ∙ sym (append_assoc (readied_at x d w) (readied_messages x es (goes d.0 d.1 w)) (readied_at x e (run es (goes d.0 d.1 w))))
+    ∙ sym (append_assoc (readied_at x d w) (messages_made_ready x es (goes d.0 d.1 w)) (readied_at x e (run es (goes d.0 d.1 w))))
 
-pub handed_more : (x : Bool) (es : List (Bool × EndAction)) (e : Bool × EndAction) (w : Pair) → handed_messages x (es ++ e ∷ []) w ≡ handed_messages x es w ++ handed_at x e.0 e.1 (run es w)
+pub handed_more : (x : Bool) (es : List (Bool × EndAction)) (e : Bool × EndAction) (w : Pair) → messages_handed_out x (es ++ e ∷ []) w ≡ messages_handed_out x es w ++ handed_at x e.0 e.1 (run es w)
 handed_more x [] e w = append-nil (handed_at x e.0 e.1 w)
 handed_more x (d ∷ es) e w =
     ap (λ (l : List Message). handed_at x d.0 d.1 w ++ l) (handed_more x es e (goes d.0 d.1 w))
-    ∙ sym (append_assoc (handed_at x d.0 d.1 w) (handed_messages x es (goes d.0 d.1 w)) (handed_at x e.0 e.1 (run es (goes d.0 d.1 w))))
+    ∙ sym (append_assoc (handed_at x d.0 d.1 w) (messages_handed_out x es (goes d.0 d.1 w)) (handed_at x e.0 e.1 (run es (goes d.0 d.1 w))))
 
 pub given_up_more : (x : Bool) (es : List (Bool × EndAction)) (e : Bool × EndAction) (w : Pair) → given_up x (es ++ e ∷ []) w ≡ given_up x es w ++ given_up_at x e.0 e.1 (run es w)
 given_up_more x [] e w = append-nil (given_up_at x e.0 e.1 w)
@@ -223,16 +223,16 @@ offers_run x (e ∷ es) c log longer h =
     joins (accepted_messages x longer) (accepted_messages x h.0) (accepted_messages x log) (accepted (is_a x) es (goes e.0 e.1 c)) (accepted_at (is_a x) e.0 e.1 c)
     (offers_run x es (goes e.0 e.1 c) h.0 longer h.2) (offers_action x e c log h.0 h.1)
 
-pub ready_run : (x : End) (es : List (Bool × EndAction)) (c : Pair) (log longer : List Entry) → AreBlocks es c log longer → ready x longer ≡ ready x log ++ readied_messages (is_a x) es c
+pub ready_run : (x : End) (es : List (Bool × EndAction)) (c : Pair) (log longer : List Entry) → AreBlocks es c log longer → ready x longer ≡ ready x log ++ messages_made_ready (is_a x) es c
 ready_run x [] c log longer h = ap (ready x) h ∙ sym (append-nil (ready x log))
 ready_run x (e ∷ es) c log longer h =
-    joins (ready x longer) (ready x h.0) (ready x log) (readied_messages (is_a x) es (goes e.0 e.1 c)) (readied_at (is_a x) e c)
+    joins (ready x longer) (ready x h.0) (ready x log) (messages_made_ready (is_a x) es (goes e.0 e.1 c)) (readied_at (is_a x) e c)
     (ready_run x es (goes e.0 e.1 c) h.0 longer h.2) (ready_action x e c log h.0 h.1)
 
-pub handed_run : (x : End) (es : List (Bool × EndAction)) (c : Pair) (log longer : List Entry) → AreBlocks es c log longer → handed_out x longer ≡ handed_out x log ++ handed_messages (is_a x) es c
+pub handed_run : (x : End) (es : List (Bool × EndAction)) (c : Pair) (log longer : List Entry) → AreBlocks es c log longer → handed_out x longer ≡ handed_out x log ++ messages_handed_out (is_a x) es c
 handed_run x [] c log longer h = ap (handed_out x) h ∙ sym (append-nil (handed_out x log))
 handed_run x (e ∷ es) c log longer h =
-    joins (handed_out x longer) (handed_out x h.0) (handed_out x log) (handed_messages (is_a x) es (goes e.0 e.1 c)) (handed_at (is_a x) e.0 e.1 c)
+    joins (handed_out x longer) (handed_out x h.0) (handed_out x log) (messages_handed_out (is_a x) es (goes e.0 e.1 c)) (handed_at (is_a x) e.0 e.1 c)
     (handed_run x es (goes e.0 e.1 c) h.0 longer h.2) (handed_action x e c log h.0 h.1)
 
 -- ---- each beginning of the log
@@ -240,8 +240,8 @@ handed_run x (e ∷ es) c log longer h =
 -- so many actions have been
 pub record IsReached (c : Pair) (done : List (Bool × EndAction)) (log : List Entry) : Type 0 where
   pub offers_are : (x : End) → accepted_messages x log ≡ accepted (is_a x) done c
-  pub ready_are : (x : End) → ready x log ≡ readied_messages (is_a x) done c
-  pub handed_are : (x : End) → handed_out x log ≡ handed_messages (is_a x) done c
+  pub ready_are : (x : End) → ready x log ≡ messages_made_ready (is_a x) done c
+  pub handed_are : (x : End) → handed_out x log ≡ messages_handed_out (is_a x) done c
   pub given_up_are : (x : End) → given_up_places x log ≡ given_up (is_a x) done c
   pub reported_are : (x : End) → reported x log ≡ delivered_ids (side_of (is_a x) (run done c)).emitted
   pub emitted_are : (x : End) → AreEmitted x log (run done c)
@@ -357,7 +357,7 @@ none_dropped (m ∷ ms) = go ms
     go [] = refl
     go (z ∷ zs) = go zs
 
-taken_none : (s : State) → new_behind (ready_in s) (ready_in (taken_in s)) ≡ []
+taken_none : (s : State) → new_behind (ready_in s) (ready_in (without_first_message_in s)) ≡ []
 taken_none Closed = refl
 taken_none (CookieWait tag first t1) = refl
 taken_none (Open phase t) = none_dropped t.reassembly.ready
@@ -376,14 +376,14 @@ hands_or_readies true (false, t) c = inl refl
 hands_or_readies false (true, t) c = inl refl
 
 module _ (x : End) (all : List (Bool × EndAction)) (c : Pair)
-    (prefix : (early late : List (Bool × EndAction)) → all ≡ early ++ late → Extends (handed_messages (is_a x) early c) (readied_messages (is_a x) early c)) where
+    (prefix : (early late : List (Bool × EndAction)) → all ≡ early ++ late → Extends (messages_handed_out (is_a x) early c) (messages_made_ready (is_a x) early c)) where
   abbrev IsPrefix : List Entry → Type 0
   IsPrefix early = Extends (handed_out x early) (ready x early)
 
   prefix_action : (done rest : List (Bool × EndAction)) (log : List Entry) → all ≡ done ++ rest → IsReached c done log → IsPrefix log
   prefix_action done rest log e r =
       subst (λ (l : List Message). Extends l (ready x log)) (sym (r.handed_are x))
-      (subst (λ (l : List Message). Extends (handed_messages (is_a x) done c) l) (sym (r.ready_are x)) (prefix done rest e))
+      (subst (λ (l : List Message). Extends (messages_handed_out (is_a x) done c) l) (sym (r.ready_are x)) (prefix done rest e))
 
   prefix_within : (e : Bool × EndAction) (d : Pair) (log mid front behind : List Entry) (b : IsBlock e d log mid) → b.more ≡ front ++ behind → IsPrefix log → IsPrefix mid
       → IsPrefix (log ++ b.first ∷ front)

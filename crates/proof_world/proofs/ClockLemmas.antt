@@ -2,13 +2,13 @@
 use Rattle.std.proofs.Common.{◌≡◌, ℕ, Bool, true, false, Option, Some, None, List, refl, ap, ◌∙◌, slice_get}
 use Rattle.sctp_packet.specs.Packet.{PacketTree}
 use Rattle.spec_endpoint.specs.Association.{Context, Endpoint}
-use Rattle.spec_endpoint.specs.Input.{refusal}
+use Rattle.spec_endpoint.specs.Input.{packet_refusal}
 use Rattle.spec_endpoint.specs.ResetRequests.{Outcome, Unsettled, Done, Denied, outcome}
 use Rattle.spec_endpoint.specs.StreamReset.{on_outcome}
-use Rattle.spec_endpoint.specs.Laws.{Call, Advance, Packet, called}
+use Rattle.spec_endpoint.specs.Laws.{Call, Advance, ReceivePacket, called}
 use Rattle.proof_endpoint.specs.Mapped.{Carried}
 use Rattle.proof_endpoint.specs.Acts.{EndWithPacket, PacketAct, begins, before_packets, after_packets, OpeningAct, connects, before_opening, after_opening, ClosingAct, closes, before_closing, after_closing, DataAct, takes_data, before_data, after_data, SackAct, takes_sack, before_sack, after_sack, SendingAct, asks, before_sending, after_sending, TimeAct, advances, before_time, after_time, CallAct, accepts, before_call, after_call, ResetAct, takes_response, before_reset, after_reset, HandoverAct, leaves, before_handover, after_handover, InputAct, ends_packet, before_input, after_input, Preserves}
-use Rattle.proof_pair.specs.Trace.{Side, emitted_packets, EndAction, Calls, Gives, Refuses, as_received, give, foreign_if, act, state_of}
+use Rattle.proof_pair.specs.Trace.{Side, emitted_packets, EndAction, Calls, Gives, Refuses, as_received, give_carried, foreign_if, act, state_of}
 use Rattle.proof_endpoint.proofs.ActsLemmas.{keeps_call}
 use Rattle.proof_delivery.specs.Justified.{clock}
 use Rattle.proof_protocol.proofs.ToolsLemmas.{not_both}
@@ -93,15 +93,15 @@ moves action = false
 called_still : (call : Call) → moves (Calls call) ≡ false → (e : Endpoint Carried) → (called call e).endpoint_state.context.now ≡ e.endpoint_state.context.now
 called_still call none e = keeps_call call (stays call (λ now is. not_both (ap (λ (c : Call). moves (Calls c)) is) none)) e
 
-given_still : (p : Option Carried) (checksum : ℕ) (x : Side) → clock (give p checksum x) ≡ clock x
+given_still : (p : Option Carried) (checksum : ℕ) (x : Side) → clock (give_carried p checksum x) ≡ clock x
 given_still None checksum x = refl
-given_still (Some p) checksum x = called_still (Packet (as_received p checksum)) refl x.end
+given_still (Some p) checksum x = called_still (ReceivePacket (as_received p checksum)) refl x.end
 
 refused_still : (r : Option (List ℕ)) (p : PacketTree) (x : Side) → clock (foreign_if r p x) ≡ clock x
 refused_still None p x = refl
-refused_still (Some text) p x = called_still (Packet p) refl x.end
+refused_still (Some text) p x = called_still (ReceivePacket p) refl x.end
 
 pub action_still : (t : EndAction) (x y : Side) → moves t ≡ false → clock (act t x y) ≡ clock x
 action_still (Calls call) x y none = called_still call none x.end
 action_still (Gives which checksum) x y none = given_still (slice_get (emitted_packets y) which) checksum x
-action_still (Refuses p) x y none = refused_still (refusal p.header.verification_tag p.chunks (state_of x)) p x
+action_still (Refuses p) x y none = refused_still (packet_refusal p.header.verification_tag p.chunks (state_of x)) p x

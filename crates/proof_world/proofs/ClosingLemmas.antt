@@ -22,10 +22,10 @@ use Rattle.proof_delivery.specs.Justified.{reset_by}
 use Rattle.spec_world.specs.Observations as observations
 use Rattle.spec_world.specs.Observations.{End, A, B, Entry, Given, Foreign, Call, ready_by, handed_out_by, given_up_by}
 use Rattle.spec_world.specs.World as worlds
-use Rattle.spec_world.specs.World.{Side, World, Action, CallOf, Give, GiveForeign, AdvanceTime, InjectsInto, taken_in, withheld, Happens, side_of, other, news_of, association, associated_if, association_entries, emitted_entries, given_up_entries, ready_entries, ready_before, calls, call_entry, after_call, advances_time, time_entry, after_time, clock, table_call}
+use Rattle.spec_world.specs.World.{Side, World, Action, CallOf, Give, GiveForeign, AdvanceTime, MeetsForeignAt, given, withheld, Happens, side_of, other, news_of, association, associated_if, association_entries, emitted_entries, given_up_entries, ready_entries, ready_before, call_socket, call_entry, after_call, advance_time, time_entry, after_time, clock, table_call}
 use Rattle.proof_world.specs.Traces.{is_a, end_of, IsActionOf}
 use Rattle.proof_world.specs.Delivered.{accepted_messages_by, emitted_events_by, reported_by}
-use Rattle.proof_world.specs.Consistent.{ended_by, times_ended, NoneHasEnded}
+use Rattle.proof_world.specs.Consistent.{association_ends_by, times_ended, NoEndingIsLogged}
 use Rattle.proof_world.proofs.EventLemmas.{mapped}
 use Rattle.proof_world.proofs.LoggedLemmas.{IsQuietOnEmitted, behind_none, none_ready, none_associated, none_emitted, quiet_offers, quiet_ready, quiet_handed, quiet_reported}
 use Rattle.proof_world.proofs.StandingLemmas.{times_more}
@@ -42,7 +42,7 @@ use Rattle.proof_world.proofs.DeliveredLemmas.{calls_log, time_log}
 pub record IsParted (x : End) (turn : EndAction) (own : traces.Side) (log longer : List Entry) : Type 0 where
   pub first : Entry
   pub begins : BeginsWith x turn own first
-  pub no_end : (y : End) → ended_by y first ≡ []
+  pub no_end : (y : End) → association_ends_by y first ≡ []
   pub rest : List Entry
   pub behind : List Entry
   pub logged : longer ≡ log ++ first ∷ (rest ++ behind)
@@ -52,13 +52,13 @@ pub record IsParted (x : End) (turn : EndAction) (own : traces.Side) (log longer
   pub given_up : (y : End) → flat_map (given_up_by y) rest ≡ []
   pub reported : flat_map (reported_by (other x)) rest ≡ []
   pub happened : flat_map (emitted_events_by (other x)) rest ≡ []
-  pub ended : (y : End) → flat_map (ended_by y) behind ≡ []
+  pub ended : (y : End) → flat_map (association_ends_by y) behind ≡ []
 
 none_front : {X : Type 0} (f : Entry → List X) (x : End) → IsQuietOnEmitted f x → (b : Bool) (a : Option Association) (n : ℕ) (es : List (Event (List ℕ)))
     → flat_map f (associated_if b x a ++ emitted_entries x n es) ≡ []
 none_front f x q b a n es = behind_none f x (associated_if b x a) (emitted_entries x n es) (none_associated f x q b a) ∙ none_emitted f x q n es
 
-none_over : (x y : End) (gs : List GivenUp) → flat_map (ended_by y) (given_up_entries x gs) ≡ []
+none_over : (x y : End) (gs : List GivenUp) → flat_map (association_ends_by y) (given_up_entries x gs) ≡ []
 none_over x y [] = refl
 none_over x y (g ∷ gs) = none_over x y gs
 
@@ -66,7 +66,7 @@ module _ (f : Mapping Carried (List ℕ)) (x : End) (own : traces.Side) (w u : W
   abbrev s : Endpoint (List ℕ)
   s = (side_of x w).socket
 
-  parted_by : (first : Entry) → BeginsWith x turn own first → ((y : End) → ended_by y first ≡ []) → (after : Endpoint (List ℕ)) → u.log ≡ w.log ++ first ∷ news_of x (side_of x w) after → IsParted x turn own w.log u.log
+  parted_by : (first : Entry) → BeginsWith x turn own first → ((y : End) → association_ends_by y first ≡ []) → (after : Endpoint (List ℕ)) → u.log ≡ w.log ++ first ∷ news_of x (side_of x w) after → IsParted x turn own w.log u.log
   parted_by first begins no_end after logged =
       let n : ℕ = length (side_of x w).packets in
       let old = association s in
@@ -89,17 +89,17 @@ module _ (f : Mapping Carried (List ℕ)) (x : End) (own : traces.Side) (w u : W
         reported = none_front (reported_by (other x)) x (quiet_reported (other x) x (not_other x)).on_emitted same (association after) n es;
         happened = none_front (emitted_events_by (other x)) x (quiet_happened (other x) x (not_other x)).on_emitted same (association after) n es;
         ended = λ y.
-            flat_map-append (ended_by y) given_up_part last
-            ∙ (ap (λ (l : List End). l ++ flat_map (ended_by y) last) (none_over x y after.endpoint_state.context.emitted.given_up)
-            ∙ none_ready (ended_by y) x (λ m. refl) (drop (ready_before (observations.same_association old (association after)) (length (worlds.ready_at s))) (worlds.ready_at after)));
+            flat_map-append (association_ends_by y) given_up_part last
+            ∙ (ap (λ (l : List End). l ++ flat_map (association_ends_by y) last) (none_over x y after.endpoint_state.context.emitted.given_up)
+            ∙ none_ready (association_ends_by y) x (λ m. refl) (drop (ready_before (observations.same_association old (association after)) (length (worlds.ready_at s))) (worlds.ready_at after)));
       }
 
-  call_parted : (call : Call) → turn ≡ Calls (table_call call) → u ≡ calls x call w → IsParted x turn own w.log u.log
+  call_parted : (call : Call) → turn ≡ Calls (table_call call) → u ≡ call_socket x call w → IsParted x turn own w.log u.log
   call_parted call t e =
       parted_by (call_entry x call s) (subst (λ (z : EndAction). BeginsWith x z own (call_entry x call s)) (sym t) (call_begins f x own s is call)) (λ y. refl) (after_call call s)
       (ap (λ (z : World). z.log) e ∙ calls_log x call w)
 
-  time_parted : (now : ℕ) → turn ≡ Calls (table.Advance now) → u ≡ advances_time x now w → IsParted x turn own w.log u.log
+  time_parted : (now : ℕ) → turn ≡ Calls (table.Advance now) → u ≡ advance_time x now w → IsParted x turn own w.log u.log
   time_parted now t e =
       parted_by (time_entry x now s) (subst (λ (z : EndAction). BeginsWith x z own (time_entry x now s)) (sym t) (time_begins f x own s now)) (λ y. refl) (after_time now s)
       (ap (λ (z : World). z.log) e ∙ time_log x now w)
@@ -107,9 +107,9 @@ module _ (f : Mapping Carried (List ℕ)) (x : End) (own : traces.Side) (w u : W
   give_parted : (packet : ℕ) → turns.accepted_in turn own ≡ [] → handed_by turn own ≡ [] → reset_by turn own ≡ [] → worlds.Gives x packet w u → IsParted x turn own w.log u.log
   give_parted packet h k l g = parted_by (Given x (clock s) packet) (give_begins f x own turn (clock s) packet h k l) (λ y. refl) g.takes_bytes.after g.takes_bytes.logged
 
-  foreign_parted : (bytes : List ℕ) → turns.accepted_in turn own ≡ [] → handed_by turn own ≡ [] → reset_by turn own ≡ [] → InjectsInto x bytes (side_of x w) (side_of x u) w.log u.log
+  foreign_parted : (bytes : List ℕ) → turns.accepted_in turn own ≡ [] → handed_by turn own ≡ [] → reset_by turn own ≡ [] → MeetsForeignAt x bytes (side_of x w) (side_of x u) w.log u.log
       → IsParted x turn own w.log u.log
-  foreign_parted bytes h k l (taken_in t judged) = parted_by (Foreign x (clock s) (Some bytes)) (foreign_begins f x own turn (clock s) (Some bytes) h k l) (λ y. refl) t.after t.logged
+  foreign_parted bytes h k l (given t judged) = parted_by (Foreign x (clock s) (Some bytes)) (foreign_begins f x own turn (clock s) (Some bytes) h k l) (λ y. refl) t.after t.logged
   foreign_parted bytes h k l (withheld judged stays logged) = record {
     first = Foreign x (clock s) None;
     begins = foreign_begins f x own turn (clock s) None h k l;
@@ -154,7 +154,7 @@ pub record IsFront (first : Entry) (rest early : List Entry) : Type 0 where
   pub split : rest ≡ some ++ more
 
 module _ (x : End) (turn : EndAction) (own : traces.Side) (log longer : List Entry) (b : IsParted x turn own log longer) where
-  pub in_front : (early late : List Entry) → longer ≡ (log ++ early) ++ late → NoneHasEnded (log ++ early) → (NoneHasEnded longer → ⊥) → (early ≡ []) ⊎ IsFront b.first b.rest early
+  pub in_front : (early late : List Entry) → longer ≡ (log ++ early) ++ late → NoEndingIsLogged (log ++ early) → (NoEndingIsLogged longer → ⊥) → (early ≡ []) ⊎ IsFront b.first b.rest early
   in_front early late e stands over = go (one_is_longer (b.first ∷ b.rest) b.behind early late here)
     where
       here : (b.first ∷ b.rest) ++ b.behind ≡ early ++ late
@@ -172,8 +172,8 @@ module _ (x : End) (turn : EndAction) (own : traces.Side) (log longer : List Ent
       -- all that says of an end would stand in it
       go : Longer (b.first ∷ b.rest) early late b.behind ⊎ Longer early (b.first ∷ b.rest) b.behind late → (early ≡ []) ⊎ IsFront b.first b.rest early
       go (inl m) =
-          let stays : NoneHasEnded longer = λ y.
-          let none : times_ended y (m.between ++ late) ≡ 0 = ap (λ (l : List End). length l) (sym (ap (flat_map (ended_by y)) m.behind) ∙ b.ended y) in
+          let stays : NoEndingIsLogged longer = λ y.
+          let none : times_ended y (m.between ++ late) ≡ 0 = ap (λ (l : List End). length l) (sym (ap (flat_map (association_ends_by y)) m.behind) ∙ b.ended y) in
           let parts = times_more y m.between late in
           let sum = times_more y (log ++ early) late in
           let before = stands y in

@@ -17,9 +17,9 @@ use Rattle.proof_delivery.specs.StreamEpochs.{failed_in}
 use Rattle.spec_world.specs.Observations.{End, A, B, Connect, Shutdown, Entry, Called, BecameReady, ready, handed_out}
 use Rattle.spec_world.specs.World.{World, Action, Runs, other, is_at_rest}
 use Rattle.spec_world.proofs.RunLemmas.{Runs_append}
-use Rattle.proof_world.specs.Traces.{ActionFits, IsInBytes, IsReachable, origin, is_a, end_of}
-use Rattle.proof_world.specs.Consistent.{gets_init, got_init, NoneHasEnded, MayFollow, KeepsOpeningRules, AreConsistent}
-use Rattle.proof_world.specs.Delivered.{AlongRun, sets_more, accepted_messages, emitted_events, given_up_places, ready_places, IsInItsEpoch, Delivers, IsInBounds}
+use Rattle.proof_world.specs.Traces.{ActionFits, IsInBytes, IsReachable, initial_world, is_a, end_of}
+use Rattle.proof_world.specs.Consistent.{gets_init, got_init, NoEndingIsLogged, MayFollow, WorldKeepsRules, WorldEndsAreConsistent}
+use Rattle.proof_world.specs.Delivered.{AlongRun, sets_more, accepted_messages, emitted_events, given_up_places, ready_places, IsInItsEpoch, WorldDelivers, WorldIsInBounds}
 use Rattle.proof_world.specs.Composed.{WorldsCompose}
 use Rattle.proof_world.proofs.SidesLemmas.{any_more}
 use Rattle.proof_world.proofs.StandingLemmas.{times_more, stands_front}
@@ -38,8 +38,8 @@ pub reachable_on : (w v : World) (actions : List Action) → IsReachable w → A
 reachable_on w v actions l fit r small = record {
   a = l.a;
   b = l.b;
-  random_a = l.random_a;
-  random_b = l.random_b;
+  draws_a = l.draws_a;
+  draws_b = l.draws_b;
   word_of_a = l.word_of_a;
   word_of_b = l.word_of_b;
   valid_a = l.valid_a;
@@ -58,12 +58,12 @@ one P x h = All-cons P x [] h (All-nil P)
 -- ---- worlds on the way
 
 -- an earlier world, by the first actions
-abbrev reachable_before : (w u : World) (l : IsReachable w) (front : List Action) → All ActionFits front → Runs front (origin l) u → Extends u w → IsReachable u
+abbrev reachable_before : (w u : World) (l : IsReachable w) (front : List Action) → All ActionFits front → Runs front (initial_world l) u → Extends u w → IsReachable u
 reachable_before w u l front fit r e = record {
   a = l.a;
   b = l.b;
-  random_a = l.random_a;
-  random_b = l.random_b;
+  draws_a = l.draws_a;
+  draws_b = l.draws_b;
   word_of_a = l.word_of_a;
   word_of_b = l.word_of_b;
   valid_a = l.valid_a;
@@ -77,7 +77,7 @@ reachable_before w u l front fit r e = record {
 }
 
 -- which kept the rules, where the later one does
-rules_before : (u v : World) → Extends u v → KeepsOpeningRules v → KeepsOpeningRules u
+rules_before : (u v : World) → Extends u v → WorldKeepsRules v → WorldKeepsRules u
 rules_before u v e rules before entry behind is stands =
     may_before entry
     (rules before entry (behind ++ e.more) (e.logged ∙ (ap (λ (l : List Entry). l ++ e.more) is ∙ append_assoc before (entry ∷ behind) e.more)) stands)
@@ -116,9 +116,9 @@ same_or_other B A = inr refl
 
 -- ---- until an association is over
 
-module _ (w : World) (l : IsReachable w) (rules : KeepsOpeningRules w) where
-  up : UpToEnd l.actions (origin l) w l.runs
-  up = up_to_end l.actions (origin l) w l.fit l.runs (λ x. refl)
+module _ (w : World) (l : IsReachable w) (rules : WorldKeepsRules w) where
+  up : UpToEnd l.actions (initial_world l) w l.runs
+  up = up_to_end l.actions (initial_world l) w l.fit l.runs (λ x. refl)
 
   abbrev u : World
   u = up.world
@@ -126,16 +126,16 @@ module _ (w : World) (l : IsReachable w) (rules : KeepsOpeningRules w) where
   abbrev reachable : IsReachable u
   reachable = reachable_before w u l up.front up.fit up.before up.later
 
-  u_rules : KeepsOpeningRules u
+  u_rules : WorldKeepsRules u
   u_rules = rules_before u w up.later rules
 
   abbrev Over : Type 0
-  Over = IsOver l.actions (origin l) w l.runs up.front u up.before
+  Over = IsOver l.actions (initial_world l) w l.runs up.front u up.before
 
   -- each beginning that stands is one of that world, or ends in the event behind it
   at_early : (P : List Entry → Type 0) (o : Over) → ((early late : List Entry) → u.log ≡ early ++ late → P early)
-      → ((more late : List Entry) → o.next.log ≡ (u.log ++ more) ++ late → NoneHasEnded (u.log ++ more) → P (u.log ++ more))
-      → (early late : List Entry) → w.log ≡ early ++ late → NoneHasEnded early → P early
+      → ((more late : List Entry) → o.next.log ≡ (u.log ++ more) ++ late → NoEndingIsLogged (u.log ++ more) → P (u.log ++ more))
+      → (early late : List Entry) → w.log ≡ early ++ late → NoEndingIsLogged early → P early
   at_early P o before within early late is stands =
       elim (one_is_longer early late u.log up.later.more (sym is ∙ up.later.logged)) [
         | inl m ↦ before early m.between m.made
@@ -147,11 +147,11 @@ module _ (w : World) (l : IsReachable w) (rules : KeepsOpeningRules w) where
           elim (one_is_longer early late o.next.log o.later.more (sym is ∙ o.later.logged)) [
             | inl m ↦
                 subst P (sym made)
-                (within more m.between (m.made ∙ ap (λ (l : List Entry). l ++ m.between) made) (subst NoneHasEnded made stands))
+                (within more m.between (m.made ∙ ap (λ (l : List Entry). l ++ m.between) made) (subst NoEndingIsLogged made stands))
             | inr m ↦ absurd (o.ends (stands_front o.next.log m.between early m.made stands))
           ]
 
-  pub handed_then : (x : End) (early late : List Entry) → w.log ≡ early ++ late → NoneHasEnded early → orders.Extends (handed_out x early) (ready x early)
+  pub handed_then : (x : End) (early late : List Entry) → w.log ≡ early ++ late → NoEndingIsLogged early → orders.Extends (handed_out x early) (ready x early)
   handed_then x early late is stands =
       elim up.over [
         | inl same ↦ prefix u reachable u_rules up.stands x early late (ap (λ (z : World). z.log) (sym same) ∙ is)
@@ -163,9 +163,9 @@ module _ (w : World) (l : IsReachable w) (rules : KeepsOpeningRules w) where
 
   -- ---- what is delivered
 
-  module _ (k : IsInBounds l.actions (origin l) w l.runs) where
-    kept : IsKept u reachable u_rules up.stands
-    kept = record {
+  module _ (k : WorldIsInBounds l.actions (initial_world l) w l.runs) where
+    kept_up_to_end : IsKept u reachable u_rules up.stands
+    kept_up_to_end = record {
       windows = up.windows no_stamps k.windows;
       answered = up.requests none_asked k.resets.answered;
       few_resets = λ x. k.resets.few x u.log up.later.more up.later.logged up.stands;
@@ -186,7 +186,7 @@ module _ (w : World) (l : IsReachable w) (rules : KeepsOpeningRules w) where
         epochs_front u reachable u_rules up.stands x from before late m
         (e ∙ (ap (λ (l : List Entry). l ++ late) is ∙ append_assoc before (BecameReady (other x) m ∷ []) late))
 
-    epochs_then : (o : Over) (x : End) (from : Given x) (early late : List Entry) → w.log ≡ early ++ late → NoneHasEnded early → LastIsInItsEpoch x from early
+    epochs_then : (o : Over) (x : End) (from : Given x) (early late : List Entry) → w.log ≡ early ++ late → NoEndingIsLogged early → LastIsInItsEpoch x from early
     epochs_then o x from =
         at_early (LastIsInItsEpoch x from) o (epochs_before x from)
         (λ more behind e st before m is.
@@ -194,12 +194,12 @@ module _ (w : World) (l : IsReachable w) (rules : KeepsOpeningRules w) where
         epochs_front u reachable u_rules up.stands x from before there.0 m there.1)
 
     -- it ends no association
-    stands_ready : (x : End) (early : List Entry) (m : Message) → NoneHasEnded early → NoneHasEnded (early ++ BecameReady x m ∷ [])
+    stands_ready : (x : End) (early : List Entry) (m : Message) → NoEndingIsLogged early → NoEndingIsLogged (early ++ BecameReady x m ∷ [])
     stands_ready x early m st y = let sum = times_more y early (BecameReady x m ∷ []) in let before = st y in omega (arith, sum, before)
 
-    given : (x : End) (from : Given x) → ((early late : List Entry) → w.log ≡ early ++ late → NoneHasEnded early → IsDeliveredAt x from.places early)
-        → ((early late : List Entry) → w.log ≡ early ++ late → NoneHasEnded early → LastIsInItsEpoch x from early)
-        → Delivers x l.actions (origin l) w l.runs
+    given : (x : End) (from : Given x) → ((early late : List Entry) → w.log ≡ early ++ late → NoEndingIsLogged early → IsDeliveredAt x from.places early)
+        → ((early late : List Entry) → w.log ≡ early ++ late → NoEndingIsLogged early → LastIsInItsEpoch x from early)
+        → WorldDelivers x l.actions (initial_world l) w l.runs
     given x from each in_epochs = record {
       places = from.places;
       fits = λ early late e st. (each early late e st).fits;
@@ -229,11 +229,11 @@ module _ (w : World) (l : IsReachable w) (rules : KeepsOpeningRules w) where
     ends_then : MessagesAreDeliveredThen → (o : Over) → delivery_then.DeliversThen (is_a (end_of o.action)) (r u reachable u_rules up.stands).trace
         (step u reachable u_rules up.stands o.action o.next w o.fits o.happens o.ends o.later rules).turn (first_pair u reachable u_rules up.stands)
     ends_then then o =
-        ends_delivering u reachable u_rules up.stands o.action o.next w o.fits o.happens o.ends o.later rules then kept
+        ends_delivering u reachable u_rules up.stands o.action o.next w o.fits o.happens o.ends o.later rules then kept_up_to_end
         (o.timely no_stamps k.windows) (o.none_such sets_more k.limits) (few_then o)
 
     -- by the end whose event it is
-    by_own : MessagesAreDeliveredThen → (o : Over) → Delivers (end_of o.action) l.actions (origin l) w l.runs
+    by_own : MessagesAreDeliveredThen → (o : Over) → WorldDelivers (end_of o.action) l.actions (initial_world l) w l.runs
     by_own then o =
         let from = ends_then then o in
         given (end_of o.action) from.delivers
@@ -242,26 +242,26 @@ module _ (w : World) (l : IsReachable w) (rules : KeepsOpeningRules w) where
         delivered_own u reachable u_rules up.stands o.action o.next w o.fits o.happens o.ends o.later rules more behind e st from (whole_front (end_of o.action) from.delivers)))
         (epochs_then o (end_of o.action) from.delivers)
 
-    by_other : MessagesAreDelivered → (o : Over) → Delivers (other (end_of o.action)) l.actions (origin l) w l.runs
+    by_other : MessagesAreDelivered → (o : Over) → WorldDelivers (other (end_of o.action)) l.actions (initial_world l) w l.runs
     by_other law o =
-        let from : Given (other (end_of o.action)) = trace_delivers u reachable u_rules up.stands law kept (other (end_of o.action)) in
+        let from : Given (other (end_of o.action)) = trace_delivers u reachable u_rules up.stands law kept_up_to_end (other (end_of o.action)) in
         given (other (end_of o.action)) from
         (at_early (IsDeliveredAt (other (end_of o.action)) from.places) o (delivered_front u reachable u_rules up.stands (other (end_of o.action)) from)
         (λ more behind e st.
         delivered_beside u reachable u_rules up.stands o.action o.next w o.fits o.happens o.ends o.later rules more behind e st from.places (whole_front (other (end_of o.action)) from)))
         (epochs_then o (other (end_of o.action)) from)
 
-    pub delivers_then : MessagesAreDelivered → MessagesAreDeliveredThen → (x : End) → Delivers x l.actions (origin l) w l.runs
+    pub delivers_then : MessagesAreDelivered → MessagesAreDeliveredThen → (x : End) → WorldDelivers x l.actions (initial_world l) w l.runs
     delivers_then law then x =
         elim up.over [
           | inl same ↦
-              let from : Given x = trace_delivers u reachable u_rules up.stands law kept x in
+              let from : Given x = trace_delivers u reachable u_rules up.stands law kept_up_to_end x in
               given x from (λ early late e st. delivered_front u reachable u_rules up.stands x from early late (ap (λ (z : World). z.log) (sym same) ∙ e))
               (λ early late e st. epochs_before x from early late (ap (λ (z : World). z.log) (sym same) ∙ e))
           | inr o ↦
               elim (same_or_other x (end_of o.action)) [
-                | inl own ↦ subst (λ (y : End). Delivers y l.actions (origin l) w l.runs) (sym own) (by_own then o)
-                | inr beside ↦ subst (λ (y : End). Delivers y l.actions (origin l) w l.runs) (sym beside) (by_other law o)
+                | inl own ↦ subst (λ (y : End). WorldDelivers y l.actions (initial_world l) w l.runs) (sym own) (by_own then o)
+                | inr beside ↦ subst (λ (y : End). WorldDelivers y l.actions (initial_world l) w l.runs) (sym beside) (by_other law o)
               ]
         ]
 
@@ -271,24 +271,24 @@ module _ (w : World) (l : IsReachable w) (rules : KeepsOpeningRules w) where
     NoneFails x log = failed_in (emitted_events x log) ≡ false
 
     none_fails_so_far : NoResetIsRefused → (x : End) → NoneFails x u.log
-    none_fails_so_far refuses x = none_failed u reachable u_rules up.stands refuses kept x
+    none_fails_so_far refuses x = none_failed u reachable u_rules up.stands refuses kept_up_to_end x
 
     none_fails_before : NoResetIsRefused → (x : End) (early late : List Entry) → u.log ≡ early ++ late → NoneFails x early
     none_fails_before refuses x early late e = none_failed_front u reachable u_rules up.stands x (none_fails_so_far refuses x) early late e
 
-    own_fails_none : NoResetIsRefused → MessagesAreDeliveredThen → (o : Over) (early late : List Entry) → w.log ≡ early ++ late → NoneHasEnded early → NoneFails (end_of o.action) early
+    own_fails_none : NoResetIsRefused → MessagesAreDeliveredThen → (o : Over) (early late : List Entry) → w.log ≡ early ++ late → NoEndingIsLogged early → NoneFails (end_of o.action) early
     own_fails_none refuses then o =
         at_early (NoneFails (end_of o.action)) o (none_fails_before refuses (end_of o.action))
         (λ more behind e st.
         none_failed_own u reachable u_rules up.stands o.action o.next w o.fits o.happens o.ends o.later rules more behind e st (ends_then then o))
 
-    other_fails_none : NoResetIsRefused → (o : Over) (early late : List Entry) → w.log ≡ early ++ late → NoneHasEnded early → NoneFails (other (end_of o.action)) early
+    other_fails_none : NoResetIsRefused → (o : Over) (early late : List Entry) → w.log ≡ early ++ late → NoEndingIsLogged early → NoneFails (other (end_of o.action)) early
     other_fails_none refuses o =
         at_early (NoneFails (other (end_of o.action))) o (none_fails_before refuses (other (end_of o.action)))
         (λ more behind e st.
         none_failed_beside u reachable u_rules up.stands o.action o.next w o.fits o.happens o.ends o.later rules more behind e st (none_fails_so_far refuses (other (end_of o.action))))
 
-    pub none_fails : NoResetIsRefused → MessagesAreDeliveredThen → (x : End) (early late : List Entry) → w.log ≡ early ++ late → NoneHasEnded early → NoneFails x early
+    pub none_fails : NoResetIsRefused → MessagesAreDeliveredThen → (x : End) (early late : List Entry) → w.log ≡ early ++ late → NoEndingIsLogged early → NoneFails x early
     none_fails refuses then x early late is stands =
         elim up.over [
           | inl same ↦ none_fails_before refuses x early late (ap (λ (z : World). z.log) (sym same) ∙ is)
@@ -302,11 +302,11 @@ module _ (w : World) (l : IsReachable w) (rules : KeepsOpeningRules w) where
 pub compose : MessagesAreDelivered → NoResetIsRefused → MessagesAreDeliveredThen → WorldsCompose
 compose law refuses then w l = record {
   consistent = λ rules.
-      along_reachable (λ z. NoneHasEnded z.log → AreConsistent l.a l.b z) (origin l) [] l.actions (origin l) w refl l.runs (All-nil ActionFits) l.fit
+      along_reachable (λ z. NoEndingIsLogged z.log → WorldEndsAreConsistent l.a l.b z) (initial_world l) [] l.actions (initial_world l) w refl l.runs (All-nil ActionFits) l.fit
       (λ front y fit before later stands.
       are_consistent ends_consistent y (reachable_before w y l front fit before later) (record { follows = rules_before y w later rules; stands = stands }));
   handed = λ rules. handed_then w l rules;
   delivers = λ rules k. delivers_then w l rules k law then;
   none_refused = λ rules k. none_fails w l rules k refuses then;
-  justified = worlds_justified l.a l.b l.random_a l.random_b l.word_of_a l.word_of_b l.actions w l.fits_a l.fits_b l.fit l.runs l.bytes;
+  justified = worlds_justified l.a l.b l.draws_a l.draws_b l.word_of_a l.word_of_b l.actions w l.fits_a l.fits_b l.fit l.runs l.bytes;
 }

@@ -18,7 +18,7 @@ use Rattle.proof_pair.specs.Trace.{Pair, EndAction, Calls, Gives, emitted_packet
 use Rattle.proof_pair.specs.Handing.{text}
 use Rattle.spec_world.specs.Observations.{A, B}
 use Rattle.spec_world.specs.World.{Action, CallOf, Give, GiveForeign, AdvanceTime, table_call}
-use Rattle.proof_world.specs.Traces.{ActionFits, is_a, end_of, is_let_through, receiving, IsReceiving, IsActionOf, AreActionsOf}
+use Rattle.proof_world.specs.Traces.{ActionFits, is_a, end_of, is_let_through, give_action, IsGiveAction, IsActionOf, AreActionsOf}
 use Rattle.proof_world.specs.Worlds.{is_foreign, NoneIsForeign}
 
 -- ---- where each checksum is 0, each packet is let through
@@ -29,7 +29,7 @@ no_sum bytes = 0
 abbrev pub action_of : Action → EndAction
 action_of (CallOf x call) = Calls (table_call call)
 action_of (Give n x) = Gives n 0
-action_of (GiveForeign x bytes) = Calls table.NoPacket
+action_of (GiveForeign x bytes) = Calls table.ReceiveNoPacket
 action_of (AdvanceTime x now) = Calls (table.Advance now)
 
 abbrev pub actions_of : List Action → List (Bool × EndAction)
@@ -44,12 +44,12 @@ passes o p =
     ap (λ (n : ℕ). o.disable_checksum_verification || ((n == 0) || ((n == 0) && not (o.zero_checksum_method == 0)))) (zero_field p.is_summed p.header p.chunks)
     ∙ or_right o.disable_checksum_verification true refl
 
-receives : (n : ℕ) (end beside : traces.Side) (o : Option Carried) → slice_get (emitted_packets beside) n ≡ o → is_some o ≡ true → IsReceiving no_sum no_sum n end beside (Gives n 0)
+receives : (n : ℕ) (end beside : traces.Side) (o : Option Carried) → slice_get (emitted_packets beside) n ≡ o → is_some o ≡ true → IsGiveAction no_sum no_sum n end beside (Gives n 0)
 receives n end beside None e h = cc
 receives n end beside (Some p) e h = record {
   carried = p;
   there = e;
-  received = sym (ap (λ (b : Bool). receiving b n (field_of no_sum p.header p.is_summed p.chunks)) (passes end.end.endpoint_state.context.options p) ∙ ap (λ (sum : ℕ). Gives n sum) (zero_field p.is_summed p.header p.chunks));
+  received = sym (ap (λ (b : Bool). give_action b n (field_of no_sum p.header p.is_summed p.chunks)) (passes end.end.endpoint_state.context.options p) ∙ ap (λ (sum : ℕ). Gives n sum) (zero_field p.is_summed p.header p.chunks));
 }
 
 -- the packets that are given are there

@@ -4,9 +4,9 @@ use Rattle.std.specs.List.{flat_map, list_any}
 use Rattle.std.proofs.lemmas.Grind.{flat_map-append}
 use Rattle.std.proofs.lemmas.Bool.{or_parts}
 use Rattle.spec_endpoint.specs.Association.{Endpoint}
-use Rattle.spec_world.specs.Observations.{End, A, Entry, Called, Given, Foreign, Timed, Associated, EmittedPacket, EmittedEvent, GaveUp, BecameReady, Call, Connect, Shutdown, Close, Send, SendMany, Receive, Reset, SetPriority, SetMaxMessageSize, SetLowThreshold, HandOver}
-use Rattle.spec_world.specs.World.{Side, World, Action, CallOf, Give, GiveForeign, AdvanceTime, InjectsInto, taken_in, withheld, Happens, Runs, side_of, association, ready_at, news_of, clock, call_entry, after_call, time_entry, after_time}
-use Rattle.proof_world.specs.Consistent.{MayFollow, KeepsOpeningRules}
+use Rattle.spec_world.specs.Observations.{End, A, Entry, Called, Given, Foreign, Timed, Associated, EmittedPacket, EmittedEvent, GaveUp, BecameReady, Call, Connect, Shutdown, Close, Send, SendMany, TakeMessage, Reset, SetPriority, SetMaxMessageSize, SetLowThreshold, HandOver}
+use Rattle.spec_world.specs.World.{Side, World, Action, CallOf, Give, GiveForeign, AdvanceTime, MeetsForeignAt, given, withheld, Happens, Runs, side_of, association, ready_at, news_of, clock, call_entry, after_call, time_entry, after_time}
+use Rattle.proof_world.specs.Consistent.{MayFollow, WorldKeepsRules}
 use Rattle.proof_world.proofs.LoggedLemmas.{IsQuietOn, none_in_news}
 use Rattle.proof_world.proofs.PrefixLemmas.{none_behind, none_before}
 use Rattle.proof_world.proofs.DeliveredLemmas.{calls_log, time_log}
@@ -48,8 +48,8 @@ in_rest x side s = none_in_news ruled_by x (quiet_ruled x) (λ m. refl) (length 
 none_in_block : (x : End) (side : Side) (s : Endpoint (List ℕ)) (first : Entry) → ruled_by first ≡ [] → ruled (first ∷ news_of x side s) ≡ []
 none_in_block x side s first e = ap (λ (l : List Entry). l ++ ruled (news_of x side s)) e ∙ in_rest x side s
 
-comes : (x : End) (bytes : List ℕ) (old new : Side) (log longer : List Entry) → InjectsInto x bytes old new log longer → AddsNoRuled log longer
-comes x bytes old new log longer (taken_in t judged) = (_, t.logged, none_in_block x old t.after (Foreign x (clock old.socket) (Some bytes)) refl)
+comes : (x : End) (bytes : List ℕ) (old new : Side) (log longer : List Entry) → MeetsForeignAt x bytes old new log longer → AddsNoRuled log longer
+comes x bytes old new log longer (given t judged) = (_, t.logged, none_in_block x old t.after (Foreign x (clock old.socket) (Some bytes)) refl)
 comes x bytes old new log longer (withheld judged stays logged) = (_, logged, refl)
 
 adds : (action : Action) (w u : World) → asks_rules action ≡ false → Happens action w u → AddsNoRuled w.log u.log
@@ -85,7 +85,7 @@ may_any w before (Called x clock Shutdown answer) h = cc
 may_any w before (Called x clock Close answer) h = tt
 may_any w before (Called x clock (Send m o) answer) h = tt
 may_any w before (Called x clock (SendMany ms o) answer) h = tt
-may_any w before (Called x clock Receive answer) h = tt
+may_any w before (Called x clock TakeMessage answer) h = tt
 may_any w before (Called x clock (Reset streams) answer) h = tt
 may_any w before (Called x clock (SetPriority stream priority) answer) h = tt
 may_any w before (Called x clock (SetMaxMessageSize bytes) answer) h = tt
@@ -105,7 +105,7 @@ each_may w before [] h = tt
 each_may w before (e ∷ log) h = (may_any w before e (none_before (ruled_by e) (ruled log) h), each_may w (before ++ e ∷ []) log (none_behind (ruled_by e) (ruled log) h))
 
 -- at an empty log
-pub connects_first : (actions : List Action) (w v : World) → w.log ≡ [] → list_any asks_rules actions ≡ false → Runs (CallOf A Connect ∷ actions) w v → KeepsOpeningRules v
+pub connects_first : (actions : List Action) (w v : World) → w.log ≡ [] → list_any asks_rules actions ≡ false → Runs (CallOf A Connect ∷ actions) w v → WorldKeepsRules v
 connects_first actions w v empty k r =
     let first : Entry = call_entry A Connect w.a.socket in
     let news : List Entry = news_of A w.a (after_call Connect w.a.socket) in

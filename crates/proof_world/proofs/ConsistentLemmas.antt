@@ -11,8 +11,8 @@ use Rattle.proof_pair.specs.Trace as traces
 use Rattle.proof_pair.specs.Trace.{Pair, AreValidOptions, AreMirrored, EndsAreConsistent, run, start}
 use Rattle.spec_world.specs.Observations.{End, A, B, Entry, mirrored, held}
 use Rattle.spec_world.specs.World.{Side}
-use Rattle.proof_world.specs.Traces.{origin}
-use Rattle.proof_world.specs.Consistent.{ended_by, times_ended, WorldsAreConsistent}
+use Rattle.proof_world.specs.Traces.{initial_world}
+use Rattle.proof_world.specs.Consistent.{association_ends_by, times_ended, WorldsAreConsistent}
 use Rattle.proof_world.proofs.EventLemmas.{ended_emitted}
 use Rattle.proof_world.proofs.NewsLemmas.{ended_by_emitted, made_same}
 use Rattle.proof_world.proofs.SidesLemmas.{Good}
@@ -37,7 +37,7 @@ module _ (word_of : List ℕ → ℕ) (x : End) (log : List Entry) (others : Lis
   pub none_ended : times_ended x log ≡ 0 → endings end.emitted ≡ 0
   none_ended h =
       ended_emitted (as_bytes word_of) x 0 end.emitted
-      (ap (λ (l : List Entry). length (flat_map (ended_by x) l)) (sym g.image.emitted) ∙ (ap (λ (l : List End). length l) (sym (ended_by_emitted x log)) ∙ h))
+      (ap (λ (l : List Entry). length (flat_map (association_ends_by x) l)) (sym g.image.emitted) ∙ (ap (λ (l : List End). length l) (sym (ended_by_emitted x log)) ∙ h))
 
   state_of : side.socket.endpoint_state.state ≡ end.end.endpoint_state.state
   state_of = ap (λ (z : Endpoint (List ℕ)). z.endpoint_state.state) g.image.socket
@@ -47,14 +47,14 @@ module _ (word_of : List ℕ → ℕ) (x : End) (log : List Entry) (others : Lis
 
 pub are_consistent : EndsAreConsistent → WorldsAreConsistent
 are_consistent law w l u =
-    let r : Ran l.word_of_a l.word_of_b l.actions (origin l) w (start l.a l.b l.random_a l.random_b) =
-    ran l.word_of_a l.word_of_b l.actions (origin l) w (start l.a l.b l.random_a l.random_b) l.fit l.runs l.bytes
-    (fresh_both l.a l.b l.random_a l.random_b l.word_of_a l.word_of_b l.fits_a l.fits_b) in
-    let c : Pair = run r.trace (start l.a l.b l.random_a l.random_b) in
+    let r : Ran l.word_of_a l.word_of_b l.actions (initial_world l) w (start l.a l.b l.draws_a l.draws_b) =
+    ran l.word_of_a l.word_of_b l.actions (initial_world l) w (start l.a l.b l.draws_a l.draws_b) l.fit l.runs l.bytes
+    (fresh_both l.a l.b l.draws_a l.draws_b l.word_of_a l.word_of_b l.fits_a l.fits_b) in
+    let c : Pair = run r.trace (start l.a l.b l.draws_a l.draws_b) in
     let good_a : Good l.word_of_a A w.log w.b.packets w.a c.a = r.both.a in
     let good_b : Good l.word_of_b B w.log w.a.packets w.b c.b = r.both.b in
     let joined : traces.AreConsistent l.a l.b c =
-    law l.a l.b l.random_a l.random_b r.trace (given_of l.a l.valid_a l.fits_a) (given_of l.b l.valid_b l.fits_b) (r.follows u.follows u.stands)
+    law l.a l.b l.draws_a l.draws_b r.trace (given_of l.a l.valid_a l.fits_a) (given_of l.b l.valid_b l.fits_b) (r.follows u.follows u.stands)
     (record { a = none_ended l.word_of_a A w.log w.b.packets w.a c.a good_a (u.stands A); b = none_ended l.word_of_b B w.log w.a.packets w.b c.b good_b (u.stands B) }) in
     record {
       a_negotiated = λ phase t e. joined.a_negotiated phase t (sym (state_of l.word_of_a A w.log w.b.packets w.a c.a good_a) ∙ e);

@@ -11,27 +11,27 @@ use Rattle.spec_endpoint.specs.Laws as table
 use Rattle.spec_endpoint.specs.Shown.{Association, association_in}
 use Rattle.proof_endpoint.specs.Mapped.{Mapping, Carried, map_end, as_written, as_bytes}
 use Rattle.proof_pair.specs.Trace as traces
-use Rattle.proof_pair.specs.Trace.{Pair, EndAction, Calls, emitted_packets, act, goes, run, state_of, NeitherHasEnded, AreValidOptions}
+use Rattle.proof_pair.specs.Trace.{Pair, EndAction, Calls, emitted_packets, act, goes, run, state_of, NoAssociationHasEnded, AreValidOptions}
 use Rattle.proof_pair.specs.Handing.{handed_by}
 use Rattle.proof_pair.proofs.TraceLemmas.{Halves, before_run, goes_consistent}
 use Rattle.proof_pair.proofs.HandingLemmas.{hands_at}
 use Rattle.proof_delivery.specs.Accepted.{AcceptedMessage, accepted}
 use Rattle.proof_delivery.specs.Accepted as turns
 use Rattle.proof_delivery.specs.Answered as requests
-use Rattle.proof_delivery.specs.Answered.{Asked, asked_by, IsAnswered}
+use Rattle.proof_delivery.specs.Answered.{NumberedBefore, numbered_before, IsAnswered}
 use Rattle.proof_delivery.specs.Justified.{reset_by}
 use Rattle.proof_delivery.specs.StreamEpochs.{all_open}
 use Rattle.proof_delivery.specs.Windows as windows
 use Rattle.proof_delivery.specs.Windows.{numbered_count, IsWithin, Stamp, Stamps, IsYoung}
 use Rattle.proof_delivery.specs.GivenUp.{given_up_by, given_up_at}
-use Rattle.proof_tx_refines.specs.Led.{delivered_ids}
+use Rattle.proof_tx_refines.specs.Reachable.{delivered_ids}
 use Rattle.proof_delivery.specs.Ending as ending
 use Rattle.spec_world.specs.Observations as observations
-use Rattle.spec_world.specs.Observations.{End, A, B, same_end, all_unless, unrefused, Entry, Called, Given, Foreign, Answer, Sent, SentMany, accepted_in, accepted_by, Call, Connect, Shutdown, Close, Send, SendMany, Receive, Reset, SetPriority, SetMaxMessageSize, SetLowThreshold, HandOver}
-use Rattle.spec_world.specs.World.{Side, World, Action, CallOf, Give, GiveForeign, AdvanceTime, InjectsInto, taken_in, withheld, Gives, Happens, Runs, side_of, take_emitted, news_of, clock, calls, call_entry, after_call, advances_time, time_entry, after_time, table_call}
-use Rattle.proof_world.specs.Traces.{ActionFits, IsInBytes, is_a, end_of, receiving, IsActionOf}
-use Rattle.proof_world.specs.Delivered.{given_up_places, reported, AlongRun, SideIsWithin, AreWithin, stamp, stamp_packets, stamps_after, IsTimely, KeepsWindows, asked_after, AreAnswered, KeepsRequests, exceeds_limit, sets_more, accepted_messages_in, accepted_messages_by, accepted_messages, emitted_events, OffersAreAccepted, OffersHaveEpochs}
-use Rattle.proof_world.specs.Consistent.{NoneHasEnded}
+use Rattle.spec_world.specs.Observations.{End, A, B, same_end, all_unless, unrefused, Entry, Called, Given, Foreign, Answer, Sent, SentMany, accepted_in, accepted_by, Call, Connect, Shutdown, Close, Send, SendMany, TakeMessage, Reset, SetPriority, SetMaxMessageSize, SetLowThreshold, HandOver}
+use Rattle.spec_world.specs.World.{Side, World, Action, CallOf, Give, GiveForeign, AdvanceTime, MeetsForeignAt, given, withheld, Gives, Happens, Runs, side_of, take_emitted, news_of, clock, call_socket, call_entry, after_call, advance_time, time_entry, after_time, table_call}
+use Rattle.proof_world.specs.Traces.{ActionFits, IsInBytes, is_a, end_of, give_action, IsActionOf}
+use Rattle.proof_world.specs.Delivered.{given_up_places, reported, AlongRun, SideIsWithin, WorldIsWithin, world_stamp, stamp_packets, stamps_after, IsTimely, WorldKeepsWindows, asked_after, AreAnswered, WorldKeepsRequests, sets_wide_limit, sets_more, accepted_messages_in, accepted_messages_by, accepted_messages, emitted_events, AcceptedMessagesAgree, AcceptedMessagesHaveEpochs}
+use Rattle.proof_world.specs.Consistent.{NoEndingIsLogged}
 use Rattle.proof_world.proofs.StandingLemmas.{stands_front}
 use Rattle.proof_world.proofs.UpToEndLemmas.{stamps_along}
 use Rattle.proof_world.proofs.WorldLemmas.{Both, Extends, extends_then, in_bytes_before, Stepped, steps}
@@ -45,19 +45,19 @@ use Rattle.proof_world.proofs.ReportedLemmas.{reported_is}
 
 -- ---- one event is one block
 
-calls_side : (x : End) (call : Call) (w : World) → side_of x (calls x call w) ≡ take_emitted (side_of x w) (after_call call (side_of x w).socket)
+calls_side : (x : End) (call : Call) (w : World) → side_of x (call_socket x call w) ≡ take_emitted (side_of x w) (after_call call (side_of x w).socket)
 calls_side A call w = refl
 calls_side B call w = refl
 
-pub calls_log : (x : End) (call : Call) (w : World) → (calls x call w).log ≡ w.log ++ call_entry x call (side_of x w).socket ∷ news_of x (side_of x w) (after_call call (side_of x w).socket)
+pub calls_log : (x : End) (call : Call) (w : World) → (call_socket x call w).log ≡ w.log ++ call_entry x call (side_of x w).socket ∷ news_of x (side_of x w) (after_call call (side_of x w).socket)
 calls_log A call w = refl
 calls_log B call w = refl
 
-pub time_side : (x : End) (now : ℕ) (w : World) → side_of x (advances_time x now w) ≡ take_emitted (side_of x w) (after_time now (side_of x w).socket)
+pub time_side : (x : End) (now : ℕ) (w : World) → side_of x (advance_time x now w) ≡ take_emitted (side_of x w) (after_time now (side_of x w).socket)
 time_side A now w = refl
 time_side B now w = refl
 
-pub time_log : (x : End) (now : ℕ) (w : World) → (advances_time x now w).log ≡ w.log ++ time_entry x now (side_of x w).socket ∷ news_of x (side_of x w) (after_time now (side_of x w).socket)
+pub time_log : (x : End) (now : ℕ) (w : World) → (advance_time x now w).log ≡ w.log ++ time_entry x now (side_of x w).socket ∷ news_of x (side_of x w) (after_time now (side_of x w).socket)
 time_log A now w = refl
 time_log B now w = refl
 
@@ -72,12 +72,12 @@ module _ (f : Mapping Carried (List ℕ)) (x : End) (own beside next : traces.Si
       → IsEmitted x turn own beside next w.log u.log
   goes_emitted first b after at logged = goes_on_emitted f x turn own beside next w.log u.log (side_of x w) (side_of x u) is is_next stands gave_up reports emits first b after at logged
 
-  call_emitted : (call : Call) → turn ≡ Calls (table_call call) → u ≡ calls x call w → IsEmitted x turn own beside next w.log u.log
+  call_emitted : (call : Call) → turn ≡ Calls (table_call call) → u ≡ call_socket x call w → IsEmitted x turn own beside next w.log u.log
   call_emitted call t e =
       goes_emitted (call_entry x call s) (subst (λ (z : EndAction). BeginsWith x z own (call_entry x call s)) (sym t) (call_begins f x own s is call)) (after_call call s)
       (ap (side_of x) e ∙ calls_side x call w) (ap (λ (z : World). z.log) e ∙ calls_log x call w)
 
-  time_emitted : (now : ℕ) → turn ≡ Calls (table.Advance now) → u ≡ advances_time x now w → IsEmitted x turn own beside next w.log u.log
+  time_emitted : (now : ℕ) → turn ≡ Calls (table.Advance now) → u ≡ advance_time x now w → IsEmitted x turn own beside next w.log u.log
   time_emitted now t e =
       goes_emitted (time_entry x now s) (subst (λ (z : EndAction). BeginsWith x z own (time_entry x now s)) (sym t) (time_begins f x own s now)) (after_time now s)
       (ap (side_of x) e ∙ time_side x now w) (ap (λ (z : World). z.log) e ∙ time_log x now w)
@@ -85,9 +85,9 @@ module _ (f : Mapping Carried (List ℕ)) (x : End) (own beside next : traces.Si
   give_emitted : (packet : ℕ) → turns.accepted_in turn own ≡ [] → handed_by turn own ≡ [] → reset_by turn own ≡ [] → Gives x packet w u → IsEmitted x turn own beside next w.log u.log
   give_emitted packet h k l g = goes_emitted (Given x (clock s) packet) (give_begins f x own turn (clock s) packet h k l) g.takes_bytes.after g.takes_bytes.side g.takes_bytes.logged
 
-  foreign_emitted : (bytes : List ℕ) → turns.accepted_in turn own ≡ [] → handed_by turn own ≡ [] → reset_by turn own ≡ [] → InjectsInto x bytes (side_of x w) (side_of x u) w.log u.log
+  foreign_emitted : (bytes : List ℕ) → turns.accepted_in turn own ≡ [] → handed_by turn own ≡ [] → reset_by turn own ≡ [] → MeetsForeignAt x bytes (side_of x w) (side_of x u) w.log u.log
       → IsEmitted x turn own beside next w.log u.log
-  foreign_emitted bytes h k l (taken_in t judged) = goes_emitted (Foreign x (clock s) (Some bytes)) (foreign_begins f x own turn (clock s) (Some bytes) h k l) t.after t.side t.logged
+  foreign_emitted bytes h k l (given t judged) = goes_emitted (Foreign x (clock s) (Some bytes)) (foreign_begins f x own turn (clock s) (Some bytes) h k l) t.after t.side t.logged
   foreign_emitted bytes h k l (withheld judged stays logged) =
       skipped_emitted f x turn own beside next w.log u.log (side_of x w) (side_of x u) is is_next stands gave_up reports emits (Foreign x (clock s) None)
       (foreign_begins f x own turn (clock s) None h k l) stays logged
@@ -141,7 +141,7 @@ module _ (word_of_a word_of_b : List ℕ → ℕ) where
   state_same : (f : Mapping Carried (List ℕ)) (side : Side) (end : traces.Side) → side.socket ≡ map_end f end.end → side.socket.endpoint_state.state ≡ state_of end
   state_same f side end e = ap (λ (z : Endpoint (List ℕ)). z.endpoint_state.state) e
 
-  pub stamp_same : (w : World) (c : Pair) → Both word_of_a word_of_b w c → stamp w ≡ windows.stamp c
+  pub stamp_same : (w : World) (c : Pair) → Both word_of_a word_of_b w c → world_stamp w ≡ windows.stamp c
   stamp_same w c h =
       ap (λ (s : State). record { a = numbered_count s; b = numbered_count w.b.socket.endpoint_state.state }) (state_same (as_bytes word_of_a) w.a c.a h.a.image.socket)
       ∙ ap (λ (s : State). record { a = numbered_count (state_of c.a); b = numbered_count s }) (state_same (as_bytes word_of_b) w.b c.b h.b.image.socket)
@@ -149,7 +149,7 @@ module _ (word_of_a word_of_b : List ℕ → ℕ) where
   within_same : (f : Mapping Carried (List ℕ)) (side : Side) (end : traces.Side) → side.socket ≡ map_end f end.end → SideIsWithin side → IsWithin (state_of end) (windows.queue_of end)
   within_same f side end e h = subst (λ (z : Endpoint (List ℕ)). IsWithin z.endpoint_state.state z.endpoint_state.context.queue) e h
 
-  are_within : (w : World) (c : Pair) → Both word_of_a word_of_b w c → AreWithin w → windows.AreWithin c
+  are_within : (w : World) (c : Pair) → Both word_of_a word_of_b w c → WorldIsWithin w → windows.AreWithin c
   are_within w c h k = record {
     a = within_same (as_bytes word_of_a) w.a c.a h.a.image.socket k.a;
     b = within_same (as_bytes word_of_b) w.b c.b h.b.image.socket k.b;
@@ -172,24 +172,24 @@ module _ (word_of_a word_of_b : List ℕ → ℕ) where
   pub stamps_same : (at_a : Bool) (turn : EndAction) (w u : World) (c : Pair) (s : Stamps) → Both word_of_a word_of_b w c → Both word_of_a word_of_b u (goes at_a turn c)
       → stamps_after w u s ≡ windows.stamps_after at_a turn c s
   stamps_same true turn w u c s h k =
-      ap (λ (l : List Stamp). record { of_a = l; of_b = stamp_packets w.b u.b (stamp w) s.of_b })
-      (stamped_same (as_written word_of_a) w.a u.a c.a (act turn c.a c.b) (stamp w) (windows.stamp c) s.of_a h.a.image.packets k.a.image.packets (stamp_same w c h))
+      ap (λ (l : List Stamp). record { of_a = l; of_b = stamp_packets w.b u.b (world_stamp w) s.of_b })
+      (stamped_same (as_written word_of_a) w.a u.a c.a (act turn c.a c.b) (world_stamp w) (windows.stamp c) s.of_a h.a.image.packets k.a.image.packets (stamp_same w c h))
       ∙ ap (λ (l : List Stamp). record { of_a = windows.stamp_packets c.a (act turn c.a c.b) (windows.stamp c) s.of_a; of_b = l })
-      (stamped_same (as_written word_of_b) w.b u.b c.b c.b (stamp w) (windows.stamp c) s.of_b h.b.image.packets k.b.image.packets (stamp_same w c h)
+      (stamped_same (as_written word_of_b) w.b u.b c.b c.b (world_stamp w) (windows.stamp c) s.of_b h.b.image.packets k.b.image.packets (stamp_same w c h)
       ∙ none_stamped c.b (windows.stamp c) s.of_b)
   stamps_same false turn w u c s h k =
-      ap (λ (l : List Stamp). record { of_a = l; of_b = stamp_packets w.b u.b (stamp w) s.of_b })
-      (stamped_same (as_written word_of_a) w.a u.a c.a c.a (stamp w) (windows.stamp c) s.of_a h.a.image.packets k.a.image.packets (stamp_same w c h)
+      ap (λ (l : List Stamp). record { of_a = l; of_b = stamp_packets w.b u.b (world_stamp w) s.of_b })
+      (stamped_same (as_written word_of_a) w.a u.a c.a c.a (world_stamp w) (windows.stamp c) s.of_a h.a.image.packets k.a.image.packets (stamp_same w c h)
       ∙ none_stamped c.a (windows.stamp c) s.of_a)
       ∙ ap (λ (l : List Stamp). record { of_a = s.of_a; of_b = l })
-      (stamped_same (as_written word_of_b) w.b u.b c.b (act turn c.b c.a) (stamp w) (windows.stamp c) s.of_b h.b.image.packets k.b.image.packets (stamp_same w c h))
+      (stamped_same (as_written word_of_b) w.b u.b c.b (act turn c.b c.a) (world_stamp w) (windows.stamp c) s.of_b h.b.image.packets k.b.image.packets (stamp_same w c h))
 
   receiving_timely : (b : Bool) (n sum : ℕ) (now : Stamp) (stamps : List Stamp) → ((old : Stamp) → slice_get stamps n ≡ Some old → IsYoung now old)
-      → windows.IsTimely (receiving b n sum) now stamps
+      → windows.IsTimely (give_action b n sum) now stamps
   receiving_timely true n sum now stamps h = h
   receiving_timely false n sum now stamps h = tt
 
-  pub timely : (action : Action) (w : World) (c : Pair) (turn : EndAction) (s : Stamps) → Both word_of_a word_of_b w c → IsActionOf word_of_a word_of_b action turn c → IsTimely action (stamp w) s
+  pub timely : (action : Action) (w : World) (c : Pair) (turn : EndAction) (s : Stamps) → Both word_of_a word_of_b w c → IsActionOf word_of_a word_of_b action turn c → IsTimely action (world_stamp w) s
       → windows.IsTimely turn (windows.stamp c) (windows.stamps_for (is_a (end_of action)) s)
   timely (CallOf x call) w c turn s h is t = subst (λ (z : EndAction). windows.IsTimely z (windows.stamp c) (windows.stamps_for (is_a x) s)) (sym is) tt
   timely (Give n A) w c turn s h is t =
@@ -207,41 +207,41 @@ module _ (word_of_a word_of_b : List ℕ → ℕ) where
   answered_same : (f : Mapping Carried (List ℕ)) (side : Side) (end : traces.Side) (n : ℕ) → side.socket ≡ map_end f end.end → IsAnswered side.socket.endpoint_state.state n → IsAnswered (state_of end) n
   answered_same f side end n e h = subst (λ (s : State). IsAnswered s n) (state_same f side end e) h
 
-  are_answered : (w : World) (c : Pair) (k : Asked) → Both word_of_a word_of_b w c → AreAnswered w k → requests.AreAnswered c k
+  are_answered : (w : World) (c : Pair) (k : NumberedBefore) → Both word_of_a word_of_b w c → AreAnswered w k → requests.AreAnswered c k
   are_answered w c k h i = record {
     a = answered_same (as_bytes word_of_a) w.a c.a k.a h.a.image.socket i.a;
     b = answered_same (as_bytes word_of_b) w.b c.b k.b h.b.image.socket i.b;
   }
 
-  pub asked_same : (at_a : Bool) (turn : EndAction) (w u : World) (c : Pair) (k : Asked) → Both word_of_a word_of_b w c → Both word_of_a word_of_b u (goes at_a turn c)
+  pub asked_same : (at_a : Bool) (turn : EndAction) (w u : World) (c : Pair) (k : NumberedBefore) → Both word_of_a word_of_b w c → Both word_of_a word_of_b u (goes at_a turn c)
       → asked_after w u k ≡ requests.asked_after at_a turn c k
   asked_same at_a turn w u c k h i =
-      ap (λ (n : ℕ). record { a = n; b = asked_by w.b.socket.endpoint_state.state u.b.socket.endpoint_state.state k.b })
+      ap (λ (n : ℕ). record { a = n; b = numbered_before w.b.socket.endpoint_state.state u.b.socket.endpoint_state.state k.b })
       (by_states w.a.socket.endpoint_state.state (state_of c.a) u.a.socket.endpoint_state.state (state_of (goes at_a turn c).a) k.a (state_same (as_bytes word_of_a) w.a c.a h.a.image.socket)
       (state_same (as_bytes word_of_a) u.a (goes at_a turn c).a i.a.image.socket))
-      ∙ ap (λ (n : ℕ). record { a = asked_by (state_of c.a) (state_of (goes at_a turn c).a) k.a; b = n })
+      ∙ ap (λ (n : ℕ). record { a = numbered_before (state_of c.a) (state_of (goes at_a turn c).a) k.a; b = n })
       (by_states w.b.socket.endpoint_state.state (state_of c.b) u.b.socket.endpoint_state.state (state_of (goes at_a turn c).b) k.b (state_same (as_bytes word_of_b) w.b c.b h.b.image.socket)
       (state_same (as_bytes word_of_b) u.b (goes at_a turn c).b i.b.image.socket))
     where
-      by_states : (s t after then : State) (n : ℕ) → s ≡ t → after ≡ then → asked_by s after n ≡ asked_by t then n
-      by_states s t after then n e f = ap (λ (z : State). asked_by z after n) e ∙ ap (λ (z : State). asked_by t z n) f
+      by_states : (s t after then : State) (n : ℕ) → s ≡ t → after ≡ then → numbered_before s after n ≡ numbered_before t then n
+      by_states s t after then n e f = ap (λ (z : State). numbered_before z after n) e ∙ ap (λ (z : State). numbered_before t z n) f
 
   -- ---- limits
 
-  call_more : (call : Call) → windows.sets_more (Calls (table_call call)) ≡ exceeds_limit call
+  call_more : (call : Call) → windows.sets_more (Calls (table_call call)) ≡ sets_wide_limit call
   call_more Connect = refl
   call_more Shutdown = refl
   call_more Close = refl
   call_more (Send m o) = refl
   call_more (SendMany ms o) = refl
-  call_more Receive = refl
+  call_more TakeMessage = refl
   call_more (Reset streams) = refl
   call_more (SetPriority stream priority) = refl
   call_more (SetMaxMessageSize bytes) = refl
   call_more (SetLowThreshold stream bytes) = refl
   call_more HandOver = refl
 
-  receiving_more : (b : Bool) (n sum : ℕ) → windows.sets_more (receiving b n sum) ≡ false
+  receiving_more : (b : Bool) (n sum : ℕ) → windows.sets_more (give_action b n sum) ≡ false
   receiving_more true n sum = refl
   receiving_more false n sum = refl
 
@@ -265,9 +265,9 @@ module _ (word_of_a word_of_b : List ℕ → ℕ) where
 
   pub record Delivering (actions : List Action) (w v : World) (c : Pair) (runs : Runs actions w v) (trace : List (Bool × EndAction)) : Type 0 where
     pub blocks : block.Stands trace c → AreBlocks trace c w.log v.log
-    pub windows_kept : (s : Stamps) → NoneHasEnded v.log → KeepsWindows actions w v runs s → windows.KeepsWindows trace c s
+    pub windows_kept : (s : Stamps) → NoEndingIsLogged v.log → WorldKeepsWindows actions w v runs s → windows.KeepsWindows trace c s
     pub stamps : (s : Stamps) → stamps_along actions w v runs s ≡ ending.stamps_along trace c s
-    pub requests_kept : (k : Asked) → NoneHasEnded v.log → KeepsRequests actions w v runs k → requests.KeepsRequests trace c k
+    pub requests_kept : (k : NumberedBefore) → NoEndingIsLogged v.log → WorldKeepsRequests actions w v runs k → requests.KeepsRequests trace c k
     pub limits : list_any (λ (e : Bool × EndAction). windows.sets_more e.1) trace ≡ list_any sets_more actions
     pub points : (all done : List (Bool × EndAction)) (first : Pair) → all ≡ done ++ trace → run done first ≡ c → block.Stands trace c → IsReached first done w.log
         → AlongRun (IsPoint all first) actions w v runs
@@ -277,9 +277,9 @@ module _ (word_of_a word_of_b : List ℕ → ℕ) where
   unfolding ran
   delivering [] w v c fit r small h = record {
     blocks = λ s. ap (λ (z : World). z.log) r;
-    windows_kept = λ s st k. are_within w c h (k (subst (λ (z : World). NoneHasEnded z.log) r st));
+    windows_kept = λ s st k. are_within w c h (k (subst (λ (z : World). NoEndingIsLogged z.log) r st));
     stamps = λ s. refl;
-    requests_kept = λ k st i. are_answered w c k h (i (subst (λ (z : World). NoneHasEnded z.log) r st));
+    requests_kept = λ k st i. are_answered w c k h (i (subst (λ (z : World). NoEndingIsLogged z.log) r st));
     limits = refl;
     points = λ all done first split is s reached.
         record { early = done; late = []; split = split; reached = reached; both = subst (Both word_of_a word_of_b w) (sym is) h };
@@ -300,13 +300,13 @@ module _ (word_of_a word_of_b : List ℕ → ℕ) where
           are_within w c h here.0,
           timely action w c step.turn s h step.is here.1,
           rest.windows_kept (windows.stamps_after at_end step.turn c s) st
-              (subst (λ (z : Stamps). KeepsWindows actions u v r.2 z) (stamps_same at_end step.turn w u c s h step.both) k.1),
+              (subst (λ (z : Stamps). WorldKeepsWindows actions u v r.2 z) (stamps_same at_end step.turn w u c s h step.both) k.1),
         );
         stamps = λ s. rest.stamps (stamps_after w u s) ∙ ap (λ (z : Stamps). ending.stamps_along rest_turns d z) (stamps_same at_end step.turn w u c s h step.both);
         requests_kept = λ k st i. (
           are_answered w c k h (i.0 (stands_front w.log (extends_then w u v first later).more v.log (extends_then w u v first later).logged st)),
           rest.requests_kept (requests.asked_after at_end step.turn c k) st
-              (subst (λ (z : Asked). KeepsRequests actions u v r.2 z) (asked_same at_end step.turn w u c k h step.both) i.1),
+              (subst (λ (z : NumberedBefore). WorldKeepsRequests actions u v r.2 z) (asked_same at_end step.turn w u c k h step.both) i.1),
         );
         limits = both_any (action_more action step.turn c step.is) rest.limits;
         points = λ all done first split is s reached.
@@ -328,11 +328,11 @@ along_each P Q f (action ∷ actions) w v r h = (f w h.0, along_each P Q f actio
 -- ---- an association that stands is not replaced
 
 module _ (o q : Options) (own : AreValidOptions o) (other : AreValidOptions q) where
-  pub stands_along : (es : List (Bool × EndAction)) (c : Pair) → traces.KeepsOpeningRules es c → NeitherHasEnded (run es c) → Halves o q c.a c.b → block.Stands es c
+  pub stands_along : (es : List (Bool × EndAction)) (c : Pair) → traces.KeepsRules es c → NoAssociationHasEnded (run es c) → Halves o q c.a c.b → block.Stands es c
   stands_along [] c follows none h = tt
   stands_along (e ∷ es) c follows none h =
       let d : Pair = goes e.0 e.1 c in
-      let not_yet : NeitherHasEnded d = before_run es d none in (
+      let not_yet : NoAssociationHasEnded d = before_run es d none in (
         (hands_at o q own other e.0 e.0 e.1 c follows.0 not_yet h).stands,
         stands_along es d follows.1 none (goes_consistent o q own other e.0 e.1 c follows.0 not_yet h),
       )
@@ -357,10 +357,10 @@ one_entry x (Called y clock call answer) = go (same_end x y)
     go false = refl
 one_entry x e = refl
 
-pub offers_have_epochs : OffersHaveEpochs
+pub offers_have_epochs : AcceptedMessagesHaveEpochs
 offers_have_epochs x log = epochs_are_many x log all_open
 
-pub offers_accepted : OffersAreAccepted
+pub offers_accepted : AcceptedMessagesAgree
 offers_accepted x [] = refl
 offers_accepted x (e ∷ log) =
     ap (λ (l : List Message). l ++ observations.accepted x log) (one_entry x e)

@@ -4,9 +4,9 @@ use Rattle.std.specs.List.{flat_map}
 use Rattle.std.proofs.lemmas.Bool.Decides.{nat_tests}
 use Rattle.sctp_serial.specs.Messages.{Message}
 use Rattle.sctp_state.specs.Events.{Event, GivenUp}
-use Rattle.proof_tx_refines.specs.Led.{delivered_ids}
+use Rattle.proof_tx_refines.specs.Reachable.{delivered_ids}
 use Rattle.spec_endpoint.specs.Association.{State, Closed, CookieWait, Open, Endpoint}
-use Rattle.spec_endpoint.specs.Calls.{shown_state, refusal, ready_in}
+use Rattle.spec_endpoint.specs.Calls.{shown_state, send_refusal, ready_in}
 use Rattle.spec_endpoint.specs.Handover.{readiness}
 use Rattle.spec_endpoint.specs.StreamReset.{reset_refusal}
 use Rattle.spec_endpoint.specs.Shown.{Association, association_in}
@@ -20,11 +20,11 @@ use Rattle.proof_delivery.specs.Accepted.{accepted_by, accepted_in}
 use Rattle.proof_delivery.specs.GivenUp.{given_up_by}
 use Rattle.proof_delivery.specs.Justified as turns
 use Rattle.proof_delivery.specs.Justified.{reset_unless}
-use Rattle.spec_world.specs.Observations.{End, A, B, same_end, same_association, same_numbers, all_unless, Call, Connect, Shutdown, Close, Send, SendMany, Receive, Reset, SetPriority, SetMaxMessageSize, SetLowThreshold, HandOver, Entry, Given, Foreign, ready_by, handed_out_in, handed_out_by, given_up}
+use Rattle.spec_world.specs.Observations.{End, A, B, same_end, same_association, same_numbers, all_unless, Call, Connect, Shutdown, Close, Send, SendMany, TakeMessage, Reset, SetPriority, SetMaxMessageSize, SetLowThreshold, HandOver, Entry, Given, Foreign, ready_by, handed_out_in, handed_out_by, given_up}
 use Rattle.spec_world.specs.Observations as observations
 use Rattle.spec_world.specs.World as worlds
 use Rattle.spec_world.specs.World.{Side, other, association, ready_before, news_of, take_emitted, handed_by as record_by, table_call, answer_to, call_entry, time_entry, clock}
-use Rattle.proof_world.specs.Traces.{receiving, IsReceiving, IsForeign}
+use Rattle.proof_world.specs.Traces.{give_action, IsGiveAction, IsForeign}
 use Rattle.proof_world.specs.Delivered.{accepted_messages_in, accepted_messages_by, emitted_events_by, emitted_events, reset_in, reset_by, given_up_places, reported_by, reported}
 use Rattle.proof_world.proofs.EventLemmas.{same_itself}
 use Rattle.proof_world.proofs.LoggedLemmas.{quiet_offers, quiet_handed, quiet_given_up, quiet_reported, none_in_news, ready_news, ready_news_other, first_handed, one_offer, many_offers}
@@ -67,7 +67,7 @@ none_new (m ∷ ms) = none_new ms
 -- what a call's entry says is what the action does
 module _ (f : Mapping Carried (List ℕ)) (x : End) (end : traces.Side) (s : Endpoint (List ℕ)) (is : s ≡ map_end f end.end) where
   call_offers : (call : Call) → accepted_messages_in call (answer_to call s) ≡ accepted_by (table_call call) end
-  call_offers (Send m o) = ap (λ (z : Endpoint (List ℕ)). accepted_messages_in (Send m o) (answer_to (Send m o) z)) is ∙ one_offer (refusal m (shown_state end.end.endpoint_state.state) end.end.endpoint_state.context) m o
+  call_offers (Send m o) = ap (λ (z : Endpoint (List ℕ)). accepted_messages_in (Send m o) (answer_to (Send m o) z)) is ∙ one_offer (send_refusal m (shown_state end.end.endpoint_state.state) end.end.endpoint_state.context) m o
   call_offers (SendMany ms o) =
       ap (λ (z : Endpoint (List ℕ)). accepted_messages_in (SendMany ms o) (answer_to (SendMany ms o) z)) is
       ∙ many_offers 0 ms o (shown_state end.end.endpoint_state.state) (map_end f end.end).endpoint_state.context end.end.endpoint_state.context
@@ -75,7 +75,7 @@ module _ (f : Mapping Carried (List ℕ)) (x : End) (end : traces.Side) (s : End
   call_offers Connect = refl
   call_offers Shutdown = refl
   call_offers Close = refl
-  call_offers Receive = refl
+  call_offers TakeMessage = refl
   call_offers (Reset streams) = refl
   call_offers (SetPriority stream priority) = refl
   call_offers (SetMaxMessageSize bytes) = refl
@@ -87,7 +87,7 @@ module _ (f : Mapping Carried (List ℕ)) (x : End) (end : traces.Side) (s : End
   none_handed (suc n) = refl
 
   call_hands : (call : Call) → handed_out_in (answer_to call s) ≡ handed_by (Calls (table_call call)) end
-  call_hands Receive = first_handed (worlds.ready_at s) ∙ ap (λ (z : Endpoint (List ℕ)). take 1 (ready_in z.endpoint_state.state)) is
+  call_hands TakeMessage = first_handed (worlds.ready_at s) ∙ ap (λ (z : Endpoint (List ℕ)). take 1 (ready_in z.endpoint_state.state)) is
   call_hands HandOver = none_handed (readiness s.endpoint_state)
   call_hands (Send m o) = refl
   call_hands (SendMany ms o) = refl
@@ -105,25 +105,25 @@ module _ (f : Mapping Carried (List ℕ)) (x : End) (end : traces.Side) (s : End
 
 -- ---- actions of packets
 
-receiving_accepts : (b : Bool) (n sum : ℕ) (end : traces.Side) → accepted_in (receiving b n sum) end ≡ []
+receiving_accepts : (b : Bool) (n sum : ℕ) (end : traces.Side) → accepted_in (give_action b n sum) end ≡ []
 receiving_accepts true n sum end = refl
 receiving_accepts false n sum end = refl
 
-receiving_hands : (b : Bool) (n sum : ℕ) (end : traces.Side) → handed_by (receiving b n sum) end ≡ []
+receiving_hands : (b : Bool) (n sum : ℕ) (end : traces.Side) → handed_by (give_action b n sum) end ≡ []
 receiving_hands true n sum end = refl
 receiving_hands false n sum end = refl
 
-receiving_resets : (b : Bool) (n sum : ℕ) (end : traces.Side) → turns.reset_by (receiving b n sum) end ≡ []
+receiving_resets : (b : Bool) (n sum : ℕ) (end : traces.Side) → turns.reset_by (give_action b n sum) end ≡ []
 receiving_resets true n sum end = refl
 receiving_resets false n sum end = refl
 
-pub given_accepts : (f g : List ℕ → ℕ) (n : ℕ) (own beside end : traces.Side) (action : EndAction) → IsReceiving f g n own beside action → accepted_in action end ≡ []
+pub given_accepts : (f g : List ℕ → ℕ) (n : ℕ) (own beside end : traces.Side) (action : EndAction) → IsGiveAction f g n own beside action → accepted_in action end ≡ []
 given_accepts f g n own beside end action h = ap (λ (t : EndAction). accepted_in t end) h.received ∙ receiving_accepts _ n _ end
 
-pub given_hands : (f g : List ℕ → ℕ) (n : ℕ) (own beside end : traces.Side) (action : EndAction) → IsReceiving f g n own beside action → handed_by action end ≡ []
+pub given_hands : (f g : List ℕ → ℕ) (n : ℕ) (own beside end : traces.Side) (action : EndAction) → IsGiveAction f g n own beside action → handed_by action end ≡ []
 given_hands f g n own beside end action h = ap (λ (t : EndAction). handed_by t end) h.received ∙ receiving_hands _ n _ end
 
-pub given_resets : (f g : List ℕ → ℕ) (n : ℕ) (own beside end : traces.Side) (action : EndAction) → IsReceiving f g n own beside action → turns.reset_by action end ≡ []
+pub given_resets : (f g : List ℕ → ℕ) (n : ℕ) (own beside end : traces.Side) (action : EndAction) → IsGiveAction f g n own beside action → turns.reset_by action end ≡ []
 given_resets f g n own beside end action h = ap (λ (t : EndAction). turns.reset_by t end) h.received ∙ receiving_resets _ n _ end
 
 pub foreign_accepts : (bytes : List ℕ) (end : traces.Side) (action : EndAction) → IsForeign bytes action → accepted_in action end ≡ []

@@ -12,13 +12,13 @@ use Rattle.sctp_state.specs.Options.{Options}
 use Rattle.spec_endpoint.specs.Association.{State, Closed, CookieWait, Open, Context, Endpoint, where_open}
 use Rattle.spec_endpoint.specs.Calls.{ready_in}
 use Rattle.spec_endpoint.specs.Data.{on_data_if}
-use Rattle.spec_endpoint.specs.Input.{refusal, is_reported, on_unknown_if, on_endpoint_state, receive, receive_rest, receive_all, has_data, repeats_if, end_packet, counts, taken_if}
-use Rattle.spec_endpoint.specs.Laws.{Call, Connect, Packet, called, endings, is_closed, ends, ended_after, ended_by, ended_unless, ended_in_call, EmitsEndings}
+use Rattle.spec_endpoint.specs.Input.{packet_refusal, is_reported, on_unknown_if, in_endpoint_state, receive, receive_rest, receive_all, has_data_chunk, repeats_if, on_packet_end, count_packet_at, packet_if}
+use Rattle.spec_endpoint.specs.Laws.{Call, Connect, ReceivePacket, called, endings, is_closed, ends, endings_after, endings_by, endings_unless, endings_in_call, EmitsEndings}
 use Rattle.proof_endpoint.specs.Mapped.{Carried}
 use Rattle.proof_endpoint.proofs.LawsLemmas.{emits_endings}
 use Rattle.proof_endpoint.proofs.EmitsLemmas.{endings_append}
 use Rattle.proof_pair.specs.Trace as traces
-use Rattle.proof_pair.specs.Trace.{Pair, EndAction, Calls, Gives, Refuses, emitted_packets, as_received, drain, give, foreign_if, act, run, MayCall, MayAct, NeitherHasEnded, AreValidOptions, KeepsOpeningRules, start, state_of}
+use Rattle.proof_pair.specs.Trace.{Pair, EndAction, Calls, Gives, Refuses, emitted_packets, as_received, drain, give_carried, foreign_if, act, run, MayCall, MayAct, NoAssociationHasEnded, AreValidOptions, KeepsRules, start, state_of}
 use Rattle.proof_pair.proofs.AddedLemmas.{all_get}
 use Rattle.proof_draws.specs.Laws.{is_flowing}
 use Rattle.proof_draws.specs.Kinds.{IsKind, an_init, an_answer, an_echo, a_flow, AreOfAKind}
@@ -68,7 +68,7 @@ module _ {P : Type 0} where
   unknown_closed false typ flags value c = refl
 
   abbrev end_of : State → Context P → Stream → Endpoint P
-  end_of s c w = record { endpoint_state = record { state = s; context = c }; random = w }
+  end_of s c w = record { endpoint_state = record { state = s; context = c }; draws = w }
 
   closed_stays : (tag : ℕ) (chunk : ChunkTree) (c : Context P) (w : Stream) → is_no_echo chunk ≡ true → is_closed (receive tag chunk (end_of Closed c w)).end.endpoint_state.state ≡ true
   closed_stays tag (data_chunk tsn immediate f) c w h = data_closed (length f.payload == 0) tsn immediate f c
@@ -99,7 +99,7 @@ module _ {P : Type 0} where
   -- ---- several
 
   rest_closed : (rest : Endpoint P → Endpoint P) (b : Bool) (f : Endpoint P) → is_closed f.endpoint_state.state ≡ true
-      → (is_closed f.endpoint_state.state ≡ true → is_closed (rest f).endpoint_state.state ≡ true) → is_closed (receive_rest rest (record { end = f; goes_on = b })).endpoint_state.state ≡ true
+      → (is_closed f.endpoint_state.state ≡ true → is_closed (rest f).endpoint_state.state ≡ true) → is_closed (receive_rest rest (record { end = f; allows_next = b })).endpoint_state.state ≡ true
   rest_closed rest true f k h = h k
   rest_closed rest false f k h = k
 
@@ -107,36 +107,36 @@ module _ {P : Type 0} where
   all_closed tag [] e h k = k
   all_closed tag (c ∷ cs) e h k =
       let both = and_parts (is_no_echo c) (list_all is_no_echo cs) h in
-      rest_closed (receive_all tag cs) (receive tag c e).goes_on (receive tag c e).end (still_closed tag c e.endpoint_state.state e.endpoint_state.context e.random both.0 k)
+      rest_closed (receive_all tag cs) (receive tag c e).allows_next (receive tag c e).end (still_closed tag c e.endpoint_state.state e.endpoint_state.context e.draws both.0 k)
       (λ closed. all_closed tag cs (receive tag c e).end both.1 closed)
 
   first_or_rest : (tag : ℕ) (cs : List ChunkTree) (s : State) (b : Bool) (f : Endpoint P) → (ends s f.endpoint_state.state ≡ 0) ⊎ (is_closed f.endpoint_state.state ≡ true) → list_all is_no_echo cs ≡ true
-      → (ended_by tag cs f ≡ 0) ⊎ (is_closed (receive_all tag cs f).endpoint_state.state ≡ true)
-      → (ends s f.endpoint_state.state + ended_after (ended_by tag cs) (record { end = f; goes_on = b }) ≡ 0)
-      ⊎ (is_closed (receive_rest (receive_all tag cs) (record { end = f; goes_on = b })).endpoint_state.state ≡ true)
-  first_or_rest tag cs s true f (inl none) h (inl rest) = inl (both_none (ends s f.endpoint_state.state) (ended_by tag cs f) none rest)
+      → (endings_by tag cs f ≡ 0) ⊎ (is_closed (receive_all tag cs f).endpoint_state.state ≡ true)
+      → (ends s f.endpoint_state.state + endings_after (endings_by tag cs) (record { end = f; allows_next = b }) ≡ 0)
+      ⊎ (is_closed (receive_rest (receive_all tag cs) (record { end = f; allows_next = b })).endpoint_state.state ≡ true)
+  first_or_rest tag cs s true f (inl none) h (inl rest) = inl (both_none (ends s f.endpoint_state.state) (endings_by tag cs f) none rest)
   first_or_rest tag cs s true f (inl none) h (inr closed) = inr closed
   first_or_rest tag cs s true f (inr closed) h rest = inr (all_closed tag cs f h closed)
   first_or_rest tag cs s false f (inl none) h rest = inl (both_none (ends s f.endpoint_state.state) 0 none refl)
   first_or_rest tag cs s false f (inr closed) h rest = inr closed
 
-  ended_or_closed : (tag : ℕ) (cs : List ChunkTree) (e : Endpoint P) → NoneBehind cs → (ended_by tag cs e ≡ 0) ⊎ (is_closed (receive_all tag cs e).endpoint_state.state ≡ true)
+  ended_or_closed : (tag : ℕ) (cs : List ChunkTree) (e : Endpoint P) → NoneBehind cs → (endings_by tag cs e ≡ 0) ⊎ (is_closed (receive_all tag cs e).endpoint_state.state ≡ true)
   ended_or_closed tag [] e h = inl refl
   ended_or_closed tag (c ∷ cs) e h =
-      first_or_rest tag cs e.endpoint_state.state (receive tag c e).goes_on (receive tag c e).end (ends_or e.endpoint_state.state (receive tag c e).end.endpoint_state.state) h
+      first_or_rest tag cs e.endpoint_state.state (receive tag c e).allows_next (receive tag c e).end (ends_or e.endpoint_state.state (receive tag c e).end.endpoint_state.state) h
       (ended_or_closed tag cs (receive tag c e).end (none_of_all cs h))
 
   -- ---- a packet
 
-  end_closed : (s : State) (c : Context P) → is_closed s ≡ true → is_closed (where_open end_packet (record { state = s; context = c })).state ≡ true
+  end_closed : (s : State) (c : Context P) → is_closed s ≡ true → is_closed (where_open on_packet_end (record { state = s; context = c })).state ≡ true
   end_closed Closed c h = refl
   end_closed (CookieWait tag first t1) c h = cc
   end_closed (Open phase t) c h = cc
 
-  taken_or : (r : Option (List ℕ)) (tag : ℕ) (cs : List ChunkTree) (e : Endpoint P) → NoneBehind cs → (ended_unless r tag cs e ≡ 0) ⊎ (is_closed (taken_if r tag cs e).endpoint_state.state ≡ true)
+  taken_or : (r : Option (List ℕ)) (tag : ℕ) (cs : List ChunkTree) (e : Endpoint P) → NoneBehind cs → (endings_unless r tag cs e ≡ 0) ⊎ (is_closed (packet_if r tag cs e).endpoint_state.state ≡ true)
   taken_or (Some text) tag cs e h = inl refl
   taken_or None tag cs e h =
-      let begun : Endpoint P = on_endpoint_state (repeats_if (has_data cs)) e in
+      let begun : Endpoint P = in_endpoint_state (repeats_if (has_data_chunk cs)) e in
       elim (ended_or_closed tag cs begun h) [
         | inl none ↦ inl none
         | inr closed ↦ inr (end_closed (receive_all tag cs begun).endpoint_state.state (receive_all tag cs begun).endpoint_state.context closed)
@@ -174,48 +174,48 @@ abbrev Ends : (before after : traces.Side) → Type 0
 Ends x z = (endings z.emitted ≡ 0) ⊎ (ready_in (state_of z) ≡ [])
 
 module _ (x y : traces.Side) (quiet : x.end.endpoint_state.context.emitted.events ≡ []) (none : endings x.emitted ≡ 0) where
-  call_ends : (call : Call) → (ended_in_call call x.end ≡ 0) ⊎ (is_closed (called call x.end).endpoint_state.state ≡ true) → Ends x (drain (called call x.end) x)
+  call_ends : (call : Call) → (endings_in_call call x.end ≡ 0) ⊎ (is_closed (called call x.end).endpoint_state.state ≡ true) → Ends x (drain (called call x.end) x)
   call_ends call (inr closed) = inr (none_ready (called call x.end).endpoint_state.state closed)
   call_ends call (inl none_ended) =
-      let t : EmitsEndings (ended_in_call call x.end) x.end.endpoint_state.context (called call x.end).endpoint_state.context = emits_endings call x.end in
+      let t : EmitsEndings (endings_in_call call x.end) x.end.endpoint_state.context (called call x.end).endpoint_state.context = emits_endings call x.end in
       let emitted_is : (called call x.end).endpoint_state.context.emitted.events ≡ t.events = t.behind ∙ ap (λ (es : List (Event Carried)). es ++ t.events) quiet in
       inl (sum (called call x.end).endpoint_state.context.emitted.events (ap endings emitted_is ∙ (t.counted ∙ none_ended)))
     where
       sum : (es : List (Event Carried)) → endings es ≡ 0 → endings (x.emitted ++ es) ≡ 0
       sum es e = omega (arith, endings_append x.emitted es, none, e)
 
-  plain_ends : (call : Call) → MayCall call x → (ended_in_call call x.end ≡ 0) ⊎ (is_closed (called call x.end).endpoint_state.state ≡ true)
-  plain_ends (Packet p) may = absurd may
+  plain_ends : (call : Call) → MayCall call x → (endings_in_call call x.end ≡ 0) ⊎ (is_closed (called call x.end).endpoint_state.state ≡ true)
+  plain_ends (ReceivePacket p) may = absurd may
   plain_ends Connect may = ends_or (state_of x) (called Connect x.end).endpoint_state.state
   plain_ends call may = ends_or (state_of x) (called call x.end).endpoint_state.state
 
-  given_ends : (n checksum : ℕ) (o : Option Carried) → slice_get (emitted_packets y) n ≡ o → All (λ (p : Carried). IsKind p.chunks) (emitted_packets y) → Ends x (give o checksum x)
+  given_ends : (n checksum : ℕ) (o : Option Carried) → slice_get (emitted_packets y) n ≡ o → All (λ (p : Carried). IsKind p.chunks) (emitted_packets y) → Ends x (give_carried o checksum x)
   given_ends n checksum None there kinds = inl none
   given_ends n checksum (Some p) there kinds =
-      call_ends (Packet (as_received p checksum))
-      (taken_or (refusal p.header.verification_tag (map carried p.chunks) (state_of x)) p.header.verification_tag (map carried p.chunks) (counts x.end)
+      call_ends (ReceivePacket (as_received p checksum))
+      (taken_or (packet_refusal p.header.verification_tag (map carried p.chunks) (state_of x)) p.header.verification_tag (map carried p.chunks) (count_packet_at x.end)
       (kind_behind p.chunks (all_get (λ (p : Carried). IsKind p.chunks) (emitted_packets y) n p there kinds)))
 
-  foreign_ends : (o : Option (List ℕ)) (p : PacketTree) → refusal p.header.verification_tag p.chunks (state_of x) ≡ o → Ends x (foreign_if o p x)
+  foreign_ends : (o : Option (List ℕ)) (p : PacketTree) → packet_refusal p.header.verification_tag p.chunks (state_of x) ≡ o → Ends x (foreign_if o p x)
   foreign_ends None p is = inl none
   foreign_ends (Some text) p is =
-      call_ends (Packet p) (inl (ap (λ (r : Option (List ℕ)). ended_unless r p.header.verification_tag p.chunks (counts x.end)) is))
+      call_ends (ReceivePacket p) (inl (ap (λ (r : Option (List ℕ)). endings_unless r p.header.verification_tag p.chunks (count_packet_at x.end)) is))
 
   action_ends : (t : EndAction) → MayAct t x → All (λ (p : Carried). IsKind p.chunks) (emitted_packets y) → Ends x (act t x y)
   action_ends (Calls call) may kinds = call_ends call (plain_ends call may)
   action_ends (Gives which checksum) may kinds = given_ends which checksum (slice_get (emitted_packets y) which) refl kinds
-  action_ends (Refuses p) may kinds = foreign_ends (refusal p.header.verification_tag p.chunks (state_of x)) p refl
+  action_ends (Refuses p) may kinds = foreign_ends (packet_refusal p.header.verification_tag p.chunks (state_of x)) p refl
 
 -- of either end
-pub ended_or_none : (a b : Options) (words_a words_b : Stream) (f : List ℕ → ℕ) (w : World) (es : List (Bool × EndAction)) (t : EndAction) (x : End) → AreValidOptions a → AreValidOptions b
-    → KeepsOpeningRules es (start a b words_a words_b) → NeitherHasEnded (run es (start a b words_a words_b)) → MayAct t (traces.side_of (is_a x) (run es (start a b words_a words_b)))
-    → Both f f w (run es (start a b words_a words_b))
-    → (endings (act t (traces.side_of (is_a x) (run es (start a b words_a words_b))) (traces.side_of (not (is_a x)) (run es (start a b words_a words_b)))).emitted ≡ 0)
-    ⊎ (ready_in (state_of (act t (traces.side_of (is_a x) (run es (start a b words_a words_b))) (traces.side_of (not (is_a x)) (run es (start a b words_a words_b))))) ≡ [])
-ended_or_none a b words_a words_b f w es t x given_a given_b follows none may h =
-    go x (run es (start a b words_a words_b)) none may h (packets_of_a_kind a b words_a words_b es given_a given_b follows none)
+pub ended_or_none : (a b : Options) (draws_a draws_b : Stream) (f : List ℕ → ℕ) (w : World) (es : List (Bool × EndAction)) (t : EndAction) (x : End) → AreValidOptions a → AreValidOptions b
+    → KeepsRules es (start a b draws_a draws_b) → NoAssociationHasEnded (run es (start a b draws_a draws_b)) → MayAct t (traces.side_of (is_a x) (run es (start a b draws_a draws_b)))
+    → Both f f w (run es (start a b draws_a draws_b))
+    → (endings (act t (traces.side_of (is_a x) (run es (start a b draws_a draws_b))) (traces.side_of (not (is_a x)) (run es (start a b draws_a draws_b)))).emitted ≡ 0)
+    ⊎ (ready_in (state_of (act t (traces.side_of (is_a x) (run es (start a b draws_a draws_b))) (traces.side_of (not (is_a x)) (run es (start a b draws_a draws_b))))) ≡ [])
+ended_or_none a b draws_a draws_b f w es t x given_a given_b follows none may h =
+    go x (run es (start a b draws_a draws_b)) none may h (packets_of_a_kind a b draws_a draws_b es given_a given_b follows none)
   where
-    go : (x : End) (c : Pair) → NeitherHasEnded c → MayAct t (traces.side_of (is_a x) c) → Both f f w c → AreOfAKind c
+    go : (x : End) (c : Pair) → NoAssociationHasEnded c → MayAct t (traces.side_of (is_a x) c) → Both f f w c → AreOfAKind c
         → Ends (traces.side_of (is_a x) c) (act t (traces.side_of (is_a x) c) (traces.side_of (not (is_a x)) c))
     go A c none may h kinds = action_ends c.a c.b (ap (λ emitted. emitted.events) h.a.image.quiet) none.a t may kinds.b
     go B c none may h kinds = action_ends c.b c.a (ap (λ emitted. emitted.events) h.b.image.quiet) none.b t may kinds.a

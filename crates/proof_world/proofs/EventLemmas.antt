@@ -13,7 +13,7 @@ use Rattle.proof_pair.specs.Trace.{has_connected}
 use Rattle.spec_world.specs.Observations.{End, A, B, same_end, none_unless, Entry, EmittedPacket, EmittedEvent, connected_by}
 use Rattle.spec_world.specs.World.{packets_in, emitted_entries}
 use Rattle.proof_world.specs.Traces.{emitted_in}
-use Rattle.proof_world.specs.Consistent.{ended_by}
+use Rattle.proof_world.specs.Consistent.{association_ends_by}
 
 -- ---- packets
 
@@ -186,7 +186,7 @@ module _ (f : Mapping Carried (List ℕ)) (x : End) where
   none_more : (k : ℕ) → k ≡ 0 → 0 + k ≡ 0
   none_more k e = omega (arith, e)
 
-  pub ended_emitted : (n : ℕ) (es : List (Event Carried)) → length (flat_map (ended_by x) (emitted_entries x n (mapped f es))) ≡ 0 → endings es ≡ 0
+  pub ended_emitted : (n : ℕ) (es : List (Event Carried)) → length (flat_map (association_ends_by x) (emitted_entries x n (mapped f es))) ≡ 0 → endings es ≡ 0
   ended_emitted n [] h = refl
   ended_emitted n (SendPacket p ∷ es) h = none_more (endings es) (ended_emitted (n + 1) es h)
   ended_emitted n (OnConnected ∷ es) h = none_more (endings es) (ended_emitted n es h)

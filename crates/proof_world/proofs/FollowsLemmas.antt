@@ -6,7 +6,7 @@ use Rattle.spec_world.specs.Observations.{End, A, B, Entry}
 use Rattle.spec_world.specs.World.{World, Runs}
 use Rattle.spec_world.specs.FirstRun.{opening}
 use Rattle.spec_world.proofs.FirstRunLemmas.{opened, opened_then}
-use Rattle.proof_world.specs.Consistent.{MayFollow, KeepsOpeningRules, times_ended, OpeningFollows}
+use Rattle.proof_world.specs.Consistent.{MayFollow, WorldKeepsRules, times_ended, OpeningFollows}
 
 abbrev pub Each : World → (before log : List Entry) → Type 0
 Each w before [] = ⊤
@@ -28,7 +28,7 @@ at_each w before (d ∷ log) (f ∷ front) e behind h is =
     (append_assoc before (d ∷ []) front ∙ ap (λ (k : Entry). before ++ k ∷ front) (head_same d f log (front ++ e ∷ behind) is))
     (at_each w (before ++ d ∷ []) log front e behind h.1 (tail_same d f log (front ++ e ∷ behind) is))
 
-pub follows_by : (w : World) → Each w [] w.log → KeepsOpeningRules w
+pub follows_by : (w : World) → Each w [] w.log → WorldKeepsRules w
 follows_by w h before entry behind is stands = at_each w [] w.log before entry behind h is
 
 -- ---- the first run
@@ -45,5 +45,5 @@ pub opening_follows : OpeningFollows
 opening_follows w v fresh runs =
     let is : v ≡ opened fresh.a fresh.b fresh.word_of =
     opened_then fresh.a fresh.b fresh.word_of [] v (subst (λ (x : World). Runs opening x v) fresh.is runs) in
-    let there : KeepsOpeningRules (opened fresh.a fresh.b fresh.word_of) = follows_by (opened fresh.a fresh.b fresh.word_of) (each_may fresh.a fresh.b fresh.word_of) in
-    (subst KeepsOpeningRules (sym is) there, λ x. ap (λ (z : World). times_ended x z.log) is ∙ none_over fresh.a fresh.b fresh.word_of x)
+    let there : WorldKeepsRules (opened fresh.a fresh.b fresh.word_of) = follows_by (opened fresh.a fresh.b fresh.word_of) (each_may fresh.a fresh.b fresh.word_of) in
+    (subst WorldKeepsRules (sym is) there, λ x. ap (λ (z : World). times_ended x z.log) is ∙ none_over fresh.a fresh.b fresh.word_of x)

@@ -6,12 +6,12 @@ use Rattle.std.proofs.lemmas.Grind.{flat_map-append}
 use Rattle.sctp_serial.specs.Messages.{Message}
 use Rattle.sctp_state.specs.Events.{Event}
 use Rattle.proof_pair.specs.Trace.{Pair, EndAction, goes, run}
-use Rattle.proof_pair.specs.Handing.{readied_messages}
+use Rattle.proof_pair.specs.Handing.{messages_made_ready}
 use Rattle.proof_delivery.specs.Accepted.{AcceptedMessage, accepted_at, accepted}
 use Rattle.proof_delivery.specs.Delivery as delivery
 use Rattle.proof_delivery.specs.Delivery.{message_at}
 use Rattle.proof_delivery.specs.StreamEpochs as epochs
-use Rattle.proof_delivery.specs.StreamEpochs.{all_open, resets_emitted, emitted_of}
+use Rattle.proof_delivery.specs.StreamEpochs.{all_open, resets_emitted, emitted_along}
 use Rattle.proof_delivery.proofs.ResetEventsLemmas.{emitted_both}
 use Rattle.proof_delivery.proofs.StreamEpochLemmas.{epochs_are_many, epochs_go_on}
 use Rattle.spec_world.specs.Observations.{End, A, B, Entry, BecameReady, ready_by, ready}
@@ -185,8 +185,8 @@ module _ (x : End) (all : List (Bool × EndAction)) (c : Pair) (from : delivery.
       own A = refl
       own B = refl
 
-  readied_is : readied_messages (not (is_a x)) (at.done ++ at.turn ∷ []) c ≡ ready y early ++ m ∷ ready y at.behind
-  readied_is = ap (λ (z : Bool). readied_messages z (at.done ++ at.turn ∷ []) c) (sym (is_a_other x)) ∙ (sym (then.ready_are y) ∙ ready_is)
+  readied_is : messages_made_ready (not (is_a x)) (at.done ++ at.turn ∷ []) c ≡ ready y early ++ m ∷ ready y at.behind
+  readied_is = ap (λ (z : Bool). messages_made_ready z (at.done ++ at.turn ∷ []) c) (sym (is_a_other x)) ∙ (sym (then.ready_are y) ∙ ready_is)
 
   -- ---- its offer, and its epoch
 
@@ -201,7 +201,7 @@ module _ (x : End) (all : List (Bool × EndAction)) (c : Pair) (from : delivery.
   offer =
       its_offer (accepted (is_a x) at.done c) place m
       (subst (λ (os : List AcceptedMessage). message_at os place ≡ Some m) same_offers
-      (at_place (accepted (is_a x) (at.done ++ at.turn ∷ []) c) (length (readied_messages (not (is_a x)) (at.done ++ at.turn ∷ []) c)) from.places (ready y early) (ready y at.behind) m
+      (at_place (accepted (is_a x) (at.done ++ at.turn ∷ []) c) (length (messages_made_ready (not (is_a x)) (at.done ++ at.turn ∷ []) c)) from.places (ready y early) (ready y at.behind) m
       ((from.fits (at.done ++ at.turn ∷ []) at.rest split_then).alike ∙ ap (map (λ (z : Message). Some z)) readied_is)))
 
   its_epoch : (n : ℕ) × (slice_get (epochs.message_epochs (is_a x) at.done c all_open) place ≡ Some n)
@@ -229,16 +229,16 @@ module _ (x : End) (all : List (Bool × EndAction)) (c : Pair) (from : delivery.
 
   -- ---- between the resets
 
-  from_here : length (readied_messages (not (is_a x)) at.done c) ≤ length (ready y early)
+  from_here : length (messages_made_ready (not (is_a x)) at.done c) ≤ length (ready y early)
   from_here =
-      let at_first = ap (λ (z : Bool). length (readied_messages z at.done c)) (is_a_other x) in
+      let at_first = ap (λ (z : Bool). length (messages_made_ready z at.done c)) (is_a_other x) in
       let reached = ap (λ (l : List Message). length l) (at.reached.ready_are y) in
       let grows = ap (λ (l : List Entry). length (ready y l)) at.here in
       let parts = ap (λ (l : List Message). length l) (flat_map-append (ready_by y) at.log at.front) in
       let sizes = length-append (ready y at.log) (ready y at.front) in
       omega (arith, at_first, reached, grows, parts, sizes)
 
-  to_there : length (ready y early) < length (readied_messages (not (is_a x)) (at.done ++ at.turn ∷ []) c)
+  to_there : length (ready y early) < length (messages_made_ready (not (is_a x)) (at.done ++ at.turn ∷ []) c)
   to_there =
       let is = ap (λ (l : List Message). length l) readied_is in
       let sizes = length-append (ready y early) (m ∷ ready y at.behind) in
@@ -247,11 +247,11 @@ module _ (x : End) (all : List (Bool × EndAction)) (c : Pair) (from : delivery.
   abbrev stream : ℕ
   stream = m.stream
 
-  counts : (done : List (Bool × EndAction)) (log : List Entry) → IsReached c done log → resets_emitted offer.0.message.stream (emitted_of (not (is_a x)) done c) ≡ resets_emitted stream (emitted_events y log)
+  counts : (done : List (Bool × EndAction)) (log : List Entry) → IsReached c done log → resets_emitted offer.0.message.stream (emitted_along (not (is_a x)) done c) ≡ resets_emitted stream (emitted_events y log)
   counts done log r =
-      ap (λ (z : Message). resets_emitted z.stream (emitted_of (not (is_a x)) done c)) offer.2
-      ∙ (ap (λ (z : Bool). resets_emitted stream (emitted_of z done c)) (sym (is_a_other x))
-      ∙ (sym (bare_resets stream (emitted_of (is_a y) done c)) ∙ ap (λ (es : List (Event (List ℕ))). resets_emitted stream es) (sym (r.emitted_are y))))
+      ap (λ (z : Message). resets_emitted z.stream (emitted_along (not (is_a x)) done c)) offer.2
+      ∙ (ap (λ (z : Bool). resets_emitted stream (emitted_along z done c)) (sym (is_a_other x))
+      ∙ (sym (bare_resets stream (emitted_along (is_a y) done c)) ∙ ap (λ (es : List (Event (List ℕ))). resets_emitted stream es) (sym (r.emitted_are y))))
 
   more_emitted : (before between log : List Entry) → log ≡ before ++ between → resets_emitted stream (emitted_events y before) ≤ resets_emitted stream (emitted_events y log)
   more_emitted before between log is =

@@ -20,11 +20,11 @@ use Rattle.proof_delivery.proofs.JustifiedActsLemmas.{IsJustifiedAt}
 use Rattle.proof_delivery.proofs.JustifiedOffersLemmas.{shorter}
 use Rattle.proof_delivery.proofs.JustifiedTraceLemmas.{Rests, Actions, accepted_now, goes_on, offers_back, at_first}
 use Rattle.spec_world.specs.Observations.{End, A, B, same_end, none_unless, Entry, Called, Given, Foreign, Timed, GaveUp, Call, Connect, given_up_by, given_up}
-use Rattle.spec_world.specs.World.{Side, World, Action, CallOf, Give, GiveForeign, AdvanceTime, InjectsInto, taken_in, withheld, Gives, Happens, Runs, side_of, other, take_emitted, news_of, calls, call_entry, after_call, advances_time, time_entry, after_time, table_call, answer_to, association, ready_at, fresh_world}
+use Rattle.spec_world.specs.World.{Side, World, Action, CallOf, Give, GiveForeign, AdvanceTime, MeetsForeignAt, given, withheld, Gives, Happens, Runs, side_of, other, take_emitted, news_of, call_socket, call_entry, after_call, advance_time, time_entry, after_time, table_call, answer_to, association, ready_at, fresh_world}
 use Rattle.spec_world.specs.World as worlds
-use Rattle.proof_world.specs.Traces.{ActionFits, IsInBytes, is_a, end_of, receiving, IsForeign, IsActionOf}
+use Rattle.proof_world.specs.Traces.{ActionFits, IsInBytes, is_a, end_of, give_action, IsForeign, IsActionOf}
 use Rattle.proof_world.specs.Delivered.{accepted_messages_by, accepted_messages, reset_in}
-use Rattle.proof_world.specs.Justified.{clock_if, clock_after, clock_from, clock, resets_if, resets_after, resets_from, resets, acceptances_by, acceptances, WorldsAreJustified, AcceptancesAreOffers}
+use Rattle.proof_world.specs.Justified.{clock_if, clock_after, clock_from, clock, resets_if, resets_after, resets_from, resets, acceptances_by, acceptances, WorldsAreJustified, AcceptancesAreOfAcceptedMessages}
 use Rattle.proof_world.proofs.LoggedLemmas.{IsQuietOn, none_in_news}
 use Rattle.proof_world.proofs.EventLemmas.{same_itself}
 use Rattle.proof_world.proofs.ClockLemmas.{moves, action_still}
@@ -187,7 +187,7 @@ module _ (f : Mapping Carried (List ℕ)) (x : End) (own beside : traces.Side) (
   cleared_by : (cleared : List ℕ) → cleared ≡ reset_by turn own → (y : End) (rs : List ℕ) → resets_if (same_end y x) cleared rs ≡ resets_if (same_end y x) (reset_by turn own) rs
   cleared_by cleared e y rs = ap (λ (r : List ℕ). resets_if (same_end y x) r rs) e
 
-  call_marks : (call : Call) → turn ≡ Calls (table_call call) → u ≡ calls x call w → Marks x turn own next w.log u.log
+  call_marks : (call : Call) → turn ≡ Calls (table_call call) → u ≡ call_socket x call w → Marks x turn own next w.log u.log
   call_marks call t e =
       let b : BeginsWith x (Calls (table_call call)) own (call_entry x call s) = call_begins f x own s is call in
       still_marks (call_entry x call s) (news_of x (side_of x w) (after_call call s)) (ap moves t ∙ call_still call) (ap (λ (z : World). z.log) e ∙ calls_log x call w)
@@ -195,7 +195,7 @@ module _ (f : Mapping Carried (List ℕ)) (x : End) (own beside : traces.Side) (
       (record { right = λ y all now rs. tt; takes = λ y. refl; ticks = λ y m. refl; clears = cleared_by (reset_in call (answer_to call s)) (call_resets f x own s is call ∙ ap (λ (z : EndAction). reset_by z own) (sym t)); given_up = λ y. refl })
       (b.offers ∙ ap (λ (z : EndAction). accepted_in z own) (sym t)) b.no_offers
 
-  time_marks : (now : ℕ) → turn ≡ Calls (table.Advance now) → u ≡ advances_time x now w → Marks x turn own next w.log u.log
+  time_marks : (now : ℕ) → turn ≡ Calls (table.Advance now) → u ≡ advance_time x now w → Marks x turn own next w.log u.log
   time_marks now t e =
       let after : Endpoint (List ℕ) = after_time now s in
       let none : accepted_in turn own ≡ [] = ap (λ (z : EndAction). accepted_in z own) t in
@@ -212,8 +212,8 @@ module _ (f : Mapping Carried (List ℕ)) (x : End) (own beside : traces.Side) (
       still_marks (Given x (worlds.clock s) packet) (news_of x (side_of x w) g.takes_bytes.after) still g.takes_bytes.logged (quiet_news g.takes_bytes.after)
       (record { right = λ y all now rs. tt; takes = λ y. refl; ticks = λ y m. refl; clears = cleared_by [] (sym clear); given_up = λ y. refl }) (sym none) refl
 
-  foreign_marks : (bytes : List ℕ) → moves turn ≡ false → accepted_in turn own ≡ [] → reset_by turn own ≡ [] → InjectsInto x bytes (side_of x w) (side_of x u) w.log u.log → Marks x turn own next w.log u.log
-  foreign_marks bytes still none clear (taken_in t judged) =
+  foreign_marks : (bytes : List ℕ) → moves turn ≡ false → accepted_in turn own ≡ [] → reset_by turn own ≡ [] → MeetsForeignAt x bytes (side_of x w) (side_of x u) w.log u.log → Marks x turn own next w.log u.log
+  foreign_marks bytes still none clear (given t judged) =
       still_marks (Foreign x (worlds.clock s) (Some bytes)) (news_of x (side_of x w) t.after) still t.logged (quiet_news t.after)
       (record { right = λ y all now rs. tt; takes = λ y. refl; ticks = λ y m. refl; clears = cleared_by [] (sym clear); given_up = λ y. refl }) (sym none) refl
   foreign_marks bytes still none clear (withheld judged stays logged) =
@@ -226,11 +226,11 @@ call_restores : (call : Call) → restores (Calls (table_call call)) ≡ false
 call_restores Connect = refl
 call_restores call = refl
 
-receiving_moves : (b : Bool) (n sum : ℕ) → moves (receiving b n sum) ≡ false
+receiving_moves : (b : Bool) (n sum : ℕ) → moves (give_action b n sum) ≡ false
 receiving_moves true n sum = refl
 receiving_moves false n sum = refl
 
-receiving_restores : (b : Bool) (n sum : ℕ) → restores (receiving b n sum) ≡ false
+receiving_restores : (b : Bool) (n sum : ℕ) → restores (give_action b n sum) ≡ false
 receiving_restores true n sum = refl
 receiving_restores false n sum = refl
 
@@ -378,7 +378,7 @@ one_entry : (x : End) (e : Entry) → map (λ (a : Acceptance). a.offer) (accept
 one_entry x (Called y clock call answer) = offers_back clock (accepted_messages_by x (Called y clock call answer))
 one_entry x e = refl
 
-pub acceptances_offers : AcceptancesAreOffers
+pub acceptances_offers : AcceptancesAreOfAcceptedMessages
 acceptances_offers x [] = refl
 acceptances_offers x (e ∷ log) =
     map-append (λ (a : Acceptance). a.offer) (acceptances_by x e) (acceptances x log)
@@ -388,13 +388,13 @@ acceptances_offers x (e ∷ log) =
 as_many : (x : End) (log : List Entry) → length (accepted_messages x log) ≡ length (acceptances x log)
 as_many x log = sym (ap length (acceptances_offers x log)) ∙ length-map (acceptances x log) (λ (a : Acceptance). a.offer)
 
-known_first : (x : End) (a b : Options) (words_a words_b : Stream) → Known x [] (traces.side_of (is_a x) (start a b words_a words_b))
-known_first A a b words_a words_b = record { each = tt; time = refl; rests = at_first true a b words_a words_b }
-known_first B a b words_a words_b = record { each = tt; time = refl; rests = at_first false a b words_a words_b }
+known_first : (x : End) (a b : Options) (draws_a draws_b : Stream) → Known x [] (traces.side_of (is_a x) (start a b draws_a draws_b))
+known_first A a b draws_a draws_b = record { each = tt; time = refl; rests = at_first true a b draws_a draws_b }
+known_first B a b draws_a draws_b = record { each = tt; time = refl; rests = at_first false a b draws_a draws_b }
 
 pub worlds_justified : WorldsAreJustified
-worlds_justified a b words_a words_b word_of_a word_of_b actions w fits_a fits_b fit runs small x few before behind g is =
+worlds_justified a b draws_a draws_b word_of_a word_of_b actions w fits_a fits_b fit runs small x few before behind g is =
     at_each x [] 0 [] w.log before behind g
-    (along word_of_a word_of_b x actions (fresh_world a b words_a words_b word_of_a word_of_b) w (start a b words_a words_b) fit runs small
-    (fresh_both a b words_a words_b word_of_a word_of_b fits_a fits_b) (subst (λ (n : ℕ). n < 2 ^ 32) (as_many x w.log) few) (known_first x a b words_a words_b))
+    (along word_of_a word_of_b x actions (fresh_world a b draws_a draws_b word_of_a word_of_b) w (start a b draws_a draws_b) fit runs small
+    (fresh_both a b draws_a draws_b word_of_a word_of_b fits_a fits_b) (subst (λ (n : ℕ). n < 2 ^ 32) (as_many x w.log) few) (known_first x a b draws_a draws_b))
     is

@@ -13,12 +13,12 @@ use Rattle.spec_endpoint.specs.Laws.{endings}
 use Rattle.proof_endpoint.specs.Mapped.{Mapping, Carried, map_event, as_bytes}
 use Rattle.sctp_rx.specs.Delivery as orders
 use Rattle.proof_protocol.specs.State.{has}
-use Rattle.proof_tx_refines.specs.Led.{delivered_ids}
+use Rattle.proof_tx_refines.specs.Reachable.{delivered_ids}
 use Rattle.proof_tx_refines.specs.Records.{are_distinct}
 use Rattle.proof_tx_refines.proofs.SackLemmas.{delivered_more}
 use Rattle.proof_pair.specs.Trace as traces
-use Rattle.proof_pair.specs.Trace.{Pair, EndAction, goes, run, start, NeitherHasEnded, AreValidOptions, MayAct}
-use Rattle.proof_pair.specs.Handing.{ready_at, handed_at, readied_messages}
+use Rattle.proof_pair.specs.Trace.{Pair, EndAction, goes, run, start, NoAssociationHasEnded, AreValidOptions, MayAct}
+use Rattle.proof_pair.specs.Handing.{ready_at, handed_at, messages_made_ready}
 use Rattle.proof_pair.proofs.TraceLemmas.{before_run, run_both, follows_more, follows_front}
 use Rattle.proof_pair.proofs.HandingLemmas.{handed_in_order, handed_prefix, first_halves}
 use Rattle.proof_delivery.specs.Accepted.{AcceptedMessage, accepted_at, accepted}
@@ -36,9 +36,9 @@ use Rattle.proof_delivery.proofs.TraceResetLemmas.{emitted_turned}
 use Rattle.proof_delivery.proofs.ResetEventsLemmas.{failed_more}
 use Rattle.spec_world.specs.Observations.{End, A, B, Entry, BecameReady, ready, handed_out, handed_out_by, ready_by, given_up_by}
 use Rattle.spec_world.specs.World.{World, Action, Happens, other, is_at_rest, packets_in, emitted_entries}
-use Rattle.proof_world.specs.Traces.{ActionFits, IsReachable, origin, is_a, end_of, emitted_in}
-use Rattle.proof_world.specs.Delivered.{given_up_places, reported_by, reported, AlongRun, ready_places, stamp, IsTimely, KeepsWindows, KeepsRequests, sets_more, accepted_messages_by, accepted_messages, emitted_events_by, emitted_events, IsInItsEpoch}
-use Rattle.proof_world.specs.Consistent.{ended_by, times_ended, NoneHasEnded, KeepsOpeningRules}
+use Rattle.proof_world.specs.Traces.{ActionFits, IsReachable, initial_world, is_a, end_of, emitted_in}
+use Rattle.proof_world.specs.Delivered.{given_up_places, reported_by, reported, AlongRun, ready_places, world_stamp, IsTimely, WorldKeepsWindows, WorldKeepsRequests, sets_more, accepted_messages_by, accepted_messages, emitted_events_by, emitted_events, IsInItsEpoch}
+use Rattle.proof_world.specs.Consistent.{association_ends_by, times_ended, NoEndingIsLogged, WorldKeepsRules}
 use Rattle.proof_world.proofs.EventLemmas.{mapped, entries_both, ended_emitted}
 use Rattle.proof_world.proofs.NewsLemmas.{emitted_both, ended_by_emitted}
 use Rattle.proof_world.proofs.StandingLemmas.{times_more}
@@ -59,8 +59,8 @@ use Rattle.proof_world.proofs.ClosingLemmas.{IsParted, parted_of, IsFront, in_fr
 
 -- ---- beginnings of traces
 
-not_ended_front : (es fs : List (Bool × EndAction)) (c : Pair) → NeitherHasEnded (run (es ++ fs) c) → NeitherHasEnded (run es c)
-not_ended_front es fs c h = before_run fs (run es c) (subst NeitherHasEnded (run_both es fs c) h)
+not_ended_front : (es fs : List (Bool × EndAction)) (c : Pair) → NoAssociationHasEnded (run (es ++ fs) c) → NoAssociationHasEnded (run es c)
+not_ended_front es fs c h = before_run fs (run es c) (subst NoAssociationHasEnded (run_both es fs c) h)
 
 any_more : (test : (Bool × EndAction) → Bool) (es : List (Bool × EndAction)) (e : Bool × EndAction) → list_any test es ≡ false → test e ≡ false → list_any test (es ++ e ∷ []) ≡ false
 any_more test [] e h k = ap (λ (b : Bool). b || false) k
@@ -109,7 +109,7 @@ module _ (f : Mapping Carried (List ℕ)) (x : End) (log early late : List Entry
   pub emits_none : times_ended x early ≡ 0 → endings emits.some ≡ 0
   emits_none h =
       ended_emitted f x n emits.some
-      (ap (λ (l : List Entry). length (flat_map (ended_by x) l)) (sym emits.are) ∙ (ap (λ (l : List End). length l) (sym (ended_by_emitted x early)) ∙ h))
+      (ap (λ (l : List Entry). length (flat_map (association_ends_by x) l)) (sym emits.are) ∙ (ap (λ (l : List End). length l) (sym (ended_by_emitted x early)) ∙ h))
 
   pub emits_reports : reported x (log ++ early) ≡ delivered_ids (past ++ emits.some)
   emits_reports =
@@ -131,7 +131,7 @@ module _ (f : Mapping Carried (List ℕ)) (x : End) (log early late : List Entry
 
 -- ---- a world that stands
 
-module _ (w : World) (l : IsReachable w) (rules : KeepsOpeningRules w) (none : NoneHasEnded w.log) where
+module _ (w : World) (l : IsReachable w) (rules : WorldKeepsRules w) (none : NoEndingIsLogged w.log) where
   abbrev a : Options
   a = l.a
 
@@ -139,10 +139,10 @@ module _ (w : World) (l : IsReachable w) (rules : KeepsOpeningRules w) (none : N
   b = l.b
 
   abbrev words_a : Stream
-  words_a = l.random_a
+  words_a = l.draws_a
 
   abbrev words_b : Stream
-  words_b = l.random_b
+  words_b = l.draws_b
 
   abbrev word_of_a : List ℕ → ℕ
   word_of_a = l.word_of_a
@@ -154,7 +154,7 @@ module _ (w : World) (l : IsReachable w) (rules : KeepsOpeningRules w) (none : N
   actions = l.actions
 
   abbrev first_world : World
-  first_world = origin l
+  first_world = initial_world l
 
   abbrev pub first_pair : Pair
   first_pair = start a b words_a words_b
@@ -169,23 +169,23 @@ module _ (w : World) (l : IsReachable w) (rules : KeepsOpeningRules w) (none : N
   d : Delivering word_of_a word_of_b actions first_world w first_pair l.runs r.trace
   d = delivering word_of_a word_of_b actions first_world w first_pair l.fit l.runs l.bytes (fresh_both a b words_a words_b word_of_a word_of_b l.fits_a l.fits_b)
 
-  own : AreValidOptions a
-  own = given_of a l.valid_a l.fits_a
+  options_a_valid : AreValidOptions a
+  options_a_valid = given_of a l.valid_a l.fits_a
 
-  theirs : AreValidOptions b
-  theirs = given_of b l.valid_b l.fits_b
+  options_b_valid : AreValidOptions b
+  options_b_valid = given_of b l.valid_b l.fits_b
 
-  not_ended : NeitherHasEnded c
+  not_ended : NoAssociationHasEnded c
   not_ended = record {
     a = none_ended word_of_a A w.log w.b.packets w.a c.a r.both.a (none A);
     b = none_ended word_of_b B w.log w.a.packets w.b c.b r.both.b (none B);
   }
 
-  follows : traces.KeepsOpeningRules r.trace first_pair
+  follows : traces.KeepsRules r.trace first_pair
   follows = r.follows rules none
 
   stand : block.Stands r.trace first_pair
-  stand = stands_along a b own theirs r.trace first_pair follows not_ended (first_halves a b words_a words_b)
+  stand = stands_along a b options_a_valid options_b_valid r.trace first_pair follows not_ended (first_halves a b words_a words_b)
 
   blocks : AreBlocks r.trace first_pair [] w.log
   blocks = d.blocks stand
@@ -197,7 +197,7 @@ module _ (w : World) (l : IsReachable w) (rules : KeepsOpeningRules w) (none : N
   emitted_is A = happened_is word_of_a A w.log w.b.packets w.a c.a r.both.a
   emitted_is B = happened_is word_of_b B w.log w.a.packets w.b c.b r.both.b
 
-  became_ready : (x : End) → ready x w.log ≡ readied_messages (is_a x) r.trace first_pair
+  became_ready : (x : End) → ready x w.log ≡ messages_made_ready (is_a x) r.trace first_pair
   became_ready x = ready_run x r.trace first_pair [] w.log blocks
 
   reached : IsReached first_pair [] []
@@ -209,8 +209,8 @@ module _ (w : World) (l : IsReachable w) (rules : KeepsOpeningRules w) (none : N
 
   -- the bounds, until here
   pub record IsKept : Type 0 where
-    pub windows : KeepsWindows actions first_world w l.runs no_stamps
-    pub answered : KeepsRequests actions first_world w l.runs none_asked
+    pub windows : WorldKeepsWindows actions first_world w l.runs no_stamps
+    pub answered : WorldKeepsRequests actions first_world w l.runs none_asked
     pub few_resets : (x : End) → performed_in (emitted_events x w.log) < 2 ^ 32 - 1
     pub few : (x : End) → length (accepted_messages x w.log) < 2 ^ 32
     pub limits : list_any sets_more actions ≡ false
@@ -239,7 +239,7 @@ module _ (w : World) (l : IsReachable w) (rules : KeepsOpeningRules w) (none : N
       few_at false = subst (λ (l : List AcceptedMessage). length l < 2 ^ 32) (offered B) (k.few B)
 
   pub trace_delivers : delivery.MessagesAreDelivered → IsKept → (x : End) → delivery.Delivers (is_a x) r.trace first_pair
-  trace_delivers law k x = law a b words_a words_b r.trace own theirs follows not_ended (bounds k) (is_a x)
+  trace_delivers law k x = law a b words_a words_b r.trace options_a_valid options_b_valid follows not_ended (bounds k) (is_a x)
 
   pub delivered_front : (x : End) (from : delivery.Delivers (is_a x) r.trace first_pair) (early late : List Entry) → w.log ≡ early ++ late → IsDeliveredAt x from.places early
   delivered_front x from early late e = delivered_each x r.trace first_pair from w.log early late reached blocks e
@@ -252,7 +252,7 @@ module _ (w : World) (l : IsReachable w) (rules : KeepsOpeningRules w) (none : N
   pub none_failed : delivery.NoResetIsRefused → IsKept → (x : End) → failed_in (emitted_events x w.log) ≡ false
   none_failed law k x =
       ap (λ (es : List (Event (List ℕ))). failed_in es) (emitted_is x)
-      ∙ (bare_failed (traces.side_of (is_a x) c).emitted ∙ law a b words_a words_b r.trace own theirs follows not_ended (bounds k) (is_a x))
+      ∙ (bare_failed (traces.side_of (is_a x) c).emitted ∙ law a b words_a words_b r.trace options_a_valid options_b_valid follows not_ended (bounds k) (is_a x))
 
   pub none_failed_front : (x : End) → failed_in (emitted_events x w.log) ≡ false → (early late : List Entry) → w.log ≡ early ++ late → failed_in (emitted_events x early) ≡ false
   none_failed_front x h early late e =
@@ -277,15 +277,15 @@ module _ (w : World) (l : IsReachable w) (rules : KeepsOpeningRules w) (none : N
   prefix x early late is =
       prefix_each x r.trace first_pair
       (λ before behind s.
-      let front_follows : traces.KeepsOpeningRules (before ++ behind) first_pair = subst (λ (l : List (Bool × EndAction)). traces.KeepsOpeningRules l first_pair) s follows in
-      let none_yet : NeitherHasEnded (run (before ++ behind) first_pair) = subst (λ (l : List (Bool × EndAction)). NeitherHasEnded (run l first_pair)) s not_ended in
-      handed_prefix a b words_a words_b before own theirs (follows_front before behind first_pair front_follows) (not_ended_front before behind first_pair none_yet) (is_a x))
+      let front_follows : traces.KeepsRules (before ++ behind) first_pair = subst (λ (l : List (Bool × EndAction)). traces.KeepsRules l first_pair) s follows in
+      let none_yet : NoAssociationHasEnded (run (before ++ behind) first_pair) = subst (λ (l : List (Bool × EndAction)). NoAssociationHasEnded (run l first_pair)) s not_ended in
+      handed_prefix a b words_a words_b before options_a_valid options_b_valid (follows_front before behind first_pair front_follows) (not_ended_front before behind first_pair none_yet) (is_a x))
       w.log early late reached blocks is
 
   -- ---- the event that ends an association, of a run that goes on to v
 
-  module _ (action : Action) (next v : World) (fits : ActionFits action) (happens : Happens action w next) (over : NoneHasEnded next.log → ⊥) (later : Extends next v)
-      (v_rules : KeepsOpeningRules v) where
+  module _ (action : Action) (next v : World) (fits : ActionFits action) (happens : Happens action w next) (over : NoEndingIsLogged next.log → ⊥) (later : Extends next v)
+      (v_rules : WorldKeepsRules v) where
     abbrev pub x : End
     x = end_of action
 
@@ -301,7 +301,7 @@ module _ (w : World) (l : IsReachable w) (rules : KeepsOpeningRules w) (none : N
     may : MayAct step.turn own_side
     may = may_action word_of_a word_of_b action w next v c step.turn happens step.extends later r.both step.is v_rules none
 
-    module _ (early late : List Entry) (e : next.log ≡ (w.log ++ early) ++ late) (stands : NoneHasEnded (w.log ++ early)) where
+    module _ (early late : List Entry) (e : next.log ≡ (w.log ++ early) ++ late) (stands : NoEndingIsLogged (w.log ++ early)) where
       front : (early ≡ []) ⊎ IsFront b_parted.first b_parted.rest early
       front = in_front x step.turn own_side w.log next.log b_parted early late e stands over
 
@@ -331,7 +331,7 @@ module _ (w : World) (l : IsReachable w) (rules : KeepsOpeningRules w) (none : N
           goes : IsFront b_parted.first b_parted.rest early → orders.Extends (handed_out y here) (ready y here)
           goes h =
               let order : ready y w.log ≡ handed_out y w.log ++ ready_at (traces.side_of (is_a y) c) =
-              became_ready y ∙ (handed_in_order a b words_a words_b r.trace own theirs follows not_ended (is_a y)
+              became_ready y ∙ (handed_in_order a b words_a words_b r.trace options_a_valid options_b_valid follows not_ended (is_a y)
               ∙ ap (λ (l : List Message). l ++ ready_at (traces.side_of (is_a y) c)) (sym (handed_run y r.trace first_pair [] w.log blocks))) in
               let handed_is : handed_out y here ≡ handed_out y w.log ++ handed_at (is_a y) (is_a x) step.turn c =
               reads h (handed_out_by y) (b_parted.hands y)
@@ -429,8 +429,8 @@ module _ (w : World) (l : IsReachable w) (rules : KeepsOpeningRules w) (none : N
               accepted_more (is_a x) r.trace (is_a x, step.turn) first_pair
               ∙ (ap (λ (l : List AcceptedMessage). l ++ accepted_at (is_a x) (is_a x) step.turn c) (sym (offered x))
               ∙ ap (λ (l : List AcceptedMessage). accepted_messages x w.log ++ l) (sym (first_offers x x step.turn c b_parted.first b_parted.begins))) in
-              let ready_are : readied_messages (not (is_a x)) r.trace first_pair ≡ ready (other x) w.log =
-              ap (λ (z : Bool). readied_messages z r.trace first_pair) (sym (is_a_other x)) ∙ sym (became_ready (other x)) in
+              let ready_are : messages_made_ready (not (is_a x)) r.trace first_pair ≡ ready (other x) w.log =
+              ap (λ (z : Bool). messages_made_ready z r.trace first_pair) (sym (is_a_other x)) ∙ sym (became_ready (other x)) in
               let reports : (id : ℕ) → has id (reported x here) ≡ true
               → IsReady (accepted_messages x w.log ++ accepted_messages_by x b_parted.first) (take (length (ready (other x) w.log)) from.delivers.places) id =
               λ id is.
@@ -445,11 +445,11 @@ module _ (w : World) (l : IsReachable w) (rules : KeepsOpeningRules w) (none : N
 
     -- ---- the bounds, with that event
 
-    pub ends_delivering : ending.MessagesAreDeliveredThen → IsKept → IsTimely action (stamp w) (stamps_along actions first_world w l.runs windows.no_stamps)
+    pub ends_delivering : ending.MessagesAreDeliveredThen → IsKept → IsTimely action (world_stamp w) (stamps_along actions first_world w l.runs windows.no_stamps)
         → sets_more action ≡ false → length (accepted_messages x (w.log ++ b_parted.first ∷ [])) < 2 ^ 32
         → ending.DeliversThen (is_a x) r.trace step.turn first_pair
     ends_delivering law k t no_more few =
-        law a b words_a words_b r.trace (is_a x) step.turn own theirs (follows_more r.trace (is_a x, step.turn) first_pair follows may) not_ended (record {
+        law a b words_a words_b r.trace (is_a x) step.turn options_a_valid options_b_valid (follows_more r.trace (is_a x, step.turn) first_pair follows may) not_ended (record {
           windows = d.windows_kept windows.no_stamps none k.windows;
           timely =
               subst (λ (s : windows.Stamps). windows.IsTimely step.turn (windows.stamp c) (windows.stamps_for (is_a x) s)) (d.stamps windows.no_stamps)
@@ -467,7 +467,7 @@ module _ (w : World) (l : IsReachable w) (rules : KeepsOpeningRules w) (none : N
             ∙ (ap (λ (l : List AcceptedMessage). l ++ accepted_at (is_a x) (is_a x) step.turn c) (offered x) ∙ sym (accepted_more (is_a x) r.trace (is_a x, step.turn) first_pair)))
 
     -- its first entry ends nothing
-    pub stands_first : NoneHasEnded (w.log ++ b_parted.first ∷ [])
+    pub stands_first : NoEndingIsLogged (w.log ++ b_parted.first ∷ [])
     stands_first y =
         let sum = times_more y w.log (b_parted.first ∷ []) in
         let before = none y in

@@ -35,7 +35,7 @@ pub mod EndingLemmas
 pub mod AlongLemmas
 pub mod PairLemmas
 pub mod NextLemmas
-pub mod KeepsLemmas
+pub mod WindowsKeptLemmas
 pub mod ConnectsLemmas
 pub mod ShownLemmas
 pub mod ComputedLemmas

@@ -11,12 +11,12 @@ use Rattle.sctp_state.specs.Options.{Options, SendOptions}
 use Rattle.sctp_state.specs.Events.{Event, GivenUp, SendPacket, OnConnected, OnClosed, OnConnectionRestarted, OnAborted, OnError, OnBufferedAmountLow, OnTotalBufferedAmountLow, OnStreamsResetFailed, OnStreamsResetPerformed, OnIncomingStreamReset, OnLifecycleMessageFullySent, OnLifecycleMessageMaybeExpired, OnLifecycleMessageExpired, OnLifecycleMessageDelivered, OnLifecycleEnd, first_of}
 use Rattle.spec_endpoint.specs.Association.{Context, Endpoint}
 use Rattle.sctp_tx_queue.specs.SendQueue.{Queue, add}
-use Rattle.spec_endpoint.specs.Calls.{refusal, refusals, with_refusal, queue_entry, offered, offer}
+use Rattle.spec_endpoint.specs.Calls.{send_refusal, refusals, with_refusal, queue_entry, offered, offer}
 use Rattle.spec_endpoint.specs.Shown.{Association}
 use Rattle.proof_endpoint.specs.Mapped.{Carried}
 use Rattle.proof_delivery.specs.Accepted.{AcceptedMessage, unless_refused, accepted_of}
-use Rattle.proof_tx_refines.specs.Led.{delivered_by}
-use Rattle.spec_world.specs.Observations.{End, same_end, same_association, none_unless, all_unless, some_unless, unrefused, Send, Sent, Received, Entry, Associated, EmittedPacket, EmittedEvent, GaveUp, BecameReady, ready_by, handed_out_in, handed_out_by, given_up_by, given_up}
+use Rattle.proof_tx_refines.specs.Reachable.{delivered_by}
+use Rattle.spec_world.specs.Observations.{End, same_end, same_association, none_unless, all_unless, some_unless, unrefused, Send, Sent, TookMessage, Entry, Associated, EmittedPacket, EmittedEvent, GaveUp, BecameReady, ready_by, handed_out_in, handed_out_by, given_up_by, given_up}
 use Rattle.spec_world.specs.World.{association, ready_at, associated_if, association_entries, ready_before, ready_entries, given_up_entries, emitted_entries, news}
 use Rattle.proof_world.specs.Delivered.{accepted_messages_in, accepted_messages_by, reported_by}
 
@@ -146,7 +146,7 @@ given_up_news x h n ready old s =
 -- ---- calls
 
 -- the first that is ready is handed out
-pub first_handed : (ms : List Message) → handed_out_in (Received (first_of ms)) ≡ take 1 ms
+pub first_handed : (ms : List Message) → handed_out_in (TookMessage (first_of ms)) ≡ take 1 ms
 first_handed [] = refl
 first_handed (m ∷ ms) = refl
 
@@ -172,7 +172,7 @@ none_before : (place next : ℕ) → place < next → (ms : List Message) (o : S
     → list_any (λ (r : ℕ × SendError). r.0 == place) (refusals next ms o shown c) ≡ false
 none_before place next l [] o shown c = refl
 none_before place next l (m ∷ ms) o shown c =
-    none_with (refusal m shown c) (refusals (next + 1) ms o shown (offer m o shown c)) (none_before place (next + 1) (omega (arith, l)) ms o shown (offer m o shown c))
+    none_with (send_refusal m shown c) (refusals (next + 1) ms o shown (offer m o shown c)) (none_before place (next + 1) (omega (arith, l)) ms o shown (offer m o shown c))
   where
     none_with : (r : Option SendError) (rest : List (ℕ × SendError)) → list_any (λ (z : ℕ × SendError). z.0 == place) rest ≡ false
         → list_any (λ (z : ℕ × SendError). z.0 == place) (with_refusal next r rest) ≡ false
@@ -185,13 +185,13 @@ pub record IsAlike (c : Context (List ℕ)) (d : Context Carried) : Type 0 where
   pub queue : c.queue ≡ d.queue
   pub now : c.now ≡ d.now
 
-refused_alike : (m : Message) (shown : SocketState) (c : Context (List ℕ)) (d : Context Carried) → IsAlike c d → refusal m shown c ≡ refusal m shown d
+refused_alike : (m : Message) (shown : SocketState) (c : Context (List ℕ)) (d : Context Carried) → IsAlike c d → send_refusal m shown c ≡ send_refusal m shown d
 refused_alike m shown c d a =
-    ap (λ (z : Options). refusal m shown (record d { options = z; queue = c.queue })) a.options
-    ∙ ap (λ (z : Queue). refusal m shown (record d { queue = z })) a.queue
+    ap (λ (z : Options). send_refusal m shown (record d { options = z; queue = c.queue })) a.options
+    ∙ ap (λ (z : Queue). send_refusal m shown (record d { queue = z })) a.queue
 
 offer_alike : (m : Message) (o : SendOptions) (shown : SocketState) (c : Context (List ℕ)) (d : Context Carried) → IsAlike c d → IsAlike (offer m o shown c) (offer m o shown d)
-offer_alike m o shown c d a = go (refusal m shown c) (refusal m shown d) (refused_alike m shown c d a)
+offer_alike m o shown c d a = go (send_refusal m shown c) (send_refusal m shown d) (refused_alike m shown c d a)
   where
     go : (r s : Option SendError) → r ≡ s → IsAlike (offered r m o c) (offered s m o d)
     go None None e = record {
@@ -207,7 +207,7 @@ pub many_offers : (place : ℕ) (ms : List Message) (o : SendOptions) (shown : S
     → with_options o (unrefused place ms (refusals place ms o shown c)) ≡ accepted_of ms o shown d
 many_offers place [] o shown c d a = refl
 many_offers place (m ∷ ms) o shown c d a =
-    go (refusal m shown c) (refusal m shown d) (refused_alike m shown c d a)
+    go (send_refusal m shown c) (send_refusal m shown d) (refused_alike m shown c d a)
     (none_before place (place + 1) (omega arith) ms o shown (offer m o shown c))
     (many_offers (place + 1) ms o shown (offer m o shown c) (offer m o shown d) (offer_alike m o shown c d a))
   where

@@ -10,7 +10,7 @@ use Rattle.spec_endpoint.specs.Shown.{Association}
 use Rattle.spec_world.specs.Observations.{End, A, B, same_end, same_association, none_unless, Entry, Called, Given, Foreign, Timed, Associated, EmittedPacket, EmittedEvent, GaveUp, BecameReady, newer, held_after, held_from, connected_by}
 use Rattle.spec_world.specs.World.{association, ready_at, associated_if, association_entries, ready_before, ready_entries, given_up_entries, emitted_entries, news}
 use Rattle.proof_world.specs.Traces.{emitted_by, emitted_in}
-use Rattle.proof_world.specs.Consistent.{ended_by}
+use Rattle.proof_world.specs.Consistent.{association_ends_by}
 use Rattle.proof_world.proofs.EventLemmas.{emitted_own, emitted_other}
 
 -- ---- what was emitted
@@ -191,7 +191,7 @@ connected_by_emitted x (e ∷ log) =
     ∙ ap (λ (l : List End). l ++ flat_map (connected_by x) (emitted_in x log)) (sym (connected_step x e))
     ∙ sym (flat_map-append (connected_by x) (emitted_by x e) (emitted_in x log))
 
-ended_step : (x : End) (e : Entry) → flat_map (ended_by x) (emitted_by x e) ≡ ended_by x e
+ended_step : (x : End) (e : Entry) → flat_map (association_ends_by x) (emitted_by x e) ≡ association_ends_by x e
 ended_step x (Called y clock call answer) = refl
 ended_step x (Given y clock packet) = refl
 ended_step x (Foreign y clock bytes) = refl
@@ -199,27 +199,27 @@ ended_step x (Timed y clock now) = refl
 ended_step x (Associated y a) = refl
 ended_step x (GaveUp y g) = refl
 ended_step x (BecameReady y m) = refl
-ended_step x (EmittedPacket y packet) = of_none (ended_by x) (EmittedPacket y packet) (same_end x y) refl
-ended_step x (EmittedEvent y (SendPacket p)) = of_none (ended_by x) (EmittedEvent y (SendPacket p)) (same_end x y) refl
-ended_step x (EmittedEvent y OnConnected) = of_none (ended_by x) (EmittedEvent y OnConnected) (same_end x y) refl
-ended_step x (EmittedEvent y OnClosed) = of_one (ended_by x) (EmittedEvent y OnClosed) y (same_end x y) refl
-ended_step x (EmittedEvent y OnConnectionRestarted) = of_none (ended_by x) (EmittedEvent y OnConnectionRestarted) (same_end x y) refl
-ended_step x (EmittedEvent y (OnAborted kind text)) = of_one (ended_by x) (EmittedEvent y (OnAborted kind text)) y (same_end x y) refl
-ended_step x (EmittedEvent y (OnError kind text)) = of_none (ended_by x) (EmittedEvent y (OnError kind text)) (same_end x y) refl
-ended_step x (EmittedEvent y (OnBufferedAmountLow id)) = of_none (ended_by x) (EmittedEvent y (OnBufferedAmountLow id)) (same_end x y) refl
-ended_step x (EmittedEvent y OnTotalBufferedAmountLow) = of_none (ended_by x) (EmittedEvent y OnTotalBufferedAmountLow) (same_end x y) refl
-ended_step x (EmittedEvent y (OnStreamsResetFailed ids)) = of_none (ended_by x) (EmittedEvent y (OnStreamsResetFailed ids)) (same_end x y) refl
-ended_step x (EmittedEvent y (OnStreamsResetPerformed ids)) = of_none (ended_by x) (EmittedEvent y (OnStreamsResetPerformed ids)) (same_end x y) refl
-ended_step x (EmittedEvent y (OnIncomingStreamReset ids)) = of_none (ended_by x) (EmittedEvent y (OnIncomingStreamReset ids)) (same_end x y) refl
-ended_step x (EmittedEvent y (OnLifecycleMessageFullySent id)) = of_none (ended_by x) (EmittedEvent y (OnLifecycleMessageFullySent id)) (same_end x y) refl
-ended_step x (EmittedEvent y (OnLifecycleMessageMaybeExpired id)) = of_none (ended_by x) (EmittedEvent y (OnLifecycleMessageMaybeExpired id)) (same_end x y) refl
-ended_step x (EmittedEvent y (OnLifecycleMessageExpired id)) = of_none (ended_by x) (EmittedEvent y (OnLifecycleMessageExpired id)) (same_end x y) refl
-ended_step x (EmittedEvent y (OnLifecycleMessageDelivered id)) = of_none (ended_by x) (EmittedEvent y (OnLifecycleMessageDelivered id)) (same_end x y) refl
-ended_step x (EmittedEvent y (OnLifecycleEnd id)) = of_none (ended_by x) (EmittedEvent y (OnLifecycleEnd id)) (same_end x y) refl
+ended_step x (EmittedPacket y packet) = of_none (association_ends_by x) (EmittedPacket y packet) (same_end x y) refl
+ended_step x (EmittedEvent y (SendPacket p)) = of_none (association_ends_by x) (EmittedEvent y (SendPacket p)) (same_end x y) refl
+ended_step x (EmittedEvent y OnConnected) = of_none (association_ends_by x) (EmittedEvent y OnConnected) (same_end x y) refl
+ended_step x (EmittedEvent y OnClosed) = of_one (association_ends_by x) (EmittedEvent y OnClosed) y (same_end x y) refl
+ended_step x (EmittedEvent y OnConnectionRestarted) = of_none (association_ends_by x) (EmittedEvent y OnConnectionRestarted) (same_end x y) refl
+ended_step x (EmittedEvent y (OnAborted kind text)) = of_one (association_ends_by x) (EmittedEvent y (OnAborted kind text)) y (same_end x y) refl
+ended_step x (EmittedEvent y (OnError kind text)) = of_none (association_ends_by x) (EmittedEvent y (OnError kind text)) (same_end x y) refl
+ended_step x (EmittedEvent y (OnBufferedAmountLow id)) = of_none (association_ends_by x) (EmittedEvent y (OnBufferedAmountLow id)) (same_end x y) refl
+ended_step x (EmittedEvent y OnTotalBufferedAmountLow) = of_none (association_ends_by x) (EmittedEvent y OnTotalBufferedAmountLow) (same_end x y) refl
+ended_step x (EmittedEvent y (OnStreamsResetFailed ids)) = of_none (association_ends_by x) (EmittedEvent y (OnStreamsResetFailed ids)) (same_end x y) refl
+ended_step x (EmittedEvent y (OnStreamsResetPerformed ids)) = of_none (association_ends_by x) (EmittedEvent y (OnStreamsResetPerformed ids)) (same_end x y) refl
+ended_step x (EmittedEvent y (OnIncomingStreamReset ids)) = of_none (association_ends_by x) (EmittedEvent y (OnIncomingStreamReset ids)) (same_end x y) refl
+ended_step x (EmittedEvent y (OnLifecycleMessageFullySent id)) = of_none (association_ends_by x) (EmittedEvent y (OnLifecycleMessageFullySent id)) (same_end x y) refl
+ended_step x (EmittedEvent y (OnLifecycleMessageMaybeExpired id)) = of_none (association_ends_by x) (EmittedEvent y (OnLifecycleMessageMaybeExpired id)) (same_end x y) refl
+ended_step x (EmittedEvent y (OnLifecycleMessageExpired id)) = of_none (association_ends_by x) (EmittedEvent y (OnLifecycleMessageExpired id)) (same_end x y) refl
+ended_step x (EmittedEvent y (OnLifecycleMessageDelivered id)) = of_none (association_ends_by x) (EmittedEvent y (OnLifecycleMessageDelivered id)) (same_end x y) refl
+ended_step x (EmittedEvent y (OnLifecycleEnd id)) = of_none (association_ends_by x) (EmittedEvent y (OnLifecycleEnd id)) (same_end x y) refl
 
-pub ended_by_emitted : (x : End) (log : List Entry) → flat_map (ended_by x) log ≡ flat_map (ended_by x) (emitted_in x log)
+pub ended_by_emitted : (x : End) (log : List Entry) → flat_map (association_ends_by x) log ≡ flat_map (association_ends_by x) (emitted_in x log)
 ended_by_emitted x [] = refl
 ended_by_emitted x (e ∷ log) =
-    ap (λ (l : List End). ended_by x e ++ l) (ended_by_emitted x log)
-    ∙ ap (λ (l : List End). l ++ flat_map (ended_by x) (emitted_in x log)) (sym (ended_step x e))
-    ∙ sym (flat_map-append (ended_by x) (emitted_by x e) (emitted_in x log))
+    ap (λ (l : List End). association_ends_by x e ++ l) (ended_by_emitted x log)
+    ∙ ap (λ (l : List End). l ++ flat_map (association_ends_by x) (emitted_in x log)) (sym (ended_step x e))
+    ∙ sym (flat_map-append (association_ends_by x) (emitted_by x e) (emitted_in x log))

@@ -11,20 +11,20 @@ use Rattle.sctp_packet.specs.declared.packet.PacketParseError.TheVariants.{Inval
 use Rattle.sctp_state.specs.Options.{Options}
 use Rattle.sctp_state.specs.Events.{Event}
 use Rattle.spec_endpoint.specs.Association.{Endpoint}
-use Rattle.spec_endpoint.specs.Input.{refusal, on_packet, on_no_packet}
-use Rattle.spec_endpoint.specs.Receiving.{Receives, received, not_read, policy_of}
+use Rattle.spec_endpoint.specs.Input.{packet_refusal, on_packet, on_no_packet}
+use Rattle.spec_endpoint.specs.Receiving.{Receives, read, not_read, policy_of}
 use Rattle.spec_endpoint.specs.Wire.{field_of, word_at}
 use Rattle.proof_endpoint.specs.Mapped.{Carried, as_written}
-use Rattle.proof_endpoint.specs.ReceivedBack.{IsHearable, as_received}
+use Rattle.proof_endpoint.specs.ReceivedBack.{IsReceivable, as_received}
 use Rattle.proof_endpoint.specs.ReadBack.{AreBytes}
 use Rattle.proof_endpoint.proofs.ReceivedBackLemmas.{is_accepted, length_written}
 use Rattle.proof_pair.specs.Trace as traces
-use Rattle.proof_pair.specs.Trace.{Pair, EndAction, Calls, Refuses, emitted_packets, give, foreign_if, act, goes, run, start}
+use Rattle.proof_pair.specs.Trace.{Pair, EndAction, Calls, Refuses, emitted_packets, give_carried, foreign_if, act, goes, run, start}
 use Rattle.proof_pair.proofs.JoinActsLemmas.{packets_both}
 use Rattle.proof_pair.proofs.AddedLemmas.{all_get}
 use Rattle.spec_world.specs.Observations.{End, A, B, Call, Given}
-use Rattle.spec_world.specs.World.{World, Action, CallOf, Give, GiveForeign, AdvanceTime, Gives, Happens, Runs, clock, record_news, calls, advances_time, fresh_world}
-use Rattle.proof_world.specs.Traces.{ActionFits, IsInBytes, is_a, end_of, is_let_through, receiving, IsReceiving, IsActionOf, AreActionsOf}
+use Rattle.spec_world.specs.World.{World, Action, CallOf, Give, GiveForeign, AdvanceTime, Gives, Happens, Runs, clock, record_news, call_socket, advance_time, fresh_world}
+use Rattle.proof_world.specs.Traces.{ActionFits, IsInBytes, is_a, end_of, is_let_through, give_action, IsGiveAction, IsActionOf, AreActionsOf}
 use Rattle.proof_world.specs.Worlds.{is_foreign, NoneIsForeign, EmitsBytes, BothEmitBytes, TracesHaveWorlds}
 use Rattle.proof_world.proofs.EventLemmas.{Readable}
 use Rattle.proof_world.proofs.ActionsLemmas.{field_in}
@@ -43,7 +43,7 @@ module _ (writes : List ℕ → ℕ) (p : Carried) (reads : Readable p) (s : End
   abbrev lenient : Options
   lenient = record s.endpoint_state.context.options { disable_checksum_verification = true }
 
-  hearable : IsHearable lenient p
+  hearable : IsReceivable lenient p
   hearable = record { header = reads.header; chunks = reads.chunks; short = reads.short; sum = refl }
 
   lenient_too : Accepts (policy_of lenient) (word_at writes packet) packet (as_received writes p)
@@ -54,7 +54,7 @@ module _ (writes : List ℕ → ℕ) (p : Carried) (reads : Readable p) (s : End
 
   receives_by : (b : Bool) → lets_through (policy_of s.endpoint_state.context.options) (word_at by packet) sum ≡ b → (t : Endpoint (List ℕ)) × Receives by packet s t
   receives_by true e =
-      (on_packet (as_received writes p) s, received (as_received writes p) (record { packet = lenient_too.packet; short_enough = lenient_too.short_enough; sum = e }) refl)
+      (on_packet (as_received writes p) s, read (as_received writes p) (record { packet = lenient_too.packet; short_enough = lenient_too.short_enough; sum = e }) refl)
   receives_by false e = (
     on_no_packet s,
     not_read InvalidChecksum (λ k. cc)
@@ -73,11 +73,11 @@ one_there x = (x, refl)
 never : true ≡ false → ⊥
 never e = cc
 
-next_call : (x : End) (call : Call) (w : World) → (u : World) × (u ≡ calls x call w)
-next_call x call w = one_there (calls x call w)
+next_call : (x : End) (call : Call) (w : World) → (u : World) × (u ≡ call_socket x call w)
+next_call x call w = one_there (call_socket x call w)
 
-next_time : (x : End) (now : ℕ) (w : World) → (u : World) × (u ≡ advances_time x now w)
-next_time x now w = one_there (advances_time x now w)
+next_time : (x : End) (now : ℕ) (w : World) → (u : World) × (u ≡ advance_time x now w)
+next_time x now w = one_there (advance_time x now w)
 
 -- ---- an end's action is that of one action of the world, which has one
 
@@ -124,10 +124,10 @@ module _ (word_of_a word_of_b : List ℕ → ℕ) where
   next (GiveForeign x bytes) w c turn k h is = absurd (never k)
   next (AdvanceTime x now) w c turn k h is = next_time x now w
 
-  one_receiving : (f g : List ℕ → ℕ) (n : ℕ) (end beside : traces.Side) (t u : EndAction) → IsReceiving f g n end beside t → IsReceiving f g n end beside u → t ≡ u
+  one_receiving : (f g : List ℕ → ℕ) (n : ℕ) (end beside : traces.Side) (t u : EndAction) → IsGiveAction f g n end beside t → IsGiveAction f g n end beside u → t ≡ u
   one_receiving f g n end beside t u i j =
       i.received
-      ∙ (ap (λ (p : Carried). receiving (is_let_through f g end.end.endpoint_state.context.options p) n (field_of g p.header p.is_summed p.chunks)) (same_Some i.carried j.carried (sym i.there ∙ j.there))
+      ∙ (ap (λ (p : Carried). give_action (is_let_through f g end.end.endpoint_state.context.options p) n (field_of g p.header p.is_summed p.chunks)) (same_Some i.carried j.carried (sym i.there ∙ j.there))
       ∙ sym j.received)
 
   one_action : (action : Action) (t u : EndAction) (c : Pair) → is_foreign action ≡ false → IsActionOf word_of_a word_of_b action t c → IsActionOf word_of_a word_of_b action u c → t ≡ u
@@ -164,7 +164,7 @@ module _ (word_of_a word_of_b : List ℕ → ℕ) where
 abbrev EmitsMore : (x y : traces.Side) → Type 0
 EmitsMore x y = (more : List (Event Carried)) × (y.emitted ≡ x.emitted ++ more)
 
-given_more : (o : Option Carried) (checksum : ℕ) (x : traces.Side) → EmitsMore x (give o checksum x)
+given_more : (o : Option Carried) (checksum : ℕ) (x : traces.Side) → EmitsMore x (give_carried o checksum x)
 given_more None checksum x = ([], sym (append-nil x.emitted))
 given_more (Some p) checksum x = (_, refl)
 
@@ -175,7 +175,7 @@ foreign_more (Some text) p x = (_, refl)
 turned_more : (t : EndAction) (x y : traces.Side) → EmitsMore x (act t x y)
 turned_more (Calls call) x y = (_, refl)
 turned_more (traces.Gives which checksum) x y = given_more (slice_get (emitted_packets y) which) checksum x
-turned_more (Refuses p) x y = foreign_more (refusal p.header.verification_tag p.chunks (traces.state_of x)) p x
+turned_more (Refuses p) x y = foreign_more (packet_refusal p.header.verification_tag p.chunks (traces.state_of x)) p x
 
 bytes_front : (f : List ℕ → ℕ) (x y : traces.Side) → EmitsMore x y → EmitsBytes f y → EmitsBytes f x
 bytes_front f x y m h =
@@ -220,8 +220,8 @@ module _ (word_of_a word_of_b : List ℕ → ℕ) where
       record { world = rest.world; runs = (n.0, n.1, rest.runs); both = rest.both }
 
 pub have_worlds : TracesHaveWorlds
-have_worlds a b words_a words_b word_of_a word_of_b actions trace fits_a fits_b fit none are bytes =
-    let r : Reaches word_of_a word_of_b actions (fresh_world a b words_a words_b word_of_a word_of_b) (run trace (start a b words_a words_b)) =
-    reaches word_of_a word_of_b actions trace (fresh_world a b words_a words_b word_of_a word_of_b) (start a b words_a words_b) fit none are bytes
-    (fresh_both a b words_a words_b word_of_a word_of_b fits_a fits_b) in
+have_worlds a b draws_a draws_b word_of_a word_of_b actions trace fits_a fits_b fit none are bytes =
+    let r : Reaches word_of_a word_of_b actions (fresh_world a b draws_a draws_b word_of_a word_of_b) (run trace (start a b draws_a draws_b)) =
+    reaches word_of_a word_of_b actions trace (fresh_world a b draws_a draws_b word_of_a word_of_b) (start a b draws_a draws_b) fit none are bytes
+    (fresh_both a b draws_a draws_b word_of_a word_of_b fits_a fits_b) in
     record { world = r.world; runs = r.runs; images = record { a = r.both.a.image; b = r.both.b.image } }

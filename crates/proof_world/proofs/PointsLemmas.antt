@@ -10,11 +10,11 @@ use Rattle.spec_endpoint.specs.Association.{State, Closed, CookieWait, Open, End
 use Rattle.spec_endpoint.specs.Calls.{keeps_items}
 use Rattle.spec_endpoint.specs.Shown as socket
 use Rattle.proof_endpoint.specs.Mapped.{Mapping, Carried, map_end, as_bytes}
-use Rattle.proof_tx_refines.specs.Led.{delivered_ids}
+use Rattle.proof_tx_refines.specs.Reachable.{delivered_ids}
 use Rattle.proof_tx_refines.specs.Records.{are_distinct}
 use Rattle.proof_pair.specs.Trace as traces
 use Rattle.proof_pair.specs.Trace.{Pair, EndAction, run, state_of}
-use Rattle.proof_pair.specs.Handing.{readied_messages}
+use Rattle.proof_pair.specs.Handing.{messages_made_ready}
 use Rattle.proof_delivery.specs.Accepted.{AcceptedMessage, accepted}
 use Rattle.proof_delivery.specs.Delivery as delivery
 use Rattle.proof_delivery.specs.Delivery.{AllAreDone}
@@ -119,12 +119,12 @@ rests f side end e h =
     }
 
 module _ (x : End) (all : List (Bool × EndAction)) (c : Pair) (from : delivery.Delivers (is_a x) all c) where
-  ready_so_far : (done : List (Bool × EndAction)) (log : List Entry) → IsReached c done log → ready (other x) log ≡ readied_messages (not (is_a x)) done c
-  ready_so_far done log r = r.ready_are (other x) ∙ ap (λ (z : Bool). readied_messages z done c) (is_a_other x)
+  ready_so_far : (done : List (Bool × EndAction)) (log : List Entry) → IsReached c done log → ready (other x) log ≡ messages_made_ready (not (is_a x)) done c
+  ready_so_far done log r = r.ready_are (other x) ∙ ap (λ (z : Bool). messages_made_ready z done c) (is_a_other x)
 
   delivered_action : (done rest : List (Bool × EndAction)) (log : List Entry) → all ≡ done ++ rest → IsReached c done log → IsDeliveredAt x from.places log
   delivered_action done rest log e r =
-      same_delivered (accepted (is_a x) done c) (accepted_messages x log) (readied_messages (not (is_a x)) done c) (ready (other x) log) (given_up (is_a x) done c) (given_up_places x log)
+      same_delivered (accepted (is_a x) done c) (accepted_messages x log) (messages_made_ready (not (is_a x)) done c) (ready (other x) log) (given_up (is_a x) done c) (given_up_places x log)
       (delivered_ids (traces.side_of (is_a x) (run done c)).emitted) (reported x log) from.places (r.offers_are x) (ready_so_far done log r) (r.given_up_are x) (r.reported_are x)
       (record { fits = from.fits done rest e; skipped = from.skipped done rest e; reports = from.reports done rest e })
 

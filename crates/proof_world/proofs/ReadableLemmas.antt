@@ -9,21 +9,21 @@ use Rattle.sctp_packet.proofs.LawLemmas.{one_packet_lem, never_both_lem}
 use Rattle.sctp_state.specs.Options.{Options, defaults}
 use Rattle.sctp_state.specs.Events.{Event, SendPacket, OnConnected, OnClosed, OnConnectionRestarted, OnAborted, OnError, OnBufferedAmountLow, OnTotalBufferedAmountLow, OnStreamsResetFailed, OnStreamsResetPerformed, OnIncomingStreamReset, OnLifecycleMessageFullySent, OnLifecycleMessageMaybeExpired, OnLifecycleMessageExpired, OnLifecycleMessageDelivered, OnLifecycleEnd}
 use Rattle.spec_endpoint.specs.Association.{Context, Endpoint, Packing}
-use Rattle.spec_endpoint.specs.Input.{refusal, on_packet}
+use Rattle.spec_endpoint.specs.Input.{packet_refusal, on_packet}
 use Rattle.spec_endpoint.specs.Laws.{called}
 use Rattle.spec_endpoint.specs.Laws as table
-use Rattle.spec_endpoint.specs.Receiving.{Receives, received, not_read, Judges, taken, refused, unread, policy_of}
+use Rattle.spec_endpoint.specs.Receiving.{Receives, read, not_read, Judges, taken, refused, unread, policy_of}
 use Rattle.spec_endpoint.specs.Wire.{writing, word_at}
 use Rattle.proof_endpoint.proofs.LawsLemmas.{stays_within}
 use Rattle.proof_endpoint.specs.Mapped.{Carried, as_written}
-use Rattle.proof_endpoint.specs.ReceivedBack.{IsHearable, as_received}
+use Rattle.proof_endpoint.specs.ReceivedBack.{IsReceivable, as_received}
 use Rattle.proof_endpoint.specs.Sound.{OptionsFit, IsSound, ArgumentFits}
 use Rattle.proof_endpoint.specs.ReadBack.{ReadsBack, IsOfSuch, CanBeRead, EmitsWhatCanBeRead, AreBytes}
 use Rattle.proof_endpoint.proofs.ReceivedBackLemmas.{is_accepted}
 use Rattle.proof_endpoint.proofs.SoundLawsLemmas.{is_new, stays_sound, stays_sound_refused, can_be_read, can_be_read_refused}
 use Rattle.proof_endpoint.proofs.SoundReceivedLemmas.{emitted_fit}
 use Rattle.spec_world.specs.Observations.{End, A, B, Entry}
-use Rattle.spec_world.specs.World.{Side, World, Action, CallOf, Give, GiveForeign, AdvanceTime, TakesBytes, InjectsInto, taken_in, withheld, Injects, Gives, Happens, Runs, fresh_side, packets_in, take_emitted, table_call, after_call, after_time}
+use Rattle.spec_world.specs.World.{Side, World, Action, CallOf, Give, GiveForeign, AdvanceTime, TakesBytes, MeetsForeignAt, given, withheld, MeetsForeign, Gives, Happens, Runs, fresh_side, packets_in, take_emitted, table_call, after_call, after_time}
 use Rattle.proof_world.specs.Readable.{CanBeReadBack, IsReadableSide, IsReadable, GivesBytes, NewWorldsAreReadable, EachActionKeepsWorldsReadable, RunsKeepWorldsReadable}
 use Rattle.proof_pair.proofs.AddedLemmas.{all_get}
 
@@ -36,7 +36,7 @@ open_options = record defaults { disable_checksum_verification = true }
 module _ (word_of : List ℕ → ℕ) where
   accepted : (p : Carried) → ReadsBack 65535 p → Accepts (policy_of open_options) (word_at word_of (as_written word_of p)) (as_written word_of p) (as_received word_of p)
   accepted p r =
-      let h : IsHearable open_options p = record { header = r.header; chunks = r.chunks; short = r.short; sum = refl } in
+      let h : IsReceivable open_options p = record { header = r.header; chunks = r.chunks; short = r.short; sum = refl } in
       is_accepted word_of p open_options h
 
   reads_back_as : (bytes : List ℕ) (p : Carried) → bytes ≡ as_written word_of p → ReadsBack 65535 p → CanBeReadBack word_of bytes
@@ -59,7 +59,7 @@ module _ (word_of : List ℕ → ℕ) where
 
   -- what is received of it fits
   received_fits : (bytes : List ℕ) (policy : Policy) (word : ℕ) (q : PacketTree) → CanBeReadBack word_of bytes → AreBytes bytes → Accepts policy word bytes q
-      → ArgumentFits (table.Packet q)
+      → ArgumentFits (table.ReceivePacket q)
   received_fits bytes policy word q r small accepts =
       emitted_fit word_of 65535 r.packet policy word q r.reads_back (subst AreBytes r.spelled small)
       (subst (λ (b : List ℕ). Accepts policy word b q) r.spelled accepts)
@@ -121,19 +121,19 @@ module _ (word_of : List ℕ → ℕ) where
   call_readable call side fits h =
       goes_on call side h (stays_sound call side.socket h.sound fits) (can_be_read call side.socket h.sound fits)
 
-  refused_readable : (p : PacketTree) (text : List ℕ) (side : Side) → refusal p.header.verification_tag p.chunks side.socket.endpoint_state.state ≡ Some text
+  refused_readable : (p : PacketTree) (text : List ℕ) (side : Side) → packet_refusal p.header.verification_tag p.chunks side.socket.endpoint_state.state ≡ Some text
       → IsReadableSide word_of side → IsReadableSide word_of (take_emitted side (on_packet p side.socket))
   refused_readable p text side e h =
-      goes_on (table.Packet p) side h (stays_sound_refused p text side.socket h.sound e) (can_be_read_refused p text side.socket h.sound e)
+      goes_on (table.ReceivePacket p) side h (stays_sound_refused p text side.socket h.sound e) (can_be_read_refused p text side.socket h.sound e)
 
   -- a packet of the other end
   given_to : (sender own : List ℕ → ℕ) (bytes : List ℕ) (side : Side) (after : Endpoint (List ℕ)) → Receives own bytes side.socket after → CanBeReadBack sender bytes → AreBytes bytes
       → IsReadableSide word_of side → IsReadableSide word_of (take_emitted side after)
-  given_to sender own bytes side after (received p accepts is) r small h =
+  given_to sender own bytes side after (read p accepts is) r small h =
       subst (λ (s : Endpoint (List ℕ)). IsReadableSide word_of (take_emitted side s)) (sym is)
-      (call_readable (table.Packet p) side (received_fits sender bytes (policy_of side.socket.endpoint_state.context.options) (word_at own bytes) p r small accepts) h)
+      (call_readable (table.ReceivePacket p) side (received_fits sender bytes (policy_of side.socket.endpoint_state.context.options) (word_at own bytes) p r small accepts) h)
   given_to sender own bytes side after (not_read fault is_fault refuses is) r small h =
-      subst (λ (s : Endpoint (List ℕ)). IsReadableSide word_of (take_emitted side s)) (sym is) (call_readable table.NoPacket side tt h)
+      subst (λ (s : Endpoint (List ℕ)). IsReadableSide word_of (take_emitted side s)) (sym is) (call_readable table.ReceiveNoPacket side tt h)
 
   -- bytes that it refuses
   refused_as : (own : List ℕ → ℕ) (bytes : List ℕ) (side : Side) (b : Bool) (q : PacketTree) → b ≡ true
@@ -149,18 +149,18 @@ module _ (word_of : List ℕ → ℕ) where
 
   refused_by : (own : List ℕ → ℕ) (bytes : List ℕ) (side : Side) (after : Endpoint (List ℕ)) → Receives own bytes side.socket after
       → Judges own bytes side.socket.endpoint_state.context.options side.socket.endpoint_state.state true → IsReadableSide word_of side → IsReadableSide word_of (take_emitted side after)
-  refused_by own bytes side after (received q accepts is) j h =
+  refused_by own bytes side after (read q accepts is) j h =
       subst (λ (s : Endpoint (List ℕ)). IsReadableSide word_of (take_emitted side s)) (sym is) (refused_as own bytes side true q refl accepts j h)
   refused_by own bytes side after (not_read fault is_fault refuses is) j h =
-      subst (λ (s : Endpoint (List ℕ)). IsReadableSide word_of (take_emitted side s)) (sym is) (call_readable table.NoPacket side tt h)
+      subst (λ (s : Endpoint (List ℕ)). IsReadableSide word_of (take_emitted side s)) (sym is) (call_readable table.ReceiveNoPacket side tt h)
 
   emitted_readable : (sender : List ℕ → ℕ) (x : End) (first : Entry) (bytes : List ℕ) (old new : Side) (log more : List Entry) → TakesBytes x first bytes old new log more
       → CanBeReadBack sender bytes → AreBytes bytes → IsReadableSide word_of old → IsReadableSide word_of new
   emitted_readable sender x first bytes old new log more t r small h =
       subst (IsReadableSide word_of) (sym t.side) (given_to sender old.socket.endpoint_state.context.pack.word_of bytes old t.after t.takes r small h)
 
-  came_readable : (x : End) (bytes : List ℕ) (old new : Side) (log more : List Entry) → InjectsInto x bytes old new log more → IsReadableSide word_of old → IsReadableSide word_of new
-  came_readable x bytes old new log more (taken_in t j) h =
+  came_readable : (x : End) (bytes : List ℕ) (old new : Side) (log more : List Entry) → MeetsForeignAt x bytes old new log more → IsReadableSide word_of old → IsReadableSide word_of new
+  came_readable x bytes old new log more (given t j) h =
       subst (IsReadableSide word_of) (sym t.side) (refused_by old.socket.endpoint_state.context.pack.word_of bytes old t.after t.takes j h)
   came_readable x bytes old new log more (withheld j is logged) h = subst (IsReadableSide word_of) (sym is) h
 
@@ -188,7 +188,7 @@ module _ (f g : List ℕ → ℕ) where
         (bytes_at w.a packet e.bytes e.there small) h.b;
   }
 
-  foreign_readable : (x : End) (bytes : List ℕ) (w v : World) → Injects x bytes w v → IsReadable f g w → IsReadable f g v
+  foreign_readable : (x : End) (bytes : List ℕ) (w v : World) → MeetsForeign x bytes w v → IsReadable f g w → IsReadable f g v
   foreign_readable A bytes w v e h = record { a = came_readable f A bytes w.a v.a w.log v.log e.comes h.a; b = subst (IsReadableSide g) (sym e.other_side) h.b }
   foreign_readable B bytes w v e h = record { a = subst (IsReadableSide f) (sym e.other_side) h.a; b = came_readable g B bytes w.b v.b w.log v.log e.comes h.b }
 
@@ -223,8 +223,8 @@ emitted_before : (x : End) (first : Entry) (bytes : List ℕ) (old new : Side) (
 emitted_before x first bytes old new log more t packet h =
     settled_before old t.after packet (same_before (take_emitted old t.after) new t.side packet h)
 
-came_before : (x : End) (bytes : List ℕ) (old new : Side) (log more : List Entry) → InjectsInto x bytes old new log more → WereBytes old new
-came_before x bytes old new log more (taken_in t j) = emitted_before x _ bytes old new log more t
+came_before : (x : End) (bytes : List ℕ) (old new : Side) (log more : List Entry) → MeetsForeignAt x bytes old new log more → WereBytes old new
+came_before x bytes old new log more (given t j) = emitted_before x _ bytes old new log more t
 came_before x bytes old new log more (withheld j is logged) = same_before old new is
 
 one_before : (action : Action) (w v : World) → Happens action w v → Before w v
@@ -259,8 +259,8 @@ runs_readable f g (action ∷ actions) w v r fits small h =
 
 -- ---- a new world
 
-fresh_readable : (word_of : List ℕ → ℕ) (o : Options) (words : Stream) → OptionsFit o → IsReadableSide word_of (fresh_side o words word_of)
-fresh_readable word_of o words fits = record { own = refl; sound = is_new o (writing word_of) words fits; taken = refl; packets = All-nil (CanBeReadBack word_of) }
+fresh_readable : (word_of : List ℕ → ℕ) (o : Options) (draws : Stream) → OptionsFit o → IsReadableSide word_of (fresh_side o draws word_of)
+fresh_readable word_of o draws fits = record { own = refl; sound = is_new o (writing word_of) draws fits; taken = refl; packets = All-nil (CanBeReadBack word_of) }
 
 pub new_readable : NewWorldsAreReadable
 new_readable oa ob a b f g fits_a fits_b = record { a = fresh_readable f oa a fits_a; b = fresh_readable g ob b fits_b }

@@ -12,7 +12,7 @@ use Rattle.sctp_packet.specs.Written.{chunk_bytes, chunks_bytes, chunk_value, da
 use Rattle.sctp_capabilities.specs.StateCookie.{cookie_bytes, capability_bytes, cookie_from, read_cookie}
 use Rattle.sctp_state.specs.Options.{defaults}
 use Rattle.sctp_state.specs.Events.{Event}
-use Rattle.spec_endpoint.specs.Pair.{random_from}
+use Rattle.spec_endpoint.specs.Pair.{counting_from}
 use Rattle.spec_endpoint.specs.Timers.{tick_timers}
 use Rattle.proof_endpoint.specs.Mapped.{as_written}
 use Rattle.proof_pair.specs.Trace.{Pair, EndAction, emitted_packets, run}
@@ -72,7 +72,7 @@ bytes = record { a = all_true (map (as_written no_sum) (emitted_packets last.a))
 
 shown_there : Shown one_is_reset delivery.one_is_reset at_first
 shown_there =
-    shown defaults defaults (random_from 456) (random_from 1000) no_sum no_sum one_is_reset delivery.one_is_reset given_defaults.valid given_defaults.valid fits_defaults fits_defaults actions_fit refl actions bytes
+    shown defaults defaults (counting_from 456) (counting_from 1000) no_sum no_sum one_is_reset delivery.one_is_reset given_defaults.valid given_defaults.valid fits_defaults fits_defaults actions_fit refl actions bytes
     one_reset.follows one_reset.not_ended
 
 pub one_reset_there : OneIsReset

@@ -13,10 +13,10 @@ use Rattle.proof_endpoint.specs.ReadBack.{as_carried}
 use Rattle.proof_endpoint.proofs.SoundLawsLemmas.{is_new}
 use Rattle.proof_pair.specs.Trace as traces
 use Rattle.proof_pair.specs.Trace.{Pair, EndAction, has_connected, MayCall, MayAct, goes, run, start, new_side}
-use Rattle.spec_world.specs.Observations.{End, A, B, Entry, Answer, Called, Call, Connect, Shutdown, Close, Send, SendMany, Receive, Reset, SetPriority, SetMaxMessageSize, SetLowThreshold, HandOver, connected_by, times_connected}
-use Rattle.spec_world.specs.World.{Side, World, Action, CallOf, Give, GiveForeign, AdvanceTime, InjectsInto, taken_in, withheld, Happens, Runs, take_emitted, side_of, news_of, calls, call_entry, after_call, after_time, clock, answer_to, table_call, fresh_side, fresh_world}
-use Rattle.proof_world.specs.Traces.{ActionFits, IsInBytes, is_a, end_of, receiving, IsReceiving, IsForeign, IsActionOf, AreActionsOf, WorldsHaveTraces}
-use Rattle.proof_world.specs.Consistent.{gets_init, NoneHasEnded, MayFollow, KeepsOpeningRules}
+use Rattle.spec_world.specs.Observations.{End, A, B, Entry, Answer, Called, Call, Connect, Shutdown, Close, Send, SendMany, TakeMessage, Reset, SetPriority, SetMaxMessageSize, SetLowThreshold, HandOver, connected_by, times_connected}
+use Rattle.spec_world.specs.World.{Side, World, Action, CallOf, Give, GiveForeign, AdvanceTime, MeetsForeignAt, given, withheld, Happens, Runs, take_emitted, side_of, news_of, call_socket, call_entry, after_call, after_time, clock, answer_to, table_call, fresh_side, fresh_world}
+use Rattle.proof_world.specs.Traces.{ActionFits, IsInBytes, is_a, end_of, give_action, IsGiveAction, IsForeign, IsActionOf, AreActionsOf, WorldsHaveTraces}
+use Rattle.proof_world.specs.Consistent.{gets_init, NoEndingIsLogged, MayFollow, WorldKeepsRules}
 use Rattle.proof_world.proofs.EventLemmas.{Readable, connected_emitted}
 use Rattle.proof_world.proofs.NewsLemmas.{connected_by_emitted}
 use Rattle.proof_world.proofs.SidesLemmas.{Good, any_more}
@@ -56,12 +56,12 @@ grows_log w u more logged a b = record {
   b = ap (λ (z : Side). z.packets) b ∙ sym (append-nil w.b.packets);
 }
 
-comes_a : (bytes : List ℕ) (w u : World) → InjectsInto A bytes w.a u.a w.log u.log → u.b ≡ w.b → Extends w u
-comes_a bytes w u (taken_in t judged) same = grows_a w u _ t.after t.logged t.side same
+comes_a : (bytes : List ℕ) (w u : World) → MeetsForeignAt A bytes w.a u.a w.log u.log → u.b ≡ w.b → Extends w u
+comes_a bytes w u (given t judged) same = grows_a w u _ t.after t.logged t.side same
 comes_a bytes w u (withheld judged stays logged) same = grows_log w u _ logged stays same
 
-comes_b : (bytes : List ℕ) (w u : World) → InjectsInto B bytes w.b u.b w.log u.log → u.a ≡ w.a → Extends w u
-comes_b bytes w u (taken_in t judged) same = grows_b w u _ t.after t.logged t.side same
+comes_b : (bytes : List ℕ) (w u : World) → MeetsForeignAt B bytes w.b u.b w.log u.log → u.a ≡ w.a → Extends w u
+comes_b bytes w u (given t judged) same = grows_b w u _ t.after t.logged t.side same
 comes_b bytes w u (withheld judged stays logged) same = grows_log w u _ logged same stays
 
 pub happens_extends : (action : Action) (w u : World) → Happens action w u → Extends w u
@@ -104,7 +104,7 @@ module _ (word_of_a word_of_b : List ℕ → ℕ) where
   may_call x Close clock answer w v c h e may = tt
   may_call x (Send m o) clock answer w v c h e may = tt
   may_call x (SendMany ms o) clock answer w v c h e may = tt
-  may_call x Receive clock answer w v c h e may = tt
+  may_call x TakeMessage clock answer w v c h e may = tt
   may_call x (Reset streams) clock answer w v c h e may = tt
   may_call x (SetPriority stream priority) clock answer w v c h e may = tt
   may_call x (SetMaxMessageSize bytes) clock answer w v c h e may = tt
@@ -114,7 +114,7 @@ module _ (word_of_a word_of_b : List ℕ → ℕ) where
   logged_then : (before rest more log longer : List Entry) (entry : Entry) → log ≡ before ++ entry ∷ rest → longer ≡ log ++ more → longer ≡ before ++ entry ∷ (rest ++ more)
   logged_then before rest more log longer entry e f = f ∙ ap (λ (l : List Entry). l ++ more) e ∙ append_assoc before (entry ∷ rest) more
 
-  may_follow : (x : End) (call : Call) (w u v : World) → u ≡ calls x call w → Extends u v → KeepsOpeningRules v → NoneHasEnded w.log
+  may_follow : (x : End) (call : Call) (w u v : World) → u ≡ call_socket x call w → Extends u v → WorldKeepsRules v → NoEndingIsLogged w.log
       → MayFollow v w.log (call_entry x call (side_of x w).socket)
   may_follow A call w u v e f rules stands =
       rules w.log (call_entry A call w.a.socket) _ (logged_then w.log (news_of A w.a (after_call call w.a.socket)) f.more u.log v.log (call_entry A call w.a.socket)
@@ -123,18 +123,18 @@ module _ (word_of_a word_of_b : List ℕ → ℕ) where
       rules w.log (call_entry B call w.b.socket) _ (logged_then w.log (news_of B w.b (after_call call w.b.socket)) f.more u.log v.log (call_entry B call w.b.socket)
       (ap (λ (z : World). z.log) e) f.logged) stands
 
-  may_receiving : (b : Bool) (n checksum : ℕ) (end : traces.Side) → MayAct (receiving b n checksum) end
+  may_receiving : (b : Bool) (n checksum : ℕ) (end : traces.Side) → MayAct (give_action b n checksum) end
   may_receiving true n checksum end = tt
   may_receiving false n checksum end = tt
 
-  may_give : (f g : List ℕ → ℕ) (turn : EndAction) (n : ℕ) (own beside end : traces.Side) → IsReceiving f g n own beside turn → MayAct turn end
+  may_give : (f g : List ℕ → ℕ) (turn : EndAction) (n : ℕ) (own beside end : traces.Side) → IsGiveAction f g n own beside turn → MayAct turn end
   may_give f g turn n own beside end h = subst (λ (t : EndAction). MayAct t end) (sym h.received) (may_receiving _ n _ end)
 
   may_refuse : (turn : EndAction) (bytes : List ℕ) (end : traces.Side) → IsForeign bytes turn → MayAct turn end
   may_refuse turn bytes end (inl x) = subst (λ (t : EndAction). MayAct t end) (sym x.2) tt
   may_refuse turn bytes end (inr e) = subst (λ (t : EndAction). MayAct t end) (sym e) tt
 
-  pub may_action : (action : Action) (w u v : World) (c : Pair) (turn : EndAction) → Happens action w u → Extends w u → Extends u v → Both word_of_a word_of_b w c → IsActionOf word_of_a word_of_b action turn c → KeepsOpeningRules v → NoneHasEnded w.log
+  pub may_action : (action : Action) (w u v : World) (c : Pair) (turn : EndAction) → Happens action w u → Extends w u → Extends u v → Both word_of_a word_of_b w c → IsActionOf word_of_a word_of_b action turn c → WorldKeepsRules v → NoEndingIsLogged w.log
       → MayAct turn (traces.side_of (is_a (end_of action)) c)
   may_action (CallOf x call) w u v c turn happens e f h is rules stands =
       subst (λ (t : EndAction). MayAct t (traces.side_of (is_a x) c)) (sym is)
@@ -150,7 +150,7 @@ module _ (word_of_a word_of_b : List ℕ → ℕ) where
     pub trace : List (Bool × EndAction)
     pub are : AreActionsOf word_of_a word_of_b actions trace c
     pub both : Both word_of_a word_of_b v (run trace c)
-    pub follows : KeepsOpeningRules v → NoneHasEnded v.log → traces.KeepsOpeningRules trace c
+    pub follows : WorldKeepsRules v → NoEndingIsLogged v.log → traces.KeepsRules trace c
 
   unfoldable pub ran : (actions : List Action) (w v : World) (c : Pair) → All ActionFits actions → Runs actions w v → IsInBytes v → Both word_of_a word_of_b w c → Ran actions w v c
   ran [] w v c fit e small h = record {
@@ -177,26 +177,26 @@ module _ (word_of_a word_of_b : List ℕ → ℕ) where
 
 -- ---- new worlds
 
-fresh_good : (word_of : List ℕ → ℕ) (x : End) (o : Options) (words : Stream) → OptionsFit o → Good word_of x [] [] (fresh_side o words word_of) (new_side o words)
-fresh_good word_of x o words fits = record {
+fresh_good : (word_of : List ℕ → ℕ) (x : End) (o : Options) (draws : Stream) → OptionsFit o → Good word_of x [] [] (fresh_side o draws word_of) (new_side o draws)
+fresh_good word_of x o draws fits = record {
   image = record { socket = refl; quiet = refl; packets = refl; emitted = refl };
-  sound = is_new o as_carried words fits;
+  sound = is_new o as_carried draws fits;
   packing = refl;
   readable = All-nil Readable;
   held = refl;
   asked = λ e. cc;
 }
 
-pub fresh_both : (a b : Options) (words_a words_b : Stream) (word_of_a word_of_b : List ℕ → ℕ) → OptionsFit a → OptionsFit b
-    → Both word_of_a word_of_b (fresh_world a b words_a words_b word_of_a word_of_b) (start a b words_a words_b)
-fresh_both a b words_a words_b word_of_a word_of_b fits_a fits_b = record {
-  a = fresh_good word_of_a A a words_a fits_a;
-  b = fresh_good word_of_b B b words_b fits_b;
+pub fresh_both : (a b : Options) (draws_a draws_b : Stream) (word_of_a word_of_b : List ℕ → ℕ) → OptionsFit a → OptionsFit b
+    → Both word_of_a word_of_b (fresh_world a b draws_a draws_b word_of_a word_of_b) (start a b draws_a draws_b)
+fresh_both a b draws_a draws_b word_of_a word_of_b fits_a fits_b = record {
+  a = fresh_good word_of_a A a draws_a fits_a;
+  b = fresh_good word_of_b B b draws_b fits_b;
 }
 
 pub have_traces : WorldsHaveTraces
-have_traces a b words_a words_b word_of_a word_of_b actions w fits_a fits_b fit runs small =
-    let r : Ran word_of_a word_of_b actions (fresh_world a b words_a words_b word_of_a word_of_b) w (start a b words_a words_b) =
-    ran word_of_a word_of_b actions (fresh_world a b words_a words_b word_of_a word_of_b) w (start a b words_a words_b) fit runs small
-    (fresh_both a b words_a words_b word_of_a word_of_b fits_a fits_b) in
+have_traces a b draws_a draws_b word_of_a word_of_b actions w fits_a fits_b fit runs small =
+    let r : Ran word_of_a word_of_b actions (fresh_world a b draws_a draws_b word_of_a word_of_b) w (start a b draws_a draws_b) =
+    ran word_of_a word_of_b actions (fresh_world a b draws_a draws_b word_of_a word_of_b) w (start a b draws_a draws_b) fit runs small
+    (fresh_both a b draws_a draws_b word_of_a word_of_b fits_a fits_b) in
     record { trace = r.trace; are = r.are; images = record { a = r.both.a.image; b = r.both.b.image } }

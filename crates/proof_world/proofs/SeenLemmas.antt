@@ -5,13 +5,13 @@ use Rattle.sctp_serial.specs.Messages.{Message}
 use Rattle.sctp_state.specs.Events.{Event, GivenUp}
 use Rattle.spec_endpoint.specs.Association.{State, Endpoint}
 use Rattle.spec_endpoint.specs.Calls.{ready_in}
-use Rattle.spec_endpoint.specs.Input.{refusal}
+use Rattle.spec_endpoint.specs.Input.{packet_refusal}
 use Rattle.spec_endpoint.specs.Shown.{Association, association_in}
 use Rattle.proof_endpoint.specs.Mapped.{Mapping, Carried, map_event, as_bytes}
 use Rattle.proof_pair.specs.Trace as traces
-use Rattle.proof_pair.specs.Trace.{EndAction, Calls, Gives, Refuses, emitted_packets, give, foreign_if, act, state_of}
+use Rattle.proof_pair.specs.Trace.{EndAction, Calls, Gives, Refuses, emitted_packets, give_carried, foreign_if, act, state_of}
 use Rattle.proof_delivery.specs.Justified.{records_by}
-use Rattle.proof_draws.specs.Alike.{AreEmitted}
+use Rattle.proof_draws.specs.Alike.{AreEventsAlike}
 use Rattle.spec_world.specs.Observations.{End, Entry, BecameReady, same_association, given_up}
 use Rattle.spec_world.specs.World.{Side, association_entries, association, emitted_entries, given_up_entries, ready_entries, ready_before, ready_at, news_of, packets_in, take_emitted}
 use Rattle.proof_world.specs.Traces.{emitted_in}
@@ -34,10 +34,10 @@ pub emitted_grows : (t : EndAction) (x y : traces.Side) → Grows x (act t x y)
 emitted_grows (Calls call) x y = record { since = _; is = refl }
 emitted_grows (Gives which checksum) x y = by (slice_get (emitted_packets y) which)
   where
-    by : (p : Option Carried) → Grows x (give p checksum x)
+    by : (p : Option Carried) → Grows x (give_carried p checksum x)
     by None = record { since = []; is = sym (append-nil x.emitted) }
     by (Some p) = record { since = _; is = refl }
-emitted_grows (Refuses p) x y = by (refusal p.header.verification_tag p.chunks (state_of x))
+emitted_grows (Refuses p) x y = by (packet_refusal p.header.verification_tag p.chunks (state_of x))
   where
     by : (r : Option (List ℕ)) → Grows x (foreign_if r p x)
     by None = record { since = []; is = sym (append-nil x.emitted) }
@@ -152,7 +152,7 @@ module _ (x : End) (s u r w : State) (before : ready_in r ≡ ready_in s) (after
 -- ---- two ends
 
 module _ (f : Mapping Carried (List ℕ)) (x : End) (log other : List Entry) (first first_too : List Entry) (m n : ℕ) (es fs : List (Event Carried)) (given_ups given_ups_too : List GivenUp) (s u r w : State)
-    (logs : visible other ≡ visible log) (firsts : first_too ≡ first) (sent_same : n ≡ m) (emitted_alike : AreEmitted es fs) (given_ups_same : given_ups_too ≡ given_ups) (ready : ready_part x r w ≡ ready_part x s u) where
+    (logs : visible other ≡ visible log) (firsts : first_too ≡ first) (sent_same : n ≡ m) (emitted_alike : AreEventsAlike es fs) (given_ups_same : given_ups_too ≡ given_ups) (ready : ready_part x r w ≡ ready_part x s u) where
   pub same_shown : shows (visible other) first_too (visible (emitted_entries x n (mapped f fs))) (visible (given_up_entries x given_ups_too)) (visible (ready_part x r w))
       ≡ shows (visible log) first (visible (emitted_entries x m (mapped f es))) (visible (given_up_entries x given_ups)) (visible (ready_part x s u))
   same_shown =

@@ -8,7 +8,7 @@ use Rattle.rand_core.specs.Stream.{Stream}
 use Rattle.sctp_tx_outstanding.specs.Item.{Item}
 use Rattle.sctp_state.specs.Options.{Options, IsValid}
 use Rattle.sctp_state.specs.Events.{Event, SendPacket, OnConnected, OnClosed, OnConnectionRestarted, OnAborted, OnError, OnBufferedAmountLow, OnTotalBufferedAmountLow, OnStreamsResetFailed, OnStreamsResetPerformed, OnIncomingStreamReset, OnLifecycleMessageFullySent, OnLifecycleMessageMaybeExpired, OnLifecycleMessageExpired, OnLifecycleMessageDelivered, OnLifecycleEnd}
-use Rattle.proof_tx_refines.specs.Led.{delivered_ids}
+use Rattle.proof_tx_refines.specs.Reachable.{delivered_ids}
 use Rattle.spec_endpoint.specs.Association.{State, Closed, CookieWait, Open, Endpoint}
 use Rattle.spec_endpoint.specs.Calls.{keeps_items}
 use Rattle.spec_endpoint.specs.Laws.{endings}
@@ -16,8 +16,8 @@ use Rattle.spec_endpoint.specs.Shown as socket
 use Rattle.proof_endpoint.specs.Mapped.{Mapping, Carried, map_end, as_bytes}
 use Rattle.proof_endpoint.specs.Sound.{OptionsFit}
 use Rattle.proof_pair.specs.Trace as traces
-use Rattle.proof_pair.specs.Trace.{Pair, EndAction, run, start, NeitherHasEnded, state_of}
-use Rattle.proof_pair.specs.Handing.{readied_messages}
+use Rattle.proof_pair.specs.Trace.{Pair, EndAction, run, start, NoAssociationHasEnded, state_of}
+use Rattle.proof_pair.specs.Handing.{messages_made_ready}
 use Rattle.proof_pair.proofs.HandingLemmas.{first_halves}
 use Rattle.proof_delivery.specs.Accepted.{AcceptedMessage, accepted}
 use Rattle.proof_delivery.specs.Delivery as delivery
@@ -30,9 +30,9 @@ use Rattle.proof_delivery.specs.Windows as windows
 use Rattle.proof_delivery.proofs.ResetEventsLemmas.{performed_both}
 use Rattle.spec_world.specs.Observations.{End, A, B, Connect, Entry, ready}
 use Rattle.spec_world.specs.World.{Side, World, Action, CallOf, Runs, emitted_entries, fresh_world, is_at_rest}
-use Rattle.proof_world.specs.Traces.{ActionFits, IsInBytes, IsReachable, origin, is_a, AreActionsOf}
-use Rattle.proof_world.specs.Delivered.{accepted_messages, accepted_messages_by, emitted_events_by, emitted_events, message_epochs, given_up_places, reported, sets_more, KeepsFrom, KeepsResets, IsInBounds}
-use Rattle.proof_world.specs.Consistent.{ended_by, KeepsOpeningRules, times_ended}
+use Rattle.proof_world.specs.Traces.{ActionFits, IsInBytes, IsReachable, initial_world, is_a, AreActionsOf}
+use Rattle.proof_world.specs.Delivered.{accepted_messages, accepted_messages_by, emitted_events_by, emitted_events, message_epochs, given_up_places, reported, sets_more, KeepsFrom, WorldKeepsResets, WorldIsInBounds}
+use Rattle.proof_world.specs.Consistent.{association_ends_by, WorldKeepsRules, times_ended}
 use Rattle.proof_world.specs.Worlds.{NoneIsForeign, BothEmitBytes}
 use Rattle.proof_world.proofs.EventLemmas.{mapped}
 use Rattle.proof_world.proofs.NewsLemmas.{ended_by_emitted}
@@ -46,7 +46,7 @@ use Rattle.proof_world.proofs.BlockLemmas.{AreBlocks, run_more, IsReached, nothi
 use Rattle.proof_world.proofs.DeliveredLemmas.{Delivering, delivering, stands_along}
 use Rattle.proof_world.proofs.ConnectsLemmas.{asks_rules, connects_first}
 use Rattle.proof_world.proofs.NextLemmas.{one_trace, in_bytes, Reaches, reaches}
-use Rattle.proof_world.proofs.KeepsLemmas.{AllAreReceived, keeps, keeps_requests}
+use Rattle.proof_world.proofs.WindowsKeptLemmas.{AllAreReceived, keeps, keeps_requests}
 
 -- ---- no association is over
 
@@ -57,7 +57,7 @@ module _ (f : Mapping Carried (List ℕ)) (x : End) where
   not_none : (k : ℕ) → 1 + k ≡ 0 → ⊥
   not_none k e = omega (arith, e)
 
-  none_emitted : (n : ℕ) (es : List (Event Carried)) → endings es ≡ 0 → length (flat_map (ended_by x) (emitted_entries x n (mapped f es))) ≡ 0
+  none_emitted : (n : ℕ) (es : List (Event Carried)) → endings es ≡ 0 → length (flat_map (association_ends_by x) (emitted_entries x n (mapped f es))) ≡ 0
   none_emitted n [] h = refl
   none_emitted n (SendPacket p ∷ es) h = none_emitted (n + 1) es (none_behind (endings es) h)
   none_emitted n (OnConnected ∷ es) h = none_emitted n es (none_behind (endings es) h)
@@ -80,7 +80,7 @@ none_over : (word_of : List ℕ → ℕ) (x : End) (log : List Entry) (others : 
     → endings end.emitted ≡ 0 → times_ended x log ≡ 0
 none_over word_of x log others side end g h =
     ap (λ (l : List End). length l) (ended_by_emitted x log)
-    ∙ (ap (λ (l : List Entry). length (flat_map (ended_by x) l)) g.image.emitted ∙ none_emitted (as_bytes word_of) x 0 end.emitted h)
+    ∙ (ap (λ (l : List Entry). length (flat_map (association_ends_by x) l)) g.image.emitted ∙ none_emitted (as_bytes word_of) x 0 end.emitted h)
 
 -- ---- rest
 
@@ -129,17 +129,17 @@ few_performed x log early late n is small =
 
 -- ---- a trace, and its world
 
-module _ (a b : Options) (words_a words_b : Stream) (word_of_a word_of_b : List ℕ → ℕ) (actions : List Action) (trace : List (Bool × EndAction))
+module _ (a b : Options) (draws_a draws_b : Stream) (word_of_a word_of_b : List ℕ → ℕ) (actions : List Action) (trace : List (Bool × EndAction))
     (valid_a : IsValid a) (valid_b : IsValid b) (fits_a : OptionsFit a) (fits_b : OptionsFit b) (fit : All ActionFits actions) (none : NoneIsForeign actions)
-    (are : AreActionsOf word_of_a word_of_b actions trace (start a b words_a words_b)) (bytes : BothEmitBytes word_of_a word_of_b (run trace (start a b words_a words_b))) where
+    (are : AreActionsOf word_of_a word_of_b actions trace (start a b draws_a draws_b)) (bytes : BothEmitBytes word_of_a word_of_b (run trace (start a b draws_a draws_b))) where
   abbrev first_world : World
-  first_world = fresh_world a b words_a words_b word_of_a word_of_b
+  first_world = fresh_world a b draws_a draws_b word_of_a word_of_b
 
   abbrev first_pair : Pair
-  first_pair = start a b words_a words_b
+  first_pair = start a b draws_a draws_b
 
   first_both : Both word_of_a word_of_b first_world first_pair
-  first_both = fresh_both a b words_a words_b word_of_a word_of_b fits_a fits_b
+  first_both = fresh_both a b draws_a draws_b word_of_a word_of_b fits_a fits_b
 
   pub reached : Reaches word_of_a word_of_b actions first_world (run trace first_pair)
   reached = reaches word_of_a word_of_b actions trace first_world first_pair fit none are bytes first_both
@@ -154,8 +154,8 @@ module _ (a b : Options) (words_a words_b : Stream) (word_of_a word_of_b : List 
   reachable = record {
     a = a;
     b = b;
-    random_a = words_a;
-    random_b = words_b;
+    draws_a = draws_a;
+    draws_b = draws_b;
     word_of_a = word_of_a;
     word_of_b = word_of_b;
     valid_a = valid_a;
@@ -184,9 +184,9 @@ module _ (a b : Options) (words_a words_b : Stream) (word_of_a word_of_b : List 
   nothing true = refl
   nothing false = refl
 
-  module _ (follows : traces.KeepsOpeningRules trace first_pair) (not_ended : NeitherHasEnded (run trace first_pair)) where
+  module _ (follows : traces.KeepsRules trace first_pair) (not_ended : NoAssociationHasEnded (run trace first_pair)) where
     stand : block.Stands trace first_pair
-    stand = stands_along a b (given_of a valid_a fits_a) (given_of b valid_b fits_b) trace first_pair follows not_ended (first_halves a b words_a words_b)
+    stand = stands_along a b (given_of a valid_a fits_a) (given_of b valid_b fits_b) trace first_pair follows not_ended (first_halves a b draws_a draws_b)
 
     blocks : AreBlocks trace first_pair [] there.log
     blocks =
@@ -205,7 +205,7 @@ module _ (a b : Options) (words_a words_b : Stream) (word_of_a word_of_b : List 
     few h A = subst (λ (l : List AcceptedMessage). length l < 2 ^ 32) (sym (shows_all.offers_are A)) (h true)
     few h B = subst (λ (l : List AcceptedMessage). length l < 2 ^ 32) (sym (shows_all.offers_are B)) (h false)
 
-    resets_kept : requests.KeepsResets trace first_pair → KeepsResets actions first_world there reached.runs
+    resets_kept : requests.KeepsResets trace first_pair → WorldKeepsResets actions first_world there reached.runs
     resets_kept k = record {
       answered = keeps_requests word_of_a word_of_b actions trace first_world there first_pair none_asked fit none are reached.runs small first_both k.answered;
       few = λ x early late is stands.
@@ -214,7 +214,7 @@ module _ (a b : Options) (words_a words_b : Stream) (word_of_a word_of_b : List 
           (sym (ap (λ (es : List (Event (List ℕ))). performed_in es) (shows_all.emitted_are x) ∙ bare_performed (traces.side_of (is_a x) (run trace first_pair)).emitted)) (k.few (is_a x)));
     }
 
-    pub bounds : AllAreReceived trace → list_any sets_more actions ≡ false → delivery.IsInBounds trace first_pair → IsInBounds actions first_world there reached.runs
+    pub bounds : AllAreReceived trace → list_any sets_more actions ≡ false → delivery.IsInBounds trace first_pair → WorldIsInBounds actions first_world there reached.runs
     bounds received limits k = record {
       windows = keeps word_of_a word_of_b actions trace first_world there first_pair windows.no_stamps fit none received are reached.runs small first_both k.windows;
       resets = resets_kept k.resets;
@@ -229,30 +229,30 @@ pub record Shown (actions : List Action) (trace : List (Bool × EndAction)) (c :
   pub reachable : IsReachable world
   pub by : reachable.actions ≡ actions
   pub offers_a : accepted_messages A world.log ≡ accepted true trace c
-  pub ready_b : ready B world.log ≡ readied_messages false trace c
+  pub ready_b : ready B world.log ≡ messages_made_ready false trace c
   pub given_up_a : given_up_places A world.log ≡ given_up true trace c
   pub reported_a : reported A world.log ≡ delivered_ids (run trace c).a.emitted
   pub epochs_a : message_epochs A world.log all_open ≡ epochs.message_epochs true trace c all_open
   pub emitted_a : emitted_events A world.log ≡ bare (run trace c).a.emitted
   pub emitted_b : emitted_events B world.log ≡ bare (run trace c).b.emitted
   pub over : (x : End) → times_ended x world.log ≡ 0
-  pub follows : (rest : List Action) → actions ≡ CallOf A Connect ∷ rest → list_any asks_rules rest ≡ false → KeepsOpeningRules world
-  pub bounds : AllAreReceived trace → list_any sets_more actions ≡ false → delivery.IsInBounds trace c → IsInBounds reachable.actions (origin reachable) world reachable.runs
+  pub follows : (rest : List Action) → actions ≡ CallOf A Connect ∷ rest → list_any asks_rules rest ≡ false → WorldKeepsRules world
+  pub bounds : AllAreReceived trace → list_any sets_more actions ≡ false → delivery.IsInBounds trace c → WorldIsInBounds reachable.actions (initial_world reachable) world reachable.runs
   pub rests : IsAtRest (run trace c).a → is_at_rest A world ≡ true
 
-pub shown : (a b : Options) (words_a words_b : Stream) (word_of_a word_of_b : List ℕ → ℕ) (actions : List Action) (trace : List (Bool × EndAction))
+pub shown : (a b : Options) (draws_a draws_b : Stream) (word_of_a word_of_b : List ℕ → ℕ) (actions : List Action) (trace : List (Bool × EndAction))
     → IsValid a → IsValid b → OptionsFit a → OptionsFit b → All ActionFits actions → NoneIsForeign actions
-    → AreActionsOf word_of_a word_of_b actions trace (start a b words_a words_b) → BothEmitBytes word_of_a word_of_b (run trace (start a b words_a words_b))
-    → traces.KeepsOpeningRules trace (start a b words_a words_b) → NeitherHasEnded (run trace (start a b words_a words_b))
-    → Shown actions trace (start a b words_a words_b)
-shown a b words_a words_b f g actions trace valid_a valid_b fits_a fits_b fit none are bytes follows not_ended =
-    let from : World = fresh_world a b words_a words_b f g in
-    let r : Reaches f g actions from (run trace (start a b words_a words_b)) = reached a b words_a words_b f g actions trace valid_a valid_b fits_a fits_b fit none are bytes in
-    let shows : IsReached (start a b words_a words_b) trace r.world.log =
-    shows_all a b words_a words_b f g actions trace valid_a valid_b fits_a fits_b fit none are bytes follows not_ended in
+    → AreActionsOf word_of_a word_of_b actions trace (start a b draws_a draws_b) → BothEmitBytes word_of_a word_of_b (run trace (start a b draws_a draws_b))
+    → traces.KeepsRules trace (start a b draws_a draws_b) → NoAssociationHasEnded (run trace (start a b draws_a draws_b))
+    → Shown actions trace (start a b draws_a draws_b)
+shown a b draws_a draws_b f g actions trace valid_a valid_b fits_a fits_b fit none are bytes follows not_ended =
+    let from : World = fresh_world a b draws_a draws_b f g in
+    let r : Reaches f g actions from (run trace (start a b draws_a draws_b)) = reached a b draws_a draws_b f g actions trace valid_a valid_b fits_a fits_b fit none are bytes in
+    let shows : IsReached (start a b draws_a draws_b) trace r.world.log =
+    shows_all a b draws_a draws_b f g actions trace valid_a valid_b fits_a fits_b fit none are bytes follows not_ended in
     record {
       world = r.world;
-      reachable = reachable a b words_a words_b f g actions trace valid_a valid_b fits_a fits_b fit none are bytes;
+      reachable = reachable a b draws_a draws_b f g actions trace valid_a valid_b fits_a fits_b fit none are bytes;
       by = refl;
       offers_a = shows.offers_are A;
       ready_b = shows.ready_are B;
@@ -261,8 +261,8 @@ shown a b words_a words_b f g actions trace valid_a valid_b fits_a fits_b fit no
       epochs_a = (shows.epochs_are A).epochs;
       emitted_a = shows.emitted_are A;
       emitted_b = shows.emitted_are B;
-      over = over a b words_a words_b f g actions trace valid_a valid_b fits_a fits_b fit none are bytes follows not_ended;
+      over = over a b draws_a draws_b f g actions trace valid_a valid_b fits_a fits_b fit none are bytes follows not_ended;
       follows = λ rest is quiet. connects_first rest from r.world refl quiet (subst (λ (l : List Action). Runs l from r.world) is r.runs);
-      bounds = bounds a b words_a words_b f g actions trace valid_a valid_b fits_a fits_b fit none are bytes follows not_ended;
-      rests = at_rest_a a b words_a words_b f g actions trace valid_a valid_b fits_a fits_b fit none are bytes;
+      bounds = bounds a b draws_a draws_b f g actions trace valid_a valid_b fits_a fits_b fit none are bytes follows not_ended;
+      rests = at_rest_a a b draws_a draws_b f g actions trace valid_a valid_b fits_a fits_b fit none are bytes;
     }

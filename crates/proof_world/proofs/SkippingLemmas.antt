@@ -11,7 +11,7 @@ use Rattle.sctp_packet.specs.Packet.{header_bytes, packet_bytes}
 use Rattle.sctp_packet.specs.Written.{chunk_bytes, chunks_bytes, chunk_value, data_value, idata_value, init_fields, block_bytes, sack_value, skip_bytes, forward_value}
 use Rattle.sctp_capabilities.specs.StateCookie.{cookie_bytes, capability_bytes, cookie_from, read_cookie}
 use Rattle.sctp_state.specs.Options.{defaults}
-use Rattle.spec_endpoint.specs.Pair.{random_from}
+use Rattle.spec_endpoint.specs.Pair.{counting_from}
 use Rattle.spec_endpoint.specs.Timers.{tick_timers}
 use Rattle.proof_endpoint.specs.Mapped.{as_written}
 use Rattle.proof_pair.specs.Trace.{Pair, EndAction, emitted_packets, run}
@@ -63,7 +63,7 @@ bytes = record { a = all_true (map (as_written no_sum) (emitted_packets last.a))
 
 shown_there : Shown one_is_lost delivery.one_is_lost at_first
 shown_there =
-    shown defaults defaults (random_from 456) (random_from 1000) no_sum no_sum one_is_lost delivery.one_is_lost given_defaults.valid given_defaults.valid fits_defaults fits_defaults actions_fit refl actions bytes
+    shown defaults defaults (counting_from 456) (counting_from 1000) no_sum no_sum one_is_lost delivery.one_is_lost given_defaults.valid given_defaults.valid fits_defaults fits_defaults actions_fit refl actions bytes
     one_skipped.follows one_skipped.not_ended
 
 pub one_skipped_there : OneIsSkipped

@@ -4,12 +4,12 @@ use Rattle.std.specs.Prelude.{All}
 use Rattle.std.specs.List.{list_any}
 use Rattle.std.proofs.lemmas.List.Elements.{All-nil, All-cons, All-head, All-tail}
 use Rattle.std.proofs.lemmas.Bool.{or_from}
-use Rattle.proof_delivery.specs.Answered.{Asked}
+use Rattle.proof_delivery.specs.Answered.{NumberedBefore}
 use Rattle.proof_delivery.specs.Windows.{Stamps}
 use Rattle.spec_world.specs.World.{World, Action, Happens, Runs}
 use Rattle.proof_world.specs.Traces.{ActionFits}
-use Rattle.proof_world.specs.Consistent.{NoneHasEnded}
-use Rattle.proof_world.specs.Delivered.{stamp, stamps_after, IsTimely, KeepsWindows, KeepsFrom, asked_after, KeepsRequests, AlongRun}
+use Rattle.proof_world.specs.Consistent.{NoEndingIsLogged}
+use Rattle.proof_world.specs.Delivered.{world_stamp, stamps_after, IsTimely, WorldKeepsWindows, KeepsFrom, asked_after, WorldKeepsRequests, AlongRun}
 use Rattle.proof_world.proofs.StandingLemmas.{stands_front, stands_or_not}
 use Rattle.proof_world.proofs.WorldLemmas.{Extends, extends_same, extends_then}
 use Rattle.proof_world.proofs.RunsLemmas.{happens_extends, runs_extends}
@@ -25,9 +25,9 @@ pub record IsOver (actions : List Action) (w v : World) (r : Runs actions w v) (
   pub next : World
   pub fits : ActionFits action
   pub happens : Happens action u next
-  pub ends : NoneHasEnded next.log → ⊥
+  pub ends : NoEndingIsLogged next.log → ⊥
   pub later : Extends next v
-  pub timely : (s : Stamps) → KeepsWindows actions w v r s → IsTimely action (stamp u) (stamps_along front w u before s)
+  pub timely : (s : Stamps) → WorldKeepsWindows actions w v r s → IsTimely action (world_stamp u) (stamps_along front w u before s)
   pub none_such : (test : Action → Bool) → KeepsFrom test actions w v r → test action ≡ false
 
 pub record UpToEnd (actions : List Action) (w v : World) (r : Runs actions w v) : Type 1 where
@@ -35,21 +35,21 @@ pub record UpToEnd (actions : List Action) (w v : World) (r : Runs actions w v) 
   pub world : World
   pub before : Runs front w world
   pub fit : All ActionFits front
-  pub stands : NoneHasEnded world.log
+  pub stands : NoEndingIsLogged world.log
   pub later : Extends world v
-  pub windows : (s : Stamps) → KeepsWindows actions w v r s → KeepsWindows front w world before s
-  pub requests : (k : Asked) → KeepsRequests actions w v r k → KeepsRequests front w world before k
+  pub windows : (s : Stamps) → WorldKeepsWindows actions w v r s → WorldKeepsWindows front w world before s
+  pub requests : (k : NumberedBefore) → WorldKeepsRequests actions w v r k → WorldKeepsRequests front w world before k
   pub none_such : (test : Action → Bool) → KeepsFrom test actions w v r → list_any test front ≡ false
-  pub along_run : (P : World → Type 0) → AlongRun P front w world before → AlongRun (λ z. NoneHasEnded z.log → P z) actions w v r
+  pub along_run : (P : World → Type 0) → AlongRun P front w world before → AlongRun (λ z. NoEndingIsLogged z.log → P z) actions w v r
   pub over : (v ≡ world) ⊎ IsOver actions w v r front world before
 
-none_stand : (P : World → Type 0) (actions : List Action) (w v : World) (r : Runs actions w v) → (NoneHasEnded w.log → ⊥) → AlongRun (λ z. NoneHasEnded z.log → P z) actions w v r
+none_stand : (P : World → Type 0) (actions : List Action) (w v : World) (r : Runs actions w v) → (NoEndingIsLogged w.log → ⊥) → AlongRun (λ z. NoEndingIsLogged z.log → P z) actions w v r
 none_stand P [] w v r n = λ st. absurd (n st)
 none_stand P (action ∷ actions) w v r n =
     let e : Extends w r.0 = happens_extends action w r.0 r.1 in
     ((λ st. absurd (n st)), none_stand P actions r.0 v r.2 (λ st. n (stands_front w.log e.more r.0.log e.logged st)))
 
-pub up_to_end : (actions : List Action) (w v : World) → All ActionFits actions → (r : Runs actions w v) → NoneHasEnded w.log → UpToEnd actions w v r
+pub up_to_end : (actions : List Action) (w v : World) → All ActionFits actions → (r : Runs actions w v) → NoEndingIsLogged w.log → UpToEnd actions w v r
 up_to_end [] w v fit r stands = record {
   front = [];
   world = w;
@@ -69,7 +69,7 @@ up_to_end (action ∷ actions) w v fit r stands =
       | inr over ↦ ends over
     ]
   where
-    goes_on : NoneHasEnded r.0.log → UpToEnd actions r.0 v r.2 → UpToEnd (action ∷ actions) w v r
+    goes_on : NoEndingIsLogged r.0.log → UpToEnd actions r.0 v r.2 → UpToEnd (action ∷ actions) w v r
     goes_on now rest =
         record {
           front = action ∷ rest.front;
@@ -97,7 +97,7 @@ up_to_end (action ∷ actions) w v fit r stands =
           ];
         }
 
-    ends : (NoneHasEnded r.0.log → ⊥) → UpToEnd (action ∷ actions) w v r
+    ends : (NoEndingIsLogged r.0.log → ⊥) → UpToEnd (action ∷ actions) w v r
     ends over =
         let first : Extends w r.0 = happens_extends action w r.0 r.1 in
         record {

@@ -5,7 +5,7 @@ use Rattle.sctp_state.specs.Events.{Event, SendPacket, OnError, OnAborted}
 use Rattle.proof_endpoint.specs.Mapped.{Mapping, Carried, map_event}
 use Rattle.spec_endpoint.specs.Shown.{Association}
 use Rattle.std.specs.Prelude.{Bool, true, false, Option}
-use Rattle.proof_draws.specs.Alike.{AreEmitted}
+use Rattle.proof_draws.specs.Alike.{AreEventsAlike}
 use Rattle.spec_world.specs.Observations.{End, Entry, EmittedPacket, EmittedEvent}
 use Rattle.spec_world.specs.World.{packets_in, emitted_entries, associated_if}
 use Rattle.proof_world.proofs.EventLemmas.{mapped}
@@ -20,7 +20,7 @@ none_associated true x a = refl
 none_associated false x a = refl
 
 module _ (f : Mapping Carried (List ℕ)) where
-  pub emitted_shown : (x : End) (n : ℕ) (es fs : List (Event Carried)) → AreEmitted es fs → visible (emitted_entries x n (mapped f fs)) ≡ visible (emitted_entries x n (mapped f es))
+  pub emitted_shown : (x : End) (n : ℕ) (es fs : List (Event Carried)) → AreEventsAlike es fs → visible (emitted_entries x n (mapped f fs)) ≡ visible (emitted_entries x n (mapped f es))
   emitted_shown x n [] [] t = refl
   emitted_shown x n [] (e ∷ fs) t = absurd t
   emitted_shown x n (e ∷ es) [] t = absurd t
@@ -38,7 +38,7 @@ module _ (f : Mapping Carried (List ℕ)) where
       (ap (λ (l : List Entry). visible (emitted_entries x n (map_event f e ∷ [])) ++ l) (emitted_shown x n es fs t.1))
 
   -- as many packets
-  pub packets_emitted : (es fs : List (Event Carried)) → AreEmitted es fs → length (packets_in (mapped f fs)) ≡ length (packets_in (mapped f es))
+  pub packets_emitted : (es fs : List (Event Carried)) → AreEventsAlike es fs → length (packets_in (mapped f fs)) ≡ length (packets_in (mapped f es))
   packets_emitted [] [] t = refl
   packets_emitted [] (e ∷ fs) t = absurd t
   packets_emitted (e ∷ es) [] t = absurd t
@@ -53,7 +53,7 @@ module _ (f : Mapping Carried (List ℕ)) where
       subst (λ (z : Event Carried). length (packets_in (mapped f (z ∷ fs))) ≡ length (packets_in (mapped f (e ∷ es)))) (sym t.0) (packets_emitted es fs t.1)
 
 -- what was emitted since
-pub emitted_behind : (past pasts es fs : List (Event Carried)) → AreEmitted past pasts → AreEmitted (past ++ es) (pasts ++ fs) → AreEmitted es fs
+pub emitted_behind : (past pasts es fs : List (Event Carried)) → AreEventsAlike past pasts → AreEventsAlike (past ++ es) (pasts ++ fs) → AreEventsAlike es fs
 emitted_behind [] [] es fs t u = u
 emitted_behind [] (b ∷ pasts) es fs t u = absurd t
 emitted_behind (a ∷ past) [] es fs t u = absurd t

@@ -8,7 +8,7 @@ use Rattle.std.proofs.lemmas.Option.{slice_get-map}
 use Rattle.sctp_state.specs.Events.{GivenUp}
 use Rattle.sctp_packet.specs.Packet.{PacketTree}
 use Rattle.spec_endpoint.specs.Association.{Endpoint}
-use Rattle.spec_endpoint.specs.Input.{refusal}
+use Rattle.spec_endpoint.specs.Input.{packet_refusal}
 use Rattle.spec_endpoint.specs.Laws as table
 use Rattle.proof_endpoint.specs.Mapped.{Carried, as_written}
 use Rattle.proof_endpoint.specs.ReadBack.{AreBytes}
@@ -17,9 +17,9 @@ use Rattle.proof_pair.specs.Trace.{Pair, EndAction, Calls, emitted_packets, goes
 use Rattle.proof_pair.proofs.AddedLemmas.{all_get}
 use Rattle.proof_delivery.specs.GivenUp as giving
 use Rattle.proof_delivery.specs.GivenUp.{given_up_at}
-use Rattle.proof_delivery.specs.Justified.{records_given, records_if, records_by, records_at}
+use Rattle.proof_delivery.specs.Justified.{records_given, records_foreign, records_by, records_at}
 use Rattle.spec_world.specs.Observations.{End, A, B, Entry, Given, Foreign, Call, given_up_by, given_up}
-use Rattle.spec_world.specs.World.{Side, World, Action, CallOf, Give, GiveForeign, AdvanceTime, InjectsInto, taken_in, withheld, Gives, Happens, table_call, calls, call_entry, advances_time, time_entry, Takes}
+use Rattle.spec_world.specs.World.{Side, World, Action, CallOf, Give, GiveForeign, AdvanceTime, MeetsForeignAt, given, withheld, Gives, Happens, table_call, call_socket, call_entry, advance_time, time_entry, Takes}
 use Rattle.proof_world.specs.Traces.{ActionFits, IsInBytes, is_a, end_of, IsActionOf}
 use Rattle.proof_world.specs.Delivered.{given_up_places}
 use Rattle.proof_world.proofs.EventLemmas.{Readable}
@@ -111,14 +111,14 @@ given_records : (p : Option Carried) (checksum : ℕ) (own : traces.Side) → (g
 given_records None checksum own = refl
 given_records (Some p) checksum own = refl
 
-refused_records : (r : Option (List ℕ)) (p : PacketTree) (own : traces.Side) → (giving.emitted_foreign r p own).given_up ≡ records_if r p own
+refused_records : (r : Option (List ℕ)) (p : PacketTree) (own : traces.Side) → (giving.emitted_foreign r p own).given_up ≡ records_foreign r p own
 refused_records None p own = refl
 refused_records (Some text) p own = refl
 
 same_records : (turn : EndAction) (own beside : traces.Side) → (giving.emitted_by turn own beside).given_up ≡ records_by turn own beside
 same_records (Calls call) own beside = refl
 same_records (traces.Gives which checksum) own beside = given_records (slice_get (emitted_packets beside) which) checksum own
-same_records (traces.Refuses p) own beside = refused_records (refusal p.header.verification_tag p.chunks (traces.state_of own)) p own
+same_records (traces.Refuses p) own beside = refused_records (packet_refusal p.header.verification_tag p.chunks (traces.state_of own)) p own
 
 module _ (word_of_a word_of_b : List ℕ → ℕ) where
   stepped_a : (action : Action) (w u : World) (c : Pair) → end_of action ≡ A → Both word_of_a word_of_b w c → (turn : EndAction) → IsActionOf word_of_a word_of_b action turn c
@@ -191,7 +191,7 @@ module _ (word_of_a word_of_b : List ℕ → ℕ) where
 
   -- ---- calls and moments
 
-  step_call : (x : End) (call : Call) (w u : World) (c : Pair) → ActionFits (CallOf x call) → u ≡ calls x call w → Both word_of_a word_of_b w c
+  step_call : (x : End) (call : Call) (w u : World) (c : Pair) → ActionFits (CallOf x call) → u ≡ call_socket x call w → Both word_of_a word_of_b w c
       → Stepped word_of_a word_of_b (CallOf x call) w u c
   step_call A call w u c fits e h =
       stepped_a (CallOf A call) w u c refl h (Calls (table_call call)) refl
@@ -202,7 +202,7 @@ module _ (word_of_a word_of_b : List ℕ → ℕ) where
       (call_goes word_of_b B w.log (call_entry B call w.b.socket) w.a.packets w.b c.b c.a (record { emitted = λ y. refl; quiet = λ y o. refl; given_up = λ y. refl }) h.b u.b u.log (table_call call) fits _ refl
       (ap (λ (z : World). z.b) e) (ap (λ (z : World). z.log) e)) (ap (λ (z : World). z.a) e)
 
-  step_time : (x : End) (now : ℕ) (w u : World) (c : Pair) → u ≡ advances_time x now w → Both word_of_a word_of_b w c → Stepped word_of_a word_of_b (AdvanceTime x now) w u c
+  step_time : (x : End) (now : ℕ) (w u : World) (c : Pair) → u ≡ advance_time x now w → Both word_of_a word_of_b w c → Stepped word_of_a word_of_b (AdvanceTime x now) w u c
   step_time A now w u c e h =
       stepped_a (AdvanceTime A now) w u c refl h (Calls (table.Advance now)) refl
       (call_goes word_of_a A w.log (time_entry A now w.a.socket) w.b.packets w.a c.a c.b (record { emitted = λ y. refl; quiet = λ y o. refl; given_up = λ y. refl }) h.a u.a u.log (table.Advance now) tt _ refl
@@ -234,9 +234,9 @@ module _ (word_of_a word_of_b : List ℕ → ℕ) where
 
   -- ---- bytes from elsewhere
 
-  foreign_a : (bytes : List ℕ) (w u : World) (c : Pair) → InjectsInto A bytes w.a u.a w.log u.log → u.b ≡ w.b → Both word_of_a word_of_b w c
+  foreign_a : (bytes : List ℕ) (w u : World) (c : Pair) → MeetsForeignAt A bytes w.a u.a w.log u.log → u.b ≡ w.b → Both word_of_a word_of_b w c
       → Stepped word_of_a word_of_b (GiveForeign A bytes) w u c
-  foreign_a bytes w u c (taken_in t judged) same h =
+  foreign_a bytes w u c (given t judged) same h =
       let went = foreign_goes word_of_a A w.log (Foreign A w.a.socket.endpoint_state.context.now (Some bytes)) w.b.packets w.a c.a c.b (record { emitted = λ y. refl; quiet = λ y o. refl; given_up = λ y. refl }) h.a u.a u.log
       w.a.socket.endpoint_state.context.pack.word_of bytes judged t.after t.takes t.side t.logged in
       stepped_a (GiveForeign A bytes) w u c refl h went.0 went.1 went.2 same
@@ -245,9 +245,9 @@ module _ (word_of_a word_of_b : List ℕ → ℕ) where
       w.a.socket.endpoint_state.context.pack.word_of bytes false refl judged stays logged in
       stepped_a (GiveForeign A bytes) w u c refl h went.0 went.1 went.2 same
 
-  foreign_b : (bytes : List ℕ) (w u : World) (c : Pair) → InjectsInto B bytes w.b u.b w.log u.log → u.a ≡ w.a → Both word_of_a word_of_b w c
+  foreign_b : (bytes : List ℕ) (w u : World) (c : Pair) → MeetsForeignAt B bytes w.b u.b w.log u.log → u.a ≡ w.a → Both word_of_a word_of_b w c
       → Stepped word_of_a word_of_b (GiveForeign B bytes) w u c
-  foreign_b bytes w u c (taken_in t judged) same h =
+  foreign_b bytes w u c (given t judged) same h =
       let went = foreign_goes word_of_b B w.log (Foreign B w.b.socket.endpoint_state.context.now (Some bytes)) w.a.packets w.b c.b c.a (record { emitted = λ y. refl; quiet = λ y o. refl; given_up = λ y. refl }) h.b u.b u.log
       w.b.socket.endpoint_state.context.pack.word_of bytes judged t.after t.takes t.side t.logged in
       stepped_b (GiveForeign B bytes) w u c refl h went.0 went.1 went.2 same

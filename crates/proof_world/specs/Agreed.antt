@@ -18,15 +18,15 @@ pub record IsAgreed (x : End) (log : List Entry) : Type 0 where
   pub other_held : held (other x) early ≡ Some (mirrored association)
 
 -- At each OnConnected, by what stands before it. An end holds an association from its entry to the next one.
-abbrev pub Agrees : List Entry → Type 0
-Agrees log = (x : End) (before behind : List Entry) → log ≡ before ++ EmittedEvent x OnConnected ∷ behind → IsAgreed x before
+abbrev pub WorldAgrees : List Entry → Type 0
+WorldAgrees log = (x : End) (before behind : List Entry) → log ≡ before ++ EmittedEvent x OnConnected ∷ behind → IsAgreed x before
 
 -- neither end draws a verification tag twice; both may draw the same one
 abbrev pub EachEndDrawsDistinctTags : {w : World} → IsReachable w → Type 0
 EachEndDrawsDistinctTags l =
-    (trace : List (Bool × EndAction)) → AreActionsOf l.word_of_a l.word_of_b l.actions trace (start l.a l.b l.random_a l.random_b)
-    → AreDistinctPerEnd (histories_along trace (start l.a l.b l.random_a l.random_b) no_histories)
+    (trace : List (Bool × EndAction)) → AreActionsOf l.word_of_a l.word_of_b l.actions trace (start l.a l.b l.draws_a l.draws_b)
+    → AreDistinctPerEnd (histories_along trace (start l.a l.b l.draws_a l.draws_b) no_histories)
 
 -- Of each reachable world, whatever rules the run follows, and behind the end of an association too.
 abbrev pub WorldsAgree : Type 0
-WorldsAgree = (w : World) (l : IsReachable w) → EachEndDrawsDistinctTags l → Agrees w.log
+WorldsAgree = (w : World) (l : IsReachable w) → EachEndDrawsDistinctTags l → WorldAgrees w.log

@@ -3,7 +3,7 @@ use Rattle.std.specs.Prelude.{◌≡◌, ◌⊎◌, ℕ, ◌==◌, ◌&&◌, ◌
 use Rattle.std.specs.Int.{w32, from_be_bytes}
 use Rattle.std.specs.List.{flat_map, list_any}
 use Rattle.sctp_state.specs.Options.{Options}
-use Rattle.sctp_capabilities.specs.Capabilities.{agreed, exchange}
+use Rattle.sctp_capabilities.specs.Capabilities.{agreed, mirrored_capabilities}
 use Rattle.sctp_state.specs.Events.{OnClosed, OnAborted}
 use Rattle.spec_endpoint.specs.Association.{Tcb, Phase, Open}
 use Rattle.spec_endpoint.specs.Shown.{Association}
@@ -33,18 +33,18 @@ got_init x w log = list_any (gets_init x (side_of (other x) w).packets) log
 
 -- ---- until an association is over
 
-abbrev pub ended_by : End → Entry → List End
-ended_by x (EmittedEvent y OnClosed) = none_unless (same_end x y) y
-ended_by x (EmittedEvent y (OnAborted kind text)) = none_unless (same_end x y) y
-ended_by x entry = []
+abbrev pub association_ends_by : End → Entry → List End
+association_ends_by x (EmittedEvent y OnClosed) = none_unless (same_end x y) y
+association_ends_by x (EmittedEvent y (OnAborted kind text)) = none_unless (same_end x y) y
+association_ends_by x entry = []
 
 -- how often this end emitted that an association is over
 abbrev pub times_ended : End → List Entry → ℕ
-times_ended x log = length (flat_map (ended_by x) log)
+times_ended x log = length (flat_map (association_ends_by x) log)
 
 -- no end emitted so yet
-abbrev pub NoneHasEnded : List Entry → Type 0
-NoneHasEnded log = (x : End) → times_ended x log ≡ 0
+abbrev pub NoEndingIsLogged : List Entry → Type 0
+NoEndingIsLogged log = (x : End) → times_ended x log ≡ 0
 
 -- ---- the rules
 
@@ -55,28 +55,28 @@ MayFollow w before (Called x clock Connect answer) = (1 ≤ times_connected x be
 MayFollow w before entry = ⊤
 
 -- each entry, by those before it, until an end first emits that an association is over
-abbrev pub KeepsOpeningRules : World → Type 0
-KeepsOpeningRules w = (before : List Entry) (entry : Entry) (behind : List Entry) → w.log ≡ before ++ entry ∷ behind → NoneHasEnded before → MayFollow w before entry
+abbrev pub WorldKeepsRules : World → Type 0
+WorldKeepsRules w = (before : List Entry) (entry : Entry) (behind : List Entry) → w.log ≡ before ++ entry ∷ behind → NoEndingIsLogged before → MayFollow w before entry
 
 -- The opening rules were kept, and no end emitted that an association is over.
 pub record IsUndisturbed (w : World) : Type 0 where
-  pub follows : KeepsOpeningRules w
-  pub stands : NoneHasEnded w.log
+  pub follows : WorldKeepsRules w
+  pub stands : NoEndingIsLogged w.log
 
 -- ---- the law
 
 -- What each end's association can do is what was negotiated of the two option sets; and the associations that the log says that
 -- both hold are mirrored, in the stream counts too.
-pub record AreConsistent (a b : Options) (w : World) : Type 0 where
+pub record WorldEndsAreConsistent (a b : Options) (w : World) : Type 0 where
   pub a_negotiated : (phase : Phase) (t : Tcb) → w.a.socket.endpoint_state.state ≡ Open phase t → t.capabilities ≡ agreed a b
   pub b_negotiated : (phase : Phase) (t : Tcb) → w.b.socket.endpoint_state.state ≡ Open phase t → t.capabilities ≡ agreed b a
   pub are_mirrored : (i j : Association) → held A w.log ≡ Some i → held B w.log ≡ Some j → j ≡ mirrored i
-  pub counts : agreed b a ≡ exchange (agreed a b)
+  pub counts : agreed b a ≡ mirrored_capabilities (agreed a b)
 
 -- Of each reachable world, undisturbed.
 abbrev pub WorldsAreConsistent : Type 0
-WorldsAreConsistent = (w : World) (l : IsReachable w) → IsUndisturbed w → AreConsistent l.a l.b w
+WorldsAreConsistent = (w : World) (l : IsReachable w) → IsUndisturbed w → WorldEndsAreConsistent l.a l.b w
 
 -- The rules can be kept: the opening of the first run keeps them, and leaves no association over.
 abbrev pub OpeningFollows : Type 0
-OpeningFollows = (w v : World) → IsFresh w → Runs opening w v → KeepsOpeningRules v × NoneHasEnded v.log
+OpeningFollows = (w v : World) → IsFresh w → Runs opening w v → WorldKeepsRules v × NoEndingIsLogged v.log

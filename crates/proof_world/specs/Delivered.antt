@@ -5,17 +5,17 @@ use Rattle.std.specs.List.{flat_map}
 use Rattle.sctp_serial.specs.Messages.{Message}
 use Rattle.sctp_state.specs.Events.{Event, GivenUp}
 use Rattle.proof_protocol.specs.State.{has}
-use Rattle.proof_tx_refines.specs.Led.{delivered_by}
+use Rattle.proof_tx_refines.specs.Reachable.{delivered_by}
 use Rattle.proof_tx_refines.specs.Records.{are_distinct}
 use Rattle.proof_delivery.specs.Accepted.{AcceptedMessage}
-use Rattle.proof_delivery.specs.Answered.{Asked, none_asked, asked_by, IsAnswered, performed_in}
+use Rattle.proof_delivery.specs.Answered.{NumberedBefore, none_asked, numbered_before, IsAnswered, performed_in}
 use Rattle.proof_delivery.specs.Justified.{reset_unless}
 use Rattle.proof_delivery.specs.StreamEpochs.{StreamEpoch, all_open, shut_streams, reopen, performed_of, epochs_of, resets_emitted}
 use Rattle.proof_delivery.specs.Windows.{numbered_count, IsWithin, Stamp, Stamps, no_stamps, IsYoung}
 use Rattle.proof_delivery.specs.Delivery.{Fits, SkippedAreGivenUp, IsReady, AllAreDone}
 use Rattle.spec_world.specs.Observations.{End, A, B, same_end, none_unless, all_unless, Call, Send, SendMany, Reset, SetMaxMessageSize, Answer, Sent, SentMany, AskedReset, unrefused, Entry, Called, Given, Foreign, Timed, EmittedEvent, BecameReady, accepted, ready, given_up}
 use Rattle.spec_world.specs.World.{Side, World, Action, CallOf, Give, GiveForeign, AdvanceTime, Runs, other, is_at_rest}
-use Rattle.proof_world.specs.Consistent.{NoneHasEnded}
+use Rattle.proof_world.specs.Consistent.{NoEndingIsLogged}
 
 -- ---- what was accepted, with the options of its sending
 
@@ -79,20 +79,20 @@ reported x log = flat_map (reported_by x) log
 abbrev pub SideIsWithin : Side → Type 0
 SideIsWithin side = IsWithin side.socket.endpoint_state.state side.socket.endpoint_state.context.queue
 
-pub record AreWithin (w : World) : Type 0 where
+pub record WorldIsWithin (w : World) : Type 0 where
   pub a : SideIsWithin w.a
   pub b : SideIsWithin w.b
 
 -- how many fragments each end has numbered
-abbrev pub stamp : World → Stamp
-stamp w = record { a = numbered_count w.a.socket.endpoint_state.state; b = numbered_count w.b.socket.endpoint_state.state }
+abbrev pub world_stamp : World → Stamp
+world_stamp w = record { a = numbered_count w.a.socket.endpoint_state.state; b = numbered_count w.b.socket.endpoint_state.state }
 
 -- those of all packets: as many as both ends had numbered before the event that emitted it
 abbrev pub stamp_packets : (before after : Side) → Stamp → List Stamp → List Stamp
 stamp_packets x y s stamps = stamps ++ replicate (length y.packets - length x.packets) s
 
 abbrev pub stamps_after : (w u : World) → Stamps → Stamps
-stamps_after w u s = record { of_a = stamp_packets w.a u.a (stamp w) s.of_a; of_b = stamp_packets w.b u.b (stamp w) s.of_b }
+stamps_after w u s = record { of_a = stamp_packets w.a u.a (world_stamp w) s.of_a; of_b = stamp_packets w.b u.b (world_stamp w) s.of_b }
 
 -- no packet is given once an end has numbered 2^30 fragments since
 abbrev pub IsTimely : Action → (now : Stamp) → Stamps → Type 0
@@ -103,47 +103,47 @@ IsTimely (GiveForeign x bytes) now s = ⊤
 IsTimely (AdvanceTime x time) now s = ⊤
 
 -- at each world in which no association is over
-abbrev pub KeepsWindows : (actions : List Action) (w v : World) → Runs actions w v → Stamps → Type 0
-KeepsWindows [] w v r s = NoneHasEnded w.log → AreWithin w
-KeepsWindows (action ∷ actions) w v r s =
-    (NoneHasEnded w.log → AreWithin w × IsTimely action (stamp w) s) × KeepsWindows actions r.0 v r.2 (stamps_after w r.0 s)
+abbrev pub WorldKeepsWindows : (actions : List Action) (w v : World) → Runs actions w v → Stamps → Type 0
+WorldKeepsWindows [] w v r s = NoEndingIsLogged w.log → WorldIsWithin w
+WorldKeepsWindows (action ∷ actions) w v r s =
+    (NoEndingIsLogged w.log → WorldIsWithin w × IsTimely action (world_stamp w) s) × WorldKeepsWindows actions r.0 v r.2 (stamps_after w r.0 s)
 
 -- none of the actions that begin in a world with no association over is such a one
 abbrev pub KeepsFrom : (Action → Bool) → (actions : List Action) (w v : World) → Runs actions w v → Type 0
 KeepsFrom is_such [] w v r = ⊤
-KeepsFrom is_such (action ∷ actions) w v r = (NoneHasEnded w.log → is_such action ≡ false) × KeepsFrom is_such actions r.0 v r.2
+KeepsFrom is_such (action ∷ actions) w v r = (NoEndingIsLogged w.log → is_such action ≡ false) × KeepsFrom is_such actions r.0 v r.2
 
-abbrev pub exceeds_limit : Call → Bool
-exceeds_limit (SetMaxMessageSize bytes) = nat_le (2 ^ 32) bytes
-exceeds_limit call = false
+abbrev pub sets_wide_limit : Call → Bool
+sets_wide_limit (SetMaxMessageSize bytes) = nat_le (2 ^ 32) bytes
+sets_wide_limit call = false
 
 -- a limit of messages' sizes that doesn't fit 32 bits
 abbrev pub sets_more : Action → Bool
-sets_more (CallOf x call) = exceeds_limit call
+sets_more (CallOf x call) = sets_wide_limit call
 sets_more action = false
 
 -- ---- requests to reset streams, along a run
 
 -- how many fragments each end had numbered before the event that started the request which waits
-abbrev pub asked_after : (w u : World) → Asked → Asked
+abbrev pub asked_after : (w u : World) → NumberedBefore → NumberedBefore
 asked_after w u k = record {
-  a = asked_by w.a.socket.endpoint_state.state u.a.socket.endpoint_state.state k.a;
-  b = asked_by w.b.socket.endpoint_state.state u.b.socket.endpoint_state.state k.b;
+  a = numbered_before w.a.socket.endpoint_state.state u.a.socket.endpoint_state.state k.a;
+  b = numbered_before w.b.socket.endpoint_state.state u.b.socket.endpoint_state.state k.b;
 }
 
-pub record AreAnswered (w : World) (k : Asked) : Type 0 where
+pub record AreAnswered (w : World) (k : NumberedBefore) : Type 0 where
   pub a : IsAnswered w.a.socket.endpoint_state.state k.a
   pub b : IsAnswered w.b.socket.endpoint_state.state k.b
 
 -- at each world in which no association is over
-abbrev pub KeepsRequests : (actions : List Action) (w v : World) → Runs actions w v → Asked → Type 0
-KeepsRequests [] w v r k = NoneHasEnded w.log → AreAnswered w k
-KeepsRequests (action ∷ actions) w v r k = (NoneHasEnded w.log → AreAnswered w k) × KeepsRequests actions r.0 v r.2 (asked_after w r.0 k)
+abbrev pub WorldKeepsRequests : (actions : List Action) (w v : World) → Runs actions w v → NumberedBefore → Type 0
+WorldKeepsRequests [] w v r k = NoEndingIsLogged w.log → AreAnswered w k
+WorldKeepsRequests (action ∷ actions) w v r k = (NoEndingIsLogged w.log → AreAnswered w k) × WorldKeepsRequests actions r.0 v r.2 (asked_after w r.0 k)
 
 -- none waits too long, and not too many are reported as performed
-pub record KeepsResets (actions : List Action) (w v : World) (runs : Runs actions w v) : Type 0 where
-  pub answered : KeepsRequests actions w v runs none_asked
-  pub few : (x : End) (early late : List Entry) → v.log ≡ early ++ late → NoneHasEnded early → performed_in (emitted_events x early) < 2 ^ 32 - 1
+pub record WorldKeepsResets (actions : List Action) (w v : World) (runs : Runs actions w v) : Type 0 where
+  pub answered : WorldKeepsRequests actions w v runs none_asked
+  pub few : (x : End) (early late : List Entry) → v.log ≡ early ++ late → NoEndingIsLogged early → performed_in (emitted_events x early) < 2 ^ 32 - 1
 
 -- ---- each message becomes ready in its epoch
 
@@ -179,28 +179,28 @@ ready_places x log places = take (length (ready (other x) log)) places
 -- point its beginning fits; each message becomes ready in its epoch; an ordered message that isn't ready, while a later one of its
 -- stream is, was given up; and each id that x reported as delivered is that of a ready message. Between events, no two records of x name
 -- the same message; and where nothing is queued at x and no item kept, each message is ready or was given up.
-pub record Delivers (x : End) (actions : List Action) (w v : World) (runs : Runs actions w v) : Type 0 where
+pub record WorldDelivers (x : End) (actions : List Action) (w v : World) (runs : Runs actions w v) : Type 0 where
   pub places : List ℕ
-  pub fits : (early late : List Entry) → v.log ≡ early ++ late → NoneHasEnded early → Fits (accepted_messages x early) (ready (other x) early) (ready_places x early places)
-  pub epochs : (early late : List Entry) (m : Message) → v.log ≡ early ++ BecameReady (other x) m ∷ late → NoneHasEnded early
+  pub fits : (early late : List Entry) → v.log ≡ early ++ late → NoEndingIsLogged early → Fits (accepted_messages x early) (ready (other x) early) (ready_places x early places)
+  pub epochs : (early late : List Entry) (m : Message) → v.log ≡ early ++ BecameReady (other x) m ∷ late → NoEndingIsLogged early
       → IsInItsEpoch x early m.stream (slice_index places (length (ready (other x) early)))
-  pub skipped : (early late : List Entry) → v.log ≡ early ++ late → NoneHasEnded early → SkippedAreGivenUp (accepted_messages x early) (given_up_places x early) (ready_places x early places)
-  pub reports : (early late : List Entry) → v.log ≡ early ++ late → NoneHasEnded early → (id : ℕ) → has id (reported x early) ≡ true
+  pub skipped : (early late : List Entry) → v.log ≡ early ++ late → NoEndingIsLogged early → SkippedAreGivenUp (accepted_messages x early) (given_up_places x early) (ready_places x early places)
+  pub reports : (early late : List Entry) → v.log ≡ early ++ late → NoEndingIsLogged early → (id : ℕ) → has id (reported x early) ≡ true
       → IsReady (accepted_messages x early) (ready_places x early places) id
-  pub once : AlongRun (λ u. NoneHasEnded u.log → are_distinct (given_up_places x u.log) ≡ true) actions w v runs
-  pub rest : AlongRun (λ u. NoneHasEnded u.log → is_at_rest x u ≡ true → AllAreDone (accepted_messages x u.log) (given_up_places x u.log) (ready_places x u.log places)) actions w v runs
+  pub once : AlongRun (λ u. NoEndingIsLogged u.log → are_distinct (given_up_places x u.log) ≡ true) actions w v runs
+  pub rest : AlongRun (λ u. NoEndingIsLogged u.log → is_at_rest x u ≡ true → AllAreDone (accepted_messages x u.log) (given_up_places x u.log) (ready_places x u.log places)) actions w v runs
 
 -- what a run has to keep until then
-pub record IsInBounds (actions : List Action) (w v : World) (runs : Runs actions w v) : Type 0 where
-  pub windows : KeepsWindows actions w v runs no_stamps
-  pub resets : KeepsResets actions w v runs
-  pub few : (x : End) (early late : List Entry) → v.log ≡ early ++ late → NoneHasEnded early → length (accepted_messages x early) < 2 ^ 32
+pub record WorldIsInBounds (actions : List Action) (w v : World) (runs : Runs actions w v) : Type 0 where
+  pub windows : WorldKeepsWindows actions w v runs no_stamps
+  pub resets : WorldKeepsResets actions w v runs
+  pub few : (x : End) (early late : List Entry) → v.log ≡ early ++ late → NoEndingIsLogged early → length (accepted_messages x early) < 2 ^ 32
   pub limits : KeepsFrom sets_more actions w v runs
 
 -- the messages of the offers are those accepted
-abbrev pub OffersAreAccepted : Type 0
-OffersAreAccepted = (x : End) (log : List Entry) → accepted x log ≡ map (λ (o : AcceptedMessage). o.message) (accepted_messages x log)
+abbrev pub AcceptedMessagesAgree : Type 0
+AcceptedMessagesAgree = (x : End) (log : List Entry) → accepted x log ≡ map (λ (o : AcceptedMessage). o.message) (accepted_messages x log)
 
 -- each of them has an epoch
-abbrev pub OffersHaveEpochs : Type 0
-OffersHaveEpochs = (x : End) (log : List Entry) → length (message_epochs x log all_open) ≡ length (accepted_messages x log)
+abbrev pub AcceptedMessagesHaveEpochs : Type 0
+AcceptedMessagesHaveEpochs = (x : End) (log : List Entry) → length (message_epochs x log all_open) ≡ length (accepted_messages x log)

@@ -75,11 +75,11 @@ AreJustified x log =
 -- In each run, where an end accepts fewer than 2^32 messages.
 abbrev pub WorldsAreJustified : Type 0
 WorldsAreJustified =
-    (a b : Options) (words_a words_b : Stream) (word_of_a word_of_b : List ℕ → ℕ) (actions : List Action) (w : World)
+    (a b : Options) (draws_a draws_b : Stream) (word_of_a word_of_b : List ℕ → ℕ) (actions : List Action) (w : World)
     → OptionsFit a → OptionsFit b → All ActionFits actions
-    → Runs actions (fresh_world a b words_a words_b word_of_a word_of_b) w → IsInBytes w
+    → Runs actions (fresh_world a b draws_a draws_b word_of_a word_of_b) w → IsInBytes w
     → (x : End) → length (accepted_messages x w.log) < 2 ^ 32 → AreJustified x w.log
 
 -- acceptances are those of the offers, one by one
-abbrev pub AcceptancesAreOffers : Type 0
-AcceptancesAreOffers = (x : End) (log : List Entry) → map (λ (a : Acceptance). a.offer) (acceptances x log) ≡ accepted_messages x log
+abbrev pub AcceptancesAreOfAcceptedMessages : Type 0
+AcceptancesAreOfAcceptedMessages = (x : End) (log : List Entry) → map (λ (a : Acceptance). a.offer) (acceptances x log) ≡ accepted_messages x log

@@ -40,11 +40,11 @@ pub record IsReadable (word_of_a word_of_b : List ℕ → ℕ) (w : World) : Typ
 -- ---- what happens
 
 -- Only what a call hands in has to fit: packets of the other end do, and bytes from elsewhere are given where they are refused.
-abbrev pub ActionFits : Action → Type 0
-ActionFits (CallOf x call) = ArgumentFits (table_call call)
-ActionFits (Give packet x) = Unit {0}
-ActionFits (GiveForeign x bytes) = Unit {0}
-ActionFits (AdvanceTime x now) = Unit {0}
+abbrev pub ActionArgumentsFit : Action → Type 0
+ActionArgumentsFit (CallOf x call) = ArgumentFits (table_call call)
+ActionArgumentsFit (Give packet x) = Unit {0}
+ActionArgumentsFit (GiveForeign x bytes) = Unit {0}
+ActionArgumentsFit (AdvanceTime x now) = Unit {0}
 
 -- A packet that is given is bytes, as all that a program has are.
 abbrev pub GivesBytes : World → Action → Type 0
@@ -57,16 +57,16 @@ GivesBytes w (AdvanceTime x now) = Unit {0}
 
 abbrev pub NewWorldsAreReadable : Type 0
 NewWorldsAreReadable =
-    (options_a options_b : Options) (words_a words_b : Stream) (word_of_a word_of_b : List ℕ → ℕ) → OptionsFit options_a → OptionsFit options_b
-    → IsReadable word_of_a word_of_b (fresh_world options_a options_b words_a words_b word_of_a word_of_b)
+    (options_a options_b : Options) (draws_a draws_b : Stream) (word_of_a word_of_b : List ℕ → ℕ) → OptionsFit options_a → OptionsFit options_b
+    → IsReadable word_of_a word_of_b (fresh_world options_a options_b draws_a draws_b word_of_a word_of_b)
 
 abbrev pub EachActionKeepsWorldsReadable : Type 0
 EachActionKeepsWorldsReadable =
-    (word_of_a word_of_b : List ℕ → ℕ) (action : Action) (w v : World) → Happens action w v → ActionFits action → GivesBytes w action
+    (word_of_a word_of_b : List ℕ → ℕ) (action : Action) (w v : World) → Happens action w v → ActionArgumentsFit action → GivesBytes w action
     → IsReadable word_of_a word_of_b w → IsReadable word_of_a word_of_b v
 
 -- packets stay where they are, so those that were given are bytes where they are at the end
 abbrev pub RunsKeepWorldsReadable : Type 0
 RunsKeepWorldsReadable =
-    (word_of_a word_of_b : List ℕ → ℕ) (actions : List Action) (w v : World) → Runs actions w v → Each ActionFits actions → Each (GivesBytes v) actions
+    (word_of_a word_of_b : List ℕ → ℕ) (actions : List Action) (w v : World) → Runs actions w v → Each ActionArgumentsFit actions → Each (GivesBytes v) actions
     → IsReadable word_of_a word_of_b w → IsReadable word_of_a word_of_b v

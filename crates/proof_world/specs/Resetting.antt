@@ -7,9 +7,9 @@ use Rattle.proof_delivery.specs.StreamEpochs.{all_open, performed_of, resets_emi
 use Rattle.spec_world.specs.Observations.{A, B, Send, Reset, accepted, ready}
 use Rattle.spec_world.specs.World.{World, Action, CallOf, Give}
 use Rattle.spec_world.specs.FirstRun.{opening}
-use Rattle.proof_world.specs.Traces.{IsReachable, origin}
+use Rattle.proof_world.specs.Traces.{IsReachable, initial_world}
 use Rattle.proof_world.specs.Consistent.{IsUndisturbed}
-use Rattle.proof_world.specs.Delivered.{message_epochs, emitted_events, IsInBounds}
+use Rattle.proof_world.specs.Delivered.{message_epochs, emitted_events, WorldIsInBounds}
 
 -- A message is sent; its stream is reset twice at once, and another message is accepted. The second call finds the stream waiting, and
 -- raises no epoch.
@@ -25,7 +25,7 @@ pub record OneIsReset : Type 0 where
   pub reachable : IsReachable world
   pub actions : reachable.actions ≡ one_is_reset
   pub undisturbed : IsUndisturbed world
-  pub bounds : IsInBounds reachable.actions (origin reachable) world reachable.runs
+  pub bounds : WorldIsInBounds reachable.actions (initial_world reachable) world reachable.runs
   pub accepts : accepted A world.log ≡ text 97 ∷ text 98 ∷ []
   pub epochs : message_epochs A world.log all_open ≡ 0 ∷ 1 ∷ []
   pub readies : ready B world.log ≡ text 97 ∷ text 98 ∷ []

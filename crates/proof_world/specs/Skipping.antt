@@ -6,9 +6,9 @@ use Rattle.proof_pair.specs.Handing.{text}
 use Rattle.spec_world.specs.Observations.{A, B, Send, accepted, ready}
 use Rattle.spec_world.specs.World.{World, Action, CallOf, Give, AdvanceTime, is_at_rest}
 use Rattle.spec_world.specs.FirstRun.{opening}
-use Rattle.proof_world.specs.Traces.{IsReachable, origin}
+use Rattle.proof_world.specs.Traces.{IsReachable, initial_world}
 use Rattle.proof_world.specs.Consistent.{IsUndisturbed}
-use Rattle.proof_world.specs.Delivered.{given_up_places, reported, IsInBounds}
+use Rattle.proof_world.specs.Delivered.{given_up_places, reported, WorldIsInBounds}
 
 -- the packet of the second never comes; once T3-rtx expires, a forward point passes it
 abbrev pub one_is_lost : List Action
@@ -23,7 +23,7 @@ pub record OneIsSkipped : Type 0 where
   pub reachable : IsReachable world
   pub actions : reachable.actions ≡ one_is_lost
   pub undisturbed : IsUndisturbed world
-  pub bounds : IsInBounds reachable.actions (origin reachable) world reachable.runs
+  pub bounds : WorldIsInBounds reachable.actions (initial_world reachable) world reachable.runs
   pub accepts : accepted A world.log ≡ text 97 ∷ text 98 ∷ text 99 ∷ []
   pub readies : ready B world.log ≡ text 97 ∷ text 99 ∷ []
   pub gives_up : given_up_places A world.log ≡ 1 ∷ []

@@ -4,7 +4,7 @@ use Rattle.std.specs.List.{flat_map}
 use Rattle.rand_core.specs.Stream.{Stream}
 use Rattle.sctp_packet.specs.Packet.{PacketTree, IsPacket, lets_through}
 use Rattle.sctp_state.specs.Options.{Options, IsValid}
-use Rattle.sctp_state.specs.Events.{silent}
+use Rattle.sctp_state.specs.Events.{nothing_emitted}
 use Rattle.spec_endpoint.specs.Laws as table
 use Rattle.spec_endpoint.specs.Receiving.{policy_of}
 use Rattle.spec_endpoint.specs.Wire.{field_of, word_at}
@@ -35,8 +35,8 @@ pub record IsInBytes (w : World) : Type 0 where
 pub record IsReachable (w : World) : Type 0 where
   pub a : Options
   pub b : Options
-  pub random_a : Stream
-  pub random_b : Stream
+  pub draws_a : Stream
+  pub draws_b : Stream
   pub word_of_a : List ℕ → ℕ
   pub word_of_b : List ℕ → ℕ
   pub valid_a : IsValid a
@@ -45,12 +45,12 @@ pub record IsReachable (w : World) : Type 0 where
   pub fits_b : OptionsFit b
   pub actions : List Action
   pub fit : All ActionFits actions
-  pub runs : Runs actions (fresh_world a b random_a random_b word_of_a word_of_b) w
+  pub runs : Runs actions (fresh_world a b draws_a draws_b word_of_a word_of_b) w
   pub bytes : IsInBytes w
 
 -- that new world
-abbrev pub origin : {w : World} → IsReachable w → World
-origin l = fresh_world l.a l.b l.random_a l.random_b l.word_of_a l.word_of_b
+abbrev pub initial_world : {w : World} → IsReachable w → World
+initial_world l = fresh_world l.a l.b l.draws_a l.draws_b l.word_of_a l.word_of_b
 
 -- ---- the trace of a run, an end's action for each of its actions
 
@@ -68,24 +68,24 @@ end_of (AdvanceTime x now) = x
 abbrev pub is_let_through : (reads writes : List ℕ → ℕ) → Options → Carried → Bool
 is_let_through reads writes o p = lets_through (policy_of o) (word_at reads (as_written writes p)) (field_of writes p.header p.is_summed p.chunks)
 
-abbrev pub receiving : Bool → (packet checksum : ℕ) → EndAction
-receiving true packet checksum = traces.Gives packet checksum
-receiving false packet checksum = Calls table.NoPacket
+abbrev pub give_action : Bool → (packet checksum : ℕ) → EndAction
+give_action true packet checksum = traces.Gives packet checksum
+give_action false packet checksum = Calls table.ReceiveNoPacket
 
 -- A given packet is received as what was put in, where its checksum is let through, and else as no packet.
-pub record IsReceiving (reads writes : List ℕ → ℕ) (packet : ℕ) (end beside : traces.Side) (turn : EndAction) : Type 0 where
+pub record IsGiveAction (reads writes : List ℕ → ℕ) (packet : ℕ) (end beside : traces.Side) (turn : EndAction) : Type 0 where
   pub carried : Carried
   pub there : slice_get (emitted_packets beside) packet ≡ Some carried
-  pub received : turn ≡ receiving (is_let_through reads writes end.end.endpoint_state.context.options carried) packet (field_of writes carried.header carried.is_summed carried.chunks)
+  pub received : turn ≡ give_action (is_let_through reads writes end.end.endpoint_state.context.options carried) packet (field_of writes carried.header carried.is_summed carried.chunks)
 
 -- Bytes from elsewhere are a packet, which is given where the end refuses it, or none.
 abbrev pub IsForeign : List ℕ → EndAction → Type 0
-IsForeign bytes turn = ((p : PacketTree) × IsPacket bytes p × (turn ≡ Refuses p)) ⊎ (turn ≡ Calls table.NoPacket)
+IsForeign bytes turn = ((p : PacketTree) × IsPacket bytes p × (turn ≡ Refuses p)) ⊎ (turn ≡ Calls table.ReceiveNoPacket)
 
 abbrev pub IsActionOf : (word_of_a word_of_b : List ℕ → ℕ) → Action → EndAction → Pair → Type 0
 IsActionOf f g (CallOf x call) turn c = turn ≡ Calls (table_call call)
-IsActionOf f g (Give packet A) turn c = IsReceiving f g packet c.a c.b turn
-IsActionOf f g (Give packet B) turn c = IsReceiving g f packet c.b c.a turn
+IsActionOf f g (Give packet A) turn c = IsGiveAction f g packet c.a c.b turn
+IsActionOf f g (Give packet B) turn c = IsGiveAction g f packet c.b c.a turn
 IsActionOf f g (GiveForeign x bytes) turn c = IsForeign bytes turn
 IsActionOf f g (AdvanceTime x now) turn c = turn ≡ Calls (table.Advance now)
 
@@ -109,7 +109,7 @@ emitted_in x log = flat_map (emitted_by x) log
 -- A side is the trace's side with each packet written: its socket, its packets, and in the log all that it emitted, in order.
 pub record IsWrittenAs (word_of : List ℕ → ℕ) (x : End) (log : List Entry) (side : Side) (end : traces.Side) : Type 0 where
   pub socket : side.socket ≡ map_end (as_bytes word_of) end.end
-  pub quiet : end.end.endpoint_state.context.emitted ≡ silent  -- nothing emitted is left
+  pub quiet : end.end.endpoint_state.context.emitted ≡ nothing_emitted  -- nothing emitted is left
   pub packets : side.packets ≡ map (as_written word_of) (emitted_packets end)
   pub emitted : emitted_in x log ≡ emitted_entries x 0 (map (map_event (as_bytes word_of)) end.emitted)
 
@@ -127,7 +127,7 @@ pub record HasTrace (from : Pair) (word_of_a word_of_b : List ℕ → ℕ) (acti
 -- For any options, words, checksum functions and actions that fit.
 abbrev pub WorldsHaveTraces : Type 0
 WorldsHaveTraces =
-    (a b : Options) (words_a words_b : Stream) (word_of_a word_of_b : List ℕ → ℕ) (actions : List Action) (w : World)
+    (a b : Options) (draws_a draws_b : Stream) (word_of_a word_of_b : List ℕ → ℕ) (actions : List Action) (w : World)
     → OptionsFit a → OptionsFit b → All ActionFits actions
-    → Runs actions (fresh_world a b words_a words_b word_of_a word_of_b) w → IsInBytes w
-    → HasTrace (start a b words_a words_b) word_of_a word_of_b actions w
+    → Runs actions (fresh_world a b draws_a draws_b word_of_a word_of_b) w → IsInBytes w
+    → HasTrace (start a b draws_a draws_b) word_of_a word_of_b actions w

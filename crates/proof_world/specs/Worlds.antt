@@ -36,8 +36,8 @@ pub record HasWorld (from : World) (word_of_a word_of_b : List ℕ → ℕ) (act
 -- For any options, words, checksum functions and actions that fit, and the trace of these actions.
 abbrev pub TracesHaveWorlds : Type 0
 TracesHaveWorlds =
-    (a b : Options) (words_a words_b : Stream) (word_of_a word_of_b : List ℕ → ℕ) (actions : List Action) (trace : List (Bool × EndAction))
+    (a b : Options) (draws_a draws_b : Stream) (word_of_a word_of_b : List ℕ → ℕ) (actions : List Action) (trace : List (Bool × EndAction))
     → OptionsFit a → OptionsFit b → All ActionFits actions → NoneIsForeign actions
-    → AreActionsOf word_of_a word_of_b actions trace (start a b words_a words_b)
-    → BothEmitBytes word_of_a word_of_b (run trace (start a b words_a words_b))
-    → HasWorld (fresh_world a b words_a words_b word_of_a word_of_b) word_of_a word_of_b actions (run trace (start a b words_a words_b))
+    → AreActionsOf word_of_a word_of_b actions trace (start a b draws_a draws_b)
+    → BothEmitBytes word_of_a word_of_b (run trace (start a b draws_a draws_b))
+    → HasWorld (fresh_world a b draws_a draws_b word_of_a word_of_b) word_of_a word_of_b actions (run trace (start a b draws_a draws_b))

@@ -6,10 +6,10 @@
 ghost use Rattle.proof_world.specs.Agreed.{WorldsAgree};
 ghost use Rattle.proof_world.specs.Composed.{WorldsCompose};
 ghost use Rattle.proof_world.specs.Traces.{WorldsHaveTraces};
-ghost use Rattle.proof_world.specs.Delivered.{OffersAreAccepted, OffersHaveEpochs};
+ghost use Rattle.proof_world.specs.Delivered.{AcceptedMessagesAgree, AcceptedMessagesHaveEpochs};
 ghost use Rattle.proof_world.specs.Ended.{EndedAreHandedIn, NoLifecycleEndsTwiceHere};
 ghost use Rattle.proof_world.specs.Consistent.{OpeningFollows, WorldsAreConsistent};
-ghost use Rattle.proof_world.specs.Justified.{AcceptancesAreOffers, WorldsAreJustified};
+ghost use Rattle.proof_world.specs.Justified.{AcceptancesAreOfAcceptedMessages, WorldsAreJustified};
 ghost use Rattle.proof_world.specs.Readable.{EachActionKeepsWorldsReadable, NewWorldsAreReadable, RunsKeepWorldsReadable};
 ghost use Rattle.proof_world.specs.Resetting.{OneIsReset};
 ghost use Rattle.proof_world.specs.Skipping.{OneIsSkipped};
@@ -71,8 +71,8 @@ pub fn worlds_are_consistent()
 /// The messages of the offers are those that were accepted, and each has an epoch.
 pub fn worlds_compose()
     ensures composes { WorldsCompose }
-    ensures offers { OffersAreAccepted }
-    ensures epochs { OffersHaveEpochs }
+    ensures offers { AcceptedMessagesAgree }
+    ensures epochs { AcceptedMessagesHaveEpochs }
 {}
 
 /// Each record of a message given up is justified, by what stands before it in the log, whatever rules the run follows, and behind the
@@ -83,7 +83,7 @@ pub fn worlds_compose()
 /// than 2^32 messages, so that their numbers don't wrap. Each packet that was emitted is to be bytes.
 pub fn records_are_justified()
     ensures justified { WorldsAreJustified }
-    ensures offers { AcceptancesAreOffers }
+    ensures offers { AcceptancesAreOfAcceptedMessages }
 {}
 
 /// At each OnConnected of a world's log the end holds an association, and the other end holds or has held the mirrored one, by

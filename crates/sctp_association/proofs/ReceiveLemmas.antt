@@ -6,13 +6,13 @@ use Rattle.sctp_packet.specs.declared.packet.PacketParseError.{PacketParseError}
 use Rattle.sctp_packet.specs.Packet.{PacketTree, Accepts, Refuses, IsFault}
 use Rattle.spec_endpoint.specs.Association.{Endpoint}
 use Rattle.spec_endpoint.specs.Input.{on_packet, on_no_packet}
-use Rattle.spec_endpoint.specs.Receiving.{Receives, received, not_read, policy_of}
+use Rattle.spec_endpoint.specs.Receiving.{Receives, read, not_read, policy_of}
 use Rattle.spec_endpoint.specs.Wire.{word_at}
 
 pub received_as : (word_of : List ℕ → ℕ) (policy : Policy) (word : ℕ) (bytes : List ℕ) (p : PacketTree) (s t : Endpoint (List ℕ))
     → policy ≡ policy_of s.endpoint_state.context.options → word ≡ word_at word_of bytes → Accepts policy word bytes p → t ≡ on_packet p s → Receives word_of bytes s t
 received_as word_of policy word bytes p s t a b accepts e =
-    received p (subst (λ (w : ℕ). Accepts (policy_of s.endpoint_state.context.options) w bytes p) b (subst (λ (q : Policy). Accepts q word bytes p) a accepts)) e
+    read p (subst (λ (w : ℕ). Accepts (policy_of s.endpoint_state.context.options) w bytes p) b (subst (λ (q : Policy). Accepts q word bytes p) a accepts)) e
 
 pub not_received : (word_of : List ℕ → ℕ) (policy : Policy) (word : ℕ) (bytes : List ℕ) (fault : PacketParseError) (s t : Endpoint (List ℕ))
     → policy ≡ policy_of s.endpoint_state.context.options → word ≡ word_at word_of bytes → Refuses policy word bytes fault → IsFault fault → t ≡ on_no_packet s → Receives word_of bytes s t

@@ -37,7 +37,7 @@ association_of a = record {
 abbrev pub endpoint : {R C : Type 0} → (R → Stream) → (C → List ℕ → ℕ) → SocketValue R C → Endpoint (List ℕ)
 endpoint stream_of word_of s = record {
   endpoint_state = record { state = s.state; context = context_of word_of s.context };
-  random = stream_of s.rng;
+  draws = stream_of s.rng;
 }
 
 -- ---- how a changing call ends

@@ -13,9 +13,9 @@ ghost use Rattle.sctp_supervision.specs.MisuseView.{misuse_text};
 ghost use Rattle.sctp_association.specs.Kinds.{carries_data, carrying};
 ghost use Rattle.spec_endpoint.specs.Association.{where_open};
 ghost use Rattle.spec_endpoint.specs.Opening.{on_cookie_ack};
-ghost use Rattle.spec_endpoint.specs.Packets.{complain};
+ghost use Rattle.spec_endpoint.specs.Packets.{emit_error};
 ghost use Rattle.spec_endpoint.specs.Receiving.{Receives};
-ghost use Rattle.sctp_endpoint.specs.Views.{context_of, endpoint_of, received_of, opened_of, phase_of, endpoint_state_of, state_of, tcb_of};
+ghost use Rattle.sctp_endpoint.specs.Views.{context_of, endpoint_of, after_chunk_of, opened_of, phase_of, endpoint_state_of, state_of, tcb_of};
 ghost use Rattle.spec_endpoint.specs.Input as table;
 
 use rand_core::Rng;
@@ -49,7 +49,7 @@ fn maybe_send_sack<C: Checksum>(
     phase: &Phase,
     tcb: &mut TransmissionControlBlock,
 ) -> Result<(), AllocError>
-    ensures { OnOk result (opened_of C.word_of phase.now tcb.new context.new ≡ table.end_packet (phase_of phase.now) (tcb_of tcb.old) (context_of C.word_of context.old)) }
+    ensures { OnOk result (opened_of C.word_of phase.now tcb.new context.new ≡ table.on_packet_end (phase_of phase.now) (tcb_of tcb.old) (context_of C.word_of context.old)) }
 {
     tcb.data_tracker.observe_packet_end(context.clock);
     if !tcb.data_tracker.should_send_ack(context.clock, false) {
@@ -59,7 +59,7 @@ fn maybe_send_sack<C: Checksum>(
     let window = tcb.reassembly_queue.remaining_bytes() as u32;
     let sack = tcb.data_tracker.create_selective_ack(window)?;
     packet.add(Chunk::Sack(sack))?;
-    context.send_buffered_packets_with(tcb, phase.is_alone(), packet)
+    context.send_buffered_packets_with(tcb, phase.is_before_cookie_ack(), packet)
 }
 
 /// After the own SHUTDOWN: it goes out again, and its timer starts anew (RFC 9260 section 9.2).
@@ -158,8 +158,8 @@ fn dispatch<R: Rng, C: Checksum>(
 }
 
 /// Whether the chunk behind this one is looked at: an unknown chunk may end the packet.
-fn goes_on(chunk: &Chunk) -> bool
-    ensures { result ≡ table.goes_on (chunk_tree chunk.now) }
+fn allows_next(chunk: &Chunk) -> bool
+    ensures { result ≡ table.allows_next (chunk_tree chunk.now) }
 {
     match chunk {
         Chunk::Unknown(unknown) => is_passed_over(unknown.typ),
@@ -176,7 +176,7 @@ fn receive<R: Rng, C: Checksum>(
     chunk: Chunk,
 ) -> Result<bool, AllocError>
     requires { carries_data (chunk_tree chunk) ≡ false }
-    ensures { IfOk result (λ goes_on. received_of R.stream C.word_of state.new context.new rng.new goes_on
+    ensures { IfOk result (λ goes_on. after_chunk_of R.stream C.word_of state.new context.new rng.new goes_on
         ≡ table.receive tag (chunk_tree chunk) (endpoint_of R.stream C.word_of state.old context.old rng.old)) }
 {
     if let Some(misuse) = violation(state, &chunk) {
@@ -184,7 +184,7 @@ fn receive<R: Rng, C: Checksum>(
         handle_misuse(state, context, misuse)?;
         return Ok(false);
     }
-    let goes_on = goes_on(&chunk);
+    let goes_on = allows_next(&chunk);
     dispatch(state, context, rng, tag, chunk)?;
     Ok(goes_on)
 }
@@ -208,8 +208,8 @@ fn receive_data<C: Checksum>(
     is_interleaved: bool,
     fragment: DataView<'_>,
 ) -> Result<bool, AllocError>
-    ensures { (tag : ℕ) (words : Stream) → IfOk result (λ goes_on. record { end = record { endpoint_state = endpoint_state_of C.word_of state.new context.new; random = words }; goes_on = goes_on }
-        ≡ table.receive tag (carrying is_interleaved fragment.entry) (record { endpoint_state = endpoint_state_of C.word_of state.old context.old; random = words })) }
+    ensures { (tag : ℕ) (words : Stream) → IfOk result (λ goes_on. record { end = record { endpoint_state = endpoint_state_of C.word_of state.new context.new; draws = words }; allows_next = goes_on }
+        ≡ table.receive tag (carrying is_interleaved fragment.entry) (record { endpoint_state = endpoint_state_of C.word_of state.old context.old; draws = words })) }
 {
     if let Some(misuse) = data_violation(state, is_interleaved) {
         handle_misuse(state, context, misuse)?;
@@ -237,7 +237,7 @@ fn receive_in_place<R: Rng, C: Checksum>(
     tag: u32,
     raw: RawChunk<'_>,
 ) -> Result<bool, AllocError>
-    ensures { (t : ChunkTree) → IsChunk (raw_chunk raw.entry) t → IfOk result (λ goes_on. received_of R.stream C.word_of state.new context.new rng.new goes_on
+    ensures { (t : ChunkTree) → IsChunk (raw_chunk raw.entry) t → IfOk result (λ goes_on. after_chunk_of R.stream C.word_of state.new context.new rng.new goes_on
         ≡ table.receive tag t (endpoint_of R.stream C.word_of state.old context.old rng.old)) }
 {
     match raw.data_view() {
@@ -284,8 +284,8 @@ fn repeat_if<C: Checksum>(
     }
 }
 
-fn end_packet<C: Checksum>(state: &mut State, context: &mut Context<C>) -> Result<(), AllocError>
-    ensures { OnOk result (endpoint_state_of C.word_of state.new context.new ≡ where_open table.end_packet (endpoint_state_of C.word_of state.old context.old)) }
+fn on_packet_end<C: Checksum>(state: &mut State, context: &mut Context<C>) -> Result<(), AllocError>
+    ensures { OnOk result (endpoint_state_of C.word_of state.new context.new ≡ where_open table.on_packet_end (endpoint_state_of C.word_of state.old context.old)) }
 {
     match state {
         State::Closed | State::CookieWait(_) => Ok(()),
@@ -294,7 +294,7 @@ fn end_packet<C: Checksum>(state: &mut State, context: &mut Context<C>) -> Resul
 }
 
 /// The chunks of a packet that is taken.
-fn handle_chunks<R: Rng, C: Checksum>(
+fn handle_accepted_packet<R: Rng, C: Checksum>(
     state: &mut State,
     context: &mut Context<C>,
     rng: &mut R,
@@ -302,12 +302,12 @@ fn handle_chunks<R: Rng, C: Checksum>(
     has_data: bool,
     view: PacketView<'_>,
 ) -> Result<(), AllocError>
-    ensures { (chunks : List ChunkTree) → AreLeft view.entry chunks → has_data ≡ table.has_data chunks
-        → OnOk result (endpoint_of R.stream C.word_of state.new context.new rng.new ≡ table.handle_chunks tag chunks (endpoint_of R.stream C.word_of state.old context.old rng.old)) }
+    ensures { (chunks : List ChunkTree) → AreLeft view.entry chunks → has_data ≡ table.has_data_chunk chunks
+        → OnOk result (endpoint_of R.stream C.word_of state.new context.new rng.new ≡ table.on_accepted_packet tag chunks (endpoint_of R.stream C.word_of state.old context.old rng.old)) }
 {
     repeat_if(state, context, has_data)?;
     receive_all(state, context, rng, tag, view)?;
-    end_packet(state, context)
+    on_packet_end(state, context)
 }
 
 /// A packet that could be read, where it lies.
@@ -324,7 +324,7 @@ pub(crate) fn handle_packet<R: Rng, C: Checksum>(
     let tag = view.header().verification_tag;
     let outline = Outline::of(&view);
     match validate_packet(state, tag, &outline) {
-        None => handle_chunks(state, context, rng, tag, outline.has_data, view),
+        None => handle_accepted_packet(state, context, rng, tag, outline.has_data, view),
         Some(refusal) => {
             let text = refusal.text(context.alloc)?;
             context.emit_event(SocketEvent::OnError(ErrorKind::ParseFailed, text))
@@ -335,10 +335,10 @@ pub(crate) fn handle_packet<R: Rng, C: Checksum>(
 /// Bytes that are no packet.
 fn refuse_bytes<C: Checksum>(context: &mut Context<C>) -> Result<(), AllocError>
     ensures { OnOk result (context_of C.word_of context.new
-        ≡ complain ErrorKind.ParseFailed (codes "Failed to parse SCTP packet") (table.count_packet (context_of C.word_of context.old))) }
+        ≡ emit_error ErrorKind.ParseFailed (codes "Failed to parse SCTP packet") (table.count_packet (context_of C.word_of context.old))) }
 {
     count_packet(context);
-    context.complain(ErrorKind::ParseFailed, "Failed to parse SCTP packet")
+    context.emit_error(ErrorKind::ParseFailed, "Failed to parse SCTP packet")
 }
 
 /// The bytes of a packet that came.

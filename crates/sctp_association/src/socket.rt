@@ -7,7 +7,7 @@ ghost use Rattle.sctp_state.specs.Events.{event_of, first_of, given_up_of, numbe
 ghost use Rattle.sctp_state.specs.Handover.{handover_state_of};
 ghost use Rattle.sctp_state.specs.Options.{IsValid, options_of, send_options_of};
 ghost use Rattle.spec_endpoint.specs.Association.{fresh, in_context};
-ghost use Rattle.spec_endpoint.specs.Input.{my_tag, on_endpoint_state};
+ghost use Rattle.spec_endpoint.specs.Input.{my_tag, in_endpoint_state};
 ghost use Rattle.sctp_calls.specs.Metrics.{metrics_in, metrics_of};
 ghost use Rattle.sctp_association.specs.Socket.{Ends, Worked, association_of, batch_ending, ending_of, endpoint, handover_ending, readiness_in, refusal_in, refusals_in, reset_refusal_in, resetting_ending, restore_ending, restore_refusal_in, sending_ending};
 ghost use Rattle.spec_endpoint.specs.Receiving.{Receives, Judges};
@@ -168,7 +168,7 @@ impl<R: Rng, C: Checksum> DcSctpSocket for Socket<R, C> {
 
     fn get_next_message(&mut self) -> Option<Message>
         ensures message { option_map message_of result ≡ first_of (calls.ready_in self.old.state) }
-        ensures rest { endpoint R.stream C.word_of self.new ≡ on_endpoint_state calls.take_message (endpoint R.stream C.word_of self.old) }
+        ensures rest { endpoint R.stream C.word_of self.new ≡ in_endpoint_state calls.take_message (endpoint R.stream C.word_of self.old) }
         ensures failure { self.new.has_failed ≡ self.old.has_failed }
     {
         get_next_message(&mut self.state)
@@ -190,7 +190,7 @@ impl<R: Rng, C: Checksum> DcSctpSocket for Socket<R, C> {
 
     fn advance_time(&mut self, now: SocketTime) -> Result<(), CallError>
         ensures ends { Ends (ending_of result) self.old self.new }
-        ensures ok { OnOk result (endpoint R.stream C.word_of self.new ≡ on_endpoint_state (time.advance now) (endpoint R.stream C.word_of self.old)) }
+        ensures ok { OnOk result (endpoint R.stream C.word_of self.new ≡ in_endpoint_state (time.advance now) (endpoint R.stream C.word_of self.old)) }
     {
         if self.has_failed {
             return Err(CallError::Failed);
@@ -224,7 +224,7 @@ impl<R: Rng, C: Checksum> DcSctpSocket for Socket<R, C> {
 
     fn close(&mut self) -> Result<(), CallError>
         ensures ends { Ends (ending_of result) self.old self.new }
-        ensures ok { OnOk result (endpoint R.stream C.word_of self.new ≡ on_endpoint_state closing.close (endpoint R.stream C.word_of self.old)) }
+        ensures ok { OnOk result (endpoint R.stream C.word_of self.new ≡ in_endpoint_state closing.close (endpoint R.stream C.word_of self.old)) }
     {
         if self.has_failed {
             return Err(CallError::Failed);
@@ -238,7 +238,7 @@ impl<R: Rng, C: Checksum> DcSctpSocket for Socket<R, C> {
 
     fn shutdown(&mut self) -> Result<(), CallError>
         ensures ends { Ends (ending_of result) self.old self.new }
-        ensures ok { OnOk result (endpoint R.stream C.word_of self.new ≡ on_endpoint_state closing.shutdown (endpoint R.stream C.word_of self.old)) }
+        ensures ok { OnOk result (endpoint R.stream C.word_of self.new ≡ in_endpoint_state closing.shutdown (endpoint R.stream C.word_of self.old)) }
     {
         if self.has_failed {
             return Err(CallError::Failed);
@@ -252,9 +252,9 @@ impl<R: Rng, C: Checksum> DcSctpSocket for Socket<R, C> {
 
     fn send(&mut self, message: Message, options: &SendOptions) -> Result<(), SendError>
         ensures ends { Ends (sending_ending result) self.old self.new }
-        ensures answer { sending_ending result ≡ Worked → refusal_in result ≡ calls.refusal_of (message_of message) (endpoint R.stream C.word_of self.old).endpoint_state }
+        ensures answer { sending_ending result ≡ Worked → refusal_in result ≡ calls.send_refusal_of (message_of message) (endpoint R.stream C.word_of self.old).endpoint_state }
         ensures sent { sending_ending result ≡ Worked
-            → endpoint R.stream C.word_of self.new ≡ on_endpoint_state (calls.send (message_of message) (send_options_of options.now)) (endpoint R.stream C.word_of self.old) }
+            → endpoint R.stream C.word_of self.new ≡ in_endpoint_state (calls.send (message_of message) (send_options_of options.now)) (endpoint R.stream C.word_of self.old) }
     {
         if self.has_failed {
             return Err(SendError::Failed);
@@ -275,7 +275,7 @@ impl<R: Rng, C: Checksum> DcSctpSocket for Socket<R, C> {
             calls.refusals 0 (map message_of messages.items) (send_options_of options.now) (calls.shown_state s.state) s.context) }
         ensures refused { (e : BatchSendError) → result ≡ Err (BatchFault.Refused e) → 0 < length e.0.items }
         ensures sent { batch_ending result ≡ Worked → endpoint R.stream C.word_of self.new
-            ≡ on_endpoint_state (calls.send_many (map message_of messages.items) (send_options_of options.now)) (endpoint R.stream C.word_of self.old) }
+            ≡ in_endpoint_state (calls.send_many (map message_of messages.items) (send_options_of options.now)) (endpoint R.stream C.word_of self.old) }
     {
         if self.has_failed {
             return Err(BatchFault::Failed);
@@ -294,7 +294,7 @@ impl<R: Rng, C: Checksum> DcSctpSocket for Socket<R, C> {
         ensures ends { Ends (resetting_ending result) self.old self.new }
         ensures answer { resetting_ending result ≡ Worked → reset_refusal_in result ≡ resets.reset_refusal self.old.state }
         ensures reset { resetting_ending result ≡ Worked
-            → endpoint R.stream C.word_of self.new ≡ on_endpoint_state (resets.reset_streams (numbers_of streams.now)) (endpoint R.stream C.word_of self.old) }
+            → endpoint R.stream C.word_of self.new ≡ in_endpoint_state (resets.reset_streams (numbers_of streams.now)) (endpoint R.stream C.word_of self.old) }
     {
         if self.has_failed {
             return Err(ResetStreamsError::Failed);
@@ -311,7 +311,7 @@ impl<R: Rng, C: Checksum> DcSctpSocket for Socket<R, C> {
 
     fn set_stream_priority(&mut self, id: StreamId, priority: u16) -> Result<(), CallError>
         ensures ends { Ends (ending_of result) self.old self.new }
-        ensures ok { OnOk result (endpoint R.stream C.word_of self.new ≡ on_endpoint_state (in_context (calls.set_priority id.0 priority)) (endpoint R.stream C.word_of self.old)) }
+        ensures ok { OnOk result (endpoint R.stream C.word_of self.new ≡ in_endpoint_state (in_context (calls.set_priority id.0 priority)) (endpoint R.stream C.word_of self.old)) }
     {
         if self.has_failed {
             return Err(CallError::Failed);
@@ -335,7 +335,7 @@ impl<R: Rng, C: Checksum> DcSctpSocket for Socket<R, C> {
         bytes: usize,
     ) -> Result<(), CallError>
         ensures ends { Ends (ending_of result) self.old self.new }
-        ensures ok { OnOk result (endpoint R.stream C.word_of self.new ≡ on_endpoint_state (in_context (calls.set_low_threshold id.0 bytes)) (endpoint R.stream C.word_of self.old)) }
+        ensures ok { OnOk result (endpoint R.stream C.word_of self.new ≡ in_endpoint_state (in_context (calls.set_low_threshold id.0 bytes)) (endpoint R.stream C.word_of self.old)) }
     {
         if self.has_failed {
             return Err(CallError::Failed);
@@ -361,7 +361,7 @@ impl<R: Rng, C: Checksum> DcSctpSocket for Socket<R, C> {
 
     fn set_max_message_size(&mut self, bytes: usize)
         requires { bytes < 2 ^ 32 }
-        ensures ok { endpoint R.stream C.word_of self.new ≡ on_endpoint_state (in_context (calls.set_max_message_size bytes)) (endpoint R.stream C.word_of self.old) }
+        ensures ok { endpoint R.stream C.word_of self.new ≡ in_endpoint_state (in_context (calls.set_max_message_size bytes)) (endpoint R.stream C.word_of self.old) }
         ensures failure { self.new.has_failed ≡ self.old.has_failed }
     {
         set_max_message_size(&mut self.context, bytes);
@@ -402,7 +402,7 @@ impl<R: Rng, C: Checksum> DcSctpSocket for Socket<R, C> {
         ensures answer { handover_ending result ≡ Worked → readiness_in result ≡ handover.readiness (endpoint R.stream C.word_of self.old).endpoint_state }
         ensures refused { (r : HandoverReadiness) → result ≡ Err (HandoverError.NotReady r) → 0 < r.0 }
         ensures record { IfOk result (λ h. handover_state_of h ≡ handover.handed_over (endpoint R.stream C.word_of self.old).endpoint_state) }
-        ensures left { handover_ending result ≡ Worked → endpoint R.stream C.word_of self.new ≡ on_endpoint_state handover.hand_over (endpoint R.stream C.word_of self.old) }
+        ensures left { handover_ending result ≡ Worked → endpoint R.stream C.word_of self.new ≡ in_endpoint_state handover.hand_over (endpoint R.stream C.word_of self.old) }
     {
         if self.has_failed {
             return Err(HandoverError::Failed);
@@ -422,9 +422,9 @@ impl<R: Rng, C: Checksum> DcSctpSocket for Socket<R, C> {
 
     fn restore_from_state(&mut self, state: &SocketHandoverState) -> Result<(), RestoreError>
         ensures ends { Ends (restore_ending result) self.old self.new }
-        ensures answer { restore_ending result ≡ Worked → restore_refusal_in result ≡ handover.refusal_in self.old.state (handover_state_of state.now) }
+        ensures answer { restore_ending result ≡ Worked → restore_refusal_in result ≡ handover.restore_refusal_in self.old.state (handover_state_of state.now) }
         ensures restored { restore_ending result ≡ Worked
-            → endpoint R.stream C.word_of self.new ≡ on_endpoint_state (handover.restore (handover_state_of state.now)) (endpoint R.stream C.word_of self.old) }
+            → endpoint R.stream C.word_of self.new ≡ in_endpoint_state (handover.restore (handover_state_of state.now)) (endpoint R.stream C.word_of self.old) }
     {
         if self.has_failed {
             return Err(RestoreError::Failed);

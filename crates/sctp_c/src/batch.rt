@@ -7,7 +7,7 @@ ghost use Rattle.sctp_c_events.specs.Answers.{Ended, IsAmong, OnSettled, batch_n
 ghost use Rattle.sctp_c_calls.specs.Batch.{given_message, have_streams};
 ghost use Rattle.sctp_c_records.specs.Records.{IsKnown, given_send_options};
 ghost use Rattle.spec_endpoint.specs.Calls as table;
-ghost use Rattle.spec_endpoint.specs.Input.{on_endpoint_state};
+ghost use Rattle.spec_endpoint.specs.Input.{in_endpoint_state};
 
 use crate::handle::Handle;
 use sctp_c_calls as calls;
@@ -33,7 +33,7 @@ pub extern "C" fn sctp_send_many(
     ensures each { IsKnown options.now → length messages.now ≤ length answers.old → have_streams messages.now ≡ true → Answers (OnSocket (λ s n t. OnSettled n (take (length messages.now) answers.new
         ≡ mark_refused (refusals messages.now options.now s) (replicate (length messages.now) 0)))) socket.old.held result socket.new.held }
     ensures sent { IsKnown options.now → length messages.now ≤ length answers.old → have_streams messages.now ≡ true → Answers (OnSocket (λ s n t. OnSettled n (end_of t
-        ≡ on_endpoint_state (table.send_many (map given_message messages.now) (given_send_options options.now)) (end_of s)))) socket.old.held result socket.new.held }
+        ≡ in_endpoint_state (table.send_many (map given_message messages.now) (given_send_options options.now)) (end_of s)))) socket.old.held result socket.new.held }
 {
     if !options.is_known() {
         return INVALID_ARGUMENT;

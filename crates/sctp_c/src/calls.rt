@@ -5,7 +5,7 @@ ghost use Rattle.sctp_c.specs.Calls.{Makes, end_of};
 ghost use Rattle.sctp_c_records.specs.Checksum.{word_by};
 ghost use Rattle.spec_endpoint.specs.Shutdown as closing;
 ghost use Rattle.spec_endpoint.specs.Receiving.{Receives};
-ghost use Rattle.spec_endpoint.specs.Input.{on_endpoint_state};
+ghost use Rattle.spec_endpoint.specs.Input.{in_endpoint_state};
 ghost use Rattle.spec_endpoint.specs.Opening as opening;
 ghost use Rattle.spec_endpoint.specs.Timers as time;
 
@@ -27,7 +27,7 @@ pub extern "C" fn sctp_connect(socket: &mut Handle) -> u32
 /// Shuts the association down (RFC 9260 section 9.2).
 #[unsafe(no_mangle)]
 pub extern "C" fn sctp_shutdown(socket: &mut Handle) -> u32
-    ensures { Makes (λ s f. f ≡ on_endpoint_state closing.shutdown (end_of s)) socket.old.held result socket.new.held }
+    ensures { Makes (λ s f. f ≡ in_endpoint_state closing.shutdown (end_of s)) socket.old.held result socket.new.held }
 {
     match socket.as_mut() {
         None => NO_SOCKET,
@@ -38,7 +38,7 @@ pub extern "C" fn sctp_shutdown(socket: &mut Handle) -> u32
 /// Ends the association at once, with an ABORT to the peer (RFC 9260 section 9.1).
 #[unsafe(no_mangle)]
 pub extern "C" fn sctp_close(socket: &mut Handle) -> u32
-    ensures { Makes (λ s f. f ≡ on_endpoint_state closing.close (end_of s)) socket.old.held result socket.new.held }
+    ensures { Makes (λ s f. f ≡ in_endpoint_state closing.close (end_of s)) socket.old.held result socket.new.held }
 {
     match socket.as_mut() {
         None => NO_SOCKET,
@@ -60,7 +60,7 @@ pub extern "C" fn sctp_handle_input(socket: &mut Handle, bytes: &[u8]) -> u32
 /// Advances the time, in nanoseconds since the socket was made.
 #[unsafe(no_mangle)]
 pub extern "C" fn sctp_advance_time(socket: &mut Handle, nanos: u64) -> u32
-    ensures { Makes (λ s f. f ≡ on_endpoint_state (time.advance nanos) (end_of s)) socket.old.held result socket.new.held }
+    ensures { Makes (λ s f. f ≡ in_endpoint_state (time.advance nanos) (end_of s)) socket.old.held result socket.new.held }
 {
     match socket.as_mut() {
         None => NO_SOCKET,

@@ -7,7 +7,7 @@ ghost use Rattle.sctp_c_events.specs.Answers.{Ended, IsAmong, OnAnswer, OnOthers
 ghost use Rattle.sctp_c_events.specs.Events.{HasAll, HasMessage, NeedsMore};
 ghost use Rattle.sctp_c_records.specs.Records.{IsKnown, given_send_options};
 ghost use Rattle.spec_endpoint.specs.Calls as table;
-ghost use Rattle.spec_endpoint.specs.Input.{on_endpoint_state};
+ghost use Rattle.spec_endpoint.specs.Input.{in_endpoint_state};
 
 use crate::handle::Handle;
 use crate::stream::stream_of;
@@ -25,7 +25,7 @@ pub extern "C" fn sctp_next_message(
 ) -> u32
     ensures answers { Answers (λ e n f. IsAmong (0 ∷ 8 ∷ 9 ∷ []) n) socket.old.held result socket.new.held }
     ensures message { Answers (OnSocket (λ s n t. OnAnswer 0 n (HasMessage head.new buffer.new (table.ready_in s.state)))) socket.old.held result socket.new.held }
-    ensures taken { Answers (OnSocket (λ s n t. OnAnswer 0 n (end_of t ≡ on_endpoint_state table.take_message (end_of s)))) socket.old.held result socket.new.held }
+    ensures taken { Answers (OnSocket (λ s n t. OnAnswer 0 n (end_of t ≡ in_endpoint_state table.take_message (end_of s)))) socket.old.held result socket.new.held }
     ensures stays { Answers (OnSocket (λ s n t. OnOthers 0 n (t ≡ s))) socket.old.held result socket.new.held }
     ensures nothing { Answers (OnSocket (λ s n t. OnAnswer 8 n (table.ready_in s.state ≡ []))) socket.old.held result socket.new.held }
     ensures needed { Answers (OnSocket (λ s n t. OnAnswer 9 n (NeedsMore head.new (length buffer.old) (table.ready_in s.state)))) socket.old.held result socket.new.held }
@@ -47,7 +47,7 @@ pub extern "C" fn sctp_borrow_message(
     ensures answers { Answers (λ e n f. IsAmong (0 ∷ 8 ∷ []) n) socket.old.held result socket.new.held }
     ensures message { Answers (λ e n f. OnAnswer 0 n (HasAll head.new f.lent.items (table.ready_in e.socket.state))) socket.old.held result socket.new.held }
     ensures lent { Answers (λ e n f. PointsAt payload.new f) socket.old.held result socket.new.held }
-    ensures taken { Answers (OnSocket (λ s n t. end_of t ≡ on_endpoint_state table.take_message (end_of s))) socket.old.held result socket.new.held }
+    ensures taken { Answers (OnSocket (λ s n t. end_of t ≡ in_endpoint_state table.take_message (end_of s))) socket.old.held result socket.new.held }
     ensures failure { Answers (OnSocket (λ s n t. t.has_failed ≡ s.has_failed)) socket.old.held result socket.new.held }
     ensures nothing { Answers (OnSocket (λ s n t. OnAnswer 8 n (table.ready_in s.state ≡ []))) socket.old.held result socket.new.held }
     ensures let_go { Answers (λ e n f. OnAnswer 8 n (f.lent.items ≡ [])) socket.old.held result socket.new.held }
@@ -76,9 +76,9 @@ pub extern "C" fn sctp_send(
     ensures unknown { stream ≤ 65535 → (IsKnown options.now → ⊥) → (result ≡ 7) × (socket.new.held ≡ socket.old.held) }
     ensures answers { stream ≤ 65535 → IsKnown options.now → Answers (λ e n f. IsAmong (0 ∷ 1 ∷ 2 ∷ 10 ∷ 11 ∷ 12 ∷ 13 ∷ 17 ∷ []) n) socket.old.held result socket.new.held }
     ensures ends { stream ≤ 65535 → IsKnown options.now → Answers (OnSocket (λ s n t. Ended n s t)) socket.old.held result socket.new.held }
-    ensures answer { stream ≤ 65535 → IsKnown options.now → Answers (OnSocket (λ s n t. OnSettled n (n ≡ refusal_number (table.refusal_of (record { stream = stream; ppid = ppid; payload = payload.now }) (end_of s).endpoint_state)))) socket.old.held result socket.new.held }
+    ensures answer { stream ≤ 65535 → IsKnown options.now → Answers (OnSocket (λ s n t. OnSettled n (n ≡ refusal_number (table.send_refusal_of (record { stream = stream; ppid = ppid; payload = payload.now }) (end_of s).endpoint_state)))) socket.old.held result socket.new.held }
     ensures sent { stream ≤ 65535 → IsKnown options.now → Answers (OnSocket (λ s n t. OnSettled n (end_of t
-        ≡ on_endpoint_state (table.send (record { stream = stream; ppid = ppid; payload = payload.now }) (given_send_options options.now)) (end_of s)))) socket.old.held result socket.new.held }
+        ≡ in_endpoint_state (table.send (record { stream = stream; ppid = ppid; payload = payload.now }) (given_send_options options.now)) (end_of s)))) socket.old.held result socket.new.held }
 {
     let Some(stream) = stream_of(stream) else {
         return INVALID_STREAM;

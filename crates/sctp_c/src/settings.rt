@@ -6,7 +6,7 @@ ghost use Rattle.sctp_c.specs.Calls.{Answers, Makes, OnSocket, end_of};
 ghost use Rattle.sctp_c_events.specs.Answers.{Ended, IsAmong, OnSettled, ending_at, reset_number};
 ghost use Rattle.spec_endpoint.specs.Association.{in_context};
 ghost use Rattle.spec_endpoint.specs.Calls as table;
-ghost use Rattle.spec_endpoint.specs.Input.{on_endpoint_state};
+ghost use Rattle.spec_endpoint.specs.Input.{in_endpoint_state};
 ghost use Rattle.spec_endpoint.specs.StreamReset as resets;
 
 use crate::handle::Handle;
@@ -19,7 +19,7 @@ use std::alloc::Global;
 #[unsafe(no_mangle)]
 pub extern "C" fn sctp_set_stream_priority(socket: &mut Handle, stream: u32, priority: u16) -> u32
     ensures stream { 65535 < stream → (result ≡ 6) × (socket.new.held ≡ socket.old.held) }
-    ensures call { stream ≤ 65535 → Makes (λ s f. f ≡ on_endpoint_state (in_context (table.set_priority stream priority)) (end_of s)) socket.old.held result socket.new.held }
+    ensures call { stream ≤ 65535 → Makes (λ s f. f ≡ in_endpoint_state (in_context (table.set_priority stream priority)) (end_of s)) socket.old.held result socket.new.held }
 {
     let Some(stream) = stream_of(stream) else {
         return INVALID_STREAM;
@@ -38,7 +38,7 @@ pub extern "C" fn sctp_set_buffered_amount_low_threshold(
     bytes: usize,
 ) -> u32
     ensures stream { 65535 < stream → (result ≡ 6) × (socket.new.held ≡ socket.old.held) }
-    ensures call { stream ≤ 65535 → Makes (λ s f. f ≡ on_endpoint_state (in_context (table.set_low_threshold stream bytes)) (end_of s)) socket.old.held result socket.new.held }
+    ensures call { stream ≤ 65535 → Makes (λ s f. f ≡ in_endpoint_state (in_context (table.set_low_threshold stream bytes)) (end_of s)) socket.old.held result socket.new.held }
 {
     let Some(stream) = stream_of(stream) else {
         return INVALID_STREAM;
@@ -55,7 +55,7 @@ pub extern "C" fn sctp_reset_stream(socket: &mut Handle, stream: u32) -> u32
     ensures stream { 65535 < stream → (result ≡ 6) × (socket.new.held ≡ socket.old.held) }
     ensures call { stream ≤ 65535 → Answers (OnSocket (λ s n t. IsAmong (0 ∷ 1 ∷ 2 ∷ 14 ∷ 15 ∷ []) n × (Ends (ending_at n) s t
         × (OnSettled n (n ≡ reset_number (resets.reset_refusal s.state))
-        × OnSettled n (end_of t ≡ on_endpoint_state (resets.reset_streams (stream ∷ [])) (end_of s)))))) socket.old.held result socket.new.held }
+        × OnSettled n (end_of t ≡ in_endpoint_state (resets.reset_streams (stream ∷ [])) (end_of s)))))) socket.old.held result socket.new.held }
 {
     let Some(stream) = stream_of(stream) else {
         return INVALID_STREAM;
@@ -72,7 +72,7 @@ pub extern "C" fn sctp_reset_streams(alloc: Global, socket: &mut Handle, streams
     ensures answers { Answers (λ e n f. IsAmong (0 ∷ 1 ∷ 2 ∷ 14 ∷ 15 ∷ 17 ∷ []) n) socket.old.held result socket.new.held }
     ensures ends { Answers (OnSocket (λ s n t. Ended n s t)) socket.old.held result socket.new.held }
     ensures answer { Answers (OnSocket (λ s n t. OnSettled n (n ≡ reset_number (resets.reset_refusal s.state)))) socket.old.held result socket.new.held }
-    ensures reset { Answers (OnSocket (λ s n t. OnSettled n (end_of t ≡ on_endpoint_state (resets.reset_streams streams.now) (end_of s)))) socket.old.held result socket.new.held }
+    ensures reset { Answers (OnSocket (λ s n t. OnSettled n (end_of t ≡ in_endpoint_state (resets.reset_streams streams.now) (end_of s)))) socket.old.held result socket.new.held }
 {
     match socket.as_mut() {
         None => NO_SOCKET,

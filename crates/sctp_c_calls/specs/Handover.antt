@@ -10,8 +10,8 @@ use Rattle.sctp_state.specs.declared.api.errors.HandoverError.{HandoverError}
 use Rattle.sctp_state.specs.declared.api.errors.HandoverError.TheVariants.{Failed, Memory, NotReady}
 use Rattle.sctp_state.specs.declared.api.handover.SocketHandoverState.{SocketHandoverState}
 use Rattle.spec_endpoint.specs.Association.{Endpoint, EndpointState}
-use Rattle.spec_endpoint.specs.Handover.{hand_over, handed_over, readiness, refusal_in, restore}
-use Rattle.spec_endpoint.specs.Input.{on_endpoint_state}
+use Rattle.spec_endpoint.specs.Handover.{hand_over, handed_over, readiness, restore_refusal_in, restore}
+use Rattle.spec_endpoint.specs.Input.{in_endpoint_state}
 
 -- ---- out
 
@@ -30,7 +30,7 @@ in_the_way (Some h) s = 0
 
 -- the end whose record was taken; it was before, where one is kept
 abbrev pub left_by : {P : Type 0} → Option HandoverState → Endpoint P → Endpoint P
-left_by None e = on_endpoint_state hand_over e
+left_by None e = in_endpoint_state hand_over e
 left_by (Some h) e = e
 
 abbrev pub OnNotReady : HandoverError → Type 0 → Type 0
@@ -51,8 +51,8 @@ Holds buffer bytes = take (length bytes) buffer ≡ bytes
 -- a record is taken up, or refused; 17 is want of memory before that, which changes nothing
 abbrev pub Restores : {R C : Type 0} → (R → Stream) → (C → List ℕ → ℕ) → HandoverState → (before : SocketValue R C) → ℕ → (after : SocketValue R C) → Type 0
 Restores stream_of word_of h before n after = by_test (n == 17) (after ≡ before) (Ends (ending_at n) before after
-    × (OnSettled n (n ≡ restore_number (refusal_in before.state h))
-    × OnSettled n (endpoint stream_of word_of after ≡ on_endpoint_state (restore h) (endpoint stream_of word_of before))))
+    × (OnSettled n (n ≡ restore_number (restore_refusal_in before.state h))
+    × OnSettled n (endpoint stream_of word_of after ≡ in_endpoint_state (restore h) (endpoint stream_of word_of before))))
 
 -- what the bytes are written of; no two records are written alike
 abbrev pub IsRecord : List ℕ → HandoverState → Type 0

@@ -7,7 +7,7 @@ ghost use Rattle.sctp_c_calls.specs.Batch.{given_message, has_stream, have_strea
 ghost use Rattle.sctp_c_records.specs.Records.{given_send_options};
 ghost use Rattle.sctp_serial.specs.Messages.{message_of};
 ghost use Rattle.spec_endpoint.specs.Calls as calls;
-ghost use Rattle.spec_endpoint.specs.Input.{on_endpoint_state};
+ghost use Rattle.spec_endpoint.specs.Input.{in_endpoint_state};
 
 use crate::messages::refusal_number;
 use rand_core::Rng;
@@ -86,7 +86,7 @@ pub fn send_many<R: Rng, C: Checksum>(
         take (length messages.now) answers.new
         ≡ mark_refused (calls.refusals 0 (map given_message messages.now) (given_send_options options.now) (calls.shown_state s.state) s.context) (replicate (length messages.now) 0)) }
     ensures sent { OnSettled result (endpoint R.stream C.word_of socket.new
-        ≡ on_endpoint_state (calls.send_many (map given_message messages.now) (given_send_options options.now)) (endpoint R.stream C.word_of socket.old)) }
+        ≡ in_endpoint_state (calls.send_many (map given_message messages.now) (given_send_options options.now)) (endpoint R.stream C.word_of socket.old)) }
 {
     let Ok(own) = Vec::from_elem(alloc, OK, messages.len()) else {
         return NO_ROOM;

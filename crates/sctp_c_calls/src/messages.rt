@@ -8,7 +8,7 @@ ghost use Rattle.sctp_c_records.specs.Event.{Copied};
 ghost use Rattle.sctp_serial.specs.Messages.{message_of};
 ghost use Rattle.sctp_c_records.specs.Records.{given_send_options};
 ghost use Rattle.spec_endpoint.specs.Calls as calls;
-ghost use Rattle.spec_endpoint.specs.Input.{on_endpoint_state};
+ghost use Rattle.spec_endpoint.specs.Input.{in_endpoint_state};
 
 use rand_core::Rng;
 use sctp_association::{Checksum, DcSctpSocket, Message, PpId, SendError, Socket, StreamId};
@@ -47,7 +47,7 @@ pub fn next_message<R: Rng, C: Checksum>(
 ) -> u32
     ensures answers { IsAmong (0 ∷ 8 ∷ 9 ∷ []) result }
     ensures message { OnAnswer 0 result (HasMessage head.new buffer.new (calls.ready_in socket.old.state)) }
-    ensures taken { OnAnswer 0 result (endpoint R.stream C.word_of socket.new ≡ on_endpoint_state calls.take_message (endpoint R.stream C.word_of socket.old)) }
+    ensures taken { OnAnswer 0 result (endpoint R.stream C.word_of socket.new ≡ in_endpoint_state calls.take_message (endpoint R.stream C.word_of socket.old)) }
     ensures failure { socket.new.has_failed ≡ socket.old.has_failed }
     ensures stays { OnOthers 0 result (socket.new ≡ socket.old) }
     ensures nothing { OnAnswer 8 result (calls.ready_in socket.old.state ≡ []) }
@@ -73,7 +73,7 @@ pub fn borrow_message<R: Rng, C: Checksum>(
 ) -> u32
     ensures answers { IsAmong (0 ∷ 8 ∷ []) result }
     ensures message { OnAnswer 0 result (HasAll head.new lent.new.items (calls.ready_in socket.old.state)) }
-    ensures taken { endpoint R.stream C.word_of socket.new ≡ on_endpoint_state calls.take_message (endpoint R.stream C.word_of socket.old) }
+    ensures taken { endpoint R.stream C.word_of socket.new ≡ in_endpoint_state calls.take_message (endpoint R.stream C.word_of socket.old) }
     ensures failure { socket.new.has_failed ≡ socket.old.has_failed }
     ensures nothing { OnAnswer 8 result (calls.ready_in socket.old.state ≡ []) }
     ensures let_go { OnAnswer 8 result (lent.new.items ≡ []) }
@@ -117,9 +117,9 @@ pub fn send<R: Rng, C: Checksum>(
     requires { options.now.max_retransmissions < 2 ^ 16 }
     ensures answers { IsAmong (0 ∷ 1 ∷ 2 ∷ 10 ∷ 11 ∷ 12 ∷ 13 ∷ 17 ∷ []) result }
     ensures ends { Ended result socket.old socket.new }
-    ensures answer { OnSettled result (result ≡ refusal_number (calls.refusal_of (record { stream = stream; ppid = ppid; payload = payload.now }) (endpoint R.stream C.word_of socket.old).endpoint_state)) }
+    ensures answer { OnSettled result (result ≡ refusal_number (calls.send_refusal_of (record { stream = stream; ppid = ppid; payload = payload.now }) (endpoint R.stream C.word_of socket.old).endpoint_state)) }
     ensures sent { OnSettled result (endpoint R.stream C.word_of socket.new
-        ≡ on_endpoint_state (calls.send (record { stream = stream; ppid = ppid; payload = payload.now }) (given_send_options options.now)) (endpoint R.stream C.word_of socket.old)) }
+        ≡ in_endpoint_state (calls.send (record { stream = stream; ppid = ppid; payload = payload.now }) (given_send_options options.now)) (endpoint R.stream C.word_of socket.old)) }
 {
     let Ok(payload) = Vec::from_slice(alloc, payload) else {
         return NO_ROOM;

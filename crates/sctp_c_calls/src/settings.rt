@@ -6,7 +6,7 @@ ghost use Rattle.sctp_c_events.specs.Answers.{Ended, IsAmong, OnAnswer, OnSettle
 ghost use Rattle.sctp_state.specs.Events.{numbers_of};
 ghost use Rattle.spec_endpoint.specs.Association.{in_context};
 ghost use Rattle.spec_endpoint.specs.Calls as calls;
-ghost use Rattle.spec_endpoint.specs.Input.{on_endpoint_state};
+ghost use Rattle.spec_endpoint.specs.Input.{in_endpoint_state};
 ghost use Rattle.spec_endpoint.specs.StreamReset as resets;
 
 use rand_core::Rng;
@@ -23,7 +23,7 @@ pub fn set_stream_priority<R: Rng, C: Checksum>(
 ) -> u32
     ensures answers { IsAmong (0 ∷ 1 ∷ 2 ∷ []) result }
     ensures ends { Ends (ending_at result) socket.old socket.new }
-    ensures ok { OnAnswer 0 result (endpoint R.stream C.word_of socket.new ≡ on_endpoint_state (in_context (calls.set_priority id priority)) (endpoint R.stream C.word_of socket.old)) }
+    ensures ok { OnAnswer 0 result (endpoint R.stream C.word_of socket.new ≡ in_endpoint_state (in_context (calls.set_priority id priority)) (endpoint R.stream C.word_of socket.old)) }
 {
     call_number(socket.set_stream_priority(StreamId(id), priority))
 }
@@ -36,7 +36,7 @@ pub fn set_buffered_amount_low_threshold<R: Rng, C: Checksum>(
 ) -> u32
     ensures answers { IsAmong (0 ∷ 1 ∷ 2 ∷ []) result }
     ensures ends { Ends (ending_at result) socket.old socket.new }
-    ensures ok { OnAnswer 0 result (endpoint R.stream C.word_of socket.new ≡ on_endpoint_state (in_context (calls.set_low_threshold id bytes)) (endpoint R.stream C.word_of socket.old)) }
+    ensures ok { OnAnswer 0 result (endpoint R.stream C.word_of socket.new ≡ in_endpoint_state (in_context (calls.set_low_threshold id bytes)) (endpoint R.stream C.word_of socket.old)) }
 {
     call_number(socket.set_buffered_amount_low_threshold(StreamId(id), bytes))
 }
@@ -46,7 +46,7 @@ fn reset<R: Rng, C: Checksum>(socket: &mut Socket<R, C>, ids: &[StreamId]) -> u3
     ensures answers { IsAmong (0 ∷ 1 ∷ 2 ∷ 14 ∷ 15 ∷ []) result }
     ensures ends { Ends (ending_at result) socket.old socket.new }
     ensures answer { OnSettled result (result ≡ reset_number (resets.reset_refusal socket.old.state)) }
-    ensures reset { OnSettled result (endpoint R.stream C.word_of socket.new ≡ on_endpoint_state (resets.reset_streams (numbers_of ids.now)) (endpoint R.stream C.word_of socket.old)) }
+    ensures reset { OnSettled result (endpoint R.stream C.word_of socket.new ≡ in_endpoint_state (resets.reset_streams (numbers_of ids.now)) (endpoint R.stream C.word_of socket.old)) }
 {
     match socket.reset_streams(ids) {
         Ok(()) => OK,
@@ -62,7 +62,7 @@ pub fn reset_stream<R: Rng, C: Checksum>(socket: &mut Socket<R, C>, id: u16) -> 
     ensures answers { IsAmong (0 ∷ 1 ∷ 2 ∷ 14 ∷ 15 ∷ []) result }
     ensures ends { Ends (ending_at result) socket.old socket.new }
     ensures answer { OnSettled result (result ≡ reset_number (resets.reset_refusal socket.old.state)) }
-    ensures reset { OnSettled result (endpoint R.stream C.word_of socket.new ≡ on_endpoint_state (resets.reset_streams (id ∷ [])) (endpoint R.stream C.word_of socket.old)) }
+    ensures reset { OnSettled result (endpoint R.stream C.word_of socket.new ≡ in_endpoint_state (resets.reset_streams (id ∷ [])) (endpoint R.stream C.word_of socket.old)) }
 {
     reset(socket, &[StreamId(id)])
 }
@@ -86,7 +86,7 @@ pub fn reset_streams<R: Rng, C: Checksum>(
     ensures answers { IsAmong (0 ∷ 1 ∷ 2 ∷ 14 ∷ 15 ∷ 17 ∷ []) result }
     ensures ends { Ended result socket.old socket.new }
     ensures answer { OnSettled result (result ≡ reset_number (resets.reset_refusal socket.old.state)) }
-    ensures reset { OnSettled result (endpoint R.stream C.word_of socket.new ≡ on_endpoint_state (resets.reset_streams numbers.now) (endpoint R.stream C.word_of socket.old)) }
+    ensures reset { OnSettled result (endpoint R.stream C.word_of socket.new ≡ in_endpoint_state (resets.reset_streams numbers.now) (endpoint R.stream C.word_of socket.old)) }
 {
     let Ok(ids) = ids_of(alloc, numbers) else {
         return NO_ROOM;

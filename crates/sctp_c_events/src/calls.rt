@@ -5,7 +5,7 @@ ghost use Rattle.sctp_association.specs.Socket.{Ends, endpoint};
 ghost use Rattle.sctp_c_events.specs.Answers.{IsAmong, OnAnswer, ending_at};
 ghost use Rattle.spec_endpoint.specs.Shutdown as closing;
 ghost use Rattle.spec_endpoint.specs.Receiving.{Receives};
-ghost use Rattle.spec_endpoint.specs.Input.{on_endpoint_state};
+ghost use Rattle.spec_endpoint.specs.Input.{in_endpoint_state};
 ghost use Rattle.spec_endpoint.specs.Opening as opening;
 ghost use Rattle.spec_endpoint.specs.Timers as time;
 
@@ -27,7 +27,7 @@ pub fn connect<R: Rng, C: Checksum>(socket: &mut Socket<R, C>) -> u32
 pub fn shutdown<R: Rng, C: Checksum>(socket: &mut Socket<R, C>) -> u32
     ensures answers { IsAmong (0 ∷ 1 ∷ 2 ∷ []) result }
     ensures ends { Ends (ending_at result) socket.old socket.new }
-    ensures ok { OnAnswer 0 result (endpoint R.stream C.word_of socket.new ≡ on_endpoint_state closing.shutdown (endpoint R.stream C.word_of socket.old)) }
+    ensures ok { OnAnswer 0 result (endpoint R.stream C.word_of socket.new ≡ in_endpoint_state closing.shutdown (endpoint R.stream C.word_of socket.old)) }
 {
     call_number(socket.shutdown())
 }
@@ -36,7 +36,7 @@ pub fn shutdown<R: Rng, C: Checksum>(socket: &mut Socket<R, C>) -> u32
 pub fn close<R: Rng, C: Checksum>(socket: &mut Socket<R, C>) -> u32
     ensures answers { IsAmong (0 ∷ 1 ∷ 2 ∷ []) result }
     ensures ends { Ends (ending_at result) socket.old socket.new }
-    ensures ok { OnAnswer 0 result (endpoint R.stream C.word_of socket.new ≡ on_endpoint_state closing.close (endpoint R.stream C.word_of socket.old)) }
+    ensures ok { OnAnswer 0 result (endpoint R.stream C.word_of socket.new ≡ in_endpoint_state closing.close (endpoint R.stream C.word_of socket.old)) }
 {
     call_number(socket.close())
 }
@@ -54,7 +54,7 @@ pub fn handle_input<R: Rng, C: Checksum>(socket: &mut Socket<R, C>, bytes: &[u8]
 pub fn advance_time<R: Rng, C: Checksum>(socket: &mut Socket<R, C>, nanos: u64) -> u32
     ensures answers { IsAmong (0 ∷ 1 ∷ 2 ∷ []) result }
     ensures ends { Ends (ending_at result) socket.old socket.new }
-    ensures ok { OnAnswer 0 result (endpoint R.stream C.word_of socket.new ≡ on_endpoint_state (time.advance nanos) (endpoint R.stream C.word_of socket.old)) }
+    ensures ok { OnAnswer 0 result (endpoint R.stream C.word_of socket.new ≡ in_endpoint_state (time.advance nanos) (endpoint R.stream C.word_of socket.old)) }
 {
     call_number(socket.advance_time(moment(nanos)))
 }

@@ -59,27 +59,30 @@ fn refuse<C: Checksum>(
     if let Some(id) = lifecycle_id {
         context.emit_event(SocketEvent::OnLifecycleEnd(id))?;
     }
-    complain_of(context, refusal)
+    emit_refusal(context, refusal)
 }
 
-fn complain_of<C: Checksum>(context: &mut Context<C>, refusal: &SendError) -> Result<(), AllocError>
+fn emit_refusal<C: Checksum>(
+    context: &mut Context<C>,
+    refusal: &SendError,
+) -> Result<(), AllocError>
     ensures { let c = context_of C.word_of context.old in
         OnOk result (context_of C.word_of context.new ≡ record c { emitted = emit_events (table.refusal_events refusal.now) c.emitted }) }
 {
     match refusal {
-        SendError::EmptyPayload => context.complain(
+        SendError::EmptyPayload => context.emit_error(
             ErrorKind::ProtocolViolation,
             "Unable to send empty message",
         ),
-        SendError::MessageTooLarge { .. } => context.complain(
+        SendError::MessageTooLarge { .. } => context.emit_error(
             ErrorKind::ProtocolViolation,
             "Unable to send too large message",
         ),
-        SendError::ShuttingDown => context.complain(
+        SendError::ShuttingDown => context.emit_error(
             ErrorKind::WrongSequence,
             "Unable to send message as the socket is shutting down",
         ),
-        SendError::ResourceExhaustion => context.complain(
+        SendError::ResourceExhaustion => context.emit_error(
             ErrorKind::ResourceExhaustion,
             "Unable to send message as the send queue is full",
         ),
@@ -110,7 +113,7 @@ fn refusal<C: Checksum>(
     shown: SocketState,
     message: &Message,
 ) -> Option<SendError>
-    ensures answer { result ≡ table.refusal (message_of message.now) shown (context_of C.word_of context.now) }
+    ensures answer { result ≡ table.send_refusal (message_of message.now) shown (context_of C.word_of context.now) }
     ensures some { result ≡ None → 0 < length message.now.payload.items }
     ensures small { result ≡ None → length message.now.payload.items < 2 ^ 32 }
     ensures room { result ≡ None → total_of context.now.queue.streams.entries < 2 ^ 32 }
@@ -139,7 +142,7 @@ fn offer<C: Checksum>(
     message: Message,
     options: &SendOptions,
 ) -> Result<Option<SendError>, AllocError>
-    ensures answer { IfOk result (λ refusal. refusal ≡ table.refusal (message_of message) shown (context_of C.word_of context.old)) }
+    ensures answer { IfOk result (λ refusal. refusal ≡ table.send_refusal (message_of message) shown (context_of C.word_of context.old)) }
     ensures offered { OnOk result (context_of C.word_of context.new
         ≡ table.offer (message_of message) (send_options_of options.now) shown (context_of C.word_of context.old)) }
 {
@@ -190,7 +193,7 @@ pub fn send<C: Checksum>(
     message: Message,
     options: &SendOptions,
 ) -> Result<Option<SendError>, AllocError>
-    ensures answer { IfOk result (λ refusal. refusal ≡ table.refusal_of (message_of message) (endpoint_state_of C.word_of state.old context.old)) }
+    ensures answer { IfOk result (λ refusal. refusal ≡ table.send_refusal_of (message_of message) (endpoint_state_of C.word_of state.old context.old)) }
     ensures sent { OnOk result (endpoint_state_of C.word_of state.new context.new
         ≡ table.send (message_of message) (send_options_of options.now) (endpoint_state_of C.word_of state.old context.old)) }
 {

@@ -7,7 +7,7 @@ ghost use Rattle.sctp_state.specs.Events.{OnClosed};
 ghost use Rattle.sctp_state.specs.Handover.{handover_state_of};
 ghost use Rattle.sctp_state.specs.Validity.{is_valid_state};
 ghost use Rattle.spec_endpoint.specs.Association.{Closed};
-ghost use Rattle.spec_endpoint.specs.Packets.{say};
+ghost use Rattle.spec_endpoint.specs.Packets.{emit_event_in};
 ghost use Rattle.sctp_endpoint.specs.Views.{context_of, phase_of, endpoint_state_of, state_of, tcb_of};
 ghost use Rattle.spec_endpoint.specs.Handover as table;
 
@@ -132,7 +132,7 @@ fn tcb_from<C: Checksum>(
 
 /// The association has left here; its heartbeat timers run on.
 fn leave<C: Checksum>(state: &mut State, context: &mut Context<C>) -> Result<(), AllocError>
-    ensures { OnOk result (endpoint_state_of C.word_of state.new context.new ≡ record { state = Closed; context = say OnClosed (context_of C.word_of context.old) }) }
+    ensures { OnOk result (endpoint_state_of C.word_of state.new context.new ≡ record { state = Closed; context = emit_event_in OnClosed (context_of C.word_of context.old) }) }
 {
     context.emit_event(SocketEvent::OnClosed())?;
     state.enter(State::Closed);
@@ -188,7 +188,7 @@ fn restore_closed<C: Checksum>(
 ) -> Result<(), AllocError>
     requires valid { IsTrue (is_valid_state (handover_state_of handed_over.now)) }
     ensures { OnOk result (endpoint_state_of C.word_of state.new context.new
-        ≡ table.taken_as handed_over.now.socket_state (handover_state_of handed_over.now) (endpoint_state_of C.word_of state.old context.old)) }
+        ≡ table.restored_as handed_over.now.socket_state (handover_state_of handed_over.now) (endpoint_state_of C.word_of state.old context.old)) }
 {
     match handed_over.socket_state {
         HandoverSocketState::Closed => Ok(()),
@@ -202,7 +202,7 @@ pub fn restore<C: Checksum>(
     context: &mut Context<C>,
     handed_over: &SocketHandoverState,
 ) -> Result<Option<RestoreError>, AllocError>
-    ensures answer { IfOk result (λ refusal. refusal ≡ table.refusal_in (state_of state.old) (handover_state_of handed_over.now)) }
+    ensures answer { IfOk result (λ refusal. refusal ≡ table.restore_refusal_in (state_of state.old) (handover_state_of handed_over.now)) }
     ensures restored { OnOk result (endpoint_state_of C.word_of state.new context.new
         ≡ table.restore (handover_state_of handed_over.now) (endpoint_state_of C.word_of state.old context.old)) }
 {

@@ -9,7 +9,7 @@ use Rattle.sctp_wire.specs.Field.{be32}
 use Rattle.sctp_wire.specs.Serialize.{IsEncodable, inner_items, padded_item}
 use Rattle.sctp_wire.specs.Parameter.{ParameterTree, supported_extensions, forward_tsn_supported, zero_checksum_acceptable, parameter_item, parameter_value, parameter_is_whole}
 use Rattle.sctp_state.specs.Options.{Options}
-use Rattle.sctp_capabilities.specs.Capabilities.{Capabilities, announce, i_data, re_config, forward_tsn, i_forward_tsn, where_enabled, extensions_in, method_in, is_forward_tsn_supported, has_type, same_method, negotiate, agreed, exchange, announced_with, announced_by_init, announced_by_init_ack}
+use Rattle.sctp_capabilities.specs.Capabilities.{Capabilities, announced_parameters, i_data, re_config, forward_tsn, i_forward_tsn, where_enabled, extensions_in, method_in, is_forward_tsn_supported, has_type, same_method, negotiate, agreed, mirrored_capabilities, announced_with, announced_by_init, announced_by_init_ack}
 
 pub list_any_map : {X Y : Type 0} (p : Y → Bool) (f : X → Y) (xs : List X) → list_any p (map f xs) ≡ list_any (λ x. p (f x)) xs
 list_any_map p f [] = refl
@@ -114,7 +114,7 @@ same_method_comm a b = grind (arith, nat_tests)
 min_comm : (a b : ℕ) → min a b ≡ min b a
 min_comm a b = omega arith
 
-pub agreed_exchanged : (own peer : Options) → agreed peer own ≡ exchange (agreed own peer)
+pub agreed_exchanged : (own peer : Options) → agreed peer own ≡ mirrored_capabilities (agreed own peer)
 agreed_exchanged own peer =
     let partial = and_comm peer.enable_partial_reliability own.enable_partial_reliability in
     let interleaving = and_comm peer.enable_message_interleaving own.enable_message_interleaving in
@@ -153,7 +153,7 @@ unfolding parameter_value
 behind_forward_tsn true ps rest = All-cons IsWritable forward_tsn_supported ps (omega arith, refl) rest
 behind_forward_tsn false ps rest = rest
 
-pub announced_writable : (o : Options) (method : ℕ) → All IsWritable (announce o method)
+pub announced_writable : (o : Options) (method : ℕ) → All IsWritable (announced_parameters o method)
 announced_writable o method =
     let p = o.enable_partial_reliability in
     let i = o.enable_message_interleaving in
@@ -172,5 +172,5 @@ size_by false true false method = omega arith
 size_by false false true method = omega arith
 size_by false false false method = omega arith
 
-pub announced_size : (o : Options) (method : ℕ) → length (inner_items (map parameter_item (announce o method))) ≤ 20
+pub announced_size : (o : Options) (method : ℕ) → length (inner_items (map parameter_item (announced_parameters o method))) ≤ 20
 announced_size o method = size_by o.enable_partial_reliability o.enable_message_interleaving (not (method == 0)) method

@@ -4,7 +4,7 @@ use Rattle.std.specs.Prelude.{codes}
 use Rattle.sctp_wire.specs.Field.{be16, be32, be64}
 use Rattle.sctp_wire.specs.Parameter.{ParameterTree, state_cookie, supported_extensions, forward_tsn_supported, zero_checksum_acceptable}
 use Rattle.sctp_state.specs.Options.{Options, defaults}
-use Rattle.sctp_capabilities.specs.Capabilities.{Capabilities, agreed, announce, negotiate, nothing, announced_by, announced_by_init, announced_by_init_ack}
+use Rattle.sctp_capabilities.specs.Capabilities.{Capabilities, agreed, announced_parameters, negotiate, nothing, announced_by, announced_by_init, announced_by_init_ack}
 use Rattle.sctp_capabilities.specs.StateCookie.{Cookie, capability_bytes, cookie_bytes, cookie_from, read_cookie}
 use Rattle.sctp_state.specs.TxErrorCounter.{is_exhausted, no_errors, one_error}
 use Rattle.sctp_capabilities.specs.declared.state_cookie.StateCookieError.TheVariants.{InvalidSize, InvalidMagic, InvalidVerificationTag}
@@ -73,13 +73,13 @@ no_peer_tag = refl
 -- ---- capabilities
 
 -- what a browser announces
-by_default : announce defaults 0 ≡ forward_tsn_supported ∷ supported_extensions (130 ∷ 192 ∷ []) ∷ []
+by_default : announced_parameters defaults 0 ≡ forward_tsn_supported ∷ supported_extensions (130 ∷ 192 ∷ []) ∷ []
 by_default = refl
 
 abbrev all : Options
 all = record defaults { enable_message_interleaving = true; zero_checksum_method = 1; announced_maximum_incoming_streams = 10; announced_maximum_outgoing_streams = 20 }
 
-all_announced : announce all 1 ≡ forward_tsn_supported ∷ zero_checksum_acceptable 1 ∷ supported_extensions (130 ∷ 192 ∷ 64 ∷ 194 ∷ []) ∷ []
+all_announced : announced_parameters all 1 ≡ forward_tsn_supported ∷ zero_checksum_acceptable 1 ∷ supported_extensions (130 ∷ 192 ∷ 64 ∷ 194 ∷ []) ∷ []
 all_announced = refl
 
 abbrev unreliable : Options

@@ -63,8 +63,8 @@ extensions o =
 
 -- The parameters of an INIT or INIT ACK, but for the cookie, with this method of checking. An INIT has the end's own
 -- method, an INIT ACK the negotiated one.
-abbrev pub announce : Options → (zero_checksum_method : ℕ) → List ParameterTree
-announce o method =
+abbrev pub announced_parameters : Options → (zero_checksum_method : ℕ) → List ParameterTree
+announced_parameters o method =
     where_enabled o.enable_partial_reliability (forward_tsn_supported ∷ [])
     ++ (where_enabled (not (method == 0)) (zero_checksum_acceptable method ∷ [])
     ++ supported_extensions (extensions o) ∷ [])
@@ -131,12 +131,12 @@ agreed own other = record {
 }
 
 -- the other end's view: what goes out there comes in here
-abbrev pub exchange : Capabilities → Capabilities
-exchange k = record k { incoming = k.outgoing; outgoing = k.incoming }
+abbrev pub mirrored_capabilities : Capabilities → Capabilities
+mirrored_capabilities k = record k { incoming = k.outgoing; outgoing = k.incoming }
 
 abbrev pub announced_with : ℕ → Options → Capabilities
 announced_with method o =
-    announced_by o.announced_maximum_outgoing_streams o.announced_maximum_incoming_streams (announce o method)
+    announced_by o.announced_maximum_outgoing_streams o.announced_maximum_incoming_streams (announced_parameters o method)
 
 -- what an INIT announces
 abbrev pub announced_by_init : Options → Capabilities

@@ -4,7 +4,7 @@ ghost use Rattle.std.specs.Prelude.{◌≡◌, ◌||◌, map, IfOk};
 ghost use Rattle.std.specs.List.{list_any};
 ghost use Rattle.sctp_parameter.specs.ParameterViews.{parameter_tree};
 ghost use Rattle.sctp_state.specs.Options.{Options as Settings, options_of};
-ghost use Rattle.sctp_capabilities.specs.Capabilities.{capabilities_of, nothing, zero_checksum_enabled, extensions, announce, extensions_in, method_in, is_forward_tsn_supported, has_type, forward_tsn, announced_by, announced_by_init, announced_by_init_ack, negotiate, agreed};
+ghost use Rattle.sctp_capabilities.specs.Capabilities.{capabilities_of, nothing, zero_checksum_enabled, extensions, announced_parameters, extensions_in, method_in, is_forward_tsn_supported, has_type, forward_tsn, announced_by, announced_by_init, announced_by_init_ack, negotiate, agreed};
 
 use sctp_parameter::{
     ForwardTsnSupportedParameter, Parameter, SupportedExtensionsParameter,
@@ -126,7 +126,7 @@ pub fn announced_parameters(
     options: &Options,
     method: ZeroChecksumAlternateErrorDetectionMethod,
 ) -> Result<Vec<Parameter>, AllocError>
-    ensures { IfOk result (λ list. map parameter_tree list.items ≡ announce (options_of options.now) method.0) }
+    ensures { IfOk result (λ list. map parameter_tree list.items ≡ announced_parameters (options_of options.now) method.0) }
 {
     let mut parameters = Vec::new(alloc);
     if options.enable_partial_reliability {

@@ -2,7 +2,7 @@
 use Rattle.std.proofs.Common.{◌≡◌, ◌≢◌, ℕ, zero, suc, ◌<◌, ◌^◌, Bool, true, false, Option, Some, None, List, [], ◌∷◌, codes, IfNone, sym, ap, subst, ◌∙◌, arith}
 use Rattle.sctp_serial.specs.Messages.{Message}
 use Rattle.sctp_state.specs.Options.{SendOptions}
-use Rattle.spec_world.specs.Observations.{End, Connect, Shutdown, Close, Send, SendMany, Receive, Reset, SetPriority, SetMaxMessageSize, SetLowThreshold, HandOver}
+use Rattle.spec_world.specs.Observations.{End, Connect, Shutdown, Close, Send, SendMany, TakeMessage, Reset, SetPriority, SetMaxMessageSize, SetLowThreshold, HandOver}
 use Rattle.spec_world.specs.World.{CallOf, Give, GiveForeign, AdvanceTime}
 use Rattle.sctp_commands.specs.Command.{IsFlag, IsNamed, IsHex, SpellsLimit, SpellsLife, SpellsOptions, SpellsSend, SpellsWords, Asked, probe_of, happens, passes, shown}
 
@@ -89,7 +89,7 @@ only_send words none (happens (CallOf x Shutdown)) k = no_shutdown words _ k
 only_send words none (happens (CallOf x Close)) k = no_close words _ k
 only_send words none (happens (CallOf x (Send m o))) k = none x m o k
 only_send words none (happens (CallOf x (SendMany ms o))) k = k
-only_send words none (happens (CallOf x Receive)) k = no_recv words _ k
+only_send words none (happens (CallOf x TakeMessage)) k = no_recv words _ k
 only_send words none (happens (CallOf x (Reset streams))) k = no_reset words _ k.2
 only_send words none (happens (CallOf x (SetPriority stream priority))) k = k
 only_send words none (happens (CallOf x (SetMaxMessageSize bytes))) k = k

@@ -1,6 +1,6 @@
 -- Words that begin with none of the commands' names.
 use Rattle.std.proofs.Common.{◌≡◌, ◌≢◌, ℕ, List, ◌∷◌, codes, sym, ◌∙◌}
-use Rattle.spec_world.specs.Observations.{Connect, Shutdown, Close, Send, SendMany, Receive, Reset, SetPriority, SetMaxMessageSize, SetLowThreshold, HandOver}
+use Rattle.spec_world.specs.Observations.{Connect, Shutdown, Close, Send, SendMany, TakeMessage, Reset, SetPriority, SetMaxMessageSize, SetLowThreshold, HandOver}
 use Rattle.spec_world.specs.World.{CallOf, Give, GiveForeign, AdvanceTime}
 use Rattle.sctp_commands.specs.Command.{SpellsWords, Asked, probe_of, happens, passes, shown}
 
@@ -18,7 +18,7 @@ no_command words rest name e probe connect shutdown close reset foreign send rec
 no_command words rest name e probe connect shutdown close reset foreign send recv give time show (happens (CallOf x Close)) k = close (first _ _ _ _ (sym e ∙ k))
 no_command words rest name e probe connect shutdown close reset foreign send recv give time show (happens (CallOf x (Send m o))) k = send (first _ _ _ _ (sym e ∙ k.words_are))
 no_command words rest name e probe connect shutdown close reset foreign send recv give time show (happens (CallOf x (SendMany ms o))) k = k
-no_command words rest name e probe connect shutdown close reset foreign send recv give time show (happens (CallOf x Receive)) k = recv (first _ _ _ _ (sym e ∙ k))
+no_command words rest name e probe connect shutdown close reset foreign send recv give time show (happens (CallOf x TakeMessage)) k = recv (first _ _ _ _ (sym e ∙ k))
 no_command words rest name e probe connect shutdown close reset foreign send recv give time show (happens (CallOf x (Reset streams))) k = reset (first _ _ _ _ (sym e ∙ k.2))
 no_command words rest name e probe connect shutdown close reset foreign send recv give time show (happens (CallOf x (SetPriority stream priority))) k = k
 no_command words rest name e probe connect shutdown close reset foreign send recv give time show (happens (CallOf x (SetMaxMessageSize bytes))) k = k

@@ -7,7 +7,7 @@ use Rattle.std.specs.Str.Parse.{digits_value}
 use Rattle.hex.specs.Hex.{decode_of}
 use Rattle.sctp_serial.specs.Messages.{Message}
 use Rattle.sctp_state.specs.Options.{SendOptions}
-use Rattle.spec_world.specs.Observations.{End, Connect, Shutdown, Close, Send, SendMany, Receive, Reset, SetPriority, SetMaxMessageSize, SetLowThreshold, HandOver, end_name}
+use Rattle.spec_world.specs.Observations.{End, Connect, Shutdown, Close, Send, SendMany, TakeMessage, Reset, SetPriority, SetMaxMessageSize, SetLowThreshold, HandOver, end_name}
 use Rattle.spec_world.specs.World.{Action, CallOf, Give, GiveForeign, AdvanceTime, other}
 
 -- ---- lines and words
@@ -100,7 +100,7 @@ SpellsWords words (happens (CallOf x Connect)) = words ≡ codes "connect" ∷ e
 SpellsWords words (happens (CallOf x Shutdown)) = words ≡ codes "shutdown" ∷ end_name x ∷ []
 SpellsWords words (happens (CallOf x Close)) = words ≡ codes "close" ∷ end_name x ∷ []
 SpellsWords words (happens (CallOf x (Send m options))) = SpellsSend words x m options
-SpellsWords words (happens (CallOf x Receive)) = words ≡ codes "recv" ∷ end_name x ∷ []
+SpellsWords words (happens (CallOf x TakeMessage)) = words ≡ codes "recv" ∷ end_name x ∷ []
 SpellsWords words (happens (CallOf x (SendMany ms options))) = ⊥
 SpellsWords words (happens (CallOf x (Reset streams))) =
     (number : List ℕ) × (stream : ℕ) × (words ≡ codes "reset" ∷ end_name x ∷ number ∷ []) × IsNumber number stream × (stream < 2 ^ 16)

@@ -2,12 +2,12 @@
 use Rattle.std.proofs.Common.{◌≡◌, ℕ, suc, ◌+◌, ◌-◌, ◌<◌, arith, Bool, true, false, refl, ap, ◌∙◌, sym}
 use Rattle.std.specs.Prelude.{◌==◌}
 use Rattle.std.proofs.lemmas.Bool.Decides.{nat_tests}
-use Rattle.spec_endpoint.specs.Sending.{Filling, Turned, next_packet, go_on, burst}
+use Rattle.spec_endpoint.specs.Sending.{Filling, BurstStep, next_packet, continue_burst, burst}
 
-goes_on : {P : Type 0} (rest : Filling P → Filling P) (t : Turned P) → t.is_more ≡ true → go_on rest t ≡ rest t.filling
+goes_on : {P : Type 0} (rest : Filling P → Filling P) (t : BurstStep P) → t.is_more ≡ true → continue_burst rest t ≡ rest t.filling
 goes_on rest t more = rw more refl
 
-stops : {P : Type 0} (rest : Filling P → Filling P) (t : Turned P) → t.is_more ≡ false → go_on rest t ≡ t.filling
+stops : {P : Type 0} (rest : Filling P → Filling P) (t : BurstStep P) → t.is_more ≡ false → continue_burst rest t ≡ t.filling
 stops rest t none = rw none refl
 
 -- after packet k of n, which another may follow

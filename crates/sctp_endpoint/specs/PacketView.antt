@@ -5,12 +5,12 @@ use Rattle.sctp_packet.specs.Chunk.{ChunkTree}
 use Rattle.sctp_packet.specs.ChunkView.{chunk_tree}
 use Rattle.sctp_packet.specs.Written.{chunk_item, chunk_is_whole, chunks_bytes}
 use Rattle.sctp_endpoint.specs.declared.outgoing_packet.OutgoingPacket.TheInside.{Inside}
-use Rattle.spec_endpoint.specs.Packets.{Packet}
+use Rattle.spec_endpoint.specs.Packets.{PacketDraft}
 
 abbrev pub chunks_of : Inside → List ChunkTree
 chunks_of p = map chunk_tree p.chunks.items
 
-abbrev pub packet_of : Inside → Packet
+abbrev pub packet_of : Inside → PacketDraft
 packet_of p = record { tag = p.verification_tag; is_summed = p.write_checksum; limit = p.limit; chunks = chunks_of p }
 
 -- the chunk can be written

@@ -17,12 +17,12 @@ use Rattle.sctp_endpoint.specs.declared.state.Phase.TheVariants as phases
 use Rattle.sctp_endpoint.specs.declared.state.State as given_state
 use Rattle.sctp_endpoint.specs.declared.state.State.TheVariants as states
 use Rattle.spec_endpoint.specs.Association.{Identity, Tcb, Phase, CookieEchoed, Established, ShutdownPending, ShutdownSent, ShutdownReceived, ShutdownAckSent, State, Closed, CookieWait, Open, Heartbeats, Counts, Context, EndpointState, Endpoint}
-use Rattle.spec_endpoint.specs.Packets.{Packet}
-use Rattle.spec_endpoint.specs.Shutdown.{Onward}
-use Rattle.spec_endpoint.specs.Sending.{Filling, Sent}
-use Rattle.spec_endpoint.specs.Timers.{Left, Ticking, Waited, left_after, endpoint_state_if, wait_on}
-use Rattle.spec_endpoint.specs.StreamReset.{Handling, Handled, handle_requests}
-use Rattle.spec_endpoint.specs.Input.{Received}
+use Rattle.spec_endpoint.specs.Packets.{PacketDraft}
+use Rattle.spec_endpoint.specs.Shutdown.{PhaseStep}
+use Rattle.spec_endpoint.specs.Sending.{Filling, AfterSending}
+use Rattle.spec_endpoint.specs.Timers.{TimerOutcome, Ticking, InitOutcome, timer_outcome, closed_if, init_outcome}
+use Rattle.spec_endpoint.specs.StreamReset.{Handling, HandledParameters, handled_parameters}
+use Rattle.spec_endpoint.specs.Input.{AfterChunk}
 use Rattle.spec_endpoint.specs.Wire.{writing}
 
 abbrev pub identity_of : given_identity.Identity → Identity
@@ -88,51 +88,51 @@ context_of word_of c = record {
   pack = writing (word_of c.checksum);
 }
 
-abbrev pub filling_of : {C : Type 0} → (C → List ℕ → ℕ) → Packet → given_tcb.TransmissionControlBlock → ContextValue C → Filling (List ℕ)
+abbrev pub filling_of : {C : Type 0} → (C → List ℕ → ℕ) → PacketDraft → given_tcb.TransmissionControlBlock → ContextValue C → Filling (List ℕ)
 filling_of word_of p t c = record { packet = p; tcb = tcb_of t; context = context_of word_of c }
 
 abbrev pub endpoint_state_of : {C : Type 0} → (C → List ℕ → ℕ) → given_state.State → ContextValue C → EndpointState (List ℕ)
 endpoint_state_of word_of s c = record { state = state_of s; context = context_of word_of c }
 
-abbrev pub sent_of : {C : Type 0} → (C → List ℕ → ℕ) → given_tcb.TransmissionControlBlock → ContextValue C → Sent (List ℕ)
-sent_of word_of t c = record { tcb = tcb_of t; context = context_of word_of c }
+abbrev pub after_sending_of : {C : Type 0} → (C → List ℕ → ℕ) → given_tcb.TransmissionControlBlock → ContextValue C → AfterSending (List ℕ)
+after_sending_of word_of t c = record { tcb = tcb_of t; context = context_of word_of c }
 
-abbrev pub onward_of : {C : Type 0} → (C → List ℕ → ℕ) → given_phase.Phase → ContextValue C → Onward (List ℕ)
-onward_of word_of phase c = record { phase = phase_of phase; context = context_of word_of c }
+abbrev pub phase_step_of : {C : Type 0} → (C → List ℕ → ℕ) → given_phase.Phase → ContextValue C → PhaseStep (List ℕ)
+phase_step_of word_of phase c = record { phase = phase_of phase; context = context_of word_of c }
 
 abbrev pub ticking_of : {C : Type 0} → (C → List ℕ → ℕ) → given_tcb.TransmissionControlBlock → ContextValue C → (has_expired : Bool) → Ticking (List ℕ)
 ticking_of word_of t c has_expired = record { tcb = tcb_of t; context = context_of word_of c; has_expired = has_expired }
 
-abbrev pub left_of : {C : Type 0} → (C → List ℕ → ℕ) → given_tcb.TransmissionControlBlock → ContextValue C → (has_ended : Bool) → Left (List ℕ)
-left_of word_of t c has_ended = left_after (tcb_of t) (context_of word_of c) has_ended
+abbrev pub timer_outcome_of : {C : Type 0} → (C → List ℕ → ℕ) → given_tcb.TransmissionControlBlock → ContextValue C → (has_ended : Bool) → TimerOutcome (List ℕ)
+timer_outcome_of word_of t c has_ended = timer_outcome (tcb_of t) (context_of word_of c) has_ended
 
-abbrev pub waited_of : {C : Type 0} → (C → List ℕ → ℕ) → ContextValue C → (has_ended : Bool) → Waited (List ℕ)
-waited_of word_of c has_ended = wait_on (context_of word_of c) has_ended
+abbrev pub init_outcome_of : {C : Type 0} → (C → List ℕ → ℕ) → ContextValue C → (has_ended : Bool) → InitOutcome (List ℕ)
+init_outcome_of word_of c has_ended = init_outcome (context_of word_of c) has_ended
 
 -- what the parameters of a RE-CONFIG have done so far
 abbrev pub handling_of : {C : Type 0} → (C → List ℕ → ℕ) → given_tcb.TransmissionControlBlock → ContextValue C → List ParameterTree → Handling (List ℕ)
 handling_of word_of t c responses = record { tcb = tcb_of t; context = context_of word_of c; responses = responses }
 
-abbrev pub handled_of : {C : Type 0} → (C → List ℕ → ℕ) → given_tcb.TransmissionControlBlock → ContextValue C → List ParameterTree → (is_whole : Bool) → Handled (List ℕ)
-handled_of word_of t c responses is_whole = handle_requests is_whole (handling_of word_of t c responses)
+abbrev pub handled_parameters_of : {C : Type 0} → (C → List ℕ → ℕ) → given_tcb.TransmissionControlBlock → ContextValue C → List ParameterTree → (is_whole : Bool) → HandledParameters (List ℕ)
+handled_parameters_of word_of t c responses is_whole = handled_parameters is_whole (handling_of word_of t c responses)
 
 -- an end that may have ended
 abbrev pub endpoint_state_after : {C : Type 0} → (C → List ℕ → ℕ) → given_phase.Phase → given_tcb.TransmissionControlBlock → ContextValue C → (has_ended : Bool) → EndpointState (List ℕ)
-endpoint_state_after word_of phase t c has_ended = endpoint_state_if has_ended (phase_of phase) (tcb_of t) (context_of word_of c)
+endpoint_state_after word_of phase t c has_ended = closed_if has_ended (phase_of phase) (tcb_of t) (context_of word_of c)
 
 abbrev pub opened_of : {C : Type 0} → (C → List ℕ → ℕ) → given_phase.Phase → given_tcb.TransmissionControlBlock → ContextValue C → EndpointState (List ℕ)
 opened_of word_of phase t c = record { state = Open (phase_of phase) (tcb_of t); context = context_of word_of c }
 
 -- an end with all that its generator will answer
 abbrev pub endpoint_of : {R C : Type 0} → (R → Stream) → (C → List ℕ → ℕ) → given_state.State → ContextValue C → R → Endpoint (List ℕ)
-endpoint_of stream_of word_of s c rng = record { endpoint_state = endpoint_state_of word_of s c; random = stream_of rng }
+endpoint_of stream_of word_of s c rng = record { endpoint_state = endpoint_state_of word_of s c; draws = stream_of rng }
 
 abbrev pub opened_endpoint_of : {R C : Type 0} → (R → Stream) → (C → List ℕ → ℕ) → given_phase.Phase → given_tcb.TransmissionControlBlock → ContextValue C → R → Endpoint (List ℕ)
-opened_endpoint_of stream_of word_of phase t c rng = record { endpoint_state = opened_of word_of phase t c; random = stream_of rng }
+opened_endpoint_of stream_of word_of phase t c rng = record { endpoint_state = opened_of word_of phase t c; draws = stream_of rng }
 
 -- an end, and whether the next chunk is looked at
-abbrev pub received_of : {R C : Type 0} → (R → Stream) → (C → List ℕ → ℕ) → given_state.State → ContextValue C → R → (goes_on : Bool) → Received (List ℕ)
-received_of stream_of word_of s c rng goes_on = record { end = endpoint_of stream_of word_of s c rng; goes_on = goes_on }
+abbrev pub after_chunk_of : {R C : Type 0} → (R → Stream) → (C → List ℕ → ℕ) → given_state.State → ContextValue C → R → (goes_on : Bool) → AfterChunk (List ℕ)
+after_chunk_of stream_of word_of s c rng goes_on = record { end = endpoint_of stream_of word_of s c rng; allows_next = goes_on }
 
 -- ---- what is emitted of packets and chunks that aren't taken
 

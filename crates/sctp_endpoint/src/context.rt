@@ -5,7 +5,7 @@ ghost use Rattle.sctp_packet.specs.ChunkView.{chunk_tree};
 ghost use Rattle.sctp_state.specs.Events.{OnError, OnAborted, event_of};
 ghost use Rattle.sctp_state.specs.Options.{IsValid, options_of};
 ghost use Rattle.spec_endpoint.specs.Association.{context};
-ghost use Rattle.spec_endpoint.specs.Packets.{add, complain, emit, emit_chunk, empty_packet, new_packet, say};
+ghost use Rattle.spec_endpoint.specs.Packets.{add, emit_error, emit, emit_chunk, clear_chunks, new_packet, emit_event_in};
 ghost use Rattle.sctp_endpoint.specs.Views.{context_of, tcb_of};
 ghost use Rattle.spec_endpoint.specs.Wire.{writing};
 ghost use Rattle.spec_endpoint.specs.Shutdown as closing;
@@ -47,7 +47,7 @@ pub struct Context<C: Checksum> {
     pub events: Events,
     pub checksum: C,
     /// The memory of the last packet's list of chunks, for the next packet.
-    pub chunk_list: Vec<Chunk>,
+    pub spare_chunks: Vec<Chunk>,
 }
 
 impl<C: Checksum> Model for Context<C> {
@@ -111,7 +111,7 @@ impl<C: Checksum> Context<C> {
             peer_implementation: SctpImplementation::Unknown,
             events: Events::new(alloc),
             checksum,
-            chunk_list: Vec::new(alloc),
+            spare_chunks: Vec::new(alloc),
         }
     }
 
@@ -121,14 +121,14 @@ impl<C: Checksum> Context<C> {
         ensures context { self.new ≡ self.old }
     {
         let mut packet = tcb.new_packet(self.alloc, &self.options);
-        packet.swap_memory(&mut self.chunk_list);
+        packet.swap_memory(&mut self.spare_chunks);
         packet
     }
 
     /// A packet goes out, where something was put into it; then it is empty again.
     pub fn emit(&mut self, packet: &mut OutgoingPacket) -> Result<(), AllocError>
         ensures context { OnOk result (context_of C.word_of self.new ≡ emit packet.old (context_of C.word_of self.old)) }
-        ensures packet { OnOk result (packet.new ≡ empty_packet packet.old) }
+        ensures packet { OnOk result (packet.new ≡ clear_chunks packet.old) }
     {
         if packet.is_empty() {
             return Ok(());
@@ -164,15 +164,15 @@ impl<C: Checksum> Context<C> {
     }
 
     /// Emits an error.
-    pub fn complain(&mut self, kind: ErrorKind, text: &str) -> Result<(), AllocError>
-        ensures { OnOk result (context_of C.word_of self.new ≡ complain kind text.now (context_of C.word_of self.old)) }
+    pub fn emit_error(&mut self, kind: ErrorKind, text: &str) -> Result<(), AllocError>
+        ensures { OnOk result (context_of C.word_of self.new ≡ emit_error kind text.now (context_of C.word_of self.old)) }
     {
         let text = String::from_str(self.alloc, text)?;
         self.events.add(SocketEvent::OnError(kind, text))
     }
 
     pub fn emit_event(&mut self, event: SocketEvent) -> Result<(), AllocError>
-        ensures { OnOk result (context_of C.word_of self.new ≡ say (event_of event) (context_of C.word_of self.old)) }
+        ensures { OnOk result (context_of C.word_of self.new ≡ emit_event_in (event_of event) (context_of C.word_of self.old)) }
     {
         self.events.add(event)
     }
@@ -203,7 +203,7 @@ impl<C: Checksum> Context<C> {
     /// The next heartbeat is an interval away.
     pub fn restart_heartbeat_interval(&mut self)
         ensures { let c = context_of C.word_of self.old in
-            context_of C.word_of self.new ≡ record c { heartbeats = heartbeats.beating c.now c.heartbeats } }
+            context_of C.word_of self.new ≡ record c { heartbeats = heartbeats.restart_interval c.now c.heartbeats } }
     {
         self.heartbeat_interval.start(self.clock);
     }
@@ -211,7 +211,7 @@ impl<C: Checksum> Context<C> {
     /// No heartbeat is sent any more, and no answer waited for.
     pub fn stop_heartbeats(&mut self)
         ensures { let c = context_of C.word_of self.old in
-            context_of C.word_of self.new ≡ record c { heartbeats = heartbeats.silence c.heartbeats } }
+            context_of C.word_of self.new ≡ record c { heartbeats = heartbeats.stop_heartbeats c.heartbeats } }
     {
         self.heartbeat_interval.stop();
         self.heartbeat_timeout.stop();

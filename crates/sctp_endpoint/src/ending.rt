@@ -6,7 +6,7 @@ ghost use Rattle.sctp_error_cause.specs.CauseViews.{cause_tree};
 ghost use Rattle.sctp_packet.specs.Chunk.{abort_chunk};
 ghost use Rattle.spec_endpoint.specs.Packets.{emit_chunk};
 ghost use Rattle.sctp_state.specs.Events.{OnAborted, OnClosed};
-ghost use Rattle.sctp_endpoint.specs.Views.{context_of, onward_of, phase_of, tcb_of};
+ghost use Rattle.sctp_endpoint.specs.Views.{context_of, phase_step_of, phase_of, tcb_of};
 ghost use Rattle.spec_endpoint.specs.Shutdown as table;
 
 use crate::context::Context;
@@ -95,12 +95,12 @@ impl<C: Checksum> Context<C> {
     }
 
     /// Where nothing is unacknowledged, a shutdown that waited for that goes on.
-    pub fn maybe_go_on(
+    pub fn maybe_send_shutdown_or_ack(
         &mut self,
         phase: &mut Phase,
         tcb: &TransmissionControlBlock,
     ) -> Result<(), AllocError>
-        ensures { OnOk result (onward_of C.word_of phase.new self.new ≡ table.go_on (phase_of phase.old) (tcb_of tcb.now) (context_of C.word_of self.old)) }
+        ensures { OnOk result (phase_step_of C.word_of phase.new self.new ≡ table.maybe_send_shutdown_or_ack (phase_of phase.old) (tcb_of tcb.now) (context_of C.word_of self.old)) }
     {
         if tcb.retransmission_queue.unacked_items() != 0 {
             return Ok(());

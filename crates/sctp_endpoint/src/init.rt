@@ -3,7 +3,7 @@
 ghost use Rattle.std.specs.Prelude.{◌≡◌, IfOk, OnOk};
 ghost use Rattle.sctp_packet.specs.Chunk.{init_chunk};
 ghost use Rattle.sctp_packet.specs.ChunkView.{chunk_tree};
-ghost use Rattle.sctp_capabilities.specs.Capabilities.{announce};
+ghost use Rattle.sctp_capabilities.specs.Capabilities.{announced_parameters};
 ghost use Rattle.sctp_state.specs.Options.{IsValid, options_of};
 ghost use Rattle.spec_endpoint.specs.Opening.{init_of, send_init};
 ghost use Rattle.sctp_endpoint.specs.Views.{context_of};
@@ -25,7 +25,7 @@ fn make_init(
 ) -> Result<Chunk, AllocError>
     requires { IsValid (options_of options.now) }
     ensures { IfOk result (λ chunk. chunk_tree chunk ≡ init_chunk (init_of (options_of options.now) tag initial_tsn.0
-        (announce (options_of options.now) (options_of options.now).zero_checksum_method))) }
+        (announced_parameters (options_of options.now) (options_of options.now).zero_checksum_method))) }
 {
     Ok(Chunk::Init(InitChunk {
         initiate_tag: tag,

@@ -5,7 +5,7 @@ ghost use Rattle.sctp_wire.specs.Serialize.{IsEncodable};
 ghost use Rattle.sctp_packet.specs.ChunkView.{chunk_tree};
 ghost use Rattle.sctp_packet.specs.Written.{chunk_bytes, chunk_is_whole, chunk_item, chunks_bytes};
 ghost use Rattle.sctp_packet.specs.Builder.{Holds};
-ghost use Rattle.spec_endpoint.specs.Packets.{add, added_if, empty_packet, fits, has_chunks, packet_to, room};
+ghost use Rattle.spec_endpoint.specs.Packets.{add, added_if, clear_chunks, fits, has_chunks, packet_to, room};
 ghost use Rattle.sctp_endpoint.specs.PacketView.{IsWritable};
 ghost use Rattle.spec_endpoint.specs.Wire.{word_at, written_bytes};
 
@@ -29,10 +29,10 @@ pub struct OutgoingPacket {
 }
 
 impl Model for OutgoingPacket {
-    ghost use Rattle.spec_endpoint.specs.Packets.{Packet};
+    ghost use Rattle.spec_endpoint.specs.Packets.{PacketDraft};
     ghost use Rattle.sctp_endpoint.specs.PacketView.{IsPacket, packet_of};
 
-    ghost Value = { Packet };
+    ghost Value = { PacketDraft };
 
     ghost view = { packet_of };
 
@@ -64,7 +64,7 @@ impl OutgoingPacket {
 
     /// Gives the memory of the list of chunks and takes that of this one. The packet is empty then, with the same tag and limit.
     pub fn swap_memory(&mut self, list: &mut Vec<Chunk>)
-        ensures { self.new ≡ empty_packet self.old }
+        ensures { self.new ≡ clear_chunks self.old }
     {
         list.clear();
         self.body_size = 0;
@@ -146,7 +146,7 @@ impl OutgoingPacket {
           verification_tag = self.old.tag;
         }) self.old.is_summed self.old.chunks) }
         ensures short { IfOk result (λ bytes. length bytes.items ≤ self.old.limit) }
-        ensures ok { OnOk result (self.new ≡ empty_packet self.old) }
+        ensures ok { OnOk result (self.new ≡ clear_chunks self.old) }
         ensures err { OnErr result (self.new ≡ self.old) }
     {
         let size = COMMON_HEADER_SIZE + self.body_size;

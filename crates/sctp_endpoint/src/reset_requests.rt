@@ -194,7 +194,7 @@ impl ResetRequests {
     }
 
     fn put_off(&mut self, now: SocketTime, rto: Duration, mut request: ResetRequest)
-        ensures { self.new ≡ table.put_off now (as_nanos rto) request self.old }
+        ensures { self.new ≡ table.defer_request now (as_nanos rto) request self.old }
     {
         request.is_deferred = true;
         self.current = Some(request);
@@ -211,7 +211,7 @@ impl ResetRequests {
         answer: ReconfigurationResponseResult,
     ) -> ResetOutcome
         ensures outcome { outcome_of result ≡ table.outcome_if true (result_number answer) request.streams }
-        ensures requests { self.new ≡ table.answered_by (table.is_final (result_number answer)) now (as_nanos rto) request self.old }
+        ensures requests { self.new ≡ table.end_or_defer (table.is_final (result_number answer)) now (as_nanos rto) request self.old }
     {
         match answer {
             ReconfigurationResponseResult::SuccessNothingToDo
@@ -241,7 +241,7 @@ impl ResetRequests {
         response: &ReconfigurationResponseParameter,
     ) -> ResetOutcome
         ensures outcome { let r = response.now in outcome_of result ≡ table.outcome r.response_seq_nbr (result_number r.result) self.old.current }
-        ensures requests { let r = response.now in self.new ≡ table.answer_request now (as_nanos rto) r.response_seq_nbr (result_number r.result) self.old }
+        ensures requests { let r = response.now in self.new ≡ table.handle_response now (as_nanos rto) r.response_seq_nbr (result_number r.result) self.old }
     {
         let Some(request) = self.current.take() else {
             return ResetOutcome::Unsettled;
@@ -256,7 +256,7 @@ impl ResetRequests {
     /// Whether the timer has expired.
     pub fn expire(&mut self, now: SocketTime) -> bool
         ensures answer { result ≡ is_due now self.old.timer }
-        ensures after { self.new ≡ table.expire_request now self.old }
+        ensures after { self.new ≡ table.expire_reconfig_timer now self.old }
     {
         self.reconfig_timer.expire(now)
     }
@@ -264,7 +264,7 @@ impl ResetRequests {
     /// The own request is to be sent again, and waits as at first. The answer is whether it was not answered at all.
     pub fn wake(&mut self) -> bool
         ensures answer { result ≡ table.is_unanswered self.old.current }
-        ensures after { self.new ≡ table.wake_request self.old }
+        ensures after { self.new ≡ table.clear_deferral self.old }
     {
         let Some(request) = &mut self.current else {
             return false;
@@ -283,20 +283,20 @@ impl ResetRequests {
 
     /// Whether the peer's request is the last one again.
     pub fn is_last(&self, number: u32) -> bool
-        ensures { result ≡ table.is_last number self.now }
+        ensures { result ≡ table.is_last_request number self.now }
     {
         number == self.last
     }
 
     /// Whether it is the next one.
     pub fn is_next(&self, number: u32) -> bool
-        ensures { result ≡ table.is_next number self.now }
+        ensures { result ≡ table.is_next_request number self.now }
     {
         number == self.last.wrapping_add(1)
     }
 
     pub fn is_known(&self, number: u32) -> bool
-        ensures { result ≡ table.is_known number self.now }
+        ensures { result ≡ table.is_known_request number self.now }
     {
         self.is_last(number) || self.is_next(number)
     }
@@ -310,7 +310,7 @@ impl ResetRequests {
 
     /// The peer's request with this number is processed now.
     pub fn process(&mut self, number: u32, answer: ReconfigurationResponseResult)
-        ensures { self.new ≡ table.process_request number (result_number answer) self.old }
+        ensures { self.new ≡ table.set_last_request number (result_number answer) self.old }
     {
         self.last = number;
         self.result = answer;

@@ -5,7 +5,7 @@ ghost use Rattle.sctp_tx_outstanding.specs.Views.{chunk_of};
 ghost use Rattle.sctp_state.specs.Events.{numbers_of};
 ghost use Rattle.spec_endpoint.specs.Packets.{add_all};
 ghost use Rattle.spec_endpoint.specs.Sending.{burst_with, carrying, data_chunks, filled_as, forward_if, most_streams, request_of, request_started, send_buffered, send_cookie, send_lost, send_with, next_packet, with_ack, with_data, with_forward, with_request, send_in};
-ghost use Rattle.sctp_endpoint.specs.Views.{context_of, filling_of, sent_of, tcb_of, endpoint_state_of};
+ghost use Rattle.sctp_endpoint.specs.Views.{context_of, filling_of, after_sending_of, tcb_of, endpoint_state_of};
 ghost use Rattle.spec_endpoint.specs.Association.{where_open};
 
 use crate::context::Context;
@@ -234,10 +234,10 @@ impl<C: Checksum> Context<C> {
         is_alone: bool,
         mut packet: OutgoingPacket,
     ) -> Result<(), AllocError>
-        ensures { OnOk result (sent_of C.word_of tcb.new self.new ≡ send_with is_alone packet (tcb_of tcb.old) (context_of C.word_of self.old)) }
+        ensures { OnOk result (after_sending_of C.word_of tcb.new self.new ≡ send_with is_alone packet (tcb_of tcb.old) (context_of C.word_of self.old)) }
     {
         self.send_burst(&mut packet, tcb, is_alone)?;
-        packet.swap_memory(&mut self.chunk_list);
+        packet.swap_memory(&mut self.spare_chunks);
         Ok(())
     }
 
@@ -247,7 +247,7 @@ impl<C: Checksum> Context<C> {
         tcb: &mut TransmissionControlBlock,
         is_alone: bool,
     ) -> Result<(), AllocError>
-        ensures { OnOk result (sent_of C.word_of tcb.new self.new ≡ send_buffered is_alone (tcb_of tcb.old) (context_of C.word_of self.old)) }
+        ensures { OnOk result (after_sending_of C.word_of tcb.new self.new ≡ send_buffered is_alone (tcb_of tcb.old) (context_of C.word_of self.old)) }
     {
         let packet = self.new_packet(tcb);
         self.send_buffered_packets_with(tcb, is_alone, packet)
@@ -259,7 +259,7 @@ impl<C: Checksum> Context<C> {
         tcb: &mut TransmissionControlBlock,
         cookie: &[u8],
     ) -> Result<(), AllocError>
-        ensures { OnOk result (sent_of C.word_of tcb.new self.new ≡ send_cookie cookie.now (tcb_of tcb.old) (context_of C.word_of self.old)) }
+        ensures { OnOk result (after_sending_of C.word_of tcb.new self.new ≡ send_cookie cookie.now (tcb_of tcb.old) (context_of C.word_of self.old)) }
     {
         let mut packet = OutgoingPacket::new(
             self.alloc,
@@ -279,7 +279,7 @@ impl<C: Checksum> Context<C> {
         &mut self,
         tcb: &mut TransmissionControlBlock,
     ) -> Result<(), AllocError>
-        ensures { OnOk result (sent_of C.word_of tcb.new self.new ≡ send_lost (tcb_of tcb.old) (context_of C.word_of self.old)) }
+        ensures { OnOk result (after_sending_of C.word_of tcb.new self.new ≡ send_lost (tcb_of tcb.old) (context_of C.word_of self.old)) }
     {
         if !tcb.retransmission_queue.has_data_to_be_fast_retransmitted() {
             return Ok(());
@@ -326,6 +326,6 @@ pub fn send_waiting<C: Checksum>(
 {
     match state {
         State::Closed | State::CookieWait(_) => Ok(()),
-        State::Open(phase, tcb) => context.send_buffered_packets(tcb, phase.is_alone()),
+        State::Open(phase, tcb) => context.send_buffered_packets(tcb, phase.is_before_cookie_ack()),
     }
 }

@@ -5,7 +5,7 @@ ghost use Rattle.std.specs.Borrow.{LendsIf, sem};
 ghost use Rattle.std.specs.Option.{option_map};
 ghost use Rattle.spec_endpoint.specs.Association.{block_in};
 ghost use Rattle.sctp_endpoint.specs.Lending.{with_block};
-ghost use Rattle.spec_endpoint.specs.Sending.{is_alone};
+ghost use Rattle.spec_endpoint.specs.Sending.{is_before_cookie_ack};
 ghost use Rattle.sctp_endpoint.specs.Views.{phase_of, state_of, tcb_of};
 ghost use Rattle.sctp_endpoint.specs.contracts.state.State as states;
 ghost use Rattle.sctp_endpoint.specs.contracts.transmission_control_block.TransmissionControlBlock as blocks;
@@ -52,8 +52,8 @@ pub enum State {
 
 impl Phase {
     /// Whether a burst has one packet: before the COOKIE ACK no other goes out (RFC 9260 section 5.1).
-    pub fn is_alone(&self) -> bool
-        ensures { result ≡ is_alone (phase_of self.now) }
+    pub fn is_before_cookie_ack(&self) -> bool
+        ensures { result ≡ is_before_cookie_ack (phase_of self.now) }
     {
         matches!(self, Phase::CookieEchoed(_))
     }

@@ -7,11 +7,11 @@ use Rattle.sctp_fragments.specs.declared.interval.Interval.{Interval}
 use Rattle.sctp_fragments.specs.Runs.{flat, AreRuns, last_of, is_held}
 use Rattle.sctp_fragments.specs.Held.{Held, rank_of, goes_on, bytes_of, NonePass, is_in_turn}
 
-abbrev pub held_at : ℕ → ℕ → Data → Held
-held_at number index d = record { number = number; index = index; fragment = fragment_tree d }
+abbrev pub as_held : ℕ → ℕ → Data → Held
+as_held number index d = record { number = number; index = index; fragment = fragment_tree d }
 
 abbrev pub held_of : {K : Type 0} (number index : K → ℕ) → Entry K → Held
-held_of number index e = held_at (number e.key) (index e.key) e.fragment
+held_of number index e = as_held (number e.key) (index e.key) e.fragment
 
 -- the fragments of an interval
 abbrev pub run_of : {K : Type 0} → (Entry K → Held) → Interval K → List Held

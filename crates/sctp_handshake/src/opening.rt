@@ -6,7 +6,7 @@ ghost use Rattle.sctp_wire.specs.Cause.{missing_mandatory_parameter};
 ghost use Rattle.sctp_parameter.specs.ParameterViews.{parameter_tree};
 ghost use Rattle.sctp_packet.specs.Chunk.{abort_chunk};
 ghost use Rattle.sctp_control_chunk.specs.Views.{init_ack_tree, init_tree};
-ghost use Rattle.spec_endpoint.specs.Packets.{add, emit, packet_to, round_up};
+ghost use Rattle.spec_endpoint.specs.Packets.{add, emit, packet_to, round_down_to_4};
 ghost use Rattle.sctp_endpoint.specs.Views.{context_of, endpoint_of, identity_of, opened_endpoint_of, phase_of, endpoint_state_of, tcb_of};
 ghost use Rattle.spec_endpoint.specs.Opening as table;
 
@@ -121,13 +121,13 @@ fn answer_open<R: Rng, C: Checksum>(
         Phase::Established
         | Phase::ShutdownPending
         | Phase::ShutdownSent(_)
-        | Phase::ShutdownReceived => answer_again(tcb, context, rng, init),
+        | Phase::ShutdownReceived => answer_restart(tcb, context, rng, init),
         Phase::ShutdownAckSent(_) => context.send_shutdown_ack(tcb),
     }
 }
 
 /// The answer to a peer that may have restarted: under a new tag, with the tie of the association that there is.
-fn answer_again<R: Rng, C: Checksum>(
+fn answer_restart<R: Rng, C: Checksum>(
     tcb: &TransmissionControlBlock,
     context: &mut Context<C>,
     rng: &mut R,
@@ -172,7 +172,7 @@ fn take_init_ack<R: Rng, C: Checksum>(
     init_ack: &InitAckChunk,
 ) -> Result<(), AllocError>
     ensures { OnOk result (endpoint_of R.stream C.word_of state.new context.new rng.new
-        ≡ table.echo_cookie (init_ack_tree init_ack.now) (table.cookie_in (map parameter_tree init_ack.now.parameters.items)) own.0 own.1.0
+        ≡ table.echo_or_abort (init_ack_tree init_ack.now) (table.cookie_in (map parameter_tree init_ack.now.parameters.items)) own.0 own.1.0
         (endpoint_of R.stream C.word_of state.old context.old rng.old)) }
 {
     let Some(cookie) = cookie_in(&init_ack.parameters) else {
@@ -249,7 +249,7 @@ fn send_missing_cookie<C: Checksum>(
     peer_tag: u32,
 ) -> Result<(), AllocError>
     ensures { OnOk result (context_of C.word_of context.new
-        ≡ emit (add (abort_chunk false (missing_mandatory_parameter (7 ∷ []) ∷ [])) (packet_to peer_tag (round_up context.old.options.mtu))) (context_of C.word_of context.old)) }
+        ≡ emit (add (abort_chunk false (missing_mandatory_parameter (7 ∷ []) ∷ [])) (packet_to peer_tag (round_down_to_4 context.old.options.mtu))) (context_of C.word_of context.old)) }
 {
     let mut missing_parameter_types = Vec::new(context.alloc);
     missing_parameter_types.push(STATE_COOKIE)?;

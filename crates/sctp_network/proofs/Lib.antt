@@ -1,4 +1,4 @@
-pub mod ComingLemmas
+pub mod ForeignBytesLemmas
 pub mod GoesLemmas
 pub mod ReachableLemmas
 pub mod PairedLemmas

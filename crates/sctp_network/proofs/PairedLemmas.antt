@@ -28,8 +28,8 @@ module _ (w v x y : World) (s : SentBytes w x) (t : SentBytes v y) where
     a = p.a;
     b = p.b;
     word_of = p.word_of;
-    random_a = p.random_a;
-    random_b = p.random_b;
+    draws_a = p.draws_a;
+    draws_b = p.draws_b;
     others_a = p.others_a;
     others_b = p.others_b;
     valid_a = p.valid_a;

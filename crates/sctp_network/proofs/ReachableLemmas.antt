@@ -26,7 +26,7 @@ pub all_of_each : {X : Type 0} (P : X → Type 0) (xs : List X) → Each P xs �
 all_of_each P [] h = All-nil P
 all_of_each P (x ∷ xs) h = All-cons P x xs h.0 (all_of_each P xs h.1)
 
-pub fits_readable : (actions : List Action) → Each ActionFits actions → Each readable.ActionFits actions
+pub fits_readable : (actions : List Action) → Each ActionFits actions → Each readable.ActionArgumentsFit actions
 fits_readable [] h = tt
 fits_readable (CallOf x call ∷ actions) h = (h.0, fits_readable actions h.1)
 fits_readable (Give packet x ∷ actions) h = (tt, fits_readable actions h.1)
@@ -96,13 +96,13 @@ pub there_then : {X : Type 0} (e : WorldError) → e ≡ errors.Memory → ◌�
 there_then e is no_such_packet = cc
 
 -- a new world
-pub reachable_new : (a b : Options) (words_a words_b : Stream) (word_of_a word_of_b : List ℕ → ℕ) → IsValid a → IsValid b → OptionsFit a → OptionsFit b
-    → (w : World) → w ≡ fresh_world a b words_a words_b word_of_a word_of_b → IsReachable w
-reachable_new a b words_a words_b word_of_a word_of_b valid_a valid_b fits_a fits_b w is = record {
+pub reachable_new : (a b : Options) (draws_a draws_b : Stream) (word_of_a word_of_b : List ℕ → ℕ) → IsValid a → IsValid b → OptionsFit a → OptionsFit b
+    → (w : World) → w ≡ fresh_world a b draws_a draws_b word_of_a word_of_b → IsReachable w
+reachable_new a b draws_a draws_b word_of_a word_of_b valid_a valid_b fits_a fits_b w is = record {
   a = a;
   b = b;
-  random_a = words_a;
-  random_b = words_b;
+  draws_a = draws_a;
+  draws_b = draws_b;
   word_of_a = word_of_a;
   word_of_b = word_of_b;
   valid_a = valid_a;

@@ -49,7 +49,7 @@ pub fn an_event_fits(event: &Event)
 /// Each of these events fits.
 pub fn events_fit(events: &[Event])
     ensures fit { All ActionFits (map action_of events.now) }
-    ensures readable { Each readable.ActionFits (map action_of events.now) }
+    ensures readable { Each readable.ActionArgumentsFit (map action_of events.now) }
 {
     for event in events {
         an_event_fits(event);

@@ -5,10 +5,10 @@ ghost use Rattle.sctp_packet.specs.Grammar.{Each};
 ghost use Rattle.sctp_state.specs.Options.{IsValid, options_of};
 ghost use Rattle.sctp_network.specs.declared.world.WorldError.TheVariants.{Memory as no_memory};
 ghost use Rattle.proof_endpoint.specs.ReadBack.{AreBytes};
-ghost use Rattle.spec_world.specs.World.{Injects, Happens, Runs, IsDisabled, RunsUpToDisabled, RunsUpToEnabled, AreShort, fresh_world, side_of, is_at_rest, TakesBytes, clock};
+ghost use Rattle.spec_world.specs.World.{MeetsForeign, Happens, Runs, IsDisabled, RunsUpToDisabled, RunsUpToEnabled, AreShort, fresh_world, side_of, is_at_rest, TakesBytes, clock};
 ghost use Rattle.spec_world.specs.FirstRun.{LeadsFirstRun, ContinuesFirstRun};
 ghost use Rattle.spec_world.specs.Observations.{Given};
-ghost use Rattle.proof_world.specs.Agreed.{Agrees, EachEndDrawsDistinctTags};
+ghost use Rattle.proof_world.specs.Agreed.{WorldAgrees, EachEndDrawsDistinctTags};
 ghost use Rattle.proof_world.specs.Composed.{Composes};
 ghost use Rattle.proof_world.specs.Traces.{IsReachable};
 ghost use Rattle.sctp_network_side.specs.SideView.{action_of, end_tree, entry_tree, side_in};
@@ -259,7 +259,7 @@ impl<R: Rng, C: Checksum> World<R, C> {
 
     /// Bytes from elsewhere come to an end.
     fn inject(&mut self, end: End, bytes: &[u8]) -> Result<(), CallError>
-        ensures ok { OnOk result (Injects (end_tree end) bytes.now (world_of R.stream C.word_of self.old) (world_of R.stream C.word_of self.new)) }
+        ensures ok { OnOk result (MeetsForeign (end_tree end) bytes.now (world_of R.stream C.word_of self.old) (world_of R.stream C.word_of self.new)) }
         ensures failed { self.new.has_failed ≡ self.old.has_failed }
     {
         match end {
@@ -319,7 +319,7 @@ pub fn step<R: Rng, C: Checksum>(world: &mut World<R, C>, event: &Event) -> Resu
     ensures nothing_lacks { IfErr result (λ e. ContinuesFirstRun (action_of event.now ∷ []) (world_of R.stream C.word_of world.old) → e ≡ WorldError.Memory) }
     ensures reachable { world.new.has_failed ≡ false → IsReachable (world_of R.stream C.word_of world.old) → IsReachable (world_of R.stream C.word_of world.new) }
     ensures composes { (l : IsReachable (world_of R.stream C.word_of world.new)) → Composes (world_of R.stream C.word_of world.new) l }
-    ensures agrees { (l : IsReachable (world_of R.stream C.word_of world.new)) → EachEndDrawsDistinctTags l → Agrees (world_of R.stream C.word_of world.new).log }
+    ensures agrees { (l : IsReachable (world_of R.stream C.word_of world.new)) → EachEndDrawsDistinctTags l → WorldAgrees (world_of R.stream C.word_of world.new).log }
 {
     let a = world.sent(End::A);
     let b = world.sent(End::B);
@@ -347,7 +347,7 @@ pub fn run<R: Rng, C: Checksum>(world: &mut World<R, C>, events: &[Event]) -> Re
     ensures nothing_lacks { IfErr result (λ e. ContinuesFirstRun (map action_of events.now) (world_of R.stream C.word_of world.old) → e ≡ WorldError.Memory) }
     ensures reachable { world.new.has_failed ≡ false → IsReachable (world_of R.stream C.word_of world.old) → IsReachable (world_of R.stream C.word_of world.new) }
     ensures composes { (l : IsReachable (world_of R.stream C.word_of world.new)) → Composes (world_of R.stream C.word_of world.new) l }
-    ensures agrees { (l : IsReachable (world_of R.stream C.word_of world.new)) → EachEndDrawsDistinctTags l → Agrees (world_of R.stream C.word_of world.new).log }
+    ensures agrees { (l : IsReachable (world_of R.stream C.word_of world.new)) → EachEndDrawsDistinctTags l → WorldAgrees (world_of R.stream C.word_of world.new).log }
 {
     let a = world.sent(End::A);
     let b = world.sent(End::B);

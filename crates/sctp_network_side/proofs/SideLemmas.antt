@@ -6,7 +6,7 @@ use Rattle.sctp_association.specs.Socket.{SocketValue, endpoint}
 use Rattle.spec_endpoint.specs.Shown.{Association, association_in}
 use Rattle.spec_endpoint.specs.Receiving.{Receives, Judges}
 use Rattle.spec_world.specs.Observations.{End, Entry, Foreign}
-use Rattle.spec_world.specs.World.{TakesBytes, InjectsInto, IsJudged, take_emitted, news, clock}
+use Rattle.spec_world.specs.World.{TakesBytes, MeetsForeignAt, IsJudged, take_emitted, news, clock}
 use Rattle.spec_world.specs.World as comes
 use Rattle.sctp_network_side.specs.SideView.{SideValue, side_in}
 
@@ -51,13 +51,13 @@ pub came : {R C : Type 0} (stream : R → Stream) (word_of : C → List ℕ → 
     → Judges (word_of v.socket.context.checksum) bytes v.socket.context.options v.socket.state answer → answer ≡ true
     → TakesBytes x (Foreign x (clock (side_in stream word_of now).socket) (Some bytes)) bytes
     (side_in stream word_of now) (side_in stream word_of new) log longer
-    → InjectsInto x bytes (side_in stream word_of now) (side_in stream word_of new) log longer
+    → MeetsForeignAt x bytes (side_in stream word_of now) (side_in stream word_of new) log longer
 came stream word_of v now new is x bytes log longer answer j refused t =
-    comes.taken_in t (judged_as stream word_of v now is bytes answer true j refused)
+    comes.given t (judged_as stream word_of v now is bytes answer true j refused)
 
 pub passed : {R C : Type 0} (stream : R → Stream) (word_of : C → List ℕ → ℕ) (v now : SideValue R C) → v ≡ now → (x : End) (bytes : List ℕ) (log longer : List Entry) (answer : Bool)
     → Judges (word_of v.socket.context.checksum) bytes v.socket.context.options v.socket.state answer → answer ≡ false
     → longer ≡ log ++ Foreign x (clock (side_in stream word_of now).socket) None ∷ []
-    → InjectsInto x bytes (side_in stream word_of now) (side_in stream word_of now) log longer
+    → MeetsForeignAt x bytes (side_in stream word_of now) (side_in stream word_of now) log longer
 passed stream word_of v now is x bytes log longer answer j taken l =
     comes.withheld (judged_as stream word_of v now is bytes answer false j taken) refl l

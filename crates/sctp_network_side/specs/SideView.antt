@@ -17,7 +17,7 @@ use Rattle.sctp_network_side.specs.declared.log.Event as given_event
 use Rattle.sctp_network_side.specs.declared.log.Event.TheVariants as events
 use Rattle.sctp_network_side.specs.declared.log.Entry as given_entry
 use Rattle.sctp_network_side.specs.declared.log.Entry.TheVariants as entries
-use Rattle.spec_world.specs.Observations.{End, A, B, Call, Connect, Shutdown, Close, Send, SendMany, Receive, Reset, SetPriority, SetMaxMessageSize, SetLowThreshold, HandOver, Answer, Done, Sent, SentMany, Received, AskedReset, HandedOver, NotReady, Entry, Called, Given, Foreign, Timed, Associated, EmittedPacket, EmittedEvent, GaveUp, BecameReady}
+use Rattle.spec_world.specs.Observations.{End, A, B, Call, Connect, Shutdown, Close, Send, SendMany, TakeMessage, Reset, SetPriority, SetMaxMessageSize, SetLowThreshold, HandOver, Answer, Done, Sent, SentMany, TookMessage, AskedReset, HandedOver, NotReady, Entry, Called, Given, Foreign, Timed, Associated, EmittedPacket, EmittedEvent, GaveUp, BecameReady}
 use Rattle.spec_world.specs.World.{Action, CallOf, Give, GiveForeign, AdvanceTime, Side}
 
 abbrev pub end_tree : given_end.End → End
@@ -30,7 +30,7 @@ call_tree calls.Shutdown = Shutdown
 call_tree calls.Close = Close
 call_tree (calls.Send message options) = Send (message_of message) (send_options_of options)
 call_tree (calls.SendMany messages options) = SendMany (map message_of messages.items) (send_options_of options)
-call_tree calls.Receive = Receive
+call_tree calls.Receive = TakeMessage
 call_tree (calls.Reset streams) = Reset (numbers_of streams.items)
 call_tree (calls.SetPriority stream priority) = SetPriority stream.0 priority
 call_tree (calls.SetMaxMessageSize bytes) = SetMaxMessageSize bytes
@@ -41,7 +41,7 @@ abbrev pub answer_tree : given_answer.Answer → Answer
 answer_tree answers.Done = Done
 answer_tree (answers.Sent refused) = Sent refused
 answer_tree (answers.SentMany refused) = SentMany refused.items
-answer_tree (answers.Received message) = Received (option_map message_of message)
+answer_tree (answers.Received message) = TookMessage (option_map message_of message)
 answer_tree (answers.AskedReset refused) = AskedReset refused
 answer_tree (answers.HandedOver state) = HandedOver (handover_state_of state)
 answer_tree (answers.NotReady readiness) = NotReady readiness.0

@@ -242,7 +242,7 @@ impl<R: Rng, C: Checksum> Side<R, C> {
         bytes: &[u8],
         log: &mut Vec<Entry>,
     ) -> Result<(), CallError>
-        ensures { OnOk result (table.InjectsInto (end_tree end) bytes.now (side_in R.stream C.word_of self.old) (side_in R.stream C.word_of self.new)
+        ensures { OnOk result (table.MeetsForeignAt (end_tree end) bytes.now (side_in R.stream C.word_of self.old) (side_in R.stream C.word_of self.new)
             (map entry_tree log.old.items) (map entry_tree log.new.items)) }
     {
         if self.socket.refuses(bytes)? {

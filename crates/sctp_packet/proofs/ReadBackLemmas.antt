@@ -62,9 +62,9 @@ zero_or true p h = omega arith
 zero_or false p h = h
 
 -- what a field for one of two holds, once the other is zero
-kept : (b : Bool) (p n : ℕ) → cond b p n ≡ cond b (cond b p 0) (cond b 0 n)
-kept true p n = refl
-kept false p n = refl
+cond_with_other_zeroed : (b : Bool) (p n : ℕ) → cond b p n ≡ cond b (cond b p 0) (cond b 0 n)
+cond_with_other_zeroed true p n = refl
+cond_with_other_zeroed false p n = refl
 
 twice : (b : Bool) (p : ℕ) → cond b p 0 ≡ cond b (cond b p 0) 0
 twice true p = refl
@@ -82,7 +82,7 @@ same_idata t i f p n q m a b = cc
 
 idata_says : (t : ℕ) (i : Bool) (f : FragmentTree) → chunk_value (idata_chunk t i f) ≡ idata_value 0 t (record f { ssn = 0; ppid = cond f.is_beginning f.ppid 0; fsn = cond f.is_beginning 0 f.fsn })
 unfolding chunk_value idata_value
-idata_says t i f = rw (← kept) refl
+idata_says t i f = rw (← cond_with_other_zeroed) refl
 
 parameters_tile : (ps : List ParameterTree) → All ParameterReadsBack ps → ParsesAll IsParameter (inner_items (map parameter_item ps)) ps []
 parameters_tile ps h = parses_all_inner IsParameter parameter_item ParameterReadsBack parameter_written ps h

@@ -14,7 +14,7 @@ use Rattle.sctp_packet.specs.Packet.{HeaderTree, PacketTree, Accepts, Refuses, h
 use Rattle.sctp_packet.specs.Builder.{BuilderTree, so_far, build}
 use Rattle.sctp_packet.proofs.BuilderLemmas.{built_is_packet}
 use Rattle.sctp_probe.specs.Checksum.{byte_sum}
-use Rattle.sctp_probe.specs.Probing.{default_policy, packet_word, Probes, answer_of, refusal_of, reply_chunk, summed_packet, turn_header, reply_bytes}
+use Rattle.sctp_probe.specs.Probing.{default_policy, packet_word, Probes, answer_of, refusal_of, reply_chunk, summed_packet, reply_header, reply_bytes}
 use Rattle.sctp_packet.proofs.LawLemmas.{packet_long}
 
 -- the word that was handed in is the packet's
@@ -90,12 +90,12 @@ builder h limit body = record { header = h; limit = limit; writes_checksum = tru
 
 -- the packet of a builder to which the reply's chunk was added
 pub reply_made : (h : HeaderTree) (limit tsn : ℕ) (start held : BuilderTree) (t : ChunkTree) (unsummed bytes : List ℕ) (word : ℕ)
-    → start ≡ builder (turn_header h) limit [] → t ≡ reply_chunk tsn → held ≡ record start { body = start.body ++ chunk_bytes t } → unsummed ≡ so_far held.header held.body
+    → start ≡ builder (reply_header h) limit [] → t ≡ reply_chunk tsn → held ≡ record start { body = start.body ++ chunk_bytes t } → unsummed ≡ so_far held.header held.body
     → (12 ≤ length unsummed → word ≡ packet_word unsummed) → bytes ≡ build held.writes_checksum held.header word held.body → bytes ≡ reply_bytes h tsn
 reply_made h limit tsn start held t unsummed bytes word s is e far summed made =
     let body : held.body ≡ chunk_bytes (reply_chunk tsn) =
     ap (λ (b : BuilderTree). b.body) e ∙ ap (λ (b : BuilderTree). b.body ++ chunk_bytes t) s ∙ ap chunk_bytes is in
-    let header : held.header ≡ turn_header h = ap (λ (b : BuilderTree). b.header) e ∙ ap (λ (b : BuilderTree). b.header) s in
+    let header : held.header ≡ reply_header h = ap (λ (b : BuilderTree). b.header) e ∙ ap (λ (b : BuilderTree). b.header) s in
     let on : held.writes_checksum ≡ true = ap (λ (b : BuilderTree). b.writes_checksum) e ∙ ap (λ (b : BuilderTree). b.writes_checksum) s in
-    reply_built (turn_header h) tsn held.body unsummed bytes word body (far ∙ ap (λ (x : HeaderTree). so_far x held.body) header) summed
+    reply_built (reply_header h) tsn held.body unsummed bytes word body (far ∙ ap (λ (x : HeaderTree). so_far x held.body) header) summed
     (made ∙ ap (λ (w : Bool). build w held.header word held.body) on ∙ ap (λ (x : HeaderTree). build true x word held.body) header)

@@ -52,12 +52,12 @@ abbrev pub summed_packet : HeaderTree → List ChunkTree → List ℕ
 summed_packet h chunks = packet_bytes h (byte_sum (unsummed_bytes h (chunks_bytes chunks))) chunks
 
 -- the ports exchanged
-abbrev pub turn_header : HeaderTree → HeaderTree
-turn_header h = record { source_port = h.destination_port; destination_port = h.source_port; verification_tag = h.verification_tag }
+abbrev pub reply_header : HeaderTree → HeaderTree
+reply_header h = record { source_port = h.destination_port; destination_port = h.source_port; verification_tag = h.verification_tag }
 
 -- the reply to a packet with this header and TSN: the ports exchanged, the same tag, and one SACK
 abbrev pub reply_bytes : HeaderTree → ℕ → List ℕ
-reply_bytes h tsn = summed_packet (turn_header h) (reply_chunk tsn ∷ [])
+reply_bytes h tsn = summed_packet (reply_header h) (reply_chunk tsn ∷ [])
 
 -- ---- answers
 

@@ -6,7 +6,7 @@ use Rattle.std.proofs.lemmas.Bool.Decides.{nat_tests}
 use Rattle.sctp_serial.specs.Messages.{Message}
 use Rattle.sctp_fragments.specs.Runs.{is_held, with_item}
 use Rattle.sctp_fragments.specs.Held.{Held, rank_of, NonePass, NoneComplete, NoneInTurn, without_first_of, left_by, intervals_of, is_in_turn, is_complete, IsTaken, IsPlaced, message_of_run}
-use Rattle.sctp_reassembly.specs.Delivery.{OrderedDelivery, OrderedStream, deliver, deliver_within, at_rest, preceded_by, delivering, ordered_arrival, complete_messages, ready_bytes}
+use Rattle.sctp_reassembly.specs.Delivery.{OrderedDelivery, OrderedStream, deliver, deliver_within, at_rest, preceded_by, delivering, ordered_arrival, first_complete, ready_bytes}
 use Rattle.std.proofs.lemmas.List.Sums.{sum_by_push}
 use Rattle.sctp_reassembly.proofs.FindLemmas.{found, without_found, not_found, taken_left}
 
@@ -84,7 +84,7 @@ module _ (old mid : List Held) (x : Held) (place : ℕ) (none : NoneComplete (in
   pub left_taken : (run new : List Held) → IsTaken mid run new place → new ≡ left_by is_complete mid
   left_taken run new t = taken_left is_complete mid run new t.front t.back t.runs (NonePass_front is_complete t.front t.back (none_around run new t)) t.complete t.rest
 
-  pub found_taken : (run new : List Held) → IsTaken mid run new place → complete_messages mid ≡ message_of_run run ∷ []
+  pub found_taken : (run new : List Held) → IsTaken mid run new place → first_complete mid ≡ message_of_run run ∷ []
   found_taken run new t =
       ap (λ (o : Option (List Held)). option_to_list (option_map message_of_run o))
       (ap (find is_complete) t.runs ∙ found is_complete t.front t.back run (NonePass_front is_complete t.front t.back (none_around run new t)) t.complete)
@@ -129,8 +129,8 @@ whole_leaves x s n hs none turn same kept =
     made : state (n + 1) hs ≡ state (suc s.next) []
     made = ap (λ (k : ℕ). state k hs) next ∙ ap (state (suc s.next)) (kept ∙ no_items s.held none)
 
-pub none_completed : (hs : List Held) → NoneComplete (intervals_of hs) → complete_messages hs ≡ []
-none_completed hs none = ap (λ (o : Option (List Held)). option_to_list (option_map message_of_run o)) (not_found is_complete (intervals_of hs) none)
+pub first_complete_none : (hs : List Held) → NoneComplete (intervals_of hs) → first_complete hs ≡ []
+first_complete_none hs none = ap (λ (o : Option (List Held)). option_to_list (option_map message_of_run o)) (not_found is_complete (intervals_of hs) none)
 
 -- an unordered fragment whose key is held
 pub added_none : (old mid : List Held) (x : Held) → mid ≡ with_item rank_of x old → true ≡ is_held rank_of (rank_of x) old → mid ≡ old

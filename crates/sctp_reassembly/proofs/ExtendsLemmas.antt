@@ -2,7 +2,7 @@
 use Rattle.std.proofs.Common.{◌≡◌, ℕ, ◌-◌, ◌<◌, ◌≤◌, ◌^◌, List, [], ◌++◌, length, ap, sym, ◌∙◌, arith, append_assoc, append-nil, length-append}
 use Rattle.sctp_serial.specs.Messages.{Message}
 use Rattle.sctp_reassembly.specs.Delivery.{Extends}
-use Rattle.sctp_reassembly.specs.ReassemblyQueue.{Reassembly, count_ready, IsCounted}
+use Rattle.sctp_reassembly.specs.ReassemblyQueue.{Reassembly, saturating_sum, IsCounted}
 
 pub extends_none : (old : List Message) → Extends old old
 extends_none old = record { more = []; made = sym (append-nil old) }
@@ -18,12 +18,12 @@ extends_both a b c p q = record { more = p.more ++ q.more; made = q.made ∙ (ap
 pub extends_length : (a b : List Message) → Extends a b → length a ≤ length b
 extends_length a b e = omega (arith, ap length e.made, length-append a e.more)
 
-pub counted_none : (n l : ℕ) → n < 2 ^ 64 → n ≡ count_ready n (l - l)
-counted_none n l small = omega (arith, small)
+pub saturating_sum_none : (n l : ℕ) → n < 2 ^ 64 → n ≡ saturating_sum n (l - l)
+saturating_sum_none n l small = omega (arith, small)
 
-counted_twice : (n m k a b c : ℕ) → a ≤ b → b ≤ c → m ≡ count_ready n (b - a) → k ≡ count_ready m (c - b) → k ≡ count_ready n (c - a)
-counted_twice n m k a b c up more first then = omega (arith, up, more, first, then)
+saturating_sum_twice : (n m k a b c : ℕ) → a ≤ b → b ≤ c → m ≡ saturating_sum n (b - a) → k ≡ saturating_sum m (c - b) → k ≡ saturating_sum n (c - a)
+saturating_sum_twice n m k a b c up more first then = omega (arith, up, more, first, then)
 
 pub counted_both : (p q r : Reassembly) → Extends p.ready q.ready → Extends q.ready r.ready → IsCounted p q → IsCounted q r → IsCounted p r
 counted_both p q r e f first then =
-    counted_twice p.ready_count q.ready_count r.ready_count (length p.ready) (length q.ready) (length r.ready) (extends_length p.ready q.ready e) (extends_length q.ready r.ready f) first then
+    saturating_sum_twice p.ready_count q.ready_count r.ready_count (length p.ready) (length q.ready) (length r.ready) (extends_length p.ready q.ready e) (extends_length q.ready r.ready f) first then

@@ -19,9 +19,9 @@ use Rattle.sctp_state.specs.declared.api.handover.HandoverUnorderedStream.{Hando
 use Rattle.sctp_fragments.specs.Runs.{from_rank}
 use Rattle.sctp_fragments.specs.Held.{Held, rank_of}
 use Rattle.sctp_reassembly.specs.Delivery.{UnorderedStream, fresh_unordered, held_from}
-use Rattle.sctp_reassembly.specs.ReassemblyStreams.{Entries, stream_at, open_stream, write_stream, change_stream, is_named, forget}
+use Rattle.sctp_reassembly.specs.ReassemblyStreams.{Entries, stream_at, with_stream, put_stream, set_stream, is_named, forget}
 use Rattle.sctp_reassembly.specs.ReassemblyHandover.{unordered_records}
-use Rattle.sctp_reassembly.specs.NotedStreams.{Notes, note_cmp, is_noted, HasNote, AreNoted, OthersAreNoted, KeepsOthers, NoneBelow, forward}
+use Rattle.sctp_reassembly.specs.UnorderedByTsn.{Notes, note_cmp, is_noted, HasNote, AreNoted, OthersAreNoted, KeepsOthers, NoneBelow, drop_below}
 use Rattle.sctp_serial.proofs.NumberLemmas.{equal_at, at_itself, is_equal, not_at}
 
 -- ---- the order of notes
@@ -81,14 +81,14 @@ module _ {S : Type 0} (fresh : S) (q id : ℕ) (other : (q == id) ≡ false) whe
   before true v o p h = refl
   before false v o p h = h
 
-  other_written : (s : S) (es : Entries S) → stream_at fresh q (write_stream id s es) ≡ stream_at fresh q es
+  other_written : (s : S) (es : Entries S) → stream_at fresh q (put_stream id s es) ≡ stream_at fresh q es
   other_written s [] = refl
   other_written s (e ∷ es) = go (is_at (nat_cmp id) e.0) refl (other_written s es)
     where
-      go : (b : Bool) → is_at (nat_cmp id) e.0 ≡ b → stream_at fresh q (write_stream id s es) ≡ stream_at fresh q es
-          → stream_at fresh q (cond b ((e.0, s) ∷ es) (e ∷ write_stream id s es)) ≡ stream_at fresh q (e ∷ es)
+      go : (b : Bool) → is_at (nat_cmp id) e.0 ≡ b → stream_at fresh q (put_stream id s es) ≡ stream_at fresh q es
+          → stream_at fresh q (cond b ((e.0, s) ∷ es) (e ∷ put_stream id s es)) ≡ stream_at fresh q (e ∷ es)
       go true h ih = past e s (lookup (is_at (nat_cmp q)) es) (equal_at id e.0 h) ∙ sym (past e e.1 (lookup (is_at (nat_cmp q)) es) (equal_at id e.0 h))
-      go false h ih = before (is_at (nat_cmp q) e.0) e.1 (lookup (is_at (nat_cmp q)) (write_stream id s es)) (lookup (is_at (nat_cmp q)) es) ih
+      go false h ih = before (is_at (nat_cmp q) e.0) e.1 (lookup (is_at (nat_cmp q)) (put_stream id s es)) (lookup (is_at (nat_cmp q)) es) ih
 
   other_inserted : (s : S) (es : Entries S) → stream_at fresh q (insert_entry nat_cmp es id s) ≡ stream_at fresh q es
   other_inserted s [] = past (id, s) s None refl
@@ -100,21 +100,21 @@ module _ {S : Type 0} (fresh : S) (q id : ℕ) (other : (q == id) ≡ false) whe
       go Equal h ih = past e s (lookup (is_at (nat_cmp q)) es) (is_equal id e.0 h) ∙ sym (past e e.1 (lookup (is_at (nat_cmp q)) es) (is_equal id e.0 h))
       go Greater h ih = before (is_at (nat_cmp q) e.0) e.1 (lookup (is_at (nat_cmp q)) (insert_entry nat_cmp es id s)) (lookup (is_at (nat_cmp q)) es) ih
 
-  other_opened : (es : Entries S) → stream_at fresh q (open_stream fresh id es) ≡ stream_at fresh q es
+  other_opened : (es : Entries S) → stream_at fresh q (with_stream fresh id es) ≡ stream_at fresh q es
   other_opened es = go (is_some (lookup (is_at (nat_cmp id)) es))
     where
       go : (b : Bool) → stream_at fresh q (cond b es (insert_entry nat_cmp es id fresh)) ≡ stream_at fresh q es
       go true = refl
       go false = other_inserted fresh es
 
-pub written_others : (id : ℕ) (s : UnorderedStream) (notes : Notes) (es new : Entries UnorderedStream) → new ≡ write_stream id s es → AreNoted notes es → OthersAreNoted id notes new
+pub written_others : (id : ℕ) (s : UnorderedStream) (notes : Notes) (es new : Entries UnorderedStream) → new ≡ put_stream id s es → AreNoted notes es → OthersAreNoted id notes new
 written_others id s notes es new made all q other =
     subst (λ (t : UnorderedStream). HasNote notes q t.held) (sym (ap (stream_at fresh_unordered q) made ∙ other_written fresh_unordered q id other s es)) (all q)
 
-pub changed_others : (id : ℕ) (s : UnorderedStream) (notes : Notes) (es new : Entries UnorderedStream) → new ≡ change_stream fresh_unordered id s es → AreNoted notes es → OthersAreNoted id notes new
+pub changed_others : (id : ℕ) (s : UnorderedStream) (notes : Notes) (es new : Entries UnorderedStream) → new ≡ set_stream fresh_unordered id s es → AreNoted notes es → OthersAreNoted id notes new
 changed_others id s notes es new made all q other =
     subst (λ (t : UnorderedStream). HasNote notes q t.held)
-    (sym (ap (stream_at fresh_unordered q) made ∙ (other_written fresh_unordered q id other s (open_stream fresh_unordered id es) ∙ other_opened fresh_unordered q id other es)))
+    (sym (ap (stream_at fresh_unordered q) made ∙ (other_written fresh_unordered q id other s (with_stream fresh_unordered id es) ∙ other_opened fresh_unordered q id other es)))
     (all q)
 
 -- ---- a forward point
@@ -128,17 +128,17 @@ again n (h ∷ hs) = go (nat_lt (rank_of h) n) refl (again n hs)
     go true t ih = ih
     go false t ih = ap (λ b. cond b (from_rank rank_of n (from_rank rank_of n hs)) (h ∷ from_rank rank_of n (from_rank rank_of n hs))) t ∙ ap (λ ks. h ∷ ks) ih
 
-same_forwarded : (n : ℕ) (test : ℕ → Bool) (w : UnorderedStream) (es : Entries UnorderedStream) → ((v : UnorderedStream) → lookup test es ≡ Some v → held_from n w ≡ held_from n v) → forward n (set_value test es w) ≡ forward n es
+same_forwarded : (n : ℕ) (test : ℕ → Bool) (w : UnorderedStream) (es : Entries UnorderedStream) → ((v : UnorderedStream) → lookup test es ≡ Some v → held_from n w ≡ held_from n v) → drop_below n (set_value test es w) ≡ drop_below n es
 same_forwarded n test w [] h = refl
 same_forwarded n test w (e ∷ es) h = go (test e.0) refl (same_forwarded n test w es)
   where
-    go : (b : Bool) → test e.0 ≡ b → (((v : UnorderedStream) → lookup test es ≡ Some v → held_from n w ≡ held_from n v) → forward n (set_value test es w) ≡ forward n es) → forward n (cond b ((e.0, w) ∷ es) (e ∷ set_value test es w)) ≡ (e.0, held_from n e.1) ∷ forward n es
-    go true t ih = ap (λ (s : UnorderedStream). (e.0, s) ∷ forward n es) (h e.1 (ap (λ b. cond b (Some e.1) (lookup test es)) t))
+    go : (b : Bool) → test e.0 ≡ b → (((v : UnorderedStream) → lookup test es ≡ Some v → held_from n w ≡ held_from n v) → drop_below n (set_value test es w) ≡ drop_below n es) → drop_below n (cond b ((e.0, w) ∷ es) (e ∷ set_value test es w)) ≡ (e.0, held_from n e.1) ∷ drop_below n es
+    go true t ih = ap (λ (s : UnorderedStream). (e.0, s) ∷ drop_below n es) (h e.1 (ap (λ b. cond b (Some e.1) (lookup test es)) t))
     go false t ih = ap (λ (ds : Entries UnorderedStream). (e.0, held_from n e.1) ∷ ds) (ih (λ v l. h v (ap (λ b. cond b (Some e.1) (lookup test es)) t ∙ l)))
 
-pub forwarded_one : (n id : ℕ) (es new : Entries UnorderedStream) → new ≡ write_stream id (held_from n (stream_at fresh_unordered id es)) es → forward n new ≡ forward n es
+pub forwarded_one : (n id : ℕ) (es new : Entries UnorderedStream) → new ≡ put_stream id (held_from n (stream_at fresh_unordered id es)) es → drop_below n new ≡ drop_below n es
 forwarded_one n id es new made =
-    ap (forward n) made
+    ap (drop_below n) made
     ∙ same_forwarded n (is_at (nat_cmp id)) (held_from n (stream_at fresh_unordered id es)) es
     (λ v l. ap (λ (o : Option UnorderedStream). held_from n (held_from n (unwrap_or o fresh_unordered))) l ∙ ap (λ (hs : List Held). record v { held = hs }) (again n v.held))
 
@@ -150,7 +150,7 @@ none_held n notes id hs none has =
     ]
 
 keeps_all : (n : ℕ) (es : Entries UnorderedStream) → IsStrictlySortedBy nat_cmp (keys_of es)
-    → ((id : ℕ) → from_rank rank_of n (stream_at fresh_unordered id es).held ≡ (stream_at fresh_unordered id es).held) → es ≡ forward n es
+    → ((id : ℕ) → from_rank rank_of n (stream_at fresh_unordered id es).held ≡ (stream_at fresh_unordered id es).held) → es ≡ drop_below n es
 keeps_all n [] sorted h = refl
 keeps_all n (e ∷ es) sorted h =
     ap (λ (hs : List Held). (e.0, record e.1 { held = hs }) ∷ es) (sym head) ∙ ap (λ (ds : Entries UnorderedStream). (e.0, held_from n e.1) ∷ ds) (keeps_all n es (sorted_tail nat_cmp e.0 (keys_of es) sorted) tail)
@@ -171,7 +171,7 @@ keeps_all n (e ∷ es) sorted h =
             subst (λ (s : UnorderedStream). from_rank rank_of n s.held ≡ s.held) (sym none) refl
         go false t = subst (λ (s : UnorderedStream). from_rank rank_of n s.held ≡ s.held) (ap (λ b. unwrap_or (cond b (Some e.1) (lookup (is_at (nat_cmp id)) es)) fresh_unordered) t) (h id)
 
-pub none_left : (n : ℕ) (notes : Notes) (es : Entries UnorderedStream) → IsStrictlySortedBy nat_cmp (keys_of es) → NoneBelow n notes → AreNoted notes es → es ≡ forward n es
+pub none_left : (n : ℕ) (notes : Notes) (es : Entries UnorderedStream) → IsStrictlySortedBy nat_cmp (keys_of es) → NoneBelow n notes → AreNoted notes es → es ≡ drop_below n es
 none_left n notes es sorted none all = keeps_all n es sorted (λ id. none_held n notes id (stream_at fresh_unordered id es).held none (all id))
 
 -- a stream that isn't there stays so

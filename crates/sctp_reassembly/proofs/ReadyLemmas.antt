@@ -9,7 +9,7 @@ use Rattle.sctp_serial.specs.Messages.{Message}
 use Rattle.sctp_fragments.specs.ReassemblyKey.{pair_rank}
 use Rattle.sctp_fragments.specs.Runs.{flat, last_of, with_item, from_rank, end_of, AreRuns}
 use Rattle.sctp_fragments.specs.Held.{Held, rank_of, goes_on, begins, ends, intervals_of, is_complete, is_in_turn, without_first_of, left_by, message_of_run}
-use Rattle.sctp_reassembly.specs.Delivery.{OrderedStream, UnorderedStream, OrderedDelivery, at_rest, delivering, deliver_within, deliver, ordered_arrival, ordered_forward, complete_messages, deliver_complete, unordered_arrival}
+use Rattle.sctp_reassembly.specs.Delivery.{OrderedStream, UnorderedStream, OrderedDelivery, at_rest, delivering, deliver_within, deliver, ordered_arrival, ordered_forward, first_complete, deliver_first_complete, unordered_arrival}
 use Rattle.sctp_reassembly.specs.SettledLaws.{AreInOrder}
 use Rattle.sctp_reassembly.specs.ReadyLaws.{held_at, AreHeld, IsWhole, AreParted, AreReady, AreReadyInTurn, IsIn}
 use Rattle.sctp_fragments.proofs.RunLemmas.{AreRuns_back, flat_append, flat_runs_of}
@@ -119,8 +119,8 @@ pub ready_forward : (n : ℕ) (s : OrderedStream) → AreInOrder s.held → AreR
 ready_forward n s h =
     ready_within (length (intervals_of (from_rank rank_of (pair_rank (suc n) 0) s.held))) (max (suc n) s.next) (from_rank rank_of (pair_rank (suc n) 0) s.held) (from_order (pair_rank (suc n) 0) s.held h)
 
-ready_complete : (hs : List Held) → AreInOrder hs → AreReady hs (left_by is_complete hs) (complete_messages hs)
-ready_complete hs h = go (find is_complete (intervals_of hs)) refl
+ready_first_complete : (hs : List Held) → AreInOrder hs → AreReady hs (left_by is_complete hs) (first_complete hs)
+ready_first_complete hs h = go (find is_complete (intervals_of hs)) refl
   where
     go : (o : Option (List Held)) → find is_complete (intervals_of hs) ≡ o → AreReady hs (left_by is_complete hs) (option_to_list (option_map message_of_run o))
     go None is = subst (λ (t : List Held). AreReady hs t []) (sym (left_unfound is_complete hs is)) (none_ready hs)
@@ -136,6 +136,6 @@ ready_complete hs h = go (find is_complete (intervals_of hs)) refl
 pub ready_unordered : (x : Held) (s : UnorderedStream) → AreInOrder s.held → nat_lt x.number s.passed ≡ false → AreReady (with_item rank_of x s.held) (unordered_arrival x s).stream.held (unordered_arrival x s).messages
 ready_unordered x s h late = go (nat_lt x.number s.passed) late
   where
-    go : (b : Bool) → b ≡ false → (let d = cond b (record { stream = record s { near = max origin x.number }; messages = [] }) (deliver_complete (record s { near = max origin x.number; held = with_item rank_of x s.held })) in AreReady (with_item rank_of x s.held) d.stream.held d.messages)
+    go : (b : Bool) → b ≡ false → (let d = cond b (record { stream = record s { near = max origin x.number }; messages = [] }) (deliver_first_complete (record s { near = max origin x.number; held = with_item rank_of x s.held })) in AreReady (with_item rank_of x s.held) d.stream.held d.messages)
     go true wrong = absurd (cc)
-    go false _ = ready_complete (with_item rank_of x s.held) (came_in x s.held h).order
+    go false _ = ready_first_complete (with_item rank_of x s.held) (came_in x s.held h).order

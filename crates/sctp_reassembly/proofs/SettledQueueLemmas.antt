@@ -5,7 +5,7 @@ use Rattle.sctp_serial.specs.declared.api.StreamId.{StreamId}
 use Rattle.sctp_chunk.specs.declared.forward_tsn.SkippedStream.{SkippedStream}
 use Rattle.sctp_chunk.specs.Chunk.{FragmentTree}
 use Rattle.sctp_reassembly.specs.ReassemblyStreams.{is_far, entries_in}
-use Rattle.sctp_reassembly.specs.ReassemblyQueue.{Waiting, Added, Forwarded, Reassembly, reassembly, number_of, came, waits, add_now, forward_now, fragment_waits, point_waits, add_or_wait, resetting, waiting_in, wait_with, forward_or_wait, add, forward, apply, apply_each, reset}
+use Rattle.sctp_reassembly.specs.ReassemblyQueue.{Waiting, Added, Forwarded, Reassembly, reassembly, number_of, came, keep_back, add_now, forward_now, is_kept_back, point_waits, add_or_keep_back, resetting, waiting_in, wait_with, forward_or_wait, add, forward, apply, apply_each, reset}
 use Rattle.std.specs.List.{All}
 use Rattle.std.specs.Map.{values_of}
 use Rattle.std.proofs.lemmas.List.Elements.{All-nil, All-cons}
@@ -25,13 +25,13 @@ module _ (r : Reassembly) (h : AreSettled r.streams) where
   pub settled_arrives : (tsn : ℕ) (f : FragmentTree) → AreSettled (add tsn f r).streams
   settled_arrives tsn f = go (is_far (number_of r tsn))
     where
-      now : (b : Bool) → AreSettled (cond b (waits (Added (number_of r tsn) f) (came tsn r)) (add_now (number_of r tsn) f (came tsn r))).streams
+      now : (b : Bool) → AreSettled (cond b (keep_back (Added (number_of r tsn) f) (came tsn r)) (add_now (number_of r tsn) f (came tsn r))).streams
       now true = h
       now false = settled_add r.streams h (number_of r tsn) f
 
-      go : (b : Bool) → AreSettled (cond b r (add_or_wait (number_of r tsn) f (came tsn r))).streams
+      go : (b : Bool) → AreSettled (cond b r (add_or_keep_back (number_of r tsn) f (came tsn r))).streams
       go true = h
-      go false = now (fragment_waits (number_of r tsn) f.stream_id r.deferred)
+      go false = now (is_kept_back (number_of r tsn) f.stream_id r.deferred)
 
   pub settled_passes : (tsn : ℕ) (es : List SkippedStream) → AreSettled (forward tsn es r).streams
   settled_passes tsn es = go (is_far (number_of r tsn))
@@ -45,7 +45,7 @@ module _ (r : Reassembly) (h : AreSettled r.streams) where
       named : List SkippedStream
       named = entries_in true (resetting r.deferred) es
 
-      later : (b : Bool) → AreSettled part.streams → AreSettled (cond b part (waits (Forwarded n named) part)).streams
+      later : (b : Bool) → AreSettled part.streams → AreSettled (cond b part (keep_back (Forwarded n named) part)).streams
       later true k = k
       later false k = k
 

@@ -9,15 +9,15 @@ use Rattle.std.proofs.lemmas.List.Elements.{All-nil, All-cons, All-head, All-tai
 use Rattle.std.proofs.lemmas.Map.Views.{All-values-insert_entry, All-values-set_value}
 use Rattle.sctp_serial.specs.declared.api.StreamId.{StreamId}
 use Rattle.sctp_serial.specs.declared.types.StreamKey.TheVariants.{Ordered, Unordered}
-use Rattle.sctp_serial.specs.Unwrapped.{origin, words, halves, nearest}
+use Rattle.sctp_serial.specs.Unwrapped.{origin, u32_space, halves, nearest}
 use Rattle.sctp_chunk.specs.Chunk.{FragmentTree}
 use Rattle.sctp_chunk.specs.declared.forward_tsn.SkippedStream.{SkippedStream}
 use Rattle.sctp_chunk.specs.declared.forward_tsn.SkippedStream.TheVariants.{ForwardTsn, IForwardTsn}
 use Rattle.sctp_fragments.specs.Runs.{with_item, from_rank}
 use Rattle.sctp_fragments.specs.ReassemblyKey.{pair_rank}
 use Rattle.sctp_fragments.specs.Held.{Held, rank_of, intervals_of, is_complete, is_in_turn, left_by}
-use Rattle.sctp_reassembly.specs.Delivery.{OrderedStream, UnorderedStream, OrderedDelivery, UnorderedDelivery, fresh_ordered, fresh_unordered, at_rest, delivering, deliver, deliver_within, ordered_arrival, ordered_forward, deliver_complete, unordered_arrival, unordered_forward, unordered_forward_tsn, held_from}
-use Rattle.sctp_reassembly.specs.ReassemblyStreams.{Entries, Streams, stream_at, open_stream, change_stream, is_named, no_streams, is_far, held_as, ordered_number, unordered_number, with_ordered, with_unordered, unchanged, add_ordered, add_unordered, add_in_order, add, skip_ordered, skip_unordered, skip_of, skip, skip_each, by_stream, dropped_to, forward, reset}
+use Rattle.sctp_reassembly.specs.Delivery.{OrderedStream, UnorderedStream, OrderedDelivery, UnorderedDelivery, fresh_ordered, fresh_unordered, at_rest, delivering, deliver, deliver_within, ordered_arrival, ordered_forward, deliver_first_complete, unordered_arrival, unordered_forward, unordered_forward_tsn, held_from}
+use Rattle.sctp_reassembly.specs.ReassemblyStreams.{Entries, Streams, stream_at, with_stream, set_stream, is_named, no_streams, is_far, held_as, ordered_number, unordered_number, with_ordered, with_unordered, unchanged, add_ordered, add_unordered, add_in_order, add, skip_ordered, skip_unordered, skip_of, skip, skip_each, by_stream, dropped_to, forward, reset}
 use Rattle.sctp_reassembly.specs.SettledLaws.{AreInOrder, IsSettledInOrder, IsSettled, AreSettled}
 use Rattle.sctp_reassembly.proofs.DeliverLemmas.{length_found}
 use Rattle.sctp_reassembly.proofs.SettledRunsLemmas.{left_intervals, left_order, find_none, none_empty, from_order, from_none}
@@ -56,7 +56,7 @@ settled_forward n s h = settled_deliver (max (suc n) s.next) (from_rank rank_of 
 settled_unordered : (x : Held) (s : UnorderedStream) → IsSettled s → IsSettled (unordered_arrival x s).stream
 settled_unordered x s h = go (nat_lt x.number s.passed)
   where
-    go : (b : Bool) → IsSettled (cond b (record { stream = record s { near = max origin x.number }; messages = [] }) (deliver_complete (record s { near = max origin x.number; held = with_item rank_of x s.held }))).stream
+    go : (b : Bool) → IsSettled (cond b (record { stream = record s { near = max origin x.number }; messages = [] }) (deliver_first_complete (record s { near = max origin x.number; held = with_item rank_of x s.held }))).stream
     go true = record { order = h.order; none = h.none }
     go false =
         let came = came_in x s.held h.order in
@@ -79,15 +79,15 @@ module _ {S : Type 0} (P : S → Type 0) (fresh : S) (at_first : P fresh) where
       go rest true = All-head P e.1 (values_of es) h
       go rest false = rest
 
-  all_opened : (id : ℕ) (es : Entries S) → All P (values_of es) → All P (values_of (open_stream fresh id es))
+  all_opened : (id : ℕ) (es : Entries S) → All P (values_of es) → All P (values_of (with_stream fresh id es))
   all_opened id es h = go (is_some (lookup (is_at (nat_cmp id)) es))
     where
       go : (b : Bool) → All P (values_of (cond b es (insert_entry nat_cmp es id fresh)))
       go true = h
       go false = All-values-insert_entry nat_cmp id fresh P es h at_first
 
-  all_changed : (id : ℕ) (s : S) (es : Entries S) → All P (values_of es) → P s → All P (values_of (change_stream fresh id s es))
-  all_changed id s es h k = All-values-set_value (is_at (nat_cmp id)) P (open_stream fresh id es) s (all_opened id es h) k
+  all_changed : (id : ℕ) (s : S) (es : Entries S) → All P (values_of es) → P s → All P (values_of (set_stream fresh id s es))
+  all_changed id s es h k = All-values-set_value (is_at (nat_cmp id)) P (with_stream fresh id es) s (all_opened id es h) k
 
 module _ {S : Type 0} (P : S → Type 0) where
   all_kept : (test : ℕ × S → Bool) (es : Entries S) → All P (values_of es) → All P (values_of (filter test es))
@@ -123,7 +123,7 @@ module _ (ss : Streams) (h : AreSettled ss) where
   ordered_so : (id : ℕ) (d : OrderedDelivery) → IsSettledInOrder d.stream → AreSettled (with_ordered id d ss).streams
   ordered_so id d k = record { ordered = all_changed IsSettledInOrder fresh_ordered first_ordered id d.stream ss.ordered h.ordered k; unordered = h.unordered }
 
-  unordered_so : (id : ℕ) (s : UnorderedStream) → IsSettled s → AreSettled (record ss { unordered = change_stream fresh_unordered id s ss.unordered })
+  unordered_so : (id : ℕ) (s : UnorderedStream) → IsSettled s → AreSettled (record ss { unordered = set_stream fresh_unordered id s ss.unordered })
   unordered_so id s k = record { ordered = h.ordered; unordered = all_changed IsSettled fresh_unordered first_unordered id s ss.unordered h.unordered k }
 
   settled_ordered : (id : ℕ) (x : Held) → AreSettled (add_ordered id x ss).streams
@@ -169,7 +169,7 @@ module _ (ss : Streams) (h : AreSettled ss) where
       s : UnorderedStream
       s = unordered_forward n (stream_at fresh_unordered id ss.unordered)
 
-      go : (b : Bool) → AreSettled (cond b (unchanged ss) (record { streams = record ss { unordered = change_stream fresh_unordered id s ss.unordered }; messages = [] })).streams
+      go : (b : Bool) → AreSettled (cond b (unchanged ss) (record { streams = record ss { unordered = set_stream fresh_unordered id s ss.unordered }; messages = [] })).streams
       go true = h
       go false = unordered_so id s (settled_past n (stream_at fresh_unordered id ss.unordered) (at_unordered id))
 
@@ -180,8 +180,8 @@ module _ (ss : Streams) (h : AreSettled ss) where
       go false (ForwardTsn id ssn) = skips_ordered id.0 (nearest halves 0 (stream_at fresh_ordered id.0 ss.ordered).next ssn.0)
       go false (IForwardTsn key mid) = h
       go true (ForwardTsn id ssn) = h
-      go true (IForwardTsn (Ordered id) mid) = skips_ordered id.0 (nearest words 0 (stream_at fresh_ordered id.0 ss.ordered).next mid.0)
-      go true (IForwardTsn (Unordered id) mid) = skips_unordered id.0 (nearest words 0 (stream_at fresh_unordered id.0 ss.unordered).near mid.0)
+      go true (IForwardTsn (Ordered id) mid) = skips_ordered id.0 (nearest u32_space 0 (stream_at fresh_ordered id.0 ss.ordered).next mid.0)
+      go true (IForwardTsn (Unordered id) mid) = skips_unordered id.0 (nearest u32_space 0 (stream_at fresh_unordered id.0 ss.unordered).near mid.0)
 
   pub settled_dropped : (tsn : ℕ) → AreSettled (dropped_to tsn ss)
   settled_dropped tsn = record { ordered = h.ordered; unordered = go ss.is_interleaved }

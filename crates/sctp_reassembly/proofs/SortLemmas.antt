@@ -24,14 +24,14 @@ untied m n h = grind (arith, nat_tests)
 one_stream : (x y : SkippedStream) → is_beside x y ≡ true → skipped_id x ≡ skipped_id y
 one_stream x y = tied (skipped_id x) (skipped_id y)
 
-kept : (x y : SkippedStream) (ys : List SkippedStream) → is_beside x y ≡ true → filter (is_beside x) (y ∷ ys) ≡ y ∷ filter (is_beside x) ys
-kept x y ys h = cond-true _ _ _ h
+filter_keeps_first : (x y : SkippedStream) (ys : List SkippedStream) → is_beside x y ≡ true → filter (is_beside x) (y ∷ ys) ≡ y ∷ filter (is_beside x) ys
+filter_keeps_first x y ys h = cond-true _ _ _ h
 
-dropped : (x y : SkippedStream) (ys : List SkippedStream) → is_beside x y ≡ false → filter (is_beside x) (y ∷ ys) ≡ filter (is_beside x) ys
-dropped x y ys h = cond-false _ _ _ h
+filter_drops_first : (x y : SkippedStream) (ys : List SkippedStream) → is_beside x y ≡ false → filter (is_beside x) (y ∷ ys) ≡ filter (is_beside x) ys
+filter_drops_first x y ys h = cond-false _ _ _ h
 
-kept_itself : (y : SkippedStream) (ys : List SkippedStream) → filter (is_beside y) (y ∷ ys) ≡ y ∷ filter (is_beside y) ys
-kept_itself y ys = kept y y ys (ties_from (skipped_id y) (skipped_id y) refl)
+filter_keeps_itself : (y : SkippedStream) (ys : List SkippedStream) → filter (is_beside y) (y ∷ ys) ≡ y ∷ filter (is_beside y) ys
+filter_keeps_itself y ys = filter_keeps_first y y ys (ties_from (skipped_id y) (skipped_id y) refl)
 
 -- ---- ascending streams
 
@@ -61,7 +61,7 @@ rise_sorted (y ∷ ys) h = (
 -- none of a stream below all of them
 none_below : (x : SkippedStream) (n : ℕ) (ys : List SkippedStream) → skipped_id x < n → AreFrom n ys → filter (is_beside x) ys ≡ []
 none_below x n [] less h = refl
-none_below x n (y ∷ ys) less h = dropped x y ys (untied (skipped_id x) (skipped_id y) (omega (arith, less, h.0))) ∙ none_below x n ys less h.1
+none_below x n (y ∷ ys) less h = filter_drops_first x y ys (untied (skipped_id x) (skipped_id y) (omega (arith, less, h.0))) ∙ none_below x n ys less h.1
 
 not_below : (x y : SkippedStream) (n : ℕ) (ys es : List SkippedStream) → AreFrom n ys → filter (is_beside x) ys ≡ y ∷ es → n ≤ skipped_id x
 not_below x y n ys es h some = elim (cases_lt (skipped_id x) n) [
@@ -100,9 +100,9 @@ put_beside x e (d ∷ ds) h = elim (cases_lt (skipped_id e) (skipped_id d)) [
       ∙ elim (cases_Bool (is_beside x e)) [
         | inl with ↦
             let none : filter (is_beside x) (d ∷ ds) ≡ [] = none_below x (skipped_id d) (d ∷ ds) (omega (arith, less, one_stream x e with)) (omega arith, h.0) in
-            kept x e (d ∷ ds) with ∙ ap (λ t. e ∷ t) none ∙ sym (kept x e [] with) ∙ ap (λ t. t ++ filter (is_beside x) (e ∷ [])) (sym none) ∙ sym (filter-append (is_beside x) (d ∷ ds) (e ∷ []))
+            filter_keeps_first x e (d ∷ ds) with ∙ ap (λ t. e ∷ t) none ∙ sym (filter_keeps_first x e [] with) ∙ ap (λ t. t ++ filter (is_beside x) (e ∷ [])) (sym none) ∙ sym (filter-append (is_beside x) (d ∷ ds) (e ∷ []))
         | inr without ↦
-            dropped x e (d ∷ ds) without ∙ sym (append-nil _) ∙ ap (λ t. filter (is_beside x) (d ∷ ds) ++ t) (sym (dropped x e [] without)) ∙ sym (filter-append (is_beside x) (d ∷ ds) (e ∷ []))
+            filter_drops_first x e (d ∷ ds) without ∙ sym (append-nil _) ∙ ap (λ t. filter (is_beside x) (d ∷ ds) ++ t) (sym (filter_drops_first x e [] without)) ∙ sym (filter-append (is_beside x) (d ∷ ds) (e ∷ []))
       ]
   | inr least ↦
       ap (filter (is_beside x)) (put_behind e d ds least) ∙ ap (λ t. cond (is_beside x d) (d ∷ t) t) (put_beside x e ds h.1)
@@ -123,19 +123,19 @@ each_beside x (e ∷ es) xs h =
 
 same_entries : (ys zs : List SkippedStream) → Rise ys → Rise zs → ((x : SkippedStream) → filter (is_beside x) ys ≡ filter (is_beside x) zs) → ys ≡ zs
 same_entries [] [] left right same = refl
-same_entries [] (z ∷ zs) left right same = let clash = same z ∙ kept_itself z zs in absurd (cc)
-same_entries (y ∷ ys) [] left right same = let clash = sym (same y) ∙ kept_itself y ys in absurd (cc)
+same_entries [] (z ∷ zs) left right same = let clash = same z ∙ filter_keeps_itself z zs in absurd (cc)
+same_entries (y ∷ ys) [] left right same = let clash = sym (same y) ∙ filter_keeps_itself y ys in absurd (cc)
 same_entries (y ∷ ys) (z ∷ zs) left right same =
-    let up = not_below y y (skipped_id z) (z ∷ zs) _ (omega arith, right.0) (sym (same y) ∙ kept_itself y ys) in
-    let down = not_below z z (skipped_id y) (y ∷ ys) _ (omega arith, left.0) (same z ∙ kept_itself z zs) in
-    let heads = sym (kept_itself y ys) ∙ same y ∙ kept y z zs (ties_from (skipped_id y) (skipped_id z) (omega (arith, up, down))) in
+    let up = not_below y y (skipped_id z) (z ∷ zs) _ (omega arith, right.0) (sym (same y) ∙ filter_keeps_itself y ys) in
+    let down = not_below z z (skipped_id y) (y ∷ ys) _ (omega arith, left.0) (same z ∙ filter_keeps_itself z zs) in
+    let heads = sym (filter_keeps_itself y ys) ∙ same y ∙ filter_keeps_first y z zs (ties_from (skipped_id y) (skipped_id z) (omega (arith, up, down))) in
     let head : y ≡ z = cc in
     let tails : (x : SkippedStream) → filter (is_beside x) ys ≡ filter (is_beside x) zs =
     λ x. elim (cases_Bool (is_beside x y)) [
       | inl with ↦
-          let both = sym (kept x y ys with) ∙ same x ∙ kept x z zs (ap (is_beside x) (sym head) ∙ with) in cc
+          let both = sym (filter_keeps_first x y ys with) ∙ same x ∙ filter_keeps_first x z zs (ap (is_beside x) (sym head) ∙ with) in cc
       | inr without ↦
-          sym (dropped x y ys without) ∙ same x ∙ dropped x z zs (ap (is_beside x) (sym head) ∙ without)
+          sym (filter_drops_first x y ys without) ∙ same x ∙ filter_drops_first x z zs (ap (is_beside x) (sym head) ∙ without)
     ] in
     ap (λ w. w ∷ ys) head ∙ ap (λ l. z ∷ l) (same_entries ys zs left.1 right.1 tails)
 

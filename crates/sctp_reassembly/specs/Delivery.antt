@@ -69,17 +69,17 @@ pub record IsOrdered (s : OrderedStream) (is_settled : Bool) : Type 0 where
 -- ---- unordered streams
 
 -- the first complete message, if there is one, becomes ready
-abbrev pub complete_messages : List Held → List Message
-complete_messages hs = option_to_list (option_map message_of_run (find is_complete (intervals_of hs)))
+abbrev pub first_complete : List Held → List Message
+first_complete hs = option_to_list (option_map message_of_run (find is_complete (intervals_of hs)))
 
-abbrev pub deliver_complete : UnorderedStream → UnorderedDelivery
-deliver_complete s = record { stream = record s { held = left_by is_complete s.held }; messages = complete_messages s.held }
+abbrev pub deliver_first_complete : UnorderedStream → UnorderedDelivery
+deliver_first_complete s = record { stream = record s { held = left_by is_complete s.held }; messages = first_complete s.held }
 
 -- a fragment comes; one of a message that a forward point passed is late, and not held
 abbrev pub unordered_arrival : Held → UnorderedStream → UnorderedDelivery
 unordered_arrival h s =
     if nat_lt h.number s.passed then record { stream = record s { near = max origin h.number }; messages = [] }
-    else deliver_complete (record s { near = max origin h.number; held = with_item rank_of h s.held })
+    else deliver_first_complete (record s { near = max origin h.number; held = with_item rank_of h s.held })
 
 -- a forward point names message n: it and those before it are dropped
 abbrev pub unordered_forward : ℕ → UnorderedStream → UnorderedStream

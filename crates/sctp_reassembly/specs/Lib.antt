@@ -1,10 +1,10 @@
 pub mod Delivery
 pub mod ReassemblyStreams
-pub mod NamedStreams
+pub mod StreamIdSet
 pub mod ReassemblyQueue
-pub mod Form
+pub mod ReassemblyMode
 pub mod Waiting
 pub mod ReassemblyHandover
 pub mod SettledLaws
 pub mod ReadyLaws
-pub mod NotedStreams
+pub mod UnorderedByTsn

@@ -1,6 +1,6 @@
 -- The reassembly's part of a handover record: which streams there are, and the numbers of their next messages.
 use Rattle.std.specs.Prelude.{ℕ, ◌+◌, ◌||◌, Bool, if◌then◌else◌, Option, None, Some, bit_or, List, [], map}
-use Rattle.sctp_serial.specs.Unwrapped.{origin, words, halves, wire}
+use Rattle.sctp_serial.specs.Unwrapped.{origin, u32_space, halves, wire}
 use Rattle.sctp_state.specs.declared.api.handover.HandoverOrderedStream.{HandoverOrderedStream}
 use Rattle.sctp_state.specs.declared.api.handover.HandoverUnorderedStream.{HandoverUnorderedStream}
 use Rattle.sctp_state.specs.Handover.{Receive}
@@ -31,7 +31,7 @@ readiness r = bit_or (streams_readiness r.streams) (deferred_readiness r.deferre
 -- ---- what is written: the next number as it is on the wire, an SSN, or with interleaving a MID
 
 abbrev pub space_of : Bool → ℕ
-space_of is_interleaved = if is_interleaved then words else halves
+space_of is_interleaved = if is_interleaved then u32_space else halves
 
 abbrev pub ordered_record : Bool → ℕ × OrderedStream → HandoverOrderedStream
 ordered_record is_interleaved e = record { id = e.0; next_ssn = wire (space_of is_interleaved) 0 e.1.next }

@@ -2,7 +2,7 @@
 use Rattle.std.specs.Prelude.{◌≡◌, ℕ, ◌+◌, ◌-◌, ◌*◌, ◌/◌, ◌^◌, ◌<◌, ◌≤◌, ◌&&◌, ◌==◌, nat_lt, min, max, sum_by, Bool, true, false, if◌then◌else◌, Option, Some, None, is_some, unwrap_or, List, [], ◌∷◌, ◌++◌, length}
 use Rattle.sctp_serial.specs.declared.api.StreamId.{StreamId}
 use Rattle.sctp_serial.specs.Messages.{Message}
-use Rattle.sctp_serial.specs.Unwrapped.{origin, words, nearest}
+use Rattle.sctp_serial.specs.Unwrapped.{origin, u32_space, nearest}
 use Rattle.sctp_chunk.specs.declared.forward_tsn.SkippedStream.{SkippedStream}
 use Rattle.sctp_chunk.specs.Chunk.{FragmentTree}
 use Rattle.sctp_reassembly.specs.Delivery.{ready_bytes}
@@ -75,7 +75,7 @@ watermark r = r.max_size * 9 / 10
 
 abbrev pub near_first : Option ℕ → ℕ → ℕ → ℕ
 near_first None near tsn = origin
-near_first (Some first) near tsn = nearest words first near tsn
+near_first (Some first) near tsn = nearest u32_space first near tsn
 
 -- what a TSN stands for: the first one is `origin`, later ones are read near the last that came
 abbrev pub number_of : Reassembly → ℕ → ℕ
@@ -88,16 +88,16 @@ came tsn r = record r { first = Some (unwrap_or r.first tsn); near = max origin 
 -- ---- the calls
 
 -- a count that stops at the greatest number of its type
-abbrev pub count_ready : ℕ → ℕ → ℕ
-count_ready n m = min (n + m) (2 ^ 64 - 1)
+abbrev pub saturating_sum : ℕ → ℕ → ℕ
+saturating_sum n m = min (n + m) (2 ^ 64 - 1)
 
 -- each message that became ready since is counted
 abbrev pub IsCounted : Reassembly → Reassembly → Type 0
-IsCounted old new = new.ready_count ≡ count_ready old.ready_count (length new.ready - length old.ready)
+IsCounted old new = new.ready_count ≡ saturating_sum old.ready_count (length new.ready - length old.ready)
 
 -- messages became ready
 abbrev pub apply_outcome : Outcome → Reassembly → Reassembly
-apply_outcome o r = record r { streams = o.streams; ready = r.ready ++ o.messages; ready_count = count_ready r.ready_count (length o.messages) }
+apply_outcome o r = record r { streams = o.streams; ready = r.ready ++ o.messages; ready_count = saturating_sum r.ready_count (length o.messages) }
 
 abbrev pub add_now : ℕ → FragmentTree → Reassembly → Reassembly
 add_now n f r = apply_outcome (streams.add n f r.streams) r
@@ -106,9 +106,9 @@ abbrev pub forward_now : ℕ → List SkippedStream → Reassembly → Reassembl
 forward_now n es r = apply_outcome (streams.forward n es r.streams) r
 
 -- while a reset is deferred, a fragment above its last TSN waits if it is on one of its streams
-abbrev pub fragment_waits : ℕ → ℕ → Option Deferred → Bool
-fragment_waits n id None = false
-fragment_waits n id (Some d) = nat_lt d.last n && is_named d.streams id
+abbrev pub is_kept_back : ℕ → ℕ → Option Deferred → Bool
+is_kept_back n id None = false
+is_kept_back n id (Some d) = nat_lt d.last n && is_named d.streams id
 
 -- and so do entries of a forward point above it
 abbrev pub point_waits : ℕ → Option Deferred → Bool
@@ -119,11 +119,11 @@ abbrev pub with_waiting : Waiting → Option Deferred → Option Deferred
 with_waiting w None = None
 with_waiting w (Some d) = Some (record d { waiting = d.waiting ++ w ∷ [] })
 
-abbrev pub waits : Waiting → Reassembly → Reassembly
-waits w r = record r { deferred = with_waiting w r.deferred }
+abbrev pub keep_back : Waiting → Reassembly → Reassembly
+keep_back w r = record r { deferred = with_waiting w r.deferred }
 
-abbrev pub add_or_wait : ℕ → FragmentTree → Reassembly → Reassembly
-add_or_wait n f r = if fragment_waits n f.stream_id r.deferred then waits (Added n f) r else add_now n f r
+abbrev pub add_or_keep_back : ℕ → FragmentTree → Reassembly → Reassembly
+add_or_keep_back n f r = if is_kept_back n f.stream_id r.deferred then keep_back (Added n f) r else add_now n f r
 
 -- the streams of the reset, and what waits for it
 abbrev pub resetting : Option Deferred → List StreamId
@@ -137,7 +137,7 @@ waiting_in (Some d) = d.waiting
 -- Entries for the reset's streams wait. With none, and nothing that waits before them, there is nothing to do later: what is
 -- held of these streams the reset forgets.
 abbrev pub wait_with : ℕ → List SkippedStream → Reassembly → Reassembly
-wait_with n es r = if (length es == 0) && (length (waiting_in r.deferred) == 0) then r else waits (Forwarded n es) r
+wait_with n es r = if (length es == 0) && (length (waiting_in r.deferred) == 0) then r else keep_back (Forwarded n es) r
 
 -- the point's entries for the reset's streams wait, the rest is taken at once
 abbrev pub forward_or_wait : ℕ → List SkippedStream → Reassembly → Reassembly
@@ -147,7 +147,7 @@ forward_or_wait n es r =
 
 -- a fragment with this TSN
 abbrev pub add : ℕ → FragmentTree → Reassembly → Reassembly
-add tsn f r = if is_far (number_of r tsn) then r else add_or_wait (number_of r tsn) f (came tsn r)
+add tsn f r = if is_far (number_of r tsn) then r else add_or_keep_back (number_of r tsn) f (came tsn r)
 
 -- a forward point to this TSN
 abbrev pub forward : ℕ → List SkippedStream → Reassembly → Reassembly

@@ -5,7 +5,7 @@ use Rattle.std.specs.Map.{lookup, set_value, values_of}
 use Rattle.std.specs.Ordering.{nat_cmp}
 use Rattle.std.specs.BTreeMap.{is_at, insert_entry}
 use Rattle.sctp_serial.specs.Messages.{Message}
-use Rattle.sctp_serial.specs.Unwrapped.{origin, words, halves, nearest}
+use Rattle.sctp_serial.specs.Unwrapped.{origin, u32_space, halves, nearest}
 use Rattle.sctp_chunk.specs.Chunk.{FragmentTree}
 use Rattle.sctp_serial.specs.declared.api.StreamId.{StreamId}
 use Rattle.sctp_serial.specs.Keys.{stream_of}
@@ -24,16 +24,16 @@ abbrev pub stream_at : {S : Type 0} → S → ℕ → Entries S → S
 stream_at fresh id es = unwrap_or (lookup (is_at (nat_cmp id)) es) fresh
 
 -- with the stream among the others
-abbrev pub open_stream : {S : Type 0} → S → ℕ → Entries S → Entries S
-open_stream fresh id es = if is_some (lookup (is_at (nat_cmp id)) es) then es else insert_entry nat_cmp es id fresh
+abbrev pub with_stream : {S : Type 0} → S → ℕ → Entries S → Entries S
+with_stream fresh id es = if is_some (lookup (is_at (nat_cmp id)) es) then es else insert_entry nat_cmp es id fresh
 
 -- with this in place of the stream, where it is there
-abbrev pub write_stream : {S : Type 0} → ℕ → S → Entries S → Entries S
-write_stream id s es = set_value (is_at (nat_cmp id)) es s
+abbrev pub put_stream : {S : Type 0} → ℕ → S → Entries S → Entries S
+put_stream id s es = set_value (is_at (nat_cmp id)) es s
 
 -- with this as the stream
-abbrev pub change_stream : {S : Type 0} → S → ℕ → S → Entries S → Entries S
-change_stream fresh id s es = write_stream id s (open_stream fresh id es)
+abbrev pub set_stream : {S : Type 0} → S → ℕ → S → Entries S → Entries S
+set_stream fresh id s es = put_stream id s (with_stream fresh id es)
 
 -- whether a stream is named; where no stream is named, each is
 abbrev pub is_named : List StreamId → ℕ → Bool
@@ -82,8 +82,8 @@ limit = origin + 2 ^ 62
 abbrev pub is_far : ℕ → Bool
 is_far n = nat_le limit n
 
-abbrev pub number_if_any : ℕ → Option ℕ
-number_if_any n = if is_far n then None else Some n
+abbrev pub number_unless_far : ℕ → Option ℕ
+number_unless_far n = if is_far n then None else Some n
 
 -- a fragment's place in its message: its TSN, or with interleaving its FSN, which a beginning reads as 0
 abbrev pub place_of : Bool → ℕ → FragmentTree → ℕ
@@ -94,17 +94,17 @@ held_as is_interleaved number tsn f = record { number = number; index = place_of
 
 -- the number of an ordered message is read near the stream's next one
 abbrev pub ordered_number : Bool → FragmentTree → OrderedStream → ℕ
-ordered_number is_interleaved f s = if is_interleaved then nearest words 0 s.next f.mid else nearest halves 0 s.next f.ssn
+ordered_number is_interleaved f s = if is_interleaved then nearest u32_space 0 s.next f.mid else nearest halves 0 s.next f.ssn
 
 -- that of an unordered one near the last that came. Without interleaving it has none
 abbrev pub unordered_number : Bool → FragmentTree → UnorderedStream → ℕ
-unordered_number is_interleaved f s = if is_interleaved then nearest words 0 s.near f.mid else origin
+unordered_number is_interleaved f s = if is_interleaved then nearest u32_space 0 s.near f.mid else origin
 
 abbrev pub with_ordered : ℕ → OrderedDelivery → Streams → Outcome
-with_ordered id d ss = record { streams = record ss { ordered = change_stream fresh_ordered id d.stream ss.ordered }; messages = d.messages }
+with_ordered id d ss = record { streams = record ss { ordered = set_stream fresh_ordered id d.stream ss.ordered }; messages = d.messages }
 
 abbrev pub with_unordered : ℕ → UnorderedDelivery → Streams → Outcome
-with_unordered id d ss = record { streams = record ss { unordered = change_stream fresh_unordered id d.stream ss.unordered }; messages = d.messages }
+with_unordered id d ss = record { streams = record ss { unordered = set_stream fresh_unordered id d.stream ss.unordered }; messages = d.messages }
 
 abbrev pub unchanged : Streams → Outcome
 unchanged ss = record { streams = ss; messages = [] }
@@ -135,15 +135,15 @@ skip_ordered id n ss = if is_far n then unchanged ss else with_ordered id (order
 abbrev pub skip_unordered : ℕ → ℕ → Streams → Outcome
 skip_unordered id n ss =
     if is_far n then unchanged ss
-    else record { streams = record ss { unordered = change_stream fresh_unordered id (unordered_forward n (stream_at fresh_unordered id ss.unordered)) ss.unordered }; messages = [] }
+    else record { streams = record ss { unordered = set_stream fresh_unordered id (unordered_forward n (stream_at fresh_unordered id ss.unordered)) ss.unordered }; messages = [] }
 
 -- an entry names a stream and a number. One of the other kind of chunk says nothing
 abbrev pub skip_of : Bool → SkippedStream → Streams → Outcome
 skip_of false (ForwardTsn id ssn) ss = skip_ordered id.0 (nearest halves 0 (stream_at fresh_ordered id.0 ss.ordered).next ssn.0) ss
 skip_of false (IForwardTsn key mid) ss = unchanged ss
 skip_of true (ForwardTsn id ssn) ss = unchanged ss
-skip_of true (IForwardTsn (Ordered id) mid) ss = skip_ordered id.0 (nearest words 0 (stream_at fresh_ordered id.0 ss.ordered).next mid.0) ss
-skip_of true (IForwardTsn (Unordered id) mid) ss = skip_unordered id.0 (nearest words 0 (stream_at fresh_unordered id.0 ss.unordered).near mid.0) ss
+skip_of true (IForwardTsn (Ordered id) mid) ss = skip_ordered id.0 (nearest u32_space 0 (stream_at fresh_ordered id.0 ss.ordered).next mid.0) ss
+skip_of true (IForwardTsn (Unordered id) mid) ss = skip_unordered id.0 (nearest u32_space 0 (stream_at fresh_unordered id.0 ss.unordered).near mid.0) ss
 
 abbrev pub skip : SkippedStream → Streams → Outcome
 skip e ss = skip_of ss.is_interleaved e ss

@@ -34,8 +34,8 @@ impl<K: ReassemblyKey> IntervalList<K> {
     ghost use Rattle.sctp_fragments.specs.Runs.{is_held, with_item, from_rank};
     ghost use Rattle.sctp_fragments.specs.Held.{Held, rank_of, intervals_of, bytes_of, is_complete, NoneComplete, is_in_turn, without_first_of, left_by, IsPlaced, IsTaken};
     ghost use Rattle.sctp_fragments.specs.ReassemblyKey.{rank_at};
-    ghost use Rattle.sctp_fragments.specs.Interval.{held_at, held_of, run_of};
-    ghost use Rattle.sctp_reassembly.specs.NotedStreams.{BeginsFrom};
+    ghost use Rattle.sctp_fragments.specs.Interval.{as_held, held_of, run_of};
+    ghost use Rattle.sctp_reassembly.specs.UnorderedByTsn.{BeginsFrom};
 
     /// No fragments. Takes no memory.
     pub fn new(alloc: Global) -> IntervalList<K>
@@ -81,9 +81,9 @@ impl<K: ReassemblyKey> IntervalList<K> {
     /// changes. Without memory nothing changes either.
     pub fn add(&mut self, key: K, fragment: Data) -> Result<Option<usize>, AllocError>
         requires { bytes_of self.old + length fragment.payload.items < 2 ^ 64 }
-        ensures value { OnOk result (self.new ≡ with_item rank_of (held_at (K.number key) (K.index key) fragment) self.old) }
+        ensures value { OnOk result (self.new ≡ with_item rank_of (as_held (K.number key) (K.index key) fragment) self.old) }
         ensures answer { IfOk result (λ place. is_none place ≡ is_held rank_of (rank_at K.number K.index key) self.old) }
-        ensures place { IfOk result (λ place. IfSome place (IsPlaced self.old self.new (held_at (K.number key) (K.index key) fragment))) }
+        ensures place { IfOk result (λ place. IfSome place (IsPlaced self.old self.new (as_held (K.number key) (K.index key) fragment))) }
         ensures bytes { bytes_of self.new ≤ bytes_of self.old + length fragment.payload.items }
         ensures err { OnErr result (self.new ≡ self.old) }
     {
@@ -166,7 +166,7 @@ ghost use Rattle.sctp_fragments.specs.ReassemblyKey.{rank_at};
 ghost use Rattle.sctp_fragments.specs.Interval.{held_of, run_of, lists_of, entries_of, EndsFrom, IsInRuns, IsInserted, starts_upto, StartsInTurn, without_first, first_below};
 ghost use Rattle.sctp_fragments.specs.declared.interval.Entry.{Entry};
 ghost use Rattle.sctp_fragments.specs.declared.interval.Interval.{Interval};
-ghost use Rattle.sctp_reassembly.specs.NotedStreams.{BeginsFrom};
+ghost use Rattle.sctp_reassembly.specs.UnorderedByTsn.{BeginsFrom};
 
 /// Drops the intervals before the place, and says how many bytes they had.
 fn drop_front<K: ReassemblyKey>(intervals: &mut VecDeque<Interval<K>>, place: usize) -> usize

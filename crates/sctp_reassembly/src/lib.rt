@@ -4,9 +4,7 @@
 pub mod interleaved_reassembly_streams;
 pub mod interval_laws;
 pub mod interval_list;
-pub mod named_streams;
 mod near;
-mod noted_streams;
 mod ordered_stream;
 mod ordered_streams;
 pub mod ready_laws;
@@ -16,15 +14,16 @@ pub mod reassembly_stream;
 pub mod reassembly_streams;
 pub mod settled_laws;
 mod sorted_skips;
+pub mod stream_id_set;
 mod stream_map;
 pub mod traditional_reassembly_streams;
+mod unordered_by_tsn;
 mod unordered_stream;
 mod unordered_streams;
 
 pub use interleaved_reassembly_streams::InterleavedReassemblyStreams;
 pub use interval_laws::messages_are_intervals;
 pub use interval_list::IntervalList;
-pub use named_streams::NamedStreams;
 pub use ready_laws::{
     complete_intervals_are_messages, forward_points_make_ready, held_fragments_make_messages,
     ordered_fragments_make_ready, unordered_fragments_make_ready,
@@ -42,4 +41,5 @@ pub use settled_laws::{
     fragments_leave_queues_settled, new_queues_are_settled, resets_leave_queues_settled,
     restored_queues_are_settled,
 };
+pub use stream_id_set::StreamIdSet;
 pub use traditional_reassembly_streams::TraditionalReassemblyStreams;

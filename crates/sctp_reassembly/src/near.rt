@@ -1,8 +1,8 @@
 //! The numbers that SSN and MID stand for.
 
 ghost use Rattle.std.specs.Prelude.{◌≡◌, ◌≤◌};
-ghost use Rattle.sctp_serial.specs.Unwrapped.{origin, words, halves, nearest};
-ghost use Rattle.sctp_reassembly.specs.ReassemblyStreams.{number_if_any};
+ghost use Rattle.sctp_serial.specs.Unwrapped.{origin, u32_space, halves, nearest};
+ghost use Rattle.sctp_reassembly.specs.ReassemblyStreams.{number_unless_far};
 
 use crate::ordered_stream::FIRST;
 use sctp_serial::{Mid, SerialNumber, Ssn};
@@ -13,7 +13,7 @@ const LIMIT: u64 = FIRST + (1 << 62);
 /// The number that is nearest to `next`; none where it is too far above the first one.
 pub(crate) fn ssn_near(next: u128, ssn: Ssn) -> Option<u64>
     requires { origin ≤ next }
-    ensures { result ≡ number_if_any (nearest halves 0 next ssn.0) }
+    ensures { result ≡ number_unless_far (nearest halves 0 next ssn.0) }
 {
     if next >= 1 << 63 {
         return None;
@@ -28,7 +28,7 @@ pub(crate) fn ssn_near(next: u128, ssn: Ssn) -> Option<u64>
 /// The same for a MID.
 pub(crate) fn mid_near(next: u128, mid: Mid) -> Option<u64>
     requires { origin ≤ next }
-    ensures { result ≡ number_if_any (nearest words 0 next mid.0) }
+    ensures { result ≡ number_unless_far (nearest u32_space 0 next mid.0) }
 {
     if next >= 1 << 63 {
         return None;

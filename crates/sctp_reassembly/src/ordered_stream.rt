@@ -3,7 +3,7 @@
 ghost use Rattle.std.specs.Prelude.{◌≡◌, ◌==◌, ◌+◌, ◌<◌, ◌≤◌, ◌^◌, ◌++◌, ◌∷◌, max, length, OnOk, OnErr, IfOk, [], true, false};
 ghost use Rattle.sctp_serial.specs.Unwrapped.{origin};
 ghost use Rattle.sctp_fragments.specs.Held.{bytes_of, rank_of, intervals_of, is_in_turn, message_of_run, NoneInTurn};
-ghost use Rattle.sctp_fragments.specs.Interval.{held_at};
+ghost use Rattle.sctp_fragments.specs.Interval.{as_held};
 ghost use Rattle.sctp_fragments.specs.Runs.{with_item};
 ghost use Rattle.sctp_reassembly.specs.Delivery.{deliver, ordered_arrival, ready_bytes, Extends};
 
@@ -74,7 +74,7 @@ fn add_in<K: ReassemblyKey>(
     next: u128,
 ) -> Result<bool, AllocError>
     requires { bytes_of list.old + length fragment.payload.items < 2 ^ 64 }
-    ensures value { OnOk result (list.new ≡ with_item rank_of (held_at (K.number key) (K.index key) fragment) list.old) }
+    ensures value { OnOk result (list.new ≡ with_item rank_of (as_held (K.number key) (K.index key) fragment) list.old) }
     ensures none { IfOk result (λ turn. turn ≡ false → NoneInTurn next (intervals_of list.old) → NoneInTurn next (intervals_of list.new)) }
     ensures bytes { bytes_of list.new ≤ bytes_of list.old + length fragment.payload.items }
     ensures err { OnErr result (list.new ≡ list.old) }
@@ -88,7 +88,7 @@ fn add_in<K: ReassemblyKey>(
 
 /// Whether the fragment is all of the message with the number.
 fn is_whole_at<K: ReassemblyKey>(key: K, fragment: &Data, number: u128) -> bool
-    ensures turn { result ≡ is_in_turn number (held_at (K.number key) (K.index key) fragment.now ∷ []) }
+    ensures turn { result ≡ is_in_turn number (as_held (K.number key) (K.index key) fragment.now ∷ []) }
     ensures number { result ≡ true → K.number key ≡ number }
 {
     fragment.is_beginning && fragment.is_end && key.number() as u128 == number
@@ -98,7 +98,7 @@ fn is_whole_at<K: ReassemblyKey>(key: K, fragment: &Data, number: u128) -> bool
 #[tactic(auto, using(crate::proofs::ExtendsLemmas::extends_none))]
 fn hand_on(fragment: Data, ready: &mut ReadyMessages) -> Result<(), AllocError>
     requires { ready_bytes ready.old + length fragment.payload.items < 2 ^ 64 }
-    ensures ready { OnOk result (ready.new ≡ ready.old ++ message_of_run (held_at 0 0 fragment ∷ []) ∷ []) }
+    ensures ready { OnOk result (ready.new ≡ ready.old ++ message_of_run (as_held 0 0 fragment ∷ []) ∷ []) }
     ensures kept { Extends ready.old ready.new }
     ensures bytes { ready_bytes ready.new ≤ ready_bytes ready.old + length fragment.payload.items }
 {
@@ -144,11 +144,11 @@ impl<K: ReassemblyKey> OrderedStream<K> {
         ready: &mut ReadyMessages,
     ) -> Result<(), AllocError>
         requires none { (length self.old.held == 0) ≡ true }
-        requires turn { is_in_turn self.old.next (held_at (K.number key) (K.index key) fragment ∷ []) ≡ true }
+        requires turn { is_in_turn self.old.next (as_held (K.number key) (K.index key) fragment ∷ []) ≡ true }
         requires number { K.number key ≡ self.old.next }
         requires room { bytes_of self.old.held + ready_bytes ready.old + length fragment.payload.items < 2 ^ 64 }
-        ensures ok { OnOk result (self.new ≡ (ordered_arrival (held_at (K.number key) (K.index key) fragment) self.old).stream) }
-        ensures ready { OnOk result (ready.new ≡ ready.old ++ (ordered_arrival (held_at (K.number key) (K.index key) fragment) self.old).messages) }
+        ensures ok { OnOk result (self.new ≡ (ordered_arrival (as_held (K.number key) (K.index key) fragment) self.old).stream) }
+        ensures ready { OnOk result (ready.new ≡ ready.old ++ (ordered_arrival (as_held (K.number key) (K.index key) fragment) self.old).messages) }
         ensures kept { Extends ready.old ready.new }
         ensures bytes { bytes_of self.new.held + ready_bytes ready.new ≤ bytes_of self.old.held + ready_bytes ready.old + length fragment.payload.items }
     {
@@ -163,8 +163,8 @@ impl<K: ReassemblyKey> OrderedStream<K> {
     #[tactic(auto, using(crate::proofs::ExtendsLemmas::extends_none))]
     fn keep(&mut self, key: K, fragment: Data, ready: &mut ReadyMessages) -> Result<(), AllocError>
         requires { bytes_of self.old.held + ready_bytes ready.old + length fragment.payload.items < 2 ^ 64 }
-        ensures ok { OnOk result (self.new ≡ (ordered_arrival (held_at (K.number key) (K.index key) fragment) self.old).stream) }
-        ensures ready { OnOk result (ready.new ≡ ready.old ++ (ordered_arrival (held_at (K.number key) (K.index key) fragment) self.old).messages) }
+        ensures ok { OnOk result (self.new ≡ (ordered_arrival (as_held (K.number key) (K.index key) fragment) self.old).stream) }
+        ensures ready { OnOk result (ready.new ≡ ready.old ++ (ordered_arrival (as_held (K.number key) (K.index key) fragment) self.old).messages) }
         ensures kept { Extends ready.old ready.new }
         ensures bytes { bytes_of self.new.held + ready_bytes ready.new ≤ bytes_of self.old.held + ready_bytes ready.old + length fragment.payload.items }
     {

@@ -11,7 +11,7 @@ ghost use Rattle.sctp_reassembly.specs.Delivery.{Extends};
 ghost use Rattle.sctp_reassembly.specs.ReassemblyHandover.{readiness, write_handover, restore};
 
 mod deferred;
-mod form;
+mod reassembly_mode;
 mod waiting;
 
 use crate::ordered_stream::FIRST;
@@ -19,7 +19,7 @@ use crate::ready_messages::ReadyMessages;
 use crate::reassembly_streams::ReassemblyStreams;
 use crate::sorted_skips::entries_in;
 use deferred::{Deferred, none_waits};
-use form::Form;
+use reassembly_mode::ReassemblyMode;
 use sctp_chunk::{Data, SkippedStream};
 use sctp_serial::{Message, SerialNumber, StreamId, Tsn};
 use sctp_state::{HandoverReadiness, SocketHandoverState};
@@ -39,7 +39,7 @@ pub struct ReassemblyQueue {
     max_size: usize,
     first: Option<Tsn>,
     near: u64,
-    streams: Form,
+    streams: ReassemblyMode,
     deferred: Option<Deferred>,
     ready: ReadyMessages,
     ready_count: usize,
@@ -47,7 +47,7 @@ pub struct ReassemblyQueue {
 
 impl Model for ReassemblyQueue {
     ghost use Rattle.std.specs.Prelude.{option_map};
-    ghost use Rattle.sctp_reassembly.specs.Form.{streams_of};
+    ghost use Rattle.sctp_reassembly.specs.ReassemblyMode.{streams_of};
     ghost use Rattle.sctp_reassembly.specs.ReassemblyQueue.{Reassembly, IsQueue};
 
     ghost Value = { Reassembly };
@@ -58,7 +58,7 @@ impl Model for ReassemblyQueue {
 }
 
 impl ReassemblyQueue {
-    ghost use Rattle.sctp_reassembly.specs.ReassemblyQueue.{reassembly, queued_bytes, watermark, number_of, came, add_now, forward_now, fragment_waits, point_waits, waits, wait_with, resetting, waiting_bytes, waiting_number, count_ready, IsCounted, add, forward, defer, apply, apply_each, reset};
+    ghost use Rattle.sctp_reassembly.specs.ReassemblyQueue.{reassembly, queued_bytes, watermark, number_of, came, add_now, forward_now, is_kept_back, point_waits, keep_back, wait_with, resetting, waiting_bytes, waiting_number, saturating_sum, IsCounted, add, forward, defer, apply, apply_each, reset};
     ghost use Rattle.sctp_reassembly.specs.ReassemblyStreams.{entries_in};
     ghost use Rattle.sctp_reassembly.specs.Waiting.{waiting_of};
 
@@ -72,7 +72,7 @@ impl ReassemblyQueue {
             max_size,
             first: None,
             near: FIRST,
-            streams: Form::new(alloc, use_message_interleaving),
+            streams: ReassemblyMode::new(alloc, use_message_interleaving),
             deferred: None,
             ready: ReadyMessages::new(alloc),
             ready_count: 0,
@@ -160,7 +160,7 @@ impl ReassemblyQueue {
     /// Counts the messages that became ready since there were so many.
     fn count_from(&mut self, before: usize)
         requires { before ≤ length self.old.ready }
-        ensures { self.new ≡ record self.old { ready_count = count_ready self.old.ready_count (length self.old.ready - before) } }
+        ensures { self.new ≡ record self.old { ready_count = saturating_sum self.old.ready_count (length self.old.ready - before) } }
     {
         let more = self.ready.len() - before;
         self.ready_count = self.ready_count.saturating_add(more);
@@ -199,7 +199,7 @@ impl ReassemblyQueue {
 
     /// Whether a fragment waits for a reset.
     fn fragment_waits(&self, number: u64, id: StreamId) -> bool
-        ensures { result ≡ fragment_waits number id.0 self.now.deferred }
+        ensures { result ≡ is_kept_back number id.0 self.now.deferred }
     {
         match &self.deferred {
             Some(deferred) => deferred.is_behind(number) && deferred.concerns(id),
@@ -223,7 +223,7 @@ impl ReassemblyQueue {
     fn wait(&mut self, waiting: Waiting) -> Result<(), AllocError>
         requires room { queued_bytes self.old + waiting_bytes (waiting_of waiting) < 2 ^ 64 }
         requires small { waiting_number (waiting_of waiting) < 2 ^ 63 }
-        ensures ok { OnOk result (self.new ≡ waits (waiting_of waiting) self.old) }
+        ensures ok { OnOk result (self.new ≡ keep_back (waiting_of waiting) self.old) }
         ensures kept { Extends self.old.ready self.new.ready }
         ensures counted { IsCounted self.old self.new }
         ensures bytes { queued_bytes self.new ≤ queued_bytes self.old + waiting_bytes (waiting_of waiting) }
@@ -250,7 +250,7 @@ impl ReassemblyQueue {
     }
 
     /// Takes a forward point, but has its entries for the reset's streams wait.
-    #[tactic(auto, using(crate::proofs::ExtendsLemmas::extends_none, crate::proofs::ExtendsLemmas::extends_both, crate::proofs::ExtendsLemmas::counted_none, crate::proofs::ExtendsLemmas::counted_both))]
+    #[tactic(auto, using(crate::proofs::ExtendsLemmas::extends_none, crate::proofs::ExtendsLemmas::extends_both, crate::proofs::ExtendsLemmas::saturating_sum_none, crate::proofs::ExtendsLemmas::counted_both))]
     fn forward_in_parts(&mut self, number: u64, skipped: &[SkippedStream]) -> Result<(), AllocError>
         requires small { number < 2 ^ 63 }
         requires deferred { is_some self.old.deferred ≡ true }
@@ -358,7 +358,7 @@ impl ReassemblyQueue {
     }
 
     /// Takes all that waited, in order.
-    #[tactic(auto, using(crate::proofs::ExtendsLemmas::extends_none, crate::proofs::ExtendsLemmas::extends_both, crate::proofs::ExtendsLemmas::counted_none, crate::proofs::ExtendsLemmas::counted_both))]
+    #[tactic(auto, using(crate::proofs::ExtendsLemmas::extends_none, crate::proofs::ExtendsLemmas::extends_both, crate::proofs::ExtendsLemmas::saturating_sum_none, crate::proofs::ExtendsLemmas::counted_both))]
     fn apply_each(&mut self, mut deferred: Deferred) -> Result<(), AllocError>
         requires { queued_bytes self.old + sum_by waiting_bytes deferred.waiting < 2 ^ 64 }
         ensures ok { OnOk result (self.new ≡ apply_each deferred.waiting self.old) }

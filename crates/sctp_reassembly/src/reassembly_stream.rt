@@ -3,7 +3,7 @@
 ghost use Rattle.std.specs.Prelude.{◌≡◌, ℕ, suc, ◌+◌, ◌<◌, ◌≤◌, ◌^◌, ◌++◌, [], List, length, nat_lt, OnOk};
 ghost use Rattle.sctp_serial.specs.Messages.{Message};
 ghost use Rattle.sctp_fragments.specs.Held.{Held, bytes_of};
-ghost use Rattle.sctp_fragments.specs.Interval.{held_at};
+ghost use Rattle.sctp_fragments.specs.Interval.{as_held};
 ghost use Rattle.sctp_reassembly.specs.Delivery.{ready_bytes, Extends};
 
 use crate::ready_messages::ReadyMessages;
@@ -54,8 +54,8 @@ pub trait ReassemblyStream: Drop {
     ) -> Result<(), AllocError>
         requires room { bytes_of (held self.old) + ready_bytes ready.old + length fragment.payload.items < 2 ^ 64 }
         requires small { Self.Key.number key < 2 ^ 63 }
-        ensures ok { OnOk result (self.new ≡ after_arrival (held_at (Self.Key.number key) (Self.Key.index key) fragment) self.old) }
-        ensures ready { OnOk result (ready.new ≡ ready.old ++ made_ready (held_at (Self.Key.number key) (Self.Key.index key) fragment) self.old) }
+        ensures ok { OnOk result (self.new ≡ after_arrival (as_held (Self.Key.number key) (Self.Key.index key) fragment) self.old) }
+        ensures ready { OnOk result (ready.new ≡ ready.old ++ made_ready (as_held (Self.Key.number key) (Self.Key.index key) fragment) self.old) }
         ensures kept { Extends ready.old ready.new }
         ensures bytes { bytes_of (held self.new) + ready_bytes ready.new ≤ bytes_of (held self.old) + ready_bytes ready.old + length fragment.payload.items };
 

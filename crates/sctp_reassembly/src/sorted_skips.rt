@@ -3,7 +3,7 @@
 ghost use Rattle.std.specs.Prelude.{◌≡◌, IfOk};
 ghost use Rattle.sctp_reassembly.specs.ReassemblyStreams.{skipped_id, by_stream, entries_in};
 
-use crate::named_streams::NamedStreams;
+use crate::stream_id_set::StreamIdSet;
 use sctp_chunk::SkippedStream;
 use std::alloc::{AllocError, Global};
 
@@ -32,7 +32,7 @@ pub(crate) fn by_stream(
 pub(crate) fn entries_in(
     alloc: Global,
     named: bool,
-    ids: &NamedStreams,
+    ids: &StreamIdSet,
     entries: &[SkippedStream],
 ) -> Result<Vec<SkippedStream>, AllocError>
     ensures { IfOk result (λ part. part.items ≡ entries_in named ids.now entries.now) }

@@ -5,9 +5,9 @@ ghost use Rattle.std.specs.List.{list_any};
 ghost use Rattle.std.specs.Map.{lookup};
 ghost use Rattle.std.specs.Ordering.{nat_cmp};
 ghost use Rattle.std.specs.BTreeMap.{is_at};
-ghost use Rattle.sctp_fragments.specs.Interval.{held_at};
+ghost use Rattle.sctp_fragments.specs.Interval.{as_held};
 ghost use Rattle.sctp_reassembly.specs.Delivery.{ready_bytes, Extends};
-ghost use Rattle.sctp_reassembly.specs.ReassemblyStreams.{bytes_held, is_any_held, stream_at, open_stream, write_stream, change_stream, forget};
+ghost use Rattle.sctp_reassembly.specs.ReassemblyStreams.{bytes_held, is_any_held, stream_at, with_stream, put_stream, set_stream, forget};
 
 use crate::ready_messages::ReadyMessages;
 use crate::reassembly_stream::ReassemblyStream;
@@ -64,7 +64,7 @@ impl<S: ReassemblyStream> StreamMap<S> {
 
     /// Makes the stream where there is none. Without memory nothing changes.
     fn open(&mut self, id: StreamId) -> Result<(), AllocError>
-        ensures ok { OnOk result (self.new ≡ open_stream S.fresh id.0 self.old) }
+        ensures ok { OnOk result (self.new ≡ with_stream S.fresh id.0 self.old) }
         ensures there { OnOk result (IsSome (lookup (is_at (nat_cmp id.0)) self.new)) }
         ensures stream { OnOk result (stream_at S.fresh id.0 self.new ≡ stream_at S.fresh id.0 self.old) }
         ensures bytes { bytes_held S.held self.new ≡ bytes_held S.held self.old }
@@ -90,8 +90,8 @@ impl<S: ReassemblyStream> StreamMap<S> {
         requires there { IsSome (lookup (is_at (nat_cmp id.0)) self.old) }
         requires room { bytes_held S.held self.old + ready_bytes ready.old + length fragment.payload.items < 2 ^ 64 }
         requires small { S.Key.number key < 2 ^ 63 }
-        ensures ok { OnOk result (self.new ≡ write_stream id.0 (S.after_arrival (held_at (S.Key.number key) (S.Key.index key) fragment) (stream_at S.fresh id.0 self.old)) self.old) }
-        ensures ready { OnOk result (ready.new ≡ ready.old ++ S.made_ready (held_at (S.Key.number key) (S.Key.index key) fragment) (stream_at S.fresh id.0 self.old)) }
+        ensures ok { OnOk result (self.new ≡ put_stream id.0 (S.after_arrival (as_held (S.Key.number key) (S.Key.index key) fragment) (stream_at S.fresh id.0 self.old)) self.old) }
+        ensures ready { OnOk result (ready.new ≡ ready.old ++ S.made_ready (as_held (S.Key.number key) (S.Key.index key) fragment) (stream_at S.fresh id.0 self.old)) }
         ensures kept { Extends ready.old ready.new }
         ensures bytes { bytes_held S.held self.new + ready_bytes ready.new ≤ bytes_held S.held self.old + ready_bytes ready.old + length fragment.payload.items }
     {
@@ -115,8 +115,8 @@ impl<S: ReassemblyStream> StreamMap<S> {
     ) -> Result<(), AllocError>
         requires room { bytes_held S.held self.old + ready_bytes ready.old + length fragment.payload.items < 2 ^ 64 }
         requires small { S.Key.number key < 2 ^ 63 }
-        ensures ok { OnOk result (self.new ≡ change_stream S.fresh id.0 (S.after_arrival (held_at (S.Key.number key) (S.Key.index key) fragment) (stream_at S.fresh id.0 self.old)) self.old) }
-        ensures ready { OnOk result (ready.new ≡ ready.old ++ S.made_ready (held_at (S.Key.number key) (S.Key.index key) fragment) (stream_at S.fresh id.0 self.old)) }
+        ensures ok { OnOk result (self.new ≡ set_stream S.fresh id.0 (S.after_arrival (as_held (S.Key.number key) (S.Key.index key) fragment) (stream_at S.fresh id.0 self.old)) self.old) }
+        ensures ready { OnOk result (ready.new ≡ ready.old ++ S.made_ready (as_held (S.Key.number key) (S.Key.index key) fragment) (stream_at S.fresh id.0 self.old)) }
         ensures kept { Extends ready.old ready.new }
         ensures bytes { bytes_held S.held self.new + ready_bytes ready.new ≤ bytes_held S.held self.old + ready_bytes ready.old + length fragment.payload.items }
     {
@@ -136,7 +136,7 @@ impl<S: ReassemblyStream> StreamMap<S> {
         requires room { bytes_held S.held self.old + ready_bytes ready.old < 2 ^ 64 }
         requires some { 0 < S.Key.number first }
         requires small { S.Key.number first < 2 ^ 63 }
-        ensures ok { (n : ℕ) → S.Key.number first ≡ suc n → S.Key.index first ≡ 0 → OnOk result (self.new ≡ write_stream id.0 (S.after_forward n (stream_at S.fresh id.0 self.old)) self.old) }
+        ensures ok { (n : ℕ) → S.Key.number first ≡ suc n → S.Key.index first ≡ 0 → OnOk result (self.new ≡ put_stream id.0 (S.after_forward n (stream_at S.fresh id.0 self.old)) self.old) }
         ensures ready { (n : ℕ) → S.Key.number first ≡ suc n → S.Key.index first ≡ 0 → OnOk result (ready.new ≡ ready.old ++ S.forwarded n (stream_at S.fresh id.0 self.old)) }
         ensures kept { Extends ready.old ready.new }
         ensures bytes { bytes_held S.held self.new + ready_bytes ready.new ≤ bytes_held S.held self.old + ready_bytes ready.old }
@@ -161,7 +161,7 @@ impl<S: ReassemblyStream> StreamMap<S> {
         requires room { bytes_held S.held self.old + ready_bytes ready.old < 2 ^ 64 }
         requires some { 0 < S.Key.number first }
         requires small { S.Key.number first < 2 ^ 63 }
-        ensures ok { (n : ℕ) → S.Key.number first ≡ suc n → S.Key.index first ≡ 0 → OnOk result (self.new ≡ change_stream S.fresh id.0 (S.after_forward n (stream_at S.fresh id.0 self.old)) self.old) }
+        ensures ok { (n : ℕ) → S.Key.number first ≡ suc n → S.Key.index first ≡ 0 → OnOk result (self.new ≡ set_stream S.fresh id.0 (S.after_forward n (stream_at S.fresh id.0 self.old)) self.old) }
         ensures ready { (n : ℕ) → S.Key.number first ≡ suc n → S.Key.index first ≡ 0 → OnOk result (ready.new ≡ ready.old ++ S.forwarded n (stream_at S.fresh id.0 self.old)) }
         ensures kept { Extends ready.old ready.new }
         ensures bytes { bytes_held S.held self.new + ready_bytes ready.new ≤ bytes_held S.held self.old + ready_bytes ready.old }

@@ -3,11 +3,11 @@
 ghost use Rattle.std.specs.Prelude.{◌≡◌};
 
 use crate::near::ssn_near;
-use crate::noted_streams::NotedStreams;
 use crate::ordered_stream::{FIRST, OrderedStream as StreamInOrder};
 use crate::ordered_streams::OrderedStreams;
 use crate::ready_messages::ReadyMessages;
 use crate::reassembly_streams::ReassemblyStreams;
+use crate::unordered_by_tsn::UnorderedByTsn;
 use crate::unordered_stream::UnorderedStream as StreamInAnyOrder;
 use sctp_chunk::{Data, SkippedStream};
 use sctp_fragments::TraditionalKey;
@@ -27,7 +27,7 @@ pub type UnorderedStream = StreamInAnyOrder<TraditionalKey>;
 pub struct TraditionalReassemblyStreams {
     alloc: Global,
     ordered: OrderedStreams<TraditionalKey>,
-    unordered: NotedStreams,
+    unordered: UnorderedByTsn,
 }
 
 impl Model for TraditionalReassemblyStreams {
@@ -52,7 +52,7 @@ impl TraditionalReassemblyStreams {
         TraditionalReassemblyStreams {
             alloc,
             ordered: OrderedStreams::new(alloc),
-            unordered: NotedStreams::new(alloc),
+            unordered: UnorderedByTsn::new(alloc),
         }
     }
 }
@@ -138,7 +138,7 @@ impl ReassemblyStreams for TraditionalReassemblyStreams {
 
     fn restore_from_state(&mut self, state: &SocketHandoverState) -> Result<(), AllocError> {
         let ordered = OrderedStreams::restored(self.alloc, &state.rx.ordered_streams)?;
-        let unordered = NotedStreams::restored(self.alloc, &state.rx.unordered_streams)?;
+        let unordered = UnorderedByTsn::restored(self.alloc, &state.rx.unordered_streams)?;
         self.ordered = ordered;
         self.unordered = unordered;
         Ok(())

@@ -33,8 +33,8 @@ impl<K: ReassemblyKey> Model for UnorderedStream<K> {
 
 ghost use Rattle.sctp_fragments.specs.Runs.{with_item};
 ghost use Rattle.sctp_fragments.specs.Held.{rank_of, bytes_of, intervals_of, is_complete, left_by, NoneComplete};
-ghost use Rattle.sctp_fragments.specs.Interval.{held_at};
-ghost use Rattle.sctp_reassembly.specs.Delivery.{complete_messages, ready_bytes, Extends};
+ghost use Rattle.sctp_fragments.specs.Interval.{as_held};
+ghost use Rattle.sctp_reassembly.specs.Delivery.{first_complete, ready_bytes, Extends};
 
 /// Adds a fragment, and makes the message ready that it completes.
 #[tactic(auto, using(crate::proofs::ExtendsLemmas::extends_none))]
@@ -47,8 +47,8 @@ fn take_in<K: ReassemblyKey>(
 ) -> Result<(), AllocError>
     requires room { bytes_of list.old + ready_bytes ready.old + length fragment.payload.items < 2 ^ 64 }
     requires settled { NoneComplete (intervals_of list.old) }
-    ensures held { OnOk result (list.new ≡ left_by is_complete (with_item rank_of (held_at (K.number key) (K.index key) fragment) list.old)) }
-    ensures ready { OnOk result (ready.new ≡ ready.old ++ complete_messages (with_item rank_of (held_at (K.number key) (K.index key) fragment) list.old)) }
+    ensures held { OnOk result (list.new ≡ left_by is_complete (with_item rank_of (as_held (K.number key) (K.index key) fragment) list.old)) }
+    ensures ready { OnOk result (ready.new ≡ ready.old ++ first_complete (with_item rank_of (as_held (K.number key) (K.index key) fragment) list.old)) }
     ensures settled { NoneComplete (intervals_of list.new) }
     ensures kept { Extends ready.old ready.new }
     ensures bytes { bytes_of list.new + ready_bytes ready.new ≤ bytes_of list.old + ready_bytes ready.old + length fragment.payload.items }
@@ -67,7 +67,7 @@ fn take_in<K: ReassemblyKey>(
 impl<K: ReassemblyKey> UnorderedStream<K> {
     ghost use Rattle.sctp_reassembly.specs.Delivery.{held_from};
     ghost use Rattle.sctp_fragments.specs.ReassemblyKey.{rank_at};
-    ghost use Rattle.sctp_reassembly.specs.NotedStreams.{BeginsFrom};
+    ghost use Rattle.sctp_reassembly.specs.UnorderedByTsn.{BeginsFrom};
 
     /// The key of the first fragment.
     pub fn first(&self) -> Option<K>

@@ -8,9 +8,9 @@ ghost use Rattle.sctp_serial.specs.Unwrapped.{origin};
 ghost use Rattle.sctp_state.specs.Validity.{rises_from, unordered_ids};
 ghost use Rattle.sctp_fragments.specs.ReassemblyKey.{rank_at};
 ghost use Rattle.sctp_reassembly.specs.Delivery.{fresh_unordered, held_from};
-ghost use Rattle.sctp_reassembly.specs.NotedStreams.{BeginsFrom};
+ghost use Rattle.sctp_reassembly.specs.UnorderedByTsn.{BeginsFrom};
 ghost use Rattle.sctp_reassembly.specs.ReassemblyHandover.{unordered_records, unordered_entries};
-ghost use Rattle.sctp_reassembly.specs.ReassemblyStreams.{unordered_bytes, stream_at, write_stream};
+ghost use Rattle.sctp_reassembly.specs.ReassemblyStreams.{unordered_bytes, stream_at, put_stream};
 
 use crate::ordered_stream::FIRST;
 use crate::reassembly_stream::ReassemblyStream;
@@ -82,7 +82,7 @@ impl<K: ReassemblyKey> StreamMap<UnorderedStream<K>> {
 
     /// Drops the fragments of a stream before the key.
     pub fn forward_to(&mut self, id: StreamId, first: K)
-        ensures value { self.new ≡ write_stream id.0 (held_from (rank_at K.number K.index first) (stream_at fresh_unordered id.0 self.old)) self.old }
+        ensures value { self.new ≡ put_stream id.0 (held_from (rank_at K.number K.index first) (stream_at fresh_unordered id.0 self.old)) self.old }
         ensures bytes { unordered_bytes self.new ≤ unordered_bytes self.old }
     {
         let Some(stream) = self.streams.get_mut(&id.0) else {

@@ -6,13 +6,13 @@ use Rattle.sctp_packet.specs.declared.packet.PacketParseError.{PacketParseError}
 use Rattle.sctp_packet.specs.Packet.{PacketTree, Accepts, Refuses, IsFault}
 use Rattle.sctp_state.specs.Options.{Options}
 use Rattle.spec_endpoint.specs.Association.{State}
-use Rattle.spec_endpoint.specs.Input.{refusal}
+use Rattle.spec_endpoint.specs.Input.{packet_refusal}
 use Rattle.spec_endpoint.specs.Receiving.{Judges, taken, refused, unread, policy_of}
 use Rattle.spec_endpoint.specs.Wire.{word_at}
 
 -- by the reason that was found, or none
 pub judged_as : (word_of : List ℕ → ℕ) (policy : Policy) (word : ℕ) (bytes : List ℕ) (p : PacketTree) (o : Options) (s : State) (reason : Option (List ℕ)) (is_refused : Bool)
-    → policy ≡ policy_of o → word ≡ word_at word_of bytes → Accepts policy word bytes p → reason ≡ refusal p.header.verification_tag p.chunks s → is_refused ≡ is_some reason
+    → policy ≡ policy_of o → word ≡ word_at word_of bytes → Accepts policy word bytes p → reason ≡ packet_refusal p.header.verification_tag p.chunks s → is_refused ≡ is_some reason
     → Judges word_of bytes o s is_refused
 judged_as word_of policy word bytes p o s None is_refused a b accepts r e =
     taken p (subst (λ (w : ℕ). Accepts (policy_of o) w bytes p) b (subst (λ (q : Policy). Accepts q word bytes p) a accepts)) (sym r) e

@@ -8,7 +8,7 @@ use Rattle.sctp_packet.specs.Grammar.{IsChunk}
 use Rattle.spec_endpoint.specs.Association.{State}
 use Rattle.sctp_receiving.specs.declared.validation.Outline.{Outline}
 use Rattle.sctp_receiving.specs.Outlines.{outline_of, outlined_by, outlined_refusal}
-use Rattle.spec_endpoint.specs.Input.{refusal, refusal_by, abort_flag, complete_flag, has_shutdown_ack, begins_with_cookie, is_single_init, has_data}
+use Rattle.spec_endpoint.specs.Input.{packet_refusal, packet_refusal_by, abort_flag, complete_flag, has_shutdown_ack, begins_with_cookie, is_single_init, has_data_chunk}
 use Rattle.sctp_receiving.specs.Kinds.{FirstIs, NoneIs}
 
 -- an unknown chunk has no known type
@@ -135,7 +135,7 @@ shutdown_ack_here i (forward_tsn_chunk tsn skipped) ts h e = absurd (omega (arit
 shutdown_ack_here i (i_forward_tsn_chunk tsn skipped) ts h e = absurd (omega (arith, h.kind, e))
 shutdown_ack_here i (unknown_chunk typ flags value) ts h e = absurd (no_known i _ _ _ h (ap is_known_chunk e))
 
-data_behind : (t : ChunkTree) (ts : List ChunkTree) → (chunk_type t == 0) ≡ false → has_data (t ∷ ts) ≡ has_data ts
+data_behind : (t : ChunkTree) (ts : List ChunkTree) → (chunk_type t == 0) ≡ false → has_data_chunk (t ∷ ts) ≡ has_data_chunk ts
 data_behind (data_chunk tsn immediate f) ts e = absurd (clash e)
 data_behind (init_chunk init) ts e = refl
 data_behind (init_ack_chunk init) ts e = refl
@@ -155,7 +155,7 @@ data_behind (forward_tsn_chunk tsn skipped) ts e = refl
 data_behind (i_forward_tsn_chunk tsn skipped) ts e = refl
 data_behind (unknown_chunk typ flags value) ts e = refl
 
-data_here : (i : Item) (t : ChunkTree) (ts : List ChunkTree) → IsChunk i t → i.first ≡ 0 → has_data (t ∷ ts) ≡ true
+data_here : (i : Item) (t : ChunkTree) (ts : List ChunkTree) → IsChunk i t → i.first ≡ 0 → has_data_chunk (t ∷ ts) ≡ true
 data_here i (data_chunk tsn immediate f) ts h e = refl
 data_here i (init_chunk init) ts h e = absurd (omega (arith, h.kind, e))
 data_here i (init_ack_chunk init) ts h e = absurd (omega (arith, h.kind, e))
@@ -202,24 +202,24 @@ pub shutdown_ack_missing : (chunks : List ChunkTree) → NoneIs 8 chunks → has
 shutdown_ack_missing [] h = refl
 shutdown_ack_missing (t ∷ ts) h = shutdown_ack_behind t ts h.0 ∙ shutdown_ack_missing ts h.1
 
-pub data_found : (flags : ℕ) (chunks : List ChunkTree) → FirstIs 0 flags chunks → has_data chunks ≡ true
+pub data_found : (flags : ℕ) (chunks : List ChunkTree) → FirstIs 0 flags chunks → has_data_chunk chunks ≡ true
 data_found flags [] h = absurd h
 data_found flags (t ∷ ts) (inl h) = data_behind t ts h.0 ∙ data_found flags ts h.1
 data_found flags (t ∷ ts) (inr h) = data_here h.0 t ts h.1 h.2
 
-pub data_missing : (chunks : List ChunkTree) → NoneIs 0 chunks → has_data chunks ≡ false
+pub data_missing : (chunks : List ChunkTree) → NoneIs 0 chunks → has_data_chunk chunks ≡ false
 data_missing [] h = refl
 data_missing (t ∷ ts) h = data_behind t ts h.0 ∙ data_missing ts h.1
 
 -- ---- an outline says what the chunks say
 
 refusal_as : (abort complete : Option Bool) (is_shutdown_ack : Bool) (tag : ℕ) (chunks : List ChunkTree) (s : State)
-    → outlined_by abort complete is_shutdown_ack (begins_with_cookie chunks) (is_single_init chunks) tag s ≡ refusal_by abort complete is_shutdown_ack tag chunks s
+    → outlined_by abort complete is_shutdown_ack (begins_with_cookie chunks) (is_single_init chunks) tag s ≡ packet_refusal_by abort complete is_shutdown_ack tag chunks s
 refusal_as (Some reflected) complete is_shutdown_ack tag chunks s = refl
 refusal_as None (Some reflected) is_shutdown_ack tag chunks s = refl
 refusal_as None None true tag chunks s = refl
 refusal_as None None false tag chunks s = refl
 
-pub outline_refuses : (o : Outline) (tag : ℕ) (chunks : List ChunkTree) (s : State) → o ≡ outline_of chunks → outlined_refusal o tag s ≡ refusal tag chunks s
+pub outline_refuses : (o : Outline) (tag : ℕ) (chunks : List ChunkTree) (s : State) → o ≡ outline_of chunks → outlined_refusal o tag s ≡ packet_refusal tag chunks s
 outline_refuses o tag chunks s e =
     ap (λ (p : Outline). outlined_refusal p tag s) e ∙ refusal_as (abort_flag chunks) (complete_flag chunks) (has_shutdown_ack chunks) tag chunks s

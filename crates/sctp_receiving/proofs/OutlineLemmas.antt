@@ -6,7 +6,7 @@ use Rattle.sctp_wire.specs.Item.{Item}
 use Rattle.sctp_packet.specs.Chunk.{ChunkTree}
 use Rattle.sctp_packet.specs.Written.{chunk_type, flag}
 use Rattle.sctp_packet.specs.Grammar.{IsChunk}
-use Rattle.spec_endpoint.specs.Input.{abort_flag, complete_flag, has_shutdown_ack, begins_with_cookie, is_single_init, has_data}
+use Rattle.spec_endpoint.specs.Input.{abort_flag, complete_flag, has_shutdown_ack, begins_with_cookie, is_single_init, has_data_chunk}
 use Rattle.sctp_receiving.specs.Outlines.{outline_of}
 use Rattle.sctp_receiving.specs.Kinds.{FirstIs, Found, NoneIs, noted, noted_if}
 use Rattle.sctp_receiving.proofs.KindLemmas.{abort_found, abort_missing, complete_found, complete_missing, shutdown_ack_found, shutdown_ack_missing, data_found, data_missing}
@@ -25,14 +25,14 @@ pub shutdown_ack_as : (found : Option ℕ) (chunks : List ChunkTree) → Found 8
 shutdown_ack_as None chunks h = sym (shutdown_ack_missing chunks h)
 shutdown_ack_as (Some flags) chunks h = sym (shutdown_ack_found flags chunks h)
 
-pub data_as : (found : Option ℕ) (chunks : List ChunkTree) → Found 0 chunks found → is_some found ≡ has_data chunks
+pub data_as : (found : Option ℕ) (chunks : List ChunkTree) → Found 0 chunks found → is_some found ≡ has_data_chunk chunks
 data_as None chunks h = sym (data_missing chunks h)
 data_as (Some flags) chunks h = sym (data_found flags chunks h)
 
 -- ---- the outline
 
 pub outlined : (chunks : List ChunkTree) (abort complete : Option Bool) (acks cookie init carries : Bool) → abort ≡ abort_flag chunks → complete ≡ complete_flag chunks
-    → acks ≡ has_shutdown_ack chunks → cookie ≡ begins_with_cookie chunks → init ≡ is_single_init chunks → carries ≡ has_data chunks
+    → acks ≡ has_shutdown_ack chunks → cookie ≡ begins_with_cookie chunks → init ≡ is_single_init chunks → carries ≡ has_data_chunk chunks
     → record { abort = abort; complete = complete; has_shutdown_ack = acks; begins_with_cookie = cookie; is_single_init = init; has_data = carries } ≡ outline_of chunks
 outlined chunks abort complete acks cookie init carries a b c d e f = rw (a, b, c, d, e, f) refl
 

@@ -1,4 +1,4 @@
 pub mod RefusalView
 pub mod Kinds
 pub mod Outlines
-pub mod VerdictView
+pub mod ResolutionView

@@ -4,7 +4,7 @@ ghost use Rattle.std.specs.Prelude.{◌≡◌, ◌==◌, OnOk};
 ghost use Rattle.sctp_capabilities.specs.Capabilities.{capabilities_of, negotiate};
 ghost use Rattle.sctp_capabilities.specs.StateCookie.{cookie_of};
 ghost use Rattle.sctp_endpoint.specs.Views.{context_of, identity_of, state_of, tcb_of};
-ghost use Rattle.sctp_receiving.specs.VerdictView.{verdict_of};
+ghost use Rattle.sctp_receiving.specs.ResolutionView.{resolution_of};
 ghost use Rattle.spec_endpoint.specs.Opening as table;
 
 use sctp_capabilities::{Capabilities, StateCookie};
@@ -29,9 +29,9 @@ pub enum CookieResolution {
     InvalidTag,
 }
 
-/// The verdict where there is a control block, by three comparisons.
-fn compared(tag: u32, identity: Identity, cookie: &StateCookie) -> CookieResolution
-    ensures { verdict_of result ≡ table.compare_tags tag (identity_of identity) (cookie_of cookie.now) }
+/// What becomes of a cookie where there is a control block, by three comparisons.
+fn resolve_by_tags(tag: u32, identity: Identity, cookie: &StateCookie) -> CookieResolution
+    ensures { resolution_of result ≡ table.resolve_by_tags tag (identity_of identity) (cookie_of cookie.now) }
 {
     let is_other_tag = tag != identity.my_verification_tag;
     let is_other_peer = cookie.peer_tag != identity.peer_verification_tag;
@@ -55,9 +55,9 @@ fn compared(tag: u32, identity: Identity, cookie: &StateCookie) -> CookieResolut
     }
 }
 
-/// The verdict where there is none: whether the packet's tag is the cookie's.
+/// What becomes of it where there is none: whether the packet's tag is the cookie's.
 fn new_if_own(tag: u32, cookie: &StateCookie) -> CookieResolution
-    ensures { verdict_of result ≡ table.new_if (tag == (cookie_of cookie.now).my_tag) }
+    ensures { resolution_of result ≡ table.new_if (tag == (cookie_of cookie.now).my_tag) }
 {
     if tag == cookie.my_tag {
         CookieResolution::EstablishNew
@@ -66,13 +66,13 @@ fn new_if_own(tag: u32, cookie: &StateCookie) -> CookieResolution
     }
 }
 
-/// The verdict on a cookie in a packet under this tag.
+/// What becomes of a cookie in a packet under this tag.
 pub fn resolve_cookie(tag: u32, cookie: &StateCookie, state: &State) -> CookieResolution
-    ensures { verdict_of result ≡ table.resolve_cookie tag (cookie_of cookie.now) (state_of state.now) }
+    ensures { resolution_of result ≡ table.resolve_cookie tag (cookie_of cookie.now) (state_of state.now) }
 {
     match state {
         State::Closed | State::CookieWait(_) => new_if_own(tag, cookie),
-        State::Open(_, tcb) => compared(tag, tcb.identity, cookie),
+        State::Open(_, tcb) => resolve_by_tags(tag, tcb.identity, cookie),
     }
 }
 

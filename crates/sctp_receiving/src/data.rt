@@ -3,7 +3,7 @@
 ghost use Rattle.std.specs.Prelude.{◌≡◌, OnOk};
 ghost use Rattle.sctp_packet.specs.Views.{viewed_fragment};
 ghost use Rattle.sctp_rx.specs.DataTracker.{is_valid, number_of};
-ghost use Rattle.spec_endpoint.specs.Data.{forwarded_if, taken_if, takes};
+ghost use Rattle.spec_endpoint.specs.Data.{handle_forward_tsn_if, fragment_if, accepts_tsn};
 ghost use Rattle.sctp_endpoint.specs.Views.{tcb_of};
 
 use sctp_endpoint::TransmissionControlBlock;
@@ -19,7 +19,7 @@ pub fn take_data(
     fragment: DataView<'_>,
 ) -> Result<(), AllocError>
     ensures { OnOk result (tcb_of tcb.new
-        ≡ taken_if (takes fragment.entry.tsn.0 (tcb_of tcb.old)) fragment.entry.tsn.0 fragment.entry.immediate_ack (viewed_fragment fragment.entry) (tcb_of tcb.old)) }
+        ≡ fragment_if (accepts_tsn fragment.entry.tsn.0 (tcb_of tcb.old)) fragment.entry.tsn.0 fragment.entry.immediate_ack (viewed_fragment fragment.entry) (tcb_of tcb.old)) }
 {
     if tcb.reassembly_queue.is_full() || tcb.reassembly_queue.is_above_watermark() {
         return Ok(());
@@ -43,7 +43,7 @@ pub fn skip_to(
     skipped: &[SkippedStream],
 ) -> Result<(), AllocError>
     ensures { let n = number_of (tcb_of tcb.old).tracker new_cumulative_tsn.0 in
-        OnOk result (tcb_of tcb.new ≡ forwarded_if (is_valid (tcb_of tcb.old).tracker.tracker n) new_cumulative_tsn.0 skipped.now (tcb_of tcb.old)) }
+        OnOk result (tcb_of tcb.new ≡ handle_forward_tsn_if (is_valid (tcb_of tcb.old).tracker.tracker n) new_cumulative_tsn.0 skipped.now (tcb_of tcb.old)) }
 {
     if !tcb.data_tracker.is_tsn_valid(new_cumulative_tsn) {
         return Ok(());

@@ -42,7 +42,7 @@ pub fn keeps_items(state: &State) -> bool
 /// Hands out the message that was ready first.
 pub fn get_next_message(state: &mut State) -> Option<Message>
     ensures message { option_map message_of result ≡ first_of (table.ready_in (state_of state.old)) }
-    ensures rest { state_of state.new ≡ table.taken_in (state_of state.old) }
+    ensures rest { state_of state.new ≡ table.without_first_message_in (state_of state.old) }
 {
     match state {
         State::Closed | State::CookieWait(_) => None,

@@ -12,7 +12,7 @@ pub use Rattle.sctp_fragments.specs.Interval
 pub use Rattle.sctp_reassembly.specs.Delivery
 pub use Rattle.sctp_reassembly.specs.ReassemblyStreams
 pub use Rattle.sctp_reassembly.specs.ReassemblyQueue
-pub use Rattle.sctp_reassembly.specs.Form
+pub use Rattle.sctp_reassembly.specs.ReassemblyMode
 pub use Rattle.sctp_reassembly.specs.Waiting
 pub use Rattle.sctp_reassembly.specs.ReassemblyHandover
 pub use Rattle.sctp_reassembly.specs.SettledLaws

@@ -9,8 +9,8 @@ abbrev pub origin : ℕ
 origin = 2 ^ 32
 
 -- the spaces of TSN, MID, FSN and request numbers, and of SSN
-abbrev pub words : ℕ
-words = 2 ^ 32
+abbrev pub u32_space : ℕ
+u32_space = 2 ^ 32
 
 abbrev pub halves : ℕ
 halves = 2 ^ 16

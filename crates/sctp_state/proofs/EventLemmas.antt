@@ -2,7 +2,7 @@
 use Rattle.std.proofs.Common.{◌≡◌, ℕ, ◌≤◌, List, [], ◌∷◌, length, take, refl, ap, sym, ◌∙◌, arith, take_all, take-take, length-take}
 use Rattle.std.proofs.lemmas.List.{take_at}
 use Rattle.sctp_state.specs.declared.api.GivenUpCause.{GivenUpCause}
-use Rattle.sctp_state.specs.Events.{Event, GivenUp, Emitted, Grown, emit_events, give_up, mark_of, rolled_back}
+use Rattle.sctp_state.specs.Events.{Event, GivenUp, Emitted, Grown, emit_events, emit_given_up, mark_of, rolled_back}
 
 at_most : {X : Type 0} (xs ys : List X) → take (length xs) ys ≡ xs → length xs ≤ length ys
 at_most xs ys e = omega (arith, ap length e, length-take (length xs) ys)
@@ -19,7 +19,7 @@ grown_through t u v g h = record { events = through t.events u.events v.events g
 pub grown_emitted : {P : Type 0} (es : List (Event P)) (t : Emitted P) → Grown t (emit_events es t)
 grown_emitted es t = record { events = take_at t.events es (length t.events) refl; given_up = take_all (length t.given_up) t.given_up (omega arith) }
 
-pub grown_given_up : {P : Type 0} (n : ℕ) (cause : GivenUpCause) (t : Emitted P) → Grown t (give_up n cause t)
+pub grown_given_up : {P : Type 0} (n : ℕ) (cause : GivenUpCause) (t : Emitted P) → Grown t (emit_given_up n cause t)
 grown_given_up n cause t = record { events = take_all (length t.events) t.events (omega arith); given_up = take_at t.given_up (record { number = n; cause = cause } ∷ []) (length t.given_up) refl }
 
 pub taken_back : {P : Type 0} (t u : Emitted P) → Grown t u → rolled_back (mark_of t) u ≡ t

@@ -63,8 +63,8 @@ pub record Emitted (P : Type 0) : Type 0 where
   pub events : List (Event P)
   pub given_up : List GivenUp
 
-abbrev pub silent : {P : Type 0} → Emitted P
-silent = record { events = []; given_up = [] }
+abbrev pub nothing_emitted : {P : Type 0} → Emitted P
+nothing_emitted = record { events = []; given_up = [] }
 
 abbrev pub emit_event : {P : Type 0} → Event P → Emitted P → Emitted P
 emit_event e t = record t { events = t.events ++ e ∷ [] }
@@ -75,13 +75,13 @@ emit_events es t = record t { events = t.events ++ es }
 abbrev pub emit_record : {P : Type 0} → GivenUp → Emitted P → Emitted P
 emit_record g t = record t { given_up = t.given_up ++ g ∷ [] }
 
-abbrev pub give_up : {P : Type 0} → ℕ → GivenUpCause → Emitted P → Emitted P
-give_up n cause t = emit_record (record { number = n; cause = cause }) t
+abbrev pub emit_given_up : {P : Type 0} → ℕ → GivenUpCause → Emitted P → Emitted P
+emit_given_up n cause t = emit_record (record { number = n; cause = cause }) t
 
 -- the two events of a message with a lifecycle id that is dropped
-abbrev pub expiry : {P : Type 0} → Option ℕ → List (Event P)
-expiry None = []
-expiry (Some id) = OnLifecycleMessageExpired id ∷ OnLifecycleEnd id ∷ []
+abbrev pub expired_events : {P : Type 0} → Option ℕ → List (Event P)
+expired_events None = []
+expired_events (Some id) = OnLifecycleMessageExpired id ∷ OnLifecycleEnd id ∷ []
 
 -- the first of a list
 abbrev pub first_of : {X : Type 0} → List X → Option X

@@ -33,17 +33,17 @@ abbrev pub rto : Rtt → ℕ
 rto r = if r.is_sampled then min (max (r.s8 / 8 + r.v4) r.rto_min) r.rto_max else r.rto_initial
 
 -- the variance is at least half of the least one
-abbrev pub observe_sample : ℕ → ℕ → Rtt → Rtt
-observe_sample s8 v4 r = record r { is_sampled = true; s8 = s8; v4 = max v4 (r.min_rtt_variance / 2) }
+abbrev pub set_estimates : ℕ → ℕ → Rtt → Rtt
+set_estimates s8 v4 r = record r { is_sampled = true; s8 = s8; v4 = max v4 (r.min_rtt_variance / 2) }
 
 abbrev pub distance : ℕ → ℕ → ℕ
 distance a b = (a - b) + (b - a)
 
 abbrev pub first_sample : ℕ → Rtt → Rtt
-first_sample sample r = observe_sample (8 * sample) (2 * sample) r
+first_sample sample r = set_estimates (8 * sample) (2 * sample) r
 
 abbrev pub later_sample : ℕ → Rtt → Rtt
-later_sample sample r = observe_sample (r.s8 - r.s8 / 8 + sample) (r.v4 - r.v4 / 4 + distance sample (r.s8 / 8)) r
+later_sample sample r = set_estimates (r.s8 - r.s8 / 8 + sample) (r.v4 - r.v4 / 4 + distance sample (r.s8 / 8)) r
 
 -- a sample that is too long is dropped
 abbrev pub is_dropped : ℕ → Rtt → Bool

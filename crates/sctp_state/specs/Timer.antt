@@ -57,9 +57,9 @@ next_expiry t = moment_of t.due
 abbrev pub longest : ℕ
 longest = 24 * 3600 * 1000 * ms
 
-abbrev pub double : BackoffAlgorithm → ℕ → ℕ → ℕ
-double Fixed duration k = duration
-double Exponential duration k = duration * 2 ^ min (k - 1) 31
+abbrev pub backed_off : BackoffAlgorithm → ℕ → ℕ → ℕ
+backed_off Fixed duration k = duration
+backed_off Exponential duration k = duration * 2 ^ min (k - 1) 31
 
 abbrev pub cap_at : Option ℕ → ℕ → ℕ
 cap_at None span = span
@@ -67,16 +67,16 @@ cap_at (Some most) span = min span most
 
 -- how long until the next one
 abbrev pub backoff : Timer → ℕ → ℕ
-backoff t k = min (cap_at t.most (double t.backoff t.duration k)) longest
+backoff t k = min (cap_at t.most (backed_off t.backoff t.duration k)) longest
 
 -- whether it is the last
-abbrev pub is_last : Option ℕ → ℕ → Bool
-is_last None k = false
-is_last (Some n) k = nat_lt n k
+abbrev pub is_last_expiry : Option ℕ → ℕ → Bool
+is_last_expiry None k = false
+is_last_expiry (Some n) k = nat_lt n k
 
 abbrev pub next_due : Timer → ℕ → Option ℕ → Option ℕ
 next_due t k None = None
-next_due t k (Some moment) = if is_last t.restarts k then None else Some (later moment (backoff t k))
+next_due t k (Some moment) = if is_last_expiry t.restarts k then None else Some (later moment (backoff t k))
 
 abbrev pub expired_at : ℕ → Timer → Timer
 expired_at k t = record t { expiries = k; due = next_due t k t.due }

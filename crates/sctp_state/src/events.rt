@@ -48,10 +48,10 @@ impl Model for Events {
 }
 
 impl Events {
-    ghost use Rattle.sctp_state.specs.Events.{silent, emit_event, emit_record, given_up_of, mark_of, rolled_back};
+    ghost use Rattle.sctp_state.specs.Events.{nothing_emitted, emit_event, emit_record, given_up_of, mark_of, rolled_back};
 
     pub fn new(alloc: Global) -> Events
-        ensures { result ≡ silent }
+        ensures { result ≡ nothing_emitted }
     {
         Events {
             events: VecDeque::new(alloc),

@@ -44,7 +44,7 @@ impl Model for Timer {
 }
 
 impl Timer {
-    ghost use Rattle.sctp_state.specs.Timer.{timer, start, stop, expire, is_due, is_running, next_expiry, set_duration, double, cap_at, longest, is_last};
+    ghost use Rattle.sctp_state.specs.Timer.{timer, start, stop, expire, is_due, is_running, next_expiry, set_duration, backed_off, cap_at, longest, is_last_expiry};
 
     /// A stopped timer. After more than `max_restarts` expiries it stops by itself, and no wait after an expiry is
     /// longer than `max_backoff_duration`.
@@ -135,7 +135,7 @@ impl Timer {
 
     /// Whether the timer stops at its expiry of this number.
     fn is_last_expiry(max_restarts: Option<u32>, count: u64) -> bool
-        ensures { result ≡ is_last max_restarts count }
+        ensures { result ≡ is_last_expiry max_restarts count }
     {
         match max_restarts {
             Some(most) => (most as u64) < count,
@@ -145,7 +145,7 @@ impl Timer {
 
     /// The nanoseconds from the expiry of this number to the next one, before they are bounded.
     fn doubled(backoff_algorithm: BackoffAlgorithm, duration: Duration, count: u64) -> u128
-        ensures value { result ≡ double backoff_algorithm (as_nanos duration) count }
+        ensures value { result ≡ backed_off backoff_algorithm (as_nanos duration) count }
     {
         match backoff_algorithm {
             BackoffAlgorithm::Fixed => duration.as_nanos(),

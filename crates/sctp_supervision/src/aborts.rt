@@ -4,7 +4,7 @@ ghost use Rattle.std.specs.Prelude.{◌≡◌, map, IfOk, OnOk, string_bytes};
 ghost use Rattle.sctp_error_cause.specs.CauseViews.{cause_tree};
 ghost use Rattle.sctp_state.specs.Events.{OnAborted};
 ghost use Rattle.spec_endpoint.specs.Association.{where_open};
-ghost use Rattle.spec_endpoint.specs.Packets.{complain};
+ghost use Rattle.spec_endpoint.specs.Packets.{emit_error};
 ghost use Rattle.sctp_endpoint.specs.Views.{context_of, endpoint_state_of, tcb_of};
 ghost use Rattle.sctp_supervision.specs.MisuseView.{misuse_text};
 ghost use Rattle.spec_endpoint.specs.Shutdown as closing;
@@ -48,7 +48,7 @@ fn emit_error<C: Checksum>(
     context: &mut Context<C>,
     causes: &[ErrorCause],
 ) -> Result<(), AllocError>
-    ensures { OnOk result (context_of C.word_of context.new ≡ complain ErrorKind.PeerReported (closing.causes_text (map cause_tree causes.now)) (context_of C.word_of context.old)) }
+    ensures { OnOk result (context_of C.word_of context.new ≡ emit_error ErrorKind.PeerReported (closing.causes_text (map cause_tree causes.now)) (context_of C.word_of context.old)) }
 {
     let text = causes_text(context.alloc, causes)?;
     context.emit_event(SocketEvent::OnError(ErrorKind::PeerReported, text))
@@ -61,7 +61,7 @@ fn abort_by_violation<C: Checksum>(
     misuse: Misuse,
 ) -> Result<(), AllocError>
     ensures { OnOk result (context_of C.word_of context.new
-        ≡ (closing.violate (misuse_text misuse) (tcb_of tcb.now) (context_of C.word_of context.old)).context) }
+        ≡ (closing.abort_for_violation (misuse_text misuse) (tcb_of tcb.now) (context_of C.word_of context.old)).context) }
 {
     let information = String::from_str(context.alloc, misuse.text())?;
     let cause = ErrorCause::ProtocolViolation(ProtocolViolationErrorCause { information });
@@ -107,7 +107,7 @@ pub fn handle_misuse<C: Checksum>(
     context: &mut Context<C>,
     misuse: Misuse,
 ) -> Result<(), AllocError>
-    ensures { OnOk result (endpoint_state_of C.word_of state.new context.new ≡ table.breaks (misuse_text misuse) (endpoint_state_of C.word_of state.old context.old)) }
+    ensures { OnOk result (endpoint_state_of C.word_of state.new context.new ≡ table.abort_for_violation_in (misuse_text misuse) (endpoint_state_of C.word_of state.old context.old)) }
 {
     match state {
         State::Closed | State::CookieWait(_) => Ok(()),

@@ -18,7 +18,7 @@ use std::alloc::{AllocError, Global};
 
 /// A HEARTBEAT with this number.
 fn make_heartbeat(alloc: Global, counter: u32) -> Result<Chunk, AllocError>
-    ensures { IfOk result (λ chunk. chunk_tree chunk ≡ table.heartbeat counter) }
+    ensures { IfOk result (λ chunk. chunk_tree chunk ≡ table.heartbeat_chunk counter) }
 {
     let info = Vec::from_slice(alloc, &counter.to_be_bytes())?;
     let mut parameters = Vec::new(alloc);
@@ -43,7 +43,7 @@ fn send_heartbeat<C: Checksum>(
     context: &mut Context<C>,
     tcb: &TransmissionControlBlock,
 ) -> Result<(), AllocError>
-    ensures { OnOk result (context_of C.word_of context.new ≡ table.sent_with (tcb_of tcb.now) (context_of C.word_of context.old)) }
+    ensures { OnOk result (context_of C.word_of context.new ≡ table.emit_heartbeat (tcb_of tcb.now) (context_of C.word_of context.old)) }
 {
     let chunk = make_heartbeat(context.alloc, context.heartbeat_counter)?;
     context.emit_chunk(tcb, chunk)
@@ -55,7 +55,7 @@ pub fn tick_heartbeat_interval<C: Checksum>(
     tcb: &TransmissionControlBlock,
 ) -> Result<bool, AllocError>
     ensures due { IfOk result (λ due. due ≡ is_due context.old.clock context.old.heartbeats.interval) }
-    ensures context { IfOk result (λ due. context_of C.word_of context.new ≡ table.beat_if due (tcb_of tcb.now) (context_of C.word_of context.old)) }
+    ensures context { IfOk result (λ due. context_of C.word_of context.new ≡ table.send_heartbeat_if due (tcb_of tcb.now) (context_of C.word_of context.old)) }
 {
     if !context.heartbeat_interval.expire(context.clock) {
         return Ok(false);
@@ -69,7 +69,7 @@ pub fn tick_heartbeat_interval<C: Checksum>(
 /// An answer that doesn't come in time counts as an error. The answer is whether that time is over.
 pub fn tick_heartbeat_timeout<C: Checksum>(context: &mut Context<C>) -> bool
     ensures due { result ≡ is_due context.old.clock context.old.heartbeats.timeout }
-    ensures context { context_of C.word_of context.new ≡ table.unanswered_if result (context_of C.word_of context.old) }
+    ensures context { context_of C.word_of context.new ≡ table.heartbeat_timeout_if result (context_of C.word_of context.old) }
 {
     if !context.heartbeat_timeout.expire(context.clock) {
         return false;
@@ -95,15 +95,15 @@ pub fn handle_heartbeat_ack<C: Checksum>(
 {
     match info_in(parameters) {
         Some(info) => take_heartbeat_info(context, info),
-        None => complain_of_heartbeat_info(context),
+        None => emit_heartbeat_info_error(context),
     }
 }
 
 fn take_heartbeat_info<C: Checksum>(context: &mut Context<C>, info: &[u8]) -> Result<(), AllocError>
-    ensures { OnOk result (context_of C.word_of context.new ≡ table.answer_heartbeat (Some info.now) (context_of C.word_of context.old)) }
+    ensures { OnOk result (context_of C.word_of context.new ≡ table.on_heartbeat_info (Some info.now) (context_of C.word_of context.old)) }
 {
     if info.len() != 4 {
-        return complain_of_heartbeat_info(context);
+        return emit_heartbeat_info_error(context);
     }
     if info == context.heartbeat_counter.to_be_bytes().as_slice() {
         context.heartbeat_timeout.stop();
@@ -112,10 +112,10 @@ fn take_heartbeat_info<C: Checksum>(context: &mut Context<C>, info: &[u8]) -> Re
     Ok(())
 }
 
-fn complain_of_heartbeat_info<C: Checksum>(context: &mut Context<C>) -> Result<(), AllocError>
+fn emit_heartbeat_info_error<C: Checksum>(context: &mut Context<C>) -> Result<(), AllocError>
     ensures { OnOk result (context_of C.word_of context.new ≡ table.no_info (context_of C.word_of context.old)) }
 {
-    context.complain(
+    context.emit_error(
         ErrorKind::ParseFailed,
         "Failed to parse HEARTBEAT-ACK; Invalid info parameter",
     )

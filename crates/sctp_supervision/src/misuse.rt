@@ -134,13 +134,13 @@ fn first_bytes(alloc: Global, chunk: &UnknownChunk, most: usize) -> Result<Vec<u
 }
 
 /// An ERROR with as much of an unknown chunk as a packet holds.
-fn echo_unknown<C: Checksum>(
+fn report_unrecognized<C: Checksum>(
     context: &mut Context<C>,
     tcb: &TransmissionControlBlock,
     chunk: &UnknownChunk,
 ) -> Result<(), AllocError>
     ensures { let u = chunk.now in OnOk result (context_of C.word_of context.new
-        ≡ emit_chunk (table.echo_unknown context.old.options.mtu u.typ u.flags u.value.items) (tcb_of tcb.now) (context_of C.word_of context.old)) }
+        ≡ emit_chunk (table.unrecognized_chunk_error context.old.options.mtu u.typ u.flags u.value.items) (tcb_of tcb.now) (context_of C.word_of context.old)) }
 {
     let most = (context.options.mtu / 4 * 4).saturating_sub(20);
     let chunk = first_bytes(context.alloc, chunk, most)?;
@@ -149,11 +149,11 @@ fn echo_unknown<C: Checksum>(
     context.emit_chunk(tcb, Chunk::Error(ErrorChunk { error_causes }))
 }
 
-fn complain_of_unknown<C: Checksum>(
+fn emit_unknown_chunk_error<C: Checksum>(
     context: &mut Context<C>,
     chunk: &UnknownChunk,
 ) -> Result<(), AllocError>
-    ensures { let u = chunk.now in OnOk result (context_of C.word_of context.new ≡ table.complain_of_unknown u.typ u.flags u.value.items (context_of C.word_of context.old)) }
+    ensures { let u = chunk.now in OnOk result (context_of C.word_of context.new ≡ table.emit_unknown_chunk_error u.typ u.flags u.value.items (context_of C.word_of context.old)) }
 {
     let text = unknown_text(context.alloc, chunk)?;
     context.emit_event(SocketEvent::OnError(ErrorKind::ParseFailed, text))
@@ -178,9 +178,9 @@ pub fn handle_unknown<C: Checksum>(
     if !is_reported(chunk.typ) {
         return Ok(());
     }
-    complain_of_unknown(context, chunk)?;
+    emit_unknown_chunk_error(context, chunk)?;
     match state {
         State::Closed | State::CookieWait(_) => Ok(()),
-        State::Open(_, tcb) => echo_unknown(context, tcb, chunk),
+        State::Open(_, tcb) => report_unrecognized(context, tcb, chunk),
     }
 }

@@ -3,7 +3,7 @@
 ghost use Rattle.std.specs.Prelude.{◌≡◌, false, OnOk};
 ghost use Rattle.spec_endpoint.specs.Association.{where_open};
 ghost use Rattle.sctp_state.specs.Events.{OnClosed};
-ghost use Rattle.sctp_endpoint.specs.Views.{context_of, onward_of, phase_of, endpoint_state_of, tcb_of};
+ghost use Rattle.sctp_endpoint.specs.Views.{context_of, phase_step_of, phase_of, endpoint_state_of, tcb_of};
 ghost use Rattle.spec_endpoint.specs.Shutdown as table;
 
 use sctp_endpoint::{Context, OutgoingPacket, Phase, State, TransmissionControlBlock};
@@ -18,12 +18,12 @@ fn begin_shutdown<C: Checksum>(
     phase: &mut Phase,
     tcb: &TransmissionControlBlock,
 ) -> Result<(), AllocError>
-    ensures { OnOk result (onward_of C.word_of phase.new context.new ≡ table.shut_down (phase_of phase.old) (tcb_of tcb.now) (context_of C.word_of context.old)) }
+    ensures { OnOk result (phase_step_of C.word_of phase.new context.new ≡ table.shutdown_in_phase (phase_of phase.old) (tcb_of tcb.now) (context_of C.word_of context.old)) }
 {
     match phase {
         Phase::CookieEchoed(_) | Phase::Established => {
             *phase = Phase::ShutdownPending;
-            context.maybe_go_on(phase, tcb)
+            context.maybe_send_shutdown_or_ack(phase, tcb)
         }
         Phase::ShutdownPending
         | Phase::ShutdownSent(_)
@@ -38,12 +38,12 @@ fn take_shutdown<C: Checksum>(
     phase: &mut Phase,
     tcb: &TransmissionControlBlock,
 ) -> Result<(), AllocError>
-    ensures { OnOk result (onward_of C.word_of phase.new context.new ≡ table.shut_by_peer (phase_of phase.old) (tcb_of tcb.now) (context_of C.word_of context.old)) }
+    ensures { OnOk result (phase_step_of C.word_of phase.new context.new ≡ table.shut_by_peer (phase_of phase.old) (tcb_of tcb.now) (context_of C.word_of context.old)) }
 {
     match phase {
         Phase::Established | Phase::ShutdownPending => {
             *phase = Phase::ShutdownReceived;
-            context.maybe_go_on(phase, tcb)
+            context.maybe_send_shutdown_or_ack(phase, tcb)
         }
         Phase::ShutdownSent(_) => {
             *phase = Phase::ShutdownAckSent(context.t2_shutdown(tcb));

@@ -1,7 +1,7 @@
 //! Time: which timers a state looks at, and what their expiries lead to.
 
 ghost use Rattle.std.specs.Prelude.{◌≡◌, true, cond, IfOk, OnOk};
-ghost use Rattle.sctp_endpoint.specs.Views.{context_of, left_of, phase_of, endpoint_state_after, endpoint_state_of, state_of, tcb_of, ticking_of, waited_of};
+ghost use Rattle.sctp_endpoint.specs.Views.{context_of, timer_outcome_of, phase_of, endpoint_state_after, endpoint_state_of, state_of, tcb_of, ticking_of, init_outcome_of};
 ghost use Rattle.sctp_state.specs.Timer.{expire};
 ghost use Rattle.spec_endpoint.specs.Shutdown.{send_shutdown, send_shutdown_ack};
 ghost use Rattle.spec_endpoint.specs.Timers as table;
@@ -96,7 +96,7 @@ fn end_if_exhausted<C: Checksum>(
     context: &mut Context<C>,
     tcb: &TransmissionControlBlock,
 ) -> Result<bool, AllocError>
-    ensures { IfOk result (λ ended. left_of C.word_of tcb.now context.new ended ≡ table.end_association (tcb_of tcb.now) (context_of C.word_of context.old)) }
+    ensures { IfOk result (λ ended. timer_outcome_of C.word_of tcb.now context.new ended ≡ table.abort_if_exhausted (tcb_of tcb.now) (context_of C.word_of context.old)) }
 {
     if context.tx_error_counter.is_exhausted() {
         context.abort_by_retransmissions(tcb)?;
@@ -106,11 +106,11 @@ fn end_if_exhausted<C: Checksum>(
 }
 
 /// Too many errors end the association; else what may be sent goes out. The answer is whether it ended.
-fn go_on<C: Checksum>(
+fn abort_or_send<C: Checksum>(
     context: &mut Context<C>,
     tcb: &mut TransmissionControlBlock,
 ) -> Result<bool, AllocError>
-    ensures { IfOk result (λ ended. left_of C.word_of tcb.new context.new ended ≡ table.goes_on (tcb_of tcb.old) (context_of C.word_of context.old)) }
+    ensures { IfOk result (λ ended. timer_outcome_of C.word_of tcb.new context.new ended ≡ table.abort_or_send (tcb_of tcb.old) (context_of C.word_of context.old)) }
 {
     if context.tx_error_counter.is_exhausted() {
         context.abort_by_retransmissions(tcb)?;
@@ -120,15 +120,15 @@ fn go_on<C: Checksum>(
     Ok(false)
 }
 
-fn settle<C: Checksum>(
+fn after_ticks<C: Checksum>(
     context: &mut Context<C>,
     tcb: &mut TransmissionControlBlock,
     has_expired: bool,
 ) -> Result<bool, AllocError>
-    ensures { IfOk result (λ ended. left_of C.word_of tcb.new context.new ended ≡ table.settled_if has_expired (tcb_of tcb.old) (context_of C.word_of context.old)) }
+    ensures { IfOk result (λ ended. timer_outcome_of C.word_of tcb.new context.new ended ≡ table.after_ticks_if has_expired (tcb_of tcb.old) (context_of C.word_of context.old)) }
 {
     if has_expired {
-        go_on(context, tcb)
+        abort_or_send(context, tcb)
     } else {
         Ok(false)
     }
@@ -139,10 +139,10 @@ fn tick_established<C: Checksum>(
     context: &mut Context<C>,
     tcb: &mut TransmissionControlBlock,
 ) -> Result<bool, AllocError>
-    ensures { IfOk result (λ ended. left_of C.word_of tcb.new context.new ended ≡ table.settle_ticks (table.tick_timers (tcb_of tcb.old) (context_of C.word_of context.old))) }
+    ensures { IfOk result (λ ended. timer_outcome_of C.word_of tcb.new context.new ended ≡ table.after_ticks (table.tick_timers (tcb_of tcb.old) (context_of C.word_of context.old))) }
 {
     let has_expired = tick_tcb(context, tcb)?;
-    settle(context, tcb, has_expired)
+    after_ticks(context, tcb, has_expired)
 }
 
 /// Before the COOKIE ACK: the COOKIE ECHO goes out again (RFC 9260 section 5.1).
@@ -153,7 +153,7 @@ fn tick_cookie_echoed<C: Checksum>(
 ) -> Result<bool, AllocError>
     ensures timer { OnOk result (echoed.new.t1_cookie ≡ expire context.old.clock echoed.old.t1_cookie) }
     ensures cookie { OnOk result (echoed.new.cookie.items ≡ echoed.old.cookie.items) }
-    ensures left { IfOk result (λ ended. left_of C.word_of tcb.new context.new ended
+    ensures left { IfOk result (λ ended. timer_outcome_of C.word_of tcb.new context.new ended
         ≡ table.tick_cookie echoed.old.t1_cookie echoed.old.cookie.items (table.tick_ack (table.ticking (tcb_of tcb.old) (context_of C.word_of context.old)))) }
 {
     let has_expired = tick_ack(context, tcb);
@@ -173,7 +173,7 @@ fn end_if_expired<C: Checksum>(
     tcb: &TransmissionControlBlock,
     has_expired: bool,
 ) -> Result<bool, AllocError>
-    ensures { IfOk result (λ ended. left_of C.word_of tcb.now context.new ended ≡ table.waits_if has_expired (tcb_of tcb.now) (context_of C.word_of context.old)) }
+    ensures { IfOk result (λ ended. timer_outcome_of C.word_of tcb.now context.new ended ≡ table.waits_if has_expired (tcb_of tcb.now) (context_of C.word_of context.old)) }
 {
     if has_expired {
         end_if_exhausted(context, tcb)
@@ -205,20 +205,20 @@ fn tick_shutdown<C: Checksum>(
     tcb: &mut TransmissionControlBlock,
 ) -> Result<bool, AllocError>
     ensures timer { OnOk result (t2_shutdown.new ≡ expire context.old.clock t2_shutdown.old) }
-    ensures left { IfOk result (λ ended. left_of C.word_of tcb.new context.new ended
+    ensures left { IfOk result (λ ended. timer_outcome_of C.word_of tcb.new context.new ended
         ≡ table.tick_t2 context.old.clock (cond is_ack send_shutdown_ack send_shutdown) t2_shutdown.old (table.tick_timers (tcb_of tcb.old) (context_of C.word_of context.old))) }
 {
     let now = context.clock;
     let has_expired = tick_tcb(context, tcb)?;
     if !t2_shutdown.expire(now) {
-        return settle(context, tcb, has_expired);
+        return after_ticks(context, tcb, has_expired);
     }
     if !t2_shutdown.is_running() {
         context.abort_by_retransmissions(tcb)?;
         return Ok(true);
     }
     send_again(context, is_ack, tcb)?;
-    go_on(context, tcb)
+    abort_or_send(context, tcb)
 }
 
 fn tick_open<C: Checksum>(
@@ -246,7 +246,7 @@ fn tick_cookie_wait<C: Checksum>(
     ensures tag { OnOk result (waiting.new.verification_tag ≡ waiting.old.verification_tag) }
     ensures first { OnOk result (waiting.new.initial_tsn ≡ waiting.old.initial_tsn) }
     ensures timer { OnOk result (waiting.new.t1_init ≡ expire context.old.clock waiting.old.t1_init) }
-    ensures waited { IfOk result (λ ended. waited_of C.word_of context.new ended
+    ensures waited { IfOk result (λ ended. init_outcome_of C.word_of context.new ended
         ≡ table.tick_init waiting.old.verification_tag waiting.old.initial_tsn.0 waiting.old.t1_init (context_of C.word_of context.old)) }
 {
     if !waiting.t1_init.expire(context.clock) {

@@ -53,16 +53,16 @@ chosen true n q i old known e before =
 chosen false n q i old known e before = before q ∙ sym (none_here false (known q) i refl)
 
 -- an end's own packet is the one of its number
-pub own : (is_its : Bool) (n : ℕ) (is_it : ℕ → Bool) → ((q : ℕ) → is_it q ≡ (is_its && (n == q))) → is_it n ≡ true → (q : ℕ) → is_it q ≡ (n == q)
-own true n is_it same e q = same q
-own false n is_it same e q = let never : false ≡ true = sym (same n) ∙ e in cc
+pub own_packet_has_number : (is_its : Bool) (n : ℕ) (is_it : ℕ → Bool) → ((q : ℕ) → is_it q ≡ (is_its && (n == q))) → is_it n ≡ true → (q : ℕ) → is_it q ≡ (n == q)
+own_packet_has_number true n is_it same e q = same q
+own_packet_has_number false n is_it same e q = let never : false ≡ true = sym (same n) ∙ e in cc
 
 other_end : (is_its same : Bool) → (is_its && same) ≡ false → same ≡ true → is_its ≡ false
 other_end true same e one = let never : false ≡ true = sym e ∙ one in cc
 other_end false same e one = refl
 
-pub not_own : (is_its : Bool) (n : ℕ) (is_it : ℕ → Bool) → ((q : ℕ) → is_it q ≡ (is_its && (n == q))) → is_it n ≡ false → (q : ℕ) → is_it q ≡ false
-not_own is_its n is_it same e q =
+pub not_own_packet : (is_its : Bool) (n : ℕ) (is_it : ℕ → Bool) → ((q : ℕ) → is_it q ≡ (is_its && (n == q))) → is_it n ≡ false → (q : ℕ) → is_it q ≡ false
+not_own_packet is_its n is_it same e q =
     same q ∙ ap (λ (b : Bool). b && (n == q)) (other_end is_its (n == n) (sym (same n) ∙ e) (grind (arith, nat_tests)))
 
 module _ (rows : List Row) (from : End) (i : ℕ) (row : Row) (inside : i < length rows) (is : row ≡ get_or rows i row) where

@@ -2,7 +2,7 @@
 use Rattle.std.proofs.Common.{◌≡◌, ℕ, suc, ◌+◌, ◌-◌, ◌<◌, ◌≤◌, Bool, true, false, eqb, leb, ◌||◌, ◌&&◌, max, List, [], ◌∷◌, refl, sym, ap, ◌∙◌, subst, inl, inr, arith}
 use Rattle.std.proofs.lemmas.Bool.{cases_order, both_ways, cases_lt, cases_eq, eq-eqb, ne_eqb, lt-ltb, le-ltb, le-leb, lt-leb}
 use Rattle.std.proofs.lemmas.Bool.Decides.{nat_tests}
-use Rattle.sctp_tracker.specs.Seen.{Run, Seen, is_in, in_runs, AreRuns, contains, IsInRuns, join_run, with_number, settle, add, up_to}
+use Rattle.sctp_tracker.specs.Seen.{Run, Seen, is_in, in_runs, AreRuns, contains, IsInRuns, join_run, with_number, absorb_runs, add, up_to}
 use Rattle.sctp_tracker.proofs.SeenEdits.{run}
 use Rattle.sctp_tracker.proofs.SeenRunsLemmas.{in_runs_below}
 use Rattle.sctp_serial.proofs.NumberLemmas.{or_swap}
@@ -151,7 +151,7 @@ with_number_runs below n (r ∷ rs) a l h =
     above : (y : Bool) (c d : ℕ) → c ≤ n → (n ≡ suc d → ⊥) → ((leb c n && leb n d) || y) ≡ false → (suc d < n) × (y ≡ false)
     above y c d g e h = grind (arith, nat_tests)
 
-contains_settle : (front m : ℕ) (rs : List Run) → contains (settle front rs) m ≡ (leb m front || in_runs rs m)
+contains_settle : (front m : ℕ) (rs : List Run) → contains (absorb_runs front rs) m ≡ (leb m front || in_runs rs m)
 contains_settle front m [] = refl
 contains_settle front m (r ∷ rs) =
     elim (cases_lt (suc front) r.first) [
@@ -162,7 +162,7 @@ contains_settle front m (r ∷ rs) =
     both : (y : Bool) (c d : ℕ) → c ≤ suc front → (leb m (max front d) || y) ≡ (leb m front || ((leb c m && leb m d) || y))
     both y c d h = grind (arith, nat_tests)
 
-IsInRuns_settle : (p front : ℕ) (rs : List Run) → AreRuns p rs → IsInRuns (settle front rs)
+IsInRuns_settle : (p front : ℕ) (rs : List Run) → AreRuns p rs → IsInRuns (absorb_runs front rs)
 IsInRuns_settle p front [] a = tt
 IsInRuns_settle p front (r ∷ rs) a =
     elim (cases_lt (suc front) r.first) [

@@ -2,7 +2,7 @@
 -- they never wrap, and the peer's first one is `origin`.
 use Rattle.std.specs.Prelude.{◌≡◌, ℕ, ◌+◌, ◌-◌, ◌*◌, ◌/◌, ◌^◌, ◌==◌, ◌<◌, ◌≤◌, ◌&&◌, ◌||◌, not, nat_lt, nat_le, min, Bool, true, false, if◌then◌else◌, Option, Some, None, List, [], ◌∷◌, length}
 use Rattle.sctp_serial.specs.SerialNumber.{serial_difference}
-use Rattle.sctp_serial.specs.Unwrapped.{origin, words, wire, nearest}
+use Rattle.sctp_serial.specs.Unwrapped.{origin, u32_space, wire, nearest}
 use Rattle.sctp_state.specs.Options.{Options}
 use Rattle.sctp_state.specs.Timer.{Timer, timer, start, stop, set_duration, is_due, expire}
 use Rattle.sctp_state.specs.declared.timer.BackoffAlgorithm.TheVariants.{Fixed}
@@ -30,11 +30,11 @@ pub record DataTracker : Type 0 where
   pub tracker : Tracker
 
 abbrev pub wire_tsn : DataTracker → ℕ → ℕ
-wire_tsn d n = wire words d.first n
+wire_tsn d n = wire u32_space d.first n
 
 -- what a TSN stands for: the number nearest to the cumulative TSN
 abbrev pub number_of : DataTracker → ℕ → ℕ
-number_of d tsn = nearest words d.first d.tracker.seen.front tsn
+number_of d tsn = nearest u32_space d.first d.tracker.seen.front tsn
 
 -- numbers stay below this distance from the beginning
 abbrev pub bound : ℕ
@@ -75,14 +75,14 @@ abbrev pub acking : AckState → Tracker → Tracker
 acking a t = record t { ack = a; delay = stop t.delay }
 
 -- one more packet is to be acknowledged, and the second one at once
-abbrev pub hasten : AckState → AckState
-hasten Idle = Becoming
-hasten Becoming = Becoming
-hasten Delayed = Immediate
-hasten Immediate = Immediate
+abbrev pub after_packet : AckState → AckState
+after_packet Idle = Becoming
+after_packet Becoming = Becoming
+after_packet Delayed = Immediate
+after_packet Immediate = Immediate
 
 abbrev pub ack_after : (is_urgent : Bool) → AckState → AckState
-ack_after is_urgent a = if is_urgent then Immediate else hasten a
+ack_after is_urgent a = if is_urgent then Immediate else after_packet a
 
 -- what is acknowledged at once: a duplicate, a gap that remains, the I bit (RFC 7053), the first DATA chunk
 abbrev pub is_urgent : (is_new has_gap is_immediate seen_packet : Bool) → Bool
@@ -159,8 +159,8 @@ forward n t = record t {
 -- ---- handed over
 
 -- the least number at or above `origin` that is written so
-abbrev pub place : ℕ → ℕ → ℕ
-place first tsn = origin + serial_difference words tsn first
+abbrev pub unwrapped_from : ℕ → ℕ → ℕ
+unwrapped_from first tsn = origin + serial_difference u32_space tsn first
 
 -- a tracker that has seen each number up to this one
 abbrev pub restore_tracker : (front : ℕ) (seen_packet : Bool) → Tracker → Tracker

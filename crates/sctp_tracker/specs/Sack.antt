@@ -2,7 +2,7 @@
 use Rattle.std.specs.Prelude.{ℕ, ◌-◌, ◌&&◌, Bool, nat_le, List, [], map, filter, take}
 use Rattle.std.specs.List.{list_any}
 use Rattle.sctp_serial.specs.declared.types.tsn.Tsn.{Tsn}
-use Rattle.sctp_serial.specs.Unwrapped.{words, wire}
+use Rattle.sctp_serial.specs.Unwrapped.{u32_space, wire}
 use Rattle.sctp_chunk.specs.declared.sack.GapAckBlock.{GapAckBlock}
 use Rattle.sctp_chunk.specs.Chunk.{SackTree}
 use Rattle.sctp_tracker.specs.Seen.{Run, Seen}
@@ -24,7 +24,7 @@ abbrev pub gap_ack_blocks : Seen → List GapAckBlock
 gap_ack_blocks s = blocks_of s.front (take 20 s.runs)
 
 abbrev pub tsn : ℕ → ℕ → Tsn
-tsn first n = record { 0 = wire words first n }
+tsn first n = record { 0 = wire u32_space first n }
 
 abbrev pub tsns : ℕ → List ℕ → List Tsn
 tsns first ns = map (tsn first) ns
@@ -38,8 +38,8 @@ sack a_rwnd d = record {
 }
 
 -- the duplicates are reported once
-abbrev pub report : Tracker → Tracker
-report t = record t { duplicates = [] }
+abbrev pub clear_duplicates : Tracker → Tracker
+clear_duplicates t = record t { duplicates = [] }
 
 -- whether a block covers the offset
 abbrev pub is_covered : List GapAckBlock → ℕ → Bool

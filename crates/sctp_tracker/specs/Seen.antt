@@ -64,15 +64,15 @@ with_number n (r ∷ rs) =
     (if n == suc r.last then join_run (record { first = r.first; last = n }) rs else r ∷ with_number n rs)
 
 -- a front that takes in what it touches
-abbrev pub settle : ℕ → List Run → Seen
-settle front [] = record { front = front; runs = [] }
-settle front (r ∷ rs) =
-    if nat_le r.first (suc front) then settle (max front r.last) rs else record { front = front; runs = r ∷ rs }
+abbrev pub absorb_runs : ℕ → List Run → Seen
+absorb_runs front [] = record { front = front; runs = [] }
+absorb_runs front (r ∷ rs) =
+    if nat_le r.first (suc front) then absorb_runs (max front r.last) rs else record { front = front; runs = r ∷ rs }
 
 -- the set with one number more
 abbrev pub add : ℕ → Seen → Seen
-add n s = settle s.front (if contains s n then s.runs else with_number n s.runs)
+add n s = absorb_runs s.front (if contains s n then s.runs else with_number n s.runs)
 
 -- the set with each number up to n
 abbrev pub up_to : ℕ → Seen → Seen
-up_to n s = settle (max n s.front) s.runs
+up_to n s = absorb_runs (max n s.front) s.runs

@@ -95,9 +95,9 @@ impl Model for DataTracker {
 
 impl DataTracker {
     ghost use Rattle.sctp_tracker.specs.DataTracker.{tracker, update_rto, wire_tsn, number_of, is_valid, has_seen, observe, moves_on, forward, acking, is_ack_due, take_ack, packet_end, ack_timeout, IsTracker};
-    ghost use Rattle.sctp_tracker.specs.Sack.{sack, report, is_covered};
+    ghost use Rattle.sctp_tracker.specs.Sack.{sack, clear_duplicates, is_covered};
     ghost use Rattle.sctp_tracker.specs.Reported.{IsReported, is_duplicate, Ascend};
-    ghost use Rattle.sctp_tracker.specs.TrackerHandover.{readiness, receive, restore};
+    ghost use Rattle.sctp_tracker.specs.TrackerHandover.{readiness, write_handover, restore};
 
     /// A tracker whose least TSN that was not seen is `peer_initial_tsn`.
     pub fn new(alloc: Global, peer_initial_tsn: Tsn, options: &Options) -> DataTracker
@@ -216,7 +216,7 @@ impl DataTracker {
         ensures once { OnOk result (Ascend 0 self.old.tracker.duplicates) }
         ensures few { length self.old.tracker.duplicates ≤ 20 }
 
-        ensures value { OnOk result (self.new ≡ record self.old { tracker = report self.old.tracker }) }
+        ensures value { OnOk result (self.new ≡ record self.old { tracker = clear_duplicates self.old.tracker }) }
         ensures tracker { IsTracker self.new.tracker }
         ensures err { OnErr result (self.new ≡ self.old) }
     {
@@ -295,7 +295,7 @@ impl DataTracker {
 
     /// Writes the cumulative TSN, as `last_assembled_tsn` too, and whether DATA came.
     pub fn add_to_handover_state(&self, state: &mut SocketHandoverState)
-        ensures { let old = handover_state_of state.old in handover_state_of state.new ≡ record old { rx = receive self.now old.rx } }
+        ensures { let old = handover_state_of state.old in handover_state_of state.new ≡ record old { rx = write_handover self.now old.rx } }
     {
         let cumulative_tsn = self.last_cumulative_acked_tsn().0;
         state.rx.seen_packet = self.seen_packet;

@@ -4,9 +4,9 @@ use Rattle.std.proofs.Math.Seq.{drop-cons}
 use Rattle.sctp_serial.specs.declared.api.StreamId.{StreamId}
 use Rattle.sctp_state.specs.Events.{numbers_of}
 use Rattle.spec_endpoint.specs.Association.{Context}
-use Rattle.spec_endpoint.specs.StreamReset.{prepare_stream, prepare_all}
+use Rattle.spec_endpoint.specs.StreamReset.{prepare_reset_stream, prepare_all}
 
-pub prepare_each : {P : Type 0} (streams : List StreamId) (i : ℕ) (none : StreamId) (c d : Context P) → i < length streams → d ≡ prepare_stream (get_or streams i none).0 c
+pub prepare_each : {P : Type 0} (streams : List StreamId) (i : ℕ) (none : StreamId) (c d : Context P) → i < length streams → d ≡ prepare_reset_stream (get_or streams i none).0 c
     → prepare_all (numbers_of (drop (i + 1) streams)) d ≡ prepare_all (numbers_of (drop i streams)) c
 prepare_each {P} streams i none c d more after =
     ap (λ (k : ℕ). prepare_all (numbers_of (drop k streams)) d) (add-one i)

@@ -31,15 +31,15 @@ pub fn handle_data<C: Checksum>(
         return handle_no_data(state, context, fragment.tsn);
     }
     match state {
-        State::Closed | State::CookieWait(_) => complain_of_data(context),
+        State::Closed | State::CookieWait(_) => emit_data_error(context),
         State::Open(_, tcb) => take_data(tcb, context.alloc, context.clock, fragment),
     }
 }
 
-fn complain_of_data<C: Checksum>(context: &mut Context<C>) -> Result<(), AllocError>
+fn emit_data_error<C: Checksum>(context: &mut Context<C>) -> Result<(), AllocError>
     ensures { OnOk result (context_of C.word_of context.new ≡ table.not_connected (context_of C.word_of context.old)) }
 {
-    context.complain(
+    context.emit_error(
         ErrorKind::NotConnected,
         "Received unexpected commands on socket that is not connected",
     )
@@ -53,7 +53,7 @@ fn handle_no_data<C: Checksum>(
 ) -> Result<(), AllocError>
     ensures { OnOk result (context_of C.word_of context.new ≡ table.on_no_data tsn.0 (state_of state.now) (context_of C.word_of context.old)) }
 {
-    context.complain(
+    context.emit_error(
         ErrorKind::ProtocolViolation,
         "Received DATA chunk with no user data",
     )?;
@@ -84,7 +84,7 @@ pub fn handle_forward_tsn(
     new_cumulative_tsn: Tsn,
     skipped: &[SkippedStream],
 ) -> Result<(), AllocError>
-    ensures { OnOk result (state_of state.new ≡ table.forwarded_in (state_of state.old) new_cumulative_tsn.0 skipped.now) }
+    ensures { OnOk result (state_of state.new ≡ table.handle_forward_tsn_in (state_of state.old) new_cumulative_tsn.0 skipped.now) }
 {
     match state {
         State::Closed | State::CookieWait(_) => Ok(()),

@@ -45,12 +45,15 @@ pub fn handle_sack<C: Checksum>(
     ensures { OnOk result (endpoint_state_of C.word_of state.new context.new ≡ on_sack (sack_of sack) (endpoint_state_of C.word_of state.old context.old)) }
 {
     match state {
-        State::Closed | State::CookieWait(_) => context.complain(ErrorKind::NotConnected, "No TCB"),
-        State::Open(phase, tcb) => take_sack(phase, tcb, context, sack),
+        State::Closed | State::CookieWait(_) => context.emit_error(
+            ErrorKind::NotConnected,
+            "No TCB",
+        ),
+        State::Open(phase, tcb) => sack_open(phase, tcb, context, sack),
     }
 }
 
-fn take_sack<C: Checksum>(
+fn sack_open<C: Checksum>(
     phase: &mut Phase,
     tcb: &mut TransmissionControlBlock,
     context: &mut Context<C>,
@@ -63,10 +66,10 @@ fn take_sack<C: Checksum>(
     let answer = tcb
         .retransmission_queue
         .handle_sack(context.clock, &sack, &mut context.events)?;
-    go_on_by(phase, tcb, context, answer)
+    after_sack(phase, tcb, context, answer)
 }
 
-fn go_on_by<C: Checksum>(
+fn after_sack<C: Checksum>(
     phase: &mut Phase,
     tcb: &mut TransmissionControlBlock,
     context: &mut Context<C>,
@@ -86,7 +89,7 @@ fn go_on_by<C: Checksum>(
     if reset_error_counter {
         context.tx_error_counter.reset();
     }
-    context.maybe_go_on(phase, tcb)?;
+    context.maybe_send_shutdown_or_ack(phase, tcb)?;
     context.send_fast_retransmit(tcb)?;
-    context.send_buffered_packets(tcb, phase.is_alone())
+    context.send_buffered_packets(tcb, phase.is_before_cookie_ack())
 }

@@ -5,7 +5,7 @@ ghost use Rattle.sctp_wire.specs.Parameter.{reset_response};
 ghost use Rattle.sctp_parameter.specs.ParameterViews.{parameter_tree, result_number};
 ghost use Rattle.sctp_state.specs.Events.{numbers_of};
 ghost use Rattle.spec_endpoint.specs.Association.{where_open};
-ghost use Rattle.sctp_endpoint.specs.Views.{context_of, handled_of, handling_of, opened_of, phase_of, sent_of, endpoint_state_of, state_of, tcb_of};
+ghost use Rattle.sctp_endpoint.specs.Views.{context_of, handled_parameters_of, handling_of, opened_of, phase_of, after_sending_of, endpoint_state_of, state_of, tcb_of};
 ghost use Rattle.spec_endpoint.specs.StreamReset as table;
 
 use sctp_endpoint::sending::send_waiting;
@@ -141,7 +141,7 @@ fn handle_response<C: Checksum>(
     tcb: &mut TransmissionControlBlock,
     response: &ReconfigurationResponseParameter,
 ) -> Result<(), AllocError>
-    ensures { let r = response.now in OnOk result (sent_of C.word_of tcb.new context.new
+    ensures { let r = response.now in OnOk result (after_sending_of C.word_of tcb.new context.new
         ≡ table.on_response r.response_seq_nbr (result_number r.result) (tcb_of tcb.old) (context_of C.word_of context.old)) }
 {
     let outcome = tcb
@@ -179,7 +179,7 @@ fn handle_parameters<C: Checksum>(
     parameters: Vec<Parameter>,
     responses: &mut Vec<Parameter>,
 ) -> Result<bool, AllocError>
-    ensures { IfOk result (λ is_whole. handled_of C.word_of tcb.new context.new (map parameter_tree responses.new.items) is_whole
+    ensures { IfOk result (λ is_whole. handled_parameters_of C.word_of tcb.new context.new (map parameter_tree responses.new.items) is_whole
         ≡ table.handle_all (map parameter_tree parameters.items) false (handling_of C.word_of tcb.old context.old (map parameter_tree responses.old.items))) }
 {
     let mut has_outgoing = false;
@@ -218,16 +218,16 @@ fn finish_reconfig<C: Checksum>(
     is_whole: bool,
 ) -> Result<(), AllocError>
     ensures { OnOk result (opened_of C.word_of phase.now tcb.new context.new
-        ≡ table.finished_if is_whole (phase_of phase.now) (handling_of C.word_of tcb.old context.old (map parameter_tree responses.items))) }
+        ≡ table.finish_reconfig_if is_whole (phase_of phase.now) (handling_of C.word_of tcb.old context.old (map parameter_tree responses.items))) }
 {
     if !is_whole {
-        return context.complain(
+        return context.emit_error(
             ErrorKind::ProtocolViolation,
             "RE-CONFIG chunk must not have multiple Outgoing SSN Reset Request parameters",
         );
     }
     send_responses(context, tcb, responses)?;
-    context.send_buffered_packets(tcb, phase.is_alone())
+    context.send_buffered_packets(tcb, phase.is_before_cookie_ack())
 }
 
 fn take_parameters<C: Checksum>(
@@ -237,7 +237,7 @@ fn take_parameters<C: Checksum>(
     parameters: Vec<Parameter>,
 ) -> Result<(), AllocError>
     ensures { OnOk result (opened_of C.word_of phase.now tcb.new context.new
-        ≡ table.finish_resets (phase_of phase.now) (table.handle_all (map parameter_tree parameters.items) false (handling_of C.word_of tcb.old context.old []))) }
+        ≡ table.finish_reconfig (phase_of phase.now) (table.handle_all (map parameter_tree parameters.items) false (handling_of C.word_of tcb.old context.old []))) }
 {
     let mut responses = Vec::new(context.alloc);
     let is_whole = handle_parameters(context, tcb, parameters, &mut responses)?;
@@ -245,7 +245,7 @@ fn take_parameters<C: Checksum>(
 }
 
 /// A RE-CONFIG without parameters.
-fn complain_of_reconfig<C: Checksum>(
+fn emit_reconfig_error<C: Checksum>(
     context: &mut Context<C>,
     phase: &Phase,
     tcb: &TransmissionControlBlock,
@@ -253,14 +253,14 @@ fn complain_of_reconfig<C: Checksum>(
     ensures { OnOk result (opened_of C.word_of phase.now tcb.now context.new
         ≡ table.on_reconfig [] (phase_of phase.now) (tcb_of tcb.now) (context_of C.word_of context.old)) }
 {
-    context.complain(
+    context.emit_error(
         ErrorKind::ProtocolViolation,
         "RE-CONFIG chunk must have at least one parameter",
     )
 }
 
 /// RE-CONFIG (RFC 6525 section 5.2): its parameters, the responses, and what may be sent then.
-fn take_reconfig<C: Checksum>(
+fn reconfig_open<C: Checksum>(
     context: &mut Context<C>,
     phase: &Phase,
     tcb: &mut TransmissionControlBlock,
@@ -270,14 +270,14 @@ fn take_reconfig<C: Checksum>(
         ≡ table.on_reconfig (map parameter_tree parameters.items) (phase_of phase.now) (tcb_of tcb.old) (context_of C.word_of context.old)) }
 {
     if parameters.is_empty() {
-        return complain_of_reconfig(context, phase, tcb);
+        return emit_reconfig_error(context, phase, tcb);
     }
     take_parameters(context, phase, tcb, parameters)
 }
 
 /// The reset of a stream is prepared: its messages of which nothing is sent are dropped.
 fn prepare_reset<C: Checksum>(context: &mut Context<C>, id: StreamId) -> Result<(), AllocError>
-    ensures { OnOk result (context_of C.word_of context.new ≡ table.prepare_stream id.0 (context_of C.word_of context.old)) }
+    ensures { OnOk result (context_of C.word_of context.new ≡ table.prepare_reset_stream id.0 (context_of C.word_of context.old)) }
 {
     context
         .send_queue
@@ -313,7 +313,7 @@ pub fn handle_reconfig<C: Checksum>(
 {
     match state {
         State::Closed | State::CookieWait(_) => Ok(()),
-        State::Open(phase, tcb) => take_reconfig(context, phase, tcb, parameters),
+        State::Open(phase, tcb) => reconfig_open(context, phase, tcb, parameters),
     }
 }
 

@@ -10,11 +10,11 @@ use Rattle.sctp_tx_outstanding.specs.Item.{header_size, size_of}
 use Rattle.sctp_tx_outstanding.specs.OutstandingData.{next_number, wire_tsn}
 use Rattle.sctp_tx_outstanding.specs.Resending.{Resent, empty_packet}
 use Rattle.sctp_tx_outstanding.proofs.RoomLemmas.{resend_fits, resent_is_interleaved, fast_room, flying}
-use Rattle.sctp_tx.specs.Windows.{cap}
+use Rattle.sctp_tx.specs.Windows.{saturate_u64}
 use Rattle.sctp_tx.specs.RetransmissionQueue.{Sender}
-use Rattle.sctp_tx.specs.Resent.{sizes, is_interleaved, flight, room_of, may_send_new, resent_by, resent_fast, send_fast, timed_if}
+use Rattle.sctp_tx.specs.Resent.{sizes, is_interleaved, flight, room_of, may_send_new, resent_by, resent_fast, send_fast, start_t3_if}
 use Rattle.sctp_tx.specs.Resent as again
-use Rattle.sctp_tx.specs.Sending.{Filling, offered_payload, append, turned_if, next_turn, fill, discard_all, without_discards, filled_with, send}
+use Rattle.sctp_tx.specs.Sending.{Filling, offered_payload, append, queue_step_if, next_turn, fill, discard_all, without_discards, filled_with, send}
 use Rattle.sctp_tx.specs.Flight.{AddsAtMost, FitWithin}
 use Rattle.sctp_tx.proofs.SendingLemmas.{Fits, made_fits}
 use Rattle.sctp_tx.proofs.FlightLemmas.{some_offered}
@@ -42,7 +42,7 @@ module _ (now : ℕ) where
 
   turn_load : (x : Filling (List ℕ)) → load (next_turn now x).filling ≤ load x
   turn_load x = go (may_send_new x.sender && nat_lt 0 (offered_payload x.left x.sender)) refl where
-    go : (b : Bool) → may_send_new x.sender && nat_lt 0 (offered_payload x.left x.sender) ≡ b → load (turned_if b now x).filling ≤ load x
+    go : (b : Bool) → may_send_new x.sender && nat_lt 0 (offered_payload x.left x.sender) ≡ b → load (queue_step_if b now x).filling ≤ load x
     go true e =
         let t = produce now (offered_payload x.left x.sender) x.queue x.emitted in
         made_load x t.queue t.emitted t.made (some_offered (may_send_new x.sender) (offered_payload x.left x.sender) e) (made_fits now (offered_payload x.left x.sender) x.queue x.emitted t.made refl)
@@ -54,7 +54,7 @@ module _ (now : ℕ) where
 
   turn_is_interleaved : (x : Filling (List ℕ)) → is_interleaved (next_turn now x).filling.sender ≡ is_interleaved x.sender
   turn_is_interleaved x = go (may_send_new x.sender && nat_lt 0 (offered_payload x.left x.sender)) where
-    go : (b : Bool) → is_interleaved (turned_if b now x).filling.sender ≡ is_interleaved x.sender
+    go : (b : Bool) → is_interleaved (queue_step_if b now x).filling.sender ≡ is_interleaved x.sender
     go true =
         let t = produce now (offered_payload x.left x.sender) x.queue x.emitted in
         made_is_interleaved (record x { queue = t.queue; emitted = t.emitted }) t.made
@@ -73,7 +73,7 @@ module _ (now : ℕ) where
     go false a m h = record { load_is = a; interleaved_is = m }
 
 -- what is left of the packet besides what is sent again
-left_over : (bytes room most : ℕ) → most < 2 ^ 64 → bytes ≤ min most room → bytes + (most - cap bytes) ≤ most
+left_over : (bytes room most : ℕ) → most < 2 ^ 64 → bytes ≤ min most room → bytes + (most - saturate_u64 bytes) ≤ most
 left_over bytes room most small h = omega (arith, small, h)
 
 pub sent_fits : (now most : ℕ) (s : Sender) (q : Queue) (emitted : Emitted (List ℕ)) → most < 2 ^ 64 → FitWithin most s (send now most s q emitted).chunks
@@ -88,7 +88,7 @@ sent_fits now most s q emitted small =
     let same : sizes (is_interleaved x.sender) r.chunks ≡ sizes (is_interleaved s) r.chunks = ap (λ b. sizes b r.chunks) m in
     let h = fill_fits now (suc x.left) x in
     let end : sizes (is_interleaved s) y.chunks ≡ sizes (is_interleaved y.sender) y.chunks = ap (λ b. sizes b y.chunks) (sym (h.interleaved_is ∙ m)) in
-    let over : sizes (is_interleaved x.sender) r.chunks + (most - cap (sizes (is_interleaved x.sender) r.chunks)) ≤ most = left_over (sizes (is_interleaved x.sender) r.chunks) room most small (omega (arith, again_fits, same)) in
+    let over : sizes (is_interleaved x.sender) r.chunks + (most - saturate_u64 (sizes (is_interleaved x.sender) r.chunks)) ≤ most = left_over (sizes (is_interleaved x.sender) r.chunks) room most small (omega (arith, again_fits, same)) in
     omega (arith, h.load_is, end, over)
 
 -- ---- the packet that ignores the congestion window
@@ -96,7 +96,7 @@ sent_fits now most s q emitted small =
 pub fast_fits : (most : ℕ) (s : Sender) → FitWithin most s (resent_fast most s).chunks
 fast_fits most s = resend_fits true most 0 s.outstanding
 
-timed_adds : (b : Bool) (now most : ℕ) (s t : Sender) → AddsAtMost most s t → AddsAtMost most s (timed_if b now t)
+timed_adds : (b : Bool) (now most : ℕ) (s t : Sender) → AddsAtMost most s t → AddsAtMost most s (start_t3_if b now t)
 timed_adds true now most s t h = record { flight = h.flight; cwnd = h.cwnd }
 timed_adds false now most s t h = h
 

@@ -10,11 +10,11 @@ use Rattle.sctp_tx_outstanding.specs.Item.{header_size, size_of}
 use Rattle.sctp_tx_outstanding.specs.OutstandingData.{packet_part, flight_bytes}
 use Rattle.sctp_tx_outstanding.specs.Resending.{resent_below, empty_packet}
 use Rattle.sctp_tx_outstanding.proofs.RoomLemmas.{flying, resent_room}
-use Rattle.sctp_tx.specs.Windows.{cap, room_within}
-use Rattle.sctp_tx.specs.RetransmissionQueue.{Sender, is_quiet}
-use Rattle.sctp_tx.specs.Resent.{flight, room_of, may_send_new, resent_by, timed_if}
+use Rattle.sctp_tx.specs.Windows.{saturate_u64, room_within}
+use Rattle.sctp_tx.specs.RetransmissionQueue.{Sender, nothing_in_flight}
+use Rattle.sctp_tx.specs.Resent.{flight, room_of, may_send_new, resent_by, start_t3_if}
 use Rattle.sctp_tx.specs.Resent as again
-use Rattle.sctp_tx.specs.Sending.{Filling, offered_payload, item_of, sent_new, append, turned_if, next_turn, fill, discard_all, without_discards, filled_with, send}
+use Rattle.sctp_tx.specs.Sending.{Filling, offered_payload, item_of, sent_new, append, queue_step_if, next_turn, fill, discard_all, without_discards, filled_with, send}
 use Rattle.sctp_tx.specs.Flight.{StaysWithin}
 use Rattle.sctp_tx.proofs.SendingLemmas.{Fits, made_fits}
 
@@ -24,8 +24,8 @@ within_left : (b : Bool) (left rwnd : ℕ) → room_within b left rwnd ≤ left
 within_left true left rwnd = omega arith
 within_left false left rwnd = omega arith
 
-room_left : (s : Sender) → room_of s ≤ s.windows.cwnd - cap (flight_bytes s.outstanding.items)
-room_left s = within_left (is_quiet s.outstanding.items) (s.windows.cwnd - flight s) s.windows.rwnd
+room_left : (s : Sender) → room_of s ≤ s.windows.cwnd - saturate_u64 (flight_bytes s.outstanding.items)
+room_left s = within_left (nothing_in_flight s.outstanding.items) (s.windows.cwnd - flight s) s.windows.rwnd
 
 -- a chunk whose payload fits what is left behind the header fits the room
 chunk_fits : (left room header payload : ℕ) → 0 < min left room / 4 * 4 - header → payload ≤ min left room / 4 * 4 - header → (header + payload + 3) / 4 * 4 ≤ room
@@ -35,7 +35,7 @@ pub some_offered : (b : Bool) (n : ℕ) → b && nat_lt 0 n ≡ true → 0 < n
 some_offered true n e = grind (arith, nat_tests)
 some_offered false n e = absurd (cc)
 
-no_more_lem : (flight after cwnd size room : ℕ) → cwnd < 2 ^ 64 → room ≤ cwnd - cap flight → size ≤ room → 4 ≤ room → after ≡ flight + size → after ≤ max flight cwnd
+no_more_lem : (flight after cwnd size room : ℕ) → cwnd < 2 ^ 64 → room ≤ cwnd - saturate_u64 flight → size ≤ room → 4 ≤ room → after ≡ flight + size → after ≤ max flight cwnd
 no_more_lem flight after cwnd size room small a b c e = omega (arith, small, a, b, c, e)
 
 pub itself : (s : Sender) → StaysWithin s s
@@ -64,7 +64,7 @@ module _ (now : ℕ) where
 
   turn_stays : (x : Filling (List ℕ)) → x.sender.windows.cwnd < 2 ^ 64 → StaysWithin x.sender (next_turn now x).filling.sender
   turn_stays x small = go (may_send_new x.sender && nat_lt 0 (offered_payload x.left x.sender)) refl where
-    go : (b : Bool) → may_send_new x.sender && nat_lt 0 (offered_payload x.left x.sender) ≡ b → StaysWithin x.sender (turned_if b now x).filling.sender
+    go : (b : Bool) → may_send_new x.sender && nat_lt 0 (offered_payload x.left x.sender) ≡ b → StaysWithin x.sender (queue_step_if b now x).filling.sender
     go true e =
         let t = produce now (offered_payload x.left x.sender) x.queue x.emitted in
         made_stays x t.queue t.emitted t.made small (some_offered (may_send_new x.sender) (offered_payload x.left x.sender) e) (made_fits now (offered_payload x.left x.sender) x.queue x.emitted t.made refl)
@@ -81,13 +81,13 @@ module _ (now : ℕ) where
       go true a b = on x.sender (next_turn now x).filling.sender (fill turns now (next_turn now x).filling).sender a b
       go false a b = a
 
-  timed_stays : (b : Bool) (s : Sender) → StaysWithin s (timed_if b now s)
+  timed_stays : (b : Bool) (s : Sender) → StaysWithin s (start_t3_if b now s)
   timed_stays true s = record { flight = omega arith; cwnd = refl }
   timed_stays false s = itself s
 
 -- ---- the whole
 
-not_over : (before after room most cwnd : ℕ) → cwnd < 2 ^ 64 → after + room ≤ before + min most (cwnd - cap before) → after ≤ max before cwnd
+not_over : (before after room most cwnd : ℕ) → cwnd < 2 ^ 64 → after + room ≤ before + min most (cwnd - saturate_u64 before) → after ≤ max before cwnd
 not_over before after room most cwnd small h = omega (arith, small, h)
 
 resent_stays : (most : ℕ) (s : Sender) → s.windows.cwnd < 2 ^ 64 → StaysWithin s (resent_by s (again.resent most s))
@@ -107,6 +107,6 @@ stays_within now most s q emitted small =
     let a : StaysWithin first x.sender = resent_stays most first small in
     let b : StaysWithin x.sender y.sender = fill_stays now (suc x.left) x small in
     let c : StaysWithin first y.sender = on first x.sender y.sender a b in
-    let d : StaysWithin y.sender (timed_if (nat_lt 0 (length y.chunks)) now y.sender) = timed_stays now (nat_lt 0 (length y.chunks)) y.sender in
-    let e = on first y.sender (timed_if (nat_lt 0 (length y.chunks)) now y.sender) c d in
+    let d : StaysWithin y.sender (start_t3_if (nat_lt 0 (length y.chunks)) now y.sender) = timed_stays now (nat_lt 0 (length y.chunks)) y.sender in
+    let e = on first y.sender (start_t3_if (nat_lt 0 (length y.chunks)) now y.sender) c d in
     record { flight = e.flight; cwnd = e.cwnd }

@@ -9,11 +9,11 @@ use Rattle.sctp_tx_queue.specs.Settings.{Changed}
 use Rattle.sctp_tx_outstanding.specs.OutstandingData.{Discard, waiting_items}
 use Rattle.sctp_tx_outstanding.specs.Resending.{Resent, empty_packet}
 use Rattle.sctp_tx_outstanding.proofs.RoomLemmas.{resend_quiet, no_more_lem}
-use Rattle.sctp_tx.specs.Windows.{cap}
+use Rattle.sctp_tx.specs.Windows.{saturate_u64}
 use Rattle.sctp_tx.specs.RetransmissionQueue.{Sender}
 use Rattle.sctp_tx.specs.Resent.{flight, may_send_new, resent_by}
 use Rattle.sctp_tx.specs.Resent as again
-use Rattle.sctp_tx.specs.Sending.{Filling, filling, offered_payload, turned_if, fill, without_discards, discard_all, filled_with, timed_filling, fill_all, send, is_idle}
+use Rattle.sctp_tx.specs.Sending.{Filling, filling, offered_payload, queue_step_if, fill, without_discards, discard_all, filled_with, timed_filling, fill_and_start_t3, send, is_idle}
 
 record Idle (s : Sender) (q : Queue) : Type 0 where
   discards : s.outstanding.items.discards ≡ []
@@ -44,7 +44,7 @@ none_made : {P : Type 0} (now size : ℕ) (q : Queue) (emitted : Emitted P) → 
 none_made now size q emitted begun times = rw (begun, times) refl
 
 module _ {P : Type 0} (now : ℕ) where
-  idle_turn : (b : Bool) (x : Filling P) → x.queue.begun ≡ None → x.queue.scheduler.times ≡ [] → turned_if b now x ≡ record { filling = x; is_more = false }
+  idle_turn : (b : Bool) (x : Filling P) → x.queue.begun ≡ None → x.queue.scheduler.times ≡ [] → queue_step_if b now x ≡ record { filling = x; is_more = false }
   idle_turn false x begun times = refl
   idle_turn true x begun times = rw (none_made now (offered_payload x.left x.sender) x.queue x.emitted begun times) refl
 
@@ -55,7 +55,7 @@ module _ {P : Type 0} (now : ℕ) where
 -- nothing is sent again
 resent_none : (room window : ℕ) (s : Sender) → s.rtx_bytes < 2 ^ 64 → resent_by s (empty_packet room window s.outstanding) ≡ s
 resent_none room window s small =
-    let bytes : cap (s.rtx_bytes + 0) ≡ s.rtx_bytes = omega (arith, small) in
+    let bytes : saturate_u64 (s.rtx_bytes + 0) ≡ s.rtx_bytes = omega (arith, small) in
     let rwnd : s.windows.rwnd - 0 ≡ s.windows.rwnd = omega arith in
     ap (λ (n : ℕ). record s { windows = record s.windows { rwnd = s.windows.rwnd - 0 }; rtx_bytes = n }) bytes ∙ ap (λ (n : ℕ). record s { windows = record s.windows { rwnd = n } }) rwnd
 
@@ -77,7 +77,7 @@ module _ {P : Type 0} (now most : ℕ) (s : Sender) (q : Queue) (emitted : Emitt
       let left : Changed P = record { queue = q; emitted = emitted } in
       let x : filled_with most s (again.resent most s) left ≡ filling s q emitted [] (most - 0) =
       ap (λ (r : Resent). filled_with most s r left) none ∙ ap (λ (t : Sender). filling t q emitted [] (most - 0)) same in
-      ap (λ (t : Sender). fill_all now (filled_with most t (again.resent most t) (discard_all s.outstanding.items.discards q emitted))) kept
-      ∙ ap (λ (ds : List Discard). fill_all now (filled_with most s (again.resent most s) (discard_all ds q emitted))) i.discards
-      ∙ ap (λ (y : Filling P). fill_all now y) x
+      ap (λ (t : Sender). fill_and_start_t3 now (filled_with most t (again.resent most t) (discard_all s.outstanding.items.discards q emitted))) kept
+      ∙ ap (λ (ds : List Discard). fill_and_start_t3 now (filled_with most s (again.resent most s) (discard_all ds q emitted))) i.discards
+      ∙ ap (λ (y : Filling P). fill_and_start_t3 now y) x
       ∙ ap (λ (y : Filling P). timed_filling now y) (idle_fill now (suc (most - 0)) (filling s q emitted [] (most - 0)) i.begun i.times)

@@ -2,10 +2,10 @@
 use Rattle.std.proofs.Common.{◌≡◌, ℕ, ◌<◌, false, List, [], refl, ap, sym, subst, ◌∙◌}
 use Rattle.sctp_state.specs.Events.{Emitted}
 use Rattle.sctp_tx_outstanding.specs.Item.{Item}
-use Rattle.sctp_tx_outstanding.specs.OutstandingData.{Outstanding, insert}
+use Rattle.sctp_tx_outstanding.specs.OutstandingData.{Outstanding, append_item}
 use Rattle.sctp_tx_outstanding.specs.Resending.{resent_below, empty_packet}
 use Rattle.sctp_tx_outstanding.specs.Keeps.{Keeps}
-use Rattle.sctp_tx_outstanding.proofs.KeepsLemmas.{keeps_all, keeps_on, resending_keeps, new_items_keep}
+use Rattle.sctp_tx_outstanding.proofs.ItemsStayLemmas.{keeps_all, keeps_on, resending_keeps, new_items_keep}
 use Rattle.sctp_tx_queue.specs.SendQueue.{Queue}
 use Rattle.sctp_tx_queue.specs.Produced.{Produced, produce}
 use Rattle.sctp_tx_queue.specs.Settings.{discard}
@@ -52,7 +52,7 @@ pub all_resent : (room window count : ℕ) (s : Sender) → PartlySent s (resent
 all_resent room window count s = record { items = resending_keeps false count (empty_packet room window s.outstanding); rest = refl }
 
 -- a new one is there
-pub new_sent : (i : Item) (s : Sender) → PartlySent s (record s { outstanding = record s.outstanding { items = insert i s.outstanding.items } })
+pub new_sent : (i : Item) (s : Sender) → PartlySent s (record s { outstanding = record s.outstanding { items = append_item i s.outstanding.items } })
 new_sent i s = record { items = new_items_keep i s.outstanding.items; rest = refl }
 
 pub took_sent : (now : ℕ) (p : Produced) (s : Sender) → PartlySent s (sent_new now p s)

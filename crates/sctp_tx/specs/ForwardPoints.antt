@@ -10,8 +10,8 @@ use Rattle.sctp_tx.specs.RetransmissionQueue.{Sender}
 use Rattle.sctp_tx.specs.Resent.{is_interleaved}
 
 -- expired messages are given up
-abbrev pub expire : {P : Type 0} → ℕ → Sender → Emitted P → Sender
-expire now s emitted = record s { outstanding = record s.outstanding { items = (expire_outstanding now s.outstanding.items emitted).items } }
+abbrev pub abandon_expired : {P : Type 0} → ℕ → Sender → Emitted P → Sender
+abandon_expired now s emitted = record s { outstanding = record s.outstanding { items = (expire_outstanding now s.outstanding.items emitted).items } }
 
 -- what a packet holds beside its header, rounded down to 4 bytes
 abbrev pub most_of : Sender → ℕ

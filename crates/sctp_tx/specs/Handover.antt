@@ -24,15 +24,15 @@ readiness is_strict s = bit_or (bit_or (items_bit is_strict s) (recovery_bit s))
 
 -- ---- what is written
 
-abbrev pub bound : ℕ → ℕ
-bound n = min n most_u32
+abbrev pub saturate_u32 : ℕ → ℕ
+saturate_u32 n = min n most_u32
 
 abbrev pub windows_written : Windows → Transmission → Transmission
 windows_written w tx = record tx {
-  cwnd = bound w.cwnd;
-  rwnd = bound w.rwnd;
-  ssthresh = bound w.ssthresh;
-  partial_bytes_acked = bound w.partial_bytes_acked;
+  cwnd = saturate_u32 w.cwnd;
+  rwnd = saturate_u32 w.rwnd;
+  ssthresh = saturate_u32 w.ssthresh;
+  partial_bytes_acked = saturate_u32 w.partial_bytes_acked;
 }
 
 abbrev pub handed_over : ℕ → Sender → Transmission → Transmission

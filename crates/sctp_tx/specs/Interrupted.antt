@@ -3,7 +3,7 @@ use Rattle.std.specs.Prelude.{◌≡◌, ◌⊎◌, ℕ, not, true, false, List}
 use Rattle.sctp_chunk.specs.declared.sack.GapAckBlock.{GapAckBlock}
 use Rattle.sctp_state.specs.Events.{Emitted}
 use Rattle.sctp_state.specs.Timer.{expire}
-use Rattle.sctp_tx_outstanding.specs.Interrupted.{Same, SomeNacked, SomeExpired, SomeReceived}
+use Rattle.sctp_tx_outstanding.specs.Interrupted.{Same, SomeNacked, SomeExpired, SackPartlyTaken}
 use Rattle.sctp_tx_outstanding.specs.Keeps.{Keeps}
 use Rattle.sctp_tx_outstanding.specs.Resending.{SomeResent, empty_packet}
 use Rattle.sctp_tx_queue.specs.SendQueue.{Queue}
@@ -16,8 +16,8 @@ abbrev pub ItemsAlone : Sender → Sender → Type 0
 ItemsAlone s after = after ≡ record s { outstanding = after.outstanding }
 
 -- of a SACK
-pub record PartlyReceived {P : Type 0} (n : ℕ) (blocks : List GapAckBlock) (s : Sender) (emitted : Emitted P) (after : Sender) (later : Emitted P) : Type 0 where
-  pub items : Same s.outstanding emitted after.outstanding later ⊎ SomeReceived n blocks (not (is_open n s.windows)) s.outstanding emitted after.outstanding later
+pub record PartlyAcknowledged {P : Type 0} (n : ℕ) (blocks : List GapAckBlock) (s : Sender) (emitted : Emitted P) (after : Sender) (later : Emitted P) : Type 0 where
+  pub items : Same s.outstanding emitted after.outstanding later ⊎ SackPartlyTaken n blocks (not (is_open n s.windows)) s.outstanding emitted after.outstanding later
   pub alone : ItemsAlone s after
 
 -- of a timeout: the windows are cut, and the timer's expiry is counted

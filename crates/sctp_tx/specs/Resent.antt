@@ -5,8 +5,8 @@ use Rattle.sctp_chunk.specs.Chunk.{FragmentTree}
 use Rattle.sctp_tx_outstanding.specs.Item.{size_of}
 use Rattle.sctp_tx_outstanding.specs.OutstandingData.{flight_bytes}
 use Rattle.sctp_tx_outstanding.specs.Resending.{Resent, resend}
-use Rattle.sctp_tx.specs.Windows.{cap, take_payload, room, may_send}
-use Rattle.sctp_tx.specs.RetransmissionQueue.{Sender, is_quiet, kept_running}
+use Rattle.sctp_tx.specs.Windows.{saturate_u64, consume_rwnd, room, may_send}
+use Rattle.sctp_tx.specs.RetransmissionQueue.{Sender, nothing_in_flight, kept_running}
 
 abbrev pub sizes : (is_interleaved : Bool) → List (ℕ × FragmentTree) → ℕ
 sizes m chunks = sum_by (λ c. size_of m c.1) chunks
@@ -15,33 +15,33 @@ abbrev pub is_interleaved : Sender → Bool
 is_interleaved s = s.outstanding.items.is_interleaved
 
 abbrev pub flight : Sender → ℕ
-flight s = cap (flight_bytes s.outstanding.items)
+flight s = saturate_u64 (flight_bytes s.outstanding.items)
 
 abbrev pub room_of : Sender → ℕ
-room_of s = room (is_quiet s.outstanding.items) (flight s) s.windows
+room_of s = room (nothing_in_flight s.outstanding.items) (flight s) s.windows
 
 abbrev pub may_send_new : Sender → Bool
-may_send_new s = may_send (is_quiet s.outstanding.items) (flight s) s.windows
+may_send_new s = may_send (nothing_in_flight s.outstanding.items) (flight s) s.windows
 
 -- ---- what is sent again
 
 abbrev pub counted_if : Bool → ℕ → ℕ
-counted_if true n = cap (n + 1)
+counted_if true n = saturate_u64 (n + 1)
 counted_if false n = n
 
 -- the peer's window shrinks, and the packet and its bytes are counted
-abbrev pub recount : (count bytes : ℕ) → Sender → Sender
-recount count bytes s = record s {
-  windows = take_payload bytes s.windows;
+abbrev pub count_retransmission : (count bytes : ℕ) → Sender → Sender
+count_retransmission count bytes s = record s {
+  windows = consume_rwnd bytes s.windows;
   rtx_packets = counted_if (nat_lt 0 count) s.rtx_packets;
-  rtx_bytes = cap (s.rtx_bytes + bytes);
+  rtx_bytes = saturate_u64 (s.rtx_bytes + bytes);
 }
 
-abbrev pub recounted_by : List (ℕ × FragmentTree) → Sender → Sender
-recounted_by chunks s = recount (length chunks) (cap (sizes (is_interleaved s) chunks)) s
+abbrev pub count_retransmission_of : List (ℕ × FragmentTree) → Sender → Sender
+count_retransmission_of chunks s = count_retransmission (length chunks) (saturate_u64 (sizes (is_interleaved s) chunks)) s
 
 abbrev pub resent_by : Sender → Resent → Sender
-resent_by s x = recounted_by x.chunks (record s { outstanding = x.outstanding })
+resent_by s x = count_retransmission_of x.chunks (record s { outstanding = x.outstanding })
 
 -- into so much of a packet
 abbrev pub resent : (most : ℕ) → Sender → Resent
@@ -54,13 +54,13 @@ resent_fast most s = resend true most 0 s.outstanding
 -- ---- the timer
 
 -- the timer runs once something was handed out
-abbrev pub timed_if : Bool → ℕ → Sender → Sender
-timed_if true now s = record s { t3 = kept_running (is_quiet s.outstanding.items) now s.t3 }
-timed_if false now s = s
+abbrev pub start_t3_if : Bool → ℕ → Sender → Sender
+start_t3_if true now s = record s { t3 = kept_running (nothing_in_flight s.outstanding.items) now s.t3 }
+start_t3_if false now s = s
 
-abbrev pub start_timer : ℕ → List (ℕ × FragmentTree) → Sender → Sender
-start_timer now chunks s = timed_if (nat_lt 0 (length chunks)) now s
+abbrev pub start_t3_if_sent : ℕ → List (ℕ × FragmentTree) → Sender → Sender
+start_t3_if_sent now chunks s = start_t3_if (nat_lt 0 (length chunks)) now s
 
 -- the packet that ignores the congestion window
 abbrev pub send_fast : ℕ → (most : ℕ) → Sender → Sender
-send_fast now most s = start_timer now (resent_fast most s).chunks (resent_by s (resent_fast most s))
+send_fast now most s = start_t3_if_sent now (resent_fast most s).chunks (resent_by s (resent_fast most s))

@@ -12,7 +12,7 @@ use Rattle.sctp_tx_outstanding.specs.Sack.{receive_sack, acked_bytes, sample}
 use Rattle.sctp_tx.specs.declared.retransmission_queue.windows.Windows.{Windows}
 use Rattle.sctp_tx.specs.declared.retransmission_queue.HandleSackResult as given
 use Rattle.sctp_tx.specs.declared.retransmission_queue.HandleSackResult.TheVariants as results
-use Rattle.sctp_tx.specs.Windows.{at_first, grow, recovering, timed_out, acknowledge, is_open, advertise, cap}
+use Rattle.sctp_tx.specs.Windows.{at_first, grow, recovering, timed_out, maybe_exit_fast_recovery, is_open, update_rwnd, saturate_u64}
 
 pub record Sender : Type 0 where
   pub outstanding : Outstanding
@@ -32,18 +32,18 @@ sender o first a_rwnd is_partial is_interleaved = record {
 
 -- ---- the timer runs while something is in flight or missing
 
-abbrev pub is_quiet : Items → Bool
-is_quiet s = flight_items s == 0
+abbrev pub nothing_in_flight : Items → Bool
+nothing_in_flight s = flight_items s == 0
 
 abbrev pub kept_running : (is_quiet : Bool) → ℕ → Timer → Timer
 kept_running is_quiet now t = if is_running t || is_quiet then t else start now t
 
 -- the cumulative TSN moved
-abbrev pub restart_timer : (is_empty : Bool) → ℕ → Timer → Timer
-restart_timer is_empty now t = if is_empty then stop t else start now t
+abbrev pub restart_or_stop : (is_empty : Bool) → ℕ → Timer → Timer
+restart_or_stop is_empty now t = if is_empty then stop t else start now t
 
-abbrev pub after_sack : (moved : Bool) → Items → ℕ → Timer → Timer
-after_sack moved s now t = kept_running (is_quiet s) now (if moved then restart_timer (length s.kept == 0) now t else t)
+abbrev pub t3_after_sack : (moved : Bool) → Items → ℕ → Timer → Timer
+t3_after_sack moved s now t = kept_running (nothing_in_flight s) now (if moved then restart_or_stop (length s.kept == 0) now t else t)
 
 -- ---- a SACK
 
@@ -58,7 +58,7 @@ recovering_if false exit w = w
 -- the peer's window, the growth where the cumulative TSN moved, and the cut after a loss; both outside fast recovery
 abbrev pub windows_after : (cumulative a_rwnd : ℕ) → (moved is_lossy : Bool) → (before acked payload exit : ℕ) → Windows → Windows
 windows_after n a_rwnd moved is_lossy before acked payload exit w =
-    recovering_if (is_lossy && is_open n w) exit (grown_if (moved && is_open n w) before acked (advertise a_rwnd payload (acknowledge n w)))
+    recovering_if (is_lossy && is_open n w) exit (grown_if (moved && is_open n w) before acked (update_rwnd a_rwnd payload (maybe_exit_fast_recovery n w)))
 
 -- what the items say to it
 abbrev pub step_of : {P : Type 0} → (cumulative : ℕ) → List GapAckBlock → Sender → Emitted P → Step P
@@ -67,9 +67,9 @@ step_of n blocks s emitted = receive_sack n blocks (not (is_open n s.windows)) s
 abbrev pub handle_sack_by : {P : Type 0} → ℕ → (cumulative a_rwnd : ℕ) → List GapAckBlock → Sender → Step P → Sender
 handle_sack_by now n a_rwnd blocks s step = record s {
   outstanding = record s.outstanding { items = step.items };
-  windows = windows_after n a_rwnd (nat_lt s.outstanding.items.acked n) step.is_lossy (cap (flight_bytes s.outstanding.items))
-      (cap (acked_bytes n blocks s.outstanding.items)) (cap (flight_payload step.items)) (next_number step.items - 1) s.windows;
-  t3 = after_sack (nat_lt s.outstanding.items.acked n) step.items now s.t3;
+  windows = windows_after n a_rwnd (nat_lt s.outstanding.items.acked n) step.is_lossy (saturate_u64 (flight_bytes s.outstanding.items))
+      (saturate_u64 (acked_bytes n blocks s.outstanding.items)) (saturate_u64 (flight_payload step.items)) (next_number step.items - 1) s.windows;
+  t3 = t3_after_sack (nat_lt s.outstanding.items.acked n) step.items now s.t3;
 }
 
 abbrev pub handle_sack : {P : Type 0} → ℕ → (cumulative a_rwnd : ℕ) → List GapAckBlock → Sender → Emitted P → Sender

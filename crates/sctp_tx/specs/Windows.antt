@@ -4,8 +4,8 @@ use Rattle.sctp_state.specs.Options.{Options}
 use Rattle.sctp_tx.specs.declared.retransmission_queue.windows.Windows.{Windows}
 
 -- counts stop at the greatest number of their type
-abbrev pub cap : ℕ → ℕ
-cap n = min n (2 ^ 64 - 1)
+abbrev pub saturate_u64 : ℕ → ℕ
+saturate_u64 n = min n (2 ^ 64 - 1)
 
 -- the peer's first a_rwnd is both its window and the threshold
 abbrev pub at_first : Options → ℕ → Windows
@@ -24,32 +24,32 @@ at_first o a_rwnd = record {
 
 -- slow start (section 7.2.1): only where the window was in use
 abbrev pub slow_start : (is_used : Bool) → (acked : ℕ) → Windows → ℕ
-slow_start true acked w = cap (w.cwnd + min acked w.mtu)
+slow_start true acked w = saturate_u64 (w.cwnd + min acked w.mtu)
 slow_start false acked w = w.cwnd
 
 -- congestion avoidance (section 7.2.2): an mtu for each whole window that is acknowledged
 abbrev pub avoidance : (is_whole : Bool) → (sum : ℕ) → Windows → Windows
-avoidance true sum w = record w { cwnd = cap (w.cwnd + w.mtu); partial_bytes_acked = sum - w.cwnd }
+avoidance true sum w = record w { cwnd = saturate_u64 (w.cwnd + w.mtu); partial_bytes_acked = sum - w.cwnd }
 avoidance false sum w = record w { partial_bytes_acked = sum }
 
 abbrev pub grown_by : (is_slow : Bool) → (before acked : ℕ) → Windows → Windows
 grown_by true before acked w = record w { cwnd = slow_start (nat_le w.cwnd (before + w.mtu)) acked w }
-grown_by false before acked w = let sum = cap (w.partial_bytes_acked + acked) in avoidance (nat_le w.cwnd sum) sum w
+grown_by false before acked w = let sum = saturate_u64 (w.partial_bytes_acked + acked) in avoidance (nat_le w.cwnd sum) sum w
 
 abbrev pub grow : (before acked : ℕ) → Windows → Windows
 grow before acked w = grown_by (nat_le w.cwnd w.ssthresh) before acked w
 
 -- ---- losses (section 7.2.3, 7.2.4)
 
-abbrev pub halve : Windows → ℕ
-halve w = max (w.cwnd / 2) w.least_cwnd
+abbrev pub halved_cwnd : Windows → ℕ
+halved_cwnd w = max (w.cwnd / 2) w.least_cwnd
 
 -- a third report that an item is missing: until this TSN is acknowledged
 abbrev pub recovering : (exit : ℕ) → Windows → Windows
-recovering exit w = record w { ssthresh = halve w; cwnd = halve w; fast_recovery_exit = Some exit }
+recovering exit w = record w { ssthresh = halved_cwnd w; cwnd = halved_cwnd w; fast_recovery_exit = Some exit }
 
 abbrev pub timed_out : Windows → Windows
-timed_out w = record w { ssthresh = halve w; cwnd = w.mtu }
+timed_out w = record w { ssthresh = halved_cwnd w; cwnd = w.mtu }
 
 -- whether fast recovery is over, or there is none, once all up to this number is acknowledged
 abbrev pub is_over : (cumulative : ℕ) → Option ℕ → Bool
@@ -63,16 +63,16 @@ abbrev pub exit_unless : Bool → Option ℕ → Option ℕ
 exit_unless true exit = None
 exit_unless false exit = exit
 
-abbrev pub acknowledge : (cumulative : ℕ) → Windows → Windows
-acknowledge cumulative w = record w { fast_recovery_exit = exit_unless (is_open cumulative w) w.fast_recovery_exit }
+abbrev pub maybe_exit_fast_recovery : (cumulative : ℕ) → Windows → Windows
+maybe_exit_fast_recovery cumulative w = record w { fast_recovery_exit = exit_unless (is_open cumulative w) w.fast_recovery_exit }
 
 -- ---- the peer's window
 
-abbrev pub advertise : (a_rwnd payload : ℕ) → Windows → Windows
-advertise a_rwnd payload w = record w { rwnd = a_rwnd - payload }
+abbrev pub update_rwnd : (a_rwnd payload : ℕ) → Windows → Windows
+update_rwnd a_rwnd payload w = record w { rwnd = a_rwnd - payload }
 
-abbrev pub take_payload : (size : ℕ) → Windows → Windows
-take_payload size w = record w { rwnd = w.rwnd - size }
+abbrev pub consume_rwnd : (size : ℕ) → Windows → Windows
+consume_rwnd size w = record w { rwnd = w.rwnd - size }
 
 -- ---- what may go (section 6.1): where nothing is in flight, one chunk may probe a closed window
 

@@ -8,15 +8,15 @@ ghost use Rattle.sctp_tx_outstanding.specs.OutstandingData.{number_of, wire_tsn,
 ghost use Rattle.sctp_tx_outstanding.specs.Losses.{nack_all, expire_outstanding};
 ghost use Rattle.sctp_tx_outstanding.specs.Forward.{is_forward_due};
 ghost use Rattle.sctp_control_chunk.specs.ChunkView.{chunk_tree};
-ghost use Rattle.sctp_tx.specs.ForwardPoints.{expire, forward_chunk};
+ghost use Rattle.sctp_tx.specs.ForwardPoints.{abandon_expired, forward_chunk};
 ghost use Rattle.sctp_tx_outstanding.specs.Sack.{is_valid, acked_bytes};
-ghost use Rattle.sctp_tx.specs.RetransmissionQueue.{sender, handle_sack, step_of, sender_if, emitted_if, answer_if, answer_of, windows_after, after_sack, kept_running, is_quiet, timed_out_sender};
-ghost use Rattle.sctp_tx.specs.Interrupted.{PartlyReceived, PartlyTimedOut, PartlyExpired, PartlyResentFast, PartlySent, PartlyTaken};
+ghost use Rattle.sctp_tx.specs.RetransmissionQueue.{sender, handle_sack, step_of, sender_if, emitted_if, answer_if, answer_of, windows_after, t3_after_sack, kept_running, nothing_in_flight, timed_out_sender};
+ghost use Rattle.sctp_tx.specs.Interrupted.{PartlyAcknowledged, PartlyTimedOut, PartlyExpired, PartlyResentFast, PartlySent, PartlyTaken};
 ghost use Rattle.sctp_tx.specs.Flight.{StaysWithin, AddsAtMost, FitWithin};
-ghost use Rattle.sctp_tx.specs.Windows.{cap};
+ghost use Rattle.sctp_tx.specs.Windows.{saturate_u64};
 ghost use Rattle.sctp_tx_queue.specs.Views.{produced_of};
 ghost use Rattle.sctp_tx_outstanding.specs.Item.{size_of};
-ghost use Rattle.sctp_tx.specs.Resent.{sizes, is_interleaved, recounted_by, resent, resent_by, resent_fast, send_fast, start_timer, may_send_new};
+ghost use Rattle.sctp_tx.specs.Resent.{sizes, is_interleaved, count_retransmission_of, resent, resent_by, resent_fast, send_fast, start_t3_if_sent, may_send_new};
 ghost use Rattle.sctp_tx.specs.Sending.{send, fill, filling, next_turn, offered_payload, sent_new, discard_all, is_idle};
 ghost use Rattle.sctp_tx_outstanding.specs.Views.{chunk_of};
 ghost use Rattle.sctp_chunk.specs.Views.{fragment_tree};
@@ -199,7 +199,7 @@ impl RetransmissionQueue {
         ensures answer { let n = number_of self.old.outstanding sack.now.cumulative_tsn_ack.0 in let blocks = sack.now.gap_ack_blocks.items in
             IfOk result (λ answer. answer_of answer ≡ answer_if (is_valid n blocks self.old.outstanding.items) now n blocks self.old) }
         ensures err { let n = number_of self.old.outstanding sack.now.cumulative_tsn_ack.0 in let blocks = sack.now.gap_ack_blocks.items in
-            OnErr result (PartlyReceived n blocks self.old events.old self.new events.new) }
+            OnErr result (PartlyAcknowledged n blocks self.old events.old self.new events.new) }
     {
         let tsn = sack.cumulative_tsn_ack;
         if !self.outstanding.is_sack_valid(tsn, &sack.gap_ack_blocks) {
@@ -226,9 +226,9 @@ impl RetransmissionQueue {
         ensures emitted { let n = number_of self.old.outstanding sack.now.cumulative_tsn_ack.0 in let blocks = sack.now.gap_ack_blocks.items in
             OnOk result (events.new ≡ (step_of n blocks self.old events.old).emitted) }
         ensures acked { let n = number_of self.old.outstanding sack.now.cumulative_tsn_ack.0 in let blocks = sack.now.gap_ack_blocks.items in
-            IfOk result (λ acked. acked ≡ cap (acked_bytes n blocks self.old.outstanding.items)) }
+            IfOk result (λ acked. acked ≡ saturate_u64 (acked_bytes n blocks self.old.outstanding.items)) }
         ensures err { let n = number_of self.old.outstanding sack.now.cumulative_tsn_ack.0 in let blocks = sack.now.gap_ack_blocks.items in
-            OnErr result (PartlyReceived n blocks self.old events.old self.new events.new) }
+            OnErr result (PartlyAcknowledged n blocks self.old events.old self.new events.new) }
     {
         let number = self.outstanding.unwrapped(sack.cumulative_tsn_ack);
         let moved = self.outstanding.acked_number() < number;
@@ -240,20 +240,27 @@ impl RetransmissionQueue {
             !is_open,
             events,
         )?;
-        self.follow(number, sack.a_rwnd, moved, before, info);
+        self.update_windows(number, sack.a_rwnd, moved, before, info);
         self.run_timer(now, moved);
         Ok(info.bytes_acked)
     }
 
     /// The windows follow what the items received; `before` bytes were unacknowledged.
-    fn follow(&mut self, number: u64, a_rwnd: u32, moved: bool, before: usize, info: AckInfo)
+    fn update_windows(
+        &mut self,
+        number: u64,
+        a_rwnd: u32,
+        moved: bool,
+        before: usize,
+        info: AckInfo,
+    )
         ensures { self.new ≡ record self.old {
           windows = windows_after number a_rwnd moved info.has_packet_loss before info.bytes_acked
-              (cap (flight_payload self.old.outstanding.items)) (next_number self.old.outstanding.items - 1) self.old.windows;
+              (saturate_u64 (flight_payload self.old.outstanding.items)) (next_number self.old.outstanding.items - 1) self.old.windows;
         } }
     {
         let is_open = self.windows.is_open_at(number);
-        self.windows.acknowledge(number);
+        self.windows.maybe_exit_fast_recovery(number);
         self.windows
             .update_receiver_window(a_rwnd, self.outstanding.unacked_payload_bytes());
         if moved && is_open {
@@ -266,7 +273,7 @@ impl RetransmissionQueue {
 
     /// t3-rtx begins anew where the cumulative TSN moved, and runs while something is in flight or missing.
     fn run_timer(&mut self, now: SocketTime, moved: bool)
-        ensures { self.new ≡ record self.old { t3 = after_sack moved self.old.outstanding.items now self.old.t3 } }
+        ensures { self.new ≡ record self.old { t3 = t3_after_sack moved self.old.outstanding.items now self.old.t3 } }
     {
         if moved {
             if self.outstanding.is_empty() {
@@ -279,7 +286,7 @@ impl RetransmissionQueue {
     }
 
     fn keep_running(&mut self, now: SocketTime)
-        ensures { self.new ≡ record self.old { t3 = kept_running (is_quiet self.old.outstanding.items) now self.old.t3 } }
+        ensures { self.new ≡ record self.old { t3 = kept_running (nothing_in_flight self.old.outstanding.items) now self.old.t3 } }
     {
         if !self.t3_rtx.is_running() && self.outstanding.unacked_items() != 0 {
             self.t3_rtx.start(now);
@@ -324,7 +331,7 @@ impl RetransmissionQueue {
         now: SocketTime,
         events: &mut Events,
     ) -> Result<bool, AllocError>
-        ensures queue { OnOk result (self.new ≡ expire now self.old events.old) }
+        ensures queue { OnOk result (self.new ≡ abandon_expired now self.old events.old) }
         ensures emitted { OnOk result (events.new ≡ (expire_outstanding now self.old.outstanding.items events.old).emitted) }
         ensures due { IfOk result (λ due. due ≡ is_forward_due self.new.outstanding.items) }
         ensures err { OnErr result (PartlyExpired now self.old events.old self.new events.new) }
@@ -436,7 +443,7 @@ impl RetransmissionQueue {
     fn resend(&mut self, max_bytes: usize) -> Result<(Vec<(Tsn, Data)>, usize), AllocError>
         ensures sender { OnOk result (self.new ≡ resent_by self.old (resent max_bytes self.old)) }
         ensures chunks { IfOk result (λ r. map chunk_of r.0.items ≡ (resent max_bytes self.old).chunks) }
-        ensures bytes { IfOk result (λ r. r.1 ≡ cap (sizes (is_interleaved self.new) (resent max_bytes self.old).chunks)) }
+        ensures bytes { IfOk result (λ r. r.1 ≡ saturate_u64 (sizes (is_interleaved self.new) (resent max_bytes self.old).chunks)) }
         ensures partly { PartlySent self.old self.new }
     {
         // (read for its bound: a sum that nothing is added to isn't capped)
@@ -552,7 +559,7 @@ impl RetransmissionQueue {
 
     /// The timer runs once something was handed out.
     fn run_for(&mut self, now: SocketTime, chunks: &[(Tsn, Data)])
-        ensures { self.new ≡ start_timer now (map chunk_of chunks.now) self.old }
+        ensures { self.new ≡ start_t3_if_sent now (map chunk_of chunks.now) self.old }
     {
         if !chunks.is_empty() {
             self.keep_running(now);
@@ -561,8 +568,8 @@ impl RetransmissionQueue {
 
     /// These were sent again: the peer's window shrinks, and they are counted. The answer is their bytes.
     fn count_resent(&mut self, chunks: &[(Tsn, Data)]) -> usize
-        ensures sender { self.new ≡ recounted_by (map chunk_of chunks.now) self.old }
-        ensures bytes { result ≡ cap (sizes (is_interleaved self.old) (map chunk_of chunks.now)) }
+        ensures sender { self.new ≡ count_retransmission_of (map chunk_of chunks.now) self.old }
+        ensures bytes { result ≡ saturate_u64 (sizes (is_interleaved self.old) (map chunk_of chunks.now)) }
     {
         let bytes = sizes(chunks, self.outstanding.is_interleaved());
         self.windows.take(bytes);
@@ -594,7 +601,7 @@ fn discard_all(
 
 /// The bytes of the chunks, with headers and padding; at most `usize::MAX`.
 fn sizes(chunks: &[(Tsn, Data)], is_interleaved: bool) -> usize
-    ensures { result ≡ cap (sizes is_interleaved (map chunk_of chunks.now)) }
+    ensures { result ≡ saturate_u64 (sizes is_interleaved (map chunk_of chunks.now)) }
 {
     let mut bytes = 0usize;
     for chunk in chunks {

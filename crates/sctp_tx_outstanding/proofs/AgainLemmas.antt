@@ -2,18 +2,18 @@
 use Rattle.std.proofs.Common.{◌≡◌, ℕ, suc, ◌+◌, ◌-◌, ◌%◌, ◌<◌, cond, Option, List, [], ◌∷◌, length, refl, ap, ◌∙◌, arith}
 use Rattle.std.specs.Prelude.{option_map, unwrap_or}
 use Rattle.sctp_serial.specs.SerialNumber.{serial_difference}
-use Rattle.sctp_serial.specs.Unwrapped.{origin, words, wire}
+use Rattle.sctp_serial.specs.Unwrapped.{origin, u32_space, wire}
 use Rattle.sctp_state.specs.Handover.{Transmission}
 use Rattle.sctp_state.specs.HandoverTimes.{lifecycle_from, moment_again, lifecycle_again}
 use Rattle.sctp_tx_outstanding.specs.declared.item.ItemState.{ItemState}
 use Rattle.sctp_tx_outstanding.specs.declared.item.ItemState.TheVariants.{InFlight, Missing, Queued, QueuedFast, Acked, GivenUp}
-use Rattle.sctp_tx_outstanding.specs.Item.{Item, slow, waits, has_nack, has_ack, is_given_up}
+use Rattle.sctp_tx_outstanding.specs.Item.{Item, demote_fast, waits, has_nack, has_ack, is_given_up}
 use Rattle.sctp_tx_outstanding.specs.OutstandingData.{Outstanding}
 use Rattle.sctp_tx_outstanding.specs.Handover.{item_record, item_from, items_from, item_records, reports_in, handed_over, restore}
 use Rattle.sctp_tx_outstanding.specs.Again.{item_again, items_again, ComesBack}
 use Rattle.sctp_state.proofs.HandoverLemmas.{expires_is, lifecycle_is}
 
-state_is : (s : ItemState) → cond (has_ack s) Acked (cond (is_given_up s) GivenUp (cond (waits s) Queued (cond (has_nack s) Missing InFlight))) ≡ slow s
+state_is : (s : ItemState) → cond (has_ack s) Acked (cond (is_given_up s) GivenUp (cond (waits s) Queued (cond (has_nack s) Missing InFlight))) ≡ demote_fast s
 state_is InFlight = refl
 state_is Missing = refl
 state_is Queued = refl
@@ -38,21 +38,21 @@ count_is : (now : ℕ) (is : List Item) → length (items_from now (item_records
 count_is now [] = refl
 count_is now (i ∷ is) = ap suc (count_is now is)
 
-tsn_is : (first other n : ℕ) → first ≡ other → first < words
-    → wire words other (origin - 1 + serial_difference words ((wire words first n + 1) % words) other) ≡ wire words first n
+tsn_is : (first other n : ℕ) → first ≡ other → first < u32_space
+    → wire u32_space other (origin - 1 + serial_difference u32_space ((wire u32_space first n + 1) % u32_space) other) ≡ wire u32_space first n
 tsn_is first other n same small = omega (arith, same, small)
 
-next_is : (first other n m count more : ℕ) → first ≡ other → more ≡ count → wire words other m ≡ wire words first n
-    → wire words other (m + 1 + more) ≡ wire words first (n + 1 + count)
+next_is : (first other n m count more : ℕ) → first ≡ other → more ≡ count → wire u32_space other m ≡ wire u32_space first n
+    → wire u32_space other (m + 1 + more) ≡ wire u32_space first (n + 1 + count)
 next_is first other n m count more same as_many tsn = omega (arith, same, as_many, tsn)
 
-least_is : (first other n : ℕ) → origin - 1 + serial_difference words ((wire words first n + 1) % words) other + 1 < origin + words
+least_is : (first other n : ℕ) → origin - 1 + serial_difference u32_space ((wire u32_space first n + 1) % u32_space) other + 1 < origin + u32_space
 least_is first other n = omega arith
 
-pub comes_back : (now : ℕ) (tx : Transmission) (d other : Outstanding) → d.first ≡ other.first → d.first < words → ComesBack d (restore now (handed_over now d tx) other) now
+pub comes_back : (now : ℕ) (tx : Transmission) (d other : Outstanding) → d.first ≡ other.first → d.first < u32_space → ComesBack d (restore now (handed_over now d tx) other) now
 comes_back now tx d other same small =
     let n = d.items.acked in
-    let m : ℕ = origin - 1 + serial_difference words ((wire words d.first n + 1) % words) other.first in
+    let m : ℕ = origin - 1 + serial_difference u32_space ((wire u32_space d.first n + 1) % u32_space) other.first in
     record {
       items = items_are now d.items.kept;
       cumulative = tsn_is d.first other.first n same small;

@@ -6,14 +6,14 @@ use Rattle.std.proofs.lemmas.Bool.Decides.{nat_tests}
 use Rattle.std.proofs.lemmas.List.Elements.{All-head, All-tail, All-cons, All-nil, All-append}
 use Rattle.sctp_tx_outstanding.specs.declared.totals.Totals.{Totals}
 use Rattle.sctp_tx_outstanding.specs.declared.kept.Change.{Change}
-use Rattle.sctp_tx_outstanding.specs.Item.{Item, is_due, has_nack, or_never, expiry, never, earliest_of, NotBefore}
+use Rattle.sctp_tx_outstanding.specs.Item.{Item, is_past, has_nack, or_never, expiry, never, earliest_of, NotBefore}
 use Rattle.sctp_tx_outstanding.specs.Change.{apply_change}
 use Rattle.sctp_tx_outstanding.specs.OutstandingData.{change_at}
 use Rattle.sctp_tx_outstanding.specs.Totals.{Exchanges}
 
 -- ---- one item
 
-not_due : (now : ℕ) (b : Bool) (o : Option ℕ) → now < cond b (or_never o) never → (b && is_due now o) ≡ false
+not_due : (now : ℕ) (b : Bool) (o : Option ℕ) → now < cond b (or_never o) never → (b && is_past now o) ≡ false
 not_due now false o h = refl
 not_due now true None h = refl
 not_due now true (Some moment) h = grind (arith, nat_tests)

@@ -7,7 +7,7 @@ use Rattle.std.proofs.lemmas.Bool.Decides.{nat_tests}
 use Rattle.sctp_tx_outstanding.specs.declared.skips.SkipEntry.{SkipEntry}
 use Rattle.sctp_tx_outstanding.specs.Item.{Item, is_abandoned}
 use Rattle.sctp_tx_outstanding.specs.OutstandingData.{Items, when}
-use Rattle.sctp_tx_outstanding.specs.Forward.{ForwardPoint, entry_of, is_before, is_same, is_alike, name_stream, with_entry, count_with, size_with, stops, passes, pass_item, walk}
+use Rattle.sctp_tx_outstanding.specs.Forward.{ForwardPoint, entry_of, is_before, is_same, is_alike, put_entry, with_entry, count_with, size_with, stops, passes, pass_item, walk}
 use Rattle.sctp_tx_outstanding.specs.Point.{Ascend}
 use Rattle.sctp_serial.proofs.NumberLemmas.{less_differs, greater_differs}
 
@@ -47,8 +47,8 @@ abbrev Rising : ℕ → List SkipEntry → Type 0
 Rising lo [] = Unit {0}
 Rising lo (e ∷ es) = (lo ≤ rank e) × Rising (suc (rank e)) es
 
-module _ (e d : SkipEntry) (ds : List SkipEntry) (lo : ℕ) (least : lo ≤ rank e) (h : Rising lo (d ∷ ds)) (ih : suc (rank d) ≤ rank e → Rising (suc (rank d)) (name_stream e ds)) where
-  put_rises : (before same : Bool) → is_before d e ≡ before → is_alike e d ≡ same → Rising lo (cond before (d ∷ name_stream e ds) (cond same (e ∷ ds) (e ∷ d ∷ ds)))
+module _ (e d : SkipEntry) (ds : List SkipEntry) (lo : ℕ) (least : lo ≤ rank e) (h : Rising lo (d ∷ ds)) (ih : suc (rank d) ≤ rank e → Rising (suc (rank d)) (put_entry e ds)) where
+  put_rises : (before same : Bool) → is_before d e ≡ before → is_alike e d ≡ same → Rising lo (cond before (d ∷ put_entry e ds) (cond same (e ∷ ds) (e ∷ d ∷ ds)))
   put_rises true same b s = (h.0, ih (ltb-true (rank d) (rank e) (sym (before_is d e) ∙ b)))
   put_rises false true b s = (least, subst (λ k. Rising (suc k) ds) (sym (eqb-true (rank e) (rank d) (sym (alike_is e d) ∙ s))) h.1)
   put_rises false false b s =
@@ -56,7 +56,7 @@ module _ (e d : SkipEntry) (ds : List SkipEntry) (lo : ℕ) (least : lo ≤ rank
       let less : rank e < rank d = is_below (rank e) (rank d) (sym (alike_is e d) ∙ s) up in
       (least, (less, h.1))
 
-named_rises : (e : SkipEntry) (lo : ℕ) (ds : List SkipEntry) → lo ≤ rank e → Rising lo ds → Rising lo (name_stream e ds)
+named_rises : (e : SkipEntry) (lo : ℕ) (ds : List SkipEntry) → lo ≤ rank e → Rising lo ds → Rising lo (put_entry e ds)
 named_rises e lo [] least h = (least, tt)
 named_rises e lo (d ∷ ds) least h = put_rises e d ds lo least h (λ le. named_rises e (suc (rank d)) ds le h.1) (is_before d e) (is_alike e d) refl refl
 
@@ -79,8 +79,8 @@ counts_on a b h = ap (λ x. when (not (x || b)) 1) h
 counts_one : (b : Bool) → b ≡ false → when (not b) 1 ≡ 1
 counts_one b h = ap (λ x. when (not x) 1) h
 
-module _ (e d : SkipEntry) (ds : List SkipEntry) (lo : ℕ) (h : Rising lo (d ∷ ds)) (ih : length (name_stream e ds) ≤ count_with (Some e) ds) where
-  put_length : (before same : Bool) → is_before d e ≡ before → is_alike e d ≡ same → length (cond before (d ∷ name_stream e ds) (cond same (e ∷ ds) (e ∷ d ∷ ds))) ≤ count_with (Some e) (d ∷ ds)
+module _ (e d : SkipEntry) (ds : List SkipEntry) (lo : ℕ) (h : Rising lo (d ∷ ds)) (ih : length (put_entry e ds) ≤ count_with (Some e) ds) where
+  put_length : (before same : Bool) → is_before d e ≡ before → is_alike e d ≡ same → length (cond before (d ∷ put_entry e ds) (cond same (e ∷ ds) (e ∷ d ∷ ds))) ≤ count_with (Some e) (d ∷ ds)
   put_length true same b s =
       let less : rank d < rank e = ltb-true (rank d) (rank e) (sym (before_is d e) ∙ b) in
       let off : is_alike e d ≡ false = alike_is e d ∙ greater_differs (rank d) (rank e) less in
@@ -94,7 +94,7 @@ module _ (e d : SkipEntry) (ds : List SkipEntry) (lo : ℕ) (h : Rising lo (d �
       let one : when (not (list_any (is_alike e) (d ∷ ds))) 1 ≡ 1 = counts_one (list_any (is_alike e) (d ∷ ds)) none in
       omega (arith, one)
 
-named_length : (e : SkipEntry) (lo : ℕ) (ds : List SkipEntry) → Rising lo ds → length (name_stream e ds) ≤ count_with (Some e) ds
+named_length : (e : SkipEntry) (lo : ℕ) (ds : List SkipEntry) → Rising lo ds → length (put_entry e ds) ≤ count_with (Some e) ds
 named_length e lo [] h = omega arith
 named_length e lo (d ∷ ds) h = put_length e d ds lo h (named_length e (suc (rank d)) ds h.1) (is_before d e) (is_alike e d) refl refl
 

@@ -9,11 +9,11 @@ use Rattle.std.proofs.lemmas.List.Elements.{All-cons, All-nil}
 use Rattle.sctp_tx_outstanding.specs.declared.totals.Totals.{Totals}
 use Rattle.sctp_tx_outstanding.specs.declared.kept.Change.{Change}
 use Rattle.sctp_tx_outstanding.specs.declared.expiries.Expiries.{Expiries}
-use Rattle.sctp_tx_outstanding.specs.Item.{Item, is_due, or_never, expiry, never, NotBefore}
+use Rattle.sctp_tx_outstanding.specs.Item.{Item, is_past, or_never, expiry, never, NotBefore}
 use Rattle.sctp_tx_outstanding.specs.Change.{apply_change}
 use Rattle.sctp_tx_outstanding.specs.OutstandingData.{change_at}
 use Rattle.sctp_tx_outstanding.specs.Totals.{parts, Exchanges}
-use Rattle.sctp_tx_outstanding.specs.Messages.{key_of}
+use Rattle.sctp_tx_outstanding.specs.Messages.{pair_key}
 use Rattle.sctp_tx_outstanding.specs.Waiting.{by_number, is_listed}
 use Rattle.sctp_tx_outstanding.specs.Expiries.{expires_as, AreMoments, Expects, Moves, Sets, expires_at, ListsUpTo}
 use Rattle.sctp_tx_outstanding.proofs.EarliestLemmas.{not_before}
@@ -80,7 +80,7 @@ not_such false b c w h = refl
 
 -- what never expires isn't listed
 pub set_never : (moment number : ℕ) (b : Bool) (keys : List ℕ) → moment ≡ never → Sets moment number b keys keys
-set_never moment number b keys h = λ m n less few. not_such (m == moment) (n == number) b (is_listed keys (key_of m n)) (not_below moment m (omega (arith, h, less)))
+set_never moment number b keys h = λ m n less few. not_such (m == moment) (n == number) b (is_listed keys (pair_key m n)) (not_below moment m (omega (arith, h, less)))
 
 pub first_left : (keys news : List ℕ) (first next moment : ℕ) (i : Item) (is : List Item) → next ≡ first + 1 → first < 2 ^ 32 → expiry i ≡ moment → Sets moment first false keys news
     → AreMoments keys first (i ∷ is) → AreMoments news next is
@@ -89,27 +89,27 @@ first_left keys news first next moment i is e small of put known = record {
   exact = λ m n less few. put m n less few ∙ (leaves m n less few ∙ ap (λ l. by_number l (λ k. expires_as m k is) n) (sym e));
 }
   where
-    at_first : (m n : ℕ) → m < never → n < 2 ^ 32 → n ≡ first → is_listed keys (key_of m n) ≡ (m == moment)
+    at_first : (m n : ℕ) → m < never → n < 2 ^ 32 → n ≡ first → is_listed keys (pair_key m n) ≡ (m == moment)
     at_first m n less few same =
         let there : n ≡ first + 0 = omega (arith, same) in
         known.exact m n less few ∙ (ap (λ l. by_number first (λ k. expires_as m k (i ∷ is)) l) there ∙ (as_at first (λ k. expires_as m k (i ∷ is)) 0 ∙ (ap (λ j. j == m) of ∙ turn_round m moment)))
 
-    leaves : (m n : ℕ) → m < never → n < 2 ^ 32 → cond ((m == moment) && (n == first)) false (is_listed keys (key_of m n)) ≡ by_number (first + 1) (λ k. expires_as m k is) n
+    leaves : (m n : ℕ) → m < never → n < 2 ^ 32 → cond ((m == moment) && (n == first)) false (is_listed keys (pair_key m n)) ≡ by_number (first + 1) (λ k. expires_as m k is) n
     leaves m n less few = elim (cases_lt first n) [
-      | inl more ↦ stays (m == moment) (n == first) (is_listed keys (key_of m n)) (greater_differs first n more) ∙ (known.exact m n less few ∙ sym (as_next first (λ k. expires_as m k (i ∷ is)) n more))
+      | inl more ↦ stays (m == moment) (n == first) (is_listed keys (pair_key m n)) (greater_differs first n more) ∙ (known.exact m n less few ∙ sym (as_next first (λ k. expires_as m k (i ∷ is)) n more))
       | inr le ↦ none m n less few le ∙ sym (as_below (first + 1) (λ k. expires_as m k is) n (omega (arith, le)))
     ] where
-      none : (m n : ℕ) → m < never → n < 2 ^ 32 → n ≤ first → cond ((m == moment) && (n == first)) false (is_listed keys (key_of m n)) ≡ false
+      none : (m n : ℕ) → m < never → n < 2 ^ 32 → n ≤ first → cond ((m == moment) && (n == first)) false (is_listed keys (pair_key m n)) ≡ false
       none m n less few le = elim (cases_lt n first) [
-        | inl below ↦ stays (m == moment) (n == first) (is_listed keys (key_of m n)) (not_below first n below) ∙ (known.exact m n less few ∙ as_below first (λ k. expires_as m k (i ∷ is)) n below)
+        | inl below ↦ stays (m == moment) (n == first) (is_listed keys (pair_key m n)) (not_below first n below) ∙ (known.exact m n less few ∙ as_below first (λ k. expires_as m k (i ∷ is)) n below)
         | inr ge ↦
             let same : n ≡ first = omega (arith, le, ge) in
-            out (m == moment) (n == first) (is_listed keys (key_of m n)) (is_same_lem first n same) (at_first m n less few same)
+            out (m == moment) (n == first) (is_listed keys (pair_key m n)) (is_same_lem first n same) (at_first m n less few same)
       ]
 
 -- ---- before the least key none expires
 
-listed_as : (keys : List ℕ) (first m k : ℕ) (is : List Item) → AreMoments keys first is → m < never → expires_as m k is ≡ true → is_listed keys (key_of m (first + k)) ≡ true
+listed_as : (keys : List ℕ) (first m k : ℕ) (is : List Item) → AreMoments keys first is → m < never → expires_as m k is ≡ true → is_listed keys (pair_key m (first + k)) ≡ true
 listed_as keys first m k is known less h = known.exact m (first + k) less (known.fits m k less h) ∙ (as_at first (λ j. expires_as m j is) k ∙ h)
 
 all_from : (e : ℕ) (is : List Item) → e ≤ never → ((m k : ℕ) → m < never → expires_as m k is ≡ true → e ≤ m) → All (NotBefore e) is
@@ -126,8 +126,8 @@ pub none_before_least : (keys : List ℕ) (first least e : ℕ) (is : List Item)
 none_before_least keys first least e is small le none known = all_from e is small later
   where
     later : (m k : ℕ) → m < never → expires_as m k is ≡ true → e ≤ m
-    later m k less h = elim (cases_lt (key_of m (first + k)) least) [
-      | inl below ↦ absurd (both_ways (is_listed keys (key_of m (first + k))) (none (key_of m (first + k)) below) (listed_as keys first m k is known less h))
+    later m k less h = elim (cases_lt (pair_key m (first + k)) least) [
+      | inl below ↦ absurd (both_ways (is_listed keys (pair_key m (first + k))) (none (pair_key m (first + k)) below) (listed_as keys first m k is known less h))
       | inr above ↦ omega (arith, above, le, known.fits m k less h)
     ]
 
@@ -138,7 +138,7 @@ expiry_at k [] = 0
 expiry_at zero (i ∷ is) = expiry i
 expiry_at (suc k) (i ∷ is) = expiry_at k is
 
-due_by : (now : ℕ) (b : Bool) (o : Option ℕ) → (b && is_due now o) ≡ true → cond b (or_never o) never ≤ now
+due_by : (now : ℕ) (b : Bool) (o : Option ℕ) → (b && is_past now o) ≡ true → cond b (or_never o) never ≤ now
 due_by now false o h = cc
 due_by now true None h = cc
 due_by now true (Some moment) h = grind (arith, nat_tests, h)
@@ -161,8 +161,8 @@ found_due keys places first now end is small e lists known k h =
     let less : m < never = omega (arith, by, small) in
     let its = moment_as now k is h in
     let fits : first + k < 2 ^ 32 = known.fits m k less its in
-    let place : key_of m (first + k) % 2 ^ 32 - first ≡ k = omega (arith, fits) in
-    ap (λ l. is_listed places l) (sym place) ∙ lists (key_of m (first + k)) (omega (arith, by, fits, e)) (listed_as keys first m k is known less its)
+    let place : pair_key m (first + k) % 2 ^ 32 - first ≡ k = omega (arith, fits) in
+    ap (λ l. is_listed places l) (sym place) ∙ lists (pair_key m (first + k)) (omega (arith, by, fits, e)) (listed_as keys first m k is known less its)
 
 -- ---- one more is known
 

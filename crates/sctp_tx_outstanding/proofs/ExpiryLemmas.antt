@@ -7,7 +7,7 @@ use Rattle.std.proofs.lemmas.List.Elements.{All-head, All-tail, All-cons, All-ni
 use Rattle.sctp_state.specs.Events.{Emitted}
 use Rattle.sctp_chunk.specs.Chunk.{FragmentTree}
 use Rattle.sctp_tx_outstanding.specs.Item.{Item, NotBefore, is_of, abandon}
-use Rattle.sctp_tx_outstanding.specs.OutstandingData.{Items, Outstanding, lay_down, last_of}
+use Rattle.sctp_tx_outstanding.specs.OutstandingData.{Items, Outstanding, abandon_if_of, last_of}
 use Rattle.sctp_tx_outstanding.specs.Expiries.{expires_at, NoneExpires}
 use Rattle.sctp_tx_outstanding.specs.Losses.{Step, placeholder, placeholders, expires, expired_of, option_bind, expired_at, given_up_if, expire_at, expire_below, expire_outstanding, first_step}
 
@@ -29,7 +29,7 @@ laid_quiet : (now : ℕ) (b : Bool) (i : Item) → expires now i ≡ false → e
 laid_quiet now true i h = refl
 laid_quiet now false i h = h
 
-end_quiet : (now number k : ℕ) (o : Option FragmentTree) → expires_at now k (map (lay_down number) (placeholders number o)) ≡ false
+end_quiet : (now number k : ℕ) (o : Option FragmentTree) → expires_at now k (map (abandon_if_of number) (placeholders number o)) ≡ false
 end_quiet now number k None = refl
 end_quiet now number k (Some f) = by_end f.is_end
   where
@@ -38,11 +38,11 @@ end_quiet now number k (Some f) = by_end f.is_end
     one false zero = refl
     one b (suc k) = refl
 
-    by_end : (e : Bool) → expires_at now k (map (lay_down number) (cond e [] (placeholder number f ∷ []))) ≡ false
+    by_end : (e : Bool) → expires_at now k (map (abandon_if_of number) (cond e [] (placeholder number f ∷ []))) ≡ false
     by_end true = refl
     by_end false = one (is_of number (placeholder number f)) k
 
-more_quiet : (now number k : ℕ) (o : Option FragmentTree) (is : List Item) → expires_at now k is ≡ false → expires_at now k (map (lay_down number) (is ++ placeholders number o)) ≡ false
+more_quiet : (now number k : ℕ) (o : Option FragmentTree) (is : List Item) → expires_at now k is ≡ false → expires_at now k (map (abandon_if_of number) (is ++ placeholders number o)) ≡ false
 more_quiet now number k o [] h = end_quiet now number k o
 more_quiet now number zero o (i ∷ is) h = laid_quiet now (is_of number i) i h
 more_quiet now number (suc k) o (i ∷ is) h = more_quiet now number k o is h

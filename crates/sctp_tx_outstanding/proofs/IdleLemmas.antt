@@ -8,7 +8,7 @@ use Rattle.sctp_tx_outstanding.specs.declared.item.ItemState.{ItemState}
 use Rattle.sctp_tx_outstanding.specs.declared.item.ItemState.TheVariants.{InFlight, Missing, Queued, QueuedFast, Acked, GivenUp}
 use Rattle.sctp_tx_outstanding.specs.declared.outstanding_data.Turn.TheVariants.{Send, PassOver, Leave}
 use Rattle.sctp_tx_outstanding.specs.Item.{Item, waits, waits_fast, should_be_retransmitted, chunk_size}
-use Rattle.sctp_tx_outstanding.specs.Resending.{Resent, size_in, allowance, IsFull, turn_of, take_item, step_at, resent_below}
+use Rattle.sctp_tx_outstanding.specs.Resending.{Resent, size_in, allowance, IsFull, turn_of, apply_turn, step_at, resent_below}
 use Rattle.sctp_tx_outstanding.specs.Waiting.{waits_at, NoneWaits}
 
 idle : (k : ℕ) (is : List Item) (i : Item) → waits_at k is ≡ false → slice_get is k ≡ Some i → waits i.state ≡ false
@@ -26,13 +26,13 @@ not_fast QueuedFast h = absurd (cc)
 not_fast Acked h = refl
 not_fast GivenUp h = refl
 
-idle_turn : (fast : Bool) (k : ℕ) (x : Resent) (i : Item) → waits i.state ≡ false → take_item (turn_of fast (Some i) x) k x ≡ x
-idle_turn true k x i h = ap (λ b. take_item (cond b (cond (nat_le (size_in x i) x.room) Send PassOver) Leave) k x) (not_fast i.state h)
-idle_turn false k x i h = ap (λ b. take_item (cond (b && nat_le (size_in x i) (allowance x)) Send Leave) k x) h
+idle_turn : (fast : Bool) (k : ℕ) (x : Resent) (i : Item) → waits i.state ≡ false → apply_turn (turn_of fast (Some i) x) k x ≡ x
+idle_turn true k x i h = ap (λ b. apply_turn (cond b (cond (nat_le (size_in x i) x.room) Send PassOver) Leave) k x) (not_fast i.state h)
+idle_turn false k x i h = ap (λ b. apply_turn (cond (b && nat_le (size_in x i) (allowance x)) Send Leave) k x) h
 
 idle_step : (fast : Bool) (k : ℕ) (x : Resent) → waits_at k x.outstanding.items.kept ≡ false → step_at fast k x ≡ x
 idle_step fast k x h = at_item (slice_get x.outstanding.items.kept k) refl where
-  at_item : (o : Option Item) → slice_get x.outstanding.items.kept k ≡ o → take_item (turn_of fast o x) k x ≡ x
+  at_item : (o : Option Item) → slice_get x.outstanding.items.kept k ≡ o → apply_turn (turn_of fast o x) k x ≡ x
   at_item None e = refl
   at_item (Some i) e = idle_turn fast k x i (idle k x.outstanding.items.kept i h e)
 
@@ -75,9 +75,9 @@ stays_out false allowed size h = refl
 
 full_step : (k : ℕ) (x : Resent) → IsFull x → step_at false k x ≡ x
 full_step k x h = at_item (slice_get x.outstanding.items.kept k) refl where
-  at_item : (o : Option Item) → slice_get x.outstanding.items.kept k ≡ o → take_item (turn_of false o x) k x ≡ x
+  at_item : (o : Option Item) → slice_get x.outstanding.items.kept k ≡ o → apply_turn (turn_of false o x) k x ≡ x
   at_item None e = refl
-  at_item (Some i) e = ap (λ b. take_item (cond b Send Leave) k x) (stays_out (should_be_retransmitted i) (allowance x) (size_in x i) (too_long x k x.outstanding.items.kept i h e))
+  at_item (Some i) e = ap (λ b. apply_turn (cond b Send Leave) k x) (stays_out (should_be_retransmitted i) (allowance x) (size_in x i) (too_long x k x.outstanding.items.kept i h e))
 
 full_more : (x : Resent) (more p n : ℕ) → n ≡ more + p → IsFull (resent_below false p x) → resent_below false n x ≡ resent_below false p x
 full_more x zero p n e h =

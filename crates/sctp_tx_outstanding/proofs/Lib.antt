@@ -6,8 +6,8 @@ pub mod ExpiryLemmas
 pub mod ForwardLemmas
 pub mod ReceivedLemmas
 pub mod IdleLemmas
-pub mod KeepsLemmas
-pub mod LaidLemmas
+pub mod ItemsStayLemmas
+pub mod AbandonedItemsLemmas
 pub mod LossesLemmas
 pub mod MessagesLemmas
 pub mod PointLemmas

@@ -4,7 +4,7 @@ use Rattle.std.specs.Prelude.{Option, Some, None, unwrap_or, option_map, slice_g
 use Rattle.sctp_state.specs.Events.{Emitted}
 use Rattle.sctp_tx_outstanding.specs.Item.{Item}
 use Rattle.sctp_tx_outstanding.specs.OutstandingData.{Items, Outstanding}
-use Rattle.sctp_tx_outstanding.specs.Losses.{Step, first_step, nack_item, nack_at, nack_below, gives_up}
+use Rattle.sctp_tx_outstanding.specs.Losses.{Step, first_step, nack_item, nack_at, nack_below, is_to_be_abandoned}
 
 or_true : (b : Bool) → true ≡ (b || true)
 or_true true = refl
@@ -23,7 +23,7 @@ alike_cond before true y z v w h k = h
 alike_cond before false y z v w h k = k
 
 alike_item : {P : Type 0} (at_once fast : Bool) (k : ℕ) (x : Step P) (i : Item) → Alike x.is_lossy (nack_item at_once fast k i x) (nack_item at_once fast k i (first_step x.items x.emitted))
-alike_item at_once fast k x i = alike_cond x.is_lossy (gives_up x.items.is_partial at_once i) _ _ _ _ (refl, refl, or_true x.is_lossy) (refl, refl, refl)
+alike_item at_once fast k x i = alike_cond x.is_lossy (is_to_be_abandoned x.items.is_partial at_once i) _ _ _ _ (refl, refl, or_true x.is_lossy) (refl, refl, refl)
 
 alike_option : {P : Type 0} (at_once fast : Bool) (k : ℕ) (x : Step P) (o : Option Item)
     → Alike x.is_lossy (unwrap_or (option_map (λ i. nack_item at_once fast k i x) o) x)

@@ -8,20 +8,20 @@ use Rattle.sctp_tx_outstanding.specs.declared.kept.Change.{Change}
 use Rattle.sctp_tx_outstanding.specs.declared.kept.Change.TheVariants as changes
 use Rattle.sctp_tx_outstanding.specs.Item.{Item, is_of, abandon}
 use Rattle.sctp_tx_outstanding.specs.Change.{apply_change}
-use Rattle.sctp_tx_outstanding.specs.OutstandingData.{change_at, lay_down, is_of_at, later_of, later_at, without_payload}
+use Rattle.sctp_tx_outstanding.specs.OutstandingData.{change_at, abandon_if_of, is_of_at, later_of, later_at, without_payload}
 use Rattle.sctp_tx_outstanding.specs.Waiting.{by_number, is_listed}
-use Rattle.sctp_tx_outstanding.specs.Messages.{NoneIsOf, is_of_as, key_of, AreKeys, Finds}
+use Rattle.sctp_tx_outstanding.specs.Messages.{NoneIsOf, is_of_as, pair_key, AreKeys, Finds}
 use Rattle.sctp_tx_outstanding.specs.declared.messages.Messages.{Messages}
-use Rattle.sctp_tx_outstanding.proofs.LaidLemmas.{laid}
+use Rattle.sctp_tx_outstanding.proofs.AbandonedItemsLemmas.{laid}
 use Rattle.sctp_tx_outstanding.proofs.WaitingLemmas.{as_below, as_at, as_never, as_next, as_alike, as_turned, here, ahead, behind, further, not_below, is_same_lem, equal}
 use Rattle.sctp_serial.proofs.NumberLemmas.{greater_differs}
 
 -- ---- keys
 
-same_message : (m j n l : ℕ) → n < 2 ^ 32 → l < 2 ^ 32 → key_of m n ≡ key_of j l → m ≡ j
+same_message : (m j n l : ℕ) → n < 2 ^ 32 → l < 2 ^ 32 → pair_key m n ≡ pair_key j l → m ≡ j
 same_message m j n l a b e = omega (arith, a, b, e)
 
-same_number : (m j n l : ℕ) → n < 2 ^ 32 → l < 2 ^ 32 → key_of m n ≡ key_of j l → n ≡ l
+same_number : (m j n l : ℕ) → n < 2 ^ 32 → l < 2 ^ 32 → pair_key m n ≡ pair_key j l → n ≡ l
 same_number m j n l a b e = omega (arith, a, b, e)
 
 both_same : (a b c : Bool) → (a ≡ true → b ≡ true) → (a ≡ true → c ≡ true) → (b ≡ true → c ≡ true → a ≡ true) → a ≡ (b && c)
@@ -30,12 +30,12 @@ both_same false true true p q r = r refl refl
 both_same false true false p q r = refl
 both_same false false c p q r = refl
 
-same_key : (m j n l : ℕ) → n < 2 ^ 32 → l < 2 ^ 32 → (key_of m n == key_of j l) ≡ ((m == j) && (n == l))
+same_key : (m j n l : ℕ) → n < 2 ^ 32 → l < 2 ^ 32 → (pair_key m n == pair_key j l) ≡ ((m == j) && (n == l))
 same_key m j n l a b =
-    both_same (key_of m n == key_of j l) (m == j) (n == l) (λ t. is_same_lem j m (same_message m j n l a b (equal (key_of j l) (key_of m n) t))) (λ t. is_same_lem l n (same_number m j n l a b (equal (key_of j l) (key_of m n) t)))
-    (λ p q. is_same_lem (key_of j l) (key_of m n) (joined (equal j m p) (equal l n q)))
+    both_same (pair_key m n == pair_key j l) (m == j) (n == l) (λ t. is_same_lem j m (same_message m j n l a b (equal (pair_key j l) (pair_key m n) t))) (λ t. is_same_lem l n (same_number m j n l a b (equal (pair_key j l) (pair_key m n) t)))
+    (λ p q. is_same_lem (pair_key j l) (pair_key m n) (joined (equal j m p) (equal l n q)))
   where
-    joined : m ≡ j → n ≡ l → key_of m n ≡ key_of j l
+    joined : m ≡ j → n ≡ l → pair_key m n ≡ pair_key j l
     joined p q = omega (arith, p, q)
 
 -- ---- one comes
@@ -74,10 +74,10 @@ turn_round m j = elim (cases_lt m j) [
 ]
 
 pub taken : (keys news : List ℕ) (first number : ℕ) (is : List Item) (i : Item) (place message : ℕ) → length is ≡ place → number ≡ first + place → number < 2 ^ 32 → i.number ≡ message
-    → ((key : ℕ) → is_listed news key ≡ cond (key == key_of message number) true (is_listed keys key)) → AreKeys keys first is → AreKeys news first (is ++ i ∷ [])
+    → ((key : ℕ) → is_listed news key ≡ cond (key == pair_key message number) true (is_listed keys key)) → AreKeys keys first is → AreKeys news first (is ++ i ∷ [])
 taken keys news first number is i place message e at small of put known = λ m n few.
-    put (key_of m n) ∙ (ap (λ b. cond b true (is_listed keys (key_of m n))) (same_key m message n number few small)
-    ∙ (came (m == message) (n == number) (is_of m i) (is_listed keys (key_of m n)) (is_of_as first m n is) (ap (λ j. j == m) of ∙ turn_round m message) (known m n few)
+    put (pair_key m n) ∙ (ap (λ b. cond b true (is_listed keys (pair_key m n))) (same_key m message n number few small)
+    ∙ (came (m == message) (n == number) (is_of m i) (is_listed keys (pair_key m n)) (is_of_as first m n is) (ap (λ j. j == m) of ∙ turn_round m message) (known m n few)
     (as_turned first place false (λ k. is_of_at m k is) (λ k. is_of_at m k is) (of_end m place is e) n ∙ ap (λ l. cond (n == l) false (is_of_as first m n is)) (sym at))
     ∙ (ap (λ l. cond (n == l) (is_of m i) (is_of_as first m n is)) at
     ∙ sym (as_turned first place (is_of m i) (λ k. is_of_at m k is) (λ k. is_of_at m k (is ++ i ∷ [])) (of_more m place is i e) n))))
@@ -96,27 +96,27 @@ stays true false w h = refl
 stays false false w h = refl
 
 pub left : (keys news : List ℕ) (first next : ℕ) (i : Item) (is : List Item) (message : ℕ) → next ≡ first + 1 → first < 2 ^ 32 → i.number ≡ message
-    → ((key : ℕ) → is_listed news key ≡ cond (key == key_of message first) false (is_listed keys key)) → AreKeys keys first (i ∷ is) → AreKeys news next is
+    → ((key : ℕ) → is_listed news key ≡ cond (key == pair_key message first) false (is_listed keys key)) → AreKeys keys first (i ∷ is) → AreKeys news next is
 left keys news first next i is message e small of put known = λ m n few.
-    put (key_of m n) ∙ (ap (λ b. cond b false (is_listed keys (key_of m n))) (same_key m message n first few small)
+    put (pair_key m n) ∙ (ap (λ b. cond b false (is_listed keys (pair_key m n))) (same_key m message n first few small)
     ∙ (leaves m n few ∙ ap (λ l. is_of_as l m n is) (sym e)))
   where
-    at_first : (m n : ℕ) → n < 2 ^ 32 → n ≡ first → is_listed keys (key_of m n) ≡ (m == message)
+    at_first : (m n : ℕ) → n < 2 ^ 32 → n ≡ first → is_listed keys (pair_key m n) ≡ (m == message)
     at_first m n few same =
         let there : n ≡ first + 0 = omega (arith, same) in
         known m n few ∙ (ap (λ l. by_number first (λ k. is_of_at m k (i ∷ is)) l) there ∙ (as_at first (λ k. is_of_at m k (i ∷ is)) 0 ∙ (ap (λ j. j == m) of ∙ turn_round m message)))
 
-    leaves : (m n : ℕ) → n < 2 ^ 32 → cond ((m == message) && (n == first)) false (is_listed keys (key_of m n)) ≡ is_of_as (first + 1) m n is
+    leaves : (m n : ℕ) → n < 2 ^ 32 → cond ((m == message) && (n == first)) false (is_listed keys (pair_key m n)) ≡ is_of_as (first + 1) m n is
     leaves m n few = elim (cases_lt first n) [
-      | inl more ↦ stays (m == message) (n == first) (is_listed keys (key_of m n)) (greater_differs first n more) ∙ (known m n few ∙ sym (as_next first (λ k. is_of_at m k (i ∷ is)) n more))
+      | inl more ↦ stays (m == message) (n == first) (is_listed keys (pair_key m n)) (greater_differs first n more) ∙ (known m n few ∙ sym (as_next first (λ k. is_of_at m k (i ∷ is)) n more))
       | inr le ↦ none m n few le ∙ sym (as_below (first + 1) (λ k. is_of_at m k is) n (omega (arith, le)))
     ] where
-      none : (m n : ℕ) → n < 2 ^ 32 → n ≤ first → cond ((m == message) && (n == first)) false (is_listed keys (key_of m n)) ≡ false
+      none : (m n : ℕ) → n < 2 ^ 32 → n ≤ first → cond ((m == message) && (n == first)) false (is_listed keys (pair_key m n)) ≡ false
       none m n few le = elim (cases_lt n first) [
-        | inl less ↦ stays (m == message) (n == first) (is_listed keys (key_of m n)) (not_below first n less) ∙ (known m n few ∙ as_below first (λ k. is_of_at m k (i ∷ is)) n less)
+        | inl less ↦ stays (m == message) (n == first) (is_listed keys (pair_key m n)) (not_below first n less) ∙ (known m n few ∙ as_below first (λ k. is_of_at m k (i ∷ is)) n less)
         | inr ge ↦
             let same : n ≡ first = omega (arith, le, ge) in
-            out (m == message) (n == first) (is_listed keys (key_of m n)) (is_same_lem first n same) (at_first m n few same)
+            out (m == message) (n == first) (is_listed keys (pair_key m n)) (is_same_lem first n same) (at_first m n few same)
       ]
 
 -- ---- none is kept
@@ -125,7 +125,7 @@ of_none : (message k : ℕ) → is_of_at message k [] ≡ false
 of_none message k = refl
 
 pub none_kept : (keys : List ℕ) (first : ℕ) → keys ≡ [] → AreKeys keys first []
-none_kept keys first e = λ m n few. ap (λ ks. is_listed ks (key_of m n)) e ∙ sym (as_never first (λ k. is_of_at m k []) (λ k. refl) n)
+none_kept keys first e = λ m n few. ap (λ ks. is_listed ks (pair_key m n)) e ∙ sym (as_never first (λ k. is_of_at m k []) (λ k. refl) n)
 
 -- ---- items change
 
@@ -151,13 +151,13 @@ laid_id : (b : Bool) (i : Item) → (cond b (abandon i) i).number ≡ i.number
 laid_id true i = refl
 laid_id false i = refl
 
-of_laid : (message number : ℕ) (is : List Item) (k : ℕ) → is_of_at message k (map (lay_down number) is) ≡ is_of_at message k is
+of_laid : (message number : ℕ) (is : List Item) (k : ℕ) → is_of_at message k (map (abandon_if_of number) is) ≡ is_of_at message k is
 of_laid message number [] k = refl
 of_laid message number (i ∷ is) zero = ap (λ n. n == message) (laid_id (is_of number i) i)
 of_laid message number (i ∷ is) (suc k) = of_laid message number is k
 
-pub finds_laid : (f : Messages) (number : ℕ) (is : List Item) → Finds f is → Finds f (map (lay_down number) is)
-finds_laid f number is known = λ yes m n few. known yes m n few ∙ sym (as_alike f.first (λ k. is_of_at m k is) (λ k. is_of_at m k (map (lay_down number) is)) (of_laid m number is) n)
+pub finds_laid : (f : Messages) (number : ℕ) (is : List Item) → Finds f is → Finds f (map (abandon_if_of number) is)
+finds_laid f number is known = λ yes m n few. known yes m n few ∙ sym (as_alike f.first (λ k. is_of_at m k is) (λ k. is_of_at m k (map (abandon_if_of number) is)) (of_laid m number is) n)
 
 -- ---- one more is known, and the first one leaves
 
@@ -183,9 +183,9 @@ finds_left old new (x ∷ is) i h at leaves known = leaves x is (ap (λ (y : Ite
 -- ---- from one of a message to the next
 
 pub none_of : (keys : List ℕ) (first message from to : ℕ) (is : List Item) → AreKeys keys first is → first + to ≤ 2 ^ 32
-    → ((key : ℕ) → key_of message (first + from) ≤ key → key < key_of message (first + to) → is_listed keys key ≡ false) → NoneIsOf message from to is
+    → ((key : ℕ) → pair_key message (first + from) ≤ key → key < pair_key message (first + to) → is_listed keys key ≡ false) → NoneIsOf message from to is
 none_of keys first message from to is known few none = λ k above below.
-    sym (as_at first (λ j. is_of_at message j is) k) ∙ (sym (known message (first + k) (omega (arith, below, few))) ∙ none (key_of message (first + k)) (omega (arith, above)) (omega (arith, below)))
+    sym (as_at first (λ j. is_of_at message j is) k) ∙ (sym (known message (first + k) (omega (arith, below, few))) ∙ none (pair_key message (first + k)) (omega (arith, above)) (omega (arith, below)))
 
 pub none_here : (message place : ℕ) (is : List Item) → NoneIsOf message place place is
 none_here message place is = λ k above below. absurd (omega (arith, above, below))
@@ -203,27 +203,27 @@ no : (b : Bool) (i j : Item) → b ≡ false → j ≡ cond b i j
 no true i j h = cc
 no false i j h = refl
 
-pub laid_of : (number k : ℕ) (is : List Item) → is_of_at number k is ≡ true → change_at k (λ i. abandon i) is ≡ change_at k (lay_down number) is
+pub laid_of : (number k : ℕ) (is : List Item) → is_of_at number k is ≡ true → change_at k (λ i. abandon i) is ≡ change_at k (abandon_if_of number) is
 laid_of number k [] h = refl
 laid_of number zero (i ∷ is) h = ap (λ j. j ∷ is) (yes (is_of number i) (abandon i) i h)
 laid_of number (suc k) (i ∷ is) h = ap (λ js. i ∷ js) (laid_of number k is h)
 
-pub laid_not : (number k : ℕ) (is : List Item) → is_of_at number k is ≡ false → is ≡ change_at k (lay_down number) is
+pub laid_not : (number k : ℕ) (is : List Item) → is_of_at number k is ≡ false → is ≡ change_at k (abandon_if_of number) is
 laid_not number k [] h = refl
 laid_not number zero (i ∷ is) h = ap (λ j. j ∷ is) (no (is_of number i) (abandon i) i h)
 laid_not number (suc k) (i ∷ is) h = ap (λ js. i ∷ js) (laid_not number k is h)
 
-laid_one : (number k : ℕ) (is : List Item) → change_at k (lay_down number) (laid k number is) ≡ laid (suc k) number is
+laid_one : (number k : ℕ) (is : List Item) → change_at k (abandon_if_of number) (laid k number is) ≡ laid (suc k) number is
 laid_one number zero [] = refl
 laid_one number zero (i ∷ is) = refl
 laid_one number (suc k) [] = refl
-laid_one number (suc k) (i ∷ is) = ap (λ js. lay_down number i ∷ js) (laid_one number k is)
+laid_one number (suc k) (i ∷ is) = ap (λ js. abandon_if_of number i ∷ js) (laid_one number k is)
 
 laid_past : (number k : ℕ) (is : List Item) → is_of_at number k is ≡ false → laid (suc k) number is ≡ laid k number is
 laid_past number zero [] h = refl
 laid_past number zero (i ∷ is) h = ap (λ j. j ∷ is) (sym (no (is_of number i) (abandon i) i h))
 laid_past number (suc k) [] h = refl
-laid_past number (suc k) (i ∷ is) h = ap (λ js. lay_down number i ∷ js) (laid_past number k is h)
+laid_past number (suc k) (i ∷ is) h = ap (λ js. abandon_if_of number i ∷ js) (laid_past number k is h)
 
 laid_more : (number more p n : ℕ) (is : List Item) → n ≡ more + p → NoneIsOf number p n is → laid n number is ≡ laid p number is
 laid_more number zero p n is e h =
@@ -237,18 +237,18 @@ laid_more number (suc more) p n is e h =
 pub laid_on : (number p n : ℕ) (is now : List Item) → now ≡ laid p number is → p ≤ n → NoneIsOf number p n is → now ≡ laid n number is
 laid_on number p n is now e le h = e ∙ sym (laid_more number (n - p) p n is (omega (arith, le)) h)
 
-pub laid_next : (number k : ℕ) (is now after : List Item) → now ≡ laid k number is → after ≡ change_at k (lay_down number) now → after ≡ laid (k + 1) number is
+pub laid_next : (number k : ℕ) (is now after : List Item) → now ≡ laid k number is → after ≡ change_at k (abandon_if_of number) now → after ≡ laid (k + 1) number is
 laid_next number k is now after e step =
     let one : suc k ≡ k + 1 = omega arith in
-    step ∙ (ap (λ js. change_at k (lay_down number) js) e ∙ (laid_one number k is ∙ ap (λ n. laid n number is) one))
+    step ∙ (ap (λ js. change_at k (abandon_if_of number) js) e ∙ (laid_one number k is ∙ ap (λ n. laid n number is) one))
 
-pub laid_done : (number p n : ℕ) (is now : List Item) → now ≡ laid p number is → length is ≤ n → p ≤ length is → NoneIsOf number p n is → now ≡ map (lay_down number) is
+pub laid_done : (number p n : ℕ) (is now : List Item) → now ≡ laid p number is → length is ≤ n → p ≤ length is → NoneIsOf number p n is → now ≡ map (abandon_if_of number) is
 laid_done number p n is now e le within h =
     laid_on number p (length is) is now e within (none_less number p n (length is) is le h) ∙ all is
   where
-    all : (is : List Item) → laid (length is) number is ≡ map (lay_down number) is
+    all : (is : List Item) → laid (length is) number is ≡ map (abandon_if_of number) is
     all [] = refl
-    all (i ∷ is) = ap (λ js. lay_down number i ∷ js) (all is)
+    all (i ∷ is) = ap (λ js. abandon_if_of number i ∷ js) (all is)
 
 -- ---- its last fragment
 

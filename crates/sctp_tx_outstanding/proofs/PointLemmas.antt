@@ -7,7 +7,7 @@ use Rattle.std.proofs.lemmas.Bool.Decides.{nat_tests}
 use Rattle.sctp_tx_outstanding.specs.declared.skips.SkipEntry.{SkipEntry}
 use Rattle.sctp_tx_outstanding.specs.Item.{Item, is_abandoned}
 use Rattle.sctp_tx_outstanding.specs.OutstandingData.{Items}
-use Rattle.sctp_tx_outstanding.specs.Forward.{ForwardPoint, is_first_given_up, entry_of, is_before, is_same, is_alike, name_stream, with_entry, size_with, stops, passes, pass_item, walk, forward_point}
+use Rattle.sctp_tx_outstanding.specs.Forward.{ForwardPoint, is_first_given_up, entry_of, is_before, is_same, is_alike, put_entry, with_entry, size_with, stops, passes, pass_item, walk, forward_point}
 use Rattle.sctp_tx_outstanding.specs.Point.{named_number, number_in, last_number, IsPoint}
 use Rattle.sctp_tx_outstanding.proofs.EntriesLemmas.{point_fits, point_ascends}
 
@@ -31,15 +31,15 @@ alike_both a b c true false w alike = grind (arith, nat_tests)
 alike_both a b c false true w alike = grind (arith, nat_tests)
 alike_both a b c false false w alike = grind (arith, nat_tests)
 
-module _ (e d c : SkipEntry) (cs : List SkipEntry) (ih : named_number e (name_stream d cs) ≡ cond (is_alike e d) (Some d.number) (named_number e cs)) where
+module _ (e d c : SkipEntry) (cs : List SkipEntry) (ih : named_number e (put_entry d cs) ≡ cond (is_alike e d) (Some d.number) (named_number e cs)) where
   abbrev rest : Option ℕ
   rest = named_number e cs
 
   -- behind an entry that comes before it
-  behind : (mine : Bool) → is_before c d ≡ true → is_alike e d ≡ mine → cond (is_alike e c) (Some c.number) (named_number e (name_stream d cs)) ≡ cond mine (Some d.number) (cond (is_alike e c) (Some c.number) rest)
+  behind : (mine : Bool) → is_before c d ≡ true → is_alike e d ≡ mine → cond (is_alike e c) (Some c.number) (named_number e (put_entry d cs)) ≡ cond mine (Some d.number) (cond (is_alike e c) (Some c.number) rest)
   behind true before em =
       let off : is_alike e c ≡ false = apart c.stream_id.0 d.stream_id.0 e.stream_id.0 c.is_unordered d.is_unordered e.is_unordered before em in
-      ap (λ b. cond b (Some c.number) (named_number e (name_stream d cs))) off ∙ ih ∙ ap (λ b. cond b (Some d.number) rest) em
+      ap (λ b. cond b (Some c.number) (named_number e (put_entry d cs))) off ∙ ih ∙ ap (λ b. cond b (Some d.number) rest) em
   behind false before em = ap (λ (o : Option ℕ). cond (is_alike e c) (Some c.number) o) (ih ∙ ap (λ b. cond b (Some d.number) rest) em)
 
   -- in the place of one that is alike
@@ -54,12 +54,12 @@ module _ (e d c : SkipEntry) (cs : List SkipEntry) (ih : named_number e (name_st
   ahead_of mine em = ap (λ b. cond b (Some d.number) (cond (is_alike e c) (Some c.number) rest)) em
 
   put_in_lem : (before same : Bool) → is_before c d ≡ before → is_alike d c ≡ same
-      → named_number e (cond before (c ∷ name_stream d cs) (cond same (d ∷ cs) (d ∷ c ∷ cs))) ≡ cond (is_alike e d) (Some d.number) (cond (is_alike e c) (Some c.number) rest)
+      → named_number e (cond before (c ∷ put_entry d cs) (cond same (d ∷ cs) (d ∷ c ∷ cs))) ≡ cond (is_alike e d) (Some d.number) (cond (is_alike e c) (Some c.number) rest)
   put_in_lem true same eb es = behind (is_alike e d) eb refl
   put_in_lem false true eb es = instead (is_alike e d) es refl
   put_in_lem false false eb es = ahead_of (is_alike e d) refl
 
-named_is : (e d : SkipEntry) (cs : List SkipEntry) → named_number e (name_stream d cs) ≡ cond (is_alike e d) (Some d.number) (named_number e cs)
+named_is : (e d : SkipEntry) (cs : List SkipEntry) → named_number e (put_entry d cs) ≡ cond (is_alike e d) (Some d.number) (named_number e cs)
 named_is e d [] = refl
 named_is e d (c ∷ cs) = put_in_lem e d c cs (named_is e d cs) (is_before c d) (is_alike d c) refl refl
 

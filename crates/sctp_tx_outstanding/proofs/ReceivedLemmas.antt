@@ -9,12 +9,12 @@ use Rattle.sctp_tx_outstanding.specs.declared.item.ItemState.{ItemState}
 use Rattle.sctp_tx_outstanding.specs.declared.item.ItemState.TheVariants.{InFlight, Missing, Queued, QueuedFast, Acked, GivenUp}
 use Rattle.sctp_tx_outstanding.specs.declared.kept.Change.{Change}
 use Rattle.sctp_tx_outstanding.specs.declared.kept.Change.TheVariants as changes
-use Rattle.sctp_tx_outstanding.specs.Item.{Item, is_of, is_in_flight, waits, is_given_up, has_ack, is_acked, is_lost, nack_state, acked, ack, uncovered, uncover, resent, slow, nack, mark_as_retransmitted, miss_fast, abandon, chunk_size}
-use Rattle.sctp_tx_outstanding.specs.OutstandingData.{change_at, when, lay_down}
+use Rattle.sctp_tx_outstanding.specs.Item.{Item, is_of, is_in_flight, waits, is_given_up, has_ack, is_acked, is_lost, nack_state, acked, ack, uncovered, uncover, resent, demote_fast, nack, mark_as_retransmitted, miss_fast, abandon, chunk_size}
+use Rattle.sctp_tx_outstanding.specs.OutstandingData.{change_at, when, abandon_if_of}
 use Rattle.sctp_tx_outstanding.specs.Change.{apply_change, is_of_sack}
-use Rattle.sctp_tx_outstanding.specs.Sack.{highest_end, settle, ack_or_nack, newly_acked, is_newly_acked, below_highest}
-use Rattle.sctp_tx_outstanding.specs.Passes.{settle_from, acked_from, below_from, IsWalk, IsCursor}
-use Rattle.sctp_tx_outstanding.specs.LastBlocks.{Rests, Rest, RestBelow, RestFrom, Agree, NoneOf, AreSame, IsReceived, Knows}
+use Rattle.sctp_tx_outstanding.specs.Sack.{highest_end, ack_or_uncover_all, ack_or_uncover, newly_acked, is_newly_acked, below_highest}
+use Rattle.sctp_tx_outstanding.specs.Passes.{ack_or_uncover_from, acked_from, below_from, IsWalk, IsCursor}
+use Rattle.sctp_tx_outstanding.specs.LastBlocks.{Rests, Rest, RestBelow, RestFrom, Agree, NoneOf, AreSame, AreAsBlocksSaid, Knows}
 use Rattle.sctp_tx_outstanding.specs.declared.last_blocks.LastBlocks.{LastBlocks}
 use Rattle.sctp_tx_outstanding.proofs.TotalsLemmas.{length_change}
 use Rattle.sctp_tx_outstanding.proofs.SackLemmas.{covered_first}
@@ -39,9 +39,9 @@ uncover_again i QueuedFast = refl
 uncover_again i Acked = refl
 uncover_again i GivenUp = refl
 
-settled_again : (c : Bool) (i : Item) → Rests c (ack_or_nack c i)
-settled_again true i = ack_again i i.state i.reports
-settled_again false i = uncover_again i i.state
+ack_or_uncover_rests : (c : Bool) (i : Item) → Rests c (ack_or_uncover c i)
+ack_or_uncover_rests true i = ack_again i i.state i.reports
+ack_or_uncover_rests false i = uncover_again i i.state
 
 rests_covered : (i : Item) → acked i.state ≡ i.state → cond (is_given_up i.state) i.reports 0 ≡ i.reports → Rests true i
 rests_covered i a b = λ j. record i { state = a j; reports = b j }
@@ -86,7 +86,7 @@ resent_open QueuedFast h = refl
 resent_open Acked h = absurd (cc)
 resent_open GivenUp h = refl
 
-slowed_acked : (s : ItemState) → acked s ≡ s → acked (slow s) ≡ slow s
+slowed_acked : (s : ItemState) → acked s ≡ s → acked (demote_fast s) ≡ demote_fast s
 slowed_acked InFlight h = absurd (cc)
 slowed_acked Missing h = absurd (cc)
 slowed_acked Queued h = absurd (cc)
@@ -94,7 +94,7 @@ slowed_acked QueuedFast h = absurd (cc)
 slowed_acked Acked h = refl
 slowed_acked GivenUp h = refl
 
-slowed_open : (s : ItemState) → uncovered s ≡ s → uncovered (slow s) ≡ slow s
+slowed_open : (s : ItemState) → uncovered s ≡ s → uncovered (demote_fast s) ≡ demote_fast s
 slowed_open InFlight h = refl
 slowed_open Missing h = refl
 slowed_open Queued h = refl
@@ -170,21 +170,21 @@ module _ (bs : List GapAckBlock) where
   rest_pushed offset [] i e w h = (subst (λ b. Rests b i) (sym (none_above bs offset (omega (arith, w)))) (rests_uncovered i (open_rests i.state e)), tt)
   rest_pushed offset (x ∷ is) i e w h = (h.0, rest_pushed (suc offset) is i e (omega (arith, w)) h.1)
 
-  pub rest_laid : (offset number : ℕ) (is : List Item) → Rest bs offset is → Rest bs offset (map (lay_down number) is)
+  pub rest_laid : (offset number : ℕ) (is : List Item) → Rest bs offset is → Rest bs offset (map (abandon_if_of number) is)
   rest_laid offset number [] h = tt
   rest_laid offset number (i ∷ is) h = (rests_laid (is_covered bs offset) (is_of number i) i h.0, rest_laid (suc offset) number is h.1)
 
-  pub rest_settle : (offset : ℕ) (is : List Item) → Rest bs offset (settle bs offset is)
+  pub rest_settle : (offset : ℕ) (is : List Item) → Rest bs offset (ack_or_uncover_all bs offset is)
   rest_settle offset [] = tt
-  rest_settle offset (i ∷ is) = (settled_again (is_covered bs offset) i, rest_settle (suc offset) is)
+  rest_settle offset (i ∷ is) = (ack_or_uncover_rests (is_covered bs offset) i, rest_settle (suc offset) is)
 
   -- ---- what blocks change nothing of
 
-  settle_rest : (offset : ℕ) (is : List Item) → Rest bs offset is → settle bs offset is ≡ is
+  settle_rest : (offset : ℕ) (is : List Item) → Rest bs offset is → ack_or_uncover_all bs offset is ≡ is
   settle_rest offset [] h = refl
   settle_rest offset (i ∷ is) h =
-      let x : ack_or_nack (is_covered bs offset) i ≡ i = h.0 in
-      let xs : settle bs (suc offset) is ≡ is = settle_rest (suc offset) is h.1 in
+      let x : ack_or_uncover (is_covered bs offset) i ≡ i = h.0 in
+      let xs : ack_or_uncover_all bs (suc offset) is ≡ is = settle_rest (suc offset) is h.1 in
       λ j. x j ∷ xs j
 
   acked_here : (m : Bool) (c : Bool) (i : Item) → Rests c i → when (is_newly_acked c i) (chunk_size m i) ≡ 0
@@ -202,7 +202,7 @@ module _ (bs : List GapAckBlock) where
   below_rest offset place most (i ∷ is) h =
       ap (λ b. below_highest bs (suc offset) (suc place) (cond b place most) is) (no_news (is_covered bs offset) i h.0) ∙ below_rest (suc offset) (suc place) most is h.1
 
-  pub settle_from_lem : (k offset : ℕ) (is : List Item) → RestFrom bs k offset is → settle_from bs k offset is ≡ is
+  pub settle_from_lem : (k offset : ℕ) (is : List Item) → RestFrom bs k offset is → ack_or_uncover_from bs k offset is ≡ is
   settle_from_lem zero offset is h = settle_rest offset is h
   settle_from_lem (suc k) offset [] h = refl
   settle_from_lem (suc k) offset (i ∷ is) h = ap (λ xs. i ∷ xs) (settle_from_lem k offset is h)
@@ -252,13 +252,13 @@ module _ (bs : List GapAckBlock) where
 
   -- ---- its beginning
 
-  settle_front : (k offset next : ℕ) (is : List Item) → next ≡ k + offset → RestBelow bs k offset is → settle_from bs k next is ≡ settle bs offset is
-  settle_front zero offset next is e h = ap (λ n. settle bs n is) (omega (arith, e))
+  settle_front : (k offset next : ℕ) (is : List Item) → next ≡ k + offset → RestBelow bs k offset is → ack_or_uncover_from bs k next is ≡ ack_or_uncover_all bs offset is
+  settle_front zero offset next is e h = ap (λ n. ack_or_uncover_all bs n is) (omega (arith, e))
   settle_front (suc k) offset next [] e h = refl
   settle_front (suc k) offset next (i ∷ is) e h =
-      let x : ack_or_nack (is_covered bs offset) i ≡ i = h.0 in
-      let xs : settle_from bs k next is ≡ settle bs (suc offset) is = settle_front k (suc offset) next is (omega (arith, e)) h.1 in
-      ap (λ ys. i ∷ ys) xs ∙ ap (λ y. y ∷ settle bs (suc offset) is) (sym x)
+      let x : ack_or_uncover (is_covered bs offset) i ≡ i = h.0 in
+      let xs : ack_or_uncover_from bs k next is ≡ ack_or_uncover_all bs (suc offset) is = settle_front k (suc offset) next is (omega (arith, e)) h.1 in
+      ap (λ ys. i ∷ ys) xs ∙ ap (λ y. y ∷ ack_or_uncover_all bs (suc offset) is) (sym x)
 
   acked_front : (m : Bool) (k offset next : ℕ) (is : List Item) → next ≡ k + offset → RestBelow bs k offset is → acked_from bs m k next is ≡ newly_acked bs m offset is
   acked_front m zero offset next is e h = ap (λ n. newly_acked bs m n is) (omega (arith, e))
@@ -277,7 +277,7 @@ module _ (bs : List GapAckBlock) where
       below_front k (suc offset) next (suc place) there most is (omega (arith, e)) (omega (arith, d)) h.1
       ∙ ap (λ b. below_highest bs (suc offset) (suc place) (cond b place most) is) (sym (no_news (is_covered bs offset) i h.0))
 
-  pub settle_begin : (k : ℕ) (is : List Item) → RestBelow bs k 1 is → settle_from bs k (k + 1) is ≡ settle bs 1 is
+  pub settle_begin : (k : ℕ) (is : List Item) → RestBelow bs k 1 is → ack_or_uncover_from bs k (k + 1) is ≡ ack_or_uncover_all bs 1 is
   settle_begin k is h = settle_front k 1 (k + 1) is refl h
 
   pub acked_begin : (m : Bool) (k : ℕ) (is : List Item) → RestBelow bs k 1 is → acked_from bs m k (k + 1) is ≡ newly_acked bs m 1 is
@@ -356,7 +356,7 @@ cursor_begin bs o h = record { within = omega arith; same = λ q le. refl; lowes
 
 pub knows_changed : (h : LastBlocks) (x : Change) → is_of_sack x ≡ false → (k : ℕ) (is : List Item) → Knows h is → Knows h (change_at k (apply_change x) is)
 knows_changed h x e k is known = λ yes.
-    let old : IsReceived h is = known yes in
+    let old : AreAsBlocksSaid h is = known yes in
     let same : length (change_at k (apply_change x) is) ≡ length is = length_change k (apply_change x) is in
     record { runs = old.runs; small = old.small; within = omega (arith, same, old.within); rest = rest_changed h.runs.items x h.offset k is e old.rest }
 
@@ -368,17 +368,17 @@ length_more (x ∷ is) i =
 
 pub knows_pushed : (h : LastBlocks) (is : List Item) (i : Item) → is_acked i ≡ false → Knows h is → Knows h (is ++ i ∷ [])
 knows_pushed h is i e known = λ yes.
-    let old : IsReceived h is = known yes in
+    let old : AreAsBlocksSaid h is = known yes in
     let more : length (is ++ i ∷ []) ≡ length is + 1 = length_more is i in
     record { runs = old.runs; small = old.small; within = omega (arith, more, old.within); rest = rest_pushed h.runs.items h.offset is i e old.within old.rest }
 
-length_laid : (number : ℕ) (is : List Item) → length (map (lay_down number) is) ≡ length is
+length_laid : (number : ℕ) (is : List Item) → length (map (abandon_if_of number) is) ≡ length is
 length_laid number [] = refl
 length_laid number (i ∷ is) = ap (λ n. suc n) (length_laid number is)
 
-pub knows_laid : (h : LastBlocks) (number : ℕ) (is : List Item) → Knows h is → Knows h (map (lay_down number) is)
+pub knows_laid : (h : LastBlocks) (number : ℕ) (is : List Item) → Knows h is → Knows h (map (abandon_if_of number) is)
 knows_laid h number is known = λ yes.
-    let old : IsReceived h is = known yes in
+    let old : AreAsBlocksSaid h is = known yes in
     let same = length_laid number is in
     record { runs = old.runs; small = old.small; within = omega (arith, same, old.within); rest = rest_laid h.runs.items h.offset number is old.rest }
 

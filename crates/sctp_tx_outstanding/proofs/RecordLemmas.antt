@@ -13,20 +13,20 @@ use Rattle.sctp_tx_outstanding.specs.declared.item.ItemState.{ItemState}
 use Rattle.sctp_tx_outstanding.specs.declared.item.ItemState.TheVariants.{InFlight, Missing, Queued, QueuedFast, Acked, GivenUp as Abandoned}
 use Rattle.sctp_tx_outstanding.specs.declared.outstanding_data.Turn.{Turn}
 use Rattle.sctp_tx_outstanding.specs.declared.outstanding_data.Turn.TheVariants.{Send, PassOver, Leave}
-use Rattle.sctp_tx_outstanding.specs.Item.{Item, is_in_flight, has_nack, is_given_up, is_of, is_lost, is_used_up, is_nacked, is_abandoned, has_expired, acked, uncovered, nack_state, resent, slow, nack, mark_as_retransmitted, miss_fast, abandon}
-use Rattle.sctp_tx_outstanding.specs.OutstandingData.{Items, change_at, lay_down, last_of, insert, no_items}
-use Rattle.sctp_tx_outstanding.specs.Losses.{Step, placeholders, placeholder, abandon_message, given_up, given_up_if, gives_up, loses, nack_item, nack_at, nack_below, expires, expired_of, option_bind, expire_at, expire_below, change_items}
-use Rattle.sctp_tx_outstanding.specs.Resending.{Resent, again_of, again_at, take_item, turn_at, step_at, resent_below}
-use Rattle.sctp_tx_outstanding.specs.Sack.{settle, ack_or_nack, leaving, staying, receive_sack, receive_sack_first, reported_below}
+use Rattle.sctp_tx_outstanding.specs.Item.{Item, is_in_flight, has_nack, is_given_up, is_of, is_lost, is_used_up, is_nacked, is_abandoned, has_expired, acked, uncovered, nack_state, resent, demote_fast, nack, mark_as_retransmitted, miss_fast, abandon}
+use Rattle.sctp_tx_outstanding.specs.OutstandingData.{Items, change_at, abandon_if_of, last_of, append_item, no_items}
+use Rattle.sctp_tx_outstanding.specs.Losses.{Step, placeholders, placeholder, abandon_message, abandon_with_record, given_up_if, is_to_be_abandoned, loses, nack_item, nack_at, nack_below, expires, expired_of, option_bind, expire_at, expire_below, change_items}
+use Rattle.sctp_tx_outstanding.specs.Resending.{Resent, again_of, again_at, apply_turn, turn_at, step_at, resent_below}
+use Rattle.sctp_tx_outstanding.specs.Sack.{ack_or_uncover_all, ack_or_uncover, leaving, staying, receive_sack, receive_sack_first, reported_below}
 use Rattle.sctp_chunk.specs.Chunk.{FragmentTree}
-use Rattle.sctp_tx_outstanding.specs.Records.{is_recorded, are_distinct, IsRecorded, RecordedOnce, RecordsCount, RecordsLifetime}
+use Rattle.sctp_tx_outstanding.specs.Records.{is_recorded, are_distinct, IsGivenUpAsRecorded, RecordedOnce, RecordsRetransmissions, RecordsLifetime}
 use Rattle.sctp_serial.proofs.NumberLemmas.{or_regroup}
 use Rattle.std.proofs.lemmas.Bool.{and_from}
 
 -- ---- records
 
 abbrev All : List GivenUp → List Item → Type 0
-All gs is = AllByRecursion (IsRecorded gs) is
+All gs is = AllByRecursion (IsGivenUpAsRecorded gs) is
 
 or_none : (b : Bool) → (b || false) ≡ b
 or_none true = refl
@@ -67,9 +67,9 @@ emitted_behind gs zero is a = a
 emitted_behind gs (suc k) [] a = tt
 emitted_behind gs (suc k) (i ∷ is) a = emitted_behind gs k is a.1
 
-emitted_at : (gs : List GivenUp) (k : ℕ) (is : List Item) (i : Item) → All gs is → slice_get is k ≡ Some i → IsRecorded gs i
+emitted_at : (gs : List GivenUp) (k : ℕ) (is : List Item) (i : Item) → All gs is → slice_get is k ≡ Some i → IsGivenUpAsRecorded gs i
 emitted_at gs k [] i a e = absurd (cc)
-emitted_at gs zero (j ∷ is) i a e = let same : j ≡ i = cc in subst (λ x. IsRecorded gs x) same a.0
+emitted_at gs zero (j ∷ is) i a e = let same : j ≡ i = cc in subst (λ x. IsGivenUpAsRecorded gs x) same a.0
 emitted_at gs (suc k) (j ∷ is) i a e = emitted_at gs k is i a.1 e
 
 -- what stays as it was, given up or not
@@ -77,7 +77,7 @@ record Alike (i j : Item) : Type 0 where
   number : j.number ≡ i.number
   given_up : is_abandoned j ≡ is_abandoned i
 
-alike_emitted : (gs : List GivenUp) (i j : Item) → Alike i j → IsRecorded gs i → IsRecorded gs j
+alike_emitted : (gs : List GivenUp) (i j : Item) → Alike i j → IsGivenUpAsRecorded gs i → IsGivenUpAsRecorded gs j
 alike_emitted gs i j h t = h.given_up ∙ t ∙ ap (λ n. is_recorded n gs) (sym h.number)
 
 module _ (gs : List GivenUp) (f : Item → Item) (h : (i : Item) → Alike i (f i)) where
@@ -110,7 +110,7 @@ resent_same QueuedFast = refl
 resent_same Acked = refl
 resent_same Abandoned = refl
 
-pub slowed_same : (s : ItemState) → is_given_up (slow s) ≡ is_given_up s
+pub slowed_same : (s : ItemState) → is_given_up (demote_fast s) ≡ is_given_up s
 slowed_same InFlight = refl
 slowed_same Missing = refl
 slowed_same Queued = refl
@@ -140,13 +140,13 @@ alike_resent i = record { number = refl; given_up = resent_same i.state }
 alike_slowed : (i : Item) → Alike i (miss_fast i)
 alike_slowed i = record { number = refl; given_up = slowed_same i.state }
 
-alike_settled : (b : Bool) (i : Item) → Alike i (ack_or_nack b i)
-alike_settled true i = record { number = refl; given_up = acked_same i.state }
-alike_settled false i = record { number = refl; given_up = uncovered_same i.state }
+alike_ack_or_uncover : (b : Bool) (i : Item) → Alike i (ack_or_uncover b i)
+alike_ack_or_uncover true i = record { number = refl; given_up = acked_same i.state }
+alike_ack_or_uncover false i = record { number = refl; given_up = uncovered_same i.state }
 
-emitted_settled : (gs : List GivenUp) (bs : List GapAckBlock) (offset : ℕ) (is : List Item) → All gs is → All gs (settle bs offset is)
+emitted_settled : (gs : List GivenUp) (bs : List GapAckBlock) (offset : ℕ) (is : List Item) → All gs is → All gs (ack_or_uncover_all bs offset is)
 emitted_settled gs bs offset [] a = tt
-emitted_settled gs bs offset (i ∷ is) a = (alike_emitted gs i (ack_or_nack (is_covered bs offset) i) (alike_settled (is_covered bs offset) i) a.0, emitted_settled gs bs (suc offset) is a.1)
+emitted_settled gs bs offset (i ∷ is) a = (alike_emitted gs i (ack_or_uncover (is_covered bs offset) i) (alike_ack_or_uncover (is_covered bs offset) i) a.0, emitted_settled gs bs (suc offset) is a.1)
 
 -- ---- a message is given up
 
@@ -162,30 +162,30 @@ module _ (gs : List GivenUp) (g : GivenUp) where
   abbrev more : List GivenUp
   more = gs ++ g ∷ []
 
-  laid : (i : Item) (b : Bool) → is_of g.number i ≡ b → IsRecorded gs i → IsRecorded more (cond b (abandon i) i)
+  laid : (i : Item) (b : Bool) → is_of g.number i ≡ b → IsGivenUpAsRecorded gs i → IsGivenUpAsRecorded more (cond b (abandon i) i)
   laid i true e t = sym (recorded_pushed i.number gs g ∙ same_number i.number g.number true (is_recorded i.number gs) e)
   laid i false e t = t ∙ sym (recorded_pushed i.number gs g ∙ same_number i.number g.number false (is_recorded i.number gs) e)
 
   -- the end that the message gets
-  end_laid : (f : FragmentTree) (b : Bool) → IsRecorded more (cond b (abandon (placeholder g.number f)) (placeholder g.number f))
+  end_laid : (f : FragmentTree) (b : Bool) → IsGivenUpAsRecorded more (cond b (abandon (placeholder g.number f)) (placeholder g.number f))
   end_laid f true = sym (recorded_pushed g.number gs g ∙ itself_named g.number (is_recorded g.number gs))
   end_laid f false = sym (recorded_pushed g.number gs g ∙ itself_named g.number (is_recorded g.number gs))
 
-  ends_laid_if : (f : FragmentTree) (b : Bool) → All more (map (lay_down g.number) (if b then [] else placeholder g.number f ∷ []))
+  ends_laid_if : (f : FragmentTree) (b : Bool) → All more (map (abandon_if_of g.number) (if b then [] else placeholder g.number f ∷ []))
   ends_laid_if f true = tt
   ends_laid_if f false = (end_laid f (is_of g.number (placeholder g.number f)), tt)
 
-  ends_laid : (o : Option FragmentTree) → All more (map (lay_down g.number) (placeholders g.number o))
+  ends_laid : (o : Option FragmentTree) → All more (map (abandon_if_of g.number) (placeholders g.number o))
   ends_laid None = tt
   ends_laid (Some f) = ends_laid_if f f.is_end
 
-  down_with : (is js : List Item) → All gs is → All more (map (lay_down g.number) js) → All more (map (lay_down g.number) (is ++ js))
+  down_with : (is js : List Item) → All gs is → All more (map (abandon_if_of g.number) js) → All more (map (abandon_if_of g.number) (is ++ js))
   down_with [] js a b = b
   down_with (i ∷ is) js a b = (laid i (is_of g.number i) refl a.0, down_with is js a.1 b)
 
 module _ (before : List GivenUp) where
   emitted_given_up : (number : ℕ) (cause : GivenUpCause) (x : Step (List ℕ)) → is_recorded number (before ++ x.emitted.given_up) ≡ false → RecordedOnce before x.items x.emitted.given_up
-      → RecordedOnce before (given_up number cause x).items (given_up number cause x).emitted.given_up
+      → RecordedOnce before (abandon_with_record number cause x).items (abandon_with_record number cause x).emitted.given_up
   emitted_given_up number cause x new h =
       let g : GivenUp = record { number = number; cause = cause } in
       let gs = before ++ x.emitted.given_up in
@@ -215,13 +215,13 @@ module _ (before : List GivenUp) where
   module _ (at_once fast : Bool) where
     emitted_nack_item : (k : ℕ) (i : Item) (x : Step (List ℕ)) → slice_get x.items.kept k ≡ Some i → RecordedOnce before x.items x.emitted.given_up
         → RecordedOnce before (nack_item at_once fast k i x).items (nack_item at_once fast k i x).emitted.given_up
-    emitted_nack_item k i x there h = go (gives_up x.items.is_partial at_once i) refl where
+    emitted_nack_item k i x there h = go (is_to_be_abandoned x.items.is_partial at_once i) refl where
       given : (b : Bool) → Step (List ℕ)
-      given b = if b then given_up i.number (Retransmissions (i.sent - 1)) x else record x { items = change_items k (nack at_once fast) x.items; is_lossy = x.is_lossy || loses at_once i }
+      given b = if b then abandon_with_record i.number (Retransmissions (i.sent - 1)) x else record x { items = change_items k (nack at_once fast) x.items; is_lossy = x.is_lossy || loses at_once i }
 
-      go : (b : Bool) → gives_up x.items.is_partial at_once i ≡ b
-          → RecordedOnce before (if b then given_up i.number (Retransmissions (i.sent - 1)) x else record x { items = change_items k (nack at_once fast) x.items; is_lossy = x.is_lossy || loses at_once i }).items
-          (if b then given_up i.number (Retransmissions (i.sent - 1)) x else record x { items = change_items k (nack at_once fast) x.items; is_lossy = x.is_lossy || loses at_once i }).emitted.given_up
+      go : (b : Bool) → is_to_be_abandoned x.items.is_partial at_once i ≡ b
+          → RecordedOnce before (if b then abandon_with_record i.number (Retransmissions (i.sent - 1)) x else record x { items = change_items k (nack at_once fast) x.items; is_lossy = x.is_lossy || loses at_once i }).items
+          (if b then abandon_with_record i.number (Retransmissions (i.sent - 1)) x else record x { items = change_items k (nack at_once fast) x.items; is_lossy = x.is_lossy || loses at_once i }).emitted.given_up
       go true e =
           let stays : is_abandoned i ≡ false = flying_stays i.state (is_lost at_once i) (first (loses at_once i) (x.items.is_partial && is_used_up i) e) in
           emitted_given_up i.number (Retransmissions (i.sent - 1)) x (sym (emitted_at (before ++ x.emitted.given_up) k x.items.kept i h.exact there) ∙ stays) h
@@ -293,7 +293,7 @@ module _ (before : List GivenUp) where
 
     emitted_turn : (fast : Bool) (k : ℕ) (x : Resent) → RecordedOnce before x.outstanding.items records → RecordedOnce before (step_at fast k x).outstanding.items records
     emitted_turn fast k x h = go (turn_at fast k x) where
-      go : (t : Turn) → RecordedOnce before (take_item t k x).outstanding.items records
+      go : (t : Turn) → RecordedOnce before (apply_turn t k x).outstanding.items records
       go Send = emitted_again k x h
       go PassOver = emitted_items x.outstanding.items (change_items k miss_fast x.outstanding.items) records (emitted_changed (before ++ records) miss_fast alike_slowed k x.outstanding.items.kept h.exact) h
       go Leave = h
@@ -302,7 +302,7 @@ module _ (before : List GivenUp) where
     resending_emits_once fast zero x h = h
     resending_emits_once fast (suc n) x h = emitted_turn fast n (resent_below fast n x) (resending_emits_once fast n x h)
 
-    pub new_items_emit_event_once : (i : Item) (s : Items) → is_abandoned i ≡ false → is_recorded i.number (before ++ records) ≡ false → RecordedOnce before s records → RecordedOnce before (insert i s) records
+    pub new_items_emit_event_once : (i : Item) (s : Items) → is_abandoned i ≡ false → is_recorded i.number (before ++ records) ≡ false → RecordedOnce before s records → RecordedOnce before (append_item i s) records
     new_items_emit_event_once i s stays new h = record { once = h.once; exact = emitted_before (before ++ records) s.kept (i ∷ []) h.exact (stays ∙ sym new, tt) }
 
     pub taking_emits_once : (g : GivenUp) (s : Items) → RecordedOnce before s (g ∷ records) → RecordedOnce (before ++ g ∷ []) s records
@@ -318,13 +318,13 @@ new_is_emitted_once is_partial is_interleaved = record { once = refl; exact = tt
 at_most : (a b : ℕ) → nat_le a b ≡ true → a ≤ b
 at_most a b e = grind (arith, nat_tests)
 
-pub counts_are_emitted : (at_once fast : Bool) (k : ℕ) (i : Item) (x : Step (List ℕ)) → slice_get x.items.kept k ≡ Some i → RecordsCount at_once fast k i x
+pub counts_are_emitted : (at_once fast : Bool) (k : ℕ) (i : Item) (x : Step (List ℕ)) → slice_get x.items.kept k ≡ Some i → RecordsRetransmissions at_once fast k i x
 counts_are_emitted at_once fast k i x there =
     let here : (nack_at at_once fast k x).emitted ≡ (nack_item at_once fast k i x).emitted = ap (λ (o : Option Item). (unwrap_or (option_map (λ j. nack_item at_once fast k j x) o) x).emitted) there in
     record {
-      made = λ e. here ∙ ap (λ b. (if b then given_up i.number (Retransmissions (i.sent - 1)) x else record x { items = change_items k (nack at_once fast) x.items; is_lossy = x.is_lossy || loses at_once i }).emitted) e;
+      made = λ e. here ∙ ap (λ b. (if b then abandon_with_record i.number (Retransmissions (i.sent - 1)) x else record x { items = change_items k (nack at_once fast) x.items; is_lossy = x.is_lossy || loses at_once i }).emitted) e;
       used_up = λ e. at_most i.limit (i.sent - 1) (second x.items.is_partial (is_used_up i) (second (loses at_once i) (x.items.is_partial && is_used_up i) e));
-      else = λ e. here ∙ ap (λ b. (if b then given_up i.number (Retransmissions (i.sent - 1)) x else record x { items = change_items k (nack at_once fast) x.items; is_lossy = x.is_lossy || loses at_once i }).emitted) e;
+      else = λ e. here ∙ ap (λ b. (if b then abandon_with_record i.number (Retransmissions (i.sent - 1)) x else record x { items = change_items k (nack at_once fast) x.items; is_lossy = x.is_lossy || loses at_once i }).emitted) e;
     }
 
 pub lifetimes_are_emitted : (now k : ℕ) (i : Item) (x : Step (List ℕ)) → slice_get x.items.kept k ≡ Some i → RecordsLifetime now k i x

@@ -10,9 +10,9 @@ use Rattle.sctp_tx_outstanding.specs.declared.item.ItemState.TheVariants.{InFlig
 use Rattle.sctp_tx_outstanding.specs.declared.outstanding_data.Turn.{Turn}
 use Rattle.sctp_tx_outstanding.specs.declared.outstanding_data.Turn.TheVariants.{Send, PassOver, Leave}
 use Rattle.sctp_chunk.specs.Chunk.{FragmentTree}
-use Rattle.sctp_tx_outstanding.specs.Item.{Item, is_in_flight, waits, waits_fast, resent, slow, miss_fast, should_be_retransmitted, is_fast, size_of, mark_as_retransmitted}
+use Rattle.sctp_tx_outstanding.specs.Item.{Item, is_in_flight, waits, waits_fast, resent, demote_fast, miss_fast, should_be_retransmitted, is_fast, size_of, mark_as_retransmitted}
 use Rattle.sctp_tx_outstanding.specs.OutstandingData.{Outstanding, when, wire_tsn, packet_part, queued_part, fast_part, flight_bytes, flight_items, waiting_items, fast_items, change_at}
-use Rattle.sctp_tx_outstanding.specs.Resending.{Resent, size_in, allowance, waiting_for, again_of, turn_of, turn_at, take_item, step_at, resent_below, empty_packet, resend, chunk_bytes}
+use Rattle.sctp_tx_outstanding.specs.Resending.{Resent, size_in, allowance, waiting_for, again_of, turn_of, turn_at, apply_turn, step_at, resent_below, empty_packet, resend, chunk_bytes}
 use Rattle.sctp_tx_outstanding.proofs.WaitingLemmas.{false_from_none}
 
 module _ (p : Item → ℕ) (f : Item → Item) where
@@ -58,14 +58,14 @@ sent_again_lem k x i there waiting fits =
 step_room : (k : ℕ) (x : Resent) → flying (step_at false k x) + (step_at false k x).room ≤ flying x + x.room
 step_room k x = at_item (slice_get x.outstanding.items.kept k) refl where
   turn_room : (i : Item) → slice_get x.outstanding.items.kept k ≡ Some i → (b : Bool) → should_be_retransmitted i && nat_le (size_in x i) (allowance x) ≡ b
-      → flying (take_item (if b then Send else Leave) k x) + (take_item (if b then Send else Leave) k x).room ≤ flying x + x.room
+      → flying (apply_turn (if b then Send else Leave) k x) + (apply_turn (if b then Send else Leave) k x).room ≤ flying x + x.room
   turn_room i there true e =
       let t = and_parts (should_be_retransmitted i) (nat_le (size_in x i) (allowance x)) e in
       let fits : size_in x i ≤ x.room = omega (arith, leb-true (size_in x i) (allowance x) t.1, allowed_room (flight_items x.outstanding.items == 0) x.room x.window) in
       subst (λ (o : Option Item). flying (again_of k o x) + (again_of k o x).room ≤ flying x + x.room) (sym there) (sent_again_lem k x i there t.0 fits)
   turn_room i there false e = omega arith
 
-  at_item : (o : Option Item) → slice_get x.outstanding.items.kept k ≡ o → flying (take_item (turn_of false o x) k x) + (take_item (turn_of false o x) k x).room ≤ flying x + x.room
+  at_item : (o : Option Item) → slice_get x.outstanding.items.kept k ≡ o → flying (apply_turn (turn_of false o x) k x) + (apply_turn (turn_of false o x) k x).room ≤ flying x + x.room
   at_item None e = omega arith
   at_item (Some i) e = turn_room i e (should_be_retransmitted i && nat_le (size_in x i) (allowance x)) refl
 
@@ -87,10 +87,10 @@ again_load k x i fits =
     let sum = sum_by_push (λ (c : ℕ × FragmentTree). size_of m c.1) x.chunks (wire_tsn x.outstanding (x.outstanding.items.acked + 1 + k), i.fragment) in
     omega (arith, sum, fits)
 
-taken_load : (k : ℕ) (x : Resent) (i : Item) → slice_get x.outstanding.items.kept k ≡ Some i → (t : Turn) → (t ≡ Send → size_in x i ≤ x.room) → load (take_item t k x) + (take_item t k x).room ≤ load x + x.room
-taken_load k x i there Send fits = subst (λ (o : Option Item). load (again_of k o x) + (again_of k o x).room ≤ load x + x.room) (sym there) (again_load k x i (fits refl))
-taken_load k x i there PassOver fits = omega arith
-taken_load k x i there Leave fits = omega arith
+apply_turn_load : (k : ℕ) (x : Resent) (i : Item) → slice_get x.outstanding.items.kept k ≡ Some i → (t : Turn) → (t ≡ Send → size_in x i ≤ x.room) → load (apply_turn t k x) + (apply_turn t k x).room ≤ load x + x.room
+apply_turn_load k x i there Send fits = subst (λ (o : Option Item). load (again_of k o x) + (again_of k o x).room ≤ load x + x.room) (sym there) (again_load k x i (fits refl))
+apply_turn_load k x i there PassOver fits = omega arith
+apply_turn_load k x i there Leave fits = omega arith
 
 fast_sends : (b c : Bool) (size room : ℕ) → nat_le size room ≡ c → (if b then (if c then Send else PassOver) else Leave) ≡ Send → size ≤ room
 fast_sends true true size room e h = leb-true size room e
@@ -112,9 +112,9 @@ turn_fits false x i h =
 
 step_load : (fast : Bool) (k : ℕ) (x : Resent) → load (step_at fast k x) + (step_at fast k x).room ≤ load x + x.room
 step_load fast k x = at_item (slice_get x.outstanding.items.kept k) refl where
-  at_item : (o : Option Item) → slice_get x.outstanding.items.kept k ≡ o → load (take_item (turn_of fast o x) k x) + (take_item (turn_of fast o x) k x).room ≤ load x + x.room
+  at_item : (o : Option Item) → slice_get x.outstanding.items.kept k ≡ o → load (apply_turn (turn_of fast o x) k x) + (apply_turn (turn_of fast o x) k x).room ≤ load x + x.room
   at_item None e = omega arith
-  at_item (Some i) e = taken_load k x i e (turn_of fast (Some i) x) (turn_fits fast x i)
+  at_item (Some i) e = apply_turn_load k x i e (turn_of fast (Some i) x) (turn_fits fast x i)
 
 resent_load : (fast : Bool) (n : ℕ) (x : Resent) → load (resent_below fast n x) + (resent_below fast n x).room ≤ load x + x.room
 resent_load fast zero x = omega arith
@@ -130,7 +130,7 @@ step_is_interleaved fast k x = by_turn (turn_at fast k x) where
   by_item None = refl
   by_item (Some i) = refl
 
-  by_turn : (t : Turn) → (take_item t k x).outstanding.items.is_interleaved ≡ x.outstanding.items.is_interleaved
+  by_turn : (t : Turn) → (apply_turn t k x).outstanding.items.is_interleaved ≡ x.outstanding.items.is_interleaved
   by_turn Send = by_item (slice_get x.outstanding.items.kept k)
   by_turn PassOver = refl
   by_turn Leave = refl
@@ -162,9 +162,9 @@ none_waits_lem (suc k) (j ∷ is) i h e =
 
 quiet_step : (k : ℕ) (x : Resent) → waiting_items x.outstanding.items ≤ 0 → step_at false k x ≡ x
 quiet_step k x h = at_item (slice_get x.outstanding.items.kept k) refl where
-  at_item : (o : Option Item) → slice_get x.outstanding.items.kept k ≡ o → take_item (turn_of false o x) k x ≡ x
+  at_item : (o : Option Item) → slice_get x.outstanding.items.kept k ≡ o → apply_turn (turn_of false o x) k x ≡ x
   at_item None e = refl
-  at_item (Some i) e = ap (λ b. take_item (if b && nat_le (size_in x i) (allowance x) then Send else Leave) k x) (none_waits_lem k x.outstanding.items.kept i h e)
+  at_item (Some i) e = ap (λ b. apply_turn (if b && nat_le (size_in x i) (allowance x) then Send else Leave) k x) (none_waits_lem k x.outstanding.items.kept i h e)
 
 none_fast : (k : ℕ) (is : List Item) (i : Item) → sum_by fast_part is ≤ 0 → slice_get is k ≡ Some i → is_fast i ≡ false
 none_fast k [] i h e = absurd (cc)
@@ -178,9 +178,9 @@ none_fast (suc k) (j ∷ is) i h e =
 
 quiet_fast : (k : ℕ) (x : Resent) → fast_items x.outstanding.items ≤ 0 → step_at true k x ≡ x
 quiet_fast k x h = at_item (slice_get x.outstanding.items.kept k) refl where
-  at_item : (o : Option Item) → slice_get x.outstanding.items.kept k ≡ o → take_item (turn_of true o x) k x ≡ x
+  at_item : (o : Option Item) → slice_get x.outstanding.items.kept k ≡ o → apply_turn (turn_of true o x) k x ≡ x
   at_item None e = refl
-  at_item (Some i) e = ap (λ b. take_item (if b then (if nat_le (size_in x i) x.room then Send else PassOver) else Leave) k x) (none_fast k x.outstanding.items.kept i h e)
+  at_item (Some i) e = ap (λ b. apply_turn (if b then (if nat_le (size_in x i) x.room then Send else PassOver) else Leave) k x) (none_fast k x.outstanding.items.kept i h e)
 
 quiet_turn : (fast : Bool) (k : ℕ) (x : Resent) → waiting_for fast x.outstanding.items ≤ 0 → step_at fast k x ≡ x
 quiet_turn true k x h = quiet_fast k x h
@@ -219,7 +219,7 @@ fast_waits QueuedFast e = refl
 fast_waits Acked e = absurd (cc)
 fast_waits GivenUp e = absurd (cc)
 
-pub slowed_in_flight : (s : ItemState) → is_in_flight (slow s) ≡ is_in_flight s
+pub slowed_in_flight : (s : ItemState) → is_in_flight (demote_fast s) ≡ is_in_flight s
 slowed_in_flight InFlight = refl
 slowed_in_flight Missing = refl
 slowed_in_flight Queued = refl
@@ -246,7 +246,7 @@ fast_goes false c size room e = absurd (cc)
 
 fast_step_room : (k : ℕ) (x : Resent) → flying (step_at true k x) + (step_at true k x).room ≤ flying x + x.room
 fast_step_room k x = at_item (slice_get x.outstanding.items.kept k) refl where
-  by_turn : (i : Item) → slice_get x.outstanding.items.kept k ≡ Some i → (t : Turn) → turn_of true (Some i) x ≡ t → flying (take_item t k x) + (take_item t k x).room ≤ flying x + x.room
+  by_turn : (i : Item) → slice_get x.outstanding.items.kept k ≡ Some i → (t : Turn) → turn_of true (Some i) x ≡ t → flying (apply_turn t k x) + (apply_turn t k x).room ≤ flying x + x.room
   by_turn i there Send e =
       let waiting : waits i.state ≡ true = fast_waits i.state (fast_goes (is_fast i) (nat_le (size_in x i) x.room) 0 0 e) in
       subst (λ (o : Option Item). flying (again_of k o x) + (again_of k o x).room ≤ flying x + x.room) (sym there) (sent_again_lem k x i there waiting (turn_fits true x i e))
@@ -257,7 +257,7 @@ fast_step_room k x = at_item (slice_get x.outstanding.items.kept k) refl where
       omega (arith, same)
   by_turn i there Leave e = omega arith
 
-  at_item : (o : Option Item) → slice_get x.outstanding.items.kept k ≡ o → flying (take_item (turn_of true o x) k x) + (take_item (turn_of true o x) k x).room ≤ flying x + x.room
+  at_item : (o : Option Item) → slice_get x.outstanding.items.kept k ≡ o → flying (apply_turn (turn_of true o x) k x) + (apply_turn (turn_of true o x) k x).room ≤ flying x + x.room
   at_item None e = omega arith
   at_item (Some i) e = by_turn i e (turn_of true (Some i) x) refl
 

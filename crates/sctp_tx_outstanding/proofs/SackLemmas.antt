@@ -7,8 +7,8 @@ use Rattle.sctp_chunk.specs.declared.sack.GapAckBlock.{GapAckBlock}
 use Rattle.sctp_chunk.specs.Covered.{is_covered, AreRuns}
 use Rattle.sctp_tx_outstanding.specs.Item.{Item}
 use Rattle.sctp_tx_outstanding.specs.OutstandingData.{Kept, change_at}
-use Rattle.sctp_tx_outstanding.specs.Sack.{ack_or_nack, is_new_at, new_bytes_at, newly_of, bytes_of}
-use Rattle.sctp_tx_outstanding.specs.Passes.{IsCursor, IsWalk, settle_from, acked_from, below_from}
+use Rattle.sctp_tx_outstanding.specs.Sack.{ack_or_uncover, is_new_at, new_bytes_at, newly_of, bytes_of}
+use Rattle.sctp_tx_outstanding.specs.Passes.{IsCursor, IsWalk, ack_or_uncover_from, acked_from, below_from}
 use Rattle.sctp_chunk.proofs.SackLemmas.{is_covered_below}
 
 -- ---- blocks
@@ -27,7 +27,7 @@ covered_at bs at offset d h less ends =
 
 -- ---- items
 
-pub settle_next : (bs : List GapAckBlock) (k offset : ℕ) (is : List Item) → settle_from bs (suc k) (suc offset) (change_at k (ack_or_nack (is_covered bs offset)) is) ≡ settle_from bs k offset is
+pub settle_next : (bs : List GapAckBlock) (k offset : ℕ) (is : List Item) → ack_or_uncover_from bs (suc k) (suc offset) (change_at k (ack_or_uncover (is_covered bs offset)) is) ≡ ack_or_uncover_from bs k offset is
 settle_next bs zero offset [] = refl
 settle_next bs zero offset (i ∷ is) = refl
 settle_next bs (suc k) offset [] = refl
@@ -61,11 +61,11 @@ walk_on false bs offset from h = tt
 up : (k : ℕ) → k + 1 ≡ suc k
 up k = omega arith
 
-pub settle_step : (bs : List GapAckBlock) (k : ℕ) (is js : List Item) → js ≡ change_at k (ack_or_nack (is_covered bs (k + 1))) is → settle_from bs (k + 1) (k + 1 + 1) js ≡ settle_from bs k (k + 1) is
+pub settle_step : (bs : List GapAckBlock) (k : ℕ) (is js : List Item) → js ≡ change_at k (ack_or_uncover (is_covered bs (k + 1))) is → ack_or_uncover_from bs (k + 1) (k + 1 + 1) js ≡ ack_or_uncover_from bs k (k + 1) is
 settle_step bs k is js e =
-    ap (λ xs. settle_from bs (k + 1) (k + 1 + 1) xs) e
-    ∙ ap (λ n. settle_from bs n (k + 1 + 1) (change_at k (ack_or_nack (is_covered bs (k + 1))) is)) (up k)
-    ∙ ap (λ n. settle_from bs (suc k) n (change_at k (ack_or_nack (is_covered bs (k + 1))) is)) (up (k + 1)) ∙ settle_next bs k (k + 1) is
+    ap (λ xs. ack_or_uncover_from bs (k + 1) (k + 1 + 1) xs) e
+    ∙ ap (λ n. ack_or_uncover_from bs n (k + 1 + 1) (change_at k (ack_or_uncover (is_covered bs (k + 1))) is)) (up k)
+    ∙ ap (λ n. ack_or_uncover_from bs (suc k) n (change_at k (ack_or_uncover (is_covered bs (k + 1))) is)) (up (k + 1)) ∙ settle_next bs k (k + 1) is
 
 pub acked_step : (bs : List GapAckBlock) (m : Bool) (f : Item → Item) (k : ℕ) (is js : List Item) → js ≡ change_at k f is
     → new_bytes_at bs m k is + acked_from bs m (k + 1) (k + 1 + 1) js ≡ acked_from bs m k (k + 1) is

@@ -9,7 +9,7 @@ use Rattle.sctp_tx_outstanding.specs.declared.kept.Change.TheVariants as changes
 use Rattle.sctp_tx_outstanding.specs.Item.{Item, chunk_size, header_size, is_outstanding, should_be_retransmitted, is_fast, NotBefore, never}
 use Rattle.sctp_tx_outstanding.specs.Change.{apply_change}
 use Rattle.sctp_tx_outstanding.specs.OutstandingData.{change_at, when, packet_part, payload_part, flight_part, queued_part, fast_part}
-use Rattle.sctp_tx_outstanding.specs.Totals.{parts, nothing, exchange, IsSmall, AreTotals, Exchanges}
+use Rattle.sctp_tx_outstanding.specs.Totals.{parts, nothing, replace_part, IsSmall, AreTotals, Exchanges}
 use Rattle.sctp_tx_outstanding.proofs.EarliestLemmas.{all_sooner, earliest_changed, earliest_pushed}
 use Rattle.sctp_tx_outstanding.proofs.WaitingLemmas.{same_fragment}
 
@@ -117,7 +117,7 @@ module _ (m : Bool) (is js : List Item) (old new t : Totals) (before : AreTotals
 
   -- totals follow where each sum does
   pub follow : Moves (packet_part m) (λ u. u.packet_bytes) → Moves payload_part (λ u. u.payload_bytes) → Moves flight_part (λ u. u.flights) → Moves queued_part (λ u. u.queued)
-      → Moves fast_part (λ u. u.fast) → All (NotBefore (min t.earliest new.earliest)) js → AreTotals m js (exchange old new t)
+      → Moves fast_part (λ u. u.fast) → All (NotBefore (min t.earliest new.earliest)) js → AreTotals m js (replace_part old new t)
   follow a b c d e f = record {
     packet = replaced t.packet_bytes (sum_by (packet_part m) is) old.packet_bytes new.packet_bytes (sum_by (packet_part m) js) (2 ^ 128 - 1) before.packet a.0 a.1
         (bytes_fit (length js) (sum_by (packet_part m) js) few (sum_small (packet_part m) (2 ^ 33) (packet_le m) js small));
@@ -134,7 +134,7 @@ module _ (m : Bool) (is js : List Item) (old new t : Totals) (before : AreTotals
   }
 
 pub totals_changed : (m : Bool) (k : ℕ) (x : Change) (is : List Item) (old new t : Totals) → AreTotals m is t → length is < 2 ^ 64 → Exchanges m k x is old new
-    → AreTotals m (change_at k (apply_change x) is) (exchange old new t)
+    → AreTotals m (change_at k (apply_change x) is) (replace_part old new t)
 totals_changed m k x is old new t before few h =
     follow m is (change_at k (apply_change x) is) old new t before (omega (arith, few, length_change k (apply_change x) is)) (small_change k x is before.small)
     (moves m x (packet_part m) (λ u. u.packet_bytes) (λ i. refl) refl k is old new h)
@@ -147,7 +147,7 @@ totals_changed m k x is old new t before few h =
 pushed : (f : Item → ℕ) (is : List Item) (i : Item) → (sum_by f (is ++ i ∷ []) + 0 ≡ sum_by f is + f i) × (0 ≤ sum_by f is)
 pushed f is i = (omega (arith, sum_by_push f is i), omega arith)
 
-pub totals_pushed : (m : Bool) (is : List Item) (i : Item) (t : Totals) → AreTotals m is t → length (is ++ i ∷ []) < 2 ^ 64 → IsSmall i → AreTotals m (is ++ i ∷ []) (exchange nothing (parts m i) t)
+pub totals_pushed : (m : Bool) (is : List Item) (i : Item) (t : Totals) → AreTotals m is t → length (is ++ i ∷ []) < 2 ^ 64 → IsSmall i → AreTotals m (is ++ i ∷ []) (replace_part nothing (parts m i) t)
 totals_pushed m is i t before few h =
     follow m is (is ++ i ∷ []) nothing (parts m i) t before few (All-append IsSmall is (i ∷ []) before.small (All-cons IsSmall i [] h (All-nil IsSmall)))
     (pushed (packet_part m) is i) (pushed payload_part is i) (pushed flight_part is i) (pushed queued_part is i) (pushed fast_part is i) (earliest_pushed t.earliest is i before.earliest)
@@ -155,7 +155,7 @@ totals_pushed m is i t before few h =
 popped : (f : Item → ℕ) (i : Item) (is : List Item) → (sum_by f is + f i ≡ sum_by f (i ∷ is) + 0) × (f i ≤ sum_by f (i ∷ is))
 popped f i is = (omega (arith, sum_by-cons f i is), omega (arith, sum_by-cons f i is))
 
-pub totals_popped : (m : Bool) (i : Item) (is : List Item) (t : Totals) → AreTotals m (i ∷ is) t → length is < 2 ^ 64 → AreTotals m is (exchange (parts m i) nothing t)
+pub totals_popped : (m : Bool) (i : Item) (is : List Item) (t : Totals) → AreTotals m (i ∷ is) t → length is < 2 ^ 64 → AreTotals m is (replace_part (parts m i) nothing t)
 totals_popped m i is t before few =
     follow m (i ∷ is) is (parts m i) nothing t before few (All-tail IsSmall i is before.small)
     (popped (packet_part m) i is) (popped payload_part i is) (popped flight_part i is) (popped queued_part i is) (popped fast_part i is)

@@ -9,7 +9,7 @@ use Rattle.sctp_state.specs.declared.api.GivenUpCause.TheVariants.{Retransmissio
 use Rattle.sctp_tx_outstanding.specs.declared.kept.Change.TheVariants as changes
 use Rattle.sctp_tx_outstanding.specs.Item.{Item, is_in_flight, ack, nack, is_lost, is_used_up}
 use Rattle.sctp_tx_outstanding.specs.OutstandingData.{Items, Outstanding, change_at, last_of}
-use Rattle.sctp_tx_outstanding.specs.Losses.{Step, first_step, placeholder, placeholders, given_up, gives_up, loses, change_items, nack_item, nack_at, nack_below}
+use Rattle.sctp_tx_outstanding.specs.Losses.{Step, first_step, placeholder, placeholders, abandon_with_record, is_to_be_abandoned, loses, change_items, nack_item, nack_at, nack_below}
 use Rattle.sctp_tx_outstanding.specs.Passes.{IsWalk, AreCovered}
 use Rattle.sctp_tx_outstanding.specs.LastBlocks.{Rests, Rest}
 use Rattle.sctp_tx_outstanding.proofs.ReceivedLemmas.{still, state_of_lem, nack_still, rest_changed, rest_laid, cursor_later, cursor_begin}
@@ -55,9 +55,9 @@ stays_same fast (suc k) (i ∷ is) h = ap (λ js. i ∷ js) (stays_same fast k i
 module _ {P : Type 0} (fast : Bool) where
   pass_item : (k : ℕ) (x : Step P) (i : Item) → is_in_flight i.state ≡ false → change_at k (nack false fast) x.items.kept ≡ x.items.kept → nack_item false fast k i x ≡ x
   pass_item k x i h same =
-      let no : gives_up x.items.is_partial false i ≡ false = ap (λ b. (b && is_lost false i) && (x.items.is_partial && is_used_up i)) h in
+      let no : is_to_be_abandoned x.items.is_partial false i ≡ false = ap (λ b. (b && is_lost false i) && (x.items.is_partial && is_used_up i)) h in
       let quiet : (x.is_lossy || loses false i) ≡ x.is_lossy = ap (λ b. x.is_lossy || (b && is_lost false i)) h ∙ sym (or_false x.is_lossy) in
-      ap (λ b. cond b (given_up i.number (Retransmissions (i.sent - 1)) x) (record x { items = change_items k (nack false fast) x.items; is_lossy = x.is_lossy || loses false i })) no
+      ap (λ b. cond b (abandon_with_record i.number (Retransmissions (i.sent - 1)) x) (record x { items = change_items k (nack false fast) x.items; is_lossy = x.is_lossy || loses false i })) no
       ∙ (λ j. record { items = record x.items { kept = same j }; emitted = x.emitted; is_lossy = quiet j })
 
   pass_option : (k : ℕ) (x : Step P) (o : Option Item) → Stays o → change_at k (nack false fast) x.items.kept ≡ x.items.kept
@@ -111,7 +111,7 @@ module _ {P : Type 0} (fast : Bool) (bs : List GapAckBlock) where
   rest_item : (k : ℕ) (x : Step P) (i : Item) → Rest bs 1 x.items.kept → Rest bs 1 (nack_item false fast k i x).items.kept
   rest_item k x i h =
       let more = placeholders i.number (last_of i.number x.items.kept) in
-      rest_cond (gives_up x.items.is_partial false i) (given_up i.number (Retransmissions (i.sent - 1)) x)
+      rest_cond (is_to_be_abandoned x.items.is_partial false i) (abandon_with_record i.number (Retransmissions (i.sent - 1)) x)
       (record x { items = change_items k (nack false fast) x.items; is_lossy = x.is_lossy || loses false i })
       (rest_laid bs 1 i.number (x.items.kept ++ more) (rest_behind bs 1 x.items.kept more (λ o. rest_placed bs i.number o (last_of i.number x.items.kept)) h))
       (rest_changed bs (changes.Nack false fast) 1 k x.items.kept refl h)

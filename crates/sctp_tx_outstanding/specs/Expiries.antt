@@ -4,7 +4,7 @@ use Rattle.sctp_tx_outstanding.specs.declared.expiries.Expiries.{Expiries}
 use Rattle.sctp_tx_outstanding.specs.declared.expiries.Due.{Due}
 use Rattle.sctp_tx_outstanding.specs.Item.{Item, expiry, never}
 use Rattle.sctp_tx_outstanding.specs.Losses.{expires}
-use Rattle.sctp_tx_outstanding.specs.Messages.{key_of}
+use Rattle.sctp_tx_outstanding.specs.Messages.{pair_key}
 use Rattle.sctp_tx_outstanding.specs.Waiting.{by_number, is_listed}
 
 -- whether the item at the place expires at the moment, and not before
@@ -16,7 +16,7 @@ expires_as moment (suc k) (i ∷ is) = expires_as moment k is
 -- the keys are those of the items that expire at some moment, and no other. The first item's number is `first`
 pub record AreMoments (keys : List ℕ) (first : ℕ) (is : List Item) : Type 0 where
   pub fits : (moment k : ℕ) → moment < never → expires_as moment k is ≡ true → first + k < 2 ^ 32
-  pub exact : (moment n : ℕ) → moment < never → n < 2 ^ 32 → is_listed keys (key_of moment n) ≡ by_number first (λ k. expires_as moment k is) n
+  pub exact : (moment n : ℕ) → moment < never → n < 2 ^ 32 → is_listed keys (pair_key moment n) ≡ by_number first (λ k. expires_as moment k is) n
 
 abbrev pub Expects : Expiries → List Item → Type 0
 Expects x is = x.is_known ≡ true → AreMoments x.keys.keys x.first is
@@ -31,12 +31,12 @@ pub record Moves (place was will : ℕ) (is js : List Item) : Type 0 where
 -- an item is listed under the moment, or no longer is
 abbrev pub Sets : (moment number : ℕ) → Bool → (old new : List ℕ) → Type 0
 Sets moment number is_there old new = (m n : ℕ) → m < never → n < 2 ^ 32
-    → is_listed new (key_of m n) ≡ (if (m == moment) && (n == number) then is_there else is_listed old (key_of m n))
+    → is_listed new (pair_key m n) ≡ (if (m == moment) && (n == number) then is_there else is_listed old (pair_key m n))
 
 -- an item that was listed under one moment alone is listed under another alone
 abbrev pub Replaces : (number was will : ℕ) → (old new : List ℕ) → Type 0
-Replaces number was will old new = (m n : ℕ) → m < never → n < 2 ^ 32 → is_listed old (key_of m number) ≡ (was == m)
-    → is_listed new (key_of m n) ≡ (if n == number then will == m else is_listed old (key_of m n))
+Replaces number was will old new = (m n : ℕ) → m < never → n < 2 ^ 32 → is_listed old (pair_key m number) ≡ (was == m)
+    → is_listed new (pair_key m n) ≡ (if n == number then will == m else is_listed old (pair_key m n))
 
 -- ---- what expires now
 

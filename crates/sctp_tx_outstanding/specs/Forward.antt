@@ -35,13 +35,13 @@ abbrev pub is_alike : SkipEntry → SkipEntry → Bool
 is_alike e d = (e.stream_id.0 == d.stream_id.0) && is_same e.is_unordered d.is_unordered
 
 -- the later entry stands for an earlier one of its stream and order, since numbers rise
-abbrev pub name_stream : SkipEntry → List SkipEntry → List SkipEntry
-name_stream e [] = e ∷ []
-name_stream e (d ∷ ds) = if is_before d e then d ∷ name_stream e ds else (if is_alike e d then e ∷ ds else e ∷ d ∷ ds)
+abbrev pub put_entry : SkipEntry → List SkipEntry → List SkipEntry
+put_entry e [] = e ∷ []
+put_entry e (d ∷ ds) = if is_before d e then d ∷ put_entry e ds else (if is_alike e d then e ∷ ds else e ∷ d ∷ ds)
 
 abbrev pub with_entry : Option SkipEntry → List SkipEntry → List SkipEntry
 with_entry None es = es
-with_entry (Some e) es = name_stream e es
+with_entry (Some e) es = put_entry e es
 
 -- ---- the size of the chunk
 

@@ -23,6 +23,6 @@ pub record Same {P : Type 0} (first : Outstanding) (emitted : Emitted P) (after 
   pub events : later ≡ emitted
 
 -- a SACK is taken, but not all of the missing reports
-abbrev pub SomeReceived : {P : Type 0} → ℕ → List GapAckBlock → (is_in_fast_recovery : Bool) → Outstanding → Emitted P → Outstanding → Emitted P → Type 0
-SomeReceived number blocks is_in_fast_recovery d emitted after later =
+abbrev pub SackPartlyTaken : {P : Type 0} → ℕ → List GapAckBlock → (is_in_fast_recovery : Bool) → Outstanding → Emitted P → Outstanding → Emitted P → Type 0
+SackPartlyTaken number blocks is_in_fast_recovery d emitted after later =
     (count : ℕ) × Stands d (nack_below false (not is_in_fast_recovery) count (receive_sack_first number blocks d.items emitted)) after later

@@ -94,12 +94,12 @@ is_open i = is_in_flight i.state || waits i.state
 abbrev pub has_been_retransmitted : Item → Bool
 has_been_retransmitted i = nat_lt 1 i.sent
 
-abbrev pub is_due : ℕ → Option ℕ → Bool
-is_due now None = false
-is_due now (Some moment) = nat_le moment now
+abbrev pub is_past : ℕ → Option ℕ → Bool
+is_past now None = false
+is_past now (Some moment) = nat_le moment now
 
 abbrev pub has_expired : ℕ → Item → Bool
-has_expired now i = is_due now i.expires
+has_expired now i = is_past now i.expires
 
 abbrev pub never : ℕ
 never = 2 ^ 128 - 1
@@ -193,17 +193,17 @@ resent GivenUp = GivenUp
 abbrev pub mark_as_retransmitted : Item → Item
 mark_as_retransmitted i = record i { state = resent i.state; sent = min (suc i.sent) 65536 }
 
-abbrev pub slow : ItemState → ItemState
-slow InFlight = InFlight
-slow Missing = Missing
-slow Queued = Queued
-slow QueuedFast = Queued
-slow Acked = Acked
-slow GivenUp = GivenUp
+abbrev pub demote_fast : ItemState → ItemState
+demote_fast InFlight = InFlight
+demote_fast Missing = Missing
+demote_fast Queued = Queued
+demote_fast QueuedFast = Queued
+demote_fast Acked = Acked
+demote_fast GivenUp = GivenUp
 
 -- the fast packet had no room for it
 abbrev pub miss_fast : Item → Item
-miss_fast i = record i { state = slow i.state }
+miss_fast i = record i { state = demote_fast i.state }
 
 abbrev pub abandon : Item → Item
 abandon i = record i { state = GivenUp }

@@ -5,7 +5,7 @@ use Rattle.std.specs.List.{list_all}
 use Rattle.sctp_chunk.specs.declared.sack.GapAckBlock.{GapAckBlock}
 use Rattle.sctp_state.specs.Events.{Emitted}
 use Rattle.sctp_tx_outstanding.specs.Item.{Item, is_of, is_abandoned}
-use Rattle.sctp_tx_outstanding.specs.OutstandingData.{Items, insert}
+use Rattle.sctp_tx_outstanding.specs.OutstandingData.{Items, append_item}
 use Rattle.sctp_tx_outstanding.specs.Losses.{Step, abandon_message, nack_below, expire_below}
 use Rattle.sctp_tx_outstanding.specs.Resending.{Resent, resent_below}
 use Rattle.sctp_tx_outstanding.specs.Sack.{staying, receive_sack}
@@ -37,7 +37,7 @@ abbrev pub ResendingKeeps : Type 0
 ResendingKeeps = (fast : Bool) (count : ℕ) (x : Resent) → Keeps x.outstanding.items (resent_below fast count x).outstanding.items
 
 abbrev pub NewItemsKeep : Type 0
-NewItemsKeep = (i : Item) (s : Items) → Keeps s (insert i s)
+NewItemsKeep = (i : Item) (s : Items) → Keeps s (append_item i s)
 
 -- a SACK lets the items up to its cumulative TSN leave, and no other
 abbrev pub SacksKeep : Type 0

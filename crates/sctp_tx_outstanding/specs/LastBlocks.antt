@@ -4,12 +4,12 @@ use Rattle.sctp_chunk.specs.declared.sack.GapAckBlock.{GapAckBlock}
 use Rattle.sctp_chunk.specs.Covered.{is_covered, AreRuns}
 use Rattle.sctp_tx_outstanding.specs.declared.last_blocks.LastBlocks.{LastBlocks}
 use Rattle.sctp_tx_outstanding.specs.Item.{Item}
-use Rattle.sctp_tx_outstanding.specs.Sack.{ack_or_nack, highest_end}
+use Rattle.sctp_tx_outstanding.specs.Sack.{ack_or_uncover, highest_end}
 
 -- ---- items that blocks change nothing of
 
 abbrev pub Rests : (covered : Bool) → Item → Type 0
-Rests covered i = ack_or_nack covered i ≡ i
+Rests covered i = ack_or_uncover covered i ≡ i
 
 -- all, from this offset on
 abbrev pub Rest : List GapAckBlock → (offset : ℕ) → List Item → Type 0
@@ -49,11 +49,11 @@ pub record AreSame (runs blocks : List GapAckBlock) (from offset at : ℕ) : Typ
 -- ---- what is remembered
 
 -- the items are as the blocks said, of which none reaches above the last item
-pub record IsReceived (h : LastBlocks) (is : List Item) : Type 0 where
+pub record AreAsBlocksSaid (h : LastBlocks) (is : List Item) : Type 0 where
   pub runs : AreRuns 0 h.runs.items
   pub small : h.offset < 2 ^ 63
   pub within : highest_end h.runs.items < h.offset + length is
   pub rest : Rest h.runs.items h.offset is
 
 abbrev pub Knows : LastBlocks → List Item → Type 0
-Knows h is = h.is_known ≡ true → IsReceived h is
+Knows h is = h.is_known ≡ true → AreAsBlocksSaid h is

@@ -1,13 +1,13 @@
 -- Items that are missing or lost, and messages that are given up (RFC 9260 section 7.2.4, RFC 3758 section 3.5).
 use Rattle.std.specs.Prelude.{ℕ, zero, suc, ◌+◌, ◌-◌, ◌%◌, ◌^◌, ◌&&◌, ◌||◌, Bool, true, false, if◌then◌else◌, Option, Some, None, unwrap_or, option_map, List, [], ◌∷◌, ◌++◌, length, map, slice_get}
 use Rattle.sctp_chunk.specs.Chunk.{FragmentTree}
-use Rattle.sctp_state.specs.Events.{Emitted, give_up}
+use Rattle.sctp_state.specs.Events.{Emitted, emit_given_up}
 use Rattle.sctp_state.specs.declared.api.GivenUpCause.{GivenUpCause}
 use Rattle.sctp_state.specs.declared.api.GivenUpCause.TheVariants.{Lifetime, Retransmissions}
 use Rattle.sctp_tx_outstanding.specs.declared.item.ItemState.TheVariants.{GivenUp}
 use Rattle.sctp_tx_outstanding.specs.declared.outstanding_data.Loss.{Loss}
 use Rattle.sctp_tx_outstanding.specs.Item.{Item, is_outstanding, is_lost, is_used_up, is_nacked, has_expired, nack}
-use Rattle.sctp_tx_outstanding.specs.OutstandingData.{Items, Discard, change_at, lay_down, last_of}
+use Rattle.sctp_tx_outstanding.specs.OutstandingData.{Items, Discard, change_at, abandon_if_of, last_of}
 
 -- ---- a message is given up
 
@@ -35,15 +35,15 @@ discards_of number None = []
 discards_of number (Some f) = if f.is_end then [] else record { stream = f.stream_id; number = number } ∷ []
 
 -- a message whose end was not sent gets one, and the send queue is to drop the rest
-abbrev pub close_message : ℕ → Items → Items
-close_message number s = record s {
+abbrev pub end_with_placeholder : ℕ → Items → Items
+end_with_placeholder number s = record s {
   kept = s.kept ++ placeholders number (last_of number s.kept);
   discards = s.discards ++ discards_of number (last_of number s.kept);
 }
 
 -- all that is kept of a message is given up
 abbrev pub abandon_message : ℕ → Items → Items
-abandon_message number s = record (close_message number s) { kept = map (lay_down number) (close_message number s).kept }
+abandon_message number s = record (end_with_placeholder number s) { kept = map (abandon_if_of number) (end_with_placeholder number s).kept }
 
 -- ---- steps through the items
 
@@ -52,8 +52,8 @@ pub record Step (P : Type 0) : Type 0 where
   pub emitted : Emitted P
   pub is_lossy : Bool  -- an item was found to be lost
 
-abbrev pub given_up : {P : Type 0} → ℕ → GivenUpCause → Step P → Step P
-given_up number cause x = record { items = abandon_message number x.items; emitted = give_up number cause x.emitted; is_lossy = true }
+abbrev pub abandon_with_record : {P : Type 0} → ℕ → GivenUpCause → Step P → Step P
+abandon_with_record number cause x = record { items = abandon_message number x.items; emitted = emit_given_up number cause x.emitted; is_lossy = true }
 
 abbrev pub change_items : ℕ → (Item → Item) → Items → Items
 change_items k f s = record s { kept = change_at k f s.kept }
@@ -63,17 +63,17 @@ abbrev pub loses : (at_once : Bool) → Item → Bool
 loses at_once i = is_outstanding i && is_lost at_once i
 
 -- and it was sent again as often as it may be
-abbrev pub gives_up : (is_partial at_once : Bool) → Item → Bool
-gives_up is_partial at_once i = loses at_once i && (is_partial && is_used_up i)
+abbrev pub is_to_be_abandoned : (is_partial at_once : Bool) → Item → Bool
+is_to_be_abandoned is_partial at_once i = loses at_once i && (is_partial && is_used_up i)
 
 -- what a missing report, or a timeout, finds of an item
 abbrev pub loss_of : (is_partial at_once : Bool) → Item → Loss
-loss_of is_partial at_once i = record { is_lost = loses at_once i; gives_up = gives_up is_partial at_once i; message_id = record { 0 = i.number }; resendings = i.sent - 1 }
+loss_of is_partial at_once i = record { is_lost = loses at_once i; gives_up = is_to_be_abandoned is_partial at_once i; message_id = record { 0 = i.number }; resendings = i.sent - 1 }
 
 -- the item at place k is missing, by a report or, at once, by a timeout: it is to be sent again, or its message given up
 abbrev pub nack_item : {P : Type 0} → (at_once fast : Bool) → ℕ → Item → Step P → Step P
 nack_item at_once fast k i x =
-    if gives_up x.items.is_partial at_once i then given_up i.number (Retransmissions (i.sent - 1)) x
+    if is_to_be_abandoned x.items.is_partial at_once i then abandon_with_record i.number (Retransmissions (i.sent - 1)) x
     else record x { items = change_items k (nack at_once fast) x.items; is_lossy = x.is_lossy || loses at_once i }
 
 abbrev pub nack_at : {P : Type 0} → (at_once fast : Bool) → ℕ → Step P → Step P
@@ -110,7 +110,7 @@ expired_at now k s = option_bind (expired_of s.is_partial now) (slice_get s.kept
 
 abbrev pub given_up_if : {P : Type 0} → Option ℕ → Step P → Step P
 given_up_if None x = x
-given_up_if (Some number) x = given_up number Lifetime x
+given_up_if (Some number) x = abandon_with_record number Lifetime x
 
 abbrev pub expire_at : {P : Type 0} → ℕ → ℕ → Step P → Step P
 expire_at now k x = given_up_if (expired_at now k x.items) x

@@ -14,12 +14,12 @@ abbrev pub is_of_as : (first message n : ℕ) → List Item → Bool
 is_of_as first message n is = by_number first (λ k. is_of_at message k is) n
 
 -- a message and the number of one of its items, in one
-abbrev pub key_of : (message n : ℕ) → ℕ
-key_of message n = message * 2 ^ 32 + n
+abbrev pub pair_key : (message n : ℕ) → ℕ
+pair_key message n = message * 2 ^ 32 + n
 
 -- the keys are those of the items, and no other
 abbrev pub AreKeys : (keys : List ℕ) → (first : ℕ) → List Item → Type 0
-AreKeys keys first is = (message n : ℕ) → n < 2 ^ 32 → is_listed keys (key_of message n) ≡ is_of_as first message n is
+AreKeys keys first is = (message n : ℕ) → n < 2 ^ 32 → is_listed keys (pair_key message n) ≡ is_of_as first message n is
 
 abbrev pub Finds : Messages → List Item → Type 0
 Finds m is = m.is_known ≡ true → AreKeys m.keys.keys m.first is

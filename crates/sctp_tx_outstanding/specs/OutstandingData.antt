@@ -3,7 +3,7 @@
 use Rattle.std.specs.Prelude.{ℕ, zero, suc, ◌+◌, ◌-◌, ◌%◌, ◌^◌, Bool, false, if◌then◌else◌, Option, Some, None, List, [], ◌∷◌, ◌++◌, length}
 use Rattle.std.specs.List.{sum_by}
 use Rattle.sctp_serial.specs.SerialNumber.{serial_difference}
-use Rattle.sctp_serial.specs.Unwrapped.{origin, words, wire, nearest}
+use Rattle.sctp_serial.specs.Unwrapped.{origin, u32_space, wire, nearest}
 use Rattle.sctp_chunk.specs.Chunk.{FragmentTree}
 use Rattle.sctp_tx_outstanding.specs.declared.item.ItemState.TheVariants.{InFlight}
 use Rattle.sctp_tx_outstanding.specs.Item.{Item, is_of, abandon, is_outstanding, should_be_retransmitted, is_fast, chunk_size}
@@ -42,11 +42,11 @@ next_number s = s.acked + 1 + length s.kept
 -- ---- on the wire
 
 abbrev pub wire_tsn : Outstanding → ℕ → ℕ
-wire_tsn d n = wire words d.first n
+wire_tsn d n = wire u32_space d.first n
 
 -- what a TSN stands for: the number nearest to the cumulative TSN
 abbrev pub number_of : Outstanding → ℕ → ℕ
-number_of d tsn = nearest words d.first d.items.acked tsn
+number_of d tsn = nearest u32_space d.first d.items.acked tsn
 
 -- ---- sums
 
@@ -100,8 +100,8 @@ pub record Kept : Type 0 where
 -- ---- what is given up of a message
 
 -- all its fragments that are kept
-abbrev pub lay_down : ℕ → Item → Item
-lay_down number i = if is_of number i then abandon i else i
+abbrev pub abandon_if_of : ℕ → Item → Item
+abandon_if_of number i = if is_of number i then abandon i else i
 
 abbrev pub without_payload : FragmentTree → FragmentTree
 without_payload f = record f { payload = [] }
@@ -144,8 +144,8 @@ first_sent number fragment now limit expires lifecycle = record {
 }
 
 -- it takes the next TSN
-abbrev pub insert : Item → Items → Items
-insert i s = record s { kept = s.kept ++ i ∷ [] }
+abbrev pub append_item : Item → Items → Items
+append_item i s = record s { kept = s.kept ++ i ∷ [] }
 
 -- streams are reset: no forward point crosses the number that is next
 abbrev pub begin_reset : Items → Items
@@ -153,4 +153,4 @@ begin_reset s = record s { breaks = s.breaks ++ next_number s ∷ [] }
 
 -- a restored socket begins behind this TSN: at the least number that is written so
 abbrev pub begun_at : (first tsn : ℕ) → Items → Items
-begun_at first tsn s = record s { acked = origin - 1 + serial_difference words ((tsn + 1) % 2 ^ 32) first }
+begun_at first tsn s = record s { acked = origin - 1 + serial_difference u32_space ((tsn + 1) % 2 ^ 32) first }

@@ -3,7 +3,7 @@ use Rattle.std.specs.Prelude.{◌≡◌, ℕ, zero, suc, ◌+◌, ◌<◌, ◌�
 use Rattle.sctp_chunk.specs.declared.sack.GapAckBlock.{GapAckBlock}
 use Rattle.sctp_chunk.specs.Covered.{is_covered, AreRuns}
 use Rattle.sctp_tx_outstanding.specs.Item.{Item}
-use Rattle.sctp_tx_outstanding.specs.Sack.{settle, newly_acked, below_highest}
+use Rattle.sctp_tx_outstanding.specs.Sack.{ack_or_uncover_all, newly_acked, below_highest}
 
 -- the blocks before `from` end before the offset, so that the others say what is covered from there on
 pub record IsCursor (blocks : List GapAckBlock) (offset from : ℕ) : Type 0 where
@@ -22,10 +22,10 @@ abbrev pub AreCovered : List GapAckBlock → (place next : ℕ) → Type 0
 AreCovered blocks place next = (p : ℕ) → place ≤ p → p < next → is_covered blocks (p + 1) ≡ true
 
 -- the first k items are settled, and the rest is to be
-abbrev pub settle_from : List GapAckBlock → (k offset : ℕ) → List Item → List Item
-settle_from blocks zero offset is = settle blocks offset is
-settle_from blocks (suc k) offset [] = []
-settle_from blocks (suc k) offset (i ∷ is) = i ∷ settle_from blocks k offset is
+abbrev pub ack_or_uncover_from : List GapAckBlock → (k offset : ℕ) → List Item → List Item
+ack_or_uncover_from blocks zero offset is = ack_or_uncover_all blocks offset is
+ack_or_uncover_from blocks (suc k) offset [] = []
+ack_or_uncover_from blocks (suc k) offset (i ∷ is) = i ∷ ack_or_uncover_from blocks k offset is
 
 abbrev pub acked_from : List GapAckBlock → Bool → (k offset : ℕ) → List Item → ℕ
 acked_from blocks m zero offset is = newly_acked blocks m offset is

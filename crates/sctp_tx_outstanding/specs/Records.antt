@@ -3,11 +3,11 @@
 use Rattle.std.specs.Prelude.{◌≡◌, ◌≤◌, ℕ, ◌-◌, ◌==◌, ◌&&◌, ◌||◌, not, Bool, true, false, Some, List, [], ◌∷◌, ◌++◌, slice_get}
 use Rattle.std.specs.List.{AllByRecursion}
 use Rattle.sctp_chunk.specs.declared.sack.GapAckBlock.{GapAckBlock}
-use Rattle.sctp_state.specs.Events.{GivenUp, Emitted, give_up}
+use Rattle.sctp_state.specs.Events.{GivenUp, Emitted, emit_given_up}
 use Rattle.sctp_state.specs.declared.api.GivenUpCause.TheVariants.{Lifetime, Retransmissions}
 use Rattle.sctp_tx_outstanding.specs.Item.{Item, is_abandoned, has_expired}
-use Rattle.sctp_tx_outstanding.specs.OutstandingData.{Items, no_items, insert}
-use Rattle.sctp_tx_outstanding.specs.Losses.{Step, gives_up, expires, nack_at, nack_below, expire_at, expire_below}
+use Rattle.sctp_tx_outstanding.specs.OutstandingData.{Items, no_items, append_item}
+use Rattle.sctp_tx_outstanding.specs.Losses.{Step, is_to_be_abandoned, expires, nack_at, nack_below, expire_at, expire_below}
 use Rattle.sctp_tx_outstanding.specs.Resending.{Resent, resent_below}
 use Rattle.sctp_tx_outstanding.specs.Sack.{receive_sack}
 
@@ -22,22 +22,22 @@ are_distinct [] = true
 are_distinct (g ∷ gs) = not (is_recorded g.number gs) && are_distinct gs
 
 -- the item is given up exactly where its message has a record
-abbrev pub IsRecorded : List GivenUp → Item → Type 0
-IsRecorded gs i = is_abandoned i ≡ is_recorded i.number gs
+abbrev pub IsGivenUpAsRecorded : List GivenUp → Item → Type 0
+IsGivenUpAsRecorded gs i = is_abandoned i ≡ is_recorded i.number gs
 
 -- of all records of an association, those that were taken and those that were not
 pub record RecordedOnce (taken : List GivenUp) (s : Items) (records : List GivenUp) : Type 0 where
   pub once : are_distinct (taken ++ records) ≡ true
-  pub exact : AllByRecursion (IsRecorded (taken ++ records)) s.kept
+  pub exact : AllByRecursion (IsGivenUpAsRecorded (taken ++ records)) s.kept
 
 -- ---- from a new association on each call keeps it
 
-abbrev pub NewIsRecordedOnce : Type 0
-NewIsRecordedOnce = (is_partial is_interleaved : Bool) → RecordedOnce [] (no_items is_partial is_interleaved) []
+abbrev pub NewRecordsAreExact : Type 0
+NewRecordsAreExact = (is_partial is_interleaved : Bool) → RecordedOnce [] (no_items is_partial is_interleaved) []
 
 -- a fragment of a message that was not given up takes the next TSN
 abbrev pub NewItemsRecordOnce : Type 0
-NewItemsRecordOnce = (taken records : List GivenUp) (i : Item) (s : Items) → is_abandoned i ≡ false → is_recorded i.number (taken ++ records) ≡ false → RecordedOnce taken s records → RecordedOnce taken (insert i s) records
+NewItemsRecordOnce = (taken records : List GivenUp) (i : Item) (s : Items) → is_abandoned i ≡ false → is_recorded i.number (taken ++ records) ≡ false → RecordedOnce taken s records → RecordedOnce taken (append_item i s) records
 
 -- missing reports and timeouts, also where memory ran out in between
 abbrev pub LossesRecordOnce : Type 0
@@ -60,17 +60,17 @@ TakingRecordsOnce = (taken records : List GivenUp) (g : GivenUp) (s : Items) →
 -- ---- where a record is made, and what it says
 
 -- of the item at a place, which is lost: its count is how often the item was sent again, and no less than its limit
-pub record RecordsCount (at_once fast : Bool) (k : ℕ) (i : Item) (x : Step (List ℕ)) : Type 0 where
-  pub made : gives_up x.items.is_partial at_once i ≡ true → (nack_at at_once fast k x).emitted ≡ give_up i.number (Retransmissions (i.sent - 1)) x.emitted
-  pub used_up : gives_up x.items.is_partial at_once i ≡ true → i.limit ≤ i.sent - 1
-  pub else : gives_up x.items.is_partial at_once i ≡ false → (nack_at at_once fast k x).emitted ≡ x.emitted
+pub record RecordsRetransmissions (at_once fast : Bool) (k : ℕ) (i : Item) (x : Step (List ℕ)) : Type 0 where
+  pub made : is_to_be_abandoned x.items.is_partial at_once i ≡ true → (nack_at at_once fast k x).emitted ≡ emit_given_up i.number (Retransmissions (i.sent - 1)) x.emitted
+  pub used_up : is_to_be_abandoned x.items.is_partial at_once i ≡ true → i.limit ≤ i.sent - 1
+  pub else : is_to_be_abandoned x.items.is_partial at_once i ≡ false → (nack_at at_once fast k x).emitted ≡ x.emitted
 
 abbrev pub CountsAreRecorded : Type 0
-CountsAreRecorded = (at_once fast : Bool) (k : ℕ) (i : Item) (x : Step (List ℕ)) → slice_get x.items.kept k ≡ Some i → RecordsCount at_once fast k i x
+CountsAreRecorded = (at_once fast : Bool) (k : ℕ) (i : Item) (x : Step (List ℕ)) → slice_get x.items.kept k ≡ Some i → RecordsRetransmissions at_once fast k i x
 
 -- of one that is missing or lost, once its message expired
 pub record RecordsLifetime (now k : ℕ) (i : Item) (x : Step (List ℕ)) : Type 0 where
-  pub made : (x.items.is_partial && expires now i) ≡ true → (expire_at now k x).emitted ≡ give_up i.number Lifetime x.emitted
+  pub made : (x.items.is_partial && expires now i) ≡ true → (expire_at now k x).emitted ≡ emit_given_up i.number Lifetime x.emitted
   pub passed : (x.items.is_partial && expires now i) ≡ true → has_expired now i ≡ true
   pub else : (x.items.is_partial && expires now i) ≡ false → (expire_at now k x).emitted ≡ x.emitted
 

@@ -65,13 +65,13 @@ turn_of fast (Some i) x = if fast then fast_turn i x else queued_turn i x
 abbrev pub turn_at : (fast : Bool) → ℕ → Resent → Turn
 turn_at fast k x = turn_of fast (slice_get x.outstanding.items.kept k) x
 
-abbrev pub take_item : Turn → ℕ → Resent → Resent
-take_item Send k x = again_at k x
-take_item PassOver k x = passed_over k x
-take_item Leave k x = x
+abbrev pub apply_turn : Turn → ℕ → Resent → Resent
+apply_turn Send k x = again_at k x
+apply_turn PassOver k x = passed_over k x
+apply_turn Leave k x = x
 
 abbrev pub step_at : (fast : Bool) → ℕ → Resent → Resent
-step_at fast k x = take_item (turn_at fast k x) k x
+step_at fast k x = apply_turn (turn_at fast k x) k x
 
 -- the items at the places below n, in ascending order
 abbrev pub resent_below : (fast : Bool) → ℕ → Resent → Resent

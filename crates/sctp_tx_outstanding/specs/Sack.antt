@@ -36,23 +36,23 @@ abbrev pub ending : {P : Type 0} → (is_abandoned : Bool) → Option ℕ → Li
 ending is_abandoned None = []
 ending is_abandoned (Some id) = fate is_abandoned id ∷ OnLifecycleEnd id ∷ []
 
-abbrev pub report : {P : Type 0} → Item → List (Event P)
-report i = if i.fragment.is_end then ending (is_abandoned i) i.lifecycle else []
+abbrev pub leaving_events : {P : Type 0} → Item → List (Event P)
+leaving_events i = if i.fragment.is_end then ending (is_abandoned i) i.lifecycle else []
 
-abbrev pub reports : {P : Type 0} → List Item → List (Event P)
-reports [] = []
-reports (i ∷ is) = report i ++ reports is
+abbrev pub all_leaving_events : {P : Type 0} → List Item → List (Event P)
+all_leaving_events [] = []
+all_leaving_events (i ∷ is) = leaving_events i ++ all_leaving_events is
 
 -- how many leave
 abbrev pub leaving : (cumulative : ℕ) → Items → ℕ
 leaving cumulative s = cumulative - s.acked
 
 -- what a block acknowledged before counts nothing as it leaves
-abbrev pub left_part : (is_interleaved : Bool) → Item → ℕ
-left_part is_interleaved i = when (not (is_acked i)) (chunk_size is_interleaved i)
+abbrev pub departing_part : (is_interleaved : Bool) → Item → ℕ
+departing_part is_interleaved i = when (not (is_acked i)) (chunk_size is_interleaved i)
 
-abbrev pub left_bytes : (cumulative : ℕ) → Items → ℕ
-left_bytes cumulative s = sum_by (left_part s.is_interleaved) (take (leaving cumulative s) s.kept)
+abbrev pub departing_bytes : (cumulative : ℕ) → Items → ℕ
+departing_bytes cumulative s = sum_by (departing_part s.is_interleaved) (take (leaving cumulative s) s.kept)
 
 -- those that stay, and breakpoints that are not passed
 abbrev pub staying : (cumulative : ℕ) → Items → Items
@@ -69,13 +69,13 @@ abbrev pub is_newly_acked : (covered : Bool) → Item → Bool
 is_newly_acked covered i = covered && is_open i
 
 -- what no block covers any more is in flight again
-abbrev pub ack_or_nack : (covered : Bool) → Item → Item
-ack_or_nack covered i = if covered then ack i else uncover i
+abbrev pub ack_or_uncover : (covered : Bool) → Item → Item
+ack_or_uncover covered i = if covered then ack i else uncover i
 
 -- the items from this offset on
-abbrev pub settle : List GapAckBlock → ℕ → List Item → List Item
-settle blocks offset [] = []
-settle blocks offset (i ∷ is) = ack_or_nack (is_covered blocks offset) i ∷ settle blocks (suc offset) is
+abbrev pub ack_or_uncover_all : List GapAckBlock → ℕ → List Item → List Item
+ack_or_uncover_all blocks offset [] = []
+ack_or_uncover_all blocks offset (i ∷ is) = ack_or_uncover (is_covered blocks offset) i ∷ ack_or_uncover_all blocks (suc offset) is
 
 abbrev pub newly_acked : List GapAckBlock → (is_interleaved : Bool) → ℕ → List Item → ℕ
 newly_acked blocks m offset [] = 0
@@ -87,7 +87,7 @@ below_highest blocks offset place most [] = most
 below_highest blocks offset place most (i ∷ is) = below_highest blocks (suc offset) (suc place) (if is_newly_acked (is_covered blocks offset) i then place else most) is
 
 abbrev pub acked_by : List GapAckBlock → Items → Items
-acked_by blocks s = record s { kept = settle blocks 1 s.kept }
+acked_by blocks s = record s { kept = ack_or_uncover_all blocks 1 s.kept }
 
 abbrev pub reported_below : List GapAckBlock → Items → ℕ
 reported_below blocks s = below_highest blocks 1 0 0 s.kept
@@ -116,7 +116,7 @@ open_size m (Some i) = if is_open i then Some (chunk_size m i) else None
 
 -- the items that stay, as the blocks say, with what was emitted of those that left
 abbrev pub receive_sack_first : {P : Type 0} → (cumulative : ℕ) → List GapAckBlock → Items → Emitted P → Step P
-receive_sack_first cumulative blocks s emitted = first_step (acked_by blocks (staying cumulative s)) (emit_events (reports (take (leaving cumulative s) s.kept)) emitted)
+receive_sack_first cumulative blocks s emitted = first_step (acked_by blocks (staying cumulative s)) (emit_events (all_leaving_events (take (leaving cumulative s) s.kept)) emitted)
 
 -- and after the missing reports: items below the highest one newly acknowledged get one
 abbrev pub receive_sack : {P : Type 0} → (cumulative : ℕ) → List GapAckBlock → (is_in_fast_recovery : Bool) → Items → Emitted P → Step P
@@ -125,7 +125,7 @@ receive_sack cumulative blocks is_in_fast_recovery s emitted =
 
 -- the bytes newly acknowledged
 abbrev pub acked_bytes : (cumulative : ℕ) → List GapAckBlock → Items → ℕ
-acked_bytes cumulative blocks s = left_bytes cumulative s + newly_acked blocks s.is_interleaved 1 (staying cumulative s).kept
+acked_bytes cumulative blocks s = departing_bytes cumulative s + newly_acked blocks s.is_interleaved 1 (staying cumulative s).kept
 
 -- ---- round trips
 

@@ -22,8 +22,8 @@ abbrev pub nothing : Totals
 nothing = record { packet_bytes = 0; payload_bytes = 0; flights = 0; queued = 0; fast = 0; earliest = never }
 
 -- the totals with one part in place of another
-abbrev pub exchange : (old new : Totals) → Totals → Totals
-exchange old new t = record {
+abbrev pub replace_part : (old new : Totals) → Totals → Totals
+replace_part old new t = record {
   packet_bytes = min (t.packet_bytes - old.packet_bytes + new.packet_bytes) (2 ^ 128 - 1);
   payload_bytes = min (t.payload_bytes - old.payload_bytes + new.payload_bytes) (2 ^ 128 - 1);
   flights = min (t.flights - old.flights + new.flights) (2 ^ 64 - 1);

@@ -2,7 +2,7 @@
 
 ghost use Rattle.std.specs.Prelude.{◌≡◌, OnOk, OnErr};
 ghost use Rattle.sctp_state.specs.Events.{emit_events, Grown};
-ghost use Rattle.sctp_tx_outstanding.specs.Sack.{report};
+ghost use Rattle.sctp_tx_outstanding.specs.Sack.{leaving_events};
 
 use crate::item::Item;
 use sctp_state::{Events, SocketEvent};
@@ -10,7 +10,7 @@ use std::alloc::AllocError;
 
 /// Emits what is due as an item leaves.
 pub(crate) fn emit_left(events: &mut Events, item: &Item) -> Result<(), AllocError>
-    ensures ok { OnOk result (events.new ≡ emit_events (report item.now) events.old) }
+    ensures ok { OnOk result (events.new ≡ emit_events (leaving_events item.now) events.old) }
     ensures err { OnErr result (Grown events.old events.new) }
 {
     if !item.data().is_end {

@@ -1,7 +1,7 @@
 //! The moments at which items expire.
 
 ghost use Rattle.std.specs.Prelude.{◌≡◌, ℕ, ◌<◌, ◌≤◌, ◌==◌, true, false, IfSome};
-ghost use Rattle.sctp_tx_outstanding.specs.Messages.{key_of};
+ghost use Rattle.sctp_tx_outstanding.specs.Messages.{pair_key};
 ghost use Rattle.sctp_tx_outstanding.specs.Waiting.{is_listed};
 ghost use Rattle.sctp_tx_outstanding.specs.Expiries.{ListsUpTo, Sets};
 
@@ -30,7 +30,7 @@ pub struct Due {
 
 /// A moment and the number of an item, in one.
 fn key_of(moment: u128, number: u32) -> Option<u128>
-    ensures { IfSome result (λ key. key ≡ key_of moment number) }
+    ensures { IfSome result (λ key. key ≡ pair_key moment number) }
 {
     if moment >= 1 << 96 {
         return None;

@@ -5,12 +5,12 @@ ghost use Rattle.sctp_tx_outstanding.specs.Change.{apply_change};
 ghost use Rattle.std.specs.List.{All};
 ghost use Rattle.sctp_tx_outstanding.specs.Item.{NotBefore, earliest_of, never};
 ghost use Rattle.sctp_tx_outstanding.specs.Expiries.{Expects, FindsDue};
-ghost use Rattle.sctp_tx_outstanding.specs.OutstandingData.{change_at, lay_down, last_of, later_at, without_payload, packet_part, payload_part, flight_part, queued_part, fast_part};
+ghost use Rattle.sctp_tx_outstanding.specs.OutstandingData.{change_at, abandon_if_of, last_of, later_at, without_payload, packet_part, payload_part, flight_part, queued_part, fast_part};
 ghost use Rattle.sctp_tx_outstanding.specs.Totals.{AreTotals, Exchanges};
 ghost use Rattle.sctp_tx_outstanding.specs.Losses.{expires, placeholder};
 ghost use Rattle.sctp_tx_outstanding.specs.Views.{last_tree};
 ghost use Rattle.sctp_tx_outstanding.specs.LastBlocks.{Rest, RestBelow, RestFrom};
-ghost use Rattle.sctp_tx_outstanding.specs.Sack.{reports};
+ghost use Rattle.sctp_tx_outstanding.specs.Sack.{all_leaving_events};
 ghost use Rattle.sctp_tx_outstanding.specs.Messages.{Finds};
 ghost use Rattle.sctp_tx_outstanding.specs.Waiting.{HasSize, Lists, NoneWaits};
 ghost use Rattle.sctp_state.specs.Events.{emit_events, Grown};
@@ -198,7 +198,7 @@ fn first_expiry(items: &VecDeque<Item>, expiries: &Expiries) -> u128
 
 /// Emits what is due as the first items leave.
 fn emit_first(items: &VecDeque<Item>, count: usize, events: &mut Events) -> Result<(), AllocError>
-    ensures ok { OnOk result (events.new ≡ emit_events (reports (take count items.now.items)) events.old) }
+    ensures ok { OnOk result (events.new ≡ emit_events (all_leaving_events (take count items.now.items)) events.old) }
     ensures err { OnErr result (Grown events.old events.new) }
 {
     let mut left = count;
@@ -367,7 +367,7 @@ fn abandon_at(
     requires totals { AreTotals is_interleaved items.old.items totals.old }
     requires waiting { Lists waiting.old items.old.items }
     requires expiries { Expects expiries.old items.old.items }
-    ensures items { items.new.items ≡ change_at place (lay_down message_id.0) items.old.items }
+    ensures items { items.new.items ≡ change_at place (abandon_if_of message_id.0) items.old.items }
     ensures totals { AreTotals is_interleaved items.new.items totals.new }
     ensures waiting { Lists waiting.new items.new.items }
     ensures expiries { Expects expiries.new items.new.items }
@@ -403,7 +403,7 @@ fn abandon_all(
     requires waiting { Lists waiting.old items.old.items }
     requires expiries { Expects expiries.old items.old.items }
     requires messages { Finds messages.now items.old.items }
-    ensures items { items.new.items ≡ map (lay_down message_id.0) items.old.items }
+    ensures items { items.new.items ≡ map (abandon_if_of message_id.0) items.old.items }
     ensures totals { AreTotals is_interleaved items.new.items totals.new }
     ensures waiting { Lists waiting.new items.new.items }
     ensures expiries { Expects expiries.new items.new.items }
@@ -658,7 +658,7 @@ impl Kept {
 
     /// Emits what is due as the first items leave.
     pub(crate) fn emit_leaving(&self, count: usize, events: &mut Events) -> Result<(), AllocError>
-        ensures ok { OnOk result (events.new ≡ emit_events (reports (take count self.now.items)) events.old) }
+        ensures ok { OnOk result (events.new ≡ emit_events (all_leaving_events (take count self.now.items)) events.old) }
         ensures err { OnErr result (Grown events.old events.new) }
     {
         emit_first(&self.items, count, events)
@@ -681,7 +681,7 @@ impl Kept {
 
     /// Gives up all items of a message.
     pub(crate) fn abandon(&mut self, message_id: OutgoingMessageId)
-        ensures { self.new ≡ record self.old { items = map (lay_down message_id.0) self.old.items } }
+        ensures { self.new ≡ record self.old { items = map (abandon_if_of message_id.0) self.old.items } }
     {
         abandon_all(
             &mut self.items,

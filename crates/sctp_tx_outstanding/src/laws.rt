@@ -3,7 +3,7 @@
 ghost use Rattle.sctp_tx_outstanding.specs.Again.{EachComesBack};
 ghost use Rattle.sctp_tx_outstanding.specs.Keeps.{LossesKeep, LifetimesKeep, ResendingKeeps, NewItemsKeep, SacksKeep, MessagesAreGivenUp};
 ghost use Rattle.sctp_tx_outstanding.specs.Point.{PointsAreSound, PointsGoFar};
-ghost use Rattle.sctp_tx_outstanding.specs.Records.{NewIsRecordedOnce, NewItemsRecordOnce, LossesRecordOnce, LifetimesRecordOnce, SacksRecordOnce, ResendingRecordsOnce, TakingRecordsOnce, CountsAreRecorded, LifetimesAreRecorded};
+ghost use Rattle.sctp_tx_outstanding.specs.Records.{NewRecordsAreExact, NewItemsRecordOnce, LossesRecordOnce, LifetimesRecordOnce, SacksRecordOnce, ResendingRecordsOnce, TakingRecordsOnce, CountsAreRecorded, LifetimesAreRecorded};
 
 /// Items that are written into a record, which is taken up at the same moment, come back under their TSNs, with all but
 /// what whole milliseconds don't hold and how often an item was reported missing.
@@ -29,7 +29,7 @@ pub fn messages_are_given_up()
 /// In one association each message has one record at most, and an item is given up exactly where its message has one: a new
 /// association has neither, and each call keeps that, as long as no fragment is sent of a message that was given up.
 pub fn a_message_is_given_up_once()
-    ensures new { NewIsRecordedOnce }
+    ensures new { NewRecordsAreExact }
     ensures new_items { NewItemsRecordOnce }
     ensures losses { LossesRecordOnce }
     ensures lifetimes { LifetimesRecordOnce }

@@ -1,7 +1,7 @@
 //! The items of each message.
 
 ghost use Rattle.std.specs.Prelude.{◌≡◌, ℕ, ◌+◌, ◌<◌, ◌≤◌, false, IfSome};
-ghost use Rattle.sctp_tx_outstanding.specs.Messages.{key_of};
+ghost use Rattle.sctp_tx_outstanding.specs.Messages.{pair_key};
 ghost use Rattle.sctp_tx_outstanding.specs.Waiting.{is_listed};
 
 use crate::waiting::{least_from, put};
@@ -33,7 +33,7 @@ pub(crate) fn number_at(first: u32, place: usize) -> Option<u32>
 
 /// A message and the number of an item, in one.
 fn key_of(message_id: OutgoingMessageId, number: u32) -> u64
-    ensures { result ≡ key_of message_id.0 number }
+    ensures { result ≡ pair_key message_id.0 number }
 {
     u64::from(message_id.0) * (1 << 32) + u64::from(number)
 }

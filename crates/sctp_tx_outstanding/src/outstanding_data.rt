@@ -6,15 +6,15 @@ ghost use Rattle.sctp_chunk.specs.Views.{fragment_tree, forward_tsn_tree, i_forw
 ghost use Rattle.sctp_chunk.specs.Chunk.{forward_tsn_chunk, i_forward_tsn_chunk};
 ghost use Rattle.sctp_tx_outstanding.specs.Entries.{ssn_skip, mid_skip};
 ghost use Rattle.sctp_serial.specs.Unwrapped.{origin};
-ghost use Rattle.sctp_state.specs.Events.{give_up, emit_events};
+ghost use Rattle.sctp_state.specs.Events.{emit_given_up, emit_events};
 ghost use Rattle.sctp_tx_outstanding.specs.Views.{discard_of, point_of};
 ghost use Rattle.sctp_tx_outstanding.specs.Losses.{loss_of};
-ghost use Rattle.sctp_tx_outstanding.specs.OutstandingData.{first_sent, insert, begin_reset, begun_at};
+ghost use Rattle.sctp_tx_outstanding.specs.OutstandingData.{first_sent, append_item, begin_reset, begun_at};
 ghost use Rattle.sctp_tx_outstanding.specs.LastBlocks.{Rest};
 ghost use Rattle.sctp_tx_outstanding.specs.Expiries.{FindsDue};
-ghost use Rattle.sctp_tx_outstanding.specs.Interrupted.{Same, SomeNacked, SomeExpired, SomeReceived};
+ghost use Rattle.sctp_tx_outstanding.specs.Interrupted.{Same, SomeNacked, SomeExpired, SackPartlyTaken};
 ghost use Rattle.sctp_tx_outstanding.specs.Forward.{is_forward_due, entry_at, stops, passes_of, forward_point};
-ghost use Rattle.sctp_tx_outstanding.specs.Sack.{sample, is_in_range, is_valid, staying, leaving, left_bytes, reports, receive_sack, acked_bytes, highest_end};
+ghost use Rattle.sctp_tx_outstanding.specs.Sack.{sample, is_in_range, is_valid, staying, leaving, departing_bytes, all_leaving_events, receive_sack, acked_bytes, highest_end};
 ghost use Rattle.sctp_state.specs.Events.{first_of};
 
 mod handover;
@@ -79,7 +79,7 @@ struct Loss {
 
 impl OutstandingData {
     ghost use Rattle.sctp_tx_outstanding.specs.OutstandingData.{no_items, next_number, wire_tsn, number_of, flight_bytes, flight_payload, flight_items, waiting_items, fast_items};
-    ghost use Rattle.sctp_tx_outstanding.specs.Losses.{close_message, abandon_message, first_step, nack_at, nack_below, nack_all, expired_at, expire_at, expire_outstanding};
+    ghost use Rattle.sctp_tx_outstanding.specs.Losses.{end_with_placeholder, abandon_message, first_step, nack_at, nack_below, nack_all, expired_at, expire_at, expire_outstanding};
 
     /// Nothing is outstanding, and the next TSN is `initial_tsn`. Takes no memory. Without partial reliability no message
     /// is given up.
@@ -208,7 +208,7 @@ impl OutstandingData {
         lifecycle_id: Option<LifecycleId>,
     ) -> Result<Tsn, AllocError>
         requires small { length fragment.payload.items < 2 ^ 32 }
-        ensures ok { OnOk result (self.new ≡ record self.old { items = insert (first_sent message_id.0 (fragment_tree fragment) now max_retransmissions expires_at lifecycle_id) self.old.items }) }
+        ensures ok { OnOk result (self.new ≡ record self.old { items = append_item (first_sent message_id.0 (fragment_tree fragment) now max_retransmissions expires_at lifecycle_id) self.old.items }) }
         ensures tsn { IfOk result (λ tsn. tsn.0 ≡ wire_tsn self.old (next_number self.old.items)) }
         ensures err { OnErr result (self.new ≡ self.old) }
     {
@@ -260,7 +260,7 @@ impl OutstandingData {
 
     /// A message whose end was not sent gets one. Without memory nothing changes.
     fn close(&mut self, message_id: OutgoingMessageId) -> Result<(), AllocError>
-        ensures ok { OnOk result (self.new ≡ record self.old { items = close_message message_id.0 self.old.items }) }
+        ensures ok { OnOk result (self.new ≡ record self.old { items = end_with_placeholder message_id.0 self.old.items }) }
         ensures err { OnErr result (self.new ≡ self.old) }
     {
         let Some(last) = self.kept.last_of(message_id) else {
@@ -290,7 +290,7 @@ impl OutstandingData {
         events: &mut Events,
     ) -> Result<(), AllocError>
         ensures ok { OnOk result (self.new ≡ record self.old { items = abandon_message message_id.0 self.old.items }) }
-        ensures emitted { OnOk result (events.new ≡ give_up message_id.0 cause events.old) }
+        ensures emitted { OnOk result (events.new ≡ emit_given_up message_id.0 cause events.old) }
         ensures err { OnErr result (self.new ≡ self.old) }
         ensures silent { OnErr result (events.new ≡ events.old) }
     {
@@ -532,8 +532,8 @@ impl OutstandingData {
         requires onward { self.old.items.acked ≤ number }
         requires small { number < 2 ^ 63 }
         ensures items { OnOk result (self.new ≡ record self.old { items = staying number self.old.items }) }
-        ensures emitted { OnOk result (events.new ≡ emit_events (reports (take (leaving number self.old.items) self.old.items.kept)) events.old) }
-        ensures bytes { IfOk result (λ bytes. bytes ≡ min (left_bytes number self.old.items) (2 ^ 64 - 1)) }
+        ensures emitted { OnOk result (events.new ≡ emit_events (all_leaving_events (take (leaving number self.old.items) self.old.items.kept)) events.old) }
+        ensures bytes { IfOk result (λ bytes. bytes ≡ min (departing_bytes number self.old.items) (2 ^ 64 - 1)) }
         ensures err { OnErr result (self.new ≡ self.old) }
         ensures silent { OnErr result (events.new ≡ events.old) }
     {
@@ -566,7 +566,7 @@ impl OutstandingData {
         ensures emitted { let n = number_of self.old cumulative_tsn.0 in OnOk result (events.new ≡ (receive_sack n blocks.now is_in_fast_recovery self.old.items events.old).emitted) }
         ensures lossy { let n = number_of self.old cumulative_tsn.0 in IfOk result (λ info. info.has_packet_loss ≡ (receive_sack n blocks.now is_in_fast_recovery self.old.items events.old).is_lossy) }
         ensures bytes { let n = number_of self.old cumulative_tsn.0 in IfOk result (λ info. info.bytes_acked ≡ min (acked_bytes n blocks.now self.old.items) (2 ^ 64 - 1)) }
-        ensures err { OnErr result (Same self.old events.old self.new events.new ⊎ SomeReceived (number_of self.old cumulative_tsn.0) blocks.now is_in_fast_recovery self.old events.old self.new events.new) }
+        ensures err { OnErr result (Same self.old events.old self.new events.new ⊎ SackPartlyTaken (number_of self.old cumulative_tsn.0) blocks.now is_in_fast_recovery self.old events.old self.new events.new) }
     {
         let number = self.unwrapped(cumulative_tsn);
         let left = self.leave(number, events)?;

@@ -5,7 +5,7 @@ ghost use Rattle.sctp_chunk.specs.declared.sack.GapAckBlock.{GapAckBlock};
 ghost use Rattle.sctp_chunk.specs.Covered.{is_covered};
 ghost use Rattle.sctp_tx_outstanding.specs.Item.{chunk_size};
 ghost use Rattle.sctp_tx_outstanding.specs.OutstandingData.{change_at};
-ghost use Rattle.sctp_tx_outstanding.specs.Sack.{open_size, left_part, settle, newly_acked, below_highest, ack_or_nack, new_bytes_at, is_new_at, highest_end};
+ghost use Rattle.sctp_tx_outstanding.specs.Sack.{open_size, departing_part, ack_or_uncover_all, newly_acked, below_highest, ack_or_uncover, new_bytes_at, is_new_at, highest_end};
 ghost use Rattle.sctp_tx_outstanding.specs.LastBlocks.{Rest};
 ghost use Rattle.sctp_tx_outstanding.specs.Passes.{IsCursor, IsWalk, AreCovered};
 
@@ -24,7 +24,7 @@ pub struct AckInfo {
 
 /// The bytes that count as newly acknowledged as an item leaves.
 fn left_bytes(item: &Item, is_interleaved: bool) -> usize
-    ensures { result ≡ left_part is_interleaved item.now }
+    ensures { result ≡ departing_part is_interleaved item.now }
 {
     if item.is_acked() {
         return 0;
@@ -35,7 +35,7 @@ fn left_bytes(item: &Item, is_interleaved: bool) -> usize
 /// Takes the first items out. The answer is how many bytes are newly acknowledged by that, at most `usize::MAX`.
 pub(crate) fn take_out(kept: &mut Kept, count: usize) -> usize
     ensures items { kept.new ≡ record kept.old { items = drop count kept.old.items } }
-    ensures bytes { result ≡ min (sum_by (left_part kept.old.is_interleaved) (take count kept.old.items)) (2 ^ 64 - 1) }
+    ensures bytes { result ≡ min (sum_by (departing_part kept.old.is_interleaved) (take count kept.old.items)) (2 ^ 64 - 1) }
 {
     let is_interleaved = kept.is_interleaved();
     let mut bytes = 0usize;
@@ -159,7 +159,7 @@ fn settle_at(kept: &mut Kept, blocks: &[GapAckBlock], place: usize, walk: Walk) 
     requires within { place < length kept.old.items }
     requires cursor { IsWalk walk.is_in_runs blocks.now (place + 1) walk.block }
     ensures cursor { IsWalk result.is_in_runs blocks.now (place + 1) result.block }
-    ensures items { kept.new ≡ record kept.old { items = change_at place (ack_or_nack (is_covered blocks.now (place + 1))) kept.old.items } }
+    ensures items { kept.new ≡ record kept.old { items = change_at place (ack_or_uncover (is_covered blocks.now (place + 1))) kept.old.items } }
     ensures bytes { result.covered.bytes ≡ min (walk.covered.bytes + new_bytes_at blocks.now kept.old.is_interleaved place kept.old.items) (2 ^ 64 - 1) }
     ensures below { result.covered.below ≡ (if is_new_at blocks.now place kept.old.items then place else walk.covered.below) }
 {
@@ -188,7 +188,7 @@ fn settle_at(kept: &mut Kept, blocks: &[GapAckBlock], place: usize, walk: Walk) 
 /// blocks differ from the last ones, and ends behind both. Blocks that are runs are walked along with the items, others are
 /// searched for each item.
 pub(crate) fn settle_all(kept: &mut Kept, blocks: &[GapAckBlock]) -> Covered
-    ensures items { kept.new ≡ record kept.old { items = settle blocks.now 1 kept.old.items } }
+    ensures items { kept.new ≡ record kept.old { items = ack_or_uncover_all blocks.now 1 kept.old.items } }
     ensures bytes { result.bytes ≡ min (newly_acked blocks.now kept.old.is_interleaved 1 kept.old.items) (2 ^ 64 - 1) }
     ensures below { result.below ≡ below_highest blocks.now 1 0 0 kept.old.items }
     ensures rests { Rest blocks.now 1 kept.new.items }

@@ -2,7 +2,7 @@
 
 ghost use Rattle.std.specs.Prelude.{◌≡◌, ◌+◌, ◌<◌, ◌≤◌, length, map, IfOk, OnOk, OnErr, ◌&&◌};
 ghost use Rattle.std.specs.List.{list_any};
-ghost use Rattle.sctp_tx_outstanding.specs.Forward.{is_before, is_alike, name_stream, entries_before, size_with, with_entry};
+ghost use Rattle.sctp_tx_outstanding.specs.Forward.{is_before, is_alike, put_entry, entries_before, size_with, with_entry};
 ghost use Rattle.sctp_tx_outstanding.specs.Entries.{ssn_skip, mid_skip};
 
 use sctp_chunk::SkippedStream;
@@ -71,7 +71,7 @@ fn place_of(entries: &[SkipEntry], entry: SkipEntry) -> usize
 
 /// Puts the entry at its place, or in the place of the one of its stream and order. Without memory nothing changes.
 pub(crate) fn put(entries: &mut Vec<SkipEntry>, entry: SkipEntry) -> Result<(), AllocError>
-    ensures ok { OnOk result (entries.new.items ≡ name_stream entry entries.old.items) }
+    ensures ok { OnOk result (entries.new.items ≡ put_entry entry entries.old.items) }
     ensures err { OnErr result (entries.new.items ≡ entries.old.items) }
 {
     let place = place_of(entries, entry);

@@ -2,7 +2,7 @@
 
 ghost use Rattle.std.specs.Prelude.{◌≡◌, ◌^◌, ◌-◌, ◌+◌, min};
 ghost use Rattle.sctp_tx_outstanding.specs.OutstandingData.{when};
-ghost use Rattle.sctp_tx_outstanding.specs.Totals.{parts, exchange, nothing};
+ghost use Rattle.sctp_tx_outstanding.specs.Totals.{parts, replace_part, nothing};
 
 use crate::item::Item;
 
@@ -61,7 +61,7 @@ impl Totals {
 
     /// The totals with one part in place of another.
     pub(crate) fn exchanged(self, old: Totals, new: Totals) -> Totals
-        ensures { result ≡ exchange old new self }
+        ensures { result ≡ replace_part old new self }
     {
         Totals {
             packet_bytes: bytes(self.packet_bytes, old.packet_bytes, new.packet_bytes),

@@ -7,7 +7,7 @@ use Rattle.std.specs.Ordering.{nat_cmp}
 use Rattle.std.proofs.lemmas.List.{append-nil}
 use Rattle.std.proofs.lemmas.List.Elements.{filter-append}
 use Rattle.std.proofs.lemmas.Bool.{eq-eqb}
-use Rattle.sctp_serial.specs.Unwrapped.{words, halves, wire}
+use Rattle.sctp_serial.specs.Unwrapped.{u32_space, halves, wire}
 use Rattle.sctp_state.specs.Handover.{StreamMessage, Transmission}
 use Rattle.sctp_state.specs.HandoverTimes.{lifecycle_from, moment_again, lifecycle_again}
 use Rattle.sctp_tx_queue.specs.declared.send_queue.message.MessageNumbers.{MessageNumbers}
@@ -20,7 +20,7 @@ use Rattle.sctp_state.proofs.HandoverLemmas.{expires_is, lifecycle_is}
 
 -- ---- a message
 
-numbers_is : (b : Bool) (o : Option MessageNumbers) → numbers_from (option_map (λ n. wire words 0 n.mid) o) (cond b None (option_map (λ n. wire halves 0 n.ssn) o)) ≡ option_map (numbers_again b) o
+numbers_is : (b : Bool) (o : Option MessageNumbers) → numbers_from (option_map (λ n. wire u32_space 0 n.mid) o) (cond b None (option_map (λ n. wire halves 0 n.ssn) o)) ≡ option_map (numbers_again b) o
 numbers_is true None = refl
 numbers_is false None = refl
 numbers_is true (Some n) = refl
@@ -28,8 +28,8 @@ numbers_is false (Some n) = refl
 
 message_is : (now id : ℕ) (m : Queued) → message_from now (queued_message now id m) ≡ message_again now m
 message_is now id m =
-    ap (λ x. with x (lifecycle_from (unwrap_or m.lifecycle 0)) (numbers_from (option_map (λ n. wire words 0 n.mid) m.numbers) (cond m.is_unordered None (option_map (λ n. wire halves 0 n.ssn) m.numbers)))) (expires_is now m.expires)
-    ∙ ap (λ x. with (option_map (moment_again now) m.expires) x (numbers_from (option_map (λ n. wire words 0 n.mid) m.numbers) (cond m.is_unordered None (option_map (λ n. wire halves 0 n.ssn) m.numbers)))) (lifecycle_is m.lifecycle)
+    ap (λ x. with x (lifecycle_from (unwrap_or m.lifecycle 0)) (numbers_from (option_map (λ n. wire u32_space 0 n.mid) m.numbers) (cond m.is_unordered None (option_map (λ n. wire halves 0 n.ssn) m.numbers)))) (expires_is now m.expires)
+    ∙ ap (λ x. with (option_map (moment_again now) m.expires) x (numbers_from (option_map (λ n. wire u32_space 0 n.mid) m.numbers) (cond m.is_unordered None (option_map (λ n. wire halves 0 n.ssn) m.numbers)))) (lifecycle_is m.lifecycle)
     ∙ ap (λ x. with (option_map (moment_again now) m.expires) (lifecycle_again m.lifecycle) x) (numbers_is m.is_unordered m.numbers)
   where
     with : Option ℕ → Option ℕ → Option MessageNumbers → Queued

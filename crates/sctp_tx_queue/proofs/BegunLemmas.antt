@@ -11,9 +11,9 @@ use Rattle.std.proofs.lemmas.Option.{none-some, same_Some}
 use Rattle.sctp_state.specs.Events.{Emitted}
 use Rattle.sctp_stream_scheduler.specs.StreamScheduler.{peek}
 use Rattle.sctp_tx_queue.specs.declared.send_queue.message.MessageNumbers.{MessageNumbers}
-use Rattle.sctp_tx_queue.specs.SendQueue.{Queued, Queue, Stream, Streams, blank_stream, stream, put_stream, left_bytes, sendable}
-use Rattle.sctp_tx_queue.specs.Produced.{Produced, Turn, is_due, fresh, streams_without_stale, made_of, front_made, front_numbers, moved_front, move_past, ends, begun_by, turn, next_fragment, advance, next_stream, produce_within, produce, in_line, streams_after}
-use Rattle.sctp_tx_queue.specs.Begun.{begun_number, IsBegun, Begins, GoesOn, concatenation, is_ended}
+use Rattle.sctp_tx_queue.specs.SendQueue.{Queued, Queue, Stream, Streams, blank_stream, stream, put_stream, remaining_bytes, sendable}
+use Rattle.sctp_tx_queue.specs.Produced.{Produced, Turn, is_expired, fresh, streams_without_stale, made_of, front_made, front_numbers, moved_front, move_past, ends, begun_by, turn, next_fragment, advance, next_stream, produce_within, produce, in_line, streams_after}
+use Rattle.sctp_tx_queue.specs.Begun.{begun_number, IsBegun, Begins, GoesOn, fragments_payload, is_ended}
 use Rattle.sctp_tx_queue.proofs.StreamsLemmas.{put_nowhere, put_same, stream_put, stream_nowhere}
 use Rattle.sctp_tx_queue.proofs.ProduceLemmas.{idles, gives, turned}
 
@@ -31,7 +31,7 @@ fresh_begun : (now number : ℕ) (ms : List Queued) → begun_number ms ≡ Some
 fresh_begun now number [] h = absurd (none-some number h)
 fresh_begun now number (m ∷ rest) h = go (is_some m.numbers) h
   where
-    go : (b : Bool) → cond (b && nat_lt 0 m.offset) (Some m.number) None ≡ Some number → cond (not b && is_due now m.expires) (fresh now rest) (m ∷ rest) ≡ m ∷ rest
+    go : (b : Bool) → cond (b && nat_lt 0 m.offset) (Some m.number) None ≡ Some number → cond (not b && is_expired now m.expires) (fresh now rest) (m ∷ rest) ≡ m ∷ rest
     go true h = refl
     go false h = absurd (none-some number h)
 
@@ -138,15 +138,15 @@ begins now size q emitted some = begins_within (length q.scheduler.times + 2) no
 
 -- ---- fragments of a message
 
-at_most : (size : ℕ) (m : Queued) → ends size m ≡ true → left_bytes m ≤ size
+at_most : (size : ℕ) (m : Queued) → ends size m ≡ true → remaining_bytes m ≤ size
 at_most size m e = grind (arith, nat_tests)
 
-pub joined_left : (sizes : List ℕ) (n : MessageNumbers) (m : Queued) → is_ended sizes n m ≡ true → concatenation sizes n m ≡ drop m.offset m.payload
+pub joined_left : (sizes : List ℕ) (n : MessageNumbers) (m : Queued) → is_ended sizes n m ≡ true → fragments_payload sizes n m ≡ drop m.offset m.payload
 joined_left [] n m h = absurd (cc)
 joined_left (size ∷ sizes) n m h = go (ends size m) refl h (joined_left sizes n (move_past size n m))
   where
-    go : (b : Bool) → ends size m ≡ b → cond b true (is_ended sizes n (move_past size n m)) ≡ true → (is_ended sizes n (move_past size n m) ≡ true → concatenation sizes n (move_past size n m) ≡ drop (m.offset + size) m.payload)
-        → take size (drop m.offset m.payload) ++ cond b [] (concatenation sizes n (move_past size n m)) ≡ drop m.offset m.payload
+    go : (b : Bool) → ends size m ≡ b → cond b true (is_ended sizes n (move_past size n m)) ≡ true → (is_ended sizes n (move_past size n m) ≡ true → fragments_payload sizes n (move_past size n m) ≡ drop (m.offset + size) m.payload)
+        → take size (drop m.offset m.payload) ++ cond b [] (fragments_payload sizes n (move_past size n m)) ≡ drop m.offset m.payload
     go true e h ih = append-nil (take size (drop m.offset m.payload)) ∙ take_all size (drop m.offset m.payload) (omega (arith, at_most size m e, length-drop m.offset m.payload))
     go false e h ih = ap (λ xs. take size (drop m.offset m.payload) ++ xs) (ih h ∙ behind) ∙ take-append-drop size (drop m.offset m.payload)
       where

@@ -16,8 +16,8 @@ use Rattle.sctp_state.specs.declared.api.handover.HandoverOutgoingStream.{Handov
 use Rattle.sctp_tx_queue.specs.declared.send_queue.message.MessageNumbers.{MessageNumbers}
 use Rattle.sctp_tx_queue.specs.declared.send_queue.stream.ResetStep.{ResetStep}
 use Rattle.sctp_tx_queue.specs.declared.send_queue.stream.ResetStep.TheVariants.{Requested, Performed, Refused}
-use Rattle.sctp_tx_queue.specs.SendQueue.{Queued, Stream, Entries, left_bytes, amount_of, total_of, blank_stream, push, has_nothing}
-use Rattle.sctp_tx_queue.specs.Produced.{is_stale, fresh, moved_front, move_past, ends, settle_pause}
+use Rattle.sctp_tx_queue.specs.SendQueue.{Queued, Stream, Entries, remaining_bytes, amount_of, total_of, blank_stream, push, has_nothing}
+use Rattle.sctp_tx_queue.specs.Produced.{is_stale, fresh, moved_front, move_past, ends, pause_if_pending}
 use Rattle.sctp_tx_queue.specs.Settings.{without_front}
 use Rattle.sctp_tx_queue.specs.Resets.{is_partly, after_step}
 use Rattle.sctp_tx_queue.specs.Restored.{entries_from}
@@ -84,7 +84,7 @@ pub keeps_without : (number : ℕ) (ms : List Queued) (s : Stream) → s.message
 keeps_without number [] s e = subst (λ ns. Keeps [] ns) (sym e) (keeps_same [])
 keeps_without number (m ∷ rest) s e = go (m.number == number)
   where
-    go : (b : Bool) → Keeps (m ∷ rest) (cond b (record s { messages = rest; pause = settle_pause s.pause }) s).messages
+    go : (b : Bool) → Keeps (m ∷ rest) (cond b (record s { messages = rest; pause = pause_if_pending s.pause }) s).messages
     go true = behind m rest
     go false = subst (λ ns. Keeps (m ∷ rest) ns) (sym e) (keeps_same (m ∷ rest))
 
@@ -103,7 +103,7 @@ keeps_whole (m ∷ rest) = instead m (whole m) rest (small_whole m.offset (lengt
 small_of : (offset whole : ℕ) → offset < whole → whole < 2 ^ 32 → nat_lt offset whole && nat_lt whole (2 ^ 32) ≡ true
 small_of offset whole l h = grind (arith, nat_tests)
 
-pub small_one : (m : Queued) → 0 < left_bytes m → length m.payload < 2 ^ 32 → is_small m ≡ true
+pub small_one : (m : Queued) → 0 < remaining_bytes m → length m.payload < 2 ^ 32 → is_small m ≡ true
 small_one m some h = small_of m.offset (length m.payload) (omega (arith, some)) h
 
 pub small_pushed : (ms : List Queued) (m : Queued) → list_all is_small ms ≡ true → is_small m ≡ true → list_all is_small (ms ++ m ∷ []) ≡ true
@@ -207,13 +207,13 @@ left_between offset whole h = (some offset whole h, most offset whole h)
 abbrev IsBetween : ℕ → ℕ → Type 0
 IsBetween count amount = (count ≤ amount) × (amount ≤ 4294967295 * count)
 
-stream_between : (ms : List Queued) → list_all is_small ms ≡ true → IsBetween (length ms) (sum_by left_bytes ms)
+stream_between : (ms : List Queued) → list_all is_small ms ≡ true → IsBetween (length ms) (sum_by remaining_bytes ms)
 stream_between [] h = (omega arith, omega arith)
 stream_between (m ∷ rest) h =
     let hs = and_parts (is_small m) (list_all is_small rest) h in
     let ih = stream_between rest hs.1 in
     let own = left_between m.offset (length m.payload) hs.0 in
-    let sums = sum_by-cons left_bytes m rest in
+    let sums = sum_by-cons remaining_bytes m rest in
     (omega (arith, ih.0, own.0, sums), omega (arith, ih.1, own.1, sums))
 
 all_between : (xs : List Stream) → list_all are_small xs ≡ true → IsBetween (sum_by message_count xs) (sum_by amount_of xs)

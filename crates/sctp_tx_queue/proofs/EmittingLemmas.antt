@@ -2,28 +2,28 @@
 use Rattle.std.proofs.Common.{◌≡◌, ℕ, Bool, true, false, cond, List, [], ◌∷◌, Option, sym, subst}
 use Rattle.sctp_state.specs.declared.api.GivenUpCause.{GivenUpCause}
 use Rattle.sctp_state.specs.declared.api.GivenUpCause.TheVariants.{Reset}
-use Rattle.sctp_state.specs.Events.{Event, Emitted, Grown, emit_events, give_up, expiry}
+use Rattle.sctp_state.specs.Events.{Event, Emitted, Grown, emit_events, emit_given_up, expired_events}
 use Rattle.sctp_state.proofs.EventLemmas.{grown_same, grown_through, grown_emitted, grown_given_up}
 use Rattle.sctp_tx_queue.specs.SendQueue.{Queued}
-use Rattle.sctp_tx_queue.specs.Resets.{emitted_waiting, is_partly}
+use Rattle.sctp_tx_queue.specs.Resets.{emit_unsent, is_partly}
 
 pub grown_after : {P : Type 0} (es : List (Event P)) (t u v : Emitted P) → u ≡ emit_events es t → Grown u v → Grown t v
 grown_after es t u v e g = grown_through t u v (subst (λ x. Grown t x) (sym e) (grown_emitted es t)) g
 
-pub grown_after_record : {P : Type 0} (n : ℕ) (cause : GivenUpCause) (t u v : Emitted P) → u ≡ give_up n cause t → Grown u v → Grown t v
+pub grown_after_record : {P : Type 0} (n : ℕ) (cause : GivenUpCause) (t u v : Emitted P) → u ≡ emit_given_up n cause t → Grown u v → Grown t v
 grown_after_record n cause t u v e g = grown_through t u v (subst (λ x. Grown t x) (sym e) (grown_given_up n cause t)) g
 
-pub grown_dropped : {P : Type 0} (n : ℕ) (cause : GivenUpCause) (lifecycle : Option ℕ) (t : Emitted P) → Grown t (emit_events (expiry lifecycle) (give_up n cause t))
+pub grown_dropped : {P : Type 0} (n : ℕ) (cause : GivenUpCause) (lifecycle : Option ℕ) (t : Emitted P) → Grown t (emit_events (expired_events lifecycle) (emit_given_up n cause t))
 grown_dropped n cause lifecycle t =
-    let given_up = give_up n cause t in
-    grown_through t given_up (emit_events (expiry lifecycle) given_up) (grown_given_up n cause t) (grown_emitted (expiry lifecycle) given_up)
+    let given_up = emit_given_up n cause t in
+    grown_through t given_up (emit_events (expired_events lifecycle) given_up) (grown_given_up n cause t) (grown_emitted (expired_events lifecycle) given_up)
 
-pub grown_waiting : {P : Type 0} (ms : List Queued) (t : Emitted P) → Grown t (emitted_waiting ms t)
+pub grown_waiting : {P : Type 0} (ms : List Queued) (t : Emitted P) → Grown t (emit_unsent ms t)
 grown_waiting [] t = grown_same t
-grown_waiting {P} (m ∷ rest) t = grown_through t (next (is_partly m)) (emitted_waiting rest (next (is_partly m))) (step (is_partly m)) (grown_waiting rest (next (is_partly m)))
+grown_waiting {P} (m ∷ rest) t = grown_through t (next (is_partly m)) (emit_unsent rest (next (is_partly m))) (step (is_partly m)) (grown_waiting rest (next (is_partly m)))
   where
     next : Bool → Emitted P
-    next b = cond b t (emit_events (expiry m.lifecycle) (give_up m.number Reset t))
+    next b = cond b t (emit_events (expired_events m.lifecycle) (emit_given_up m.number Reset t))
 
     step : (b : Bool) → Grown t (next b)
     step true = grown_same t

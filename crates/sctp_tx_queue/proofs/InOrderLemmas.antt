@@ -14,12 +14,12 @@ use Rattle.sctp_state.specs.Events.{Emitted}
 use Rattle.sctp_stream_scheduler.specs.StreamScheduler.{Scheduler, set_bytes_remaining, accept, accepted_at, finish_time, finish_now, is_active, leave, enter, peek}
 use Rattle.sctp_tx_queue.specs.declared.send_queue.message.MessageNumbers.{MessageNumbers}
 use Rattle.sctp_tx_queue.specs.declared.send_queue.stream.ResetStep.{ResetStep}
-use Rattle.sctp_tx_queue.specs.SendQueue.{Queued, Queue, Stream, Streams, Entries, blank, stream, put_stream, open_stream, push, add}
-use Rattle.sctp_tx_queue.specs.Produced.{Produced, Turn, is_stale, is_due, fresh, without_stale, streams_without_stale, moved_front, move_past, ends, front_numbers, front_made, advance, begun_by, in_line, next_fragment, turn, next_stream, produce_within, produce, settle_pause}
+use Rattle.sctp_tx_queue.specs.SendQueue.{Queued, Queue, Stream, Streams, Entries, blank, stream, put_stream, with_stream, push, add}
+use Rattle.sctp_tx_queue.specs.Produced.{Produced, Turn, is_stale, is_expired, fresh, without_stale, streams_without_stale, moved_front, move_past, ends, front_numbers, front_made, advance, begun_by, in_line, next_fragment, turn, next_stream, produce_within, produce, pause_if_pending}
 use Rattle.sctp_tx_queue.specs.Settings.{with_threshold, with_priority, set_low_threshold, set_priority, set_mode, front_discarded, without_front, streams_discarded, begun_without, discard_from, discard}
-use Rattle.sctp_tx_queue.specs.Resets.{is_partly, prepare_stream, prepare_reset, after_step, step_stream, each_stepped}
+use Rattle.sctp_tx_queue.specs.Resets.{is_partly, prepare_stream, prepare_reset, after_step, apply_reset_step, each_stepped}
 use Rattle.sctp_tx_queue.specs.Restarted.{whole_front, restart, restarted_one, each_restarted, reset}
-use Rattle.sctp_tx_queue.specs.InOrder.{is_waiting, is_begun_or_waiting, are_in_order, is_first_begun, is_this, IsInOrder, IsUnsent, NewIsInOrder}
+use Rattle.sctp_tx_queue.specs.InOrder.{is_unsent, is_begun_or_waiting, are_in_order, is_first_begun, is_this, IsInOrder, IsUnsent, NewIsInOrder}
 use Rattle.sctp_tx_queue.proofs.StreamsLemmas.{stream_put, stream_nowhere, put_nowhere}
 use Rattle.sctp_tx_queue.proofs.ProduceLemmas.{idles, gives, turned}
 use Rattle.sctp_tx_queue.proofs.StaysBegunLemmas.{written_elsewhere, inserted_elsewhere}
@@ -50,7 +50,7 @@ is_none : (o : Option Stream) → is_some o ≡ false → o ≡ None
 is_none None h = refl
 is_none (Some s) h = absurd (cc)
 
-pub opened_same : (k id : ℕ) (ss : Streams) → stream k (open_stream id ss) ≡ stream k ss
+pub opened_same : (k id : ℕ) (ss : Streams) → stream k (with_stream id ss) ≡ stream k ss
 opened_same k id ss = go (is_some (lookup (is_at (nat_cmp id)) ss.entries)) refl
   where
     open_by : Bool → Streams
@@ -85,59 +85,59 @@ module _ (T : ℕ → List Queued → Type 0) where
 
 -- ---- lists of messages
 
-waits : (m : Queued) → is_waiting m ≡ true → (is_some m.numbers ≡ false) × ((m.offset == 0) ≡ true)
+waits : (m : Queued) → is_unsent m ≡ true → (is_some m.numbers ≡ false) × ((m.offset == 0) ≡ true)
 waits m h = go (is_some m.numbers) h
   where
     go : (b : Bool) → not b && (m.offset == 0) ≡ true → (b ≡ false) × ((m.offset == 0) ≡ true)
     go true h = absurd (cc)
     go false h = (refl, h)
 
-pub waiting_in_order : (m : Queued) → is_waiting m ≡ true → is_begun_or_waiting m ≡ true
+pub waiting_in_order : (m : Queued) → is_unsent m ≡ true → is_begun_or_waiting m ≡ true
 waiting_in_order m h = ap (λ b. cond b (nat_lt 0 m.offset) (m.offset == 0)) (waits m h).0 ∙ (waits m h).1
 
-rest_in_order : (ms : List Queued) → list_all is_waiting ms ≡ true → (are_in_order ms ≡ true) × (is_first_begun ms ≡ false)
+rest_in_order : (ms : List Queued) → list_all is_unsent ms ≡ true → (are_in_order ms ≡ true) × (is_first_begun ms ≡ false)
 rest_in_order [] h = (refl, refl)
 rest_in_order (m ∷ rest) h =
-    let hs = and_parts (is_waiting m) (list_all is_waiting rest) h in
-    (ap (λ b. b && list_all is_waiting rest) (waiting_in_order m hs.0) ∙ hs.1, (waits m hs.0).0)
+    let hs = and_parts (is_unsent m) (list_all is_unsent rest) h in
+    (ap (λ b. b && list_all is_unsent rest) (waiting_in_order m hs.0) ∙ hs.1, (waits m hs.0).0)
 
-more_waiting : (ms : List Queued) (m : Queued) → list_all is_waiting ms ≡ true → is_waiting m ≡ true → list_all is_waiting (ms ++ m ∷ []) ≡ true
+more_waiting : (ms : List Queued) (m : Queued) → list_all is_unsent ms ≡ true → is_unsent m ≡ true → list_all is_unsent (ms ++ m ∷ []) ≡ true
 more_waiting [] m h w = ap (λ b. b && true) w
 more_waiting (x ∷ xs) m h w =
-    let hs = and_parts (is_waiting x) (list_all is_waiting xs) h in
-    ap (λ b. b && list_all is_waiting (xs ++ m ∷ [])) hs.0 ∙ more_waiting xs m hs.1 w
+    let hs = and_parts (is_unsent x) (list_all is_unsent xs) h in
+    ap (λ b. b && list_all is_unsent (xs ++ m ∷ [])) hs.0 ∙ more_waiting xs m hs.1 w
 
-pushed_order : (ms : List Queued) (m : Queued) → is_waiting m ≡ true → are_in_order ms ≡ true → are_in_order (ms ++ m ∷ []) ≡ true
+pushed_order : (ms : List Queued) (m : Queued) → is_unsent m ≡ true → are_in_order ms ≡ true → are_in_order (ms ++ m ∷ []) ≡ true
 pushed_order [] m w h = ap (λ b. b && true) (waiting_in_order m w)
 pushed_order (x ∷ xs) m w h =
-    let hs = and_parts (is_begun_or_waiting x) (list_all is_waiting xs) h in
-    ap (λ b. b && list_all is_waiting (xs ++ m ∷ [])) hs.0 ∙ more_waiting xs m hs.1 w
+    let hs = and_parts (is_begun_or_waiting x) (list_all is_unsent xs) h in
+    ap (λ b. b && list_all is_unsent (xs ++ m ∷ [])) hs.0 ∙ more_waiting xs m hs.1 w
 
-pushed_first : (ms : List Queued) (m : Queued) → is_waiting m ≡ true → is_first_begun (ms ++ m ∷ []) ≡ is_first_begun ms
+pushed_first : (ms : List Queued) (m : Queued) → is_unsent m ≡ true → is_first_begun (ms ++ m ∷ []) ≡ is_first_begun ms
 pushed_first [] m w = (waits m w).0
 pushed_first (x ∷ xs) m w = refl
 
 -- a new association
 pub whole_order : (ms : List Queued) → are_in_order ms ≡ true → are_in_order (whole_front ms) ≡ true
 whole_order [] h = refl
-whole_order (m ∷ rest) h = (and_parts (is_begun_or_waiting m) (list_all is_waiting rest) h).1
+whole_order (m ∷ rest) h = (and_parts (is_begun_or_waiting m) (list_all is_unsent rest) h).1
 
 pub whole_first : (ms : List Queued) → is_first_begun (whole_front ms) ≡ false
 whole_first [] = refl
 whole_first (m ∷ rest) = refl
 
-none_partly : (ms : List Queued) → list_all is_waiting ms ≡ true → filter is_partly ms ≡ []
+none_partly : (ms : List Queued) → list_all is_unsent ms ≡ true → filter is_partly ms ≡ []
 none_partly [] h = refl
 none_partly (m ∷ rest) h =
-    let hs = and_parts (is_waiting m) (list_all is_waiting rest) h in
+    let hs = and_parts (is_unsent m) (list_all is_unsent rest) h in
     ap (λ b. cond b (m ∷ filter is_partly rest) (filter is_partly rest)) (zero_not_positive m.offset (waits m hs.0).1) ∙ none_partly rest hs.1
 
 partly_both : (ms : List Queued) → are_in_order ms ≡ true → (are_in_order (filter is_partly ms) ≡ true) × (is_first_begun (filter is_partly ms) ≡ is_first_begun ms)
 partly_both [] h = (refl, refl)
 partly_both (m ∷ rest) h = subst Both (sym (ap (λ xs. cond (is_partly m) (m ∷ xs) xs) (none_partly rest hs.1))) (go (is_some m.numbers) (is_partly m) refl refl hs.0)
   where
-    hs : (is_begun_or_waiting m ≡ true) × (list_all is_waiting rest ≡ true)
-    hs = and_parts (is_begun_or_waiting m) (list_all is_waiting rest) h
+    hs : (is_begun_or_waiting m ≡ true) × (list_all is_unsent rest ≡ true)
+    hs = and_parts (is_begun_or_waiting m) (list_all is_unsent rest) h
 
     Both : List Queued → Type 0
     Both xs = (are_in_order xs ≡ true) × (is_first_begun xs ≡ is_some m.numbers)
@@ -151,11 +151,11 @@ partly_both (m ∷ rest) h = subst Both (sym (ap (λ xs. cond (is_partly m) (m �
     go false false ea eb w = (refl, sym ea)
 
 -- expired messages are dropped
-fresh_waiting : (now : ℕ) (ms : List Queued) → list_all is_waiting ms ≡ true → list_all is_waiting (fresh now ms) ≡ true
+fresh_waiting : (now : ℕ) (ms : List Queued) → list_all is_unsent ms ≡ true → list_all is_unsent (fresh now ms) ≡ true
 fresh_waiting now [] h = refl
-fresh_waiting now (m ∷ rest) h = go (is_stale now m) (fresh_waiting now rest (and_parts (is_waiting m) (list_all is_waiting rest) h).1)
+fresh_waiting now (m ∷ rest) h = go (is_stale now m) (fresh_waiting now rest (and_parts (is_unsent m) (list_all is_unsent rest) h).1)
   where
-    go : (b : Bool) → list_all is_waiting (fresh now rest) ≡ true → list_all is_waiting (cond b (fresh now rest) (m ∷ rest)) ≡ true
+    go : (b : Bool) → list_all is_unsent (fresh now rest) ≡ true → list_all is_unsent (cond b (fresh now rest) (m ∷ rest)) ≡ true
     go true ih = ih
     go false ih = h
 
@@ -168,10 +168,10 @@ fresh_both now [] h = (refl, refl)
 fresh_both now (m ∷ rest) h = go (is_stale now m) refl
   where
     behind : (are_in_order (fresh now rest) ≡ true) × (is_first_begun (fresh now rest) ≡ false)
-    behind = rest_in_order (fresh now rest) (fresh_waiting now rest (and_parts (is_begun_or_waiting m) (list_all is_waiting rest) h).1)
+    behind = rest_in_order (fresh now rest) (fresh_waiting now rest (and_parts (is_begun_or_waiting m) (list_all is_unsent rest) h).1)
 
     go : (b : Bool) → is_stale now m ≡ b → (are_in_order (cond b (fresh now rest) (m ∷ rest)) ≡ true) × (is_first_begun (cond b (fresh now rest) (m ∷ rest)) ≡ is_some m.numbers)
-    go true e = (behind.0, behind.1 ∙ sym (unnumbered (is_some m.numbers) (is_due now m.expires) e))
+    go true e = (behind.0, behind.1 ∙ sym (unnumbered (is_some m.numbers) (is_expired now m.expires) e))
     go false e = (h, refl)
 
 -- a fragment is produced
@@ -180,20 +180,20 @@ moved_both : (id size : ℕ) (n : MessageNumbers) (ms : List Queued) → 0 < siz
 moved_both id size n [] some h = (refl, refl)
 moved_both id size n (m ∷ rest) some h = go (ends size m)
   where
-    hs : (is_begun_or_waiting m ≡ true) × (list_all is_waiting rest ≡ true)
-    hs = and_parts (is_begun_or_waiting m) (list_all is_waiting rest) h
+    hs : (is_begun_or_waiting m ≡ true) × (list_all is_unsent rest ≡ true)
+    hs = and_parts (is_begun_or_waiting m) (list_all is_unsent rest) h
 
     go : (b : Bool) → (are_in_order (cond b rest (move_past size n m ∷ rest)) ≡ true) × (is_first_begun (cond b rest (move_past size n m ∷ rest)) ≡ is_this id (cond b None (Some id)))
     go true = rest_in_order rest hs.1
-    go false = (ap (λ b. b && list_all is_waiting rest) (lt-ltb 0 (m.offset + size) (omega (arith, some))) ∙ hs.1, sym (eq-eqb id id refl))
+    go false = (ap (λ b. b && list_all is_unsent rest) (lt-ltb 0 (m.offset + size) (omega (arith, some))) ∙ hs.1, sym (eq-eqb id id refl))
 
 -- the first message goes
 without_order : (message : ℕ) (ms : List Queued) (s : Stream) → s.messages ≡ ms → are_in_order ms ≡ true → are_in_order (without_front message ms s).messages ≡ true
 without_order message [] s e h = ap are_in_order e
 without_order message (m ∷ rest) s e h = go (m.number == message)
   where
-    go : (b : Bool) → are_in_order (cond b (record s { messages = rest; pause = settle_pause s.pause }) s).messages ≡ true
-    go true = (rest_in_order rest (and_parts (is_begun_or_waiting m) (list_all is_waiting rest) h).1).0
+    go : (b : Bool) → are_in_order (cond b (record s { messages = rest; pause = pause_if_pending s.pause }) s).messages ≡ true
+    go true = (rest_in_order rest (and_parts (is_begun_or_waiting m) (list_all is_unsent rest) h).1).0
     go false = ap are_in_order e ∙ h
 
 -- ---- the mode stays
@@ -219,9 +219,9 @@ line_mode id bytes priority (Some made) s = set_bytes_mode id bytes priority (ac
 
 -- ---- calls that change one stream
 
-pub kept : (id : ℕ) (s : Stream) (ss : Streams) (q after : Queue) → ((k : ℕ) → stream k ss ≡ stream k q.streams) → after.streams ≡ put_stream id s ss → after.begun ≡ q.begun
+pub put_stream_keeps_order : (id : ℕ) (s : Stream) (ss : Streams) (q after : Queue) → ((k : ℕ) → stream k ss ≡ stream k q.streams) → after.streams ≡ put_stream id s ss → after.begun ≡ q.begun
     → after.scheduler.is_interleaved ≡ q.scheduler.is_interleaved → are_in_order s.messages ≡ true → is_first_begun s.messages ≡ is_first_begun (stream id q.streams).messages → IsInOrder q → IsInOrder after
-kept id s ss q after same streams begun mode order first h = record { order = ordered; begun = λ m k. begun_on (sym mode ∙ m) k }
+put_stream_keeps_order id s ss q after same streams begun mode order first h = record { order = ordered; begun = λ m k. begun_on (sym mode ∙ m) k }
   where
     ordered : (k : ℕ) → are_in_order (stream k after.streams).messages ≡ true
     ordered k = ap (λ (x : Streams). are_in_order (stream k x).messages) streams ∙ each_put (λ i ms. are_in_order ms ≡ true) id s ss (λ i. ap (λ (t : Stream). are_in_order t.messages) (same i) ∙ h.order i) order k
@@ -232,18 +232,18 @@ kept id s ss q after same streams begun mode order first h = record { order = or
         ∙ each_put (λ i ms. is_first_begun ms ≡ is_this i q.begun) id s ss (λ i. ap (λ (t : Stream). is_first_begun t.messages) (same i) ∙ h.begun m i) (first ∙ h.begun m id) k
         ∙ ap (λ b. is_this k b) (sym begun)
 
-pub added_in_order : (id : ℕ) (m : Queued) (q : Queue) → is_waiting m ≡ true → IsInOrder q → IsInOrder (add id m q)
+pub added_in_order : (id : ℕ) (m : Queued) (q : Queue) → is_unsent m ≡ true → IsInOrder q → IsInOrder (add id m q)
 added_in_order id m q w h =
     let s : Stream = stream id q.streams in
-    kept id (push m s) (open_stream id q.streams) q (add id m q) (λ k. opened_same k id q.streams) refl refl (set_bytes_mode id _ _ q.scheduler)
+    put_stream_keeps_order id (push m s) (with_stream id q.streams) q (add id m q) (λ k. opened_same k id q.streams) refl refl (set_bytes_mode id _ _ q.scheduler)
     (pushed_order s.messages m w (h.order id)) (pushed_first s.messages m w) h
 
 pub threshold_in_order : {P : Type 0} (id bytes : ℕ) (q : Queue) (emitted : Emitted P) → IsInOrder q → IsInOrder (set_low_threshold id bytes q emitted).queue
 threshold_in_order id bytes q emitted h =
-    kept id (with_threshold bytes (stream id q.streams)) (open_stream id q.streams) q (set_low_threshold id bytes q emitted).queue (λ k. opened_same k id q.streams) refl refl refl (h.order id) refl h
+    put_stream_keeps_order id (with_threshold bytes (stream id q.streams)) (with_stream id q.streams) q (set_low_threshold id bytes q emitted).queue (λ k. opened_same k id q.streams) refl refl refl (h.order id) refl h
 
 pub priority_in_order : (id priority : ℕ) (q : Queue) → IsInOrder q → IsInOrder (set_priority id priority q)
-priority_in_order id priority q h = kept id (with_priority priority (stream id q.streams)) (open_stream id q.streams) q (set_priority id priority q) (λ k. opened_same k id q.streams) refl refl refl (h.order id) refl h
+priority_in_order id priority q h = put_stream_keeps_order id (with_priority priority (stream id q.streams)) (with_stream id q.streams) q (set_priority id priority q) (λ k. opened_same k id q.streams) refl refl refl (h.order id) refl h
 
 pub mode_in_order : (is_interleaved : Bool) (q : Queue) → (q.scheduler.is_interleaved ≡ is_interleaved) ⊎ IsUnsent q → IsInOrder q → IsInOrder (set_mode is_interleaved q)
 mode_in_order is_interleaved q (inl same) h = record { order = h.order; begun = λ m k. h.begun (same ∙ m) k }
@@ -252,15 +252,15 @@ mode_in_order is_interleaved q (inr u) h = record { order = h.order; begun = λ 
 pub prepared_in_order : {P : Type 0} (id : ℕ) (q : Queue) (emitted : Emitted P) → IsInOrder q → IsInOrder (prepare_reset id q emitted).queue
 prepared_in_order id q emitted h =
     let p = partly_both (stream id q.streams).messages (h.order id) in
-    kept id (prepare_stream (stream id q.streams)) (open_stream id q.streams) q (prepare_reset id q emitted).queue (λ k. opened_same k id q.streams) refl refl (set_bytes_mode id _ _ q.scheduler) p.0 p.1 h
+    put_stream_keeps_order id (prepare_stream (stream id q.streams)) (with_stream id q.streams) q (prepare_reset id q emitted).queue (λ k. opened_same k id q.streams) refl refl (set_bytes_mode id _ _ q.scheduler) p.0 p.1 h
 
 pub steps_in_order : (step : ResetStep) (ids : List ℕ) (q : Queue) → IsInOrder q → IsInOrder (each_stepped step ids q)
 steps_in_order step [] q h = h
 steps_in_order step (id ∷ ids) q h =
     let s : Stream = stream id q.streams in
     let same = step_messages step s in
-    steps_in_order step ids (step_stream step id q)
-    (kept id (after_step step s) q.streams q (step_stream step id q) (λ k. refl) refl refl (set_bytes_mode id _ _ q.scheduler) (ap are_in_order same ∙ h.order id) (ap is_first_begun same) h)
+    steps_in_order step ids (apply_reset_step step id q)
+    (put_stream_keeps_order id (after_step step s) q.streams q (apply_reset_step step id q) (λ k. refl) refl refl (set_bytes_mode id _ _ q.scheduler) (ap are_in_order same ∙ h.order id) (ap is_first_begun same) h)
 
 -- ---- a new association
 
@@ -453,7 +453,7 @@ other_in_order id message q emitted none same h =
     let s : Stream = stream id q.streams in
     let ss : Streams = streams_discarded id message q.streams in
     let o = front_discarded message s.messages in
-    kept id (without_front message s.messages s) q.streams q (discard id message q emitted).queue (λ k. refl) (discard_streams id ss o q emitted)
+    put_stream_keeps_order id (without_front message s.messages s) q.streams q (discard id message q emitted).queue (λ k. refl) (discard_streams id ss o q emitted)
     (ap (λ x. (discard_from id ss x q emitted).queue.begun) none) (discard_mode id ss o q emitted) (without_order message s.messages s refl (h.order id)) (ap (λ (t : Stream). is_first_begun t.messages) same) h
 
 turned_id : (a b : ℕ) → (a == b) ≡ false → (b == a) ≡ false
@@ -490,10 +490,10 @@ front_in_order {P} id message q emitted m rest is e h = subst (λ o. IsInOrder (
     left_is : (without_front message s.messages s).messages ≡ rest
     left_is =
         ap (λ ms. (without_front message ms s).messages) is
-        ∙ ap (λ t. let r : Stream = record s { messages = rest; pause = settle_pause s.pause } in (cond t r s).messages) e
+        ∙ ap (λ t. let r : Stream = record s { messages = rest; pause = pause_if_pending s.pause } in (cond t r s).messages) e
 
     behind : (are_in_order rest ≡ true) × (is_first_begun rest ≡ false)
-    behind = rest_in_order rest (and_parts (is_begun_or_waiting m) (list_all is_waiting rest) (ap are_in_order (sym is) ∙ h.order id)).1
+    behind = rest_in_order rest (and_parts (is_begun_or_waiting m) (list_all is_unsent rest) (ap are_in_order (sym is) ∙ h.order id)).1
 
     ordered : (k : ℕ) → are_in_order (stream k ss).messages ≡ true
     ordered k = each_put (λ i ms. are_in_order ms ≡ true) id (without_front message s.messages s) q.streams h.order (ap are_in_order left_is ∙ behind.0) k
@@ -519,4 +519,4 @@ discarded_in_order {P} id message q emitted h = by_front (stream id q.streams).m
         by_number true e = front_in_order id message q emitted m rest is e h
         by_number false e =
             other_in_order id message q emitted (ap (λ ms. front_discarded message ms) is ∙ ap (λ t. cond t (Some m.lifecycle) None) e)
-            (ap (λ ms. without_front message ms s) is ∙ ap (λ t. let r : Stream = record s { messages = rest; pause = settle_pause s.pause } in cond t r s) e) h
+            (ap (λ ms. without_front message ms s) is ∙ ap (λ t. let r : Stream = record s { messages = rest; pause = pause_if_pending s.pause } in cond t r s) e) h

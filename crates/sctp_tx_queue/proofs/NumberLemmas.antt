@@ -9,10 +9,10 @@ use Rattle.sctp_tx_queue.proofs.StreamLemmas.{step_messages}
 use Rattle.sctp_state.specs.Events.{Emitted}
 use Rattle.sctp_tx_queue.specs.declared.send_queue.message.MessageNumbers.{MessageNumbers}
 use Rattle.sctp_tx_queue.specs.declared.send_queue.stream.ResetStep.{ResetStep}
-use Rattle.sctp_tx_queue.specs.SendQueue.{Queued, Queue, Stream, Streams, stream, put_stream, open_stream, push, add, next_number}
-use Rattle.sctp_tx_queue.specs.Produced.{Produced, Turn, is_stale, fresh, without_stale, streams_without_stale, moved_front, move_past, ends, front_numbers, advance, turn, next_stream, produce_within, settle_pause}
+use Rattle.sctp_tx_queue.specs.SendQueue.{Queued, Queue, Stream, Streams, stream, put_stream, with_stream, push, add, next_number}
+use Rattle.sctp_tx_queue.specs.Produced.{Produced, Turn, is_stale, fresh, without_stale, streams_without_stale, moved_front, move_past, ends, front_numbers, advance, turn, next_stream, produce_within, pause_if_pending}
 use Rattle.sctp_tx_queue.specs.Settings.{with_threshold, with_priority, set_low_threshold, set_priority, front_discarded, without_front, streams_discarded, discard_from, discard}
-use Rattle.sctp_tx_queue.specs.Resets.{is_partly, prepare_stream, prepare_reset, after_step, step_stream, each_stepped}
+use Rattle.sctp_tx_queue.specs.Resets.{is_partly, prepare_stream, prepare_reset, after_step, apply_reset_step, each_stepped}
 use Rattle.sctp_tx_queue.specs.Restarted.{whole_front, restart, restarted_one, each_restarted}
 use Rattle.sctp_tx_queue.specs.InOrder.{are_rising, IsNumbered, CallsNumber}
 use Rattle.sctp_tx_queue.proofs.InOrderLemmas.{each_put, opened_same, discard_streams}
@@ -105,15 +105,15 @@ without_rising : (least most message : ℕ) (ms : List Queued) (s : Stream) → 
 without_rising least most message [] s e h = ap (λ ms. are_rising least most ms) e
 without_rising least most message (m ∷ rest) s e h = go (m.number == message)
   where
-    go : (b : Bool) → are_rising least most (cond b (record s { messages = rest; pause = settle_pause s.pause }) s).messages ≡ true
+    go : (b : Bool) → are_rising least most (cond b (record s { messages = rest; pause = pause_if_pending s.pause }) s).messages ≡ true
     go true = behind least most m rest h
     go false = ap (λ ms. are_rising least most ms) e ∙ h
 
 -- ---- the calls
 
-pub kept : (id : ℕ) (s : Stream) (ss : Streams) (q after : Queue) → ((k : ℕ) → stream k ss ≡ stream k q.streams) → after.streams ≡ put_stream id s ss → after.next_number ≡ q.next_number → are_rising 0 q.next_number s.messages ≡ true
+pub put_stream_keeps_numbers : (id : ℕ) (s : Stream) (ss : Streams) (q after : Queue) → ((k : ℕ) → stream k ss ≡ stream k q.streams) → after.streams ≡ put_stream id s ss → after.next_number ≡ q.next_number → are_rising 0 q.next_number s.messages ≡ true
     → IsNumbered q → IsNumbered after
-kept id s ss q after same streams count here h = record { rising = risen }
+put_stream_keeps_numbers id s ss q after same streams count here h = record { rising = risen }
   where
     risen : (k : ℕ) → are_rising 0 after.next_number (stream k after.streams).messages ≡ true
     risen k =
@@ -129,10 +129,10 @@ added_numbered id m q e l h = record { rising = risen }
     s : Stream
     s = stream id q.streams
 
-    risen : (k : ℕ) → are_rising 0 (next_number q.next_number) (stream k (put_stream id (push m s) (open_stream id q.streams))).messages ≡ true
+    risen : (k : ℕ) → are_rising 0 (next_number q.next_number) (stream k (put_stream id (push m s) (with_stream id q.streams))).messages ≡ true
     risen k =
-        ap (λ n. are_rising 0 n (stream k (put_stream id (push m s) (open_stream id q.streams))).messages) (one_more q.next_number l)
-        ∙ each_put (λ i ms. are_rising 0 (q.next_number + 1) ms ≡ true) id (push m s) (open_stream id q.streams)
+        ap (λ n. are_rising 0 n (stream k (put_stream id (push m s) (with_stream id q.streams))).messages) (one_more q.next_number l)
+        ∙ each_put (λ i ms. are_rising 0 (q.next_number + 1) ms ≡ true) id (push m s) (with_stream id q.streams)
         (λ i. ap (λ (t : Stream). are_rising 0 (q.next_number + 1) t.messages) (opened_same i id q.streams) ∙ widened 0 q.next_number (stream i q.streams).messages (h.rising i))
         (pushed_rising 0 q.next_number s.messages m (omega arith) e (h.rising id)) k
 
@@ -174,30 +174,30 @@ pub steps_numbered : (step : ResetStep) (ids : List ℕ) (q : Queue) → IsNumbe
 steps_numbered step [] q h = h
 steps_numbered step (id ∷ ids) q h =
     let s : Stream = stream id q.streams in
-    steps_numbered step ids (step_stream step id q)
-    (kept id (after_step step s) q.streams q (step_stream step id q) (λ k. refl) refl refl (ap (λ ms. are_rising 0 q.next_number ms) (step_messages step s) ∙ h.rising id) h)
+    steps_numbered step ids (apply_reset_step step id q)
+    (put_stream_keeps_numbers id (after_step step s) q.streams q (apply_reset_step step id q) (λ k. refl) refl refl (ap (λ ms. are_rising 0 q.next_number ms) (step_messages step s) ∙ h.rising id) h)
 
 pub restarted_numbered : (ids : List ℕ) (q : Queue) → IsNumbered q → IsNumbered (each_restarted ids q)
 restarted_numbered [] q h = h
 restarted_numbered (id ∷ ids) q h =
     let s : Stream = stream id q.streams in
-    restarted_numbered ids (restarted_one id q) (kept id (restart s) q.streams q (restarted_one id q) (λ k. refl) refl refl (whole_rising 0 q.next_number s.messages (h.rising id)) h)
+    restarted_numbered ids (restarted_one id q) (put_stream_keeps_numbers id (restart s) q.streams q (restarted_one id q) (λ k. refl) refl refl (whole_rising 0 q.next_number s.messages (h.rising id)) h)
 
 pub calls_number : CallsNumber
 calls_number = record {
   new = λ o. record { rising = λ k. refl };
   added = added_numbered;
   produced = λ now size q emitted h. within_numbered (length q.scheduler.times + 2) now size q emitted h;
-  threshold = λ id bytes q emitted h. kept id (with_threshold bytes (stream id q.streams)) (open_stream id q.streams) q (set_low_threshold id bytes q emitted).queue (λ k. opened_same k id q.streams) refl refl (h.rising id) h;
-  priority = λ id priority q h. kept id (with_priority priority (stream id q.streams)) (open_stream id q.streams) q (set_priority id priority q) (λ k. opened_same k id q.streams) refl refl (h.rising id) h;
+  threshold = λ id bytes q emitted h. put_stream_keeps_numbers id (with_threshold bytes (stream id q.streams)) (with_stream id q.streams) q (set_low_threshold id bytes q emitted).queue (λ k. opened_same k id q.streams) refl refl (h.rising id) h;
+  priority = λ id priority q h. put_stream_keeps_numbers id (with_priority priority (stream id q.streams)) (with_stream id q.streams) q (set_priority id priority q) (λ k. opened_same k id q.streams) refl refl (h.rising id) h;
   mode = λ is_interleaved q h. record { rising = h.rising };
   discarded = λ id message q emitted h.
       let s : Stream = stream id q.streams in
       let o = front_discarded message s.messages in
-      kept id (without_front message s.messages s) q.streams q (discard id message q emitted).queue (λ k. refl) (discard_streams id (streams_discarded id message q.streams) o q emitted)
+      put_stream_keeps_numbers id (without_front message s.messages s) q.streams q (discard id message q emitted).queue (λ k. refl) (discard_streams id (streams_discarded id message q.streams) o q emitted)
       (discard_count id (streams_discarded id message q.streams) o q emitted) (without_rising 0 q.next_number message s.messages s refl (h.rising id)) h;
   prepared = λ id q emitted h.
-      kept id (prepare_stream (stream id q.streams)) (open_stream id q.streams) q (prepare_reset id q emitted).queue (λ k. opened_same k id q.streams) refl refl
+      put_stream_keeps_numbers id (prepare_stream (stream id q.streams)) (with_stream id q.streams) q (prepare_reset id q emitted).queue (λ k. opened_same k id q.streams) refl refl
       (filter_rising 0 q.next_number is_partly (stream id q.streams).messages (h.rising id)) h;
   steps = steps_numbered;
   restarted = λ q h. let r = restarted_numbered (keys_of q.streams.entries) q h in record { rising = r.rising };

@@ -11,10 +11,10 @@ use Rattle.sctp_tx_queue.proofs.StreamLemmas.{step_messages}
 use Rattle.sctp_state.specs.Events.{Emitted}
 use Rattle.sctp_tx_queue.specs.declared.send_queue.message.MessageNumbers.{MessageNumbers}
 use Rattle.sctp_tx_queue.specs.declared.send_queue.stream.ResetStep.{ResetStep}
-use Rattle.sctp_tx_queue.specs.SendQueue.{Queued, Queue, Stream, Streams, stream, put_stream, open_stream, push, add}
-use Rattle.sctp_tx_queue.specs.Produced.{Produced, Turn, is_stale, fresh, without_stale, streams_without_stale, moved_front, move_past, ends, front_numbers, front_made, made_of, advance, turn, next_stream, produce_within, settle_pause}
+use Rattle.sctp_tx_queue.specs.SendQueue.{Queued, Queue, Stream, Streams, stream, put_stream, with_stream, push, add}
+use Rattle.sctp_tx_queue.specs.Produced.{Produced, Turn, is_stale, fresh, without_stale, streams_without_stale, moved_front, move_past, ends, front_numbers, front_made, made_of, advance, turn, next_stream, produce_within, pause_if_pending}
 use Rattle.sctp_tx_queue.specs.Settings.{with_threshold, with_priority, set_low_threshold, set_priority, front_discarded, without_front, streams_discarded, discard}
-use Rattle.sctp_tx_queue.specs.Resets.{is_partly, prepare_stream, prepare_reset, after_step, step_stream, each_stepped}
+use Rattle.sctp_tx_queue.specs.Resets.{is_partly, prepare_stream, prepare_reset, after_step, apply_reset_step, each_stepped}
 use Rattle.sctp_tx_queue.specs.Restarted.{whole_front, restart, restarted_one, each_restarted}
 use Rattle.sctp_tx_queue.specs.InOrder.{has_rest, HasRests, IsFilled, CallsLeaveRests}
 use Rattle.sctp_tx_queue.proofs.InOrderLemmas.{each_put, opened_same, discard_streams}
@@ -74,7 +74,7 @@ all_without : (message : ℕ) (ms : List Queued) (s : Stream) → s.messages ≡
 all_without message [] s e h = ap (λ ms. list_all has_rest ms) e
 all_without message (m ∷ rest) s e h = go (m.number == message)
   where
-    go : (b : Bool) → list_all has_rest (cond b (record s { messages = rest; pause = settle_pause s.pause }) s).messages ≡ true
+    go : (b : Bool) → list_all has_rest (cond b (record s { messages = rest; pause = pause_if_pending s.pause }) s).messages ≡ true
     go true = behind m rest h
     go false = ap (λ ms. list_all has_rest ms) e ∙ h
 
@@ -91,8 +91,8 @@ filled_front id size n (m ∷ rest) some h p made =
 
 -- ---- the calls
 
-kept : (id : ℕ) (s : Stream) (ss : Streams) (q after : Queue) → ((k : ℕ) → stream k ss ≡ stream k q.streams) → after.streams ≡ put_stream id s ss → list_all has_rest s.messages ≡ true → HasRests q → HasRests after
-kept id s ss q after same streams here h = record { rests = all }
+put_stream_keeps_rests : (id : ℕ) (s : Stream) (ss : Streams) (q after : Queue) → ((k : ℕ) → stream k ss ≡ stream k q.streams) → after.streams ≡ put_stream id s ss → list_all has_rest s.messages ≡ true → HasRests q → HasRests after
+put_stream_keeps_rests id s ss q after same streams here h = record { rests = all }
   where
     all : (k : ℕ) → list_all has_rest (stream k after.streams).messages ≡ true
     all k =
@@ -146,30 +146,30 @@ pub steps_rests : (step : ResetStep) (ids : List ℕ) (q : Queue) → HasRests q
 steps_rests step [] q h = h
 steps_rests step (id ∷ ids) q h =
     let s : Stream = stream id q.streams in
-    steps_rests step ids (step_stream step id q) (kept id (after_step step s) q.streams q (step_stream step id q) (λ k. refl) refl (ap (λ ms. list_all has_rest ms) (step_messages step s) ∙ h.rests id) h)
+    steps_rests step ids (apply_reset_step step id q) (put_stream_keeps_rests id (after_step step s) q.streams q (apply_reset_step step id q) (λ k. refl) refl (ap (λ ms. list_all has_rest ms) (step_messages step s) ∙ h.rests id) h)
 
 pub restarted_rests : (ids : List ℕ) (q : Queue) → HasRests q → HasRests (each_restarted ids q)
 restarted_rests [] q h = h
 restarted_rests (id ∷ ids) q h =
     let s : Stream = stream id q.streams in
-    restarted_rests ids (restarted_one id q) (kept id (restart s) q.streams q (restarted_one id q) (λ k. refl) refl (all_whole s.messages (h.rests id)) h)
+    restarted_rests ids (restarted_one id q) (put_stream_keeps_rests id (restart s) q.streams q (restarted_one id q) (λ k. refl) refl (all_whole s.messages (h.rests id)) h)
 
 pub calls_leave_rests : CallsLeaveRests
 calls_leave_rests = record {
   new = λ o. record { rests = λ k. refl };
   added = λ id m q w h.
-      kept id (push m (stream id q.streams)) (open_stream id q.streams) q (add id m q) (λ k. opened_same k id q.streams) refl (all_pushed (stream id q.streams).messages m (h.rests id) w) h;
+      put_stream_keeps_rests id (push m (stream id q.streams)) (with_stream id q.streams) q (add id m q) (λ k. opened_same k id q.streams) refl (all_pushed (stream id q.streams).messages m (h.rests id) w) h;
   produced = λ now size q emitted h. (within_runs (length q.scheduler.times + 2) now size q emitted h).rests;
   filled = λ now size q emitted some h. (within_runs (length q.scheduler.times + 2) now size q emitted h).filled some;
-  threshold = λ id bytes q emitted h. kept id (with_threshold bytes (stream id q.streams)) (open_stream id q.streams) q (set_low_threshold id bytes q emitted).queue (λ k. opened_same k id q.streams) refl (h.rests id) h;
-  priority = λ id priority q h. kept id (with_priority priority (stream id q.streams)) (open_stream id q.streams) q (set_priority id priority q) (λ k. opened_same k id q.streams) refl (h.rests id) h;
+  threshold = λ id bytes q emitted h. put_stream_keeps_rests id (with_threshold bytes (stream id q.streams)) (with_stream id q.streams) q (set_low_threshold id bytes q emitted).queue (λ k. opened_same k id q.streams) refl (h.rests id) h;
+  priority = λ id priority q h. put_stream_keeps_rests id (with_priority priority (stream id q.streams)) (with_stream id q.streams) q (set_priority id priority q) (λ k. opened_same k id q.streams) refl (h.rests id) h;
   mode = λ is_interleaved q h. record { rests = h.rests };
   discarded = λ id message q emitted h.
       let s : Stream = stream id q.streams in
-      kept id (without_front message s.messages s) q.streams q (discard id message q emitted).queue (λ k. refl)
+      put_stream_keeps_rests id (without_front message s.messages s) q.streams q (discard id message q emitted).queue (λ k. refl)
       (discard_streams id (streams_discarded id message q.streams) (front_discarded message s.messages) q emitted) (all_without message s.messages s refl (h.rests id)) h;
   prepared = λ id q emitted h.
-      kept id (prepare_stream (stream id q.streams)) (open_stream id q.streams) q (prepare_reset id q emitted).queue (λ k. opened_same k id q.streams) refl (all_filter is_partly (stream id q.streams).messages (h.rests id)) h;
+      put_stream_keeps_rests id (prepare_stream (stream id q.streams)) (with_stream id q.streams) q (prepare_reset id q emitted).queue (λ k. opened_same k id q.streams) refl (all_filter is_partly (stream id q.streams).messages (h.rests id)) h;
   steps = steps_rests;
   restarted = λ q h. let r = restarted_rests (keys_of q.streams.entries) q h in record { rests = r.rests };
 }

@@ -17,7 +17,7 @@ use Rattle.sctp_state.specs.Validity.{rises_from, outgoing_ids, has_stream, is_v
 use Rattle.sctp_state.specs.Numbers.{most_u32}
 use Rattle.sctp_state.specs.declared.api.handover.HandoverSocketState.TheVariants.{Connected}
 use Rattle.sctp_stream_scheduler.specs.StreamScheduler.{Scheduler, set_bytes_remaining}
-use Rattle.sctp_tx_queue.specs.SendQueue.{Queued, Stream, Streams, Entries, amount_of, total_of, left_bytes, blank, stream, put_stream, open_stream, push, sendable}
+use Rattle.sctp_tx_queue.specs.SendQueue.{Queued, Stream, Streams, Entries, amount_of, total_of, remaining_bytes, blank, stream, put_stream, with_stream, push, sendable}
 use Rattle.sctp_tx_queue.specs.Restored.{message_from, is_on, messages_from, stream_from, entries_from, each_scheduled}
 use Rattle.sctp_tx_queue.proofs.StreamsLemmas.{total_written, stream_there}
 use Rattle.sctp_serial.proofs.NumberLemmas.{equal_turned}
@@ -168,7 +168,7 @@ written now threshold least done m none (s ∷ ss) h there =
         ∙ ap (λ (es : Entries). (s.id, here) ∷ es) (ih there)
         ∙ ap (λ (t : Stream). (s.id, t) ∷ after) (sym (unchanged now threshold done m s (equal_turned s.id m.stream_id false e)))
 
-opened_there : (id : ℕ) (ss : Streams) → is_some (lookup (is_at (nat_cmp id)) ss.entries) ≡ true → open_stream id ss ≡ ss
+opened_there : (id : ℕ) (ss : Streams) → is_some (lookup (is_at (nat_cmp id)) ss.entries) ≡ true → with_stream id ss ≡ ss
 opened_there id ss there = ap (λ (b : Bool). let r : Streams = record ss { entries = insert_entry nat_cmp ss.entries id (blank ss) } in cond b ss r) there
 
 -- the streams with these messages
@@ -177,31 +177,31 @@ holding now recs ms ss = record ss { entries = entries_from now ss.default_thres
 
 pub message_put : (now : ℕ) (first ss after : Streams) (recs : List HandoverOutgoingStream) (done : List StreamMessage) (m : StreamMessage) (q : Queued)
     → rises_from 0 (outgoing_ids recs) ≡ true → has_stream recs m.stream_id ≡ true → ss ≡ holding now recs done first → q ≡ message_from now m
-    → after ≡ put_stream m.stream_id (push q (stream m.stream_id ss)) (open_stream m.stream_id ss) → after ≡ holding now recs (done ++ m ∷ []) first
+    → after ≡ put_stream m.stream_id (push q (stream m.stream_id ss)) (with_stream m.stream_id ss) → after ≡ holding now recs (done ++ m ∷ []) first
 message_put now first ss after recs done m q rises there is_ss is_q is_after =
-    is_after ∙ ap (λ (x : Queued). put_stream id (push x (stream id ss)) (open_stream id ss)) is_q ∙ ap (λ (x : Streams). put_stream id (push (message_from now m) (stream id x)) (open_stream id x)) is_ss
+    is_after ∙ ap (λ (x : Queued). put_stream id (push x (stream id ss)) (with_stream id ss)) is_q ∙ ap (λ (x : Streams). put_stream id (push (message_from now m) (stream id x)) (with_stream id x)) is_ss
     ∙ ap (λ (x : Streams). put_stream id (push (message_from now m) (stream id (holding now recs done first))) x) (opened_there id (holding now recs done first) (found now first.default_threshold id done recs there))
     ∙ ap (λ (es : Entries). let r : Streams = record first { entries = es } in r) (written now first.default_threshold 0 done m (blank first) recs rises there)
   where
     id : ℕ
     id = m.stream_id
 
-total_pushed : (id : ℕ) (m : Queued) (ss : Streams) → is_some (lookup (is_at (nat_cmp id)) ss.entries) ≡ true → total_of (put_stream id (push m (stream id ss)) ss).entries ≡ total_of ss.entries + left_bytes m
+total_pushed : (id : ℕ) (m : Queued) (ss : Streams) → is_some (lookup (is_at (nat_cmp id)) ss.entries) ≡ true → total_of (put_stream id (push m (stream id ss)) ss).entries ≡ total_of ss.entries + remaining_bytes m
 total_pushed id m ss there = go (lookup (is_at (nat_cmp id)) ss.entries) refl there
   where
-    go : (o : Option Stream) → lookup (is_at (nat_cmp id)) ss.entries ≡ o → is_some o ≡ true → total_of (put_stream id (push m (stream id ss)) ss).entries ≡ total_of ss.entries + left_bytes m
+    go : (o : Option Stream) → lookup (is_at (nat_cmp id)) ss.entries ≡ o → is_some o ≡ true → total_of (put_stream id (push m (stream id ss)) ss).entries ≡ total_of ss.entries + remaining_bytes m
     go None e h = absurd (cc)
     go (Some s) e h =
         omega (
           arith,
           total_written id ss.entries s (push m (stream id ss)) (sym e),
           ap amount_of (stream_there id s ss (sym e)),
-          sum_by-append left_bytes (stream id ss).messages (m ∷ []),
-          sum_by-cons left_bytes m [],
+          sum_by-append remaining_bytes (stream id ss).messages (m ∷ []),
+          sum_by-cons remaining_bytes m [],
         )
 
 pub total_put : (now : ℕ) (first ss after : Streams) (recs : List HandoverOutgoingStream) (done : List StreamMessage) (id : ℕ) (q : Queued)
-    → has_stream recs id ≡ true → ss ≡ holding now recs done first → after ≡ put_stream id (push q (stream id ss)) (open_stream id ss) → total_of after.entries ≡ total_of ss.entries + left_bytes q
+    → has_stream recs id ≡ true → ss ≡ holding now recs done first → after ≡ put_stream id (push q (stream id ss)) (with_stream id ss) → total_of after.entries ≡ total_of ss.entries + remaining_bytes q
 total_put now first ss after recs done id q there is_ss is_after =
     let at : is_some (lookup (is_at (nat_cmp id)) ss.entries) ≡ true = ap (λ (x : Streams). is_some (lookup (is_at (nat_cmp id)) x.entries)) is_ss ∙ found now first.default_threshold id done recs there in
     ap (λ (x : Streams). total_of x.entries) (is_after ∙ ap (λ (x : Streams). put_stream id (push q (stream id ss)) x) (opened_there id ss at)) ∙ total_pushed id q ss at

@@ -11,11 +11,11 @@ use Rattle.std.proofs.lemmas.Bool.{eqb-true}
 use Rattle.sctp_tx_queue.proofs.StreamLemmas.{step_messages}
 use Rattle.sctp_state.specs.Events.{Emitted}
 use Rattle.sctp_tx_queue.specs.declared.send_queue.stream.ResetStep.{ResetStep}
-use Rattle.sctp_tx_queue.specs.SendQueue.{Queued, Queue, Stream, Streams, Entries, blank, stream, put_stream, open_stream, push, add}
+use Rattle.sctp_tx_queue.specs.SendQueue.{Queued, Queue, Stream, Streams, Entries, blank, stream, put_stream, with_stream, push, add}
 use Rattle.sctp_tx_queue.specs.Begun.{begun_number, IsBegun, StaysBegun, OthersStayBegun}
 use Rattle.sctp_tx_queue.specs.Settings.{with_threshold, with_priority, set_low_threshold, set_priority, set_mode, front_discarded, without_front, streams_discarded, begun_without, discard_from, discard}
-use Rattle.sctp_tx_queue.specs.Produced.{settle_pause}
-use Rattle.sctp_tx_queue.specs.Resets.{is_partly, prepare_stream, prepare_reset, after_step, step_stream, each_stepped}
+use Rattle.sctp_tx_queue.specs.Produced.{pause_if_pending}
+use Rattle.sctp_tx_queue.specs.Resets.{is_partly, prepare_stream, prepare_reset, after_step, apply_reset_step, each_stepped}
 use Rattle.sctp_tx_queue.specs.Restarted.{reset}
 use Rattle.sctp_tx_queue.proofs.StreamsLemmas.{stream_put, stream_nowhere}
 use Rattle.sctp_serial.proofs.NumberLemmas.{not_at}
@@ -77,7 +77,7 @@ front_put k id number s ss h keeps = go (k == id) refl
     go false e = ap (λ o. begun_number (unwrap_or o (blank ss)).messages) (written_elsewhere k id s ss.entries e) ∙ h
 
 -- a stream that is opened beside it, or is there
-stream_opened : (k id number : ℕ) (ss : Streams) → IsFront k number ss → stream k (open_stream id ss) ≡ stream k ss
+stream_opened : (k id number : ℕ) (ss : Streams) → IsFront k number ss → stream k (with_stream id ss) ≡ stream k ss
 stream_opened k id number ss h = go (is_some (lookup (is_at (nat_cmp id)) ss.entries)) refl
   where
     open_by : Bool → Streams
@@ -96,16 +96,16 @@ stream_opened k id number ss h = go (is_some (lookup (is_at (nat_cmp id)) ss.ent
             conflict x = cc
         pick false other = ap (λ o. unwrap_or o (blank ss)) (inserted_elsewhere k id (blank ss) ss.entries other)
 
-front_opened : (k id number : ℕ) (ss : Streams) → IsFront k number ss → IsFront k number (open_stream id ss)
+front_opened : (k id number : ℕ) (ss : Streams) → IsFront k number ss → IsFront k number (with_stream id ss)
 front_opened k id number ss h = ap (λ (s : Stream). begun_number s.messages) (stream_opened k id number ss h) ∙ h
 
 -- a stream is opened and changes
-front_changed : (k id number : ℕ) (s : Stream) (ss : Streams) → IsFront k number ss → (IsFront id number ss → begun_number s.messages ≡ Some number) → IsFront k number (put_stream id s (open_stream id ss))
+front_changed : (k id number : ℕ) (s : Stream) (ss : Streams) → IsFront k number ss → (IsFront id number ss → begun_number s.messages ≡ Some number) → IsFront k number (put_stream id s (with_stream id ss))
 front_changed k id number s ss h keeps = go (k == id) refl
   where
-    go : (b : Bool) → (k == id) ≡ b → IsFront k number (put_stream id s (open_stream id ss))
-    go true e = front_put k id number s (open_stream id ss) (front_opened k id number ss h) (λ g. keeps (subst (λ i. IsFront i number ss) (eqb-true k id e) h))
-    go false e = ap (λ o. begun_number (unwrap_or o (blank (open_stream id ss))).messages) (written_elsewhere k id s (open_stream id ss).entries e) ∙ front_opened k id number ss h
+    go : (b : Bool) → (k == id) ≡ b → IsFront k number (put_stream id s (with_stream id ss))
+    go true e = front_put k id number s (with_stream id ss) (front_opened k id number ss h) (λ g. keeps (subst (λ i. IsFront i number ss) (eqb-true k id e) h))
+    go false e = ap (λ o. begun_number (unwrap_or o (blank (with_stream id ss))).messages) (written_elsewhere k id s (with_stream id ss).entries e) ∙ front_opened k id number ss h
 
 -- ---- the calls
 
@@ -143,7 +143,7 @@ partly_front number (m ∷ rest) h = go (is_partly m) refl
 pub prepared_stays : {P : Type 0} (id : ℕ) (q : Queue) (emitted : Emitted P) → StaysBegun q (prepare_reset id q emitted).queue
 prepared_stays id q emitted k number b = record { begun = b.begun; message = front_changed k id number (prepare_stream (stream id q.streams)) q.streams b.message (λ h. partly_front number (stream id q.streams).messages h) }
 
-step_stays : (step : ResetStep) (id : ℕ) (q : Queue) → StaysBegun q (step_stream step id q)
+step_stays : (step : ResetStep) (id : ℕ) (q : Queue) → StaysBegun q (apply_reset_step step id q)
 step_stays step id q k number b = record {
   begun = b.begun;
   message = front_put k id number (after_step step (stream id q.streams)) q.streams b.message (λ h. ap begun_number (step_messages step (stream id q.streams)) ∙ h);
@@ -151,7 +151,7 @@ step_stays step id q k number b = record {
 
 pub steps_stay : (step : ResetStep) (ids : List ℕ) (q : Queue) → StaysBegun q (each_stepped step ids q)
 steps_stay step [] q k number b = b
-steps_stay step (id ∷ ids) q k number b = steps_stay step ids (step_stream step id q) k number (step_stays step id q k number b)
+steps_stay step (id ∷ ids) q k number b = steps_stay step ids (apply_reset_step step id q) k number (step_stays step id q k number b)
 
 -- the rest of a message is dropped
 is_first : (number : ℕ) (m : Queued) (rest : List Queued) → begun_number (m ∷ rest) ≡ Some number → m.number ≡ number
@@ -188,7 +188,7 @@ front_stays {P} id message number q emitted m rest is e b = subst (λ o. IsBegun
     none = ap (λ ms. front_discarded message ms) is ∙ ap (λ t. cond t (Some m.lifecycle) None) e
 
     same : without_front message s.messages s ≡ s
-    same = ap (λ ms. without_front message ms s) is ∙ ap (λ t. let r : Stream = record s { messages = rest; pause = settle_pause s.pause } in cond t r s) e
+    same = ap (λ ms. without_front message ms s) is ∙ ap (λ t. let r : Stream = record s { messages = rest; pause = pause_if_pending s.pause } in cond t r s) e
 
     kept : begun_number (stream id ss).messages ≡ Some number
     kept = front_put id id number (without_front message s.messages s) q.streams b.message (λ h. ap (λ (t : Stream). begun_number t.messages) same ∙ h)

@@ -7,13 +7,13 @@ use Rattle.sctp_tx_queue.specs.declared.send_queue.message.MessageNumbers.{Messa
 use Rattle.sctp_tx_queue.specs.declared.send_queue.stream.PauseState.{PauseState}
 use Rattle.sctp_tx_queue.specs.declared.send_queue.stream.ResetStep.{ResetStep}
 use Rattle.sctp_tx_queue.specs.declared.send_queue.stream.ResetStep.TheVariants.{Requested, Performed, Refused}
-use Rattle.sctp_tx_queue.specs.Produced.{took, front_took, front_numbers, front_ends, moved_front, pause_after, count_on, advance}
+use Rattle.sctp_tx_queue.specs.Produced.{took, front_took, front_numbers, front_ends, moved_front, pause_after, next_wrapping, advance}
 use Rattle.sctp_tx_queue.specs.Resets.{after_step}
 
 took_messages : (m : Queued) (s : Stream) → (took m s).messages ≡ s.messages
 took_messages m s = go (is_some m.numbers) m.is_unordered
   where
-    go : (a b : Bool) → (cond a s (cond b (record s { next_unordered_mid = count_on s.next_unordered_mid }) (record s { next_ssn = count_on s.next_ssn; next_ordered_mid = count_on s.next_ordered_mid }))).messages ≡ s.messages
+    go : (a b : Bool) → (cond a s (cond b (record s { next_unordered_mid = next_wrapping s.next_unordered_mid }) (record s { next_ssn = next_wrapping s.next_ssn; next_ordered_mid = next_wrapping s.next_ordered_mid }))).messages ≡ s.messages
     go true b = refl
     go false true = refl
     go false false = refl
@@ -25,7 +25,7 @@ front_took_messages (m ∷ rest) s = took_messages m s
 took_priority : (m : Queued) (s : Stream) → (took m s).priority ≡ s.priority
 took_priority m s = go (is_some m.numbers) m.is_unordered
   where
-    go : (a b : Bool) → (cond a s (cond b (record s { next_unordered_mid = count_on s.next_unordered_mid }) (record s { next_ssn = count_on s.next_ssn; next_ordered_mid = count_on s.next_ordered_mid }))).priority ≡ s.priority
+    go : (a b : Bool) → (cond a s (cond b (record s { next_unordered_mid = next_wrapping s.next_unordered_mid }) (record s { next_ssn = next_wrapping s.next_ssn; next_ordered_mid = next_wrapping s.next_ordered_mid }))).priority ≡ s.priority
     go true b = refl
     go false true = refl
     go false false = refl
@@ -40,7 +40,7 @@ advanced_priority size s = front_took_priority s.messages s
 took_pause : (m : Queued) (s : Stream) → (took m s).pause ≡ s.pause
 took_pause m s = go (is_some m.numbers) m.is_unordered
   where
-    go : (a b : Bool) → (cond a s (cond b (record s { next_unordered_mid = count_on s.next_unordered_mid }) (record s { next_ssn = count_on s.next_ssn; next_ordered_mid = count_on s.next_ordered_mid }))).pause ≡ s.pause
+    go : (a b : Bool) → (cond a s (cond b (record s { next_unordered_mid = next_wrapping s.next_unordered_mid }) (record s { next_ssn = next_wrapping s.next_ssn; next_ordered_mid = next_wrapping s.next_ordered_mid }))).pause ≡ s.pause
     go true b = refl
     go false true = refl
     go false false = refl

@@ -8,7 +8,7 @@ use Rattle.std.specs.Map.{lookup, set_value, keys_of}
 use Rattle.std.specs.BTreeMap.{is_at, insert_entry}
 use Rattle.std.proofs.lemmas.Cmp.{nat_cmp_total}
 use Rattle.std.proofs.lemmas.Map.Entries.{sum_by-set_value, sum_by-insert_entry}
-use Rattle.sctp_tx_queue.specs.SendQueue.{Stream, Streams, Entries, amount_of, total_of, Queued, blank_stream, blank, put_stream, push, open_stream, stream, sendable}
+use Rattle.sctp_tx_queue.specs.SendQueue.{Stream, Streams, Entries, amount_of, total_of, Queued, blank_stream, blank, put_stream, push, with_stream, stream, sendable}
 use Rattle.sctp_tx_queue.specs.Produced.{advance, streams_after}
 use Rattle.sctp_tx_queue.specs.declared.send_queue.stream.ResetStep.TheVariants.{Requested}
 use Rattle.sctp_tx_queue.specs.Resets.{after_step}
@@ -122,16 +122,16 @@ total_inserted id s es sorted none =
 
 -- the first message of a stream that is made with it
 pub first_is : (id : ℕ) (m : Queued) (ss : Streams) (es : Entries) (threshold : ℕ) → None ≡ lookup (is_at (nat_cmp id)) ss.entries → es ≡ insert_entry nat_cmp ss.entries id (push m (blank ss)) → threshold ≡ ss.total_threshold
-    → (let r : Streams = record ss { entries = es; total_threshold = threshold } in r) ≡ put_stream id (push m (stream id ss)) (open_stream id ss)
+    → (let r : Streams = record ss { entries = es; total_threshold = threshold } in r) ≡ put_stream id (push m (stream id ss)) (with_stream id ss)
 first_is id m ss es threshold none is_entries is_threshold =
     ap (λ e. streams e threshold) is_entries ∙ ap (λ t. streams (insert_entry nat_cmp ss.entries id (push m (blank ss))) t) is_threshold ∙ sym back
   where
     streams : Entries → ℕ → Streams
     streams e t = record ss { entries = e; total_threshold = t }
 
-    back : put_stream id (push m (stream id ss)) (open_stream id ss) ≡ streams (insert_entry nat_cmp ss.entries id (push m (blank ss))) ss.total_threshold
+    back : put_stream id (push m (stream id ss)) (with_stream id ss) ≡ streams (insert_entry nat_cmp ss.entries id (push m (blank ss))) ss.total_threshold
     back =
-        ap (λ s. put_stream id (push m s) (open_stream id ss)) (stream_nowhere id ss none)
+        ap (λ s. put_stream id (push m s) (with_stream id ss)) (stream_nowhere id ss none)
         ∙ ap (λ (o : Option Stream). put_stream id (push m (blank ss)) (cond (is_some o) ss (streams (insert_entry nat_cmp ss.entries id (blank ss)) ss.total_threshold))) (sym none)
         ∙ ap (λ e. streams e ss.total_threshold) (inserted_written id (blank ss) (push m (blank ss)) ss.entries none)
 

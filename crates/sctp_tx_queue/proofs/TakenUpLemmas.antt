@@ -11,7 +11,7 @@ use Rattle.std.proofs.lemmas.List.Folds.{list_all-append}
 use Rattle.std.proofs.lemmas.List.Sums.{sum_by-cons}
 use Rattle.std.proofs.lemmas.Bool.{and_parts, or_parts, not-true}
 use Rattle.sctp_state.specs.declared.api.handover.HandoverOutgoingStream.{HandoverOutgoingStream}
-use Rattle.sctp_serial.specs.Unwrapped.{words, wire}
+use Rattle.sctp_serial.specs.Unwrapped.{u32_space, wire}
 use Rattle.sctp_state.specs.Handover.{StreamMessage, Transmission}
 use Rattle.sctp_stream_scheduler.specs.StreamScheduler.{Scheduler, scheduler, enable_message_interleaving}
 use Rattle.sctp_state.specs.Validity.{is_partly_sent, has_partly_sent, first_alone_is_partly_sent, partly_sent_count, has_stream, is_valid_message, are_valid_messages, message_ids_differ, has_valid_queue, has_valid_items, payload_fits, rises_from, outgoing_ids}
@@ -19,7 +19,7 @@ use Rattle.sctp_tx_queue.specs.declared.send_queue.message.MessageNumbers.{Messa
 use Rattle.sctp_tx_queue.specs.SendQueue.{Queued, Stream, Streams, Entries, blank, stream}
 use Rattle.sctp_tx_queue.specs.Handover.{queued_message, messages_of, queued_messages}
 use Rattle.sctp_tx_queue.specs.Restored.{numbers_from, message_from, is_on, messages_from, stream_from, entries_from, each_scheduled, partly_sent, begun_from, streams_from, restore}
-use Rattle.sctp_tx_queue.specs.InOrder.{is_waiting, is_begun_or_waiting, are_in_order, is_first_begun, is_this}
+use Rattle.sctp_tx_queue.specs.InOrder.{is_unsent, is_begun_or_waiting, are_in_order, is_first_begun, is_this}
 use Rattle.sctp_tx_queue.specs.TakenUp.{is_numbered_as_sent, RestoredInOrder, WrittenAsSent}
 use Rattle.sctp_tx_queue.proofs.InOrderLemmas.{set_bytes_mode, waiting_in_order}
 use Rattle.sctp_tx_queue.proofs.AgainLemmas.{AreAbove, are_above}
@@ -61,12 +61,12 @@ begun_as_sent now m h = numbers_some m.mid m.ssn ∙ sent_some m h
 none_of : (n : ℕ) → nat_lt 0 n ≡ false → (n == 0) ≡ true
 none_of n h = grind (arith, nat_tests)
 
-waits : (now : ℕ) (m : StreamMessage) → is_numbered_as_sent m ≡ true → is_partly_sent m ≡ false → is_waiting (message_from now m) ≡ true
+waits : (now : ℕ) (m : StreamMessage) → is_numbered_as_sent m ≡ true → is_partly_sent m ≡ false → is_unsent (message_from now m) ≡ true
 waits now m h none = ap (λ b. not b && (m.remaining_offset == 0)) (begun_as_sent now m h ∙ none) ∙ none_of m.remaining_offset none
 
 -- ---- the messages of a stream
 
-all_wait : (now k : ℕ) (ms : List StreamMessage) → has_partly_sent k ms ≡ false → list_all is_numbered_as_sent ms ≡ true → list_all is_waiting (messages_from now k ms) ≡ true
+all_wait : (now k : ℕ) (ms : List StreamMessage) → has_partly_sent k ms ≡ false → list_all is_numbered_as_sent ms ≡ true → list_all is_unsent (messages_from now k ms) ≡ true
 all_wait now k [] none h = refl
 all_wait now k (m ∷ rest) none h =
     let apart = or_parts (is_on k m && is_partly_sent m) (has_partly_sent k rest) none in
@@ -75,9 +75,9 @@ all_wait now k (m ∷ rest) none h =
     hs : (is_numbered_as_sent m ≡ true) × (list_all is_numbered_as_sent rest ≡ true)
     hs = and_parts (is_numbered_as_sent m) (list_all is_numbered_as_sent rest) h
 
-    go : (b : Bool) → (b && is_partly_sent m ≡ false) × (has_partly_sent k rest ≡ false) → list_all is_waiting (messages_from now k rest) ≡ true
-        → list_all is_waiting (map (message_from now) (cond b (m ∷ filter (is_on k) rest) (filter (is_on k) rest))) ≡ true
-    go true p ih = ap (λ b. b && list_all is_waiting (messages_from now k rest)) (waits now m hs.0 p.0) ∙ ih
+    go : (b : Bool) → (b && is_partly_sent m ≡ false) × (has_partly_sent k rest ≡ false) → list_all is_unsent (messages_from now k rest) ≡ true
+        → list_all is_unsent (map (message_from now) (cond b (m ∷ filter (is_on k) rest) (filter (is_on k) rest))) ≡ true
+    go true p ih = ap (λ b. b && list_all is_unsent (messages_from now k rest)) (waits now m hs.0 p.0) ∙ ih
     go false p ih = ih
 
 same_stream : (a b : ℕ) → (a == b) ≡ true → b ≡ a
@@ -98,7 +98,7 @@ in_order now k (m ∷ rest) first h =
 
     go : (b : Bool) → is_on k m ≡ b → are_in_order (messages_from now k rest) ≡ true → are_in_order (map (message_from now) (cond b (m ∷ filter (is_on k) rest) (filter (is_on k) rest))) ≡ true
     go true e ih =
-        ap (λ b. b && list_all is_waiting (messages_from now k rest)) (begun_or_waiting now m hs.0) ∙ all_wait now k rest (none_behind k m rest e first) hs.1
+        ap (λ b. b && list_all is_unsent (messages_from now k rest)) (begun_or_waiting now m hs.0) ∙ all_wait now k rest (none_behind k m rest e first) hs.1
     go false e ih = ih
 
 -- ---- the message that is begun
@@ -269,7 +269,7 @@ restored_in_order now is_interleaved tx q valid numbered = record { order = λ k
 as_sent : (now id : ℕ) (m : Queued) → is_begun_or_waiting m ≡ true → is_numbered_as_sent (queued_message now id m) ≡ true
 as_sent now id m h = ap (λ b. cond b (nat_lt 0 m.offset) (not (nat_lt 0 m.offset))) (mid_some m.numbers) ∙ go (is_some m.numbers) h
   where
-    mid_some : (o : Option MessageNumbers) → is_some (option_map (λ n. wire words 0 n.mid) o) ≡ is_some o
+    mid_some : (o : Option MessageNumbers) → is_some (option_map (λ n. wire u32_space 0 n.mid) o) ≡ is_some o
     mid_some None = refl
     mid_some (Some n) = refl
 
@@ -277,16 +277,16 @@ as_sent now id m h = ap (λ b. cond b (nat_lt 0 m.offset) (not (nat_lt 0 m.offse
     go true e = e
     go false e = nothing_sent m.offset e
 
-waiting_as_sent : (now id : ℕ) (ms : List Queued) → list_all is_waiting ms ≡ true → list_all is_numbered_as_sent (map (queued_message now id) ms) ≡ true
+waiting_as_sent : (now id : ℕ) (ms : List Queued) → list_all is_unsent ms ≡ true → list_all is_numbered_as_sent (map (queued_message now id) ms) ≡ true
 waiting_as_sent now id [] h = refl
 waiting_as_sent now id (m ∷ rest) h =
-    let hs = and_parts (is_waiting m) (list_all is_waiting rest) h in
+    let hs = and_parts (is_unsent m) (list_all is_unsent rest) h in
     ap (λ b. b && list_all is_numbered_as_sent (map (queued_message now id) rest)) (as_sent now id m (waiting_in_order m hs.0)) ∙ waiting_as_sent now id rest hs.1
 
 all_as_sent : (now id : ℕ) (ms : List Queued) → are_in_order ms ≡ true → list_all is_numbered_as_sent (map (queued_message now id) ms) ≡ true
 all_as_sent now id [] h = refl
 all_as_sent now id (m ∷ rest) h =
-    let hs = and_parts (is_begun_or_waiting m) (list_all is_waiting rest) h in
+    let hs = and_parts (is_begun_or_waiting m) (list_all is_unsent rest) h in
     ap (λ b. b && list_all is_numbered_as_sent (map (queued_message now id) rest)) (as_sent now id m hs.0) ∙ waiting_as_sent now id rest hs.1
 
 above_it : (k m : ℕ) → k < m → is_at (nat_cmp k) m ≡ false

@@ -47,7 +47,7 @@ freed_in_order : (now id : ℕ) (q : Queue) → IsInOrder q → IsInOrder (freed
 freed_in_order now id q h =
     let s : Stream = stream id q.streams in
     let f = order.fresh_both now s.messages (h.order id) in
-    order.kept id (without_stale now s) q.streams q (freed now id q) (λ k. refl) refl refl refl f.0 f.1 h
+    order.put_stream_keeps_order id (without_stale now s) q.streams q (freed now id q) (λ k. refl) refl refl refl f.0 f.1 h
 
 one_in_order : (id : ℕ) (q : Queue) → IsInOrder q → IsInOrder (restarted_one id q)
 one_in_order id q h = record {
@@ -74,7 +74,7 @@ order_kept = kept_so IsInOrder (λ now id size q emitted some next h. order.turn
 freed_numbered : (now id : ℕ) (q : Queue) → IsNumbered q → IsNumbered (freed now id q)
 freed_numbered now id q h =
     let s : Stream = stream id q.streams in
-    number.kept id (without_stale now s) q.streams q (freed now id q) (λ k. refl) refl refl (number.fresh_rising 0 q.next_number now s.messages (h.rising id)) h
+    number.put_stream_keeps_numbers id (without_stale now s) q.streams q (freed now id q) (λ k. refl) refl refl (number.fresh_rising 0 q.next_number now s.messages (h.rising id)) h
 
 pub numbers_kept : IsKept IsNumbered
 numbers_kept = kept_so IsNumbered (λ now id size q emitted some next h. number.turn_numbered now id size q emitted h) freed_numbered number.steps_numbered number.restarted_numbered

@@ -4,7 +4,7 @@ use Rattle.std.specs.Prelude.{◌≡◌, ℕ, ◌+◌, ◌%◌, ◌^◌, Bool, i
 use Rattle.std.specs.List.Sorted.{IsStrictlySortedBy}
 use Rattle.std.specs.Map.{keys_of}
 use Rattle.std.specs.Ordering.{nat_cmp}
-use Rattle.sctp_serial.specs.Unwrapped.{origin, words, halves, wire}
+use Rattle.sctp_serial.specs.Unwrapped.{origin, u32_space, halves, wire}
 use Rattle.sctp_state.specs.Handover.{Transmission}
 use Rattle.sctp_state.specs.HandoverTimes.{moment_again, lifecycle_again}
 use Rattle.sctp_tx_queue.specs.declared.send_queue.message.MessageNumbers.{MessageNumbers}
@@ -18,7 +18,7 @@ abbrev pub again : ℕ → ℕ → ℕ
 again space n = origin + wire space 0 n
 
 abbrev pub numbers_again : Bool → MessageNumbers → MessageNumbers
-numbers_again is_unordered n = record { ssn = if is_unordered then origin else again halves n.ssn; mid = again words n.mid }
+numbers_again is_unordered n = record { ssn = if is_unordered then origin else again halves n.ssn; mid = again u32_space n.mid }
 
 abbrev pub message_again : ℕ → Queued → Queued
 message_again now m = record m {
@@ -32,8 +32,8 @@ stream_again now threshold s = record {
   messages = map (message_again now) s.messages;
   pause = NotPaused;
   next_ssn = again halves s.next_ssn;
-  next_ordered_mid = again words s.next_ordered_mid;
-  next_unordered_mid = again words s.next_unordered_mid;
+  next_ordered_mid = again u32_space s.next_ordered_mid;
+  next_unordered_mid = again u32_space s.next_unordered_mid;
   priority = s.priority;
   threshold = threshold;
 }

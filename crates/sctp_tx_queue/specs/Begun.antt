@@ -66,9 +66,9 @@ ResetEnds = (q : Queue) → (reset q).begun ≡ None
 
 -- ---- the payloads of a message's fragments, of at most these sizes in turn, joined
 
-abbrev pub concatenation : List ℕ → MessageNumbers → Queued → List ℕ
-concatenation [] n m = []
-concatenation (size ∷ sizes) n m = take size (drop m.offset m.payload) ++ (if ends size m then [] else concatenation sizes n (move_past size n m))
+abbrev pub fragments_payload : List ℕ → MessageNumbers → Queued → List ℕ
+fragments_payload [] n m = []
+fragments_payload (size ∷ sizes) n m = take size (drop m.offset m.payload) ++ (if ends size m then [] else fragments_payload sizes n (move_past size n m))
 
 -- whether these are enough for what is left
 abbrev pub is_ended : List ℕ → MessageNumbers → Queued → Bool

@@ -1,7 +1,7 @@
 -- The queue in the record of a socket that is handed over. Like a packet it has wire numbers.
 use Rattle.std.specs.Prelude.{ℕ, if◌then◌else◌, None, unwrap_or, option_map, List, map}
 use Rattle.std.specs.List.{flat_map}
-use Rattle.sctp_serial.specs.Unwrapped.{words, halves, wire}
+use Rattle.sctp_serial.specs.Unwrapped.{u32_space, halves, wire}
 use Rattle.sctp_state.specs.declared.api.handover.HandoverOutgoingStream.{HandoverOutgoingStream}
 use Rattle.sctp_state.specs.Handover.{StreamMessage, Transmission}
 use Rattle.sctp_state.specs.HandoverTimes.{ms_from}
@@ -18,7 +18,7 @@ queued_message now id m = record {
   lifecycle_id = unwrap_or m.lifecycle 0;
   message_id = m.number;
   remaining_offset = m.offset;
-  mid = option_map (λ n. wire words 0 n.mid) m.numbers;
+  mid = option_map (λ n. wire u32_space 0 n.mid) m.numbers;
   ssn = if m.is_unordered then None else option_map (λ n. wire halves 0 n.ssn) m.numbers;
   fsn = m.fsn;
 }
@@ -30,8 +30,8 @@ abbrev pub outgoing_stream : ℕ → Stream → HandoverOutgoingStream
 outgoing_stream id s = record {
   id = id;
   next_ssn = wire halves 0 s.next_ssn;
-  next_unordered_mid = wire words 0 s.next_unordered_mid;
-  next_ordered_mid = wire words 0 s.next_ordered_mid;
+  next_unordered_mid = wire u32_space 0 s.next_unordered_mid;
+  next_ordered_mid = wire u32_space 0 s.next_ordered_mid;
   priority = s.priority;
 }
 

@@ -12,8 +12,8 @@ use Rattle.sctp_tx_queue.specs.Resets.{prepare_reset, each_stepped}
 use Rattle.sctp_tx_queue.specs.Restarted.{reset}
 
 -- nothing of it is sent, and it has no numbers
-abbrev pub is_waiting : Queued → Bool
-is_waiting m = not (is_some m.numbers) && (m.offset == 0)
+abbrev pub is_unsent : Queued → Bool
+is_unsent m = not (is_some m.numbers) && (m.offset == 0)
 
 -- it has numbers exactly where something of it is sent
 abbrev pub is_begun_or_waiting : Queued → Bool
@@ -21,7 +21,7 @@ is_begun_or_waiting m = if is_some m.numbers then nat_lt 0 m.offset else m.offse
 
 abbrev pub are_in_order : List Queued → Bool
 are_in_order [] = true
-are_in_order (m ∷ rest) = is_begun_or_waiting m && list_all is_waiting rest
+are_in_order (m ∷ rest) = is_begun_or_waiting m && list_all is_unsent rest
 
 abbrev pub is_first_begun : List Queued → Bool
 is_first_begun [] = false
@@ -67,7 +67,7 @@ pub record NewIsInOrder : Type 0 where
   pub unsent : (o : Options) → IsUnsent (queue o)
 
 abbrev pub AddedInOrder : Type 0
-AddedInOrder = (id : ℕ) (m : Queued) (q : Queue) → is_waiting m ≡ true → IsInOrder q → IsInOrder (add id m q)
+AddedInOrder = (id : ℕ) (m : Queued) (q : Queue) → is_unsent m ≡ true → IsInOrder q → IsInOrder (add id m q)
 
 abbrev pub ProducedInOrder : Type 0
 ProducedInOrder = (now size : ℕ) (q : Queue) (emitted : Emitted (List ℕ)) → 0 < size → IsInOrder q → IsInOrder (produce now size q emitted).queue

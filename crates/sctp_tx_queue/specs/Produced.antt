@@ -1,8 +1,8 @@
 -- Fragments of queued messages, in the scheduler's order; messages that expired before their first one; and what is left
 -- of a message that was given up.
 use Rattle.std.specs.Prelude.{ℕ, zero, suc, ◌+◌, ◌-◌, ◌%◌, ◌^◌, ◌==◌, ◌&&◌, not, nat_le, Bool, true, false, if◌then◌else◌, Option, Some, None, is_some, unwrap_or, option_map, List, [], ◌∷◌, ◌++◌, length, take, drop}
-use Rattle.sctp_serial.specs.Unwrapped.{origin, words, halves, wire}
-use Rattle.sctp_state.specs.Events.{Event, OnBufferedAmountLow, OnTotalBufferedAmountLow, OnLifecycleMessageFullySent, Emitted, emit_events, give_up, expiry}
+use Rattle.sctp_serial.specs.Unwrapped.{origin, u32_space, halves, wire}
+use Rattle.sctp_state.specs.Events.{Event, OnBufferedAmountLow, OnTotalBufferedAmountLow, OnLifecycleMessageFullySent, Emitted, emit_events, emit_given_up, expired_events}
 use Rattle.sctp_state.specs.declared.api.GivenUpCause.TheVariants.{Lifetime}
 use Rattle.sctp_stream_scheduler.specs.StreamScheduler.{Scheduler, accept, peek, set_bytes_remaining}
 use Rattle.sctp_state.specs.ThresholdWatcher.{crosses}
@@ -10,7 +10,7 @@ use Rattle.sctp_chunk.specs.Chunk.{FragmentTree}
 use Rattle.sctp_tx_queue.specs.declared.send_queue.message.MessageNumbers.{MessageNumbers}
 use Rattle.sctp_tx_queue.specs.declared.send_queue.stream.PauseState.{PauseState}
 use Rattle.sctp_tx_queue.specs.declared.send_queue.stream.PauseState.TheVariants.{NotPaused, Pending, Paused, Resetting}
-use Rattle.sctp_tx_queue.specs.SendQueue.{Queued, Stream, Streams, Queue, left_bytes, watched_amount, watched_total, stream, put_stream, sendable, front_left}
+use Rattle.sctp_tx_queue.specs.SendQueue.{Queued, Stream, Streams, Queue, remaining_bytes, watched_amount, watched_total, stream, put_stream, sendable, front_left}
 
 -- a fragment, and what its message was accepted with
 pub record Produced : Type 0 where
@@ -22,13 +22,13 @@ pub record Produced : Type 0 where
 
 -- ---- expired messages
 
-abbrev pub is_due : ℕ → Option ℕ → Bool
-is_due now None = false
-is_due now (Some moment) = nat_le moment now
+abbrev pub is_expired : ℕ → Option ℕ → Bool
+is_expired now None = false
+is_expired now (Some moment) = nat_le moment now
 
 -- expired, and no fragment of it is sent
 abbrev pub is_stale : ℕ → Queued → Bool
-is_stale now m = not (is_some m.numbers) && is_due now m.expires
+is_stale now m = not (is_some m.numbers) && is_expired now m.expires
 
 abbrev pub is_front_stale : ℕ → List Queued → Bool
 is_front_stale now [] = false
@@ -40,9 +40,9 @@ fresh now [] = []
 fresh now (m ∷ rest) = if is_stale now m then fresh now rest else m ∷ rest
 
 -- what is emitted of them
-abbrev pub drop_expired : {P : Type 0} → ℕ → List Queued → Emitted P → Emitted P
-drop_expired now [] emitted = emitted
-drop_expired now (m ∷ rest) emitted = if is_stale now m then drop_expired now rest (emit_events (expiry m.lifecycle) (give_up m.number Lifetime emitted)) else emitted
+abbrev pub emit_expired : {P : Type 0} → ℕ → List Queued → Emitted P → Emitted P
+emit_expired now [] emitted = emitted
+emit_expired now (m ∷ rest) emitted = if is_stale now m then emit_expired now rest (emit_events (expired_events m.lifecycle) (emit_given_up m.number Lifetime emitted)) else emitted
 
 abbrev pub without_stale : ℕ → Stream → Stream
 without_stale now s = record s { messages = fresh now s.messages }
@@ -50,8 +50,8 @@ without_stale now s = record s { messages = fresh now s.messages }
 -- ---- the next fragment of a stream
 
 -- one more, as long as the count is below 2^64
-abbrev pub count_on : ℕ → ℕ
-count_on n = (n + 1) % 2 ^ 64
+abbrev pub next_wrapping : ℕ → ℕ
+next_wrapping n = (n + 1) % 2 ^ 64
 
 -- the numbers that the message has or takes
 abbrev pub numbers_of : Stream → Queued → MessageNumbers
@@ -65,24 +65,24 @@ numbers_of s m =
 abbrev pub took : Queued → Stream → Stream
 took m s =
     if is_some m.numbers then s
-    else (if m.is_unordered then record s { next_unordered_mid = count_on s.next_unordered_mid }
-    else record s { next_ssn = count_on s.next_ssn; next_ordered_mid = count_on s.next_ordered_mid })
+    else (if m.is_unordered then record s { next_unordered_mid = next_wrapping s.next_unordered_mid }
+    else record s { next_ssn = next_wrapping s.next_ssn; next_ordered_mid = next_wrapping s.next_ordered_mid })
 
 abbrev pub piece : ℕ → ℕ → MessageNumbers → Queued → FragmentTree
 piece id size n m = record {
   stream_id = id;
   is_unordered = m.is_unordered;
   ssn = wire halves 0 n.ssn;
-  mid = wire words 0 n.mid;
+  mid = wire u32_space 0 n.mid;
   fsn = m.fsn;
   ppid = m.ppid;
   payload = take size (drop m.offset m.payload);
   is_beginning = m.offset == 0;
-  is_end = nat_le (left_bytes m) size;
+  is_end = nat_le (remaining_bytes m) size;
 }
 
 abbrev pub ends : ℕ → Queued → Bool
-ends size m = nat_le (left_bytes m) size
+ends size m = nat_le (remaining_bytes m) size
 
 abbrev pub made_of : ℕ → ℕ → MessageNumbers → Queued → Produced
 made_of id size n m = record {
@@ -98,11 +98,11 @@ abbrev pub move_past : ℕ → MessageNumbers → Queued → Queued
 move_past size n m = record m { offset = m.offset + size; numbers = Some n; fsn = (m.fsn + 1) % 2 ^ 32 }
 
 -- no message is partly sent any more
-abbrev pub settle_pause : PauseState → PauseState
-settle_pause NotPaused = NotPaused
-settle_pause Pending = Paused
-settle_pause Paused = Paused
-settle_pause Resetting = Resetting
+abbrev pub pause_if_pending : PauseState → PauseState
+pause_if_pending NotPaused = NotPaused
+pause_if_pending Pending = Paused
+pause_if_pending Paused = Paused
+pause_if_pending Resetting = Resetting
 
 -- the same by the list of the stream's messages
 abbrev pub front_numbers : List Queued → Stream → MessageNumbers
@@ -122,7 +122,7 @@ front_ends size [] = false
 front_ends size (m ∷ rest) = ends size m
 
 abbrev pub pause_after : Bool → PauseState → PauseState
-pause_after is_end p = if is_end then settle_pause p else p
+pause_after is_end p = if is_end then pause_if_pending p else p
 
 abbrev pub moved_front : ℕ → MessageNumbers → List Queued → List Queued
 moved_front size n [] = []
@@ -131,7 +131,7 @@ moved_front size n (m ∷ rest) = if ends size m then rest else move_past size n
 -- what is left of the message at the front then
 abbrev pub front_left_after : ℕ → List Queued → ℕ
 front_left_after size [] = 0
-front_left_after size (m ∷ rest) = if ends size m then front_left rest else left_bytes m - size
+front_left_after size (m ∷ rest) = if ends size m then front_left rest else remaining_bytes m - size
 
 -- the fragment that a stream gives next
 abbrev pub next_fragment : ℕ → ℕ → Stream → Option Produced
@@ -207,7 +207,7 @@ turn_from id size ss q emitted =
     }
 
 abbrev pub turn : {P : Type 0} → ℕ → ℕ → ℕ → Queue → Emitted P → Turn P
-turn now id size q emitted = turn_from id size (streams_without_stale now id q.streams) q (drop_expired now (stream id q.streams).messages emitted)
+turn now id size q emitted = turn_from id size (streams_without_stale now id q.streams) q (emit_expired now (stream id q.streams).messages emitted)
 
 -- ---- the next fragment of all
 

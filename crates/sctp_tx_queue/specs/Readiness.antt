@@ -13,9 +13,9 @@ waits Pending = true
 waits Paused = true
 waits Resetting = true
 
-abbrev pub is_waiting : Stream → Bool
-is_waiting s = waits s.pause
+abbrev pub has_reset_pending : Stream → Bool
+has_reset_pending s = waits s.pause
 
 -- messages count where none may be handed over
 abbrev pub readiness : Bool → Queue → ℕ
-readiness is_strict q = bit_or (if is_strict && not (is_empty q) then 2 else 0) (if list_any is_waiting (values_of q.streams.entries) then 16 else 0)
+readiness is_strict q = bit_or (if is_strict && not (is_empty q) then 2 else 0) (if list_any has_reset_pending (values_of q.streams.entries) then 16 else 0)

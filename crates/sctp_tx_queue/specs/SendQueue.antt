@@ -69,11 +69,11 @@ queue o = record { streams = no_streams o; scheduler = scheduler (o.mtu - 32); n
 
 -- ---- amounts, in bytes that are not sent
 
-abbrev pub left_bytes : Queued → ℕ
-left_bytes m = length m.payload - m.offset
+abbrev pub remaining_bytes : Queued → ℕ
+remaining_bytes m = length m.payload - m.offset
 
 abbrev pub amount_of : Stream → ℕ
-amount_of s = sum_by left_bytes s.messages
+amount_of s = sum_by remaining_bytes s.messages
 
 abbrev pub total_of : Entries → ℕ
 total_of es = sum_by amount_of (values_of es)
@@ -105,8 +105,8 @@ abbrev pub stream : ℕ → Streams → Stream
 stream id ss = unwrap_or (lookup (is_at (nat_cmp id)) ss.entries) (blank ss)
 
 -- with the stream among the others
-abbrev pub open_stream : ℕ → Streams → Streams
-open_stream id ss =
+abbrev pub with_stream : ℕ → Streams → Streams
+with_stream id ss =
     if is_some (lookup (is_at (nat_cmp id)) ss.entries) then ss
     else record ss { entries = insert_entry nat_cmp ss.entries id (blank ss) }
 
@@ -124,7 +124,7 @@ is_stopped Resetting = true
 
 abbrev pub front_left : List Queued → ℕ
 front_left [] = 0
-front_left (m ∷ rest) = left_bytes m
+front_left (m ∷ rest) = remaining_bytes m
 
 -- what is left of the message that goes next
 abbrev pub sendable : Stream → ℕ
@@ -150,7 +150,7 @@ next_number n = (n + 1) % 2 ^ 32
 abbrev pub add : ℕ → Queued → Queue → Queue
 add id m q =
     let s : Stream = push m (stream id q.streams) in
-    record q { streams = put_stream id s (open_stream id q.streams); scheduler = set_sendable id s q.scheduler; next_number = next_number q.next_number }
+    record q { streams = put_stream id s (with_stream id q.streams); scheduler = set_sendable id s q.scheduler; next_number = next_number q.next_number }
 
 -- ---- queries
 

@@ -1,7 +1,7 @@
 //! What holds over several calls of the send queue.
 
 ghost use Rattle.std.specs.Prelude.{◌≡◌, true, drop};
-ghost use Rattle.sctp_tx_queue.specs.Begun.{concatenation, is_ended, AddedStays, ThresholdStays, PriorityStays, ModeStays, PreparedStays, StepsStay, DiscardStays, ResetEnds};
+ghost use Rattle.sctp_tx_queue.specs.Begun.{fragments_payload, is_ended, AddedStays, ThresholdStays, PriorityStays, ModeStays, PreparedStays, StepsStay, DiscardStays, ResetEnds};
 ghost use Rattle.sctp_tx_queue.specs.Again.{EachComesBack};
 ghost use Rattle.sctp_tx_queue.specs.InOrder.{NewIsInOrder, AddedInOrder, ProducedInOrder, SettingsInOrder, DiscardedInOrder, ResetsInOrder, RestartedInOrder, CallsNumber, CallsLeaveRests, IsInOrder, IsNumbered, HasRests};
 ghost use Rattle.sctp_tx_queue.specs.TakenUp.{RestoredInOrder, WrittenAsSent};
@@ -12,7 +12,7 @@ use crate::send_queue::message::{MessageNumbers, QueuedMessage};
 /// The payloads of the fragments that are produced of a message, up to its end and whatever their sizes, are joined what
 /// was left of its payload: of a message of which nothing was sent, the payload.
 pub fn fragments_are_what_is_left(message: &QueuedMessage, numbers: MessageNumbers, sizes: &[usize])
-    ensures { is_ended sizes.now numbers message.now ≡ true → concatenation sizes.now numbers message.now ≡ drop message.now.offset message.now.payload }
+    ensures { is_ended sizes.now numbers message.now ≡ true → fragments_payload sizes.now numbers message.now ≡ drop message.now.offset message.now.payload }
 {}
 
 /// Without interleaving a message that is begun is ended before another begins (RFC 9260 section 6.9): `produce` goes on

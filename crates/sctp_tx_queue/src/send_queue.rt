@@ -7,13 +7,13 @@ ghost use Rattle.std.specs.Map.{lookup, keys_of, values_of};
 ghost use Rattle.std.specs.Ordering.{nat_cmp};
 ghost use Rattle.std.specs.BTreeMap.{is_at};
 ghost use Rattle.sctp_state.specs.Options.{options_of};
-ghost use Rattle.sctp_state.specs.Events.{Grown, expiry, emit_events};
+ghost use Rattle.sctp_state.specs.Events.{Grown, expired_events, emit_events};
 ghost use Rattle.sctp_stream_scheduler.specs.StreamScheduler.{set_bytes_remaining};
 ghost use Rattle.sctp_tx_queue.specs.declared.send_queue.stream.ResetStep.TheVariants.{Requested, Performed, Refused};
-ghost use Rattle.sctp_tx_queue.specs.SendQueue.{amount_of, total_of, stream, open_stream, queue, add, is_empty};
+ghost use Rattle.sctp_tx_queue.specs.SendQueue.{amount_of, total_of, stream, with_stream, queue, add, is_empty};
 ghost use Rattle.sctp_tx_queue.specs.Produced.{begun_by, turn, turn_from, produce, next_stream};
 ghost use Rattle.sctp_tx_queue.specs.Settings.{set_low_threshold, set_priority, set_mode, discard, begun_without};
-ghost use Rattle.sctp_tx_queue.specs.Resets.{prepare_reset, emitted_waiting, is_ready, requested_streams, request_resets, commit_resets, roll_back_resets, step_stream, each_stepped};
+ghost use Rattle.sctp_tx_queue.specs.Resets.{prepare_reset, emit_unsent, is_ready, streams_to_request, request_resets, commit_resets, roll_back_resets, apply_reset_step, each_stepped};
 ghost use Rattle.sctp_tx_queue.specs.Begun.{Begins, GoesOn};
 ghost use Rattle.sctp_tx_queue.specs.Interrupted.{Same, Freed, Stopped, Interrupted, SomeStepped};
 ghost use Rattle.sctp_state.specs.Handover.{handover_state_of};
@@ -72,7 +72,7 @@ fn leave_line(
     lifecycle_id: Option<LifecycleId>,
 ) -> Result<(), AllocError>
     ensures ok { OnOk result (scheduler.new ≡ set_bytes_remaining id.0 bytes priority scheduler.old) }
-    ensures emitted { OnOk result (events.new ≡ emit_events (expiry lifecycle_id) events.old) }
+    ensures emitted { OnOk result (events.new ≡ emit_events (expired_events lifecycle_id) events.old) }
     ensures err { OnErr result (scheduler.new ≡ scheduler.old) }
     ensures silent { OnErr result (events.new ≡ events.old) }
 {
@@ -435,10 +435,10 @@ impl SendQueue {
         events: &mut Events,
     ) -> Result<(), AllocError>
         requires there { 0 < bytes → IsSome (lookup (is_at (nat_cmp id.0)) self.old.streams.entries) }
-        ensures ok { OnOk result (self.new ≡ (let p : ℕ = (stream id.0 self.old.streams).priority in record self.old { streams = open_stream id.0 self.old.streams; scheduler = set_bytes_remaining id.0 bytes p self.old.scheduler })) }
+        ensures ok { OnOk result (self.new ≡ (let p : ℕ = (stream id.0 self.old.streams).priority in record self.old { streams = with_stream id.0 self.old.streams; scheduler = set_bytes_remaining id.0 bytes p self.old.scheduler })) }
         ensures open { OnOk result (IsSome (lookup (is_at (nat_cmp id.0)) self.new.streams.entries)) }
         ensures stream { OnOk result (stream id.0 self.new.streams ≡ stream id.0 self.old.streams) }
-        ensures emitted { OnOk result (events.new ≡ emitted_waiting (stream id.0 self.old.streams).messages events.old) }
+        ensures emitted { OnOk result (events.new ≡ emit_unsent (stream id.0 self.old.streams).messages events.old) }
         ensures err { OnErr result (self.new ≡ self.old) }
         ensures grown { OnErr result (Grown events.old events.new) }
     {
@@ -529,7 +529,7 @@ impl SendQueue {
     /// The first streams that can be reset and are in no request, by ascending id and at most `most`: they are in one
     /// from then on.
     pub fn get_streams_ready_to_reset(&mut self, most: usize) -> Result<Vec<StreamId>, AllocError>
-        ensures streams { IfOk result (λ ids. map (λ id. id.0) ids.items ≡ requested_streams most self.old) }
+        ensures streams { IfOk result (λ ids. map (λ id. id.0) ids.items ≡ streams_to_request most self.old) }
         ensures queue { OnOk result (self.new ≡ request_resets most self.old) }
         ensures err { OnErr result (self.new ≡ self.old) }
     {
@@ -559,7 +559,7 @@ impl SendQueue {
 
     /// Takes a step of a stream's reset. Without memory nothing changes.
     fn take_step(&mut self, id: StreamId, step: ResetStep) -> Result<(), AllocError>
-        ensures ok { OnOk result (self.new ≡ step_stream step id.0 self.old) }
+        ensures ok { OnOk result (self.new ≡ apply_reset_step step id.0 self.old) }
         ensures err { OnErr result (self.new ≡ self.old) }
     {
         let bytes = self.streams.sendable_stepped(id, step);
@@ -581,7 +581,7 @@ impl SendQueue {
 
     /// A stream goes into a request, which takes no memory: it has nothing to send from then on.
     fn request_one(&mut self, id: StreamId)
-        ensures { self.new ≡ step_stream Requested id.0 self.old }
+        ensures { self.new ≡ apply_reset_step Requested id.0 self.old }
     {
         self.scheduler.leave(id);
         self.streams.take_step(id, ResetStep::Requested);

@@ -13,7 +13,7 @@ use Rattle.sctp_state.specs.declared.api.errors.SendError.{SendError}
 use Rattle.sctp_state.specs.declared.api.errors.SendError.TheVariants as refusals
 use Rattle.sctp_state.specs.Events.{Event, SendPacket, OnConnected, OnClosed, OnConnectionRestarted, OnAborted, OnError, OnBufferedAmountLow, OnTotalBufferedAmountLow, OnStreamsResetFailed, OnStreamsResetPerformed, OnIncomingStreamReset, OnLifecycleMessageFullySent, OnLifecycleMessageMaybeExpired, OnLifecycleMessageExpired, OnLifecycleMessageDelivered, OnLifecycleEnd}
 use Rattle.sctp_serial.specs.Messages.{Message}
-use Rattle.spec_world.specs.Observations.{End, Answer, Done, Sent, SentMany, Received, AskedReset, HandedOver, NotReady, Entry, Called, Given, Foreign, Timed, Associated, EmittedPacket, EmittedEvent, GaveUp, BecameReady, end_name}
+use Rattle.spec_world.specs.Observations.{End, Answer, Done, Sent, SentMany, TookMessage, AskedReset, HandedOver, NotReady, Entry, Called, Given, Foreign, Timed, Associated, EmittedPacket, EmittedEvent, GaveUp, BecameReady, end_name}
 use Rattle.spec_world.specs.World.{World, side_of}
 
 abbrev pub line : List ℕ → List ℕ
@@ -132,8 +132,8 @@ answer_text x Done = []
 answer_text x (Sent None) = []
 answer_text x (Sent (Some e)) = refusal_line x (refusal_name e)
 answer_text x (SentMany refused) = []
-answer_text x (Received None) = none_line x
-answer_text x (Received (Some m)) = message_line x m
+answer_text x (TookMessage None) = none_line x
+answer_text x (TookMessage (Some m)) = message_line x m
 answer_text x (AskedReset None) = []
 answer_text x (AskedReset (Some e)) = refusal_line x (reset_refusal_name e)
 answer_text x (HandedOver h) = []

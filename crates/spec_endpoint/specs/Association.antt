@@ -11,7 +11,7 @@ use Rattle.sctp_state.specs.Options.{Options}
 use Rattle.sctp_state.specs.Timer.{Timer, timer}
 use Rattle.sctp_state.specs.RetransmissionTimeout.{Rtt, unsampled}
 use Rattle.sctp_state.specs.TxErrorCounter.{ErrorCounter, no_errors}
-use Rattle.sctp_state.specs.Events.{Emitted, silent}
+use Rattle.sctp_state.specs.Events.{Emitted, nothing_emitted}
 use Rattle.sctp_capabilities.specs.Capabilities.{Capabilities}
 use Rattle.sctp_rx.specs.DataTracker.{DataTracker, tracker}
 use Rattle.sctp_rx.specs.ReassemblyQueue.{Reassembly, reassembly}
@@ -118,7 +118,7 @@ pub record EndpointState (P : Type 0) : Type 0 where
 -- an end with all that its generator will answer
 pub record Endpoint (P : Type 0) : Type 0 where
   pub endpoint_state : EndpointState P
-  pub random : Stream
+  pub draws : Stream
 
 abbrev pub context : {P : Type 0} → Options → Packing P → Context P
 context o pack = record {
@@ -130,12 +130,12 @@ context o pack = record {
   heartbeats = heartbeats o;
   counts = record { rx_packets = 0; tx_packets = 0; tx_messages = 0 };
   peer = implementations.Unknown;
-  emitted = silent;
+  emitted = nothing_emitted;
   pack = pack;
 }
 
 abbrev pub fresh : {P : Type 0} → Options → Packing P → Stream → Endpoint P
-fresh o pack words = record { endpoint_state = record { state = Closed; context = context o pack }; random = words }
+fresh o pack draws = record { endpoint_state = record { state = Closed; context = context o pack }; draws = draws }
 
 -- in this phase
 abbrev pub open_as : {P : Type 0} → Phase → Tcb → Context P → EndpointState P

@@ -43,20 +43,20 @@ is_queue_full id c =
     || nat_le c.options.per_stream_send_queue_limit (amount_of (stream id c.queue.streams))
 
 -- the first that applies
-abbrev pub refusal_by : (is_empty is_large is_late is_full : Bool) → (len limit : ℕ) → Option SendError
-refusal_by true is_large is_late is_full len limit = Some EmptyPayload
-refusal_by false true is_late is_full len limit = Some (MessageTooLarge len limit)
-refusal_by false false true is_full len limit = Some ShuttingDown
-refusal_by false false false true len limit = Some QueueFull
-refusal_by false false false false len limit = None
+abbrev pub send_refusal_by : (is_empty is_large is_late is_full : Bool) → (len limit : ℕ) → Option SendError
+send_refusal_by true is_large is_late is_full len limit = Some EmptyPayload
+send_refusal_by false true is_late is_full len limit = Some (MessageTooLarge len limit)
+send_refusal_by false false true is_full len limit = Some ShuttingDown
+send_refusal_by false false false true len limit = Some QueueFull
+send_refusal_by false false false false len limit = None
 
-abbrev pub refusal : {P : Type 0} → Message → SocketState → Context P → Option SendError
-refusal m shown c =
-    refusal_by (length m.payload == 0) (nat_lt c.options.max_message_size (length m.payload)) (is_shutting_down shown) (is_queue_full m.stream c)
+abbrev pub send_refusal : {P : Type 0} → Message → SocketState → Context P → Option SendError
+send_refusal m shown c =
+    send_refusal_by (length m.payload == 0) (nat_lt c.options.max_message_size (length m.payload)) (is_shutting_down shown) (is_queue_full m.stream c)
     (length m.payload) c.options.max_message_size
 
-abbrev pub refusal_of : {P : Type 0} → Message → EndpointState P → Option SendError
-refusal_of m s = refusal m (shown_state s.state) s.context
+abbrev pub send_refusal_of : {P : Type 0} → Message → EndpointState P → Option SendError
+send_refusal_of m s = send_refusal m (shown_state s.state) s.context
 
 abbrev pub refusal_events : {P : Type 0} → SendError → List (Event P)
 refusal_events EmptyPayload = OnError ProtocolViolation (codes "Unable to send empty message") ∷ []
@@ -66,13 +66,13 @@ refusal_events QueueFull = OnError ResourceExhaustion (codes "Unable to send mes
 refusal_events Memory = []
 refusal_events Failed = []
 
-abbrev pub lifecycle_end : {P : Type 0} → Option ℕ → List (Event P)
-lifecycle_end None = []
-lifecycle_end (Some id) = OnLifecycleEnd id ∷ []
+abbrev pub lifecycle_end_events : {P : Type 0} → Option ℕ → List (Event P)
+lifecycle_end_events None = []
+lifecycle_end_events (Some id) = OnLifecycleEnd id ∷ []
 
 -- a message is refused: its lifecycle ends
 abbrev pub refuse : {P : Type 0} → SendError → Option ℕ → Context P → Context P
-refuse e lifecycle c = record c { emitted = emit_events (lifecycle_end lifecycle ++ refusal_events e) c.emitted }
+refuse e lifecycle c = record c { emitted = emit_events (lifecycle_end_events lifecycle ++ refusal_events e) c.emitted }
 
 -- as it waits; without a limit its fragments are sent again 65,535 times
 abbrev pub queue_entry : (number now : ℕ) → Message → SendOptions → Queued
@@ -101,14 +101,14 @@ offered None m o c = accept m o c
 offered (Some e) m o c = refuse e o.lifecycle_id c
 
 abbrev pub offer : {P : Type 0} → Message → SendOptions → SocketState → Context P → Context P
-offer m o shown c = offered (refusal m shown c) m o c
+offer m o shown c = offered (send_refusal m shown c) m o c
 
 abbrev pub sent_if : {P : Type 0} → (refusal : Option SendError) → EndpointState P → EndpointState P
 sent_if None s = where_open send_in s
 sent_if (Some e) s = s
 
 abbrev pub send : {P : Type 0} → Message → SendOptions → EndpointState P → EndpointState P
-send m o s = sent_if (refusal_of m s) (with_context s (offer m o (shown_state s.state) s.context))
+send m o s = sent_if (send_refusal_of m s) (with_context s (offer m o (shown_state s.state) s.context))
 
 -- several: one sending at the end
 abbrev pub offer_all : {P : Type 0} → List Message → SendOptions → SocketState → Context P → Context P
@@ -125,7 +125,7 @@ with_refusal place (Some e) rest = (place, e) ∷ rest
 
 abbrev pub refusals : {P : Type 0} → (place : ℕ) → List Message → SendOptions → SocketState → Context P → List (ℕ × SendError)
 refusals place [] o shown c = []
-refusals place (m ∷ ms) o shown c = with_refusal place (refusal m shown c) (refusals (place + 1) ms o shown (offer m o shown c))
+refusals place (m ∷ ms) o shown c = with_refusal place (send_refusal m shown c) (refusals (place + 1) ms o shown (offer m o shown c))
 
 -- ---- settings
 
@@ -146,17 +146,17 @@ ready_in Closed = []
 ready_in (CookieWait tag first t1) = []
 ready_in (Open phase t) = t.reassembly.ready
 
-abbrev pub taken : Tcb → Tcb
-taken t = record t { reassembly = record t.reassembly { ready = drop 1 t.reassembly.ready } }
+abbrev pub without_first_message : Tcb → Tcb
+without_first_message t = record t { reassembly = record t.reassembly { ready = drop 1 t.reassembly.ready } }
 
 -- the first one is handed out
-abbrev pub taken_in : State → State
-taken_in Closed = Closed
-taken_in (CookieWait tag first t1) = CookieWait tag first t1
-taken_in (Open phase t) = Open phase (taken t)
+abbrev pub without_first_message_in : State → State
+without_first_message_in Closed = Closed
+without_first_message_in (CookieWait tag first t1) = CookieWait tag first t1
+without_first_message_in (Open phase t) = Open phase (without_first_message t)
 
 abbrev pub take_message : {P : Type 0} → EndpointState P → EndpointState P
-take_message s = record s { state = taken_in s.state }
+take_message s = record s { state = without_first_message_in s.state }
 
 -- nothing queued, no item kept
 abbrev pub keeps_items : State → Bool

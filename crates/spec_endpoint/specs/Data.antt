@@ -9,12 +9,12 @@ use Rattle.sctp_rx.specs.DataTracker as tracker
 use Rattle.sctp_rx.specs.ReassemblyQueue.{Reassembly, watermark, queued_bytes}
 use Rattle.sctp_rx.specs.ReassemblyQueue as reassembly
 use Rattle.spec_endpoint.specs.Association.{Tcb, State, Closed, CookieWait, Open, Context, EndpointState, open_as, with_context}
-use Rattle.spec_endpoint.specs.Packets.{complain, emit_chunk}
+use Rattle.spec_endpoint.specs.Packets.{emit_error, emit_chunk}
 
 -- ---- DATA
 
 abbrev pub no_data : {P : Type 0} → Context P → Context P
-no_data c = complain ProtocolViolation (codes "Received DATA chunk with no user data") c
+no_data c = emit_error ProtocolViolation (codes "Received DATA chunk with no user data") c
 
 abbrev pub on_no_data : {P : Type 0} → (tsn : ℕ) → State → Context P → Context P
 on_no_data tsn Closed c = no_data c
@@ -22,14 +22,14 @@ on_no_data tsn (CookieWait tag first t1) c = no_data c
 on_no_data tsn (Open phase t) c = emit_chunk (error_chunk (no_user_data (record { 0 = tsn }) ∷ [])) t (no_data c)
 
 abbrev pub not_connected : {P : Type 0} → Context P → Context P
-not_connected c = complain NotConnected (codes "Received unexpected commands on socket that is not connected") c
+not_connected c = emit_error NotConnected (codes "Received unexpected commands on socket that is not connected") c
 
 -- no more may come
 abbrev pub is_full : Reassembly → Bool
 is_full r = nat_le r.max_size (queued_bytes r) || nat_le (watermark r) (queued_bytes r)
 
-abbrev pub takes : (tsn : ℕ) → Tcb → Bool
-takes tsn t = not (is_full t.reassembly) && is_valid t.tracker.tracker (number_of t.tracker tsn)
+abbrev pub accepts_tsn : (tsn : ℕ) → Tcb → Bool
+accepts_tsn tsn t = not (is_full t.reassembly) && is_valid t.tracker.tracker (number_of t.tracker tsn)
 
 abbrev pub observe_tsn : (tsn : ℕ) → (is_immediate : Bool) → DataTracker → DataTracker
 observe_tsn tsn is_immediate d = record d { tracker = observe (number_of d tsn) is_immediate d.tracker }
@@ -45,14 +45,14 @@ take_fragment tsn is_immediate f t = record t {
   reassembly = added_unless (has_seen t.tracker.tracker (number_of t.tracker tsn)) tsn f t.reassembly;
 }
 
-abbrev pub taken_if : (takes : Bool) → (tsn : ℕ) → (is_immediate : Bool) → FragmentTree → Tcb → Tcb
-taken_if true tsn is_immediate f t = take_fragment tsn is_immediate f t
-taken_if false tsn is_immediate f t = t
+abbrev pub fragment_if : (takes : Bool) → (tsn : ℕ) → (is_immediate : Bool) → FragmentTree → Tcb → Tcb
+fragment_if true tsn is_immediate f t = take_fragment tsn is_immediate f t
+fragment_if false tsn is_immediate f t = t
 
 abbrev pub on_data_in : {P : Type 0} → State → (tsn : ℕ) → (is_immediate : Bool) → FragmentTree → Context P → EndpointState P
 on_data_in Closed tsn is_immediate f c = record { state = Closed; context = not_connected c }
 on_data_in (CookieWait tag first t1) tsn is_immediate f c = record { state = CookieWait tag first t1; context = not_connected c }
-on_data_in (Open phase t) tsn is_immediate f c = open_as phase (taken_if (takes tsn t) tsn is_immediate f t) c
+on_data_in (Open phase t) tsn is_immediate f c = open_as phase (fragment_if (accepts_tsn tsn t) tsn is_immediate f t) c
 
 abbrev pub on_data_if : {P : Type 0} → (is_empty : Bool) → (tsn : ℕ) → (is_immediate : Bool) → FragmentTree → EndpointState P → EndpointState P
 on_data_if true tsn is_immediate f s = with_context s (on_no_data tsn s.state s.context)
@@ -63,27 +63,27 @@ on_data tsn is_immediate f s = on_data_if (length f.payload == 0) tsn is_immedia
 
 -- ---- a forward point, which reaches reassembly where it moves the cumulative TSN
 
-abbrev pub pass_tsn : (tsn : ℕ) → DataTracker → DataTracker
-pass_tsn tsn d = record d { tracker = tracker.forward (number_of d tsn) d.tracker }
+abbrev pub advance_cumulative_tsn : (tsn : ℕ) → DataTracker → DataTracker
+advance_cumulative_tsn tsn d = record d { tracker = tracker.forward (number_of d tsn) d.tracker }
 
 abbrev pub skipped_if : (moves_on : Bool) → (tsn : ℕ) → List SkippedStream → Reassembly → Reassembly
 skipped_if true tsn skipped r = reassembly.forward tsn skipped r
 skipped_if false tsn skipped r = r
 
-abbrev pub forward_to : (tsn : ℕ) → List SkippedStream → Tcb → Tcb
-forward_to tsn skipped t = record t {
-  tracker = pass_tsn tsn t.tracker;
+abbrev pub handle_forward_tsn : (tsn : ℕ) → List SkippedStream → Tcb → Tcb
+handle_forward_tsn tsn skipped t = record t {
+  tracker = advance_cumulative_tsn tsn t.tracker;
   reassembly = skipped_if (moves_on (number_of t.tracker tsn) t.tracker.tracker) tsn skipped t.reassembly;
 }
 
-abbrev pub forwarded_if : (is_valid : Bool) → (tsn : ℕ) → List SkippedStream → Tcb → Tcb
-forwarded_if true tsn skipped t = forward_to tsn skipped t
-forwarded_if false tsn skipped t = t
+abbrev pub handle_forward_tsn_if : (is_valid : Bool) → (tsn : ℕ) → List SkippedStream → Tcb → Tcb
+handle_forward_tsn_if true tsn skipped t = handle_forward_tsn tsn skipped t
+handle_forward_tsn_if false tsn skipped t = t
 
-abbrev pub forwarded_in : State → (tsn : ℕ) → List SkippedStream → State
-forwarded_in Closed tsn skipped = Closed
-forwarded_in (CookieWait tag first t1) tsn skipped = CookieWait tag first t1
-forwarded_in (Open phase t) tsn skipped = Open phase (forwarded_if (is_valid t.tracker.tracker (number_of t.tracker tsn)) tsn skipped t)
+abbrev pub handle_forward_tsn_in : State → (tsn : ℕ) → List SkippedStream → State
+handle_forward_tsn_in Closed tsn skipped = Closed
+handle_forward_tsn_in (CookieWait tag first t1) tsn skipped = CookieWait tag first t1
+handle_forward_tsn_in (Open phase t) tsn skipped = Open phase (handle_forward_tsn_if (is_valid t.tracker.tracker (number_of t.tracker tsn)) tsn skipped t)
 
 abbrev pub on_forward : {P : Type 0} → (tsn : ℕ) → List SkippedStream → EndpointState P → EndpointState P
-on_forward tsn skipped s = record s { state = forwarded_in s.state tsn skipped }
+on_forward tsn skipped s = record s { state = handle_forward_tsn_in s.state tsn skipped }

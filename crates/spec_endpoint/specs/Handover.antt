@@ -18,7 +18,7 @@ use Rattle.sctp_tx_queue.specs.Readiness as queued
 use Rattle.sctp_tx_queue.specs.Restored as taken_up
 use Rattle.sctp_tx.specs.Handover as sender
 use Rattle.spec_endpoint.specs.Association.{Identity, Tcb, tcb, Phase, CookieEchoed, Established, ShutdownPending, ShutdownSent, ShutdownReceived, ShutdownAckSent, State, Closed, CookieWait, Open, Context, EndpointState}
-use Rattle.spec_endpoint.specs.Packets.{say}
+use Rattle.spec_endpoint.specs.Packets.{emit_event_in}
 use Rattle.spec_endpoint.specs.ResetRequests.{Request, Requests}
 use Rattle.spec_endpoint.specs.Sending.{open_with, send_buffered}
 
@@ -32,12 +32,12 @@ abbrev pub receiving : Tcb → ℕ
 receiving t = bit_or (tracker.readiness t.tracker.tracker) (reassembly.readiness t.reassembly)
 
 -- an own reset request that waits for its answer
-abbrev pub pending : Option Request → ℕ
-pending None = 0
-pending (Some r) = 4
+abbrev pub request_bit : Option Request → ℕ
+request_bit None = 0
+request_bit (Some r) = 4
 
 abbrev pub request_readiness : Requests → ℕ
-request_readiness r = pending r.current
+request_readiness r = request_bit r.current
 
 abbrev pub block_readiness : (is_strict : Bool) → Tcb → ℕ
 block_readiness is_strict t = bit_or (bit_or (receiving t) (sender.readiness is_strict t.sender)) (request_readiness t.requests)
@@ -81,7 +81,7 @@ abbrev pub transmission : (now : ℕ) → Tcb → Transmission → Transmission
 transmission now t tx = own_requests t (sender.handed_over now t.sender tx)
 
 abbrev pub reception : Tcb → Receive → Receive
-reception t rx = peer_requests t (reassembly.write_handover t.reassembly (tracker.receive t.tracker rx))
+reception t rx = peer_requests t (reassembly.write_handover t.reassembly (tracker.write_handover t.tracker rx))
 
 -- a control block in place of what the record has
 abbrev pub block_written : (now : ℕ) → Tcb → HandoverState → HandoverState
@@ -117,7 +117,7 @@ handed_over s = handover_state_in s.state s.context
 abbrev pub left_in : {P : Type 0} → State → Context P → EndpointState P
 left_in Closed c = record { state = Closed; context = c }
 left_in (CookieWait tag first t1) c = record { state = CookieWait tag first t1; context = c }
-left_in (Open phase t) c = record { state = Closed; context = say OnClosed c }
+left_in (Open phase t) c = record { state = Closed; context = emit_event_in OnClosed c }
 
 abbrev pub leave : {P : Type 0} → EndpointState P → EndpointState P
 leave s = left_in s.state s.context
@@ -172,12 +172,12 @@ block_restored now h t = record t {
 abbrev pub tcb_from : (now : ℕ) → Options → HandoverState → Tcb
 tcb_from now o h = block_restored now h (tcb o (identity_from h) h.tx.rwnd (capabilities_from o h.capabilities))
 
-abbrev pub queue_taken : {P : Type 0} → HandoverState → Context P → Context P
-queue_taken h c = record c { queue = taken_up.restore c.now h.capabilities.message_interleaving h.tx c.queue }
+abbrev pub queue_restored : {P : Type 0} → HandoverState → Context P → Context P
+queue_restored h c = record c { queue = taken_up.restore c.now h.capabilities.message_interleaving h.tx c.queue }
 
 -- the association goes on; it is new to the user of this socket
 abbrev pub take_up : {P : Type 0} → HandoverState → Context P → EndpointState P
-take_up h c = open_with Established (send_buffered false (tcb_from c.now c.options h) (say OnConnected (queue_taken h c)))
+take_up h c = open_with Established (send_buffered false (tcb_from c.now c.options h) (emit_event_in OnConnected (queue_restored h c)))
 
 -- ---- whether it is taken up
 
@@ -185,19 +185,19 @@ abbrev pub invalid_unless : (is_valid : Bool) → Option RestoreError
 invalid_unless true = None
 invalid_unless false = Some InvalidState
 
-abbrev pub refusal_in : State → HandoverState → Option RestoreError
-refusal_in Closed h = invalid_unless (is_valid_state h)
-refusal_in (CookieWait tag first t1) h = Some SocketNotClosed
-refusal_in (Open phase t) h = Some SocketNotClosed
+abbrev pub restore_refusal_in : State → HandoverState → Option RestoreError
+restore_refusal_in Closed h = invalid_unless (is_valid_state h)
+restore_refusal_in (CookieWait tag first t1) h = Some SocketNotClosed
+restore_refusal_in (Open phase t) h = Some SocketNotClosed
 
 -- of a closed socket nothing is taken up
-abbrev pub taken_as : {P : Type 0} → HandoverSocketState → HandoverState → EndpointState P → EndpointState P
-taken_as handed.Closed h s = s
-taken_as handed.Connected h s = take_up h s.context
+abbrev pub restored_as : {P : Type 0} → HandoverSocketState → HandoverState → EndpointState P → EndpointState P
+restored_as handed.Closed h s = s
+restored_as handed.Connected h s = take_up h s.context
 
 abbrev pub restored_unless : {P : Type 0} → (refusal : Option RestoreError) → HandoverState → EndpointState P → EndpointState P
-restored_unless None h s = taken_as h.socket_state h s
+restored_unless None h s = restored_as h.socket_state h s
 restored_unless (Some e) h s = s
 
 abbrev pub restore : {P : Type 0} → HandoverState → EndpointState P → EndpointState P
-restore h s = restored_unless (refusal_in s.state h) h s
+restore h s = restored_unless (restore_refusal_in s.state h) h s

@@ -17,13 +17,13 @@ use Rattle.sctp_capabilities.specs.Capabilities.{Capabilities}
 use Rattle.sctp_rx.specs.DataTracker.{packet_end, is_ack_due}
 use Rattle.spec_endpoint.specs.Association.{Tcb, Phase, CookieEchoed, Established, ShutdownPending, ShutdownSent, ShutdownReceived, ShutdownAckSent, State, Closed, CookieWait, Open, Context, EndpointState, Endpoint, open_as, with_context, in_context, where_open}
 use Rattle.spec_endpoint.specs.Heartbeats.{on_heartbeat_ack}
-use Rattle.spec_endpoint.specs.Packets.{add, round_up, new_packet, complain, emit_chunk}
-use Rattle.spec_endpoint.specs.Sending.{ask_for_sack, count_sack_sent, selective_ack, is_alone, open_with, send_with}
-use Rattle.spec_endpoint.specs.Shutdown.{send_shutdown, on_shutdown, on_shutdown_ack, on_shutdown_complete, violate, on_abort, on_error}
+use Rattle.spec_endpoint.specs.Packets.{add, round_down_to_4, new_packet, emit_error, emit_chunk}
+use Rattle.spec_endpoint.specs.Sending.{take_due_ack, without_duplicates, selective_ack, is_before_cookie_ack, open_with, send_with}
+use Rattle.spec_endpoint.specs.Shutdown.{send_shutdown, on_shutdown, on_shutdown_ack, on_shutdown_complete, abort_for_violation, on_abort, on_error}
 use Rattle.spec_endpoint.specs.Data.{on_data, on_forward}
 use Rattle.spec_endpoint.specs.Sack.{on_sack}
 use Rattle.spec_endpoint.specs.StreamReset.{on_reconfig}
-use Rattle.spec_endpoint.specs.Opening.{stands, complains, on_init, on_init_ack, on_cookie_ack, on_cookie_echo}
+use Rattle.spec_endpoint.specs.Opening.{with_endpoint_state, emit_parse_error, on_init, on_init_ack, on_cookie_ack, on_cookie_echo}
 
 -- ---- which packets are taken (RFC 9260 section 8.5)
 
@@ -67,7 +67,7 @@ is_single_init chunks = false
 abbrev pub is_early : State → Bool
 is_early Closed = true
 is_early (CookieWait tag first t1) = true
-is_early (Open phase t) = is_alone phase
+is_early (Open phase t) = is_before_cookie_ack phase
 
 -- eight hex digits
 abbrev pub eight_digits : ℕ → List ℕ
@@ -87,16 +87,16 @@ plain_refusal false true is_init is_own tag own =
 plain_refusal false false is_init is_own tag own = unless is_own (wrong_tag_text tag own)
 
 -- the first rule that applies
-abbrev pub refusal_by : (abort complete : Option Bool) → (is_shutdown_ack : Bool) → (tag : ℕ) → List ChunkTree → State → Option (List ℕ)
-refusal_by (Some reflected) complete is_shutdown_ack tag chunks s = unless (has_tag_in s reflected tag) (codes "ABORT chunk verification tag was wrong")
-refusal_by None (Some reflected) is_shutdown_ack tag chunks s = unless (has_tag_in s reflected tag) (codes "SHUTDOWN_COMPLETE chunk verification tag was wrong")
-refusal_by None None true tag chunks s = unless (is_early s || (tag == my_tag s)) (codes "SHUTDOWN_ACK chunk verification tag was wrong")
-refusal_by None None false tag chunks s =
+abbrev pub packet_refusal_by : (abort complete : Option Bool) → (is_shutdown_ack : Bool) → (tag : ℕ) → List ChunkTree → State → Option (List ℕ)
+packet_refusal_by (Some reflected) complete is_shutdown_ack tag chunks s = unless (has_tag_in s reflected tag) (codes "ABORT chunk verification tag was wrong")
+packet_refusal_by None (Some reflected) is_shutdown_ack tag chunks s = unless (has_tag_in s reflected tag) (codes "SHUTDOWN_COMPLETE chunk verification tag was wrong")
+packet_refusal_by None None true tag chunks s = unless (is_early s || (tag == my_tag s)) (codes "SHUTDOWN_ACK chunk verification tag was wrong")
+packet_refusal_by None None false tag chunks s =
     plain_refusal (begins_with_cookie chunks) (tag == 0) (is_single_init chunks) (tag == my_tag s) tag (my_tag s)
 
 -- why a packet is refused
-abbrev pub refusal : (tag : ℕ) → List ChunkTree → State → Option (List ℕ)
-refusal tag chunks s = refusal_by (abort_flag chunks) (complete_flag chunks) (has_shutdown_ack chunks) tag chunks s
+abbrev pub packet_refusal : (tag : ℕ) → List ChunkTree → State → Option (List ℕ)
+packet_refusal tag chunks s = packet_refusal_by (abort_flag chunks) (complete_flag chunks) (has_shutdown_ack chunks) tag chunks s
 
 -- ---- chunks that what was negotiated forbids
 
@@ -143,19 +143,19 @@ abbrev pub is_passed_over : (typ : ℕ) → Bool
 is_passed_over typ = typ / 128 == 1
 
 -- the chunk, as much of it as a packet holds
-abbrev pub echo_unknown : (mtu typ flags : ℕ) → List ℕ → ChunkTree
-echo_unknown mtu typ flags value = error_chunk (unrecognized_chunk (take (round_up mtu - 20) (item_bytes (chunk_item (unknown_chunk typ flags value)))) ∷ [])
+abbrev pub unrecognized_chunk_error : (mtu typ flags : ℕ) → List ℕ → ChunkTree
+unrecognized_chunk_error mtu typ flags value = error_chunk (unrecognized_chunk (take (round_down_to_4 mtu - 20) (item_bytes (chunk_item (unknown_chunk typ flags value)))) ∷ [])
 
-abbrev pub echoed_in : {P : Type 0} → State → (typ flags : ℕ) → List ℕ → Context P → Context P
-echoed_in Closed typ flags value c = c
-echoed_in (CookieWait tag first t1) typ flags value c = c
-echoed_in (Open phase t) typ flags value c = emit_chunk (echo_unknown c.options.mtu typ flags value) t c
+abbrev pub report_unrecognized_in : {P : Type 0} → State → (typ flags : ℕ) → List ℕ → Context P → Context P
+report_unrecognized_in Closed typ flags value c = c
+report_unrecognized_in (CookieWait tag first t1) typ flags value c = c
+report_unrecognized_in (Open phase t) typ flags value c = emit_chunk (unrecognized_chunk_error c.options.mtu typ flags value) t c
 
-abbrev pub complain_of_unknown : {P : Type 0} → (typ flags : ℕ) → List ℕ → Context P → Context P
-complain_of_unknown typ flags value c = complain ParseFailed (codes "Received " ++ (chunk_text (unknown_chunk typ flags value) ++ codes ", ")) c
+abbrev pub emit_unknown_chunk_error : {P : Type 0} → (typ flags : ℕ) → List ℕ → Context P → Context P
+emit_unknown_chunk_error typ flags value c = emit_error ParseFailed (codes "Received " ++ (chunk_text (unknown_chunk typ flags value) ++ codes ", ")) c
 
 abbrev pub on_unknown_if : {P : Type 0} → (is_reported : Bool) → (typ flags : ℕ) → List ℕ → EndpointState P → EndpointState P
-on_unknown_if true typ flags value s = with_context s (echoed_in s.state typ flags value (complain_of_unknown typ flags value s.context))
+on_unknown_if true typ flags value s = with_context s (report_unrecognized_in s.state typ flags value (emit_unknown_chunk_error typ flags value s.context))
 on_unknown_if false typ flags value s = s
 
 abbrev pub on_unknown : {P : Type 0} → (typ flags : ℕ) → List ℕ → EndpointState P → EndpointState P
@@ -169,57 +169,57 @@ on_heartbeat parameters phase t c = open_as phase t (emit_chunk (heartbeat_ack_c
 -- ---- one chunk
 
 -- the end after a chunk, and whether the next one is looked at
-pub record Received (P : Type 0) : Type 0 where
+pub record AfterChunk (P : Type 0) : Type 0 where
   pub end : Endpoint P
-  pub goes_on : Bool
+  pub allows_next : Bool
 
-abbrev pub on_endpoint_state : {P : Type 0} → (EndpointState P → EndpointState P) → Endpoint P → Endpoint P
-on_endpoint_state row s = stands (row s.endpoint_state) s
+abbrev pub in_endpoint_state : {P : Type 0} → (EndpointState P → EndpointState P) → Endpoint P → Endpoint P
+in_endpoint_state row s = with_endpoint_state (row s.endpoint_state) s
 
 -- a chunk of a packet under this tag
 abbrev pub on_chunk : {P : Type 0} → (tag : ℕ) → ChunkTree → Endpoint P → Endpoint P
-on_chunk tag (data_chunk tsn immediate f) s = on_endpoint_state (on_data tsn immediate f) s
-on_chunk tag (idata_chunk tsn immediate f) s = on_endpoint_state (on_data tsn immediate f) s
+on_chunk tag (data_chunk tsn immediate f) s = in_endpoint_state (on_data tsn immediate f) s
+on_chunk tag (idata_chunk tsn immediate f) s = in_endpoint_state (on_data tsn immediate f) s
 on_chunk tag (init_chunk i) s = on_init i s
 on_chunk tag (init_ack_chunk i) s = on_init_ack i s
-on_chunk tag (sack_chunk k) s = on_endpoint_state (on_sack k) s
-on_chunk tag (abort_chunk reflected causes) s = on_endpoint_state (where_open (on_abort causes)) s
-on_chunk tag (error_chunk causes) s = on_endpoint_state (where_open (on_error causes)) s
+on_chunk tag (sack_chunk k) s = in_endpoint_state (on_sack k) s
+on_chunk tag (abort_chunk reflected causes) s = in_endpoint_state (where_open (on_abort causes)) s
+on_chunk tag (error_chunk causes) s = in_endpoint_state (where_open (on_error causes)) s
 on_chunk tag (cookie_echo_chunk cookie) s = on_cookie_echo tag cookie s
-on_chunk tag cookie_ack_chunk s = on_endpoint_state (where_open on_cookie_ack) s
-on_chunk tag (forward_tsn_chunk tsn skipped) s = on_endpoint_state (on_forward tsn skipped) s
-on_chunk tag (i_forward_tsn_chunk tsn skipped) s = on_endpoint_state (on_forward tsn skipped) s
-on_chunk tag (unknown_chunk typ flags value) s = on_endpoint_state (on_unknown typ flags value) s
-on_chunk tag (heartbeat_request_chunk parameters) s = on_endpoint_state (where_open (on_heartbeat parameters)) s
-on_chunk tag (heartbeat_ack_chunk parameters) s = on_endpoint_state (in_context (on_heartbeat_ack parameters)) s
-on_chunk tag (shutdown_chunk tsn) s = on_endpoint_state (where_open on_shutdown) s
-on_chunk tag shutdown_ack_chunk s = on_endpoint_state (on_shutdown_ack tag) s
-on_chunk tag (shutdown_complete_chunk reflected) s = on_endpoint_state (where_open on_shutdown_complete) s
-on_chunk tag (re_config_chunk parameters) s = on_endpoint_state (where_open (on_reconfig parameters)) s
+on_chunk tag cookie_ack_chunk s = in_endpoint_state (where_open on_cookie_ack) s
+on_chunk tag (forward_tsn_chunk tsn skipped) s = in_endpoint_state (on_forward tsn skipped) s
+on_chunk tag (i_forward_tsn_chunk tsn skipped) s = in_endpoint_state (on_forward tsn skipped) s
+on_chunk tag (unknown_chunk typ flags value) s = in_endpoint_state (on_unknown typ flags value) s
+on_chunk tag (heartbeat_request_chunk parameters) s = in_endpoint_state (where_open (on_heartbeat parameters)) s
+on_chunk tag (heartbeat_ack_chunk parameters) s = in_endpoint_state (in_context (on_heartbeat_ack parameters)) s
+on_chunk tag (shutdown_chunk tsn) s = in_endpoint_state (where_open on_shutdown) s
+on_chunk tag shutdown_ack_chunk s = in_endpoint_state (on_shutdown_ack tag) s
+on_chunk tag (shutdown_complete_chunk reflected) s = in_endpoint_state (where_open on_shutdown_complete) s
+on_chunk tag (re_config_chunk parameters) s = in_endpoint_state (where_open (on_reconfig parameters)) s
 
 -- an unknown chunk without the bit for it ends the packet
-abbrev pub goes_on : ChunkTree → Bool
-goes_on (unknown_chunk typ flags value) = is_passed_over typ
-goes_on chunk = true
+abbrev pub allows_next : ChunkTree → Bool
+allows_next (unknown_chunk typ flags value) = is_passed_over typ
+allows_next chunk = true
 
 abbrev pub violation : State → ChunkTree → Option (List ℕ)
 violation Closed chunk = None
 violation (CookieWait tag first t1) chunk = None
 violation (Open phase t) chunk = misuse t.capabilities chunk
 
-abbrev pub breaks : {P : Type 0} → List ℕ → EndpointState P → EndpointState P
-breaks reason s = where_open (λ phase t c. violate reason t c) s
+abbrev pub abort_for_violation_in : {P : Type 0} → List ℕ → EndpointState P → EndpointState P
+abort_for_violation_in reason s = where_open (λ phase t c. abort_for_violation reason t c) s
 
-abbrev pub received_if : {P : Type 0} → (violation : Option (List ℕ)) → (tag : ℕ) → ChunkTree → Endpoint P → Received P
-received_if (Some reason) tag chunk s = record { end = on_endpoint_state (breaks reason) s; goes_on = false }
-received_if None tag chunk s = record { end = on_chunk tag chunk s; goes_on = goes_on chunk }
+abbrev pub received_if : {P : Type 0} → (violation : Option (List ℕ)) → (tag : ℕ) → ChunkTree → Endpoint P → AfterChunk P
+received_if (Some reason) tag chunk s = record { end = in_endpoint_state (abort_for_violation_in reason) s; allows_next = false }
+received_if None tag chunk s = record { end = on_chunk tag chunk s; allows_next = allows_next chunk }
 
 -- one that what was negotiated forbids ends the association
-abbrev pub receive : {P : Type 0} → (tag : ℕ) → ChunkTree → Endpoint P → Received P
+abbrev pub receive : {P : Type 0} → (tag : ℕ) → ChunkTree → Endpoint P → AfterChunk P
 receive tag chunk s = received_if (violation s.endpoint_state.state chunk) tag chunk s
 
-abbrev pub receive_rest : {P : Type 0} → (Endpoint P → Endpoint P) → Received P → Endpoint P
-receive_rest rest h = elim h.goes_on [ true ↦ rest h.end | false ↦ h.end ]
+abbrev pub receive_rest : {P : Type 0} → (Endpoint P → Endpoint P) → AfterChunk P → Endpoint P
+receive_rest rest h = elim h.allows_next [ true ↦ rest h.end | false ↦ h.end ]
 
 -- one after the other
 abbrev pub receive_all : {P : Type 0} → (tag : ℕ) → List ChunkTree → Endpoint P → Endpoint P
@@ -228,10 +228,10 @@ receive_all tag (chunk ∷ chunks) s = receive_rest (receive_all tag chunks) (re
 
 -- ---- a packet
 
-abbrev pub has_data : List ChunkTree → Bool
-has_data [] = false
-has_data (data_chunk tsn immediate f ∷ chunks) = true
-has_data (chunk ∷ chunks) = has_data chunks
+abbrev pub has_data_chunk : List ChunkTree → Bool
+has_data_chunk [] = false
+has_data_chunk (data_chunk tsn immediate f ∷ chunks) = true
+has_data_chunk (chunk ∷ chunks) = has_data_chunk chunks
 
 -- DATA after the own SHUTDOWN: it goes out again, and its timer starts anew (RFC 9260 section 9.2)
 abbrev pub repeats : {P : Type 0} → Phase → Tcb → Context P → EndpointState P
@@ -248,40 +248,40 @@ repeats_if false s = s
 
 -- at the end of a packet an acknowledgement, where one is due, and what else may be sent
 abbrev pub ack_now : {P : Type 0} → Phase → Tcb → Context P → EndpointState P
-ack_now phase t c = open_with phase (send_with (is_alone phase) (add (selective_ack t) (new_packet c.options t)) (count_sack_sent t) c)
+ack_now phase t c = open_with phase (send_with (is_before_cookie_ack phase) (add (selective_ack t) (new_packet c.options t)) (without_duplicates t) c)
 
-abbrev pub ended_if : {P : Type 0} → (is_due : Bool) → Phase → Tcb → Context P → EndpointState P
-ended_if true phase t c = ack_now phase t c
-ended_if false phase t c = open_as phase t c
+abbrev pub ack_if_due : {P : Type 0} → (is_due : Bool) → Phase → Tcb → Context P → EndpointState P
+ack_if_due true phase t c = ack_now phase t c
+ack_if_due false phase t c = open_as phase t c
 
 abbrev pub at_end : (now : ℕ) → Tcb → Tcb
 at_end now t = record t { tracker = record t.tracker { tracker = packet_end now t.tracker.tracker } }
 
-abbrev pub ended_at : {P : Type 0} → Phase → Tcb → Context P → EndpointState P
-ended_at phase t c = ended_if (is_ack_due false t.tracker.tracker.ack) phase (ask_for_sack false t) c
+abbrev pub packet_ended_at : {P : Type 0} → Phase → Tcb → Context P → EndpointState P
+packet_ended_at phase t c = ack_if_due (is_ack_due false t.tracker.tracker.ack) phase (take_due_ack false t) c
 
-abbrev pub end_packet : {P : Type 0} → Phase → Tcb → Context P → EndpointState P
-end_packet phase t c = ended_at phase (at_end c.now t) c
+abbrev pub on_packet_end : {P : Type 0} → Phase → Tcb → Context P → EndpointState P
+on_packet_end phase t c = packet_ended_at phase (at_end c.now t) c
 
-abbrev pub handle_chunks : {P : Type 0} → (tag : ℕ) → List ChunkTree → Endpoint P → Endpoint P
-handle_chunks tag chunks s =
-    on_endpoint_state (where_open end_packet) (receive_all tag chunks (on_endpoint_state (repeats_if (has_data chunks)) s))
+abbrev pub on_accepted_packet : {P : Type 0} → (tag : ℕ) → List ChunkTree → Endpoint P → Endpoint P
+on_accepted_packet tag chunks s =
+    in_endpoint_state (where_open on_packet_end) (receive_all tag chunks (in_endpoint_state (repeats_if (has_data_chunk chunks)) s))
 
 abbrev pub count_packet : {P : Type 0} → Context P → Context P
 count_packet c = record c { counts = record c.counts { rx_packets = more c.counts.rx_packets } }
 
-abbrev pub counts : {P : Type 0} → Endpoint P → Endpoint P
-counts s = on_endpoint_state (λ t. with_context t (count_packet t.context)) s
+abbrev pub count_packet_at : {P : Type 0} → Endpoint P → Endpoint P
+count_packet_at s = in_endpoint_state (λ t. with_context t (count_packet t.context)) s
 
-abbrev pub taken_if : {P : Type 0} → (refusal : Option (List ℕ)) → (tag : ℕ) → List ChunkTree → Endpoint P → Endpoint P
-taken_if None tag chunks s = handle_chunks tag chunks s
-taken_if (Some text) tag chunks s = complains text s
+abbrev pub packet_if : {P : Type 0} → (refusal : Option (List ℕ)) → (tag : ℕ) → List ChunkTree → Endpoint P → Endpoint P
+packet_if None tag chunks s = on_accepted_packet tag chunks s
+packet_if (Some text) tag chunks s = emit_parse_error text s
 
 -- a packet that could be read
 abbrev pub on_packet : {P : Type 0} → PacketTree → Endpoint P → Endpoint P
 on_packet p s =
-    taken_if (refusal p.header.verification_tag p.chunks s.endpoint_state.state) p.header.verification_tag p.chunks (counts s)
+    packet_if (packet_refusal p.header.verification_tag p.chunks s.endpoint_state.state) p.header.verification_tag p.chunks (count_packet_at s)
 
 -- bytes that are no packet
 abbrev pub on_no_packet : {P : Type 0} → Endpoint P → Endpoint P
-on_no_packet s = complains (codes "Failed to parse SCTP packet") (counts s)
+on_no_packet s = emit_parse_error (codes "Failed to parse SCTP packet") (count_packet_at s)

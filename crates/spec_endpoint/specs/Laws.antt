@@ -15,7 +15,7 @@ use Rattle.spec_endpoint.specs.StreamReset.{reset_streams}
 use Rattle.spec_endpoint.specs.Timers.{advance}
 use Rattle.spec_endpoint.specs.Handover.{hand_over, restore}
 use Rattle.spec_endpoint.specs.Wire.{writing}
-use Rattle.spec_endpoint.specs.Input.{refusal, Received, receive, has_data, repeats_if, counts, on_endpoint_state, on_packet, on_no_packet}
+use Rattle.spec_endpoint.specs.Input.{packet_refusal, AfterChunk, receive, has_data_chunk, repeats_if, count_packet_at, in_endpoint_state, on_packet, on_no_packet}
 
 -- ---- the calls that change an end, but for those that take what was emitted
 
@@ -33,25 +33,25 @@ pub data Call : Type 0 where
   Advance : (now : ℕ) → Call
   HandOver : Call
   Restore : HandoverState → Call
-  Packet : PacketTree → Call
-  NoPacket : Call
+  ReceivePacket : PacketTree → Call
+  ReceiveNoPacket : Call
 
 abbrev pub called : {P : Type 0} → Call → Endpoint P → Endpoint P
 called Connect s = connect s
-called Close s = on_endpoint_state close s
-called Shutdown s = on_endpoint_state shutdown s
-called (Send m o) s = on_endpoint_state (send m o) s
-called (SendMany ms o) s = on_endpoint_state (send_many ms o) s
-called (ResetStreams streams) s = on_endpoint_state (reset_streams streams) s
-called TakeMessage s = on_endpoint_state take_message s
-called (SetLowThreshold stream bytes) s = on_endpoint_state (in_context (set_low_threshold stream bytes)) s
-called (SetPriority stream priority) s = on_endpoint_state (in_context (set_priority stream priority)) s
-called (SetMaxMessageSize bytes) s = on_endpoint_state (in_context (set_max_message_size bytes)) s
-called (Advance now) s = on_endpoint_state (advance now) s
-called HandOver s = on_endpoint_state hand_over s
-called (Restore h) s = on_endpoint_state (restore h) s
-called (Packet p) s = on_packet p s
-called NoPacket s = on_no_packet s
+called Close s = in_endpoint_state close s
+called Shutdown s = in_endpoint_state shutdown s
+called (Send m o) s = in_endpoint_state (send m o) s
+called (SendMany ms o) s = in_endpoint_state (send_many ms o) s
+called (ResetStreams streams) s = in_endpoint_state (reset_streams streams) s
+called TakeMessage s = in_endpoint_state take_message s
+called (SetLowThreshold stream bytes) s = in_endpoint_state (in_context (set_low_threshold stream bytes)) s
+called (SetPriority stream priority) s = in_endpoint_state (in_context (set_priority stream priority)) s
+called (SetMaxMessageSize bytes) s = in_endpoint_state (in_context (set_max_message_size bytes)) s
+called (Advance now) s = in_endpoint_state (advance now) s
+called HandOver s = in_endpoint_state hand_over s
+called (Restore h) s = in_endpoint_state (restore h) s
+called (ReceivePacket p) s = on_packet p s
+called ReceiveNoPacket s = on_no_packet s
 
 -- ---- packets
 
@@ -114,25 +114,25 @@ ends (Open phase t) (CookieWait tag first t1) = 0
 ends (Open phase t) (Open new_phase u) = 0
 
 -- the chunks of a packet that end one
-abbrev pub ended_after : {P : Type 0} → (Endpoint P → ℕ) → Received P → ℕ
-ended_after rest h = elim h.goes_on [ true ↦ rest h.end | false ↦ 0 ]
+abbrev pub endings_after : {P : Type 0} → (Endpoint P → ℕ) → AfterChunk P → ℕ
+endings_after rest h = elim h.allows_next [ true ↦ rest h.end | false ↦ 0 ]
 
-abbrev pub ended_by : {P : Type 0} → (tag : ℕ) → List ChunkTree → Endpoint P → ℕ
-ended_by tag [] s = 0
-ended_by tag (chunk ∷ chunks) s =
-    ends s.endpoint_state.state (receive tag chunk s).end.endpoint_state.state + ended_after (ended_by tag chunks) (receive tag chunk s)
+abbrev pub endings_by : {P : Type 0} → (tag : ℕ) → List ChunkTree → Endpoint P → ℕ
+endings_by tag [] s = 0
+endings_by tag (chunk ∷ chunks) s =
+    ends s.endpoint_state.state (receive tag chunk s).end.endpoint_state.state + endings_after (endings_by tag chunks) (receive tag chunk s)
 
-abbrev pub ended_unless : {P : Type 0} → (refusal : Option (List ℕ)) → (tag : ℕ) → List ChunkTree → Endpoint P → ℕ
-ended_unless None tag chunks s = ended_by tag chunks (on_endpoint_state (repeats_if (has_data chunks)) s)
-ended_unless (Some text) tag chunks s = 0
+abbrev pub endings_unless : {P : Type 0} → (refusal : Option (List ℕ)) → (tag : ℕ) → List ChunkTree → Endpoint P → ℕ
+endings_unless None tag chunks s = endings_by tag chunks (in_endpoint_state (repeats_if (has_data_chunk chunks)) s)
+endings_unless (Some text) tag chunks s = 0
 
-abbrev pub ended_in : {P : Type 0} → PacketTree → Endpoint P → ℕ
-ended_in p s = ended_unless (refusal p.header.verification_tag p.chunks s.endpoint_state.state) p.header.verification_tag p.chunks (counts s)
+abbrev pub endings_in : {P : Type 0} → PacketTree → Endpoint P → ℕ
+endings_in p s = endings_unless (packet_refusal p.header.verification_tag p.chunks s.endpoint_state.state) p.header.verification_tag p.chunks (count_packet_at s)
 
 -- how many associations a call ends: one at most, but in a packet, where a COOKIE ECHO may follow an ABORT
-abbrev pub ended_in_call : {P : Type 0} → Call → Endpoint P → ℕ
-ended_in_call (Packet p) s = ended_in p s
-ended_in_call call s = ends s.endpoint_state.state (called call s).endpoint_state.state
+abbrev pub endings_in_call : {P : Type 0} → Call → Endpoint P → ℕ
+endings_in_call (ReceivePacket p) s = endings_in p s
+endings_in_call call s = ends s.endpoint_state.state (called call s).endpoint_state.state
 
 -- What was emitted stands, and behind it so many endings are emitted.
 pub record EmitsEndings {P : Type 0} (count : ℕ) (before after : Context P) : Type 0 where
@@ -156,9 +156,9 @@ EachCallSendsAtMost =
 -- as many endings as the call ends associations
 abbrev pub EachCallEmitsEndings : Type 0
 EachCallEmitsEndings =
-    (call : Call) (s : Endpoint (List ℕ)) → EmitsEndings (ended_in_call call s) s.endpoint_state.context (called call s).endpoint_state.context
+    (call : Call) (s : Endpoint (List ℕ)) → EmitsEndings (endings_in_call call s) s.endpoint_state.context (called call s).endpoint_state.context
 
 -- and an end that a call leaves closed had one that ended
 abbrev pub EachClosingEnds : Type 0
 EachClosingEnds =
-    (call : Call) (s : Endpoint (List ℕ)) → is_closed s.endpoint_state.state ≡ false → is_closed (called call s).endpoint_state.state ≡ true → 1 ≤ ended_in_call call s
+    (call : Call) (s : Endpoint (List ℕ)) → is_closed s.endpoint_state.state ≡ false → is_closed (called call s).endpoint_state.state ≡ true → 1 ≤ endings_in_call call s

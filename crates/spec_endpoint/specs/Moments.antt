@@ -1,7 +1,7 @@
 -- A law of time: before the moment that `poll_timeout` names, the passing of time moves the clock alone.
 use Rattle.std.specs.Prelude.{◌≡◌, ℕ, ◌<◌, ◌≤◌, Bool, false, List}
 use Rattle.spec_endpoint.specs.Association.{State, Closed, CookieWait, Open, EndpointState}
-use Rattle.spec_endpoint.specs.Sending.{is_alone}
+use Rattle.spec_endpoint.specs.Sending.{is_before_cookie_ack}
 use Rattle.spec_endpoint.specs.Timers.{advance, poll_timeout}
 
 abbrev pub at_moment : {P : Type 0} → (now : ℕ) → EndpointState P → EndpointState P
@@ -11,7 +11,7 @@ at_moment now s = record s { context = record s.context { now = now } }
 abbrev pub is_cookie_echoed : State → Bool
 is_cookie_echoed Closed = false
 is_cookie_echoed (CookieWait tag first t1) = false
-is_cookie_echoed (Open phase t) = is_alone phase
+is_cookie_echoed (Open phase t) = is_before_cookie_ack phase
 
 abbrev pub AMomentBeforeMovesTheClock : Type 0
 AMomentBeforeMovesTheClock =

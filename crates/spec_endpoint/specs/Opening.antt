@@ -13,7 +13,7 @@ use Rattle.sctp_state.specs.declared.timer.BackoffAlgorithm.TheVariants.{Exponen
 use Rattle.sctp_state.specs.Options.{Options}
 use Rattle.sctp_state.specs.Timer.{Timer, timer, start}
 use Rattle.sctp_state.specs.Events.{OnConnected, OnConnectionRestarted, OnAborted}
-use Rattle.sctp_capabilities.specs.Capabilities.{Capabilities, announce, announced_by, negotiate, zero_checksum_enabled}
+use Rattle.sctp_capabilities.specs.Capabilities.{Capabilities, announced_parameters, announced_by, negotiate, zero_checksum_enabled}
 use Rattle.sctp_capabilities.specs.StateCookie.{Cookie, magic, cookie_bytes, read_cookie, refusal_text}
 use Rattle.sctp_tx_queue.specs.SendQueue.{Queue}
 use Rattle.sctp_tx_queue.specs.Restarted.{reset}
@@ -21,9 +21,9 @@ use Rattle.sctp_tx_queue.specs.Settings.{set_mode}
 use Rattle.sctp_tx_outstanding.specs.OutstandingData.{next_number}
 use Rattle.sctp_tx_outstanding.specs.OutstandingData as items
 use Rattle.spec_endpoint.specs.Association.{Identity, Tcb, tcb, Phase, CookieEchoed, Established, ShutdownPending, ShutdownSent, ShutdownReceived, ShutdownAckSent, State, Closed, CookieWait, Open, Context, EndpointState, Endpoint, open_as, with_context}
-use Rattle.spec_endpoint.specs.Heartbeats.{beating}
-use Rattle.spec_endpoint.specs.Packets.{add, packet_to, new_packet, round_up, say, complain, emit}
-use Rattle.spec_endpoint.specs.Sending.{Sent, open_with, send_with, send_buffered, send_cookie}
+use Rattle.spec_endpoint.specs.Heartbeats.{restart_interval}
+use Rattle.spec_endpoint.specs.Packets.{add, packet_to, new_packet, round_down_to_4, emit_event_in, emit_error, emit}
+use Rattle.spec_endpoint.specs.Sending.{AfterSending, open_with, send_with, send_buffered, send_cookie}
 use Rattle.spec_endpoint.specs.Shutdown.{close_with, send_shutdown_ack}
 
 -- ---- draws: a TSN but the last, a tag but 0 and the last
@@ -36,20 +36,20 @@ tag_from word = 1 + word % (2 ^ 32 - 2)
 
 -- the next word, and the end that has drawn it
 abbrev pub word : {P : Type 0} → Endpoint P → ℕ
-word s = (next_u32 s.random).0
+word s = (next_u32 s.draws).0
 
 abbrev pub drew_word : {P : Type 0} → Endpoint P → Endpoint P
-drew_word s = record s { random = (next_u32 s.random).1 }
+drew_word s = record s { draws = (next_u32 s.draws).1 }
 
 abbrev pub long_word : {P : Type 0} → Endpoint P → ℕ
-long_word s = (next_u64 s.random).0
+long_word s = (next_u64 s.draws).0
 
 abbrev pub drew_long_word : {P : Type 0} → Endpoint P → Endpoint P
-drew_long_word s = record s { random = (next_u64 s.random).1 }
+drew_long_word s = record s { draws = (next_u64 s.draws).1 }
 
 -- with this endpoint state
-abbrev pub stands : {P : Type 0} → EndpointState P → Endpoint P → Endpoint P
-stands s e = record e { endpoint_state = s }
+abbrev pub with_endpoint_state : {P : Type 0} → EndpointState P → Endpoint P → Endpoint P
+with_endpoint_state s e = record e { endpoint_state = s }
 
 -- ---- INIT
 
@@ -66,7 +66,7 @@ init_of o tag first parameters = record {
 -- an INIT goes out under tag 0
 abbrev pub send_init : {P : Type 0} → (tag first : ℕ) → Context P → Context P
 send_init tag first c =
-    emit (add (init_chunk (init_of c.options tag first (announce c.options c.options.zero_checksum_method))) (packet_to 0 c.options.mtu)) c
+    emit (add (init_chunk (init_of c.options tag first (announced_parameters c.options c.options.zero_checksum_method))) (packet_to 0 c.options.mtu)) c
 
 abbrev pub t1_init : {P : Type 0} → Context P → Timer
 t1_init c = start c.now (timer c.options.t1_init_timeout Exponential c.options.max_init_retransmits None)
@@ -75,11 +75,11 @@ abbrev pub waiting : {P : Type 0} → (tag first : ℕ) → Context P → Endpoi
 waiting tag first c = record { state = CookieWait tag first (t1_init c); context = send_init tag first c }
 
 -- `connect` on a closed end: the first TSN is drawn, then the tag
-abbrev pub open_association : {P : Type 0} → Endpoint P → Endpoint P
-open_association s = stands (waiting (tag_from (word (drew_word s))) (tsn_from (word s)) s.endpoint_state.context) (drew_word (drew_word s))
+abbrev pub start_connecting : {P : Type 0} → Endpoint P → Endpoint P
+start_connecting s = with_endpoint_state (waiting (tag_from (word (drew_word s))) (tsn_from (word s)) s.endpoint_state.context) (drew_word (drew_word s))
 
 abbrev pub connect_in : {P : Type 0} → State → Endpoint P → Endpoint P
-connect_in Closed s = open_association s
+connect_in Closed s = start_connecting s
 connect_in (CookieWait tag first t1) s = s
 connect_in (Open phase t) s = s
 
@@ -103,7 +103,7 @@ abbrev pub agreed_by : Options → InitTree → Capabilities
 agreed_by o i = negotiate o (announced_by i.nbr_outbound_streams i.nbr_inbound_streams i.parameters)
 
 abbrev pub init_ack_of : Options → InitTree → (tag first tie : ℕ) → InitTree
-init_ack_of o i tag first tie = init_of o tag first (announce o (agreed_by o i).zero_checksum_method
+init_ack_of o i tag first tie = init_of o tag first (announced_parameters o (agreed_by o i).zero_checksum_method
     ++ state_cookie (cookie_bytes (cookie_for i tag first tie)) ∷ [])
 
 abbrev pub answer : {P : Type 0} → InitTree → (tag first tie : ℕ) → Context P → Context P
@@ -112,7 +112,7 @@ answer i tag first tie c =
     (record (packet_to i.initiate_tag c.options.mtu) { is_summed = not (zero_checksum_enabled (agreed_by c.options i)) })) c
 
 abbrev pub answers : {P : Type 0} → InitTree → (tag first tie : ℕ) → Endpoint P → Endpoint P
-answers i tag first tie s = stands (with_context s.endpoint_state (answer i tag first tie s.endpoint_state.context)) s
+answers i tag first tie s = with_endpoint_state (with_context s.endpoint_state (answer i tag first tie s.endpoint_state.context)) s
 
 -- with a tag and a first TSN that are not kept
 abbrev pub answers_new : {P : Type 0} → InitTree → Endpoint P → Endpoint P
@@ -132,7 +132,7 @@ on_init_open Established i t s = answers_again i t s
 on_init_open ShutdownPending i t s = answers_again i t s
 on_init_open (ShutdownSent t2) i t s = answers_again i t s
 on_init_open ShutdownReceived i t s = answers_again i t s
-on_init_open (ShutdownAckSent t2) i t s = stands (with_context s.endpoint_state (send_shutdown_ack t s.endpoint_state.context)) s
+on_init_open (ShutdownAckSent t2) i t s = with_endpoint_state (with_context s.endpoint_state (send_shutdown_ack t s.endpoint_state.context)) s
 
 abbrev pub on_init_in : {P : Type 0} → State → InitTree → Endpoint P → Endpoint P
 on_init_in Closed i s = answers_new i s
@@ -165,7 +165,7 @@ maker cookie = maker_by (nat_lt 8 (length cookie)) (starts_with nat_eq cookie (c
 abbrev pub without_cookie : {P : Type 0} → (tag : ℕ) → Context P → EndpointState P
 without_cookie tag c =
     close_with (OnAborted ProtocolViolation (codes "InitAck chunk doesn't contain a cookie"))
-    (emit (add (abort_chunk false (missing_mandatory_parameter (7 ∷ []) ∷ [])) (packet_to tag (round_up c.options.mtu))) c)
+    (emit (add (abort_chunk false (missing_mandatory_parameter (7 ∷ []) ∷ [])) (packet_to tag (round_down_to_4 c.options.mtu))) c)
 
 abbrev pub queue_anew : (is_interleaved : Bool) → Queue → Queue
 queue_anew is_interleaved q = set_mode is_interleaved (reset q)
@@ -179,16 +179,16 @@ echo i cookie me c =
     open_with (CookieEchoed (t1_cookie c) cookie) (send_cookie cookie (tcb c.options me i.a_rwnd (agreed_by c.options i))
     (record c { peer = maker cookie; queue = queue_anew (agreed_by c.options i).message_interleaving c.queue }))
 
-abbrev pub names : InitTree → (tag first tie : ℕ) → Identity
-names i tag first tie = record { my_tag = tag; my_first = first; peer_tag = i.initiate_tag; peer_first = i.initial_tsn; tie = tie }
+abbrev pub identity_of_init_ack : InitTree → (tag first tie : ℕ) → Identity
+identity_of_init_ack i tag first tie = record { my_tag = tag; my_first = first; peer_tag = i.initiate_tag; peer_first = i.initial_tsn; tie = tie }
 
-abbrev pub echo_cookie : {P : Type 0} → InitTree → Option (List ℕ) → (tag first : ℕ) → Endpoint P → Endpoint P
-echo_cookie i None tag first s = stands (without_cookie i.initiate_tag s.endpoint_state.context) s
-echo_cookie i (Some cookie) tag first s = stands (echo i cookie (names i tag first (long_word s)) s.endpoint_state.context) (drew_long_word s)
+abbrev pub echo_or_abort : {P : Type 0} → InitTree → Option (List ℕ) → (tag first : ℕ) → Endpoint P → Endpoint P
+echo_or_abort i None tag first s = with_endpoint_state (without_cookie i.initiate_tag s.endpoint_state.context) s
+echo_or_abort i (Some cookie) tag first s = with_endpoint_state (echo i cookie (identity_of_init_ack i tag first (long_word s)) s.endpoint_state.context) (drew_long_word s)
 
 abbrev pub on_init_ack_in : {P : Type 0} → State → InitTree → Endpoint P → Endpoint P
 on_init_ack_in Closed i s = s
-on_init_ack_in (CookieWait tag first t1) i s = echo_cookie i (cookie_in i.parameters) tag first s
+on_init_ack_in (CookieWait tag first t1) i s = echo_or_abort i (cookie_in i.parameters) tag first s
 on_init_ack_in (Open phase t) i s = s
 
 abbrev pub on_init_ack : {P : Type 0} → InitTree → Endpoint P → Endpoint P
@@ -197,11 +197,11 @@ on_init_ack i s = on_init_ack_in s.endpoint_state.state i s
 -- ---- COOKIE ACK
 
 -- an event says so, and heartbeats begin
-abbrev pub connected_context : {P : Type 0} → Context P → Context P
-connected_context c = record (say OnConnected c) { heartbeats = beating c.now c.heartbeats }
+abbrev pub enter_connected : {P : Type 0} → Context P → Context P
+enter_connected c = record (emit_event_in OnConnected c) { heartbeats = restart_interval c.now c.heartbeats }
 
 abbrev pub establish : {P : Type 0} → Tcb → Context P → EndpointState P
-establish t c = open_with Established (send_buffered false t (connected_context c))
+establish t c = open_with Established (send_buffered false t (enter_connected c))
 
 abbrev pub on_cookie_ack : {P : Type 0} → Phase → Tcb → Context P → EndpointState P
 on_cookie_ack (CookieEchoed t1 cookie) t c = establish t c
@@ -235,16 +235,16 @@ abbrev pub new_if : (is_own : Bool) → CookieResolution
 new_if true = EstablishNew
 new_if false = InvalidTag
 
-abbrev pub compare_tags : (tag : ℕ) → Identity → Cookie → CookieResolution
-compare_tags tag i k = by_tags (not (tag == i.my_tag)) (not (k.peer_tag == i.peer_tag)) (k.tie_tag == i.tie) (k.tie_tag == 0)
+abbrev pub resolve_by_tags : (tag : ℕ) → Identity → Cookie → CookieResolution
+resolve_by_tags tag i k = by_tags (not (tag == i.my_tag)) (not (k.peer_tag == i.peer_tag)) (k.tie_tag == i.tie) (k.tie_tag == 0)
 
 abbrev pub resolve_cookie : (tag : ℕ) → Cookie → State → CookieResolution
 resolve_cookie tag k Closed = new_if (tag == k.my_tag)
 resolve_cookie tag k (CookieWait my_tag first t1) = new_if (tag == k.my_tag)
-resolve_cookie tag k (Open phase t) = compare_tags tag t.identity k
+resolve_cookie tag k (Open phase t) = resolve_by_tags tag t.identity k
 
 -- with data behind it
-abbrev pub cookie_ack : {P : Type 0} → (peer_tag : ℕ) → Tcb → Context P → Sent P
+abbrev pub cookie_ack : {P : Type 0} → (peer_tag : ℕ) → Tcb → Context P → AfterSending P
 cookie_ack peer_tag t c =
     send_with false (add cookie_ack_chunk
     (record (packet_to peer_tag c.options.mtu) { is_summed = not (zero_checksum_enabled t.capabilities) })) t c
@@ -277,30 +277,30 @@ tcb_by o k tie = tcb o (identity_of k tie) (min k.a_rwnd o.max_send_buffer_size)
 abbrev pub anew : {P : Type 0} → (resets : Bool) → Cookie → (tie : ℕ) → Context P → EndpointState P
 anew resets k tie c =
     open_with Established (cookie_ack k.peer_tag (tcb_by c.options k tie)
-    (connected_context (record c { queue = queue_for resets (negotiate c.options k.peer_capabilities).message_interleaving c.queue })))
+    (enter_connected (record c { queue = queue_for resets (negotiate c.options k.peer_capabilities).message_interleaving c.queue })))
 
 abbrev pub establishes : {P : Type 0} → (resets : Bool) → Cookie → Context P → Endpoint P → Endpoint P
-establishes resets k c s = stands (anew resets k (long_word s) c) (drew_long_word s)
+establishes resets k c s = with_endpoint_state (anew resets k (long_word s) c) (drew_long_word s)
 
-abbrev pub keep_association : {P : Type 0} → Cookie → Phase → Tcb → Context P → EndpointState P
-keep_association k (CookieEchoed t1 cookie) t c = open_with Established (cookie_ack k.peer_tag t (connected_context c))
-keep_association k Established t c = open_with Established (cookie_ack k.peer_tag t c)
-keep_association k ShutdownPending t c = open_with ShutdownPending (cookie_ack k.peer_tag t c)
-keep_association k (ShutdownSent t2) t c = open_with (ShutdownSent t2) (cookie_ack k.peer_tag t c)
-keep_association k ShutdownReceived t c = open_with ShutdownReceived (cookie_ack k.peer_tag t c)
-keep_association k (ShutdownAckSent t2) t c = open_with (ShutdownAckSent t2) (cookie_ack k.peer_tag t c)
+abbrev pub maintain_existing : {P : Type 0} → Cookie → Phase → Tcb → Context P → EndpointState P
+maintain_existing k (CookieEchoed t1 cookie) t c = open_with Established (cookie_ack k.peer_tag t (enter_connected c))
+maintain_existing k Established t c = open_with Established (cookie_ack k.peer_tag t c)
+maintain_existing k ShutdownPending t c = open_with ShutdownPending (cookie_ack k.peer_tag t c)
+maintain_existing k (ShutdownSent t2) t c = open_with (ShutdownSent t2) (cookie_ack k.peer_tag t c)
+maintain_existing k ShutdownReceived t c = open_with ShutdownReceived (cookie_ack k.peer_tag t c)
+maintain_existing k (ShutdownAckSent t2) t c = open_with (ShutdownAckSent t2) (cookie_ack k.peer_tag t c)
 
-abbrev pub keep : {P : Type 0} → Cookie → EndpointState P → EndpointState P
-keep k s = elim s.state [ Closed ↦ s | CookieWait tag first t1 ↦ s | Open phase t ↦ keep_association k phase t s.context ]
+abbrev pub maintain_existing_in : {P : Type 0} → Cookie → EndpointState P → EndpointState P
+maintain_existing_in k s = elim s.state [ Closed ↦ s | CookieWait tag first t1 ↦ s | Open phase t ↦ maintain_existing k phase t s.context ]
 
 -- a restart comes too late
 abbrev pub too_late : {P : Type 0} → Tcb → Context P → Context P
 too_late t c =
-    complain WrongSequence (codes "Received COOKIE-ECHO while shutting down")
+    emit_error WrongSequence (codes "Received COOKIE-ECHO while shutting down")
     (emit (add (error_chunk (cookie_received_while_shutting_down ∷ [])) (add shutdown_ack_chunk (new_packet c.options t))) c)
 
 abbrev pub restarts : {P : Type 0} → Cookie → Endpoint P → Endpoint P
-restarts k s = establishes true k (say OnConnectionRestarted s.endpoint_state.context) s
+restarts k s = establishes true k (emit_event_in OnConnectionRestarted s.endpoint_state.context) s
 
 abbrev pub restarts_in : {P : Type 0} → Phase → Tcb → Cookie → Endpoint P → Endpoint P
 restarts_in (CookieEchoed t1 cookie) t k s = restarts k s
@@ -308,25 +308,25 @@ restarts_in Established t k s = restarts k s
 restarts_in ShutdownPending t k s = restarts k s
 restarts_in (ShutdownSent t2) t k s = restarts k s
 restarts_in ShutdownReceived t k s = restarts k s
-restarts_in (ShutdownAckSent t2) t k s = stands (with_context s.endpoint_state (too_late t s.endpoint_state.context)) s
+restarts_in (ShutdownAckSent t2) t k s = with_endpoint_state (with_context s.endpoint_state (too_late t s.endpoint_state.context)) s
 
 abbrev pub restart : {P : Type 0} → Cookie → Endpoint P → Endpoint P
 restart k s = elim s.endpoint_state.state [ Closed ↦ s | CookieWait tag first t1 ↦ s | Open phase t ↦ restarts_in phase t k s ]
 
-abbrev pub complains : {P : Type 0} → List ℕ → Endpoint P → Endpoint P
-complains text s = stands (with_context s.endpoint_state (complain ParseFailed text s.endpoint_state.context)) s
+abbrev pub emit_parse_error : {P : Type 0} → List ℕ → Endpoint P → Endpoint P
+emit_parse_error text s = with_endpoint_state (with_context s.endpoint_state (emit_error ParseFailed text s.endpoint_state.context)) s
 
-abbrev pub on_verdict : {P : Type 0} → CookieResolution → Cookie → Endpoint P → Endpoint P
-on_verdict EstablishNew k s = establishes false k s.endpoint_state.context s
-on_verdict RestartDetected k s = restart k s
-on_verdict SimultaneousInit k s = establishes true k s.endpoint_state.context s
-on_verdict MaintainExisting k s = stands (keep k s.endpoint_state) s
-on_verdict Discard k s = s
-on_verdict InvalidTag k s = complains (codes "Received CookieEcho with invalid verification tag") s
+abbrev pub on_resolution : {P : Type 0} → CookieResolution → Cookie → Endpoint P → Endpoint P
+on_resolution EstablishNew k s = establishes false k s.endpoint_state.context s
+on_resolution RestartDetected k s = restart k s
+on_resolution SimultaneousInit k s = establishes true k s.endpoint_state.context s
+on_resolution MaintainExisting k s = with_endpoint_state (maintain_existing_in k s.endpoint_state) s
+on_resolution Discard k s = s
+on_resolution InvalidTag k s = emit_parse_error (codes "Received CookieEcho with invalid verification tag") s
 
 abbrev pub on_read_cookie : {P : Type 0} → (tag : ℕ) → Result Cookie StateCookieError → Endpoint P → Endpoint P
-on_read_cookie tag (Ok k) s = on_verdict (resolve_cookie tag k s.endpoint_state.state) k s
-on_read_cookie tag (Err fault) s = complains (refusal_text fault) s
+on_read_cookie tag (Ok k) s = on_resolution (resolve_cookie tag k s.endpoint_state.state) k s
+on_read_cookie tag (Err fault) s = emit_parse_error (refusal_text fault) s
 
 -- COOKIE ECHO, in a packet under this tag
 abbrev pub on_cookie_echo : {P : Type 0} → (tag : ℕ) → List ℕ → Endpoint P → Endpoint P

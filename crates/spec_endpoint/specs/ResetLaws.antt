@@ -2,7 +2,7 @@
 use Rattle.std.specs.Prelude.{◌≡◌, ℕ, ◌^◌, ◌<◌, ◌≤◌, true, List, length}
 use Rattle.sctp_serial.specs.declared.api.StreamId.{StreamId}
 use Rattle.sctp_rx.specs.DataTracker.{number_of}
-use Rattle.spec_endpoint.specs.Packets.{Packet, room, fits}
+use Rattle.spec_endpoint.specs.Packets.{PacketDraft, room, fits}
 use Rattle.spec_endpoint.specs.ResetRequests.{Request, request_chunk, is_final}
 use Rattle.spec_endpoint.specs.Sending.{most_streams}
 use Rattle.spec_endpoint.specs.StreamReset.{Handling, respond, on_outgoing}
@@ -26,4 +26,4 @@ ResetsWait =
 -- the chunk with the streams that are put into a request fits its packet
 abbrev pub RequestsFit : Type 0
 RequestsFit =
-    (p : Packet) (r : Request) → room p < 2 ^ 16 → 0 < length r.streams → length r.streams ≤ most_streams p → fits p (request_chunk r) ≡ true
+    (p : PacketDraft) (r : Request) → room p < 2 ^ 16 → 0 < length r.streams → length r.streams ≤ most_streams p → fits p (request_chunk r) ≡ true

@@ -3,7 +3,7 @@
 use Rattle.std.specs.Prelude.{ℕ, ◌==◌, ◌||◌, not, nat_le, Bool, true, false, Option, Some, None, option_map, List, [], ◌∷◌, map}
 use Rattle.sctp_serial.specs.declared.api.StreamId.{StreamId}
 use Rattle.sctp_serial.specs.SerialNumber.{serial_sum, serial_difference}
-use Rattle.sctp_serial.specs.Unwrapped.{words}
+use Rattle.sctp_serial.specs.Unwrapped.{u32_space}
 use Rattle.sctp_wire.specs.Parameter.{outgoing_reset_request}
 use Rattle.sctp_packet.specs.Chunk.{ChunkTree, re_config_chunk}
 use Rattle.sctp_state.specs.declared.timer.BackoffAlgorithm.TheVariants.{Exponential}
@@ -48,18 +48,18 @@ is_success result = nat_le result performed
 
 -- ---- a new association: each side counts its requests from its first TSN
 
-abbrev pub before : ℕ → ℕ
-before number = serial_difference words number 1
+abbrev pub previous_number : ℕ → ℕ
+previous_number number = serial_difference u32_space number 1
 
-abbrev pub after : ℕ → ℕ
-after number = serial_sum words number 1
+abbrev pub next_number : ℕ → ℕ
+next_number number = serial_sum u32_space number 1
 
 abbrev pub requests : Options → (my_first peer_first : ℕ) → Requests
 requests o my_first peer_first = record {
   next = my_first;
   current = None;
   timer = timer o.rto_initial Exponential None None;
-  last = before peer_first;
+  last = previous_number peer_first;
   result = nothing_to_do;
 }
 
@@ -78,7 +78,7 @@ lasting rto r = record r { timer = set_duration rto r.timer }
 -- the timer starts with it
 abbrev pub start_request : (now rto last_tsn : ℕ) → List ℕ → Requests → Requests
 start_request now rto last_tsn streams r = record r {
-  next = after r.next;
+  next = next_number r.next;
   current = Some (record { number = r.next; last_tsn = last_tsn; streams = streams; is_deferred = false });
   timer = start now (set_duration rto r.timer);
 }
@@ -106,53 +106,53 @@ outcome number result None = Unsettled
 outcome number result (Some r) = outcome_if (r.number == number) result r.streams
 
 -- after "in progress" it is to be sent again later
-abbrev pub put_off : (now rto : ℕ) → Request → Requests → Requests
-put_off now rto r x = record x { current = Some (record r { is_deferred = true }); timer = start now (set_duration rto x.timer) }
+abbrev pub defer_request : (now rto : ℕ) → Request → Requests → Requests
+defer_request now rto r x = record x { current = Some (record r { is_deferred = true }); timer = start now (set_duration rto x.timer) }
 
 abbrev pub end_request : Requests → Requests
 end_request x = record x { current = None; timer = stop x.timer }
 
-abbrev pub answered_by : (is_final : Bool) → (now rto : ℕ) → Request → Requests → Requests
-answered_by true now rto r x = end_request x
-answered_by false now rto r x = put_off now rto r x
+abbrev pub end_or_defer : (is_final : Bool) → (now rto : ℕ) → Request → Requests → Requests
+end_or_defer true now rto r x = end_request x
+end_or_defer false now rto r x = defer_request now rto r x
 
-abbrev pub answered_if : (is_its : Bool) → (now rto result : ℕ) → Request → Requests → Requests
-answered_if true now rto result r x = answered_by (is_final result) now rto r x
-answered_if false now rto result r x = x
+abbrev pub response_if : (is_its : Bool) → (now rto result : ℕ) → Request → Requests → Requests
+response_if true now rto result r x = end_or_defer (is_final result) now rto r x
+response_if false now rto result r x = x
 
-abbrev pub answered_in : Option Request → (now rto number result : ℕ) → Requests → Requests
-answered_in None now rto number result x = x
-answered_in (Some r) now rto number result x = answered_if (r.number == number) now rto result r x
+abbrev pub handle_response_in : Option Request → (now rto number result : ℕ) → Requests → Requests
+handle_response_in None now rto number result x = x
+handle_response_in (Some r) now rto number result x = response_if (r.number == number) now rto result r x
 
-abbrev pub answer_request : (now rto number result : ℕ) → Requests → Requests
-answer_request now rto number result x = answered_in x.current now rto number result x
+abbrev pub handle_response : (now rto number result : ℕ) → Requests → Requests
+handle_response now rto number result x = handle_response_in x.current now rto number result x
 
 -- ---- the timer (RFC 6525 section 5.1.1)
 
-abbrev pub expire_request : (now : ℕ) → Requests → Requests
-expire_request now r = record r { timer = expire now r.timer }
+abbrev pub expire_reconfig_timer : (now : ℕ) → Requests → Requests
+expire_reconfig_timer now r = record r { timer = expire now r.timer }
 
 -- no answer came: an error, unless the request was put off
 abbrev pub is_unanswered : Option Request → Bool
 is_unanswered None = false
 is_unanswered (Some r) = not r.is_deferred
 
-abbrev pub awake : Request → Request
-awake r = record r { is_deferred = false }
+abbrev pub without_deferral : Request → Request
+without_deferral r = record r { is_deferred = false }
 
-abbrev pub wake_request : Requests → Requests
-wake_request r = record r { current = option_map awake r.current }
+abbrev pub clear_deferral : Requests → Requests
+clear_deferral r = record r { current = option_map without_deferral r.current }
 
 -- ---- requests of the peer (RFC 6525 section 5.2.1)
 
-abbrev pub is_last : (number : ℕ) → Requests → Bool
-is_last number r = number == r.last
+abbrev pub is_last_request : (number : ℕ) → Requests → Bool
+is_last_request number r = number == r.last
 
-abbrev pub is_next : (number : ℕ) → Requests → Bool
-is_next number r = number == after r.last
+abbrev pub is_next_request : (number : ℕ) → Requests → Bool
+is_next_request number r = number == next_number r.last
 
-abbrev pub is_known : (number : ℕ) → Requests → Bool
-is_known number r = is_last number r || is_next number r
+abbrev pub is_known_request : (number : ℕ) → Requests → Bool
+is_known_request number r = is_last_request number r || is_next_request number r
 
-abbrev pub process_request : (number result : ℕ) → Requests → Requests
-process_request number result r = record r { last = number; result = result }
+abbrev pub set_last_request : (number result : ℕ) → Requests → Requests
+set_last_request number result r = record r { last = number; result = result }

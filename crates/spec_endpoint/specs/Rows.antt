@@ -9,8 +9,8 @@ use Rattle.sctp_state.specs.Events.{OnConnected, OnClosed, OnAborted, OnBuffered
 use Rattle.sctp_state.specs.declared.api.errors.RestoreError.TheVariants.{InvalidState, SocketNotClosed}
 use Rattle.sctp_state.specs.Handover.{HandoverState}
 use Rattle.spec_endpoint.specs.Association.{Identity, State, Closed, Open, EndpointState}
-use Rattle.spec_endpoint.specs.Handover.{readiness, handed_over, refusal_in}
-use Rattle.spec_endpoint.specs.Pair.{Sent, Line, Packet, Says, GaveUp, Move, Connect, Give, Send, Receive, Time, Close, Shutdown, HandOver, TakeUp, after, then, ready_b, Reset, results_b}
+use Rattle.spec_endpoint.specs.Handover.{readiness, handed_over, restore_refusal_in}
+use Rattle.spec_endpoint.specs.Pair.{SentPacket, Line, PacketLine, Says, GaveUp, Move, Connect, Give, Send, TakeReady, Time, Close, Shutdown, HandOver, TakeUp, after_moves, then, ready_b, Reset, results_b}
 
 abbrev pub message : (stream : ℕ) → List ℕ → Message
 message stream bytes = record { stream = stream; ppid = 53; payload = bytes }
@@ -19,18 +19,18 @@ abbrev pub opened : List Move
 opened = Connect true ∷ Give 0 false ∷ Give 0 true ∷ Give 1 false ∷ Give 1 true ∷ []
 
 -- each end's tags and first TSNs are the other's, exchanged
-abbrev pub are_mirrored : Identity → Identity → Type 0
-are_mirrored i j = (i.my_tag ≡ j.peer_tag) × (i.my_first ≡ j.peer_first) × (i.peer_tag ≡ j.my_tag) × (i.peer_first ≡ j.my_first)
+abbrev pub AreIdentitiesMirrored : Identity → Identity → Type 0
+AreIdentitiesMirrored i j = (i.my_tag ≡ j.peer_tag) × (i.my_first ≡ j.peer_first) × (i.peer_tag ≡ j.my_tag) × (i.peer_first ≡ j.my_first)
 
 abbrev pub AreMirrored : State → State → Type 0
-AreMirrored (Open p t) (Open q u) = are_mirrored t.identity u.identity
+AreMirrored (Open p t) (Open q u) = AreIdentitiesMirrored t.identity u.identity
 AreMirrored s r = ⊥
 
 abbrev pub AreMirroredAfter : List Move → Type 0
-AreMirroredAfter moves = AreMirrored (after moves).a.endpoint_state.state (after moves).b.endpoint_state.state
+AreMirroredAfter moves = AreMirrored (after_moves moves).a.endpoint_state.state (after_moves moves).b.endpoint_state.state
 
 abbrev pub size : ℕ → Line
-size bytes = Packet bytes
+size bytes = PacketLine bytes
 
 -- ---- the first conversation
 
@@ -41,11 +41,11 @@ abbrev pub sent_first : List Move
 sent_first = opened ++ (first_message ∷ [])
 
 pub record FirstConversation : Type 0 where
-  pub opening : (after opened).log ≡ size 44 ∷ size 96 ∷ size 64 ∷ Says OnConnected ∷ size 16 ∷ Says OnConnected ∷ []
+  pub opening : (after_moves opened).log ≡ size 44 ∷ size 96 ∷ size 64 ∷ Says OnConnected ∷ size 16 ∷ Says OnConnected ∷ []
   pub mirrored : AreMirroredAfter opened
   pub sent : then opened (first_message ∷ []) ≡ Says (OnBufferedAmountLow 1) ∷ Says (OnLifecycleMessageFullySent 7) ∷ size 32 ∷ []
   pub came : ready_b (sent_first ++ (Give 2 false ∷ [])) ≡ message 1 (1 ∷ 2 ∷ 3 ∷ []) ∷ []
-  pub answered : then sent_first (Give 2 false ∷ Receive false ∷ Give 2 true ∷ []) ≡
+  pub answered : then sent_first (Give 2 false ∷ TakeReady false ∷ Give 2 true ∷ []) ≡
       size 28 ∷ Says (OnLifecycleMessageDelivered 7) ∷ Says (OnLifecycleEnd 7) ∷ []
   pub repeated : ready_b (sent_first ++ (Give 2 false ∷ Give 2 false ∷ Give 2 false ∷ [])) ≡ message 1 (1 ∷ 2 ∷ 3 ∷ []) ∷ []
 
@@ -70,7 +70,7 @@ abbrev pub late_cookie : List Move
 late_cookie = Connect true ∷ Give 0 false ∷ Connect false ∷ Give 1 true ∷ Give 1 false ∷ Give 0 true ∷ []
 
 pub record BothConnect : Type 0 where
-  pub together : (after simultaneous).log ≡ size 44 ∷ size 44 ∷ size 96 ∷ size 96 ∷ size 64 ∷ size 64 ∷ Says OnConnected ∷ size 16 ∷ Says OnConnected ∷ size 16 ∷ []
+  pub together : (after_moves simultaneous).log ≡ size 44 ∷ size 44 ∷ size 96 ∷ size 96 ∷ size 64 ∷ size 64 ∷ Says OnConnected ∷ size 16 ∷ Says OnConnected ∷ size 16 ∷ []
   pub mirrored : AreMirroredAfter simultaneous
   pub discarded : then late_cookie (Give 2 false ∷ []) ≡ []
   pub goes_on : then late_cookie (Give 2 false ∷ Give 2 true ∷ []) ≡ Says OnConnected ∷ size 16 ∷ []
@@ -124,8 +124,8 @@ pub record Beats : Type 0 where
   pub asked : then opened (Time (29999 * ms) ∷ Time (30000 * ms) ∷ []) ≡ size 24 ∷ size 24 ∷ []
   pub answered : then idle (Give 2 false ∷ Give 3 true ∷ []) ≡ size 24 ∷ []
   pub again : then idle (Give 2 false ∷ Give 3 true ∷ Time (60000 * ms) ∷ []) ≡ size 24 ∷ size 24 ∷ size 24 ∷ []
-  pub errors : (after (idle ++ (Time (30500 * ms) ∷ []))).a.endpoint_state.context.errors.value ≡ 1
-  pub none : (after (idle ++ (Give 2 false ∷ Give 3 true ∷ Time (30500 * ms) ∷ []))).a.endpoint_state.context.errors.value ≡ 0
+  pub errors : (after_moves (idle ++ (Time (30500 * ms) ∷ []))).a.endpoint_state.context.errors.value ≡ 1
+  pub none : (after_moves (idle ++ (Give 2 false ∷ Give 3 true ∷ Time (30500 * ms) ∷ []))).a.endpoint_state.context.errors.value ≡ 0
   pub later : then opened (Time (20000 * ms) ∷ short_message ∷ Give 2 false ∷ Give 2 true ∷ Time (30000 * ms) ∷ []) ≡
       Says (OnBufferedAmountLow 1) ∷ size 32 ∷ size 28 ∷ size 24 ∷ []
 
@@ -140,8 +140,8 @@ pub record ShutsDown : Type 0 where
 
 -- ---- an end that is handed over, and a new one in its place
 
-abbrev pub endpoint_state_a : List Move → EndpointState Sent
-endpoint_state_a moves = (after moves).a.endpoint_state
+abbrev pub endpoint_state_a : List Move → EndpointState SentPacket
+endpoint_state_a moves = (after_moves moves).a.endpoint_state
 
 abbrev pub record_of : List Move → HandoverState
 record_of moves = handed_over (endpoint_state_a moves)
@@ -158,9 +158,9 @@ pub record TakenUp : Type 0 where
   pub restored : then opened (HandOver true ∷ TakeUp true (record_of opened) ∷ []) ≡ Says OnClosed ∷ Says OnConnected ∷ []
   pub mirrored : AreMirroredAfter carried_on
   pub sent : then carried_on (short_message ∷ Give 2 false ∷ Give 2 true ∷ []) ≡ Says (OnBufferedAmountLow 1) ∷ size 32 ∷ size 28 ∷ []
-  pub invalid : refusal_in Closed (no_tag (record_of opened)) ≡ Some InvalidState
-  pub not_closed : refusal_in (endpoint_state_a opened).state (record_of opened) ≡ Some SocketNotClosed
-  pub neither : refusal_in (endpoint_state_a opened).state (no_tag (record_of opened)) ≡ Some SocketNotClosed
+  pub invalid : restore_refusal_in Closed (no_tag (record_of opened)) ≡ Some InvalidState
+  pub not_closed : restore_refusal_in (endpoint_state_a opened).state (record_of opened) ≡ Some SocketNotClosed
+  pub neither : restore_refusal_in (endpoint_state_a opened).state (no_tag (record_of opened)) ≡ Some SocketNotClosed
 
 -- ---- a stream that is reset, and what comes again
 
@@ -178,17 +178,17 @@ pub record ResetsOnce : Type 0 where
 abbrev pub behind_two : List Move
 behind_two = opened ++ (short_message ∷ short_message ∷ Reset true 1 ∷ Give 2 false ∷ [])
 
-abbrev pub put_off : List Move
-put_off = behind_two ++ (Give 4 false ∷ [])
+abbrev pub put_off_moves : List Move
+put_off_moves = behind_two ++ (Give 4 false ∷ [])
 
 abbrev pub there : List Move
-there = put_off ++ (Give 3 false ∷ [])
+there = put_off_moves ++ (Give 3 false ∷ [])
 
 pub record ResetWaits : Type 0 where
   pub waits : then behind_two (Give 4 false ∷ []) ≡ size 28 ∷ []
-  pub in_progress : results_b put_off ≡ 6 ∷ []
+  pub in_progress : results_b put_off_moves ≡ 6 ∷ []
   pub performed : then there (Give 4 false ∷ []) ≡ Says (OnIncomingStreamReset (1 ∷ [])) ∷ size 28 ∷ size 28 ∷ []
   pub repeated : then (there ++ (Give 4 false ∷ [])) (Give 4 false ∷ []) ≡ size 28 ∷ []
   pub results : results_b (there ++ (Give 4 false ∷ Give 4 false ∷ [])) ≡ 6 ∷ 1 ∷ 1 ∷ []
-  pub again : then (put_off ++ (Give 3 true ∷ [])) (Time (500 * ms) ∷ []) ≡ size 36 ∷ size 52 ∷ []
-  pub errors : (after (put_off ++ (Give 3 true ∷ Time (500 * ms) ∷ []))).a.endpoint_state.context.errors.value ≡ 1  -- of the data alone
+  pub again : then (put_off_moves ++ (Give 3 true ∷ [])) (Time (500 * ms) ∷ []) ≡ size 36 ∷ size 52 ∷ []
+  pub errors : (after_moves (put_off_moves ++ (Give 3 true ∷ Time (500 * ms) ∷ []))).a.endpoint_state.context.errors.value ≡ 1  -- of the data alone

@@ -11,9 +11,9 @@ use Rattle.sctp_tx_outstanding.specs.Sack.{is_valid}
 use Rattle.sctp_rx.specs.DataTracker.{update_rto}
 use Rattle.sctp_tx.specs.RetransmissionQueue.{SackAnswer, Invalid, Valid, sender_if, emitted_if, answer_if}
 use Rattle.spec_endpoint.specs.Association.{Tcb, Phase, State, Closed, CookieWait, Open, Context, EndpointState, open_as}
-use Rattle.spec_endpoint.specs.Packets.{complain}
-use Rattle.spec_endpoint.specs.Sending.{Sent, is_alone, open_with, send_buffered, send_lost}
-use Rattle.spec_endpoint.specs.Shutdown.{Onward, go_on}
+use Rattle.spec_endpoint.specs.Packets.{emit_error}
+use Rattle.spec_endpoint.specs.Sending.{AfterSending, is_before_cookie_ack, open_with, send_buffered, send_lost}
+use Rattle.spec_endpoint.specs.Shutdown.{PhaseStep, maybe_send_shutdown_or_ack}
 
 -- ---- blocks, as the maximal runs of the offsets that they cover
 
@@ -41,23 +41,23 @@ abbrev pub sample_rtt : Option ℕ → Tcb → Tcb
 sample_rtt None t = t
 sample_rtt (Some sample) t = timed_by (observe_rto sample t.rtt) t
 
-abbrev pub answered_if : (is_progress : Bool) → ErrorCounter → ErrorCounter
-answered_if true e = no_errors e.limit
-answered_if false e = e
+abbrev pub errors_unless_progress : (is_progress : Bool) → ErrorCounter → ErrorCounter
+errors_unless_progress true e = no_errors e.limit
+errors_unless_progress false e = e
 
 -- the packet of what was lost, and what else may be sent
-abbrev pub send_after : {P : Type 0} → (is_alone : Bool) → Tcb → Context P → Sent P
+abbrev pub send_after : {P : Type 0} → (is_alone : Bool) → Tcb → Context P → AfterSending P
 send_after is_alone t c = let x = send_lost t c in send_buffered is_alone x.tcb x.context
 
-abbrev pub goes_on : {P : Type 0} → Tcb → Onward P → EndpointState P
-goes_on t o = open_with o.phase (send_after (is_alone o.phase) t o.context)
+abbrev pub send_after_sack : {P : Type 0} → Tcb → PhaseStep P → EndpointState P
+send_after_sack t o = open_with o.phase (send_after (is_before_cookie_ack o.phase) t o.context)
 
 abbrev pub clear_errors_if : {P : Type 0} → (is_progress : Bool) → Context P → Context P
-clear_errors_if is_progress c = record c { errors = answered_if is_progress c.errors }
+clear_errors_if is_progress c = record c { errors = errors_unless_progress is_progress c.errors }
 
 abbrev pub after_sack : {P : Type 0} → SackAnswer → Phase → Tcb → Context P → EndpointState P
 after_sack Invalid phase t c = open_as phase t c
-after_sack (Valid rtt is_progress) phase t c = goes_on (sample_rtt rtt t) (go_on phase (sample_rtt rtt t) (clear_errors_if is_progress c))
+after_sack (Valid rtt is_progress) phase t c = send_after_sack (sample_rtt rtt t) (maybe_send_shutdown_or_ack phase (sample_rtt rtt t) (clear_errors_if is_progress c))
 
 -- with blocks that are maximal runs
 abbrev pub on_clean_sack : {P : Type 0} → (cumulative a_rwnd : ℕ) → List GapAckBlock → Phase → Tcb → Context P → EndpointState P
@@ -71,7 +71,7 @@ on_sack_open k phase t c =
     on_clean_sack (number_of t.sender.outstanding k.cumulative_tsn_ack) k.a_rwnd (clean_blocks k.gap_ack_blocks) phase t c
 
 abbrev pub no_block : {P : Type 0} → Context P → Context P
-no_block c = complain NotConnected (codes "No TCB") c
+no_block c = emit_error NotConnected (codes "No TCB") c
 
 abbrev pub on_sack_in : {P : Type 0} → State → SackTree → Context P → EndpointState P
 on_sack_in Closed k c = record { state = Closed; context = no_block c }

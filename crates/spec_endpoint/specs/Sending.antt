@@ -12,29 +12,29 @@ use Rattle.sctp_tx_outstanding.specs.Forward.{is_forward_due}
 use Rattle.sctp_tx_outstanding.specs.Losses.{expire_outstanding}
 use Rattle.sctp_rx.specs.DataTracker.{is_ack_due, take_ack}
 use Rattle.sctp_rx.specs.ReassemblyQueue.{Reassembly, watermark, queued_bytes}
-use Rattle.sctp_rx.specs.Sack.{sack, report}
+use Rattle.sctp_rx.specs.Sack.{sack, clear_duplicates}
 use Rattle.sctp_tx_queue.specs.SendQueue.{Queue}
-use Rattle.sctp_tx_queue.specs.Resets.{requested_streams, request_resets}
+use Rattle.sctp_tx_queue.specs.Resets.{streams_to_request, request_resets}
 use Rattle.sctp_tx.specs.RetransmissionQueue.{Sender}
 use Rattle.sctp_tx.specs.Resent.{may_send_new, resent_fast, send_fast}
-use Rattle.sctp_tx.specs.ForwardPoints.{expire, forward_chunk}
+use Rattle.sctp_tx.specs.ForwardPoints.{abandon_expired, forward_chunk}
 use Rattle.sctp_tx.specs.Sending as fragments
 use Rattle.sctp_tx.specs.Sending.{send}
 use Rattle.spec_endpoint.specs.Association.{Tcb, Phase, CookieEchoed, Established, ShutdownPending, ShutdownSent, ShutdownReceived, ShutdownAckSent, Context, EndpointState, open_as}
 use Rattle.spec_endpoint.specs.ResetRequests.{Request, request_chunk, start_request}
-use Rattle.spec_endpoint.specs.Heartbeats.{beating_if}
-use Rattle.spec_endpoint.specs.Packets.{Packet, empty_packet, room, fits, add, add_all, has_chunks, round_up, packet_to, new_packet, emit}
+use Rattle.spec_endpoint.specs.Heartbeats.{restart_interval_if}
+use Rattle.spec_endpoint.specs.Packets.{PacketDraft, clear_chunks, room, fits, add, add_all, has_chunks, round_down_to_4, packet_to, new_packet, emit}
 
 -- a packet being filled, and what filling it changes
 pub record Filling (P : Type 0) : Type 0 where
-  pub packet : Packet
+  pub packet : PacketDraft
   pub tcb : Tcb
   pub context : Context P
 
 -- ---- acknowledgements (RFC 9260 section 6.2)
 
-abbrev pub has_data : Queue → Bool
-has_data q = not (length q.scheduler.times == 0)
+abbrev pub queue_has_data : Queue → Bool
+queue_has_data q = not (length q.scheduler.times == 0)
 
 -- how many bytes more may come
 abbrev pub window : Reassembly → ℕ
@@ -44,21 +44,21 @@ abbrev pub selective_ack : Tcb → ChunkTree
 selective_ack t = sack_chunk (sack (window t.reassembly) t.tracker)
 
 -- an acknowledgement that is due counts as sent; a delayed one is due where data may go along
-abbrev pub ask_for_sack : (also_if_delayed : Bool) → Tcb → Tcb
-ask_for_sack also_if_delayed t = record t { tracker = record t.tracker { tracker = take_ack also_if_delayed t.tracker.tracker } }
+abbrev pub take_due_ack : (also_if_delayed : Bool) → Tcb → Tcb
+take_due_ack also_if_delayed t = record t { tracker = record t.tracker { tracker = take_ack also_if_delayed t.tracker.tracker } }
 
-abbrev pub count_sack_sent : Tcb → Tcb
-count_sack_sent t = record t { tracker = record t.tracker { tracker = report t.tracker.tracker } }
+abbrev pub without_duplicates : Tcb → Tcb
+without_duplicates t = record t { tracker = record t.tracker { tracker = clear_duplicates t.tracker.tracker } }
 
 abbrev pub ack_if : {P : Type 0} → Bool → Filling P → Filling P
-ack_if true x = record x { packet = add (selective_ack x.tcb) x.packet; tcb = count_sack_sent x.tcb }
+ack_if true x = record x { packet = add (selective_ack x.tcb) x.packet; tcb = without_duplicates x.tcb }
 ack_if false x = x
 
-abbrev pub goes_along : {P : Type 0} → Filling P → Bool
-goes_along x = has_data x.context.queue || may_send_new x.tcb.sender
+abbrev pub has_data_to_send : {P : Type 0} → Filling P → Bool
+has_data_to_send x = queue_has_data x.context.queue || may_send_new x.tcb.sender
 
 abbrev pub with_ack : {P : Type 0} → Filling P → Filling P
-with_ack x = ack_if (is_ack_due (goes_along x) x.tcb.tracker.tracker.ack) (record x { tcb = ask_for_sack (goes_along x) x.tcb })
+with_ack x = ack_if (is_ack_due (has_data_to_send x) x.tcb.tracker.tracker.ack) (record x { tcb = take_due_ack (has_data_to_send x) x.tcb })
 
 -- ---- forward points (RFC 3758 section 3.5)
 
@@ -75,30 +75,30 @@ forward_if true x = forward_added_if (fits x.packet (forward_chunk x.tcb.sender)
 forward_if false x = x
 
 -- a test for a forward point first gives up what has expired
-abbrev pub test_forward_point : {P : Type 0} → Filling P → Filling P
-test_forward_point x = record x {
-  tcb = record x.tcb { sender = expire x.context.now x.tcb.sender x.context.emitted };
+abbrev pub with_expired_abandoned : {P : Type 0} → Filling P → Filling P
+with_expired_abandoned x = record x {
+  tcb = record x.tcb { sender = abandon_expired x.context.now x.tcb.sender x.context.emitted };
   context = record x.context { emitted = (expire_outstanding x.context.now x.tcb.sender.outstanding.items x.context.emitted).emitted };
 }
 
-abbrev pub forward_tested : {P : Type 0} → Filling P → Filling P
-forward_tested x = forward_if (is_forward_due x.tcb.sender.outstanding.items) x
+abbrev pub forward_where_due : {P : Type 0} → Filling P → Filling P
+forward_where_due x = forward_if (is_forward_due x.tcb.sender.outstanding.items) x
 
-abbrev pub tested_if : {P : Type 0} → (is_time : Bool) → Filling P → Filling P
-tested_if true x = forward_tested (test_forward_point x)
-tested_if false x = x
+abbrev pub forward_if_time : {P : Type 0} → (is_time : Bool) → Filling P → Filling P
+forward_if_time true x = forward_where_due (with_expired_abandoned x)
+forward_if_time false x = x
 
 abbrev pub with_forward : {P : Type 0} → Filling P → Filling P
-with_forward x = tested_if (nat_le x.context.forward_from x.context.now) x
+with_forward x = forward_if_time (nat_le x.context.forward_from x.context.now) x
 
 -- ---- requests to reset streams (RFC 6525 section 5.1.2)
 
 -- how many streams a request has room for: it takes 20 bytes and 2 a stream, in whole words of 4
-abbrev pub most_streams : Packet → ℕ
+abbrev pub most_streams : PacketDraft → ℕ
 most_streams p = (room p / 4 * 4 - 20) / 2
 
 -- the current request goes along
-abbrev pub add_request : Option Request → Packet → Packet
+abbrev pub add_request : Option Request → PacketDraft → PacketDraft
 add_request None p = p
 add_request (Some r) p = add (request_chunk r) p
 
@@ -106,13 +106,13 @@ abbrev pub last_assigned : Sender → ℕ
 last_assigned s = items.wire_tsn s.outstanding (next_number s.outstanding.items - 1)
 
 -- a reset begins: no forward point crosses the next TSN
-abbrev pub begin_burst : Sender → Sender
-begin_burst s = record s { outstanding = record s.outstanding { items = begin_reset s.outstanding.items } }
+abbrev pub add_reset_breakpoint : Sender → Sender
+add_reset_breakpoint s = record s { outstanding = record s.outstanding { items = begin_reset s.outstanding.items } }
 
 abbrev pub request_started : (now : ℕ) → List ℕ → Tcb → Tcb
 request_started now streams t = record t {
-  sender = begin_burst t.sender;
-  requests = start_request now (rto t.rtt) (last_assigned (begin_burst t.sender)) streams t.requests;
+  sender = add_reset_breakpoint t.sender;
+  requests = start_request now (rto t.rtt) (last_assigned (add_reset_breakpoint t.sender)) streams t.requests;
 }
 
 abbrev pub carrying : {P : Type 0} → Tcb → Filling P → Filling P
@@ -125,7 +125,7 @@ request_of (id ∷ ids) x = carrying (request_started x.context.now (id ∷ ids)
 -- so many of the streams that are ready are in the request, the others stay ready for another one
 abbrev pub request_at_most : {P : Type 0} → (most : ℕ) → Filling P → Filling P
 request_at_most most x =
-    request_of (requested_streams most x.context.queue) (record x { context = record x.context { queue = request_resets most x.context.queue } })
+    request_of (streams_to_request most x.context.queue) (record x { context = record x.context { queue = request_resets most x.context.queue } })
 
 -- one request at a time
 abbrev pub request_if : {P : Type 0} → (has_current : Bool) → Filling P → Filling P
@@ -149,19 +149,19 @@ abbrev pub is_small : Options → Sender → Bool
 is_small o s = nat_lt s.windows.cwnd (o.immediate_sack_under_cwnd_mtus * o.mtu)
 
 -- data asks the peer as well: the next heartbeat is an interval away
-abbrev pub fill_packet : {P : Type 0} → fragments.Filling P → Filling P → Filling P
-fill_packet f x = record {
+abbrev pub with_fragments : {P : Type 0} → fragments.Filling P → Filling P → Filling P
+with_fragments f x = record {
   packet = add_all (data_chunks x.tcb (is_small x.context.options f.sender) f.chunks) x.packet;
   tcb = record x.tcb { sender = f.sender };
   context = record x.context {
     queue = f.queue;
     emitted = f.emitted;
-    heartbeats = beating_if (not (length f.chunks == 0)) x.context.now x.context.heartbeats;
+    heartbeats = restart_interval_if (not (length f.chunks == 0)) x.context.now x.context.heartbeats;
   };
 }
 
 abbrev pub with_data : {P : Type 0} → Filling P → Filling P
-with_data x = fill_packet (send x.context.now (room x.packet) x.tcb.sender x.context.queue x.context.emitted) x
+with_data x = with_fragments (send x.context.now (room x.packet) x.tcb.sender x.context.queue x.context.emitted) x
 
 abbrev pub filled_as : {P : Type 0} → (is_first : Bool) → Filling P → Filling P
 filled_as true x = with_data (with_request (with_forward (with_ack x)))
@@ -171,84 +171,84 @@ filled_as false x = with_data x
 
 -- the packet goes out, and the next one is begun
 abbrev pub emit_packet : {P : Type 0} → Filling P → Filling P
-emit_packet x = record x { packet = empty_packet x.packet; context = emit x.packet x.context }
+emit_packet x = record x { packet = clear_chunks x.packet; context = emit x.packet x.context }
 
-pub record Turned (P : Type 0) : Type 0 where
+pub record BurstStep (P : Type 0) : Type 0 where
   pub filling : Filling P
   pub is_more : Bool
 
-abbrev pub turned_if : {P : Type 0} → (has_chunks is_alone : Bool) → Filling P → Turned P
-turned_if true is_alone x = record { filling = emit_packet x; is_more = not is_alone }
-turned_if false is_alone x = record { filling = x; is_more = false }
+abbrev pub burst_step_if : {P : Type 0} → (has_chunks is_alone : Bool) → Filling P → BurstStep P
+burst_step_if true is_alone x = record { filling = emit_packet x; is_more = not is_alone }
+burst_step_if false is_alone x = record { filling = x; is_more = false }
 
-abbrev pub next_packet : {P : Type 0} → (is_first is_alone : Bool) → Filling P → Turned P
-next_packet is_first is_alone x = let y = filled_as is_first x in turned_if (has_chunks y.packet) is_alone y
+abbrev pub next_packet : {P : Type 0} → (is_first is_alone : Bool) → Filling P → BurstStep P
+next_packet is_first is_alone x = let y = filled_as is_first x in burst_step_if (has_chunks y.packet) is_alone y
 
-abbrev pub go_on : {P : Type 0} → (Filling P → Filling P) → Turned P → Filling P
-go_on rest t = elim t.is_more [ true ↦ rest t.filling | false ↦ t.filling ]
+abbrev pub continue_burst : {P : Type 0} → (Filling P → Filling P) → BurstStep P → Filling P
+continue_burst rest t = elim t.is_more [ true ↦ rest t.filling | false ↦ t.filling ]
 
 -- the packets of a burst, the first of which may hold chunks already. Before the COOKIE ACK there is one (RFC 9260
 -- section 5.1)
 abbrev pub burst : {P : Type 0} → (most : ℕ) → (is_first is_alone : Bool) → Filling P → Filling P
 burst zero is_first is_alone x = x
-burst (suc most) is_first is_alone x = go_on (burst most false is_alone) (next_packet is_first is_alone x)
+burst (suc most) is_first is_alone x = continue_burst (burst most false is_alone) (next_packet is_first is_alone x)
 
-abbrev pub is_alone : Phase → Bool
-is_alone (CookieEchoed t1 cookie) = true
-is_alone Established = false
-is_alone ShutdownPending = false
-is_alone (ShutdownSent t2) = false
-is_alone ShutdownReceived = false
-is_alone (ShutdownAckSent t2) = false
+abbrev pub is_before_cookie_ack : Phase → Bool
+is_before_cookie_ack (CookieEchoed t1 cookie) = true
+is_before_cookie_ack Established = false
+is_before_cookie_ack ShutdownPending = false
+is_before_cookie_ack (ShutdownSent t2) = false
+is_before_cookie_ack ShutdownReceived = false
+is_before_cookie_ack (ShutdownAckSent t2) = false
 
-abbrev pub burst_with : {P : Type 0} → (is_alone : Bool) → Packet → Tcb → Context P → Filling P
+abbrev pub burst_with : {P : Type 0} → (is_alone : Bool) → PacketDraft → Tcb → Context P → Filling P
 burst_with is_alone p t c = burst c.options.max_burst true is_alone (record { packet = p; tcb = t; context = c })
 
 -- what a sending leaves
-pub record Sent (P : Type 0) : Type 0 where
+pub record AfterSending (P : Type 0) : Type 0 where
   pub tcb : Tcb
   pub context : Context P
 
-abbrev pub send_lost_data : {P : Type 0} → Tcb → Context P → Sent P
-send_lost_data t c = record { tcb = t; context = c }
+abbrev pub after_sending : {P : Type 0} → Tcb → Context P → AfterSending P
+after_sending t c = record { tcb = t; context = c }
 
-abbrev pub sent_by : {P : Type 0} → Filling P → Sent P
-sent_by x = send_lost_data x.tcb x.context
+abbrev pub sent_by : {P : Type 0} → Filling P → AfterSending P
+sent_by x = after_sending x.tcb x.context
 
-abbrev pub open_with : {P : Type 0} → Phase → Sent P → EndpointState P
+abbrev pub open_with : {P : Type 0} → Phase → AfterSending P → EndpointState P
 open_with phase x = open_as phase x.tcb x.context
 
 -- what may be sent goes out, behind the chunks of this packet
-abbrev pub send_with : {P : Type 0} → (is_alone : Bool) → Packet → Tcb → Context P → Sent P
+abbrev pub send_with : {P : Type 0} → (is_alone : Bool) → PacketDraft → Tcb → Context P → AfterSending P
 send_with is_alone p t c = sent_by (burst_with is_alone p t c)
 
-abbrev pub send_buffered : {P : Type 0} → (is_alone : Bool) → Tcb → Context P → Sent P
+abbrev pub send_buffered : {P : Type 0} → (is_alone : Bool) → Tcb → Context P → AfterSending P
 send_buffered is_alone t c = send_with is_alone (new_packet c.options t) t c
 
 -- the same in a phase
 abbrev pub send_in : {P : Type 0} → Phase → Tcb → Context P → EndpointState P
-send_in phase t c = open_with phase (send_buffered (is_alone phase) t c)
+send_in phase t c = open_with phase (send_buffered (is_before_cookie_ack phase) t c)
 
 -- ---- the cookie, with data where both fit
 
-abbrev pub cookie_if : {P : Type 0} → (fits : Bool) → List ℕ → Tcb → Context P → Sent P
+abbrev pub cookie_if : {P : Type 0} → (fits : Bool) → List ℕ → Tcb → Context P → AfterSending P
 cookie_if true cookie t c = send_with true (add (cookie_echo_chunk cookie) (packet_to t.identity.peer_tag c.options.mtu)) t c
-cookie_if false cookie t c = send_lost_data t c
+cookie_if false cookie t c = after_sending t c
 
-abbrev pub send_cookie : {P : Type 0} → List ℕ → Tcb → Context P → Sent P
+abbrev pub send_cookie : {P : Type 0} → List ℕ → Tcb → Context P → AfterSending P
 send_cookie cookie t c = cookie_if (fits (packet_to t.identity.peer_tag c.options.mtu) (cookie_echo_chunk cookie)) cookie t c
 
 -- ---- the packet that a third missing report sends at once, whatever the window says (RFC 9260 section 7.2.4)
 
 abbrev pub fast_most : Options → ℕ
-fast_most o = round_up o.mtu - 12
+fast_most o = round_down_to_4 o.mtu - 12
 
-abbrev pub fast_packet : Options → Tcb → Packet
+abbrev pub fast_packet : Options → Tcb → PacketDraft
 fast_packet o t = add_all (data_chunks t false (resent_fast (fast_most o) t.sender).chunks) (new_packet o t)
 
-abbrev pub fast_if : {P : Type 0} → (has_fast : Bool) → Tcb → Context P → Sent P
-fast_if true t c = send_lost_data (record t { sender = send_fast c.now (fast_most c.options) t.sender }) (emit (fast_packet c.options t) c)
-fast_if false t c = send_lost_data t c
+abbrev pub fast_if : {P : Type 0} → (has_fast : Bool) → Tcb → Context P → AfterSending P
+fast_if true t c = after_sending (record t { sender = send_fast c.now (fast_most c.options) t.sender }) (emit (fast_packet c.options t) c)
+fast_if false t c = after_sending t c
 
-abbrev pub send_lost : {P : Type 0} → Tcb → Context P → Sent P
+abbrev pub send_lost : {P : Type 0} → Tcb → Context P → AfterSending P
 send_lost t c = fast_if (nat_lt 0 (fast_items t.sender.outstanding.items)) t c

@@ -9,14 +9,14 @@ use Rattle.sctp_state.specs.Timer.{Timer, timer, start, set_duration}
 use Rattle.sctp_state.specs.RetransmissionTimeout.{rto}
 use Rattle.sctp_state.specs.Events.{Event, OnClosed, OnAborted}
 use Rattle.sctp_rx.specs.DataTracker.{wire_tsn}
-use Rattle.sctp_tx.specs.RetransmissionQueue.{is_quiet}
+use Rattle.sctp_tx.specs.RetransmissionQueue.{nothing_in_flight}
 use Rattle.spec_endpoint.specs.Association.{Tcb, Phase, CookieEchoed, Established, ShutdownPending, ShutdownSent, ShutdownReceived, ShutdownAckSent, State, Closed, CookieWait, Open, Context, EndpointState, open_as}
-use Rattle.spec_endpoint.specs.Heartbeats.{silence}
-use Rattle.spec_endpoint.specs.Packets.{add, packet_to, say, complain, emit, emit_chunk}
+use Rattle.spec_endpoint.specs.Heartbeats.{stop_heartbeats}
+use Rattle.spec_endpoint.specs.Packets.{add, packet_to, emit_event_in, emit_error, emit, emit_chunk}
 
 -- the event that says so; no heartbeats are sent any more
 abbrev pub over : {P : Type 0} → Event P → Context P → Context P
-over e c = record (say e c) { heartbeats = silence c.heartbeats }
+over e c = record (emit_event_in e c) { heartbeats = stop_heartbeats c.heartbeats }
 
 -- no control block any more
 abbrev pub close_with : {P : Type 0} → Event P → Context P → EndpointState P
@@ -34,62 +34,62 @@ abbrev pub send_shutdown_ack : {P : Type 0} → Tcb → Context P → Context P
 send_shutdown_ack t c = emit_chunk shutdown_ack_chunk t c
 
 -- a phase that may be another one
-pub record Onward (P : Type 0) : Type 0 where
+pub record PhaseStep (P : Type 0) : Type 0 where
   pub phase : Phase
   pub context : Context P
 
-abbrev pub onward : {P : Type 0} → Phase → Context P → Onward P
-onward phase c = record { phase = phase; context = c }
+abbrev pub phase_step : {P : Type 0} → Phase → Context P → PhaseStep P
+phase_step phase c = record { phase = phase; context = c }
 
-abbrev pub pending : {P : Type 0} → (is_quiet : Bool) → Tcb → Context P → Onward P
-pending true t c = onward (ShutdownSent (t2_shutdown t c)) (send_shutdown t c)
-pending false t c = onward ShutdownPending c
+abbrev pub pending_next : {P : Type 0} → (is_quiet : Bool) → Tcb → Context P → PhaseStep P
+pending_next true t c = phase_step (ShutdownSent (t2_shutdown t c)) (send_shutdown t c)
+pending_next false t c = phase_step ShutdownPending c
 
-abbrev pub received : {P : Type 0} → (is_quiet : Bool) → Tcb → Context P → Onward P
-received true t c = onward (ShutdownAckSent (t2_shutdown t c)) (send_shutdown_ack t c)
-received false t c = onward ShutdownReceived c
+abbrev pub received_next : {P : Type 0} → (is_quiet : Bool) → Tcb → Context P → PhaseStep P
+received_next true t c = phase_step (ShutdownAckSent (t2_shutdown t c)) (send_shutdown_ack t c)
+received_next false t c = phase_step ShutdownReceived c
 
 -- where nothing is unacknowledged, a shutdown that waited for that goes on
-abbrev pub go_on : {P : Type 0} → Phase → Tcb → Context P → Onward P
-go_on (CookieEchoed t1 cookie) t c = onward (CookieEchoed t1 cookie) c
-go_on Established t c = onward Established c
-go_on ShutdownPending t c = pending (is_quiet t.sender.outstanding.items) t c
-go_on (ShutdownSent t2) t c = onward (ShutdownSent t2) c
-go_on ShutdownReceived t c = received (is_quiet t.sender.outstanding.items) t c
-go_on (ShutdownAckSent t2) t c = onward (ShutdownAckSent t2) c
+abbrev pub maybe_send_shutdown_or_ack : {P : Type 0} → Phase → Tcb → Context P → PhaseStep P
+maybe_send_shutdown_or_ack (CookieEchoed t1 cookie) t c = phase_step (CookieEchoed t1 cookie) c
+maybe_send_shutdown_or_ack Established t c = phase_step Established c
+maybe_send_shutdown_or_ack ShutdownPending t c = pending_next (nothing_in_flight t.sender.outstanding.items) t c
+maybe_send_shutdown_or_ack (ShutdownSent t2) t c = phase_step (ShutdownSent t2) c
+maybe_send_shutdown_or_ack ShutdownReceived t c = received_next (nothing_in_flight t.sender.outstanding.items) t c
+maybe_send_shutdown_or_ack (ShutdownAckSent t2) t c = phase_step (ShutdownAckSent t2) c
 
 -- the call
 
-abbrev pub shut_down : {P : Type 0} → Phase → Tcb → Context P → Onward P
-shut_down (CookieEchoed t1 cookie) t c = go_on ShutdownPending t c
-shut_down Established t c = go_on ShutdownPending t c
-shut_down ShutdownPending t c = onward ShutdownPending c
-shut_down (ShutdownSent t2) t c = onward (ShutdownSent t2) c
-shut_down ShutdownReceived t c = onward ShutdownReceived c
-shut_down (ShutdownAckSent t2) t c = onward (ShutdownAckSent t2) c
+abbrev pub shutdown_in_phase : {P : Type 0} → Phase → Tcb → Context P → PhaseStep P
+shutdown_in_phase (CookieEchoed t1 cookie) t c = maybe_send_shutdown_or_ack ShutdownPending t c
+shutdown_in_phase Established t c = maybe_send_shutdown_or_ack ShutdownPending t c
+shutdown_in_phase ShutdownPending t c = phase_step ShutdownPending c
+shutdown_in_phase (ShutdownSent t2) t c = phase_step (ShutdownSent t2) c
+shutdown_in_phase ShutdownReceived t c = phase_step ShutdownReceived c
+shutdown_in_phase (ShutdownAckSent t2) t c = phase_step (ShutdownAckSent t2) c
 
-abbrev pub open_onward : {P : Type 0} → Tcb → Onward P → EndpointState P
-open_onward t o = open_as o.phase t o.context
+abbrev pub open_phase_step : {P : Type 0} → Tcb → PhaseStep P → EndpointState P
+open_phase_step t o = open_as o.phase t o.context
 
 abbrev pub shutdown_in : {P : Type 0} → State → Context P → EndpointState P
 shutdown_in Closed c = record { state = Closed; context = c }
 shutdown_in (CookieWait tag first t1) c = close_with OnClosed c
-shutdown_in (Open phase t) c = open_onward t (shut_down phase t c)
+shutdown_in (Open phase t) c = open_phase_step t (shutdown_in_phase phase t c)
 
 abbrev pub shutdown : {P : Type 0} → EndpointState P → EndpointState P
 shutdown s = shutdown_in s.state s.context
 
 -- SHUTDOWN
-abbrev pub shut_by_peer : {P : Type 0} → Phase → Tcb → Context P → Onward P
-shut_by_peer (CookieEchoed t1 cookie) t c = onward (CookieEchoed t1 cookie) c
-shut_by_peer Established t c = go_on ShutdownReceived t c
-shut_by_peer ShutdownPending t c = go_on ShutdownReceived t c
-shut_by_peer (ShutdownSent t2) t c = onward (ShutdownAckSent (t2_shutdown t c)) (send_shutdown_ack t c)
-shut_by_peer ShutdownReceived t c = onward ShutdownReceived c
-shut_by_peer (ShutdownAckSent t2) t c = onward (ShutdownAckSent (start c.now (set_duration (rto t.rtt) t2))) (send_shutdown_ack t c)
+abbrev pub shut_by_peer : {P : Type 0} → Phase → Tcb → Context P → PhaseStep P
+shut_by_peer (CookieEchoed t1 cookie) t c = phase_step (CookieEchoed t1 cookie) c
+shut_by_peer Established t c = maybe_send_shutdown_or_ack ShutdownReceived t c
+shut_by_peer ShutdownPending t c = maybe_send_shutdown_or_ack ShutdownReceived t c
+shut_by_peer (ShutdownSent t2) t c = phase_step (ShutdownAckSent (t2_shutdown t c)) (send_shutdown_ack t c)
+shut_by_peer ShutdownReceived t c = phase_step ShutdownReceived c
+shut_by_peer (ShutdownAckSent t2) t c = phase_step (ShutdownAckSent (start c.now (set_duration (rto t.rtt) t2))) (send_shutdown_ack t c)
 
 abbrev pub on_shutdown : {P : Type 0} → Phase → Tcb → Context P → EndpointState P
-on_shutdown phase t c = open_onward t (shut_by_peer phase t c)
+on_shutdown phase t c = open_phase_step t (shut_by_peer phase t c)
 
 -- SHUTDOWN ACK, in a packet under this tag: one that no shutdown asked for is answered under the same tag
 -- (RFC 9260 section 8.5.1)
@@ -143,8 +143,8 @@ too_many t c =
     abort (user_initiated_abort (codes "Too many retransmissions")) (OnAborted TooManyRetries (codes "Too many retransmissions")) t c
 
 -- what was negotiated forbids a chunk
-abbrev pub violate : {P : Type 0} → List ℕ → Tcb → Context P → EndpointState P
-violate reason t c = abort (protocol_violation reason) (OnAborted ProtocolViolation reason) t c
+abbrev pub abort_for_violation : {P : Type 0} → List ℕ → Tcb → Context P → EndpointState P
+abort_for_violation reason t c = abort (protocol_violation reason) (OnAborted ProtocolViolation reason) t c
 
 -- ---- ABORT and ERROR, with a control block
 
@@ -161,4 +161,4 @@ abbrev pub on_abort : {P : Type 0} → List CauseTree → Phase → Tcb → Cont
 on_abort causes phase t c = close_with (OnAborted PeerReported (causes_text causes)) c
 
 abbrev pub on_error : {P : Type 0} → List CauseTree → Phase → Tcb → Context P → EndpointState P
-on_error causes phase t c = open_as phase t (complain PeerReported (causes_text causes) c)
+on_error causes phase t c = open_as phase t (emit_error PeerReported (causes_text causes) c)

@@ -13,9 +13,9 @@ use Rattle.sctp_rx.specs.ReassemblyQueue.{defer, reset}
 use Rattle.sctp_tx_queue.specs.SendQueue.{Queue}
 use Rattle.sctp_tx_queue.specs.Resets.{prepare_reset, commit_resets, roll_back_resets}
 use Rattle.spec_endpoint.specs.Association.{Tcb, Phase, State, Closed, CookieWait, Open, Context, EndpointState, open_as, with_context, where_open}
-use Rattle.spec_endpoint.specs.Packets.{say, complain, emit_chunk}
-use Rattle.spec_endpoint.specs.ResetRequests.{nothing_to_do, performed, bad_number, in_progress, is_final, Outcome, Unsettled, Done, Denied, outcome, answer_request, is_last, is_next, is_known, process_request}
-use Rattle.spec_endpoint.specs.Sending.{Sent, send_lost_data, is_alone, open_with, send_buffered, send_in}
+use Rattle.spec_endpoint.specs.Packets.{emit_event_in, emit_error, emit_chunk}
+use Rattle.spec_endpoint.specs.ResetRequests.{nothing_to_do, performed, bad_number, in_progress, is_final, Outcome, Unsettled, Done, Denied, outcome, handle_response, is_last_request, is_next_request, is_known_request, set_last_request}
+use Rattle.spec_endpoint.specs.Sending.{AfterSending, after_sending, is_before_cookie_ack, open_with, send_buffered, send_in}
 
 -- what the parameters of a RE-CONFIG have done so far
 pub record Handling (P : Type 0) : Type 0 where
@@ -31,7 +31,7 @@ respond number result x = record x { responses = x.responses ++ reset_response n
 
 -- a request is processed now, with this result
 abbrev pub process : {P : Type 0} → (number result : ℕ) → Handling P → Handling P
-process number result x = respond number result (record x { tcb = record x.tcb { requests = process_request number result x.tcb.requests } })
+process number result x = respond number result (record x { tcb = record x.tcb { requests = set_last_request number result x.tcb.requests } })
 
 -- ---- the peer resets its outgoing streams (RFC 6525 section 5.2.2)
 
@@ -42,7 +42,7 @@ defers number last_tsn streams x =
 abbrev pub performs : {P : Type 0} → (number : ℕ) → List StreamId → Handling P → Handling P
 performs number streams x = process number performed (record x {
   tcb = record x.tcb { reassembly = reset streams x.tcb.reassembly };
-  context = say (OnIncomingStreamReset (numbers_of streams)) x.context;
+  context = emit_event_in (OnIncomingStreamReset (numbers_of streams)) x.context;
 })
 
 -- some TSN up to this one did not come yet
@@ -66,7 +66,7 @@ outgoing_by false false is_final number last_tsn streams x = respond number bad_
 
 abbrev pub on_outgoing : {P : Type 0} → (number last_tsn : ℕ) → List StreamId → Handling P → Handling P
 on_outgoing number last_tsn streams x =
-    outgoing_by (is_last number x.tcb.requests) (is_next number x.tcb.requests) (is_final x.tcb.requests.result) number last_tsn streams x
+    outgoing_by (is_last_request number x.tcb.requests) (is_next_request number x.tcb.requests) (is_final x.tcb.requests.result) number last_tsn streams x
 
 -- ---- the peer asks for a reset of incoming streams: there is nothing to do (RFC 6525 section 5.2.3)
 
@@ -75,24 +75,24 @@ incoming_if true number x = process number nothing_to_do x
 incoming_if false number x = respond number bad_number x
 
 abbrev pub on_incoming : {P : Type 0} → (number : ℕ) → Handling P → Handling P
-on_incoming number x = incoming_if (is_known number x.tcb.requests) number x
+on_incoming number x = incoming_if (is_known_request number x.tcb.requests) number x
 
 -- ---- the peer answers the own request: this concerns the request's streams alone
 
-abbrev pub settle_request : {P : Type 0} → Event P → Queue → Context P → Context P
-settle_request e q c = record (say e c) { queue = q }
+abbrev pub emit_with_queue : {P : Type 0} → Event P → Queue → Context P → Context P
+emit_with_queue e q c = record (emit_event_in e c) { queue = q }
 
 abbrev pub on_outcome : {P : Type 0} → Outcome → Context P → Context P
 on_outcome Unsettled c = c
-on_outcome (Done streams) c = settle_request (OnStreamsResetPerformed streams) (commit_resets streams c.queue) c
-on_outcome (Denied streams) c = settle_request (OnStreamsResetFailed streams) (roll_back_resets streams c.queue) c
+on_outcome (Done streams) c = emit_with_queue (OnStreamsResetPerformed streams) (commit_resets streams c.queue) c
+on_outcome (Denied streams) c = emit_with_queue (OnStreamsResetFailed streams) (roll_back_resets streams c.queue) c
 
-abbrev pub on_response : {P : Type 0} → (number result : ℕ) → Tcb → Context P → Sent P
+abbrev pub on_response : {P : Type 0} → (number result : ℕ) → Tcb → Context P → AfterSending P
 on_response number result t c =
-    send_lost_data (record t { requests = answer_request c.now (rto t.rtt) number result t.requests }) (on_outcome (outcome number result t.requests.current) c)
+    after_sending (record t { requests = handle_response c.now (rto t.rtt) number result t.requests }) (on_outcome (outcome number result t.requests.current) c)
 
-abbrev pub answered_by : {P : Type 0} → Sent P → Handling P → Handling P
-answered_by s x = record x { tcb = s.tcb; context = s.context }
+abbrev pub with_sent : {P : Type 0} → AfterSending P → Handling P → Handling P
+with_sent s x = record x { tcb = s.tcb; context = s.context }
 
 -- ---- RE-CONFIG
 
@@ -103,23 +103,23 @@ is_outgoing parameter = false
 abbrev pub on_parameter : {P : Type 0} → ParameterTree → Handling P → Handling P
 on_parameter (outgoing_reset_request number response last_tsn streams) x = on_outgoing number last_tsn.0 streams x
 on_parameter (incoming_reset_request number streams) x = on_incoming number x
-on_parameter (reset_response number result sender receiver) x = answered_by (on_response number result x.tcb x.context) x
+on_parameter (reset_response number result sender receiver) x = with_sent (on_response number result x.tcb x.context) x
 on_parameter parameter x = x
 
 -- in order, up to a second outgoing request
-pub record Handled (P : Type 0) : Type 0 where
+pub record HandledParameters (P : Type 0) : Type 0 where
   pub handling : Handling P
   pub is_whole : Bool
 
-abbrev pub handle_requests : {P : Type 0} → (is_whole : Bool) → Handling P → Handled P
-handle_requests is_whole x = record { handling = x; is_whole = is_whole }
+abbrev pub handled_parameters : {P : Type 0} → (is_whole : Bool) → Handling P → HandledParameters P
+handled_parameters is_whole x = record { handling = x; is_whole = is_whole }
 
-abbrev pub handle_next : {P : Type 0} → (is_second : Bool) → (Handling P → Handled P) → ParameterTree → Handling P → Handled P
-handle_next true rest parameter x = handle_requests false x
+abbrev pub handle_next : {P : Type 0} → (is_second : Bool) → (Handling P → HandledParameters P) → ParameterTree → Handling P → HandledParameters P
+handle_next true rest parameter x = handled_parameters false x
 handle_next false rest parameter x = rest (on_parameter parameter x)
 
-abbrev pub handle_all : {P : Type 0} → List ParameterTree → (has_outgoing : Bool) → Handling P → Handled P
-handle_all [] has_outgoing x = handle_requests true x
+abbrev pub handle_all : {P : Type 0} → List ParameterTree → (has_outgoing : Bool) → Handling P → HandledParameters P
+handle_all [] has_outgoing x = handled_parameters true x
 handle_all (parameter ∷ parameters) has_outgoing x =
     handle_next (is_outgoing parameter && has_outgoing) (handle_all parameters (is_outgoing parameter || has_outgoing)) parameter x
 
@@ -129,18 +129,18 @@ send_responses [] t c = c
 send_responses (r ∷ rs) t c = emit_chunk (re_config_chunk (r ∷ rs)) t c
 
 -- then what may be sent
-abbrev pub finished_if : {P : Type 0} → (is_whole : Bool) → Phase → Handling P → EndpointState P
-finished_if true phase x = open_with phase (send_buffered (is_alone phase) x.tcb (send_responses x.responses x.tcb x.context))
-finished_if false phase x =
+abbrev pub finish_reconfig_if : {P : Type 0} → (is_whole : Bool) → Phase → Handling P → EndpointState P
+finish_reconfig_if true phase x = open_with phase (send_buffered (is_before_cookie_ack phase) x.tcb (send_responses x.responses x.tcb x.context))
+finish_reconfig_if false phase x =
     open_as phase x.tcb
-    (complain ProtocolViolation (codes "RE-CONFIG chunk must not have multiple Outgoing SSN Reset Request parameters") x.context)
+    (emit_error ProtocolViolation (codes "RE-CONFIG chunk must not have multiple Outgoing SSN Reset Request parameters") x.context)
 
-abbrev pub finish_resets : {P : Type 0} → Phase → Handled P → EndpointState P
-finish_resets phase h = finished_if h.is_whole phase h.handling
+abbrev pub finish_reconfig : {P : Type 0} → Phase → HandledParameters P → EndpointState P
+finish_reconfig phase h = finish_reconfig_if h.is_whole phase h.handling
 
 abbrev pub on_reconfig : {P : Type 0} → List ParameterTree → Phase → Tcb → Context P → EndpointState P
-on_reconfig [] phase t c = open_as phase t (complain ProtocolViolation (codes "RE-CONFIG chunk must have at least one parameter") c)
-on_reconfig (p ∷ ps) phase t c = finish_resets phase (handle_all (p ∷ ps) false (handling t c))
+on_reconfig [] phase t c = open_as phase t (emit_error ProtocolViolation (codes "RE-CONFIG chunk must have at least one parameter") c)
+on_reconfig (p ∷ ps) phase t c = finish_reconfig phase (handle_all (p ∷ ps) false (handling t c))
 
 -- ---- the call
 
@@ -154,12 +154,12 @@ reset_refusal Closed = Some NotConnected
 reset_refusal (CookieWait tag first t1) = Some NotConnected
 reset_refusal (Open phase t) = unless_supported t.capabilities.reconfig
 
-abbrev pub prepare_stream : {P : Type 0} → (stream : ℕ) → Context P → Context P
-prepare_stream id c = let x = prepare_reset id c.queue c.emitted in record c { queue = x.queue; emitted = x.emitted }
+abbrev pub prepare_reset_stream : {P : Type 0} → (stream : ℕ) → Context P → Context P
+prepare_reset_stream id c = let x = prepare_reset id c.queue c.emitted in record c { queue = x.queue; emitted = x.emitted }
 
 abbrev pub prepare_all : {P : Type 0} → List ℕ → Context P → Context P
 prepare_all [] c = c
-prepare_all (id ∷ ids) c = prepare_all ids (prepare_stream id c)
+prepare_all (id ∷ ids) c = prepare_all ids (prepare_reset_stream id c)
 
 abbrev pub reset_if : {P : Type 0} → (refusal : Option ResetStreamsError) → List ℕ → EndpointState P → EndpointState P
 reset_if None streams s = where_open send_in (with_context s (prepare_all streams s.context))

@@ -10,9 +10,9 @@ use Rattle.sctp_tx_outstanding.specs.Losses.{Step, nack_all}
 use Rattle.sctp_rx.specs.DataTracker.{ack_timeout}
 use Rattle.sctp_tx.specs.RetransmissionQueue.{timed_out_sender}
 use Rattle.spec_endpoint.specs.Association.{Tcb, Phase, CookieEchoed, Established, ShutdownPending, ShutdownSent, ShutdownReceived, ShutdownAckSent, State, Closed, CookieWait, Open, Heartbeats, Context, EndpointState, open_as}
-use Rattle.spec_endpoint.specs.Heartbeats.{beat_if, unanswered_if, expiry}
-use Rattle.spec_endpoint.specs.ResetRequests.{lasting, expire_request, wake_request, is_unanswered}
-use Rattle.spec_endpoint.specs.Sending.{Sent, add_request, send_buffered, send_cookie}
+use Rattle.spec_endpoint.specs.Heartbeats.{send_heartbeat_if, heartbeat_timeout_if, expiry}
+use Rattle.spec_endpoint.specs.ResetRequests.{lasting, expire_reconfig_timer, clear_deferral, is_unanswered}
+use Rattle.spec_endpoint.specs.Sending.{AfterSending, add_request, send_buffered, send_cookie}
 use Rattle.spec_endpoint.specs.Shutdown.{over, send_shutdown, send_shutdown_ack, too_many}
 use Rattle.spec_endpoint.specs.Opening.{send_init}
 use Rattle.spec_endpoint.specs.Packets.{new_packet, emit}
@@ -49,14 +49,14 @@ tick_t3 x = t3_if (is_due x.context.now x.tcb.sender.t3) x
 -- the interval of heartbeats, at which one goes out
 abbrev pub tick_interval : {P : Type 0} → Ticking P → Ticking P
 tick_interval x = record x {
-  context = beat_if (is_due x.context.now x.context.heartbeats.interval) x.tcb x.context;
+  context = send_heartbeat_if (is_due x.context.now x.context.heartbeats.interval) x.tcb x.context;
   has_expired = is_due x.context.now x.context.heartbeats.interval || x.has_expired;
 }
 
 -- the time for its answer
 abbrev pub tick_timeout : {P : Type 0} → Ticking P → Ticking P
 tick_timeout x = record x {
-  context = unanswered_if (is_due x.context.now x.context.heartbeats.timeout) x.context;
+  context = heartbeat_timeout_if (is_due x.context.now x.context.heartbeats.timeout) x.context;
   has_expired = is_due x.context.now x.context.heartbeats.timeout || x.has_expired;
 }
 
@@ -74,15 +74,15 @@ errs_if false c = c
 abbrev pub requests_again : {P : Type 0} → Ticking P → Ticking P
 requests_again x = request_again (is_exhausted x.context.errors) x
 
-abbrev pub heartbeat_timeout : {P : Type 0} → Ticking P → Ticking P
-heartbeat_timeout x = requests_again (record {
-  tcb = record x.tcb { requests = wake_request (expire_request x.context.now x.tcb.requests) };
+abbrev pub reconfig_timeout : {P : Type 0} → Ticking P → Ticking P
+reconfig_timeout x = requests_again (record {
+  tcb = record x.tcb { requests = clear_deferral (expire_reconfig_timer x.context.now x.tcb.requests) };
   context = errs_if (is_unanswered x.tcb.requests.current) x.context;
   has_expired = true;
 })
 
 abbrev pub requests_if : {P : Type 0} → (is_due : Bool) → Ticking P → Ticking P
-requests_if true x = heartbeat_timeout x
+requests_if true x = reconfig_timeout x
 requests_if false x = x
 
 abbrev pub tick_requests : {P : Type 0} → Ticking P → Ticking P
@@ -96,119 +96,119 @@ tick_timers t c = tick_requests (tick_timeout (tick_interval (tick_t3 (tick_ack 
 
 -- ---- what an expiry leads to at last: the association may have ended
 
-pub record Left (P : Type 0) : Type 0 where
+pub record TimerOutcome (P : Type 0) : Type 0 where
   pub tcb : Tcb
   pub context : Context P
   pub has_ended : Bool
 
-abbrev pub left_after : {P : Type 0} → Tcb → Context P → (has_ended : Bool) → Left P
-left_after t c has_ended = record { tcb = t; context = c; has_ended = has_ended }
+abbrev pub timer_outcome : {P : Type 0} → Tcb → Context P → (has_ended : Bool) → TimerOutcome P
+timer_outcome t c has_ended = record { tcb = t; context = c; has_ended = has_ended }
 
-abbrev pub endpoint_state_if : {P : Type 0} → (has_ended : Bool) → Phase → Tcb → Context P → EndpointState P
-endpoint_state_if true phase t c = record { state = Closed; context = c }
-endpoint_state_if false phase t c = open_as phase t c
+abbrev pub closed_if : {P : Type 0} → (has_ended : Bool) → Phase → Tcb → Context P → EndpointState P
+closed_if true phase t c = record { state = Closed; context = c }
+closed_if false phase t c = open_as phase t c
 
-abbrev pub endpoint_state_left : {P : Type 0} → Phase → Left P → EndpointState P
-endpoint_state_left phase x = endpoint_state_if x.has_ended phase x.tcb x.context
+abbrev pub after_timers : {P : Type 0} → Phase → TimerOutcome P → EndpointState P
+after_timers phase x = closed_if x.has_ended phase x.tcb x.context
 
 -- too many errors end the association
-abbrev pub ended_if : {P : Type 0} → (is_exhausted : Bool) → Tcb → Context P → Left P
-ended_if true t c = left_after t (too_many t c).context true
-ended_if false t c = left_after t c false
+abbrev pub abort_if : {P : Type 0} → (is_exhausted : Bool) → Tcb → Context P → TimerOutcome P
+abort_if true t c = timer_outcome t (too_many t c).context true
+abort_if false t c = timer_outcome t c false
 
-abbrev pub end_association : {P : Type 0} → Tcb → Context P → Left P
-end_association t c = ended_if (is_exhausted c.errors) t c
+abbrev pub abort_if_exhausted : {P : Type 0} → Tcb → Context P → TimerOutcome P
+abort_if_exhausted t c = abort_if (is_exhausted c.errors) t c
 
-abbrev pub ended_or_sent : {P : Type 0} → (is_exhausted : Bool) → Tcb → Context P → Left P
-ended_or_sent true t c = left_after t (too_many t c).context true
-ended_or_sent false t c = let x = send_buffered false t c in left_after x.tcb x.context false
+abbrev pub abort_or_send_if : {P : Type 0} → (is_exhausted : Bool) → Tcb → Context P → TimerOutcome P
+abort_or_send_if true t c = timer_outcome t (too_many t c).context true
+abort_or_send_if false t c = let x = send_buffered false t c in timer_outcome x.tcb x.context false
 
 -- else what may be sent goes out
-abbrev pub goes_on : {P : Type 0} → Tcb → Context P → Left P
-goes_on t c = ended_or_sent (is_exhausted c.errors) t c
+abbrev pub abort_or_send : {P : Type 0} → Tcb → Context P → TimerOutcome P
+abort_or_send t c = abort_or_send_if (is_exhausted c.errors) t c
 
-abbrev pub settled_if : {P : Type 0} → (has_expired : Bool) → Tcb → Context P → Left P
-settled_if true t c = goes_on t c
-settled_if false t c = left_after t c false
+abbrev pub after_ticks_if : {P : Type 0} → (has_expired : Bool) → Tcb → Context P → TimerOutcome P
+after_ticks_if true t c = abort_or_send t c
+after_ticks_if false t c = timer_outcome t c false
 
-abbrev pub settle_ticks : {P : Type 0} → Ticking P → Left P
-settle_ticks x = settled_if x.has_expired x.tcb x.context
+abbrev pub after_ticks : {P : Type 0} → Ticking P → TimerOutcome P
+after_ticks x = after_ticks_if x.has_expired x.tcb x.context
 
 -- ---- T2-shutdown, which sends its chunk again (RFC 9260 section 9.2)
 
-abbrev pub t2_expired : {P : Type 0} → (is_running : Bool) → (Tcb → Context P → Context P) → Tcb → Context P → Left P
-t2_expired true again t c = goes_on t (again t c)
-t2_expired false again t c = left_after t (too_many t c).context true
+abbrev pub t2_expired : {P : Type 0} → (is_running : Bool) → (Tcb → Context P → Context P) → Tcb → Context P → TimerOutcome P
+t2_expired true again t c = abort_or_send t (again t c)
+t2_expired false again t c = timer_outcome t (too_many t c).context true
 
-abbrev pub t2_if : {P : Type 0} → (is_due : Bool) → (now : ℕ) → (Tcb → Context P → Context P) → Timer → Ticking P → Left P
+abbrev pub t2_if : {P : Type 0} → (is_due : Bool) → (now : ℕ) → (Tcb → Context P → Context P) → Timer → Ticking P → TimerOutcome P
 t2_if true now again t2 x = t2_expired (is_running (expire now t2)) again x.tcb x.context
-t2_if false now again t2 x = settle_ticks x
+t2_if false now again t2 x = after_ticks x
 
-abbrev pub tick_t2 : {P : Type 0} → (now : ℕ) → (Tcb → Context P → Context P) → Timer → Ticking P → Left P
+abbrev pub tick_t2 : {P : Type 0} → (now : ℕ) → (Tcb → Context P → Context P) → Timer → Ticking P → TimerOutcome P
 tick_t2 now again t2 x = t2_if (is_due now t2) now again t2 x
 
 -- ---- T1-cookie (RFC 9260 section 5.1): nothing is sent but the COOKIE ECHO and its packet
 
-abbrev pub waits_if : {P : Type 0} → (has_expired : Bool) → Tcb → Context P → Left P
-waits_if true t c = end_association t c
-waits_if false t c = left_after t c false
+abbrev pub waits_if : {P : Type 0} → (has_expired : Bool) → Tcb → Context P → TimerOutcome P
+waits_if true t c = abort_if_exhausted t c
+waits_if false t c = timer_outcome t c false
 
-abbrev pub echoed_again : {P : Type 0} → Sent P → Left P
-echoed_again x = end_association x.tcb x.context
+abbrev pub echoed_again : {P : Type 0} → AfterSending P → TimerOutcome P
+echoed_again x = abort_if_exhausted x.tcb x.context
 
-abbrev pub t1_expired : {P : Type 0} → (is_running : Bool) → List ℕ → Tcb → Context P → Left P
+abbrev pub t1_expired : {P : Type 0} → (is_running : Bool) → List ℕ → Tcb → Context P → TimerOutcome P
 t1_expired true cookie t c = echoed_again (send_cookie cookie t c)
-t1_expired false cookie t c = left_after t (over (OnAborted TooManyRetries (codes "No COOKIE_ACK received")) c) true
+t1_expired false cookie t c = timer_outcome t (over (OnAborted TooManyRetries (codes "No COOKIE_ACK received")) c) true
 
-abbrev pub t1_if : {P : Type 0} → (is_due : Bool) → Timer → List ℕ → Ticking P → Left P
+abbrev pub t1_if : {P : Type 0} → (is_due : Bool) → Timer → List ℕ → Ticking P → TimerOutcome P
 t1_if true t1 cookie x = t1_expired (is_running (expire x.context.now t1)) cookie x.tcb x.context
 t1_if false t1 cookie x = waits_if x.has_expired x.tcb x.context
 
-abbrev pub tick_cookie : {P : Type 0} → Timer → List ℕ → Ticking P → Left P
+abbrev pub tick_cookie : {P : Type 0} → Timer → List ℕ → Ticking P → TimerOutcome P
 tick_cookie t1 cookie x = t1_if (is_due x.context.now t1) t1 cookie x
 
 -- ---- T1-init
 
-pub record Waited (P : Type 0) : Type 0 where
+pub record InitOutcome (P : Type 0) : Type 0 where
   pub context : Context P
   pub has_ended : Bool
 
-abbrev pub wait_on : {P : Type 0} → Context P → (has_ended : Bool) → Waited P
-wait_on c has_ended = record { context = c; has_ended = has_ended }
+abbrev pub init_outcome : {P : Type 0} → Context P → (has_ended : Bool) → InitOutcome P
+init_outcome c has_ended = record { context = c; has_ended = has_ended }
 
 abbrev pub waiting_if : {P : Type 0} → (has_ended : Bool) → (tag first : ℕ) → Timer → Context P → EndpointState P
 waiting_if true tag first t1 c = record { state = Closed; context = c }
 waiting_if false tag first t1 c = record { state = CookieWait tag first t1; context = c }
 
-abbrev pub endpoint_state_waited : {P : Type 0} → (tag first : ℕ) → Timer → Waited P → EndpointState P
-endpoint_state_waited tag first t1 x = waiting_if x.has_ended tag first t1 x.context
+abbrev pub after_init_timer : {P : Type 0} → (tag first : ℕ) → Timer → InitOutcome P → EndpointState P
+after_init_timer tag first t1 x = waiting_if x.has_ended tag first t1 x.context
 
-abbrev pub init_expired : {P : Type 0} → (is_running : Bool) → (tag first : ℕ) → Context P → Waited P
-init_expired true tag first c = wait_on (send_init tag first c) false
-init_expired false tag first c = wait_on (over (OnAborted TooManyRetries (codes "No INIT_ACK received")) c) true
+abbrev pub init_expired : {P : Type 0} → (is_running : Bool) → (tag first : ℕ) → Context P → InitOutcome P
+init_expired true tag first c = init_outcome (send_init tag first c) false
+init_expired false tag first c = init_outcome (over (OnAborted TooManyRetries (codes "No INIT_ACK received")) c) true
 
-abbrev pub init_if : {P : Type 0} → (is_due : Bool) → (tag first : ℕ) → Timer → Context P → Waited P
+abbrev pub init_if : {P : Type 0} → (is_due : Bool) → (tag first : ℕ) → Timer → Context P → InitOutcome P
 init_if true tag first t1 c = init_expired (is_running (expire c.now t1)) tag first c
-init_if false tag first t1 c = wait_on c false
+init_if false tag first t1 c = init_outcome c false
 
-abbrev pub tick_init : {P : Type 0} → (tag first : ℕ) → Timer → Context P → Waited P
+abbrev pub tick_init : {P : Type 0} → (tag first : ℕ) → Timer → Context P → InitOutcome P
 tick_init tag first t1 c = init_if (is_due c.now t1) tag first t1 c
 
 -- ---- by state
 
 abbrev pub tick_open : {P : Type 0} → Phase → Tcb → Context P → EndpointState P
 tick_open (CookieEchoed t1 cookie) t c =
-    endpoint_state_left (CookieEchoed (expire c.now t1) cookie) (tick_cookie t1 cookie (tick_ack (ticking t c)))
-tick_open Established t c = endpoint_state_left Established (settle_ticks (tick_timers t c))
-tick_open ShutdownPending t c = endpoint_state_left ShutdownPending (settle_ticks (tick_timers t c))
-tick_open (ShutdownSent t2) t c = endpoint_state_left (ShutdownSent (expire c.now t2)) (tick_t2 c.now send_shutdown t2 (tick_timers t c))
-tick_open ShutdownReceived t c = endpoint_state_left ShutdownReceived (settle_ticks (tick_timers t c))
+    after_timers (CookieEchoed (expire c.now t1) cookie) (tick_cookie t1 cookie (tick_ack (ticking t c)))
+tick_open Established t c = after_timers Established (after_ticks (tick_timers t c))
+tick_open ShutdownPending t c = after_timers ShutdownPending (after_ticks (tick_timers t c))
+tick_open (ShutdownSent t2) t c = after_timers (ShutdownSent (expire c.now t2)) (tick_t2 c.now send_shutdown t2 (tick_timers t c))
+tick_open ShutdownReceived t c = after_timers ShutdownReceived (after_ticks (tick_timers t c))
 tick_open (ShutdownAckSent t2) t c =
-    endpoint_state_left (ShutdownAckSent (expire c.now t2)) (tick_t2 c.now send_shutdown_ack t2 (tick_timers t c))
+    after_timers (ShutdownAckSent (expire c.now t2)) (tick_t2 c.now send_shutdown_ack t2 (tick_timers t c))
 
 abbrev pub tick_in : {P : Type 0} → State → Context P → EndpointState P
 tick_in Closed c = record { state = Closed; context = c }
-tick_in (CookieWait tag first t1) c = endpoint_state_waited tag first (expire c.now t1) (tick_init tag first t1 c)
+tick_in (CookieWait tag first t1) c = after_init_timer tag first (expire c.now t1) (tick_init tag first t1 c)
 tick_in (Open phase t) c = tick_open phase t c
 
 -- a moment before the clock's changes nothing

@@ -7,16 +7,16 @@ use Rattle.sctp_state.specs.declared.api.errors.SendError.{SendError}
 use Rattle.sctp_state.specs.Options.{SendOptions, defaults}
 use Rattle.sctp_state.specs.Events.{Event, SendPacket, OnBufferedAmountLow}
 use Rattle.spec_endpoint.specs.Association.{Endpoint}
-use Rattle.spec_endpoint.specs.Calls.{send, refusal_of}
-use Rattle.spec_endpoint.specs.Input.{on_endpoint_state}
-use Rattle.proof_endpoint.specs.FirstRun.{init_packet, init_ack_packet, cookie_echo_packet, cookie_ack_packet, data_packet, sack_packet, quiet, accepting, sending, taking, resting, fully_sent, association, IsSmall, LeadsOn}
+use Rattle.spec_endpoint.specs.Calls.{send, send_refusal_of}
+use Rattle.spec_endpoint.specs.Input.{in_endpoint_state}
+use Rattle.proof_endpoint.specs.FirstRun.{init_packet, init_ack_packet, cookie_echo_packet, cookie_ack_packet, data_packet, sack_packet, drained, accepting, sending, taking, resting, fully_sent, association, IsSmall, LeadsOn}
 use Rattle.proof_endpoint.proofs.OpeningRunLemmas.{emitting, opened_a, opened_b, opens, accepts}
 use Rattle.proof_endpoint.proofs.SendRunLemmas.{sent_end, sends, accepts_message}
 use Rattle.proof_endpoint.proofs.TakeRunLemmas.{taken_end, takes_it}
 use Rattle.proof_endpoint.proofs.RunPacketsLemmas.{leads_on}
 use Rattle.proof_endpoint.proofs.FirstRunLemmas.{it_rests}
 use Rattle.spec_world.specs.Observations.{A, B, Send, Sent, Entry, Called, Given, EmittedPacket, accepted, ready}
-use Rattle.spec_world.specs.World.{Action, World, Takes, Gives, Runs, record_news, calls, packets_in, emitted_entries, associated_if, ready_entries, ready_before, is_at_rest, fresh_world}
+use Rattle.spec_world.specs.World.{Action, World, Takes, Gives, Runs, record_news, call_socket, packets_in, emitted_entries, associated_if, ready_entries, ready_before, is_at_rest, fresh_world}
 use Rattle.spec_world.specs.FirstRun.{opening, crossing, acknowledging, IsFresh, HasCrossed}
 use Rattle.spec_world.proofs.FirstRunLemmas.{given_to_a, given_to_b, takes_on, same_self, pack, bytes_of, opened, opened_then, opened_log}
 
@@ -66,32 +66,32 @@ module _ (a b : Stream) (f : List ℕ → ℕ) (m : Message) (o : SendOptions) w
     leads : LeadsOn f a b m o
     leads = leads_on f a b m o small
 
-    pub to_sent : (v : World) → v ≡ calls A (Send m o) (opened a b f) → v ≡ sent_world None true
+    pub to_sent : (v : World) → v ≡ call_socket A (Send m o) (opened a b f) → v ≡ sent_world None true
     to_sent v e =
-        e ∙ ap (λ (s : Endpoint (List ℕ)). record_news A (Called A 0 (Send m o) (Sent (refusal_of m (opened_a (pack a b f) a b).endpoint_state))) s (opened a b f)) sends_on
-        ∙ ap (λ (t : Bool). sent_world (refusal_of m (opened_a (pack a b f) a b).endpoint_state) t) (same_self (association a b))
+        e ∙ ap (λ (s : Endpoint (List ℕ)). record_news A (Called A 0 (Send m o) (Sent (send_refusal_of m (opened_a (pack a b f) a b).endpoint_state))) s (opened a b f)) sends_on
+        ∙ ap (λ (t : Bool). sent_world (send_refusal_of m (opened_a (pack a b f) a b).endpoint_state) t) (same_self (association a b))
         ∙ ap (λ (r : Option SendError). sent_world r true) (accepts_message (pack a b f) m small)
       where
-        sends_on : on_endpoint_state (send m o) (opened_a (pack a b f) a b) ≡ emitting (OnBufferedAmountLow m.stream ∷ (fully_sent o.lifecycle_id ++ SendPacket packet ∷ [])) (sent_end (pack a b f) a b m o)
-        sends_on = sym (ap (λ (s : Endpoint (List ℕ)). on_endpoint_state (send m o) (quiet s)) (opens (pack a b f) a b)) ∙ sends (pack a b f) a b m o small
+        sends_on : in_endpoint_state (send m o) (opened_a (pack a b f) a b) ≡ emitting (OnBufferedAmountLow m.stream ∷ (fully_sent o.lifecycle_id ++ SendPacket packet ∷ [])) (sent_end (pack a b f) a b m o)
+        sends_on = sym (ap (λ (s : Endpoint (List ℕ)). in_endpoint_state (send m o) (drained s)) (opens (pack a b f) a b)) ∙ sends (pack a b f) a b m o small
 
-    accepted_it : quiet (accepting (pack a b f) a b) ≡ opened_b (pack a b f) a b
-    accepted_it = ap quiet (accepts (pack a b f) a b)
+    accepted_it : drained (accepting (pack a b f) a b) ≡ opened_b (pack a b f) a b
+    accepted_it = ap drained (accepts (pack a b f) a b)
 
     pub to_taken : (v : World) → Gives B 2 (sent_world None true) v → v ≡ taken_world true
     to_taken v g =
         given_to_b 2 (sent_world None true) v packet _ (ap (λ (ps : List (List ℕ)). slice_get ps 0) (packets_sent o.lifecycle_id packet))
-        (λ t k. takes_on f (data_packet a b m o) (quiet (accepting (pack a b f) a b)) (taking (pack a b f) a b m o) leads.message (ap (λ (s : Endpoint (List ℕ)). s.endpoint_state.context.pack) accepted_it) t
+        (λ t k. takes_on f (data_packet a b m o) (drained (accepting (pack a b f) a b)) (taking (pack a b f) a b m o) leads.message (ap (λ (s : Endpoint (List ℕ)). s.endpoint_state.context.pack) accepted_it) t
         (subst (λ (s : Endpoint (List ℕ)). Takes packet s t) (sym accepted_it) k) ∙ takes_it (pack a b f) a b m o small) g
         ∙ ap taken_world (same_self (association b a))
 
-    has_sent : quiet (sending (pack a b f) a b m o) ≡ sent_end (pack a b f) a b m o
-    has_sent = ap quiet (sends (pack a b f) a b m o small)
+    has_sent : drained (sending (pack a b f) a b m o) ≡ sent_end (pack a b f) a b m o
+    has_sent = ap drained (sends (pack a b f) a b m o small)
 
     pub to_rest : (v : World) → Gives A 2 (taken_world true) v → is_at_rest A v ≡ true
     to_rest v g =
         ap (is_at_rest A) (given_to_a 2 (taken_world true) v answer _ refl
-        (λ t k. takes_on f (sack_packet a m) (quiet (sending (pack a b f) a b m o)) (resting (pack a b f) a b m o) leads.sack (ap (λ (s : Endpoint (List ℕ)). s.endpoint_state.context.pack) has_sent) t
+        (λ t k. takes_on f (sack_packet a m) (drained (sending (pack a b f) a b m o)) (resting (pack a b f) a b m o) leads.sack (ap (λ (s : Endpoint (List ℕ)). s.endpoint_state.context.pack) has_sent) t
         (subst (λ (s : Endpoint (List ℕ)). Takes answer s t) (sym has_sent) k)) g)
         ∙ (it_rests (pack a b f) a b m o small).at_rest
 

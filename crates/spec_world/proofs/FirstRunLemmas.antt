@@ -11,11 +11,11 @@ use Rattle.spec_endpoint.specs.Shown.{Association}
 use Rattle.spec_endpoint.specs.Receiving.{Receives}
 use Rattle.spec_endpoint.specs.Wire.{writing}
 use Rattle.proof_endpoint.specs.Mapped.{Carried, as_written}
-use Rattle.proof_endpoint.specs.FirstRun.{init_packet, init_ack_packet, cookie_echo_packet, cookie_ack_packet, quiet, asking, answering, echoing, accepting, opening, association, IsSmall, Leads, LeadsOn}
+use Rattle.proof_endpoint.specs.FirstRun.{init_packet, init_ack_packet, cookie_echo_packet, cookie_ack_packet, drained, asking, answering, echoing, accepting, opening, association, IsSmall, Leads, LeadsOn}
 use Rattle.proof_endpoint.proofs.OpeningRunLemmas.{waiting, answered, echoed, opened_a, opened_b, asks, answers, echoes, accepts, opens}
 use Rattle.proof_endpoint.proofs.RunPacketsLemmas.{leads_on}
 use Rattle.spec_world.specs.Observations.{A, B, same_association, Connect, Done, Entry, Called, Given, Associated, EmittedPacket, EmittedEvent}
-use Rattle.spec_world.specs.World.{Action, Side, World, Takes, Gives, Runs, record_news, take_emitted, news_of, clock, calls, associated_if, ready_entries, ready_before, fresh_side, fresh_world}
+use Rattle.spec_world.specs.World.{Action, Side, World, Takes, Gives, Runs, record_news, take_emitted, news_of, clock, call_socket, associated_if, ready_entries, ready_before, fresh_side, fresh_world}
 use Rattle.spec_world.specs.FirstRun as first_run
 use Rattle.spec_world.specs.FirstRun.{IsOpen, IsFresh}
 use Rattle.sctp_serial.proofs.NumberLemmas.{is_itself}
@@ -113,7 +113,7 @@ module _ (a b : Stream) (f : List ℕ → ℕ) where
     log = opened_log;
   }
 
-  pub to_first : (v : World) → v ≡ calls A Connect (fresh_world defaults defaults a b f f) → v ≡ first
+  pub to_first : (v : World) → v ≡ call_socket A Connect (fresh_world defaults defaults a b f f) → v ≡ first
   to_first v e = e ∙ ap (λ (s : Endpoint (List ℕ)). record_news A (Called A 0 Connect Done) s (fresh_world defaults defaults a b f f)) (asks pack a b)
 
   pub to_second : (v : World) → Gives B 0 first v → v ≡ second
@@ -121,31 +121,31 @@ module _ (a b : Stream) (f : List ℕ → ℕ) where
       given_to_b 0 first v (bytes_of (init_packet a)) _ refl
       (λ t k. takes_on f (init_packet a) (fresh defaults pack b) (answering pack a b) leads.init refl t k ∙ answers pack a b) g
 
-  asked : quiet (asking pack a b) ≡ waiting pack a
-  asked = ap quiet (asks pack a b)
+  asked : drained (asking pack a b) ≡ waiting pack a
+  asked = ap drained (asks pack a b)
 
   pub to_third : (v : World) → Gives A 0 second v → v ≡ third
   to_third v g =
       given_to_a 0 second v (bytes_of (init_ack_packet a b)) _ refl
-      (λ t k. takes_on f (init_ack_packet a b) (quiet (asking pack a b)) (echoing pack a b) leads.init_ack (ap (λ (s : Endpoint (List ℕ)). s.endpoint_state.context.pack) asked) t
+      (λ t k. takes_on f (init_ack_packet a b) (drained (asking pack a b)) (echoing pack a b) leads.init_ack (ap (λ (s : Endpoint (List ℕ)). s.endpoint_state.context.pack) asked) t
       (subst (λ (s : Endpoint (List ℕ)). Takes (bytes_of (init_ack_packet a b)) s t) (sym asked) k) ∙ echoes pack a b) g
 
-  replied : quiet (answering pack a b) ≡ answered pack b
-  replied = ap quiet (answers pack a b)
+  replied : drained (answering pack a b) ≡ answered pack b
+  replied = ap drained (answers pack a b)
 
   pub to_fourth : (v : World) → Gives B 1 third v → v ≡ fourth
   to_fourth v g =
       given_to_b 1 third v (bytes_of (cookie_echo_packet a b)) _ refl
-      (λ t k. takes_on f (cookie_echo_packet a b) (quiet (answering pack a b)) (accepting pack a b) leads.cookie_echo (ap (λ (s : Endpoint (List ℕ)). s.endpoint_state.context.pack) replied) t
+      (λ t k. takes_on f (cookie_echo_packet a b) (drained (answering pack a b)) (accepting pack a b) leads.cookie_echo (ap (λ (s : Endpoint (List ℕ)). s.endpoint_state.context.pack) replied) t
       (subst (λ (s : Endpoint (List ℕ)). Takes (bytes_of (cookie_echo_packet a b)) s t) (sym replied) k) ∙ accepts pack a b) g
 
-  has_echoed : quiet (echoing pack a b) ≡ echoed pack a b
-  has_echoed = ap quiet (echoes pack a b)
+  has_echoed : drained (echoing pack a b) ≡ echoed pack a b
+  has_echoed = ap drained (echoes pack a b)
 
   pub to_opened : (v : World) → Gives A 1 fourth v → v ≡ opened
   to_opened v g =
       given_to_a 1 fourth v (bytes_of (cookie_ack_packet a)) _ refl
-      (λ t k. takes_on f (cookie_ack_packet a) (quiet (echoing pack a b)) (opening pack a b) leads.cookie_ack (ap (λ (s : Endpoint (List ℕ)). s.endpoint_state.context.pack) has_echoed) t
+      (λ t k. takes_on f (cookie_ack_packet a) (drained (echoing pack a b)) (opening pack a b) leads.cookie_ack (ap (λ (s : Endpoint (List ℕ)). s.endpoint_state.context.pack) has_echoed) t
       (subst (λ (s : Endpoint (List ℕ)). Takes (bytes_of (cookie_ack_packet a)) s t) (sym has_echoed) k) ∙ opens pack a b) g
       ∙ ap (λ (t : Bool). record fourth {
         a = record { socket = opened_a pack a b; packets = bytes_of (init_packet a) ∷ bytes_of (cookie_echo_packet a b) ∷ [] };

@@ -8,10 +8,10 @@ use Rattle.sctp_state.specs.Events.{Event, SendPacket, OnConnected, OnClosed, On
 use Rattle.spec_endpoint.specs.Association.{Context, Endpoint}
 use Rattle.spec_endpoint.specs.Laws.{HasAtMost, SendsAtMost, StaysWithin, called}
 use Rattle.spec_endpoint.specs.Laws as table
-use Rattle.spec_endpoint.specs.Receiving.{Receives, received, not_read}
+use Rattle.spec_endpoint.specs.Receiving.{Receives, read, not_read}
 use Rattle.proof_endpoint.proofs.LawsLemmas.{stays_within, sends_at_most}
 use Rattle.spec_world.specs.Observations.{End, Entry, A, B}
-use Rattle.spec_world.specs.World.{Side, World, Action, CallOf, Give, GiveForeign, AdvanceTime, TakesBytes, InjectsInto, taken_in, withheld, Injects, Gives, Happens, Runs, IsShort, IsShortSide, AreShort, fresh_side, fresh_world, packets_in, take_emitted, table_call}
+use Rattle.spec_world.specs.World.{Side, World, Action, CallOf, Give, GiveForeign, AdvanceTime, TakesBytes, MeetsForeignAt, given, withheld, MeetsForeign, Gives, Happens, Runs, IsShort, IsShortSide, AreShort, fresh_side, fresh_world, packets_in, take_emitted, table_call}
 
 packets_short : (mtu : ℕ) (events : List (Event (List ℕ))) → All (HasAtMost mtu) events → All (IsShort mtu) (packets_in events)
 packets_short mtu [] h = All-nil (IsShort mtu)
@@ -57,18 +57,18 @@ settled_short mtu call side h =
 
 received_short : (mtu : ℕ) (word_of : List ℕ → ℕ) (bytes : List ℕ) (side : Side) (after : Endpoint (List ℕ)) → Receives word_of bytes side.socket after → IsShortSide mtu side
     → IsShortSide mtu (take_emitted side after)
-received_short mtu word_of bytes side after (received p accepts is) h =
-    subst (λ (s : Endpoint (List ℕ)). IsShortSide mtu (take_emitted side s)) (sym is) (settled_short mtu (table.Packet p) side h)
+received_short mtu word_of bytes side after (read p accepts is) h =
+    subst (λ (s : Endpoint (List ℕ)). IsShortSide mtu (take_emitted side s)) (sym is) (settled_short mtu (table.ReceivePacket p) side h)
 received_short mtu word_of bytes side after (not_read fault is_fault refuses is) h =
-    subst (λ (s : Endpoint (List ℕ)). IsShortSide mtu (take_emitted side s)) (sym is) (settled_short mtu table.NoPacket side h)
+    subst (λ (s : Endpoint (List ℕ)). IsShortSide mtu (take_emitted side s)) (sym is) (settled_short mtu table.ReceiveNoPacket side h)
 
 taken_short : (mtu : ℕ) (x : End) (first : Entry) (bytes : List ℕ) (old new : Side) (log longer : List Entry) → TakesBytes x first bytes old new log longer → IsShortSide mtu old
     → IsShortSide mtu new
 taken_short mtu x first bytes old new log longer t h =
     subst (IsShortSide mtu) (sym t.side) (received_short mtu old.socket.endpoint_state.context.pack.word_of bytes old t.after t.takes h)
 
-came_short : (mtu : ℕ) (x : End) (bytes : List ℕ) (old new : Side) (log longer : List Entry) → InjectsInto x bytes old new log longer → IsShortSide mtu old → IsShortSide mtu new
-came_short mtu x bytes old new log longer (taken_in t j) h = taken_short mtu x _ bytes old new log longer t h
+came_short : (mtu : ℕ) (x : End) (bytes : List ℕ) (old new : Side) (log longer : List Entry) → MeetsForeignAt x bytes old new log longer → IsShortSide mtu old → IsShortSide mtu new
+came_short mtu x bytes old new log longer (given t j) h = taken_short mtu x _ bytes old new log longer t h
 came_short mtu x bytes old new log longer (withheld j is l) h = subst (IsShortSide mtu) (sym is) h
 
 -- ---- the world
@@ -83,7 +83,7 @@ given_short mtu_a mtu_b B packet w v g h = record {
   b = taken_short mtu_b B _ g.bytes w.b v.b w.log v.log g.takes_bytes h.b;
 }
 
-foreign_short : (mtu_a mtu_b : ℕ) (x : End) (bytes : List ℕ) (w v : World) → Injects x bytes w v → AreShort mtu_a mtu_b w → AreShort mtu_a mtu_b v
+foreign_short : (mtu_a mtu_b : ℕ) (x : End) (bytes : List ℕ) (w v : World) → MeetsForeign x bytes w v → AreShort mtu_a mtu_b w → AreShort mtu_a mtu_b v
 foreign_short mtu_a mtu_b A bytes w v g h = record {
   a = came_short mtu_a A bytes w.a v.a w.log v.log g.comes h.a;
   b = subst (IsShortSide mtu_b) (sym g.other_side) h.b;
@@ -107,8 +107,8 @@ runs_short mtu_a mtu_b (action ∷ actions) w v r h = runs_short mtu_a mtu_b act
 
 -- ---- a new world
 
-fresh_short : (o : Options) (words : Stream) (word_of : List ℕ → ℕ) → IsValid o → IsShortSide o.mtu (fresh_side o words word_of)
-fresh_short o words word_of valid = record {
+fresh_short : (o : Options) (draws : Stream) (word_of : List ℕ → ℕ) → IsValid o → IsShortSide o.mtu (fresh_side o draws word_of)
+fresh_short o draws word_of valid = record {
   word_of = word_of;
   own = refl;
   limit = refl;

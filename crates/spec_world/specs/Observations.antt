@@ -46,7 +46,7 @@ pub data Call : Type 0 where
   Close : Call
   Send : Message → SendOptions → Call
   SendMany : List Message → SendOptions → Call
-  Receive : Call
+  TakeMessage : Call
   Reset : (streams : List ℕ) → Call
   SetPriority : (stream priority : ℕ) → Call
   SetMaxMessageSize : (bytes : ℕ) → Call
@@ -57,7 +57,7 @@ pub data Answer : Type 0 where
   Done : Answer
   Sent : (refused : Option SendError) → Answer
   SentMany : (refused : List (ℕ × SendError)) → Answer  -- by their indices in the batch
-  Received : Option Message → Answer
+  TookMessage : Option Message → Answer
   AskedReset : (refused : Option ResetStreamsError) → Answer
   HandedOver : HandoverState → Answer
   NotReady : (readiness : ℕ) → Answer
@@ -123,7 +123,7 @@ abbrev pub ready : End → List Entry → List Message
 ready x log = flat_map (ready_by x) log
 
 abbrev pub handed_out_in : Answer → List Message
-handed_out_in (Received (Some m)) = m ∷ []
+handed_out_in (TookMessage (Some m)) = m ∷ []
 handed_out_in answer = []
 
 abbrev pub handed_out_by : End → Entry → List Message

@@ -3,9 +3,9 @@ use Rattle.std.specs.Prelude.{◌≡◌, ℕ, zero, suc, ◌+◌, ◌≤◌, All
 use Rattle.rand_core.specs.Stream.{Stream}
 use Rattle.sctp_serial.specs.Messages.{Message}
 use Rattle.sctp_state.specs.Options.{Options}
-use Rattle.sctp_state.specs.Events.{Event, SendPacket, first_of, GivenUp, silent}
+use Rattle.sctp_state.specs.Events.{Event, SendPacket, first_of, GivenUp, nothing_emitted}
 use Rattle.spec_endpoint.specs.Association.{Endpoint, fresh}
-use Rattle.spec_endpoint.specs.Calls.{shown_state, refusal_of, refusals, ready_in}
+use Rattle.spec_endpoint.specs.Calls.{shown_state, send_refusal_of, refusals, ready_in}
 use Rattle.spec_endpoint.specs.Handover.{readiness, handed_over}
 use Rattle.spec_endpoint.specs.StreamReset.{reset_refusal}
 use Rattle.spec_endpoint.specs.Laws as table
@@ -14,7 +14,7 @@ use Rattle.spec_endpoint.specs.Shown.{Association, association_in}
 use Rattle.spec_endpoint.specs.Receiving.{Receives, Judges}
 use Rattle.spec_endpoint.specs.Shown as socket
 use Rattle.spec_endpoint.specs.Wire.{writing}
-use Rattle.spec_world.specs.Observations.{End, A, B, same_association, Call, Connect, Shutdown, Close, Send, SendMany, Receive, Reset, SetPriority, SetMaxMessageSize, SetLowThreshold, HandOver, Answer, Done, Sent, SentMany, Received, AskedReset, HandedOver, NotReady, Entry, Called, Given, Foreign, Timed, Associated, EmittedPacket, EmittedEvent, GaveUp, BecameReady}
+use Rattle.spec_world.specs.Observations.{End, A, B, same_association, Call, Connect, Shutdown, Close, Send, SendMany, TakeMessage, Reset, SetPriority, SetMaxMessageSize, SetLowThreshold, HandOver, Answer, Done, Sent, SentMany, TookMessage, AskedReset, HandedOver, NotReady, Entry, Called, Given, Foreign, Timed, Associated, EmittedPacket, EmittedEvent, GaveUp, BecameReady}
 
 -- an end, with the packets that it ever sent
 pub record Side : Type 0 where
@@ -27,11 +27,11 @@ pub record World : Type 0 where
   pub log : List Entry
 
 abbrev pub fresh_side : Options → Stream → (List ℕ → ℕ) → Side
-fresh_side o words word_of = record { socket = fresh o (writing word_of) words; packets = [] }
+fresh_side o draws word_of = record { socket = fresh o (writing word_of) draws; packets = [] }
 
-abbrev pub fresh_world : (options_a options_b : Options) (words_a words_b : Stream) (word_of_a word_of_b : List ℕ → ℕ) → World
-fresh_world options_a options_b words_a words_b word_of_a word_of_b =
-    record { a = fresh_side options_a words_a word_of_a; b = fresh_side options_b words_b word_of_b; log = [] }
+abbrev pub fresh_world : (options_a options_b : Options) (draws_a draws_b : Stream) (word_of_a word_of_b : List ℕ → ℕ) → World
+fresh_world options_a options_b draws_a draws_b word_of_a word_of_b =
+    record { a = fresh_side options_a draws_a word_of_a; b = fresh_side options_b draws_b word_of_b; log = [] }
 
 pub data Action : Type 0 where
   CallOf : End → Call → Action
@@ -92,11 +92,11 @@ abbrev pub news_of : End → Side → Endpoint (List ℕ) → List Entry
 news_of x side s = news x (length side.packets) (length (ready_at side.socket)) (association side.socket) s
 
 -- all that it emitted is taken
-abbrev pub quiet : Endpoint (List ℕ) → Endpoint (List ℕ)
-quiet s = record s { endpoint_state = record s.endpoint_state { context = record s.endpoint_state.context { emitted = silent } } }
+abbrev pub drained : Endpoint (List ℕ) → Endpoint (List ℕ)
+drained s = record s { endpoint_state = record s.endpoint_state { context = record s.endpoint_state.context { emitted = nothing_emitted } } }
 
 abbrev pub take_emitted : Side → Endpoint (List ℕ) → Side
-take_emitted side s = record { socket = quiet s; packets = side.packets ++ packets_in s.endpoint_state.context.emitted.events }
+take_emitted side s = record { socket = drained s; packets = side.packets ++ packets_in s.endpoint_state.context.emitted.events }
 
 abbrev pub side_of : End → World → Side
 side_of A w = w.a
@@ -127,7 +127,7 @@ table_call Shutdown = table.Shutdown
 table_call Close = table.Close
 table_call (Send m options) = table.Send m options
 table_call (SendMany ms options) = table.SendMany ms options
-table_call Receive = table.TakeMessage
+table_call TakeMessage = table.TakeMessage
 table_call (Reset streams) = table.ResetStreams streams
 table_call (SetPriority stream priority) = table.SetPriority stream priority
 table_call (SetMaxMessageSize bytes) = table.SetMaxMessageSize bytes
@@ -147,9 +147,9 @@ abbrev pub answer_to : Call → Endpoint (List ℕ) → Answer
 answer_to Connect s = Done
 answer_to Shutdown s = Done
 answer_to Close s = Done
-answer_to (Send m options) s = Sent (refusal_of m s.endpoint_state)
+answer_to (Send m options) s = Sent (send_refusal_of m s.endpoint_state)
 answer_to (SendMany ms options) s = SentMany (refusals 0 ms options (shown_state s.endpoint_state.state) s.endpoint_state.context)
-answer_to Receive s = Received (first_of (ready_at s))
+answer_to TakeMessage s = TookMessage (first_of (ready_at s))
 answer_to (Reset streams) s = AskedReset (reset_refusal s.endpoint_state.state)
 answer_to (SetPriority stream priority) s = Done
 answer_to (SetMaxMessageSize bytes) s = Done
@@ -160,8 +160,8 @@ answer_to HandOver s = handed_by (readiness s.endpoint_state) s
 abbrev pub call_entry : End → Call → Endpoint (List ℕ) → Entry
 call_entry x call s = Called x (clock s) call (answer_to call s)
 
-abbrev pub calls : End → Call → World → World
-calls x call w = record_news x (call_entry x call (side_of x w).socket) (after_call call (side_of x w).socket) w
+abbrev pub call_socket : End → Call → World → World
+call_socket x call w = record_news x (call_entry x call (side_of x w).socket) (after_call call (side_of x w).socket) w
 
 abbrev pub after_time : ℕ → Endpoint (List ℕ) → Endpoint (List ℕ)
 after_time now s = called (table.Advance now) s
@@ -169,8 +169,8 @@ after_time now s = called (table.Advance now) s
 abbrev pub time_entry : End → ℕ → Endpoint (List ℕ) → Entry
 time_entry x now s = Timed x (clock (after_time now s)) now
 
-abbrev pub advances_time : End → ℕ → World → World
-advances_time x now w = record_news x (time_entry x now (side_of x w).socket) (after_time now (side_of x w).socket) w
+abbrev pub advance_time : End → ℕ → World → World
+advance_time x now w = record_news x (time_entry x now (side_of x w).socket) (after_time now (side_of x w).socket) w
 
 -- ---- packets
 
@@ -197,19 +197,19 @@ abbrev pub IsJudged : (bytes : List ℕ) → Endpoint (List ℕ) → (is_refused
 IsJudged bytes s is_refused = Judges s.endpoint_state.context.pack.word_of bytes s.endpoint_state.context.options s.endpoint_state.state is_refused
 
 -- bytes from elsewhere: they are given to an end that refuses them, and else withheld from it
-pub data InjectsInto (x : End) (bytes : List ℕ) (old new : Side) (log longer : List Entry) : Type 0 where
-  taken_in : (t : TakesBytes x (Foreign x (clock old.socket) (Some bytes)) bytes old new log longer) → IsJudged bytes old.socket true → InjectsInto x bytes old new log longer
-  withheld : IsJudged bytes old.socket false → new ≡ old → longer ≡ log ++ Foreign x (clock old.socket) None ∷ [] → InjectsInto x bytes old new log longer
+pub data MeetsForeignAt (x : End) (bytes : List ℕ) (old new : Side) (log longer : List Entry) : Type 0 where
+  given : (t : TakesBytes x (Foreign x (clock old.socket) (Some bytes)) bytes old new log longer) → IsJudged bytes old.socket true → MeetsForeignAt x bytes old new log longer
+  withheld : IsJudged bytes old.socket false → new ≡ old → longer ≡ log ++ Foreign x (clock old.socket) None ∷ [] → MeetsForeignAt x bytes old new log longer
 
-pub record Injects (x : End) (bytes : List ℕ) (w v : World) : Type 0 where
-  pub comes : InjectsInto x bytes (side_of x w) (side_of x v) w.log v.log
+pub record MeetsForeign (x : End) (bytes : List ℕ) (w v : World) : Type 0 where
+  pub comes : MeetsForeignAt x bytes (side_of x w) (side_of x v) w.log v.log
   pub other_side : side_of (other x) v ≡ side_of (other x) w
 
 abbrev pub Happens : Action → World → World → Type 0
-Happens (CallOf x call) w v = v ≡ calls x call w
+Happens (CallOf x call) w v = v ≡ call_socket x call w
 Happens (Give packet x) w v = Gives x packet w v
-Happens (GiveForeign x bytes) w v = Injects x bytes w v
-Happens (AdvanceTime x now) w v = v ≡ advances_time x now w
+Happens (GiveForeign x bytes) w v = MeetsForeign x bytes w v
+Happens (AdvanceTime x now) w v = v ≡ advance_time x now w
 
 abbrev pub Runs : List Action → World → World → Type 0
 Runs [] w v = v ≡ w

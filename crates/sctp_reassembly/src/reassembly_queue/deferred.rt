@@ -6,8 +6,8 @@ ghost use Rattle.std.specs.Option.{option_to_list};
 ghost use Rattle.sctp_reassembly.specs.ReassemblyStreams.{is_named};
 ghost use Rattle.sctp_reassembly.specs.Waiting.{waiting_of};
 
-use crate::named_streams::NamedStreams;
 use crate::reassembly_queue::waiting::Waiting;
+use crate::stream_id_set::StreamIdSet;
 use sctp_serial::StreamId;
 use std::alloc::{AllocError, Global};
 use std::collections::VecDeque;
@@ -17,7 +17,7 @@ use std::marker::Model;
 #[derive(Drop)]
 pub(crate) struct Deferred {
     last: u64,
-    streams: NamedStreams,
+    streams: StreamIdSet,
     waiting: VecDeque<Waiting>,
     bytes: usize,
 }
@@ -43,7 +43,7 @@ impl Deferred {
     {
         Ok(Deferred {
             last,
-            streams: NamedStreams::new(alloc, ids)?,
+            streams: StreamIdSet::new(alloc, ids)?,
             waiting: VecDeque::new(alloc),
             bytes: 0,
         })
@@ -64,7 +64,7 @@ impl Deferred {
     }
 
     /// The streams that are to be reset; all are where none is named.
-    pub fn streams(&self) -> &NamedStreams
+    pub fn streams(&self) -> &StreamIdSet
         ensures { result.now ≡ self.now.streams }
     {
         &self.streams

@@ -4,7 +4,7 @@ ghost use Rattle.std.specs.Prelude.{◌≡◌, min, is_some, IsTrue, OnOk, OnErr
 ghost use Rattle.sctp_state.specs.Handover.{handover_state_of, transmission_of};
 ghost use Rattle.sctp_state.specs.Validity.{is_valid_state};
 ghost use Rattle.sctp_state.specs.declared.api.handover.HandoverSocketState.TheVariants.{Connected};
-ghost use Rattle.sctp_tx.specs.Handover.{readiness, bound, handed_over, restore, windows_from};
+ghost use Rattle.sctp_tx.specs.Handover.{readiness, saturate_u32, handed_over, restore, windows_from};
 
 use crate::retransmission_queue::RetransmissionQueue;
 use crate::retransmission_queue::windows::Windows;
@@ -14,7 +14,7 @@ use sctp_state::{HandoverReadiness, SocketHandoverState};
 use std::alloc::AllocError;
 
 fn bounded(bytes: usize) -> u32
-    ensures { result ≡ bound bytes }
+    ensures { result ≡ saturate_u32 bytes }
 {
     bytes.min(u32::MAX as usize) as u32
 }

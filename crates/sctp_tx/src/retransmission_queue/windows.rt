@@ -2,7 +2,7 @@
 
 ghost use Rattle.std.specs.Prelude.{◌≡◌, ◌+◌, nat_le};
 ghost use Rattle.sctp_state.specs.Options.{options_of, IsValid};
-ghost use Rattle.sctp_tx.specs.Windows.{at_first, grow, slow_start, avoidance, halve, recovering, timed_out, acknowledge, is_open, advertise, take_payload, room, may_send};
+ghost use Rattle.sctp_tx.specs.Windows.{at_first, grow, slow_start, avoidance, halved_cwnd, recovering, timed_out, maybe_exit_fast_recovery, is_open, update_rwnd, consume_rwnd, room, may_send};
 
 use sctp_state::Options;
 
@@ -76,7 +76,7 @@ impl Windows {
     }
 
     fn halved(&self) -> usize
-        ensures { result ≡ halve self.now }
+        ensures { result ≡ halved_cwnd self.now }
     {
         (self.cwnd / 2).max(self.least_cwnd)
     }
@@ -99,8 +99,8 @@ impl Windows {
     }
 
     /// All TSNs up to this one, unwrapped, are acknowledged.
-    pub fn acknowledge(&mut self, cumulative: u64)
-        ensures { self.new ≡ acknowledge cumulative self.old }
+    pub fn maybe_exit_fast_recovery(&mut self, cumulative: u64)
+        ensures { self.new ≡ maybe_exit_fast_recovery cumulative self.old }
     {
         if self.is_open_at(cumulative) {
             self.fast_recovery_exit = None;
@@ -119,14 +119,14 @@ impl Windows {
 
     /// The peer advertised its window, while so much payload was unacknowledged.
     pub fn update_receiver_window(&mut self, a_rwnd: u32, payload: usize)
-        ensures { self.new ≡ advertise a_rwnd payload self.old }
+        ensures { self.new ≡ update_rwnd a_rwnd payload self.old }
     {
         self.rwnd = (a_rwnd as usize).saturating_sub(payload);
     }
 
     /// A chunk of this padded size goes out.
     pub fn take(&mut self, size: usize)
-        ensures { self.new ≡ take_payload size self.old }
+        ensures { self.new ≡ consume_rwnd size self.old }
     {
         self.rwnd = self.rwnd.saturating_sub(size);
     }

@@ -1,7 +1,7 @@
 //! What the send queue emits to the socket's user.
 
 ghost use Rattle.std.specs.Prelude.{◌≡◌, OnOk, OnErr};
-ghost use Rattle.sctp_state.specs.Events.{event_of, expiry, give_up, emit_events, Grown};
+ghost use Rattle.sctp_state.specs.Events.{event_of, expired_events, emit_given_up, emit_events, Grown};
 ghost use Rattle.sctp_tx_queue.specs.Produced.{when, fully_sent, production};
 
 use sctp_serial::{LifecycleId, OutgoingMessageId, StreamId};
@@ -20,7 +20,7 @@ pub(crate) fn emit_expired(
     events: &mut Events,
     lifecycle_id: Option<LifecycleId>,
 ) -> Result<(), AllocError>
-    ensures ok { OnOk result (events.new ≡ emit_events (expiry lifecycle_id) events.old) }
+    ensures ok { OnOk result (events.new ≡ emit_events (expired_events lifecycle_id) events.old) }
     ensures err { OnErr result (Grown events.old events.new) }
 {
     if let Some(id) = lifecycle_id {
@@ -37,7 +37,7 @@ pub(crate) fn emit_dropped(
     cause: GivenUpCause,
     lifecycle_id: Option<LifecycleId>,
 ) -> Result<(), AllocError>
-    ensures ok { OnOk result (events.new ≡ emit_events (expiry lifecycle_id) (give_up number.0 cause events.old)) }
+    ensures ok { OnOk result (events.new ≡ emit_events (expired_events lifecycle_id) (emit_given_up number.0 cause events.old)) }
     ensures err { OnErr result (Grown events.old events.new) }
 {
     events.add_given_up(GivenUp { number, cause })?;

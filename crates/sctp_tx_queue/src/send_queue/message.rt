@@ -4,11 +4,11 @@ ghost use Rattle.std.specs.Prelude.{◌≡◌, ◌+◌, ◌-◌, ◌<◌, ◌^�
 ghost use Rattle.std.specs.Duration.{as_nanos};
 ghost use Rattle.sctp_chunk.specs.Written.{key_stream};
 ghost use Rattle.sctp_chunk.specs.Views.{is_unordered_key};
-ghost use Rattle.sctp_tx_queue.specs.SendQueue.{left_bytes, expiry_of};
-ghost use Rattle.sctp_tx_queue.specs.Produced.{is_stale, is_due, ends, made_of, move_past};
+ghost use Rattle.sctp_tx_queue.specs.SendQueue.{remaining_bytes, expiry_of};
+ghost use Rattle.sctp_tx_queue.specs.Produced.{is_stale, is_expired, ends, made_of, move_past};
 ghost use Rattle.sctp_tx_queue.specs.Resets.{is_partly};
 ghost use Rattle.sctp_tx_queue.specs.Whole.{is_whole, with_payload};
-ghost use Rattle.sctp_serial.specs.Unwrapped.{words, halves, wire};
+ghost use Rattle.sctp_serial.specs.Unwrapped.{u32_space, halves, wire};
 ghost use Rattle.sctp_state.specs.Handover.{stream_message_of};
 ghost use Rattle.sctp_tx_queue.specs.Handover.{queued_message};
 ghost use Rattle.sctp_tx_queue.specs.Restored.{numbers_from, message_from};
@@ -73,7 +73,7 @@ fn expiry(now: SocketTime, lifetime: Option<Duration>) -> Option<SocketTime>
 }
 
 fn is_due(expires_at: Option<SocketTime>, now: SocketTime) -> bool
-    ensures { result ≡ is_due now expires_at }
+    ensures { result ≡ is_expired now expires_at }
 {
     match expires_at {
         Some(moment) => moment <= now,
@@ -89,7 +89,7 @@ fn stream_key(is_unordered: bool, id: StreamId) -> StreamKey
 }
 
 fn mid_of(numbers: Option<MessageNumbers>) -> Option<u32>
-    ensures { result ≡ option_map (λ n. wire words 0 n.mid) numbers }
+    ensures { result ≡ option_map (λ n. wire u32_space 0 n.mid) numbers }
 {
     match numbers {
         Some(numbers) => Some(Mid::wrapped(Mid(0), numbers.mid).0),
@@ -237,7 +237,7 @@ impl QueuedMessage {
 
     /// The bytes that are not sent.
     pub(crate) fn left(&self) -> usize
-        ensures value { result ≡ left_bytes self.now }
+        ensures value { result ≡ remaining_bytes self.now }
         ensures more { 0 < result }
         ensures small { result < 2 ^ 32 }
         ensures whole { length self.now.payload < 2 ^ 32 }
@@ -247,7 +247,7 @@ impl QueuedMessage {
 
     /// The bytes that are sent.
     pub(crate) fn sent(&self) -> usize
-        ensures whole { left_bytes self.now + result ≡ length self.now.payload }
+        ensures whole { remaining_bytes self.now + result ≡ length self.now.payload }
         ensures small { result < 2 ^ 32 }
     {
         self.offset
@@ -349,7 +349,7 @@ impl QueuedMessage {
 
     /// That fragment was sent, and it was not the end.
     pub(crate) fn move_on(&mut self, numbers: MessageNumbers, size: usize)
-        requires { size < left_bytes self.old }
+        requires { size < remaining_bytes self.old }
         ensures { self.new ≡ move_past size numbers self.old }
     {
         self.offset += size;

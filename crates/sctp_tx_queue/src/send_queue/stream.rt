@@ -3,13 +3,13 @@
 ghost use Rattle.std.specs.Prelude.{◌≡◌, ◌+◌, ◌-◌, ◌<◌, ◌≤◌, ◌^◌, ◌==◌, [], ◌++◌, length, sum_by, drop, is_some, None, Some, IsTrue, IfOk, OnOk, OnErr, option_map, filter, map, if◌then◌else◌};
 ghost use Rattle.sctp_state.specs.Events.{Grown};
 ghost use Rattle.sctp_state.specs.ThresholdWatcher.{crosses};
-ghost use Rattle.sctp_tx_queue.specs.SendQueue.{left_bytes, amount_of, watched_amount, blank_stream, front_left, sendable, push, is_stopped};
-ghost use Rattle.sctp_tx_queue.specs.Produced.{is_front_stale, fresh, drop_expired, without_stale, front_numbers, front_made, front_ends, moved_front, front_took, next_fragment, advance, front_left_after, pause_after, settle_pause};
+ghost use Rattle.sctp_tx_queue.specs.SendQueue.{remaining_bytes, amount_of, watched_amount, blank_stream, front_left, sendable, push, is_stopped};
+ghost use Rattle.sctp_tx_queue.specs.Produced.{is_front_stale, fresh, emit_expired, without_stale, front_numbers, front_made, front_ends, moved_front, front_took, next_fragment, advance, front_left_after, pause_after, pause_if_pending};
 ghost use Rattle.sctp_tx_queue.specs.Settings.{with_threshold, with_priority, without_front, front_discarded, is_front};
-ghost use Rattle.sctp_tx_queue.specs.Resets.{is_ready, after_step, is_partly, emitted_waiting, prepare_stream, waiting};
+ghost use Rattle.sctp_tx_queue.specs.Resets.{is_ready, after_step, is_partly, emit_unsent, prepare_stream, pause_for_reset};
 ghost use Rattle.sctp_state.specs.Handover.{stream_message_of};
 ghost use Rattle.sctp_tx_queue.specs.Handover.{queued_message, messages_of, outgoing_stream};
-ghost use Rattle.sctp_tx_queue.specs.Readiness.{is_waiting};
+ghost use Rattle.sctp_tx_queue.specs.Readiness.{has_reset_pending};
 ghost use Rattle.sctp_tx_queue.specs.Restarted.{whole_front, restart};
 ghost use Rattle.sctp_tx_queue.specs.Restored.{stream_from};
 ghost use Rattle.sctp_tx_queue.specs.Whole.{is_front_whole, front_ended, front_lifecycle};
@@ -63,13 +63,13 @@ pub struct Stream {
 
 impl Model for Stream {
     ghost use Rattle.std.specs.Prelude.{◌≡◌, sum_by};
-    ghost use Rattle.sctp_tx_queue.specs.SendQueue.{Stream, left_bytes};
+    ghost use Rattle.sctp_tx_queue.specs.SendQueue.{Stream, remaining_bytes};
 
     ghost Value = { Stream };
 
     ghost view = { λ s. record { messages = s.messages.items; pause = s.pause_state; next_ssn = s.next_ssn; next_ordered_mid = s.next_ordered_mid; next_unordered_mid = s.next_unordered_mid; priority = s.priority; threshold = s.buffered.low_threshold } };
 
-    ghost invariant = { λ s. s.buffered.amount ≡ sum_by left_bytes s.messages.items };
+    ghost invariant = { λ s. s.buffered.amount ≡ sum_by remaining_bytes s.messages.items };
 }
 
 /// A message that was dropped before it was fully sent.
@@ -93,7 +93,7 @@ fn emit_stale_front(
     now: SocketTime,
     events: &mut Events,
 ) -> Result<(), AllocError>
-    ensures ok { OnOk result (events.new ≡ drop_expired now messages.now.items events.old) }
+    ensures ok { OnOk result (events.new ≡ emit_expired now messages.now.items events.old) }
     ensures err { OnErr result (Grown events.old events.new) }
 {
     for message in messages.iter() {
@@ -112,9 +112,9 @@ fn drop_stale_front(
     buffered: &mut ThresholdWatcher,
     now: SocketTime,
 )
-    requires { buffered.old.amount ≡ sum_by left_bytes messages.old.items }
+    requires { buffered.old.amount ≡ sum_by remaining_bytes messages.old.items }
     ensures messages { messages.new.items ≡ fresh now messages.old.items }
-    ensures amount { buffered.new.amount ≡ sum_by left_bytes messages.new.items }
+    ensures amount { buffered.new.amount ≡ sum_by remaining_bytes messages.new.items }
     ensures threshold { buffered.new.low_threshold ≡ buffered.old.low_threshold }
     ensures less { buffered.new.amount ≤ buffered.old.amount }
 {
@@ -145,9 +145,9 @@ fn move_front_on(
 
 /// Drops the message at the front.
 fn pop_front(messages: &mut VecDeque<QueuedMessage>, buffered: &mut ThresholdWatcher)
-    requires { buffered.old.amount ≡ sum_by left_bytes messages.old.items }
+    requires { buffered.old.amount ≡ sum_by remaining_bytes messages.old.items }
     ensures messages { messages.new.items ≡ drop 1 messages.old.items }
-    ensures amount { buffered.new.amount ≡ sum_by left_bytes messages.new.items }
+    ensures amount { buffered.new.amount ≡ sum_by remaining_bytes messages.new.items }
     ensures threshold { buffered.new.low_threshold ≡ buffered.old.low_threshold }
     ensures less { buffered.new.amount ≤ buffered.old.amount }
 {
@@ -158,7 +158,7 @@ fn pop_front(messages: &mut VecDeque<QueuedMessage>, buffered: &mut ThresholdWat
 
 /// Emits of the messages of which nothing is sent that they are given up.
 fn emit_waiting(messages: &VecDeque<QueuedMessage>, events: &mut Events) -> Result<(), AllocError>
-    ensures ok { OnOk result (events.new ≡ emitted_waiting messages.now.items events.old) }
+    ensures ok { OnOk result (events.new ≡ emit_unsent messages.now.items events.old) }
     ensures err { OnErr result (Grown events.old events.new) }
 {
     for message in messages.iter() {
@@ -171,17 +171,17 @@ fn emit_waiting(messages: &VecDeque<QueuedMessage>, events: &mut Events) -> Resu
 }
 
 fn bytes_left(messages: &VecDeque<QueuedMessage>) -> usize
-    requires { sum_by left_bytes messages.now.items < 2 ^ 64 }
-    ensures { result ≡ sum_by left_bytes messages.now.items }
+    requires { sum_by remaining_bytes messages.now.items < 2 ^ 64 }
+    ensures { result ≡ sum_by remaining_bytes messages.now.items }
 {
     messages.iter().map(|message| message.left()).sum()
 }
 
 /// Drops the messages of which nothing is sent.
 fn keep_partly_sent(messages: &mut VecDeque<QueuedMessage>, buffered: &mut ThresholdWatcher)
-    requires { buffered.old.amount ≡ sum_by left_bytes messages.old.items }
+    requires { buffered.old.amount ≡ sum_by remaining_bytes messages.old.items }
     ensures messages { messages.new.items ≡ filter is_partly messages.old.items }
-    ensures amount { buffered.new.amount ≡ sum_by left_bytes messages.new.items }
+    ensures amount { buffered.new.amount ≡ sum_by remaining_bytes messages.new.items }
     ensures threshold { buffered.new.low_threshold ≡ buffered.old.low_threshold }
     ensures less { buffered.new.amount ≤ buffered.old.amount }
 {
@@ -193,7 +193,7 @@ fn keep_partly_sent(messages: &mut VecDeque<QueuedMessage>, buffered: &mut Thres
 
 /// The pause of a stream that is to be reset.
 fn waiting(is_empty: bool, pause_state: PauseState) -> PauseState
-    ensures { result ≡ waiting is_empty pause_state }
+    ensures { result ≡ pause_for_reset is_empty pause_state }
 {
     match pause_state {
         PauseState::NotPaused if is_empty => PauseState::Paused,
@@ -213,7 +213,7 @@ fn is_front(messages: &VecDeque<QueuedMessage>, message_id: OutgoingMessageId) -
 
 /// The pause of a stream of which no message is partly sent any more.
 fn settled(pause_state: PauseState) -> PauseState
-    ensures { result ≡ settle_pause pause_state }
+    ensures { result ≡ pause_if_pending pause_state }
 {
     match pause_state {
         PauseState::Pending => PauseState::Paused,
@@ -254,7 +254,7 @@ fn hand_over_all(
 /// The message at the front is sent from its beginning again. The answer is how many bytes of it were sent.
 fn make_front_whole(messages: &mut VecDeque<QueuedMessage>) -> usize
     ensures messages { messages.new.items ≡ whole_front messages.old.items }
-    ensures sum { sum_by left_bytes messages.new.items ≡ sum_by left_bytes messages.old.items + result }
+    ensures sum { sum_by remaining_bytes messages.new.items ≡ sum_by remaining_bytes messages.old.items + result }
 {
     let Some(message) = messages.front_mut() else {
         return 0;
@@ -472,7 +472,7 @@ impl Stream {
 
     /// Adds a message behind the others. Without memory nothing changes.
     pub(crate) fn push(&mut self, message: QueuedMessage) -> Result<(), AllocError>
-        requires { amount_of self.old + left_bytes message < 2 ^ 64 }
+        requires { amount_of self.old + remaining_bytes message < 2 ^ 64 }
         ensures ok { OnOk result (self.new ≡ push message self.old) }
         ensures err { OnErr result (self.new ≡ self.old) }
     {
@@ -484,7 +484,7 @@ impl Stream {
 
     /// Emits the events of the messages at the front that expired before they were begun.
     pub(crate) fn emit_stale(&self, now: SocketTime, events: &mut Events) -> Result<(), AllocError>
-        ensures ok { OnOk result (events.new ≡ drop_expired now self.now.messages events.old) }
+        ensures ok { OnOk result (events.new ≡ emit_expired now self.now.messages events.old) }
         ensures err { OnErr result (Grown events.old events.new) }
     {
         emit_stale_front(&self.messages, now, events)
@@ -697,7 +697,7 @@ impl Stream {
 
     /// Whether a reset of the stream waits, or is to be answered.
     pub(crate) fn is_waiting(&self) -> bool
-        ensures { result ≡ is_waiting self.now }
+        ensures { result ≡ has_reset_pending self.now }
     {
         match self.pause_state {
             PauseState::NotPaused => false,
@@ -724,7 +724,7 @@ impl Stream {
 
     /// Emits of the messages of which nothing is sent that they are given up.
     pub(crate) fn emit_waiting(&self, events: &mut Events) -> Result<(), AllocError>
-        ensures ok { OnOk result (events.new ≡ emitted_waiting self.now.messages events.old) }
+        ensures ok { OnOk result (events.new ≡ emit_unsent self.now.messages events.old) }
         ensures err { OnErr result (Grown events.old events.new) }
     {
         emit_waiting(&self.messages, events)

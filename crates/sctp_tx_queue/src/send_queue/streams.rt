@@ -9,13 +9,13 @@ ghost use Rattle.std.specs.BTreeMap.{is_at};
 ghost use Rattle.sctp_state.specs.Events.{Grown};
 ghost use Rattle.sctp_state.specs.Options.{options_of};
 ghost use Rattle.sctp_state.specs.ThresholdWatcher.{crosses};
-ghost use Rattle.sctp_tx_queue.specs.SendQueue.{amount_of, total_of, watched_amount, no_streams, stream, open_stream, put_stream, push, sendable, has_nothing};
-ghost use Rattle.sctp_tx_queue.specs.Produced.{is_front_stale, drop_expired, streams_without_stale, streams_after, next_fragment, emitted_of, in_line};
+ghost use Rattle.sctp_tx_queue.specs.SendQueue.{amount_of, total_of, watched_amount, no_streams, stream, with_stream, put_stream, push, sendable, has_nothing};
+ghost use Rattle.sctp_tx_queue.specs.Produced.{is_front_stale, emit_expired, streams_without_stale, streams_after, next_fragment, emitted_of, in_line};
 ghost use Rattle.sctp_tx_queue.specs.Settings.{with_threshold, with_priority, streams_discarded, front_discarded};
-ghost use Rattle.sctp_tx_queue.specs.Resets.{is_ready, after_step, ready, prepare_stream, emitted_waiting};
+ghost use Rattle.sctp_tx_queue.specs.Resets.{is_ready, after_step, ready, prepare_stream, emit_unsent};
 ghost use Rattle.sctp_state.specs.Handover.{stream_message_of};
 ghost use Rattle.sctp_tx_queue.specs.Handover.{outgoing_streams, queued_messages};
-ghost use Rattle.sctp_tx_queue.specs.Readiness.{is_waiting};
+ghost use Rattle.sctp_tx_queue.specs.Readiness.{has_reset_pending};
 ghost use Rattle.sctp_tx_queue.specs.Bounded.{one};
 ghost use Rattle.sctp_tx_queue.specs.Restarted.{restart};
 ghost use Rattle.sctp_state.specs.Validity.{are_valid_messages, queued_bytes, outgoing_ids, rises_from};
@@ -157,7 +157,7 @@ impl Streams {
 
     /// Makes the stream where there is none. Without memory nothing changes.
     pub(crate) fn open(&mut self, alloc: Global, id: StreamId) -> Result<(), AllocError>
-        ensures ok { OnOk result (self.new ≡ open_stream id.0 self.old) }
+        ensures ok { OnOk result (self.new ≡ with_stream id.0 self.old) }
         ensures there { OnOk result (IsSome (lookup (is_at (nat_cmp id.0)) self.new.entries)) }
         ensures stream { OnOk result (stream id.0 self.new ≡ stream id.0 self.old) }
         ensures total { total_of self.new.entries ≡ total_of self.old.entries }
@@ -179,7 +179,7 @@ impl Streams {
         message: QueuedMessage,
     ) -> Result<(), AllocError>
         requires { total_of self.old.entries < 2 ^ 32 }
-        ensures ok { OnOk result (self.new ≡ put_stream id.0 (push message (stream id.0 self.old)) (open_stream id.0 self.old)) }
+        ensures ok { OnOk result (self.new ≡ put_stream id.0 (push message (stream id.0 self.old)) (with_stream id.0 self.old)) }
         ensures err { OnErr result (self.new ≡ self.old) }
     {
         let Some(stream) = self.streams.get_mut(&id.0) else {
@@ -200,7 +200,7 @@ impl Streams {
     ) -> Result<(), AllocError>
         requires absent { None ≡ lookup (is_at (nat_cmp id.0)) self.old.entries }
         requires room { total_of self.old.entries < 2 ^ 32 }
-        ensures ok { OnOk result (self.new ≡ put_stream id.0 (push message (stream id.0 self.old)) (open_stream id.0 self.old)) }
+        ensures ok { OnOk result (self.new ≡ put_stream id.0 (push message (stream id.0 self.old)) (with_stream id.0 self.old)) }
         ensures err { OnErr result (self.new ≡ self.old) }
     {
         let bytes = message.left();
@@ -245,7 +245,7 @@ impl Streams {
         now: SocketTime,
         events: &mut Events,
     ) -> Result<(), AllocError>
-        ensures ok { OnOk result (events.new ≡ drop_expired now (stream id.0 self.now).messages events.old) }
+        ensures ok { OnOk result (events.new ≡ emit_expired now (stream id.0 self.now).messages events.old) }
         ensures err { OnErr result (Grown events.old events.new) }
     {
         match self.streams.get(&id.0) {
@@ -386,7 +386,7 @@ impl Streams {
 
     /// Emits of the messages of a stream of which nothing is sent that they are given up.
     pub(crate) fn emit_waiting(&self, id: StreamId, events: &mut Events) -> Result<(), AllocError>
-        ensures ok { OnOk result (events.new ≡ emitted_waiting (stream id.0 self.now).messages events.old) }
+        ensures ok { OnOk result (events.new ≡ emit_unsent (stream id.0 self.now).messages events.old) }
         ensures err { OnErr result (Grown events.old events.new) }
     {
         match self.streams.get(&id.0) {
@@ -527,7 +527,7 @@ impl Streams {
 
     /// Whether a reset of a stream waits, or is to be answered.
     pub(crate) fn has_waiting(&self) -> bool
-        ensures { result ≡ list_any is_waiting (values_of self.now.entries) }
+        ensures { result ≡ list_any has_reset_pending (values_of self.now.entries) }
     {
         self.streams.values().any(|stream| stream.is_waiting())
     }

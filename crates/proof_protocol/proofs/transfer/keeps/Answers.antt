@@ -1,6 +1,6 @@
 use Rattle.proof_protocol.proofs.ClaimsLemmas.{claimed}
 use Rattle.proof_protocol.proofs.GrowsLemmas.{one}
-use Rattle.proof_protocol.proofs.KeepsLemmas.{at_start, keeps}
+use Rattle.proof_protocol.proofs.RulesKeepLemmas.{at_start, keeps}
 use Rattle.proof_protocol.proofs.transfer.keeps.Goals as goal
 
 pub returns-clause-first : goal.returns-clause-first

@@ -1,5 +1,5 @@
 use Rattle.std.proofs.Common.{None, ap, refl}
-use Rattle.sctp_rx.specs.ReassemblyQueue.{number_of, fragment_waits}
+use Rattle.sctp_rx.specs.ReassemblyQueue.{number_of, is_kept_back}
 use Rattle.proof_rx_refines.proofs.NearRowLemmas.{new_is_near, sender_keeps}
 use Rattle.proof_rx_refines.proofs.NearKeptLemmas.{new_mids, sender_keeps_mids}
 use Rattle.proof_rx_refines.proofs.NearComesLemmas.{near_then, called, point_near_then}
@@ -10,7 +10,7 @@ returns-clause-new_queue c message is_interleaved first shift max_size = record 
 
 pub returns-clause-fragment : goal.returns-clause-fragment
 returns-clause-fragment c message is_interleaved base first shift x handed t r k tsn f now es kept windows shown near is_tracker none tsn_is carries read unseen is_now goes =
-    near_then message is_interleaved base first shift x kept windows handed t r shown near k tsn f tsn_is carries unseen is_now is_tracker (ap (fragment_waits (number_of r tsn) f.stream_id) none) read now es None goes
+    near_then message is_interleaved base first shift x kept windows handed t r shown near k tsn f tsn_is carries unseen is_now is_tracker (ap (is_kept_back (number_of r tsn) f.stream_id) none) read now es None goes
 
 pub returns-clause-forward_point : goal.returns-clause-forward_point
 returns-clause-forward_point c message is_interleaved base first shift x handed t r k tsn f entries es kept windows few shown near is_tracker none sent last moves tsn_is stand apart are_now goes =

@@ -3,7 +3,7 @@ use Rattle.sctp_packet.specs.ChunkView.{chunk_tree}
 use Rattle.sctp_packet.specs.Chunk.{ChunkTree}
 use Rattle.sctp_packet.specs.Views.{raw_chunk}
 use Rattle.sctp_packet.proofs.OneChunkLemmas.{one_chunk}
-use Rattle.sctp_endpoint.specs.Views.{endpoint_of, received_of}
+use Rattle.sctp_endpoint.specs.Views.{endpoint_of, after_chunk_of}
 use Rattle.spec_endpoint.specs.Input as table
 use Rattle.sctp_association.proofs.PlaceLemmas.{carries_it, carries_none}
 use Rattle.sctp_association.proofs.input.receive_in_place.Goals as goal
@@ -15,7 +15,7 @@ receive-requires g c =
 pub returns-in-Some : goal.returns-in-Some
 returns-in-Some g c =
     λ t is.
-    subst (λ (u : ChunkTree). IfOk c.receive_data.result (λ goes_on. received_of g.R.Rng.stream g.C.Checksum.word_of c.receive_data.new.state c.receive_data.new.context c.args.rng.now goes_on
+    subst (λ (u : ChunkTree). IfOk c.receive_data.result (λ goes_on. after_chunk_of g.R.Rng.stream g.C.Checksum.word_of c.receive_data.new.state c.receive_data.new.context c.args.rng.now goes_on
     ≡ table.receive c.args.tag u (endpoint_of g.R.Rng.stream g.C.Checksum.word_of c.args.state.now c.args.context.now c.args.rng.now)))
     (carries_it (raw_chunk c.args.raw) c.in-Some.fragment t c.in-Some.ensures.data c.in-Some.ensures.idata c.in-Some.ensures.carrier is)
     (c.receive_data.ensures c.args.tag (g.R.Rng.stream c.args.rng.now))
@@ -23,6 +23,6 @@ returns-in-Some g c =
 pub returns-in_ok-chunk-in-None : goal.returns-in_ok-chunk-in-None
 returns-in_ok-chunk-in-None g c =
     λ t is.
-    subst (λ (u : ChunkTree). IfOk c.receive.result (λ goes_on. received_of g.R.Rng.stream g.C.Checksum.word_of c.receive.new.state c.receive.new.context c.receive.new.rng goes_on
+    subst (λ (u : ChunkTree). IfOk c.receive.result (λ goes_on. after_chunk_of g.R.Rng.stream g.C.Checksum.word_of c.receive.new.state c.receive.new.context c.receive.new.rng goes_on
     ≡ table.receive c.args.tag u (endpoint_of g.R.Rng.stream g.C.Checksum.word_of c.args.state.now c.args.context.now c.args.rng.now)))
     (one_chunk (raw_chunk c.args.raw) (chunk_tree c.in_ok-chunk-in-None.chunk) t c.in_ok-chunk-in-None.ensures is) c.receive.ensures

@@ -2,7 +2,7 @@ use Rattle.std.proofs.Common.{◌≡◌, ◌≤◌, ◌-◌}
 use Rattle.sctp_tx_outstanding.specs.Totals.{AreTotals}
 use Rattle.sctp_tx_outstanding.specs.Waiting.{Lists}
 use Rattle.sctp_tx_outstanding.specs.Expiries.{Expects}
-use Rattle.sctp_tx_outstanding.proofs.LaidLemmas.{laid}
+use Rattle.sctp_tx_outstanding.proofs.AbandonedItemsLemmas.{laid}
 use Rattle.sctp_tx_outstanding.proofs.kept.abandon_all.Given as goal
 
 abbrev pub invariant-loop-place : goal.invariant-loop-place

@@ -1,7 +1,7 @@
 use Rattle.std.proofs.Common.{◌≡◌, true, false, sym, ◌∙◌, rules, arith}
 use Rattle.std.proofs.lemmas.Bool.Decides.{nat_tests}
 use Rattle.sctp_tx_outstanding.specs.Item.{is_of}
-use Rattle.sctp_tx_outstanding.proofs.LaidLemmas.{is_of_at_here, is_of_at_beyond}
+use Rattle.sctp_tx_outstanding.proofs.AbandonedItemsLemmas.{is_of_at_here, is_of_at_beyond}
 use Rattle.sctp_tx_outstanding.proofs.MessagesLemmas.{laid_of, laid_not}
 use Rattle.sctp_tx_outstanding.proofs.kept.abandon_at.Goals as goal
 

@@ -2,7 +2,7 @@ use Rattle.std.proofs.Common.{◌<◌, ◌^◌, List, length, sym, subst, arith}
 use Rattle.sctp_tx_outstanding.specs.Item.{Item}
 use Rattle.sctp_tx_outstanding.specs.Change.{apply_change}
 use Rattle.sctp_tx_outstanding.specs.OutstandingData.{change_at}
-use Rattle.sctp_tx_outstanding.specs.Totals.{exchange}
+use Rattle.sctp_tx_outstanding.specs.Totals.{replace_part}
 use Rattle.sctp_tx_outstanding.specs.Waiting.{HasSize, Lists}
 use Rattle.sctp_tx_outstanding.proofs.TotalsLemmas.{totals_changed, totals_as}
 use Rattle.sctp_tx_outstanding.proofs.WaitingLemmas.{turns_changed, stays_changed, has_before, lists_still}
@@ -14,7 +14,7 @@ pub returns-then-old-new-clause-totals : goal.returns-then-old-new-clause-totals
 returns-then-old-new-clause-totals c =
     let few : length c.args.items.now.items < 2 ^ 64 = omega arith in
     totals_as c.args.is_interleaved (change_at c.args.place (apply_change c.args.change) c.args.items.now.items) c.change_item.new.items.items
-    (exchange c.change_item.result.0 c.change_item.result.1 c.args.totals.now) c.exchanged.result
+    (replace_part c.change_item.result.0 c.change_item.result.1 c.args.totals.now) c.exchanged.result
     (totals_changed c.args.is_interleaved c.args.place c.args.change c.args.items.now.items c.change_item.result.0 c.change_item.result.1 c.args.totals.now c.requires.totals few c.change_item.ensures.parts)
     c.change_item.ensures.items c.exchanged.ensures
 
@@ -28,7 +28,7 @@ pub returns-clause-totals : goal.returns-clause-totals
 returns-clause-totals c =
     let few : length c.args.items.now.items < 2 ^ 64 = omega arith in
     totals_as c.args.is_interleaved (change_at c.args.place (apply_change c.args.change) c.args.items.now.items) c.change_item.new.items.items
-    (exchange c.change_item.result.0 c.change_item.result.1 c.args.totals.now) c.exchanged.result
+    (replace_part c.change_item.result.0 c.change_item.result.1 c.args.totals.now) c.exchanged.result
     (totals_changed c.args.is_interleaved c.args.place c.args.change c.args.items.now.items c.change_item.result.0 c.change_item.result.1 c.args.totals.now c.requires.totals few c.change_item.ensures.parts)
     c.change_item.ensures.items c.exchanged.ensures
 

@@ -1,7 +1,7 @@
 use Rattle.std.proofs.Common.{◌<◌, ◌^◌, ◌≡◌, ◌∷◌, ap, ◌∙◌, sym, subst, length, rules, arith, refl, List}
 use Rattle.sctp_tx_outstanding.specs.Item.{Item}
 use Rattle.sctp_tx_outstanding.specs.declared.totals.Totals.{Totals}
-use Rattle.sctp_tx_outstanding.specs.Totals.{exchange, nothing, parts, AreTotals}
+use Rattle.sctp_tx_outstanding.specs.Totals.{replace_part, nothing, parts, AreTotals}
 use Rattle.std.specs.List.{All}
 use Rattle.std.proofs.lemmas.List.Elements.{All-tail}
 use Rattle.sctp_tx_outstanding.specs.Waiting.{IsAtLeast, Lists}
@@ -14,9 +14,9 @@ returns-clause-totals c =
     let is : c.args.items.now.items ≡ c.in_ok-item.item ∷ c.pop_front.new.self.items = search rules in
     let few : length c.pop_front.new.self.items < 2 ^ 64 = omega arith in
     let before = subst (λ (js : List Item). AreTotals c.args.is_interleaved js c.args.totals.now) is c.requires.totals in
-    totals_as c.args.is_interleaved c.pop_front.new.self.items c.pop_front.new.self.items (exchange (parts c.args.is_interleaved c.in_ok-item.item) nothing c.args.totals.now) c.exchanged.result
+    totals_as c.args.is_interleaved c.pop_front.new.self.items c.pop_front.new.self.items (replace_part (parts c.args.is_interleaved c.in_ok-item.item) nothing c.args.totals.now) c.exchanged.result
     (totals_popped c.args.is_interleaved c.in_ok-item.item c.pop_front.new.self.items c.args.totals.now before few)
-    refl (c.exchanged.ensures ∙ (ap (λ (t : Totals). exchange t c.nothing.result c.args.totals.now) c.of-part.ensures ∙ ap (λ (t : Totals). exchange (parts c.args.is_interleaved c.in_ok-item.item) t c.args.totals.now) c.nothing.ensures))
+    refl (c.exchanged.ensures ∙ (ap (λ (t : Totals). replace_part t c.nothing.result c.args.totals.now) c.of-part.ensures ∙ ap (λ (t : Totals). replace_part (parts c.args.is_interleaved c.in_ok-item.item) t c.args.totals.now) c.nothing.ensures))
 
 pub returns-clause-waiting : goal.returns-clause-waiting
 returns-clause-waiting c =

@@ -1,7 +1,7 @@
 use Rattle.std.proofs.Common.{◌<◌, ◌^◌, ◌≡◌, ◌∷◌, ◌++◌, [], List, ap, sym, subst, ◌∙◌, length, rules, arith, refl}
 use Rattle.sctp_tx_outstanding.specs.declared.totals.Totals.{Totals}
 use Rattle.sctp_tx_outstanding.specs.Item.{Item, never}
-use Rattle.sctp_tx_outstanding.specs.Totals.{exchange, nothing, parts}
+use Rattle.sctp_tx_outstanding.specs.Totals.{replace_part, nothing, parts}
 use Rattle.sctp_tx_outstanding.specs.Waiting.{Lists}
 use Rattle.sctp_tx_outstanding.proofs.TotalsLemmas.{totals_pushed, totals_as}
 use Rattle.sctp_tx_outstanding.proofs.WaitingLemmas.{turns_pushed, stays_pushed}
@@ -13,9 +13,9 @@ pub returns-clause-totals : goal.returns-clause-totals
 returns-clause-totals c =
     let is : c.push_back.new.self.items ≡ c.args.items.now.items ++ c.args.item ∷ [] = search rules in
     let few : length (c.args.items.now.items ++ c.args.item ∷ []) < 2 ^ 64 = omega (arith, ap (λ xs. length xs) is) in
-    totals_as c.args.is_interleaved (c.args.items.now.items ++ c.args.item ∷ []) c.push_back.new.self.items (exchange nothing (parts c.args.is_interleaved c.args.item) c.args.totals.now) c.exchanged.result
+    totals_as c.args.is_interleaved (c.args.items.now.items ++ c.args.item ∷ []) c.push_back.new.self.items (replace_part nothing (parts c.args.is_interleaved c.args.item) c.args.totals.now) c.exchanged.result
     (totals_pushed c.args.is_interleaved c.args.items.now.items c.args.item c.args.totals.now c.requires.totals few (omega (arith, c.payload_size-size.ensures.size, c.payload_size-size.ensures.small)))
-    is (c.exchanged.ensures ∙ (ap (λ (t : Totals). exchange t c.of-part.result c.args.totals.now) c.nothing.ensures ∙ ap (λ (t : Totals). exchange nothing t c.args.totals.now) c.of-part.ensures))
+    is (c.exchanged.ensures ∙ (ap (λ (t : Totals). replace_part t c.of-part.result c.args.totals.now) c.nothing.ensures ∙ ap (λ (t : Totals). replace_part nothing t c.args.totals.now) c.of-part.ensures))
 
 pub returns-clause-waiting : goal.returns-clause-waiting
 returns-clause-waiting c =

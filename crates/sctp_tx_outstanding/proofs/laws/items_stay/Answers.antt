@@ -1,4 +1,4 @@
-use Rattle.sctp_tx_outstanding.proofs.KeepsLemmas.{losses_keep, lifetimes_keep, resending_keeps, new_items_keep, sacks_keep}
+use Rattle.sctp_tx_outstanding.proofs.ItemsStayLemmas.{losses_keep, lifetimes_keep, resending_keeps, new_items_keep, sacks_keep}
 use Rattle.sctp_tx_outstanding.proofs.laws.items_stay.Goals as goal
 
 pub returns : goal.returns

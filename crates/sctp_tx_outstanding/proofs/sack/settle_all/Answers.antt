@@ -1,7 +1,7 @@
 use Rattle.std.proofs.Common.{◌≡◌, ◌≤◌, ◌<◌, ◌+◌, ◌-◌, ◌^◌, List, min, refl, ap, sym, subst, ◌∙◌, arith, length}
 use Rattle.sctp_tx_outstanding.specs.Item.{Item}
 use Rattle.sctp_tx_outstanding.specs.OutstandingData.{Kept, change_at}
-use Rattle.sctp_tx_outstanding.specs.Sack.{settle, ack_or_nack, new_bytes_at}
+use Rattle.sctp_tx_outstanding.specs.Sack.{ack_or_uncover_all, ack_or_uncover, new_bytes_at}
 use Rattle.sctp_chunk.specs.Covered.{is_covered}
 use Rattle.sctp_tx_outstanding.specs.Passes.{acked_from, below_from}
 use Rattle.sctp_tx_outstanding.specs.LastBlocks.{Rest, RestFrom}
@@ -40,24 +40,24 @@ loop-place-preserved c =
     let is = c.loop-place.kept.items in
     let js = c.settle_at-walk.new.kept.items in
     let m = c.args.kept.now.is_interleaved in
-    let there : js ≡ change_at k (ack_or_nack (is_covered bs (k + 1))) is = ap (λ (x : Kept). x.items) c.settle_at-walk.ensures.items in
+    let there : js ≡ change_at k (ack_or_uncover (is_covered bs (k + 1))) is = ap (λ (x : Kept). x.items) c.settle_at-walk.ensures.items in
     let more : c.settle_at-walk.result.covered.bytes ≡ min (c.loop-place.walk.covered.bytes + new_bytes_at bs m k is) (2 ^ 64 - 1) =
     c.settle_at-walk.ensures.bytes ∙ ap (λ b. min (c.loop-place.walk.covered.bytes + new_bytes_at bs b k is) (2 ^ 64 - 1)) c.loop-place.invariant.mode in
     let before : k < e = omega arith in
     let within : k < length is = omega (arith, before, c.loop-place.invariant.len, c.loop-place.invariant.inside) in
     record {
       mode = ap (λ (x : Kept). x.is_interleaved) c.settle_at-walk.ensures.items ∙ c.loop-place.invariant.mode;
-      len = ap (λ xs. length xs) there ∙ length_change k (ack_or_nack (is_covered bs (k + 1))) is ∙ c.loop-place.invariant.len;
+      len = ap (λ xs. length xs) there ∙ length_change k (ack_or_uncover (is_covered bs (k + 1))) is ∙ c.loop-place.invariant.len;
       inside = c.loop-place.invariant.inside;
       cursor = walk_on c.settle_at-walk.result.is_in_runs bs (k + 1) c.settle_at-walk.result.block c.settle_at-walk.ensures.cursor;
       items = settle_step bs k is js there ∙ c.loop-place.invariant.items;
-      rest = subst (λ (xs : List Item). RestFrom bs e (e + 1) xs) (sym there) (from_changed bs e (e + 1) k (ack_or_nack (is_covered bs (k + 1))) is before c.loop-place.invariant.rest);
+      rest = subst (λ (xs : List Item). RestFrom bs e (e + 1) xs) (sym there) (from_changed bs e (e + 1) k (ack_or_uncover (is_covered bs (k + 1))) is before c.loop-place.invariant.rest);
       fits = omega (arith, more);
       bytes =
           summed c.loop-place.walk.covered.bytes (new_bytes_at bs m k is) (acked_from bs m (k + 1) (k + 1 + 1) js) c.settle_at-walk.result.covered.bytes _ (2 ^ 64 - 1) more
-          (ap (λ n. min (c.loop-place.walk.covered.bytes + n) (2 ^ 64 - 1)) (acked_step bs m (ack_or_nack (is_covered bs (k + 1))) k is js there) ∙ c.loop-place.invariant.bytes);
+          (ap (λ n. min (c.loop-place.walk.covered.bytes + n) (2 ^ 64 - 1)) (acked_step bs m (ack_or_uncover (is_covered bs (k + 1))) k is js there) ∙ c.loop-place.invariant.bytes);
       below =
-          below_step bs (ack_or_nack (is_covered bs (k + 1))) k c.loop-place.walk.covered.below c.settle_at-walk.result.covered.below is js within there c.settle_at-walk.ensures.below
+          below_step bs (ack_or_uncover (is_covered bs (k + 1))) k c.loop-place.walk.covered.below c.settle_at-walk.result.covered.below is js within there c.settle_at-walk.ensures.below
           ∙ c.loop-place.invariant.below;
     }
 
@@ -70,7 +70,7 @@ remember-requires c =
     let is = c.loop-place.kept.items in
     let behind : c.back_as_in-end.result ≤ k = omega arith in
     let all : RestFrom bs k (k + 1) is = from_later bs k c.back_as_in-end.result is behind c.loop-place.invariant.rest in
-    let done : is ≡ settle bs 1 c.args.kept.now.items = sym (settle_from_lem bs k (k + 1) is all) ∙ c.loop-place.invariant.items in
+    let done : is ≡ ack_or_uncover_all bs 1 c.args.kept.now.items = sym (settle_from_lem bs k (k + 1) is all) ∙ c.loop-place.invariant.items in
     subst (λ (xs : List Item). Rest bs 1 xs) (sym done) (rest_settle bs 1 c.args.kept.now.items)
 
 pub returns-clause-items : goal.returns-clause-items
@@ -111,5 +111,5 @@ returns-clause-rests c =
     let is = c.loop-place.kept.items in
     let behind : c.back_as_in-end.result ≤ k = omega arith in
     let all : RestFrom bs k (k + 1) is = from_later bs k c.back_as_in-end.result is behind c.loop-place.invariant.rest in
-    let done : is ≡ settle bs 1 c.args.kept.now.items = sym (settle_from_lem bs k (k + 1) is all) ∙ c.loop-place.invariant.items in
+    let done : is ≡ ack_or_uncover_all bs 1 c.args.kept.now.items = sym (settle_from_lem bs k (k + 1) is all) ∙ c.loop-place.invariant.items in
     subst (λ (x : Kept). Rest bs 1 x.items) (sym c.remember.ensures) (subst (λ (xs : List Item). Rest bs 1 xs) (sym done) (rest_settle bs 1 c.args.kept.now.items))

@@ -1,6 +1,6 @@
 use Rattle.std.proofs.Common.{◌≡◌, ◌+◌, ◌-◌, ◌^◌, ◌<◌, ◌≤◌, min, length}
-use Rattle.sctp_tx_outstanding.specs.Sack.{settle, newly_acked, below_highest}
-use Rattle.sctp_tx_outstanding.specs.Passes.{IsWalk, settle_from, acked_from, below_from}
+use Rattle.sctp_tx_outstanding.specs.Sack.{ack_or_uncover_all, newly_acked, below_highest}
+use Rattle.sctp_tx_outstanding.specs.Passes.{IsWalk, ack_or_uncover_from, acked_from, below_from}
 use Rattle.sctp_tx_outstanding.specs.LastBlocks.{RestFrom}
 use Rattle.sctp_tx_outstanding.proofs.sack.settle_all.Given as goal
 
@@ -10,7 +10,7 @@ invariant-loop-place l = record {
   len : length l.kept.items ≡ length l.initial.kept.items;
   inside : l.end ≤ length l.initial.kept.items;
   cursor : IsWalk l.walk.is_in_runs l.blocks (l.place + 1) l.walk.block;
-  items : settle_from l.blocks l.place (l.place + 1) l.kept.items ≡ settle l.blocks 1 l.initial.kept.items;
+  items : ack_or_uncover_from l.blocks l.place (l.place + 1) l.kept.items ≡ ack_or_uncover_all l.blocks 1 l.initial.kept.items;
   rest : RestFrom l.blocks l.end (l.end + 1) l.kept.items;
   fits : l.walk.covered.bytes < 2 ^ 64;
   bytes : min (l.walk.covered.bytes + acked_from l.blocks l.initial.kept.is_interleaved l.place (l.place + 1) l.kept.items) (2 ^ 64 - 1) ≡ min (newly_acked l.blocks l.initial.kept.is_interleaved 1 l.initial.kept.items) (2 ^ 64 - 1);

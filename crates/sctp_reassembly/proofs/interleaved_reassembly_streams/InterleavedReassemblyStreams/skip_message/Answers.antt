@@ -1,17 +1,17 @@
 use Rattle.std.proofs.Common.{◌≡◌, ◌++◌, Some, refl, ap, sym, ◌∙◌, arith, true}
 use Rattle.std.proofs.lemmas.Result.{on_ok_weaker}
-use Rattle.sctp_serial.specs.Unwrapped.{words, nearest}
+use Rattle.sctp_serial.specs.Unwrapped.{u32_space, nearest}
 use Rattle.sctp_chunk.specs.declared.forward_tsn.SkippedStream.TheVariants.{IForwardTsn}
 use Rattle.sctp_reassembly.specs.Delivery.{fresh_ordered, fresh_unordered}
-use Rattle.sctp_reassembly.specs.ReassemblyStreams.{Streams, number_if_any, stream_at, skip}
+use Rattle.sctp_reassembly.specs.ReassemblyStreams.{Streams, number_unless_far, stream_at, skip}
 use Rattle.sctp_reassembly.proofs.SkipLemmas.{skipped_interleaved, skipped_unordered, skipped_silently}
 use Rattle.sctp_reassembly.proofs.interleaved_reassembly_streams.InterleavedReassemblyStreams.skip_message.Goals as goal
 
 pub returns-in-Some-clause-ok : goal.returns-in-Some-clause-ok
 returns-in-Some-clause-ok c =
     let old : Streams = record { is_interleaved = true; ordered = c.self.inside.ordered; unordered = c.self.inside.unordered } in
-    let some : number_if_any (nearest words 0 (stream_at fresh_unordered c.in-Unordered.id.0 c.self.inside.unordered).near c.args.mid.0) ≡ Some c.in-Some.number =
-    ap (λ t. number_if_any (nearest words 0 t c.args.mid.0)) (sym c.near.ensures.value) ∙ (sym c.mid_near.ensures ∙ c.in-Some.is) in
+    let some : number_unless_far (nearest u32_space 0 (stream_at fresh_unordered c.in-Unordered.id.0 c.self.inside.unordered).near c.args.mid.0) ≡ Some c.in-Some.number =
+    ap (λ t. number_unless_far (nearest u32_space 0 t c.args.mid.0)) (sym c.near.ensures.value) ∙ (sym c.mid_near.ensures ∙ c.in-Some.is) in
     on_ok_weaker c.forward.result
     (λ e. skipped_unordered c.in-Unordered.id.0 _ c.in-Some.number c.self.inside.ordered c.self.inside.unordered c.forward.new.self some e ∙ (ap (λ k. (skip (IForwardTsn k c.args.mid) old).streams) (sym c.in-Unordered.is) ∙ ap (λ s. (skip (IForwardTsn c.args.key c.args.mid) s).streams) c.self.view_is))
     (c.forward.ensures.ok c.in-Some.number (omega arith) refl)
@@ -19,8 +19,8 @@ returns-in-Some-clause-ok c =
 pub returns-in-Some-mid_near-clause-ok : goal.returns-in-Some-mid_near-clause-ok
 returns-in-Some-mid_near-clause-ok c =
     let old : Streams = record { is_interleaved = true; ordered = c.self.inside.ordered; unordered = c.self.inside.unordered } in
-    let some : number_if_any (nearest words 0 (stream_at fresh_ordered c.in-Ordered.id.0 c.self.inside.ordered).next c.args.mid.0) ≡ Some c.in-Some-mid_near.number =
-    ap (λ t. number_if_any (nearest words 0 t c.args.mid.0)) (sym c.next.ensures.value) ∙ (sym c.mid_near-in-Ordered.ensures ∙ c.in-Some-mid_near.is) in
+    let some : number_unless_far (nearest u32_space 0 (stream_at fresh_ordered c.in-Ordered.id.0 c.self.inside.ordered).next c.args.mid.0) ≡ Some c.in-Some-mid_near.number =
+    ap (λ t. number_unless_far (nearest u32_space 0 t c.args.mid.0)) (sym c.next.ensures.value) ∙ (sym c.mid_near-in-Ordered.ensures ∙ c.in-Some-mid_near.is) in
     on_ok_weaker c.forward-in-Ordered.result
     (λ e. skipped_interleaved c.in-Ordered.id.0 _ c.in-Some-mid_near.number c.self.inside.ordered c.forward-in-Ordered.new.self c.self.inside.unordered some e ∙ (ap (λ k. (skip (IForwardTsn k c.args.mid) old).streams) (sym c.in-Ordered.is) ∙ ap (λ s. (skip (IForwardTsn c.args.key c.args.mid) s).streams) c.self.view_is))
     (c.forward-in-Ordered.ensures.ok c.in-Some-mid_near.number (omega arith) refl)

@@ -1,37 +1,37 @@
 use Rattle.std.proofs.Common.{◌≡◌, ◌++◌, Some, ap, sym, ◌∙◌, true}
 use Rattle.std.proofs.lemmas.Result.{on_ok_weaker}
-use Rattle.sctp_serial.specs.Unwrapped.{words, nearest}
+use Rattle.sctp_serial.specs.Unwrapped.{u32_space, nearest}
 use Rattle.sctp_chunk.specs.Views.{fragment_tree, is_unordered_key}
 use Rattle.sctp_chunk.specs.Written.{key_stream}
 use Rattle.sctp_reassembly.specs.Delivery.{fresh_ordered, fresh_unordered}
-use Rattle.sctp_reassembly.specs.ReassemblyStreams.{Streams, number_if_any, stream_at, add}
+use Rattle.sctp_reassembly.specs.ReassemblyStreams.{Streams, number_unless_far, stream_at, add}
 use Rattle.sctp_reassembly.proofs.SkipLemmas.{comes_ordered, comes_unordered}
 use Rattle.sctp_reassembly.proofs.interleaved_reassembly_streams.InterleavedReassemblyStreamsReassemblyStreams.add.Goals as goal
 
 pub returns-in-Some-clause-ok : goal.returns-in-Some-clause-ok
 returns-in-Some-clause-ok c =
-    let some : number_if_any (nearest words 0 (stream_at fresh_unordered c.in-Unordered.id.0 c.self.inside.unordered).near c.args.fragment.mid.0) ≡ Some c.in-Some.number =
-    ap (λ t. number_if_any (nearest words 0 t c.args.fragment.mid.0)) (sym c.near.ensures.value) ∙ (sym c.mid_near.ensures ∙ c.in-Some.is) in
+    let some : number_unless_far (nearest u32_space 0 (stream_at fresh_unordered c.in-Unordered.id.0 c.self.inside.unordered).near c.args.fragment.mid.0) ≡ Some c.in-Some.number =
+    ap (λ t. number_unless_far (nearest u32_space 0 t c.args.fragment.mid.0)) (sym c.near.ensures.value) ∙ (sym c.mid_near.ensures ∙ c.in-Some.is) in
     let all = comes_unordered c.self.inside.ordered c.self.inside.unordered c.args.tsn c.in-Unordered.id.0 c.in-Some.number c.place_of-index.result (fragment_tree c.args.fragment) (ap is_unordered_key c.in-Unordered.is) (ap key_stream c.in-Unordered.is) some (c.place_of-index.ensures c.args.tsn) in
     on_ok_weaker c.add.result (λ e. ap (λ t. let r : Streams = record { is_interleaved = true; ordered = c.self.inside.ordered; unordered = t } in r) e ∙ (sym (ap (λ o. o.streams) all) ∙ ap (λ s. (add c.args.tsn (fragment_tree c.args.fragment) s).streams) c.self.view_is)) c.add.ensures.ok
 
 pub returns-in-Some-clause-ready : goal.returns-in-Some-clause-ready
 returns-in-Some-clause-ready c =
-    let some : number_if_any (nearest words 0 (stream_at fresh_unordered c.in-Unordered.id.0 c.self.inside.unordered).near c.args.fragment.mid.0) ≡ Some c.in-Some.number =
-    ap (λ t. number_if_any (nearest words 0 t c.args.fragment.mid.0)) (sym c.near.ensures.value) ∙ (sym c.mid_near.ensures ∙ c.in-Some.is) in
+    let some : number_unless_far (nearest u32_space 0 (stream_at fresh_unordered c.in-Unordered.id.0 c.self.inside.unordered).near c.args.fragment.mid.0) ≡ Some c.in-Some.number =
+    ap (λ t. number_unless_far (nearest u32_space 0 t c.args.fragment.mid.0)) (sym c.near.ensures.value) ∙ (sym c.mid_near.ensures ∙ c.in-Some.is) in
     let all = comes_unordered c.self.inside.ordered c.self.inside.unordered c.args.tsn c.in-Unordered.id.0 c.in-Some.number c.place_of-index.result (fragment_tree c.args.fragment) (ap is_unordered_key c.in-Unordered.is) (ap key_stream c.in-Unordered.is) some (c.place_of-index.ensures c.args.tsn) in
     on_ok_weaker c.add.result (λ e. e ∙ ap (λ ms. c.args.ready.now ++ ms) (sym (ap (λ o. o.messages) all) ∙ ap (λ s. (add c.args.tsn (fragment_tree c.args.fragment) s).messages) c.self.view_is)) c.add.ensures.ready
 
 pub returns-in-Some-mid_near-clause-ok : goal.returns-in-Some-mid_near-clause-ok
 returns-in-Some-mid_near-clause-ok c =
-    let some : number_if_any (nearest words 0 (stream_at fresh_ordered c.in-Ordered.id.0 c.self.inside.ordered).next c.args.fragment.mid.0) ≡ Some c.in-Some-mid_near.number =
-    ap (λ t. number_if_any (nearest words 0 t c.args.fragment.mid.0)) (sym c.next.ensures.value) ∙ (sym c.mid_near-in-Ordered.ensures ∙ c.in-Some-mid_near.is) in
+    let some : number_unless_far (nearest u32_space 0 (stream_at fresh_ordered c.in-Ordered.id.0 c.self.inside.ordered).next c.args.fragment.mid.0) ≡ Some c.in-Some-mid_near.number =
+    ap (λ t. number_unless_far (nearest u32_space 0 t c.args.fragment.mid.0)) (sym c.next.ensures.value) ∙ (sym c.mid_near-in-Ordered.ensures ∙ c.in-Some-mid_near.is) in
     let all = comes_ordered c.self.inside.ordered c.self.inside.unordered c.args.tsn c.in-Ordered.id.0 c.in-Some-mid_near.number c.place_of-index.result (fragment_tree c.args.fragment) (ap is_unordered_key c.in-Ordered.is) (ap key_stream c.in-Ordered.is) some (c.place_of-index.ensures c.args.tsn) in
     on_ok_weaker c.add-in-Ordered.result (λ e. ap (λ t. let r : Streams = record { is_interleaved = true; ordered = t; unordered = c.self.inside.unordered } in r) e ∙ (sym (ap (λ o. o.streams) all) ∙ ap (λ s. (add c.args.tsn (fragment_tree c.args.fragment) s).streams) c.self.view_is)) c.add-in-Ordered.ensures.ok
 
 pub returns-in-Some-mid_near-clause-ready : goal.returns-in-Some-mid_near-clause-ready
 returns-in-Some-mid_near-clause-ready c =
-    let some : number_if_any (nearest words 0 (stream_at fresh_ordered c.in-Ordered.id.0 c.self.inside.ordered).next c.args.fragment.mid.0) ≡ Some c.in-Some-mid_near.number =
-    ap (λ t. number_if_any (nearest words 0 t c.args.fragment.mid.0)) (sym c.next.ensures.value) ∙ (sym c.mid_near-in-Ordered.ensures ∙ c.in-Some-mid_near.is) in
+    let some : number_unless_far (nearest u32_space 0 (stream_at fresh_ordered c.in-Ordered.id.0 c.self.inside.ordered).next c.args.fragment.mid.0) ≡ Some c.in-Some-mid_near.number =
+    ap (λ t. number_unless_far (nearest u32_space 0 t c.args.fragment.mid.0)) (sym c.next.ensures.value) ∙ (sym c.mid_near-in-Ordered.ensures ∙ c.in-Some-mid_near.is) in
     let all = comes_ordered c.self.inside.ordered c.self.inside.unordered c.args.tsn c.in-Ordered.id.0 c.in-Some-mid_near.number c.place_of-index.result (fragment_tree c.args.fragment) (ap is_unordered_key c.in-Ordered.is) (ap key_stream c.in-Ordered.is) some (c.place_of-index.ensures c.args.tsn) in
     on_ok_weaker c.add-in-Ordered.result (λ e. e ∙ ap (λ ms. c.args.ready.now ++ ms) (sym (ap (λ o. o.messages) all) ∙ ap (λ s. (add c.args.tsn (fragment_tree c.args.fragment) s).messages) c.self.view_is)) c.add-in-Ordered.ensures.ready

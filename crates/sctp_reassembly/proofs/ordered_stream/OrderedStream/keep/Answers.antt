@@ -1,13 +1,13 @@
 use Rattle.std.proofs.Common.{◌≡◌, false, ap, sym, ◌∙◌, rules}
 use Rattle.std.specs.Prelude.{nat_lt}
-use Rattle.sctp_fragments.specs.Interval.{held_at}
+use Rattle.sctp_fragments.specs.Interval.{as_held}
 use Rattle.sctp_reassembly.specs.Delivery.{OrderedStream, ordered_arrival}
 use Rattle.sctp_reassembly.proofs.DeliverLemmas.{arrives_settled, nothing_more}
 use Rattle.sctp_reassembly.proofs.ordered_stream.OrderedStream.keep.Goals as goal
 
 pub returns-then-self-clause-ok : goal.returns-then-self-clause-ok
 returns-then-self-clause-ok g c =
-    let x = held_at (g.K.ReassemblyKey.number c.args.key) (g.K.ReassemblyKey.index c.args.key) c.args.fragment in
+    let x = as_held (g.K.ReassemblyKey.number c.args.key) (g.K.ReassemblyKey.index c.args.key) c.args.fragment in
     let s : OrderedStream = record { next = c.self.inside.next; held = c.self.inside.list } in
     let late : nat_lt x.number s.next ≡ false = search rules in
     let still_settled = c.stays_settled-self-inside.ensures in
@@ -17,7 +17,7 @@ returns-then-self-clause-ok g c =
 
 pub returns-then-self-clause-ready : goal.returns-then-self-clause-ready
 returns-then-self-clause-ready g c =
-    let x = held_at (g.K.ReassemblyKey.number c.args.key) (g.K.ReassemblyKey.index c.args.key) c.args.fragment in
+    let x = as_held (g.K.ReassemblyKey.number c.args.key) (g.K.ReassemblyKey.index c.args.key) c.args.fragment in
     let s : OrderedStream = record { next = c.self.inside.next; held = c.self.inside.list } in
     let late : nat_lt x.number s.next ≡ false = search rules in
     let still_settled = c.stays_settled-self-inside.ensures in

@@ -1,14 +1,14 @@
 use Rattle.std.proofs.Common.{◌++◌, ap, sym, ◌∙◌}
-use Rattle.sctp_fragments.specs.Interval.{held_at}
+use Rattle.sctp_fragments.specs.Interval.{as_held}
 use Rattle.sctp_reassembly.proofs.DeliverLemmas.{whole_arrives, whole_leaves}
 use Rattle.sctp_reassembly.proofs.ordered_stream.OrderedStream.pass_on.Goals as goal
 
 pub returns-clause-ok : goal.returns-clause-ok
 returns-clause-ok g c =
-    let x = held_at (g.K.ReassemblyKey.number c.args.key) (g.K.ReassemblyKey.index c.args.key) c.args.fragment in
+    let x = as_held (g.K.ReassemblyKey.number c.args.key) (g.K.ReassemblyKey.index c.args.key) c.args.fragment in
     whole_leaves x _ _ _ c.requires.none c.requires.turn (c.number-number.ensures ∙ c.requires.number) (ap (λ s. s.held) c.self.view_is)
 
 pub returns-clause-ready : goal.returns-clause-ready
 returns-clause-ready g c =
-    let x = held_at (g.K.ReassemblyKey.number c.args.key) (g.K.ReassemblyKey.index c.args.key) c.args.fragment in
+    let x = as_held (g.K.ReassemblyKey.number c.args.key) (g.K.ReassemblyKey.index c.args.key) c.args.fragment in
     c.in_ok-hand_on.ensures.ready ∙ ap (λ ms. c.args.ready.now ++ ms) (sym (ap (λ d. d.messages) (whole_arrives x _ c.requires.none c.requires.turn)))

@@ -2,15 +2,15 @@ use Rattle.std.proofs.Common.{◌≡◌, Some, refl, ap, sym, ◌∙◌, arith, 
 use Rattle.std.proofs.lemmas.Result.{on_ok_weaker}
 use Rattle.sctp_serial.specs.Unwrapped.{halves, nearest}
 use Rattle.sctp_reassembly.specs.Delivery.{fresh_ordered}
-use Rattle.sctp_reassembly.specs.ReassemblyStreams.{Streams, number_if_any, stream_at, skip}
+use Rattle.sctp_reassembly.specs.ReassemblyStreams.{Streams, number_unless_far, stream_at, skip}
 use Rattle.sctp_reassembly.proofs.SkipLemmas.{skipped_plain}
 use Rattle.sctp_reassembly.proofs.traditional_reassembly_streams.TraditionalReassemblyStreamsReassemblyStreams.skip.Goals as goal
 
 pub returns-clause-ok : goal.returns-clause-ok
 returns-clause-ok c =
     let old : Streams = record { is_interleaved = false; ordered = c.self.inside.ordered; unordered = c.self.inside.unordered } in
-    let some : number_if_any (nearest halves 0 (stream_at fresh_ordered c.in-ForwardTsn.id.0 c.self.inside.ordered).next c.in-ForwardTsn.ssn.0) ≡ Some c.in-Some.number =
-    ap (λ t. number_if_any (nearest halves 0 t c.in-ForwardTsn.ssn.0)) (sym c.next.ensures.value) ∙ (sym c.ssn_near.ensures ∙ c.in-Some.is) in
+    let some : number_unless_far (nearest halves 0 (stream_at fresh_ordered c.in-ForwardTsn.id.0 c.self.inside.ordered).next c.in-ForwardTsn.ssn.0) ≡ Some c.in-Some.number =
+    ap (λ t. number_unless_far (nearest halves 0 t c.in-ForwardTsn.ssn.0)) (sym c.next.ensures.value) ∙ (sym c.ssn_near.ensures ∙ c.in-Some.is) in
     on_ok_weaker c.forward.result
     (λ e. skipped_plain c.in-ForwardTsn.id.0 _ c.in-Some.number c.self.inside.ordered c.forward.new.self c.self.inside.unordered some e ∙ (ap (λ t. (skip t old).streams) (sym c.in-ForwardTsn.is) ∙ ap (λ s. (skip c.args.entry s).streams) c.self.view_is))
     (c.forward.ensures.ok c.in-Some.number (omega arith) refl)

@@ -4,7 +4,7 @@ use Rattle.std.specs.BTreeMap.{is_at}
 use Rattle.sctp_fragments.specs.ReassemblyKey.{rank_at}
 use Rattle.sctp_fragments.specs.Held.{bytes_of}
 use Rattle.sctp_reassembly.specs.Delivery.{UnorderedStream, fresh_unordered, held_from}
-use Rattle.sctp_reassembly.specs.ReassemblyStreams.{unordered_bytes, stream_at, write_stream}
+use Rattle.sctp_reassembly.specs.ReassemblyStreams.{unordered_bytes, stream_at, put_stream}
 use Rattle.sctp_reassembly.proofs.EntriesLemmas.{sum_written, sum_at_least}
 use Rattle.sctp_reassembly.proofs.NoteLemmas.{not_written}
 use Rattle.sctp_reassembly.proofs.unordered_streams.StreamMap+UnorderedStream+K.forward_to.Goals as goal
@@ -29,4 +29,4 @@ pub returns-in_default-clause-value : goal.returns-in_default-clause-value
 returns-in_default-clause-value g c =
     let left = held_from (rank_at g.K.ReassemblyKey.number g.K.ReassemblyKey.index c.args.first) (stream_at fresh_unordered c.args.id.0 c.args.self.now) in
     ap (λ m. m.entries) c.get_mut.follows.holds-at-none
-    ∙ (not_written (is_at (nat_cmp c.args.id.0)) left c.self.inside.streams.entries c.in_default.ensures.value ∙ ap (λ es. write_stream c.args.id.0 left es) c.self.view_is)
+    ∙ (not_written (is_at (nat_cmp c.args.id.0)) left c.self.inside.streams.entries c.in_default.ensures.value ∙ ap (λ es. put_stream c.args.id.0 left es) c.self.view_is)

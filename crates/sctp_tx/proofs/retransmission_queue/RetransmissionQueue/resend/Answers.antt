@@ -5,7 +5,7 @@ use Rattle.sctp_tx_outstanding.specs.Resending.{Resent}
 use Rattle.sctp_tx.specs.RetransmissionQueue.{Sender}
 use Rattle.sctp_chunk.specs.Chunk.{FragmentTree}
 use Rattle.sctp_tx_outstanding.specs.Views.{chunk_of}
-use Rattle.sctp_tx.specs.Windows.{cap}
+use Rattle.sctp_tx.specs.Windows.{saturate_u64}
 use Rattle.sctp_tx.specs.Resent.{flight, is_interleaved, sizes, resent, resent_by}
 use Rattle.sctp_tx.specs.Interrupted.{PartlySent}
 use Rattle.sctp_tx.proofs.IdleLemmas.{none_again, same_again}
@@ -28,7 +28,7 @@ pub returns-then-not-has_data_to_be_retransmitted-clause-chunks : goal.returns-t
 returns-then-not-has_data_to_be_retransmitted-clause-chunks c = ap (λ l. map chunk_of l) c.new.ensures.items ∙ sym (none c)
 
 pub returns-then-not-has_data_to_be_retransmitted-clause-bytes : goal.returns-then-not-has_data_to_be_retransmitted-clause-bytes
-returns-then-not-has_data_to_be_retransmitted-clause-bytes c = sym (ap (λ (l : List (ℕ × FragmentTree)). cap (sizes (is_interleaved c.args.self.now) l)) (none c))
+returns-then-not-has_data_to_be_retransmitted-clause-bytes c = sym (ap (λ (l : List (ℕ × FragmentTree)). saturate_u64 (sizes (is_interleaved c.args.self.now) l)) (none c))
 
 pub returns-then-not-has_data_to_be_retransmitted-clause-partly : goal.returns-then-not-has_data_to_be_retransmitted-clause-partly
 returns-then-not-has_data_to_be_retransmitted-clause-partly c = sent_none c.args.self.now

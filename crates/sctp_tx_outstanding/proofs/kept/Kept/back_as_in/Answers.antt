@@ -1,7 +1,7 @@
 use Rattle.std.proofs.Common.{◌≡◌, ◌+◌, ◌<◌, List, ap, subst, length, rules, arith}
 use Rattle.sctp_tx_outstanding.specs.Item.{Item}
 use Rattle.sctp_tx_outstanding.specs.OutstandingData.{Kept}
-use Rattle.sctp_tx_outstanding.specs.LastBlocks.{RestFrom, IsReceived}
+use Rattle.sctp_tx_outstanding.specs.LastBlocks.{RestFrom, AreAsBlocksSaid}
 use Rattle.sctp_tx_outstanding.specs.Sack.{highest_end}
 use Rattle.sctp_tx_outstanding.proofs.ReceivedLemmas.{from_beyond, from_reach}
 use Rattle.sctp_tx_outstanding.proofs.kept.Kept.back_as_in.Goals as goal
@@ -13,7 +13,7 @@ returns-then-not-self-clause-rest c =
 
 pub returns-then-end-len-clause-rest : goal.returns-then-end-len-clause-rest
 returns-then-end-len-clause-rest c =
-    let last_blocks : IsReceived c.self.inside.last_blocks c.self.inside.items.items = c.self.invariant.1.0 c.if-not-self.false in
+    let last_blocks : AreAsBlocksSaid c.self.inside.last_blocks c.self.inside.items.items = c.self.invariant.1.0 c.if-not-self.false in
     let old : highest_end c.self.inside.last_blocks.runs.items < c.self.inside.last_blocks.offset + c.reach-end.result = subst (λ xs. highest_end xs < c.self.inside.last_blocks.offset + c.reach-end.result) c.deref.ensures.value c.reach-end.ensures.old in
     subst (λ (is : List Item). RestFrom c.args.blocks.now c.reach-end.result (c.reach-end.result + 1) is) (ap (λ (k : Kept). k.items) c.self.view_is)
     (from_reach c.self.inside.last_blocks.runs.items c.args.blocks.now c.self.inside.last_blocks.offset c.reach-end.result (c.reach-end.result + 1) c.self.inside.items.items old (omega (arith, c.reach-end.ensures.new)) last_blocks.rest)

@@ -3,7 +3,7 @@ use Rattle.std.specs.Prelude.{option_map}
 use Rattle.sctp_stream_scheduler.specs.StreamScheduler.{Scheduler, set_bytes_remaining}
 use Rattle.sctp_tx_queue.specs.declared.send_queue.stream.ResetStep.TheVariants.{Requested}
 use Rattle.sctp_tx_queue.specs.SendQueue.{Queue, Streams, stream, put_stream}
-use Rattle.sctp_tx_queue.specs.Resets.{after_step, step_stream}
+use Rattle.sctp_tx_queue.specs.Resets.{after_step, apply_reset_step}
 use Rattle.sctp_tx_queue.proofs.StreamsLemmas.{requested_sendable}
 use Rattle.sctp_tx_queue.proofs.send_queue.SendQueue.request_one.Goals as goal
 
@@ -14,4 +14,4 @@ returns c =
     let after : Streams = put_stream id (after_step Requested (stream id c.self.inside.streams)) c.self.inside.streams in
     ap (λ ss. queue ss c.leave.new.self) c.take_step.ensures
     ∙ ap (λ sch. queue after sch) (c.leave.ensures ∙ sym (ap (λ n. set_bytes_remaining id n (stream id after).priority c.self.inside.scheduler) (requested_sendable id c.self.inside.streams)))
-    ∙ ap (λ q. step_stream Requested id q) c.self.view_is
+    ∙ ap (λ q. apply_reset_step Requested id q) c.self.view_is

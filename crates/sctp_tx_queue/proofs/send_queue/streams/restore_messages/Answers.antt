@@ -1,7 +1,7 @@
 use Rattle.std.proofs.Common.{List, ap, ◌∙◌, arith, take}
 use Rattle.std.specs.Prelude.{map}
 use Rattle.sctp_state.specs.Handover.{StreamMessage, stream_message_of}
-use Rattle.sctp_tx_queue.specs.SendQueue.{Queued, Streams, Entries, total_of, left_bytes}
+use Rattle.sctp_tx_queue.specs.SendQueue.{Queued, Streams, Entries, total_of, remaining_bytes}
 use Rattle.sctp_tx_queue.proofs.RestoreLemmas.{holding, no_bytes, done_more, next_is, message_put, total_put}
 use Rattle.sctp_tx_queue.proofs.send_queue.streams.restore_messages.Goals as goal
 
@@ -24,5 +24,5 @@ loop-message-preserved c =
     record {
       done = put ∙ ap (λ (ms : List StreamMessage). holding c.args.now c.args.records.now ms first) (done_more c.args.messages.now i m c.loop-message-test.true c.message-item.is);
       valid = next.behind;
-      small = omega (arith, c.loop-message.invariant.small, next.bytes, total, ap (λ (q : Queued). left_bytes q) c.in_ok-restored.ensures);
+      small = omega (arith, c.loop-message.invariant.small, next.bytes, total, ap (λ (q : Queued). remaining_bytes q) c.in_ok-restored.ensures);
     }

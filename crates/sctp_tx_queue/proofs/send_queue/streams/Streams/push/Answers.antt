@@ -3,7 +3,7 @@ use Rattle.std.specs.Map.{set_value}
 use Rattle.std.specs.Ordering.{nat_cmp}
 use Rattle.std.specs.BTreeMap.{is_at}
 use Rattle.std.proofs.lemmas.List.Sums.{sum_by_push}
-use Rattle.sctp_tx_queue.specs.SendQueue.{Stream, Streams, Entries, total_of, amount_of, left_bytes}
+use Rattle.sctp_tx_queue.specs.SendQueue.{Stream, Streams, Entries, total_of, amount_of, remaining_bytes}
 use Rattle.sctp_tx_queue.proofs.BoundLemmas.{few_changed, few_pushed, keeps_same, small_one}
 use Rattle.sctp_tx_queue.proofs.ReadyLemmas.{ready_kept}
 use Rattle.sctp_tx_queue.proofs.StreamsLemmas.{total_written, written_same}
@@ -38,7 +38,7 @@ invariant_of-self-2 c =
     let written = (c.get_mut.follows.holds w).0 in
     let sums = total_written c.args.id.0 entries v w c.in-Some.ensures.value in
     let grown = ap amount_of c.in_ok-push.ensures.ok in
-    let more = sum_by_push left_bytes v.messages c.args.message in
+    let more = sum_by_push remaining_bytes v.messages c.args.message in
     let small = small_one c.args.message (omega (arith, c.left-bytes.ensures.value, c.left-bytes.ensures.more)) c.left-bytes.ensures.whole in
     record {
       counted = omega (arith, ap total_of written, sums, grown, more, c.left-bytes.ensures.value, c.self.invariant.counted, ap (λ w. w.amount) c.increase.ensures);

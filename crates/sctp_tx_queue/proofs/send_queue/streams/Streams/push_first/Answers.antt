@@ -2,7 +2,7 @@ use Rattle.std.proofs.Common.{refl, ap, sym, ◌∙◌, arith}
 use Rattle.std.specs.Map.{lookup}
 use Rattle.std.specs.Ordering.{nat_cmp}
 use Rattle.std.specs.BTreeMap.{is_at, insert_entry}
-use Rattle.sctp_tx_queue.specs.SendQueue.{Stream, Streams, blank_stream, total_of, amount_of, push, stream, put_stream, open_stream}
+use Rattle.sctp_tx_queue.specs.SendQueue.{Stream, Streams, blank_stream, total_of, amount_of, push, stream, put_stream, with_stream}
 use Rattle.sctp_tx_queue.proofs.BoundLemmas.{few_first, small_one}
 use Rattle.sctp_tx_queue.proofs.ReadyLemmas.{ready_inserted}
 use Rattle.sctp_tx_queue.proofs.StreamsLemmas.{total_inserted, first_is}
@@ -39,4 +39,4 @@ returns-clause-ok c =
     let none = c.requires.absent ∙ ap (λ ss. lookup (is_at (nat_cmp id)) ss.entries) (sym c.self.view_is) in
     first_is id c.args.message inside c.insert.new.self.entries c.increase.new.self.low_threshold none
     (c.in_ok-insert.ensures.entries ∙ ap (λ s. insert_entry nat_cmp c.self.inside.streams.entries id s) (c.in_ok-push.ensures.ok ∙ ap (λ s. push c.args.message s) c.new-stream.ensures)) (ap (λ w. w.low_threshold) c.increase.ensures)
-    ∙ ap (λ ss. put_stream id (push c.args.message (stream id ss)) (open_stream id ss)) c.self.view_is
+    ∙ ap (λ ss. put_stream id (push c.args.message (stream id ss)) (with_stream id ss)) c.self.view_is

@@ -1,5 +1,0 @@
-use Rattle.sctp_reassembly.proofs.NoteLemmas.{forgets}
-use Rattle.sctp_reassembly.proofs.noted_streams.NotedStreams.forget.Goals as goal
-
-pub invariant_of-self : goal.invariant_of-self
-invariant_of-self c noted = forgets c.args.ids.now c.self.inside.notes.keys c.take_notes.new.notes.keys c.self.inside.streams c.forget.new.self c.take_notes.ensures c.forget.ensures.value (c.self.invariant noted)

@@ -1,5 +1,0 @@
-use Rattle.sctp_reassembly.proofs.NoteLemmas.{NotedUntil}
-use Rattle.sctp_reassembly.proofs.noted_streams.make_notes.Given as goal
-
-abbrev pub invariant-loop-record : goal.invariant-loop-record
-invariant-loop-record l = NotedUntil l.record-index l.notes.keys l.record-items l.streams

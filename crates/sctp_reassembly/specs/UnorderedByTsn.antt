@@ -1,0 +1,47 @@
+-- Notes of the streams that hold a fragment: a rank, below which a stream holds none, and its id.
+use Rattle.std.specs.Prelude.{◌≡◌, ◌⊎◌, ℕ, ◌≤◌, ◌==◌, Bool, true, false, List, [], map}
+use Rattle.std.specs.List.{list_any}
+use Rattle.std.specs.Ordering.{nat_cmp, ordering_then}
+use Rattle.std.specs.declared.cmp.Ordering.{Ordering}
+use Rattle.std.specs.BTreeMap.{is_at}
+use Rattle.sctp_fragments.specs.Runs.{from_rank}
+use Rattle.sctp_fragments.specs.Held.{Held, rank_of}
+use Rattle.sctp_reassembly.specs.Delivery.{UnorderedStream, fresh_unordered, held_from}
+use Rattle.sctp_reassembly.specs.ReassemblyStreams.{Entries, stream_at}
+
+abbrev pub Notes : Type 0
+Notes = List (ℕ × ℕ)
+
+abbrev pub note_cmp : ℕ × ℕ → ℕ × ℕ → Ordering
+note_cmp x y = ordering_then (nat_cmp x.0 y.0) (nat_cmp x.1 y.1)
+
+abbrev pub is_noted : Notes → ℕ × ℕ → Bool
+is_noted notes note = list_any (is_at (note_cmp note)) notes
+
+-- no fragment is below the rank
+abbrev pub BeginsFrom : ℕ → List Held → Type 0
+BeginsFrom rank hs = (n : ℕ) → n ≤ rank → from_rank rank_of n hs ≡ hs
+
+-- nothing is held, or there is a note of it
+abbrev pub HasNote : Notes → ℕ → List Held → Type 0
+HasNote notes id hs = (hs ≡ []) ⊎ ((rank : ℕ) × (is_noted notes (rank, id) ≡ true) × BeginsFrom rank hs)
+
+-- there is a note of each stream that holds a fragment
+abbrev pub AreNoted : Notes → Entries UnorderedStream → Type 0
+AreNoted notes es = (id : ℕ) → HasNote notes id (stream_at fresh_unordered id es).held
+
+-- of each but one
+abbrev pub OthersAreNoted : ℕ → Notes → Entries UnorderedStream → Type 0
+OthersAreNoted other notes es = (id : ℕ) → (id == other) ≡ false → HasNote notes id (stream_at fresh_unordered id es).held
+
+-- the notes of other streams stay
+abbrev pub KeepsOthers : ℕ → Notes → Notes → Type 0
+KeepsOthers other old new = (note : ℕ × ℕ) → (note.1 == other) ≡ false → is_noted old note ≡ true → is_noted new note ≡ true
+
+-- no note is of a rank below this one
+abbrev pub NoneBelow : ℕ → Notes → Type 0
+NoneBelow rank notes = (note : ℕ × ℕ) → is_noted notes note ≡ true → rank ≤ note.0
+
+-- what a point before the rank leaves of all streams
+abbrev pub drop_below : ℕ → Entries UnorderedStream → Entries UnorderedStream
+drop_below rank es = map (λ e. (e.0, held_from rank e.1)) es

@@ -1,0 +1,275 @@
+//! Streams with unordered messages, without interleaving: forward points find their fragments by TSN.
+
+ghost use Rattle.std.specs.Prelude.{◌≡◌, ◌+◌, ◌<◌, ◌≤◌, ◌^◌, ◌++◌, ℕ, [], true, false, length, map, OnOk, IfOk, IfSome, IfNone};
+ghost use Rattle.sctp_fragments.specs.ReassemblyKey.{pair_rank};
+ghost use Rattle.sctp_reassembly.specs.Delivery.{fresh_unordered, held_from};
+ghost use Rattle.sctp_reassembly.specs.UnorderedByTsn.{is_noted, HasNote, AreNoted, OthersAreNoted, KeepsOthers, NoneBelow, drop_below};
+ghost use Rattle.sctp_reassembly.specs.ReassemblyHandover.{unordered_is_held, unordered_records, unordered_entries};
+ghost use Rattle.sctp_reassembly.specs.ReassemblyStreams.{unordered_bytes, is_named, stream_at};
+ghost use Rattle.sctp_state.specs.Validity.{rises_from, unordered_ids};
+
+use crate::ready_messages::ReadyMessages;
+use crate::unordered_streams::UnorderedStreams;
+use sctp_chunk::Data;
+use sctp_fragments::TraditionalKey;
+use sctp_serial::StreamId;
+use sctp_state::api::handover::HandoverUnorderedStream;
+use std::alloc::{AllocError, Global};
+use std::collections::BTreeSet;
+use std::marker::Model;
+
+/// The streams, with a note of each that holds a fragment, by the rank of its first one: a forward point looks at those
+/// alone that hold something below it. Where memory for a note was missing, the next point looks at all streams, and makes
+/// the notes anew.
+#[derive(Drop)]
+pub struct UnorderedByTsn {
+    alloc: Global,
+    streams: UnorderedStreams<TraditionalKey>,
+    notes: BTreeSet<(u128, u16)>,
+    is_noted: bool,
+}
+
+impl Model for UnorderedByTsn {
+    ghost use Rattle.std.specs.Prelude.{◌≡◌, true};
+    ghost use Rattle.sctp_reassembly.specs.Delivery.{UnorderedStream};
+    ghost use Rattle.sctp_reassembly.specs.UnorderedByTsn.{AreNoted};
+    ghost use Rattle.sctp_reassembly.specs.ReassemblyStreams.{Entries};
+
+    ghost Value = { Entries UnorderedStream };
+
+    ghost view = { λ s. s.streams };
+
+    ghost invariant = { λ s. s.is_noted ≡ true → AreNoted s.notes.keys s.streams };
+}
+
+/// A key's rank.
+fn rank(key: TraditionalKey) -> u128
+    ensures { result ≡ pair_rank key.number key.index }
+{
+    key.number as u128 * (1 << 64) + key.index as u128
+}
+
+/// Takes away the note by the key that was the stream's first one.
+fn take_note(notes: &mut BTreeSet<(u128, u16)>, id: StreamId, first: Option<TraditionalKey>)
+    ensures { KeepsOthers id.0 notes.old.keys notes.new.keys }
+{
+    if let Some(key) = first {
+        notes.remove(&(rank(key), id.0));
+    }
+}
+
+/// Makes the stream's note, where it holds a fragment. Says whether there was memory.
+fn make_note(
+    streams: &UnorderedStreams<TraditionalKey>,
+    notes: &mut BTreeSet<(u128, u16)>,
+    id: StreamId,
+) -> bool
+    ensures kept { (note : ℕ × ℕ) → is_noted notes.old.keys note ≡ true → is_noted notes.new.keys note ≡ true }
+    ensures made { result ≡ true → HasNote notes.new.keys id.0 (stream_at fresh_unordered id.0 streams.now).held }
+{
+    match streams.first(id) {
+        Some(key) => notes.insert((rank(key), id.0)).is_ok(),
+        None => true,
+    }
+}
+
+/// Makes the note of a stream anew, whose first key was this one. Says whether all have theirs.
+fn renew_note(
+    is_noted: bool,
+    streams: &UnorderedStreams<TraditionalKey>,
+    notes: &mut BTreeSet<(u128, u16)>,
+    id: StreamId,
+    first: Option<TraditionalKey>,
+) -> bool
+    ensures { result ≡ true → (is_noted ≡ true) × (OthersAreNoted id.0 notes.old.keys streams.now → AreNoted notes.new.keys streams.now) }
+{
+    if !is_noted {
+        return false;
+    }
+    take_note(notes, id, first);
+    make_note(streams, notes, id)
+}
+
+/// Makes the notes of all streams anew. Says whether there was memory.
+fn make_notes(
+    alloc: Global,
+    streams: &UnorderedStreams<TraditionalKey>,
+    notes: &mut BTreeSet<(u128, u16)>,
+) -> bool
+    ensures { result ≡ true → AreNoted notes.new.keys streams.now }
+{
+    notes.clear();
+    let Ok(records) = streams.handed_over(alloc) else {
+        return false;
+    };
+    for record in &records {
+        if !make_note(streams, notes, StreamId(record.id)) {
+            return false;
+        }
+    }
+    true
+}
+
+/// Takes the least note, if it is below the rank.
+fn take_below(notes: &mut BTreeSet<(u128, u16)>, rank: u128) -> Option<(u128, u16)>
+    ensures some { IfSome result (λ note. KeepsOthers note.1 notes.old.keys notes.new.keys) }
+    ensures none { IfNone result (NoneBelow rank notes.old.keys) }
+    ensures kept { IfNone result (notes.new.keys ≡ notes.old.keys) }
+{
+    let Some(least) = notes.first() else {
+        return None;
+    };
+    if least.0 >= rank {
+        return None;
+    }
+    notes.pop_first()
+}
+
+/// Drops the fragments before the key, of the streams that have a note below it. Says whether these are all, and have theirs.
+fn forward_noted(
+    is_noted: bool,
+    streams: &mut UnorderedStreams<TraditionalKey>,
+    notes: &mut BTreeSet<(u128, u16)>,
+    first: TraditionalKey,
+) -> bool
+    ensures same { drop_below (pair_rank first.number first.index) streams.new ≡ drop_below (pair_rank first.number first.index) streams.old }
+    ensures bytes { unordered_bytes streams.new ≤ unordered_bytes streams.old }
+    ensures before { result ≡ true → is_noted ≡ true }
+    ensures noted { AreNoted notes.old.keys streams.old → result ≡ true → AreNoted notes.new.keys streams.new }
+    ensures done { AreNoted notes.old.keys streams.old → result ≡ true → streams.new ≡ drop_below (pair_rank first.number first.index) streams.old }
+{
+    if !is_noted {
+        return false;
+    }
+    for _ in 0..notes.len() + 1 {
+        let Some(note) = take_below(notes, rank(first)) else {
+            streams.rises();
+            return true;
+        };
+        let id = StreamId(note.1);
+        streams.forward_to(id, first);
+        if !make_note(streams, notes, id) {
+            return false;
+        }
+    }
+    false
+}
+
+/// Takes away the notes of the streams that are named, or all where none is.
+fn take_notes(
+    streams: &UnorderedStreams<TraditionalKey>,
+    notes: &mut BTreeSet<(u128, u16)>,
+    ids: &[StreamId],
+)
+    ensures { (note : ℕ × ℕ) → is_named ids.now note.1 ≡ false → is_noted notes.old.keys note ≡ true → is_noted notes.new.keys note ≡ true }
+{
+    if ids.is_empty() {
+        notes.clear();
+        return;
+    }
+    for id in ids {
+        take_note(notes, *id, streams.first(*id));
+    }
+}
+
+impl UnorderedByTsn {
+    ghost use Rattle.sctp_fragments.specs.Interval.{as_held};
+    ghost use Rattle.sctp_reassembly.specs.Delivery.{unordered_arrival, ready_bytes, Extends};
+    ghost use Rattle.sctp_reassembly.specs.ReassemblyStreams.{set_stream, forget};
+
+    /// No streams. Takes no memory.
+    pub fn new(alloc: Global) -> UnorderedByTsn
+        ensures { result ≡ [] }
+    {
+        UnorderedByTsn {
+            alloc,
+            streams: UnorderedStreams::new(alloc),
+            notes: BTreeSet::new(alloc),
+            is_noted: true,
+        }
+    }
+
+    /// The streams of a handover record, whose ids rise.
+    pub fn restored(
+        alloc: Global,
+        records: &[HandoverUnorderedStream],
+    ) -> Result<UnorderedByTsn, AllocError>
+        requires { rises_from 0 (unordered_ids records.now) ≡ true }
+        ensures { IfOk result (λ streams. streams ≡ unordered_entries records.now) }
+    {
+        Ok(UnorderedByTsn {
+            alloc,
+            streams: UnorderedStreams::restored(alloc, records)?,
+            notes: BTreeSet::new(alloc),
+            is_noted: false,
+        })
+    }
+
+    /// The streams in a handover record.
+    pub fn handed_over(&self, alloc: Global) -> Result<Vec<HandoverUnorderedStream>, AllocError>
+        ensures value { IfOk result (λ records. records.items ≡ unordered_records self.now) }
+        ensures rises { IfOk result (λ records. rises_from 0 (unordered_ids records.items) ≡ true) }
+    {
+        self.streams.handed_over(alloc)
+    }
+
+    /// Whether fragments are held.
+    pub fn is_held(&self) -> bool
+        ensures { result ≡ unordered_is_held self.now }
+    {
+        self.streams.is_held()
+    }
+
+    /// How many bytes of payload are held.
+    pub fn total_bytes(&self) -> usize
+        ensures { result ≡ unordered_bytes self.now }
+    {
+        self.streams.total_bytes()
+    }
+
+    /// Adds a fragment to its stream.
+    #[tactic(auto, using(crate::proofs::ExtendsLemmas::extends_none))]
+    pub fn add(
+        &mut self,
+        id: StreamId,
+        key: TraditionalKey,
+        fragment: Data,
+        ready: &mut ReadyMessages,
+    ) -> Result<(), AllocError>
+        requires room { unordered_bytes self.old + ready_bytes ready.old + length fragment.payload.items < 2 ^ 64 }
+        requires small { key.number < 2 ^ 63 }
+        ensures ok { OnOk result (self.new ≡ set_stream fresh_unordered id.0 (unordered_arrival (as_held key.number key.index fragment) (stream_at fresh_unordered id.0 self.old)).stream self.old) }
+        ensures ready { OnOk result (ready.new ≡ ready.old ++ (unordered_arrival (as_held key.number key.index fragment) (stream_at fresh_unordered id.0 self.old)).messages) }
+        ensures kept { Extends ready.old ready.new }
+        ensures bytes { unordered_bytes self.new + ready_bytes ready.new ≤ unordered_bytes self.old + ready_bytes ready.old + length fragment.payload.items }
+    {
+        let is_noted = self.is_noted;
+        let first = self.streams.first(id);
+        self.is_noted = false;
+        self.streams.add(id, key, fragment, ready)?;
+        self.is_noted = renew_note(is_noted, &self.streams, &mut self.notes, id, first);
+        Ok(())
+    }
+
+    /// Forgets the streams that are named, or all where none is.
+    pub fn forget(&mut self, ids: &[StreamId])
+        ensures value { self.new ≡ forget ids.now self.old }
+        ensures bytes { unordered_bytes self.new ≤ unordered_bytes self.old }
+    {
+        take_notes(&self.streams, &mut self.notes, ids);
+        self.streams.forget(ids);
+    }
+
+    /// Drops the fragments of all streams before the key. Takes a search by halves for each stream that holds one of them,
+    /// where there was memory for the notes.
+    pub fn forward_all(&mut self, first: TraditionalKey)
+        ensures value { self.new ≡ map (λ e. (e.0, held_from (pair_rank first.number first.index) e.1)) self.old }
+        ensures bytes { unordered_bytes self.new ≤ unordered_bytes self.old }
+    {
+        if forward_noted(self.is_noted, &mut self.streams, &mut self.notes, first) {
+            return;
+        }
+        self.streams.forward_all(first);
+        self.is_noted = make_notes(self.alloc, &self.streams, &mut self.notes);
+    }
+}
