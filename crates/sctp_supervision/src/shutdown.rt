@@ -12,7 +12,7 @@ use sctp_state::SocketEvent;
 use sctp_wire::Checksum;
 use std::alloc::AllocError;
 
-/// The user asks for a shutdown: it goes on once nothing is unacknowledged.
+/// The user asks for a shutdown: it goes on once nothing is in flight.
 fn begin_shutdown<C: Checksum>(
     context: &mut Context<C>,
     phase: &mut Phase,
@@ -32,7 +32,7 @@ fn begin_shutdown<C: Checksum>(
     }
 }
 
-/// SHUTDOWN: the peer sends no more, and waits for what is unacknowledged.
+/// SHUTDOWN: the peer sends no more, and waits for what is in flight.
 fn take_shutdown<C: Checksum>(
     context: &mut Context<C>,
     phase: &mut Phase,
@@ -109,7 +109,8 @@ pub fn handle_close<C: Checksum>(
     }
 }
 
-/// The association is shut down: what is queued and sent is delivered first (RFC 9260 section 9.2).
+/// The association is shut down once nothing is in flight; what waits to be sent, or to be sent again, isn't waited for (RFC 9260
+/// section 9.2).
 pub fn do_shutdown<C: Checksum>(
     state: &mut State,
     context: &mut Context<C>,

@@ -25,7 +25,7 @@ pub struct SendOptions {
     pub lifecycle_id: Option<LifecycleId>,
 }
 
-/// What a socket is made with. Sizes are in bytes.
+/// What a socket is made with. Sizes are in bytes. Bounds that a field names are those of `is_valid`.
 #[derive(Clone, Copy)]
 pub struct Options {
     /// The source port of packets that are sent. Ports of received packets aren't compared.
@@ -36,17 +36,19 @@ pub struct Options {
     pub announced_maximum_incoming_streams: u16,
     /// How many streams this end would send on.
     pub announced_maximum_outgoing_streams: u16,
-    /// No packet that is sent is larger.
+    /// No packet that is sent is larger. 256 to 65,535.
     pub mtu: usize,
-    /// No message that is accepted is larger.
+    /// No message that is accepted for sending is larger; it bounds none that the peer sends. Below 2^32.
     pub max_message_size: usize,
     /// The priority of a stream for which none is set.
     pub default_stream_priority: u16,
-    /// How much of received messages is held; the window that is announced to the peer.
+    /// How much of received messages is held; the window that is announced to the peer. With nine tenths of it held each further
+    /// fragment is dropped, so a longer message may never be whole: it is at least twice the longest that the peer may send. With
+    /// 0 or 1 nothing is taken. Below 2^32.
     pub max_receiver_window_buffer_size: usize,
-    /// A queue that holds as much takes no further message.
+    /// A queue that holds as much takes no further message. Below 2^32.
     pub max_send_buffer_size: usize,
-    /// A stream that holds as much takes no further message.
+    /// A stream that holds as much takes no further message. Below 2^32.
     pub per_stream_send_queue_limit: usize,
     /// An event is emitted when the queued amount of all streams falls to this.
     pub total_buffered_amount_low_threshold: usize,
@@ -54,35 +56,35 @@ pub struct Options {
     pub default_stream_buffered_amount_low_threshold: usize,
     /// A round trip time above this isn't taken as a sample.
     pub rtt_max: Duration,
-    /// The retransmission timeout before the first sample.
+    /// The retransmission timeout before the first sample. At least a millisecond.
     pub rto_initial: Duration,
-    /// The greatest retransmission timeout.
+    /// The greatest retransmission timeout, at least `rto_min`. It doesn't bound the waits to which timers back off.
     pub rto_max: Duration,
-    /// The least retransmission timeout. It should exceed the peer's delay of acknowledgements.
+    /// The least retransmission timeout, at least a millisecond. It should exceed the peer's delay of acknowledgements.
     pub rto_min: Duration,
-    /// How long an INIT ACK is waited for at first (RFC 9260 section 5.1).
+    /// How long an INIT ACK is waited for at first (RFC 9260 section 5.1). At least a millisecond.
     pub t1_init_timeout: Duration,
-    /// How long a COOKIE ACK is waited for at first (RFC 9260 section 5.1).
+    /// How long a COOKIE ACK is waited for at first (RFC 9260 section 5.1). At least a millisecond.
     pub t1_cookie_timeout: Duration,
     /// Not read: a shutdown waits for the retransmission timeout.
     pub t2_shutdown_timeout: Duration,
-    /// The longest wait of the retransmission timer, where set.
+    /// The longest wait of the retransmission timer, where set; else its waits double up to a day.
     pub max_timer_backoff_duration: Option<Duration>,
     /// How long a connection is idle before it is tested. With zero it isn't (RFC 9260 section 8.3).
     pub heartbeat_interval: Duration,
-    /// The longest delay of an acknowledgement; half the retransmission timeout, where that is less.
+    /// The longest delay of an acknowledgement; half the retransmission timeout, where that is less. At least a millisecond.
     pub delayed_ack_max_timeout: Duration,
     /// Twice the least variance that a round trip time is taken to have.
     pub min_rtt_variance: Duration,
-    /// The congestion window at first, in packets of the largest size (RFC 9260 section 7.2.1).
+    /// The congestion window at first, in packets of the largest size (RFC 9260 section 7.2.1). 1 to 65,535.
     pub cwnd_mtus_initial: usize,
-    /// The least congestion window after a loss, in such packets (RFC 9260 section 7.2.3).
+    /// The least congestion window after a loss, in such packets (RFC 9260 section 7.2.3). 1 to 65,535.
     pub cwnd_mtus_min: usize,
-    /// With a congestion window of as many packets, no small fragment is sent just to fill it.
+    /// With a congestion window of as many packets, no small fragment is sent just to fill it. 1 to 65,535.
     pub avoid_fragmentation_cwnd_mtus: usize,
-    /// With a smaller congestion window the peer is asked not to delay its acknowledgement (RFC 7053).
+    /// With a smaller congestion window the peer is asked not to delay its acknowledgement (RFC 7053). At most 65,535.
     pub immediate_sack_under_cwnd_mtus: usize,
-    /// How many packets are sent at once at most. At 0 or less nothing is sent.
+    /// How many packets are sent at once at most. 0 and less are valid, and then no COOKIE ECHO, SACK or message ever goes out.
     pub max_burst: i32,
     /// How many errors in a row an association outlives, and how often a SHUTDOWN is sent again.
     pub max_retransmissions: Option<u32>,
@@ -94,7 +96,8 @@ pub struct Options {
     pub enable_message_interleaving: bool,
     /// Not read.
     pub heartbeat_interval_include_rtt: bool,
-    /// What finds damage in place of the checksum, where the peer agrees (RFC 9653).
+    /// What finds damage in place of the checksum (RFC 9653): any number but 0, which is none. Then packets that come may carry
+    /// the word 0, and those that are sent carry it once the peer announced the same method.
     pub zero_checksum_alternate_error_detection_method: ZeroChecksumAlternateErrorDetectionMethod,
     /// Whether packets are taken whatever their checksum. For tests.
     pub disable_checksum_verification: bool,
