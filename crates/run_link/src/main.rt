@@ -61,13 +61,13 @@ impl<S: Soaked> End<S> {
     }
 }
 
-/// One turn: what came is handed in, the time is advanced, and all that the socket emits and has ready is taken. Answers by which moment
-/// the time is to be advanced again.
+/// One turn: the time is advanced, since all calls go by it, what came is handed in, and all that the socket emits and has ready is
+/// taken. Answers by which moment the time is to be advanced again.
 fn turn<S: DcSctpSocket>(end: &mut End<S>, now: SocketTime) -> Result<SocketTime> {
+    end.socket.advance_time(now)?;
     for bytes in end.came.drain(..) {
         end.socket.handle_input(&bytes)?;
     }
-    end.socket.advance_time(now)?;
     for _ in 0..MANY {
         match end.socket.poll_event() {
             Some(SocketEvent::SendPacket(bytes)) => end.sent.push(bytes)?,
@@ -119,7 +119,7 @@ fn carry<S>(from: &mut End<S>, to: &mut End<S>) -> Result<()> {
     Ok(())
 }
 
-/// Sends three bytes of this number.
+/// Sends three bytes of this number, at the moment of the socket's clock.
 fn send<S: DcSctpSocket>(rt: &HostRuntime, end: &mut End<S>, number: u8) -> Result<()> {
     let payload = vec![in rt.alloc(); number; 3]?;
     let message = Message::new(StreamId(1), PpId(53), payload);
@@ -127,18 +127,26 @@ fn send<S: DcSctpSocket>(rt: &HostRuntime, end: &mut End<S>, number: u8) -> Resu
     Ok(())
 }
 
+/// Once all messages have come, and with them nothing is queued any more, `a` shuts the association down.
+fn shut_down_when_done<S: DcSctpSocket>(a: &mut End<S>, b: &End<S>, now: SocketTime) -> Result<()> {
+    if b.message_count == 3 && a.socket.state() == SocketState::Connected {
+        a.socket.advance_time(now)?;
+        a.socket.shutdown()?;
+    }
+    Ok(())
+}
+
 /// `a` opens an association and sends; once `b` has all messages, `a` shuts it down, which ends at `b` last. Where nothing is on its
 /// way, time passes up to the moment at which the first of the sockets has something to do.
 fn talk<S: DcSctpSocket>(rt: &HostRuntime, a: &mut End<S>, b: &mut End<S>) -> Result<()> {
     let mut now = SocketTime::zero();
+    a.socket.advance_time(now)?;
     a.socket.connect()?;
     for number in 1..4u8 {
         send(rt, a, number)?;
     }
     for _ in 0..MANY {
-        if b.message_count == 3 && a.socket.state() == SocketState::Connected {
-            a.socket.shutdown()?;
-        }
+        shut_down_when_done(a, b, now)?;
         let due_a = turn(a, now)?;
         let due_b = turn(b, now)?;
         show(rt, "a", a)?;

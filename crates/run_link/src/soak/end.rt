@@ -169,8 +169,9 @@ fn count_given_up<S: Soaked>(socket: &mut S, counts: &mut Counts) {
     }
 }
 
-/// Sends the next messages, takes what came, and counts what the socket emits and hands out.
+/// Advances the time, sends the next messages, takes what came, and counts what the socket emits and hands out.
 pub fn act<S: Soaked>(talker: &mut Talker<S>, now: SocketTime, plan: Plan) -> Result<()> {
+    talker.end.socket.advance_time(now)?;
     send(talker, plan)?;
     turn(&mut talker.end, now)?;
     count_given_up(&mut talker.end.socket, &mut talker.counts);
