@@ -1,7 +1,7 @@
 //! What the two sockets of a script are made with.
 
 use crate::output::Output;
-use crate::payload::{number_at, word_at, words_of};
+use crate::payload::{half_at, number_at, word_at, words_of};
 use sctp_state::Options;
 use std::alloc::Global;
 
@@ -22,7 +22,8 @@ impl EndSetup {
         }
     }
 
-    /// `words FIRST STRIDE`, `mtu BYTES`, `interleaves`, `is-reliable`, `hands-over-data`. Answers whether it is one of these.
+    /// `words FIRST STRIDE`, `mtu BYTES`, `window BYTES`, `burst PACKETS`, `interleaves`, `is-reliable`, `hands-over-data`. Answers
+    /// whether it is one of these.
     fn sets(&mut self, verb: &str, rest: &[&str]) -> bool {
         match verb {
             "words" => {
@@ -30,6 +31,10 @@ impl EndSetup {
                 self.stride = word_at(rest, 1);
             }
             "mtu" => self.options.mtu = number_at(rest, 0) as usize,
+            "window" => {
+                self.options.max_receiver_window_buffer_size = number_at(rest, 0) as usize
+            }
+            "burst" => self.options.max_burst = i32::from(half_at(rest, 0)),
             "interleaves" => self.options.enable_message_interleaving = true,
             "is-reliable" => self.options.enable_partial_reliability = false,
             "hands-over-data" => self.options.enable_handover_with_outstanding_data = true,
