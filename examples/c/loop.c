@@ -25,9 +25,11 @@ static int take_events(const char *name, sctp_socket *from, sctp_socket *to) {
     return packets;
 }
 
-/* Turns of both ends, until nothing is to be done for a second. */
+/* Turns of both ends, until nothing is to be done for a second. The time is advanced first, since all calls go by it. */
 static void settle(sctp_socket *a, sctp_socket *b, uint64_t *now) {
     for (;;) {
+        must("advance_time", sctp_advance_time(a, *now));
+        must("advance_time", sctp_advance_time(b, *now));
         while (take_events("a", a, b) + take_events("b", b, a) > 0) {}
         uint64_t next_a = UINT64_MAX, next_b = UINT64_MAX;
         must("poll_timeout", sctp_poll_timeout(a, &next_a));
@@ -36,8 +38,6 @@ static void settle(sctp_socket *a, sctp_socket *b, uint64_t *now) {
         if (next > *now + 1000000000u)
             return;
         *now = next;
-        must("advance_time", sctp_advance_time(a, *now));
-        must("advance_time", sctp_advance_time(b, *now));
     }
 }
 
@@ -66,8 +66,8 @@ int main(void) {
     take_messages("b", &b);
     must("handover", sctp_handover(&b, &length, record, sizeof record)); /* a new socket goes on in b's place */
     must("new", sctp_new(&c, &options, 3, 3));
+    must("advance_time", sctp_advance_time(&c, now)); /* first: a restored socket goes by its clock too */
     must("restore", sctp_restore(&c, record, length));
-    must("advance_time", sctp_advance_time(&c, now));
     printf("a record of %zu bytes\n", length);
     must("send", sctp_send(&c, 2, 51, (const uint8_t *)"still here", 10, &plainly));
     settle(&a, &c, &now);

@@ -1,5 +1,6 @@
 /* A chat over UDP on the loopback (UDP encapsulation as RFC 6951): `udp listen`, and in another terminal `udp connect`. Lines that are
- * typed go to the other end; the end of the input shuts the association down. */
+ * typed go to the other end; the end of the input shuts the association down, once all has arrived. On a network that strangers reach
+ * SCTP belongs under DTLS. */
 #define _POSIX_C_SOURCE 200809L
 #include "sctp.h"
 #include <arpa/inet.h>
@@ -50,6 +51,23 @@ static int take_all(sctp_socket *end, int wire, const struct sockaddr_in *peer) 
     return goes_on;
 }
 
+/* How long nothing is to be done, in milliseconds rounded down, so that no timer expires late. */
+static int milliseconds_until(uint64_t due, uint64_t now) {
+    const uint64_t most = 3600000;
+    uint64_t wait = due <= now ? 0 : (due - now) / 1000000;
+    return (int)(wait < most ? wait : most);
+}
+
+/* Shuts the association down where nothing is queued and all has arrived, since a shutdown waits for what is in flight alone. Answers
+ * whether the association goes on. */
+static int shut_down(sctp_socket *end) {
+    const uint32_t waits = SCTP_WRONG_CONNECTION_STATE | SCTP_SEND_QUEUE_NOT_EMPTY | SCTP_RETRANSMISSION_QUEUE_OUTSTANDING_DATA;
+    uint32_t readiness, state;
+    if (sctp_handover_readiness(end, &readiness) == SCTP_OK && !(readiness & waits))
+        sctp_shutdown(end);
+    return sctp_state(end, &state) == SCTP_OK && state != SCTP_CLOSED;
+}
+
 int main(int count, char **words) {
     if (count != 2 || (strcmp(words[1], "listen") != 0 && strcmp(words[1], "connect") != 0)) {
         fprintf(stderr, "usage: udp listen|connect\n");
@@ -73,17 +91,18 @@ int main(int count, char **words) {
     sctp_default_options(&options);
     if (sctp_new(&end, &options, seeds[0], seeds[1]) != SCTP_OK)
         return 1;
+    sctp_advance_time(&end, nanos() - start);
     if (connects)
         sctp_connect(&end);
     while (goes_on) {
         uint8_t bytes[65536];
-        uint64_t due = UINT64_MAX, now = nanos() - start;
-        uint32_t state;
+        uint64_t due = UINT64_MAX;
         goes_on = take_all(&end, wire, &peer);
         sctp_poll_timeout(&end, &due);
-        int wait = due <= now ? 0 : due - now > 1000000000u ? 1000 : (int)((due - now) / 1000000 + 1);
         struct pollfd ready[2] = {{wire, POLLIN, 0}, {reads ? STDIN_FILENO : -1, POLLIN, 0}};
-        if (goes_on && poll(ready, 2, wait) > 0) {
+        int count_ready = goes_on ? poll(ready, 2, milliseconds_until(due, nanos() - start)) : 0;
+        sctp_advance_time(&end, nanos() - start); /* first: the calls below go by it */
+        if (count_ready > 0) {
             if (ready[0].revents & POLLIN) {
                 ssize_t length = recv(wire, bytes, sizeof bytes, 0);
                 if (length > 0)
@@ -91,16 +110,16 @@ int main(int count, char **words) {
             }
             if (ready[1].revents & (POLLIN | POLLHUP)) {
                 ssize_t length = read(STDIN_FILENO, bytes, sizeof bytes);
-                if (length > 0) {
+                if (length > 0)
                     sctp_send(&end, 0, 51, bytes, (size_t)length, &plainly);
-                } else {
+                else
                     reads = 0;
-                    sctp_shutdown(&end);
-                    goes_on = sctp_state(&end, &state) == SCTP_OK && state != SCTP_CLOSED;
-                }
             }
         }
-        sctp_advance_time(&end, nanos() - start);
+        if (!reads && goes_on && !shut_down(&end)) {
+            take_all(&end, wire, &peer);
+            goes_on = 0;
+        }
     }
     sctp_free(&end);
     close(wire);

@@ -2,6 +2,7 @@
 """Two sockets over memory, by ctypes: python3 loop.py build/libsctp.so"""
 import ctypes as c
 import sys
+import time
 
 
 class Socket(c.Structure):
@@ -38,8 +39,15 @@ def new(seed):
     return end
 
 
+def advance(ends, start=time.monotonic_ns()):
+    """Advances the time, which comes first: the calls behind it go by it."""
+    for end in ends:
+        call("sctp_advance_time", c.byref(end), c.c_uint64(time.monotonic_ns() - start))
+
+
 def settle(ends):
     """Hands each packet to the other end, until none is emitted."""
+    advance(ends)
     goes_on = True
     while goes_on:
         goes_on = False
@@ -55,9 +63,11 @@ def settle(ends):
 
 
 a, b = ends = new(1), new(2)
+advance(ends)
 call("sctp_connect", c.byref(a))
 settle(ends)
 text = b"hello from python"
+advance(ends)
 call("sctp_send", c.byref(a), 1, 51, text, c.c_size_t(len(text)), c.byref(SendOptions()))
 settle(ends)
 message = Message()
