@@ -101,7 +101,8 @@ int main(int count, char **words) {
         sctp_poll_timeout(&end, &due);
         struct pollfd ready[2] = {{wire, POLLIN, 0}, {reads ? STDIN_FILENO : -1, POLLIN, 0}};
         int count_ready = goes_on ? poll(ready, 2, milliseconds_until(due, nanos() - start)) : 0;
-        sctp_advance_time(&end, nanos() - start); /* first: the calls below go by it */
+        if (sctp_advance_time(&end, nanos() - start) != SCTP_OK) /* first: the calls below go by it */
+            break;
         if (count_ready > 0) {
             if (ready[0].revents & POLLIN) {
                 ssize_t length = recv(wire, bytes, sizeof bytes, 0);
