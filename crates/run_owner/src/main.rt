@@ -103,6 +103,7 @@ fn talk<S: DcSctpSocket>(rt: &HostRuntime, a: &mut End<S>, b: &mut End<S>) -> Re
     let payload = vec![in rt.alloc(); 7u8; 3]?;
     a.waiting
         .push(Message::new(StreamId(1), PpId(53), payload))?;
+    a.socket.advance_time(now)?;
     a.socket.connect()?;
     for _ in 0..MANY {
         let due_a = turn(a, now)?;
