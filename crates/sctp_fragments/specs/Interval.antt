@@ -1,5 +1,5 @@
 -- How an interval list keeps the fragments.
-use Rattle.std.specs.Prelude.{◌≡◌, ℕ, ◌≤◌, not, nat_lt, Bool, true, false, None, List, [], ◌∷◌, ◌++◌, length, map}
+use Rattle.std.specs.Prelude.{◌≡◌, ℕ, ◌<◌, ◌≤◌, ◌^◌, not, nat_lt, Bool, true, false, None, List, [], ◌∷◌, ◌++◌, length, map}
 use Rattle.sctp_chunk.specs.declared.data.Data.{Data}
 use Rattle.sctp_chunk.specs.Views.{fragment_tree}
 use Rattle.sctp_fragments.specs.declared.interval.Entry.{Entry}
@@ -27,9 +27,15 @@ entries_of f is = flat (lists_of f is)
 abbrev pub IsInRuns : List (List Held) → Type 0
 IsInRuns ls = AreRuns rank_of goes_on None ls
 
+-- a place has 64 bits
+abbrev pub AreIndexed : List Held → Type 0
+AreIndexed [] = Unit {0}
+AreIndexed (h ∷ hs) = (h.index < 2 ^ 64) × AreIndexed hs
+
 pub record IsKept {K : Type 0} (f : Entry K → Held) (intervals : List (Interval K)) (bytes : ℕ) : Type 0 where
   pub runs : IsInRuns (lists_of f intervals)
   pub counted : bytes ≡ bytes_of (entries_of f intervals)
+  pub small : AreIndexed (entries_of f intervals)
 
 -- the first run ends at n or above it
 abbrev pub EndsFrom : ℕ → List (List Held) → Type 0
@@ -54,6 +60,12 @@ abbrev pub starts_upto : ℕ → List (List Held) → Bool
 starts_upto n [] = false
 starts_upto n ([] ∷ rs) = false
 starts_upto n ((e ∷ es) ∷ rs) = not (nat_lt n (rank_of e))
+
+-- the first run begins at message n or above it
+abbrev pub StartsFrom : ℕ → List (List Held) → Type 0
+StartsFrom n [] = Unit {0}
+StartsFrom n ([] ∷ rs) = ⊥
+StartsFrom n ((e ∷ es) ∷ rs) = n ≤ e.number
 
 abbrev pub StartsInTurn : ℕ → List (List Held) → Type 0
 StartsInTurn n [] = Unit {0}

@@ -1,6 +1,6 @@
 //! The keys of fragments.
 
-ghost use Rattle.std.specs.Prelude.{◌≡◌, ◌==◌, ℕ, suc, ◌+◌, ◌<◌, ◌≤◌, nat_lt, IsTrue, ◌↔◌};
+ghost use Rattle.std.specs.Prelude.{◌≡◌, ◌==◌, ℕ, suc, ◌+◌, ◌<◌, ◌≤◌, ◌^◌, nat_lt, IsTrue, ◌↔◌};
 ghost use Rattle.std.specs.Ordering.{nat_cmp};
 ghost use Rattle.sctp_fragments.specs.ReassemblyKey.{NoneBetween, IsPair, pair_rank, pair_bound, pair_after_number, pair_after_index, rank_at};
 ghost use Rattle.sctp_fragments.specs.KeyLaws.{pair_made, pair_by_rank, pair_number, pair_index, pair_within, pair_follows};
@@ -42,6 +42,9 @@ pub trait ReassemblyKey: Copy + Ord {
 
     ghost within: { (x : Self) → is_key x → pair_rank (number x) (index x) ≤ bound };
 
+    // A place has 64 bits.
+    ghost small: { (x : Self) → is_key x → index x < 2 ^ 64 };
+
     // The next key is a key, and no rank lies between.
     ghost follows: { (x : Self) → is_key x → pair_rank (number x) (index x) < bound → is_key (after x) × (pair_rank (number (after x)) (index (after x)) ≡ suc (pair_rank (number x) (index x))) };
 }
@@ -53,6 +56,15 @@ pub fn is_before<K: ReassemblyKey>(x: K, y: K) -> bool
     x.known();
     y.known();
     x.cmp(&y).is_lt()
+}
+
+/// Whether the key's number is below this one: then the key comes before each of that number.
+pub fn is_below_number<K: ReassemblyKey>(key: K, number: u128) -> bool
+    ensures rank { result ≡ nat_lt (rank_at K.number K.index key) (pair_rank number 0) }
+    ensures number { result ≡ nat_lt (K.number key) number }
+{
+    key.known();
+    (key.number() as u128) < number
 }
 
 /// Whether `y` is the next key after `x`.
@@ -143,6 +155,8 @@ impl ReassemblyKey for TraditionalKey {
 
     ghost within = { λ x p. pair_within x.number x.index p };
 
+    ghost small = { λ x p. p.1 };
+
     ghost follows = { λ x p less. pair_follows x.number x.index p less };
 }
 
@@ -192,6 +206,8 @@ impl ReassemblyKey for InterleavedKey {
 
     ghost within = { λ x p. pair_within x.number x.index p };
 
+    ghost small = { λ x p. p.1 };
+
     ghost follows = { λ x p less. pair_follows x.number x.index p less };
 }
 
@@ -240,6 +256,8 @@ impl ReassemblyKey for UnorderedInterleavedKey {
     ghost one_key = { λ x y p q same. pair_made (λ n i. record { number = n; index = i }) x.number x.index y.number y.index (pair_number x.number x.index y.number y.index p q same) (pair_index x.number x.index y.number y.index p q same) };
 
     ghost within = { λ x p. pair_within x.number x.index p };
+
+    ghost small = { λ x p. p.1 };
 
     ghost follows = { λ x p less. pair_follows x.number x.index p less };
 }

@@ -23,3 +23,4 @@ pub mod ReadyLemmas
 pub mod ForgetLemmas
 pub mod NamedLemmas
 pub mod JoinLemmas
+pub mod TurnLemmas

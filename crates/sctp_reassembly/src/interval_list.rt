@@ -3,7 +3,7 @@
 ghost use Rattle.std.specs.Prelude.{◌≡◌, ◌==◌, ◌+◌, ◌<◌, ◌≤◌, ◌^◌, ◌&&◌, ◌++◌, ◌∷◌, [], List, Option, Some, None, false, length, take, drop, is_none, option_map, IfOk, OnOk, OnErr, IfSome, IfNone, IsTrue};
 
 use sctp_chunk::Data;
-use sctp_fragments::{Entry, Interval, ReassemblyKey, goes_on_to, is_before};
+use sctp_fragments::{Entry, Interval, ReassemblyKey, goes_on_to, is_before, is_below_number};
 use std::alloc::{AllocError, Global};
 use std::collections::VecDeque;
 use std::marker::Model;
@@ -91,6 +91,7 @@ impl<K: ReassemblyKey> IntervalList<K> {
         if begins_upto(&self.intervals, place, key) {
             return Ok(None);
         }
+        key.known();
         let bytes = fragment.payload.len();
         let at = insert_at(
             self.alloc,
@@ -143,6 +144,13 @@ impl<K: ReassemblyKey> IntervalList<K> {
         self.pop_if_complete(place)
     }
 
+    /// Whether a fragment is before the key; else there is nothing to drop.
+    pub fn begins_below(&self, key: K) -> bool
+        ensures { result ≡ false → from_rank rank_of (rank_at K.number K.index key) self.now ≡ self.now }
+    {
+        begins_below(&self.intervals, key)
+    }
+
     /// Keeps the fragments from the key on, and drops those before it.
     pub fn retain(&mut self, key: K)
         ensures value { self.new ≡ from_rank rank_of (rank_at K.number K.index key) self.old }
@@ -163,7 +171,7 @@ ghost use Rattle.std.specs.VecDeque.{deque_len, deque_capacity};
 ghost use Rattle.sctp_fragments.specs.Runs.{end_of, IsBelow, LeadsTo, joins_left, joins_right};
 ghost use Rattle.sctp_fragments.specs.Held.{Held, rank_of, goes_on, bytes_of, NoneInTurn};
 ghost use Rattle.sctp_fragments.specs.ReassemblyKey.{rank_at};
-ghost use Rattle.sctp_fragments.specs.Interval.{held_of, run_of, lists_of, entries_of, EndsFrom, IsInRuns, IsInserted, starts_upto, StartsInTurn, without_first, first_below};
+ghost use Rattle.sctp_fragments.specs.Interval.{held_of, run_of, lists_of, entries_of, AreIndexed, EndsFrom, IsInRuns, IsInserted, starts_upto, StartsFrom, StartsInTurn, without_first, first_below};
 ghost use Rattle.sctp_fragments.specs.declared.interval.Entry.{Entry};
 ghost use Rattle.sctp_fragments.specs.declared.interval.Interval.{Interval};
 ghost use Rattle.sctp_reassembly.specs.UnorderedByTsn.{BeginsFrom};
@@ -227,15 +235,48 @@ fn drop_first<K: ReassemblyKey>(intervals: &mut VecDeque<Interval<K>>) -> usize
     entry.fragment.payload.len()
 }
 
-/// Where the first interval is that is a complete message with the number; their count, where none is.
+/// Where the first interval is that is a complete message with the number; their count, where none is. Those of lesser numbers
+/// are passed by halves, and those of greater ones aren't looked at.
 fn place_in_turn<K: ReassemblyKey>(intervals: &VecDeque<Interval<K>>, number: u128) -> usize
+    requires runs { IsInRuns (lists_of (held_of K.number K.index) intervals.now.items) }
+    requires small { AreIndexed (entries_of (held_of K.number K.index) intervals.now.items) }
     ensures bound { result ≤ length intervals.now.items }
     ensures before { NoneInTurn number (lists_of (held_of K.number K.index) (take result intervals.now.items)) }
     ensures here { StartsInTurn number (lists_of (held_of K.number K.index) (drop result intervals.now.items)) }
 {
-    let mut place = 0;
-    while place < intervals.len() && !intervals[place].is_in_turn(number) {
+    let mut place = place_for_number(intervals, number);
+    while place < intervals.len() && has_number(&intervals[place], number) {
+        if intervals[place].is_in_turn(number) {
+            return place;
+        }
         place += 1;
+    }
+    intervals.len()
+}
+
+/// Whether the first fragment is of the message with the number.
+fn has_number<K: ReassemblyKey>(interval: &Interval<K>, number: u128) -> bool
+    ensures { (h : Held) (hs : List Held) → run_of (held_of K.number K.index) interval.now ≡ h ∷ hs → result ≡ (h.number == number) }
+{
+    interval.first().key.number() as u128 == number
+}
+
+/// How many intervals begin below the message with the number, found by halves.
+fn place_for_number<K: ReassemblyKey>(intervals: &VecDeque<Interval<K>>, number: u128) -> usize
+    requires { IsInRuns (lists_of (held_of K.number K.index) intervals.now.items) }
+    ensures bound { result ≤ length intervals.now.items }
+    ensures before { NoneInTurn number (lists_of (held_of K.number K.index) (take result intervals.now.items)) }
+    ensures from { StartsFrom number (lists_of (held_of K.number K.index) (drop result intervals.now.items)) }
+{
+    let mut place = 0;
+    let mut end = intervals.len();
+    while place < end {
+        let middle = place + (end - place) / 2;
+        if is_below_number(intervals[middle].first().key, number) {
+            place = middle + 1;
+        } else {
+            end = middle;
+        }
     }
     place
 }

@@ -4,7 +4,8 @@ ghost use Rattle.std.specs.Prelude.{◌≡◌, ◌==◌, ◌+◌, ◌<◌, ◌�
 ghost use Rattle.sctp_serial.specs.Unwrapped.{origin};
 ghost use Rattle.sctp_fragments.specs.Held.{bytes_of, rank_of, intervals_of, is_in_turn, message_of_run, NoneInTurn};
 ghost use Rattle.sctp_fragments.specs.Interval.{as_held};
-ghost use Rattle.sctp_fragments.specs.Runs.{with_item};
+ghost use Rattle.sctp_fragments.specs.ReassemblyKey.{rank_at};
+ghost use Rattle.sctp_fragments.specs.Runs.{from_rank, with_item};
 ghost use Rattle.sctp_reassembly.specs.Delivery.{deliver, ordered_arrival, ready_bytes, Extends};
 
 use crate::interval_list::IntervalList;
@@ -182,6 +183,20 @@ impl<K: ReassemblyKey> OrderedStream<K> {
     }
 }
 
+impl<K: ReassemblyKey> OrderedStream<K> {
+    /// Whether nothing is before the key, and nothing in turn: then a forward point to it changes nothing.
+    fn is_passed(&self, first: K) -> bool
+        ensures next { result ≡ true → K.number first ≤ self.now.next }
+        ensures held { result ≡ true → from_rank rank_of (rank_at K.number K.index first) self.now.held ≡ self.now.held }
+        ensures settled { result ≡ true → NoneInTurn self.now.next (intervals_of self.now.held) }
+    {
+        if !self.is_settled {
+            return false;
+        }
+        first.number() as u128 <= self.next && !self.list.begins_below(first)
+    }
+}
+
 impl<K: ReassemblyKey> ReassemblyStream for OrderedStream<K> {
     ghost use Rattle.std.proofs.Common.{refl};
     ghost use Rattle.sctp_reassembly.specs.Delivery.{fresh_ordered, ordered_arrival, ordered_forward};
@@ -233,10 +248,14 @@ impl<K: ReassemblyKey> ReassemblyStream for OrderedStream<K> {
     }
 
     /// Drops the messages up to the number before that of the key, and moves the next number to it, never back. What is in
-    /// turn then becomes ready.
+    /// turn then becomes ready. Where it passes nothing, nothing is looked through.
     ///
     /// Without memory a message that was in turn may be lost; what was ready stays ready.
+    #[tactic(auto, using(crate::proofs::ExtendsLemmas::extends_none))]
     fn forward(&mut self, first: K, ready: &mut ReadyMessages) -> Result<(), AllocError> {
+        if self.is_passed(first) {
+            return Ok(());
+        }
         self.is_settled = false;
         self.list.retain(first);
         self.next = self.next.max(first.number() as u128);

@@ -1,7 +1,8 @@
-use Rattle.std.proofs.Common.{◌≡◌, ap, sym, ◌∙◌, arith, true, false, rules}
+use Rattle.std.proofs.Common.{◌≡◌, ap, sym, subst, ◌∙◌, arith, true, false, rules}
 use Rattle.sctp_fragments.specs.Held.{is_complete, bytes_of}
 use Rattle.sctp_reassembly.proofs.ListLemmas.{length_kept, takes, not_complete, read_same}
-use Rattle.sctp_fragments.specs.Interval.{held_of, run_of}
+use Rattle.sctp_fragments.specs.Interval.{held_of, run_of, AreIndexed}
+use Rattle.sctp_reassembly.proofs.TurnLemmas.{taken_indexed}
 use Rattle.sctp_reassembly.proofs.interval_list.IntervalList.pop_if_complete.Goals as goal
 
 pub index-requires : goal.index-requires
@@ -44,7 +45,7 @@ invariant_of-self g c =
     let read : c.index.result.now ≡ c.in-Some.interval = read_same c.self.inside.intervals.items c.args.place c.index.result.now c.in-Some.interval (omega (arith, n, c.requires)) c.index.ensures c.in-Some.ensures.value in
     let t = takes (held_of g.K.ReassemblyKey.number g.K.ReassemblyKey.index) c.self.inside.intervals.items c.remove.new.self.items c.in-Some.interval c.args.self.now c.args.place c.self.view_is c.self.invariant.runs (omega (arith, n, c.requires)) c.in-Some.ensures.value c.in-Some.ensures.items
     (ap (λ i. is_complete (run_of (held_of g.K.ReassemblyKey.number g.K.ReassemblyKey.index) i)) (sym read) ∙ (sym c.is_complete.ensures ∙ result_is)) in
-    record { runs = t.runs; counted = omega (arith, t.bytes, c.self.invariant.counted, c.total_bytes.ensures) }
+    record { runs = t.runs; counted = omega (arith, t.bytes, c.self.invariant.counted, c.total_bytes.ensures); small = taken_indexed c.args.self.now _ _ c.args.place t.taken (subst AreIndexed c.self.view_is c.self.invariant.small) }
 
 pub returns-clause-taken : goal.returns-clause-taken
 returns-clause-taken g c =

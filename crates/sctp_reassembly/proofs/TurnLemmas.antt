@@ -1,0 +1,245 @@
+-- Intervals by the number of the message at which they begin: of those below a number, and of those above it, none is in turn.
+use Rattle.std.proofs.Common.{◌≡◌, ℕ, zero, suc, ◌+◌, ◌<◌, ◌≤◌, ◌==◌, Bool, true, false, cond, Option, Some, None, List, [], ◌∷◌, ◌++◌, length, take, drop, get_or, refl, ap, sym, subst, ◌∙◌, arith}
+use Rattle.std.specs.Prelude.{◌&&◌, ◌^◌, nat_lt, max}
+use Rattle.std.proofs.lemmas.Bool.Decides.{nat_tests}
+use Rattle.std.proofs.lemmas.List.{take_all}
+use Rattle.sctp_fragments.specs.declared.interval.Entry.{Entry}
+use Rattle.sctp_fragments.specs.declared.interval.Interval.{Interval}
+use Rattle.sctp_fragments.specs.ReassemblyKey.{pair_rank}
+use Rattle.sctp_fragments.specs.Runs.{flat, last_of, end_of, is_held, put_in, with_item, from_rank, AreRuns, AllBelow, IsBelow, Starts}
+use Rattle.sctp_fragments.specs.Held.{Held, rank_of, goes_on, intervals_of, is_complete, is_in_turn, NoneInTurn, IsTaken}
+use Rattle.sctp_fragments.specs.Interval.{run_of, lists_of, entries_of, AreIndexed, StartsFrom, StartsInTurn, first_below, without_first}
+use Rattle.sctp_fragments.proofs.RunLemmas.{flat_append, AreRuns_front, AreRuns_back, AllBelow_runs, linked_rises}
+use Rattle.sctp_fragments.proofs.PlaceLemmas.{cons, some_run, lists_of_append, read_at}
+use Rattle.sctp_reassembly.specs.Delivery.{OrderedStream, OrderedDelivery, deliver, at_rest, ordered_forward}
+use Rattle.sctp_reassembly.proofs.InsertLemmas.{split_at, in_two}
+use Rattle.sctp_reassembly.proofs.FindLemmas.{not_found}
+use Rattle.sctp_reassembly.proofs.DeliverLemmas.{deliver_ends}
+
+-- ---- places of 64 bits
+
+pub indexed_append : (xs ys : List Held) → AreIndexed xs → AreIndexed ys → AreIndexed (xs ++ ys)
+indexed_append [] ys h k = k
+indexed_append (x ∷ xs) ys h k = (h.0, indexed_append xs ys h.1 k)
+
+indexed_front : (xs ys : List Held) → AreIndexed (xs ++ ys) → AreIndexed xs
+indexed_front [] ys h = tt
+indexed_front (x ∷ xs) ys h = (h.0, indexed_front xs ys h.1)
+
+indexed_back : (xs ys : List Held) → AreIndexed (xs ++ ys) → AreIndexed ys
+indexed_back [] ys h = h
+indexed_back (x ∷ xs) ys h = indexed_back xs ys h.1
+
+put_indexed : (x : Held) (hs : List Held) → x.index < 2 ^ 64 → AreIndexed hs → AreIndexed (put_in rank_of x hs)
+put_indexed x [] s h = (s, tt)
+put_indexed x (e ∷ es) s h = go (nat_lt (rank_of x) (rank_of e)) (put_indexed x es s h.1)
+  where
+    go : (b : Bool) → AreIndexed (put_in rank_of x es) → AreIndexed (cond b (x ∷ (e ∷ es)) (e ∷ put_in rank_of x es))
+    go true ih = (s, h)
+    go false ih = (h.0, ih)
+
+pub with_indexed : (x : Held) (hs : List Held) → x.index < 2 ^ 64 → AreIndexed hs → AreIndexed (with_item rank_of x hs)
+with_indexed x hs s h = go (is_held rank_of (rank_of x) hs)
+  where
+    go : (b : Bool) → AreIndexed (cond b hs (put_in rank_of x hs))
+    go true = h
+    go false = put_indexed x hs s h
+
+pub taken_indexed : (old run new : List Held) (p : ℕ) → IsTaken old run new p → AreIndexed old → AreIndexed new
+taken_indexed old run new p t h =
+    let both : AreIndexed (flat t.front ++ (run ++ flat t.back)) = subst AreIndexed t.split h in
+    subst AreIndexed (sym t.rest) (indexed_append (flat t.front) (flat t.back) (indexed_front (flat t.front) (run ++ flat t.back) both) (indexed_back run (flat t.back) (indexed_back (flat t.front) (run ++ flat t.back) both)))
+
+module _ {K : Type 0} (f : Entry K → Held) where
+  pub indexed_drop : (xs : List (Interval K)) (p : ℕ) → AreIndexed (entries_of f xs) → AreIndexed (entries_of f (drop p xs))
+  indexed_drop [] zero h = h
+  indexed_drop [] (suc p) h = h
+  indexed_drop (x ∷ xs) zero h = h
+  indexed_drop (x ∷ xs) (suc p) h = indexed_drop xs p (indexed_back (run_of f x) (entries_of f xs) h)
+
+pub indexed_first : (ls new : List (List Held)) (n bytes : ℕ) → AreRuns rank_of goes_on None ls → first_below n ls ≡ true
+    → ((e : Held) (es : List Held) (rs : List (List Held)) → ls ≡ (e ∷ es) ∷ rs → (bytes ≡ length e.fragment.payload) × (new ≡ without_first es rs)) → AreIndexed (flat ls) → AreIndexed (flat new)
+indexed_first [] new n bytes r k made h = cc
+indexed_first ([] ∷ rs) new n bytes r k made h = absurd r
+indexed_first ((e ∷ es) ∷ rs) new n bytes r k made h =
+    let m = made e es rs refl in
+    subst (λ (t : List (List Held)). AreIndexed (flat t)) (sym m.1) (go es h.1)
+  where
+    go : (ds : List Held) → AreIndexed (ds ++ flat rs) → AreIndexed (flat (without_first ds rs))
+    go [] i = i
+    go (d ∷ ds) i = i
+
+-- ---- runs that aren't in turn
+
+and_false : (a b : Bool) → b ≡ false → (a && b) ≡ false
+and_false true b h = h
+and_false false b h = refl
+
+of_another : (n : ℕ) (e : Held) (es : List Held) → (e.number == n) ≡ false → is_in_turn n (e ∷ es) ≡ false
+of_another n e es h = and_false (is_complete (e ∷ es)) (e.number == n) h
+
+below_differs : (a i m n : ℕ) → pair_rank a i < m → m ≤ pair_rank n 0 → (a == n) ≡ false
+below_differs a i m n h k = grind (arith, nat_tests)
+
+above_is : (a i m n : ℕ) → i < 2 ^ 64 → pair_rank n 0 ≤ m → m < pair_rank a i → n ≤ a
+above_is a i m n s h k = omega (arith, s, h, k)
+
+above_differs : (a n : ℕ) → suc n ≤ a → (a == n) ≡ false
+above_differs a n h = grind (arith, nat_tests)
+
+all_below_back : (m : ℕ) (xs ys : List Held) → AllBelow rank_of m (xs ++ ys) → AllBelow rank_of m ys
+all_below_back m [] ys h = h
+all_below_back m (x ∷ xs) ys h = all_below_back m xs ys h.1
+
+none_below : (rs : List (List Held)) (m n : ℕ) → AllBelow rank_of m (flat rs) → m ≤ pair_rank n 0 → NoneInTurn n rs
+none_below [] m n h k = tt
+none_below ([] ∷ rs) m n h k = (refl, none_below rs m n h k)
+none_below ((e ∷ es) ∷ rs) m n h k =
+    (of_another n e es (below_differs e.number e.index m n h.0 k), none_below rs m n (all_below_back m es (flat rs) h.1) k)
+
+none_above : (d : Held) (rs : List (List Held)) (n : ℕ) → AreRuns rank_of goes_on (Some d) rs → AreIndexed (flat rs) → pair_rank (suc n) 0 ≤ rank_of d → NoneInTurn n rs
+none_above d [] n r i h = tt
+none_above d ([] ∷ rs) n r i h = absurd r
+none_above d ((e ∷ es) ∷ rs) n r i h =
+    let up : suc n ≤ e.number = above_is e.number e.index (rank_of d) (suc n) i.0 h r.0.0 in
+    (of_another n e es (above_differs e.number n up),
+    none_above (last_of e es) rs n r.1.1 (indexed_back es (flat rs) i.1) (omega (arith, h, r.0.0, linked_rises rank_of goes_on e es r.1.0)))
+
+none_append : (n : ℕ) (xs ys : List (List Held)) → NoneInTurn n xs → NoneInTurn n ys → NoneInTurn n (xs ++ ys)
+none_append n [] ys h k = k
+none_append n (x ∷ xs) ys h k = (h.0, none_append n xs ys h.1 k)
+
+starts_below : (before : Option Held) (e : Held) (es : List Held) (rs : List (List Held)) → AreRuns rank_of goes_on before ((e ∷ es) ∷ rs) → IsBelow rank_of (rank_of e) before
+starts_below None e es rs h = tt
+starts_below (Some d) e es rs h = h.0.0
+
+-- runs around the one that begins with e
+module _ (ps qs : List (List Held)) (e : Held) (es : List Held) (runs : AreRuns rank_of goes_on None (ps ++ (e ∷ es) ∷ qs)) where
+  from_here : AreRuns rank_of goes_on (end_of None ps) ((e ∷ es) ∷ qs)
+  from_here = AreRuns_back rank_of goes_on None ps ((e ∷ es) ∷ qs) runs
+
+  lower : AllBelow rank_of (rank_of e) (flat ps)
+  lower = AllBelow_runs rank_of goes_on None (rank_of e) ps (AreRuns_front rank_of goes_on None ps ((e ∷ es) ∷ qs) runs) (starts_below (end_of None ps) e es qs from_here)
+
+  none_through : (n : ℕ) → rank_of e < pair_rank n 0 → NoneInTurn n (ps ++ (e ∷ es) ∷ [])
+  none_through n h =
+      none_append n ps ((e ∷ es) ∷ []) (none_below ps (rank_of e) n lower (omega (arith, h)))
+      (of_another n e es (below_differs e.number e.index (suc (rank_of e)) n (omega arith) (omega (arith, h))), tt)
+
+  module _ (indexed : AreIndexed (flat (ps ++ (e ∷ es) ∷ qs))) where
+    later : AreIndexed (flat qs)
+    later =
+        indexed_back es (flat qs) (indexed_back (flat ps) ((e ∷ es) ++ flat qs) (subst AreIndexed (flat_append {E = Held} rank_of goes_on ps ((e ∷ es) ∷ qs)) indexed)).1
+
+    starts_on : (n : ℕ) → n ≤ e.number → StartsFrom n qs
+    starts_on n h = go qs from_here.1.1 later
+      where
+        go : (rs : List (List Held)) → AreRuns rank_of goes_on (Some (last_of e es)) rs → AreIndexed (flat rs) → StartsFrom n rs
+        go [] r i = tt
+        go ([] ∷ rs) r i = absurd r
+        go ((d ∷ ds) ∷ rs) r i = above_is d.number d.index (rank_of (last_of e es)) n i.0 (omega (arith, h, linked_rises rank_of goes_on e es from_here.1.0)) r.0.0
+
+    none_from : (n : ℕ) → n ≤ e.number → (e.number == n) ≡ false → NoneInTurn n ((e ∷ es) ∷ qs)
+    none_from n h other =
+        (of_another n e es other, none_above (last_of e es) qs n from_here.1.1 later (omega (arith, more e.number n h other, linked_rises rank_of goes_on e es from_here.1.0)))
+      where
+        more : (a n : ℕ) → n ≤ a → (a == n) ≡ false → suc n ≤ a
+        more a n h other = grind (arith, nat_tests)
+
+-- ---- by their place in a vector
+
+module _ {K : Type 0} (f : Entry K → Held) where
+  record Here (xs : List (Interval K)) (p : ℕ) (e : Held) : Type 0 where
+    ps : List (List Held)
+    es : List Held
+    qs : List (List Held)
+    whole : lists_of f xs ≡ ps ++ (e ∷ es) ∷ qs
+    upto : lists_of f (take p xs) ≡ ps
+    through : lists_of f (take (p + 1) xs) ≡ ps ++ (e ∷ es) ∷ []
+    from : lists_of f (drop p xs) ≡ (e ∷ es) ∷ qs
+    beyond : lists_of f (drop (p + 1) xs) ≡ qs
+
+  module _ (xs : List (Interval K)) (p : ℕ) (i : Interval K) (e : Held) (k : p < length xs) (read : i ≡ get_or xs p i) (first : (d : Held) (ds : List Held) → run_of f i ≡ d ∷ ds → e ≡ d) where
+    here : Here xs p e
+    here =
+        let s = split_at xs p k in
+        let c = cons (run_of f i) (some_run f i) in
+        let i_is : i ≡ s.here = read_at f xs s.before s.after s.here i p s.is s.at read in
+        let run : run_of f s.here ≡ e ∷ c.tail = ap (run_of f) (sym i_is) ∙ (c.is ∙ ap (λ (h : Held). h ∷ c.tail) (sym (first c.head c.tail c.is))) in
+        let up : p + 1 ≡ suc p = omega arith in
+        record {
+          ps = lists_of f s.before;
+          es = c.tail;
+          qs = lists_of f s.after;
+          whole = ap (lists_of f) s.is ∙ (lists_of_append f s.before (s.here ∷ s.after) ∙ ap (λ (r : List Held). lists_of f s.before ++ r ∷ lists_of f s.after) run);
+          upto = ap (lists_of f) s.upto;
+          through = ap (λ (n : ℕ). lists_of f (take n xs)) up ∙ (ap (lists_of f) s.front ∙ (lists_of_append f s.before (s.here ∷ []) ∙ ap (λ (r : List Held). lists_of f s.before ++ r ∷ []) run));
+          from = ap (lists_of f) s.from ∙ ap (λ (r : List Held). r ∷ lists_of f s.after) run;
+          beyond = ap (λ (n : ℕ). lists_of f (drop n xs)) up ∙ ap (lists_of f) s.back;
+        }
+
+    -- it begins below the number
+    pub none_up_to : (n : ℕ) → AreRuns rank_of goes_on None (lists_of f xs) → rank_of e < pair_rank n 0 → NoneInTurn n (lists_of f (take (p + 1) xs))
+    none_up_to n runs h =
+        let x = here in
+        subst (NoneInTurn n) (sym x.through) (none_through x.ps x.qs e x.es (subst (AreRuns rank_of goes_on None) x.whole runs) n h)
+
+    -- or at it, or above it
+    pub starts_here : (n : ℕ) → n ≤ e.number → StartsFrom n (lists_of f (drop p xs))
+    starts_here n h = let x = here in subst (StartsFrom n) (sym x.from) h
+
+    pub begins_at : (n : ℕ) → StartsFrom n (lists_of f (drop p xs)) → n ≤ e.number
+    begins_at n h = let x = here in subst (StartsFrom n) x.from h
+
+    pub starts_next : (n : ℕ) → AreRuns rank_of goes_on None (lists_of f xs) → AreIndexed (entries_of f xs) → StartsFrom n (lists_of f (drop p xs)) → StartsFrom n (lists_of f (drop (p + 1) xs))
+    starts_next n runs indexed h =
+        let x = here in
+        subst (StartsFrom n) (sym x.beyond) (starts_on x.ps x.qs e x.es (subst (AreRuns rank_of goes_on None) x.whole runs) (subst (λ (t : List (List Held)). AreIndexed (flat t)) x.whole indexed) n (begins_at n h))
+
+    pub turns_here : (n : ℕ) (r : Bool) → r ≡ is_in_turn n (run_of f i) → r ≡ true → StartsInTurn n (lists_of f (drop p xs))
+    turns_here n r is turn =
+        let s = split_at xs p k in
+        let i_is : i ≡ s.here = read_at f xs s.before s.after s.here i p s.is s.at read in
+        subst (λ (t : List (Interval K)). StartsInTurn n (lists_of f t)) (sym s.from) (ap (λ (t : Interval K). is_in_turn n (run_of f t)) (sym i_is) ∙ (sym is ∙ turn))
+
+    -- none is left from one of another number on
+    pub none_in_whole : (n : ℕ) → AreRuns rank_of goes_on None (lists_of f xs) → AreIndexed (entries_of f xs) → NoneInTurn n (lists_of f (take p xs)) → StartsFrom n (lists_of f (drop p xs))
+        → (e.number == n) ≡ false → NoneInTurn n (lists_of f xs)
+    none_in_whole n runs indexed before h other =
+        let x = here in
+        subst (NoneInTurn n) (sym (in_two f xs p)) (none_append n (lists_of f (take p xs)) (lists_of f (drop p xs)) before
+        (subst (NoneInTurn n) (sym x.from) (none_from x.ps x.qs e x.es (subst (AreRuns rank_of goes_on None) x.whole runs) (subst (λ (t : List (List Held)). AreIndexed (flat t)) x.whole indexed) n (begins_at n h) other)))
+
+  module _ (xs : List (Interval K)) (p : ℕ) (i : Interval K) (k : p < length xs) (read : i ≡ get_or xs p i) (n : ℕ) (runs : AreRuns rank_of goes_on None (lists_of f xs)) (indexed : AreIndexed (entries_of f xs)) (h : StartsFrom n (lists_of f (drop p xs))) where
+    head_is : (e : Held) (es : List Held) → run_of f i ≡ e ∷ es → (d : Held) (ds : List Held) → run_of f i ≡ d ∷ ds → e ≡ d
+    head_is e es is d ds same = cc
+
+    pub starts_after : StartsFrom n (lists_of f (drop (p + 1) xs))
+    starts_after = let c = cons (run_of f i) (some_run f i) in starts_next xs p i c.head k read (head_is c.head c.tail c.is) n runs indexed h
+
+    pub none_at_all : NoneInTurn n (lists_of f (take p xs)) → (r : Bool) → ((d : Held) (ds : List Held) → run_of f i ≡ d ∷ ds → r ≡ (d.number == n)) → r ≡ false → NoneInTurn n (lists_of f xs)
+    none_at_all before r tells other =
+        let c = cons (run_of f i) (some_run f i) in
+        none_in_whole xs p i c.head k read (head_is c.head c.tail c.is) n runs indexed before h (sym (tells c.head c.tail c.is) ∙ other)
+
+  pub none_taken_all : (xs : List (Interval K)) (n p : ℕ) → length xs ≤ p → NoneInTurn n (lists_of f xs) → NoneInTurn n (lists_of f (take p xs))
+  none_taken_all xs n p long none = subst (λ (t : List (Interval K)). NoneInTurn n (lists_of f t)) (sym (take_all p xs long)) none
+
+  pub none_before_end : (xs : List (Interval K)) (n p : ℕ) → length xs ≤ p → NoneInTurn n (lists_of f (take p xs)) → NoneInTurn n (lists_of f xs)
+  none_before_end xs n p long none = subst (λ (t : List (Interval K)). NoneInTurn n (lists_of f t)) (take_all p xs long) none
+
+  pub turns_at_end : (xs : List (Interval K)) (n p : ℕ) → length xs ≤ p → StartsInTurn n (lists_of f (drop p xs))
+  turns_at_end [] n zero h = tt
+  turns_at_end [] n (suc p) h = tt
+  turns_at_end (x ∷ xs) n zero h = absurd (omega arith)
+  turns_at_end (x ∷ xs) n (suc p) h = turns_at_end xs n p (omega arith)
+
+-- ---- a forward point that passes nothing
+
+pub passes_nothing : (n : ℕ) (s : OrderedStream) → suc n ≤ s.next → from_rank rank_of (pair_rank (suc n) 0) s.held ≡ s.held → NoneInTurn s.next (intervals_of s.held) → ordered_forward n s ≡ at_rest s.next s.held
+passes_nothing n s h same none =
+    ap (λ (m : ℕ). deliver m (from_rank rank_of (pair_rank (suc n) 0) s.held)) (most (suc n) s.next h)
+    ∙ (ap (deliver s.next) same ∙ deliver_ends s.next s.held (not_found (is_in_turn s.next) (intervals_of s.held) none))
+  where
+    most : (a b : ℕ) → a ≤ b → max a b ≡ b
+    most a b h = omega (arith, h)
