@@ -27,7 +27,7 @@ use Rattle.spec_endpoint.specs.ResetRequests.{Request, Requests, is_final, is_la
 use Rattle.spec_endpoint.specs.Sending.{Filling, take_due_ack, ack_if, has_data_to_send, with_ack, forward_added_if, forward_if, with_expired_abandoned, forward_if_time, with_forward, most_streams, request_of, request_if, filled_as, BurstStep, burst_step_if, next_packet, continue_burst, burst, is_before_cookie_ack, send_with, fast_if, send_lost}
 use Rattle.spec_endpoint.specs.Shutdown.{on_shutdown, on_shutdown_ack_in, on_shutdown_complete, abort_for_violation, on_abort, on_error}
 use Rattle.spec_endpoint.specs.Shutdown as closing
-use Rattle.spec_endpoint.specs.Data.{on_data_in, on_data_if, on_data, accepts_tsn, fragment_if, handle_forward_tsn_if, handle_forward_tsn_in}
+use Rattle.spec_endpoint.specs.Data.{on_data_in, on_data_if, on_data, accepts_tsn, fragment_if, accepts_point, handle_forward_tsn_if, handle_forward_tsn_in}
 use Rattle.spec_endpoint.specs.Sack.{clean_blocks, sample_rtt, after_sack, on_sack_in}
 use Rattle.spec_endpoint.specs.Sack as acks
 use Rattle.spec_endpoint.specs.Opening.{on_cookie_ack, enter_connected, tcb_by, queue_for, cookie_ack, anew, maintain_existing, maintain_existing_in, restarts, restarts_in, restart, CookieResolution, EstablishNew, RestartDetected, SimultaneousInit, MaintainExisting, Discard, InvalidTag, resolve_cookie, on_resolution, on_read_cookie, on_cookie_echo, long_word}
@@ -122,7 +122,7 @@ forwarded_fits false tsn es t h = h
 forward_in_fits : (st : State) (tsn : ℕ) (es : List _) → NumbersFitIn st → NumbersFitIn (handle_forward_tsn_in st tsn es)
 forward_in_fits Closed tsn es h = tt
 forward_in_fits (CookieWait tag first t1) tsn es h = tt
-forward_in_fits (Open phase t) tsn es h = forwarded_fits (tracker.is_valid t.tracker.tracker (tracker.number_of t.tracker tsn)) tsn es t h
+forward_in_fits (Open phase t) tsn es h = forwarded_fits (accepts_point tsn es t) tsn es t h
 
 answered_by_fits : (b : Bool) (now rto : ℕ) (r : Request) (x : Requests) → r.number < u32_space → NumbersFit x → NumbersFit (end_or_defer b now rto r x)
 answered_by_fits true now rto r x k h = record { next = h.next; current = tt; last = h.last }

@@ -11,7 +11,7 @@ use Rattle.sctp_rx.specs.ReassemblyQueue as reassembly
 use Rattle.sctp_tx_outstanding.specs.OutstandingData.{Outstanding}
 use Rattle.sctp_tx_outstanding.specs.OutstandingData as items
 use Rattle.spec_endpoint.specs.Association.{Tcb, Phase, State, Closed, CookieWait, Open, Context, EndpointState, Packing}
-use Rattle.spec_endpoint.specs.Data.{is_full, accepts_tsn, added_unless, take_fragment, fragment_if, on_data_in, on_data_if, on_data, skipped_if, handle_forward_tsn, handle_forward_tsn_if, handle_forward_tsn_in, on_forward}
+use Rattle.spec_endpoint.specs.Data.{is_full, accepts_tsn, added_unless, take_fragment, fragment_if, on_data_in, on_data_if, on_data, skipped_if, accepts_point, handle_forward_tsn, handle_forward_tsn_if, handle_forward_tsn_in, on_forward}
 use Rattle.proof_draws.specs.NamedChunks.{Names, move_by}
 use Rattle.proof_draws.specs.Names.{named_phase, named_tracker, named_reassembly, named_outstanding, named_tcb, named_state, named_endpoint_state, plain}
 use Rattle.proof_draws.proofs.MovedLemmas.{moved_nearest}
@@ -137,6 +137,14 @@ module _ (n : Names) where
       ≡ tracker.is_valid t.tracker.tracker (tracker.number_of t.tracker tsn)
   valid_named tsn t = ap (λ (k : ℕ). tracker.is_valid t.tracker.tracker k) (received_number t.tracker tsn)
 
+  admitted_named : (tsn : ℕ) (es : List SkippedStream) (r : Reassembly) → reassembly.admits_point (move_by n.peer tsn) es (named_reassembly n r) ≡ reassembly.admits_point tsn es r
+  admitted_named tsn es r = ap (λ (k : ℕ). reassembly.fits_behind k es r.deferred) (queue_number r tsn)
+
+  accepted_named : (tsn : ℕ) (es : List SkippedStream) (t : Tcb) → accepts_point (move_by n.peer tsn) es (named_tcb n t) ≡ accepts_point tsn es t
+  accepted_named tsn es t =
+      ap (λ (b : Bool). b && reassembly.admits_point (move_by n.peer tsn) es (named_reassembly n t.reassembly)) (valid_named tsn t)
+      ∙ ap (λ (b : Bool). tracker.is_valid t.tracker.tracker (tracker.number_of t.tracker tsn) && b) (admitted_named tsn es t.reassembly)
+
   forwarded_named : (tsn : ℕ) (es : List SkippedStream) (t : Tcb) → handle_forward_tsn (move_by n.peer tsn) es (named_tcb n t) ≡ named_tcb n (handle_forward_tsn tsn es t)
   forwarded_named tsn es t =
       let d : DataTracker = named_tracker n t.tracker in
@@ -157,8 +165,8 @@ module _ (n : Names) where
   forwarded_in_named Closed tsn es = refl
   forwarded_in_named (CookieWait tag first t1) tsn es = refl
   forwarded_in_named (Open phase t) tsn es =
-      ap (λ (b : Bool). open_state n phase (handle_forward_tsn_if b (move_by n.peer tsn) es (named_tcb n t))) (valid_named tsn t)
-      ∙ ap (λ (u : Tcb). open_state n phase u) (forwarded_if_named (tracker.is_valid t.tracker.tracker (tracker.number_of t.tracker tsn)) tsn es t)
+      ap (λ (b : Bool). open_state n phase (handle_forward_tsn_if b (move_by n.peer tsn) es (named_tcb n t))) (accepted_named tsn es t)
+      ∙ ap (λ (u : Tcb). open_state n phase u) (forwarded_if_named (accepts_point tsn es t) tsn es t)
 
 -- ---- the rows
 

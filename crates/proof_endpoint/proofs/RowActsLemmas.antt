@@ -1,6 +1,7 @@
 -- The walk over the rows: shutdown, aborts, data, forward points and acknowledgements.
 use Rattle.std.proofs.Common.{◌≡◌, ℕ, ◌<◌, ◌^◌, ◌==◌, Bool, true, false, Option, Some, None, List, [], ◌∷◌, length, codes, refl}
 use Rattle.std.specs.Str.{IsUtf8}
+use Rattle.std.proofs.lemmas.Bool.{and_parts}
 use Rattle.rand_core.specs.Stream.{Stream}
 use Rattle.sctp_wire.specs.Cause.{CauseTree, no_user_data, user_initiated_abort, protocol_violation}
 use Rattle.sctp_chunk.specs.declared.forward_tsn.SkippedStream.{SkippedStream}
@@ -10,12 +11,13 @@ use Rattle.sctp_state.specs.Events.{Event, OnClosed, OnAborted}
 use Rattle.sctp_state.specs.RetransmissionTimeout.{observe_rto}
 use Rattle.sctp_tx_outstanding.specs.Sack.{is_valid}
 use Rattle.sctp_rx.specs.DataTracker as tracker
+use Rattle.sctp_rx.specs.ReassemblyQueue.{admits_point}
 use Rattle.sctp_tx.specs.RetransmissionQueue.{nothing_in_flight, SackAnswer, Invalid, Valid, sender_if, emitted_if, answer_if}
 use Rattle.spec_endpoint.specs.Association.{Tcb, Phase, CookieEchoed, Established, ShutdownPending, ShutdownSent, ShutdownReceived, ShutdownAckSent, State, Closed, CookieWait, Open, Context, EndpointState, where_open}
 use Rattle.spec_endpoint.specs.Packets.{PacketDraft, packet_to, emit_chunk}
 use Rattle.spec_endpoint.specs.Sending.{AfterSending, is_before_cookie_ack, send_lost}
 use Rattle.spec_endpoint.specs.Shutdown.{t2_shutdown, close_with, send_shutdown, send_shutdown_ack, PhaseStep, pending_next, received_next, maybe_send_shutdown_or_ack, shutdown_in_phase, shutdown_in, shutdown, shut_by_peer, on_shutdown, complete_shutdown, out_of_the_blue, on_shutdown_ack_open, on_shutdown_ack_in, on_shutdown_ack, on_shutdown_complete, abort, close_in, close, too_many, abort_for_violation, causes_text, on_abort, on_error}
-use Rattle.spec_endpoint.specs.Data.{no_data, on_no_data, not_connected, accepts_tsn, take_fragment, fragment_if, on_data_in, on_data_if, on_data, handle_forward_tsn, handle_forward_tsn_if, handle_forward_tsn_in, on_forward}
+use Rattle.spec_endpoint.specs.Data.{no_data, on_no_data, not_connected, accepts_tsn, take_fragment, fragment_if, on_data_in, on_data_if, on_data, accepts_point, handle_forward_tsn, handle_forward_tsn_if, handle_forward_tsn_in, on_forward}
 use Rattle.spec_endpoint.specs.Sack.{clean_blocks, sample_rtt, clear_errors_if, send_after, after_sack, no_block, on_sack_in, on_sack}
 use Rattle.spec_endpoint.specs.Input.{misuse, violation}
 use Rattle.spec_endpoint.specs.Laws.{Call, Shutdown, ending, is_closed}
@@ -239,9 +241,10 @@ module _ {P : Type 0} {call : Call} {R : EndWithPacket P → EndWithPacket P →
       → R (in_open phase t m) (in_open phase (handle_forward_tsn tsn skipped t) m)
 
   does_forwarded_if : (chunk : ChunkTree) (tsn : ℕ) (skipped : List SkippedStream) → MayForward chunk tsn skipped → (b : Bool) (phase : Phase) (t : Tcb)
-      (c : Context P) → misuse t.capabilities chunk ≡ None → tracker.is_valid t.tracker.tracker (tracker.number_of t.tracker tsn) ≡ b
+      (c : Context P) → misuse t.capabilities chunk ≡ None → accepts_point tsn skipped t ≡ b
       → R (idle (Open phase t) c w) (idle (Open phase (handle_forward_tsn_if b tsn skipped t)) c w)
-  does_forwarded_if chunk tsn skipped may true phase t c right is = may phase t (idle (Open phase t) c w) right is
+  does_forwarded_if chunk tsn skipped may true phase t c right is =
+      may phase t (idle (Open phase t) c w) right (and_parts (tracker.is_valid t.tracker.tracker (tracker.number_of t.tracker tsn)) (admits_point tsn skipped t.reassembly) is).0
   does_forwarded_if chunk tsn skipped may false phase t c right is = k.same (idle (Open phase t) c w)
 
   does_forward_in : (chunk : ChunkTree) (tsn : ℕ) (skipped : List SkippedStream) → MayForward chunk tsn skipped → (s : State) (c : Context P)
@@ -249,7 +252,7 @@ module _ {P : Type 0} {call : Call} {R : EndWithPacket P → EndWithPacket P →
   does_forward_in chunk tsn skipped may Closed c right = k.same (idle Closed c w)
   does_forward_in chunk tsn skipped may (CookieWait tag first t1) c right = k.same (idle (CookieWait tag first t1) c w)
   does_forward_in chunk tsn skipped may (Open phase t) c right =
-      does_forwarded_if chunk tsn skipped may (tracker.is_valid t.tracker.tracker (tracker.number_of t.tracker tsn)) phase t c right refl
+      does_forwarded_if chunk tsn skipped may (accepts_point tsn skipped t) phase t c right refl
 
   pub does_forward_chunk : (tag tsn : ℕ) (skipped : List SkippedStream) (s : EndpointState P) → BringsChunk call tag (forward_tsn_chunk tsn skipped)
       → violation s.state (forward_tsn_chunk tsn skipped) ≡ None → R (placed s w) (placed (on_forward tsn skipped s) w)

@@ -7,7 +7,7 @@ use Rattle.sctp_rx.specs.ReassemblyQueue.{Reassembly, add, forward}
 use Rattle.spec_endpoint.specs.Association.{Tcb, Phase, Open, Context, EndpointState, Endpoint}
 use Rattle.spec_endpoint.specs.Data.{is_full, added_unless, take_fragment, fragment_if, on_data_if, on_data, skipped_if, handle_forward_tsn, handle_forward_tsn_if, handle_forward_tsn_in}
 use Rattle.spec_endpoint.specs.Input.{misuse, received_if, receive}
-use Rattle.proof_pair.specs.Taking.{opened, fragment_chunk, point_chunk, IsTaken, IsPassed, RefusedDataChangesNothing, NewDataIsAdded, InvalidPointsChangeNothing, PointsReachReassembly}
+use Rattle.proof_pair.specs.Taking.{opened, fragment_chunk, point_chunk, IsTaken, IsPassed, RefusedDataChangesNothing, NewDataIsAdded, RefusedPointsChangeNothing, PointsReachReassembly}
 
 -- ---- by tests
 
@@ -100,15 +100,15 @@ new_data is_interleaved tag tsn is_immediate f phase t e right fine = (
   is_taken tsn is_immediate f phase t e.endpoint_state.context,
 )
 
-pub invalid_points : InvalidPointsChangeNothing
-invalid_points is_interleaved tag tsn skipped phase t e right invalid =
-    point_row tag tsn skipped phase t e is_interleaved right ∙ ap (λ (b : Bool). Open phase (handle_forward_tsn_if b tsn skipped t)) invalid
+pub refused_points : RefusedPointsChangeNothing
+refused_points is_interleaved tag tsn skipped phase t e right refused =
+    point_row tag tsn skipped phase t e is_interleaved right ∙ ap (λ (b : Bool). Open phase (handle_forward_tsn_if b tsn skipped t)) refused
 
 pub points_reach : PointsReachReassembly
-points_reach is_interleaved tag tsn skipped phase t e right valid = (
+points_reach is_interleaved tag tsn skipped phase t e right accepted = (
   record {
     tcb = handle_forward_tsn tsn skipped t;
-    is = point_row tag tsn skipped phase t e is_interleaved right ∙ ap (λ (b : Bool). Open phase (handle_forward_tsn_if b tsn skipped t)) valid;
+    is = point_row tag tsn skipped phase t e is_interleaved right ∙ ap (λ (b : Bool). Open phase (handle_forward_tsn_if b tsn skipped t)) accepted;
   },
   is_passed tag tsn skipped phase t e,
 )

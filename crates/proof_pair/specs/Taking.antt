@@ -6,7 +6,7 @@ use Rattle.sctp_packet.specs.Chunk.{ChunkTree, FragmentTree, data_chunk, idata_c
 use Rattle.sctp_rx.specs.DataTracker.{number_of, is_valid, has_seen, moves_on}
 use Rattle.sctp_rx.specs.ReassemblyQueue.{add, forward}
 use Rattle.spec_endpoint.specs.Association.{Tcb, Phase, Open, Endpoint}
-use Rattle.spec_endpoint.specs.Data.{is_full, observe_tsn, advance_cumulative_tsn}
+use Rattle.spec_endpoint.specs.Data.{is_full, observe_tsn, advance_cumulative_tsn, accepts_point}
 use Rattle.spec_endpoint.specs.Input.{misuse, receive}
 
 -- an end in this phase, with this control block
@@ -62,14 +62,14 @@ NewDataIsAdded =
     → misuse t.capabilities (fragment_chunk is_interleaved tsn is_immediate f) ≡ None → is_refused tsn f t ≡ false
     → (l : Leaves (receive tag (fragment_chunk is_interleaved tsn is_immediate f) (opened phase t e)).end phase) × IsTaken tsn is_immediate f t l.tcb
 
-abbrev pub InvalidPointsChangeNothing : Type 0
-InvalidPointsChangeNothing =
+abbrev pub RefusedPointsChangeNothing : Type 0
+RefusedPointsChangeNothing =
     (is_interleaved : Bool) (tag tsn : ℕ) (skipped : List SkippedStream) (phase : Phase) (t : Tcb) (e : Endpoint (List ℕ))
-    → misuse t.capabilities (point_chunk is_interleaved tsn skipped) ≡ None → is_valid t.tracker.tracker (number_of t.tracker tsn) ≡ false
+    → misuse t.capabilities (point_chunk is_interleaved tsn skipped) ≡ None → accepts_point tsn skipped t ≡ false
     → (receive tag (point_chunk is_interleaved tsn skipped) (opened phase t e)).end.endpoint_state.state ≡ Open phase t
 
 abbrev pub PointsReachReassembly : Type 0
 PointsReachReassembly =
     (is_interleaved : Bool) (tag tsn : ℕ) (skipped : List SkippedStream) (phase : Phase) (t : Tcb) (e : Endpoint (List ℕ))
-    → misuse t.capabilities (point_chunk is_interleaved tsn skipped) ≡ None → is_valid t.tracker.tracker (number_of t.tracker tsn) ≡ true
+    → misuse t.capabilities (point_chunk is_interleaved tsn skipped) ≡ None → accepts_point tsn skipped t ≡ true
     → (l : Leaves (receive tag (point_chunk is_interleaved tsn skipped) (opened phase t e)).end phase) × IsPassed tsn skipped t l.tcb

@@ -7,7 +7,7 @@ ghost use Rattle.proof_pair.specs.Trace.{EndsAreConsistent};
 ghost use Rattle.proof_pair.specs.Handing.{AssociationsStand, HandedGrows, HandedIsAPrefix, MessagesAreHandedInOrder, OneIsHandedOut, MadeReadyGrows};
 ghost use Rattle.proof_pair.specs.Opens.{BothConnect, OneConnects};
 ghost use Rattle.proof_pair.specs.Reopens.{AnOldCookieOpens, ARestartOpens};
-ghost use Rattle.proof_pair.specs.Taking.{InvalidPointsChangeNothing, NewDataIsAdded, PointsReachReassembly, RefusedDataChangesNothing};
+ghost use Rattle.proof_pair.specs.Taking.{NewDataIsAdded, PointsReachReassembly, RefusedDataChangesNothing, RefusedPointsChangeNothing};
 
 use proof_endpoint::a_handover_and_its_restore_give_the_end_back;
 
@@ -21,12 +21,12 @@ pub fn ends_are_consistent()
 {}
 
 /// A DATA or I-DATA chunk that is refused before its TSN is observed leaves tracker and reassembly as they were; of the others
-/// each whose TSN is new is added to reassembly. A forward point reaches reassembly exactly where it moves the cumulative TSN,
-/// and one that is out of range changes nothing (RFC 9260 section 6.2, RFC 3758 section 3.6).
+/// each whose TSN is new is added to reassembly. A forward point reaches reassembly exactly where it moves the cumulative TSN; one
+/// that is out of range, or for which there is no room behind a reset, changes nothing (RFC 9260 section 6.2, RFC 3758 section 3.6).
 pub fn data_is_taken()
     ensures refused { RefusedDataChangesNothing }
     ensures added { NewDataIsAdded }
-    ensures invalid { InvalidPointsChangeNothing }
+    ensures ignored { RefusedPointsChangeNothing }
     ensures passed { PointsReachReassembly }
 {}
 

@@ -10,7 +10,7 @@ use crate::receiver::{Receiver, show_sums, take};
 use crate::words::{stream_ids, whole, word, yes_or_no};
 use sctp_packet::{Data, SkippedStream};
 use sctp_rx::ReassemblyQueue;
-use sctp_serial::{Message, StreamId, Tsn};
+use sctp_serial::{Message, Ssn, StreamId, Tsn};
 use sctp_state::SocketHandoverState;
 use sctp_state::api::handover::{
     HandoverOrderedStream, HandoverSocketState, HandoverUnorderedStream,
@@ -98,10 +98,11 @@ impl Receiver for ReassemblyQueue {
 }
 
 impl Player for Queue {
-    /// `defer TSN STREAM ..`; `sizes`; `readiness`; `write`; `restore`; and what streams take too.
+    /// `defer TSN STREAM ..`; `point TSN COUNT`; `sizes`; `readiness`; `write`; `restore`; and what streams take too.
     fn play(&mut self, alloc: Global, line: &str, output: &mut Output) {
         match word(line, 0) {
             "defer" => self.defer(alloc, line, output),
+            "point" => self.point(alloc, line, output),
             "sizes" => show_sizes(&self.queue, output),
             "readiness" => write!(output, "[{}]", self.queue.get_handover_readiness()),
             "write" => self.write(output),
@@ -118,6 +119,24 @@ impl Queue {
         output.note(self.queue.enter_deferred_reset(last, &ids));
         drop(ids);
         show_sums(&self.queue, output);
+    }
+
+    /// A forward point with so many entries.
+    fn point(&mut self, alloc: Global, line: &str, output: &mut Output) {
+        let tsn = Tsn(whole(word(line, 1)));
+        match entries(alloc, whole(word(line, 2))) {
+            Ok(skipped) => self.take_point(tsn, &skipped, output),
+            Err(fault) => output.note(Err(fault)),
+        }
+    }
+
+    /// Says whether it is admitted, and takes it then.
+    fn take_point(&mut self, tsn: Tsn, skipped: &[SkippedStream], output: &mut Output) {
+        let is_admitted = self.queue.admits_point(tsn, skipped);
+        if is_admitted {
+            output.note(self.queue.handle_forward_tsn(tsn, skipped));
+        }
+        output.push_str(yes_or_no(is_admitted));
     }
 
     /// The streams with their next numbers, then those of unordered messages.
@@ -139,6 +158,15 @@ impl Queue {
         drop(std::mem::replace(&mut self.queue, other));
         show_sums(&self.queue, output);
     }
+}
+
+/// So many entries, all for the first message of stream 1.
+fn entries(alloc: Global, count: u32) -> Result<Vec<SkippedStream>, AllocError> {
+    let mut entries = Vec::new(alloc);
+    for _ in 0..count {
+        entries.push(SkippedStream::ForwardTsn(StreamId(1), Ssn(0)))?;
+    }
+    Ok(entries)
 }
 
 fn show_ordered(streams: &[HandoverOrderedStream], output: &mut Output) {

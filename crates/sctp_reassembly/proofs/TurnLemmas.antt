@@ -101,9 +101,10 @@ none_above : (d : Held) (rs : List (List Held)) (n : ℕ) → AreRuns rank_of go
 none_above d [] n r i h = tt
 none_above d ([] ∷ rs) n r i h = absurd r
 none_above d ((e ∷ es) ∷ rs) n r i h =
-    let up : suc n ≤ e.number = above_is e.number e.index (rank_of d) (suc n) i.0 h r.0.0 in
-    (of_another n e es (above_differs e.number n up),
-    none_above (last_of e es) rs n r.1.1 (indexed_back es (flat rs) i.1) (omega (arith, h, r.0.0, linked_rises rank_of goes_on e es r.1.0)))
+    let up : suc n ≤ e.number = above_is e.number e.index (rank_of d) (suc n) i.0 h r.0.0 in (
+      of_another n e es (above_differs e.number n up),
+      none_above (last_of e es) rs n r.1.1 (indexed_back es (flat rs) i.1) (omega (arith, h, r.0.0, linked_rises rank_of goes_on e es r.1.0)),
+    )
 
 none_append : (n : ℕ) (xs ys : List (List Held)) → NoneInTurn n xs → NoneInTurn n ys → NoneInTurn n (xs ++ ys)
 none_append n [] ys h k = k

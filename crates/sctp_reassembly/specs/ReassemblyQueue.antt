@@ -1,5 +1,5 @@
 -- Fragments that were received, until the message that they belong to is ready, and ready messages, until they are taken.
-use Rattle.std.specs.Prelude.{◌≡◌, ℕ, ◌+◌, ◌-◌, ◌*◌, ◌/◌, ◌^◌, ◌<◌, ◌≤◌, ◌&&◌, ◌==◌, nat_lt, min, max, sum_by, Bool, true, false, if◌then◌else◌, Option, Some, None, is_some, unwrap_or, List, [], ◌∷◌, ◌++◌, length}
+use Rattle.std.specs.Prelude.{◌≡◌, ℕ, suc, ◌+◌, ◌-◌, ◌*◌, ◌/◌, ◌^◌, ◌<◌, ◌≤◌, ◌&&◌, ◌==◌, ◌||◌, not, nat_lt, nat_le, min, max, sum_by, Bool, true, false, if◌then◌else◌, Option, Some, None, is_some, unwrap_or, List, [], ◌∷◌, ◌++◌, length}
 use Rattle.sctp_serial.specs.declared.api.StreamId.{StreamId}
 use Rattle.sctp_serial.specs.Messages.{Message}
 use Rattle.sctp_serial.specs.Unwrapped.{origin, u32_space, nearest}
@@ -56,8 +56,18 @@ abbrev pub AreSmall : List Waiting → Type 0
 AreSmall [] = Unit {0}
 AreSmall (w ∷ ws) = (waiting_number w < 2 ^ 63) × AreSmall ws
 
-pub record IsDeferred (bytes : ℕ) (ws : List Waiting) : Type 0 where
+-- a point that waits counts with its entries
+abbrev pub waiting_entries : Waiting → ℕ
+waiting_entries (Added tsn f) = 0
+waiting_entries (Forwarded tsn es) = suc (length es)
+
+-- no more than so many wait
+abbrev pub most_waiting_entries : ℕ
+most_waiting_entries = 65536
+
+pub record IsDeferred (bytes entries : ℕ) (ws : List Waiting) : Type 0 where
   pub counted : bytes ≡ sum_by waiting_bytes ws
+  pub entered : entries ≡ min (sum_by waiting_entries ws) (2 ^ 64 - 1)
   pub small : AreSmall ws
 
 abbrev pub deferred_bytes : Option Deferred → ℕ
@@ -144,6 +154,15 @@ abbrev pub forward_or_wait : ℕ → List SkippedStream → Reassembly → Reass
 forward_or_wait n es r =
     if point_waits n r.deferred then wait_with n (entries_in true (resetting r.deferred) es) (forward_now n (entries_in false (resetting r.deferred) es) r)
     else forward_now n es r
+
+-- Where a reset is deferred, a point above its last TSN is admitted if with it no more entries wait than may. This rule is our own:
+-- another point is as lost, and whoever sent it sends it again.
+abbrev pub fits_behind : ℕ → List SkippedStream → Option Deferred → Bool
+fits_behind n es None = true
+fits_behind n es (Some d) = not (nat_lt d.last n) || nat_le (sum_by waiting_entries d.waiting + suc (length es)) most_waiting_entries
+
+abbrev pub admits_point : ℕ → List SkippedStream → Reassembly → Bool
+admits_point tsn es r = fits_behind (number_of r tsn) es r.deferred
 
 -- a fragment with this TSN
 abbrev pub add : ℕ → FragmentTree → Reassembly → Reassembly

@@ -1,6 +1,6 @@
 //! Messages put together of their fragments, and taken one after the other.
 
-ghost use Rattle.std.specs.Prelude.{◌≡◌, [], ◌+◌, ◌-◌, ◌<◌, ◌≤◌, ◌^◌, ◌++◌, nat_le, max, true, false, is_some, length, option_map, OnOk, OnErr, IsSome, IfSome, IfNone, ◌↔◌, slice_index_or, Some, unwrap_or};
+ghost use Rattle.std.specs.Prelude.{◌≡◌, [], ◌+◌, ◌-◌, ◌<◌, ◌≤◌, ◌^◌, ◌++◌, nat_le, max, true, false, is_some, length, map, option_map, OnOk, OnErr, IsSome, IfSome, IfNone, ◌↔◌, slice_index_or, Some, unwrap_or};
 ghost use Rattle.std.specs.List.{sum_by};
 ghost use Rattle.std.specs.Option.{option_to_list};
 ghost use Rattle.sctp_serial.specs.Messages.{message_of};
@@ -24,6 +24,7 @@ use sctp_chunk::{Data, SkippedStream};
 use sctp_serial::{Message, SerialNumber, StreamId, Tsn};
 use sctp_state::{HandoverReadiness, SocketHandoverState};
 use std::alloc::{AllocError, Global};
+use std::collections::VecDeque;
 use std::marker::Model;
 use waiting::Waiting;
 
@@ -58,7 +59,7 @@ impl Model for ReassemblyQueue {
 }
 
 impl ReassemblyQueue {
-    ghost use Rattle.sctp_reassembly.specs.ReassemblyQueue.{reassembly, queued_bytes, watermark, number_of, came, add_now, forward_now, is_kept_back, point_waits, keep_back, wait_with, resetting, waiting_bytes, waiting_number, saturating_sum, IsCounted, add, forward, defer, apply, apply_each, reset};
+    ghost use Rattle.sctp_reassembly.specs.ReassemblyQueue.{reassembly, queued_bytes, watermark, number_of, came, add_now, forward_now, is_kept_back, point_waits, keep_back, wait_with, resetting, waiting_bytes, waiting_number, saturating_sum, IsCounted, AreSmall, admits_point, add, forward, defer, apply, apply_each, reset};
     ghost use Rattle.sctp_reassembly.specs.ReassemblyStreams.{entries_in};
     ghost use Rattle.sctp_reassembly.specs.Waiting.{waiting_of};
 
@@ -204,6 +205,18 @@ impl ReassemblyQueue {
         match &self.deferred {
             Some(deferred) => deferred.is_behind(number) && deferred.concerns(id),
             None => false,
+        }
+    }
+
+    /// Whether a forward point is to be taken: while a reset is deferred, of those above its last TSN only so many that no more than
+    /// 65,536 entries wait, each point counted too. This rule is our own.
+    pub fn admits_point(&self, tsn: Tsn, skipped: &[SkippedStream]) -> bool
+        ensures { result ≡ admits_point tsn.0 skipped.now self.now }
+    {
+        let number = self.number_of(tsn);
+        match &self.deferred {
+            Some(deferred) => !deferred.is_behind(number) || deferred.has_room_for(skipped.len()),
+            None => true,
         }
     }
 
@@ -359,17 +372,18 @@ impl ReassemblyQueue {
 
     /// Takes all that waited, in order.
     #[tactic(auto, using(crate::proofs::ExtendsLemmas::extends_none, crate::proofs::ExtendsLemmas::extends_both, crate::proofs::ExtendsLemmas::saturating_sum_none, crate::proofs::ExtendsLemmas::counted_both))]
-    fn apply_each(&mut self, mut deferred: Deferred) -> Result<(), AllocError>
-        requires { queued_bytes self.old + sum_by waiting_bytes deferred.waiting < 2 ^ 64 }
-        ensures ok { OnOk result (self.new ≡ apply_each deferred.waiting self.old) }
+    fn apply_each(&mut self, mut waiting: VecDeque<Waiting>) -> Result<(), AllocError>
+        requires room { queued_bytes self.old + sum_by waiting_bytes (map waiting_of waiting.items) < 2 ^ 64 }
+        requires small { AreSmall (map waiting_of waiting.items) }
+        ensures ok { OnOk result (self.new ≡ apply_each (map waiting_of waiting.items) self.old) }
         ensures kept { Extends self.old.ready self.new.ready }
         ensures counted { IsCounted self.old self.new }
-        ensures bytes { queued_bytes self.new ≤ queued_bytes self.old + sum_by waiting_bytes deferred.waiting }
+        ensures bytes { queued_bytes self.new ≤ queued_bytes self.old + sum_by waiting_bytes (map waiting_of waiting.items) }
     {
         // (what a queue keeps is known once a field is read)
         let _fields = &self.ready_count;
-        while let Some(waiting) = deferred.pop() {
-            self.apply(waiting)?;
+        while let Some(next) = waiting.pop_front() {
+            self.apply(next)?;
         }
         Ok(())
     }
@@ -390,7 +404,7 @@ impl ReassemblyQueue {
     {
         self.streams.reset_streams(streams);
         match self.deferred.take() {
-            Some(deferred) => self.apply_each(deferred),
+            Some(deferred) => self.apply_each(deferred.into_waiting()),
             None => Ok(()),
         }
     }

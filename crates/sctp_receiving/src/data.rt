@@ -2,8 +2,7 @@
 
 ghost use Rattle.std.specs.Prelude.{◌≡◌, OnOk};
 ghost use Rattle.sctp_packet.specs.Views.{viewed_fragment};
-ghost use Rattle.sctp_rx.specs.DataTracker.{is_valid, number_of};
-ghost use Rattle.spec_endpoint.specs.Data.{handle_forward_tsn_if, fragment_if, accepts_tsn};
+ghost use Rattle.spec_endpoint.specs.Data.{accepts_point, handle_forward_tsn_if, fragment_if, accepts_tsn};
 ghost use Rattle.sctp_endpoint.specs.Views.{tcb_of};
 
 use sctp_endpoint::TransmissionControlBlock;
@@ -35,17 +34,24 @@ pub fn take_data(
     Ok(())
 }
 
-/// A forward point is observed. It reaches reassembly where it moves the cumulative TSN.
+/// A forward point is observed, unless it lies too far away, or has no room behind a reset. It reaches reassembly where it moves the
+/// cumulative TSN.
 pub fn skip_to(
     tcb: &mut TransmissionControlBlock,
     now: SocketTime,
     new_cumulative_tsn: Tsn,
     skipped: &[SkippedStream],
 ) -> Result<(), AllocError>
-    ensures { let n = number_of (tcb_of tcb.old).tracker new_cumulative_tsn.0 in
-        OnOk result (tcb_of tcb.new ≡ handle_forward_tsn_if (is_valid (tcb_of tcb.old).tracker.tracker n) new_cumulative_tsn.0 skipped.now (tcb_of tcb.old)) }
+    ensures { OnOk result (tcb_of tcb.new
+        ≡ handle_forward_tsn_if (accepts_point new_cumulative_tsn.0 skipped.now (tcb_of tcb.old)) new_cumulative_tsn.0 skipped.now (tcb_of tcb.old)) }
 {
     if !tcb.data_tracker.is_tsn_valid(new_cumulative_tsn) {
+        return Ok(());
+    }
+    if !tcb
+        .reassembly_queue
+        .admits_point(new_cumulative_tsn, skipped)
+    {
         return Ok(());
     }
     if tcb.data_tracker.handle_forward_tsn(now, new_cumulative_tsn) {

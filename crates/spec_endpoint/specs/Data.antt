@@ -76,14 +76,18 @@ handle_forward_tsn tsn skipped t = record t {
   reassembly = skipped_if (moves_on (number_of t.tracker tsn) t.tracker.tracker) tsn skipped t.reassembly;
 }
 
-abbrev pub handle_forward_tsn_if : (is_valid : Bool) → (tsn : ℕ) → List SkippedStream → Tcb → Tcb
+-- one that is taken: its TSN is not too far away, and what of it waits for a reset has room
+abbrev pub accepts_point : (tsn : ℕ) → List SkippedStream → Tcb → Bool
+accepts_point tsn skipped t = is_valid t.tracker.tracker (number_of t.tracker tsn) && reassembly.admits_point tsn skipped t.reassembly
+
+abbrev pub handle_forward_tsn_if : (is_accepted : Bool) → (tsn : ℕ) → List SkippedStream → Tcb → Tcb
 handle_forward_tsn_if true tsn skipped t = handle_forward_tsn tsn skipped t
 handle_forward_tsn_if false tsn skipped t = t
 
 abbrev pub handle_forward_tsn_in : State → (tsn : ℕ) → List SkippedStream → State
 handle_forward_tsn_in Closed tsn skipped = Closed
 handle_forward_tsn_in (CookieWait tag first t1) tsn skipped = CookieWait tag first t1
-handle_forward_tsn_in (Open phase t) tsn skipped = Open phase (handle_forward_tsn_if (is_valid t.tracker.tracker (number_of t.tracker tsn)) tsn skipped t)
+handle_forward_tsn_in (Open phase t) tsn skipped = Open phase (handle_forward_tsn_if (accepts_point tsn skipped t) tsn skipped t)
 
 abbrev pub on_forward : {P : Type 0} → (tsn : ℕ) → List SkippedStream → EndpointState P → EndpointState P
 on_forward tsn skipped s = record s { state = handle_forward_tsn_in s.state tsn skipped }

@@ -1,4 +1,4 @@
-use Rattle.proof_pair.proofs.TakingLemmas.{refused_data, new_data, invalid_points, points_reach}
+use Rattle.proof_pair.proofs.TakingLemmas.{refused_data, new_data, refused_points, points_reach}
 use Rattle.proof_pair.proofs.data_is_taken.Goals as goal
 
 pub returns-clause-refused : goal.returns-clause-refused
@@ -7,8 +7,8 @@ returns-clause-refused c = refused_data
 pub returns-clause-added : goal.returns-clause-added
 returns-clause-added c = new_data
 
-pub returns-clause-invalid : goal.returns-clause-invalid
-returns-clause-invalid c = invalid_points
+pub returns-clause-ignored : goal.returns-clause-ignored
+returns-clause-ignored c = refused_points
 
 pub returns-clause-passed : goal.returns-clause-passed
 returns-clause-passed c = points_reach

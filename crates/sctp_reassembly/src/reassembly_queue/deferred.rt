@@ -1,8 +1,7 @@
 //! A reset that is deferred.
 
-ghost use Rattle.std.specs.Prelude.{◌≡◌, ◌==◌, ◌+◌, ◌<◌, ◌^◌, ◌++◌, ◌∷◌, [], nat_lt, length, option_map, IfOk, IfSome, IfNone, OnOk, OnErr};
+ghost use Rattle.std.specs.Prelude.{◌≡◌, ◌==◌, ◌+◌, ◌<◌, ◌^◌, ◌++◌, ◌∷◌, [], suc, nat_lt, nat_le, length, map, IfOk, OnOk, OnErr};
 ghost use Rattle.std.specs.List.{sum_by};
-ghost use Rattle.std.specs.Option.{option_to_list};
 ghost use Rattle.sctp_reassembly.specs.ReassemblyStreams.{is_named};
 ghost use Rattle.sctp_reassembly.specs.Waiting.{waiting_of};
 
@@ -20,7 +19,12 @@ pub(crate) struct Deferred {
     streams: StreamIdSet,
     waiting: VecDeque<Waiting>,
     bytes: usize,
+    // of forward points, with each point itself
+    entries: usize,
 }
+
+/// No more entries of forward points wait, with each point itself.
+const MOST_ENTRIES: usize = 65_536;
 
 impl Model for Deferred {
     ghost use Rattle.std.specs.Prelude.{map};
@@ -31,11 +35,11 @@ impl Model for Deferred {
 
     ghost view = { λ d. record { last = d.last; streams = d.streams; waiting = map waiting_of d.waiting.items } };
 
-    ghost invariant = { λ d. IsDeferred d.bytes (map waiting_of d.waiting.items) };
+    ghost invariant = { λ d. IsDeferred d.bytes d.entries (map waiting_of d.waiting.items) };
 }
 
 impl Deferred {
-    ghost use Rattle.sctp_reassembly.specs.ReassemblyQueue.{waiting_bytes, waiting_number};
+    ghost use Rattle.sctp_reassembly.specs.ReassemblyQueue.{waiting_bytes, waiting_number, waiting_entries, most_waiting_entries, AreSmall};
 
     /// A reset for which nothing waits.
     pub fn new(alloc: Global, last: u64, ids: &[StreamId]) -> Result<Deferred, AllocError>
@@ -46,6 +50,7 @@ impl Deferred {
             streams: StreamIdSet::new(alloc, ids)?,
             waiting: VecDeque::new(alloc),
             bytes: 0,
+            entries: 0,
         })
     }
 
@@ -92,25 +97,30 @@ impl Deferred {
         ensures err { OnErr result (self.new ≡ self.old) }
     {
         let bytes = bytes_of(&waiting);
+        let entries = entries_of(&waiting);
         self.waiting.push_back(waiting)?;
         self.bytes += bytes;
+        self.entries = self.entries.saturating_add(entries);
         Ok(())
     }
 
-    /// Takes the first that waits.
-    pub fn pop(&mut self) -> Option<Waiting>
-        ensures value { self.old.waiting ≡ option_to_list (option_map waiting_of result) ++ self.new.waiting }
-        ensures none { IfNone result (self.old.waiting ≡ []) }
-        ensures others { self.new ≡ record self.old { waiting = self.new.waiting } }
-        ensures small { IfSome result (λ w. waiting_number (waiting_of w) < 2 ^ 63) }
+    /// Whether a forward point with so many entries may wait too.
+    pub fn has_room_for(&self, count: usize) -> bool
+        ensures { result ≡ nat_le (sum_by waiting_entries self.now.waiting + suc count) most_waiting_entries }
     {
-        let waiting = self.waiting.pop_front()?;
-        self.bytes -= bytes_of(&waiting);
-        Some(waiting)
+        self.entries < MOST_ENTRIES && count < MOST_ENTRIES - self.entries
+    }
+
+    /// What waits, in order.
+    pub fn into_waiting(self) -> VecDeque<Waiting>
+        ensures value { map waiting_of result.items ≡ self.waiting }
+        ensures small { AreSmall (map waiting_of result.items) }
+    {
+        self.waiting
     }
 }
 
-ghost use Rattle.sctp_reassembly.specs.ReassemblyQueue.{waiting_in, waiting_bytes};
+ghost use Rattle.sctp_reassembly.specs.ReassemblyQueue.{waiting_in, waiting_bytes, waiting_entries};
 
 /// Whether nothing waits for a reset.
 pub(crate) fn none_waits(deferred: &Option<Deferred>) -> bool
@@ -119,6 +129,15 @@ pub(crate) fn none_waits(deferred: &Option<Deferred>) -> bool
     match deferred {
         Some(deferred) => deferred.is_empty(),
         None => true,
+    }
+}
+
+fn entries_of(waiting: &Waiting) -> usize
+    ensures { result ≡ waiting_entries (waiting_of waiting.now) }
+{
+    match waiting {
+        Waiting::Fragment(_, _) => 0,
+        Waiting::Point(_, entries) => entries.len() + 1,
     }
 }
 

@@ -20,7 +20,7 @@ returns-clause-before g c =
     let f = held_of g.K.ReassemblyKey.number g.K.ReassemblyKey.index in
     none_taken_all f c.args.intervals.now.items c.args.number c.len-2.result (omega arith)
     (elim c.loop-place-test.branch [
-      then-loop-place-test+else-has_number w ↦ none_at_all f c.args.intervals.now.items c.loop-place.place w.index.result.now (omega arith) w.index.ensures c.args.number c.requires.runs c.requires.small c.loop-place.invariant.from
+      | then-loop-place-test+else-has_number w ↦ none_at_all f c.args.intervals.now.items c.loop-place.place w.index.result.now (omega arith) w.index.ensures c.args.number c.requires.runs c.requires.small c.loop-place.invariant.from
           c.loop-place.invariant.before w.has_number.result w.has_number.ensures (search rules)
-    | else-loop-place-test w ↦ none_before_end f c.args.intervals.now.items c.args.number c.loop-place.place (omega arith) c.loop-place.invariant.before
+      | else-loop-place-test w ↦ none_before_end f c.args.intervals.now.items c.args.number c.loop-place.place (omega arith) c.loop-place.invariant.before
     ])
