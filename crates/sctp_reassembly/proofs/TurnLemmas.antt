@@ -6,12 +6,12 @@ use Rattle.std.proofs.lemmas.List.{take_all}
 use Rattle.sctp_fragments.specs.declared.interval.Entry.{Entry}
 use Rattle.sctp_fragments.specs.declared.interval.Interval.{Interval}
 use Rattle.sctp_fragments.specs.ReassemblyKey.{pair_rank}
-use Rattle.sctp_fragments.specs.Runs.{flat, last_of, end_of, is_held, put_in, with_item, from_rank, AreRuns, AllBelow, IsBelow, Starts}
+use Rattle.sctp_fragments.specs.Runs.{flat, last_of, end_of, is_held, put_in, with_item, from_rank, AreRuns, AllBelow, IsBelow}
 use Rattle.sctp_fragments.specs.Held.{Held, rank_of, goes_on, intervals_of, is_complete, is_in_turn, NoneInTurn, IsTaken}
 use Rattle.sctp_fragments.specs.Interval.{run_of, lists_of, entries_of, AreIndexed, StartsFrom, StartsInTurn, first_below, without_first}
 use Rattle.sctp_fragments.proofs.RunLemmas.{flat_append, AreRuns_front, AreRuns_back, AllBelow_runs, linked_rises}
 use Rattle.sctp_fragments.proofs.PlaceLemmas.{cons, some_run, lists_of_append, read_at}
-use Rattle.sctp_reassembly.specs.Delivery.{OrderedStream, OrderedDelivery, deliver, at_rest, ordered_forward}
+use Rattle.sctp_reassembly.specs.Delivery.{OrderedStream, deliver, at_rest, ordered_forward}
 use Rattle.sctp_reassembly.proofs.InsertLemmas.{split_at, in_two}
 use Rattle.sctp_reassembly.proofs.FindLemmas.{not_found}
 use Rattle.sctp_reassembly.proofs.DeliverLemmas.{deliver_ends}

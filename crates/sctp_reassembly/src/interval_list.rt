@@ -145,7 +145,7 @@ impl<K: ReassemblyKey> IntervalList<K> {
     }
 
     /// Whether a fragment is before the key; else there is nothing to drop.
-    pub fn begins_below(&self, key: K) -> bool
+    pub(crate) fn begins_below(&self, key: K) -> bool
         ensures { result ≡ false → from_rank rank_of (rank_at K.number K.index key) self.now ≡ self.now }
     {
         begins_below(&self.intervals, key)

@@ -1,6 +1,4 @@
-use Rattle.std.proofs.Common.{◌+◌, ◌-◌, ◌/◌, ◌≤◌, arith}
-use Rattle.std.proofs.lemmas.Bool.Decides.{nat_tests}
-use Rattle.sctp_fragments.specs.ReassemblyKey.{rank_at}
+use Rattle.std.proofs.Common.{◌+◌, ◌-◌, ◌/◌, arith}
 use Rattle.sctp_fragments.specs.Interval.{held_of}
 use Rattle.sctp_fragments.proofs.PlaceLemmas.{emitted_less, emitted_not_less}
 use Rattle.sctp_reassembly.proofs.TurnLemmas.{none_up_to, starts_here}

@@ -1,4 +1,4 @@
-use Rattle.std.proofs.Common.{◌≡◌, length, false, arith, rules}
+use Rattle.std.proofs.Common.{◌≡◌, false, arith, rules}
 use Rattle.sctp_fragments.specs.Interval.{held_of}
 use Rattle.sctp_reassembly.proofs.ListLemmas.{none_more}
 use Rattle.sctp_reassembly.proofs.TurnLemmas.{starts_after, none_at_all, none_taken_all, none_before_end}

@@ -1,4 +1,4 @@
-use Rattle.std.proofs.Common.{◌≡◌, ◌≤◌, ap, sym, suc, ◌∙◌, arith}
+use Rattle.std.proofs.Common.{◌≡◌, ap, sym, suc, ◌∙◌, arith}
 use Rattle.sctp_fragments.specs.ReassemblyKey.{pair_rank, rank_at}
 use Rattle.sctp_fragments.specs.Runs.{from_rank}
 use Rattle.sctp_fragments.specs.Held.{rank_of}
