@@ -1,4 +1,4 @@
-"""Packets for run_socket_script, whose checksum is the sum of a packet's bytes, and what one costs its socket a: the processor time and
+"""Packets for run_socket_script, whose checksum is the sum of a packet's bytes, and what one costs its socket b: the processor time and
 the instructions of the call, and the bytes that are on the heap behind it and weren't before. For `attack` and `fuzz`."""
 import os, re, struct, subprocess, sys, tempfile
 
@@ -7,14 +7,19 @@ RT = os.environ.get("RT", "rt")
 PROGRAM = f"{TOP}/crates/run_socket_script/out/run_socket_script"
 HEADER = 12
 SMALL, LARGE = 1500, 65532
-# Counts what is on the heap, and tells it beside the processor time at each line that is printed.
+# Counts what is on the heap. Of the function at WATCHED it tells, as each call begins and ends, the bytes there and the processor time:
+# an int3 stands at its first byte, and during a call at the one to which it returns.
 WATCH = r"""
 #define _GNU_SOURCE
 #include <dlfcn.h>
+#include <link.h>
 #include <malloc.h>
+#include <signal.h>
 #include <stdio.h>
-#include <sys/syscall.h>
+#include <stdlib.h>
+#include <sys/mman.h>
 #include <time.h>
+#include <ucontext.h>
 #include <unistd.h>
 static long live;
 void *malloc(size_t size) {
@@ -38,15 +43,46 @@ void *realloc(void *old, size_t size) {
     if (made) live += malloc_usable_size(made) + 8 - before;
     return made;
 }
-ssize_t write(int to, const void *bytes, size_t size) {
-    if (to == 1) {
-        struct timespec now;
-        char text[80];
-        clock_gettime(CLOCK_PROCESS_CPUTIME_ID, &now);
-        int long_ = snprintf(text, sizeof text, "%zu %ld %lld\n", size, live, now.tv_sec * 1000000000ll + now.tv_nsec);
-        syscall(SYS_write, 2, text, long_);
+static unsigned char *entry, at_entry, *back, at_back;
+static void tell(void) {
+    struct timespec now;
+    char text[80];
+    clock_gettime(CLOCK_PROCESS_CPUTIME_ID, &now);
+    int size = snprintf(text, sizeof text, "%lld %ld\n", now.tv_sec * 1000000000ll + now.tv_nsec, live);
+    if (write(2, text, size) != size) abort();
+}
+static void on_trap(int number, siginfo_t *info, void *state) {
+    greg_t *registers = ((ucontext_t *)state)->uc_mcontext.gregs;
+    unsigned char *at = (unsigned char *)registers[REG_RIP] - 1;
+    registers[REG_RIP] = (greg_t)at;
+    if (at == entry) {
+        back = *(unsigned char **)registers[REG_RSP];
+        at_back = *back;
+        *entry = at_entry;
+        *back = 0xCC;
+        tell();
+    } else {
+        tell();
+        *back = at_back;
+        *entry = 0xCC;
     }
-    return syscall(SYS_write, to, bytes, size);
+}
+static int open_code(struct dl_phdr_info *program, size_t size, void *data) {
+    for (int i = 0; i < program->dlpi_phnum; i++) {
+        const ElfW(Phdr) *part = &program->dlpi_phdr[i];
+        unsigned long start = (program->dlpi_addr + part->p_vaddr) & -4096ul;
+        if (part->p_type == PT_LOAD && part->p_flags & PF_X)
+            mprotect((void *)start, program->dlpi_addr + part->p_vaddr + part->p_memsz - start, PROT_READ | PROT_WRITE | PROT_EXEC);
+    }
+    entry = (unsigned char *)program->dlpi_addr + strtoul(getenv("WATCHED"), 0, 16);
+    return 1;
+}
+__attribute__((constructor)) static void watch(void) {
+    struct sigaction action = {.sa_sigaction = on_trap, .sa_flags = SA_SIGINFO};
+    dl_iterate_phdr(open_code, 0);
+    sigaction(SIGTRAP, &action, 0);
+    at_entry = *entry;
+    *entry = 0xCC;
 }
 """
 
@@ -115,7 +151,7 @@ def fill(size, one):
         number += 1
 
 
-# With these lines a is in the state when the packet comes. Tag and first TSN of b, and the tag of a, are those of the script's words.
+# With these lines b is connected when the packet comes. Tags and first TSNs are those of the script's words.
 OPEN = "connect a\ngive a 0 b\ngive b 0 a\ngive a 1 b\ngive b 1 a\n"
 
 
@@ -126,30 +162,22 @@ def build():
 
 
 class Watch:
-    """Runs scripts and tells what each `take` cost."""
+    """Runs a script and tells what its last packet cost."""
 
     def __init__(self, room):
         self.library = f"{room}/watch.so"
         open(f"{room}/watch.c", "w").write(WATCH)
         subprocess.run(["gcc", "-O1", "-shared", "-fPIC", "-o", self.library, f"{room}/watch.c", "-ldl"], check=True)
+        names = subprocess.run(["nm", PROGRAM], capture_output=True, text=True, check=True).stdout.splitlines()
+        (self.watched,) = [name.split()[0] for name in names if "handle_input" in name]
 
-    def run(self, rows):
-        """Of each row, lists of (processor nanoseconds, bytes on the heap) at its `clock` lines."""
-        text = "".join(f"# {number}\n{row}" for number, row in enumerate(rows))
-        env = {**os.environ, "LD_PRELOAD": self.library}
-        ran = subprocess.run([PROGRAM], input=text.encode(), capture_output=True, env=env)
-        marks, at, out = {}, 0, ran.stdout
-        row = None
-        for line in ran.stderr.decode().splitlines():
-            size, live, nanos = map(int, line.split())
-            told = out[at : at + size].decode()
-            at += size
-            if told.startswith("# "):
-                row = int(told[2:])
-                marks[row] = []
-            elif " clock " in told:
-                marks[row].append((nanos, live))
-        return [marks.get(number, []) for number in range(len(rows))], out.decode(), ran.returncode
+    def run(self, row):
+        """Processor nanoseconds of the call that the last packet makes, and bytes that it leaves on the heap; what is printed; the status."""
+        env = {**os.environ, "LD_PRELOAD": self.library, "WATCHED": self.watched}
+        ran = subprocess.run([PROGRAM], input=f"# one\n{row}".encode(), capture_output=True, env=env)
+        told = [tuple(map(int, line.split())) for line in ran.stderr.decode().splitlines()]
+        (start, before), (end, after) = told[-2:] if len(told) > 1 else ((0, 0), (0, 0))
+        return (end - start, after - before), ran.stdout.decode(), ran.returncode
 
 
 def instructions(row, function):
