@@ -3,3 +3,4 @@ pub mod FlightLemmas
 pub mod IdleLemmas
 pub mod PartlyLemmas
 pub mod SendingLemmas
+pub mod UnfinishedLemmas

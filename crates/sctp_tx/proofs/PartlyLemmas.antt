@@ -1,89 +1,98 @@
 -- A packet that was being filled: what the call leaves that ran out of memory.
-use Rattle.std.proofs.Common.{◌≡◌, ℕ, ◌<◌, false, List, [], refl, ap, sym, subst, ◌∙◌}
-use Rattle.sctp_state.specs.Events.{Emitted}
-use Rattle.sctp_tx_outstanding.specs.Item.{Item}
-use Rattle.sctp_tx_outstanding.specs.OutstandingData.{Outstanding, append_item}
-use Rattle.sctp_tx_outstanding.specs.Resending.{resent_below, empty_packet}
-use Rattle.sctp_tx_outstanding.specs.Keeps.{Keeps}
-use Rattle.sctp_tx_outstanding.proofs.ItemsStayLemmas.{keeps_all, keeps_on, resending_keeps, new_items_keep}
-use Rattle.sctp_tx_queue.specs.SendQueue.{Queue}
-use Rattle.sctp_tx_queue.specs.Produced.{Produced, produce}
-use Rattle.sctp_tx_queue.specs.Settings.{discard}
-use Rattle.sctp_tx_queue.specs.Interrupted.{Interrupted}
-use Rattle.sctp_tx_queue.proofs.InOrderLemmas.{produced_in_order, discarded_in_order}
-use Rattle.sctp_tx_queue.proofs.NumberLemmas.{calls_number}
-use Rattle.sctp_tx_queue.proofs.RestLemmas.{calls_leave_rests}
-use Rattle.sctp_tx_queue.proofs.UnfinishedLemmas.{order_kept, numbers_kept, rests_kept}
-use Rattle.sctp_tx.specs.RetransmissionQueue.{Sender}
-use Rattle.sctp_tx.specs.Resent.{resent_by}
-use Rattle.sctp_tx.specs.Sending.{item_of, sent_new}
-use Rattle.sctp_tx.specs.Interrupted.{PartlySent, PartlyTaken}
+use Rattle.std.proofs.Common.{◌≡◌, ℕ, zero, suc, Some, List, [], ◌∷◌, take, drop, refl, ap, sym, subst, ◌∙◌, inl, inr}
 use Rattle.std.specs.Prelude.{Result, Ok, Err, OnErr}
+use Rattle.sctp_state.specs.Events.{Emitted, first_of}
+use Rattle.sctp_tx_outstanding.specs.OutstandingData.{Discard, Outstanding}
+use Rattle.sctp_tx_queue.specs.SendQueue.{Queue}
+use Rattle.sctp_tx_queue.specs.Settings.{Changed, discard}
+use Rattle.sctp_tx_queue.specs.Interrupted.{Same}
+use Rattle.sctp_tx.specs.RetransmissionQueue.{Sender}
+use Rattle.sctp_tx.specs.Resent.{resent}
+use Rattle.sctp_tx.specs.Sending.{Filling, next_turn, discard_all, without_discards, filled_with}
+use Rattle.sctp_tx.specs.Interrupted.{Stands, SomeDiscarded, PartlyResent, TurnStopped, after_turns, PartlyFilled, PartlySent}
 
 pub on_err : {T E : Type 0} (r : Result T E) (P : Type 0) → P → OnErr r P
 on_err (Ok x) P p = tt
 on_err (Err e) P p = p
 
--- ---- the sender
+-- ---- messages that were given up
 
-pub sent_none : (s : Sender) → PartlySent s s
-sent_none s = record { items = keeps_all s.outstanding.items; rest = refl }
+-- so many left the queue
+pub record Discarding (d : Outstanding) (q : Queue) (emitted : Emitted (List ℕ)) (after : Outstanding) (rest : Queue) (later : Emitted (List ℕ)) : Type 0 where
+  pub count : ℕ
+  pub items : after ≡ record d { items = record d.items { discards = drop count d.items.discards } }
+  pub queue : Stands (discard_all (take count d.items.discards) q emitted) rest later
 
-pub sent_on : (s t u : Sender) → PartlySent s t → PartlySent t u → PartlySent s u
-sent_on s t u a b = record {
-  items = keeps_on s.outstanding.items t.outstanding.items u.outstanding.items a.items b.items;
-  rest = b.rest ∙ ap (λ (x : Sender). record x { outstanding = u.outstanding; windows = record x.windows { rwnd = u.windows.rwnd }; rtx_packets = u.rtx_packets; rtx_bytes = u.rtx_bytes }) a.rest;
-}
+pub discarding_none : (d : Outstanding) (q : Queue) (emitted : Emitted (List ℕ)) → Discarding d q emitted d q emitted
+discarding_none d q emitted = record { count = 0; items = refl; queue = record { queue = refl; events = refl } }
 
-abbrev pub without : Outstanding → Outstanding
-without d = record d { items = record d.items { discards = [] } }
+without_first : (count : ℕ) (ds : List Discard) → drop 1 (drop count ds) ≡ drop (suc count) ds
+without_first zero ds = refl
+without_first (suc count) [] = refl
+without_first (suc count) (d ∷ ds) = without_first count ds
 
--- discards were taken out
-pub discarded_sent : (s : Sender) (d : Outstanding) → without d ≡ without s.outstanding → PartlySent s (record s { outstanding = d })
-discarded_sent s d e =
-    let h : Keeps (without s.outstanding).items (without d).items = subst (λ (x : Outstanding). Keeps (without s.outstanding).items x.items) (sym e) (keeps_all (without s.outstanding).items) in
-    record { items = record { acked = h.acked; items = h.items }; rest = refl }
+one_more : (count : ℕ) (ds : List Discard) (next : Discard) (q : Queue) (emitted : Emitted (List ℕ)) → first_of (drop count ds) ≡ Some next
+    → discard_all (take (suc count) ds) q emitted ≡ (let x = discard_all (take count ds) q emitted in discard next.stream next.number x.queue x.emitted)
+one_more zero [] next q emitted is = absurd (cc)
+one_more zero (d ∷ ds) next q emitted is =
+    let same : d ≡ next = cc in
+    subst (λ (n : Discard). discard_all (d ∷ []) q emitted ≡ discard n.stream n.number q emitted) same refl
+one_more (suc count) [] next q emitted is = absurd (cc)
+one_more (suc count) (d ∷ ds) next q emitted is = let x = discard d.stream d.number q emitted in one_more count ds next x.queue x.emitted is
 
--- some of the items were sent again
-pub some_resent : (room window count : ℕ) (s : Sender) → PartlySent s (record s { outstanding = (resent_below false count (empty_packet room window s.outstanding)).outstanding })
-some_resent room window count s = record { items = resending_keeps false count (empty_packet room window s.outstanding); rest = refl }
+module _ (d : Outstanding) (q : Queue) (emitted : Emitted (List ℕ)) (m : Outstanding) (r : Queue) (sofar : Emitted (List ℕ)) (h : Discarding d q emitted m r sofar)
+    (next : Discard) (after : Outstanding) (named : first_of m.items.discards ≡ Some next) (others : after ≡ record m { items = record m.items { discards = drop 1 m.items.discards } }) where
+  items_on : after ≡ record d { items = record d.items { discards = drop (suc h.count) d.items.discards } }
+  items_on =
+      others ∙ ap (λ (x : Outstanding). record x { items = record x.items { discards = drop 1 x.items.discards } }) h.items
+      ∙ ap (λ (ds : List Discard). record d { items = record d.items { discards = ds } }) (without_first h.count d.items.discards)
 
-pub all_resent : (room window count : ℕ) (s : Sender) → PartlySent s (resent_by s (resent_below false count (empty_packet room window s.outstanding)))
-all_resent room window count s = record { items = resending_keeps false count (empty_packet room window s.outstanding); rest = refl }
+  pub discarding_on : (rest : Queue) (later : Emitted (List ℕ)) → rest ≡ (discard next.stream next.number r sofar).queue → later ≡ (discard next.stream next.number r sofar).emitted → Discarding d q emitted after rest later
+  discarding_on rest later er el =
+      let x : Changed (List ℕ) = discard_all (take h.count d.items.discards) q emitted in
+      let first : first_of (drop h.count d.items.discards) ≡ Some next = sym (ap (λ (o : Outstanding). first_of o.items.discards) h.items) ∙ named in
+      let here : discard next.stream next.number r sofar ≡ discard next.stream next.number x.queue x.emitted = rw (h.queue.queue, h.queue.events) refl in
+      let is : discard next.stream next.number r sofar ≡ discard_all (take (suc h.count) d.items.discards) q emitted = here ∙ sym (one_more h.count d.items.discards next q emitted first) in
+      record {
+        count = suc h.count;
+        items = items_on;
+        queue = record { queue = er ∙ ap (λ (c : Changed (List ℕ)). c.queue) is; events = el ∙ ap (λ (c : Changed (List ℕ)). c.emitted) is };
+      }
 
--- a new one is there
-pub new_sent : (i : Item) (s : Sender) → PartlySent s (record s { outstanding = record s.outstanding { items = append_item i s.outstanding.items } })
-new_sent i s = record { items = new_items_keep i s.outstanding.items; rest = refl }
-
-pub took_sent : (now : ℕ) (p : Produced) (s : Sender) → PartlySent s (sent_new now p s)
-took_sent now p s = record { items = new_items_keep (item_of now p) s.outstanding.items; rest = refl }
-
--- ---- the send queue
-
-pub taken_none : (q : Queue) → PartlyTaken q q
-taken_none q = record { order = λ h. h; numbers = λ h. h; rests = λ h. h }
-
-pub taken_on : (q r t : Queue) → PartlyTaken q r → PartlyTaken r t → PartlyTaken q t
-taken_on q r t a b = record { order = λ h. b.order (a.order h); numbers = λ h. b.numbers (a.numbers h); rests = λ h. b.rests (a.rests h) }
-
-module _ (emitted : Emitted (List ℕ)) where
-  pub discarded_taken : (id message : ℕ) (q : Queue) → PartlyTaken q (discard id message q emitted).queue
-  discarded_taken id message q = record {
-    order = λ h. discarded_in_order id message q emitted h;
-    numbers = λ h. calls_number.discarded id message q emitted h;
-    rests = λ h. calls_leave_rests.discarded id message q emitted h;
+  pub discarding_stops : (rest : Queue) (later : Emitted (List ℕ)) → Same r sofar rest later → SomeDiscarded d q emitted after rest later
+  discarding_stops rest later same = record {
+    count = h.count;
+    items = items_on;
+    queue = record { queue = same.queue ∙ h.queue.queue; events = same.events ∙ h.queue.events };
   }
 
-  pub made_taken : (now size : ℕ) (q : Queue) → 0 < size → PartlyTaken q (produce now size q emitted).queue
-  made_taken now size q some = record {
-    order = λ h. produced_in_order now size q emitted some h;
-    numbers = λ h. calls_number.produced now size q emitted h;
-    rests = λ h. calls_leave_rests.produced now size q emitted h;
-  }
+-- ---- new fragments
 
-  pub stopped_taken : (now size : ℕ) (q after : Queue) (later : Emitted (List ℕ)) → 0 < size → Interrupted now size q emitted after later → PartlyTaken q after
-  stopped_taken now size q after later some i = record {
-    order = λ h. order_kept.produced now size q emitted after later some h i;
-    numbers = λ h. numbers_kept.produced now size q emitted after later some h i;
-    rests = λ h. rests_kept.produced now size q emitted after later some h i;
-  }
+-- so many turns were taken
+pub record Turned (now : ℕ) (start x : Filling (List ℕ)) : Type 0 where
+  pub turns : ℕ
+  pub is : x ≡ after_turns turns now start
+
+module _ (now : ℕ) (start : Filling (List ℕ)) where
+  pub turned_none : Turned now start start
+  turned_none = record { turns = 0; is = refl }
+
+  module _ (x : Filling (List ℕ)) (h : Turned now start x) where
+    pub turned_on : (y : Filling (List ℕ)) → y ≡ (next_turn now x).filling → Turned now start y
+    turned_on y is = record { turns = suc h.turns; is = is ∙ ap (λ (z : Filling (List ℕ)). (next_turn now z).filling) h.is }
+
+    pub turned_stops : (after : Sender) (rest : Queue) (later : Emitted (List ℕ)) → TurnStopped now x after rest later → PartlyFilled now start after rest later
+    turned_stops after rest later stopped = record { turns = h.turns; turn = subst (λ (z : Filling (List ℕ)). TurnStopped now z after rest later) h.is stopped }
+
+-- ---- the whole
+
+module _ (now most : ℕ) (s : Sender) (q : Queue) (emitted : Emitted (List ℕ)) (after : Sender) (rest : Queue) (later : Emitted (List ℕ)) where
+  pub stopped_discarding : (d : Outstanding) → after ≡ record s { outstanding = d } → SomeDiscarded s.outstanding q emitted d rest later → PartlySent now most s q emitted after rest later
+  stopped_discarding d is h = subst (λ (t : Sender). PartlySent now most s q emitted t rest later) (sym is) (inl (record { discarded = h; alone = refl }))
+
+  pub stopped_resending : (x : Sender) → x ≡ without_discards s → PartlyResent most x after → Stands (discard_all s.outstanding.items.discards q emitted) rest later → PartlySent now most s q emitted after rest later
+  stopped_resending x is h stands = inr (inl (record { sender = subst (λ (t : Sender). PartlyResent most t after) is h; queue = stands }))
+
+  pub stopped_filling : (x : Filling (List ℕ)) → x ≡ filled_with most (without_discards s) (resent most (without_discards s)) (discard_all s.outstanding.items.discards q emitted) → PartlyFilled now x after rest later
+      → PartlySent now most s q emitted after rest later
+  stopped_filling x is h = inr (inr (subst (λ (z : Filling (List ℕ)). PartlyFilled now z after rest later) is h))

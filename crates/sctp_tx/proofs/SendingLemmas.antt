@@ -1,5 +1,5 @@
 -- What the send queue gives fits what it was offered; and a packet that is filled, turn by turn.
-use Rattle.std.proofs.Common.{◌≡◌, ℕ, zero, suc, ◌+◌, ◌≤◌, ◌<◌, Bool, true, false, Option, Some, None, List, [], ◌∷◌, length, drop, IfSome, arith}
+use Rattle.std.proofs.Common.{◌≡◌, ℕ, zero, suc, ◌+◌, ◌≤◌, ◌<◌, Bool, true, false, Option, Some, None, List, [], ◌∷◌, length, drop, IfSome, refl, arith}
 use Rattle.std.specs.Prelude.{unwrap_or, option_map, is_some, if◌then◌else◌}
 use Rattle.std.proofs.lemmas.List.{length-take}
 use Rattle.sctp_chunk.specs.Chunk.{FragmentTree}
@@ -67,3 +67,11 @@ module _ {P : Type 0} (now turns left : ℕ) (s : Sender) (q : Queue) (emitted :
     goes_by : (k : ℕ) → left < k → fill k now before ≡ all → (j : ℕ) × (rest < j) × (fill j now (filling t r later longer rest) ≡ all)
     goes_by zero enough is = absurd (omega (arith, enough))
     goes_by (suc k) enough is = (k, omega (arith, enough, less), rw (es, eq, et, ec, el) (rw more at is))
+
+-- what a turn gives, put together
+module _ {P : Type 0} (now left : ℕ) (s : Sender) (q : Queue) (emitted : Emitted P) (chunks : List (ℕ × FragmentTree)) where
+  pub on_by : (t : Sender) (r : Queue) (later : Emitted P) (longer : List (ℕ × FragmentTree)) (rest : ℕ)
+      → t ≡ (next_turn now (filling s q emitted chunks left)).filling.sender → r ≡ (next_turn now (filling s q emitted chunks left)).filling.queue
+      → later ≡ (next_turn now (filling s q emitted chunks left)).filling.emitted → longer ≡ (next_turn now (filling s q emitted chunks left)).filling.chunks
+      → rest ≡ (next_turn now (filling s q emitted chunks left)).filling.left → filling t r later longer rest ≡ (next_turn now (filling s q emitted chunks left)).filling
+  on_by t r later longer rest es eq et ec el = rw (es, eq, et, ec, el) refl

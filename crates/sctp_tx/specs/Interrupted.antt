@@ -1,15 +1,19 @@
 -- What a call of the sender leaves that ran out of memory before its end: the items took its first steps.
-use Rattle.std.specs.Prelude.{◌≡◌, ◌⊎◌, ℕ, not, true, false, List}
+use Rattle.std.specs.Prelude.{◌≡◌, ◌⊎◌, ◌<◌, ◌-◌, ℕ, zero, suc, min, not, true, false, Some, List, take, drop}
 use Rattle.sctp_chunk.specs.declared.sack.GapAckBlock.{GapAckBlock}
 use Rattle.sctp_state.specs.Events.{Emitted}
 use Rattle.sctp_state.specs.Timer.{expire}
 use Rattle.sctp_tx_outstanding.specs.Interrupted.{Same, SomeNacked, SomeExpired, SackPartlyTaken}
-use Rattle.sctp_tx_outstanding.specs.Keeps.{Keeps}
+use Rattle.sctp_tx_outstanding.specs.OutstandingData.{Outstanding, append_item}
 use Rattle.sctp_tx_outstanding.specs.Resending.{SomeResent, empty_packet}
 use Rattle.sctp_tx_queue.specs.SendQueue.{Queue}
-use Rattle.sctp_tx_queue.specs.InOrder.{IsInOrder, IsNumbered, HasRests}
+use Rattle.sctp_tx_queue.specs.Produced.{Produced, produce}
+use Rattle.sctp_tx_queue.specs.Settings.{Changed}
+use Rattle.sctp_tx_queue.specs.Interrupted.{Interrupted}
 use Rattle.sctp_tx.specs.Windows.{is_open, timed_out}
 use Rattle.sctp_tx.specs.RetransmissionQueue.{Sender}
+use Rattle.sctp_tx.specs.Resent.{flight, may_send_new, resent}
+use Rattle.sctp_tx.specs.Sending.{Filling, offered_payload, item_of, next_turn, discard_all, without_discards, filled_with}
 
 -- the windows, the timer and the counts are as they were
 abbrev pub ItemsAlone : Sender → Sender → Type 0
@@ -35,21 +39,75 @@ pub record PartlyResentFast (most : ℕ) (s after : Sender) : Type 0 where
   pub items : SomeResent true (empty_packet most 0 s.outstanding) after.outstanding
   pub alone : ItemsAlone s after
 
--- ---- a packet that was being filled
+-- ---- a packet that was being filled (`send`): it is handed out to none
 
--- each item stays at its place, and others may stand behind them; the windows, but for what the peer's has left, and the timer
--- are as they were
-pub record PartlySent (s after : Sender) : Type 0 where
-  pub items : Keeps s.outstanding.items after.outstanding.items
-  pub rest : after ≡ record s {
-    outstanding = after.outstanding;
-    windows = record s.windows { rwnd = after.windows.rwnd };
-    rtx_packets = after.rtx_packets;
-    rtx_bytes = after.rtx_bytes;
-  }
+-- the queue and what was emitted are those of a step
+pub record Stands {P : Type 0} (x : Changed P) (rest : Queue) (later : Emitted P) : Type 0 where
+  pub queue : rest ≡ x.queue
+  pub events : later ≡ x.emitted
 
--- of the send queue fragments and discarded messages may have left; its order holds as before
-pub record PartlyTaken (q after : Queue) : Type 0 where
-  pub order : IsInOrder q → IsInOrder after
-  pub numbers : IsNumbered q → IsNumbered after
-  pub rests : HasRests q → HasRests after
+-- of the messages that were given up so many left the queue. The next one stays there and is not named any more
+pub record SomeDiscarded {P : Type 0} (d : Outstanding) (q : Queue) (emitted : Emitted P) (after : Outstanding) (rest : Queue) (later : Emitted P) : Type 0 where
+  pub count : ℕ
+  pub items : after ≡ record d { items = record d.items { discards = drop (suc count) d.items.discards } }
+  pub queue : Stands (discard_all (take count d.items.discards) q emitted) rest later
+
+-- some of the items that wait went again, into so much of a packet, and are not counted
+pub record PartlyResent (most : ℕ) (s after : Sender) : Type 0 where
+  pub items : SomeResent false (empty_packet (min most (s.windows.cwnd - flight s)) s.windows.rwnd s.outstanding) after.outstanding
+  pub alone : ItemsAlone s after
+
+-- a fragment has its TSN, and takes nothing of the peer's window
+abbrev pub kept_new : ℕ → Produced → Sender → Sender
+kept_new now p s = record s { outstanding = record s.outstanding { items = append_item (item_of now p) s.outstanding.items } }
+
+-- one that left the queue is lost, or kept as if it were sent
+abbrev pub LostOrKept : ℕ → Produced → Sender → Sender → Type 0
+LostOrKept now p s after = (after ≡ s) ⊎ (after ≡ kept_new now p s)
+
+-- the queue gave no fragment
+pub record NotProduced {P : Type 0} (now : ℕ) (x : Filling P) (after : Sender) (rest : Queue) (later : Emitted P) : Type 0 where
+  pub sender : after ≡ x.sender
+  pub queue : Interrupted now (offered_payload x.left x.sender) x.queue x.emitted rest later
+
+-- it gave one, which did not come into the packet
+pub record NotAppended {P : Type 0} (now : ℕ) (x : Filling P) (after : Sender) (rest : Queue) (later : Emitted P) : Type 0 where
+  pub fragment : Produced
+  pub made : (produce now (offered_payload x.left x.sender) x.queue x.emitted).made ≡ Some fragment
+  pub sender : LostOrKept now fragment x.sender after
+  pub queue : rest ≡ (produce now (offered_payload x.left x.sender) x.queue x.emitted).queue
+  pub events : later ≡ (produce now (offered_payload x.left x.sender) x.queue x.emitted).emitted
+
+-- a turn that was not taken to its end; the windows let it begin
+pub record TurnStopped {P : Type 0} (now : ℕ) (x : Filling P) (after : Sender) (rest : Queue) (later : Emitted P) : Type 0 where
+  pub may_send : may_send_new x.sender ≡ true
+  pub room : 0 < offered_payload x.left x.sender
+  pub stopped : NotProduced now x after rest later ⊎ NotAppended now x after rest later
+
+abbrev pub after_turns : {P : Type 0} → (turns : ℕ) → ℕ → Filling P → Filling P
+after_turns zero now x = x
+after_turns (suc turns) now x = (next_turn now (after_turns turns now x)).filling
+
+-- so many turns were taken
+pub record PartlyFilled {P : Type 0} (now : ℕ) (x : Filling P) (after : Sender) (rest : Queue) (later : Emitted P) : Type 0 where
+  pub turns : ℕ
+  pub turn : TurnStopped now (after_turns turns now x) after rest later
+
+-- it stopped while messages that were given up left the queue,
+pub record WhileDiscarding {P : Type 0} (s : Sender) (q : Queue) (emitted : Emitted P) (after : Sender) (rest : Queue) (later : Emitted P) : Type 0 where
+  pub discarded : SomeDiscarded s.outstanding q emitted after.outstanding rest later
+  pub alone : ItemsAlone s after
+
+-- while items were sent again,
+pub record WhileResending {P : Type 0} (most : ℕ) (s : Sender) (q : Queue) (emitted : Emitted P) (after : Sender) (rest : Queue) (later : Emitted P) : Type 0 where
+  pub sender : PartlyResent most (without_discards s) after
+  pub queue : Stands (discard_all s.outstanding.items.discards q emitted) rest later
+
+-- or while new fragments were taken
+abbrev pub WhileFilling : {P : Type 0} → ℕ → (most : ℕ) → Sender → Queue → Emitted P → Sender → Queue → Emitted P → Type 0
+WhileFilling now most s q emitted after rest later =
+    PartlyFilled now (filled_with most (without_discards s) (resent most (without_discards s)) (discard_all s.outstanding.items.discards q emitted)) after rest later
+
+abbrev pub PartlySent : {P : Type 0} → ℕ → (most : ℕ) → Sender → Queue → Emitted P → Sender → Queue → Emitted P → Type 0
+PartlySent now most s q emitted after rest later =
+    WhileDiscarding s q emitted after rest later ⊎ (WhileResending most s q emitted after rest later ⊎ WhileFilling now most s q emitted after rest later)

@@ -5,4 +5,5 @@ pub mod Interrupted
 pub mod RetransmissionQueue
 pub mod Resent
 pub mod Sending
+pub mod Unfinished
 pub mod Windows

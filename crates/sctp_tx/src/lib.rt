@@ -1,6 +1,7 @@
 //! The sender of an SCTP association: what waits in the send queue, what was sent, and what may go next.
 #![tactic(auto)]
 
+pub mod laws;
 pub mod retransmission_queue;
 
 pub use retransmission_queue::{HandleSackResult, RetransmissionQueue};

@@ -11,7 +11,7 @@ ghost use Rattle.sctp_control_chunk.specs.ChunkView.{chunk_tree};
 ghost use Rattle.sctp_tx.specs.ForwardPoints.{abandon_expired, forward_chunk};
 ghost use Rattle.sctp_tx_outstanding.specs.Sack.{is_valid, acked_bytes};
 ghost use Rattle.sctp_tx.specs.RetransmissionQueue.{sender, handle_sack, step_of, sender_if, emitted_if, answer_if, answer_of, windows_after, t3_after_sack, kept_running, nothing_in_flight, timed_out_sender};
-ghost use Rattle.sctp_tx.specs.Interrupted.{PartlyAcknowledged, PartlyTimedOut, PartlyExpired, PartlyResentFast, PartlySent, PartlyTaken};
+ghost use Rattle.sctp_tx.specs.Interrupted.{PartlyAcknowledged, PartlyTimedOut, PartlyExpired, PartlyResentFast, PartlyResent, LostOrKept, TurnStopped, PartlyFilled, SomeDiscarded, PartlySent};
 ghost use Rattle.sctp_tx.specs.Flight.{StaysWithin, AddsAtMost, FitWithin};
 ghost use Rattle.sctp_tx.specs.Windows.{saturate_u64};
 ghost use Rattle.sctp_tx_queue.specs.Views.{produced_of};
@@ -392,9 +392,8 @@ impl RetransmissionQueue {
 
     /// What a packet with room for `max_bytes` of chunks takes, as far as the windows let it go: first the items that
     /// wait to be sent again, ascending, then new fragments. Before that, what is left of messages that were given up
-    /// leaves the send queue. Without memory none is handed out: each item is kept at its place, and what left the queue may
-    /// stand behind them as sent; the windows, but for what the peer's has left, and t3-rtx are as they were; the queue is in
-    /// order as before. Events of some of it may be emitted.
+    /// leaves the send queue. Without memory none is handed out, and only the first of these steps are done: t3-rtx isn't
+    /// started, and a new fragment at which memory ran out is lost, or has its TSN and takes nothing of the peer's window.
     pub fn get_chunks_to_send(
         &mut self,
         now: SocketTime,
@@ -409,8 +408,7 @@ impl RetransmissionQueue {
         ensures chunks { IfOk result (λ chunks. map chunk_of chunks.items ≡ (send now max_bytes self.old queue.old events.old).chunks) }
         ensures fits { IfOk result (λ chunks. FitWithin max_bytes self.old (map chunk_of chunks.items)) }
         ensures flight { OnOk result (StaysWithin self.old self.new) }
-        ensures err { OnErr result (PartlySent self.old self.new) }
-        ensures taken { OnErr result (PartlyTaken queue.old queue.new) }
+        ensures err { OnErr result (PartlySent now max_bytes self.old queue.old events.old self.new queue.new events.new) }
     {
         // (read for their bounds: neither a sum that nothing is added to nor what the window lets go is capped)
         let _count = self.rtx_bytes_count();
@@ -439,12 +437,13 @@ impl RetransmissionQueue {
         !queue.has_next_stream()
     }
 
-    /// What is sent again, in so much of a packet, and the bytes of the chunks.
+    /// What is sent again, in so much of a packet, and the bytes of the chunks. Without memory some of the first items count as
+    /// sent again, and nothing else changes.
     fn resend(&mut self, max_bytes: usize) -> Result<(Vec<(Tsn, Data)>, usize), AllocError>
         ensures sender { OnOk result (self.new ≡ resent_by self.old (resent max_bytes self.old)) }
         ensures chunks { IfOk result (λ r. map chunk_of r.0.items ≡ (resent max_bytes self.old).chunks) }
         ensures bytes { IfOk result (λ r. r.1 ≡ saturate_u64 (sizes (is_interleaved self.new) (resent max_bytes self.old).chunks)) }
-        ensures partly { PartlySent self.old self.new }
+        ensures err { OnErr result (PartlyResent max_bytes self.old self.new) }
     {
         // (read for its bound: a sum that nothing is added to isn't capped)
         let _count = self.rtx_bytes_count();
@@ -473,8 +472,7 @@ impl RetransmissionQueue {
         ensures queue { OnOk result (queue.new ≡ (fill (suc left) now (filling self.old queue.old events.old (map chunk_of chunks.old.items) left)).queue) }
         ensures emitted { OnOk result (events.new ≡ (fill (suc left) now (filling self.old queue.old events.old (map chunk_of chunks.old.items) left)).emitted) }
         ensures chunks { OnOk result (map chunk_of chunks.new.items ≡ (fill (suc left) now (filling self.old queue.old events.old (map chunk_of chunks.old.items) left)).chunks) }
-        ensures partly { PartlySent self.old self.new }
-        ensures taken { PartlyTaken queue.old queue.new }
+        ensures err { OnErr result (PartlyFilled now (filling self.old queue.old events.old (map chunk_of chunks.old.items) left) self.new queue.new events.new) }
     {
         let mut left = left;
         while let Some(rest) = self.add_new(now, left, queue, chunks, events)? {
@@ -500,8 +498,7 @@ impl RetransmissionQueue {
         ensures left { IfOk result (λ more. IfSome more (λ rest. rest ≡ (next_turn now (filling self.old queue.old events.old (map chunk_of chunks.old.items) left)).filling.left)) }
         ensures more { IfOk result (λ more. is_some more ≡ (next_turn now (filling self.old queue.old events.old (map chunk_of chunks.old.items) left)).is_more) }
         ensures less { IfOk result (λ more. IfSome more (λ rest. rest < left)) }
-        ensures partly { PartlySent self.old self.new }
-        ensures taken { PartlyTaken queue.old queue.new }
+        ensures err { OnErr result (TurnStopped now (filling self.old queue.old events.old (map chunk_of chunks.old.items) left) self.new queue.new events.new) }
     {
         if !queue.has_next_stream() {
             return Ok(None);
@@ -528,7 +525,8 @@ impl RetransmissionQueue {
         room.saturating_sub(header_size(self.outstanding.is_interleaved()))
     }
 
-    /// The fragment takes the next TSN. The answer is the size of its chunk.
+    /// The fragment takes the next TSN. The answer is the size of its chunk. Without memory it is lost, or has its TSN and
+    /// takes nothing of the peer's window.
     fn append(
         &mut self,
         now: SocketTime,
@@ -540,7 +538,7 @@ impl RetransmissionQueue {
         ensures chunks { OnOk result (map chunk_of chunks.new.items ≡ map chunk_of chunks.old.items
             ++ (wire_tsn self.old.outstanding (next_number self.old.outstanding.items), fragment_tree fragment.data) ∷ []) }
         ensures size { IfOk result (λ size. size ≡ size_of (is_interleaved self.old) (fragment_tree fragment.data)) }
-        ensures partly { PartlySent self.old self.new }
+        ensures err { OnErr result (LostOrKept now (produced_of fragment) self.old self.new) }
     {
         let size = chunk_size(&fragment.data, self.outstanding.is_interleaved());
         let copy = copy_of(self.alloc, &fragment.data)?;
@@ -581,7 +579,8 @@ impl RetransmissionQueue {
     }
 }
 
-/// What is left of messages that were given up leaves the send queue.
+/// What is left of messages that were given up leaves the send queue. Without memory this is done for some of the first
+/// alone, and the next one stays there.
 fn discard_all(
     outstanding: &mut OutstandingData,
     queue: &mut SendQueue,
@@ -590,8 +589,7 @@ fn discard_all(
     ensures items { OnOk result (outstanding.new ≡ record outstanding.old { items = record outstanding.old.items { discards = [] } }) }
     ensures queue { OnOk result (queue.new ≡ (discard_all outstanding.old.items.discards queue.old events.old).queue) }
     ensures emitted { OnOk result (events.new ≡ (discard_all outstanding.old.items.discards queue.old events.old).emitted) }
-    ensures rest { record outstanding.new { items = record outstanding.new.items { discards = [] } } ≡ record outstanding.old { items = record outstanding.old.items { discards = [] } } }
-    ensures taken { PartlyTaken queue.old queue.new }
+    ensures err { OnErr result (SomeDiscarded outstanding.old queue.old events.old outstanding.new queue.new events.new) }
 {
     while let Some(next) = outstanding.get_unsent_message_to_discard() {
         queue.discard(next.stream_id, next.message_id, events)?;

@@ -1,14 +1,15 @@
-use Rattle.std.proofs.Common.{◌≡◌, ◌-◌, ◌<◌, ◌^◌, ℕ, List, [], map, rules, sym, subst, ◌∙◌, arith}
+use Rattle.std.proofs.Common.{◌≡◌, ◌-◌, ◌<◌, ◌^◌, ℕ, List, [], map, rules, refl, sym, subst, ◌∙◌, arith}
 use Rattle.sctp_chunk.specs.Chunk.{FragmentTree}
 use Rattle.sctp_tx_outstanding.specs.Views.{chunk_of}
 use Rattle.sctp_tx.specs.RetransmissionQueue.{Sender}
-use Rattle.sctp_tx.specs.Sending.{filling, send}
+use Rattle.sctp_tx.specs.Resent.{resent}
+use Rattle.sctp_tx.specs.Sending.{Filling, filling, discard_all, without_discards, filled_with, send}
 use Rattle.sctp_tx.specs.Flight.{StaysWithin, FitWithin}
-use Rattle.sctp_tx.specs.Interrupted.{PartlySent, PartlyTaken}
+use Rattle.sctp_tx.specs.Interrupted.{Stands, PartlySent}
 use Rattle.sctp_tx.proofs.FitLemmas.{sent_fits}
 use Rattle.sctp_tx.proofs.FlightLemmas.{itself, stays_within}
 use Rattle.sctp_tx.proofs.IdleLemmas.{idle_send}
-use Rattle.sctp_tx.proofs.PartlyLemmas.{discarded_sent, sent_on, taken_on, on_err}
+use Rattle.sctp_tx.proofs.PartlyLemmas.{on_err, stopped_discarding, stopped_resending, stopped_filling}
 use Rattle.sctp_tx.proofs.retransmission_queue.RetransmissionQueue.get_chunks_to_send.Goals as goal
 
 abbrev sent_none : (c : goal.After-new) → Type 0
@@ -54,19 +55,28 @@ returns-clause-flight c =
 pub returns-in_err-discard_all-clause-err : goal.returns-in_err-discard_all-clause-err
 returns-in_err-discard_all-clause-err c =
     let v : Sender = record { outstanding = c.self.inside.outstanding; windows = c.self.inside.windows; t3 = c.self.inside.t3_rtx; rtx_packets = c.self.inside.rtx_packets_count; rtx_bytes = c.self.inside.rtx_bytes_count } in
-    let x : Sender = record v { outstanding = c.discard_all.new.outstanding } in
-    let some : PartlySent c.args.self.now x = subst (λ (t : Sender). PartlySent t x) c.self.view_is (discarded_sent v c.discard_all.new.outstanding c.discard_all.ensures.rest) in
-    search (rules, some)
+    let new = c.discard_all.new in
+    let x : Sender = record v { outstanding = new.outstanding } in
+    let of_v = stopped_discarding c.args.now c.args.max_bytes v c.args.queue.now c.args.events.now x new.queue new.events new.outstanding refl c.in_err-discard_all.ensures.err in
+    let h : PartlySent c.args.now c.args.max_bytes c.args.self.now c.args.queue.now c.args.events.now x new.queue new.events =
+    subst (λ (t : Sender). PartlySent c.args.now c.args.max_bytes t c.args.queue.now c.args.events.now x new.queue new.events) c.self.view_is of_v in
+    on_err _ _ h
+
+pub returns-in_err-chunks-clause-err : goal.returns-in_err-chunks-clause-err
+returns-in_err-chunks-clause-err c =
+    let s = c.args.self.now in
+    let left = c.discard_all.new in
+    let v : Sender = record { outstanding = c.self.inside.outstanding; windows = c.self.inside.windows; t3 = c.self.inside.t3_rtx; rtx_packets = c.self.inside.rtx_packets_count; rtx_bytes = c.self.inside.rtx_bytes_count } in
+    let x : Sender = record v { outstanding = left.outstanding } in
+    let is : x ≡ without_discards s = search rules in
+    let gone : Stands (discard_all s.outstanding.items.discards c.args.queue.now c.args.events.now) left.queue left.events = search rules in
+    on_err _ _ (stopped_resending c.args.now c.args.max_bytes s c.args.queue.now c.args.events.now c.resend.new.self left.queue left.events x is c.in_err-chunks.ensures.err gone)
 
 pub returns-in_err-fill-clause-err : goal.returns-in_err-fill-clause-err
 returns-in_err-fill-clause-err c =
-    let v : Sender = record { outstanding = c.self.inside.outstanding; windows = c.self.inside.windows; t3 = c.self.inside.t3_rtx; rtx_packets = c.self.inside.rtx_packets_count; rtx_bytes = c.self.inside.rtx_bytes_count } in
-    let x : Sender = record v { outstanding = c.discard_all.new.outstanding } in
-    let first : PartlySent c.args.self.now x = subst (λ (t : Sender). PartlySent t x) c.self.view_is (discarded_sent v c.discard_all.new.outstanding c.discard_all.ensures.rest) in
-    let some : PartlySent c.args.self.now c.fill.new.self = sent_on c.args.self.now x c.fill.new.self first (sent_on x c.resend.new.self c.fill.new.self c.resend.ensures.partly c.fill.ensures.partly) in
-    on_err c.from_residual-in_err-fill.result (PartlySent c.args.self.now c.fill.new.self) some
-
-pub returns-in_err-fill-clause-taken : goal.returns-in_err-fill-clause-taken
-returns-in_err-fill-clause-taken c =
-    let some : PartlyTaken c.args.queue.now c.fill.new.queue = taken_on c.args.queue.now c.discard_all.new.queue c.fill.new.queue c.discard_all.ensures.taken c.fill.ensures.taken in
-    on_err c.from_residual-in_err-fill.result (PartlyTaken c.args.queue.now c.fill.new.queue) some
+    let s = c.args.self.now in
+    let left = c.discard_all.new in
+    let new = c.fill.new in
+    let x : Filling (List ℕ) = filling c.resend.new.self left.queue left.events (map chunk_of c.in_ok-chunks.chunks.items) c.saturating_sub-left.result in
+    let is : x ≡ filled_with c.args.max_bytes (without_discards s) (resent c.args.max_bytes (without_discards s)) (discard_all s.outstanding.items.discards c.args.queue.now c.args.events.now) = search rules in
+    on_err _ _ (stopped_filling c.args.now c.args.max_bytes s c.args.queue.now c.args.events.now new.self new.queue new.events x is c.in_err-fill.ensures.err)

@@ -1,15 +1,15 @@
-use Rattle.std.proofs.Common.{◌≡◌, ◌-◌, ◌<◌, ◌^◌, ℕ, List, [], false, map, min, length, rules, ap, sym, subst, ◌∙◌, arith}
+use Rattle.std.proofs.Common.{◌≡◌, ◌-◌, ◌<◌, ◌^◌, ℕ, List, [], false, map, min, rules, refl, ap, sym, subst, ◌∙◌, arith}
 use Rattle.std.specs.Prelude.{nat_lt}
-use Rattle.sctp_tx_outstanding.specs.OutstandingData.{Outstanding, waiting_items}
-use Rattle.sctp_tx_outstanding.specs.Resending.{Resent}
+use Rattle.sctp_tx_outstanding.specs.OutstandingData.{waiting_items}
+use Rattle.sctp_tx_outstanding.specs.Resending.{Resent, SomeResent, empty_packet}
 use Rattle.sctp_tx.specs.RetransmissionQueue.{Sender}
 use Rattle.sctp_chunk.specs.Chunk.{FragmentTree}
 use Rattle.sctp_tx_outstanding.specs.Views.{chunk_of}
 use Rattle.sctp_tx.specs.Windows.{saturate_u64}
-use Rattle.sctp_tx.specs.Resent.{flight, is_interleaved, sizes, resent, resent_by}
-use Rattle.sctp_tx.specs.Interrupted.{PartlySent}
+use Rattle.sctp_tx.specs.Resent.{flight, is_interleaved, sizes, resent}
+use Rattle.sctp_tx.specs.Interrupted.{PartlyResent}
 use Rattle.sctp_tx.proofs.IdleLemmas.{none_again, same_again}
-use Rattle.sctp_tx.proofs.PartlyLemmas.{sent_none, some_resent, all_resent}
+use Rattle.sctp_tx.proofs.PartlyLemmas.{on_err}
 use Rattle.sctp_tx.proofs.retransmission_queue.RetransmissionQueue.resend.Goals as goal
 
 -- nothing waits
@@ -30,19 +30,11 @@ returns-then-not-has_data_to_be_retransmitted-clause-chunks c = ap (λ l. map ch
 pub returns-then-not-has_data_to_be_retransmitted-clause-bytes : goal.returns-then-not-has_data_to_be_retransmitted-clause-bytes
 returns-then-not-has_data_to_be_retransmitted-clause-bytes c = sym (ap (λ (l : List (ℕ × FragmentTree)). saturate_u64 (sizes (is_interleaved c.args.self.now) l)) (none c))
 
-pub returns-then-not-has_data_to_be_retransmitted-clause-partly : goal.returns-then-not-has_data_to_be_retransmitted-clause-partly
-returns-then-not-has_data_to_be_retransmitted-clause-partly c = sent_none c.args.self.now
-
-pub returns-in_err-chunks-clause-partly : goal.returns-in_err-chunks-clause-partly
-returns-in_err-chunks-clause-partly c =
+pub returns-in_err-chunks-clause-err : goal.returns-in_err-chunks-clause-err
+returns-in_err-chunks-clause-err c =
     let v : Sender = record { outstanding = c.self.inside.outstanding; windows = c.self.inside.windows; t3 = c.self.inside.t3_rtx; rtx_packets = c.self.inside.rtx_packets_count; rtx_bytes = c.self.inside.rtx_bytes_count } in
-    let some = c.in_err-chunks.ensures.err in
-    let h : PartlySent v (record v { outstanding = c.get_chunks_to_be_retransmitted.new.self }) =
-    subst (λ (d : Outstanding). PartlySent v (record v { outstanding = d })) (sym some.1) (some_resent c.min-room.result v.windows.rwnd some.0 v) in
-    subst (λ (t : Sender). PartlySent t (record v { outstanding = c.get_chunks_to_be_retransmitted.new.self })) c.self.view_is h
-
-pub returns-clause-partly : goal.returns-clause-partly
-returns-clause-partly c =
-    let s = c.args.self.now in
-    let is : c.count_resent-bytes.new.self ≡ resent_by s (resent c.args.max_bytes s) = search rules in
-    subst (λ (t : Sender). PartlySent s t) (sym is) (all_resent (min c.args.max_bytes (s.windows.cwnd - flight s)) s.windows.rwnd (length s.outstanding.items.kept) s)
+    let room : c.min-room.result ≡ min c.args.max_bytes (v.windows.cwnd - flight v) = search rules in
+    let h : PartlyResent c.args.max_bytes v (record v { outstanding = c.get_chunks_to_be_retransmitted.new.self }) =
+    record { items = subst (λ (n : ℕ). SomeResent false (empty_packet n v.windows.rwnd v.outstanding) c.get_chunks_to_be_retransmitted.new.self) room c.in_err-chunks.ensures.err; alone = refl } in
+    on_err _ (PartlyResent c.args.max_bytes c.args.self.now (record v { outstanding = c.get_chunks_to_be_retransmitted.new.self }))
+    (subst (λ (t : Sender). PartlyResent c.args.max_bytes t (record v { outstanding = c.get_chunks_to_be_retransmitted.new.self })) c.self.view_is h)
