@@ -15,6 +15,7 @@ ghost use Rattle.sctp_tx_outstanding.specs.LastBlocks.{Rest};
 ghost use Rattle.sctp_tx_outstanding.specs.Expiries.{FindsDue};
 ghost use Rattle.sctp_tx_outstanding.specs.Interrupted.{Same, SomeNacked, SomeExpired, SackPartlyTaken};
 ghost use Rattle.sctp_tx_outstanding.specs.Forward.{is_forward_due, entry_at, stops, passes_of, forward_point};
+ghost use Rattle.sctp_tx_outstanding.specs.Point.{Ascend};
 ghost use Rattle.sctp_tx_outstanding.specs.Sack.{sample, is_in_range, is_valid, staying, leaving, departing_bytes, all_leaving_events, receive_sack, acked_bytes, highest_end};
 ghost use Rattle.sctp_state.specs.Events.{first_of};
 
@@ -617,7 +618,8 @@ impl OutstandingData {
 
     /// Whether a forward point passes the item at the place too, before which no breakpoint ends it.
     fn passes(&self, place: usize, entries: &[SkipEntry], max_size: usize) -> bool
-        requires { stops place self.now.items ≡ false }
+        requires unbroken { stops place self.now.items ≡ false }
+        requires ascending { Ascend entries.now }
         ensures { result ≡ passes_of max_size self.now.items (record { count = place; entries = entries.now }) (slice_get self.now.items.kept place) }
     {
         let Some(item) = self.kept.get(place) else {
