@@ -560,6 +560,9 @@ impl OutstandingData {
     /// are in flight again; each that is in flight or missing below the highest one newly acknowledged by a block is
     /// reported missing, and is lost by the third report. Without memory nothing changes, or only some of the first of these
     /// reports are done.
+    ///
+    /// Blocks that are runs, as in a SACK that was cleaned, are walked along with the items. Others cost a search of all of them
+    /// for each item.
     pub fn handle_sack(
         &mut self,
         cumulative_tsn: Tsn,
