@@ -1,11 +1,11 @@
 -- Breakpoints: no forward point that is due goes on where a request was sent, before all below that is acknowledged.
-use Rattle.std.proofs.Common.{◌≡◌, ℕ, zero, suc, ◌+◌, ◌≤◌, Bool, true, false, inl, inr, Option, Some, None, List, [], ◌∷◌, ◌++◌, map, filter, refl, sym, ap, ◌∙◌, subst, arith}
+use Rattle.std.proofs.Common.{◌≡◌, ℕ, zero, suc, ◌+◌, ◌≤◌, Bool, true, false, cond, inl, inr, Option, Some, None, List, [], ◌∷◌, ◌++◌, map, filter, refl, sym, ap, ◌∙◌, subst, arith}
 use Rattle.std.specs.Prelude.{nat_lt, option_map, unwrap_or, slice_get}
-use Rattle.std.proofs.lemmas.Bool.{cases_lt, cond-true, cond-false, lt-ltb}
+use Rattle.std.proofs.lemmas.Bool.{cases_lt, cond-true, cond-false, eqb-true, lt-ltb}
 use Rattle.sctp_serial.specs.Unwrapped.{origin}
 use Rattle.sctp_tx_queue.specs.SendQueue.{Queue}
 use Rattle.sctp_tx_outstanding.specs.Item.{Item}
-use Rattle.sctp_tx_outstanding.specs.OutstandingData.{Items, next_number, begin_reset}
+use Rattle.sctp_tx_outstanding.specs.OutstandingData.{Items, next_number, is_last, with_break, begin_reset}
 use Rattle.sctp_tx_outstanding.specs.Losses.{Step, is_to_be_abandoned, nack_item, nack_at, nack_below, option_bind, expired_of, given_up_if, expire_at, expire_below}
 use Rattle.sctp_tx_outstanding.specs.Sack.{staying}
 use Rattle.proof_protocol.specs.State.{Message, Transfer, IsAmong, count}
@@ -27,6 +27,26 @@ among_first b (d ∷ bs) cs (inr a) = inr (among_first b bs cs a)
 among_last : (b : ℕ) (bs : List ℕ) → IsAmong b (bs ++ b ∷ [])
 among_last b [] = inl refl
 among_last b (d ∷ bs) = inr (among_last b bs)
+
+-- one breakpoint more, unless it is the last one
+among_more : (b n : ℕ) (bs : List ℕ) → IsAmong b bs → IsAmong b (with_break n bs)
+among_more b n bs a = go (is_last n bs)
+  where
+    go : (c : Bool) → IsAmong b (cond c bs (bs ++ n ∷ []))
+    go true = a
+    go false = among_first b bs (n ∷ []) a
+
+last_among : (n : ℕ) (bs : List ℕ) → is_last n bs ≡ true → IsAmong n bs
+last_among n [] e = absurd (cc)
+last_among n (b ∷ []) e = inl (sym (eqb-true b n e))
+last_among n (b ∷ c ∷ bs) e = inr (last_among n (c ∷ bs) e)
+
+among_with : (n : ℕ) (bs : List ℕ) → IsAmong n (with_break n bs)
+among_with n bs = go (is_last n bs) refl
+  where
+    go : (c : Bool) → is_last n bs ≡ c → IsAmong n (cond c bs (bs ++ n ∷ []))
+    go true e = last_among n bs e
+    go false e = among_last n bs
 
 among_filtered : (f : ℕ → Bool) (b : ℕ) (bs : List ℕ) → f b ≡ true → IsAmong b bs → IsAmong b (filter f bs)
 among_filtered f b [] t a = absurd a
@@ -88,7 +108,7 @@ staying_keeps x y s cumulative c same left is upto h r a = elim (h r (subst (IsA
 module _ (message : ℕ → Message) (lifecycle : ℕ → Option ℕ) (is_interleaved : Bool) where
   -- what is numbered next is a breakpoint from now on
   begun : (x : Epochs) (s : Items) → HasBreaks x s → HasBreaks x (begin_reset s)
-  begun x s h r a = elim (h r a) [ inl b ↦ inl (among_first (origin + r.upto) s.breaks (next_number s ∷ []) b) | inr l ↦ inr l ]
+  begun x s h r a = elim (h r a) [ inl b ↦ inl (among_more (origin + r.upto) (next_number s) s.breaks b) | inr l ↦ inr l ]
 
   requested_each : (ids : List ℕ) (x : Epochs) (t : Items) → IsAmong (origin + count x.transfer.sender) t.breaks → HasBreaks x t → HasBreaks (go_all message is_interleaved x (map send_request ids)) t
   requested_each [] x t b h = h
@@ -108,7 +128,7 @@ module _ (message : ℕ → Message) (lifecycle : ℕ → Option ℕ) (is_interl
       → HasBreaks (go_all message is_interleaved x (map send_request ids)) (begin_reset s)
   requests_break ids x q s sh h =
       let next = next_counted x.transfer q s sh in
-      requested_each ids x (begin_reset s) (subst (λ n. IsAmong n (begin_reset s).breaks) next (among_last (next_number s) s.breaks)) (begun x s h)
+      requested_each ids x (begin_reset s) (subst (λ n. IsAmong n (begin_reset s).breaks) next (among_with (next_number s) s.breaks)) (begun x s h)
 
   -- a point that is due is of one epoch
   pub points_end : (x : Epochs) (s : Sender) → HasBreaks x s.outstanding.items → (p : IsSendable message is_interleaved x.transfer s) → InEpoch message is_interleaved x (send_forward p.point)

@@ -1,13 +1,15 @@
 -- Entries of a forward point ascend, and with them the chunk has room.
-use Rattle.std.proofs.Common.{◌≡◌, ℕ, suc, ◌+◌, ◌*◌, ◌≤◌, ◌<◌, Bool, true, false, cond, Option, Some, None, List, [], ◌∷◌, length, refl, ap, sym, subst, ◌∙◌, arith}
+use Rattle.std.proofs.Common.{◌≡◌, ℕ, zero, suc, ◌+◌, ◌*◌, ◌≤◌, ◌<◌, Bool, true, false, cond, Option, Some, None, List, [], ◌∷◌, length, slice_index_or, refl, ap, sym, subst, ◌∙◌, arith}
 use Rattle.std.specs.Prelude.{◌&&◌, ◌||◌, ◌==◌, not, nat_lt, nat_le, if◌then◌else◌}
-use Rattle.std.specs.List.{list_all, list_any}
-use Rattle.std.proofs.lemmas.Bool.{eqb-true, leb-true, lt-ltb, ltb-false, ltb-true, or_from}
+use Rattle.std.specs.List.{list_all, list_any, AllWithin}
+use Rattle.std.specs.List.Sorted.{IsNonDecreasingBy, IsPartitionedBy}
+use Rattle.std.proofs.lemmas.List.Sorted.{IsPartitionedBy-ltb}
+use Rattle.std.proofs.lemmas.Bool.{eqb-true, leb-true, lt-ltb, ltb-false, ltb-true, or_from, and_parts}
 use Rattle.std.proofs.lemmas.Bool.Decides.{nat_tests}
 use Rattle.sctp_tx_outstanding.specs.declared.skips.SkipEntry.{SkipEntry}
 use Rattle.sctp_tx_outstanding.specs.Item.{Item, is_abandoned}
 use Rattle.sctp_tx_outstanding.specs.OutstandingData.{Items, when}
-use Rattle.sctp_tx_outstanding.specs.Forward.{ForwardPoint, entry_of, is_before, is_same, is_alike, put_entry, with_entry, count_with, size_with, stops, passes, pass_item, walk}
+use Rattle.sctp_tx_outstanding.specs.Forward.{ForwardPoint, entry_of, is_before, is_same, is_alike, put_entry, with_entry, count_with, size_with, stops, passes, pass_item, walk, entries_before, is_alike_at}
 use Rattle.sctp_tx_outstanding.specs.Point.{Ascend}
 use Rattle.sctp_serial.proofs.NumberLemmas.{less_differs, greater_differs}
 
@@ -164,3 +166,66 @@ ascend lo (d ∷ ds) h = (all_before d (suc (rank d)) ds (omega arith) h.1, asce
 
 pub point_ascends : (most : ℕ) (s : Items) (is : List Item) → Ascend (walk most s (record { count = 0; entries = [] }) is).entries
 point_ascends most s is = ascend 0 (walk most s (record { count = 0; entries = [] }) is).entries (rises most s (record { count = 0; entries = [] }) is tt)
+
+-- ---- found by halves
+
+starts : (lo : ℕ) (e : SkipEntry) (es : List SkipEntry) → lo ≤ rank e → Ascend (e ∷ es) → Rising lo (e ∷ es)
+starts lo e [] le h = (le, tt)
+starts lo e (d ∷ ds) le h =
+    let before = and_parts (is_before e d) (list_all (is_before e) ds) h.0 in
+    let less : rank e < rank d = ltb-true (rank e) (rank d) (sym (before_is e d) ∙ before.0) in
+    (le, starts (suc (rank e)) d ds (omega (arith, less)) h.1)
+
+rising : (es : List SkipEntry) → Ascend es → Rising 0 es
+rising [] h = tt
+rising (e ∷ es) h = starts 0 e es (omega arith) h
+
+pub ascends_with : (o : Option SkipEntry) (es : List SkipEntry) → Ascend es → Ascend (with_entry o es)
+ascends_with o es h = ascend 0 (with_entry o es) (with_rises o es (rising es h))
+
+at_least_at : (lo : ℕ) (es : List SkipEntry) → Rising lo es → (k : ℕ) (d : SkipEntry) → k < length es → lo ≤ rank (slice_index_or es k d)
+at_least_at lo [] h k d less = absurd (omega (arith, less))
+at_least_at lo (e ∷ es) h zero d less = h.0
+at_least_at lo (e ∷ es) h (suc k) d less = let later = at_least_at (suc (rank e)) es h.1 k d (omega (arith, less)) in omega (arith, h.0, later)
+
+not_falling : (lo : ℕ) (es : List SkipEntry) → Rising lo es → IsNonDecreasingBy rank es
+not_falling lo [] h i j d le less = absurd (omega (arith, less))
+not_falling lo (e ∷ es) h zero zero d le less = omega arith
+not_falling lo (e ∷ es) h zero (suc j) d le less = let later = at_least_at (suc (rank e)) es h.1 j d (omega (arith, less)) in omega (arith, later)
+not_falling lo (e ∷ es) h (suc i) zero d le less = absurd (omega (arith, le))
+not_falling lo (e ∷ es) h (suc i) (suc j) d le less = not_falling (suc (rank e)) es h.1 i j d (omega (arith, le)) (omega (arith, less))
+
+pub parted : (e : SkipEntry) (es : List SkipEntry) → Ascend es → IsPartitionedBy (λ d. is_before d e) es
+parted e es h i j d le less before =
+    let ranked = IsPartitionedBy-ltb rank es (rank e) (not_falling 0 es (rising es h)) i j d le less (sym (before_is (slice_index_or es j d) e) ∙ before) in
+    before_is (slice_index_or es i d) e ∙ ranked
+
+pub place_is : (e : SkipEntry) (es : List SkipEntry) (n : ℕ) → n ≤ length es → AllWithin (λ d. is_before d e ≡ true) es 0 n → AllWithin (λ d. is_before d e ≡ false) es n (length es)
+    → n ≡ entries_before e es
+place_is e [] n le below from = omega (arith, le)
+place_is e (d ∷ ds) zero le below from = sym (ap (λ b. cond b (suc (entries_before e ds)) 0) (from 0 d (omega arith) (omega arith)))
+place_is e (d ∷ ds) (suc n) le below from =
+    let later : n ≡ entries_before e ds =
+    place_is e ds n (omega (arith, le)) (λ k x low high. below (suc k) x (omega arith) (omega (arith, high))) (λ k x low high. from (suc k) x (omega (arith, low)) (omega (arith, high))) in
+    ap (λ k. suc k) later ∙ sym (ap (λ b. cond b (suc (entries_before e ds)) 0) (below 0 d (omega arith) (omega arith)))
+
+or_nothing : (b : Bool) → b ≡ (b || false)
+or_nothing true = refl
+or_nothing false = refl
+
+module _ (e d : SkipEntry) (ds : List SkipEntry) (h : Rising (suc (rank d)) ds) (ih : is_alike_at e (entries_before e ds) ds ≡ list_any (is_alike e) ds) where
+  found_by : (before : Bool) → is_before d e ≡ before → is_alike_at e (cond before (suc (entries_before e ds)) 0) (d ∷ ds) ≡ (is_alike e d || list_any (is_alike e) ds)
+  found_by true before =
+      let less : rank d < rank e = ltb-true (rank d) (rank e) (sym (before_is d e) ∙ before) in
+      ih ∙ sym (ap (λ b. b || list_any (is_alike e) ds) (alike_is e d ∙ greater_differs (rank d) (rank e) less))
+  found_by false before =
+      let up : rank e ≤ rank d = ltb-false (rank d) (rank e) (sym (before_is d e) ∙ before) in
+      or_nothing (is_alike e d) ∙ sym (ap (λ b. is_alike e d || b) (none_alike e (suc (rank d)) ds (omega (arith, up)) h))
+
+alike_found : (e : SkipEntry) (lo : ℕ) (es : List SkipEntry) → Rising lo es → is_alike_at e (entries_before e es) es ≡ list_any (is_alike e) es
+alike_found e lo [] h = refl
+alike_found e lo (d ∷ ds) h = found_by e d ds h.1 (alike_found e (suc (rank d)) ds h.1) (is_before d e) refl
+
+-- if any is alike, the one at its place is
+pub named_at : (e : SkipEntry) (es : List SkipEntry) (n : ℕ) → n ≡ entries_before e es → Ascend es → is_alike_at e n es ≡ list_any (is_alike e) es
+named_at e es n at h = ap (λ k. is_alike_at e k es) at ∙ alike_found e 0 es (rising es h)

@@ -1,4 +1,5 @@
 pub mod AgainLemmas
+pub mod BreakLemmas
 pub mod EntriesLemmas
 pub mod EarliestLemmas
 pub mod ExpiriesLemmas

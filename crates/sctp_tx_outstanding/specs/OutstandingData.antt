@@ -1,6 +1,6 @@
 -- The fragments that have their TSN and are kept: all from the cumulative TSN on, in order. Numbers are unwrapped, and the
 -- first TSN is `origin`.
-use Rattle.std.specs.Prelude.{ℕ, zero, suc, ◌+◌, ◌-◌, ◌%◌, ◌^◌, Bool, false, if◌then◌else◌, Option, Some, None, List, [], ◌∷◌, ◌++◌, length}
+use Rattle.std.specs.Prelude.{ℕ, zero, suc, ◌+◌, ◌-◌, ◌%◌, ◌^◌, ◌==◌, Bool, false, if◌then◌else◌, Option, Some, None, List, [], ◌∷◌, ◌++◌, length}
 use Rattle.std.specs.List.{sum_by}
 use Rattle.sctp_serial.specs.SerialNumber.{serial_difference}
 use Rattle.sctp_serial.specs.Unwrapped.{origin, u32_space, wire, nearest}
@@ -147,9 +147,19 @@ first_sent number fragment now limit expires lifecycle = record {
 abbrev pub append_item : Item → Items → Items
 append_item i s = record s { kept = s.kept ++ i ∷ [] }
 
+-- whether the number is the last of a list
+abbrev pub is_last : ℕ → List ℕ → Bool
+is_last n [] = false
+is_last n (b ∷ []) = b == n
+is_last n (b ∷ c ∷ bs) = is_last n (c ∷ bs)
+
+-- one breakpoint more, unless it is the last one
+abbrev pub with_break : ℕ → List ℕ → List ℕ
+with_break n breaks = if is_last n breaks then breaks else breaks ++ n ∷ []
+
 -- streams are reset: no forward point crosses the number that is next
 abbrev pub begin_reset : Items → Items
-begin_reset s = record s { breaks = s.breaks ++ next_number s ∷ [] }
+begin_reset s = record s { breaks = with_break (next_number s) s.breaks }
 
 -- a restored socket begins behind this TSN: at the least number that is written so
 abbrev pub begun_at : (first tsn : ℕ) → Items → Items

@@ -1,6 +1,7 @@
 //! The fragments that have their TSN and are not acknowledged for good.
 
 ghost use Rattle.std.specs.Prelude.{◌≡◌, ◌⊎◌, ℕ, ◌+◌, ◌-◌, ◌<◌, ◌≤◌, ◌^◌, ◌&&◌, [], not, nat_lt, min, length, map, slice_get, option_map, filter, take, true, ◌||◌, drop, ◌==◌, Option, Some, None, false, IsTrue, IfOk, OnOk, OnErr};
+ghost use Rattle.std.specs.List.{list_any};
 ghost use Rattle.std.specs.Duration.{as_nanos};
 ghost use Rattle.sctp_chunk.specs.Views.{fragment_tree, forward_tsn_tree, i_forward_tsn_tree};
 ghost use Rattle.sctp_chunk.specs.Chunk.{forward_tsn_chunk, i_forward_tsn_chunk};
@@ -9,11 +10,12 @@ ghost use Rattle.sctp_serial.specs.Unwrapped.{origin};
 ghost use Rattle.sctp_state.specs.Events.{emit_given_up, emit_events};
 ghost use Rattle.sctp_tx_outstanding.specs.Views.{discard_of, point_of};
 ghost use Rattle.sctp_tx_outstanding.specs.Losses.{loss_of};
-ghost use Rattle.sctp_tx_outstanding.specs.OutstandingData.{first_sent, append_item, begin_reset, begun_at};
+ghost use Rattle.sctp_tx_outstanding.specs.OutstandingData.{first_sent, append_item, begin_reset, is_last, begun_at};
 ghost use Rattle.sctp_tx_outstanding.specs.LastBlocks.{Rest};
 ghost use Rattle.sctp_tx_outstanding.specs.Expiries.{FindsDue};
 ghost use Rattle.sctp_tx_outstanding.specs.Interrupted.{Same, SomeNacked, SomeExpired, SackPartlyTaken};
 ghost use Rattle.sctp_tx_outstanding.specs.Forward.{is_forward_due, entry_at, stops, passes_of, forward_point};
+ghost use Rattle.sctp_tx_outstanding.specs.Point.{Ascend};
 ghost use Rattle.sctp_tx_outstanding.specs.Sack.{sample, is_in_range, is_valid, staying, leaving, departing_bytes, all_leaving_events, receive_sack, acked_bytes, highest_end};
 ghost use Rattle.sctp_state.specs.Events.{first_of};
 
@@ -248,12 +250,16 @@ impl OutstandingData {
         self.discards.pop_front()
     }
 
-    /// A reset of streams begins: no forward point crosses the next TSN.
+    /// A reset of streams begins: no forward point crosses the next TSN. Where the last reset began at the same one, nothing
+    /// changes.
     pub fn begin_reset_streams(&mut self) -> Result<(), AllocError>
         ensures ok { OnOk result (self.new ≡ record self.old { items = begin_reset self.old.items }) }
         ensures err { OnErr result (self.new ≡ self.old) }
     {
         let number = self.next_number();
+        if is_last(&self.breakpoints, number) {
+            return Ok(());
+        }
         self.breakpoints.push_back(number)?;
         Ok(())
     }
@@ -554,6 +560,9 @@ impl OutstandingData {
     /// are in flight again; each that is in flight or missing below the highest one newly acknowledged by a block is
     /// reported missing, and is lost by the third report. Without memory nothing changes, or only some of the first of these
     /// reports are done.
+    ///
+    /// Blocks that are runs, as in a SACK that was cleaned, are walked along with the items. Others cost a search of all of them
+    /// for each item.
     pub fn handle_sack(
         &mut self,
         cumulative_tsn: Tsn,
@@ -599,22 +608,27 @@ impl OutstandingData {
         })
     }
 
-    /// Whether a breakpoint stands before the item at the place, and another item before that.
-    fn stops_at(&self, place: usize) -> bool
-        ensures { result ≡ stops place self.now.items }
+    /// How many items stand before the first breakpoint that ends a forward point, or all, if none does.
+    fn items_before_break(&self) -> usize
+        ensures within { result ≤ length self.now.items.kept }
+        ensures before { (place : ℕ) → place < result → stops place self.now.items ≡ false }
+        ensures end { result < length self.now.items.kept → stops result self.now.items ≡ true }
     {
-        let number = self.acked as u128 + 1 + place as u128;
-        place > 0 && self.breakpoints.contains(&number)
+        let first = self.acked as u128 + 1;
+        let next = next_break(&self.breakpoints, first, first + self.kept.len() as u128);
+        (next - first) as usize
     }
 
-    /// Whether a forward point passes the item at the place too.
+    /// Whether a forward point passes the item at the place too, before which no breakpoint ends it.
     fn passes(&self, place: usize, entries: &[SkipEntry], max_size: usize) -> bool
+        requires unbroken { stops place self.now.items ≡ false }
+        requires ascending { Ascend entries.now }
         ensures { result ≡ passes_of max_size self.now.items (record { count = place; entries = entries.now }) (slice_get self.now.items.kept place) }
     {
         let Some(item) = self.kept.get(place) else {
             return false;
         };
-        if !item.is_abandoned() || self.stops_at(place) {
+        if !item.is_abandoned() {
             return false;
         }
         let entry = self.entry_at(place);
@@ -626,7 +640,8 @@ impl OutstandingData {
         ensures { IfOk result (λ p. point_of p ≡ forward_point max_size self.now.items) }
     {
         let mut entries = Vec::new(self.alloc);
-        for place in 0..self.kept.len() {
+        let end = self.items_before_break();
+        for place in 0..end {
             if !self.passes(place, &entries, max_size) {
                 return Ok(ForwardPoint {
                     count: place,
@@ -636,7 +651,7 @@ impl OutstandingData {
             put_if(&mut entries, self.entry_at(place))?;
         }
         Ok(ForwardPoint {
-            count: self.kept.len(),
+            count: end,
             entries,
         })
     }
@@ -723,6 +738,33 @@ struct Filling {
 struct ForwardPoint {
     count: usize,
     entries: Vec<SkipEntry>,
+}
+
+/// Whether the number is the last breakpoint.
+fn is_last(breakpoints: &VecDeque<u128>, number: u128) -> bool
+    ensures { result ≡ is_last number breakpoints.now.items }
+{
+    match breakpoints.back() {
+        Some(last) => *last == number,
+        None => false,
+    }
+}
+
+/// The least breakpoint above the number, or the end, if none is below that.
+fn next_break(breakpoints: &VecDeque<u128>, number: u128, end: u128) -> u128
+    requires { number ≤ end }
+    ensures onward { number ≤ result }
+    ensures within { result ≤ end }
+    ensures before { (n : ℕ) → number < n → n < result → list_any (λ b. b == n) breakpoints.now.items ≡ false }
+    ensures end { result < end → nat_lt number result && list_any (λ b. b == result) breakpoints.now.items ≡ true }
+{
+    let mut next = end;
+    for breakpoint in breakpoints.iter() {
+        if number < *breakpoint {
+            next = next.min(*breakpoint);
+        }
+    }
+    next
 }
 
 /// Leaves the breakpoints above the number.

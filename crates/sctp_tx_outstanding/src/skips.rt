@@ -1,9 +1,10 @@
-//! Entries of forward points.
+//! Entries of forward points, which ascend by stream, so that one is found by halves.
 
 ghost use Rattle.std.specs.Prelude.{◌≡◌, ◌+◌, ◌<◌, ◌≤◌, length, map, IfOk, OnOk, OnErr, ◌&&◌};
 ghost use Rattle.std.specs.List.{list_any};
 ghost use Rattle.sctp_tx_outstanding.specs.Forward.{is_before, is_alike, put_entry, entries_before, size_with, with_entry};
 ghost use Rattle.sctp_tx_outstanding.specs.Entries.{ssn_skip, mid_skip};
+ghost use Rattle.sctp_tx_outstanding.specs.Point.{Ascend};
 
 use sctp_chunk::SkippedStream;
 use sctp_serial::{Mid, Ssn, StreamId, StreamKey};
@@ -50,27 +51,29 @@ impl SkipEntry {
     }
 }
 
-/// Whether an entry of the same stream and order is among these.
-pub(crate) fn is_named(entries: &[SkipEntry], entry: SkipEntry) -> bool
-    ensures { result ≡ list_any (is_alike entry) entries.now }
-{
-    entries.iter().any(|other| entry.is_alike(other))
-}
-
-/// How many entries stand before the place of this one.
+/// How many entries stand before the place of this one, found by halves.
 fn place_of(entries: &[SkipEntry], entry: SkipEntry) -> usize
+    requires { Ascend entries.now }
     ensures place { result ≡ entries_before entry entries.now }
     ensures within { result ≤ length entries.now }
 {
-    let mut place = 0;
-    while place < entries.len() && entries[place].is_before(&entry) {
-        place += 1;
+    entries.partition_point(|other| other.is_before(&entry))
+}
+
+/// Whether an entry of the same stream and order is among these.
+fn is_named(entries: &[SkipEntry], entry: SkipEntry) -> bool
+    requires { Ascend entries.now }
+    ensures { result ≡ list_any (is_alike entry) entries.now }
+{
+    match entries.get(place_of(entries, entry)) {
+        Some(other) => entry.is_alike(other),
+        None => false,
     }
-    place
 }
 
 /// Puts the entry at its place, or in the place of the one of its stream and order. Without memory nothing changes.
-pub(crate) fn put(entries: &mut Vec<SkipEntry>, entry: SkipEntry) -> Result<(), AllocError>
+fn put(entries: &mut Vec<SkipEntry>, entry: SkipEntry) -> Result<(), AllocError>
+    requires { Ascend entries.old.items }
     ensures ok { OnOk result (entries.new.items ≡ put_entry entry entries.old.items) }
     ensures err { OnErr result (entries.new.items ≡ entries.old.items) }
 {
@@ -106,6 +109,7 @@ pub(crate) fn put_if(
     entries: &mut Vec<SkipEntry>,
     entry: Option<SkipEntry>,
 ) -> Result<(), AllocError>
+    requires { Ascend entries.old.items }
     ensures ok { OnOk result (entries.new.items ≡ with_entry entry entries.old.items) }
     ensures err { OnErr result (entries.new.items ≡ entries.old.items) }
 {
@@ -121,6 +125,7 @@ pub(crate) fn chunk_size_with(
     entry: Option<SkipEntry>,
     entries: &[SkipEntry],
 ) -> u128
+    requires { Ascend entries.now }
     ensures { result ≡ size_with is_interleaved entry entries.now }
 {
     let entry_size = if is_interleaved { 8 } else { 4 };
