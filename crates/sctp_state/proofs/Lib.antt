@@ -1,3 +1,4 @@
+mod EqualityLemmas
 pub mod EventLemmas
 pub mod HandoverLemmas
 mod Rows
