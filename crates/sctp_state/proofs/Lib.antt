@@ -2,3 +2,4 @@ mod EqualityLemmas
 pub mod EventLemmas
 pub mod HandoverLemmas
 mod Rows
+mod ValidityLemmas
