@@ -1,3 +1,5 @@
+mod EqualityLemmas
 pub mod EventLemmas
 pub mod HandoverLemmas
 mod Rows
+mod ValidityLemmas

@@ -1,5 +1,5 @@
 -- The numbers of the reasons why calls fail.
-use Rattle.std.specs.Prelude.{ℕ}
+use Rattle.std.specs.Prelude.{ℕ, List, []}
 use Rattle.sctp_state.specs.declared.api.errors.SendError.{SendError}
 use Rattle.sctp_state.specs.declared.api.errors.SendError.TheVariants as sends
 use Rattle.sctp_state.specs.declared.api.errors.BatchFault.{BatchFault}
@@ -19,6 +19,12 @@ abbrev pub batch_number : BatchFault → ℕ
 batch_number (batches.Refused errors) = 1
 batch_number batches.Memory = 2
 batch_number batches.Failed = 3
+
+-- the places of the messages that a batch was refused, each with its reason
+abbrev pub refused_messages : BatchFault → List (ℕ × SendError)
+refused_messages (batches.Refused errors) = errors.0.items
+refused_messages batches.Memory = []
+refused_messages batches.Failed = []
 
 abbrev pub handover_number : HandoverError → ℕ
 handover_number (handovers.NotReady readiness) = 1

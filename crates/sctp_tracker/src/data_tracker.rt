@@ -95,7 +95,7 @@ impl Model for DataTracker {
 
 impl DataTracker {
     ghost use Rattle.sctp_tracker.specs.DataTracker.{tracker, update_rto, wire_tsn, number_of, is_valid, has_seen, observe, moves_on, forward, acking, is_ack_due, take_ack, packet_end, ack_timeout, IsTracker};
-    ghost use Rattle.sctp_tracker.specs.Sack.{sack, clear_duplicates, is_covered};
+    ghost use Rattle.sctp_tracker.specs.Sack.{sack, tsns, clear_duplicates, is_covered};
     ghost use Rattle.sctp_tracker.specs.Reported.{IsReported, is_duplicate, Ascend};
     ghost use Rattle.sctp_tracker.specs.TrackerHandover.{readiness, write_handover, restore};
 
@@ -213,8 +213,8 @@ impl DataTracker {
         ensures maximal { IfOk result (λ c. All (IsReported self.old.tracker.seen) c.gap_ack_blocks.items) }
         ensures ascending { IfOk result (λ c. AreRuns 2 c.gap_ack_blocks.items) }
         ensures every { IfOk result (λ c. (run : GapAckBlock) → IsReported self.old.tracker.seen run → Contains c.gap_ack_blocks.items run) }
-        ensures once { OnOk result (Ascend 0 self.old.tracker.duplicates) }
-        ensures few { length self.old.tracker.duplicates ≤ 20 }
+        ensures once { IfOk result (λ c. (c.duplicate_tsns.items ≡ tsns self.old.first self.old.tracker.duplicates) × Ascend 0 self.old.tracker.duplicates) }
+        ensures few { IfOk result (λ c. length c.duplicate_tsns.items ≤ 20) }
 
         ensures value { OnOk result (self.new ≡ record self.old { tracker = clear_duplicates self.old.tracker }) }
         ensures tracker { IsTracker self.new.tracker }

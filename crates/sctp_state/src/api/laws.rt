@@ -1,6 +1,7 @@
 //! What equality of kinds, states and errors means, each the contract of a function, and what a clone and a default are.
 
 ghost use Rattle.std.specs.Prelude.{◌≡◌, ◌↔◌, IsTrue, IfOk, false};
+ghost use Rattle.sctp_state.specs.Errors.{batch_number, refused_messages};
 ghost use Rattle.sctp_state.specs.Options.{options_of, plainly, send_options_of};
 
 use crate::api::handover::{
@@ -8,8 +9,9 @@ use crate::api::handover::{
     HandoverUnorderedStream,
 };
 use crate::{
-    CallError, ErrorKind, HandoverError, HandoverReadiness, Options, ResetStreamsError,
-    RestoreError, SctpImplementation, SendError, SendOptions, SocketState,
+    BackoffAlgorithm, BatchFault, BatchSendError, CallError, ErrorKind, GivenUp, GivenUpCause,
+    HandoverError, HandoverReadiness, Metrics, Options, ResetStreamsError, RestoreError,
+    SctpImplementation, SendError, SendOptions, SocketState,
 };
 use std::alloc::AllocError;
 
@@ -37,6 +39,66 @@ pub fn is_same_readiness(a: HandoverReadiness, b: HandoverReadiness) -> bool
     a == b
 }
 
+pub fn is_same_cause(a: GivenUpCause, b: GivenUpCause) -> bool
+    ensures { IsTrue result ↔ (a ≡ b) }
+{
+    a == b
+}
+
+pub fn is_same_given_up(a: GivenUp, b: GivenUp) -> bool
+    ensures { IsTrue result ↔ (a ≡ b) }
+{
+    a == b
+}
+
+pub fn is_same_backoff_algorithm(a: BackoffAlgorithm, b: BackoffAlgorithm) -> bool
+    ensures { IsTrue result ↔ (a ≡ b) }
+{
+    a == b
+}
+
+pub fn are_same_metrics(a: Metrics, b: Metrics) -> bool
+    ensures { IsTrue result ↔ (a ≡ b) }
+{
+    a == b
+}
+
+pub fn are_same_send_options(a: SendOptions, b: SendOptions) -> bool
+    ensures { IsTrue result ↔ (a ≡ b) }
+{
+    a == b
+}
+
+pub fn is_same_handover_socket_state(a: HandoverSocketState, b: HandoverSocketState) -> bool
+    ensures { IsTrue result ↔ (a ≡ b) }
+{
+    a == b
+}
+
+pub fn are_same_handover_capabilities(a: HandoverCapabilities, b: HandoverCapabilities) -> bool
+    ensures { IsTrue result ↔ (a ≡ b) }
+{
+    a == b
+}
+
+pub fn is_same_outgoing_stream(a: HandoverOutgoingStream, b: HandoverOutgoingStream) -> bool
+    ensures { IsTrue result ↔ (a ≡ b) }
+{
+    a == b
+}
+
+pub fn is_same_ordered_stream(a: HandoverOrderedStream, b: HandoverOrderedStream) -> bool
+    ensures { IsTrue result ↔ (a ≡ b) }
+{
+    a == b
+}
+
+pub fn is_same_unordered_stream(a: HandoverUnorderedStream, b: HandoverUnorderedStream) -> bool
+    ensures { IsTrue result ↔ (a ≡ b) }
+{
+    a == b
+}
+
 pub fn is_same_call_error(a: &CallError, b: &CallError) -> bool
     ensures { IsTrue result ↔ (a.now ≡ b.now) }
 {
@@ -45,6 +107,19 @@ pub fn is_same_call_error(a: &CallError, b: &CallError) -> bool
 
 pub fn is_same_send_error(a: &SendError, b: &SendError) -> bool
     ensures { IsTrue result ↔ (a.now ≡ b.now) }
+{
+    a == b
+}
+
+/// The same messages were refused, each for the same reason.
+pub fn is_same_batch_send_error(a: &BatchSendError, b: &BatchSendError) -> bool
+    ensures { IsTrue result ↔ (a.now.0.items ≡ b.now.0.items) }
+{
+    a == b
+}
+
+pub fn is_same_batch_fault(a: &BatchFault, b: &BatchFault) -> bool
+    ensures { IsTrue result ↔ ((batch_number a.now ≡ batch_number b.now) × (refused_messages a.now ≡ refused_messages b.now)) }
 {
     a == b
 }

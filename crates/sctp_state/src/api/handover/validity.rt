@@ -1,6 +1,6 @@
 //! Which handover records a socket can take up.
 
-ghost use Rattle.std.specs.Prelude.{◌≡◌, ◌+◌, ◌-◌, ◌^◌, min, map};
+ghost use Rattle.std.specs.Prelude.{◌≡◌, ◌+◌, ◌-◌, ◌^◌, min, map, true, IfOk};
 ghost use Rattle.sctp_state.specs.Handover.{stream_message_of, outstanding_data_of, transmission_of, receive_of, handover_state_of};
 ghost use Rattle.sctp_state.specs.Validity.{rises_from, outgoing_ids, ordered_ids, unordered_ids, has_small_numbers, is_valid_reception, has_stream, is_valid_message, are_valid_messages, has_message_id, message_ids_differ, has_partly_sent, first_alone_is_partly_sent, partly_sent_count, has_valid_queue, is_in_one_state, is_past, is_valid_item, are_valid_items, has_valid_items, queued_bytes, outstanding_bytes, payload_fits, is_valid_transmission, is_valid_connection, is_valid_state};
 
@@ -9,6 +9,8 @@ use crate::api::handover::{
     HandoverSocketState, HandoverStreamMessage, HandoverTransmission, HandoverUnorderedStream,
     SocketHandoverState,
 };
+use std::alloc::{AllocError, Global};
+use std::collections::BTreeSet;
 
 impl SocketHandoverState {
     /// Whether a socket could have written this record. A closed socket's always is valid.
@@ -54,16 +56,18 @@ impl HandoverTransmission {
     }
 
     fn has_valid_queue(&self, interleaving: bool) -> bool
+        requires rise { rises_from 0 (outgoing_ids self.now.streams.items) ≡ true }
         ensures { result ≡ has_valid_queue interleaving (transmission_of self.now) }
     {
+        let alloc = *self.queued_messages.allocator();
         self.next_outgoing_message_id <= 1 << 32
             && are_valid_messages(
                 &self.queued_messages,
                 &self.streams,
                 self.next_outgoing_message_id,
             )
-            && message_ids_differ(&self.queued_messages)
-            && first_alone_is_partly_sent(&self.queued_messages)
+            && message_ids_differ(alloc, &self.queued_messages)
+            && first_alone_is_partly_sent(alloc, &self.queued_messages)
             && (interleaving || partly_sent_count(&self.queued_messages) <= 1)
     }
 
@@ -134,10 +138,14 @@ fn has_small_numbers(streams: &[HandoverOrderedStream]) -> bool
     streams.iter().all(|stream| stream.next_ssn <= 65_535)
 }
 
+/// Whether a stream has the id. Their ids rise, so it is found by halves.
 fn has_stream(streams: &[HandoverOutgoingStream], id: u16) -> bool
+    requires rise { rises_from 0 (outgoing_ids streams.now) ≡ true }
     ensures { result ≡ has_stream streams.now id }
 {
-    streams.iter().any(|stream| stream.id == id)
+    streams
+        .binary_search_by_key(&id, |stream| stream.id)
+        .is_ok()
 }
 
 fn is_valid_message(
@@ -145,6 +153,7 @@ fn is_valid_message(
     streams: &[HandoverOutgoingStream],
     next: u64,
 ) -> bool
+    requires rise { rises_from 0 (outgoing_ids streams.now) ≡ true }
     ensures { result ≡ is_valid_message streams.now next (stream_message_of message.now) }
 {
     message.remaining_offset < message.payload.len()
@@ -157,6 +166,7 @@ fn are_valid_messages(
     streams: &[HandoverOutgoingStream],
     next: u64,
 ) -> bool
+    requires rise { rises_from 0 (outgoing_ids streams.now) ≡ true }
     ensures { result ≡ are_valid_messages streams.now next (map stream_message_of messages.now) }
 {
     'messages: for message in messages {
@@ -178,7 +188,31 @@ fn has_message_id(messages: &[HandoverStreamMessage], id: u64) -> bool
     false
 }
 
-fn message_ids_differ(messages: &[HandoverStreamMessage]) -> bool
+/// Whether no two messages have one id. Where there is no memory for a set of those met, each is looked for behind its message.
+fn message_ids_differ(alloc: Global, messages: &[HandoverStreamMessage]) -> bool
+    ensures { result ≡ message_ids_differ (map stream_message_of messages.now) }
+{
+    match met_ids_differ(alloc, messages) {
+        Ok(differ) => differ,
+        Err(_) => later_ids_differ(messages),
+    }
+}
+
+/// In one walk, which notes the ids.
+fn met_ids_differ(alloc: Global, messages: &[HandoverStreamMessage]) -> Result<bool, AllocError>
+    ensures { IfOk result (λ differ. differ ≡ message_ids_differ (map stream_message_of messages.now)) }
+{
+    let mut met = BTreeSet::new(alloc);
+    'messages: for message in messages {
+        if met.contains(&message.message_id) {
+            return Ok(false);
+        }
+        met.insert(message.message_id)?;
+    }
+    Ok(true)
+}
+
+fn later_ids_differ(messages: &[HandoverStreamMessage]) -> bool
     ensures { result ≡ message_ids_differ (map stream_message_of messages.now) }
 {
     'places: for i in 0..messages.len() {
@@ -200,7 +234,34 @@ fn has_partly_sent(messages: &[HandoverStreamMessage], stream_id: u16) -> bool
     false
 }
 
-fn first_alone_is_partly_sent(messages: &[HandoverStreamMessage]) -> bool
+/// Whether none is partly sent behind another one of its stream, which is found as ids are.
+fn first_alone_is_partly_sent(alloc: Global, messages: &[HandoverStreamMessage]) -> bool
+    ensures { result ≡ first_alone_is_partly_sent (map stream_message_of messages.now) }
+{
+    match none_is_partly_sent_on_met(alloc, messages) {
+        Ok(alone) => alone,
+        Err(_) => none_is_partly_sent_later(messages),
+    }
+}
+
+/// In one walk, which notes the streams.
+fn none_is_partly_sent_on_met(
+    alloc: Global,
+    messages: &[HandoverStreamMessage],
+) -> Result<bool, AllocError>
+    ensures { IfOk result (λ alone. alone ≡ first_alone_is_partly_sent (map stream_message_of messages.now)) }
+{
+    let mut met = BTreeSet::new(alloc);
+    'messages: for message in messages {
+        if 0 < message.remaining_offset && met.contains(&message.stream_id) {
+            return Ok(false);
+        }
+        met.insert(message.stream_id)?;
+    }
+    Ok(true)
+}
+
+fn none_is_partly_sent_later(messages: &[HandoverStreamMessage]) -> bool
     ensures { result ≡ first_alone_is_partly_sent (map stream_message_of messages.now) }
 {
     'places: for i in 0..messages.len() {

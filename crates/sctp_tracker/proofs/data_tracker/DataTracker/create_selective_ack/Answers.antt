@@ -1,9 +1,12 @@
-use Rattle.std.proofs.Common.{sym, subst, List}
+use Rattle.std.proofs.Common.{sym, subst, ap, length, List, arith}
 use Rattle.std.specs.List.{All, Contains}
+use Rattle.std.proofs.lemmas.List.{length-map}
+use Rattle.sctp_serial.specs.declared.types.tsn.Tsn.{Tsn}
 use Rattle.sctp_chunk.specs.declared.sack.GapAckBlock.{GapAckBlock}
 use Rattle.sctp_chunk.specs.Covered.{AreRuns}
 use Rattle.sctp_tracker.specs.DataTracker.{DataTracker}
 use Rattle.sctp_tracker.specs.Reported.{IsReported}
+use Rattle.sctp_tracker.specs.Sack.{tsn}
 use Rattle.sctp_tracker.proofs.ReportedLemmas.{blocks_are_reported, blocks_stand_apart, reported_are_blocks}
 use Rattle.sctp_tracker.proofs.TrackerLemmas.{covered_was_seen}
 use Rattle.sctp_tracker.proofs.data_tracker.DataTracker.create_selective_ack.Goals as goal
@@ -27,3 +30,10 @@ returns-clause-every c = λ run is_reported.
     let Q : DataTracker → Type 0 = λ d. IsReported d.tracker.seen run in
     let old : IsReported c.self.inside.seen run = subst Q (sym c.self.view_is) is_reported in
     subst P (sym c.in_ok-gap_ack_blocks.ensures) (reported_are_blocks c.self.inside.seen c.self.invariant.runs run old)
+
+pub returns-clause-once : goal.returns-clause-once
+returns-clause-once c = rw (← c.self.view_is) (c.in_ok-duplicate_tsns.ensures.written, c.in_ok-duplicate_tsns.ensures.ascending)
+
+pub returns-clause-few : goal.returns-clause-few
+returns-clause-few c =
+    omega (arith, ap (λ (ns : List Tsn). length ns) c.in_ok-duplicate_tsns.ensures.written, length-map c.self.inside.duplicates (tsn c.self.inside.first.0), c.self.invariant.few)
