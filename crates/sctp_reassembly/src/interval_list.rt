@@ -1,6 +1,6 @@
 //! Fragments in the order of their keys, in intervals: maximal runs without a message's border inside.
 
-ghost use Rattle.std.specs.Prelude.{◌≡◌, ◌==◌, ◌+◌, ◌<◌, ◌≤◌, ◌^◌, ◌&&◌, ◌++◌, ◌∷◌, [], List, Option, Some, None, false, length, take, drop, is_none, option_map, IfOk, OnOk, OnErr, IfSome, IfNone, IsTrue};
+ghost use Rattle.std.specs.Prelude.{◌≡◌, ◌==◌, ◌+◌, ◌<◌, ◌≤◌, ◌^◌, ◌&&◌, ◌++◌, ◌∷◌, [], List, Option, Some, None, true, false, length, take, drop, is_none, option_map, IfOk, OnOk, OnErr, IfSome, IfNone, IsTrue};
 
 use sctp_chunk::Data;
 use sctp_fragments::{Entry, Interval, ReassemblyKey, goes_on_to, is_before, is_below_number};
@@ -261,13 +261,26 @@ fn has_number<K: ReassemblyKey>(interval: &Interval<K>, number: u128) -> bool
     interval.first().key.number() as u128 == number
 }
 
-/// How many intervals begin below the message with the number, found by halves.
+/// Whether no interval begins below the message with the number.
+fn starts_from<K: ReassemblyKey>(intervals: &VecDeque<Interval<K>>, number: u128) -> bool
+    ensures { result ≡ true → StartsFrom number (lists_of (held_of K.number K.index) intervals.now.items) }
+{
+    if intervals.len() == 0 {
+        return true;
+    }
+    !is_below_number(intervals[0].first().key, number)
+}
+
+/// How many intervals begin below the message with the number, found by halves, unless none does.
 fn place_for_number<K: ReassemblyKey>(intervals: &VecDeque<Interval<K>>, number: u128) -> usize
     requires { IsInRuns (lists_of (held_of K.number K.index) intervals.now.items) }
     ensures bound { result ≤ length intervals.now.items }
     ensures before { NoneInTurn number (lists_of (held_of K.number K.index) (take result intervals.now.items)) }
     ensures from { StartsFrom number (lists_of (held_of K.number K.index) (drop result intervals.now.items)) }
 {
+    if starts_from(intervals, number) {
+        return 0;
+    }
     let mut place = 0;
     let mut end = intervals.len();
     while place < end {
@@ -355,7 +368,7 @@ fn put_alone<K: ReassemblyKey>(
     ensures place { IfOk result (λ at. at ≡ place) }
     ensures err { OnErr result (lists_of (held_of K.number K.index) intervals.new.items ≡ lists_of (held_of K.number K.index) intervals.old.items) }
 {
-    let mut entries = VecDeque::new(alloc);
+    let mut entries = VecDeque::with_capacity(alloc, 1)?;
     entries.push_back(entry)?;
     intervals.insert(place, Interval { entries })?;
     Ok(place)
