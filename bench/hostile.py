@@ -152,7 +152,26 @@ def fill(size, one):
 
 
 # With these lines b is connected when the packet comes. Tags and first TSNs are those of the script's words.
+TAG, FIRST = 17, 456  # b's tag, and the first TSN of a
+SENDER = 5  # the first TSN of b
 OPEN = "connect a\ngive a 0 b\ngive b 0 a\ngive a 1 b\ngive b 1 a\n"
+
+
+def take(*chunks):
+    return f"take b {packet(TAG, *chunks).hex()}\n"
+
+
+def many(count, one):
+    """`take` lines with one(0) up to one(count - 1), in packets as large as can be."""
+    lines, chunks, room = [], [], LARGE - HEADER
+    for number in range(count):
+        next_ = one(number)
+        if len(next_) > room:
+            lines.append(take(*chunks))
+            chunks, room = [], LARGE - HEADER
+        chunks.append(next_)
+        room -= len(next_)
+    return "".join(lines) + take(*chunks)
 
 
 def build():
@@ -162,17 +181,17 @@ def build():
 
 
 class Watch:
-    """Runs a script and tells what its last packet cost."""
+    """Runs a script and tells what the last call of a function cost."""
 
-    def __init__(self, room):
+    def __init__(self, room, function):
         self.library = f"{room}/watch.so"
         open(f"{room}/watch.c", "w").write(WATCH)
         subprocess.run(["gcc", "-O1", "-shared", "-fPIC", "-o", self.library, f"{room}/watch.c", "-ldl"], check=True)
         names = subprocess.run(["nm", PROGRAM], capture_output=True, text=True, check=True).stdout.splitlines()
-        (self.watched,) = [name.split()[0] for name in names if "handle_input" in name]
+        (self.watched,) = [name.split()[0] for name in names if function in name]
 
     def run(self, row):
-        """Processor nanoseconds of the call that the last packet makes, and bytes that it leaves on the heap; what is printed; the status."""
+        """Processor nanoseconds of the call, and bytes that it leaves on the heap; what is printed; the status."""
         env = {**os.environ, "LD_PRELOAD": self.library, "WATCHED": self.watched}
         ran = subprocess.run([PROGRAM], input=f"# one\n{row}".encode(), capture_output=True, env=env)
         told = [tuple(map(int, line.split())) for line in ran.stderr.decode().splitlines()]
@@ -187,3 +206,8 @@ def instructions(row, function):
         ran = subprocess.run(words, input=f"# one\n{row}".encode(), capture_output=True)
         collected = re.findall(r"Collected : (\d+)", ran.stderr.decode())
         return int(collected[0]) if collected else None
+
+
+def beside(row, last, function):
+    """How many instructions the last line takes in the function, by callgrind."""
+    return instructions(row + last, f"*{function}*") - (instructions(row, f"*{function}*") or 0)

@@ -17,8 +17,8 @@ use sctp_state::{
 ///
 /// Write what drives a socket over `S: DcSctpSocket`: it is proved in seconds, over one concrete `Socket` in minutes.
 pub trait DcSctpSocket {
-    /// Takes the event that was emitted first. An arm that passes events over is written `Some(_event) => ()`, since `Some(_)`
-    /// doesn't take it.
+    /// Takes the event that was emitted first. Take all of them each turn: those that wait are kept, however many there are. An arm
+    /// that passes events over is written `Some(_event) => ()`, since `Some(_)` doesn't take it.
     fn poll_event(&mut self) -> Option<SocketEvent>;
 
     /// Hands out the message that was ready first.
