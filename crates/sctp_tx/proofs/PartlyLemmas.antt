@@ -59,12 +59,8 @@ module _ (d : Outstanding) (q : Queue) (emitted : Emitted (List ℕ)) (m : Outst
         queue = record { queue = er ∙ ap (λ (c : Changed (List ℕ)). c.queue) is; events = el ∙ ap (λ (c : Changed (List ℕ)). c.emitted) is };
       }
 
-  pub discarding_stops : (rest : Queue) (later : Emitted (List ℕ)) → Same r sofar rest later → SomeDiscarded d q emitted after rest later
-  discarding_stops rest later same = record {
-    count = h.count;
-    items = items_on;
-    queue = record { queue = same.queue ∙ h.queue.queue; events = same.events ∙ h.queue.events };
-  }
+pub discarding_stops : (d : Outstanding) (q : Queue) (emitted : Emitted (List ℕ)) (m : Outstanding) (r : Queue) (sofar : Emitted (List ℕ)) (rest : Queue) (later : Emitted (List ℕ)) → Discarding d q emitted m r sofar → Same r sofar rest later → SomeDiscarded d q emitted m rest later
+discarding_stops d q emitted m r sofar rest later h same = record { count = h.count; items = h.items; queue = record { queue = same.queue ∙ h.queue.queue; events = same.events ∙ h.queue.events } }
 
 -- ---- new fragments
 

@@ -46,10 +46,10 @@ pub record Stands {P : Type 0} (x : Changed P) (rest : Queue) (later : Emitted P
   pub queue : rest ≡ x.queue
   pub events : later ≡ x.emitted
 
--- of the messages that were given up so many left the queue. The next one stays there and is not named any more
+-- of the messages that were given up so many left the queue, and the others are still to leave it
 pub record SomeDiscarded {P : Type 0} (d : Outstanding) (q : Queue) (emitted : Emitted P) (after : Outstanding) (rest : Queue) (later : Emitted P) : Type 0 where
   pub count : ℕ
-  pub items : after ≡ record d { items = record d.items { discards = drop (suc count) d.items.discards } }
+  pub items : after ≡ record d { items = record d.items { discards = drop count d.items.discards } }
   pub queue : Stands (discard_all (take count d.items.discards) q emitted) rest later
 
 -- some of the items that wait went again, into so much of a packet, and are not counted

@@ -580,7 +580,7 @@ impl RetransmissionQueue {
 }
 
 /// What is left of messages that were given up leaves the send queue. Without memory this is done for some of the first
-/// alone, and the next one stays there.
+/// alone.
 fn discard_all(
     outstanding: &mut OutstandingData,
     queue: &mut SendQueue,
@@ -591,8 +591,9 @@ fn discard_all(
     ensures emitted { OnOk result (events.new ≡ (discard_all outstanding.old.items.discards queue.old events.old).emitted) }
     ensures err { OnErr result (SomeDiscarded outstanding.old queue.old events.old outstanding.new queue.new events.new) }
 {
-    while let Some(next) = outstanding.get_unsent_message_to_discard() {
+    while let Some(next) = outstanding.unsent_message_to_discard() {
         queue.discard(next.stream_id, next.message_id, events)?;
+        outstanding.get_unsent_message_to_discard();
     }
     Ok(())
 }

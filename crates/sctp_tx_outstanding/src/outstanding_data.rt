@@ -242,6 +242,16 @@ impl OutstandingData {
         mem::replace(&mut self.discards, VecDeque::new(self.alloc))
     }
 
+    /// The next message of which the send queue is to drop what is left.
+    pub fn unsent_message_to_discard(&self) -> Option<Discarded>
+        ensures { option_map discard_of result ≡ first_of self.now.items.discards }
+    {
+        match self.discards.front() {
+            Some(next) => Some(*next),
+            None => None,
+        }
+    }
+
     /// Takes out the next message of which the send queue is to drop what is left.
     pub fn get_unsent_message_to_discard(&mut self) -> Option<Discarded>
         ensures first { option_map discard_of result ≡ first_of self.old.items.discards }

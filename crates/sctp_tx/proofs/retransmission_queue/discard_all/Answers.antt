@@ -15,7 +15,7 @@ pub loop-next-preserved : goal.loop-next-preserved
 loop-next-preserved c =
     let here = c.loop-next in
     let popped = c.get_unsent_message_to_discard in
-    let named : first_of here.outstanding.items.discards ≡ Some (discard_of c.in-Some.next) = sym (rw c.in-Some.is at popped.ensures.first) in
+    let named : first_of here.outstanding.items.discards ≡ Some (discard_of c.in-Some.next) = sym (rw c.in-Some.is at c.unsent_message_to_discard.ensures) in
     record {
       items = search rules;
       rest = search rules;
@@ -27,8 +27,4 @@ loop-next-preserved c =
 pub returns-in_err-discard-clause-err : goal.returns-in_err-discard-clause-err
 returns-in_err-discard-clause-err c =
     let here = c.loop-next in
-    let popped = c.get_unsent_message_to_discard in
-    let named : first_of here.outstanding.items.discards ≡ Some (discard_of c.in-Some.next) = sym (rw c.in-Some.is at popped.ensures.first) in
-    on_err _ _
-    (discarding_stops _ _ _ here.outstanding here.queue here.events here.invariant.done (discard_of c.in-Some.next) popped.new.self named popped.ensures.rest
-    c.discard.new.self c.discard.new.events c.in_err-discard.ensures.err)
+    on_err _ _ (discarding_stops _ _ _ here.outstanding here.queue here.events c.discard.new.self c.discard.new.events here.invariant.done c.in_err-discard.ensures.err)
