@@ -111,6 +111,18 @@ accepted_cookie bytes rest c size e s both =
     let same = cookie_from_spelled bytes rest c e s in
     accepted bytes size (begins_with_magic bytes rest e) (ap has_tags same ∙ both) ∙ ap Ok same
 
+spelled_size : (flags : List ℕ) (c : Cookie) → length flags ≡ 4
+    → length (magic ++ fields c.peer_tag c.my_tag c.peer_initial_tsn c.my_initial_tsn c.a_rwnd c.tie_tag
+    (flags ++ (be32 c.peer_capabilities.zero_checksum_method ++ (be16 c.peer_capabilities.incoming ++ be16 c.peer_capabilities.outgoing)))) ≡ 48
+unfolding be64 be32 be16
+spelled_size (p ∷ i ∷ r ∷ z ∷ []) c four = refl
+spelled_size flags c four = absurd (omega arith)
+
+pub spelled_cookie : (bytes rest : List ℕ) (c : Cookie) → bytes ≡ magic ++ rest → SpellsCookie rest c → has_tags c ≡ true → read_cookie bytes ≡ Ok c
+spelled_cookie bytes rest c e s both =
+    let size : length bytes ≡ 48 = rw (e, s.spelled, s.spells.spelled) (spelled_size s.spells.flags c s.spells.four) in
+    accepted_cookie bytes rest c size e s both
+
 -- ---- what was written
 
 pub is_set_flag_byte : (b : Bool) → b ≡ is_set (flag_byte b)

@@ -1,6 +1,6 @@
 //! Packets written: chunks one after the other behind a common header, up to a limit.
 
-ghost use Rattle.std.specs.Prelude.{◌≡◌, ◌≢◌, ◌<◌, ◌≤◌, ◌&&◌, nat_le, true, List, [], ◌∷◌, ◌++◌, length, take, drop, IsOk, OnOk, OnErr, IsTrue, ◌↔◌, vec_capacity};
+ghost use Rattle.std.specs.Prelude.{◌≡◌, ◌≢◌, ◌<◌, ◌≤◌, ◌&&◌, nat_le, max, true, List, [], ◌∷◌, ◌++◌, length, take, drop, IsOk, OnOk, OnErr, IsTrue, ◌↔◌, vec_capacity};
 ghost use Rattle.sctp_wire.specs.Field.{be32};
 ghost use Rattle.sctp_wire.specs.Serialize.{IsEncodable, is_encodable};
 ghost use Rattle.sctp_wire.specs.Room.{Fills};
@@ -184,10 +184,19 @@ fn push_chunk(
     ensures more { 0 < length bytes.old.items → OnOk result (bytes.new.items ≡ bytes.old.items ++ chunk_bytes (chunk_tree chunk.now)) }
 {
     if bytes.is_empty() {
-        bytes.reserve_exact(limit)?;
+        reserve_packet(bytes, limit)?;
         push_header(bytes, header)?;
     }
     chunk.serialize_to(bytes)
+}
+
+/// Reserves what the longest packet takes, and no more.
+fn reserve_packet(bytes: &mut Vec<u8>, limit: usize) -> Result<(), AllocError>
+    ensures reserved { bytes.old.items ≡ [] → OnOk result (vec_capacity bytes.new ≡ max (vec_capacity bytes.old) limit) }
+    ensures items { bytes.new.items ≡ bytes.old.items }
+    ensures err { OnErr result (vec_capacity bytes.new ≡ vec_capacity bytes.old) }
+{
+    bytes.reserve_exact(limit)
 }
 
 /// Appends a header, its checksum zero.

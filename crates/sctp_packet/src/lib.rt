@@ -24,4 +24,16 @@ pub use sctp_control_chunk::{
     HeartbeatRequestChunk, InitAckChunk, InitChunk, ReConfigChunk, ShutdownAckChunk, ShutdownChunk,
     ShutdownCompleteChunk, UnknownChunk,
 };
+pub use sctp_error_cause::{
+    CookieReceivedWhileShuttingDownErrorCause, ErrorCause, MissingMandatoryParameterErrorCause,
+    NoUserDataErrorCause, ProtocolViolationErrorCause, UnrecognizedChunkErrorCause,
+    UserInitiatedAbortErrorCause, error_cause_from_bytes,
+};
+pub use sctp_parameter::{
+    ForwardTsnSupportedParameter, HeartbeatInfoParameter, IncomingSsnResetRequestParameter,
+    OutgoingSsnResetRequestParameter, PARAMETER_TYPE_ADD_INCOMING_STREAMS_REQUEST,
+    PARAMETER_TYPE_ADD_OUTGOING_STREAMS_REQUEST, PARAMETER_TYPE_SSN_TSN_RESET_REQUEST, Parameter,
+    ReconfigurationResponseParameter, ReconfigurationResponseResult, StateCookieParameter,
+    SupportedExtensionsParameter, ZeroChecksumAcceptableParameter, parameters_from_bytes,
+};
 pub use view::PacketView;

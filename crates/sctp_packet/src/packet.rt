@@ -80,6 +80,7 @@ impl CommonHeader {
         ensures checksum_fits { IfOk result (λ read. read.0.checksum < 2 ^ 32) }
         ensures long { OnOk result (12 ≤ length bytes.now) }
         ensures short { OnErr result (length bytes.now < 12) }
+        ensures fault { IfErr result (λ fault. fault ≡ ChunkParseError.InvalidLength) }
     {
         if bytes.len() < COMMON_HEADER_SIZE {
             return Err(ChunkParseError::InvalidLength);

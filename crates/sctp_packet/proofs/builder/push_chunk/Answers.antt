@@ -4,14 +4,14 @@ use Rattle.sctp_chunk.specs.Written.{chunk_bytes}
 use Rattle.sctp_packet.specs.PacketView.{header_tree}
 use Rattle.sctp_packet.proofs.BuilderLemmas.{chunk_behind_header, not_empty}
 use Rattle.sctp_packet.proofs.builder.push_chunk.Goals as goal
-use Rattle.sctp_packet.proofs.builder.push_chunk.Goals.{then-is_empty+in_ok-reserve_exact+in_ok-push_header, else-is_empty}
+use Rattle.sctp_packet.proofs.builder.push_chunk.Goals.{then-is_empty+in_ok-reserve_packet+in_ok-push_header, else-is_empty}
 
 pub returns-clause-first : goal.returns-clause-first
 unfolding chunk_bytes
 returns-clause-first c none =
     elim c.if-is_empty.branch [
-      | then-is_empty+in_ok-reserve_exact+in_ok-push_header w ↦
+      | then-is_empty+in_ok-reserve_packet+in_ok-push_header w ↦
           IfOk-equal c.serialize_to.result _ _ _ c.serialize_to.ensures.wrote
-          (chunk_behind_header (header_tree c.args.header) c.args.bytes.now.items c.if-is_empty.bytes.items _ none (rw (w.bytes-is, w.in_ok-push_header.ensures.wrote, w.reserve_exact.ensures.items) refl))
+          (chunk_behind_header (header_tree c.args.header) c.args.bytes.now.items c.if-is_empty.bytes.items _ none (rw (w.bytes-is, w.in_ok-push_header.ensures.wrote, w.reserve_packet.ensures.items) refl))
       | else-is_empty w ↦ absurd (not_empty (vec_len c.args.bytes.now) c.args.bytes.now.items w.if-is_empty.ensures c.args.bytes.now.ok.0 none)
     ]
