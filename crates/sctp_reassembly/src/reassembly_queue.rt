@@ -290,7 +290,7 @@ impl ReassemblyQueue {
     /// Takes a fragment. What is complete and in turn by it becomes ready. While a reset is deferred, a fragment above its
     /// last TSN waits where it is on one of its streams. A TSN that lies 2^62 or more above the first one is ignored.
     ///
-    /// Without memory the queue may hold a part of what it should. What was ready stays ready, in any case.
+    /// Without memory the fragment, or a message that was in turn, may be lost. All else stays, and what was ready stays ready.
     #[tactic(auto, using(crate::proofs::ExtendsLemmas::extends_none))]
     pub fn add(&mut self, tsn: Tsn, fragment: Data) -> Result<(), AllocError>
         requires { queued_bytes self.old + length fragment.payload.items < 2 ^ 64 }
@@ -317,7 +317,7 @@ impl ReassemblyQueue {
     /// what is then in turn, by ascending stream. While a reset is deferred, of a forward point above its last TSN the entries for
     /// its streams wait. A TSN that lies 2^62 or more above the first one is ignored.
     ///
-    /// Without memory the queue may hold a part of what it should. What was ready stays ready, in any case.
+    /// Without memory the first entries are taken, one in part, and the others are lost. All else stays, and what was ready stays ready.
     #[tactic(auto, using(crate::proofs::ExtendsLemmas::extends_none))]
     pub fn handle_forward_tsn(
         &mut self,
@@ -401,7 +401,7 @@ impl ReassemblyQueue {
     /// Resets the streams, or all where none is named: nothing is held of them, and their numbers begin anew. Then comes
     /// what waited for a reset, in order, whatever streams that reset named.
     ///
-    /// Without memory the queue may hold a part of what it should. What was ready stays ready, in any case.
+    /// Without memory the first of what waited is taken, and the rest is lost. What was ready stays ready.
     #[tactic(auto, using(crate::proofs::ExtendsLemmas::extends_none))]
     pub fn reset_streams_and_leave_deferred_reset(
         &mut self,
