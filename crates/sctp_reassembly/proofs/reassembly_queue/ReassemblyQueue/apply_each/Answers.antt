@@ -1,4 +1,4 @@
-use Rattle.std.proofs.Common.{◌≡◌, ◌+◌, ap, sym, subst, ◌∙◌, arith, map}
+use Rattle.std.proofs.Common.{ap, sym, subst, ◌∙◌, arith, map}
 use Rattle.std.specs.List.{sum_by}
 use Rattle.std.proofs.lemmas.List.Sums.{sum_by-cons}
 use Rattle.sctp_reassembly.specs.ReassemblyQueue.{AreSmall, apply_each, waiting_bytes}
