@@ -4,6 +4,9 @@ pub mod FindLemmas
 pub mod PopLemmas
 pub mod ReassemblyRowsLemmas
 pub mod DeliverLemmas
+pub mod InterruptedLemmas
+pub mod StandsLemmas
+pub mod InterruptedQueueLemmas
 pub mod EntriesLemmas
 pub mod SkipLemmas
 pub mod SortLemmas

@@ -2,6 +2,8 @@ pub mod Delivery
 pub mod ReassemblyStreams
 pub mod StreamIdSet
 pub mod ReassemblyQueue
+pub mod InterruptedStreams
+pub mod InterruptedQueue
 pub mod ReassemblyMode
 pub mod Waiting
 pub mod ReassemblyHandover

@@ -42,9 +42,10 @@ impl Model for InterleavedReassemblyStreams {
 }
 
 impl InterleavedReassemblyStreams {
-    ghost use Rattle.std.specs.Prelude.{true, ◌+◌, ◌<◌, ◌≤◌, ◌^◌, ◌++◌, OnOk};
+    ghost use Rattle.std.specs.Prelude.{true, ℕ, ◌+◌, ◌<◌, ◌≤◌, ◌^◌, ◌++◌, OnOk, OnErr};
     ghost use Rattle.sctp_reassembly.specs.Delivery.{ready_bytes, Extends};
     ghost use Rattle.sctp_reassembly.specs.ReassemblyStreams.{no_streams, held_bytes, skip};
+    ghost use Rattle.sctp_reassembly.specs.InterruptedStreams.{Stands, skip_in_part};
 
     /// No streams. Takes no memory.
     pub fn new(alloc: Global) -> InterleavedReassemblyStreams
@@ -68,6 +69,7 @@ impl InterleavedReassemblyStreams {
         requires { held_bytes self.old + ready_bytes ready.old < 2 ^ 64 }
         ensures ok { OnOk result (self.new ≡ (skip (SkippedStream.IForwardTsn key mid) self.old).streams) }
         ensures ready { OnOk result (ready.new ≡ ready.old ++ (skip (SkippedStream.IForwardTsn key mid) self.old).messages) }
+        ensures err { OnErr result ((steps : ℕ) × Stands (skip_in_part steps (SkippedStream.IForwardTsn key mid) self.old) ready.old self.new ready.new) }
         ensures kept { Extends ready.old ready.new }
         ensures bytes { held_bytes self.new + ready_bytes ready.new ≤ held_bytes self.old + ready_bytes ready.old }
     {

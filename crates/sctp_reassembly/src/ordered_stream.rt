@@ -1,12 +1,13 @@
 //! A stream whose messages become ready in the order of their numbers.
 
-ghost use Rattle.std.specs.Prelude.{◌≡◌, ◌==◌, ◌+◌, ◌<◌, ◌≤◌, ◌^◌, ◌++◌, ◌∷◌, max, length, OnOk, OnErr, IfOk, [], true, false};
+ghost use Rattle.std.specs.Prelude.{◌≡◌, ◌==◌, ◌+◌, ◌<◌, ◌≤◌, ◌^◌, ◌++◌, ◌∷◌, ℕ, max, length, OnOk, OnErr, IfOk, [], true, false};
 ghost use Rattle.sctp_serial.specs.Unwrapped.{origin};
 ghost use Rattle.sctp_fragments.specs.Held.{bytes_of, rank_of, intervals_of, is_in_turn, message_of_run, NoneInTurn};
 ghost use Rattle.sctp_fragments.specs.Interval.{as_held};
 ghost use Rattle.sctp_fragments.specs.ReassemblyKey.{rank_at};
 ghost use Rattle.sctp_fragments.specs.Runs.{from_rank, with_item};
 ghost use Rattle.sctp_reassembly.specs.Delivery.{deliver, ordered_arrival, ready_bytes, Extends};
+ghost use Rattle.sctp_reassembly.specs.InterruptedStreams.{deliver_in_part, ordered_arrival_in_part};
 
 use crate::interval_list::IntervalList;
 use crate::ready_messages::ReadyMessages;
@@ -55,6 +56,7 @@ fn deliver<K: ReassemblyKey>(
     ensures ready { OnOk result (ready.new ≡ ready.old ++ (deliver next.old list.old).messages) }
     ensures settled { OnOk result (NoneInTurn next.new (intervals_of list.new)) }
     ensures onward { next.old ≤ next.new }
+    ensures err { OnErr result ((count : ℕ) × ((record { next = next.new; held = list.new } ≡ (deliver_in_part count next.old list.old).stream) × (ready.new ≡ ready.old ++ (deliver_in_part count next.old list.old).messages))) }
     ensures kept { Extends ready.old ready.new }
     ensures bytes { bytes_of list.new + ready_bytes ready.new ≤ bytes_of list.old + ready_bytes ready.old }
 {
@@ -100,6 +102,7 @@ fn is_whole_at<K: ReassemblyKey>(key: K, fragment: &Data, number: u128) -> bool
 fn hand_on(fragment: Data, ready: &mut ReadyMessages) -> Result<(), AllocError>
     requires { ready_bytes ready.old + length fragment.payload.items < 2 ^ 64 }
     ensures ready { OnOk result (ready.new ≡ ready.old ++ message_of_run (as_held 0 0 fragment ∷ []) ∷ []) }
+    ensures err { OnErr result (ready.new ≡ ready.old) }
     ensures kept { Extends ready.old ready.new }
     ensures bytes { ready_bytes ready.new ≤ ready_bytes ready.old + length fragment.payload.items }
 {
@@ -150,6 +153,7 @@ impl<K: ReassemblyKey> OrderedStream<K> {
         requires room { bytes_of self.old.held + ready_bytes ready.old + length fragment.payload.items < 2 ^ 64 }
         ensures ok { OnOk result (self.new ≡ (ordered_arrival (as_held (K.number key) (K.index key) fragment) self.old).stream) }
         ensures ready { OnOk result (ready.new ≡ ready.old ++ (ordered_arrival (as_held (K.number key) (K.index key) fragment) self.old).messages) }
+        ensures err { OnErr result ((steps : ℕ) × ((self.new ≡ (ordered_arrival_in_part steps (as_held (K.number key) (K.index key) fragment) self.old).stream) × (ready.new ≡ ready.old ++ (ordered_arrival_in_part steps (as_held (K.number key) (K.index key) fragment) self.old).messages))) }
         ensures kept { Extends ready.old ready.new }
         ensures bytes { bytes_of self.new.held + ready_bytes ready.new ≤ bytes_of self.old.held + ready_bytes ready.old + length fragment.payload.items }
     {
@@ -166,6 +170,7 @@ impl<K: ReassemblyKey> OrderedStream<K> {
         requires { bytes_of self.old.held + ready_bytes ready.old + length fragment.payload.items < 2 ^ 64 }
         ensures ok { OnOk result (self.new ≡ (ordered_arrival (as_held (K.number key) (K.index key) fragment) self.old).stream) }
         ensures ready { OnOk result (ready.new ≡ ready.old ++ (ordered_arrival (as_held (K.number key) (K.index key) fragment) self.old).messages) }
+        ensures err { OnErr result ((steps : ℕ) × ((self.new ≡ (ordered_arrival_in_part steps (as_held (K.number key) (K.index key) fragment) self.old).stream) × (ready.new ≡ ready.old ++ (ordered_arrival_in_part steps (as_held (K.number key) (K.index key) fragment) self.old).messages))) }
         ensures kept { Extends ready.old ready.new }
         ensures bytes { bytes_of self.new.held + ready_bytes ready.new ≤ bytes_of self.old.held + ready_bytes ready.old + length fragment.payload.items }
     {
@@ -181,9 +186,7 @@ impl<K: ReassemblyKey> OrderedStream<K> {
         self.is_settled = true;
         Ok(())
     }
-}
 
-impl<K: ReassemblyKey> OrderedStream<K> {
     /// Whether nothing is before the key, and nothing in turn: then a forward point to it changes nothing.
     fn is_passed(&self, first: K) -> bool
         ensures next { result ≡ true → K.number first ≤ self.now.next }
@@ -200,6 +203,7 @@ impl<K: ReassemblyKey> OrderedStream<K> {
 impl<K: ReassemblyKey> ReassemblyStream for OrderedStream<K> {
     ghost use Rattle.std.proofs.Common.{refl};
     ghost use Rattle.sctp_reassembly.specs.Delivery.{fresh_ordered, ordered_arrival, ordered_forward};
+    ghost use Rattle.sctp_reassembly.specs.InterruptedStreams.{ordered_arrival_in_part, ordered_forward_in_part};
 
     type Key = K;
 
@@ -214,6 +218,14 @@ impl<K: ReassemblyKey> ReassemblyStream for OrderedStream<K> {
     ghost after_forward = { λ n s. (ordered_forward n s).stream };
 
     ghost forwarded = { λ n s. (ordered_forward n s).messages };
+
+    ghost arrival_in_part = { λ steps h s. (ordered_arrival_in_part steps h s).stream };
+
+    ghost ready_in_part = { λ steps h s. (ordered_arrival_in_part steps h s).messages };
+
+    ghost forward_in_part = { λ steps n s. (ordered_forward_in_part steps n s).stream };
+
+    ghost forwarded_in_part = { λ steps n s. (ordered_forward_in_part steps n s).messages };
 
     /// A stream of which nothing came.
     fn new(alloc: Global) -> OrderedStream<K> {

@@ -1,6 +1,6 @@
 //! Messages put together of their fragments, and taken one after the other.
 
-ghost use Rattle.std.specs.Prelude.{◌≡◌, [], ◌+◌, ◌-◌, ◌<◌, ◌≤◌, ◌^◌, ◌++◌, nat_le, max, true, false, is_some, length, map, option_map, OnOk, OnErr, IsSome, IfSome, IfNone, ◌↔◌, slice_index_or, Some, unwrap_or};
+ghost use Rattle.std.specs.Prelude.{◌≡◌, ℕ, [], ◌+◌, ◌-◌, ◌<◌, ◌≤◌, ◌^◌, ◌++◌, nat_le, max, true, false, is_some, length, map, option_map, OnOk, OnErr, IsSome, IfSome, IfNone, ◌↔◌, slice_index_or, Some, unwrap_or};
 ghost use Rattle.std.specs.List.{sum_by};
 ghost use Rattle.std.specs.Option.{option_to_list};
 ghost use Rattle.sctp_serial.specs.Messages.{message_of};
@@ -61,6 +61,7 @@ impl Model for ReassemblyQueue {
 impl ReassemblyQueue {
     ghost use Rattle.sctp_reassembly.specs.ReassemblyQueue.{reassembly, queued_bytes, watermark, number_of, came, add_now, forward_now, is_kept_back, point_waits, keep_back, wait_with, resetting, waiting_bytes, waiting_number, saturating_sum, IsCounted, AreSmall, admits_point, add, forward, defer, apply, apply_each, reset};
     ghost use Rattle.sctp_reassembly.specs.ReassemblyStreams.{entries_in};
+    ghost use Rattle.sctp_reassembly.specs.InterruptedQueue.{add_now_in_part, forward_now_in_part, add_in_part, forward_in_part, apply_in_part, apply_each_in_part, reset_in_part};
     ghost use Rattle.sctp_reassembly.specs.Waiting.{waiting_of};
 
     /// An empty queue, which is full at `max_size` bytes. Takes no memory.
@@ -172,6 +173,7 @@ impl ReassemblyQueue {
         requires room { queued_bytes self.old + length fragment.payload.items < 2 ^ 64 }
         requires small { number < 2 ^ 63 }
         ensures ok { OnOk result (self.new ≡ add_now number (fragment_tree fragment) self.old) }
+        ensures err { OnErr result ((steps : ℕ) × (self.new ≡ add_now_in_part steps number (fragment_tree fragment) self.old)) }
         ensures kept { Extends self.old.ready self.new.ready }
         ensures counted { IsCounted self.old self.new }
         ensures bytes { queued_bytes self.new ≤ queued_bytes self.old + length fragment.payload.items }
@@ -186,6 +188,7 @@ impl ReassemblyQueue {
     fn forward_now(&mut self, number: u64, skipped: &[SkippedStream]) -> Result<(), AllocError>
         requires { number < 2 ^ 63 }
         ensures ok { OnOk result (self.new ≡ forward_now number skipped.now self.old) }
+        ensures err { OnErr result ((taken steps : ℕ) × (self.new ≡ forward_now_in_part taken steps number skipped.now self.old)) }
         ensures kept { Extends self.old.ready self.new.ready }
         ensures counted { IsCounted self.old self.new }
         ensures bytes { queued_bytes self.new ≤ queued_bytes self.old }
@@ -237,6 +240,7 @@ impl ReassemblyQueue {
         requires room { queued_bytes self.old + waiting_bytes (waiting_of waiting) < 2 ^ 64 }
         requires small { waiting_number (waiting_of waiting) < 2 ^ 63 }
         ensures ok { OnOk result (self.new ≡ keep_back (waiting_of waiting) self.old) }
+        ensures err { OnErr result (self.new ≡ self.old) }
         ensures kept { Extends self.old.ready self.new.ready }
         ensures counted { IsCounted self.old self.new }
         ensures bytes { queued_bytes self.new ≤ queued_bytes self.old + waiting_bytes (waiting_of waiting) }
@@ -252,6 +256,7 @@ impl ReassemblyQueue {
     fn wait_with(&mut self, number: u64, entries: Vec<SkippedStream>) -> Result<(), AllocError>
         requires { number < 2 ^ 63 }
         ensures ok { OnOk result (self.new ≡ wait_with number entries.items self.old) }
+        ensures err { OnErr result (self.new ≡ self.old) }
         ensures kept { Extends self.old.ready self.new.ready }
         ensures counted { IsCounted self.old self.new }
         ensures bytes { queued_bytes self.new ≤ queued_bytes self.old }
@@ -263,11 +268,12 @@ impl ReassemblyQueue {
     }
 
     /// Takes a forward point, but has its entries for the reset's streams wait.
-    #[tactic(auto, using(crate::proofs::ExtendsLemmas::extends_none, crate::proofs::ExtendsLemmas::extends_both, crate::proofs::ExtendsLemmas::saturating_sum_none, crate::proofs::ExtendsLemmas::counted_both))]
+    #[tactic(auto, using(crate::proofs::ExtendsLemmas::extends_none, crate::proofs::ExtendsLemmas::extends_both, crate::proofs::ExtendsLemmas::saturating_sum_none, crate::proofs::ExtendsLemmas::counted_both, crate::proofs::InterruptedQueueLemmas::nothing_forwarded))]
     fn forward_in_parts(&mut self, number: u64, skipped: &[SkippedStream]) -> Result<(), AllocError>
         requires small { number < 2 ^ 63 }
         requires deferred { is_some self.old.deferred ≡ true }
         ensures ok { OnOk result (let ids = resetting self.old.deferred in self.new ≡ wait_with number (entries_in true ids skipped.now) (forward_now number (entries_in false ids skipped.now) self.old)) }
+        ensures err { OnErr result ((taken steps : ℕ) × (self.new ≡ forward_now_in_part taken steps number (entries_in false (resetting self.old.deferred) skipped.now) self.old)) }
         ensures kept { Extends self.old.ready self.new.ready }
         ensures counted { IsCounted self.old self.new }
         ensures bytes { queued_bytes self.new ≤ queued_bytes self.old }
@@ -284,11 +290,12 @@ impl ReassemblyQueue {
     /// Takes a fragment. What is complete and in turn by it becomes ready. While a reset is deferred, a fragment above its
     /// last TSN waits where it is on one of its streams. A TSN that lies 2^62 or more above the first one is ignored.
     ///
-    /// Without memory the queue may hold a part of what it should. What was ready stays ready, in any case.
+    /// Without memory the fragment, or a message that was in turn, may be lost. All else stays, and what was ready stays ready.
     #[tactic(auto, using(crate::proofs::ExtendsLemmas::extends_none))]
     pub fn add(&mut self, tsn: Tsn, fragment: Data) -> Result<(), AllocError>
         requires { queued_bytes self.old + length fragment.payload.items < 2 ^ 64 }
         ensures ok { OnOk result (self.new ≡ add tsn.0 (fragment_tree fragment) self.old) }
+        ensures err { OnErr result ((steps : ℕ) × (self.new ≡ add_in_part steps tsn.0 (fragment_tree fragment) self.old)) }
         ensures kept { Extends self.old.ready self.new.ready }
         ensures counted { IsCounted self.old self.new }
         ensures bytes { queued_bytes self.new ≤ queued_bytes self.old + length fragment.payload.items }
@@ -310,7 +317,7 @@ impl ReassemblyQueue {
     /// what is then in turn, by ascending stream. While a reset is deferred, of a forward point above its last TSN the entries for
     /// its streams wait. A TSN that lies 2^62 or more above the first one is ignored.
     ///
-    /// Without memory the queue may hold a part of what it should. What was ready stays ready, in any case.
+    /// Without memory the first entries are taken, one in part, and the others are lost. All else stays, and what was ready stays ready.
     #[tactic(auto, using(crate::proofs::ExtendsLemmas::extends_none))]
     pub fn handle_forward_tsn(
         &mut self,
@@ -318,6 +325,7 @@ impl ReassemblyQueue {
         skipped: &[SkippedStream],
     ) -> Result<(), AllocError>
         ensures ok { OnOk result (self.new ≡ forward tsn.0 skipped.now self.old) }
+        ensures err { OnErr result ((taken steps : ℕ) × (self.new ≡ forward_in_part taken steps tsn.0 skipped.now self.old)) }
         ensures kept { Extends self.old.ready self.new.ready }
         ensures counted { IsCounted self.old self.new }
         ensures bytes { queued_bytes self.new ≤ queued_bytes self.old }
@@ -360,6 +368,7 @@ impl ReassemblyQueue {
         requires room { queued_bytes self.old + waiting_bytes (waiting_of waiting) < 2 ^ 64 }
         requires small { waiting_number (waiting_of waiting) < 2 ^ 63 }
         ensures ok { OnOk result (self.new ≡ apply (waiting_of waiting) self.old) }
+        ensures err { OnErr result ((taken steps : ℕ) × (self.new ≡ apply_in_part taken steps (waiting_of waiting) self.old)) }
         ensures kept { Extends self.old.ready self.new.ready }
         ensures counted { IsCounted self.old self.new }
         ensures bytes { queued_bytes self.new ≤ queued_bytes self.old + waiting_bytes (waiting_of waiting) }
@@ -371,11 +380,12 @@ impl ReassemblyQueue {
     }
 
     /// Takes all that waited, in order.
-    #[tactic(auto, using(crate::proofs::ExtendsLemmas::extends_none, crate::proofs::ExtendsLemmas::extends_both, crate::proofs::ExtendsLemmas::saturating_sum_none, crate::proofs::ExtendsLemmas::counted_both))]
+    #[tactic(auto, using(crate::proofs::ExtendsLemmas::extends_none, crate::proofs::ExtendsLemmas::extends_both, crate::proofs::ExtendsLemmas::saturating_sum_none, crate::proofs::ExtendsLemmas::counted_both, crate::proofs::StandsLemmas::applies_begin))]
     fn apply_each(&mut self, mut waiting: VecDeque<Waiting>) -> Result<(), AllocError>
         requires room { queued_bytes self.old + sum_by waiting_bytes (map waiting_of waiting.items) < 2 ^ 64 }
         requires small { AreSmall (map waiting_of waiting.items) }
         ensures ok { OnOk result (self.new ≡ apply_each (map waiting_of waiting.items) self.old) }
+        ensures err { OnErr result ((applied taken steps : ℕ) × (self.new ≡ apply_each_in_part applied taken steps (map waiting_of waiting.items) self.old)) }
         ensures kept { Extends self.old.ready self.new.ready }
         ensures counted { IsCounted self.old self.new }
         ensures bytes { queued_bytes self.new ≤ queued_bytes self.old + sum_by waiting_bytes (map waiting_of waiting.items) }
@@ -391,13 +401,14 @@ impl ReassemblyQueue {
     /// Resets the streams, or all where none is named: nothing is held of them, and their numbers begin anew. Then comes
     /// what waited for a reset, in order, whatever streams that reset named.
     ///
-    /// Without memory the queue may hold a part of what it should. What was ready stays ready, in any case.
+    /// Without memory the first of what waited is taken, and the rest is lost. What was ready stays ready.
     #[tactic(auto, using(crate::proofs::ExtendsLemmas::extends_none))]
     pub fn reset_streams_and_leave_deferred_reset(
         &mut self,
         streams: &[StreamId],
     ) -> Result<(), AllocError>
         ensures ok { OnOk result (self.new ≡ reset streams.now self.old) }
+        ensures err { OnErr result ((applied taken steps : ℕ) × (self.new ≡ reset_in_part applied taken steps streams.now self.old)) }
         ensures kept { Extends self.old.ready self.new.ready }
         ensures counted { IsCounted self.old self.new }
         ensures bytes { queued_bytes self.new ≤ queued_bytes self.old }

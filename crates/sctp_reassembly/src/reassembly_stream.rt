@@ -1,6 +1,6 @@
 //! What both kinds of stream do.
 
-ghost use Rattle.std.specs.Prelude.{◌≡◌, ℕ, suc, ◌+◌, ◌<◌, ◌≤◌, ◌^◌, ◌++◌, [], List, length, nat_lt, OnOk};
+ghost use Rattle.std.specs.Prelude.{◌≡◌, ℕ, suc, ◌+◌, ◌<◌, ◌≤◌, ◌^◌, ◌++◌, [], List, length, nat_lt, OnOk, OnErr};
 ghost use Rattle.sctp_serial.specs.Messages.{Message};
 ghost use Rattle.sctp_fragments.specs.Held.{Held, bytes_of};
 ghost use Rattle.sctp_fragments.specs.Interval.{as_held};
@@ -33,6 +33,15 @@ pub trait ReassemblyStream: Drop {
 
     ghost forwarded: { ℕ → Self → List Message };
 
+    // The same where memory ran out behind so many steps.
+    ghost arrival_in_part: { ℕ → Held → Self → Self };
+
+    ghost ready_in_part: { ℕ → Held → Self → List Message };
+
+    ghost forward_in_part: { ℕ → ℕ → Self → Self };
+
+    ghost forwarded_in_part: { ℕ → ℕ → Self → List Message };
+
     /// A stream of which nothing came.
     fn new(alloc: Global) -> Self
         ensures { result ≡ fresh };
@@ -56,6 +65,7 @@ pub trait ReassemblyStream: Drop {
         requires small { Self.Key.number key < 2 ^ 63 }
         ensures ok { OnOk result (self.new ≡ after_arrival (as_held (Self.Key.number key) (Self.Key.index key) fragment) self.old) }
         ensures ready { OnOk result (ready.new ≡ ready.old ++ made_ready (as_held (Self.Key.number key) (Self.Key.index key) fragment) self.old) }
+        ensures err { OnErr result ((steps : ℕ) × ((self.new ≡ arrival_in_part steps (as_held (Self.Key.number key) (Self.Key.index key) fragment) self.old) × (ready.new ≡ ready.old ++ ready_in_part steps (as_held (Self.Key.number key) (Self.Key.index key) fragment) self.old))) }
         ensures kept { Extends ready.old ready.new }
         ensures bytes { bytes_of (held self.new) + ready_bytes ready.new ≤ bytes_of (held self.old) + ready_bytes ready.old + length fragment.payload.items };
 
@@ -66,6 +76,7 @@ pub trait ReassemblyStream: Drop {
         requires small { Self.Key.number first < 2 ^ 63 }
         ensures ok { (n : ℕ) → Self.Key.number first ≡ suc n → Self.Key.index first ≡ 0 → OnOk result (self.new ≡ after_forward n self.old) }
         ensures ready { (n : ℕ) → Self.Key.number first ≡ suc n → Self.Key.index first ≡ 0 → OnOk result (ready.new ≡ ready.old ++ forwarded n self.old) }
+        ensures err { (n : ℕ) → Self.Key.number first ≡ suc n → Self.Key.index first ≡ 0 → OnErr result ((steps : ℕ) × ((self.new ≡ forward_in_part steps n self.old) × (ready.new ≡ ready.old ++ forwarded_in_part steps n self.old))) }
         ensures kept { Extends ready.old ready.new }
         ensures bytes { bytes_of (held self.new) + ready_bytes ready.new ≤ bytes_of (held self.old) + ready_bytes ready.old };
 

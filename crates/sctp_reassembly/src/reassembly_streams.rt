@@ -1,12 +1,13 @@
 //! What both forms of the reassembly do.
 
-ghost use Rattle.std.specs.Prelude.{◌≡◌, ◌+◌, ◌<◌, ◌≤◌, ◌^◌, ◌++◌, length, true, OnOk, OnErr};
+ghost use Rattle.std.specs.Prelude.{◌≡◌, ℕ, ◌+◌, ◌<◌, ◌≤◌, ◌^◌, ◌++◌, length, true, OnOk, OnErr};
 ghost use Rattle.sctp_chunk.specs.Views.{fragment_tree};
 ghost use Rattle.sctp_reassembly.specs.Delivery.{ready_bytes, Extends};
 ghost use Rattle.sctp_state.specs.Handover.{handover_state_of, receive_of};
 ghost use Rattle.sctp_state.specs.Validity.{is_valid_reception};
 ghost use Rattle.sctp_reassembly.specs.ReassemblyHandover.{streams_readiness, streams_written, streams_restored};
 ghost use Rattle.sctp_reassembly.specs.ReassemblyStreams.{Streams, held_bytes, add, skip, skip_each, dropped_to, forward, reset};
+ghost use Rattle.sctp_reassembly.specs.InterruptedStreams.{Stands, add_in_part, skip_in_part, skip_each_in_part, forward_in_part};
 
 use crate::ready_messages::ReadyMessages;
 use crate::sorted_skips::by_stream;
@@ -19,9 +20,9 @@ use std::alloc::{AllocError, Global};
 /// ready before it.
 ///
 /// `AllocError` is want of memory, and no other refusal is there. `add`, `skip` and `handle_forward_tsn` may then
-/// leave a part of their work undone: the fragment, or a message that was in turn, may be lost. What was ready stays ready, in
-/// front and in order (`kept`), no byte is counted that didn't come (`bytes`), and every call can be made. The calls of a
-/// handover then change nothing.
+/// leave a part of their work undone: the first steps are done, and other streams stay (`err`). The fragment, or a message that was
+/// in turn, may be lost. What was ready stays ready, in front and in order (`kept`), no byte is counted that didn't come (`bytes`),
+/// and every call can be made. The calls of a handover then change nothing.
 pub trait ReassemblyStreams {
     ghost streams: { Self → Streams };
 
@@ -31,6 +32,7 @@ pub trait ReassemblyStreams {
         requires small { tsn < 2 ^ 63 }
         ensures ok { OnOk result (streams self.new ≡ (add tsn (fragment_tree fragment) (streams self.old)).streams) }
         ensures ready { OnOk result (ready.new ≡ ready.old ++ (add tsn (fragment_tree fragment) (streams self.old)).messages) }
+        ensures err { OnErr result ((steps : ℕ) × Stands (add_in_part steps tsn (fragment_tree fragment) (streams self.old)) ready.old (streams self.new) ready.new) }
         ensures kept { Extends ready.old ready.new }
         ensures bytes { held_bytes (streams self.new) + ready_bytes ready.new ≤ held_bytes (streams self.old) + ready_bytes ready.old + length fragment.payload.items };
 
@@ -39,6 +41,7 @@ pub trait ReassemblyStreams {
         requires { held_bytes (streams self.old) + ready_bytes ready.old < 2 ^ 64 }
         ensures ok { OnOk result (streams self.new ≡ (skip entry (streams self.old)).streams) }
         ensures ready { OnOk result (ready.new ≡ ready.old ++ (skip entry (streams self.old)).messages) }
+        ensures err { OnErr result ((steps : ℕ) × Stands (skip_in_part steps entry (streams self.old)) ready.old (streams self.new) ready.new) }
         ensures kept { Extends ready.old ready.new }
         ensures bytes { held_bytes (streams self.new) + ready_bytes ready.new ≤ held_bytes (streams self.old) + ready_bytes ready.old };
 
@@ -60,6 +63,7 @@ pub trait ReassemblyStreams {
         requires small { tsn < 2 ^ 63 }
         ensures ok { OnOk result (streams self.new ≡ (forward tsn skipped.now (streams self.old)).streams) }
         ensures ready { OnOk result (ready.new ≡ ready.old ++ (forward tsn skipped.now (streams self.old)).messages) }
+        ensures err { OnErr result ((taken steps : ℕ) × Stands (forward_in_part taken steps tsn skipped.now (streams self.old)) ready.old (streams self.new) ready.new) }
         ensures kept { Extends ready.old ready.new }
         ensures bytes { held_bytes (streams self.new) + ready_bytes ready.new ≤ held_bytes (streams self.old) + ready_bytes ready.old }
     {
@@ -100,7 +104,7 @@ pub trait ReassemblyStreams {
 }
 
 /// Takes entry after entry.
-#[tactic(auto, using(crate::proofs::ExtendsLemmas::extends_none, crate::proofs::ExtendsLemmas::extends_both))]
+#[tactic(auto, using(crate::proofs::ExtendsLemmas::extends_none, crate::proofs::ExtendsLemmas::extends_both, crate::proofs::StandsLemmas::skips_begin))]
 fn skip_each<S: ReassemblyStreams>(
     streams: &mut S,
     entries: &[SkippedStream],
@@ -109,6 +113,7 @@ fn skip_each<S: ReassemblyStreams>(
     requires { held_bytes (S.streams streams.old) + ready_bytes ready.old < 2 ^ 64 }
     ensures ok { OnOk result (S.streams streams.new ≡ (skip_each entries.now (S.streams streams.old)).streams) }
     ensures ready { OnOk result (ready.new ≡ ready.old ++ (skip_each entries.now (S.streams streams.old)).messages) }
+    ensures err { OnErr result ((taken steps : ℕ) × Stands (skip_each_in_part taken steps entries.now (S.streams streams.old)) ready.old (S.streams streams.new) ready.new) }
     ensures kept { Extends ready.old ready.new }
     ensures bytes { held_bytes (S.streams streams.new) + ready_bytes ready.new ≤ held_bytes (S.streams streams.old) + ready_bytes ready.old }
 {

@@ -1,6 +1,6 @@
 //! Streams of one kind, by their ids.
 
-ghost use Rattle.std.specs.Prelude.{◌≡◌, ◌==◌, ℕ, suc, ◌+◌, ◌<◌, ◌≤◌, ◌^◌, ◌++◌, [], not, filter, length, IsSome, OnOk, OnErr};
+ghost use Rattle.std.specs.Prelude.{◌≡◌, ◌==◌, ℕ, suc, ◌+◌, ◌<◌, ◌≤◌, ◌^◌, ◌++◌, ◌⊎◌, [], not, filter, length, IsSome, OnOk, OnErr};
 ghost use Rattle.std.specs.List.{list_any};
 ghost use Rattle.std.specs.Map.{lookup};
 ghost use Rattle.std.specs.Ordering.{nat_cmp};
@@ -92,6 +92,7 @@ impl<S: ReassemblyStream> StreamMap<S> {
         requires small { S.Key.number key < 2 ^ 63 }
         ensures ok { OnOk result (self.new ≡ put_stream id.0 (S.after_arrival (as_held (S.Key.number key) (S.Key.index key) fragment) (stream_at S.fresh id.0 self.old)) self.old) }
         ensures ready { OnOk result (ready.new ≡ ready.old ++ S.made_ready (as_held (S.Key.number key) (S.Key.index key) fragment) (stream_at S.fresh id.0 self.old)) }
+        ensures err { OnErr result ((steps : ℕ) × ((self.new ≡ put_stream id.0 (S.arrival_in_part steps (as_held (S.Key.number key) (S.Key.index key) fragment) (stream_at S.fresh id.0 self.old)) self.old) × (ready.new ≡ ready.old ++ S.ready_in_part steps (as_held (S.Key.number key) (S.Key.index key) fragment) (stream_at S.fresh id.0 self.old)))) }
         ensures kept { Extends ready.old ready.new }
         ensures bytes { bytes_held S.held self.new + ready_bytes ready.new ≤ bytes_held S.held self.old + ready_bytes ready.old + length fragment.payload.items }
     {
@@ -117,6 +118,7 @@ impl<S: ReassemblyStream> StreamMap<S> {
         requires small { S.Key.number key < 2 ^ 63 }
         ensures ok { OnOk result (self.new ≡ set_stream S.fresh id.0 (S.after_arrival (as_held (S.Key.number key) (S.Key.index key) fragment) (stream_at S.fresh id.0 self.old)) self.old) }
         ensures ready { OnOk result (ready.new ≡ ready.old ++ S.made_ready (as_held (S.Key.number key) (S.Key.index key) fragment) (stream_at S.fresh id.0 self.old)) }
+        ensures err { OnErr result (((self.new ≡ self.old) × (ready.new ≡ ready.old)) ⊎ ((steps : ℕ) × ((self.new ≡ set_stream S.fresh id.0 (S.arrival_in_part steps (as_held (S.Key.number key) (S.Key.index key) fragment) (stream_at S.fresh id.0 self.old)) self.old) × (ready.new ≡ ready.old ++ S.ready_in_part steps (as_held (S.Key.number key) (S.Key.index key) fragment) (stream_at S.fresh id.0 self.old))))) }
         ensures kept { Extends ready.old ready.new }
         ensures bytes { bytes_held S.held self.new + ready_bytes ready.new ≤ bytes_held S.held self.old + ready_bytes ready.old + length fragment.payload.items }
     {
@@ -138,6 +140,7 @@ impl<S: ReassemblyStream> StreamMap<S> {
         requires small { S.Key.number first < 2 ^ 63 }
         ensures ok { (n : ℕ) → S.Key.number first ≡ suc n → S.Key.index first ≡ 0 → OnOk result (self.new ≡ put_stream id.0 (S.after_forward n (stream_at S.fresh id.0 self.old)) self.old) }
         ensures ready { (n : ℕ) → S.Key.number first ≡ suc n → S.Key.index first ≡ 0 → OnOk result (ready.new ≡ ready.old ++ S.forwarded n (stream_at S.fresh id.0 self.old)) }
+        ensures err { (n : ℕ) → S.Key.number first ≡ suc n → S.Key.index first ≡ 0 → OnErr result ((steps : ℕ) × ((self.new ≡ put_stream id.0 (S.forward_in_part steps n (stream_at S.fresh id.0 self.old)) self.old) × (ready.new ≡ ready.old ++ S.forwarded_in_part steps n (stream_at S.fresh id.0 self.old)))) }
         ensures kept { Extends ready.old ready.new }
         ensures bytes { bytes_held S.held self.new + ready_bytes ready.new ≤ bytes_held S.held self.old + ready_bytes ready.old }
     {
@@ -163,6 +166,7 @@ impl<S: ReassemblyStream> StreamMap<S> {
         requires small { S.Key.number first < 2 ^ 63 }
         ensures ok { (n : ℕ) → S.Key.number first ≡ suc n → S.Key.index first ≡ 0 → OnOk result (self.new ≡ set_stream S.fresh id.0 (S.after_forward n (stream_at S.fresh id.0 self.old)) self.old) }
         ensures ready { (n : ℕ) → S.Key.number first ≡ suc n → S.Key.index first ≡ 0 → OnOk result (ready.new ≡ ready.old ++ S.forwarded n (stream_at S.fresh id.0 self.old)) }
+        ensures err { (n : ℕ) → S.Key.number first ≡ suc n → S.Key.index first ≡ 0 → OnErr result (((self.new ≡ self.old) × (ready.new ≡ ready.old)) ⊎ ((steps : ℕ) × ((self.new ≡ set_stream S.fresh id.0 (S.forward_in_part steps n (stream_at S.fresh id.0 self.old)) self.old) × (ready.new ≡ ready.old ++ S.forwarded_in_part steps n (stream_at S.fresh id.0 self.old))))) }
         ensures kept { Extends ready.old ready.new }
         ensures bytes { bytes_held S.held self.new + ready_bytes ready.new ≤ bytes_held S.held self.old + ready_bytes ready.old }
     {

@@ -1,6 +1,6 @@
 //! Streams with unordered messages, without interleaving: forward points find their fragments by TSN.
 
-ghost use Rattle.std.specs.Prelude.{◌≡◌, ◌+◌, ◌<◌, ◌≤◌, ◌^◌, ◌++◌, ℕ, [], true, false, length, map, OnOk, IfOk, IfSome, IfNone};
+ghost use Rattle.std.specs.Prelude.{◌≡◌, ◌+◌, ◌<◌, ◌≤◌, ◌^◌, ◌++◌, ◌⊎◌, ℕ, [], true, false, length, map, OnOk, OnErr, IfOk, IfSome, IfNone};
 ghost use Rattle.sctp_fragments.specs.ReassemblyKey.{pair_rank};
 ghost use Rattle.sctp_reassembly.specs.Delivery.{fresh_unordered, held_from};
 ghost use Rattle.sctp_reassembly.specs.UnorderedByTsn.{is_noted, HasNote, AreNoted, OthersAreNoted, KeepsOthers, NoneBelow, drop_below};
@@ -175,6 +175,7 @@ fn take_notes(
 impl UnorderedByTsn {
     ghost use Rattle.sctp_fragments.specs.Interval.{as_held};
     ghost use Rattle.sctp_reassembly.specs.Delivery.{unordered_arrival, ready_bytes, Extends};
+    ghost use Rattle.sctp_reassembly.specs.InterruptedStreams.{unordered_arrival_in_part};
     ghost use Rattle.sctp_reassembly.specs.ReassemblyStreams.{set_stream, forget};
 
     /// No streams. Takes no memory.
@@ -240,6 +241,7 @@ impl UnorderedByTsn {
         requires small { key.number < 2 ^ 63 }
         ensures ok { OnOk result (self.new ≡ set_stream fresh_unordered id.0 (unordered_arrival (as_held key.number key.index fragment) (stream_at fresh_unordered id.0 self.old)).stream self.old) }
         ensures ready { OnOk result (ready.new ≡ ready.old ++ (unordered_arrival (as_held key.number key.index fragment) (stream_at fresh_unordered id.0 self.old)).messages) }
+        ensures err { OnErr result (((self.new ≡ self.old) × (ready.new ≡ ready.old)) ⊎ ((steps : ℕ) × ((self.new ≡ set_stream fresh_unordered id.0 (unordered_arrival_in_part steps (as_held key.number key.index fragment) (stream_at fresh_unordered id.0 self.old)).stream self.old) × (ready.new ≡ ready.old ++ (unordered_arrival_in_part steps (as_held key.number key.index fragment) (stream_at fresh_unordered id.0 self.old)).messages)))) }
         ensures kept { Extends ready.old ready.new }
         ensures bytes { unordered_bytes self.new + ready_bytes ready.new ≤ unordered_bytes self.old + ready_bytes ready.old + length fragment.payload.items }
     {

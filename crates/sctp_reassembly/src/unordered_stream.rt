@@ -1,6 +1,6 @@
 //! A stream whose messages become ready when they are complete.
 
-ghost use Rattle.std.specs.Prelude.{◌≡◌, ◌+◌, ◌<◌, ◌≤◌, ◌^◌, ◌++◌, max, length, OnOk, IfSome, IfNone, []};
+ghost use Rattle.std.specs.Prelude.{◌≡◌, ◌+◌, ◌<◌, ◌≤◌, ◌^◌, ◌++◌, ◌⊎◌, max, length, OnOk, OnErr, IfSome, IfNone, []};
 ghost use Rattle.sctp_serial.specs.Unwrapped.{origin};
 
 use crate::interval_list::IntervalList;
@@ -50,6 +50,8 @@ fn take_in<K: ReassemblyKey>(
     ensures held { OnOk result (list.new ≡ left_by is_complete (with_item rank_of (as_held (K.number key) (K.index key) fragment) list.old)) }
     ensures ready { OnOk result (ready.new ≡ ready.old ++ first_complete (with_item rank_of (as_held (K.number key) (K.index key) fragment) list.old)) }
     ensures settled { NoneComplete (intervals_of list.new) }
+    ensures err { OnErr result ((list.new ≡ list.old) ⊎ (list.new ≡ left_by is_complete (with_item rank_of (as_held (K.number key) (K.index key) fragment) list.old))) }
+    ensures unready { OnErr result (ready.new ≡ ready.old) }
     ensures kept { Extends ready.old ready.new }
     ensures bytes { bytes_of list.new + ready_bytes ready.new ≤ bytes_of list.old + ready_bytes ready.old + length fragment.payload.items }
 {
@@ -98,6 +100,7 @@ impl<K: ReassemblyKey> UnorderedStream<K> {
 impl<K: ReassemblyKey> ReassemblyStream for UnorderedStream<K> {
     ghost use Rattle.std.proofs.Common.{refl};
     ghost use Rattle.sctp_reassembly.specs.Delivery.{fresh_unordered, unordered_arrival, unordered_forward};
+    ghost use Rattle.sctp_reassembly.specs.InterruptedStreams.{unordered_arrival_in_part};
 
     type Key = K;
 
@@ -112,6 +115,14 @@ impl<K: ReassemblyKey> ReassemblyStream for UnorderedStream<K> {
     ghost after_forward = { unordered_forward };
 
     ghost forwarded = { λ n s. [] };
+
+    ghost arrival_in_part = { λ steps h s. (unordered_arrival_in_part steps h s).stream };
+
+    ghost ready_in_part = { λ steps h s. (unordered_arrival_in_part steps h s).messages };
+
+    ghost forward_in_part = { λ steps n s. unordered_forward n s };
+
+    ghost forwarded_in_part = { λ steps n s. [] };
 
     /// A stream of which nothing came.
     fn new(alloc: Global) -> UnorderedStream<K> {

@@ -1,13 +1,24 @@
-use Rattle.std.proofs.Common.{◌≡◌, ◌+◌, ◌++◌, length, suc, ap, sym, subst, ◌∙◌, arith}
+use Rattle.std.proofs.Common.{◌≡◌, ◌+◌, ◌++◌, length, suc, refl, ap, sym, subst, ◌∙◌, arith}
 use Rattle.sctp_serial.specs.Messages.{message_of}
 use Rattle.sctp_fragments.specs.Held.{bytes_of, intervals_of, is_in_turn, NoneInTurn, message_of_run}
 use Rattle.sctp_fragments.specs.Interval.{held_of, run_of}
 use Rattle.sctp_reassembly.specs.Delivery.{deliver}
-use Rattle.sctp_reassembly.proofs.ExtendsLemmas.{extends_both}
+use Rattle.sctp_reassembly.proofs.ExtendsLemmas.{extends_none, extends_both}
 use Rattle.sctp_reassembly.proofs.FindLemmas.{left_unfound}
 use Rattle.sctp_reassembly.proofs.SettledRunsLemmas.{find_none}
 use Rattle.sctp_reassembly.proofs.DeliverLemmas.{length_found, found_passes, turn_number, deliver_step, deliver_ends, one_earlier, ready_pushed}
+use Rattle.sctp_reassembly.proofs.InterruptedLemmas.{turns_begin, turns_step, turns_end, on_err}
 use Rattle.sctp_reassembly.proofs.ordered_stream.deliver.Goals as goal
+
+pub loop-interval-init : goal.loop-interval-init
+loop-interval-init g c = record {
+  stream = refl;
+  messages = refl;
+  onward = omega arith;
+  part = turns_begin c.args.next.now c.args.list.now c.args.ready.now;
+  kept = extends_none c.args.ready.now;
+  bytes = omega arith;
+}
 
 pub loop-interval-smaller : goal.loop-interval-smaller
 loop-interval-smaller g c =
@@ -27,6 +38,8 @@ loop-interval-preserved g c =
           ∙ one_earlier c.loop-interval.ready c.push.new.self (message_of c.in_ok-message.message) (message_of_run run) (deliver (suc c.loop-interval.next) c.pop_front_if_complete_and.new.self) _ c.in_ok-push.ensures.ok c.in_ok-message.ensures.value
           (ap (λ d. c.loop-interval.ready ++ d.messages) (sym step) ∙ c.loop-interval.invariant.messages);
       onward = omega (arith, up, c.loop-interval.invariant.onward);
+      part = turns_step c.loop-interval.next (c.number-number.result + 1) c.loop-interval.list run c.pop_front_if_complete_and.new.self c.loop-interval.ready c.push.new.self (message_of c.in_ok-message.message) c.args.next.now c.args.list.now c.args.ready.now
+          (sym c.in-Some.ensures.taken) c.in-Some.ensures.value up c.in_ok-push.ensures.ok c.in_ok-message.ensures.value c.loop-interval.invariant.part;
       kept = extends_both _ _ _ c.loop-interval.invariant.kept c.push.ensures.kept;
       bytes = omega (arith, c.in-Some.ensures.bytes, c.in_ok-message.ensures.bytes, ready_pushed c.loop-interval.ready c.push.new.self (message_of c.in_ok-message.message) c.in_ok-push.ensures.ok, c.loop-interval.invariant.bytes);
     }
@@ -48,3 +61,11 @@ returns-clause-settled g c =
     let none = sym c.in_default.ensures.taken in
     let same = c.in_default.ensures.value ∙ left_unfound (is_in_turn c.loop-interval.next) c.loop-interval.list none in
     subst (λ hs. NoneInTurn c.loop-interval.next (intervals_of hs)) (sym same) (find_none (is_in_turn c.loop-interval.next) (intervals_of c.loop-interval.list) none)
+
+pub returns-in_err-message-clause-err : goal.returns-in_err-message-clause-err
+returns-in_err-message-clause-err g c =
+    on_err c.from_residual.result (turns_end c.loop-interval.next c.loop-interval.list c.pop_front_if_complete_and.new.self c.loop-interval.ready c.loop-interval.ready c.args.next.now c.args.list.now c.args.ready.now c.in-Some.ensures.value refl c.loop-interval.invariant.part)
+
+pub returns-in_err-push-clause-err : goal.returns-in_err-push-clause-err
+returns-in_err-push-clause-err g c =
+    on_err c.from_residual-in_err-push.result (turns_end c.loop-interval.next c.loop-interval.list c.pop_front_if_complete_and.new.self c.loop-interval.ready c.push.new.self c.args.next.now c.args.list.now c.args.ready.now c.in-Some.ensures.value c.in_err-push.ensures.err c.loop-interval.invariant.part)

@@ -1,4 +1,4 @@
-use Rattle.std.proofs.Common.{◌++◌, ◌∷◌, [], ◌+◌, ◌≤◌, length, ap, sym, subst, ◌∙◌, arith}
+use Rattle.std.proofs.Common.{inr, ◌++◌, ◌∷◌, [], ◌+◌, ◌≤◌, length, ap, sym, subst, ◌∙◌, arith}
 use Rattle.std.proofs.lemmas.Result.{on_ok_weaker}
 use Rattle.sctp_fragments.specs.Held.{intervals_of, is_complete, left_by, NoneComplete}
 use Rattle.sctp_serial.specs.Messages.{message_of}
@@ -6,6 +6,7 @@ use Rattle.sctp_fragments.specs.Interval.{as_held, held_of, run_of}
 use Rattle.sctp_reassembly.specs.Delivery.{first_complete, ready_bytes}
 use Rattle.sctp_reassembly.proofs.FindLemmas.{left_none}
 use Rattle.sctp_reassembly.proofs.DeliverLemmas.{added_none, nothing_more, first_complete_none, none_incomplete, none_taken, left_taken, found_taken, ready_pushed}
+use Rattle.sctp_reassembly.proofs.InterruptedLemmas.{on_err}
 use Rattle.sctp_reassembly.proofs.NoteLemmas.{either}
 use Rattle.sctp_reassembly.proofs.unordered_stream.take_in.Goals as goal
 
@@ -70,3 +71,15 @@ returns-clause-bytes g c =
     let ready : ready_bytes c.push.new.self ≤ ready_bytes c.args.ready.now + length c.in_ok-message.message.payload.items =
     either c.push.result c.push.ensures.ok c.push.ensures.err (λ e. omega (arith, ready_pushed c.args.ready.now c.push.new.self (message_of c.in_ok-message.message) e)) (λ e. omega (arith, ap ready_bytes e)) in
     omega (arith, ready, c.in_ok-added.ensures.bytes, c.in-Some-pop_if_complete.ensures.bytes, c.in_ok-message.ensures.bytes)
+
+pub returns-in_err-message-clause-err : goal.returns-in_err-message-clause-err
+returns-in_err-message-clause-err g c =
+    let placed = rw c.in-Some.is at c.in_ok-added.ensures.place in
+    let left = left_taken c.args.list.now c.add.new.self (as_held (g.K.ReassemblyKey.number c.args.key) (g.K.ReassemblyKey.index c.args.key) c.args.fragment) c.in-Some.place c.requires.settled placed (run_of (held_of g.K.ReassemblyKey.number g.K.ReassemblyKey.index) c.in-Some-pop_if_complete.interval) c.pop_if_complete.new.self c.in-Some-pop_if_complete.ensures.taken in
+    on_err c.from_residual-in_err-message.result (inr (left ∙ ap (left_by is_complete) c.in_ok-added.ensures.value))
+
+pub returns-clause-err : goal.returns-clause-err
+returns-clause-err g c =
+    let placed = rw c.in-Some.is at c.in_ok-added.ensures.place in
+    let left = left_taken c.args.list.now c.add.new.self (as_held (g.K.ReassemblyKey.number c.args.key) (g.K.ReassemblyKey.index c.args.key) c.args.fragment) c.in-Some.place c.requires.settled placed (run_of (held_of g.K.ReassemblyKey.number g.K.ReassemblyKey.index) c.in-Some-pop_if_complete.interval) c.pop_if_complete.new.self c.in-Some-pop_if_complete.ensures.taken in
+    on_err c.push.result (inr (left ∙ ap (left_by is_complete) c.in_ok-added.ensures.value))

@@ -1,8 +1,11 @@
 use Rattle.std.proofs.Common.{ap, arith}
+use Rattle.std.proofs.lemmas.Result.{on_err_weaker}
 use Rattle.sctp_fragments.specs.Held.{bytes_of}
+use Rattle.sctp_fragments.specs.Interval.{as_held}
 use Rattle.sctp_reassembly.specs.ReassemblyStreams.{bytes_held}
 use Rattle.sctp_reassembly.proofs.EntriesLemmas.{sum_written}
 use Rattle.sctp_reassembly.proofs.ForgetLemmas.{sum_removed}
+use Rattle.sctp_reassembly.proofs.InterruptedLemmas.{written_in_part}
 use Rattle.sctp_reassembly.proofs.stream_map.StreamMap.add_to.Goals as goal
 
 pub invariant_of-self-2 : goal.invariant_of-self-2
@@ -20,3 +23,11 @@ returns-clause-bytes g c =
     let sums = sum_written (λ s. bytes_of (g.S.ReassemblyStream.held s)) c.args.id.0 entries c.in-Some.stream.now c.add-added.new.self c.in-Some.ensures.value in
     let least = sum_removed (λ s. bytes_of (g.S.ReassemblyStream.held s)) c.args.id.0 entries c.in-Some.stream.now c.in-Some.ensures.value in
     omega (arith, written, sums, least, c.add-added.ensures.bytes, ap (bytes_held g.S.ReassemblyStream.held) c.self.view_is)
+
+pub returns-clause-err : goal.returns-clause-err
+returns-clause-err g c =
+    let x = as_held (g.S.Key.ReassemblyKey.number c.args.key) (g.S.Key.ReassemblyKey.index c.args.key) c.args.fragment in
+    on_err_weaker c.add-added.result
+    (written_in_part c.args.id.0 c.self.inside.streams.entries c.args.self.now _ c.in-Some.stream.now c.add-added.new.self g.S.ReassemblyStream.fresh (λ steps. g.S.ReassemblyStream.arrival_in_part steps x) (λ steps. g.S.ReassemblyStream.ready_in_part steps x) c.args.ready.now c.add-added.new.ready
+    (c.get_mut.follows.holds c.add-added.new.self).0 c.self.view_is c.in-Some.ensures.value)
+    c.add-added.ensures.err

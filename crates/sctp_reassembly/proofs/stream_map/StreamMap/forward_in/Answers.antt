@@ -1,9 +1,10 @@
 use Rattle.std.proofs.Common.{ap, arith}
-use Rattle.std.proofs.lemmas.Result.{on_ok_weaker}
+use Rattle.std.proofs.lemmas.Result.{on_ok_weaker, on_err_weaker}
 use Rattle.sctp_fragments.specs.Held.{bytes_of}
 use Rattle.sctp_reassembly.specs.ReassemblyStreams.{bytes_held}
 use Rattle.sctp_reassembly.proofs.EntriesLemmas.{sum_written, written_is}
 use Rattle.sctp_reassembly.proofs.ForgetLemmas.{sum_removed}
+use Rattle.sctp_reassembly.proofs.InterruptedLemmas.{written_in_part}
 use Rattle.sctp_reassembly.proofs.stream_map.StreamMap.forward_in.Goals as goal
 
 pub invariant_of-self-2 : goal.invariant_of-self-2
@@ -27,3 +28,10 @@ returns-clause-ok g c n h k =
     on_ok_weaker c.forward-forwarded.result
     (λ e. written_is c.args.id.0 c.self.inside.streams.entries c.args.self.now _ c.in-Some.stream.now c.forward-forwarded.new.self g.S.ReassemblyStream.fresh (g.S.ReassemblyStream.after_forward n) (c.get_mut.follows.holds c.forward-forwarded.new.self).0 c.self.view_is c.in-Some.ensures.value e)
     (c.forward-forwarded.ensures.ok n h k)
+
+pub returns-clause-err : goal.returns-clause-err
+returns-clause-err g c n h k =
+    on_err_weaker c.forward-forwarded.result
+    (written_in_part c.args.id.0 c.self.inside.streams.entries c.args.self.now _ c.in-Some.stream.now c.forward-forwarded.new.self g.S.ReassemblyStream.fresh (λ steps. g.S.ReassemblyStream.forward_in_part steps n) (λ steps. g.S.ReassemblyStream.forwarded_in_part steps n) c.args.ready.now c.forward-forwarded.new.ready
+    (c.get_mut.follows.holds c.forward-forwarded.new.self).0 c.self.view_is c.in-Some.ensures.value)
+    (c.forward-forwarded.ensures.err n h k)

@@ -1,0 +1,7 @@
+use Rattle.std.proofs.lemmas.Result.{on_err_weaker}
+use Rattle.sctp_chunk.specs.Views.{fragment_tree}
+use Rattle.sctp_reassembly.proofs.InterruptedQueueLemmas.{added_in_part}
+use Rattle.sctp_reassembly.proofs.reassembly_queue.ReassemblyQueue.add_now.Goals as goal
+
+pub returns-clause-err : goal.returns-clause-err
+returns-clause-err c = on_err_weaker c.add-added.result (added_in_part c.args.number _ c.args.self.now c.count_from.new.self _ _ _ c.self.view_is c.count_from.ensures c.len-before.ensures (fragment_tree c.args.fragment)) c.add-added.ensures.err

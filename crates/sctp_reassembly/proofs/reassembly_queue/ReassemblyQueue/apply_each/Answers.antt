@@ -1,0 +1,31 @@
+use Rattle.std.proofs.Common.{ap, sym, subst, ◌∙◌, arith, map}
+use Rattle.std.specs.List.{sum_by}
+use Rattle.std.proofs.lemmas.List.Sums.{sum_by-cons}
+use Rattle.sctp_reassembly.specs.ReassemblyQueue.{AreSmall, apply_each, waiting_bytes}
+use Rattle.sctp_reassembly.specs.Waiting.{waiting_of}
+use Rattle.sctp_reassembly.proofs.ExtendsLemmas.{extends_both, counted_both}
+use Rattle.sctp_reassembly.proofs.InterruptedLemmas.{on_err}
+use Rattle.sctp_reassembly.proofs.StandsLemmas.{applies_step, applies_end}
+use Rattle.sctp_reassembly.proofs.reassembly_queue.ReassemblyQueue.apply_each.Goals as goal
+
+pub loop-next-preserved : goal.loop-next-preserved
+loop-next-preserved c =
+    let w = waiting_of c.in-Some.next in
+    let rest = map waiting_of c.pop_front.new.self.items in
+    let is = ap (map waiting_of) c.in-Some.ensures.items in
+    let sums = ap (sum_by waiting_bytes) is ∙ sum_by-cons waiting_bytes w rest in
+    let before = c.loop-next.invariant in
+    record {
+      rest = ap (apply_each rest) c.in_ok-apply.ensures.ok ∙ (ap (λ ws. apply_each ws c.loop-next.self) (sym is) ∙ before.rest);
+      part = applies_step w _ rest c.loop-next.self c.apply.new.self _ _ is before.part c.in_ok-apply.ensures.ok;
+      small = (subst AreSmall is before.small).1;
+      kept = extends_both _ _ _ before.kept c.apply.ensures.kept;
+      counted = counted_both c.args.self.now c.loop-next.self c.apply.new.self before.kept c.apply.ensures.kept before.counted c.apply.ensures.counted;
+      room = omega (arith, sums, c.apply.ensures.bytes, before.room);
+      bytes = omega (arith, sums, c.apply.ensures.bytes, before.bytes);
+    }
+
+pub returns-in_err-apply-clause-err : goal.returns-in_err-apply-clause-err
+returns-in_err-apply-clause-err c =
+    on_err c.from_residual.result
+    (applies_end (waiting_of c.in-Some.next) _ (map waiting_of c.pop_front.new.self.items) c.loop-next.self c.apply.new.self _ _ (ap (map waiting_of) c.in-Some.ensures.items) c.loop-next.invariant.part c.in_err-apply.ensures.err)
