@@ -1,134 +1,134 @@
 /* The end of ours. */
 #include "world.h"
-#include "sctp.h"
+#include "shelfpigeon.h"
 #include <stdio.h>
 #include <stdlib.h>
 
-static sctp_socket ours = SCTP_NO_HANDLE;
+static pigeon_socket ours = PIGEON_NO_HANDLE;
 
 void open_ours(uint64_t seed) {
-    sctp_options options;
-    sctp_default_options(&options);
+    pigeon_options options;
+    pigeon_default_options(&options);
     options.mtu = 1188;
-    options.checksum = world->setup.crosses ? SCTP_CHECKSUM_ZERO : SCTP_CHECKSUM_CRC32C;
-    options.zero_checksum_method = world->setup.crosses ? SCTP_ZERO_CHECKSUM_DTLS : SCTP_ZERO_CHECKSUM_NONE;
+    options.checksum = world->setup.crosses ? PIGEON_CHECKSUM_ZERO : PIGEON_CHECKSUM_CRC32C;
+    options.zero_checksum_method = world->setup.crosses ? PIGEON_ZERO_CHECKSUM_DTLS : PIGEON_ZERO_CHECKSUM_NONE;
     if (world->setup.interleaves)
-        options.flags |= SCTP_MESSAGE_INTERLEAVING;
-    uint32_t answer = sctp_new(&ours, &options, seed, 1);
-    if (answer != SCTP_OK)
+        options.flags |= PIGEON_MESSAGE_INTERLEAVING;
+    uint32_t answer = pigeon_new(&ours, &options, seed, 1);
+    if (answer != PIGEON_OK)
         wrong("new answers %u", answer);
     tell_ours_time();
 }
 
 static void made(const char *call, uint32_t answer) {
-    if (answer != SCTP_OK)
+    if (answer != PIGEON_OK)
         wrong("%s answers %u", call, answer);
 }
 
-void connect_ours(void) { made("connect", sctp_connect(&ours)); }
+void connect_ours(void) { made("connect", pigeon_connect(&ours)); }
 
-void shut_ours(void) { made("shutdown", sctp_shutdown(&ours)); }
+void shut_ours(void) { made("shutdown", pigeon_shutdown(&ours)); }
 
-void abort_ours(void) { made("close", sctp_close(&ours)); }
+void abort_ours(void) { made("close", pigeon_close(&ours)); }
 
-void forget_ours(void) { sctp_free(&ours); }
+void forget_ours(void) { pigeon_free(&ours); }
 
-void reset_ours(const uint16_t *streams, size_t count) { made("reset", sctp_reset_streams(&ours, streams, count)); }
+void reset_ours(const uint16_t *streams, size_t count) { made("reset", pigeon_reset_streams(&ours, streams, count)); }
 
 void hand_to_ours(const uint8_t *bytes, size_t length) {
-    uint32_t answer = sctp_handle_input(&ours, bytes, length);
-    if (answer != SCTP_NO_SOCKET)
+    uint32_t answer = pigeon_handle_input(&ours, bytes, length);
+    if (answer != PIGEON_NO_SOCKET)
         made("handle_input", answer);
 }
 
 void tell_ours_time(void) {
-    uint32_t answer = sctp_advance_time(&ours, world->now);
-    if (answer != SCTP_NO_SOCKET)
+    uint32_t answer = pigeon_advance_time(&ours, world->now);
+    if (answer != PIGEON_NO_SOCKET)
         made("advance_time", answer);
 }
 
 uint64_t next_of_ours(void) {
     uint64_t due = UINT64_MAX;
-    sctp_poll_timeout(&ours, &due);
+    pigeon_poll_timeout(&ours, &due);
     return due;
 }
 
 bool is_quiet(void) {
-    sctp_metrics metrics;
-    return sctp_get_metrics(&ours, &metrics) != SCTP_OK || metrics.unack_data_count == 0;
+    pigeon_metrics metrics;
+    return pigeon_get_metrics(&ours, &metrics) != PIGEON_OK || metrics.unack_data_count == 0;
 }
 
 bool interleaves_ours(void) {
-    sctp_metrics metrics;
-    return sctp_get_metrics(&ours, &metrics) == SCTP_OK && metrics.uses_message_interleaving;
+    pigeon_metrics metrics;
+    return pigeon_get_metrics(&ours, &metrics) == PIGEON_OK && metrics.uses_message_interleaving;
 }
 
 bool send_ours(size_t place) {
     struct message *m = &world->messages[place];
     uint8_t *bytes = payload_of(place);
-    sctp_send_options options = {0, 0, 0, place + 1};
+    pigeon_send_options options = {0, 0, 0, place + 1};
     if (m->unordered)
-        options.flags |= SCTP_UNORDERED;
+        options.flags |= PIGEON_UNORDERED;
     if (m->retransmissions != UINT32_MAX) {
-        options.flags |= SCTP_MAX_RETRANSMISSIONS;
+        options.flags |= PIGEON_MAX_RETRANSMISSIONS;
         options.max_retransmissions = m->retransmissions;
     }
     if (m->lifetime) {
-        options.flags |= SCTP_LIFETIME;
+        options.flags |= PIGEON_LIFETIME;
         options.lifetime = m->lifetime;
     }
-    uint32_t answer = sctp_send(&ours, m->stream, (uint32_t)place, bytes, m->length, &options);
+    uint32_t answer = pigeon_send(&ours, m->stream, (uint32_t)place, bytes, m->length, &options);
     free(bytes);
-    if (answer != SCTP_RESOURCE_EXHAUSTION)
+    if (answer != PIGEON_RESOURCE_EXHAUSTION)
         made("send", answer);
-    return answer == SCTP_OK;
+    return answer == PIGEON_OK;
 }
 
-static void end_of_message(const sctp_event *event) {
+static void end_of_message(const pigeon_event *event) {
     size_t place = (size_t)event->lifecycle - 1;
     struct message *m = &world->messages[place];
     bool is_reliable = m->retransmissions == UINT32_MAX && m->lifetime == 0;
-    if (event->kind == SCTP_LIFECYCLE_END) {
+    if (event->kind == PIGEON_LIFECYCLE_END) {
         if (m->ended++)
             wrong("the life of message %zu ends twice", place);
-    } else if (event->kind == SCTP_LIFECYCLE_DELIVERED) {
+    } else if (event->kind == PIGEON_LIFECYCLE_DELIVERED) {
         m->delivered = true;
-    } else if (event->kind == SCTP_LIFECYCLE_EXPIRED || event->kind == SCTP_LIFECYCLE_MAYBE_EXPIRED) {
+    } else if (event->kind == PIGEON_LIFECYCLE_EXPIRED || event->kind == PIGEON_LIFECYCLE_MAYBE_EXPIRED) {
         m->given_up = true;
-        if (event->kind == SCTP_LIFECYCLE_EXPIRED && m->taken)
+        if (event->kind == PIGEON_LIFECYCLE_EXPIRED && m->taken)
             wrong("message %zu was never sent whole, and came", place);
         if (is_reliable && world->told[OURS].asked == 0)
             wrong("message %zu is reliable, and expires", place);
     }
 }
 
-static void take_event(const sctp_event *event, const uint8_t *bytes) {
+static void take_event(const pigeon_event *event, const uint8_t *bytes) {
     struct told *told = &world->told[OURS];
-    if (world->is_loud && event->kind != SCTP_SEND_PACKET)
+    if (world->is_loud && event->kind != PIGEON_SEND_PACKET)
         printf("%11.3f ours is told %u, error %u, stream %u, message %lld\n", (double)world->now / 1e6,
                (unsigned)event->kind, (unsigned)event->error, (unsigned)event->stream, (long long)event->lifecycle - 1);
     switch (event->kind) {
-    case SCTP_SEND_PACKET: carry(OURS, bytes, event->length); break;
-    case SCTP_ON_CONNECTED: told->connected++; break;
-    case SCTP_ON_CLOSED: told->closed++; break;
-    case SCTP_ON_CONNECTION_RESTARTED: told->restarted++; break;
-    case SCTP_ON_ABORTED:
+    case PIGEON_SEND_PACKET: carry(OURS, bytes, event->length); break;
+    case PIGEON_ON_CONNECTED: told->connected++; break;
+    case PIGEON_ON_CLOSED: told->closed++; break;
+    case PIGEON_ON_CONNECTION_RESTARTED: told->restarted++; break;
+    case PIGEON_ON_ABORTED:
         if (!world->bears_aborts)
             wrong("ours is told an abort, error %u: %.*s", (unsigned)event->error, (int)event->length, (const char *)bytes);
         told->aborted++;
         break;
-    case SCTP_ON_ERROR:
-        if (event->error != SCTP_ERROR_RESOURCE_EXHAUSTION && !world->bears_aborts && told->closed == 0)
+    case PIGEON_ON_ERROR:
+        if (event->error != PIGEON_ERROR_RESOURCE_EXHAUSTION && !world->bears_aborts && told->closed == 0)
             wrong("ours is told an error %u: %.*s", (unsigned)event->error, (int)event->length, (const char *)bytes);
         told->errors++;
         break;
-    case SCTP_STREAMS_RESET_FAILED: told->denied += (unsigned)event->length / 2; break;
-    case SCTP_STREAMS_RESET_PERFORMED: told->reset += (unsigned)event->length / 2; break;
-    case SCTP_INCOMING_STREAM_RESET: told->was_reset += (unsigned)event->length / 2; break;
-    case SCTP_LIFECYCLE_MAYBE_EXPIRED:
-    case SCTP_LIFECYCLE_EXPIRED:
-    case SCTP_LIFECYCLE_DELIVERED:
-    case SCTP_LIFECYCLE_END: end_of_message(event); break;
+    case PIGEON_STREAMS_RESET_FAILED: told->denied += (unsigned)event->length / 2; break;
+    case PIGEON_STREAMS_RESET_PERFORMED: told->reset += (unsigned)event->length / 2; break;
+    case PIGEON_INCOMING_STREAM_RESET: told->was_reset += (unsigned)event->length / 2; break;
+    case PIGEON_LIFECYCLE_MAYBE_EXPIRED:
+    case PIGEON_LIFECYCLE_EXPIRED:
+    case PIGEON_LIFECYCLE_DELIVERED:
+    case PIGEON_LIFECYCLE_END: end_of_message(event); break;
     default: break;
     }
 }
@@ -136,13 +136,13 @@ static void take_event(const sctp_event *event, const uint8_t *bytes) {
 /* Takes the messages that are ready, and what ours emits. */
 void take_from_ours(void) {
     static uint8_t buffer[1 << 19];
-    sctp_event event;
-    sctp_message message;
+    pigeon_event event;
+    pigeon_message message;
     uint32_t answer;
-    while (sctp_next_message(&ours, &message, buffer, sizeof buffer) == SCTP_OK)
+    while (pigeon_next_message(&ours, &message, buffer, sizeof buffer) == PIGEON_OK)
         take_message(OURS, message.stream, message.ppid, buffer, message.length);
-    while ((answer = sctp_poll_event(&ours, &event, buffer, sizeof buffer)) == SCTP_OK)
+    while ((answer = pigeon_poll_event(&ours, &event, buffer, sizeof buffer)) == PIGEON_OK)
         take_event(&event, buffer);
-    if (answer != SCTP_NOTHING && answer != SCTP_NO_SOCKET)
+    if (answer != PIGEON_NOTHING && answer != PIGEON_NO_SOCKET)
         wrong("poll_event answers %u", answer);
 }

@@ -1,24 +1,24 @@
 /* Two sockets over memory: messages cross, one socket is handed over to a third, and the association shuts down. */
-#include "sctp.h"
+#include "shelfpigeon.h"
 #include <stdio.h>
 #include <stdlib.h>
 
 static void must(const char *what, uint32_t answer) {
     uint8_t text[64];
-    if (answer != SCTP_OK) {
-        printf("%s: %.*s\n", what, (int)sctp_answer_text(answer, text, sizeof text), (const char *)text);
+    if (answer != PIGEON_OK) {
+        printf("%s: %.*s\n", what, (int)pigeon_answer_text(answer, text, sizeof text), (const char *)text);
         exit(1);
     }
 }
 
 /* Takes all that a socket emits, and hands its packets to the other end. Answers how many there were. */
-static int take_events(const char *name, sctp_socket *from, sctp_socket *to) {
+static int take_events(const char *name, pigeon_socket *from, pigeon_socket *to) {
     const uint8_t *bytes;
-    sctp_event event;
+    pigeon_event event;
     int packets = 0;
-    while (sctp_borrow_event(from, &event, &bytes) == SCTP_OK)
-        if (event.kind == SCTP_SEND_PACKET) {
-            must("handle_input", sctp_handle_input(to, bytes, event.length));
+    while (pigeon_borrow_event(from, &event, &bytes) == PIGEON_OK)
+        if (event.kind == PIGEON_SEND_PACKET) {
+            must("handle_input", pigeon_handle_input(to, bytes, event.length));
             packets++;
         } else
             printf("%s: event %u, stream %u\n", name, (unsigned)event.kind, (unsigned)event.stream);
@@ -26,14 +26,14 @@ static int take_events(const char *name, sctp_socket *from, sctp_socket *to) {
 }
 
 /* Turns of both ends, until nothing is to be done for a second. The time is advanced first, since all calls go by it. */
-static void settle(sctp_socket *a, sctp_socket *b, uint64_t *now) {
+static void settle(pigeon_socket *a, pigeon_socket *b, uint64_t *now) {
     for (;;) {
-        must("advance_time", sctp_advance_time(a, *now));
-        must("advance_time", sctp_advance_time(b, *now));
+        must("advance_time", pigeon_advance_time(a, *now));
+        must("advance_time", pigeon_advance_time(b, *now));
         while (take_events("a", a, b) + take_events("b", b, a) > 0) {}
         uint64_t next_a = UINT64_MAX, next_b = UINT64_MAX;
-        must("poll_timeout", sctp_poll_timeout(a, &next_a));
-        must("poll_timeout", sctp_poll_timeout(b, &next_b));
+        must("poll_timeout", pigeon_poll_timeout(a, &next_a));
+        must("poll_timeout", pigeon_poll_timeout(b, &next_b));
         uint64_t next = next_a < next_b ? next_a : next_b;
         if (next > *now + 1000000000u)
             return;
@@ -41,40 +41,40 @@ static void settle(sctp_socket *a, sctp_socket *b, uint64_t *now) {
     }
 }
 
-static void take_messages(const char *name, sctp_socket *socket) {
+static void take_messages(const char *name, pigeon_socket *socket) {
     const uint8_t *payload;
-    sctp_message message;
-    while (sctp_borrow_message(socket, &message, &payload) == SCTP_OK)
+    pigeon_message message;
+    while (pigeon_borrow_message(socket, &message, &payload) == PIGEON_OK)
         printf("%s: stream %u: %.*s\n", name, (unsigned)message.stream, (int)message.length, (const char *)payload);
 }
 
 int main(void) {
-    sctp_socket a = SCTP_NO_HANDLE, b = SCTP_NO_HANDLE, c = SCTP_NO_HANDLE;
-    sctp_options options;
-    sctp_send_options plainly = {0, 0, 0, 0};
+    pigeon_socket a = PIGEON_NO_HANDLE, b = PIGEON_NO_HANDLE, c = PIGEON_NO_HANDLE;
+    pigeon_options options;
+    pigeon_send_options plainly = {0, 0, 0, 0};
     uint8_t record[4096];
     size_t length;
     uint64_t now = 0;
-    sctp_default_options(&options);
-    must("new", sctp_new(&a, &options, 1, 1));
-    must("new", sctp_new(&b, &options, 2, 2));
-    must("connect", sctp_connect(&a));
+    pigeon_default_options(&options);
+    must("new", pigeon_new(&a, &options, 1, 1));
+    must("new", pigeon_new(&b, &options, 2, 2));
+    must("connect", pigeon_connect(&a));
     settle(&a, &b, &now);
-    must("send", sctp_send(&a, 1, 51, (const uint8_t *)"hello", 5, &plainly));
-    must("send", sctp_send(&b, 2, 51, (const uint8_t *)"world", 5, &plainly));
+    must("send", pigeon_send(&a, 1, 51, (const uint8_t *)"hello", 5, &plainly));
+    must("send", pigeon_send(&b, 2, 51, (const uint8_t *)"world", 5, &plainly));
     settle(&a, &b, &now);
     take_messages("b", &b);
-    must("handover", sctp_handover(&b, &length, record, sizeof record)); /* a new socket goes on in b's place */
-    must("new", sctp_new(&c, &options, 3, 3));
-    must("advance_time", sctp_advance_time(&c, now)); /* first: a restored socket goes by its clock too */
-    must("restore", sctp_restore(&c, record, length));
+    must("handover", pigeon_handover(&b, &length, record, sizeof record)); /* a new socket goes on in b's place */
+    must("new", pigeon_new(&c, &options, 3, 3));
+    must("advance_time", pigeon_advance_time(&c, now)); /* first: a restored socket goes by its clock too */
+    must("restore", pigeon_restore(&c, record, length));
     printf("a record of %zu bytes\n", length);
-    must("send", sctp_send(&c, 2, 51, (const uint8_t *)"still here", 10, &plainly));
+    must("send", pigeon_send(&c, 2, 51, (const uint8_t *)"still here", 10, &plainly));
     settle(&a, &c, &now);
     take_messages("a", &a);
-    must("shutdown", sctp_shutdown(&a));
+    must("shutdown", pigeon_shutdown(&a));
     settle(&a, &c, &now);
-    sctp_free(&a);
-    sctp_free(&b);
-    sctp_free(&c);
+    pigeon_free(&a);
+    pigeon_free(&b);
+    pigeon_free(&c);
 }

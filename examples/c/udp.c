@@ -2,7 +2,7 @@
  * typed go to the other end; the end of the input shuts the association down, once all has arrived. On a network that strangers reach
  * SCTP belongs under DTLS. */
 #define _POSIX_C_SOURCE 200809L
-#include "sctp.h"
+#include "shelfpigeon.h"
 #include <arpa/inet.h>
 #include <poll.h>
 #include <stdio.h>
@@ -28,23 +28,23 @@ static struct sockaddr_in loopback(uint16_t port) {
 }
 
 /* Sends the packets that wait, and prints the other events and the messages. Answers whether the association goes on. */
-static int take_all(sctp_socket *end, int wire, const struct sockaddr_in *peer) {
+static int take_all(pigeon_socket *end, int wire, const struct sockaddr_in *peer) {
     uint8_t buffer[65536];
-    sctp_event event;
-    sctp_message message;
+    pigeon_event event;
+    pigeon_message message;
     int goes_on = 1;
-    while (sctp_poll_event(end, &event, buffer, sizeof buffer) == SCTP_OK) {
-        if (event.kind == SCTP_SEND_PACKET) {
+    while (pigeon_poll_event(end, &event, buffer, sizeof buffer) == PIGEON_OK) {
+        if (event.kind == PIGEON_SEND_PACKET) {
             /* a packet that the network refuses is lost: it is sent again in time */
             (void)!sendto(wire, buffer, event.length, 0, (const struct sockaddr *)peer, sizeof *peer);
-        } else if (event.kind == SCTP_ON_CONNECTED) {
+        } else if (event.kind == PIGEON_ON_CONNECTED) {
             fprintf(stderr, "connected\n");
-        } else if (event.kind == SCTP_ON_CLOSED || event.kind == SCTP_ON_ABORTED) {
+        } else if (event.kind == PIGEON_ON_CLOSED || event.kind == PIGEON_ON_ABORTED) {
             fprintf(stderr, "closed\n");
             goes_on = 0;
         }
     }
-    while (sctp_next_message(end, &message, buffer, sizeof buffer) == SCTP_OK) {
+    while (pigeon_next_message(end, &message, buffer, sizeof buffer) == PIGEON_OK) {
         fwrite(buffer, 1, message.length, stdout);
         fflush(stdout);
     }
@@ -60,12 +60,12 @@ static int milliseconds_until(uint64_t due, uint64_t now) {
 
 /* Shuts the association down where nothing is queued and all has arrived, since a shutdown waits for what is in flight alone. Answers
  * whether the association goes on. */
-static int shut_down(sctp_socket *end) {
-    const uint32_t waits = SCTP_WRONG_CONNECTION_STATE | SCTP_SEND_QUEUE_NOT_EMPTY | SCTP_RETRANSMISSION_QUEUE_OUTSTANDING_DATA;
+static int shut_down(pigeon_socket *end) {
+    const uint32_t waits = PIGEON_WRONG_CONNECTION_STATE | PIGEON_SEND_QUEUE_NOT_EMPTY | PIGEON_RETRANSMISSION_QUEUE_OUTSTANDING_DATA;
     uint32_t readiness, state;
-    if (sctp_handover_readiness(end, &readiness) == SCTP_OK && !(readiness & waits))
-        sctp_shutdown(end);
-    return sctp_state(end, &state) == SCTP_OK && state != SCTP_CLOSED;
+    if (pigeon_handover_readiness(end, &readiness) == PIGEON_OK && !(readiness & waits))
+        pigeon_shutdown(end);
+    return pigeon_state(end, &state) == PIGEON_OK && state != PIGEON_CLOSED;
 }
 
 int main(int count, char **words) {
@@ -80,39 +80,39 @@ int main(int count, char **words) {
         perror("bind");
         return 1;
     }
-    sctp_socket end = SCTP_NO_HANDLE;
-    sctp_options options;
-    sctp_send_options plainly = {0, 0, 0, 0};
+    pigeon_socket end = PIGEON_NO_HANDLE;
+    pigeon_options options;
+    pigeon_send_options plainly = {0, 0, 0, 0};
     uint64_t seeds[2], start = nanos();
     FILE *random = fopen("/dev/urandom", "rb");
     if (random == NULL || fread(seeds, sizeof seeds, 1, random) != 1)
         return 1;
     fclose(random);
-    sctp_default_options(&options);
-    if (sctp_new(&end, &options, seeds[0], seeds[1]) != SCTP_OK)
+    pigeon_default_options(&options);
+    if (pigeon_new(&end, &options, seeds[0], seeds[1]) != PIGEON_OK)
         return 1;
-    sctp_advance_time(&end, nanos() - start);
+    pigeon_advance_time(&end, nanos() - start);
     if (connects)
-        sctp_connect(&end);
+        pigeon_connect(&end);
     while (goes_on) {
         uint8_t bytes[65536];
         uint64_t due = UINT64_MAX;
         goes_on = take_all(&end, wire, &peer);
-        sctp_poll_timeout(&end, &due);
+        pigeon_poll_timeout(&end, &due);
         struct pollfd ready[2] = {{wire, POLLIN, 0}, {reads ? STDIN_FILENO : -1, POLLIN, 0}};
         int count_ready = goes_on ? poll(ready, 2, milliseconds_until(due, nanos() - start)) : 0;
-        if (sctp_advance_time(&end, nanos() - start) != SCTP_OK) /* first: the calls below go by it */
+        if (pigeon_advance_time(&end, nanos() - start) != PIGEON_OK) /* first: the calls below go by it */
             break;
         if (count_ready > 0) {
             if (ready[0].revents & POLLIN) {
                 ssize_t length = recv(wire, bytes, sizeof bytes, 0);
                 if (length > 0)
-                    sctp_handle_input(&end, bytes, (size_t)length);
+                    pigeon_handle_input(&end, bytes, (size_t)length);
             }
             if (ready[1].revents & (POLLIN | POLLHUP)) {
                 ssize_t length = read(STDIN_FILENO, bytes, sizeof bytes);
                 if (length > 0)
-                    sctp_send(&end, 0, 51, bytes, (size_t)length, &plainly);
+                    pigeon_send(&end, 0, 51, bytes, (size_t)length, &plainly);
                 else
                     reads = 0;
             }
@@ -122,7 +122,7 @@ int main(int count, char **words) {
             goes_on = 0;
         }
     }
-    sctp_free(&end);
+    pigeon_free(&end);
     close(wire);
     return 0;
 }

@@ -1,5 +1,5 @@
 #!/usr/bin/env python3
-"""Two sockets over memory, by ctypes: python3 loop.py build/libsctp.so"""
+"""Two sockets over memory, by ctypes: python3 loop.py build/libshelfpigeon.so"""
 import ctypes as c
 import sys
 import time
@@ -34,15 +34,15 @@ def call(name, *arguments):
 
 def new(seed):
     end, options = Socket(), c.create_string_buffer(256)
-    sctp.sctp_default_options(options)
-    call("sctp_new", c.byref(end), options, c.c_uint64(seed), c.c_uint64(seed))
+    sctp.pigeon_default_options(options)
+    call("pigeon_new", c.byref(end), options, c.c_uint64(seed), c.c_uint64(seed))
     return end
 
 
 def advance(ends, start=time.monotonic_ns()):
     """Advances the time, which comes first: the calls behind it go by it."""
     for end in ends:
-        call("sctp_advance_time", c.byref(end), c.c_uint64(time.monotonic_ns() - start))
+        call("pigeon_advance_time", c.byref(end), c.c_uint64(time.monotonic_ns() - start))
 
 
 def settle(ends):
@@ -53,10 +53,10 @@ def settle(ends):
         goes_on = False
         for i, end in enumerate(ends):
             event = Event()
-            while call("sctp_poll_event", c.byref(end), c.byref(event), buffer, c.c_size_t(65536)) == OK:
+            while call("pigeon_poll_event", c.byref(end), c.byref(event), buffer, c.c_size_t(65536)) == OK:
                 if event.kind == SEND_PACKET:
                     packet = buffer.raw[: event.length]
-                    call("sctp_handle_input", c.byref(ends[1 - i]), packet, c.c_size_t(len(packet)))
+                    call("pigeon_handle_input", c.byref(ends[1 - i]), packet, c.c_size_t(len(packet)))
                     goes_on = True
                 else:
                     print("ab"[i], "event", event.kind)
@@ -64,14 +64,14 @@ def settle(ends):
 
 a, b = ends = new(1), new(2)
 advance(ends)
-call("sctp_connect", c.byref(a))
+call("pigeon_connect", c.byref(a))
 settle(ends)
 text = b"hello from python"
 advance(ends)
-call("sctp_send", c.byref(a), 1, 51, text, c.c_size_t(len(text)), c.byref(SendOptions()))
+call("pigeon_send", c.byref(a), 1, 51, text, c.c_size_t(len(text)), c.byref(SendOptions()))
 settle(ends)
 message = Message()
-call("sctp_next_message", c.byref(b), c.byref(message), buffer, c.c_size_t(65536))
+call("pigeon_next_message", c.byref(b), c.byref(message), buffer, c.c_size_t(65536))
 print("b stream", message.stream, buffer.raw[: message.length].decode())
 for end in ends:
-    sctp.sctp_free(c.byref(end))
+    sctp.pigeon_free(c.byref(end))

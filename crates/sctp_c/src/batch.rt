@@ -17,7 +17,7 @@ use std::alloc::Global;
 
 /// Queues copies of messages, and sends as much as may be sent. Each message's answer is handed out.
 #[unsafe(no_mangle)]
-pub extern "C" fn sctp_send_many(
+pub extern "C" fn pigeon_send_many(
     alloc: Global,
     socket: &mut Handle,
     messages: &[OutgoingRecord<'_>],

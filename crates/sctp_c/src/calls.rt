@@ -15,7 +15,7 @@ use sctp_c_records::answers::NO_SOCKET;
 
 /// Opens an association, where the socket is closed.
 #[unsafe(no_mangle)]
-pub extern "C" fn sctp_connect(socket: &mut Handle) -> u32
+pub extern "C" fn pigeon_connect(socket: &mut Handle) -> u32
     ensures { Makes (λ s f. f ≡ opening.connect (end_of s)) socket.old.held result socket.new.held }
 {
     match socket.as_mut() {
@@ -26,7 +26,7 @@ pub extern "C" fn sctp_connect(socket: &mut Handle) -> u32
 
 /// Shuts the association down (RFC 9260 section 9.2).
 #[unsafe(no_mangle)]
-pub extern "C" fn sctp_shutdown(socket: &mut Handle) -> u32
+pub extern "C" fn pigeon_shutdown(socket: &mut Handle) -> u32
     ensures { Makes (λ s f. f ≡ in_endpoint_state closing.shutdown (end_of s)) socket.old.held result socket.new.held }
 {
     match socket.as_mut() {
@@ -37,7 +37,7 @@ pub extern "C" fn sctp_shutdown(socket: &mut Handle) -> u32
 
 /// Ends the association at once, with an ABORT to the peer (RFC 9260 section 9.1).
 #[unsafe(no_mangle)]
-pub extern "C" fn sctp_close(socket: &mut Handle) -> u32
+pub extern "C" fn pigeon_close(socket: &mut Handle) -> u32
     ensures { Makes (λ s f. f ≡ in_endpoint_state closing.close (end_of s)) socket.old.held result socket.new.held }
 {
     match socket.as_mut() {
@@ -48,7 +48,7 @@ pub extern "C" fn sctp_close(socket: &mut Handle) -> u32
 
 /// Takes the bytes of a packet that came.
 #[unsafe(no_mangle)]
-pub extern "C" fn sctp_handle_input(socket: &mut Handle, bytes: &[u8]) -> u32
+pub extern "C" fn pigeon_handle_input(socket: &mut Handle, bytes: &[u8]) -> u32
     ensures { Makes (λ s f. Receives (word_by s.context.checksum) bytes.now (end_of s) f) socket.old.held result socket.new.held }
 {
     match socket.as_mut() {
@@ -59,7 +59,7 @@ pub extern "C" fn sctp_handle_input(socket: &mut Handle, bytes: &[u8]) -> u32
 
 /// Advances the time, in nanoseconds since the socket was made.
 #[unsafe(no_mangle)]
-pub extern "C" fn sctp_advance_time(socket: &mut Handle, nanos: u64) -> u32
+pub extern "C" fn pigeon_advance_time(socket: &mut Handle, nanos: u64) -> u32
     ensures { Makes (λ s f. f ≡ in_endpoint_state (time.advance nanos) (end_of s)) socket.old.held result socket.new.held }
 {
     match socket.as_mut() {

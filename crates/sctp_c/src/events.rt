@@ -14,7 +14,7 @@ use std::alloc::Global;
 
 /// Hands out the event that was emitted first. Where it doesn't fit its length is handed out, and it stays.
 #[unsafe(no_mangle)]
-pub extern "C" fn sctp_poll_event(
+pub extern "C" fn pigeon_poll_event(
     alloc: Global,
     socket: &mut Handle,
     head: &mut EventRecord,
@@ -38,7 +38,7 @@ pub extern "C" fn sctp_poll_event(
 /// Hands out the event that was emitted first, and lends its bytes until the next call. Where there is no memory for those of streams, it
 /// stays.
 #[unsafe(no_mangle)]
-pub extern "C" fn sctp_borrow_event(
+pub extern "C" fn pigeon_borrow_event(
     alloc: Global,
     socket: &mut Handle,
     head: &mut EventRecord,

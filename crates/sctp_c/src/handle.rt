@@ -8,7 +8,7 @@ use sctp_handle::Loose;
 use std::alloc::Global;
 use std::marker::Model;
 
-/// A socket, or none where the pointer is null. In C it is `sctp_socket`, whose pointer C neither reads nor writes but to zero.
+/// A socket, or none where the pointer is null. In C it is `pigeon_socket`, whose pointer C neither reads nor writes but to zero.
 #[repr(C)]
 #[derive(Drop)]
 pub struct Handle {

@@ -17,7 +17,7 @@ use std::alloc::Global;
 
 /// Hands out the socket's record, and the socket closes. Where it doesn't fit its length is handed out, and it stays.
 #[unsafe(no_mangle)]
-pub extern "C" fn sctp_handover(
+pub extern "C" fn pigeon_handover(
     alloc: Global,
     socket: &mut Handle,
     needed: &mut usize,
@@ -49,7 +49,7 @@ pub extern "C" fn sctp_handover(
 
 /// Takes up a record in a closed socket, which goes on in place of the one that it is of.
 #[unsafe(no_mangle)]
-pub extern "C" fn sctp_restore(alloc: Global, socket: &mut Handle, bytes: &[u8]) -> u32
+pub extern "C" fn pigeon_restore(alloc: Global, socket: &mut Handle, bytes: &[u8]) -> u32
     ensures answers { Answers (λ e n f. IsAmong (0 ∷ 1 ∷ 2 ∷ 17 ∷ 19 ∷ 20 ∷ []) n) socket.old.held result socket.new.held }
     ensures record { (h : HandoverState) → IsRecord bytes.now h → Answers (OnSocket (λ s n t. Restores stream word_by h s n t)) socket.old.held result socket.new.held }
     ensures none { IsNone bytes.now → Answers (OnSocket (λ s n t. Refuses s n t)) socket.old.held result socket.new.held }

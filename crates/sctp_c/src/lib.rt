@@ -1,4 +1,4 @@
-//! A socket for C: each function of `include/sctp.h`, over `sctp_c_calls`.
+//! A socket for C: each function of `include/shelfpigeon.h`, over `sctp_c_calls`.
 #![tactic(auto)]
 
 mod asking;

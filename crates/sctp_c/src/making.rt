@@ -48,7 +48,7 @@ fn boxed(
 
 /// Writes the options that a socket has where nothing else is said.
 #[unsafe(no_mangle)]
-pub extern "C" fn sctp_default_options(options: &mut OptionsRecord)
+pub extern "C" fn pigeon_default_options(options: &mut OptionsRecord)
     ensures { given_options options.new ≡ defaults }
 {
     *options = OptionsRecord::defaults();
@@ -56,7 +56,7 @@ pub extern "C" fn sctp_default_options(options: &mut OptionsRecord)
 
 /// Makes a closed socket at moment zero, whose words come from this state and stream of a PCG.
 #[unsafe(no_mangle)]
-pub extern "C" fn sctp_new(
+pub extern "C" fn pigeon_new(
     alloc: Global,
     socket: &mut Handle,
     options: &OptionsRecord,
@@ -95,7 +95,7 @@ pub extern "C" fn sctp_new(
 
 /// Lets the socket go. Afterwards the handle holds none.
 #[unsafe(no_mangle)]
-pub extern "C" fn sctp_free(alloc: Global, socket: &mut Handle)
+pub extern "C" fn pigeon_free(alloc: Global, socket: &mut Handle)
     ensures { socket.new.held ≡ None }
 {
     drop(socket.take(alloc));

@@ -18,7 +18,7 @@ use std::alloc::Global;
 
 /// Hands out the message that was ready first. Where it doesn't fit its length is handed out, and it stays.
 #[unsafe(no_mangle)]
-pub extern "C" fn sctp_next_message(
+pub extern "C" fn pigeon_next_message(
     socket: &mut Handle,
     head: &mut MessageRecord,
     buffer: &mut [u8],
@@ -38,7 +38,7 @@ pub extern "C" fn sctp_next_message(
 
 /// Hands out the message that was ready first, and lends its payload until the next call.
 #[unsafe(no_mangle)]
-pub extern "C" fn sctp_borrow_message(
+pub extern "C" fn pigeon_borrow_message(
     alloc: Global,
     socket: &mut Handle,
     head: &mut MessageRecord,
@@ -64,7 +64,7 @@ pub extern "C" fn sctp_borrow_message(
 
 /// Queues a copy of a message, and sends as much as may be sent.
 #[unsafe(no_mangle)]
-pub extern "C" fn sctp_send(
+pub extern "C" fn pigeon_send(
     alloc: Global,
     socket: &mut Handle,
     stream: u32,

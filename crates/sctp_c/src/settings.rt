@@ -17,7 +17,7 @@ use std::alloc::Global;
 
 /// Sets the priority of a stream.
 #[unsafe(no_mangle)]
-pub extern "C" fn sctp_set_stream_priority(socket: &mut Handle, stream: u32, priority: u16) -> u32
+pub extern "C" fn pigeon_set_stream_priority(socket: &mut Handle, stream: u32, priority: u16) -> u32
     ensures stream { 65535 < stream → (result ≡ 6) × (socket.new.held ≡ socket.old.held) }
     ensures call { stream ≤ 65535 → Makes (λ s f. f ≡ in_endpoint_state (in_context (table.set_priority stream priority)) (end_of s)) socket.old.held result socket.new.held }
 {
@@ -32,7 +32,7 @@ pub extern "C" fn sctp_set_stream_priority(socket: &mut Handle, stream: u32, pri
 
 /// Sets the amount in bytes at which a stream is low.
 #[unsafe(no_mangle)]
-pub extern "C" fn sctp_set_buffered_amount_low_threshold(
+pub extern "C" fn pigeon_set_buffered_amount_low_threshold(
     socket: &mut Handle,
     stream: u32,
     bytes: usize,
@@ -51,7 +51,7 @@ pub extern "C" fn sctp_set_buffered_amount_low_threshold(
 
 /// Resets a stream (RFC 6525).
 #[unsafe(no_mangle)]
-pub extern "C" fn sctp_reset_stream(socket: &mut Handle, stream: u32) -> u32
+pub extern "C" fn pigeon_reset_stream(socket: &mut Handle, stream: u32) -> u32
     ensures stream { 65535 < stream → (result ≡ 6) × (socket.new.held ≡ socket.old.held) }
     ensures call { stream ≤ 65535 → Answers (OnSocket (λ s n t. IsAmong (0 ∷ 1 ∷ 2 ∷ 14 ∷ 15 ∷ []) n × (Ends (ending_at n) s t
         × (OnSettled n (n ≡ reset_number (resets.reset_refusal s.state))
@@ -68,7 +68,7 @@ pub extern "C" fn sctp_reset_stream(socket: &mut Handle, stream: u32) -> u32
 
 /// Resets streams (RFC 6525).
 #[unsafe(no_mangle)]
-pub extern "C" fn sctp_reset_streams(alloc: Global, socket: &mut Handle, streams: &[u16]) -> u32
+pub extern "C" fn pigeon_reset_streams(alloc: Global, socket: &mut Handle, streams: &[u16]) -> u32
     ensures answers { Answers (λ e n f. IsAmong (0 ∷ 1 ∷ 2 ∷ 14 ∷ 15 ∷ 17 ∷ []) n) socket.old.held result socket.new.held }
     ensures ends { Answers (OnSocket (λ s n t. Ended n s t)) socket.old.held result socket.new.held }
     ensures answer { Answers (OnSocket (λ s n t. OnSettled n (n ≡ reset_number (resets.reset_refusal s.state)))) socket.old.held result socket.new.held }

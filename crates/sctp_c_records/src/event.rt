@@ -11,7 +11,7 @@ use sctp_state::{ErrorKind, SocketEvent};
 use sctp_wire::push_entries;
 use std::alloc::{AllocError, Global};
 
-/// What an event is beside its bytes; in C `sctp_event`.
+/// What an event is beside its bytes; in C `pigeon_event`.
 #[repr(C)]
 #[derive(Clone, Copy)]
 pub struct EventRecord {

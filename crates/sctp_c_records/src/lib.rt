@@ -1,4 +1,4 @@
-//! What crosses to C: the numbers that calls answer, and the records of `include/sctp.h`, as the socket's own values.
+//! What crosses to C: the numbers that calls answer, and the records of `include/shelfpigeon.h`, as the socket's own values.
 #![tactic(auto)]
 
 pub mod answers;

@@ -9,7 +9,7 @@ use sctp_serial::LifecycleId;
 use sctp_state::SendOptions;
 use std::time::Duration;
 
-/// What a message is beside its bytes; in C `sctp_message`.
+/// What a message is beside its bytes; in C `pigeon_message`.
 #[repr(C)]
 #[derive(Clone, Copy)]
 pub struct MessageRecord {
@@ -18,7 +18,7 @@ pub struct MessageRecord {
     pub length: usize,
 }
 
-/// A message to be sent; in C `sctp_outgoing`, whose payload is a pointer and a length.
+/// A message to be sent; in C `pigeon_outgoing`, whose payload is a pointer and a length.
 #[repr(C)]
 #[derive(Clone, Copy)]
 pub struct OutgoingRecord<'a> {
@@ -27,7 +27,7 @@ pub struct OutgoingRecord<'a> {
     pub payload: &'a [u8],
 }
 
-/// How a message is sent; in C `sctp_send_options`. All zero is an ordered, reliable message.
+/// How a message is sent; in C `pigeon_send_options`. All zero is an ordered, reliable message.
 #[repr(C)]
 #[derive(Clone, Copy)]
 pub struct SendRecord {

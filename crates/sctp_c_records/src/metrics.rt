@@ -7,7 +7,7 @@ ghost use Rattle.sctp_c_records.specs.Metrics.{implementation_number, metrics_re
 use sctp_state::{Metrics, SctpImplementation};
 use std::time::Duration;
 
-/// What a socket counts; in C `sctp_metrics`. The round trip time is in nanoseconds.
+/// What a socket counts; in C `pigeon_metrics`. The round trip time is in nanoseconds.
 #[repr(C)]
 #[derive(Clone, Copy)]
 pub struct MetricsRecord {

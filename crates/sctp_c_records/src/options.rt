@@ -10,7 +10,7 @@ use sctp_serial::ZeroChecksumAlternateErrorDetectionMethod;
 use sctp_state::Options;
 use std::time::Duration;
 
-/// The options of a socket; in C `sctp_options`. Spans are in nanoseconds, sizes in bytes.
+/// The options of a socket; in C `pigeon_options`. Spans are in nanoseconds, sizes in bytes.
 #[repr(C)]
 #[derive(Clone, Copy)]
 pub struct OptionsRecord {

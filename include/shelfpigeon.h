@@ -1,0 +1,349 @@
+/* SCTP (RFC 9260) without system calls: the socket of the crate sctp_association for C.
+ *
+ * Packets, moments and messages are handed in; events, among them packets to send, are taken out. No function calls back, reads a
+ * clock or draws a random number, and there is no global state.
+ *
+ * All calls go by the moment to which pigeon_advance_time advanced the socket last: it comes first in a turn, and before pigeon_connect, pigeon_send
+ * and the other calls; pigeon_poll_timeout comes last.
+ *
+ * What C owes at each call:
+ *   - a pointer to a handle, a record or a number is not NULL, and points to one;
+ *   - a buffer has as many bytes as its length says; one of length 0 may be anywhere but NULL (PIGEON_EMPTY serves);
+ *   - a handle is in one call at a time, and only these functions change it. It begins as PIGEON_NO_HANDLE, and is not copied: of two
+ *     copies only one may be freed;
+ *   - bytes that a socket lends (pigeon_borrow_event, pigeon_borrow_message) are only read, and not after the next call with this socket has
+ *     begun, so that they aren't handed to that call either;
+ *   - malloc aligns as C demands. No call is made in a signal handler, or in a forked child of a process with threads.
+ * A handle that holds no socket (PIGEON_NO_HANDLE, or one that was freed) answers PIGEON_NO_SOCKET at each call whose numbers are right: a stream
+ * above 65,535, unknown flags and too few places for answers are looked at first.
+ * Packets aren't signed: on a network that strangers reach they go through DTLS.
+ * The archive that scripts/c-library writes is for processors of the level x86-64-v2 or above, and doesn't ask for it.
+ */
+#ifndef SHELFPIGEON_H
+#define SHELFPIGEON_H
+
+#include <stdbool.h>
+#include <stddef.h>
+#include <stdint.h>
+
+#ifdef __cplusplus
+extern "C" {
+#endif
+
+/* The version of this header, as text and as a number: 10,000 times the first number, 100 times the second one, and the third one. */
+#define PIGEON_VERSION "0.1.0"
+#define PIGEON_VERSION_NUMBER 100
+
+/* The number of the library's version. Below 1.0 one library serves headers that have its second number. */
+uint32_t pigeon_version(void);
+
+/* A socket, or none where the pointer is zero. */
+typedef struct pigeon_socket {
+    void *at;
+} pigeon_socket;
+
+#define PIGEON_NO_HANDLE {0}
+
+/* What stands for a buffer of length 0. */
+#define PIGEON_EMPTY ((uint8_t *)(uintptr_t)1)
+
+/* What calls answer. */
+enum {
+    PIGEON_OK = 0,
+    PIGEON_MEMORY = 1,           /* too little memory: the socket has failed for good, and is to be freed */
+    PIGEON_FAILED = 2,           /* an earlier call found too little memory */
+    PIGEON_NO_SOCKET = 3,        /* the handle holds no socket */
+    PIGEON_IN_USE = 4,           /* the handle holds a socket already */
+    PIGEON_INVALID_OPTIONS = 5,  /* a field of the options is out of its bounds, which stand at each field */
+    PIGEON_INVALID_STREAM = 6,   /* the stream's number is above 65,535 */
+    PIGEON_INVALID_ARGUMENT = 7, /* flags that there aren't, or a number beyond what it can be */
+    PIGEON_NOTHING = 8,          /* no event waits, or no message is ready */
+    PIGEON_SHORT_BUFFER = 9,     /* the length needed is handed out, and what didn't fit stays */
+    PIGEON_EMPTY_PAYLOAD = 10,
+    PIGEON_MESSAGE_TOO_LARGE = 11,
+    PIGEON_SHUTTING_DOWN = 12, /* a closed socket queues the message, and answers PIGEON_OK */
+    PIGEON_RESOURCE_EXHAUSTION = 13, /* the send queue is full */
+    PIGEON_NOT_CONNECTED = 14,
+    PIGEON_NOT_SUPPORTED = 15, /* the peer can't reset streams */
+    PIGEON_NOT_READY = 16,     /* something stands in the way of a handover */
+    PIGEON_NO_ROOM = 17,       /* too little memory to begin with: but by pigeon_handover nothing changed, and the call may be made again */
+    PIGEON_SOME_REFUSED = 18,  /* some messages of a batch weren't accepted; the others were */
+    PIGEON_NOT_CLOSED = 19,    /* only a closed socket takes up a record */
+    PIGEON_INVALID_STATE = 20  /* the bytes are no record, or one that no socket could have written */
+};
+
+/* Writes the text of an answer, without a zero byte behind it, where it fits: 64 bytes do. Answers the length of the text. */
+size_t pigeon_answer_text(uint32_t answer, uint8_t *buffer, size_t length);
+
+/* ---- Options */
+
+#define PIGEON_UNLIMITED UINT32_MAX /* of max_retransmissions and max_init_retransmits */
+#define PIGEON_UNSET UINT64_MAX     /* of max_timer_backoff_duration */
+
+enum { PIGEON_CHECKSUM_CRC32C = 0, PIGEON_CHECKSUM_ZERO = 1 };
+enum { PIGEON_ZERO_CHECKSUM_NONE = 0, PIGEON_ZERO_CHECKSUM_DTLS = 1 };
+enum {
+    PIGEON_PARTIAL_RELIABILITY = 1,            /* RFC 3758 */
+    PIGEON_MESSAGE_INTERLEAVING = 2,           /* RFC 8260 */
+    PIGEON_NO_CHECKSUM_VERIFICATION = 4,       /* for tests */
+    SHELFPIGEON_HANDOVER_WITH_OUTSTANDING_DATA = 8,
+    SHELFPIGEON_HEARTBEAT_INTERVAL_INCLUDE_RTT = 16 /* not read */
+};
+
+/* What a socket is made with. Spans are in nanoseconds, sizes in bytes, windows in packets of the largest size. A field without bounds takes
+ * each number of its type. */
+typedef struct pigeon_options {
+    uint16_t local_port; /* ports are written into packets, and not compared in those that come */
+    uint16_t remote_port;
+    uint16_t announced_maximum_incoming_streams;
+    uint16_t announced_maximum_outgoing_streams;
+    uint16_t default_stream_priority;
+    /* PIGEON_CHECKSUM_ZERO: all packets carry the word 0, the INIT too, and one with a CRC32c is refused, so that both ends need it. RFC 9653 is
+     * PIGEON_CHECKSUM_CRC32C with a zero_checksum_method. */
+    uint16_t checksum;
+    uint32_t mtu;              /* 256 to 65,535: no packet that is emitted is larger */
+    uint32_t max_message_size; /* of messages that are sent; it bounds none that the peer sends */
+    /* How much of what is received is held. With nine tenths of it held each further fragment is dropped, so that a longer message may never be
+     * whole: take at least twice the longest that the peer may send. At 0 and 1 nothing is taken. */
+    uint32_t max_receiver_window_buffer_size;
+    uint32_t max_send_buffer_size;
+    uint32_t per_stream_send_queue_limit;
+    uint32_t total_buffered_amount_low_threshold;
+    uint32_t default_stream_buffered_amount_low_threshold;
+    uint32_t cwnd_mtus_initial;              /* 1 to 65,535 */
+    uint32_t cwnd_mtus_min;                  /* 1 to 65,535 */
+    uint32_t avoid_fragmentation_cwnd_mtus;  /* 1 to 65,535 */
+    uint32_t immediate_sack_under_cwnd_mtus; /* at most 65,535 */
+    int32_t max_burst; /* packets at once. 0 and less are valid: then no COOKIE ECHO, COOKIE ACK, SACK or message ever goes out */
+    uint32_t max_retransmissions;
+    uint32_t max_init_retransmits;
+    /* Announced to the peer (RFC 9653 section 4), any number. Where it isn't PIGEON_ZERO_CHECKSUM_NONE packets that come may carry the word 0, and
+     * own ones do once the peer has announced the same number. */
+    uint32_t zero_checksum_method;
+    uint32_t flags; /* a sum of the flags above, of no others */
+    uint64_t rtt_max;
+    uint64_t rto_initial;         /* at least a millisecond */
+    uint64_t rto_max;             /* at least rto_min; timers back off beyond it */
+    uint64_t rto_min;             /* at least a millisecond */
+    uint64_t t1_init_timeout;     /* at least a millisecond */
+    uint64_t t1_cookie_timeout;   /* at least a millisecond */
+    uint64_t t2_shutdown_timeout; /* not read: a shutdown waits for the retransmission timeout */
+    uint64_t max_timer_backoff_duration; /* the longest wait of the retransmission timer; with PIGEON_UNSET its waits double up to a day */
+    uint64_t heartbeat_interval;         /* none are sent at 0 */
+    uint64_t delayed_ack_max_timeout;    /* at least a millisecond */
+    uint64_t min_rtt_variance;
+} pigeon_options;
+
+/* Writes the options that a socket has where nothing else is said. */
+void pigeon_default_options(pigeon_options *options);
+
+/* ---- A socket is made, and let go */
+
+/* Makes a closed socket at moment zero. Tags, first TSNs and ties are drawn from PCG32 of this seed and stream: on a network that
+ * strangers reach, take both from the system's random source. PIGEON_IN_USE, PIGEON_INVALID_ARGUMENT (a flag or checksum
+ * that there isn't), PIGEON_INVALID_OPTIONS, PIGEON_NO_ROOM: the handle stays as it was. */
+uint32_t pigeon_new(pigeon_socket *socket, const pigeon_options *options, uint64_t seed, uint64_t stream);
+
+/* Lets the socket go, with what it holds; the peer gets nothing. Afterwards the handle holds none, so that it may be freed again. A copy
+ * of the handle then names freed memory. */
+void pigeon_free(pigeon_socket *socket);
+
+/* ---- Calls. Each of these may answer PIGEON_MEMORY, PIGEON_FAILED and PIGEON_NO_SOCKET. */
+
+/* Opens an association, where the socket is closed. Advance the time first. */
+uint32_t pigeon_connect(pigeon_socket *socket);
+/* No more messages are accepted, and the association ends once nothing is in flight (RFC 9260 section 9.2). What waits to be sent, or to be
+ * sent again, isn't waited for and may be lost: wait until pigeon_handover_readiness of a connected socket has neither
+ * PIGEON_SEND_QUEUE_NOT_EMPTY nor PIGEON_RETRANSMISSION_QUEUE_OUTSTANDING_DATA. A closed socket stays as it is. Advance the time first. */
+uint32_t pigeon_shutdown(pigeon_socket *socket);
+/* Ends the association at once, with an ABORT to the peer (RFC 9260 section 9.1). The send queue stays, here and where the peer aborts: what it
+ * holds goes to the peer of the next association, a partly sent message from its start. */
+uint32_t pigeon_close(pigeon_socket *socket);
+/* Takes the bytes of a packet that came. What is no packet, or not one for this association, is emitted as an error. Advance the time first:
+ * a round trip ends at the moment of the clock. */
+uint32_t pigeon_handle_input(pigeon_socket *socket, const uint8_t *bytes, size_t length);
+/* Advances the time, in nanoseconds since the socket was made, and expires timers. It comes before the other calls of a turn: with a clock that
+ * is late they measure wrong round trips, and what was sent goes out again at once. An earlier moment than the last one changes nothing. */
+uint32_t pigeon_advance_time(pigeon_socket *socket, uint64_t nanos);
+/* By which moment the time is to be advanced next: UINT64_MAX where no timer runs. Ask last in a turn, and not a socket that answered
+ * PIGEON_MEMORY: no call moves its timers any more. */
+uint32_t pigeon_poll_timeout(pigeon_socket *socket, uint64_t *nanos);
+
+enum { PIGEON_CLOSED = 0, PIGEON_CONNECTING = 1, PIGEON_CONNECTED = 2, PIGEON_CLOSING = 3 };
+uint32_t pigeon_state(pigeon_socket *socket, uint32_t *state);
+/* The bytes of a stream that wait to be sent. */
+uint32_t pigeon_buffered_amount(pigeon_socket *socket, uint32_t stream, size_t *bytes);
+
+/* ---- What is counted */
+
+enum { PIGEON_PEER_UNKNOWN = 0, PIGEON_PEER_DCSCTP_RS = 1, PIGEON_PEER_DCSCTP_CC = 2, PIGEON_PEER_USRSCTP = 3, PIGEON_PEER_OTHER = 4 };
+
+typedef struct pigeon_metrics {
+    size_t tx_packets_count;  /* over the socket's life */
+    size_t tx_messages_count; /* accepted, over the socket's life */
+    size_t rtx_packets_count; /* packets of the association in which a fragment was sent again */
+    uint64_t rtx_bytes_count; /* of chunks that were sent again, headers and padding included */
+    size_t cwnd_bytes;
+    uint64_t srtt;            /* the smoothed round trip, in nanoseconds */
+    size_t unack_data_count;  /* fragments not acknowledged, and packets that the queued bytes would fill */
+    size_t rx_packets_count;  /* over the socket's life */
+    size_t rx_messages_count; /* messages of the association that came whole */
+    uint32_t peer_rwnd_bytes; /* how much the peer's window still takes */
+    uint32_t peer_implementation;
+    uint16_t negotiated_maximum_incoming_streams;
+    uint16_t negotiated_maximum_outgoing_streams;
+    bool uses_message_interleaving; /* RFC 8260 */
+    bool uses_zero_checksum;        /* RFC 9653 */
+} pigeon_metrics;
+
+/* PIGEON_NOTHING: there is no association, or it is not so far that anything is counted. */
+uint32_t pigeon_get_metrics(pigeon_socket *socket, pigeon_metrics *metrics);
+
+/* ---- A socket is handed over */
+
+/* What stands in the way of a handover: the sum of these. A closed socket is ready. With SHELFPIGEON_HANDOVER_WITH_OUTSTANDING_DATA the bits 2, 512
+ * and 2048 are never set. */
+enum {
+    PIGEON_READY = 0,
+    PIGEON_WRONG_CONNECTION_STATE = 1,
+    PIGEON_SEND_QUEUE_NOT_EMPTY = 2,
+    PIGEON_PENDING_STREAM_RESET_REQUEST = 4,
+    PIGEON_DATA_TRACKER_TSN_BLOCKS_PENDING = 8,
+    PIGEON_PENDING_STREAM_RESET = 16,
+    PIGEON_STREAM_RESET_DEFERRED = 64,
+    PIGEON_STREAM_HAS_UNASSEMBLED_CHUNKS = 128,
+    PIGEON_RETRANSMISSION_QUEUE_OUTSTANDING_DATA = 512,
+    PIGEON_RETRANSMISSION_QUEUE_FAST_RECOVERY = 1024,
+    PIGEON_RETRANSMISSION_QUEUE_NOT_EMPTY = 2048
+};
+uint32_t pigeon_handover_readiness(pigeon_socket *socket, uint32_t *readiness);
+
+/* Hands out the socket's record, by which another socket goes on in its place; this one closes, as PIGEON_ON_CLOSED says, and the peer gets
+ * nothing. `needed` becomes the record's length. PIGEON_NOT_READY: nothing changes. PIGEON_SHORT_BUFFER (and `needed` is handed out), PIGEON_NO_ROOM: the
+ * socket has closed, and its record stays for the next call, before any other. A packet of the association that is handed in meanwhile is
+ * refused with an error, and lost. */
+uint32_t pigeon_handover(pigeon_socket *socket, size_t *needed, uint8_t *buffer, size_t length);
+
+/* Takes up a record in a closed socket that was made with the same options, and sends what may be sent; PIGEON_ON_CONNECTED is emitted. Advance
+ * the time first, to the present: what is outstanding is dated back from the clock's moment. The retransmission timer starts with the next
+ * fragment that goes out, or with a SACK that leaves some in flight, and heartbeats with the next data: until then pigeon_poll_timeout may be
+ * UINT64_MAX. Thresholds of streams are the default again, and what the socket had queued is gone. Of a socket that was closed there is
+ * nothing to take up. PIGEON_NOT_CLOSED, PIGEON_INVALID_STATE, PIGEON_NO_ROOM: nothing changes. */
+uint32_t pigeon_restore(pigeon_socket *socket, const uint8_t *bytes, size_t length);
+
+/* ---- Streams. Above 65,535 each answers PIGEON_INVALID_STREAM. */
+
+/* Sets the priority of a stream, by which it is weighed where messages are interleaved (RFC 8260). */
+uint32_t pigeon_set_stream_priority(pigeon_socket *socket, uint32_t stream, uint16_t priority);
+/* Sets the amount in bytes at which PIGEON_BUFFERED_AMOUNT_LOW is emitted. */
+uint32_t pigeon_set_buffered_amount_low_threshold(pigeon_socket *socket, uint32_t stream, size_t bytes);
+/* Resets a stream, whose numbers then begin anew (RFC 6525): its messages of which nothing is sent are dropped, and no other one is sent
+ * until the peer has answered. PIGEON_NOT_CONNECTED, PIGEON_NOT_SUPPORTED: nothing changes. Advance the time first. */
+uint32_t pigeon_reset_stream(pigeon_socket *socket, uint32_t stream);
+/* Resets several streams by one request, where they fit. PIGEON_NO_ROOM: there is no memory for a copy of the list. An empty list only sends
+ * what may be sent. */
+uint32_t pigeon_reset_streams(pigeon_socket *socket, const uint16_t *streams, size_t count);
+
+/* ---- Messages */
+
+enum { PIGEON_UNORDERED = 1, PIGEON_LIFETIME = 2, PIGEON_MAX_RETRANSMISSIONS = 4 };
+
+/* How a message is sent. All zero is an ordered, reliable message. */
+typedef struct pigeon_send_options {
+    uint32_t flags;
+    uint32_t max_retransmissions; /* with PIGEON_MAX_RETRANSMISSIONS, at most 65,535 (RFC 7496 section 3.2) */
+    uint64_t lifetime;            /* with PIGEON_LIFETIME, in nanoseconds (RFC 3758 section 4.1) */
+    uint64_t lifecycle;           /* by which lifecycle events name the message; none at 0 */
+} pigeon_send_options;
+
+/* Queues a message, which is copied, and sends as much as may be sent. Advance the time first: lifetime, round trip and retransmission count
+ * from the clock's moment. A full queue emits an error at each call: offer no more until PIGEON_BUFFERED_AMOUNT_LOW of the stream, or
+ * PIGEON_TOTAL_BUFFERED_AMOUNT_LOW. A message that is refused isn't queued. PIGEON_INVALID_ARGUMENT: flags that there aren't, or a
+ * max_retransmissions above 65,535. PIGEON_NO_ROOM: there is no memory for the copy. */
+uint32_t pigeon_send(pigeon_socket *socket, uint32_t stream, uint32_t ppid, const uint8_t *payload, size_t length,
+                   const pigeon_send_options *options);
+
+/* A message to be sent. The payload stays C's: it is copied within the call. */
+typedef struct pigeon_outgoing {
+    uint32_t stream;
+    uint32_t ppid;
+    const uint8_t *payload; /* as a buffer: of a length of 0 it is PIGEON_EMPTY */
+    size_t length;
+} pigeon_outgoing;
+
+/* Queues copies of several messages, all by the same options, and sends then; advance the time first. The first `count` of the numbers at
+ * `answers` become what pigeon_send would answer for each; PIGEON_SOME_REFUSED where not all are PIGEON_OK, and the others are queued all the same.
+ * PIGEON_INVALID_ARGUMENT as of pigeon_send; PIGEON_SHORT_BUFFER: `answered` is less than `count`; PIGEON_INVALID_STREAM: a stream is above 65,535;
+ * PIGEON_NO_ROOM: no memory for the copies. After one of these four nothing is queued. */
+uint32_t pigeon_send_many(pigeon_socket *socket, const pigeon_outgoing *messages, size_t count, const pigeon_send_options *options,
+                        uint32_t *answers, size_t answered);
+
+typedef struct pigeon_message {
+    uint32_t stream;
+    uint32_t ppid;
+    size_t length;
+} pigeon_message;
+
+/* Hands out the message that was ready first. PIGEON_SHORT_BUFFER: it stays, and `length` says what it needs. Messages go with their
+ * association: once it has ended none is ready, so take them each turn. */
+uint32_t pigeon_next_message(pigeon_socket *socket, pigeon_message *message, uint8_t *buffer, size_t length);
+
+/* The same without a copy: the `length` bytes at `payload` are the socket's, and are lent until the next call with it. They are let go when
+ * the socket lends others, when it has none to lend (PIGEON_NOTHING), or when it is freed. */
+uint32_t pigeon_borrow_message(pigeon_socket *socket, pigeon_message *message, const uint8_t **payload);
+
+/* ---- Events */
+
+enum {
+    PIGEON_SEND_PACKET = 0, /* the buffer has a packet to be sent to the peer */
+    PIGEON_ON_CONNECTED = 1,
+    PIGEON_ON_CLOSED = 2,
+    PIGEON_ON_CONNECTION_RESTARTED = 3, /* messages may be lost (RFC 9260 section 5.2) */
+    PIGEON_ON_ABORTED = 4,              /* the socket was closed for `error`; the buffer has its text */
+    PIGEON_ON_ERROR = 5,                /* `error` closes nothing; the buffer has its text */
+    PIGEON_BUFFERED_AMOUNT_LOW = 6,     /* of `stream` */
+    PIGEON_TOTAL_BUFFERED_AMOUNT_LOW = 7,
+    PIGEON_STREAMS_RESET_FAILED = 8, /* of these three the buffer has the streams, two bytes each, the high one first */
+    PIGEON_STREAMS_RESET_PERFORMED = 9,
+    PIGEON_INCOMING_STREAM_RESET = 10, /* all, where none is named */
+    PIGEON_LIFECYCLE_FULLY_SENT = 11,  /* of the message with the number `lifecycle` */
+    PIGEON_LIFECYCLE_MAYBE_EXPIRED = 12,
+    PIGEON_LIFECYCLE_EXPIRED = 13,
+    PIGEON_LIFECYCLE_DELIVERED = 14,
+    PIGEON_LIFECYCLE_END = 15
+};
+
+enum {
+    PIGEON_TOO_MANY_RETRIES = 1,
+    PIGEON_ERROR_NOT_CONNECTED = 2,
+    PIGEON_PARSE_FAILED = 3,
+    PIGEON_WRONG_SEQUENCE = 4,
+    PIGEON_PEER_REPORTED = 5,
+    PIGEON_PROTOCOL_VIOLATION = 6,
+    PIGEON_ERROR_RESOURCE_EXHAUSTION = 7,
+    PIGEON_UNSUPPORTED_OPERATION = 8
+};
+
+typedef struct pigeon_event {
+    uint32_t kind;
+    uint32_t error;
+    uint32_t stream;
+    uint32_t unused;
+    uint64_t lifecycle;
+    size_t length; /* how many bytes it has, or needs */
+} pigeon_event;
+
+/* Hands out the event that was emitted first. Take all of them each turn: those that wait are kept, however many there are.
+ * PIGEON_SHORT_BUFFER: it stays, and `length` says what it needs; so does PIGEON_NO_ROOM, which events of streams alone answer. Packets need
+ * at most the options' mtu. */
+uint32_t pigeon_poll_event(pigeon_socket *socket, pigeon_event *event, uint8_t *buffer, size_t length);
+
+/* The same without a copy: the `length` bytes at `bytes` are the socket's, and are lent until the next call with it, as those of
+ * pigeon_borrow_message. PIGEON_NO_ROOM, which events of streams alone answer: the event stays. */
+uint32_t pigeon_borrow_event(pigeon_socket *socket, pigeon_event *event, const uint8_t **bytes);
+
+#ifdef __cplusplus
+}
+#endif
+
+#endif
