@@ -1,3 +1,4 @@
+/* SPDX-License-Identifier: Apache-2.0 */
 /* SCTP (RFC 9260) without system calls: the socket of the crate sctp_association for C.
  *
  * Packets, moments and messages are handed in; events, among them packets to send, are taken out. No function calls back, reads a

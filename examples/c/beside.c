@@ -1,3 +1,4 @@
+/* SPDX-License-Identifier: Apache-2.0 */
 /* One program with three stacks: this one, usrsctp, and the calls of Linux's. */
 #include <stdio.h>
 

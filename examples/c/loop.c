@@ -1,3 +1,4 @@
+/* SPDX-License-Identifier: Apache-2.0 */
 /* Two sockets over memory: messages cross, one socket is handed over to a third, and the association shuts down. */
 #include "shelfpigeon.h"
 #include <stdio.h>

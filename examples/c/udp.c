@@ -1,3 +1,4 @@
+/* SPDX-License-Identifier: Apache-2.0 */
 /* A chat over UDP on the loopback (UDP encapsulation as RFC 6951): `udp listen`, and in another terminal `udp connect`. Lines that are
  * typed go to the other end; the end of the input shuts the association down, once all has arrived. On a network that strangers reach
  * SCTP belongs under DTLS. */

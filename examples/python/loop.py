@@ -1,4 +1,5 @@
 #!/usr/bin/env python3
+# SPDX-License-Identifier: Apache-2.0
 """Two sockets over memory, by ctypes: python3 loop.py build/libshelfpigeon.so"""
 import ctypes as c
 import sys
