@@ -11,8 +11,8 @@
  *   - a pointer to a handle, a record or a number is not NULL, and points to one;
  *   - a buffer has as many bytes as its length says; one of length 0 may be anywhere but NULL (PIGEON_EMPTY serves);
  *   - a handle is in one call at a time, and only these functions change it. Different handles may be in calls of different threads at
- *     once, and a handle may move to another thread: the calls of the one come before those of the other, by a lock or a join. It begins as PIGEON_NO_HANDLE, and is not copied: of two
- *     copies only one may be freed;
+ *     once, and a handle may move to another thread: the calls of the one come before those of the other, by a lock or a join. It
+ *     begins as PIGEON_NO_HANDLE, and is not copied: of two copies only one may be freed;
  *   - bytes that a socket lends (pigeon_borrow_event, pigeon_borrow_message) are only read, and not after the next call with this socket has
  *     begun, so that they aren't handed to that call either;
  *   - malloc aligns as C demands. No call is made in a signal handler, or in a forked child of a process with threads.
