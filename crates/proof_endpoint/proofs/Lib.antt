@@ -47,7 +47,6 @@ pub mod SoundActsLemmas
 pub mod SoundReconfigLemmas
 pub mod SoundLawsLemmas
 pub mod SoundReceivedLemmas
-pub mod ArgumentLemmas
 mod SpendsLemmas
 mod QueueSpendsLemmas
 mod ItemSpendsLemmas

@@ -1,5 +1,5 @@
 -- What a sound end emits can be read back, and is received as what it put together; and it stays sound.
-use Rattle.std.specs.Prelude.{◌≡◌, ℕ, ◌+◌, ◌<◌, ◌≤◌, ◌^◌, ◌==◌, ◌||◌, not, true, Some, List, ◌++◌, length, All}
+use Rattle.std.specs.Prelude.{◌≡◌, ℕ, ◌+◌, ◌≤◌, ◌==◌, ◌||◌, not, true, Some, List, ◌++◌, length, All}
 use Rattle.rand_core.specs.Stream.{Stream}
 use Rattle.sctp_wire.specs.declared.checksum.Policy.{Policy}
 use Rattle.sctp_packet.specs.Grammar.{Each}
@@ -10,7 +10,7 @@ use Rattle.sctp_state.specs.Options.{Options}
 use Rattle.sctp_state.specs.Events.{Event, SendPacket}
 use Rattle.spec_endpoint.specs.Association.{Context, Endpoint, fresh, Packing}
 use Rattle.spec_endpoint.specs.Input.{packet_refusal, on_packet}
-use Rattle.spec_endpoint.specs.Wire.{writing}
+use Rattle.spec_endpoint.specs.Wire.{writing, AreBytes}
 use Rattle.spec_endpoint.specs.Receiving.{Receives}
 use Rattle.spec_endpoint.specs.Laws.{Call, ReceivePacket, called}
 use Rattle.proof_endpoint.specs.Mapped.{Carried, as_written}
@@ -129,9 +129,6 @@ EmittedPacketsCanBeReceived =
     → EmitsWhatCanBeReceived word_of s.endpoint_state.context (called call s).endpoint_state.context
 
 -- ---- packets fit as arguments
-
-abbrev pub AreBytes : List ℕ → Type 0
-AreBytes bytes = All (λ (b : ℕ). b < 2 ^ 8) bytes
 
 -- what a reader makes of bytes
 abbrev pub AcceptedPacketsFit : Type 0

@@ -10,7 +10,6 @@ ghost use Rattle.sctp_state.specs.declared.api.handover.HandoverOutgoingStream.{
 ghost use Rattle.sctp_state.specs.Options.{IsValid, options_of};
 ghost use Rattle.std.specs.Prelude.{ℕ, ◌<◌, ◌^◌, map};
 ghost use Rattle.proof_endpoint.specs.Sound.{FitsMessage, FitsRecord, FitsStreamMessage, OptionsFit};
-ghost use Rattle.proof_endpoint.specs.ReadBack.{AreBytes};
 
 use sctp_serial::{Message, StreamId};
 use sctp_state::Options;
@@ -62,11 +61,6 @@ pub fn streams_fit(streams: &[StreamId])
         a_stream_fits(stream);
     }
 }
-
-/// Bytes are below 256.
-pub fn bytes_fit(bytes: &[u8])
-    ensures fit { AreBytes bytes.now }
-{}
 
 /// A stream in a record of a handover fits.
 pub fn a_recorded_stream_fits(stream: &HandoverOutgoingStream)

@@ -1,7 +1,7 @@
 -- Two worlds along their runs: they show the same, since their traces are alike.
 use Rattle.std.proofs.Common.{◌≡◌, ℕ, Bool, false, List, [], ◌∷◌, ◌++◌, refl, sym, ap, subst, ◌∙◌, append_assoc, All}
 use Rattle.std.proofs.lemmas.List.Elements.{All-nil, All-head, All-tail}
-use Rattle.proof_endpoint.specs.ReadBack.{AreBytes}
+use Rattle.spec_endpoint.specs.Wire.{AreBytes}
 use Rattle.proof_pair.specs.Trace as traces
 use Rattle.proof_pair.specs.Trace.{Pair, EndAction, goes, run, NoAssociationHasEnded, AreValidOptions, start, MayAct}
 use Rattle.proof_pair.specs.Agreement.{Draw, AreDistinct}

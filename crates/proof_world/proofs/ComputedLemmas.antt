@@ -9,10 +9,9 @@ use Rattle.sctp_packet.specs.Chunk.{ChunkTree}
 use Rattle.sctp_packet.specs.Packet.{HeaderTree}
 use Rattle.sctp_state.specs.Options.{Options, defaults}
 use Rattle.spec_endpoint.specs.Laws as table
-use Rattle.spec_endpoint.specs.Wire.{field_of}
+use Rattle.spec_endpoint.specs.Wire.{field_of, AreBytes}
 use Rattle.proof_endpoint.specs.Mapped.{Carried}
 use Rattle.proof_endpoint.specs.Sound.{OptionsFit, FitsMessage}
-use Rattle.proof_endpoint.specs.ReadBack.{AreBytes}
 use Rattle.proof_pair.specs.Trace as traces
 use Rattle.proof_pair.specs.Trace.{Pair, EndAction, Calls, Gives, emitted_packets, goes}
 use Rattle.proof_pair.specs.Handing.{text}

@@ -4,8 +4,8 @@ use Rattle.std.specs.Prelude.{⊤}
 use Rattle.rand_core.specs.Stream.{Stream}
 use Rattle.spec_world.specs.Observations.{End, A, B, Entry}
 use Rattle.spec_world.specs.World.{World, Runs}
-use Rattle.spec_world.specs.FirstRun.{opening}
-use Rattle.spec_world.proofs.FirstRunLemmas.{opened, opened_then}
+use Rattle.proof_world.specs.FirstRun.{opening}
+use Rattle.proof_world.proofs.FirstRunLemmas.{opened, opened_then}
 use Rattle.proof_world.specs.Consistent.{MayFollow, WorldKeepsRules, times_ended, OpeningFollows}
 
 abbrev pub Each : World → (before log : List Entry) → Type 0

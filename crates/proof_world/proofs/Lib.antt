@@ -1,3 +1,6 @@
+pub mod MtuLemmas
+pub mod FirstRunLemmas
+pub mod CrossingLemmas
 pub mod ReadableLemmas
 pub mod EndedLemmas
 pub mod EventLemmas

@@ -13,10 +13,9 @@ use Rattle.sctp_state.specs.Events.{Event}
 use Rattle.spec_endpoint.specs.Association.{Endpoint}
 use Rattle.spec_endpoint.specs.Input.{packet_refusal, on_packet, on_no_packet}
 use Rattle.spec_endpoint.specs.Receiving.{Receives, read, not_read, policy_of}
-use Rattle.spec_endpoint.specs.Wire.{field_of, word_at}
+use Rattle.spec_endpoint.specs.Wire.{field_of, word_at, AreBytes}
 use Rattle.proof_endpoint.specs.Mapped.{Carried, as_written}
 use Rattle.proof_endpoint.specs.ReceivedBack.{IsReceivable, as_received}
-use Rattle.proof_endpoint.specs.ReadBack.{AreBytes}
 use Rattle.proof_endpoint.proofs.ReceivedBackLemmas.{is_accepted, length_written}
 use Rattle.proof_pair.specs.Trace as traces
 use Rattle.proof_pair.specs.Trace.{Pair, EndAction, Calls, Refuses, emitted_packets, give_carried, foreign_if, act, goes, run, start}

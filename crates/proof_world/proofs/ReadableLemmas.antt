@@ -13,12 +13,12 @@ use Rattle.spec_endpoint.specs.Input.{packet_refusal, on_packet}
 use Rattle.spec_endpoint.specs.Laws.{called}
 use Rattle.spec_endpoint.specs.Laws as table
 use Rattle.spec_endpoint.specs.Receiving.{Receives, read, not_read, Judges, taken, refused, unread, policy_of}
-use Rattle.spec_endpoint.specs.Wire.{writing, word_at}
+use Rattle.spec_endpoint.specs.Wire.{writing, word_at, AreBytes}
 use Rattle.proof_endpoint.proofs.LawsLemmas.{stays_within}
 use Rattle.proof_endpoint.specs.Mapped.{Carried, as_written}
 use Rattle.proof_endpoint.specs.ReceivedBack.{IsReceivable, as_received}
 use Rattle.proof_endpoint.specs.Sound.{OptionsFit, IsSound, ArgumentFits}
-use Rattle.proof_endpoint.specs.ReadBack.{ReadsBack, IsOfSuch, CanBeRead, EmitsWhatCanBeRead, AreBytes}
+use Rattle.proof_endpoint.specs.ReadBack.{ReadsBack, IsOfSuch, CanBeRead, EmitsWhatCanBeRead}
 use Rattle.proof_endpoint.proofs.ReceivedBackLemmas.{is_accepted}
 use Rattle.proof_endpoint.proofs.SoundLawsLemmas.{is_new, stays_sound, stays_sound_refused, can_be_read, can_be_read_refused}
 use Rattle.proof_endpoint.proofs.SoundReceivedLemmas.{emitted_fit}

@@ -9,7 +9,7 @@ use Rattle.spec_endpoint.specs.Association.{Tcb, Phase, Open}
 use Rattle.spec_endpoint.specs.Shown.{Association}
 use Rattle.spec_world.specs.Observations.{End, A, B, same_end, none_unless, mirrored, held, times_connected, Connect, Shutdown, Entry, Called, Given, EmittedEvent}
 use Rattle.spec_world.specs.World.{World, Runs, side_of, other}
-use Rattle.spec_world.specs.FirstRun.{opening, IsFresh}
+use Rattle.proof_world.specs.FirstRun.{opening, IsFresh}
 use Rattle.proof_world.specs.Traces.{IsReachable}
 
 -- ---- what was given

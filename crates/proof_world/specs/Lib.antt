@@ -1,3 +1,4 @@
+pub mod FirstRun
 pub mod Readable
 pub mod Ended
 pub mod Traces

@@ -5,11 +5,11 @@ use Rattle.sctp_wire.specs.declared.checksum.Policy.{Policy}
 use Rattle.sctp_packet.specs.Grammar.{Each}
 use Rattle.sctp_packet.specs.Packet.{PacketTree, Accepts, lets_through}
 use Rattle.sctp_state.specs.Options.{Options}
-use Rattle.spec_endpoint.specs.Wire.{writing, field_of}
+use Rattle.spec_endpoint.specs.Wire.{writing, field_of, AreBytes}
 use Rattle.proof_endpoint.specs.Mapped.{Carried, as_written}
 use Rattle.proof_endpoint.specs.ReceivedBack.{as_received}
 use Rattle.proof_endpoint.specs.Sound.{OptionsFit, IsSound, ArgumentFits}
-use Rattle.proof_endpoint.specs.ReadBack.{ReadsBack, AreBytes}
+use Rattle.proof_endpoint.specs.ReadBack.{ReadsBack}
 use Rattle.spec_world.specs.World.{Side, World, Action, CallOf, Give, GiveForeign, AdvanceTime, Happens, Runs, fresh_world, side_of, other, table_call}
 
 -- ---- packets

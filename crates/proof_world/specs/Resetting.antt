@@ -6,7 +6,7 @@ use Rattle.proof_pair.specs.Handing.{text}
 use Rattle.proof_delivery.specs.StreamEpochs.{all_open, performed_of, resets_emitted}
 use Rattle.spec_world.specs.Observations.{A, B, Send, Reset, accepted, ready}
 use Rattle.spec_world.specs.World.{World, Action, CallOf, Give}
-use Rattle.spec_world.specs.FirstRun.{opening}
+use Rattle.proof_world.specs.FirstRun.{opening}
 use Rattle.proof_world.specs.Traces.{IsReachable, initial_world}
 use Rattle.proof_world.specs.Consistent.{IsUndisturbed}
 use Rattle.proof_world.specs.Delivered.{message_epochs, emitted_events, WorldIsInBounds}

@@ -5,7 +5,7 @@ use Rattle.sctp_state.specs.Options.{plainly}
 use Rattle.proof_pair.specs.Handing.{text}
 use Rattle.spec_world.specs.Observations.{A, B, Send, accepted, ready}
 use Rattle.spec_world.specs.World.{World, Action, CallOf, Give, AdvanceTime, is_at_rest}
-use Rattle.spec_world.specs.FirstRun.{opening}
+use Rattle.proof_world.specs.FirstRun.{opening}
 use Rattle.proof_world.specs.Traces.{IsReachable, initial_world}
 use Rattle.proof_world.specs.Consistent.{IsUndisturbed}
 use Rattle.proof_world.specs.Delivered.{given_up_places, reported, WorldIsInBounds}

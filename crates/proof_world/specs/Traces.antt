@@ -7,10 +7,9 @@ use Rattle.sctp_state.specs.Options.{Options, IsValid}
 use Rattle.sctp_state.specs.Events.{nothing_emitted}
 use Rattle.spec_endpoint.specs.Laws as table
 use Rattle.spec_endpoint.specs.Receiving.{policy_of}
-use Rattle.spec_endpoint.specs.Wire.{field_of, word_at}
+use Rattle.spec_endpoint.specs.Wire.{field_of, word_at, AreBytes}
 use Rattle.proof_endpoint.specs.Mapped.{Carried, map_event, map_end, as_written, as_bytes}
 use Rattle.proof_endpoint.specs.Sound.{OptionsFit, ArgumentFits}
-use Rattle.proof_endpoint.specs.ReadBack.{AreBytes}
 use Rattle.proof_pair.specs.Trace as traces
 use Rattle.proof_pair.specs.Trace.{Pair, EndAction, Calls, Refuses, emitted_packets, goes, run, start}
 use Rattle.spec_world.specs.Observations.{End, A, B, same_end, none_unless, Entry, EmittedPacket, EmittedEvent}

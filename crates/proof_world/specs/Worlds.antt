@@ -5,7 +5,7 @@ use Rattle.rand_core.specs.Stream.{Stream}
 use Rattle.sctp_state.specs.Options.{Options}
 use Rattle.proof_endpoint.specs.Mapped.{as_written}
 use Rattle.proof_endpoint.specs.Sound.{OptionsFit}
-use Rattle.proof_endpoint.specs.ReadBack.{AreBytes}
+use Rattle.spec_endpoint.specs.Wire.{AreBytes}
 use Rattle.proof_pair.specs.Trace as traces
 use Rattle.proof_pair.specs.Trace.{Pair, EndAction, emitted_packets, run, start}
 use Rattle.spec_world.specs.World.{World, Action, GiveForeign, Runs, fresh_world}

@@ -9,7 +9,6 @@ mod input;
 mod socket;
 
 pub use api::DcSctpSocket;
-pub use proof_endpoint as laws;
 pub use sctp_endpoint::{
     Association, Context, CookieEchoedState, CookieWaitState, Identity, OutgoingPacket, Phase,
     ResetRequests, State, TransmissionControlBlock,

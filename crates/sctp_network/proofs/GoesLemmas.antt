@@ -9,10 +9,10 @@ use Rattle.sctp_network.specs.declared.world.WorldError.{WorldError}
 use Rattle.sctp_network.specs.declared.world.WorldError.TheVariants as errors
 use Rattle.spec_world.specs.Observations.{A, B, Connect, Send}
 use Rattle.spec_world.specs.World.{Action, CallOf, Give, World, Happens, Runs, IsDisabled, RunsUpToDisabled, fresh_world}
-use Rattle.spec_world.specs.FirstRun.{opening, crossing, acknowledging, first_run, CameBy, LeadsFirstRun, ContinuesFirstRun}
+use Rattle.proof_world.specs.FirstRun.{opening, crossing, acknowledging, first_run, CameBy, LeadsFirstRun, ContinuesFirstRun}
 use Rattle.spec_world.proofs.RunLemmas.{Runs_append}
-use Rattle.spec_world.proofs.FirstRunLemmas.{it_opens, first, second, third, fourth, opened, to_first, to_second, to_third, to_fourth, to_opened}
-use Rattle.spec_world.proofs.CrossingLemmas.{it_crosses, comes_to_rest, packets_sent, packet, sent_world, taken_world, to_sent, to_taken}
+use Rattle.proof_world.proofs.FirstRunLemmas.{it_opens, first, second, third, fourth, opened, to_first, to_second, to_third, to_fourth, to_opened}
+use Rattle.proof_world.proofs.CrossingLemmas.{it_crosses, comes_to_rest, packets_sent, packet, sent_world, taken_world, to_sent, to_taken}
 
 -- each event finds its packet, whatever came of those before
 abbrev Goes : List Action → World → Type 0

@@ -3,7 +3,7 @@ use Rattle.std.proofs.Common.{◌≡◌, ◌⊎◌, inl, inr, ℕ, Bool, true, f
 use Rattle.std.specs.Prelude.{All, Result, Ok, Err, OnOk, IfErr}
 use Rattle.std.proofs.lemmas.List.Elements.{All-append}
 use Rattle.sctp_packet.specs.Grammar.{Each}
-use Rattle.proof_endpoint.specs.ReadBack.{AreBytes}
+use Rattle.spec_endpoint.specs.Wire.{AreBytes}
 use Rattle.sctp_network.specs.declared.world.WorldError.{WorldError}
 use Rattle.sctp_network.specs.declared.world.WorldError.TheVariants as errors
 use Rattle.spec_world.specs.World.{World, Action}

@@ -7,7 +7,7 @@ use Rattle.rand_core.specs.Stream.{Stream}
 use Rattle.sctp_packet.specs.Grammar.{Each}
 use Rattle.sctp_state.specs.Options.{Options, IsValid}
 use Rattle.proof_endpoint.specs.Sound.{OptionsFit}
-use Rattle.proof_endpoint.specs.ReadBack.{AreBytes}
+use Rattle.spec_endpoint.specs.Wire.{AreBytes}
 use Rattle.sctp_network_side.specs.declared.log.Event.{Event}
 use Rattle.sctp_network.specs.declared.world.WorldError.{WorldError}
 use Rattle.sctp_network.specs.declared.world.WorldError.TheVariants as errors

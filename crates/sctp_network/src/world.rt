@@ -4,9 +4,9 @@ ghost use Rattle.std.specs.Prelude.{◌≡◌, List, ℕ, true, false, Some, Non
 ghost use Rattle.sctp_packet.specs.Grammar.{Each};
 ghost use Rattle.sctp_state.specs.Options.{IsValid, options_of};
 ghost use Rattle.sctp_network.specs.declared.world.WorldError.TheVariants.{Memory as no_memory};
-ghost use Rattle.proof_endpoint.specs.ReadBack.{AreBytes};
+ghost use Rattle.spec_endpoint.specs.Wire.{AreBytes};
 ghost use Rattle.spec_world.specs.World.{MeetsForeign, Happens, Runs, IsDisabled, RunsUpToDisabled, RunsUpToEnabled, AreShort, fresh_world, side_of, is_at_rest, TakesBytes, clock};
-ghost use Rattle.spec_world.specs.FirstRun.{LeadsFirstRun, ContinuesFirstRun};
+ghost use Rattle.proof_world.specs.FirstRun.{LeadsFirstRun, ContinuesFirstRun};
 ghost use Rattle.spec_world.specs.Observations.{Given};
 ghost use Rattle.proof_world.specs.Agreed.{WorldAgrees, EachEndDrawsDistinctTags};
 ghost use Rattle.proof_world.specs.Composed.{Composes};

@@ -3,7 +3,7 @@ use Rattle.std.proofs.Common.{◌≡◌, ℕ, ◌-◌, List, length, drop, map, 
 use Rattle.std.specs.List.{slice_range}
 use Rattle.std.proofs.lemmas.List.{take_all, drop-map, length-drop}
 use Rattle.sctp_packet.specs.Grammar.{Each}
-use Rattle.proof_endpoint.specs.ReadBack.{AreBytes}
+use Rattle.spec_endpoint.specs.Wire.{AreBytes}
 
 pub from_place : {X : Type 0} (f : X → List ℕ) (held xs part : List X) (first : ℕ) (packets : List (List ℕ)) → xs ≡ held → map f held ≡ packets
     → part ≡ slice_range xs first (length xs) → Each AreBytes (map f part) → Each AreBytes (drop first packets)

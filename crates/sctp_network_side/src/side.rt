@@ -6,7 +6,7 @@ ghost use Rattle.sctp_state.specs.Events.{event_of, given_up_of};
 ghost use Rattle.sctp_state.specs.Options.{IsValid, options_of};
 ghost use Rattle.spec_endpoint.specs.Calls.{ready_in};
 ghost use Rattle.spec_endpoint.specs.Shown.{association_in};
-ghost use Rattle.proof_endpoint.specs.ReadBack.{AreBytes};
+ghost use Rattle.spec_endpoint.specs.Wire.{AreBytes};
 ghost use Rattle.sctp_association.specs.Socket.{association_of, endpoint};
 ghost use Rattle.spec_world.specs.Observations.{Given, Foreign, GaveUp, same_association};
 ghost use Rattle.spec_world.specs.World as table;
@@ -15,7 +15,6 @@ ghost use Rattle.sctp_network_side.specs.SideView.{call_tree, end_tree, entry_tr
 
 use crate::calling::make_call;
 use crate::log::{Call, End, Entry, copy_of, copy_of_call};
-use proof_endpoint::arguments::bytes_fit;
 use rand_core::Rng;
 use sctp_association::{Association, DcSctpSocket, Socket};
 use sctp_serial::SocketTime;
@@ -252,6 +251,11 @@ impl<R: Rng, C: Checksum> Side<R, C> {
         }
     }
 }
+
+/// Bytes are below 256.
+fn bytes_fit(bytes: &[u8])
+    ensures fit { AreBytes bytes.now }
+{}
 
 /// Packets are bytes.
 fn packets_fit(packets: &[Vec<u8>])

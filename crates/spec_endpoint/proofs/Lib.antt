@@ -1,1 +1,2 @@
 pub mod SizeLemmas
+pub mod ArgumentLemmas

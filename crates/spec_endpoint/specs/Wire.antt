@@ -1,10 +1,13 @@
 -- Packets as bytes.
-use Rattle.std.specs.Prelude.{ℕ, ◌%◌, ◌^◌, Bool, true, false, List, take, drop}
+use Rattle.std.specs.Prelude.{ℕ, ◌<◌, ◌%◌, ◌^◌, Bool, true, false, List, take, drop, All}
 use Rattle.sctp_wire.specs.Checksum.{with_zero_field}
 use Rattle.sctp_packet.specs.Chunk.{ChunkTree}
 use Rattle.sctp_packet.specs.Written.{chunks_bytes}
 use Rattle.sctp_packet.specs.Packet.{HeaderTree, unsummed_bytes, packet_bytes}
 use Rattle.spec_endpoint.specs.Association.{Packing}
+
+abbrev pub AreBytes : List ℕ → Type 0
+AreBytes bytes = All (λ (b : ℕ). b < 2 ^ 8) bytes
 
 -- the 32 bits of a packet's word
 abbrev pub word_in : (word_of : List ℕ → ℕ) → HeaderTree → List ChunkTree → ℕ

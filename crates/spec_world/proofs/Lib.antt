@@ -1,4 +1,1 @@
 pub mod RunLemmas
-pub mod MtuLemmas
-pub mod FirstRunLemmas
-pub mod CrossingLemmas

@@ -1,3 +1,2 @@
 pub mod Observations
 pub mod World
-pub mod FirstRun

@@ -1,7 +1,7 @@
 use Rattle.sctp_packet.specs.Grammar.{FitsFragment}
 use Rattle.sctp_state.specs.Handover.{OutstandingData, outstanding_data_of}
 use Rattle.sctp_tx_outstanding.specs.Handover.{fragment_from}
-use Rattle.proof_endpoint.proofs.ArgumentLemmas.{seen_more, seen_all}
+use Rattle.spec_endpoint.proofs.ArgumentLemmas.{seen_more, seen_all}
 use Rattle.proof_endpoint.proofs.arguments.recorded_fragments_fit.Goals as goal
 
 pub loop-fragment-init : goal.loop-fragment-init

@@ -1,6 +1,6 @@
 use Rattle.sctp_state.specs.Handover.{stream_message_of}
 use Rattle.proof_endpoint.specs.Sound.{FitsStreamMessage}
-use Rattle.proof_endpoint.proofs.ArgumentLemmas.{seen_more, seen_all}
+use Rattle.spec_endpoint.proofs.ArgumentLemmas.{seen_more, seen_all}
 use Rattle.proof_endpoint.proofs.arguments.recorded_messages_fit.Goals as goal
 
 pub loop-message-init : goal.loop-message-init

@@ -1,6 +1,6 @@
 use Rattle.std.proofs.Common.{ℕ, ◌<◌, ◌^◌}
 use Rattle.sctp_state.specs.declared.api.handover.HandoverOutgoingStream.{HandoverOutgoingStream}
-use Rattle.proof_endpoint.proofs.ArgumentLemmas.{seen_at, seen_all, each_of_map}
+use Rattle.spec_endpoint.proofs.ArgumentLemmas.{seen_at, seen_all, each_of_map}
 use Rattle.proof_endpoint.proofs.arguments.recorded_streams_fit.Goals as goal
 
 pub loop-stream-init : goal.loop-stream-init

@@ -1,6 +1,6 @@
 use Rattle.std.proofs.Common.{ℕ, ◌<◌, ◌^◌}
 use Rattle.sctp_serial.specs.declared.api.StreamId.{StreamId}
-use Rattle.proof_endpoint.proofs.ArgumentLemmas.{seen_at, seen_all}
+use Rattle.spec_endpoint.proofs.ArgumentLemmas.{seen_at, seen_all}
 use Rattle.proof_endpoint.proofs.arguments.streams_fit.Goals as goal
 
 pub loop-stream-init : goal.loop-stream-init

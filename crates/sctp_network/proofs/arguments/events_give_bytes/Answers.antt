@@ -1,4 +1,4 @@
-use Rattle.proof_endpoint.proofs.ArgumentLemmas.{seen_more, seen_all}
+use Rattle.spec_endpoint.proofs.ArgumentLemmas.{seen_more, seen_all}
 use Rattle.sctp_network_side.specs.SideView.{action_of}
 use Rattle.sctp_network.specs.WorldView.{world_of}
 use Rattle.proof_world.specs.Readable.{GivesBytes}

@@ -2,7 +2,7 @@ use Rattle.std.proofs.Common.{map}
 use Rattle.std.proofs.lemmas.Result.{on_ok_weaker, IfErr-weaker}
 use Rattle.proof_delivery.proofs.LawLemmas.{delivered, refused_none, delivered_then}
 use Rattle.spec_world.specs.World.{World}
-use Rattle.spec_world.proofs.MtuLemmas.{runs_short}
+use Rattle.proof_world.proofs.MtuLemmas.{runs_short}
 use Rattle.proof_world.proofs.AgreedLemmas.{worlds_agree}
 use Rattle.proof_world.proofs.ComposedLemmas.{compose}
 use Rattle.sctp_network_side.specs.SideView.{action_of}

@@ -3,7 +3,7 @@ use Rattle.std.proofs.lemmas.Result.{on_ok_weaker, IfErr-weaker}
 use Rattle.std.proofs.lemmas.List.Elements.{All-nil, All-cons}
 use Rattle.proof_delivery.proofs.LawLemmas.{delivered, refused_none, delivered_then}
 use Rattle.spec_world.specs.World.{World}
-use Rattle.spec_world.proofs.MtuLemmas.{happens_short}
+use Rattle.proof_world.proofs.MtuLemmas.{happens_short}
 use Rattle.spec_world.proofs.RunLemmas.{runs_one}
 use Rattle.proof_world.specs.Traces.{ActionFits}
 use Rattle.proof_world.proofs.AgreedLemmas.{worlds_agree}

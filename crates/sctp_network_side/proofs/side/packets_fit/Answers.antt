@@ -1,6 +1,6 @@
 use Rattle.std.proofs.Common.{subst}
-use Rattle.proof_endpoint.specs.ReadBack.{AreBytes}
-use Rattle.proof_endpoint.proofs.ArgumentLemmas.{seen_more, seen_all}
+use Rattle.spec_endpoint.specs.Wire.{AreBytes}
+use Rattle.spec_endpoint.proofs.ArgumentLemmas.{seen_more, seen_all}
 use Rattle.sctp_network_side.proofs.side.packets_fit.Goals as goal
 
 pub loop-bytes-init : goal.loop-bytes-init

@@ -1,6 +1,6 @@
 use Rattle.std.proofs.Common.{map, take}
 use Rattle.sctp_packet.specs.Grammar.{Each}
-use Rattle.proof_endpoint.specs.ReadBack.{AreBytes}
+use Rattle.spec_endpoint.specs.Wire.{AreBytes}
 use Rattle.sctp_network_side.proofs.side.packets_fit.Given as goal
 
 abbrev pub invariant-loop-bytes : goal.invariant-loop-bytes

@@ -1,6 +1,6 @@
 use Rattle.std.proofs.lemmas.Result.{IfOk-weaker}
 use Rattle.sctp_state.specs.Options.{options_of}
-use Rattle.spec_world.proofs.MtuLemmas.{new_short}
+use Rattle.proof_world.proofs.MtuLemmas.{new_short}
 use Rattle.sctp_network.proofs.ReachableLemmas.{reachable_new}
 use Rattle.sctp_network.proofs.world.World.new.Goals as goal
 

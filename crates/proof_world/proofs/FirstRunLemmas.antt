@@ -16,8 +16,8 @@ use Rattle.proof_endpoint.proofs.OpeningRunLemmas.{waiting, answered, echoed, op
 use Rattle.proof_endpoint.proofs.RunPacketsLemmas.{leads_on}
 use Rattle.spec_world.specs.Observations.{A, B, same_association, Connect, Done, Entry, Called, Given, Associated, EmittedPacket, EmittedEvent}
 use Rattle.spec_world.specs.World.{Action, Side, World, Takes, Gives, Runs, record_news, take_emitted, news_of, clock, call_socket, associated_if, ready_entries, ready_before, fresh_side, fresh_world}
-use Rattle.spec_world.specs.FirstRun as first_run
-use Rattle.spec_world.specs.FirstRun.{IsOpen, IsFresh}
+use Rattle.proof_world.specs.FirstRun as first_run
+use Rattle.proof_world.specs.FirstRun.{IsOpen, IsFresh}
 use Rattle.sctp_serial.proofs.NumberLemmas.{is_itself}
 
 -- ---- a packet that is given

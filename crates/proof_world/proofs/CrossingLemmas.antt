@@ -17,8 +17,8 @@ use Rattle.proof_endpoint.proofs.RunPacketsLemmas.{leads_on}
 use Rattle.proof_endpoint.proofs.FirstRunLemmas.{it_rests}
 use Rattle.spec_world.specs.Observations.{A, B, Send, Sent, Entry, Called, Given, EmittedPacket, accepted, ready}
 use Rattle.spec_world.specs.World.{Action, World, Takes, Gives, Runs, record_news, call_socket, packets_in, emitted_entries, associated_if, ready_entries, ready_before, is_at_rest, fresh_world}
-use Rattle.spec_world.specs.FirstRun.{opening, crossing, acknowledging, IsFresh, HasCrossed}
-use Rattle.spec_world.proofs.FirstRunLemmas.{given_to_a, given_to_b, takes_on, same_self, pack, bytes_of, opened, opened_then, opened_log}
+use Rattle.proof_world.specs.FirstRun.{opening, crossing, acknowledging, IsFresh, HasCrossed}
+use Rattle.proof_world.proofs.FirstRunLemmas.{given_to_a, given_to_b, takes_on, same_self, pack, bytes_of, opened, opened_then, opened_log}
 
 -- what is emitted as a message is sent holds one packet
 pub packets_sent : (l : Option ℕ) (p : List ℕ) → packets_in (fully_sent l ++ SendPacket p ∷ []) ≡ p ∷ []
