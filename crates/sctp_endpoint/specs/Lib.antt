@@ -1,4 +1,3 @@
 pub mod RequestViews
 pub mod PacketView
 pub mod Views
-pub mod Lending

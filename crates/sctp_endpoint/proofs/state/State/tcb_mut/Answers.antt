@@ -1,6 +1,0 @@
-use Rattle.std.proofs.Common.{refl}
-use Rattle.sctp_endpoint.proofs.state.State.tcb_mut.Goals as goal
-
--- src/state.rt:75:5
-pub returns-in-Open : goal.returns-in-Open
-returns-in-Open c = rw c.in-Open.is (refl, record { writes_back = tt; value = refl })
