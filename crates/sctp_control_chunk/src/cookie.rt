@@ -1,16 +1,14 @@
 //! COOKIE ECHO and COOKIE ACK (RFC 9260 sections 3.3.11 and 3.3.12).
 
-ghost use Rattle.std.specs.Prelude.{true, IfOk, IfErr};
-ghost use Rattle.sctp_chunk.specs.Written.{chunk_item};
+ghost use Rattle.std.specs.Prelude.{IfOk, IfErr, Some};
 ghost use Rattle.sctp_chunk.specs.Grammar.{IsChunk, RefusesChunkAs};
 ghost use Rattle.sctp_chunk.specs.Views.{raw_chunk};
 ghost use Rattle.sctp_control_chunk.specs.Views.{cookie_echo_tree, cookie_ack_tree};
-ghost use Rattle.std.specs.Prelude.{Some};
 ghost use Rattle.sctp_chunk.specs.ChunkText.{chunk_text};
 
 use sctp_chunk::RawChunk;
-use sctp_wire::{ChunkParseError, SerializableTlv, ends_here};
-use std::alloc::{AllocError, Global};
+use sctp_wire::{ChunkParseError, ends_here};
+use std::alloc::Global;
 use std::fmt;
 
 /// The cookie of an INIT ACK, sent back.
@@ -38,29 +36,6 @@ impl CookieEchoChunk {
     }
 }
 
-#[tactic(auto, unfolding(sctp_chunk::specs::Written::chunk_value))]
-impl SerializableTlv for CookieEchoChunk {
-    ghost item_of = { λ c. chunk_item (cookie_echo_tree c) };
-
-    ghost parts_agree = { λ c. true };
-
-    fn kind(&self) -> [u8; 2] {
-        [Self::TYPE, 0]
-    }
-
-    fn value_size(&self) -> usize {
-        self.cookie.len()
-    }
-
-    fn is_whole(&self) -> bool {
-        true
-    }
-
-    fn push_value(&self, output: &mut Vec<u8>) -> Result<(), AllocError> {
-        output.extend_from_slice(&self.cookie)
-    }
-}
-
 /// The cookie was taken.
 #[derive(Clone, Copy, Debug)]
 pub struct CookieAckChunk {}
@@ -74,32 +49,8 @@ impl CookieAckChunk {
         ensures ok { IfOk result (λ c. IsChunk (raw_chunk raw.entry) (cookie_ack_tree c)) }
         ensures refused { IfErr result (RefusesChunkAs 11 (raw_chunk raw.entry)) }
     {
-        let value = raw.value_as(Self::TYPE)?;
-        ends_here(value)?;
+        ends_here(raw.value_as(Self::TYPE)?)?;
         Ok(CookieAckChunk {})
-    }
-}
-
-#[tactic(auto, unfolding(sctp_chunk::specs::Written::chunk_value))]
-impl SerializableTlv for CookieAckChunk {
-    ghost item_of = { λ c. chunk_item (cookie_ack_tree c) };
-
-    ghost parts_agree = { λ c. true };
-
-    fn kind(&self) -> [u8; 2] {
-        [Self::TYPE, 0]
-    }
-
-    fn value_size(&self) -> usize {
-        0
-    }
-
-    fn is_whole(&self) -> bool {
-        true
-    }
-
-    fn push_value(&self, _output: &mut Vec<u8>) -> Result<(), AllocError> {
-        Ok(())
     }
 }
 

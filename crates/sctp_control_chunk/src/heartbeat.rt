@@ -1,18 +1,15 @@
 //! HEARTBEAT and HEARTBEAT ACK (RFC 9260 sections 3.3.5 and 3.3.6).
 
-ghost use Rattle.std.specs.Prelude.{IfOk, IfErr};
-ghost use Rattle.sctp_chunk.specs.Written.{chunk_item, chunk_is_whole};
+ghost use Rattle.std.specs.Prelude.{IfOk, IfErr, Some};
 ghost use Rattle.sctp_chunk.specs.Grammar.{IsChunk, RefusesChunkAs};
 ghost use Rattle.sctp_chunk.specs.Views.{raw_chunk};
 ghost use Rattle.sctp_control_chunk.specs.Views.{heartbeat_request_tree, heartbeat_ack_tree};
-ghost use Rattle.std.specs.Prelude.{Some};
 ghost use Rattle.sctp_chunk.specs.ChunkText.{chunk_text};
 
-use crate::inner::{are_whole, parameters_size, push_parameters};
 use sctp_chunk::RawChunk;
 use sctp_parameter::{Parameter, parameters_from_bytes};
-use sctp_wire::{ChunkParseError, SerializableTlv};
-use std::alloc::{AllocError, Global};
+use sctp_wire::ChunkParseError;
+use std::alloc::Global;
 use std::fmt;
 
 /// A request to send the parameters back.
@@ -41,29 +38,6 @@ impl HeartbeatRequestChunk {
     }
 }
 
-#[tactic(auto, unfolding(sctp_chunk::specs::Written::chunk_value))]
-impl SerializableTlv for HeartbeatRequestChunk {
-    ghost item_of = { λ c. chunk_item (heartbeat_request_tree c) };
-
-    ghost parts_agree = { λ c. chunk_is_whole (heartbeat_request_tree c) };
-
-    fn kind(&self) -> [u8; 2] {
-        [Self::TYPE, 0]
-    }
-
-    fn value_size(&self) -> usize {
-        parameters_size(&self.parameters)
-    }
-
-    fn is_whole(&self) -> bool {
-        are_whole(&self.parameters)
-    }
-
-    fn push_value(&self, output: &mut Vec<u8>) -> Result<(), AllocError> {
-        push_parameters(&self.parameters, output)
-    }
-}
-
 /// The parameters of a HEARTBEAT, sent back.
 #[derive(Debug, Drop)]
 pub struct HeartbeatAckChunk {
@@ -84,29 +58,6 @@ impl HeartbeatAckChunk {
         Ok(HeartbeatAckChunk {
             parameters: parameters_from_bytes(alloc, value)?,
         })
-    }
-}
-
-#[tactic(auto, unfolding(sctp_chunk::specs::Written::chunk_value))]
-impl SerializableTlv for HeartbeatAckChunk {
-    ghost item_of = { λ c. chunk_item (heartbeat_ack_tree c) };
-
-    ghost parts_agree = { λ c. chunk_is_whole (heartbeat_ack_tree c) };
-
-    fn kind(&self) -> [u8; 2] {
-        [Self::TYPE, 0]
-    }
-
-    fn value_size(&self) -> usize {
-        parameters_size(&self.parameters)
-    }
-
-    fn is_whole(&self) -> bool {
-        are_whole(&self.parameters)
-    }
-
-    fn push_value(&self, output: &mut Vec<u8>) -> Result<(), AllocError> {
-        push_parameters(&self.parameters, output)
     }
 }
 

@@ -1,27 +1,29 @@
 //! INIT and INIT ACK (RFC 9260 sections 3.3.2 and 3.3.3).
 
-ghost use Rattle.std.specs.Prelude.{◌≡◌, ◌<◌, ◌≤◌, ◌++◌, length, drop, IfOk, IfErr, OnOk, OnErr};
+ghost use Rattle.std.specs.Prelude.{◌≡◌, ◌+◌, ◌^◌, ◌<◌, ◌≤◌, ◌++◌, true, length, map, drop, IfOk, IfErr, OnOk, OnErr, Some};
+ghost use Rattle.std.specs.List.{list_all};
 ghost use Rattle.sctp_wire.specs.Room.{Fills};
-ghost use Rattle.sctp_chunk.specs.Written.{chunk_item, chunk_is_whole};
-ghost use Rattle.sctp_chunk.specs.Grammar.{IsChunk, RefusesChunkAs};
+ghost use Rattle.sctp_wire.specs.Serialize.{inner_items};
+ghost use Rattle.sctp_wire.specs.Parameter.{parameter_item, parameter_is_whole};
+ghost use Rattle.sctp_parameter.specs.ParameterViews.{parameter_tree};
 ghost use Rattle.sctp_chunk.specs.Written.{init_fields};
+ghost use Rattle.sctp_chunk.specs.Grammar.{IsChunk, RefusesChunkAs};
 ghost use Rattle.sctp_chunk.specs.Views.{raw_chunk};
 ghost use Rattle.sctp_control_chunk.specs.Views.{init_chunk_tree, init_ack_chunk_tree, init_tree, init_ack_tree};
 ghost use Rattle.sctp_control_chunk.specs.InitFront.{init_front, FitsFront};
-ghost use Rattle.std.specs.Prelude.{Some};
 ghost use Rattle.sctp_chunk.specs.ChunkText.{chunk_text};
 
-use crate::inner::{are_whole, parameters_size, push_parameters};
+use crate::inner::push_parameters;
 use sctp_chunk::RawChunk;
 use sctp_parameter::{Parameter, parameters_from_bytes};
 use sctp_serial::Tsn;
-use sctp_wire::{ChunkParseError, SerializableTlv, first_u16, first_u32, push_u16, push_u32};
+use sctp_wire::{ChunkParseError, first_u16, first_u32, push_u16, push_u32};
 use std::alloc::{AllocError, Global};
 use std::fmt;
 
 /// The fields that both begin with.
 #[derive(Clone, Copy)]
-struct InitFields {
+pub struct InitFields {
     initiate_tag: u32,
     a_rwnd: u32,
     nbr_outbound_streams: u16,
@@ -60,7 +62,8 @@ impl InitFields {
         ))
     }
 
-    fn push_to(self, output: &mut Vec<u8>) -> Result<(), AllocError>
+    /// Appends them.
+    pub fn push_to(self, output: &mut Vec<u8>) -> Result<(), AllocError>
         ensures wrote { OnOk result (output.new.items ≡ output.old.items ++ init_front self) }
         ensures room { Fills output.old output.new 16 result }
     {
@@ -70,6 +73,21 @@ impl InitFields {
         push_u16(output, self.nbr_inbound_streams)?;
         push_u32(output, self.initial_tsn.0)
     }
+}
+
+/// Appends the value of an INIT or an INIT ACK.
+pub fn push_init(
+    fields: InitFields,
+    parameters: &[Parameter],
+    output: &mut Vec<u8>,
+) -> Result<(), AllocError>
+    requires fits { 20 + length (inner_items (map parameter_item (map parameter_tree parameters.now))) < 2 ^ 16 }
+    requires whole { list_all parameter_is_whole (map parameter_tree parameters.now) ≡ true }
+    ensures wrote { OnOk result (output.new.items ≡ output.old.items ++ (init_front fields ++ inner_items (map parameter_item (map parameter_tree parameters.now)))) }
+    ensures room { Fills output.old output.new (16 + length (inner_items (map parameter_item (map parameter_tree parameters.now)))) result }
+{
+    fields.push_to(output)?;
+    push_parameters(parameters, output)
 }
 
 /// A request for an association.
@@ -107,7 +125,8 @@ impl InitChunk {
         })
     }
 
-    fn fields(&self) -> InitFields
+    /// The fields in front of its parameters.
+    pub fn fields(&self) -> InitFields
         ensures { init_front result ≡ init_fields (init_tree self.now) }
     {
         InitFields {
@@ -117,32 +136,6 @@ impl InitChunk {
             nbr_inbound_streams: self.nbr_inbound_streams,
             initial_tsn: self.initial_tsn,
         }
-    }
-}
-
-#[tactic(auto, unfolding(sctp_chunk::specs::Written::chunk_value))]
-impl SerializableTlv for InitChunk {
-    ghost item_of = { λ c. chunk_item (init_chunk_tree c) };
-
-    ghost parts_agree = { λ c. chunk_is_whole (init_chunk_tree c) };
-
-    fn kind(&self) -> [u8; 2] {
-        [Self::TYPE, 0]
-    }
-
-    #[tactic(auto, using(sctp_chunk::proofs::ValueLemmas::length_init))]
-    fn value_size(&self) -> usize {
-        parameters_size(&self.parameters).saturating_add(16)
-    }
-
-    fn is_whole(&self) -> bool {
-        are_whole(&self.parameters)
-    }
-
-    #[tactic(auto, using(sctp_chunk::proofs::ValueLemmas::length_init))]
-    fn push_value(&self, output: &mut Vec<u8>) -> Result<(), AllocError> {
-        self.fields().push_to(output)?;
-        push_parameters(&self.parameters, output)
     }
 }
 
@@ -181,7 +174,8 @@ impl InitAckChunk {
         })
     }
 
-    fn fields(&self) -> InitFields
+    /// The fields in front of its parameters.
+    pub fn fields(&self) -> InitFields
         ensures { init_front result ≡ init_fields (init_ack_tree self.now) }
     {
         InitFields {
@@ -191,32 +185,6 @@ impl InitAckChunk {
             nbr_inbound_streams: self.nbr_inbound_streams,
             initial_tsn: self.initial_tsn,
         }
-    }
-}
-
-#[tactic(auto, unfolding(sctp_chunk::specs::Written::chunk_value))]
-impl SerializableTlv for InitAckChunk {
-    ghost item_of = { λ c. chunk_item (init_ack_chunk_tree c) };
-
-    ghost parts_agree = { λ c. chunk_is_whole (init_ack_chunk_tree c) };
-
-    fn kind(&self) -> [u8; 2] {
-        [Self::TYPE, 0]
-    }
-
-    #[tactic(auto, using(sctp_chunk::proofs::ValueLemmas::length_init_ack))]
-    fn value_size(&self) -> usize {
-        parameters_size(&self.parameters).saturating_add(16)
-    }
-
-    fn is_whole(&self) -> bool {
-        are_whole(&self.parameters)
-    }
-
-    #[tactic(auto, using(sctp_chunk::proofs::ValueLemmas::length_init_ack))]
-    fn push_value(&self, output: &mut Vec<u8>) -> Result<(), AllocError> {
-        self.fields().push_to(output)?;
-        push_parameters(&self.parameters, output)
     }
 }
 

@@ -1,18 +1,15 @@
 //! RE-CONFIG (RFC 6525 section 3.1).
 
-ghost use Rattle.std.specs.Prelude.{IfOk, IfErr};
-ghost use Rattle.sctp_chunk.specs.Written.{chunk_item, chunk_is_whole};
+ghost use Rattle.std.specs.Prelude.{IfOk, IfErr, Some};
 ghost use Rattle.sctp_chunk.specs.Grammar.{IsChunk, RefusesChunkAs};
 ghost use Rattle.sctp_chunk.specs.Views.{raw_chunk};
 ghost use Rattle.sctp_control_chunk.specs.Views.{re_config_tree};
-ghost use Rattle.std.specs.Prelude.{Some};
 ghost use Rattle.sctp_chunk.specs.ChunkText.{chunk_text};
 
-use crate::inner::{are_whole, parameters_size, push_parameters};
 use sctp_chunk::RawChunk;
 use sctp_parameter::{Parameter, parameters_from_bytes};
-use sctp_wire::{ChunkParseError, SerializableTlv};
-use std::alloc::{AllocError, Global};
+use sctp_wire::ChunkParseError;
+use std::alloc::Global;
 use std::fmt;
 
 /// Requests that streams begin anew, and answers.
@@ -35,29 +32,6 @@ impl ReConfigChunk {
         Ok(ReConfigChunk {
             parameters: parameters_from_bytes(alloc, value)?,
         })
-    }
-}
-
-#[tactic(auto, unfolding(sctp_chunk::specs::Written::chunk_value))]
-impl SerializableTlv for ReConfigChunk {
-    ghost item_of = { λ c. chunk_item (re_config_tree c) };
-
-    ghost parts_agree = { λ c. chunk_is_whole (re_config_tree c) };
-
-    fn kind(&self) -> [u8; 2] {
-        [Self::TYPE, 0]
-    }
-
-    fn value_size(&self) -> usize {
-        parameters_size(&self.parameters)
-    }
-
-    fn is_whole(&self) -> bool {
-        are_whole(&self.parameters)
-    }
-
-    fn push_value(&self, output: &mut Vec<u8>) -> Result<(), AllocError> {
-        push_parameters(&self.parameters, output)
     }
 }
 

@@ -1,18 +1,15 @@
 //! Chunks of no known type.
 
-ghost use Rattle.std.specs.Prelude.{◌≡◌, true, IfOk, IfErr};
-ghost use Rattle.sctp_chunk.specs.Written.{chunk_item};
+ghost use Rattle.std.specs.Prelude.{◌≡◌, false, IfOk, IfErr, Some};
+ghost use Rattle.sctp_chunk.specs.Written.{chunk_item, is_known_chunk};
 ghost use Rattle.sctp_chunk.specs.Grammar.{IsChunk};
-ghost use Rattle.std.specs.Prelude.{false};
-ghost use Rattle.sctp_chunk.specs.Written.{is_known_chunk};
 ghost use Rattle.sctp_chunk.specs.Views.{raw_chunk};
 ghost use Rattle.sctp_control_chunk.specs.Views.{unknown_tree};
-ghost use Rattle.std.specs.Prelude.{Some};
 ghost use Rattle.sctp_chunk.specs.ChunkText.{chunk_text};
 
 use sctp_chunk::RawChunk;
-use sctp_wire::{ChunkParseError, SerializableTlv};
-use std::alloc::{AllocError, Global};
+use sctp_wire::ChunkParseError;
+use std::alloc::Global;
 use std::fmt;
 
 /// A chunk that is kept as it came.
@@ -36,29 +33,6 @@ impl UnknownChunk {
             flags: raw.flags,
             value: Vec::from_slice(alloc, raw.value)?,
         })
-    }
-}
-
-#[tactic(auto, unfolding(sctp_chunk::specs::Written::chunk_value))]
-impl SerializableTlv for UnknownChunk {
-    ghost item_of = { λ c. chunk_item (unknown_tree c) };
-
-    ghost parts_agree = { λ c. true };
-
-    fn kind(&self) -> [u8; 2] {
-        [self.typ, self.flags]
-    }
-
-    fn value_size(&self) -> usize {
-        self.value.len()
-    }
-
-    fn is_whole(&self) -> bool {
-        true
-    }
-
-    fn push_value(&self, output: &mut Vec<u8>) -> Result<(), AllocError> {
-        output.extend_from_slice(&self.value)
     }
 }
 
