@@ -19,7 +19,9 @@ use crate::re_config::ReConfigChunk;
 use crate::shutdown::{ShutdownAckChunk, ShutdownChunk, ShutdownCompleteChunk};
 use crate::unknown::UnknownChunk;
 use sctp_chunk::{DataChunk, ForwardTsnChunk, IDataChunk, IForwardTsnChunk, RawChunk, SackChunk};
-use sctp_wire::{CheckItem, ChunkParseError, FromItem, RawItem, SerializableTlv, push_u32};
+use sctp_wire::{
+    CheckItem, ChunkParseError, FromItem, RawItem, SerializableTlv, push_u32, read_by_type,
+};
 use std::alloc::{AllocError, Global};
 use std::fmt;
 
@@ -47,48 +49,32 @@ pub enum Chunk {
     Unknown(UnknownChunk),
 }
 
-/// The chunk as its variant, or its reader's fault.
-macro_rules! read_as {
-    ($variant:ident, $read:expr) => {
-        match $read {
-            Ok(chunk) => Ok(Chunk::$variant(chunk)),
-            Err(fault) => Err(fault),
-        }
-    };
-}
-
 impl Chunk {
     /// What the chunk says, by its type.
     pub fn try_from(alloc: Global, raw: RawChunk<'_>) -> Result<Chunk, ChunkParseError>
         ensures ok { IfOk result (λ c. IsChunk (raw_chunk raw.entry) (chunk_tree c)) }
         ensures refused { IfErr result (RefusesChunk (raw_chunk raw.entry)) }
     {
-        match raw.typ {
-            0 => read_as!(Data, DataChunk::try_from(alloc, raw)),
-            1 => read_as!(Init, InitChunk::try_from(alloc, raw)),
-            2 => read_as!(InitAck, InitAckChunk::try_from(alloc, raw)),
-            3 => read_as!(Sack, SackChunk::try_from(alloc, raw)),
-            4 => read_as!(
-                HeartbeatRequest,
-                HeartbeatRequestChunk::try_from(alloc, raw)
-            ),
-            5 => read_as!(HeartbeatAck, HeartbeatAckChunk::try_from(alloc, raw)),
-            6 => read_as!(Abort, AbortChunk::try_from(alloc, raw)),
-            7 => read_as!(Shutdown, ShutdownChunk::try_from(alloc, raw)),
-            8 => read_as!(ShutdownAck, ShutdownAckChunk::try_from(alloc, raw)),
-            9 => read_as!(Error, ErrorChunk::try_from(alloc, raw)),
-            10 => read_as!(CookieEcho, CookieEchoChunk::try_from(alloc, raw)),
-            11 => read_as!(CookieAck, CookieAckChunk::try_from(alloc, raw)),
-            14 => read_as!(
-                ShutdownComplete,
-                ShutdownCompleteChunk::try_from(alloc, raw)
-            ),
-            64 => read_as!(IData, IDataChunk::try_from(alloc, raw)),
-            130 => read_as!(ReConfig, ReConfigChunk::try_from(alloc, raw)),
-            192 => read_as!(ForwardTsn, ForwardTsnChunk::try_from(alloc, raw)),
-            194 => read_as!(IForwardTsn, IForwardTsnChunk::try_from(alloc, raw)),
-            _ => read_as!(Unknown, UnknownChunk::try_from(alloc, raw)),
-        }
+        read_by_type!(Chunk, alloc, raw,
+            DataChunk::TYPE => Data(DataChunk),
+            InitChunk::TYPE => Init(InitChunk),
+            InitAckChunk::TYPE => InitAck(InitAckChunk),
+            SackChunk::TYPE => Sack(SackChunk),
+            HeartbeatRequestChunk::TYPE => HeartbeatRequest(HeartbeatRequestChunk),
+            HeartbeatAckChunk::TYPE => HeartbeatAck(HeartbeatAckChunk),
+            AbortChunk::TYPE => Abort(AbortChunk),
+            ShutdownChunk::TYPE => Shutdown(ShutdownChunk),
+            ShutdownAckChunk::TYPE => ShutdownAck(ShutdownAckChunk),
+            ErrorChunk::TYPE => Error(ErrorChunk),
+            CookieEchoChunk::TYPE => CookieEcho(CookieEchoChunk),
+            CookieAckChunk::TYPE => CookieAck(CookieAckChunk),
+            ShutdownCompleteChunk::TYPE => ShutdownComplete(ShutdownCompleteChunk),
+            IDataChunk::TYPE => IData(IDataChunk),
+            ReConfigChunk::TYPE => ReConfig(ReConfigChunk),
+            ForwardTsnChunk::TYPE => ForwardTsn(ForwardTsnChunk),
+            IForwardTsnChunk::TYPE => IForwardTsn(IForwardTsnChunk),
+            _ => Unknown(UnknownChunk),
+        )
     }
 
     /// Whether a chunk says something. It has the faults of `try_from`, but for want of memory, since it builds nothing.

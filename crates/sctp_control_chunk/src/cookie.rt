@@ -1,4 +1,5 @@
 //! COOKIE ECHO and COOKIE ACK (RFC 9260 sections 3.3.11 and 3.3.12).
+#![tactic(auto, unfolding(sctp_chunk::specs::ChunkText::chunk_text))]
 
 ghost use Rattle.std.specs.Prelude.{IfOk, IfErr, Some};
 ghost use Rattle.sctp_chunk.specs.Grammar.{IsChunk, RefusesChunkAs};
@@ -17,12 +18,11 @@ pub struct CookieEchoChunk {
     pub cookie: Vec<u8>,
 }
 
-#[tactic(auto)]
 impl CookieEchoChunk {
     pub const TYPE: u8 = 10;
 
     /// What the chunk says; `InvalidType` where it is of another type, `InvalidLength` where there is no cookie.
-    pub fn try_from(alloc: Global, raw: RawChunk<'_>) -> Result<CookieEchoChunk, ChunkParseError>
+    pub fn try_from(alloc: Global, raw: RawChunk<'_>) -> Result<Self, ChunkParseError>
         ensures ok { IfOk result (λ c. IsChunk (raw_chunk raw.entry) (cookie_echo_tree c)) }
         ensures refused { IfErr result (RefusesChunkAs 10 (raw_chunk raw.entry)) }
     {
@@ -30,7 +30,7 @@ impl CookieEchoChunk {
         if value.is_empty() {
             return Err(ChunkParseError::InvalidLength);
         }
-        Ok(CookieEchoChunk {
+        Ok(Self {
             cookie: Vec::from_slice(alloc, value)?,
         })
     }
@@ -40,21 +40,19 @@ impl CookieEchoChunk {
 #[derive(Clone, Copy, Debug)]
 pub struct CookieAckChunk {}
 
-#[tactic(auto)]
 impl CookieAckChunk {
     pub const TYPE: u8 = 11;
 
     /// What the chunk says; `InvalidType` where it is of another type, `InvalidLength` where it has a value.
-    pub fn try_from(_alloc: Global, raw: RawChunk<'_>) -> Result<CookieAckChunk, ChunkParseError>
+    pub fn try_from(_alloc: Global, raw: RawChunk<'_>) -> Result<Self, ChunkParseError>
         ensures ok { IfOk result (λ c. IsChunk (raw_chunk raw.entry) (cookie_ack_tree c)) }
         ensures refused { IfErr result (RefusesChunkAs 11 (raw_chunk raw.entry)) }
     {
         ends_here(raw.value_as(Self::TYPE)?)?;
-        Ok(CookieAckChunk {})
+        Ok(Self {})
     }
 }
 
-#[tactic(auto, unfolding(sctp_chunk::specs::ChunkText::chunk_text))]
 impl fmt::Display for CookieEchoChunk {
     ghost output = { λ c. Some (chunk_text (cookie_echo_tree c)) };
 
@@ -63,7 +61,6 @@ impl fmt::Display for CookieEchoChunk {
     }
 }
 
-#[tactic(auto, unfolding(sctp_chunk::specs::ChunkText::chunk_text))]
 impl fmt::Display for CookieAckChunk {
     ghost output = { λ c. Some (chunk_text (cookie_ack_tree c)) };
 

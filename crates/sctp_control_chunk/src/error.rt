@@ -1,4 +1,5 @@
 //! ABORT and ERROR (RFC 9260 sections 3.3.7 and 3.3.10).
+#![tactic(auto, unfolding(sctp_chunk::specs::ChunkText::chunk_text))]
 
 ghost use Rattle.std.specs.Prelude.{IfOk, IfErr, Some};
 ghost use Rattle.sctp_chunk.specs.Grammar.{IsChunk, RefusesChunkAs};
@@ -26,12 +27,12 @@ impl AbortChunk {
 
     /// What the chunk says; `InvalidType` where it is of another type, else the fault of its first cause that cannot be
     /// read.
-    pub fn try_from(alloc: Global, raw: RawChunk<'_>) -> Result<AbortChunk, ChunkParseError>
+    pub fn try_from(alloc: Global, raw: RawChunk<'_>) -> Result<Self, ChunkParseError>
         ensures ok { IfOk result (λ c. IsChunk (raw_chunk raw.entry) (abort_tree c)) }
         ensures refused { IfErr result (RefusesChunkAs 6 (raw_chunk raw.entry)) }
     {
         let value = raw.value_as(Self::TYPE)?;
-        Ok(AbortChunk {
+        Ok(Self {
             tag_reflected: is_reflected(raw.flags),
             error_causes: error_cause_from_bytes(alloc, value)?,
         })
@@ -49,18 +50,15 @@ impl ErrorChunk {
 
     /// What the chunk says; `InvalidType` where it is of another type, else the fault of its first cause that cannot be
     /// read.
-    pub fn try_from(alloc: Global, raw: RawChunk<'_>) -> Result<ErrorChunk, ChunkParseError>
+    pub fn try_from(alloc: Global, raw: RawChunk<'_>) -> Result<Self, ChunkParseError>
         ensures ok { IfOk result (λ c. IsChunk (raw_chunk raw.entry) (error_tree c)) }
         ensures refused { IfErr result (RefusesChunkAs 9 (raw_chunk raw.entry)) }
     {
-        let value = raw.value_as(Self::TYPE)?;
-        Ok(ErrorChunk {
-            error_causes: error_cause_from_bytes(alloc, value)?,
-        })
+        let error_causes = error_cause_from_bytes(alloc, raw.value_as(Self::TYPE)?)?;
+        Ok(Self { error_causes })
     }
 }
 
-#[tactic(auto, unfolding(sctp_chunk::specs::ChunkText::chunk_text))]
 impl fmt::Display for AbortChunk {
     ghost output = { λ c. Some (chunk_text (abort_tree c)) };
 
@@ -74,7 +72,6 @@ impl fmt::Display for AbortChunk {
     }
 }
 
-#[tactic(auto, unfolding(sctp_chunk::specs::ChunkText::chunk_text))]
 impl fmt::Display for ErrorChunk {
     ghost output = { λ c. Some (chunk_text (error_tree c)) };
 

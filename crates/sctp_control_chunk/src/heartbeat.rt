@@ -1,4 +1,5 @@
 //! HEARTBEAT and HEARTBEAT ACK (RFC 9260 sections 3.3.5 and 3.3.6).
+#![tactic(auto, unfolding(sctp_chunk::specs::ChunkText::chunk_text))]
 
 ghost use Rattle.std.specs.Prelude.{IfOk, IfErr, Some};
 ghost use Rattle.sctp_chunk.specs.Grammar.{IsChunk, RefusesChunkAs};
@@ -18,23 +19,17 @@ pub struct HeartbeatRequestChunk {
     pub parameters: Vec<Parameter>,
 }
 
-#[tactic(auto)]
 impl HeartbeatRequestChunk {
     pub const TYPE: u8 = 4;
 
     /// What the chunk says; `InvalidType` where it is of another type, else the fault of its first parameter that cannot
     /// be read.
-    pub fn try_from(
-        alloc: Global,
-        raw: RawChunk<'_>,
-    ) -> Result<HeartbeatRequestChunk, ChunkParseError>
+    pub fn try_from(alloc: Global, raw: RawChunk<'_>) -> Result<Self, ChunkParseError>
         ensures ok { IfOk result (λ c. IsChunk (raw_chunk raw.entry) (heartbeat_request_tree c)) }
         ensures refused { IfErr result (RefusesChunkAs 4 (raw_chunk raw.entry)) }
     {
-        let value = raw.value_as(Self::TYPE)?;
-        Ok(HeartbeatRequestChunk {
-            parameters: parameters_from_bytes(alloc, value)?,
-        })
+        let parameters = parameters_from_bytes(alloc, raw.value_as(Self::TYPE)?)?;
+        Ok(Self { parameters })
     }
 }
 
@@ -44,24 +39,20 @@ pub struct HeartbeatAckChunk {
     pub parameters: Vec<Parameter>,
 }
 
-#[tactic(auto)]
 impl HeartbeatAckChunk {
     pub const TYPE: u8 = 5;
 
     /// What the chunk says; `InvalidType` where it is of another type, else the fault of its first parameter that cannot
     /// be read.
-    pub fn try_from(alloc: Global, raw: RawChunk<'_>) -> Result<HeartbeatAckChunk, ChunkParseError>
+    pub fn try_from(alloc: Global, raw: RawChunk<'_>) -> Result<Self, ChunkParseError>
         ensures ok { IfOk result (λ c. IsChunk (raw_chunk raw.entry) (heartbeat_ack_tree c)) }
         ensures refused { IfErr result (RefusesChunkAs 5 (raw_chunk raw.entry)) }
     {
-        let value = raw.value_as(Self::TYPE)?;
-        Ok(HeartbeatAckChunk {
-            parameters: parameters_from_bytes(alloc, value)?,
-        })
+        let parameters = parameters_from_bytes(alloc, raw.value_as(Self::TYPE)?)?;
+        Ok(Self { parameters })
     }
 }
 
-#[tactic(auto, unfolding(sctp_chunk::specs::ChunkText::chunk_text))]
 impl fmt::Display for HeartbeatRequestChunk {
     ghost output = { λ c. Some (chunk_text (heartbeat_request_tree c)) };
 
@@ -70,7 +61,6 @@ impl fmt::Display for HeartbeatRequestChunk {
     }
 }
 
-#[tactic(auto, unfolding(sctp_chunk::specs::ChunkText::chunk_text))]
 impl fmt::Display for HeartbeatAckChunk {
     ghost output = { λ c. Some (chunk_text (heartbeat_ack_tree c)) };
 

@@ -1,4 +1,5 @@
 //! INIT and INIT ACK (RFC 9260 sections 3.3.2 and 3.3.3).
+#![tactic(auto, unfolding(sctp_chunk::specs::ChunkText::chunk_text))]
 
 ghost use Rattle.std.specs.Prelude.{◌≡◌, ◌+◌, ◌^◌, ◌<◌, ◌≤◌, ◌++◌, true, length, map, drop, IfOk, IfErr, OnOk, OnErr, Some};
 ghost use Rattle.std.specs.List.{list_all};
@@ -63,7 +64,7 @@ impl InitFields {
     }
 
     /// Appends them.
-    pub fn push_to(self, output: &mut Vec<u8>) -> Result<(), AllocError>
+    fn push_to(self, output: &mut Vec<u8>) -> Result<(), AllocError>
         ensures wrote { OnOk result (output.new.items ≡ output.old.items ++ init_front self) }
         ensures room { Fills output.old output.new 16 result }
     {
@@ -108,14 +109,14 @@ impl InitChunk {
 
     /// What the chunk says; `InvalidType` where it is of another type, `InvalidLength` where its value has under 16
     /// bytes, else the fault of its first parameter that cannot be read.
-    pub fn try_from(alloc: Global, raw: RawChunk<'_>) -> Result<InitChunk, ChunkParseError>
+    pub fn try_from(alloc: Global, raw: RawChunk<'_>) -> Result<Self, ChunkParseError>
         ensures ok { IfOk result (λ c. IsChunk (raw_chunk raw.entry) (init_chunk_tree c)) }
         ensures refused { IfErr result (RefusesChunkAs 1 (raw_chunk raw.entry)) }
     {
         let value = raw.value_as(Self::TYPE)?;
         let (fields, behind) = InitFields::at(value)?;
         let parameters = parameters_from_bytes(alloc, behind)?;
-        Ok(InitChunk {
+        Ok(Self {
             initiate_tag: fields.initiate_tag,
             a_rwnd: fields.a_rwnd,
             nbr_outbound_streams: fields.nbr_outbound_streams,
@@ -157,14 +158,14 @@ impl InitAckChunk {
 
     /// What the chunk says; `InvalidType` where it is of another type, `InvalidLength` where its value has under 16
     /// bytes, else the fault of its first parameter that cannot be read.
-    pub fn try_from(alloc: Global, raw: RawChunk<'_>) -> Result<InitAckChunk, ChunkParseError>
+    pub fn try_from(alloc: Global, raw: RawChunk<'_>) -> Result<Self, ChunkParseError>
         ensures ok { IfOk result (λ c. IsChunk (raw_chunk raw.entry) (init_ack_chunk_tree c)) }
         ensures refused { IfErr result (RefusesChunkAs 2 (raw_chunk raw.entry)) }
     {
         let value = raw.value_as(Self::TYPE)?;
         let (fields, behind) = InitFields::at(value)?;
         let parameters = parameters_from_bytes(alloc, behind)?;
-        Ok(InitAckChunk {
+        Ok(Self {
             initiate_tag: fields.initiate_tag,
             a_rwnd: fields.a_rwnd,
             nbr_outbound_streams: fields.nbr_outbound_streams,
@@ -188,7 +189,6 @@ impl InitAckChunk {
     }
 }
 
-#[tactic(auto, unfolding(sctp_chunk::specs::ChunkText::chunk_text))]
 impl fmt::Display for InitChunk {
     ghost output = { λ c. Some (chunk_text (init_chunk_tree c)) };
 
@@ -206,7 +206,6 @@ impl fmt::Display for InitChunk {
     }
 }
 
-#[tactic(auto, unfolding(sctp_chunk::specs::ChunkText::chunk_text))]
 impl fmt::Display for InitAckChunk {
     ghost output = { λ c. Some (chunk_text (init_ack_chunk_tree c)) };
 

@@ -1,4 +1,5 @@
 //! RE-CONFIG (RFC 6525 section 3.1).
+#![tactic(auto, unfolding(sctp_chunk::specs::ChunkText::chunk_text))]
 
 ghost use Rattle.std.specs.Prelude.{IfOk, IfErr, Some};
 ghost use Rattle.sctp_chunk.specs.Grammar.{IsChunk, RefusesChunkAs};
@@ -18,24 +19,20 @@ pub struct ReConfigChunk {
     pub parameters: Vec<Parameter>,
 }
 
-#[tactic(auto)]
 impl ReConfigChunk {
     pub const TYPE: u8 = 130;
 
     /// What the chunk says; `InvalidType` where it is of another type, else the fault of its first parameter that cannot
     /// be read.
-    pub fn try_from(alloc: Global, raw: RawChunk<'_>) -> Result<ReConfigChunk, ChunkParseError>
+    pub fn try_from(alloc: Global, raw: RawChunk<'_>) -> Result<Self, ChunkParseError>
         ensures ok { IfOk result (λ c. IsChunk (raw_chunk raw.entry) (re_config_tree c)) }
         ensures refused { IfErr result (RefusesChunkAs 130 (raw_chunk raw.entry)) }
     {
-        let value = raw.value_as(Self::TYPE)?;
-        Ok(ReConfigChunk {
-            parameters: parameters_from_bytes(alloc, value)?,
-        })
+        let parameters = parameters_from_bytes(alloc, raw.value_as(Self::TYPE)?)?;
+        Ok(Self { parameters })
     }
 }
 
-#[tactic(auto, unfolding(sctp_chunk::specs::ChunkText::chunk_text))]
 impl fmt::Display for ReConfigChunk {
     ghost output = { λ c. Some (chunk_text (re_config_tree c)) };
 

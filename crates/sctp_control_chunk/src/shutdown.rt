@@ -1,4 +1,5 @@
 //! SHUTDOWN, SHUTDOWN ACK and SHUTDOWN COMPLETE (RFC 9260 sections 3.3.8, 3.3.9 and 3.3.13).
+#![tactic(auto, unfolding(sctp_chunk::specs::ChunkText::chunk_text))]
 
 ghost use Rattle.std.specs.Prelude.{IfOk, IfErr, Some};
 ghost use Rattle.sctp_chunk.specs.Grammar.{IsChunk, RefusesChunkAs};
@@ -19,19 +20,18 @@ pub struct ShutdownChunk {
     pub cumulative_tsn_ack: Tsn,
 }
 
-#[tactic(auto)]
 impl ShutdownChunk {
     pub const TYPE: u8 = 7;
 
     /// What the chunk says; `InvalidType` where it is of another type, `InvalidLength` where its value has not four bytes.
-    pub fn try_from(_alloc: Global, raw: RawChunk<'_>) -> Result<ShutdownChunk, ChunkParseError>
+    pub fn try_from(_alloc: Global, raw: RawChunk<'_>) -> Result<Self, ChunkParseError>
         ensures ok { IfOk result (λ c. IsChunk (raw_chunk raw.entry) (shutdown_tree c)) }
         ensures refused { IfErr result (RefusesChunkAs 7 (raw_chunk raw.entry)) }
     {
         let value = raw.value_as(Self::TYPE)?;
         let (cumulative_tsn_ack, rest) = u32_at(value)?;
         ends_here(rest)?;
-        Ok(ShutdownChunk {
+        Ok(Self {
             cumulative_tsn_ack: Tsn(cumulative_tsn_ack),
         })
     }
@@ -41,17 +41,16 @@ impl ShutdownChunk {
 #[derive(Clone, Copy, Debug)]
 pub struct ShutdownAckChunk {}
 
-#[tactic(auto)]
 impl ShutdownAckChunk {
     pub const TYPE: u8 = 8;
 
     /// What the chunk says; `InvalidType` where it is of another type, `InvalidLength` where it has a value.
-    pub fn try_from(_alloc: Global, raw: RawChunk<'_>) -> Result<ShutdownAckChunk, ChunkParseError>
+    pub fn try_from(_alloc: Global, raw: RawChunk<'_>) -> Result<Self, ChunkParseError>
         ensures ok { IfOk result (λ c. IsChunk (raw_chunk raw.entry) (shutdown_ack_tree c)) }
         ensures refused { IfErr result (RefusesChunkAs 8 (raw_chunk raw.entry)) }
     {
         ends_here(raw.value_as(Self::TYPE)?)?;
-        Ok(ShutdownAckChunk {})
+        Ok(Self {})
     }
 }
 
@@ -62,26 +61,21 @@ pub struct ShutdownCompleteChunk {
     pub tag_reflected: bool,
 }
 
-#[tactic(auto)]
 impl ShutdownCompleteChunk {
     pub const TYPE: u8 = 14;
 
     /// What the chunk says; `InvalidType` where it is of another type, `InvalidLength` where it has a value.
-    pub fn try_from(
-        _alloc: Global,
-        raw: RawChunk<'_>,
-    ) -> Result<ShutdownCompleteChunk, ChunkParseError>
+    pub fn try_from(_alloc: Global, raw: RawChunk<'_>) -> Result<Self, ChunkParseError>
         ensures ok { IfOk result (λ c. IsChunk (raw_chunk raw.entry) (shutdown_complete_tree c)) }
         ensures refused { IfErr result (RefusesChunkAs 14 (raw_chunk raw.entry)) }
     {
         ends_here(raw.value_as(Self::TYPE)?)?;
-        Ok(ShutdownCompleteChunk {
+        Ok(Self {
             tag_reflected: is_reflected(raw.flags),
         })
     }
 }
 
-#[tactic(auto, unfolding(sctp_chunk::specs::ChunkText::chunk_text))]
 impl fmt::Display for ShutdownChunk {
     ghost output = { λ c. Some (chunk_text (shutdown_tree c)) };
 
@@ -94,7 +88,6 @@ impl fmt::Display for ShutdownChunk {
     }
 }
 
-#[tactic(auto, unfolding(sctp_chunk::specs::ChunkText::chunk_text))]
 impl fmt::Display for ShutdownAckChunk {
     ghost output = { λ c. Some (chunk_text (shutdown_ack_tree c)) };
 
@@ -103,7 +96,6 @@ impl fmt::Display for ShutdownAckChunk {
     }
 }
 
-#[tactic(auto, unfolding(sctp_chunk::specs::ChunkText::chunk_text))]
 impl fmt::Display for ShutdownCompleteChunk {
     ghost output = { λ c. Some (chunk_text (shutdown_complete_tree c)) };
 

@@ -1,4 +1,5 @@
 //! Chunks of no known type.
+#![tactic(auto, unfolding(sctp_chunk::specs::ChunkText::chunk_text))]
 
 ghost use Rattle.std.specs.Prelude.{◌≡◌, false, IfOk, IfErr, Some};
 ghost use Rattle.sctp_chunk.specs.Written.{chunk_item, is_known_chunk};
@@ -23,12 +24,12 @@ pub struct UnknownChunk {
 #[tactic(auto, unfolding(sctp_chunk::specs::Written::chunk_value))]
 impl UnknownChunk {
     /// The chunk, of whatever type; only memory may lack.
-    pub fn try_from(alloc: Global, raw: RawChunk<'_>) -> Result<UnknownChunk, ChunkParseError>
+    pub fn try_from(alloc: Global, raw: RawChunk<'_>) -> Result<Self, ChunkParseError>
         ensures ok { IfOk result (λ c. chunk_item (unknown_tree c) ≡ raw_chunk raw.entry) }
         ensures chunk { IfOk result (λ c. is_known_chunk raw.entry.typ ≡ false → IsChunk (raw_chunk raw.entry) (unknown_tree c)) }
         ensures refused { IfErr result (λ e. e ≡ ChunkParseError.Memory) }
     {
-        Ok(UnknownChunk {
+        Ok(Self {
             typ: raw.typ,
             flags: raw.flags,
             value: Vec::from_slice(alloc, raw.value)?,
@@ -36,7 +37,6 @@ impl UnknownChunk {
     }
 }
 
-#[tactic(auto, unfolding(sctp_chunk::specs::ChunkText::chunk_text))]
 impl fmt::Display for UnknownChunk {
     ghost output = { λ c. Some (chunk_text (unknown_tree c)) };
 
