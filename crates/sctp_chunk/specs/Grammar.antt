@@ -29,20 +29,8 @@ SaysFlags flags (data_chunk tsn immediate f) = SaysFragment flags immediate f
 SaysFlags flags (idata_chunk tsn immediate f) = SaysFragment flags immediate f
 SaysFlags flags (shutdown_complete_chunk reflected) = reflected ≡ flag flags 1
 SaysFlags flags (unknown_chunk typ all value) = all ≡ flags
-SaysFlags flags (init_chunk init) = Unit {0}
-SaysFlags flags (init_ack_chunk init) = Unit {0}
-SaysFlags flags (sack_chunk sack) = Unit {0}
-SaysFlags flags (heartbeat_request_chunk parameters) = Unit {0}
-SaysFlags flags (heartbeat_ack_chunk parameters) = Unit {0}
 SaysFlags flags (abort_chunk reflected causes) = reflected ≡ flag flags 1
-SaysFlags flags (shutdown_chunk tsn) = Unit {0}
-SaysFlags flags shutdown_ack_chunk = Unit {0}
-SaysFlags flags (error_chunk causes) = Unit {0}
-SaysFlags flags (cookie_echo_chunk cookie) = Unit {0}
-SaysFlags flags cookie_ack_chunk = Unit {0}
-SaysFlags flags (re_config_chunk parameters) = Unit {0}
-SaysFlags flags (forward_tsn_chunk tsn skipped) = Unit {0}
-SaysFlags flags (i_forward_tsn_chunk tsn skipped) = Unit {0}
+SaysFlags flags _ = Unit {0}
 
 -- fixed fields, and parameters behind them
 abbrev pub SaysInit : List ℕ → InitTree → Type 0
@@ -127,20 +115,11 @@ FitsChunk (data_chunk tsn immediate f) = (tsn < 2 ^ 32) × FitsFragment f
 FitsChunk (init_chunk init) = FitsInit init
 FitsChunk (init_ack_chunk init) = FitsInit init
 FitsChunk (sack_chunk sack) = FitsSack sack
-FitsChunk (heartbeat_request_chunk parameters) = Unit {0}
-FitsChunk (heartbeat_ack_chunk parameters) = Unit {0}
-FitsChunk (abort_chunk reflected causes) = Unit {0}
 FitsChunk (shutdown_chunk tsn) = tsn < 2 ^ 32
-FitsChunk shutdown_ack_chunk = Unit {0}
-FitsChunk (error_chunk causes) = Unit {0}
-FitsChunk (cookie_echo_chunk cookie) = Unit {0}
-FitsChunk cookie_ack_chunk = Unit {0}
-FitsChunk (shutdown_complete_chunk reflected) = Unit {0}
 FitsChunk (idata_chunk tsn immediate f) = (tsn < 2 ^ 32) × FitsFragment f
-FitsChunk (re_config_chunk parameters) = Unit {0}
 FitsChunk (forward_tsn_chunk tsn skipped) = FitsForward tsn skipped
 FitsChunk (i_forward_tsn_chunk tsn skipped) = FitsForward tsn skipped
-FitsChunk (unknown_chunk typ flags value) = Unit {0}
+FitsChunk _ = Unit {0}
 
 -- ---- fields that a kind does not write
 
@@ -148,43 +127,12 @@ FitsChunk (unknown_chunk typ flags value) = Unit {0}
 abbrev pub carried : ChunkTree → ChunkTree
 carried (data_chunk tsn immediate f) = data_chunk tsn immediate (record f { mid = 0; fsn = 0 })
 carried (idata_chunk tsn immediate f) = idata_chunk tsn immediate (record f { ssn = 0; ppid = if f.is_beginning then f.ppid else 0; fsn = if f.is_beginning then 0 else f.fsn })
-carried (init_chunk init) = init_chunk init
-carried (init_ack_chunk init) = init_ack_chunk init
-carried (sack_chunk sack) = sack_chunk sack
-carried (heartbeat_request_chunk parameters) = heartbeat_request_chunk parameters
-carried (heartbeat_ack_chunk parameters) = heartbeat_ack_chunk parameters
-carried (abort_chunk reflected causes) = abort_chunk reflected causes
-carried (shutdown_chunk tsn) = shutdown_chunk tsn
-carried shutdown_ack_chunk = shutdown_ack_chunk
-carried (error_chunk causes) = error_chunk causes
-carried (cookie_echo_chunk cookie) = cookie_echo_chunk cookie
-carried cookie_ack_chunk = cookie_ack_chunk
-carried (shutdown_complete_chunk reflected) = shutdown_complete_chunk reflected
-carried (re_config_chunk parameters) = re_config_chunk parameters
-carried (forward_tsn_chunk tsn skipped) = forward_tsn_chunk tsn skipped
-carried (i_forward_tsn_chunk tsn skipped) = i_forward_tsn_chunk tsn skipped
-carried (unknown_chunk typ flags value) = unknown_chunk typ flags value
+carried t = t
 
 -- Only an unknown chunk may have any type but the known ones.
 abbrev pub IsOfItsType : ChunkTree → Type 0
 IsOfItsType (unknown_chunk typ flags value) = is_known_chunk typ ≡ false
-IsOfItsType (data_chunk tsn immediate f) = Unit {0}
-IsOfItsType (idata_chunk tsn immediate f) = Unit {0}
-IsOfItsType (init_chunk init) = Unit {0}
-IsOfItsType (init_ack_chunk init) = Unit {0}
-IsOfItsType (sack_chunk sack) = Unit {0}
-IsOfItsType (heartbeat_request_chunk parameters) = Unit {0}
-IsOfItsType (heartbeat_ack_chunk parameters) = Unit {0}
-IsOfItsType (abort_chunk reflected causes) = Unit {0}
-IsOfItsType (shutdown_chunk tsn) = Unit {0}
-IsOfItsType shutdown_ack_chunk = Unit {0}
-IsOfItsType (error_chunk causes) = Unit {0}
-IsOfItsType (cookie_echo_chunk cookie) = Unit {0}
-IsOfItsType cookie_ack_chunk = Unit {0}
-IsOfItsType (shutdown_complete_chunk reflected) = Unit {0}
-IsOfItsType (re_config_chunk parameters) = Unit {0}
-IsOfItsType (forward_tsn_chunk tsn skipped) = Unit {0}
-IsOfItsType (i_forward_tsn_chunk tsn skipped) = Unit {0}
+IsOfItsType _ = Unit {0}
 
 -- the item is this chunk
 pub record IsChunk (i : Item) (t : ChunkTree) : Type 0 where

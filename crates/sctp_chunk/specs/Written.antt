@@ -57,23 +57,11 @@ reflected_flag reflected = if reflected then 1 else 0
 
 abbrev pub chunk_flags : ChunkTree → ℕ
 chunk_flags (data_chunk tsn immediate f) = fragment_flags immediate f.is_unordered f.is_beginning f.is_end
-chunk_flags (init_chunk init) = 0
-chunk_flags (init_ack_chunk init) = 0
-chunk_flags (sack_chunk sack) = 0
-chunk_flags (heartbeat_request_chunk parameters) = 0
-chunk_flags (heartbeat_ack_chunk parameters) = 0
 chunk_flags (abort_chunk reflected causes) = reflected_flag reflected
-chunk_flags (shutdown_chunk tsn) = 0
-chunk_flags shutdown_ack_chunk = 0
-chunk_flags (error_chunk causes) = 0
-chunk_flags (cookie_echo_chunk cookie) = 0
-chunk_flags cookie_ack_chunk = 0
 chunk_flags (shutdown_complete_chunk reflected) = reflected_flag reflected
 chunk_flags (idata_chunk tsn immediate f) = fragment_flags immediate f.is_unordered f.is_beginning f.is_end
-chunk_flags (re_config_chunk parameters) = 0
-chunk_flags (forward_tsn_chunk tsn skipped) = 0
-chunk_flags (i_forward_tsn_chunk tsn skipped) = 0
 chunk_flags (unknown_chunk typ flags value) = flags
+chunk_flags _ = 0
 
 -- ---- values
 
@@ -170,21 +158,11 @@ is_mid_skip (skips.IForwardTsn key mid) = true
 
 -- Whether the chunk can be written apart from its length: skipped streams are of its kind, and its parameters are whole.
 abbrev pub chunk_is_whole : ChunkTree → Bool
-chunk_is_whole (data_chunk tsn immediate f) = true
 chunk_is_whole (init_chunk init) = list_all parameter_is_whole init.parameters
 chunk_is_whole (init_ack_chunk init) = list_all parameter_is_whole init.parameters
-chunk_is_whole (sack_chunk sack) = true
 chunk_is_whole (heartbeat_request_chunk parameters) = list_all parameter_is_whole parameters
 chunk_is_whole (heartbeat_ack_chunk parameters) = list_all parameter_is_whole parameters
-chunk_is_whole (abort_chunk reflected causes) = true
-chunk_is_whole (shutdown_chunk tsn) = true
-chunk_is_whole shutdown_ack_chunk = true
-chunk_is_whole (error_chunk causes) = true
-chunk_is_whole (cookie_echo_chunk cookie) = true
-chunk_is_whole cookie_ack_chunk = true
-chunk_is_whole (shutdown_complete_chunk reflected) = true
-chunk_is_whole (idata_chunk tsn immediate f) = true
 chunk_is_whole (re_config_chunk parameters) = list_all parameter_is_whole parameters
 chunk_is_whole (forward_tsn_chunk tsn skipped) = list_all is_ssn_skip skipped
 chunk_is_whole (i_forward_tsn_chunk tsn skipped) = list_all is_mid_skip skipped
-chunk_is_whole (unknown_chunk typ flags value) = true
+chunk_is_whole _ = true

@@ -11,13 +11,17 @@ ghost use Rattle.sctp_chunk.specs.ChunkText.{chunk_text};
 use crate::check::check_value;
 use crate::cookie::{CookieAckChunk, CookieEchoChunk};
 use crate::error::{AbortChunk, ErrorChunk};
+use crate::flags::reflected_flag;
 use crate::heartbeat::{HeartbeatAckChunk, HeartbeatRequestChunk};
-use crate::init::{InitAckChunk, InitChunk};
+use crate::init::{InitAckChunk, InitChunk, push_init};
+use crate::inner::{are_whole, causes_size, parameters_size, push_causes, push_parameters};
 use crate::re_config::ReConfigChunk;
 use crate::shutdown::{ShutdownAckChunk, ShutdownChunk, ShutdownCompleteChunk};
 use crate::unknown::UnknownChunk;
 use sctp_chunk::{DataChunk, ForwardTsnChunk, IDataChunk, IForwardTsnChunk, RawChunk, SackChunk};
-use sctp_wire::{CheckItem, ChunkParseError, FromItem, RawItem, SerializableTlv};
+use sctp_wire::{
+    CheckItem, ChunkParseError, FromItem, RawItem, SerializableTlv, push_u32, read_by_type,
+};
 use std::alloc::{AllocError, Global};
 use std::fmt;
 
@@ -45,48 +49,32 @@ pub enum Chunk {
     Unknown(UnknownChunk),
 }
 
-/// The chunk as its variant, or its reader's fault.
-macro_rules! read_as {
-    ($variant:ident, $read:expr) => {
-        match $read {
-            Ok(chunk) => Ok(Chunk::$variant(chunk)),
-            Err(fault) => Err(fault),
-        }
-    };
-}
-
 impl Chunk {
     /// What the chunk says, by its type.
     pub fn try_from(alloc: Global, raw: RawChunk<'_>) -> Result<Chunk, ChunkParseError>
         ensures ok { IfOk result (λ c. IsChunk (raw_chunk raw.entry) (chunk_tree c)) }
         ensures refused { IfErr result (RefusesChunk (raw_chunk raw.entry)) }
     {
-        match raw.typ {
-            0 => read_as!(Data, DataChunk::try_from(alloc, raw)),
-            1 => read_as!(Init, InitChunk::try_from(alloc, raw)),
-            2 => read_as!(InitAck, InitAckChunk::try_from(alloc, raw)),
-            3 => read_as!(Sack, SackChunk::try_from(alloc, raw)),
-            4 => read_as!(
-                HeartbeatRequest,
-                HeartbeatRequestChunk::try_from(alloc, raw)
-            ),
-            5 => read_as!(HeartbeatAck, HeartbeatAckChunk::try_from(alloc, raw)),
-            6 => read_as!(Abort, AbortChunk::try_from(alloc, raw)),
-            7 => read_as!(Shutdown, ShutdownChunk::try_from(alloc, raw)),
-            8 => read_as!(ShutdownAck, ShutdownAckChunk::try_from(alloc, raw)),
-            9 => read_as!(Error, ErrorChunk::try_from(alloc, raw)),
-            10 => read_as!(CookieEcho, CookieEchoChunk::try_from(alloc, raw)),
-            11 => read_as!(CookieAck, CookieAckChunk::try_from(alloc, raw)),
-            14 => read_as!(
-                ShutdownComplete,
-                ShutdownCompleteChunk::try_from(alloc, raw)
-            ),
-            64 => read_as!(IData, IDataChunk::try_from(alloc, raw)),
-            130 => read_as!(ReConfig, ReConfigChunk::try_from(alloc, raw)),
-            192 => read_as!(ForwardTsn, ForwardTsnChunk::try_from(alloc, raw)),
-            194 => read_as!(IForwardTsn, IForwardTsnChunk::try_from(alloc, raw)),
-            _ => read_as!(Unknown, UnknownChunk::try_from(alloc, raw)),
-        }
+        read_by_type!(Chunk, alloc, raw,
+            DataChunk::TYPE => Data(DataChunk),
+            InitChunk::TYPE => Init(InitChunk),
+            InitAckChunk::TYPE => InitAck(InitAckChunk),
+            SackChunk::TYPE => Sack(SackChunk),
+            HeartbeatRequestChunk::TYPE => HeartbeatRequest(HeartbeatRequestChunk),
+            HeartbeatAckChunk::TYPE => HeartbeatAck(HeartbeatAckChunk),
+            AbortChunk::TYPE => Abort(AbortChunk),
+            ShutdownChunk::TYPE => Shutdown(ShutdownChunk),
+            ShutdownAckChunk::TYPE => ShutdownAck(ShutdownAckChunk),
+            ErrorChunk::TYPE => Error(ErrorChunk),
+            CookieEchoChunk::TYPE => CookieEcho(CookieEchoChunk),
+            CookieAckChunk::TYPE => CookieAck(CookieAckChunk),
+            ShutdownCompleteChunk::TYPE => ShutdownComplete(ShutdownCompleteChunk),
+            IDataChunk::TYPE => IData(IDataChunk),
+            ReConfigChunk::TYPE => ReConfig(ReConfigChunk),
+            ForwardTsnChunk::TYPE => ForwardTsn(ForwardTsnChunk),
+            IForwardTsnChunk::TYPE => IForwardTsn(IForwardTsnChunk),
+            _ => Unknown(UnknownChunk),
+        )
     }
 
     /// Whether a chunk says something. It has the faults of `try_from`, but for want of memory, since it builds nothing.
@@ -123,6 +111,7 @@ impl CheckItem for Chunk {
     }
 }
 
+#[tactic(auto, unfolding(sctp_chunk::specs::Written::chunk_value))]
 impl SerializableTlv for Chunk {
     ghost item_of = { λ c. chunk_item (chunk_tree c) };
 
@@ -131,92 +120,83 @@ impl SerializableTlv for Chunk {
     fn kind(&self) -> [u8; 2] {
         match self {
             Chunk::Data(c) => c.kind(),
-            Chunk::Init(c) => c.kind(),
-            Chunk::InitAck(c) => c.kind(),
+            Chunk::Init(_) => [InitChunk::TYPE, 0],
+            Chunk::InitAck(_) => [InitAckChunk::TYPE, 0],
             Chunk::Sack(c) => c.kind(),
-            Chunk::HeartbeatRequest(c) => c.kind(),
-            Chunk::HeartbeatAck(c) => c.kind(),
-            Chunk::Abort(c) => c.kind(),
-            Chunk::Shutdown(c) => c.kind(),
-            Chunk::ShutdownAck(c) => c.kind(),
-            Chunk::Error(c) => c.kind(),
-            Chunk::CookieEcho(c) => c.kind(),
-            Chunk::CookieAck(c) => c.kind(),
-            Chunk::ShutdownComplete(c) => c.kind(),
-            Chunk::ReConfig(c) => c.kind(),
+            Chunk::HeartbeatRequest(_) => [HeartbeatRequestChunk::TYPE, 0],
+            Chunk::HeartbeatAck(_) => [HeartbeatAckChunk::TYPE, 0],
+            Chunk::Abort(c) => [AbortChunk::TYPE, reflected_flag(c.tag_reflected)],
+            Chunk::Shutdown(_) => [ShutdownChunk::TYPE, 0],
+            Chunk::ShutdownAck(_) => [ShutdownAckChunk::TYPE, 0],
+            Chunk::Error(_) => [ErrorChunk::TYPE, 0],
+            Chunk::CookieEcho(_) => [CookieEchoChunk::TYPE, 0],
+            Chunk::CookieAck(_) => [CookieAckChunk::TYPE, 0],
+            Chunk::ShutdownComplete(c) => [
+                ShutdownCompleteChunk::TYPE,
+                reflected_flag(c.tag_reflected),
+            ],
+            Chunk::ReConfig(_) => [ReConfigChunk::TYPE, 0],
             Chunk::ForwardTsn(c) => c.kind(),
             Chunk::IData(c) => c.kind(),
             Chunk::IForwardTsn(c) => c.kind(),
-            Chunk::Unknown(c) => c.kind(),
+            Chunk::Unknown(c) => [c.typ, c.flags],
         }
     }
 
+    #[tactic(auto, using(crate::proofs::InnerLemmas::length_init, sctp_chunk::proofs::ValueLemmas::length_shutdown), unfolding(sctp_chunk::specs::Written::chunk_value))]
     fn value_size(&self) -> usize {
         match self {
             Chunk::Data(c) => c.value_size(),
-            Chunk::Init(c) => c.value_size(),
-            Chunk::InitAck(c) => c.value_size(),
+            Chunk::Init(c) => parameters_size(&c.parameters).saturating_add(16),
+            Chunk::InitAck(c) => parameters_size(&c.parameters).saturating_add(16),
             Chunk::Sack(c) => c.value_size(),
-            Chunk::HeartbeatRequest(c) => c.value_size(),
-            Chunk::HeartbeatAck(c) => c.value_size(),
-            Chunk::Abort(c) => c.value_size(),
-            Chunk::Shutdown(c) => c.value_size(),
-            Chunk::ShutdownAck(c) => c.value_size(),
-            Chunk::Error(c) => c.value_size(),
-            Chunk::CookieEcho(c) => c.value_size(),
-            Chunk::CookieAck(c) => c.value_size(),
-            Chunk::ShutdownComplete(c) => c.value_size(),
-            Chunk::ReConfig(c) => c.value_size(),
+            Chunk::HeartbeatRequest(c) => parameters_size(&c.parameters),
+            Chunk::HeartbeatAck(c) => parameters_size(&c.parameters),
+            Chunk::Abort(c) => causes_size(&c.error_causes),
+            Chunk::Shutdown(_) => 4,
+            Chunk::Error(c) => causes_size(&c.error_causes),
+            Chunk::CookieEcho(c) => c.cookie.len(),
+            Chunk::ReConfig(c) => parameters_size(&c.parameters),
             Chunk::ForwardTsn(c) => c.value_size(),
             Chunk::IData(c) => c.value_size(),
             Chunk::IForwardTsn(c) => c.value_size(),
-            Chunk::Unknown(c) => c.value_size(),
+            Chunk::ShutdownAck(_) | Chunk::CookieAck(_) | Chunk::ShutdownComplete(_) => 0,
+            Chunk::Unknown(c) => c.value.len(),
         }
     }
 
     fn is_whole(&self) -> bool {
         match self {
-            Chunk::Data(c) => c.is_whole(),
-            Chunk::Init(c) => c.is_whole(),
-            Chunk::InitAck(c) => c.is_whole(),
-            Chunk::Sack(c) => c.is_whole(),
-            Chunk::HeartbeatRequest(c) => c.is_whole(),
-            Chunk::HeartbeatAck(c) => c.is_whole(),
-            Chunk::Abort(c) => c.is_whole(),
-            Chunk::Shutdown(c) => c.is_whole(),
-            Chunk::ShutdownAck(c) => c.is_whole(),
-            Chunk::Error(c) => c.is_whole(),
-            Chunk::CookieEcho(c) => c.is_whole(),
-            Chunk::CookieAck(c) => c.is_whole(),
-            Chunk::ShutdownComplete(c) => c.is_whole(),
-            Chunk::ReConfig(c) => c.is_whole(),
+            Chunk::Init(c) => are_whole(&c.parameters),
+            Chunk::InitAck(c) => are_whole(&c.parameters),
+            Chunk::HeartbeatRequest(c) => are_whole(&c.parameters),
+            Chunk::HeartbeatAck(c) => are_whole(&c.parameters),
+            Chunk::ReConfig(c) => are_whole(&c.parameters),
             Chunk::ForwardTsn(c) => c.is_whole(),
-            Chunk::IData(c) => c.is_whole(),
             Chunk::IForwardTsn(c) => c.is_whole(),
-            Chunk::Unknown(c) => c.is_whole(),
+            _ => true,
         }
     }
 
+    #[tactic(auto, using(crate::proofs::InnerLemmas::length_init, sctp_chunk::proofs::ValueLemmas::length_shutdown), unfolding(sctp_chunk::specs::Written::chunk_value))]
     fn push_value(&self, output: &mut Vec<u8>) -> Result<(), AllocError> {
         match self {
             Chunk::Data(c) => c.push_value(output),
-            Chunk::Init(c) => c.push_value(output),
-            Chunk::InitAck(c) => c.push_value(output),
+            Chunk::Init(c) => push_init(c.fields(), &c.parameters, output),
+            Chunk::InitAck(c) => push_init(c.fields(), &c.parameters, output),
             Chunk::Sack(c) => c.push_value(output),
-            Chunk::HeartbeatRequest(c) => c.push_value(output),
-            Chunk::HeartbeatAck(c) => c.push_value(output),
-            Chunk::Abort(c) => c.push_value(output),
-            Chunk::Shutdown(c) => c.push_value(output),
-            Chunk::ShutdownAck(c) => c.push_value(output),
-            Chunk::Error(c) => c.push_value(output),
-            Chunk::CookieEcho(c) => c.push_value(output),
-            Chunk::CookieAck(c) => c.push_value(output),
-            Chunk::ShutdownComplete(c) => c.push_value(output),
-            Chunk::ReConfig(c) => c.push_value(output),
+            Chunk::HeartbeatRequest(c) => push_parameters(&c.parameters, output),
+            Chunk::HeartbeatAck(c) => push_parameters(&c.parameters, output),
+            Chunk::Abort(c) => push_causes(&c.error_causes, output),
+            Chunk::Shutdown(c) => push_u32(output, c.cumulative_tsn_ack.0),
+            Chunk::Error(c) => push_causes(&c.error_causes, output),
+            Chunk::CookieEcho(c) => output.extend_from_slice(&c.cookie),
+            Chunk::ReConfig(c) => push_parameters(&c.parameters, output),
             Chunk::ForwardTsn(c) => c.push_value(output),
             Chunk::IData(c) => c.push_value(output),
             Chunk::IForwardTsn(c) => c.push_value(output),
-            Chunk::Unknown(c) => c.push_value(output),
+            Chunk::ShutdownAck(_) | Chunk::CookieAck(_) | Chunk::ShutdownComplete(_) => Ok(()),
+            Chunk::Unknown(c) => output.extend_from_slice(&c.value),
         }
     }
 }

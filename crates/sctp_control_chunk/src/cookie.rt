@@ -1,16 +1,15 @@
 //! COOKIE ECHO and COOKIE ACK (RFC 9260 sections 3.3.11 and 3.3.12).
+#![tactic(auto, unfolding(sctp_chunk::specs::ChunkText::chunk_text))]
 
-ghost use Rattle.std.specs.Prelude.{true, IfOk, IfErr};
-ghost use Rattle.sctp_chunk.specs.Written.{chunk_item};
+ghost use Rattle.std.specs.Prelude.{IfOk, IfErr, Some};
 ghost use Rattle.sctp_chunk.specs.Grammar.{IsChunk, RefusesChunkAs};
 ghost use Rattle.sctp_chunk.specs.Views.{raw_chunk};
 ghost use Rattle.sctp_control_chunk.specs.Views.{cookie_echo_tree, cookie_ack_tree};
-ghost use Rattle.std.specs.Prelude.{Some};
 ghost use Rattle.sctp_chunk.specs.ChunkText.{chunk_text};
 
 use sctp_chunk::RawChunk;
-use sctp_wire::{ChunkParseError, SerializableTlv, ends_here};
-use std::alloc::{AllocError, Global};
+use sctp_wire::{ChunkParseError, ends_here};
+use std::alloc::Global;
 use std::fmt;
 
 /// The cookie of an INIT ACK, sent back.
@@ -19,12 +18,11 @@ pub struct CookieEchoChunk {
     pub cookie: Vec<u8>,
 }
 
-#[tactic(auto)]
 impl CookieEchoChunk {
     pub const TYPE: u8 = 10;
 
     /// What the chunk says; `InvalidType` where it is of another type, `InvalidLength` where there is no cookie.
-    pub fn try_from(alloc: Global, raw: RawChunk<'_>) -> Result<CookieEchoChunk, ChunkParseError>
+    pub fn try_from(alloc: Global, raw: RawChunk<'_>) -> Result<Self, ChunkParseError>
         ensures ok { IfOk result (λ c. IsChunk (raw_chunk raw.entry) (cookie_echo_tree c)) }
         ensures refused { IfErr result (RefusesChunkAs 10 (raw_chunk raw.entry)) }
     {
@@ -32,32 +30,9 @@ impl CookieEchoChunk {
         if value.is_empty() {
             return Err(ChunkParseError::InvalidLength);
         }
-        Ok(CookieEchoChunk {
+        Ok(Self {
             cookie: Vec::from_slice(alloc, value)?,
         })
-    }
-}
-
-#[tactic(auto, unfolding(sctp_chunk::specs::Written::chunk_value))]
-impl SerializableTlv for CookieEchoChunk {
-    ghost item_of = { λ c. chunk_item (cookie_echo_tree c) };
-
-    ghost parts_agree = { λ c. true };
-
-    fn kind(&self) -> [u8; 2] {
-        [Self::TYPE, 0]
-    }
-
-    fn value_size(&self) -> usize {
-        self.cookie.len()
-    }
-
-    fn is_whole(&self) -> bool {
-        true
-    }
-
-    fn push_value(&self, output: &mut Vec<u8>) -> Result<(), AllocError> {
-        output.extend_from_slice(&self.cookie)
     }
 }
 
@@ -65,45 +40,19 @@ impl SerializableTlv for CookieEchoChunk {
 #[derive(Clone, Copy, Debug)]
 pub struct CookieAckChunk {}
 
-#[tactic(auto)]
 impl CookieAckChunk {
     pub const TYPE: u8 = 11;
 
     /// What the chunk says; `InvalidType` where it is of another type, `InvalidLength` where it has a value.
-    pub fn try_from(_alloc: Global, raw: RawChunk<'_>) -> Result<CookieAckChunk, ChunkParseError>
+    pub fn try_from(_alloc: Global, raw: RawChunk<'_>) -> Result<Self, ChunkParseError>
         ensures ok { IfOk result (λ c. IsChunk (raw_chunk raw.entry) (cookie_ack_tree c)) }
         ensures refused { IfErr result (RefusesChunkAs 11 (raw_chunk raw.entry)) }
     {
-        let value = raw.value_as(Self::TYPE)?;
-        ends_here(value)?;
-        Ok(CookieAckChunk {})
+        ends_here(raw.value_as(Self::TYPE)?)?;
+        Ok(Self {})
     }
 }
 
-#[tactic(auto, unfolding(sctp_chunk::specs::Written::chunk_value))]
-impl SerializableTlv for CookieAckChunk {
-    ghost item_of = { λ c. chunk_item (cookie_ack_tree c) };
-
-    ghost parts_agree = { λ c. true };
-
-    fn kind(&self) -> [u8; 2] {
-        [Self::TYPE, 0]
-    }
-
-    fn value_size(&self) -> usize {
-        0
-    }
-
-    fn is_whole(&self) -> bool {
-        true
-    }
-
-    fn push_value(&self, _output: &mut Vec<u8>) -> Result<(), AllocError> {
-        Ok(())
-    }
-}
-
-#[tactic(auto, unfolding(sctp_chunk::specs::ChunkText::chunk_text))]
 impl fmt::Display for CookieEchoChunk {
     ghost output = { λ c. Some (chunk_text (cookie_echo_tree c)) };
 
@@ -112,7 +61,6 @@ impl fmt::Display for CookieEchoChunk {
     }
 }
 
-#[tactic(auto, unfolding(sctp_chunk::specs::ChunkText::chunk_text))]
 impl fmt::Display for CookieAckChunk {
     ghost output = { λ c. Some (chunk_text (cookie_ack_tree c)) };
 

@@ -1,22 +1,18 @@
 //! ABORT and ERROR (RFC 9260 sections 3.3.7 and 3.3.10).
+#![tactic(auto, unfolding(sctp_chunk::specs::ChunkText::chunk_text))]
 
-ghost use Rattle.std.specs.Prelude.{true, IfOk, IfErr};
-ghost use Rattle.sctp_chunk.specs.Written.{chunk_item};
+ghost use Rattle.std.specs.Prelude.{IfOk, IfErr, Some};
 ghost use Rattle.sctp_chunk.specs.Grammar.{IsChunk, RefusesChunkAs};
 ghost use Rattle.sctp_chunk.specs.Views.{raw_chunk};
 ghost use Rattle.sctp_control_chunk.specs.Views.{abort_tree, error_tree};
-ghost use Rattle.std.specs.Prelude.{Some};
 ghost use Rattle.sctp_chunk.specs.ChunkText.{chunk_text};
 
-use crate::flags::reflected_text;
-use crate::inner::{causes_size, push_causes};
+use crate::flags::{is_reflected, reflected_text};
 use sctp_chunk::RawChunk;
 use sctp_error_cause::{ErrorCause, error_cause_from_bytes};
-use sctp_wire::{ChunkParseError, SerializableTlv};
-use std::alloc::{AllocError, Global};
+use sctp_wire::ChunkParseError;
+use std::alloc::Global;
 use std::fmt;
-
-const FLAG_REFLECTED: u8 = 1;
 
 /// The association is over at once, for these reasons.
 #[derive(Debug, Drop)]
@@ -31,45 +27,15 @@ impl AbortChunk {
 
     /// What the chunk says; `InvalidType` where it is of another type, else the fault of its first cause that cannot be
     /// read.
-    pub fn try_from(alloc: Global, raw: RawChunk<'_>) -> Result<AbortChunk, ChunkParseError>
+    pub fn try_from(alloc: Global, raw: RawChunk<'_>) -> Result<Self, ChunkParseError>
         ensures ok { IfOk result (λ c. IsChunk (raw_chunk raw.entry) (abort_tree c)) }
         ensures refused { IfErr result (RefusesChunkAs 6 (raw_chunk raw.entry)) }
     {
         let value = raw.value_as(Self::TYPE)?;
-        Ok(AbortChunk {
-            tag_reflected: raw.flags & FLAG_REFLECTED != 0,
+        Ok(Self {
+            tag_reflected: is_reflected(raw.flags),
             error_causes: error_cause_from_bytes(alloc, value)?,
         })
-    }
-}
-
-#[tactic(auto, unfolding(sctp_chunk::specs::Written::chunk_value))]
-impl SerializableTlv for AbortChunk {
-    ghost item_of = { λ c. chunk_item (abort_tree c) };
-
-    ghost parts_agree = { λ c. true };
-
-    fn kind(&self) -> [u8; 2] {
-        [
-            Self::TYPE,
-            if self.tag_reflected {
-                FLAG_REFLECTED
-            } else {
-                0
-            },
-        ]
-    }
-
-    fn value_size(&self) -> usize {
-        causes_size(&self.error_causes)
-    }
-
-    fn is_whole(&self) -> bool {
-        true
-    }
-
-    fn push_value(&self, output: &mut Vec<u8>) -> Result<(), AllocError> {
-        push_causes(&self.error_causes, output)
     }
 }
 
@@ -84,41 +50,15 @@ impl ErrorChunk {
 
     /// What the chunk says; `InvalidType` where it is of another type, else the fault of its first cause that cannot be
     /// read.
-    pub fn try_from(alloc: Global, raw: RawChunk<'_>) -> Result<ErrorChunk, ChunkParseError>
+    pub fn try_from(alloc: Global, raw: RawChunk<'_>) -> Result<Self, ChunkParseError>
         ensures ok { IfOk result (λ c. IsChunk (raw_chunk raw.entry) (error_tree c)) }
         ensures refused { IfErr result (RefusesChunkAs 9 (raw_chunk raw.entry)) }
     {
-        let value = raw.value_as(Self::TYPE)?;
-        Ok(ErrorChunk {
-            error_causes: error_cause_from_bytes(alloc, value)?,
-        })
+        let error_causes = error_cause_from_bytes(alloc, raw.value_as(Self::TYPE)?)?;
+        Ok(Self { error_causes })
     }
 }
 
-#[tactic(auto, unfolding(sctp_chunk::specs::Written::chunk_value))]
-impl SerializableTlv for ErrorChunk {
-    ghost item_of = { λ c. chunk_item (error_tree c) };
-
-    ghost parts_agree = { λ c. true };
-
-    fn kind(&self) -> [u8; 2] {
-        [Self::TYPE, 0]
-    }
-
-    fn value_size(&self) -> usize {
-        causes_size(&self.error_causes)
-    }
-
-    fn is_whole(&self) -> bool {
-        true
-    }
-
-    fn push_value(&self, output: &mut Vec<u8>) -> Result<(), AllocError> {
-        push_causes(&self.error_causes, output)
-    }
-}
-
-#[tactic(auto, unfolding(sctp_chunk::specs::ChunkText::chunk_text))]
 impl fmt::Display for AbortChunk {
     ghost output = { λ c. Some (chunk_text (abort_tree c)) };
 
@@ -132,7 +72,6 @@ impl fmt::Display for AbortChunk {
     }
 }
 
-#[tactic(auto, unfolding(sctp_chunk::specs::ChunkText::chunk_text))]
 impl fmt::Display for ErrorChunk {
     ghost output = { λ c. Some (chunk_text (error_tree c)) };
 

@@ -1,18 +1,16 @@
 //! HEARTBEAT and HEARTBEAT ACK (RFC 9260 sections 3.3.5 and 3.3.6).
+#![tactic(auto, unfolding(sctp_chunk::specs::ChunkText::chunk_text))]
 
-ghost use Rattle.std.specs.Prelude.{IfOk, IfErr};
-ghost use Rattle.sctp_chunk.specs.Written.{chunk_item, chunk_is_whole};
+ghost use Rattle.std.specs.Prelude.{IfOk, IfErr, Some};
 ghost use Rattle.sctp_chunk.specs.Grammar.{IsChunk, RefusesChunkAs};
 ghost use Rattle.sctp_chunk.specs.Views.{raw_chunk};
 ghost use Rattle.sctp_control_chunk.specs.Views.{heartbeat_request_tree, heartbeat_ack_tree};
-ghost use Rattle.std.specs.Prelude.{Some};
 ghost use Rattle.sctp_chunk.specs.ChunkText.{chunk_text};
 
-use crate::inner::{are_whole, parameters_size, push_parameters};
 use sctp_chunk::RawChunk;
 use sctp_parameter::{Parameter, parameters_from_bytes};
-use sctp_wire::{ChunkParseError, SerializableTlv};
-use std::alloc::{AllocError, Global};
+use sctp_wire::ChunkParseError;
+use std::alloc::Global;
 use std::fmt;
 
 /// A request to send the parameters back.
@@ -21,46 +19,17 @@ pub struct HeartbeatRequestChunk {
     pub parameters: Vec<Parameter>,
 }
 
-#[tactic(auto)]
 impl HeartbeatRequestChunk {
     pub const TYPE: u8 = 4;
 
     /// What the chunk says; `InvalidType` where it is of another type, else the fault of its first parameter that cannot
     /// be read.
-    pub fn try_from(
-        alloc: Global,
-        raw: RawChunk<'_>,
-    ) -> Result<HeartbeatRequestChunk, ChunkParseError>
+    pub fn try_from(alloc: Global, raw: RawChunk<'_>) -> Result<Self, ChunkParseError>
         ensures ok { IfOk result (λ c. IsChunk (raw_chunk raw.entry) (heartbeat_request_tree c)) }
         ensures refused { IfErr result (RefusesChunkAs 4 (raw_chunk raw.entry)) }
     {
-        let value = raw.value_as(Self::TYPE)?;
-        Ok(HeartbeatRequestChunk {
-            parameters: parameters_from_bytes(alloc, value)?,
-        })
-    }
-}
-
-#[tactic(auto, unfolding(sctp_chunk::specs::Written::chunk_value))]
-impl SerializableTlv for HeartbeatRequestChunk {
-    ghost item_of = { λ c. chunk_item (heartbeat_request_tree c) };
-
-    ghost parts_agree = { λ c. chunk_is_whole (heartbeat_request_tree c) };
-
-    fn kind(&self) -> [u8; 2] {
-        [Self::TYPE, 0]
-    }
-
-    fn value_size(&self) -> usize {
-        parameters_size(&self.parameters)
-    }
-
-    fn is_whole(&self) -> bool {
-        are_whole(&self.parameters)
-    }
-
-    fn push_value(&self, output: &mut Vec<u8>) -> Result<(), AllocError> {
-        push_parameters(&self.parameters, output)
+        let parameters = parameters_from_bytes(alloc, raw.value_as(Self::TYPE)?)?;
+        Ok(Self { parameters })
     }
 }
 
@@ -70,47 +39,20 @@ pub struct HeartbeatAckChunk {
     pub parameters: Vec<Parameter>,
 }
 
-#[tactic(auto)]
 impl HeartbeatAckChunk {
     pub const TYPE: u8 = 5;
 
     /// What the chunk says; `InvalidType` where it is of another type, else the fault of its first parameter that cannot
     /// be read.
-    pub fn try_from(alloc: Global, raw: RawChunk<'_>) -> Result<HeartbeatAckChunk, ChunkParseError>
+    pub fn try_from(alloc: Global, raw: RawChunk<'_>) -> Result<Self, ChunkParseError>
         ensures ok { IfOk result (λ c. IsChunk (raw_chunk raw.entry) (heartbeat_ack_tree c)) }
         ensures refused { IfErr result (RefusesChunkAs 5 (raw_chunk raw.entry)) }
     {
-        let value = raw.value_as(Self::TYPE)?;
-        Ok(HeartbeatAckChunk {
-            parameters: parameters_from_bytes(alloc, value)?,
-        })
+        let parameters = parameters_from_bytes(alloc, raw.value_as(Self::TYPE)?)?;
+        Ok(Self { parameters })
     }
 }
 
-#[tactic(auto, unfolding(sctp_chunk::specs::Written::chunk_value))]
-impl SerializableTlv for HeartbeatAckChunk {
-    ghost item_of = { λ c. chunk_item (heartbeat_ack_tree c) };
-
-    ghost parts_agree = { λ c. chunk_is_whole (heartbeat_ack_tree c) };
-
-    fn kind(&self) -> [u8; 2] {
-        [Self::TYPE, 0]
-    }
-
-    fn value_size(&self) -> usize {
-        parameters_size(&self.parameters)
-    }
-
-    fn is_whole(&self) -> bool {
-        are_whole(&self.parameters)
-    }
-
-    fn push_value(&self, output: &mut Vec<u8>) -> Result<(), AllocError> {
-        push_parameters(&self.parameters, output)
-    }
-}
-
-#[tactic(auto, unfolding(sctp_chunk::specs::ChunkText::chunk_text))]
 impl fmt::Display for HeartbeatRequestChunk {
     ghost output = { λ c. Some (chunk_text (heartbeat_request_tree c)) };
 
@@ -119,7 +61,6 @@ impl fmt::Display for HeartbeatRequestChunk {
     }
 }
 
-#[tactic(auto, unfolding(sctp_chunk::specs::ChunkText::chunk_text))]
 impl fmt::Display for HeartbeatAckChunk {
     ghost output = { λ c. Some (chunk_text (heartbeat_ack_tree c)) };
 

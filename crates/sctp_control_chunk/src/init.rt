@@ -1,27 +1,30 @@
 //! INIT and INIT ACK (RFC 9260 sections 3.3.2 and 3.3.3).
+#![tactic(auto, unfolding(sctp_chunk::specs::ChunkText::chunk_text))]
 
-ghost use Rattle.std.specs.Prelude.{◌≡◌, ◌<◌, ◌≤◌, ◌++◌, length, drop, IfOk, IfErr, OnOk, OnErr};
+ghost use Rattle.std.specs.Prelude.{◌≡◌, ◌+◌, ◌^◌, ◌<◌, ◌≤◌, ◌++◌, true, length, map, drop, IfOk, IfErr, OnOk, OnErr, Some};
+ghost use Rattle.std.specs.List.{list_all};
 ghost use Rattle.sctp_wire.specs.Room.{Fills};
-ghost use Rattle.sctp_chunk.specs.Written.{chunk_item, chunk_is_whole};
-ghost use Rattle.sctp_chunk.specs.Grammar.{IsChunk, RefusesChunkAs};
+ghost use Rattle.sctp_wire.specs.Serialize.{inner_items};
+ghost use Rattle.sctp_wire.specs.Parameter.{parameter_item, parameter_is_whole};
+ghost use Rattle.sctp_parameter.specs.ParameterViews.{parameter_tree};
 ghost use Rattle.sctp_chunk.specs.Written.{init_fields};
+ghost use Rattle.sctp_chunk.specs.Grammar.{IsChunk, RefusesChunkAs};
 ghost use Rattle.sctp_chunk.specs.Views.{raw_chunk};
 ghost use Rattle.sctp_control_chunk.specs.Views.{init_chunk_tree, init_ack_chunk_tree, init_tree, init_ack_tree};
 ghost use Rattle.sctp_control_chunk.specs.InitFront.{init_front, FitsFront};
-ghost use Rattle.std.specs.Prelude.{Some};
 ghost use Rattle.sctp_chunk.specs.ChunkText.{chunk_text};
 
-use crate::inner::{are_whole, parameters_size, push_parameters};
+use crate::inner::push_parameters;
 use sctp_chunk::RawChunk;
 use sctp_parameter::{Parameter, parameters_from_bytes};
 use sctp_serial::Tsn;
-use sctp_wire::{ChunkParseError, SerializableTlv, first_u16, first_u32, push_u16, push_u32};
+use sctp_wire::{ChunkParseError, first_u16, first_u32, push_u16, push_u32};
 use std::alloc::{AllocError, Global};
 use std::fmt;
 
 /// The fields that both begin with.
 #[derive(Clone, Copy)]
-struct InitFields {
+pub struct InitFields {
     initiate_tag: u32,
     a_rwnd: u32,
     nbr_outbound_streams: u16,
@@ -60,6 +63,7 @@ impl InitFields {
         ))
     }
 
+    /// Appends them.
     fn push_to(self, output: &mut Vec<u8>) -> Result<(), AllocError>
         ensures wrote { OnOk result (output.new.items ≡ output.old.items ++ init_front self) }
         ensures room { Fills output.old output.new 16 result }
@@ -70,6 +74,21 @@ impl InitFields {
         push_u16(output, self.nbr_inbound_streams)?;
         push_u32(output, self.initial_tsn.0)
     }
+}
+
+/// Appends the value of an INIT or an INIT ACK.
+pub fn push_init(
+    fields: InitFields,
+    parameters: &[Parameter],
+    output: &mut Vec<u8>,
+) -> Result<(), AllocError>
+    requires fits { 20 + length (inner_items (map parameter_item (map parameter_tree parameters.now))) < 2 ^ 16 }
+    requires whole { list_all parameter_is_whole (map parameter_tree parameters.now) ≡ true }
+    ensures wrote { OnOk result (output.new.items ≡ output.old.items ++ (init_front fields ++ inner_items (map parameter_item (map parameter_tree parameters.now)))) }
+    ensures room { Fills output.old output.new (16 + length (inner_items (map parameter_item (map parameter_tree parameters.now)))) result }
+{
+    fields.push_to(output)?;
+    push_parameters(parameters, output)
 }
 
 /// A request for an association.
@@ -90,14 +109,14 @@ impl InitChunk {
 
     /// What the chunk says; `InvalidType` where it is of another type, `InvalidLength` where its value has under 16
     /// bytes, else the fault of its first parameter that cannot be read.
-    pub fn try_from(alloc: Global, raw: RawChunk<'_>) -> Result<InitChunk, ChunkParseError>
+    pub fn try_from(alloc: Global, raw: RawChunk<'_>) -> Result<Self, ChunkParseError>
         ensures ok { IfOk result (λ c. IsChunk (raw_chunk raw.entry) (init_chunk_tree c)) }
         ensures refused { IfErr result (RefusesChunkAs 1 (raw_chunk raw.entry)) }
     {
         let value = raw.value_as(Self::TYPE)?;
         let (fields, behind) = InitFields::at(value)?;
         let parameters = parameters_from_bytes(alloc, behind)?;
-        Ok(InitChunk {
+        Ok(Self {
             initiate_tag: fields.initiate_tag,
             a_rwnd: fields.a_rwnd,
             nbr_outbound_streams: fields.nbr_outbound_streams,
@@ -107,7 +126,8 @@ impl InitChunk {
         })
     }
 
-    fn fields(&self) -> InitFields
+    /// The fields in front of its parameters.
+    pub fn fields(&self) -> InitFields
         ensures { init_front result ≡ init_fields (init_tree self.now) }
     {
         InitFields {
@@ -117,32 +137,6 @@ impl InitChunk {
             nbr_inbound_streams: self.nbr_inbound_streams,
             initial_tsn: self.initial_tsn,
         }
-    }
-}
-
-#[tactic(auto, unfolding(sctp_chunk::specs::Written::chunk_value))]
-impl SerializableTlv for InitChunk {
-    ghost item_of = { λ c. chunk_item (init_chunk_tree c) };
-
-    ghost parts_agree = { λ c. chunk_is_whole (init_chunk_tree c) };
-
-    fn kind(&self) -> [u8; 2] {
-        [Self::TYPE, 0]
-    }
-
-    #[tactic(auto, using(sctp_chunk::proofs::ValueLemmas::length_init))]
-    fn value_size(&self) -> usize {
-        parameters_size(&self.parameters).saturating_add(16)
-    }
-
-    fn is_whole(&self) -> bool {
-        are_whole(&self.parameters)
-    }
-
-    #[tactic(auto, using(sctp_chunk::proofs::ValueLemmas::length_init))]
-    fn push_value(&self, output: &mut Vec<u8>) -> Result<(), AllocError> {
-        self.fields().push_to(output)?;
-        push_parameters(&self.parameters, output)
     }
 }
 
@@ -164,14 +158,14 @@ impl InitAckChunk {
 
     /// What the chunk says; `InvalidType` where it is of another type, `InvalidLength` where its value has under 16
     /// bytes, else the fault of its first parameter that cannot be read.
-    pub fn try_from(alloc: Global, raw: RawChunk<'_>) -> Result<InitAckChunk, ChunkParseError>
+    pub fn try_from(alloc: Global, raw: RawChunk<'_>) -> Result<Self, ChunkParseError>
         ensures ok { IfOk result (λ c. IsChunk (raw_chunk raw.entry) (init_ack_chunk_tree c)) }
         ensures refused { IfErr result (RefusesChunkAs 2 (raw_chunk raw.entry)) }
     {
         let value = raw.value_as(Self::TYPE)?;
         let (fields, behind) = InitFields::at(value)?;
         let parameters = parameters_from_bytes(alloc, behind)?;
-        Ok(InitAckChunk {
+        Ok(Self {
             initiate_tag: fields.initiate_tag,
             a_rwnd: fields.a_rwnd,
             nbr_outbound_streams: fields.nbr_outbound_streams,
@@ -181,7 +175,8 @@ impl InitAckChunk {
         })
     }
 
-    fn fields(&self) -> InitFields
+    /// The fields in front of its parameters.
+    pub fn fields(&self) -> InitFields
         ensures { init_front result ≡ init_fields (init_ack_tree self.now) }
     {
         InitFields {
@@ -194,33 +189,6 @@ impl InitAckChunk {
     }
 }
 
-#[tactic(auto, unfolding(sctp_chunk::specs::Written::chunk_value))]
-impl SerializableTlv for InitAckChunk {
-    ghost item_of = { λ c. chunk_item (init_ack_chunk_tree c) };
-
-    ghost parts_agree = { λ c. chunk_is_whole (init_ack_chunk_tree c) };
-
-    fn kind(&self) -> [u8; 2] {
-        [Self::TYPE, 0]
-    }
-
-    #[tactic(auto, using(sctp_chunk::proofs::ValueLemmas::length_init_ack))]
-    fn value_size(&self) -> usize {
-        parameters_size(&self.parameters).saturating_add(16)
-    }
-
-    fn is_whole(&self) -> bool {
-        are_whole(&self.parameters)
-    }
-
-    #[tactic(auto, using(sctp_chunk::proofs::ValueLemmas::length_init_ack))]
-    fn push_value(&self, output: &mut Vec<u8>) -> Result<(), AllocError> {
-        self.fields().push_to(output)?;
-        push_parameters(&self.parameters, output)
-    }
-}
-
-#[tactic(auto, unfolding(sctp_chunk::specs::ChunkText::chunk_text))]
 impl fmt::Display for InitChunk {
     ghost output = { λ c. Some (chunk_text (init_chunk_tree c)) };
 
@@ -238,7 +206,6 @@ impl fmt::Display for InitChunk {
     }
 }
 
-#[tactic(auto, unfolding(sctp_chunk::specs::ChunkText::chunk_text))]
 impl fmt::Display for InitAckChunk {
     ghost output = { λ c. Some (chunk_text (init_ack_chunk_tree c)) };
 

@@ -1,18 +1,16 @@
 //! Chunks of no known type.
+#![tactic(auto, unfolding(sctp_chunk::specs::ChunkText::chunk_text))]
 
-ghost use Rattle.std.specs.Prelude.{◌≡◌, true, IfOk, IfErr};
-ghost use Rattle.sctp_chunk.specs.Written.{chunk_item};
+ghost use Rattle.std.specs.Prelude.{◌≡◌, false, IfOk, IfErr, Some};
+ghost use Rattle.sctp_chunk.specs.Written.{chunk_item, is_known_chunk};
 ghost use Rattle.sctp_chunk.specs.Grammar.{IsChunk};
-ghost use Rattle.std.specs.Prelude.{false};
-ghost use Rattle.sctp_chunk.specs.Written.{is_known_chunk};
 ghost use Rattle.sctp_chunk.specs.Views.{raw_chunk};
 ghost use Rattle.sctp_control_chunk.specs.Views.{unknown_tree};
-ghost use Rattle.std.specs.Prelude.{Some};
 ghost use Rattle.sctp_chunk.specs.ChunkText.{chunk_text};
 
 use sctp_chunk::RawChunk;
-use sctp_wire::{ChunkParseError, SerializableTlv};
-use std::alloc::{AllocError, Global};
+use sctp_wire::ChunkParseError;
+use std::alloc::Global;
 use std::fmt;
 
 /// A chunk that is kept as it came.
@@ -26,12 +24,12 @@ pub struct UnknownChunk {
 #[tactic(auto, unfolding(sctp_chunk::specs::Written::chunk_value))]
 impl UnknownChunk {
     /// The chunk, of whatever type; only memory may lack.
-    pub fn try_from(alloc: Global, raw: RawChunk<'_>) -> Result<UnknownChunk, ChunkParseError>
+    pub fn try_from(alloc: Global, raw: RawChunk<'_>) -> Result<Self, ChunkParseError>
         ensures ok { IfOk result (λ c. chunk_item (unknown_tree c) ≡ raw_chunk raw.entry) }
         ensures chunk { IfOk result (λ c. is_known_chunk raw.entry.typ ≡ false → IsChunk (raw_chunk raw.entry) (unknown_tree c)) }
         ensures refused { IfErr result (λ e. e ≡ ChunkParseError.Memory) }
     {
-        Ok(UnknownChunk {
+        Ok(Self {
             typ: raw.typ,
             flags: raw.flags,
             value: Vec::from_slice(alloc, raw.value)?,
@@ -39,30 +37,6 @@ impl UnknownChunk {
     }
 }
 
-#[tactic(auto, unfolding(sctp_chunk::specs::Written::chunk_value))]
-impl SerializableTlv for UnknownChunk {
-    ghost item_of = { λ c. chunk_item (unknown_tree c) };
-
-    ghost parts_agree = { λ c. true };
-
-    fn kind(&self) -> [u8; 2] {
-        [self.typ, self.flags]
-    }
-
-    fn value_size(&self) -> usize {
-        self.value.len()
-    }
-
-    fn is_whole(&self) -> bool {
-        true
-    }
-
-    fn push_value(&self, output: &mut Vec<u8>) -> Result<(), AllocError> {
-        output.extend_from_slice(&self.value)
-    }
-}
-
-#[tactic(auto, unfolding(sctp_chunk::specs::ChunkText::chunk_text))]
 impl fmt::Display for UnknownChunk {
     ghost output = { λ c. Some (chunk_text (unknown_tree c)) };
 

@@ -24,13 +24,9 @@ text_of_text text is = (is.0, subst (λ (x : List ℕ). ReadsChars x is.0 []) (a
 
 cause_read : (t : CauseTree) → CauseReadsBack t → ReadsCause (cause_value t) t
 unfolding cause_value
-cause_read (missing_mandatory_parameter types) h = refl
-cause_read (unrecognized_chunk chunk) h = refl
-cause_read (no_user_data tsn) h = refl
-cause_read cookie_received_while_shutting_down h = refl
 cause_read (user_initiated_abort reason) h = text_of_text reason h.text
 cause_read (protocol_violation information) h = text_of_text information h.text
-cause_read (unknown_cause typ value) h = refl
+cause_read _ h = refl
 
 pub cause_written : (t : CauseTree) → CauseReadsBack t → IsEncodable (cause_item t) × IsCause (cause_item t) t
 cause_written t h = (h.encodable, record { fits = h.fits; typed = sym (type_of_typed (cause_type t) (cause_value t)); valued = cause_read t h; of_its_variant = h.of_its_variant })

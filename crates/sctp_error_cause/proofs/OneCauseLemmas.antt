@@ -70,11 +70,7 @@ emitted typ value text = cond (is_known_cause typ) (known typ value text) (unkno
 abbrev text_in : CauseTree → List ℕ
 text_in (user_initiated_abort reason) = reason
 text_in (protocol_violation information) = information
-text_in (missing_mandatory_parameter types) = []
-text_in (unrecognized_chunk chunk) = []
-text_in (no_user_data missing) = []
-text_in cookie_received_while_shutting_down = []
-text_in (unknown_cause typ value) = []
+text_in _ = []
 
 at_type : (typ k : ℕ) (value text : List ℕ) (t : CauseTree) → typ ≡ k → emitted k value text ≡ t → emitted typ value text ≡ t
 at_type typ k value text t e h = ap (λ (n : ℕ). emitted n value text) e ∙ h
@@ -96,12 +92,9 @@ cause_emitted typ value (unknown_cause kept bytes) s =
 has_text : (typ : ℕ) (value : List ℕ) (t : CauseTree) → (typ ≡ 12) ⊎ (typ ≡ 13) → SaysCause typ value t → IsTextOf value (text_in t)
 has_text typ value (user_initiated_abort reason) k s = s.valued
 has_text typ value (protocol_violation information) k s = s.valued
-has_text typ value (missing_mandatory_parameter types) k s = absurd (omega (arith, s.typed, k))
-has_text typ value (unrecognized_chunk chunk) k s = absurd (omega (arith, s.typed, k))
-has_text typ value (no_user_data missing) k s = absurd (omega (arith, s.typed, k))
-has_text typ value cookie_received_while_shutting_down k s = absurd (omega (arith, s.typed, k))
 has_text typ value (unknown_cause kept bytes) (inl k) s = absurd (clash (subst (λ (n : ℕ). is_known_cause n ≡ false) (sym s.typed ∙ k) s.of_its_variant))
 has_text typ value (unknown_cause kept bytes) (inr k) s = absurd (clash (subst (λ (n : ℕ). is_known_cause n ≡ false) (sym s.typed ∙ k) s.of_its_variant))
+has_text typ value t k s = absurd (omega (arith, s.typed, k))
 
 -- of other types the text does not matter
 no_text : (typ : ℕ) (value x y : List ℕ) → (typ == 12) ≡ false → (typ == 13) ≡ false → emitted typ value x ≡ emitted typ value y

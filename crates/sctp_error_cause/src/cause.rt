@@ -1,4 +1,5 @@
 //! Error causes, in ABORT and ERROR (RFC 9260 section 3.3.10).
+#![tactic(auto, unfolding(sctp_wire::specs::Cause::cause_value, sctp_wire::specs::CauseText::cause_text))]
 
 ghost use Rattle.std.specs.Prelude.{true, IfOk, IfErr, Some};
 ghost use Rattle.sctp_wire.specs.CauseText.{cause_text};
@@ -7,8 +8,8 @@ ghost use Rattle.sctp_error_cause.specs.CauseViews.{missing_mandatory_parameter_
 
 use sctp_serial::Tsn;
 use sctp_wire::{
-    ChunkParseError, Entry, Joined, RawParameter, SerializableTlv, ends_here, entries_from_bytes,
-    push_entries, push_u32, text_from_bytes, u32_at,
+    ChunkParseError, Entry, FieldValue, Joined, OneField, RawParameter, SerializableTlv, ends_here,
+    entries_from_bytes, push_entries, push_u32, text_from_bytes, u32_at,
 };
 use std::alloc::{AllocError, Global};
 use std::fmt;
@@ -20,17 +21,13 @@ pub struct MissingMandatoryParameterErrorCause {
     pub missing_parameter_types: Vec<u16>,
 }
 
-#[tactic(auto, unfolding(sctp_wire::specs::Cause::cause_value))]
 impl MissingMandatoryParameterErrorCause {
     /// The cause's type.
     pub const TYPE: u16 = 2;
 
     /// What the cause says; `InvalidType` where it is of another type, `InvalidLength` where there are
     /// not as many types as it counts.
-    pub fn try_from(
-        alloc: Global,
-        raw: RawParameter<'_>,
-    ) -> Result<MissingMandatoryParameterErrorCause, ChunkParseError>
+    pub fn try_from(alloc: Global, raw: RawParameter<'_>) -> Result<Self, ChunkParseError>
         ensures ok { IfOk result (λ c. SaysCause raw.entry.typ raw.entry.value.now (missing_mandatory_parameter_tree c)) }
         ensures refused { IfErr result (RefusesCauseAs 2 raw.entry.typ raw.entry.value.now) }
     {
@@ -39,13 +36,12 @@ impl MissingMandatoryParameterErrorCause {
         if rest.len() != 2 * count as usize {
             return Err(ChunkParseError::InvalidLength);
         }
-        Ok(MissingMandatoryParameterErrorCause {
+        Ok(Self {
             missing_parameter_types: entries_from_bytes(alloc, rest)?,
         })
     }
 }
 
-#[tactic(auto, unfolding(sctp_wire::specs::Cause::cause_value))]
 impl SerializableTlv for MissingMandatoryParameterErrorCause {
     ghost item_of = { λ c. cause_item (missing_mandatory_parameter_tree c) };
 
@@ -74,7 +70,6 @@ impl SerializableTlv for MissingMandatoryParameterErrorCause {
     }
 }
 
-#[tactic(auto, unfolding(sctp_wire::specs::CauseText::cause_text))]
 impl fmt::Display for MissingMandatoryParameterErrorCause {
     ghost output = { λ c. Some (cause_text (missing_mandatory_parameter_tree c)) };
 
@@ -94,50 +89,32 @@ pub struct UnrecognizedChunkErrorCause {
     pub chunk: Vec<u8>,
 }
 
-#[tactic(auto, unfolding(sctp_wire::specs::Cause::cause_value))]
 impl UnrecognizedChunkErrorCause {
     /// The cause's type.
     pub const TYPE: u16 = 6;
 
     /// What the cause says; `InvalidType` where it is of another type.
-    pub fn try_from(
-        alloc: Global,
-        raw: RawParameter<'_>,
-    ) -> Result<UnrecognizedChunkErrorCause, ChunkParseError>
+    pub fn try_from(alloc: Global, raw: RawParameter<'_>) -> Result<Self, ChunkParseError>
         ensures ok { IfOk result (λ c. SaysCause raw.entry.typ raw.entry.value.now (unrecognized_chunk_tree c)) }
         ensures refused { IfErr result (RefusesCauseAs 6 raw.entry.typ raw.entry.value.now) }
     {
-        let value = raw.value_as(Self::TYPE)?;
-        Ok(UnrecognizedChunkErrorCause {
-            chunk: Vec::from_slice(alloc, value)?,
-        })
+        let chunk = Vec::from_slice(alloc, raw.value_as(Self::TYPE)?)?;
+        Ok(Self { chunk })
     }
 }
 
-#[tactic(auto, unfolding(sctp_wire::specs::Cause::cause_value))]
-impl SerializableTlv for UnrecognizedChunkErrorCause {
-    ghost item_of = { λ c. cause_item (unrecognized_chunk_tree c) };
+impl OneField for UnrecognizedChunkErrorCause {
+    ghost item = { λ c. cause_item (unrecognized_chunk_tree c) };
 
-    ghost parts_agree = { λ c. true };
-
-    fn kind(&self) -> [u8; 2] {
+    fn first_bytes(&self) -> [u8; 2] {
         Self::TYPE.to_be_bytes()
     }
 
-    fn value_size(&self) -> usize {
-        self.chunk.len()
-    }
-
-    fn is_whole(&self) -> bool {
-        true
-    }
-
-    fn push_value(&self, output: &mut Vec<u8>) -> Result<(), AllocError> {
-        output.extend_from_slice(&self.chunk)
+    fn field(&self) -> FieldValue<'_> {
+        FieldValue::Bytes(&self.chunk)
     }
 }
 
-#[tactic(auto, unfolding(sctp_wire::specs::CauseText::cause_text))]
 impl fmt::Display for UnrecognizedChunkErrorCause {
     ghost output = { λ c. Some (cause_text (unrecognized_chunk_tree c)) };
 
@@ -153,53 +130,35 @@ pub struct NoUserDataErrorCause {
     pub tsn: Tsn,
 }
 
-#[tactic(auto, unfolding(sctp_wire::specs::Cause::cause_value))]
 impl NoUserDataErrorCause {
     /// The cause's type.
     pub const TYPE: u16 = 9;
 
     /// What the cause says; `InvalidType` where it is of another type, `InvalidLength` where its value has
     /// not four bytes.
-    pub fn try_from(
-        _alloc: Global,
-        raw: RawParameter<'_>,
-    ) -> Result<NoUserDataErrorCause, ChunkParseError>
+    pub fn try_from(_alloc: Global, raw: RawParameter<'_>) -> Result<Self, ChunkParseError>
         ensures ok { IfOk result (λ c. SaysCause raw.entry.typ raw.entry.value.now (no_user_data_tree c)) }
         ensures refused { IfErr result (RefusesCauseAs 9 raw.entry.typ raw.entry.value.now) }
     {
         let value = raw.value_as(Self::TYPE)?;
         let (tsn, rest) = Tsn::entry_at(value)?;
         ends_here(rest)?;
-        Ok(NoUserDataErrorCause { tsn })
+        Ok(Self { tsn })
     }
 }
 
-#[tactic(auto, unfolding(sctp_wire::specs::Cause::cause_value))]
-impl SerializableTlv for NoUserDataErrorCause {
-    ghost item_of = { λ c. cause_item (no_user_data_tree c) };
+impl OneField for NoUserDataErrorCause {
+    ghost item = { λ c. cause_item (no_user_data_tree c) };
 
-    ghost parts_agree = { λ c. true };
-
-    fn kind(&self) -> [u8; 2] {
+    fn first_bytes(&self) -> [u8; 2] {
         Self::TYPE.to_be_bytes()
     }
 
-    #[tactic(auto, using(crate::proofs::CauseLemmas::length_no_user_data))]
-    fn value_size(&self) -> usize {
-        4
-    }
-
-    fn is_whole(&self) -> bool {
-        true
-    }
-
-    #[tactic(auto, using(crate::proofs::CauseLemmas::length_no_user_data), unfolding(sctp_wire::specs::Cause::cause_value))]
-    fn push_value(&self, output: &mut Vec<u8>) -> Result<(), AllocError> {
-        push_u32(output, self.tsn.0)
+    fn field(&self) -> FieldValue<'_> {
+        FieldValue::Number(self.tsn.0)
     }
 }
 
-#[tactic(auto, unfolding(sctp_wire::specs::CauseText::cause_text))]
 impl fmt::Display for NoUserDataErrorCause {
     ghost output = { λ c. Some (cause_text (no_user_data_tree c)) };
 
@@ -212,49 +171,32 @@ impl fmt::Display for NoUserDataErrorCause {
 #[derive(Clone, Copy, Debug)]
 pub struct CookieReceivedWhileShuttingDownErrorCause {}
 
-#[tactic(auto, unfolding(sctp_wire::specs::Cause::cause_value))]
 impl CookieReceivedWhileShuttingDownErrorCause {
     /// The cause's type.
     pub const TYPE: u16 = 10;
 
     /// What the cause says; `InvalidType` where it is of another type, `InvalidLength` where it has a value.
-    pub fn try_from(
-        _alloc: Global,
-        raw: RawParameter<'_>,
-    ) -> Result<CookieReceivedWhileShuttingDownErrorCause, ChunkParseError>
+    pub fn try_from(_alloc: Global, raw: RawParameter<'_>) -> Result<Self, ChunkParseError>
         ensures ok { IfOk result (λ c. SaysCause raw.entry.typ raw.entry.value.now (cookie_received_tree c)) }
         ensures refused { IfErr result (RefusesCauseAs 10 raw.entry.typ raw.entry.value.now) }
     {
-        let value = raw.value_as(Self::TYPE)?;
-        ends_here(value)?;
-        Ok(CookieReceivedWhileShuttingDownErrorCause {})
+        ends_here(raw.value_as(Self::TYPE)?)?;
+        Ok(Self {})
     }
 }
 
-#[tactic(auto, unfolding(sctp_wire::specs::Cause::cause_value))]
-impl SerializableTlv for CookieReceivedWhileShuttingDownErrorCause {
-    ghost item_of = { λ c. cause_item (cookie_received_tree c) };
+impl OneField for CookieReceivedWhileShuttingDownErrorCause {
+    ghost item = { λ c. cause_item (cookie_received_tree c) };
 
-    ghost parts_agree = { λ c. true };
-
-    fn kind(&self) -> [u8; 2] {
+    fn first_bytes(&self) -> [u8; 2] {
         Self::TYPE.to_be_bytes()
     }
 
-    fn value_size(&self) -> usize {
-        0
-    }
-
-    fn is_whole(&self) -> bool {
-        true
-    }
-
-    fn push_value(&self, _output: &mut Vec<u8>) -> Result<(), AllocError> {
-        Ok(())
+    fn field(&self) -> FieldValue<'_> {
+        FieldValue::Bytes(&[])
     }
 }
 
-#[tactic(auto, unfolding(sctp_wire::specs::CauseText::cause_text))]
 impl fmt::Display for CookieReceivedWhileShuttingDownErrorCause {
     ghost output = { λ c. Some (cause_text (cookie_received_tree c)) };
 
@@ -270,50 +212,32 @@ pub struct UserInitiatedAbortErrorCause {
     pub reason: String,
 }
 
-#[tactic(auto, unfolding(sctp_wire::specs::Cause::cause_value))]
 impl UserInitiatedAbortErrorCause {
     /// The cause's type.
     pub const TYPE: u16 = 12;
 
     /// What the cause says; `InvalidType` where it is of another type.
-    pub fn try_from(
-        alloc: Global,
-        raw: RawParameter<'_>,
-    ) -> Result<UserInitiatedAbortErrorCause, ChunkParseError>
+    pub fn try_from(alloc: Global, raw: RawParameter<'_>) -> Result<Self, ChunkParseError>
         ensures ok { IfOk result (λ c. SaysCause raw.entry.typ raw.entry.value.now (user_initiated_abort_tree c)) }
         ensures refused { IfErr result (RefusesCauseAs 12 raw.entry.typ raw.entry.value.now) }
     {
-        let value = raw.value_as(Self::TYPE)?;
-        Ok(UserInitiatedAbortErrorCause {
-            reason: text_from_bytes(alloc, value)?,
-        })
+        let reason = text_from_bytes(alloc, raw.value_as(Self::TYPE)?)?;
+        Ok(Self { reason })
     }
 }
 
-#[tactic(auto, unfolding(sctp_wire::specs::Cause::cause_value))]
-impl SerializableTlv for UserInitiatedAbortErrorCause {
-    ghost item_of = { λ c. cause_item (user_initiated_abort_tree c) };
+impl OneField for UserInitiatedAbortErrorCause {
+    ghost item = { λ c. cause_item (user_initiated_abort_tree c) };
 
-    ghost parts_agree = { λ c. true };
-
-    fn kind(&self) -> [u8; 2] {
+    fn first_bytes(&self) -> [u8; 2] {
         Self::TYPE.to_be_bytes()
     }
 
-    fn value_size(&self) -> usize {
-        self.reason.len()
-    }
-
-    fn is_whole(&self) -> bool {
-        true
-    }
-
-    fn push_value(&self, output: &mut Vec<u8>) -> Result<(), AllocError> {
-        output.extend_from_slice(self.reason.as_bytes())
+    fn field(&self) -> FieldValue<'_> {
+        FieldValue::Bytes(self.reason.as_bytes())
     }
 }
 
-#[tactic(auto, unfolding(sctp_wire::specs::CauseText::cause_text))]
 impl fmt::Display for UserInitiatedAbortErrorCause {
     ghost output = { λ c. Some (cause_text (user_initiated_abort_tree c)) };
 
@@ -329,50 +253,32 @@ pub struct ProtocolViolationErrorCause {
     pub information: String,
 }
 
-#[tactic(auto, unfolding(sctp_wire::specs::Cause::cause_value))]
 impl ProtocolViolationErrorCause {
     /// The cause's type.
     pub const TYPE: u16 = 13;
 
     /// What the cause says; `InvalidType` where it is of another type.
-    pub fn try_from(
-        alloc: Global,
-        raw: RawParameter<'_>,
-    ) -> Result<ProtocolViolationErrorCause, ChunkParseError>
+    pub fn try_from(alloc: Global, raw: RawParameter<'_>) -> Result<Self, ChunkParseError>
         ensures ok { IfOk result (λ c. SaysCause raw.entry.typ raw.entry.value.now (protocol_violation_tree c)) }
         ensures refused { IfErr result (RefusesCauseAs 13 raw.entry.typ raw.entry.value.now) }
     {
-        let value = raw.value_as(Self::TYPE)?;
-        Ok(ProtocolViolationErrorCause {
-            information: text_from_bytes(alloc, value)?,
-        })
+        let information = text_from_bytes(alloc, raw.value_as(Self::TYPE)?)?;
+        Ok(Self { information })
     }
 }
 
-#[tactic(auto, unfolding(sctp_wire::specs::Cause::cause_value))]
-impl SerializableTlv for ProtocolViolationErrorCause {
-    ghost item_of = { λ c. cause_item (protocol_violation_tree c) };
+impl OneField for ProtocolViolationErrorCause {
+    ghost item = { λ c. cause_item (protocol_violation_tree c) };
 
-    ghost parts_agree = { λ c. true };
-
-    fn kind(&self) -> [u8; 2] {
+    fn first_bytes(&self) -> [u8; 2] {
         Self::TYPE.to_be_bytes()
     }
 
-    fn value_size(&self) -> usize {
-        self.information.len()
-    }
-
-    fn is_whole(&self) -> bool {
-        true
-    }
-
-    fn push_value(&self, output: &mut Vec<u8>) -> Result<(), AllocError> {
-        output.extend_from_slice(self.information.as_bytes())
+    fn field(&self) -> FieldValue<'_> {
+        FieldValue::Bytes(self.information.as_bytes())
     }
 }
 
-#[tactic(auto, unfolding(sctp_wire::specs::CauseText::cause_text))]
 impl fmt::Display for ProtocolViolationErrorCause {
     ghost output = { λ c. Some (cause_text (protocol_violation_tree c)) };
 

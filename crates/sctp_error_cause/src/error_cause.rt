@@ -15,7 +15,7 @@ use crate::cause::{
 use crate::check::check_value;
 use sctp_wire::{
     CheckItem, ChunkParseError, FromItem, RawItem, RawParameter, SerializableTlv, UnknownParameter,
-    check_items, items_from_bytes,
+    check_items, items_from_bytes, read_by_type,
 };
 use std::alloc::{AllocError, Global};
 use std::fmt;
@@ -39,16 +39,6 @@ pub enum ErrorCause {
     Unknown(UnknownParameter),
 }
 
-/// The cause as its variant, or its reader's fault.
-macro_rules! read_as {
-    ($variant:ident, $read:expr) => {
-        match $read {
-            Ok(cause) => Ok(ErrorCause::$variant(cause)),
-            Err(fault) => Err(fault),
-        }
-    };
-}
-
 #[tactic(auto, unfolding(sctp_wire::specs::Cause::cause_value))]
 impl ErrorCause {
     /// What a cause says, by its type.
@@ -56,33 +46,15 @@ impl ErrorCause {
         ensures ok { IfOk result (λ it. SaysCause raw.entry.typ raw.entry.value.now (cause_tree it)) }
         ensures refused { IfErr result (RefusesCauseAs raw.entry.typ raw.entry.typ raw.entry.value.now) }
     {
-        match raw.typ {
-            MissingMandatoryParameterErrorCause::TYPE => read_as!(
-                MissingMandatoryParameter,
-                MissingMandatoryParameterErrorCause::try_from(alloc, raw)
-            ),
-            UnrecognizedChunkErrorCause::TYPE => read_as!(
-                UnrecognizedChunk,
-                UnrecognizedChunkErrorCause::try_from(alloc, raw)
-            ),
-            NoUserDataErrorCause::TYPE => read_as!(
-                NoUserData,
-                NoUserDataErrorCause::try_from(alloc, raw)
-            ),
-            CookieReceivedWhileShuttingDownErrorCause::TYPE => read_as!(
-                CookieReceivedWhileShuttingDown,
-                CookieReceivedWhileShuttingDownErrorCause::try_from(alloc, raw)
-            ),
-            UserInitiatedAbortErrorCause::TYPE => read_as!(
-                UserInitiatedAbort,
-                UserInitiatedAbortErrorCause::try_from(alloc, raw)
-            ),
-            ProtocolViolationErrorCause::TYPE => read_as!(
-                ProtocolViolation,
-                ProtocolViolationErrorCause::try_from(alloc, raw)
-            ),
-            _ => read_as!(Unknown, UnknownParameter::try_from(alloc, raw)),
-        }
+        read_by_type!(ErrorCause, alloc, raw,
+            MissingMandatoryParameterErrorCause::TYPE => MissingMandatoryParameter(MissingMandatoryParameterErrorCause),
+            UnrecognizedChunkErrorCause::TYPE => UnrecognizedChunk(UnrecognizedChunkErrorCause),
+            NoUserDataErrorCause::TYPE => NoUserData(NoUserDataErrorCause),
+            CookieReceivedWhileShuttingDownErrorCause::TYPE => CookieReceivedWhileShuttingDown(CookieReceivedWhileShuttingDownErrorCause),
+            UserInitiatedAbortErrorCause::TYPE => UserInitiatedAbort(UserInitiatedAbortErrorCause),
+            ProtocolViolationErrorCause::TYPE => ProtocolViolation(ProtocolViolationErrorCause),
+            _ => Unknown(UnknownParameter),
+        )
     }
 
     /// Whether a cause says something. It has the faults of `try_from`, but for want of memory, since it builds nothing.
@@ -95,6 +67,21 @@ impl ErrorCause {
     }
 }
 
+/// What is asked of a cause, answered by its kind.
+macro_rules! of_its_kind {
+    ($cause:expr, $it:ident => $answer:expr) => {
+        match $cause {
+            ErrorCause::MissingMandatoryParameter($it) => $answer,
+            ErrorCause::UnrecognizedChunk($it) => $answer,
+            ErrorCause::NoUserData($it) => $answer,
+            ErrorCause::CookieReceivedWhileShuttingDown($it) => $answer,
+            ErrorCause::UserInitiatedAbort($it) => $answer,
+            ErrorCause::ProtocolViolation($it) => $answer,
+            ErrorCause::Unknown($it) => $answer,
+        }
+    };
+}
+
 #[tactic(auto, unfolding(sctp_wire::specs::Cause::cause_value))]
 impl SerializableTlv for ErrorCause {
     ghost item_of = { λ it. cause_item (cause_tree it) };
@@ -102,51 +89,19 @@ impl SerializableTlv for ErrorCause {
     ghost parts_agree = { λ it. true };
 
     fn kind(&self) -> [u8; 2] {
-        match self {
-            ErrorCause::MissingMandatoryParameter(it) => it.kind(),
-            ErrorCause::UnrecognizedChunk(it) => it.kind(),
-            ErrorCause::NoUserData(it) => it.kind(),
-            ErrorCause::CookieReceivedWhileShuttingDown(it) => it.kind(),
-            ErrorCause::UserInitiatedAbort(it) => it.kind(),
-            ErrorCause::ProtocolViolation(it) => it.kind(),
-            ErrorCause::Unknown(it) => it.kind(),
-        }
+        of_its_kind!(self, it => it.kind())
     }
 
     fn value_size(&self) -> usize {
-        match self {
-            ErrorCause::MissingMandatoryParameter(it) => it.value_size(),
-            ErrorCause::UnrecognizedChunk(it) => it.value_size(),
-            ErrorCause::NoUserData(it) => it.value_size(),
-            ErrorCause::CookieReceivedWhileShuttingDown(it) => it.value_size(),
-            ErrorCause::UserInitiatedAbort(it) => it.value_size(),
-            ErrorCause::ProtocolViolation(it) => it.value_size(),
-            ErrorCause::Unknown(it) => it.value_size(),
-        }
+        of_its_kind!(self, it => it.value_size())
     }
 
     fn is_whole(&self) -> bool {
-        match self {
-            ErrorCause::MissingMandatoryParameter(it) => it.is_whole(),
-            ErrorCause::UnrecognizedChunk(it) => it.is_whole(),
-            ErrorCause::NoUserData(it) => it.is_whole(),
-            ErrorCause::CookieReceivedWhileShuttingDown(it) => it.is_whole(),
-            ErrorCause::UserInitiatedAbort(it) => it.is_whole(),
-            ErrorCause::ProtocolViolation(it) => it.is_whole(),
-            ErrorCause::Unknown(it) => it.is_whole(),
-        }
+        true
     }
 
     fn push_value(&self, output: &mut Vec<u8>) -> Result<(), AllocError> {
-        match self {
-            ErrorCause::MissingMandatoryParameter(it) => it.push_value(output),
-            ErrorCause::UnrecognizedChunk(it) => it.push_value(output),
-            ErrorCause::NoUserData(it) => it.push_value(output),
-            ErrorCause::CookieReceivedWhileShuttingDown(it) => it.push_value(output),
-            ErrorCause::UserInitiatedAbort(it) => it.push_value(output),
-            ErrorCause::ProtocolViolation(it) => it.push_value(output),
-            ErrorCause::Unknown(it) => it.push_value(output),
-        }
+        of_its_kind!(self, it => it.push_value(output))
     }
 }
 

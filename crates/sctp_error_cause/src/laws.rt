@@ -46,9 +46,7 @@ pub fn cause_fits(cause: &ErrorCause)
         ErrorCause::ProtocolViolation(cause) => {
             let _ = cause.information.as_str();
         }
-        ErrorCause::UnrecognizedChunk(_)
-        | ErrorCause::CookieReceivedWhileShuttingDown(_)
-        | ErrorCause::Unknown(_) => {}
+        _ => {}
     }
 }
 

@@ -10,13 +10,13 @@ use Rattle.sctp_wire.specs.Item.{Item, ParsesAll}
 use Rattle.sctp_wire.specs.Serialize.{IsEncodable, padded_item, inner_items}
 use Rattle.sctp_wire.specs.Text.{ReadsChars, IsTextOf}
 use Rattle.sctp_wire.specs.Parameter.{ParameterTree, IsParameter, parameter_item, parameter_is_whole}
-use Rattle.sctp_wire.specs.Cause.{CauseTree, IsCause, cause_item, missing_mandatory_parameter, unrecognized_chunk, no_user_data, cookie_received_while_shutting_down, user_initiated_abort, protocol_violation, unknown_cause}
+use Rattle.sctp_wire.specs.Cause.{CauseTree, IsCause, cause_item, user_initiated_abort, protocol_violation}
 use Rattle.sctp_wire.specs.ReadBack.{ParameterReadsBack, CauseReadsBack, IsText}
 use Rattle.sctp_wire.proofs.SerializeLemmas.{length_padded_item}
 use Rattle.sctp_wire.specs.declared.checksum.Policy.{Policy}
 use Rattle.sctp_chunk.specs.declared.forward_tsn.SkippedStream.{SkippedStream}
 use Rattle.sctp_chunk.specs.declared.forward_tsn.SkippedStream.TheVariants as skips
-use Rattle.sctp_chunk.specs.Chunk.{ChunkTree, data_chunk, init_chunk, init_ack_chunk, sack_chunk, heartbeat_request_chunk, heartbeat_ack_chunk, abort_chunk, shutdown_chunk, shutdown_ack_chunk, error_chunk, cookie_echo_chunk, cookie_ack_chunk, shutdown_complete_chunk, idata_chunk, re_config_chunk, forward_tsn_chunk, i_forward_tsn_chunk, unknown_chunk}
+use Rattle.sctp_chunk.specs.Chunk.{ChunkTree, init_chunk, init_ack_chunk, heartbeat_request_chunk, heartbeat_ack_chunk, abort_chunk, error_chunk, cookie_echo_chunk, re_config_chunk, forward_tsn_chunk, i_forward_tsn_chunk, unknown_chunk}
 use Rattle.sctp_chunk.specs.Written.{chunk_item, chunk_value, chunk_bytes, chunks_bytes, chunk_is_whole, init_fields, is_mid_skip}
 use Rattle.sctp_chunk.specs.Grammar.{IsChunk, SaysSkips, carried}
 use Rattle.sctp_packet.specs.ReadBack.{ChunkReadsBack, IsReadable}
@@ -55,11 +55,7 @@ text_is_utf8 bytes text is = (is.0, (scalars_read bytes is.0 is.1, sym is.2))
 text_read : (i : Item) (t : CauseTree) → IsCause i t → IsText t
 text_read i (user_initiated_abort reason) says = text_is_utf8 i.value reason says.valued
 text_read i (protocol_violation information) says = text_is_utf8 i.value information says.valued
-text_read i (missing_mandatory_parameter types) says = tt
-text_read i (unrecognized_chunk chunk) says = tt
-text_read i (no_user_data tsn) says = tt
-text_read i cookie_received_while_shutting_down says = tt
-text_read i (unknown_cause typ value) says = tt
+text_read i _ says = tt
 
 cause_reads_back : (i : Item) (t : CauseTree) → IsCause i t → IsEncodable (cause_item t) → CauseReadsBack t
 cause_reads_back i t says fits = record { encodable = fits; fits = says.fits; text = text_read i t says; of_its_variant = says.of_its_variant }
@@ -86,49 +82,31 @@ skips_whole bytes (skips.ForwardTsn id ssn ∷ ss) says = absurd says.3
 skips_whole bytes (skips.IForwardTsn key mid ∷ ss) says = and_from true (list_all is_mid_skip ss) refl (skips_whole says.1 ss says.4)
 
 chunk_whole : (i : Item) (t : ChunkTree) → IsChunk i t → chunk_is_whole t ≡ true
-chunk_whole i (data_chunk tsn immediate f) says = refl
 chunk_whole i (init_chunk init) says = parameters_whole says.value.0 init.parameters says.value.2
 chunk_whole i (init_ack_chunk init) says = parameters_whole says.value.0 init.parameters says.value.2
-chunk_whole i (sack_chunk sack) says = refl
 chunk_whole i (heartbeat_request_chunk ps) says = parameters_whole i.value ps says.value
 chunk_whole i (heartbeat_ack_chunk ps) says = parameters_whole i.value ps says.value
-chunk_whole i (abort_chunk reflected causes) says = refl
-chunk_whole i (shutdown_chunk tsn) says = refl
-chunk_whole i shutdown_ack_chunk says = refl
-chunk_whole i (error_chunk causes) says = refl
-chunk_whole i (cookie_echo_chunk cookie) says = refl
-chunk_whole i cookie_ack_chunk says = refl
-chunk_whole i (shutdown_complete_chunk reflected) says = refl
-chunk_whole i (idata_chunk tsn immediate f) says = refl
 chunk_whole i (re_config_chunk ps) says = parameters_whole i.value ps says.value
 chunk_whole i (forward_tsn_chunk tsn ss) says = says.value.1
 chunk_whole i (i_forward_tsn_chunk tsn ss) says = skips_whole says.value.0 ss says.value.2
-chunk_whole i (unknown_chunk typ flags value) says = refl
+chunk_whole i _ says = refl
 
 -- ---- chunks
 
 chunk_readable : (i : Item) (t : ChunkTree) → IsChunk i t → IsEncodable (chunk_item t) → IsReadable t
 unfolding chunk_value init_fields
-chunk_readable i (data_chunk tsn immediate f) says fits = tt
 chunk_readable i (init_chunk init) says fits =
     parameters_read_back says.value.0 init.parameters says.value.2 (omega (arith, fits, length-append (init_fields init) (inner_items (map parameter_item init.parameters))))
 chunk_readable i (init_ack_chunk init) says fits =
     parameters_read_back says.value.0 init.parameters says.value.2 (omega (arith, fits, length-append (init_fields init) (inner_items (map parameter_item init.parameters))))
-chunk_readable i (sack_chunk sack) says fits = tt
 chunk_readable i (heartbeat_request_chunk ps) says fits = parameters_read_back i.value ps says.value fits
 chunk_readable i (heartbeat_ack_chunk ps) says fits = parameters_read_back i.value ps says.value fits
 chunk_readable i (abort_chunk reflected causes) says fits = causes_read_back i.value causes says.value fits
-chunk_readable i (shutdown_chunk tsn) says fits = tt
-chunk_readable i shutdown_ack_chunk says fits = tt
 chunk_readable i (error_chunk causes) says fits = causes_read_back i.value causes says.value fits
 chunk_readable i (cookie_echo_chunk cookie) says fits = says.value.1
-chunk_readable i cookie_ack_chunk says fits = tt
-chunk_readable i (shutdown_complete_chunk reflected) says fits = tt
-chunk_readable i (idata_chunk tsn immediate f) says fits = tt
 chunk_readable i (re_config_chunk ps) says fits = parameters_read_back i.value ps says.value fits
-chunk_readable i (forward_tsn_chunk tsn ss) says fits = tt
-chunk_readable i (i_forward_tsn_chunk tsn ss) says fits = tt
 chunk_readable i (unknown_chunk typ flags value) says fits = says.of_its_type
+chunk_readable i _ says fits = tt
 
 pub chunk_reads_back : (i : Item) (t : ChunkTree) → IsChunk i t → IsEncodable (chunk_item t) → ChunkReadsBack t
 chunk_reads_back i t says fits = record { encodable = fits; whole = chunk_whole i t says; fits = says.fits; readable = chunk_readable i t says fits }

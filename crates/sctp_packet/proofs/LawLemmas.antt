@@ -67,10 +67,7 @@ clash b t f = cc
 
 pub not_refused : (i : Item) (t : ChunkTree) (fault : ChunkParseError) → IsChunk i t → RefusesChunk i fault → fault ≡ chunk_faults.Memory
 not_refused i t chunk_faults.Memory is r = refl
-not_refused i t chunk_faults.InvalidLength is r = absurd (chunk_stands i t chunk_faults.InvalidLength is r (λ e. cc))
-not_refused i t chunk_faults.InvalidType is r = absurd (chunk_stands i t chunk_faults.InvalidType is r (λ e. cc))
-not_refused i t chunk_faults.InvalidPadding is r = absurd (chunk_stands i t chunk_faults.InvalidPadding is r (λ e. cc))
-not_refused i t chunk_faults.InvalidValue is r = absurd (chunk_stands i t chunk_faults.InvalidValue is r (λ e. cc))
+not_refused i t fault is r = absurd (chunk_stands i t fault is r (λ e. cc))
 
 pub never_both_lem : (policy : Policy) (word : ℕ) (bytes : List ℕ) (e : PacketParseError) (p : PacketTree) → IsFault e → Refuses policy word bytes e → Accepts policy word bytes p → ⊥
 never_both_lem policy word bytes faults.TooShort p m r a = omega (arith, packet_long bytes p a.packet, r)
@@ -115,10 +112,7 @@ built_accepted policy word field header chunks fits small reads short sum = reco
 
 pub memory_alone : (policy : Policy) (word : ℕ) (bytes : List ℕ) (p : PacketTree) (e : PacketParseError) → Accepts policy word bytes p → Refuses policy word bytes e → e ≡ faults.Memory
 memory_alone policy word bytes p faults.Memory a r = refl
-memory_alone policy word bytes p faults.TooShort a r = absurd (never_both_lem policy word bytes faults.TooShort p (λ e. cc) r a)
-memory_alone policy word bytes p faults.TooLong a r = absurd (never_both_lem policy word bytes faults.TooLong p (λ e. cc) r a)
-memory_alone policy word bytes p faults.InvalidChecksum a r = absurd (never_both_lem policy word bytes faults.InvalidChecksum p (λ e. cc) r a)
-memory_alone policy word bytes p (faults.Chunk f) a r = absurd (never_both_lem policy word bytes (faults.Chunk f) p (λ e. cc) r a)
+memory_alone policy word bytes p fault a r = absurd (never_both_lem policy word bytes fault p (λ e. cc) r a)
 
 pub read_back_lem : (policy : Policy) (word field : ℕ) (header : HeaderTree) (chunks : List ChunkTree) (answer : Result SctpPacket PacketParseError)
     → FitsHeader header → field < 2 ^ 32 → All ChunkReadsBack chunks → length (packet_bytes header field chunks) ≤ 65535
@@ -140,10 +134,7 @@ accepted_alone policy word bytes p (Err e) ok err a = memory_alone policy word b
 same_or_memory : (policy : Policy) (word : ℕ) (bytes : List ℕ) (reason e : PacketParseError) → IsFault reason → Refuses policy word bytes reason → Refuses policy word bytes e
     → (e ≡ reason) ⊎ (e ≡ faults.Memory)
 same_or_memory policy word bytes reason faults.Memory m r k = inr refl
-same_or_memory policy word bytes reason faults.TooShort m r k = inl (one_reason_lem policy word bytes faults.TooShort reason (λ e. cc) m k r)
-same_or_memory policy word bytes reason faults.TooLong m r k = inl (one_reason_lem policy word bytes faults.TooLong reason (λ e. cc) m k r)
-same_or_memory policy word bytes reason faults.InvalidChecksum m r k = inl (one_reason_lem policy word bytes faults.InvalidChecksum reason (λ e. cc) m k r)
-same_or_memory policy word bytes reason (faults.Chunk f) m r k = inl (one_reason_lem policy word bytes (faults.Chunk f) reason (λ e. cc) m k r)
+same_or_memory policy word bytes reason fault m r k = inl (one_reason_lem policy word bytes fault reason (λ e. cc) m k r)
 
 pub refused_alone : (policy : Policy) (word : ℕ) (bytes : List ℕ) (reason : PacketParseError) (answer : Result SctpPacket PacketParseError)
     → IfOk answer (λ q. Accepts policy word bytes (packet_tree q)) → IfErr answer (Refuses policy word bytes) → IsFault reason → Refuses policy word bytes reason

@@ -22,7 +22,7 @@ use Rattle.sctp_chunk.specs.declared.sack.GapAckBlock.{GapAckBlock}
 use Rattle.sctp_chunk.specs.declared.forward_tsn.SkippedStream.{SkippedStream}
 use Rattle.sctp_chunk.specs.declared.forward_tsn.SkippedStream.TheVariants as skips
 use Rattle.sctp_chunk.specs.Chunk.{ChunkTree, FragmentTree, InitTree, SackTree, data_chunk, init_chunk, init_ack_chunk, sack_chunk, heartbeat_request_chunk, heartbeat_ack_chunk, abort_chunk, shutdown_chunk, shutdown_ack_chunk, error_chunk, cookie_echo_chunk, cookie_ack_chunk, shutdown_complete_chunk, idata_chunk, re_config_chunk, forward_tsn_chunk, i_forward_tsn_chunk, unknown_chunk}
-use Rattle.sctp_chunk.specs.Written.{is_known_chunk, flag, data_value, idata_value, ppid_or_fsn, init_fields, sack_value, block_bytes, length_block_bytes, tsn_bytes, skip_bytes, forward_value, key_stream, key_flag, is_ssn_skip}
+use Rattle.sctp_chunk.specs.Written.{chunk_type, is_known_chunk, flag, data_value, idata_value, ppid_or_fsn, init_fields, sack_value, block_bytes, length_block_bytes, tsn_bytes, skip_bytes, forward_value, key_stream, key_flag, is_ssn_skip}
 use Rattle.sctp_chunk.specs.Grammar.{IsChunk, SaysInit, SaysSkip, SaysSkips, FitsInit, FitsBlock, FitsTsn, FitsSkip, FitsSack, Each}
 use Rattle.sctp_serial.proofs.NumberLemmas.{either_fits}
 use Rattle.sctp_wire.proofs.FieldLemmas.{be16_same, be32_same, same16, same32}
@@ -280,38 +280,6 @@ one_chunk i (re_config_chunk xs) (re_config_chunk ys) h k = ap re_config_chunk (
 one_chunk i (forward_tsn_chunk t xs) (forward_tsn_chunk u ys) h k = one_forward i t xs u ys h k
 one_chunk i (i_forward_tsn_chunk t xs) (i_forward_tsn_chunk u ys) h k = one_i_forward i t xs u ys h k
 one_chunk i (unknown_chunk t f v) (unknown_chunk u g w) h k = same_unknown t f v u g w (sym h.kind ∙ k.kind) (h.flags ∙ sym k.flags) (sym h.value ∙ k.value)
-one_chunk i (data_chunk t a f) (unknown_chunk n c w) h k = absurd (other_kind 0 n i h.kind k.kind refl k.of_its_type)
-one_chunk i (unknown_chunk n c w) (data_chunk t a f) h k = absurd (other_kind 0 n i k.kind h.kind refl h.of_its_type)
-one_chunk i (init_chunk t) (unknown_chunk n c w) h k = absurd (other_kind 1 n i h.kind k.kind refl k.of_its_type)
-one_chunk i (unknown_chunk n c w) (init_chunk t) h k = absurd (other_kind 1 n i k.kind h.kind refl h.of_its_type)
-one_chunk i (init_ack_chunk t) (unknown_chunk n c w) h k = absurd (other_kind 2 n i h.kind k.kind refl k.of_its_type)
-one_chunk i (unknown_chunk n c w) (init_ack_chunk t) h k = absurd (other_kind 2 n i k.kind h.kind refl h.of_its_type)
-one_chunk i (sack_chunk t) (unknown_chunk n c w) h k = absurd (other_kind 3 n i h.kind k.kind refl k.of_its_type)
-one_chunk i (unknown_chunk n c w) (sack_chunk t) h k = absurd (other_kind 3 n i k.kind h.kind refl h.of_its_type)
-one_chunk i (heartbeat_request_chunk xs) (unknown_chunk n c w) h k = absurd (other_kind 4 n i h.kind k.kind refl k.of_its_type)
-one_chunk i (unknown_chunk n c w) (heartbeat_request_chunk xs) h k = absurd (other_kind 4 n i k.kind h.kind refl h.of_its_type)
-one_chunk i (heartbeat_ack_chunk xs) (unknown_chunk n c w) h k = absurd (other_kind 5 n i h.kind k.kind refl k.of_its_type)
-one_chunk i (unknown_chunk n c w) (heartbeat_ack_chunk xs) h k = absurd (other_kind 5 n i k.kind h.kind refl h.of_its_type)
-one_chunk i (abort_chunk r xs) (unknown_chunk n c w) h k = absurd (other_kind 6 n i h.kind k.kind refl k.of_its_type)
-one_chunk i (unknown_chunk n c w) (abort_chunk r xs) h k = absurd (other_kind 6 n i k.kind h.kind refl h.of_its_type)
-one_chunk i (shutdown_chunk t) (unknown_chunk n c w) h k = absurd (other_kind 7 n i h.kind k.kind refl k.of_its_type)
-one_chunk i (unknown_chunk n c w) (shutdown_chunk t) h k = absurd (other_kind 7 n i k.kind h.kind refl h.of_its_type)
-one_chunk i shutdown_ack_chunk (unknown_chunk n c w) h k = absurd (other_kind 8 n i h.kind k.kind refl k.of_its_type)
-one_chunk i (unknown_chunk n c w) shutdown_ack_chunk h k = absurd (other_kind 8 n i k.kind h.kind refl h.of_its_type)
-one_chunk i (error_chunk xs) (unknown_chunk n c w) h k = absurd (other_kind 9 n i h.kind k.kind refl k.of_its_type)
-one_chunk i (unknown_chunk n c w) (error_chunk xs) h k = absurd (other_kind 9 n i k.kind h.kind refl h.of_its_type)
-one_chunk i (cookie_echo_chunk v) (unknown_chunk n c w) h k = absurd (other_kind 10 n i h.kind k.kind refl k.of_its_type)
-one_chunk i (unknown_chunk n c w) (cookie_echo_chunk v) h k = absurd (other_kind 10 n i k.kind h.kind refl h.of_its_type)
-one_chunk i cookie_ack_chunk (unknown_chunk n c w) h k = absurd (other_kind 11 n i h.kind k.kind refl k.of_its_type)
-one_chunk i (unknown_chunk n c w) cookie_ack_chunk h k = absurd (other_kind 11 n i k.kind h.kind refl h.of_its_type)
-one_chunk i (shutdown_complete_chunk r) (unknown_chunk n c w) h k = absurd (other_kind 14 n i h.kind k.kind refl k.of_its_type)
-one_chunk i (unknown_chunk n c w) (shutdown_complete_chunk r) h k = absurd (other_kind 14 n i k.kind h.kind refl h.of_its_type)
-one_chunk i (idata_chunk t a f) (unknown_chunk n c w) h k = absurd (other_kind 64 n i h.kind k.kind refl k.of_its_type)
-one_chunk i (unknown_chunk n c w) (idata_chunk t a f) h k = absurd (other_kind 64 n i k.kind h.kind refl h.of_its_type)
-one_chunk i (re_config_chunk xs) (unknown_chunk n c w) h k = absurd (other_kind 130 n i h.kind k.kind refl k.of_its_type)
-one_chunk i (unknown_chunk n c w) (re_config_chunk xs) h k = absurd (other_kind 130 n i k.kind h.kind refl h.of_its_type)
-one_chunk i (forward_tsn_chunk t xs) (unknown_chunk n c w) h k = absurd (other_kind 192 n i h.kind k.kind refl k.of_its_type)
-one_chunk i (unknown_chunk n c w) (forward_tsn_chunk t xs) h k = absurd (other_kind 192 n i k.kind h.kind refl h.of_its_type)
-one_chunk i (i_forward_tsn_chunk t xs) (unknown_chunk n c w) h k = absurd (other_kind 194 n i h.kind k.kind refl k.of_its_type)
-one_chunk i (unknown_chunk n c w) (i_forward_tsn_chunk t xs) h k = absurd (other_kind 194 n i k.kind h.kind refl h.of_its_type)
+one_chunk i x (unknown_chunk n c w) h k = absurd (other_kind (chunk_type x) n i h.kind k.kind refl k.of_its_type)
+one_chunk i (unknown_chunk n c w) y h k = absurd (other_kind (chunk_type y) n i k.kind h.kind refl h.of_its_type)
 one_chunk i x y h k = absurd (omega (arith, h.kind, k.kind))

@@ -1,15 +1,8 @@
 -- The parts of a packet, and faults of chunks as faults of packets.
-use Rattle.std.proofs.Common.{◌≡◌, ◌⊎◌, inl, inr, ℕ, ◌+◌, ◌^◌, ◌<◌, true, List, length, drop, refl, sym, subst, arith}
+use Rattle.std.proofs.Common.{◌≡◌, ℕ, ◌+◌, ◌^◌, ◌<◌, List, length, drop, refl, arith}
 use Rattle.std.proofs.lemmas.Nat.{from_be_bytes-to_be_bytes_4}
 use Rattle.sctp_wire.specs.Field.{be16, be32}
-use Rattle.sctp_wire.specs.Refusal.{FailsToParseAs}
-use Rattle.sctp_wire.specs.declared.checksum.Policy.{Policy}
-use Rattle.sctp_wire.specs.declared.error.ChunkParseError.{ChunkParseError}
-use Rattle.sctp_wire.specs.declared.error.ChunkParseError.TheVariants as faults
-use Rattle.sctp_packet.specs.declared.packet.PacketParseError.{PacketParseError}
-use Rattle.sctp_chunk.specs.Grammar.{IsChunk, RefusesChunk}
-use Rattle.sctp_packet.specs.Packet.{HeaderTree, header_bytes, joined_bytes, checksum_field, IsSized, lets_through, Refuses}
-use Rattle.sctp_packet.specs.Faults.{IsPacketFault}
+use Rattle.sctp_packet.specs.Packet.{HeaderTree, header_bytes, joined_bytes, checksum_field}
 
 pub body_at : (h : HeaderTree) (word : ℕ) (body : List ℕ) → drop 12 (joined_bytes h word body) ≡ body
 unfolding header_bytes be16 be32

@@ -10,7 +10,7 @@ use Rattle.sctp_wire.specs.Cause.{CauseTree, CauseFits, cause_item, CauseIsOfIts
 use Rattle.sctp_wire.specs.ReadBack.{ParameterReadsBack, CauseReadsBack, IsText}
 use Rattle.sctp_serial.specs.declared.types.tsn.Tsn.{Tsn}
 use Rattle.sctp_chunk.specs.declared.sack.GapAckBlock.{GapAckBlock}
-use Rattle.sctp_chunk.specs.Chunk.{ChunkTree, SackTree, data_chunk, init_chunk, init_ack_chunk, sack_chunk, heartbeat_request_chunk, heartbeat_ack_chunk, abort_chunk, shutdown_chunk, shutdown_ack_chunk, error_chunk, cookie_echo_chunk, cookie_ack_chunk, shutdown_complete_chunk, idata_chunk, re_config_chunk, forward_tsn_chunk, i_forward_tsn_chunk, unknown_chunk}
+use Rattle.sctp_chunk.specs.Chunk.{ChunkTree, SackTree, init_chunk, init_ack_chunk, sack_chunk, heartbeat_request_chunk, heartbeat_ack_chunk, abort_chunk, error_chunk, cookie_echo_chunk, re_config_chunk, unknown_chunk}
 use Rattle.sctp_chunk.specs.Written.{chunk_item, chunk_value, chunk_is_whole, init_fields}
 use Rattle.sctp_chunk.specs.Grammar.{FitsChunk, FitsSack, FitsBlock, FitsTsn}
 use Rattle.sctp_packet.specs.ReadBack.{ChunkReadsBack, IsReadable, HasItsTypes, InsideFits}
@@ -33,26 +33,18 @@ causes_readable cs short fit = causes_back cs (each_fits cause_item cs short) fi
 
 readable : (t : ChunkTree) → IsEncodable (chunk_item t) → chunk_is_whole t ≡ true → InsideFits t → HasItsTypes t → IsReadable t
 unfolding chunk_value init_fields
-readable (data_chunk tsn immediate f) written whole fit typed = tt
 readable (init_chunk init) written whole fit typed =
     parameters_readable init.parameters (omega (arith, written, length-append (init_fields init) (inner_items (map parameter_item init.parameters)))) whole fit typed
 readable (init_ack_chunk init) written whole fit typed =
     parameters_readable init.parameters (omega (arith, written, length-append (init_fields init) (inner_items (map parameter_item init.parameters)))) whole fit typed
-readable (sack_chunk sack) written whole fit typed = tt
 readable (heartbeat_request_chunk ps) written whole fit typed = parameters_readable ps written whole fit typed
 readable (heartbeat_ack_chunk ps) written whole fit typed = parameters_readable ps written whole fit typed
 readable (abort_chunk reflected causes) written whole fit typed = causes_readable causes written fit typed
-readable (shutdown_chunk tsn) written whole fit typed = tt
-readable shutdown_ack_chunk written whole fit typed = tt
 readable (error_chunk causes) written whole fit typed = causes_readable causes written fit typed
 readable (cookie_echo_chunk cookie) written whole fit typed = typed
-readable cookie_ack_chunk written whole fit typed = tt
-readable (shutdown_complete_chunk reflected) written whole fit typed = tt
-readable (idata_chunk tsn immediate f) written whole fit typed = tt
 readable (re_config_chunk ps) written whole fit typed = parameters_readable ps written whole fit typed
-readable (forward_tsn_chunk tsn ss) written whole fit typed = tt
-readable (i_forward_tsn_chunk tsn ss) written whole fit typed = tt
 readable (unknown_chunk typ flags value) written whole fit typed = typed
+readable _ written whole fit typed = tt
 
 pub reads_back : (t : ChunkTree) → IsEncodable (chunk_item t) → chunk_is_whole t ≡ true → FitsChunk t → InsideFits t → HasItsTypes t → ChunkReadsBack t
 reads_back t written whole fits inside typed = record { encodable = written; whole = whole; fits = fits; readable = readable t written whole inside typed }

@@ -18,7 +18,7 @@ use Rattle.sctp_wire.proofs.ReadBackLemmas.{parses_all_padded, parses_all_inner}
 use Rattle.sctp_wire.proofs.RefusalLemmas.{ParsesAll_map}
 use Rattle.sctp_chunk.specs.declared.forward_tsn.SkippedStream.{SkippedStream}
 use Rattle.sctp_chunk.specs.declared.forward_tsn.SkippedStream.TheVariants as skips
-use Rattle.sctp_chunk.specs.Chunk.{ChunkTree, FragmentTree, data_chunk, init_chunk, init_ack_chunk, sack_chunk, heartbeat_request_chunk, heartbeat_ack_chunk, abort_chunk, shutdown_chunk, shutdown_ack_chunk, error_chunk, cookie_echo_chunk, cookie_ack_chunk, shutdown_complete_chunk, idata_chunk, re_config_chunk, forward_tsn_chunk, i_forward_tsn_chunk, unknown_chunk}
+use Rattle.sctp_chunk.specs.Chunk.{ChunkTree, FragmentTree, data_chunk, init_chunk, init_ack_chunk, heartbeat_request_chunk, heartbeat_ack_chunk, abort_chunk, error_chunk, cookie_echo_chunk, shutdown_complete_chunk, idata_chunk, re_config_chunk, forward_tsn_chunk, i_forward_tsn_chunk, unknown_chunk}
 use Rattle.sctp_chunk.specs.Written.{flag, fragment_flags, reflected_flag, chunk_item, chunk_value, chunk_bytes, chunks_bytes, data_value, idata_value, skip_bytes, forward_value, key_flag, is_mid_skip}
 use Rattle.sctp_chunk.specs.Grammar.{IsChunk, SaysSkips, carried}
 use Rattle.sctp_packet.specs.ReadBack.{ChunkReadsBack}
@@ -119,20 +119,17 @@ chunk_carried (idata_chunk tsn immediate f) h =
     }
 chunk_carried (init_chunk init) h = record { kind = refl; of_its_type = tt; flags = tt; value = (inner_items (map parameter_item init.parameters), refl, parameters_tile init.parameters h.readable); fits = h.fits; carries = refl }
 chunk_carried (init_ack_chunk init) h = record { kind = refl; of_its_type = tt; flags = tt; value = (inner_items (map parameter_item init.parameters), refl, parameters_tile init.parameters h.readable); fits = h.fits; carries = refl }
-chunk_carried (sack_chunk sack) h = record { kind = refl; of_its_type = tt; flags = tt; value = refl; fits = h.fits; carries = refl }
 chunk_carried (heartbeat_request_chunk ps) h = record { kind = refl; of_its_type = tt; flags = tt; value = parameters_tile ps h.readable; fits = h.fits; carries = refl }
 chunk_carried (heartbeat_ack_chunk ps) h = record { kind = refl; of_its_type = tt; flags = tt; value = parameters_tile ps h.readable; fits = h.fits; carries = refl }
 chunk_carried (abort_chunk r cs) h = record { kind = refl; of_its_type = tt; flags = reflected_says r; value = causes_tile cs h.readable; fits = h.fits; carries = refl }
-chunk_carried (shutdown_chunk tsn) h = record { kind = refl; of_its_type = tt; flags = tt; value = refl; fits = h.fits; carries = refl }
-chunk_carried shutdown_ack_chunk h = record { kind = refl; of_its_type = tt; flags = tt; value = refl; fits = h.fits; carries = refl }
 chunk_carried (error_chunk cs) h = record { kind = refl; of_its_type = tt; flags = tt; value = causes_tile cs h.readable; fits = h.fits; carries = refl }
 chunk_carried (cookie_echo_chunk cookie) h = record { kind = refl; of_its_type = tt; flags = tt; value = (refl, h.readable); fits = h.fits; carries = refl }
-chunk_carried cookie_ack_chunk h = record { kind = refl; of_its_type = tt; flags = tt; value = refl; fits = h.fits; carries = refl }
 chunk_carried (shutdown_complete_chunk r) h = record { kind = refl; of_its_type = tt; flags = reflected_says r; value = refl; fits = h.fits; carries = refl }
 chunk_carried (re_config_chunk ps) h = record { kind = refl; of_its_type = tt; flags = tt; value = parameters_tile ps h.readable; fits = h.fits; carries = refl }
 chunk_carried (forward_tsn_chunk tsn ss) h = record { kind = refl; of_its_type = tt; flags = tt; value = (refl, h.whole); fits = h.fits; carries = refl }
 chunk_carried (i_forward_tsn_chunk tsn ss) h = record { kind = refl; of_its_type = tt; flags = tt; value = i_forward_says tsn ss h.whole; fits = h.fits; carries = refl }
 chunk_carried (unknown_chunk typ flags value) h = record { kind = refl; of_its_type = h.readable; flags = refl; value = refl; fits = tt; carries = refl }
+chunk_carried _ h = record { kind = refl; of_its_type = tt; flags = tt; value = refl; fits = h.fits; carries = refl }
 
 -- chunks that were written are read from the front, up to the end
 pub chunks_tile : (chunks : List ChunkTree) → All ChunkReadsBack chunks → ParsesAll IsChunk (chunks_bytes chunks) (map carried chunks) []

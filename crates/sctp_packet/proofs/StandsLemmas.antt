@@ -1,5 +1,5 @@
 -- What stands for a chunk is refused for want of memory alone, and an item has one fault.
-use Rattle.std.proofs.Common.{◌≡◌, ◌≢◌, inl, inr, ℕ, ◌+◌, ◌*◌, ◌-◌, Bool, true, cond, List, [], ◌∷◌, ◌++◌, length, drop, sym, ap, subst, ◌∙◌, append_assoc, arith}
+use Rattle.std.proofs.Common.{◌≡◌, ◌≢◌, inl, inr, ℕ, ◌+◌, ◌*◌, Bool, true, cond, List, [], ◌∷◌, ◌++◌, length, drop, sym, ap, subst, ◌∙◌, append_assoc, arith}
 use Rattle.std.specs.List.{flat_map, list_all}
 use Rattle.std.proofs.lemmas.List.{length-append, drop_at}
 use Rattle.sctp_wire.specs.Field.{be16, be32, length_be32}
@@ -38,15 +38,12 @@ whole_causes bytes cs fault t b memory = whole_not_broken IsCause bytes cs t (Br
 
 one_faulty : (shape : ValueShape) (value : List ℕ) (fault other : ChunkParseError) → IsFaulty shape value fault → IsFaulty shape value other → fault ≢ Memory → other ≢ Memory → fault ≡ other
 one_faulty any_value value fault other p q m n = absurd p
-one_faulty (exactly k) value fault other p q m n = p.0 ∙ sym q.0
-one_faulty (at_least k) value fault other p q m n = p.0 ∙ sym q.0
-one_faulty (in_steps k w) value fault other p q m n = p.0 ∙ sym q.0
-one_faulty by_counts value fault other p q m n = p.0 ∙ sym q.0
 one_faulty (parameters_behind k) value fault other (inl p) (inl q) m n = p.0 ∙ sym q.0
 one_faulty (parameters_behind k) value fault other (inl p) (inr q) m n = absurd (omega (arith, p.1, q.0))
 one_faulty (parameters_behind k) value fault other (inr p) (inl q) m n = absurd (omega (arith, q.1, p.0))
 one_faulty (parameters_behind k) value fault other (inr p) (inr q) m n = one_break IsParameter RefusesParameter parameter_stands parameter_fault (drop k value) fault other p.1 q.1 m n
 one_faulty of_causes value fault other p q m n = one_break IsCause RefusesCause cause_stands cause_fault value fault other p q m n
+one_faulty _ value fault other p q m n = p.0 ∙ sym q.0
 
 pub chunk_fault : (i : Item) (fault other : ChunkParseError) → RefusesChunk i fault → RefusesChunk i other → fault ≢ Memory → other ≢ Memory → fault ≡ other
 chunk_fault i fault other (inl p) q m n = absurd (m p)

@@ -8,10 +8,7 @@ use Rattle.sctp_packet.specs.declared.packet.PacketParseError.TheVariants.{TooSh
 -- want of memory stays want of memory
 abbrev pub IsPacketFault : ChunkParseError → PacketParseError → Type 0
 IsPacketFault faults.Memory e = e ≡ Memory
-IsPacketFault faults.InvalidLength e = e ≡ Chunk faults.InvalidLength
-IsPacketFault faults.InvalidType e = e ≡ Chunk faults.InvalidType
-IsPacketFault faults.InvalidPadding e = e ≡ Chunk faults.InvalidPadding
-IsPacketFault faults.InvalidValue e = e ≡ Chunk faults.InvalidValue
+IsPacketFault fault e = e ≡ Chunk fault
 
 abbrev pub fault_number : PacketParseError → ℕ
 fault_number TooShort = 1

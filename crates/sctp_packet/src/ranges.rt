@@ -59,16 +59,7 @@ fn outside_fits(chunk: &Chunk)
             number_fits(c.new_cumulative_tsn.0);
             skips_fit(&c.skipped_streams);
         }
-        Chunk::HeartbeatRequest(_)
-        | Chunk::HeartbeatAck(_)
-        | Chunk::Abort(_)
-        | Chunk::ShutdownAck(_)
-        | Chunk::Error(_)
-        | Chunk::CookieEcho(_)
-        | Chunk::CookieAck(_)
-        | Chunk::ShutdownComplete(_)
-        | Chunk::ReConfig(_)
-        | Chunk::Unknown(_) => {}
+        _ => {}
     }
 }
 
@@ -86,17 +77,7 @@ fn inside_fits(chunk: &Chunk)
         Chunk::ReConfig(c) => parameters_fit(&c.parameters),
         Chunk::Abort(c) => causes_fit(&c.error_causes),
         Chunk::Error(c) => causes_fit(&c.error_causes),
-        Chunk::Data(_)
-        | Chunk::IData(_)
-        | Chunk::Sack(_)
-        | Chunk::Shutdown(_)
-        | Chunk::ShutdownAck(_)
-        | Chunk::CookieEcho(_)
-        | Chunk::CookieAck(_)
-        | Chunk::ShutdownComplete(_)
-        | Chunk::ForwardTsn(_)
-        | Chunk::IForwardTsn(_)
-        | Chunk::Unknown(_) => {}
+        _ => {}
     }
 }
 

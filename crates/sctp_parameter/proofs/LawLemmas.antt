@@ -68,21 +68,15 @@ same_result a b m n x y hm hn e =
 -- and no result over 6
 parameter_has_result : (typ : ℕ) (value : List ℕ) (t : ParameterTree) → SaysParameter typ value t → HasNoResult typ value → ⊥
 unfolding parameter_value
-parameter_has_result typ value (heartbeat_info info) s bad = omega (arith, s.typed, bad.typed)
-parameter_has_result typ value (state_cookie cookie) s bad = omega (arith, s.typed, bad.typed)
-parameter_has_result typ value (outgoing_reset_request request response tsn streams) s bad = omega (arith, s.typed, bad.typed)
-parameter_has_result typ value (incoming_reset_request request streams) s bad = omega (arith, s.typed, bad.typed)
 parameter_has_result typ value (ssn_tsn_reset_request kept bytes) s bad = omega (arith, s.typed, s.of_its_variant, bad.typed)
 parameter_has_result typ value (reset_response response result sender receiver) s bad =
     let same : result ≡ bad.result = same_result response bad.response_seq_nbr result bad.result _ bad.tsns (omega (arith, s.of_its_variant)) bad.fits (sym s.valued ∙ bad.valued) in
     omega (arith, s.of_its_variant, bad.none, same)
 parameter_has_result typ value (add_outgoing_streams_request kept bytes) s bad = omega (arith, s.typed, s.of_its_variant, bad.typed)
 parameter_has_result typ value (add_incoming_streams_request kept bytes) s bad = omega (arith, s.typed, s.of_its_variant, bad.typed)
-parameter_has_result typ value (supported_extensions chunk_types) s bad = omega (arith, s.typed, bad.typed)
-parameter_has_result typ value forward_tsn_supported s bad = omega (arith, s.typed, bad.typed)
-parameter_has_result typ value (zero_checksum_acceptable method) s bad = omega (arith, s.typed, bad.typed)
 parameter_has_result typ value (unknown_parameter kept bytes) s bad =
     clash (subst (λ (k : ℕ). is_known_parameter k ≡ false) (sym s.typed ∙ bad.typed) s.of_its_variant)
+parameter_has_result typ value _ s bad = omega (arith, s.typed, bad.typed)
 
 pub parameter_stands : (i : Item) (t : ParameterTree) (fault : ChunkParseError) → IsParameter i t → RefusesParameter i fault → fault ≡ Memory
 parameter_stands i t InvalidLength s r = absurd (r.1 (parameter_shaped (type_of i) i.value t s))

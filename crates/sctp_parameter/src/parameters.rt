@@ -18,7 +18,7 @@ use crate::reset::{
 };
 use sctp_wire::{
     CheckItem, ChunkParseError, FromItem, RawItem, RawParameter, SerializableTlv, UnknownParameter,
-    check_items, items_from_bytes,
+    check_items, items_from_bytes, read_by_type,
 };
 use std::alloc::{AllocError, Global};
 use std::fmt;
@@ -68,42 +68,20 @@ impl Parameter {
         ensures ok { IfOk result (λ it. SaysParameter raw.entry.typ raw.entry.value.now (parameter_tree it)) }
         ensures refused { IfErr result (RefusesParameterAs raw.entry.typ raw.entry.typ raw.entry.value.now) }
     {
-        match raw.typ {
-            HeartbeatInfoParameter::TYPE => Ok(Parameter::HeartbeatInfo(
-                HeartbeatInfoParameter::try_from(alloc, raw)?,
-            )),
-            StateCookieParameter::TYPE => Ok(Parameter::StateCookie(StateCookieParameter::try_from(
-                alloc, raw,
-            )?)),
-            OutgoingSsnResetRequestParameter::TYPE => Ok(Parameter::OutgoingSsnResetRequest(
-                OutgoingSsnResetRequestParameter::try_from(alloc, raw)?,
-            )),
-            IncomingSsnResetRequestParameter::TYPE => Ok(Parameter::IncomingSsnResetRequest(
-                IncomingSsnResetRequestParameter::try_from(alloc, raw)?,
-            )),
-            PARAMETER_TYPE_SSN_TSN_RESET_REQUEST => Ok(Parameter::SsnTsnResetRequest(
-                UnknownParameter::try_from(alloc, raw)?,
-            )),
-            ReconfigurationResponseParameter::TYPE => Ok(Parameter::ReconfigurationResponse(
-                ReconfigurationResponseParameter::try_from(alloc, raw)?,
-            )),
-            PARAMETER_TYPE_ADD_OUTGOING_STREAMS_REQUEST => Ok(Parameter::AddOutgoingStreamsRequest(
-                UnknownParameter::try_from(alloc, raw)?,
-            )),
-            PARAMETER_TYPE_ADD_INCOMING_STREAMS_REQUEST => Ok(Parameter::AddIncomingStreamsRequest(
-                UnknownParameter::try_from(alloc, raw)?,
-            )),
-            SupportedExtensionsParameter::TYPE => Ok(Parameter::SupportedExtensions(
-                SupportedExtensionsParameter::try_from(alloc, raw)?,
-            )),
-            ForwardTsnSupportedParameter::TYPE => Ok(Parameter::ForwardTsnSupported(
-                ForwardTsnSupportedParameter::try_from(alloc, raw)?,
-            )),
-            ZeroChecksumAcceptableParameter::TYPE => Ok(Parameter::ZeroChecksumAcceptable(
-                ZeroChecksumAcceptableParameter::try_from(alloc, raw)?,
-            )),
-            _ => Ok(Parameter::Unknown(UnknownParameter::try_from(alloc, raw)?)),
-        }
+        read_by_type!(Parameter, alloc, raw,
+            HeartbeatInfoParameter::TYPE => HeartbeatInfo(HeartbeatInfoParameter),
+            StateCookieParameter::TYPE => StateCookie(StateCookieParameter),
+            OutgoingSsnResetRequestParameter::TYPE => OutgoingSsnResetRequest(OutgoingSsnResetRequestParameter),
+            IncomingSsnResetRequestParameter::TYPE => IncomingSsnResetRequest(IncomingSsnResetRequestParameter),
+            PARAMETER_TYPE_SSN_TSN_RESET_REQUEST => SsnTsnResetRequest(UnknownParameter),
+            ReconfigurationResponseParameter::TYPE => ReconfigurationResponse(ReconfigurationResponseParameter),
+            PARAMETER_TYPE_ADD_OUTGOING_STREAMS_REQUEST => AddOutgoingStreamsRequest(UnknownParameter),
+            PARAMETER_TYPE_ADD_INCOMING_STREAMS_REQUEST => AddIncomingStreamsRequest(UnknownParameter),
+            SupportedExtensionsParameter::TYPE => SupportedExtensions(SupportedExtensionsParameter),
+            ForwardTsnSupportedParameter::TYPE => ForwardTsnSupported(ForwardTsnSupportedParameter),
+            ZeroChecksumAcceptableParameter::TYPE => ZeroChecksumAcceptable(ZeroChecksumAcceptableParameter),
+            _ => Unknown(UnknownParameter),
+        )
     }
 
     /// Whether a parameter says something. It has the faults of `try_from`, but for want of memory, since it builds nothing.
@@ -116,6 +94,26 @@ impl Parameter {
     }
 }
 
+/// What is asked of a parameter, answered by its kind.
+macro_rules! of_its_kind {
+    ($parameter:expr, $it:ident => $answer:expr) => {
+        match $parameter {
+            Parameter::HeartbeatInfo($it) => $answer,
+            Parameter::StateCookie($it) => $answer,
+            Parameter::OutgoingSsnResetRequest($it) => $answer,
+            Parameter::IncomingSsnResetRequest($it) => $answer,
+            Parameter::SsnTsnResetRequest($it) => $answer,
+            Parameter::ReconfigurationResponse($it) => $answer,
+            Parameter::AddOutgoingStreamsRequest($it) => $answer,
+            Parameter::AddIncomingStreamsRequest($it) => $answer,
+            Parameter::SupportedExtensions($it) => $answer,
+            Parameter::ForwardTsnSupported($it) => $answer,
+            Parameter::ZeroChecksumAcceptable($it) => $answer,
+            Parameter::Unknown($it) => $answer,
+        }
+    };
+}
+
 #[tactic(auto, unfolding(sctp_wire::specs::Parameter::parameter_value))]
 impl SerializableTlv for Parameter {
     ghost item_of = { λ it. parameter_item (parameter_tree it) };
@@ -123,71 +121,19 @@ impl SerializableTlv for Parameter {
     ghost parts_agree = { λ it. parameter_is_whole (parameter_tree it) };
 
     fn kind(&self) -> [u8; 2] {
-        match self {
-            Parameter::HeartbeatInfo(it) => it.kind(),
-            Parameter::StateCookie(it) => it.kind(),
-            Parameter::OutgoingSsnResetRequest(it) => it.kind(),
-            Parameter::IncomingSsnResetRequest(it) => it.kind(),
-            Parameter::SsnTsnResetRequest(it) => it.kind(),
-            Parameter::ReconfigurationResponse(it) => it.kind(),
-            Parameter::AddOutgoingStreamsRequest(it) => it.kind(),
-            Parameter::AddIncomingStreamsRequest(it) => it.kind(),
-            Parameter::SupportedExtensions(it) => it.kind(),
-            Parameter::ForwardTsnSupported(it) => it.kind(),
-            Parameter::ZeroChecksumAcceptable(it) => it.kind(),
-            Parameter::Unknown(it) => it.kind(),
-        }
+        of_its_kind!(self, it => it.kind())
     }
 
     fn value_size(&self) -> usize {
-        match self {
-            Parameter::HeartbeatInfo(it) => it.value_size(),
-            Parameter::StateCookie(it) => it.value_size(),
-            Parameter::OutgoingSsnResetRequest(it) => it.value_size(),
-            Parameter::IncomingSsnResetRequest(it) => it.value_size(),
-            Parameter::SsnTsnResetRequest(it) => it.value_size(),
-            Parameter::ReconfigurationResponse(it) => it.value_size(),
-            Parameter::AddOutgoingStreamsRequest(it) => it.value_size(),
-            Parameter::AddIncomingStreamsRequest(it) => it.value_size(),
-            Parameter::SupportedExtensions(it) => it.value_size(),
-            Parameter::ForwardTsnSupported(it) => it.value_size(),
-            Parameter::ZeroChecksumAcceptable(it) => it.value_size(),
-            Parameter::Unknown(it) => it.value_size(),
-        }
+        of_its_kind!(self, it => it.value_size())
     }
 
     fn is_whole(&self) -> bool {
-        match self {
-            Parameter::HeartbeatInfo(it) => it.is_whole(),
-            Parameter::StateCookie(it) => it.is_whole(),
-            Parameter::OutgoingSsnResetRequest(it) => it.is_whole(),
-            Parameter::IncomingSsnResetRequest(it) => it.is_whole(),
-            Parameter::SsnTsnResetRequest(it) => it.is_whole(),
-            Parameter::ReconfigurationResponse(it) => it.is_whole(),
-            Parameter::AddOutgoingStreamsRequest(it) => it.is_whole(),
-            Parameter::AddIncomingStreamsRequest(it) => it.is_whole(),
-            Parameter::SupportedExtensions(it) => it.is_whole(),
-            Parameter::ForwardTsnSupported(it) => it.is_whole(),
-            Parameter::ZeroChecksumAcceptable(it) => it.is_whole(),
-            Parameter::Unknown(it) => it.is_whole(),
-        }
+        of_its_kind!(self, it => it.is_whole())
     }
 
     fn push_value(&self, output: &mut Vec<u8>) -> Result<(), AllocError> {
-        match self {
-            Parameter::HeartbeatInfo(it) => it.push_value(output),
-            Parameter::StateCookie(it) => it.push_value(output),
-            Parameter::OutgoingSsnResetRequest(it) => it.push_value(output),
-            Parameter::IncomingSsnResetRequest(it) => it.push_value(output),
-            Parameter::SsnTsnResetRequest(it) => it.push_value(output),
-            Parameter::ReconfigurationResponse(it) => it.push_value(output),
-            Parameter::AddOutgoingStreamsRequest(it) => it.push_value(output),
-            Parameter::AddIncomingStreamsRequest(it) => it.push_value(output),
-            Parameter::SupportedExtensions(it) => it.push_value(output),
-            Parameter::ForwardTsnSupported(it) => it.push_value(output),
-            Parameter::ZeroChecksumAcceptable(it) => it.push_value(output),
-            Parameter::Unknown(it) => it.push_value(output),
-        }
+        of_its_kind!(self, it => it.push_value(output))
     }
 }
 
@@ -196,20 +142,7 @@ impl fmt::Display for Parameter {
     ghost output = { λ it. Some (parameter_text (parameter_tree it)) };
 
     fn fmt<W: fmt::Write>(&self, f: &mut fmt::Formatter<W>) -> fmt::Result {
-        match self {
-            Parameter::HeartbeatInfo(it) => it.fmt(f),
-            Parameter::StateCookie(it) => it.fmt(f),
-            Parameter::OutgoingSsnResetRequest(it) => it.fmt(f),
-            Parameter::IncomingSsnResetRequest(it) => it.fmt(f),
-            Parameter::SsnTsnResetRequest(it) => it.fmt(f),
-            Parameter::ReconfigurationResponse(it) => it.fmt(f),
-            Parameter::AddOutgoingStreamsRequest(it) => it.fmt(f),
-            Parameter::AddIncomingStreamsRequest(it) => it.fmt(f),
-            Parameter::SupportedExtensions(it) => it.fmt(f),
-            Parameter::ForwardTsnSupported(it) => it.fmt(f),
-            Parameter::ZeroChecksumAcceptable(it) => it.fmt(f),
-            Parameter::Unknown(it) => it.fmt(f),
-        }
+        of_its_kind!(self, it => it.fmt(f))
     }
 }
 

@@ -1,4 +1,5 @@
 //! The parameters of a RE-CONFIG: requests to reset streams, and responses (RFC 6525 section 4).
+#![tactic(auto, unfolding(sctp_wire::specs::Parameter::parameter_value, sctp_wire::specs::ParameterText::parameter_text))]
 
 ghost use Rattle.std.specs.Prelude.{◌≡◌, ◌+◌, ◌^◌, ◌<◌, ◌≤◌, ◌≢◌, ◌⊎◌, length, true, ◌++◌, is_some, IfSome, IfOk, IfErr, OnOk, OnErr, MatchResult, Some};
 ghost use Rattle.sctp_wire.specs.ParameterText.{parameter_text};
@@ -28,17 +29,13 @@ pub struct OutgoingSsnResetRequestParameter {
     pub streams: Vec<StreamId>,
 }
 
-#[tactic(auto, unfolding(sctp_wire::specs::Parameter::parameter_value))]
 impl OutgoingSsnResetRequestParameter {
     /// The parameter's type.
     pub const TYPE: u16 = 13;
 
     /// What the parameter says; `InvalidType` where it is of another type, `InvalidLength` where its value is no
     /// twelve bytes and then whole stream ids.
-    pub fn try_from(
-        alloc: Global,
-        raw: RawParameter<'_>,
-    ) -> Result<OutgoingSsnResetRequestParameter, ChunkParseError>
+    pub fn try_from(alloc: Global, raw: RawParameter<'_>) -> Result<Self, ChunkParseError>
         ensures ok { IfOk result (λ p. SaysParameter raw.entry.typ raw.entry.value.now (outgoing_tree p)) }
         ensures refused { IfErr result (RefusesParameterAs 13 raw.entry.typ raw.entry.value.now) }
     {
@@ -47,7 +44,7 @@ impl OutgoingSsnResetRequestParameter {
         let (response_seq_nbr, rest) = u32_at(rest)?;
         let (sender_last_assigned_tsn, rest) = Tsn::entry_at(rest)?;
         let streams = entries_from_bytes(alloc, rest)?;
-        Ok(OutgoingSsnResetRequestParameter {
+        Ok(Self {
             request_seq_nbr,
             response_seq_nbr,
             sender_last_assigned_tsn,
@@ -56,7 +53,6 @@ impl OutgoingSsnResetRequestParameter {
     }
 }
 
-#[tactic(auto, unfolding(sctp_wire::specs::Parameter::parameter_value))]
 impl SerializableTlv for OutgoingSsnResetRequestParameter {
     ghost item_of = { λ p. parameter_item (outgoing_tree p) };
 
@@ -84,7 +80,6 @@ impl SerializableTlv for OutgoingSsnResetRequestParameter {
     }
 }
 
-#[tactic(auto, unfolding(sctp_wire::specs::ParameterText::parameter_text))]
 impl fmt::Display for OutgoingSsnResetRequestParameter {
     ghost output = { λ p. Some (parameter_text (outgoing_tree p)) };
 
@@ -109,31 +104,26 @@ pub struct IncomingSsnResetRequestParameter {
     pub streams: Vec<StreamId>,
 }
 
-#[tactic(auto, unfolding(sctp_wire::specs::Parameter::parameter_value))]
 impl IncomingSsnResetRequestParameter {
     /// The parameter's type.
     pub const TYPE: u16 = 14;
 
     /// What the parameter says; `InvalidType` where it is of another type, `InvalidLength` where its value is no
     /// four bytes and then whole stream ids.
-    pub fn try_from(
-        alloc: Global,
-        raw: RawParameter<'_>,
-    ) -> Result<IncomingSsnResetRequestParameter, ChunkParseError>
+    pub fn try_from(alloc: Global, raw: RawParameter<'_>) -> Result<Self, ChunkParseError>
         ensures ok { IfOk result (λ p. SaysParameter raw.entry.typ raw.entry.value.now (incoming_tree p)) }
         ensures refused { IfErr result (RefusesParameterAs 14 raw.entry.typ raw.entry.value.now) }
     {
         let value = raw.value_as(Self::TYPE)?;
         let (request_seq_nbr, rest) = u32_at(value)?;
         let streams = entries_from_bytes(alloc, rest)?;
-        Ok(IncomingSsnResetRequestParameter {
+        Ok(Self {
             request_seq_nbr,
             streams,
         })
     }
 }
 
-#[tactic(auto, unfolding(sctp_wire::specs::Parameter::parameter_value))]
 impl SerializableTlv for IncomingSsnResetRequestParameter {
     ghost item_of = { λ p. parameter_item (incoming_tree p) };
 
@@ -159,7 +149,6 @@ impl SerializableTlv for IncomingSsnResetRequestParameter {
     }
 }
 
-#[tactic(auto, unfolding(sctp_wire::specs::ParameterText::parameter_text))]
 impl fmt::Display for IncomingSsnResetRequestParameter {
     ghost output = { λ p. Some (parameter_text (incoming_tree p)) };
 
@@ -234,17 +223,13 @@ pub struct ReconfigurationResponseParameter {
     pub receiver_next_tsn: Option<Tsn>,
 }
 
-#[tactic(auto, unfolding(sctp_wire::specs::Parameter::parameter_value))]
 impl ReconfigurationResponseParameter {
     /// The parameter's type.
     pub const TYPE: u16 = 16;
 
     /// What the parameter says; `InvalidType` where it is of another type, `InvalidLength` where its value has
     /// neither 8 nor 16 bytes, `InvalidValue` where its result is over 6.
-    pub fn try_from(
-        _alloc: Global,
-        raw: RawParameter<'_>,
-    ) -> Result<ReconfigurationResponseParameter, ChunkParseError>
+    pub fn try_from(_alloc: Global, raw: RawParameter<'_>) -> Result<Self, ChunkParseError>
         ensures ok { IfOk result (λ p. SaysParameter raw.entry.typ raw.entry.value.now (response_tree p)) }
         ensures refused { IfErr result (RefusesParameterAs 16 raw.entry.typ raw.entry.value.now) }
     {
@@ -253,7 +238,7 @@ impl ReconfigurationResponseParameter {
         let (result, rest) = u32_at(rest)?;
         let (sender_next_tsn, receiver_next_tsn) = next_tsns(rest)?;
         let result = ReconfigurationResponseResult::try_from(result)?;
-        Ok(ReconfigurationResponseParameter {
+        Ok(Self {
             response_seq_nbr,
             result,
             sender_next_tsn,
@@ -281,7 +266,6 @@ fn next_tsns(bytes: &[u8]) -> Result<(Option<Tsn>, Option<Tsn>), ChunkParseError
     Ok((Some(sender_next_tsn), Some(receiver_next_tsn)))
 }
 
-#[tactic(auto, unfolding(sctp_wire::specs::Parameter::parameter_value))]
 impl SerializableTlv for ReconfigurationResponseParameter {
     ghost item_of = { λ p. parameter_item (response_tree p) };
 
@@ -309,7 +293,6 @@ impl SerializableTlv for ReconfigurationResponseParameter {
     }
 }
 
-#[tactic(auto, unfolding(sctp_wire::specs::ParameterText::parameter_text))]
 impl fmt::Display for ReconfigurationResponseParameter {
     ghost output = { λ p. Some (parameter_text (response_tree p)) };
 

@@ -42,11 +42,7 @@ cause_value (unknown_cause typ value) = value
 abbrev pub ReadsCause : List ℕ → CauseTree → Type 0
 ReadsCause value (user_initiated_abort reason) = IsTextOf value reason
 ReadsCause value (protocol_violation information) = IsTextOf value information
-ReadsCause value (missing_mandatory_parameter types) = value ≡ cause_value (missing_mandatory_parameter types)
-ReadsCause value (unrecognized_chunk chunk) = value ≡ cause_value (unrecognized_chunk chunk)
-ReadsCause value (no_user_data tsn) = value ≡ cause_value (no_user_data tsn)
-ReadsCause value cookie_received_while_shutting_down = value ≡ cause_value cookie_received_while_shutting_down
-ReadsCause value (unknown_cause typ bytes) = value ≡ cause_value (unknown_cause typ bytes)
+ReadsCause value t = value ≡ cause_value t
 
 -- the types of the causes above
 abbrev pub is_known_cause : ℕ → Bool
@@ -54,23 +50,14 @@ is_known_cause typ = (typ == 2) || ((typ == 6) || ((typ == 9) || ((typ == 10) ||
 
 -- an unknown cause has none of the known types
 abbrev pub CauseIsOfItsVariant : CauseTree → Type 0
-CauseIsOfItsVariant (missing_mandatory_parameter types) = Unit {0}
-CauseIsOfItsVariant (unrecognized_chunk chunk) = Unit {0}
-CauseIsOfItsVariant (no_user_data tsn) = Unit {0}
-CauseIsOfItsVariant cookie_received_while_shutting_down = Unit {0}
-CauseIsOfItsVariant (user_initiated_abort reason) = Unit {0}
-CauseIsOfItsVariant (protocol_violation information) = Unit {0}
 CauseIsOfItsVariant (unknown_cause typ value) = is_known_cause typ ≡ false
+CauseIsOfItsVariant _ = Unit {0}
 
 -- the tree's numbers fit their fields
 abbrev pub CauseFits : CauseTree → Type 0
 CauseFits (missing_mandatory_parameter types) = (length types < 2 ^ 32) × All (λ typ. typ < 2 ^ 16) types
 CauseFits (no_user_data tsn) = tsn.0 < 2 ^ 32
-CauseFits (unrecognized_chunk chunk) = Unit {0}
-CauseFits cookie_received_while_shutting_down = Unit {0}
-CauseFits (user_initiated_abort reason) = Unit {0}
-CauseFits (protocol_violation information) = Unit {0}
-CauseFits (unknown_cause typ value) = Unit {0}
+CauseFits _ = Unit {0}
 
 -- a cause of this type and this value says what the tree says
 pub record SaysCause (typ : ℕ) (value : List ℕ) (t : CauseTree) : Type 0 where

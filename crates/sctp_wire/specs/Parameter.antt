@@ -70,36 +70,18 @@ is_known_parameter typ = (typ == 1) || ((typ == 7) || ((typ == 13) || ((typ == 1
 
 -- a response holds both TSNs or neither
 abbrev pub parameter_is_whole : ParameterTree → Bool
-parameter_is_whole (reset_response response result None None) = true
 parameter_is_whole (reset_response response result None (Some receiver)) = false
 parameter_is_whole (reset_response response result (Some sender) None) = false
-parameter_is_whole (reset_response response result (Some sender) (Some receiver)) = true
-parameter_is_whole (heartbeat_info info) = true
-parameter_is_whole (state_cookie cookie) = true
-parameter_is_whole (outgoing_reset_request request response tsn streams) = true
-parameter_is_whole (incoming_reset_request request streams) = true
-parameter_is_whole (ssn_tsn_reset_request typ value) = true
-parameter_is_whole (add_outgoing_streams_request typ value) = true
-parameter_is_whole (add_incoming_streams_request typ value) = true
-parameter_is_whole (supported_extensions chunk_types) = true
-parameter_is_whole forward_tsn_supported = true
-parameter_is_whole (zero_checksum_acceptable method) = true
-parameter_is_whole (unknown_parameter typ value) = true
+parameter_is_whole _ = true
 
 -- The type is one that its variant holds, and a response has one of seven results.
 abbrev pub IsOfItsVariant : ParameterTree → Type 0
-IsOfItsVariant (heartbeat_info info) = Unit {0}
-IsOfItsVariant (state_cookie cookie) = Unit {0}
-IsOfItsVariant (outgoing_reset_request request response tsn streams) = Unit {0}
-IsOfItsVariant (incoming_reset_request request streams) = Unit {0}
 IsOfItsVariant (ssn_tsn_reset_request typ value) = typ ≡ 15
 IsOfItsVariant (reset_response response result sender receiver) = result ≤ 6
 IsOfItsVariant (add_outgoing_streams_request typ value) = typ ≡ 17
 IsOfItsVariant (add_incoming_streams_request typ value) = typ ≡ 18
-IsOfItsVariant (supported_extensions chunk_types) = Unit {0}
-IsOfItsVariant forward_tsn_supported = Unit {0}
-IsOfItsVariant (zero_checksum_acceptable method) = Unit {0}
 IsOfItsVariant (unknown_parameter typ value) = is_known_parameter typ ≡ false
+IsOfItsVariant _ = Unit {0}
 
 -- the tree's numbers fit their fields
 abbrev pub ParameterFits : ParameterTree → Type 0
@@ -107,14 +89,7 @@ ParameterFits (outgoing_reset_request request response tsn streams) = (request <
 ParameterFits (incoming_reset_request request streams) = (request < 2 ^ 32) × All (λ id. id.0 < 2 ^ 16) streams
 ParameterFits (reset_response response result sender receiver) = (response < 2 ^ 32) × (result < 2 ^ 32) × IfSome sender (λ tsn. tsn.0 < 2 ^ 32) × IfSome receiver (λ tsn. tsn.0 < 2 ^ 32)
 ParameterFits (zero_checksum_acceptable method) = method < 2 ^ 32
-ParameterFits (heartbeat_info info) = Unit {0}
-ParameterFits (state_cookie cookie) = Unit {0}
-ParameterFits (ssn_tsn_reset_request typ value) = Unit {0}
-ParameterFits (add_outgoing_streams_request typ value) = Unit {0}
-ParameterFits (add_incoming_streams_request typ value) = Unit {0}
-ParameterFits (supported_extensions chunk_types) = Unit {0}
-ParameterFits forward_tsn_supported = Unit {0}
-ParameterFits (unknown_parameter typ value) = Unit {0}
+ParameterFits _ = Unit {0}
 
 -- a parameter of this type and this value says what the tree says
 pub record SaysParameter (typ : ℕ) (value : List ℕ) (t : ParameterTree) : Type 0 where

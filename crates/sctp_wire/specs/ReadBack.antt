@@ -3,7 +3,7 @@ use Rattle.std.specs.Prelude.{◌≡◌, true}
 use Rattle.std.specs.Str.{IsUtf8}
 use Rattle.sctp_wire.specs.Serialize.{IsEncodable}
 use Rattle.sctp_wire.specs.Parameter.{ParameterTree, parameter_item, parameter_is_whole, IsOfItsVariant, ParameterFits}
-use Rattle.sctp_wire.specs.Cause.{CauseTree, user_initiated_abort, protocol_violation, missing_mandatory_parameter, unrecognized_chunk, no_user_data, cookie_received_while_shutting_down, unknown_cause, cause_item, CauseIsOfItsVariant, CauseFits}
+use Rattle.sctp_wire.specs.Cause.{CauseTree, user_initiated_abort, protocol_violation, cause_item, CauseIsOfItsVariant, CauseFits}
 
 -- the parameter can be written, and its type is one of its variant
 pub record ParameterReadsBack (t : ParameterTree) : Type 0 where
@@ -16,11 +16,7 @@ pub record ParameterReadsBack (t : ParameterTree) : Type 0 where
 abbrev pub IsText : CauseTree → Type 0
 IsText (user_initiated_abort reason) = IsUtf8 reason
 IsText (protocol_violation information) = IsUtf8 information
-IsText (missing_mandatory_parameter types) = Unit {0}
-IsText (unrecognized_chunk chunk) = Unit {0}
-IsText (no_user_data tsn) = Unit {0}
-IsText cookie_received_while_shutting_down = Unit {0}
-IsText (unknown_cause typ value) = Unit {0}
+IsText _ = Unit {0}
 
 -- the cause can be written, and its type is one of its variant
 pub record CauseReadsBack (t : CauseTree) : Type 0 where

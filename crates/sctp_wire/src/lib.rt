@@ -7,6 +7,7 @@ mod checksum;
 mod error;
 mod field;
 mod item;
+mod kind;
 mod read;
 mod serialize;
 mod show;
@@ -21,6 +22,7 @@ pub use field::{
     push_u16, push_u32, push_u64, u16_at, u32_at, u64_at,
 };
 pub use item::{RawItem, RawParameter, one_item};
+pub use kind::{FieldValue, OneField};
 pub use read::{FromItem, items_from_bytes};
 pub use sctp_serial::{
     Fsn, LifecycleId, Message, Mid, OutgoingMessageId, PpId, SerialNumber, SocketTime, Ssn,

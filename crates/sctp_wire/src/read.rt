@@ -36,3 +36,16 @@ pub fn items_from_bytes<T: FromItem>(alloc: Global, bytes: &[u8]) -> Result<Vec<
     }
     Ok(values)
 }
+
+/// Reads an item by its type, as the variant of `$kinds` that holds what the type's reader reads.
+#[macro_export]
+macro_rules! read_by_type {
+    ($kinds:ident, $alloc:ident, $raw:ident, $($typ:pat => $variant:ident($kind:ident),)*) => {
+        match $raw.typ {
+            $($typ => match $kind::try_from($alloc, $raw) {
+                Ok(read) => Ok($kinds::$variant(read)),
+                Err(fault) => Err(fault),
+            },)*
+        }
+    };
+}

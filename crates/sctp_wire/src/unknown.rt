@@ -1,13 +1,13 @@
 //! Parameters and causes of no known type.
 
-ghost use Rattle.std.specs.Prelude.{◌≡◌, true, IfOk, IfErr, Some, codes};
+ghost use Rattle.std.specs.Prelude.{◌≡◌, IfOk, IfErr, Some, codes};
 ghost use Rattle.sctp_wire.specs.ParameterText.{unknown_text};
 ghost use Rattle.sctp_wire.specs.Serialize.{item_of_type};
 
 use crate::ChunkParseError;
 use crate::item::RawParameter;
-use crate::serialize::SerializableTlv;
-use std::alloc::{AllocError, Global};
+use crate::kind::{FieldValue, OneField};
+use std::alloc::Global;
 use std::fmt;
 
 /// A parameter or a cause that is kept as it came.
@@ -36,25 +36,15 @@ impl UnknownParameter {
     }
 }
 
-impl SerializableTlv for UnknownParameter {
-    ghost item_of = { λ p. item_of_type p.typ p.value.items };
+impl OneField for UnknownParameter {
+    ghost item = { λ p. item_of_type p.typ p.value.items };
 
-    ghost parts_agree = { λ p. true };
-
-    fn kind(&self) -> [u8; 2] {
+    fn first_bytes(&self) -> [u8; 2] {
         self.typ.to_be_bytes()
     }
 
-    fn value_size(&self) -> usize {
-        self.value.len()
-    }
-
-    fn is_whole(&self) -> bool {
-        true
-    }
-
-    fn push_value(&self, output: &mut Vec<u8>) -> Result<(), AllocError> {
-        output.extend_from_slice(&self.value)
+    fn field(&self) -> FieldValue<'_> {
+        FieldValue::Bytes(&self.value)
     }
 }
 

@@ -1,4 +1,4 @@
-use Rattle.std.proofs.Common.{◌≡◌, ◌++◌, ℕ, List, if◌then◌else◌, rules, arith, refl, ap, sym, ◌∙◌}
+use Rattle.std.proofs.Common.{◌≡◌, ◌++◌, ℕ, List, if◌then◌else◌, arith, refl, ap, sym, ◌∙◌}
 use Rattle.sctp_wire.specs.Field.{be16, be32}
 use Rattle.sctp_chunk.proofs.FragmentLemmas.{field_read, field_fits, idata_carries, idata_read}
 use Rattle.sctp_chunk.proofs.data.DataView.of_idata.Goals as goal
