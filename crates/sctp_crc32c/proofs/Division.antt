@@ -76,14 +76,14 @@ take_byte_parted word byte fits =
     ∙ ap₂ (λ (x y : ℕ). bit_xor (take_bits 8 x) y) (sym (and_mask added 8)) (take_bits_high 8 (added / 2 ^ 8) ∙ high)
 
 -- the entry of so many zeros behind a byte
-pub entry_at : (entries : List ℕ) (zeros byte place : ℕ) → entries ≡ tables → zeros < 8 → byte < 256 → place ≡ 256 * zeros + byte
+pub entry_at : (entries : List ℕ) (zeros byte place : ℕ) → entries ≡ tables → zeros < 16 → byte < 256 → place ≡ 256 * zeros + byte
     → slice_index_or entries place 0 ≡ take_zeros (suc zeros) byte
 unfolding tables
 entry_at entries zeros byte place e few fits is =
-    let inside : place < 2048 = omega arith in
+    let inside : place < 4096 = omega arith in
     let at : 0 + place ≡ place = omega arith in
-    let read : get_or (map (λ (x : ℕ). take_zeros (suc (x / 256)) (x % 256)) (range_with_len 0 2048)) place 0 ≡ take_zeros (suc (place / 256)) (place % 256) =
-    get_or-map-range_with_len (λ (x : ℕ). take_zeros (suc (x / 256)) (x % 256)) 0 2048 place place 0 inside at in
+    let read : get_or (map (λ (x : ℕ). take_zeros (suc (x / 256)) (x % 256)) (range_with_len 0 4096)) place 0 ≡ take_zeros (suc (place / 256)) (place % 256) =
+    get_or-map-range_with_len (λ (x : ℕ). take_zeros (suc (x / 256)) (x % 256)) 0 4096 place place 0 inside at in
     let table : place / 256 ≡ zeros = omega arith in
     let left : place % 256 ≡ byte = omega arith in
     ap (λ (t : List ℕ). slice_index_or t place 0) e ∙ (read ∙ ap₂ (λ (x y : ℕ). take_zeros (suc x) y) table left)

@@ -27,9 +27,9 @@ unfoldable pub take_zeros : ℕ → ℕ → ℕ
 take_zeros zero word = word
 take_zeros (suc count) word = take_zeros count (take_bits 8 word)
 
--- what one zero byte makes of each word below 256; what two make of each; up to eight
+-- what one zero byte makes of each word below 256; what two make of each; up to sixteen
 unfoldable pub tables : List ℕ
-tables = map (λ at. take_zeros (suc (at / 256)) (at % 256)) (range_with_len 0 2048)
+tables = map (λ at. take_zeros (suc (at / 256)) (at % 256)) (range_with_len 0 4096)
 
 -- the remainder of the bytes behind this word
 abbrev pub remainder : ℕ → List ℕ → ℕ

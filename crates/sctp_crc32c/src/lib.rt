@@ -1,7 +1,7 @@
-//! CRC32c, the checksum of a packet on the wire (RFC 9260 appendix A), eight bytes at a time.
+//! CRC32c, the checksum of a packet on the wire (RFC 9260 appendix A), sixteen bytes at a time.
 #![tactic(auto)]
 
-ghost use Rattle.std.specs.Prelude.{◌≡◌, ◌<◌, [], ◌∷◌, suc};
+ghost use Rattle.std.specs.Prelude.{◌≡◌, ◌<◌, ◌≤◌, [], ◌∷◌, suc};
 ghost use Rattle.sctp_crc32c.specs.Crc32c.{take_byte, take_zeros, tables, remainder, crc32c, crc32c_word};
 
 mod entries;
@@ -40,9 +40,16 @@ fn remainder(start: u32, bytes: &[u8]) -> u32
     let entries = tables();
     let mut word = start;
     let mut rest = bytes;
-    while let [b0, b1, b2, b3, b4, b5, b6, b7, tail @ ..] = rest {
-        let front = front(entries, word, *b0, *b1, *b2, *b3);
-        word = front ^ back(entries, *b4, *b5, *b6, *b7);
+    while let [a, b, c, d, e, f, g, h, i, j, k, l, m, n, o, p, tail @ ..] = rest {
+        let front = behind(entries, 12, word, *a, *b, *c, *d);
+        let second = four(entries, 8, *e, *f, *g, *h);
+        let third = four(entries, 4, *i, *j, *k, *l);
+        let last = four(entries, 0, *m, *n, *o, *p);
+        word = front ^ (second ^ (third ^ last));
+        rest = tail;
+    }
+    while let [b0, b1, b2, b3, tail @ ..] = rest {
+        word = behind(entries, 0, word, *b0, *b1, *b2, *b3);
         rest = tail;
     }
     for byte in rest {
@@ -51,32 +58,37 @@ fn remainder(start: u32, bytes: &[u8]) -> u32
     word
 }
 
-/// Four bytes behind the word, and four zeros behind them.
-fn front(entries: &[u32; 2048], word: u32, b0: u8, b1: u8, b2: u8, b3: u8) -> u32
-    requires { entries.now ≡ tables }
-    ensures { result ≡ remainder word (b0 ∷ b1 ∷ b2 ∷ b3 ∷ 0 ∷ 0 ∷ 0 ∷ 0 ∷ []) }
+/// Four bytes behind the word, and so many zeros behind them.
+fn behind(entries: &[u32; 4096], zeros: usize, word: u32, b0: u8, b1: u8, b2: u8, b3: u8) -> u32
+    requires tables { entries.now ≡ tables }
+    requires few { zeros ≤ 12 }
+    ensures { result ≡ take_zeros zeros (remainder word (b0 ∷ b1 ∷ b2 ∷ b3 ∷ [])) }
 {
     let parts = word.to_le_bytes();
-    let e0 = entry(entries, 7, b0 ^ parts[0]);
-    let e1 = entry(entries, 6, b1 ^ parts[1]);
-    let e2 = entry(entries, 5, b2 ^ parts[2]);
-    let e3 = entry(entries, 4, b3 ^ parts[3]);
+    four(
+        entries,
+        zeros,
+        b0 ^ parts[0],
+        b1 ^ parts[1],
+        b2 ^ parts[2],
+        b3 ^ parts[3],
+    )
+}
+
+/// Four bytes behind the word 0, and so many zeros behind them.
+fn four(entries: &[u32; 4096], zeros: usize, b0: u8, b1: u8, b2: u8, b3: u8) -> u32
+    requires tables { entries.now ≡ tables }
+    requires few { zeros ≤ 12 }
+    ensures { result ≡ take_zeros zeros (remainder 0 (b0 ∷ b1 ∷ b2 ∷ b3 ∷ [])) }
+{
+    let e0 = entry(entries, zeros + 3, b0);
+    let e1 = entry(entries, zeros + 2, b1);
+    let e2 = entry(entries, zeros + 1, b2);
+    let e3 = entry(entries, zeros, b3);
     e0 ^ (e1 ^ (e2 ^ e3))
 }
 
-/// Four bytes behind the word 0.
-fn back(entries: &[u32; 2048], b4: u8, b5: u8, b6: u8, b7: u8) -> u32
-    requires { entries.now ≡ tables }
-    ensures { result ≡ remainder 0 (b4 ∷ b5 ∷ b6 ∷ b7 ∷ []) }
-{
-    let e4 = entry(entries, 3, b4);
-    let e5 = entry(entries, 2, b5);
-    let e6 = entry(entries, 1, b6);
-    let e7 = entry(entries, 0, b7);
-    e4 ^ (e5 ^ (e6 ^ e7))
-}
-
-fn take_byte(entries: &[u32; 2048], word: u32, byte: u8) -> u32
+fn take_byte(entries: &[u32; 4096], word: u32, byte: u8) -> u32
     requires { entries.now ≡ tables }
     ensures { result ≡ take_byte word byte }
 {
@@ -85,9 +97,9 @@ fn take_byte(entries: &[u32; 2048], word: u32, byte: u8) -> u32
 }
 
 /// The byte, and so many zeros behind it.
-fn entry(entries: &[u32; 2048], zeros: usize, byte: u8) -> u32
+fn entry(entries: &[u32; 4096], zeros: usize, byte: u8) -> u32
     requires tables { entries.now ≡ tables }
-    requires few { zeros < 8 }
+    requires few { zeros < 16 }
     ensures { result ≡ take_zeros (suc zeros) byte }
 {
     entries[256 * zeros + byte as usize]
@@ -95,7 +107,7 @@ fn entry(entries: &[u32; 2048], zeros: usize, byte: u8) -> u32
 
 /// The tables, which their proof computes anew.
 #[tactic(auto, unfolding(crate::specs::Crc32c::tables, crate::specs::Crc32c::take_zeros, crate::specs::Crc32c::take_bits, crate::specs::Crc32c::take_bit))]
-fn tables() -> &'static [u32; 2048]
+fn tables() -> &'static [u32; 4096]
     ensures { result.now ≡ tables }
 {
     &TABLES

@@ -8,5 +8,11 @@ invariant-loop-rest l = (remainder l.word l.rest ≡ remainder l.start l.bytes) 
 abbrev pub decreases-loop-rest : goal.decreases-loop-rest
 decreases-loop-rest l = length l.rest
 
+abbrev pub invariant-loop-rest-2 : goal.invariant-loop-rest-2
+invariant-loop-rest-2 l = (remainder l.word l.rest ≡ remainder l.start l.bytes) × (l.entries ≡ tables)
+
+abbrev pub decreases-loop-rest-2 : goal.decreases-loop-rest-2
+decreases-loop-rest-2 l = length l.rest
+
 abbrev pub invariant-loop-byte : goal.invariant-loop-byte
 invariant-loop-byte l = (l.word ≡ remainder l.initial.word (take l.byte-index l.byte-items)) × (l.entries ≡ tables)

@@ -1,0 +1,6 @@
+use Rattle.sctp_crc32c.proofs.Slices.{four_from}
+use Rattle.sctp_crc32c.proofs.four.Goals as goal
+
+pub returns : goal.returns
+returns c =
+    four_from c.args.zeros c.args.b0 c.args.b1 c.args.b2 c.args.b3 _ _ _ _ c.entry-e0.ensures c.entry-e1.ensures c.entry-e2.ensures c.entry-e3.ensures
