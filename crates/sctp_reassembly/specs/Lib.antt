@@ -6,6 +6,8 @@ pub mod InterruptedStreams
 pub mod InterruptedQueue
 pub mod ReassemblyMode
 pub mod Waiting
+pub mod Places
+pub mod Turns
 pub mod ReassemblyHandover
 pub mod SettledLaws
 pub mod ReadyLaws

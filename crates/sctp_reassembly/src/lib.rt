@@ -7,6 +7,7 @@ pub mod interval_list;
 mod near;
 mod ordered_stream;
 mod ordered_streams;
+mod places;
 pub mod ready_laws;
 pub mod ready_messages;
 pub mod reassembly_queue;

@@ -82,11 +82,10 @@ fn add_in<K: ReassemblyKey>(
     ensures bytes { bytes_of list.new ≤ bytes_of list.old + length fragment.payload.items }
     ensures err { OnErr result (list.new ≡ list.old) }
 {
-    let added = list.add(key, fragment)?;
-    match added {
-        Some(place) => Ok(list.is_in_turn_at(place, next)),
-        None => Ok(false),
+    if !list.add(key, fragment)? {
+        return Ok(false);
     }
+    Ok(list.is_in_turn_at(key, next))
 }
 
 /// Whether the fragment is all of the message with the number.

@@ -55,11 +55,10 @@ fn take_in<K: ReassemblyKey>(
     ensures kept { Extends ready.old ready.new }
     ensures bytes { bytes_of list.new + ready_bytes ready.new ≤ bytes_of list.old + ready_bytes ready.old + length fragment.payload.items }
 {
-    let added = list.add(key, fragment)?;
-    let Some(place) = added else {
+    if !list.add(key, fragment)? {
         return Ok(());
-    };
-    let Some(interval) = list.pop_if_complete(place) else {
+    }
+    let Some(interval) = list.pop_if_complete(key) else {
         return Ok(());
     };
     let message = message_of(alloc, interval)?;
