@@ -7,6 +7,8 @@ pub mod DeliverLemmas
 pub mod InterruptedLemmas
 mod JoinedLemmas
 mod HolderLemmas
+mod InTurnLemmas
+mod KeyAtLemmas
 mod AddedLemmas
 pub mod StandsLemmas
 pub mod InterruptedQueueLemmas

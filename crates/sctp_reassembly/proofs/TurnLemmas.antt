@@ -27,7 +27,7 @@ indexed_front : (xs ys : List Held) → AreIndexed (xs ++ ys) → AreIndexed xs
 indexed_front [] ys h = tt
 indexed_front (x ∷ xs) ys h = (h.0, indexed_front xs ys h.1)
 
-indexed_back : (xs ys : List Held) → AreIndexed (xs ++ ys) → AreIndexed ys
+pub indexed_back : (xs ys : List Held) → AreIndexed (xs ++ ys) → AreIndexed ys
 indexed_back [] ys h = h
 indexed_back (x ∷ xs) ys h = indexed_back xs ys h.1
 
@@ -100,7 +100,7 @@ none_above d ((e ∷ es) ∷ rs) n r i h =
       none_above (last_of e es) rs n r.1.1 (indexed_back es (flat rs) i.1) (omega (arith, h, r.0.0, linked_rises rank_of goes_on e es r.1.0)),
     )
 
-none_append : (n : ℕ) (xs ys : List (List Held)) → NoneInTurn n xs → NoneInTurn n ys → NoneInTurn n (xs ++ ys)
+pub none_append : (n : ℕ) (xs ys : List (List Held)) → NoneInTurn n xs → NoneInTurn n ys → NoneInTurn n (xs ++ ys)
 none_append n [] ys h k = k
 none_append n (x ∷ xs) ys h k = (h.0, none_append n xs ys h.1 k)
 

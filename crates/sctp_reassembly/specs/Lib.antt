@@ -12,3 +12,4 @@ pub mod ReassemblyHandover
 pub mod SettledLaws
 pub mod ReadyLaws
 pub mod UnorderedByTsn
+pub mod KeyAt

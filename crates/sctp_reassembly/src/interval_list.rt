@@ -45,6 +45,7 @@ impl<K: ReassemblyKey> IntervalList<K> {
     ghost use Rattle.sctp_fragments.specs.ReassemblyKey.{rank_at};
     ghost use Rattle.sctp_fragments.specs.Interval.{as_held, held_of, run_of};
     ghost use Rattle.sctp_reassembly.specs.UnorderedByTsn.{BeginsFrom};
+    ghost use Rattle.sctp_reassembly.specs.KeyAt.{IsKeyAt};
 
     /// No fragments. Takes no memory.
     pub fn new(alloc: Global) -> IntervalList<K>
@@ -91,7 +92,10 @@ impl<K: ReassemblyKey> IntervalList<K> {
     }
 
     /// The key of the first fragment of the interval at the place.
-    pub fn key_at(&self, place: usize) -> Option<K> {
+    pub fn key_at(&self, place: usize) -> Option<K>
+        ensures some { IfSome result (λ k. IsKeyAt (rank_at K.number K.index k) place (intervals_of self.now)) }
+        ensures none { IfNone result (length (intervals_of self.now) ≤ place) }
+    {
         key_at(&self.first, &self.later, place)
     }
 

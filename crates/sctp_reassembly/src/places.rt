@@ -9,6 +9,7 @@ ghost use Rattle.sctp_fragments.specs.ReassemblyKey.{rank_at};
 ghost use Rattle.sctp_fragments.specs.Interval.{held_of, run_of, lists_of, entries_of, IsInRuns, AreIndexed, without_first, first_below, starts_upto};
 ghost use Rattle.sctp_fragments.specs.declared.interval.Interval.{Interval};
 ghost use Rattle.sctp_reassembly.specs.Turns.{IsFirstOut, IsFirstPassing};
+ghost use Rattle.sctp_reassembly.specs.KeyAt.{IsKeyAt};
 ghost use Rattle.sctp_reassembly.specs.Places.{AreBeside, HasRoom, Holds, IsAmong, IsOut, IsFirstAt, all_of, runs_at, AreNamed, AreLow, AreHigh, IsLed, IsSplit, IsChanged, IsJoined, AreJoined, IsAdded, IsAnswer, IsSame, next_of, previous_of, ends_from, first_key_of, last_key};
 
 use sctp_fragments::{Entry, Interval, ReassemblyKey, goes_on_to, is_before};
@@ -31,14 +32,34 @@ pub(crate) fn key_at<K: ReassemblyKey>(
     first: &Option<Interval<K>>,
     later: &BTreeMap<K, Interval<K>>,
     place: usize,
-) -> Option<K> {
+) -> Option<K>
+    requires led { IsLed first.now later.now.entries }
+    requires runs { IsInRuns (lists_of (held_of K.number K.index) (all_of first.now later.now.entries)) }
+    ensures some { IfSome result (λ k. IsKeyAt (rank_at K.number K.index k) place (lists_of (held_of K.number K.index) (all_of first.now later.now.entries))) }
+    ensures none { IfNone result (length (lists_of (held_of K.number K.index) (all_of first.now later.now.entries)) ≤ place) }
+{
+    let Some(interval) = first else {
+        return None;
+    };
     if place == 0 {
-        return first_key(first);
+        return Some(interval.first().key);
     }
-    match later.values().nth(place - 1) {
-        Some(interval) => Some(interval.first().key),
-        None => None,
+    later_key_at(later, place - 1)
+}
+
+/// The same, among those of the map.
+fn later_key_at<K: ReassemblyKey>(later: &BTreeMap<K, Interval<K>>, place: usize) -> Option<K>
+    ensures some { IfSome result (λ k. IsKeyAt (rank_at K.number K.index k) place (runs_at K.number K.index later.now.entries)) }
+    ensures none { IfNone result (length (runs_at K.number K.index later.now.entries) ≤ place) }
+{
+    let mut passed = 0;
+    for interval in later.values() {
+        if passed == place {
+            return Some(interval.first().key);
+        }
+        passed += 1;
     }
+    None
 }
 
 /// Whether the first fragment is before the key.
@@ -285,7 +306,9 @@ fn place_in_turn<K: ReassemblyKey>(later: &BTreeMap<K, Interval<K>>, number: u12
     ensures some { IfSome result (λ place. IsFirstPassing K.is_key K.number K.index (is_in_turn number) place later.now.entries) }
     ensures none { IfNone result (NoneInTurn number (runs_at K.number K.index later.now.entries)) }
 {
-    let mut rest = later.range(K::least(number.min(u64::MAX as u128) as u64)..);
+    let least = K::least(number.min(u64::MAX as u128) as u64);
+    least.known();
+    let mut rest = later.range(least..);
     while let Some((place, interval)) = rest.next() {
         if interval.is_in_turn(number) {
             return Some(*place);
