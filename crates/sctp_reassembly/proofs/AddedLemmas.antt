@@ -1,15 +1,14 @@
 -- An entry comes where it joins.
-use Rattle.std.proofs.Common.{◌≡◌, ℕ, suc, ◌<◌, ◌≤◌, ◌==◌, Bool, true, false, Option, Some, None, List, [], ◌∷◌, ◌++◌, refl, ap, sym, subst, ◌∙◌, arith, append_assoc}
+use Rattle.std.proofs.Common.{◌≡◌, ℕ, suc, ◌<◌, ◌==◌, Bool, true, false, Option, Some, None, List, [], ◌∷◌, ◌++◌, refl, ap, sym, subst, ◌∙◌, arith}
 use Rattle.std.specs.Prelude.{nat_lt, ◌||◌}
-use Rattle.std.proofs.lemmas.Bool.Decides.{nat_tests}
 use Rattle.sctp_fragments.specs.declared.interval.Interval.{Interval}
 use Rattle.sctp_fragments.specs.ReassemblyKey.{rank_at}
 use Rattle.sctp_fragments.specs.Runs.{flat, last_of, end_of, is_held, AreRuns, IsBelow, LeadsTo, is_next, joins_left, joins_right}
 use Rattle.sctp_fragments.specs.Held.{Held, rank_of, goes_on}
 use Rattle.sctp_fragments.specs.Interval.{held_of, run_of, lists_of, IsInserted}
-use Rattle.sctp_fragments.proofs.PlaceLemmas.{cons, some_run, emitted_less, emitted_not_less}
+use Rattle.sctp_fragments.proofs.PlaceLemmas.{cons, some_run, emitted_not_less}
 use Rattle.sctp_fragments.proofs.RunLemmas.{AreRuns_back, AreRuns_front, AllBelow_runs, end_of_append, is_held_within, linked_rises}
-use Rattle.sctp_reassembly.specs.Places.{AreNamed, AreLow, AreHigh, IsWithin, IsChanged, IsJoined, AreJoined, IsAdded, IsAnswer, IsFirstAt, IsLed, all_of, runs_at, previous_of, next_of, first_key_of}
+use Rattle.sctp_reassembly.specs.Places.{AreNamed, AreLow, AreHigh, IsWithin, IsChanged, IsJoined, AreJoined, IsAdded, IsFirstAt, IsLed, all_of, runs_at, next_of, first_key_of}
 use Rattle.sctp_reassembly.proofs.InsertLemmas.{inserts_alone, inserts_left, inserts_right, inserts_both}
 use Rattle.sctp_reassembly.proofs.HeldLemmas.{next_rank}
 use Rattle.sctp_reassembly.proofs.MapLemmas.{runs_append, rises_behind}

@@ -1,5 +1,5 @@
 -- The run that has a rank.
-use Rattle.std.proofs.Common.{◌≡◌, ℕ, suc, ◌<◌, ◌≤◌, ◌==◌, Bool, true, false, not, Option, Some, None, List, [], ◌∷◌, ◌++◌, refl, ap, sym, subst, ◌∙◌, arith, append_assoc, append-nil}
+use Rattle.std.proofs.Common.{◌≡◌, ℕ, ◌<◌, ◌≤◌, ◌==◌, Bool, true, false, not, Option, Some, None, List, [], ◌∷◌, ◌++◌, refl, ap, sym, subst, ◌∙◌, arith, append-nil}
 use Rattle.std.specs.Prelude.{nat_lt, ◌&&◌, ◌||◌, option_map, IfSome, IfNone}
 use Rattle.std.specs.Borrow.{Bor}
 use Rattle.sctp_reassembly.proofs.PutLemmas.{runs_alone}
@@ -17,7 +17,7 @@ use Rattle.sctp_fragments.proofs.PlaceLemmas.{cons, some_run}
 use Rattle.sctp_fragments.proofs.RunLemmas.{AreRuns_back, is_held_within, is_held_between, not_held_before, linked_rises}
 use Rattle.sctp_reassembly.specs.Places.{AreNamed, AreLow, AreHigh, IsSplit, IsWithin, IsAmong, IsLed, IsOut, Holds, all_of, runs_at, ends_from, is_from, first_key_of, last_key}
 use Rattle.sctp_reassembly.proofs.HeldLemmas.{next_rank}
-use Rattle.sctp_reassembly.proofs.MapLemmas.{read_there, not_absent, runs_append, end_is, last_of_split, first_of_split, LastOf, FirstOf}
+use Rattle.sctp_reassembly.proofs.MapLemmas.{read_there, not_absent, runs_append, end_is, last_of_split, first_of_split}
 use Rattle.sctp_reassembly.proofs.JoinedLemmas.{named_mid, low_mid, not_less, upto}
 
 pub some_then : {T : Type 0} {P Q : T → Type 0} (r : Option T) → ((x : T) → P x → Q x) → IfSome r P → IfSome r Q

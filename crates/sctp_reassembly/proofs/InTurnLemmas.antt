@@ -1,5 +1,5 @@
 -- The first interval that is in turn, in the map.
-use Rattle.std.proofs.Common.{◌≡◌, ℕ, suc, ◌<◌, ◌≤◌, ◌==◌, Bool, true, false, Option, Some, None, List, [], ◌∷◌, ◌++◌, refl, ap, sym, subst, ◌∙◌, arith, append_assoc}
+use Rattle.std.proofs.Common.{◌≡◌, ℕ, ◌<◌, ◌≤◌, ◌==◌, Bool, true, false, Option, Some, None, List, [], ◌∷◌, ◌++◌, refl, ap, sym, subst, ◌∙◌, arith, append_assoc}
 use Rattle.std.specs.Prelude.{IfSome, IfNone}
 use Rattle.std.specs.Option.{option_to_list}
 use Rattle.std.proofs.Common.{Ordering}
@@ -13,7 +13,7 @@ use Rattle.sctp_fragments.specs.Runs.{flat, AreRuns}
 use Rattle.sctp_fragments.specs.Held.{Held, rank_of, goes_on, is_in_turn, NoneInTurn}
 use Rattle.sctp_fragments.specs.Interval.{held_of, run_of, lists_of, entries_of, AreIndexed}
 use Rattle.sctp_fragments.proofs.PlaceLemmas.{cons, some_run}
-use Rattle.sctp_reassembly.specs.Places.{AreNamed, AreLow, IsSplit, IsLed, all_of, runs_at}
+use Rattle.sctp_reassembly.specs.Places.{AreNamed, IsSplit, all_of, runs_at}
 use Rattle.sctp_reassembly.specs.Turns.{IsFirstOut, IsFirstPassing}
 use Rattle.sctp_reassembly.proofs.MapLemmas.{read_there, removed_at, not_absent, runs_append, lows}
 use Rattle.sctp_reassembly.proofs.PutLemmas.{named_front}

@@ -1,5 +1,5 @@
 -- What stands beside an entry's place.
-use Rattle.std.proofs.Common.{◌≡◌, ℕ, suc, ◌<◌, ◌≤◌, Bool, true, false, not, Option, Some, None, if◌then◌else◌, List, [], ◌∷◌, ◌++◌, refl, ap, sym, subst, ◌∙◌, arith, append_assoc}
+use Rattle.std.proofs.Common.{◌≡◌, ℕ, ◌<◌, ◌≤◌, Bool, true, false, not, Option, Some, None, if◌then◌else◌, List, [], ◌∷◌, ◌++◌, refl, ap, sym, subst, ◌∙◌, arith, append_assoc}
 use Rattle.std.proofs.lemmas.Bool.Decides.{nat_tests}
 use Rattle.std.specs.Prelude.{nat_lt, IfNone}
 use Rattle.sctp_fragments.specs.declared.interval.Interval.{Interval}
@@ -7,10 +7,10 @@ use Rattle.sctp_fragments.specs.ReassemblyKey.{rank_at}
 use Rattle.sctp_fragments.specs.Runs.{flat, last_of, end_of, is_held, AreRuns, IsBelow, LeadsTo, is_next, joins_left, joins_right}
 use Rattle.sctp_fragments.specs.Held.{Held, rank_of, goes_on}
 use Rattle.sctp_fragments.specs.Interval.{held_of, run_of, starts_upto}
-use Rattle.sctp_fragments.proofs.PlaceLemmas.{cons, some_run, emitted_less, emitted_not_less}
-use Rattle.sctp_fragments.proofs.RunLemmas.{AreRuns_back, AreRuns_front, AllBelow_runs, is_held_within}
+use Rattle.sctp_fragments.proofs.PlaceLemmas.{cons, some_run, emitted_less}
+use Rattle.sctp_fragments.proofs.RunLemmas.{AreRuns_back, is_held_within}
 use Rattle.sctp_reassembly.specs.Places.{AreNamed, AreLow, AreHigh, IsSplit, IsWithin, runs_at, next_of, previous_of, first_key_of, last_key, ends_from, is_from}
-use Rattle.sctp_reassembly.proofs.MapLemmas.{Snoc, snoc, last_read, runs_append, end_is}
+use Rattle.sctp_reassembly.proofs.MapLemmas.{snoc, last_read, runs_append, end_is}
 
 pub none_holds : {T : Type 0} (r : Option T) (P : Type 0) → P → IfNone r P
 none_holds None P p = p

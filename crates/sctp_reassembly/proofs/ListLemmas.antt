@@ -1,25 +1,20 @@
 -- What the calls of an interval list leave.
-use Rattle.std.proofs.Common.{◌≡◌, ℕ, zero, suc, ◌+◌, ◌<◌, ◌≤◌, ◌==◌, Bool, true, false, not, ltb, Option, Some, None, List, [], ◌∷◌, ◌++◌, length, take, drop, get_or, refl, ap, sym, subst, ◌∙◌, arith}
+use Rattle.std.proofs.Common.{◌≡◌, ℕ, suc, ◌+◌, ◌<◌, ◌≤◌, ◌==◌, Bool, true, false, not, Option, Some, None, List, [], ◌∷◌, ◌++◌, length, refl, ap, sym, subst, ◌∙◌, arith}
 use Rattle.std.proofs.lemmas.Bool.Decides.{nat_tests}
-use Rattle.std.specs.List.{remove}
 use Rattle.std.specs.Prelude.{◌&&◌, is_none}
 use Rattle.std.specs.Map.{values_of}
-use Rattle.std.proofs.lemmas.Bool.{lt-ltb, le-ltb, and_parts}
-use Rattle.std.proofs.Math.Seq.{take-append_seam, drop-append_seam}
-use Rattle.sctp_fragments.specs.Interval.{StartsInTurn, without_first, first_below, IsInserted, EndsFrom, starts_upto, run_of}
+use Rattle.std.proofs.lemmas.Bool.{lt-ltb, and_parts}
+use Rattle.sctp_fragments.specs.Interval.{without_first, first_below, run_of}
 use Rattle.sctp_fragments.specs.Runs.{from_rank}
 use Rattle.sctp_fragments.proofs.PlaceLemmas.{emitted_less, emitted_not_less}
 use Rattle.sctp_fragments.proofs.RunLemmas.{first_runs, from_rank_runs}
-use Rattle.std.proofs.lemmas.List.{take_more, take_all}
-use Rattle.std.proofs.lemmas.List.{get_or_read}
 use Rattle.sctp_fragments.specs.declared.interval.Entry.{Entry}
 use Rattle.sctp_fragments.specs.declared.interval.Interval.{Interval}
-use Rattle.sctp_fragments.specs.Runs.{is_next, flat, last_of, end_of, is_held, with_item, IsBelow, LeadsTo, AreRuns}
-use Rattle.sctp_fragments.specs.Held.{Held, rank_of, goes_on, bytes_of, intervals_of, is_complete, begins, ends, NonePass, NoneComplete, IsPlaced, IsTaken, is_in_turn, NoneInTurn, IsTurn}
+use Rattle.sctp_fragments.specs.Runs.{is_next, flat, last_of, is_held, with_item, AreRuns}
+use Rattle.sctp_fragments.specs.Held.{Held, rank_of, goes_on, bytes_of, intervals_of, is_complete, begins, ends, NonePass, NoneComplete, IsPlaced, IsTaken, is_in_turn}
 use Rattle.sctp_fragments.specs.Interval.{lists_of, entries_of}
-use Rattle.sctp_fragments.proofs.RunLemmas.{flat_append, runs_of_flat, AreRuns_without, with_item_between, is_held_between, is_held_within}
-use Rattle.sctp_fragments.proofs.PlaceLemmas.{cons, some_run, lists_of_append, read_at, remove_at}
-use Rattle.sctp_fragments.specs.ReassemblyKey.{rank_at}
+use Rattle.sctp_fragments.proofs.RunLemmas.{flat_append, runs_of_flat, AreRuns_without, with_item_between, is_held_between}
+use Rattle.sctp_fragments.proofs.PlaceLemmas.{cons, some_run}
 use Rattle.sctp_reassembly.specs.Places.{IsAdded, IsAnswer, IsAmong, IsOut, IsLed, all_of}
 use Rattle.sctp_reassembly.proofs.HolderLemmas.{only_one, held_among}
 use Rattle.sctp_reassembly.proofs.InsertLemmas.{length_lists_of}

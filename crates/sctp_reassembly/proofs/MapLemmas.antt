@@ -1,25 +1,24 @@
 -- Entries of a map by the ranks of their keys.
-use Rattle.std.proofs.Common.{◌≡◌, ℕ, suc, ◌<◌, ◌≤◌, Bool, true, false, cond, ◌&&◌, not, Option, Some, None, List, [], ◌∷◌, ◌++◌, refl, ap, sym, subst, ◌∙◌, inl, inr, arith, append_assoc}
-use Rattle.std.specs.Prelude.{nat_lt, ◌+◌, map, IfSome}
+use Rattle.std.proofs.Common.{◌≡◌, ℕ, suc, ◌<◌, ◌≤◌, true, cond, ◌&&◌, not, Option, Some, None, List, [], ◌∷◌, ◌++◌, refl, ap, sym, subst, ◌∙◌, inl, inr, arith, append_assoc}
+use Rattle.std.specs.Prelude.{◌+◌, map, IfSome}
 use Rattle.std.specs.VecDeque.{deque_len, deque_capacity}
 use Rattle.std.proofs.lemmas.List.{map-append}
 use Rattle.sctp_fragments.specs.declared.interval.Entry.{Entry}
 use Rattle.std.proofs.Common.{Ordering, Equal, Greater, Less}
 use Rattle.std.proofs.lemmas.Bool.{cases_lt, le-ltb, eq-eqb, ne_eqb}
 use Rattle.std.specs.Map.{lookup, remove_entry, set_value, values_of}
-use Rattle.std.specs.Ordering.{is_eq, is_lt, is_le, nat_cmp, match_ordering}
+use Rattle.std.specs.Ordering.{is_eq, is_le, nat_cmp, match_ordering}
 use Rattle.std.specs.BTreeMap.{is_at, insert_entry}
 use Rattle.std.specs.BTreeMap.Range.{entries_between}
 use Rattle.std.specs.declared.ops.Bound.TheVariants.{Unbounded, Included, Excluded}
 use Rattle.sctp_serial.proofs.NumberLemmas.{nat_cmp_less}
 use Rattle.sctp_fragments.specs.declared.interval.Interval.{Interval}
 use Rattle.sctp_fragments.specs.ReassemblyKey.{rank_at}
-use Rattle.sctp_fragments.specs.Runs.{last_of, end_of, AreRuns, is_next, joins_right}
+use Rattle.sctp_fragments.specs.Runs.{last_of, end_of, AreRuns}
 use Rattle.sctp_fragments.specs.Held.{Held, rank_of, goes_on}
-use Rattle.sctp_fragments.specs.Interval.{held_of, run_of, lists_of, starts_upto}
+use Rattle.sctp_fragments.specs.Interval.{held_of, run_of, lists_of}
 use Rattle.sctp_fragments.proofs.RunLemmas.{end_of_append}
-use Rattle.sctp_fragments.proofs.PlaceLemmas.{cons, some_run}
-use Rattle.sctp_reassembly.specs.Places.{AreNamed, AreLow, AreHigh, IsSplit, IsWithin, IsChanged, HasRoom, runs_at, is_from, ends_from, last_key, first_key_of}
+use Rattle.sctp_reassembly.specs.Places.{AreNamed, AreLow, AreHigh, IsSplit, IsWithin, IsChanged, HasRoom, runs_at, last_key, first_key_of}
 
 nat_cmp_same : (k a : ℕ) → k ≡ a → nat_cmp k a ≡ Equal
 nat_cmp_same k a e = rw (le-ltb k a (omega (arith, e)), eq-eqb k a e) refl

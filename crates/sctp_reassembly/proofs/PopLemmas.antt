@@ -1,5 +1,5 @@
 -- What is taken out of an interval list in turn.
-use Rattle.std.proofs.Common.{◌≡◌, Bool, ◌++◌, None, Some, List, ◌∷◌, ap, sym, ◌∙◌}
+use Rattle.std.proofs.Common.{◌≡◌, Bool, None, Some, List, ap, sym, ◌∙◌}
 use Rattle.std.specs.List.{find}
 use Rattle.sctp_fragments.specs.Runs.{flat, AreRuns}
 use Rattle.sctp_fragments.specs.Held.{Held, rank_of, goes_on, without_first_of, left_by, intervals_of}

@@ -6,10 +6,10 @@ use Rattle.sctp_fragments.specs.Runs.{last_of, end_of, AreRuns, IsBelow, LeadsTo
 use Rattle.sctp_fragments.specs.Held.{Held, rank_of, goes_on}
 use Rattle.sctp_fragments.specs.Interval.{held_of, run_of, IsInserted}
 use Rattle.sctp_fragments.proofs.PlaceLemmas.{cons, some_run}
-use Rattle.sctp_fragments.proofs.RunLemmas.{AreRuns_back, end_of_append, first_runs, last_of_append}
+use Rattle.sctp_fragments.proofs.RunLemmas.{AreRuns_back, first_runs, last_of_append}
 use Rattle.sctp_reassembly.specs.Places.{AreNamed, AreLow, AreHigh, IsSplit, IsWithin, IsChanged, IsJoined, AreJoined, IsSame, AreBeside, runs_at, next_of, previous_of, first_key_of, last_key}
 use Rattle.sctp_reassembly.proofs.InsertLemmas.{inserts_alone, inserts_left, inserts_right, inserts_both}
-use Rattle.sctp_reassembly.proofs.MapLemmas.{Snoc, snoc, last_read, runs_append, end_is, first_of_split, last_of_split, rises_behind}
+use Rattle.sctp_reassembly.proofs.MapLemmas.{snoc, last_read, runs_append, end_is, first_of_split, last_of_split, rises_behind}
 use Rattle.sctp_reassembly.proofs.HeldLemmas.{next_rank}
 
 -- x came between the entries ps and qs, behind the runs fs

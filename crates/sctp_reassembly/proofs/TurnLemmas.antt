@@ -1,16 +1,13 @@
 -- Intervals by the number of the message at which they begin: of those below a number, and of those above it, none is in turn.
-use Rattle.std.proofs.Common.{◌≡◌, ℕ, zero, suc, ◌+◌, ◌<◌, ◌≤◌, ◌==◌, Bool, true, false, cond, Option, Some, None, List, [], ◌∷◌, ◌++◌, length, take, drop, get_or, refl, ap, sym, subst, ◌∙◌, arith}
+use Rattle.std.proofs.Common.{◌≡◌, ℕ, suc, ◌<◌, ◌≤◌, ◌==◌, Bool, true, false, cond, Option, Some, None, List, [], ◌∷◌, ◌++◌, length, refl, ap, sym, subst, ◌∙◌, arith}
 use Rattle.std.specs.Prelude.{◌&&◌, ◌^◌, nat_lt, max}
 use Rattle.std.proofs.lemmas.Bool.Decides.{nat_tests}
-use Rattle.std.proofs.lemmas.List.{take_all}
-use Rattle.sctp_fragments.specs.declared.interval.Entry.{Entry}
 use Rattle.sctp_fragments.specs.declared.interval.Interval.{Interval}
 use Rattle.sctp_fragments.specs.ReassemblyKey.{pair_rank, rank_at}
 use Rattle.sctp_fragments.specs.Runs.{flat, last_of, end_of, is_held, put_in, with_item, from_rank, AreRuns, AllBelow, IsBelow}
 use Rattle.sctp_fragments.specs.Held.{Held, rank_of, goes_on, intervals_of, is_complete, is_in_turn, NoneInTurn, IsTaken}
-use Rattle.sctp_fragments.specs.Interval.{held_of, run_of, lists_of, entries_of, AreIndexed, StartsFrom, StartsInTurn, first_below, without_first}
+use Rattle.sctp_fragments.specs.Interval.{held_of, run_of, AreIndexed, StartsFrom, first_below, without_first}
 use Rattle.sctp_fragments.proofs.RunLemmas.{flat_append, AreRuns_front, AreRuns_back, AllBelow_runs, linked_rises}
-use Rattle.sctp_fragments.proofs.PlaceLemmas.{cons, some_run, lists_of_append, read_at}
 use Rattle.sctp_reassembly.specs.Delivery.{OrderedStream, deliver, at_rest, ordered_forward}
 use Rattle.sctp_reassembly.specs.Places.{AreNamed, AreLow, IsWithin, runs_at}
 use Rattle.sctp_reassembly.proofs.MapLemmas.{runs_append}

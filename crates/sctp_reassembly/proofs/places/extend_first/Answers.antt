@@ -1,6 +1,5 @@
-use Rattle.std.proofs.Common.{[], sym, refl, ◌∙◌}
+use Rattle.std.proofs.Common.{[], sym, refl}
 use Rattle.std.proofs.lemmas.Result.{on_ok_weaker, on_err_weaker}
-use Rattle.sctp_fragments.specs.Held.{rank_of}
 use Rattle.sctp_fragments.specs.Interval.{held_of, run_of}
 use Rattle.sctp_fragments.proofs.PlaceLemmas.{run_back}
 use Rattle.sctp_reassembly.proofs.PutLemmas.{same_there}

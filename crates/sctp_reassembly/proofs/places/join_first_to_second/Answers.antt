@@ -2,7 +2,6 @@ use Rattle.std.proofs.Common.{ap, refl, ◌++◌, ◌∙◌, ◌∷◌, [], arit
 use Rattle.std.specs.VecDeque.{deque_len, deque_capacity}
 use Rattle.std.proofs.lemmas.Result.{err_from_is_err_and}
 use Rattle.sctp_fragments.specs.Interval.{held_of, run_of}
-use Rattle.sctp_reassembly.specs.Places.{IsChanged}
 use Rattle.sctp_reassembly.proofs.MapLemmas.{read_there, removed_at, not_absent, run_joined}
 use Rattle.sctp_reassembly.proofs.places.join_first_to_second.Goals as goal
 

@@ -1,9 +1,8 @@
 use Rattle.std.proofs.Common.{ap, refl, ◌++◌, ◌∙◌, ◌∷◌, [], arith}
-use Rattle.std.specs.VecDeque.{deque_len, deque_capacity}
+use Rattle.std.specs.VecDeque.{deque_len}
 use Rattle.std.proofs.lemmas.Result.{err_from_is_err_and}
 use Rattle.sctp_fragments.specs.Interval.{held_of, run_of}
-use Rattle.sctp_reassembly.specs.Places.{IsChanged}
-use Rattle.sctp_reassembly.proofs.MapLemmas.{read_there, removed_at, not_absent, run_joined}
+use Rattle.sctp_reassembly.proofs.MapLemmas.{read_there, removed_at, run_joined}
 use Rattle.sctp_reassembly.proofs.places.join_second_to_first.Goals as goal
 
 pub append_to-requires : goal.append_to-requires

@@ -1,9 +1,9 @@
-use Rattle.std.proofs.Common.{◌≡◌, ◌-◌, suc, arith, rules}
+use Rattle.std.proofs.Common.{◌≡◌, ◌-◌, suc, arith}
 use Rattle.std.proofs.lemmas.Bool.Decides.{nat_tests}
 use Rattle.sctp_fragments.specs.Interval.{held_of}
 use Rattle.sctp_fragments.specs.ReassemblyKey.{rank_at}
-use Rattle.sctp_reassembly.proofs.HolderLemmas.{some_then, none_then}
-use Rattle.sctp_reassembly.proofs.KeyAtLemmas.{key_first, key_behind, none_behind, none_led}
+use Rattle.sctp_reassembly.proofs.HolderLemmas.{some_then}
+use Rattle.sctp_reassembly.proofs.KeyAtLemmas.{key_first, key_behind}
 use Rattle.sctp_reassembly.proofs.places.key_at.Goals as goal
 
 pub returns-then-place-eq0-clause-some : goal.returns-then-place-eq0-clause-some

@@ -1,6 +1,5 @@
-use Rattle.std.proofs.Common.{◌≡◌, ◌<◌, refl, sym, ap, ◌∙◌, [], ◌++◌, List, arith}
+use Rattle.std.proofs.Common.{refl, sym, ap, ◌∙◌, [], ◌++◌, arith}
 use Rattle.sctp_fragments.specs.Interval.{held_of}
-use Rattle.sctp_fragments.specs.declared.interval.Interval.{Interval}
 use Rattle.std.specs.Map.{values_of}
 use Rattle.sctp_reassembly.proofs.KeyAtLemmas.{less_than, fits_more, key_here, none_so_far, one_more}
 use Rattle.sctp_reassembly.proofs.places.later_key_at.Goals as goal

@@ -1,5 +1,4 @@
 use Rattle.std.proofs.Common.{◌≡◌, ◌++◌, ◌≤◌, List, length}
-use Rattle.sctp_fragments.specs.declared.interval.Interval.{Interval}
 use Rattle.std.specs.Map.{values_of}
 use Rattle.sctp_reassembly.proofs.places.later_key_at.Given as goal
 

@@ -1,7 +1,6 @@
-use Rattle.std.proofs.Common.{◌≡◌, ◌∷◌, ◌≤◌, List, false, sym, ◌∙◌, arith, rules}
-use Rattle.sctp_fragments.specs.Held.{Held}
-use Rattle.sctp_fragments.specs.ReassemblyKey.{pair_rank, rank_at}
-use Rattle.sctp_fragments.specs.Interval.{held_of, run_of}
+use Rattle.std.proofs.Common.{sym, ◌∙◌, arith}
+use Rattle.sctp_fragments.specs.ReassemblyKey.{rank_at}
+use Rattle.sctp_fragments.specs.Interval.{held_of}
 use Rattle.sctp_reassembly.proofs.MapLemmas.{split_for, from_split}
 use Rattle.sctp_reassembly.proofs.InTurnLemmas.{least_rank, passed_at, first_passing, passed_on, none_above_it}
 use Rattle.std.specs.Prelude.{None}

@@ -1,5 +1,4 @@
 use Rattle.std.proofs.Common.{◌≡◌, ◌++◌, List}
-use Rattle.sctp_fragments.specs.declared.interval.Interval.{Interval}
 use Rattle.sctp_fragments.specs.Held.{NoneInTurn}
 use Rattle.sctp_reassembly.specs.Places.{runs_at}
 use Rattle.sctp_reassembly.proofs.places.place_in_turn.Given as goal

@@ -1,5 +1,3 @@
-use Rattle.std.proofs.Common.{sym}
-use Rattle.sctp_fragments.specs.ReassemblyKey.{rank_at}
 use Rattle.sctp_reassembly.proofs.HolderLemmas.{later_runs}
 use Rattle.sctp_reassembly.proofs.InTurnLemmas.{first_out, later_indexed, turn_out, turn_found, turn_named}
 use Rattle.sctp_reassembly.proofs.places.take_in_turn.Goals as goal

@@ -1,6 +1,6 @@
-use Rattle.std.proofs.Common.{◌≡◌, ℕ, ◌≤◌, List, ap, sym, subst, ◌∙◌, arith}
+use Rattle.std.proofs.Common.{ap, sym, subst, ◌∙◌, arith}
 use Rattle.sctp_fragments.specs.Runs.{from_rank}
-use Rattle.sctp_fragments.specs.Held.{Held, rank_of, bytes_of, intervals_of, NoneComplete}
+use Rattle.sctp_fragments.specs.Held.{rank_of, bytes_of, intervals_of, NoneComplete}
 use Rattle.sctp_fragments.specs.Interval.{held_of, lists_of}
 use Rattle.sctp_fragments.specs.ReassemblyKey.{rank_at}
 use Rattle.sctp_reassembly.specs.Places.{all_of}
