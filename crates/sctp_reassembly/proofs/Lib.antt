@@ -1,5 +1,6 @@
 pub mod InsertLemmas
 pub mod ListLemmas
+pub mod CountLemmas
 pub mod PopLemmas
 pub mod FindLemmas
 pub mod ReassemblyRowsLemmas

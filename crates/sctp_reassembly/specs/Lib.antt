@@ -7,6 +7,7 @@ pub mod InterruptedQueue
 pub mod ReassemblyMode
 pub mod Waiting
 pub mod Places
+pub mod Listed
 pub mod Turns
 pub mod ReassemblyHandover
 pub mod SettledLaws

@@ -23,19 +23,21 @@ pub struct IntervalList<K: ReassemblyKey> {
     first: Option<Interval<K>>,
     later: BTreeMap<K, Interval<K>>,
     bytes: usize,
+    fragments: usize,
 }
 
 impl<K: ReassemblyKey> Model for IntervalList<K> {
     ghost use Rattle.std.specs.Prelude.{List};
     ghost use Rattle.sctp_fragments.specs.Held.{Held};
     ghost use Rattle.sctp_fragments.specs.Interval.{held_of, entries_of};
-    ghost use Rattle.sctp_reassembly.specs.Places.{all_of, IsKept};
+    ghost use Rattle.sctp_reassembly.specs.Places.{all_of};
+    ghost use Rattle.sctp_reassembly.specs.Listed.{IsListed};
 
     ghost Value = { List Held };
 
     ghost view = { λ s. entries_of (held_of K.number K.index) (all_of s.first s.later.entries) };
 
-    ghost invariant = { λ s. IsKept K.is_key K.number K.index s.first s.later.entries s.bytes };
+    ghost invariant = { λ s. IsListed K.is_key K.number K.index s.first s.later.entries s.bytes s.fragments };
 }
 
 impl<K: ReassemblyKey> IntervalList<K> {
@@ -56,6 +58,7 @@ impl<K: ReassemblyKey> IntervalList<K> {
             first: None,
             later: BTreeMap::new(alloc),
             bytes: 0,
+            fragments: 0,
         }
     }
 
@@ -81,6 +84,13 @@ impl<K: ReassemblyKey> IntervalList<K> {
         self.bytes
     }
 
+    /// How many fragments it holds.
+    pub fn held_fragments(&self) -> usize
+        ensures { result ≡ length self.now }
+    {
+        self.fragments
+    }
+
     /// How many intervals it has.
     pub fn len(&self) -> usize
         ensures { result ≡ length (intervals_of self.now) }
@@ -102,11 +112,13 @@ impl<K: ReassemblyKey> IntervalList<K> {
     /// Adds the fragment, and says whether it is new; where its key is held nothing changes. Without memory nothing changes
     /// either.
     pub fn add(&mut self, key: K, fragment: Data) -> Result<bool, AllocError>
-        requires { bytes_of self.old + length fragment.payload.items < 2 ^ 64 }
+        requires room { bytes_of self.old + length fragment.payload.items < 2 ^ 64 }
+        requires fragments { length self.old + 1 < 2 ^ 64 }
         ensures value { OnOk result (self.new ≡ with_item rank_of (as_held (K.number key) (K.index key) fragment) self.old) }
         ensures answer { IfOk result (λ is_new. is_new ≡ not (is_held rank_of (rank_at K.number K.index key) self.old)) }
         ensures place { IfOk result (λ is_new. is_new ≡ true → IsPlaced self.old self.new (as_held (K.number key) (K.index key) fragment)) }
         ensures bytes { bytes_of self.new ≤ bytes_of self.old + length fragment.payload.items }
+        ensures fragments { length self.new ≤ length self.old + 1 }
         ensures err { OnErr result (self.new ≡ self.old) }
     {
         key.known();
@@ -116,6 +128,7 @@ impl<K: ReassemblyKey> IntervalList<K> {
             return Ok(false);
         }
         self.bytes += bytes;
+        self.fragments += 1;
         Ok(true)
     }
 
@@ -134,11 +147,13 @@ impl<K: ReassemblyKey> IntervalList<K> {
         ensures taken { IfSome result (λ i. IsTaken self.old (run_of (held_of K.number K.index) i) self.new) }
         ensures held { IfSome result (λ i. is_held rank_of (rank_at K.number K.index key) (run_of (held_of K.number K.index) i) ≡ true) }
         ensures bytes { IfSome result (λ i. bytes_of self.old ≡ bytes_of (run_of (held_of K.number K.index) i) + bytes_of self.new) }
+        ensures fragments { IfSome result (λ i. length self.old ≡ length (run_of (held_of K.number K.index) i) + length self.new) }
         ensures none { IfNone result (self.new ≡ self.old) }
         ensures incomplete { IfNone result ((front back : List (List Held)) (r : List Held) → intervals_of self.old ≡ front ++ r ∷ back → is_held rank_of (rank_at K.number K.index key) r ≡ true → is_complete r ≡ false) }
     {
         let interval = take_if_complete(&mut self.first, &mut self.later, key)?;
         self.bytes -= interval.total_bytes();
+        self.fragments -= interval.entries.len();
         Some(interval)
     }
 
@@ -149,9 +164,11 @@ impl<K: ReassemblyKey> IntervalList<K> {
         ensures intervals { intervals_of self.new ≡ without_first_of (is_in_turn number) (intervals_of self.old) }
         ensures value { self.new ≡ left_by (is_in_turn number) self.old }
         ensures bytes { IfSome result (λ i. bytes_of self.old ≡ bytes_of (run_of (held_of K.number K.index) i) + bytes_of self.new) }
+        ensures fragments { IfSome result (λ i. length self.old ≡ length (run_of (held_of K.number K.index) i) + length self.new) }
     {
         let interval = take_in_turn(&mut self.first, &mut self.later, number)?;
         self.bytes -= interval.total_bytes();
+        self.fragments -= interval.entries.len();
         Some(interval)
     }
 
@@ -167,10 +184,12 @@ impl<K: ReassemblyKey> IntervalList<K> {
         ensures value { self.new ≡ from_rank rank_of (rank_at K.number K.index key) self.old }
         ensures others { NoneComplete (intervals_of self.old) → NoneComplete (intervals_of self.new) }
         ensures bytes { bytes_of self.new ≤ bytes_of self.old }
+        ensures fragments { length self.new ≤ length self.old }
     {
         while begins_below(&self.first, key) {
             let bytes = drop_first(&mut self.first, &mut self.later);
             self.bytes -= bytes;
+            self.fragments -= 1;
         }
     }
 }

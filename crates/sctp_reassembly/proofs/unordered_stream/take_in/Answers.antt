@@ -67,6 +67,12 @@ returns-clause-ready g c =
 pub returns-in_err-message-clause-bytes : goal.returns-in_err-message-clause-bytes
 returns-in_err-message-clause-bytes g c = omega (arith, c.in_ok-add.ensures.bytes, c.in-Some.ensures.bytes)
 
+pub returns-in_err-message-clause-fragments : goal.returns-in_err-message-clause-fragments
+returns-in_err-message-clause-fragments g c = omega (arith, c.in_ok-add.ensures.fragments, c.in-Some.ensures.fragments)
+
+pub returns-clause-fragments : goal.returns-clause-fragments
+returns-clause-fragments g c = omega (arith, c.in_ok-add.ensures.fragments, c.in-Some.ensures.fragments)
+
 pub push-requires : goal.push-requires
 push-requires g c = omega (arith, c.requires.room, c.in_ok-add.ensures.bytes, c.in-Some.ensures.bytes, c.in_ok-message.ensures.bytes)
 

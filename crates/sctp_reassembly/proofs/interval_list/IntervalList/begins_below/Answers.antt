@@ -10,6 +10,6 @@ use Rattle.sctp_reassembly.proofs.interval_list.IntervalList.begins_below.Goals 
 pub returns : goal.returns
 returns g c not_below =
     let n = rank_at g.K.ReassemblyKey.number g.K.ReassemblyKey.index c.args.key in
-    let below = c.begins_below.ensures c.self.inside.later.entries c.self.invariant.led in
+    let below = c.begins_below.ensures c.self.inside.later.entries c.self.invariant.kept.led in
     ap (from_rank rank_of n) (sym c.self.view_is)
-    ∙ (sym (drops_none (held_of g.K.ReassemblyKey.number g.K.ReassemblyKey.index) (lists_of (held_of g.K.ReassemblyKey.number g.K.ReassemblyKey.index) (all_of c.self.inside.first c.self.inside.later.entries)) n c.self.invariant.runs (sym below ∙ not_below)) ∙ c.self.view_is)
+    ∙ (sym (drops_none (held_of g.K.ReassemblyKey.number g.K.ReassemblyKey.index) (lists_of (held_of g.K.ReassemblyKey.number g.K.ReassemblyKey.index) (all_of c.self.inside.first c.self.inside.later.entries)) n c.self.invariant.kept.runs (sym below ∙ not_below)) ∙ c.self.view_is)

@@ -6,5 +6,5 @@ use Rattle.sctp_reassembly.proofs.interval_list.IntervalList.is_empty.Goals as g
 
 pub returns : goal.returns
 returns g c =
-    let none : is_none c.self.inside.first ≡ (length c.args.self.now == 0) = no_entries (held_of g.K.ReassemblyKey.number g.K.ReassemblyKey.index) c.self.inside.first c.self.inside.later.entries c.self.invariant.led ∙ ap (λ t. length t == 0) c.self.view_is in
+    let none : is_none c.self.inside.first ≡ (length c.args.self.now == 0) = no_entries (held_of g.K.ReassemblyKey.number g.K.ReassemblyKey.index) c.self.inside.first c.self.inside.later.entries c.self.invariant.kept.led ∙ ap (λ t. length t == 0) c.self.view_is in
     search (rules, none)

@@ -11,9 +11,9 @@ use Rattle.sctp_reassembly.proofs.interval_list.IntervalList.key_at.Goals as goa
 pub returns-clause-some : goal.returns-clause-some
 returns-clause-some g c =
     let rs = lists_of (held_of g.K.ReassemblyKey.number g.K.ReassemblyKey.index) (all_of c.self.inside.first c.self.inside.later.entries) in
-    some_then c.key_at.result (λ k j. subst (IsKeyAt (rank_at g.K.ReassemblyKey.number g.K.ReassemblyKey.index k) c.args.place) (sym (intervals_flat rs c.self.invariant.runs) ∙ ap intervals_of c.self.view_is) j) c.key_at.ensures.some
+    some_then c.key_at.result (λ k j. subst (IsKeyAt (rank_at g.K.ReassemblyKey.number g.K.ReassemblyKey.index k) c.args.place) (sym (intervals_flat rs c.self.invariant.kept.runs) ∙ ap intervals_of c.self.view_is) j) c.key_at.ensures.some
 
 pub returns-clause-none : goal.returns-clause-none
 returns-clause-none g c =
     let rs = lists_of (held_of g.K.ReassemblyKey.number g.K.ReassemblyKey.index) (all_of c.self.inside.first c.self.inside.later.entries) in
-    none_then c.key_at.result (λ h. subst (λ rs. length rs ≤ c.args.place) (sym (intervals_flat rs c.self.invariant.runs) ∙ ap intervals_of c.self.view_is) h) c.key_at.ensures.none
+    none_then c.key_at.result (λ h. subst (λ rs. length rs ≤ c.args.place) (sym (intervals_flat rs c.self.invariant.kept.runs) ∙ ap intervals_of c.self.view_is) h) c.key_at.ensures.none
