@@ -5,8 +5,8 @@ use crate::player::{Player, play_each};
 use crate::words::{number, piece, show_bytes, word, yes_or_no};
 use sctp_packet::Data;
 use sctp_rx::{
-    InterleavedKey, Interval, IntervalList, ReassemblyKey, TraditionalKey,
-    UnorderedInterleavedKey, is_before,
+    InterleavedKey, Interval, IntervalList, ReassemblyKey, TraditionalKey, UnorderedInterleavedKey,
+    is_before,
 };
 use std::alloc::{AllocError, Global};
 
@@ -102,7 +102,8 @@ fn show_sums<K: Key>(list: &IntervalList<K>, output: &mut Output) {
 }
 
 fn add<K: Key>(list: &mut IntervalList<K>, key: K, fragment: Data, output: &mut Output) {
-    if list.total_bytes() >= 1 << 40 || fragment.payload.len() >= 1 << 40 {
+    let has_bytes = list.total_bytes() < 1 << 40 && fragment.payload.len() < 1 << 40;
+    if !has_bytes || list.held_fragments() >= 1 << 40 {
         drop(fragment);
         output.push_str("held already, ");
         return;

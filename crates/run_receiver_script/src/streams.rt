@@ -67,7 +67,7 @@ impl<S: ReassemblyStreams> Receiver for Streams<S> {
             self.streams.queued_bytes(),
             &self.ready,
             fragment.payload.len(),
-        );
+        ) && self.streams.held_fragments() < 1 << 40;
         if tsn >= 1 << 40 || !has_room {
             drop(fragment);
             return Ok(());
