@@ -102,8 +102,10 @@ fn show_sums<K: Key>(list: &IntervalList<K>, output: &mut Output) {
 }
 
 fn add<K: Key>(list: &mut IntervalList<K>, key: K, fragment: Data, output: &mut Output) {
-    let has_bytes = list.total_bytes() < 1 << 40 && fragment.payload.len() < 1 << 40;
-    if !has_bytes || list.held_fragments() >= 1 << 40 {
+    if list.total_bytes() >= 1 << 40
+        || fragment.payload.len() >= 1 << 40
+        || list.held_fragments() >= 1 << 40
+    {
         drop(fragment);
         output.push_str("held already, ");
         return;

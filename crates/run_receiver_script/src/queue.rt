@@ -76,8 +76,10 @@ fn is_valid(state: &SocketHandoverState) -> bool
 impl Receiver for ReassemblyQueue {
     fn add(&mut self, tsn: u64, fragment: Data) -> Result<(), AllocError> {
         let tsn = Tsn(u32::try_from(tsn).unwrap_or(u32::MAX));
-        let has_bytes = self.queued_bytes() < 1 << 40 && fragment.payload.len() < 1 << 40;
-        if !has_bytes || self.holds_most_fragments() {
+        if self.queued_bytes() >= 1 << 40
+            || fragment.payload.len() >= 1 << 40
+            || self.holds_most_fragments()
+        {
             drop(fragment);
             return Ok(());
         }

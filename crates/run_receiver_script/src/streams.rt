@@ -67,8 +67,9 @@ impl<S: ReassemblyStreams> Receiver for Streams<S> {
             self.streams.queued_bytes(),
             &self.ready,
             fragment.payload.len(),
-        ) && self.streams.held_fragments() < 1 << 40;
-        if tsn >= 1 << 40 || !has_room {
+        );
+        let is_most = self.streams.held_fragments() >= 1 << 40;
+        if tsn >= 1 << 40 || !has_room || is_most {
             drop(fragment);
             return Ok(());
         }

@@ -37,8 +37,10 @@ fn piece(
 }
 
 fn add(queue: &mut ReassemblyQueue, tsn: u32, fragment: Data) -> Result<(), AllocError> {
-    let has_bytes = queue.queued_bytes() < 1 << 40 && fragment.payload.len() < 1 << 40;
-    if !has_bytes || queue.holds_most_fragments() {
+    if queue.queued_bytes() >= 1 << 40
+        || fragment.payload.len() >= 1 << 40
+        || queue.holds_most_fragments()
+    {
         drop(fragment);
         return Err(AllocError);
     }
