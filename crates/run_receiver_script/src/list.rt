@@ -122,14 +122,13 @@ fn add<K: Key>(list: &mut IntervalList<K>, key: K, fragment: Data, output: &mut 
 
 /// How many intervals begin before the key, but the one that has it.
 fn place_of<K: Key>(list: &IntervalList<K>, key: K) -> usize {
-    let mut place = 0;
-    while place < list.len() {
+    for place in 0..list.len() {
         match list.key_at(place) {
-            Some(first) if !is_before(key, first) => place += 1,
-            _ => break,
+            Some(first) if !is_before(key, first) => {}
+            _ => return place.saturating_sub(1),
         }
     }
-    place.saturating_sub(1)
+    list.len().saturating_sub(1)
 }
 
 fn is_in_turn<K: Key>(list: &IntervalList<K>, place: usize, number: u64) -> &'static str {
@@ -140,6 +139,10 @@ fn is_in_turn<K: Key>(list: &IntervalList<K>, place: usize, number: u64) -> &'st
 }
 
 fn take<K: Key>(alloc: Global, list: &mut IntervalList<K>, place: usize, output: &mut Output) {
+    if list.total_bytes() >= 1 << 40 {
+        output.push_str("refused");
+        return;
+    }
     let Some(key) = list.key_at(place) else {
         output.push_str("refused");
         return;
