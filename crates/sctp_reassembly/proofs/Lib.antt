@@ -10,6 +10,7 @@ mod JoinedLemmas
 mod HolderLemmas
 mod InTurnLemmas
 mod KeyAtLemmas
+mod AtEndLemmas
 mod AddedLemmas
 pub mod StandsLemmas
 pub mod InterruptedQueueLemmas

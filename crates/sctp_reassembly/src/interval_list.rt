@@ -2,9 +2,9 @@
 
 ghost use Rattle.std.specs.Prelude.{◌≡◌, ◌==◌, ◌+◌, ◌<◌, ◌≤◌, ◌^◌, ◌++◌, ◌∷◌, [], not, List, true, false, length, option_map, IfOk, OnOk, OnErr, IfSome, IfNone};
 
+use crate::counted::key_at;
 use crate::places::{
-    add_to, begins_below, drop_first, first_key, interval_with, key_at, take_if_complete,
-    take_in_turn,
+    add_to, begins_below, drop_first, first_key, interval_with, take_if_complete, take_in_turn,
 };
 use sctp_chunk::Data;
 use sctp_fragments::{Entry, Interval, ReassemblyKey};

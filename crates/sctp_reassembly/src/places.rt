@@ -9,7 +9,6 @@ ghost use Rattle.sctp_fragments.specs.ReassemblyKey.{rank_at};
 ghost use Rattle.sctp_fragments.specs.Interval.{held_of, run_of, lists_of, entries_of, IsInRuns, AreIndexed, without_first, first_below, starts_upto};
 ghost use Rattle.sctp_fragments.specs.declared.interval.Interval.{Interval};
 ghost use Rattle.sctp_reassembly.specs.Turns.{IsFirstOut, IsFirstPassing};
-ghost use Rattle.sctp_reassembly.specs.KeyAt.{IsKeyAt};
 ghost use Rattle.sctp_reassembly.specs.Places.{AreBeside, HasRoom, Holds, IsAmong, IsOut, IsFirstAt, all_of, runs_at, AreNamed, AreLow, AreHigh, IsLed, IsSplit, IsChanged, IsJoined, AreJoined, IsAdded, IsAnswer, IsSame, next_of, previous_of, ends_from, first_key_of, last_key};
 
 use sctp_fragments::{Entry, Interval, ReassemblyKey, goes_on_to, is_before};
@@ -25,41 +24,6 @@ pub(crate) fn first_key<K: ReassemblyKey>(first: &Option<Interval<K>>) -> Option
         Some(interval) => Some(interval.first().key),
         None => None,
     }
-}
-
-/// The key of the first fragment of the interval at the place.
-pub(crate) fn key_at<K: ReassemblyKey>(
-    first: &Option<Interval<K>>,
-    later: &BTreeMap<K, Interval<K>>,
-    place: usize,
-) -> Option<K>
-    requires led { IsLed first.now later.now.entries }
-    requires runs { IsInRuns (lists_of (held_of K.number K.index) (all_of first.now later.now.entries)) }
-    ensures some { IfSome result (λ k. IsKeyAt (rank_at K.number K.index k) place (lists_of (held_of K.number K.index) (all_of first.now later.now.entries))) }
-    ensures none { IfNone result (length (lists_of (held_of K.number K.index) (all_of first.now later.now.entries)) ≤ place) }
-{
-    let Some(interval) = first else {
-        return None;
-    };
-    if place == 0 {
-        return Some(interval.first().key);
-    }
-    later_key_at(later, place - 1)
-}
-
-/// The same, among those of the map.
-fn later_key_at<K: ReassemblyKey>(later: &BTreeMap<K, Interval<K>>, place: usize) -> Option<K>
-    ensures some { IfSome result (λ k. IsKeyAt (rank_at K.number K.index k) place (runs_at K.number K.index later.now.entries)) }
-    ensures none { IfNone result (length (runs_at K.number K.index later.now.entries) ≤ place) }
-{
-    let mut passed = 0;
-    for interval in later.values() {
-        if passed == place {
-            return Some(interval.first().key);
-        }
-        passed += 1;
-    }
-    None
 }
 
 /// Whether the first fragment is before the key.
@@ -178,10 +142,28 @@ fn place_with<K: ReassemblyKey>(later: &BTreeMap<K, Interval<K>>, key: K) -> Opt
     ensures some { IfSome result (λ place. Holds K.is_key K.number K.index (rank_at K.number K.index key) place later.now.entries) }
     ensures none { IfNone result (is_held rank_of (rank_at K.number K.index key) (flat (runs_at K.number K.index later.now.entries)) ≡ false) }
 {
+    if let Some(place) = last_with(later, key) {
+        return Some(place);
+    }
     match place_below(later, key) {
         Some(place) => Some(place),
         None => place_from(later, key),
     }
+}
+
+/// The key in the map of the last interval, where that has the key.
+fn last_with<K: ReassemblyKey>(later: &BTreeMap<K, Interval<K>>, key: K) -> Option<K>
+    requires runs { IsInRuns (runs_at K.number K.index later.now.entries) }
+    requires named { AreNamed K.is_key K.number K.index later.now.entries }
+    ensures { IfSome result (λ place. Holds K.is_key K.number K.index (rank_at K.number K.index key) place later.now.entries) }
+{
+    let Some((place, interval)) = later.last_key_value() else {
+        return None;
+    };
+    if !has_key(interval, key) {
+        return None;
+    }
+    Some(*place)
 }
 
 /// Whether an interval has an entry with the key.
@@ -431,9 +413,38 @@ fn joined_to<K: ReassemblyKey>(
     ensures some { IfSome result (λ j. AreJoined K.is_key K.number K.index later.now.entries (held_of K.number K.index entry.now) j.before j.behind) }
     ensures none { IfNone result (is_held rank_of (rank_of (held_of K.number K.index entry.now)) (flat (runs_at K.number K.index later.now.entries)) ≡ true) }
 {
+    if let Some(before) = joined_at_end(later, entry) {
+        return Some(Joined {
+            before,
+            behind: None,
+        });
+    }
     let before = joined_before(later, entry)?;
     let behind = joined_behind(later, entry)?;
     Some(Joined { before, behind })
+}
+
+/// Of an entry behind all others, the key in the map of the interval from which it goes on, if any: most entries come there. No
+/// answer where it isn't behind all.
+fn joined_at_end<K: ReassemblyKey>(
+    later: &BTreeMap<K, Interval<K>>,
+    entry: &Entry<K>,
+) -> Option<Option<K>>
+    requires runs { IsInRuns (runs_at K.number K.index later.now.entries) }
+    requires named { AreNamed K.is_key K.number K.index later.now.entries }
+    ensures { IfSome result (λ before. AreJoined K.is_key K.number K.index later.now.entries (held_of K.number K.index entry.now) before None) }
+{
+    let Some((place, interval)) = later.last_key_value() else {
+        return Some(None);
+    };
+    let last = interval.last();
+    if !is_before(last.key, entry.key) {
+        return None;
+    }
+    if !goes_on_to(last, entry) {
+        return Some(None);
+    }
+    Some(Some(*place))
 }
 
 /// The key in the map of the interval from which the entry goes on, if any; no answer where the interval before it has its key.

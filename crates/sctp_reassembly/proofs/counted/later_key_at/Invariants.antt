@@ -1,6 +1,6 @@
 use Rattle.std.proofs.Common.{◌≡◌, ◌++◌, ◌≤◌, List, length}
 use Rattle.std.specs.Map.{values_of}
-use Rattle.sctp_reassembly.proofs.places.later_key_at.Given as goal
+use Rattle.sctp_reassembly.proofs.counted.later_key_at.Given as goal
 
 abbrev pub invariant-loop-interval : goal.invariant-loop-interval
 invariant-loop-interval g l = record {

@@ -4,7 +4,7 @@ use Rattle.sctp_fragments.specs.Interval.{held_of}
 use Rattle.sctp_fragments.specs.ReassemblyKey.{rank_at}
 use Rattle.sctp_reassembly.proofs.HolderLemmas.{some_then}
 use Rattle.sctp_reassembly.proofs.KeyAtLemmas.{key_first, key_behind}
-use Rattle.sctp_reassembly.proofs.places.key_at.Goals as goal
+use Rattle.sctp_reassembly.proofs.counted.key_at.Goals as goal
 
 pub returns-then-place-eq0-clause-some : goal.returns-then-place-eq0-clause-some
 returns-then-place-eq0-clause-some g c =

@@ -2,7 +2,7 @@ use Rattle.std.proofs.Common.{refl, sym, ap, ◌∙◌, [], ◌++◌, arith}
 use Rattle.sctp_fragments.specs.Interval.{held_of}
 use Rattle.std.specs.Map.{values_of}
 use Rattle.sctp_reassembly.proofs.KeyAtLemmas.{less_than, fits_more, key_here, none_so_far, one_more}
-use Rattle.sctp_reassembly.proofs.places.later_key_at.Goals as goal
+use Rattle.sctp_reassembly.proofs.counted.later_key_at.Goals as goal
 
 pub loop-interval-init : goal.loop-interval-init
 loop-interval-init g c = record { next = tt; finite = tt; upto = omega arith; split = ([], (sym c.values-interval-items.ensures.rest ∙ sym c.into_iter-interval-iterator.ensures.into_iter_gives, refl)) }
