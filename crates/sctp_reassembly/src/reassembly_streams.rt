@@ -21,7 +21,7 @@ use std::alloc::{AllocError, Global};
 ///
 /// `AllocError` is want of memory, and no other refusal is there. `add`, `skip` and `handle_forward_tsn` may then
 /// leave a part of their work undone: the first steps are done, and other streams stay (`err`). The fragment, or a message that was
-/// in turn, may be lost. What was ready stays ready, in front and in order (`kept`), no byte is counted that didn't come (`bytes`),
+/// in turn, may be lost. What was ready stays ready, in front and in order (`kept`), no byte and no fragment is counted that didn't come (`bytes`, `fragments`),
 /// and every call can be made. The calls of a handover then change nothing.
 pub trait ReassemblyStreams {
     ghost streams: { Self → Streams };
