@@ -6,6 +6,7 @@ use crate::words::{number, piece, show_bytes, word, yes_or_no};
 use sctp_packet::Data;
 use sctp_rx::{
     InterleavedKey, Interval, IntervalList, ReassemblyKey, TraditionalKey, UnorderedInterleavedKey,
+    is_before,
 };
 use std::alloc::{AllocError, Global};
 
@@ -101,31 +102,52 @@ fn show_sums<K: Key>(list: &IntervalList<K>, output: &mut Output) {
 }
 
 fn add<K: Key>(list: &mut IntervalList<K>, key: K, fragment: Data, output: &mut Output) {
-    if list.total_bytes() >= 1 << 40 || fragment.payload.len() >= 1 << 40 {
+    if list.total_bytes() >= 1 << 40
+        || fragment.payload.len() >= 1 << 40
+        || list.held_fragments() >= 1 << 40
+    {
         drop(fragment);
         output.push_str("held already, ");
         return;
     }
     match list.add(key, fragment) {
-        Ok(Some(place)) => write!(output, "at {place}, "),
-        Ok(None) => output.push_str("held already, "),
+        Ok(true) => {
+            let place = place_of(list, key);
+            write!(output, "at {place}, ");
+        }
+        Ok(false) => output.push_str("held already, "),
         Err(fault) => output.note(Err(fault)),
     }
 }
 
-fn is_in_turn<K: Key>(list: &IntervalList<K>, place: usize, number: u64) -> &'static str {
-    if place >= list.len() {
-        return "refused";
+/// How many intervals begin before the key, but the one that has it.
+fn place_of<K: Key>(list: &IntervalList<K>, key: K) -> usize {
+    for place in 0..list.len() {
+        match list.key_at(place) {
+            Some(first) if !is_before(key, first) => {}
+            _ => return place.saturating_sub(1),
+        }
     }
-    yes_or_no(list.is_in_turn_at(place, number as u128))
+    list.len().saturating_sub(1)
+}
+
+fn is_in_turn<K: Key>(list: &IntervalList<K>, place: usize, number: u64) -> &'static str {
+    match list.key_at(place) {
+        Some(key) => yes_or_no(list.is_in_turn_at(key, number as u128)),
+        None => "refused",
+    }
 }
 
 fn take<K: Key>(alloc: Global, list: &mut IntervalList<K>, place: usize, output: &mut Output) {
-    if place >= list.len() || list.total_bytes() >= 1 << 40 {
+    if list.total_bytes() >= 1 << 40 {
         output.push_str("refused");
         return;
     }
-    match list.pop_if_complete(place) {
+    let Some(key) = list.key_at(place) else {
+        output.push_str("refused");
+        return;
+    };
+    match list.pop_if_complete(key) {
         Some(interval) => {
             let bytes = interval.total_bytes();
             show(alloc, interval, bytes, output);

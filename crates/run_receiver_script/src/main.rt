@@ -5,7 +5,8 @@
 //! first line is one of
 //!
 //! - `tracker TSN`: the TSNs that came, from this one on;
-//! - `queue FORM BYTES`: fragments of all streams, `traditional` or `interleaved`, full at so many bytes;
+//! - `queue FORM BYTES [FRAGMENTS]`: fragments of all streams, `traditional` or `interleaved`, full at so many bytes, and where a number
+//!   of fragments is said, taking none while it holds so many;
 //! - `streams FORM`: the same without what a queue adds;
 //! - `list KEY`: intervals of fragments, with keys `tsn`, `fsn` or `mid`;
 //! - `ordered KEY [NEXT]`, `unordered KEY`: one stream, with keys `tsn` or `fsn`.

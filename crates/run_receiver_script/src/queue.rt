@@ -23,18 +23,31 @@ struct Queue {
     queue: ReassemblyQueue,
     state: SocketHandoverState,
     max_size: u32,
+    max_fragments: usize,
 }
 
 /// Takes the commands of a script on a queue.
 pub fn run(alloc: Global, line: &str, script: &str, output: &mut Output) {
     let is_interleaved = word(line, 1) == "interleaved";
     let max_size = whole(word(line, 2));
+    let max_fragments = most_fragments(word(line, 3));
     let queue = Queue {
-        queue: ReassemblyQueue::new(alloc, max_size as usize, is_interleaved),
+        queue: ReassemblyQueue::new(alloc, max_size as usize, is_interleaved).with_max_fragments(
+            max_fragments,
+        ),
         state: record(alloc, is_interleaved),
         max_size,
+        max_fragments,
     };
     play_each(alloc, queue, script, output);
+}
+
+/// The number that the word says, and without a word no bound.
+fn most_fragments(word: &str) -> usize {
+    if word.is_empty() {
+        return usize::MAX;
+    }
+    whole(word) as usize
 }
 
 /// The record of a socket that has sent nothing.
@@ -63,7 +76,10 @@ fn is_valid(state: &SocketHandoverState) -> bool
 impl Receiver for ReassemblyQueue {
     fn add(&mut self, tsn: u64, fragment: Data) -> Result<(), AllocError> {
         let tsn = Tsn(u32::try_from(tsn).unwrap_or(u32::MAX));
-        if self.queued_bytes() >= 1 << 40 || fragment.payload.len() >= 1 << 40 {
+        if self.queued_bytes() >= 1 << 40
+            || fragment.payload.len() >= 1 << 40
+            || self.holds_most_fragments()
+        {
             drop(fragment);
             return Ok(());
         }
@@ -98,12 +114,13 @@ impl Receiver for ReassemblyQueue {
 }
 
 impl Player for Queue {
-    /// `defer TSN STREAM ..`; `point TSN COUNT`; `sizes`; `readiness`; `write`; `restore`; and what streams take too.
+    /// `defer TSN STREAM ..`; `point TSN COUNT`; `sizes`; `fragments`; `readiness`; `write`; `restore`; and what streams take too.
     fn play(&mut self, alloc: Global, line: &str, output: &mut Output) {
         match word(line, 0) {
             "defer" => self.defer(alloc, line, output),
             "point" => self.point(alloc, line, output),
             "sizes" => show_sizes(&self.queue, output),
+            "fragments" => show_fragments(&self.queue, output),
             "readiness" => write!(output, "[{}]", self.queue.get_handover_readiness()),
             "write" => self.write(output),
             "restore" => self.restore(alloc, output),
@@ -153,7 +170,11 @@ impl Queue {
             return;
         }
         let is_interleaved = self.state.capabilities.message_interleaving;
-        let mut other = ReassemblyQueue::new(alloc, self.max_size as usize, is_interleaved);
+        let mut other = ReassemblyQueue::new(
+            alloc,
+            self.max_size as usize,
+            is_interleaved,
+        ).with_max_fragments(self.max_fragments);
         output.note(other.restore_from_state(&self.state));
         drop(std::mem::replace(&mut self.queue, other));
         show_sums(&self.queue, output);
@@ -191,4 +212,10 @@ fn show_sizes(queue: &ReassemblyQueue, output: &mut Output) {
         output,
         "became ready {count}, left {left}, above watermark {is_above}, full {is_full}"
     );
+}
+
+fn show_fragments(queue: &ReassemblyQueue, output: &mut Output) {
+    let (count, is_most) = (queue.held_fragments(), queue.holds_most_fragments());
+    let is_most = yes_or_no(is_most);
+    write!(output, "fragments {count}, most {is_most}");
 }

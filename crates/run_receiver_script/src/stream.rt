@@ -178,7 +178,8 @@ where
     fn add(&mut self, key: S::Key, fragment: Data) -> Result<(), AllocError> {
         let held = self.stream.queued_bytes();
         let has_room = have_room(held, &self.ready, fragment.payload.len());
-        if !has_room || !is_taken(key.number()) {
+        let is_most = self.stream.held_fragments() >= 1 << 40;
+        if !has_room || is_most || !is_taken(key.number()) {
             drop(fragment);
             return Ok(());
         }

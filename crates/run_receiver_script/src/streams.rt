@@ -68,7 +68,8 @@ impl<S: ReassemblyStreams> Receiver for Streams<S> {
             &self.ready,
             fragment.payload.len(),
         );
-        if tsn >= 1 << 40 || !has_room {
+        let is_most = self.streams.held_fragments() >= 1 << 40;
+        if tsn >= 1 << 40 || !has_room || is_most {
             drop(fragment);
             return Ok(());
         }

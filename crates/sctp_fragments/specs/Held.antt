@@ -75,22 +75,21 @@ left_by test hs = flat (without_first_of test (intervals_of hs))
 
 -- ---- what calls do to the intervals
 
--- x came into the interval at a place
-pub record IsPlaced (old new : List Held) (x : Held) (place : ℕ) : Type 0 where
+-- x came into an interval
+pub record IsPlaced (old new : List Held) (x : Held) : Type 0 where
+  pub kept : AreRuns rank_of goes_on None (intervals_of new)
   pub front : List (List Held)
   pub run : List Held
   pub back : List (List Held)
   pub runs : intervals_of new ≡ front ++ run ∷ back
-  pub at : length front ≡ place
   pub among : is_held rank_of (rank_of x) run ≡ true
   pub others : (test : List Held → Bool) → NonePass test (intervals_of old) → NonePass test (front ++ back)
 
--- the interval at a place, a complete message, went out
-pub record IsTaken (old run new : List Held) (place : ℕ) : Type 0 where
+-- an interval, a complete message, went out
+pub record IsTaken (old run new : List Held) : Type 0 where
   pub front : List (List Held)
   pub back : List (List Held)
   pub runs : intervals_of old ≡ front ++ run ∷ back
-  pub at : length front ≡ place
   pub complete : is_complete run ≡ true
   pub left : intervals_of new ≡ front ++ back
   pub split : old ≡ flat front ++ (run ++ flat back)
@@ -98,7 +97,6 @@ pub record IsTaken (old run new : List Held) (place : ℕ) : Type 0 where
 
 -- the first interval that is in turn went out
 pub record IsTurn (n : ℕ) (old run new : List Held) : Type 0 where
-  pub place : ℕ
-  pub taken : IsTaken old run new place
+  pub taken : IsTaken old run new
   pub turn : is_in_turn n run ≡ true
   pub first : NoneInTurn n taken.front

@@ -32,11 +32,6 @@ abbrev pub AreIndexed : List Held → Type 0
 AreIndexed [] = Unit {0}
 AreIndexed (h ∷ hs) = (h.index < 2 ^ 64) × AreIndexed hs
 
-pub record IsKept {K : Type 0} (f : Entry K → Held) (intervals : List (Interval K)) (bytes : ℕ) : Type 0 where
-  pub runs : IsInRuns (lists_of f intervals)
-  pub counted : bytes ≡ bytes_of (entries_of f intervals)
-  pub small : AreIndexed (entries_of f intervals)
-
 -- the first run ends at n or above it
 abbrev pub EndsFrom : ℕ → List (List Held) → Type 0
 EndsFrom n [] = Unit {0}
@@ -44,13 +39,12 @@ EndsFrom n ([] ∷ rs) = ⊥
 EndsFrom n ((e ∷ es) ∷ rs) = n ≤ rank_of (last_of e es)
 
 -- x came between the runs ps and qs
-pub record IsInserted (ps qs new : List (List Held)) (x : Held) (place : ℕ) : Type 0 where
+pub record IsInserted (ps qs new : List (List Held)) (x : Held) : Type 0 where
   pub kept : AreRuns rank_of goes_on None new
   pub front : List (List Held)
   pub run : List Held
   pub back : List (List Held)
   pub runs : new ≡ front ++ run ∷ back
-  pub at : length front ≡ place
   pub among : is_held rank_of (rank_of x) run ≡ true
   pub together : flat new ≡ flat ps ++ x ∷ flat qs
   pub others : (test : List Held → Bool) → NonePass test (ps ++ qs) → NonePass test (front ++ back)

@@ -35,6 +35,11 @@ pub trait ReassemblyKey: Copy + Ord {
         requires below { pair_rank (number self) (index self) < bound }
         ensures { result ≡ after self };
 
+    /// The first key of a message.
+    fn least(message: u64) -> Self
+        ensures number { number result ≡ message }
+        ensures index { index result ≡ 0 };
+
     // The order is that of the ranks, which are different.
     ghost by_rank: { (x y : Self) → is_key x → is_key y → Self.cmp x y ≡ nat_cmp (pair_rank (number x) (index x)) (pair_rank (number y) (index y)) };
 
@@ -149,6 +154,13 @@ impl ReassemblyKey for TraditionalKey {
         }
     }
 
+    fn least(message: u64) -> TraditionalKey {
+        TraditionalKey {
+            number: message,
+            index: 0,
+        }
+    }
+
     ghost by_rank = { λ x y p q. pair_by_rank x.number x.index y.number y.index p q };
 
     ghost one_key = { λ x y p q same. pair_made (λ n i. record { number = n; index = i }) x.number x.index y.number y.index (pair_number x.number x.index y.number y.index p q same) (pair_index x.number x.index y.number y.index p q same) };
@@ -200,6 +212,13 @@ impl ReassemblyKey for InterleavedKey {
         }
     }
 
+    fn least(message: u64) -> InterleavedKey {
+        InterleavedKey {
+            number: message,
+            index: 0,
+        }
+    }
+
     ghost by_rank = { λ x y p q. pair_by_rank x.number x.index y.number y.index p q };
 
     ghost one_key = { λ x y p q same. pair_made (λ n i. record { number = n; index = i }) x.number x.index y.number y.index (pair_number x.number x.index y.number y.index p q same) (pair_index x.number x.index y.number y.index p q same) };
@@ -248,6 +267,13 @@ impl ReassemblyKey for UnorderedInterleavedKey {
                 number: self.number,
                 index: self.index + 1,
             }
+        }
+    }
+
+    fn least(message: u64) -> UnorderedInterleavedKey {
+        UnorderedInterleavedKey {
+            number: message,
+            index: 0,
         }
     }
 

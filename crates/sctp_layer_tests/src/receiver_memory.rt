@@ -37,7 +37,10 @@ fn piece(
 }
 
 fn add(queue: &mut ReassemblyQueue, tsn: u32, fragment: Data) -> Result<(), AllocError> {
-    if queue.queued_bytes() >= 1 << 40 || fragment.payload.len() >= 1 << 40 {
+    if queue.queued_bytes() >= 1 << 40
+        || fragment.payload.len() >= 1 << 40
+        || queue.holds_most_fragments()
+    {
         drop(fragment);
         return Err(AllocError);
     }

@@ -1,14 +1,15 @@
 -- What becomes ready, one message after the other.
-use Rattle.std.proofs.Common.{◌≡◌, ℕ, zero, suc, ◌+◌, ◌==◌, Bool, true, false, cond, Option, Some, None, List, [], ◌∷◌, ◌++◌, length, refl, ap, sym, subst, ◌∙◌, arith, append_assoc, append-nil}
+use Rattle.std.proofs.Common.{◌≡◌, ℕ, zero, suc, ◌+◌, ◌==◌, Bool, true, false, not, cond, Option, Some, None, List, [], ◌∷◌, ◌++◌, length, refl, ap, sym, subst, ◌∙◌, arith, append_assoc, append-nil}
 use Rattle.std.specs.Prelude.{◌&&◌, nat_lt, option_map, option_to_list}
 use Rattle.std.specs.List.{find}
 use Rattle.std.proofs.lemmas.Bool.Decides.{nat_tests}
 use Rattle.sctp_serial.specs.Messages.{Message}
-use Rattle.sctp_fragments.specs.Runs.{is_held, with_item}
-use Rattle.sctp_fragments.specs.Held.{Held, rank_of, NonePass, NoneComplete, NoneInTurn, without_first_of, left_by, intervals_of, is_in_turn, is_complete, IsTaken, IsPlaced, message_of_run}
+use Rattle.sctp_fragments.specs.Runs.{is_held, with_item, AreRuns}
+use Rattle.sctp_fragments.specs.Held.{Held, rank_of, goes_on, NonePass, NoneComplete, NoneInTurn, without_first_of, left_by, intervals_of, is_in_turn, is_complete, IsTaken, IsPlaced, message_of_run}
 use Rattle.sctp_reassembly.specs.Delivery.{OrderedDelivery, OrderedStream, deliver, deliver_within, at_rest, preceded_by, delivering, ordered_arrival, first_complete, ready_bytes}
 use Rattle.std.proofs.lemmas.List.Sums.{sum_by_push}
 use Rattle.sctp_reassembly.proofs.FindLemmas.{found, without_found, not_found, taken_left}
+use Rattle.sctp_reassembly.proofs.HolderLemmas.{only_one}
 
 module _ (test : List Held → Bool) where
   pub length_found : (rs : List (List Held)) (r : List Held) → find test rs ≡ Some r → length rs ≡ suc (length (without_first_of test rs))
@@ -65,35 +66,33 @@ NonePass_with : (test : List Held → Bool) (xs ys : List (List Held)) (r : List
 NonePass_with test [] ys r h k = (k, h)
 NonePass_with test (x ∷ xs) ys r h k = (h.0, NonePass_with test xs ys r h.1 k)
 
-same_rest : {X : Type 0} (ps qs ps' qs' : List X) (x y : X) → ps ++ x ∷ qs ≡ ps' ++ y ∷ qs' → length ps ≡ length ps' → ps ++ qs ≡ ps' ++ qs'
-same_rest [] qs [] qs' x y h k = cc
-same_rest [] qs (p ∷ ps') qs' x y h k = absurd (omega arith)
-same_rest (p ∷ ps) qs [] qs' x y h k = absurd (omega arith)
-same_rest (p ∷ ps) qs (p' ∷ ps') qs' x y h k = let t = same_rest ps qs ps' qs' x y (cc) (omega arith) in cc
+-- the interval that has the fragment went out, or stays since it is no message
+module _ (old mid : List Held) (x : Held) (none : NoneComplete (intervals_of old)) (p : IsPlaced old mid x) where
+  pub none_incomplete : ((front back : List (List Held)) (r : List Held) → intervals_of mid ≡ front ++ r ∷ back → is_held rank_of (rank_of x) r ≡ true → is_complete r ≡ false) → NoneComplete (intervals_of mid)
+  none_incomplete incomplete = rw p.runs (NonePass_with is_complete p.front p.back p.run (p.others is_complete none) (incomplete p.front p.back p.run p.runs p.among))
 
-module _ (old mid : List Held) (x : Held) (place : ℕ) (none : NoneComplete (intervals_of old)) (p : IsPlaced old mid x place) where
-  pub none_incomplete : ((front back : List (List Held)) (r : List Held) → intervals_of mid ≡ front ++ r ∷ back → length front ≡ place → is_complete r ≡ false) → NoneComplete (intervals_of mid)
-  none_incomplete incomplete = rw p.runs (NonePass_with is_complete p.front p.back p.run (p.others is_complete none) (incomplete p.front p.back p.run p.runs p.at))
+  module _ (run new : List Held) (held : is_held rank_of (rank_of x) run ≡ true) (t : IsTaken mid run new) where
+    none_around : NoneComplete (t.front ++ t.back)
+    none_around =
+        let o = only_one (rank_of x) None p.front p.back t.front t.back p.run run (subst (AreRuns rank_of goes_on None) p.runs p.kept) (sym p.runs ∙ t.runs) p.among held in
+        subst NoneComplete (ap (λ (f : List (List Held)). f ++ p.back) o.front_is ∙ ap (λ (b : List (List Held)). t.front ++ b) o.back_is) (p.others is_complete none)
 
-  none_around : (run new : List Held) (t : IsTaken mid run new place) → NoneComplete (t.front ++ t.back)
-  none_around run new t = subst NoneComplete (same_rest p.front p.back t.front t.back p.run run (sym p.runs ∙ t.runs) (p.at ∙ sym t.at)) (p.others is_complete none)
+    pub none_taken : NoneComplete (intervals_of new)
+    none_taken = rw t.left none_around
 
-  pub none_taken : (run new : List Held) → IsTaken mid run new place → NoneComplete (intervals_of new)
-  none_taken run new t = rw t.left (none_around run new t)
+    pub left_taken : new ≡ left_by is_complete mid
+    left_taken = taken_left is_complete mid run new t.front t.back t.runs (NonePass_front is_complete t.front t.back none_around) t.complete t.rest
 
-  pub left_taken : (run new : List Held) → IsTaken mid run new place → new ≡ left_by is_complete mid
-  left_taken run new t = taken_left is_complete mid run new t.front t.back t.runs (NonePass_front is_complete t.front t.back (none_around run new t)) t.complete t.rest
-
-  pub found_taken : (run new : List Held) → IsTaken mid run new place → first_complete mid ≡ message_of_run run ∷ []
-  found_taken run new t =
-      ap (λ (o : Option (List Held)). option_to_list (option_map message_of_run o))
-      (ap (find is_complete) t.runs ∙ found is_complete t.front t.back run (NonePass_front is_complete t.front t.back (none_around run new t)) t.complete)
+    pub found_taken : first_complete mid ≡ message_of_run run ∷ []
+    found_taken =
+        ap (λ (o : Option (List Held)). option_to_list (option_map message_of_run o))
+        (ap (find is_complete) t.runs ∙ found is_complete t.front t.back run (NonePass_front is_complete t.front t.back none_around) t.complete)
 
 -- nothing is in turn where nothing was, and the interval that took the fragment is not
-pub none_turned : (old mid : List Held) (x : Held) (place n : ℕ) → IsPlaced old mid x place → ((front back : List (List Held)) (r : List Held) → intervals_of mid ≡ front ++ r ∷ back → length front ≡ place → false ≡ is_in_turn n r)
+pub none_turned : (old mid : List Held) (x : Held) (n : ℕ) → IsPlaced old mid x → ((front back : List (List Held)) (r : List Held) → intervals_of mid ≡ front ++ r ∷ back → is_held rank_of (rank_of x) r ≡ true → false ≡ is_in_turn n r)
     → NoneInTurn n (intervals_of old) → NoneInTurn n (intervals_of mid)
-none_turned old mid x place n p no_turn none =
-    subst (NoneInTurn n) (sym p.runs) (NonePass_with (is_in_turn n) p.front p.back p.run (p.others (is_in_turn n) none) (sym (no_turn p.front p.back p.run p.runs p.at)))
+none_turned old mid x n p no_turn none =
+    subst (NoneInTurn n) (sym p.runs) (NonePass_with (is_in_turn n) p.front p.back p.run (p.others (is_in_turn n) none) (sym (no_turn p.front p.back p.run p.runs p.among)))
 
 -- a fragment comes by which nothing is in turn
 pub arrives_settled : (x : Held) (s : OrderedStream) (hs : List Held) → nat_lt x.number s.next ≡ false → hs ≡ with_item rank_of x s.held → NoneInTurn s.next (intervals_of hs) → ordered_arrival x s ≡ at_rest s.next hs
@@ -133,8 +132,12 @@ pub first_complete_none : (hs : List Held) → NoneComplete (intervals_of hs) �
 first_complete_none hs none = ap (λ (o : Option (List Held)). option_to_list (option_map message_of_run o)) (not_found is_complete (intervals_of hs) none)
 
 -- an unordered fragment whose key is held
-pub added_none : (old mid : List Held) (x : Held) → mid ≡ with_item rank_of x old → true ≡ is_held rank_of (rank_of x) old → mid ≡ old
-added_none old mid x value held = value ∙ rw (sym held) refl
+pub added_none : (old mid : List Held) (x : Held) (is_new : Bool) → mid ≡ with_item rank_of x old → is_new ≡ not (is_held rank_of (rank_of x) old) → is_new ≡ false → mid ≡ old
+added_none old mid x is_new value answer off = value ∙ held (is_held rank_of (rank_of x) old) refl (sym answer ∙ off)
+  where
+    held : (b : Bool) → is_held rank_of (rank_of x) old ≡ b → not b ≡ false → with_item rank_of x old ≡ old
+    held true is h = rw is refl
+    held false is h = absurd (cc)
 
 pub nothing_more : (rs ms : List Message) → ms ≡ [] → rs ≡ rs ++ ms
 nothing_more rs ms none = sym (append-nil rs) ∙ ap (λ (t : List Message). rs ++ t) (sym none)

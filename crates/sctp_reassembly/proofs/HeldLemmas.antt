@@ -17,7 +17,7 @@ module _ {E : Type 0} (rank : E → ℕ) (goes : E → E → Bool) where
   RisesFrom n [] = Unit {0}
   RisesFrom n (e ∷ es) = (n ≤ rank e) × RisesFrom (suc (rank e)) es
 
-  next_rank : (e f : E) → is_next rank goes e f ≡ true → rank f ≡ suc (rank e)
+  pub next_rank : (e f : E) → is_next rank goes e f ≡ true → rank f ≡ suc (rank e)
   next_rank e f h = grind (arith, nat_tests)
 
   rises_sooner : (m n : ℕ) (es : List E) → m ≤ n → RisesFrom n es → RisesFrom m es

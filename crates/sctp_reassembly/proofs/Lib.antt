@@ -1,10 +1,17 @@
 pub mod InsertLemmas
 pub mod ListLemmas
-pub mod FindLemmas
+pub mod CountLemmas
 pub mod PopLemmas
+pub mod FindLemmas
 pub mod ReassemblyRowsLemmas
 pub mod DeliverLemmas
 pub mod InterruptedLemmas
+mod JoinedLemmas
+mod HolderLemmas
+mod InTurnLemmas
+mod KeyAtLemmas
+mod AtEndLemmas
+mod AddedLemmas
 pub mod StandsLemmas
 pub mod InterruptedQueueLemmas
 pub mod EntriesLemmas
@@ -18,12 +25,12 @@ pub mod SettledRunsLemmas
 pub mod SettledInsertLemmas
 pub mod SettledStreamsLemmas
 pub mod SettledQueueLemmas
-pub mod FrontLemmas
 pub mod WrittenLemmas
 pub mod HeldLemmas
 pub mod NoteLemmas
 pub mod ReadyLemmas
 pub mod ForgetLemmas
 pub mod NamedLemmas
-pub mod JoinLemmas
 pub mod TurnLemmas
+pub mod MapLemmas
+pub mod PutLemmas

@@ -55,29 +55,28 @@ snoc before (e ∷ es) (q ∷ rs) h =
 
 record Put (ps qs : List (List Held)) (x : Held) : Type 0 where
   new : List (List Held)
-  place : ℕ
-  put : IsInserted ps qs new x place
+  put : IsInserted ps qs new x
 
 module _ (x : Held) where
   put_left : (ps qs : List (List Held)) (d : Held) (ds : List Held) → AreRuns rank_of goes_on None ((ps ++ (d ∷ ds) ∷ []) ++ qs) → LeadsTo rank_of (rank_of x) qs → is_next rank_of goes_on (last_of d ds) x ≡ true → Put (ps ++ (d ∷ ds) ∷ []) qs x
   put_left ps qs d ds h leads left = go qs (subst (AreRuns rank_of goes_on None) (append_assoc ps ((d ∷ ds) ∷ []) qs) h) leads
     where
       go : (qs : List (List Held)) → AreRuns rank_of goes_on None (ps ++ (d ∷ ds) ∷ qs) → LeadsTo rank_of (rank_of x) qs → Put (ps ++ (d ∷ ds) ∷ []) qs x
-      go [] h leads = record { new = _; place = _; put = inserts_left ps [] d x ds h leads left refl }
-      go ([] ∷ qs) h leads = record { new = _; place = _; put = inserts_left ps ([] ∷ qs) d x ds h leads left refl }
+      go [] h leads = record { new = _; put = inserts_left ps [] d x ds h leads left refl }
+      go ([] ∷ qs) h leads = record { new = _; put = inserts_left ps ([] ∷ qs) d x ds h leads left refl }
       go ((f ∷ fs) ∷ qs) h leads =
           elim (cases_Bool (is_next rank_of goes_on x f)) [
-            | inl t ↦ record { new = _; place = _; put = inserts_both ps qs d f x ds fs h left t }
-            | inr n ↦ record { new = _; place = _; put = inserts_left ps ((f ∷ fs) ∷ qs) d x ds h leads left n }
+            | inl t ↦ record { new = _; put = inserts_both ps qs d f x ds fs h left t }
+            | inr n ↦ record { new = _; put = inserts_left ps ((f ∷ fs) ∷ qs) d x ds h leads left n }
           ]
 
   put_right : (ps qs : List (List Held)) → AreRuns rank_of goes_on None (ps ++ qs) → IsBelow rank_of (rank_of x) (end_of None ps) → LeadsTo rank_of (rank_of x) qs → joins_left rank_of goes_on (end_of None ps) x ≡ false → Put ps qs x
-  put_right ps [] h below leads left = record { new = _; place = _; put = inserts_alone ps [] x h below leads left refl }
-  put_right ps ([] ∷ qs) h below leads left = record { new = _; place = _; put = inserts_alone ps ([] ∷ qs) x h below leads left refl }
+  put_right ps [] h below leads left = record { new = _; put = inserts_alone ps [] x h below leads left refl }
+  put_right ps ([] ∷ qs) h below leads left = record { new = _; put = inserts_alone ps ([] ∷ qs) x h below leads left refl }
   put_right ps ((f ∷ fs) ∷ qs) h below leads left =
       elim (cases_Bool (is_next rank_of goes_on x f)) [
-        | inl t ↦ record { new = _; place = _; put = inserts_right ps qs f x fs h below left t }
-        | inr n ↦ record { new = _; place = _; put = inserts_alone ps ((f ∷ fs) ∷ qs) x h below leads left n }
+        | inl t ↦ record { new = _; put = inserts_right ps qs f x fs h below left t }
+        | inr n ↦ record { new = _; put = inserts_alone ps ((f ∷ fs) ∷ qs) x h below leads left n }
       ]
 
   left_is : (ps : List (List Held)) (d : Held) (ds : List Held) → joins_left rank_of goes_on (end_of None (ps ++ (d ∷ ds) ∷ [])) x ≡ is_next rank_of goes_on (last_of d ds) x

@@ -1,18 +1,16 @@
 -- Intervals by the number of the message at which they begin: of those below a number, and of those above it, none is in turn.
-use Rattle.std.proofs.Common.{◌≡◌, ℕ, zero, suc, ◌+◌, ◌<◌, ◌≤◌, ◌==◌, Bool, true, false, cond, Option, Some, None, List, [], ◌∷◌, ◌++◌, length, take, drop, get_or, refl, ap, sym, subst, ◌∙◌, arith}
+use Rattle.std.proofs.Common.{◌≡◌, ℕ, suc, ◌<◌, ◌≤◌, ◌==◌, Bool, true, false, cond, Option, Some, None, List, [], ◌∷◌, ◌++◌, length, refl, ap, sym, subst, ◌∙◌, arith}
 use Rattle.std.specs.Prelude.{◌&&◌, ◌^◌, nat_lt, max}
 use Rattle.std.proofs.lemmas.Bool.Decides.{nat_tests}
-use Rattle.std.proofs.lemmas.List.{take_all}
-use Rattle.sctp_fragments.specs.declared.interval.Entry.{Entry}
 use Rattle.sctp_fragments.specs.declared.interval.Interval.{Interval}
-use Rattle.sctp_fragments.specs.ReassemblyKey.{pair_rank}
+use Rattle.sctp_fragments.specs.ReassemblyKey.{pair_rank, rank_at}
 use Rattle.sctp_fragments.specs.Runs.{flat, last_of, end_of, is_held, put_in, with_item, from_rank, AreRuns, AllBelow, IsBelow}
 use Rattle.sctp_fragments.specs.Held.{Held, rank_of, goes_on, intervals_of, is_complete, is_in_turn, NoneInTurn, IsTaken}
-use Rattle.sctp_fragments.specs.Interval.{run_of, lists_of, entries_of, AreIndexed, StartsFrom, StartsInTurn, first_below, without_first}
+use Rattle.sctp_fragments.specs.Interval.{held_of, run_of, AreIndexed, StartsFrom, first_below, without_first}
 use Rattle.sctp_fragments.proofs.RunLemmas.{flat_append, AreRuns_front, AreRuns_back, AllBelow_runs, linked_rises}
-use Rattle.sctp_fragments.proofs.PlaceLemmas.{cons, some_run, lists_of_append, read_at}
 use Rattle.sctp_reassembly.specs.Delivery.{OrderedStream, deliver, at_rest, ordered_forward}
-use Rattle.sctp_reassembly.proofs.InsertLemmas.{split_at, in_two}
+use Rattle.sctp_reassembly.specs.Places.{AreNamed, AreLow, IsWithin, runs_at}
+use Rattle.sctp_reassembly.proofs.MapLemmas.{runs_append}
 use Rattle.sctp_reassembly.proofs.FindLemmas.{not_found}
 use Rattle.sctp_reassembly.proofs.DeliverLemmas.{deliver_ends}
 
@@ -26,7 +24,7 @@ indexed_front : (xs ys : List Held) → AreIndexed (xs ++ ys) → AreIndexed xs
 indexed_front [] ys h = tt
 indexed_front (x ∷ xs) ys h = (h.0, indexed_front xs ys h.1)
 
-indexed_back : (xs ys : List Held) → AreIndexed (xs ++ ys) → AreIndexed ys
+pub indexed_back : (xs ys : List Held) → AreIndexed (xs ++ ys) → AreIndexed ys
 indexed_back [] ys h = h
 indexed_back (x ∷ xs) ys h = indexed_back xs ys h.1
 
@@ -45,17 +43,10 @@ with_indexed x hs s h = go (is_held rank_of (rank_of x) hs)
     go true = h
     go false = put_indexed x hs s h
 
-pub taken_indexed : (old run new : List Held) (p : ℕ) → IsTaken old run new p → AreIndexed old → AreIndexed new
-taken_indexed old run new p t h =
+pub taken_indexed : (old run new : List Held) → IsTaken old run new → AreIndexed old → AreIndexed new
+taken_indexed old run new t h =
     let both : AreIndexed (flat t.front ++ (run ++ flat t.back)) = subst AreIndexed t.split h in
     subst AreIndexed (sym t.rest) (indexed_append (flat t.front) (flat t.back) (indexed_front (flat t.front) (run ++ flat t.back) both) (indexed_back run (flat t.back) (indexed_back (flat t.front) (run ++ flat t.back) both)))
-
-module _ {K : Type 0} (f : Entry K → Held) where
-  pub indexed_drop : (xs : List (Interval K)) (p : ℕ) → AreIndexed (entries_of f xs) → AreIndexed (entries_of f (drop p xs))
-  indexed_drop [] zero h = h
-  indexed_drop [] (suc p) h = h
-  indexed_drop (x ∷ xs) zero h = h
-  indexed_drop (x ∷ xs) (suc p) h = indexed_drop xs p (indexed_back (run_of f x) (entries_of f xs) h)
 
 pub indexed_first : (ls new : List (List Held)) (n bytes : ℕ) → AreRuns rank_of goes_on None ls → first_below n ls ≡ true
     → ((e : Held) (es : List Held) (rs : List (List Held)) → ls ≡ (e ∷ es) ∷ rs → (bytes ≡ length e.fragment.payload) × (new ≡ without_first es rs)) → AreIndexed (flat ls) → AreIndexed (flat new)
@@ -106,7 +97,7 @@ none_above d ((e ∷ es) ∷ rs) n r i h =
       none_above (last_of e es) rs n r.1.1 (indexed_back es (flat rs) i.1) (omega (arith, h, r.0.0, linked_rises rank_of goes_on e es r.1.0)),
     )
 
-none_append : (n : ℕ) (xs ys : List (List Held)) → NoneInTurn n xs → NoneInTurn n ys → NoneInTurn n (xs ++ ys)
+pub none_append : (n : ℕ) (xs ys : List (List Held)) → NoneInTurn n xs → NoneInTurn n ys → NoneInTurn n (xs ++ ys)
 none_append n [] ys h k = k
 none_append n (x ∷ xs) ys h k = (h.0, none_append n xs ys h.1 k)
 
@@ -140,100 +131,29 @@ module _ (ps qs : List (List Held)) (e : Held) (es : List Held) (runs : AreRuns 
         go ([] ∷ rs) r i = absurd r
         go ((d ∷ ds) ∷ rs) r i = above_is d.number d.index (rank_of (last_of e es)) n i.0 (omega (arith, h, linked_rises rank_of goes_on e es from_here.1.0)) r.0.0
 
-    none_from : (n : ℕ) → n ≤ e.number → (e.number == n) ≡ false → NoneInTurn n ((e ∷ es) ∷ qs)
+    pub none_from : (n : ℕ) → n ≤ e.number → (e.number == n) ≡ false → NoneInTurn n ((e ∷ es) ∷ qs)
     none_from n h other =
         (of_another n e es other, none_above (last_of e es) qs n from_here.1.1 later (omega (arith, more e.number n h other, linked_rises rank_of goes_on e es from_here.1.0)))
       where
         more : (a n : ℕ) → n ≤ a → (a == n) ≡ false → suc n ≤ a
         more a n h other = grind (arith, nat_tests)
 
--- ---- by their place in a vector
+-- ---- in the map
 
-module _ {K : Type 0} (f : Entry K → Held) where
-  record Here (xs : List (Interval K)) (p : ℕ) (e : Held) : Type 0 where
-    ps : List (List Held)
-    es : List Held
-    qs : List (List Held)
-    whole : lists_of f xs ≡ ps ++ (e ∷ es) ∷ qs
-    upto : lists_of f (take p xs) ≡ ps
-    through : lists_of f (take (p + 1) xs) ≡ ps ++ (e ∷ es) ∷ []
-    from : lists_of f (drop p xs) ≡ (e ∷ es) ∷ qs
-    beyond : lists_of f (drop (p + 1) xs) ≡ qs
+module _ {K : Type 0} (is_key : K → Type 0) (number index : K → ℕ) where
+  -- under keys below the message with the number, none is in turn
+  pub none_low : (n m : ℕ) (es : List (K × Interval K)) → AreNamed is_key number index es → AreLow is_key (rank_at number index) m es → m ≤ pair_rank n 0 → NoneInTurn n (runs_at number index es)
+  none_low n m [] named low h = tt
+  none_low n m (e ∷ es) named low h = (go (run_of (held_of number index) e.1) named.1.0, none_low n m es named.1.1 low.1.1 h)
+    where
+      go : (r : List Held) → IsWithin (rank_at number index e.0) r → is_in_turn n r ≡ false
+      go [] w = absurd w
+      go (d ∷ ds) w = of_another n d ds (below_differs d.number d.index m n (omega (arith, w.0, low.1.0)) h)
 
-  module _ (xs : List (Interval K)) (p : ℕ) (i : Interval K) (e : Held) (k : p < length xs) (read : i ≡ get_or xs p i) (first : (d : Held) (ds : List Held) → run_of f i ≡ d ∷ ds → e ≡ d) where
-    here : Here xs p e
-    here =
-        let s = split_at xs p k in
-        let c = cons (run_of f i) (some_run f i) in
-        let i_is : i ≡ s.here = read_at f xs s.before s.after s.here i p s.is s.at read in
-        let run : run_of f s.here ≡ e ∷ c.tail = ap (run_of f) (sym i_is) ∙ (c.is ∙ ap (λ (h : Held). h ∷ c.tail) (sym (first c.head c.tail c.is))) in
-        let up : p + 1 ≡ suc p = omega arith in
-        record {
-          ps = lists_of f s.before;
-          es = c.tail;
-          qs = lists_of f s.after;
-          whole = ap (lists_of f) s.is ∙ (lists_of_append f s.before (s.here ∷ s.after) ∙ ap (λ (r : List Held). lists_of f s.before ++ r ∷ lists_of f s.after) run);
-          upto = ap (lists_of f) s.upto;
-          through = ap (λ (n : ℕ). lists_of f (take n xs)) up ∙ (ap (lists_of f) s.front ∙ (lists_of_append f s.before (s.here ∷ []) ∙ ap (λ (r : List Held). lists_of f s.before ++ r ∷ []) run));
-          from = ap (lists_of f) s.from ∙ ap (λ (r : List Held). r ∷ lists_of f s.after) run;
-          beyond = ap (λ (n : ℕ). lists_of f (drop n xs)) up ∙ ap (lists_of f) s.back;
-        }
-
-    -- it begins below the number
-    pub none_up_to : (n : ℕ) → AreRuns rank_of goes_on None (lists_of f xs) → rank_of e < pair_rank n 0 → NoneInTurn n (lists_of f (take (p + 1) xs))
-    none_up_to n runs h =
-        let x = here in
-        subst (NoneInTurn n) (sym x.through) (none_through x.ps x.qs e x.es (subst (AreRuns rank_of goes_on None) x.whole runs) n h)
-
-    -- or at it, or above it
-    pub starts_here : (n : ℕ) → n ≤ e.number → StartsFrom n (lists_of f (drop p xs))
-    starts_here n h = let x = here in subst (StartsFrom n) (sym x.from) h
-
-    pub begins_at : (n : ℕ) → StartsFrom n (lists_of f (drop p xs)) → n ≤ e.number
-    begins_at n h = let x = here in subst (StartsFrom n) x.from h
-
-    pub starts_next : (n : ℕ) → AreRuns rank_of goes_on None (lists_of f xs) → AreIndexed (entries_of f xs) → StartsFrom n (lists_of f (drop p xs)) → StartsFrom n (lists_of f (drop (p + 1) xs))
-    starts_next n runs indexed h =
-        let x = here in
-        subst (StartsFrom n) (sym x.beyond) (starts_on x.ps x.qs e x.es (subst (AreRuns rank_of goes_on None) x.whole runs) (subst (λ (t : List (List Held)). AreIndexed (flat t)) x.whole indexed) n (begins_at n h))
-
-    pub turns_here : (n : ℕ) (r : Bool) → r ≡ is_in_turn n (run_of f i) → r ≡ true → StartsInTurn n (lists_of f (drop p xs))
-    turns_here n r is turn =
-        let s = split_at xs p k in
-        let i_is : i ≡ s.here = read_at f xs s.before s.after s.here i p s.is s.at read in
-        subst (λ (t : List (Interval K)). StartsInTurn n (lists_of f t)) (sym s.from) (ap (λ (t : Interval K). is_in_turn n (run_of f t)) (sym i_is) ∙ (sym is ∙ turn))
-
-    -- none is left from one of another number on
-    pub none_in_whole : (n : ℕ) → AreRuns rank_of goes_on None (lists_of f xs) → AreIndexed (entries_of f xs) → NoneInTurn n (lists_of f (take p xs)) → StartsFrom n (lists_of f (drop p xs))
-        → (e.number == n) ≡ false → NoneInTurn n (lists_of f xs)
-    none_in_whole n runs indexed before h other =
-        let x = here in
-        subst (NoneInTurn n) (sym (in_two f xs p)) (none_append n (lists_of f (take p xs)) (lists_of f (drop p xs)) before
-        (subst (NoneInTurn n) (sym x.from) (none_from x.ps x.qs e x.es (subst (AreRuns rank_of goes_on None) x.whole runs) (subst (λ (t : List (List Held)). AreIndexed (flat t)) x.whole indexed) n (begins_at n h) other)))
-
-  module _ (xs : List (Interval K)) (p : ℕ) (i : Interval K) (k : p < length xs) (read : i ≡ get_or xs p i) (n : ℕ) (runs : AreRuns rank_of goes_on None (lists_of f xs)) (indexed : AreIndexed (entries_of f xs)) (h : StartsFrom n (lists_of f (drop p xs))) where
-    head_is : (e : Held) (es : List Held) → run_of f i ≡ e ∷ es → (d : Held) (ds : List Held) → run_of f i ≡ d ∷ ds → e ≡ d
-    head_is e es is d ds same = cc
-
-    pub starts_after : StartsFrom n (lists_of f (drop (p + 1) xs))
-    starts_after = let c = cons (run_of f i) (some_run f i) in starts_next xs p i c.head k read (head_is c.head c.tail c.is) n runs indexed h
-
-    pub none_at_all : NoneInTurn n (lists_of f (take p xs)) → (r : Bool) → ((d : Held) (ds : List Held) → run_of f i ≡ d ∷ ds → r ≡ (d.number == n)) → r ≡ false → NoneInTurn n (lists_of f xs)
-    none_at_all before r tells other =
-        let c = cons (run_of f i) (some_run f i) in
-        none_in_whole xs p i c.head k read (head_is c.head c.tail c.is) n runs indexed before h (sym (tells c.head c.tail c.is) ∙ other)
-
-  pub none_taken_all : (xs : List (Interval K)) (n p : ℕ) → length xs ≤ p → NoneInTurn n (lists_of f xs) → NoneInTurn n (lists_of f (take p xs))
-  none_taken_all xs n p long none = subst (λ (t : List (Interval K)). NoneInTurn n (lists_of f t)) (sym (take_all p xs long)) none
-
-  pub none_before_end : (xs : List (Interval K)) (n p : ℕ) → length xs ≤ p → NoneInTurn n (lists_of f (take p xs)) → NoneInTurn n (lists_of f xs)
-  none_before_end xs n p long none = subst (λ (t : List (Interval K)). NoneInTurn n (lists_of f t)) (take_all p xs long) none
-
-  pub turns_at_end : (xs : List (Interval K)) (n p : ℕ) → length xs ≤ p → StartsInTurn n (lists_of f (drop p xs))
-  turns_at_end [] n zero h = tt
-  turns_at_end [] n (suc p) h = tt
-  turns_at_end (x ∷ xs) n zero h = absurd (omega arith)
-  turns_at_end (x ∷ xs) n (suc p) h = turns_at_end xs n p (omega arith)
+  -- one more that is not
+  pub none_then : (n : ℕ) (front : List (K × Interval K)) (k : K) (i : Interval K) (r : Bool) → NoneInTurn n (runs_at number index front) → r ≡ is_in_turn n (run_of (held_of number index) i) → r ≡ false → NoneInTurn n (runs_at number index (front ++ (k, i) ∷ []))
+  none_then n front k i r none is off =
+      subst (NoneInTurn n) (sym (runs_append is_key number index front ((k, i) ∷ []))) (none_append n (runs_at number index front) (run_of (held_of number index) i ∷ []) none (sym is ∙ off, tt))
 
 -- ---- a forward point that passes nothing
 

@@ -6,7 +6,11 @@ pub mod InterruptedStreams
 pub mod InterruptedQueue
 pub mod ReassemblyMode
 pub mod Waiting
+pub mod Places
+pub mod Listed
+pub mod Turns
 pub mod ReassemblyHandover
 pub mod SettledLaws
 pub mod ReadyLaws
 pub mod UnorderedByTsn
+pub mod KeyAt

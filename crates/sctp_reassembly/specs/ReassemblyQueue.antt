@@ -7,7 +7,7 @@ use Rattle.sctp_chunk.specs.declared.forward_tsn.SkippedStream.{SkippedStream}
 use Rattle.sctp_chunk.specs.Chunk.{FragmentTree}
 use Rattle.sctp_reassembly.specs.Delivery.{ready_bytes}
 use Rattle.sctp_reassembly.specs.ReassemblyStreams as streams
-use Rattle.sctp_reassembly.specs.ReassemblyStreams.{Streams, Outcome, no_streams, held_bytes, is_far, is_named, entries_in}
+use Rattle.sctp_reassembly.specs.ReassemblyStreams.{Streams, Outcome, no_streams, held_bytes, fragments_of, is_far, is_named, entries_in}
 
 -- what came while a reset was deferred, with SSNs and MIDs as they came
 pub data Waiting : Type 0 where
@@ -23,6 +23,7 @@ pub record Deferred : Type 0 where
 
 pub record Reassembly : Type 0 where
   pub max_size : ℕ
+  pub max_fragments : ℕ  -- no fragment is let in while so many are held or wait; this option is our own
   pub first : Option ℕ  -- how `origin` is written, once it is known
   pub near : ℕ  -- the last TSN that came: TSNs are read near it
   pub streams : Streams
@@ -33,6 +34,7 @@ pub record Reassembly : Type 0 where
 abbrev pub reassembly : ℕ → Bool → Reassembly
 reassembly max_size is_interleaved = record {
   max_size = max_size;
+  max_fragments = 2 ^ 64 - 1;
   first = None;
   near = origin;
   streams = no_streams is_interleaved;
@@ -46,6 +48,10 @@ reassembly max_size is_interleaved = record {
 abbrev pub waiting_bytes : Waiting → ℕ
 waiting_bytes (Added tsn f) = length f.payload
 waiting_bytes (Forwarded tsn es) = 0
+
+abbrev pub waiting_fragments : Waiting → ℕ
+waiting_fragments (Added tsn f) = 1
+waiting_fragments (Forwarded tsn es) = 0
 
 abbrev pub waiting_number : Waiting → ℕ
 waiting_number (Added tsn f) = tsn
@@ -65,8 +71,9 @@ waiting_entries (Forwarded tsn es) = suc (length es)
 abbrev pub most_waiting_entries : ℕ
 most_waiting_entries = 65536
 
-pub record IsDeferred (bytes entries : ℕ) (ws : List Waiting) : Type 0 where
+pub record IsDeferred (bytes fragments entries : ℕ) (ws : List Waiting) : Type 0 where
   pub counted : bytes ≡ sum_by waiting_bytes ws
+  pub fragments_counted : fragments ≡ sum_by waiting_fragments ws
   pub entered : entries ≡ min (sum_by waiting_entries ws) (2 ^ 64 - 1)
   pub small : AreSmall ws
 
@@ -77,6 +84,14 @@ deferred_bytes (Some d) = sum_by waiting_bytes d.waiting
 -- what is held, what waits and what is ready
 abbrev pub queued_bytes : Reassembly → ℕ
 queued_bytes r = held_bytes r.streams + (deferred_bytes r.deferred + ready_bytes r.ready)
+
+abbrev pub deferred_fragments : Option Deferred → ℕ
+deferred_fragments None = 0
+deferred_fragments (Some d) = sum_by waiting_fragments d.waiting
+
+-- the fragments that are held or wait; what is ready is its owner's to take
+abbrev pub held_fragments : Reassembly → ℕ
+held_fragments r = fragments_of r.streams + deferred_fragments r.deferred
 
 abbrev pub watermark : Reassembly → ℕ
 watermark r = r.max_size * 9 / 10
@@ -198,3 +213,4 @@ pub record IsQueue (r : Reassembly) : Type 0 where
   pub least : origin ≤ r.near
   pub most : r.near < 2 ^ 63
   pub room : queued_bytes r < 2 ^ 64
+  pub fragments : held_fragments r < 2 ^ 64

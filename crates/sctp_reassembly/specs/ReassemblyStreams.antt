@@ -1,5 +1,5 @@
 -- The streams of an association as the receiver knows them, by their ids. A stream that isn't there is as at first.
-use Rattle.std.specs.Prelude.{ℕ, ◌+◌, ◌^◌, ◌==◌, ◌||◌, not, nat_lt, nat_le, Bool, true, false, if◌then◌else◌, Option, Some, None, is_some, unwrap_or, List, [], ◌∷◌, ◌++◌, length, map, filter}
+use Rattle.std.specs.Prelude.{◌≡◌, ℕ, ◌+◌, ◌<◌, ◌^◌, ◌==◌, ◌||◌, not, nat_lt, nat_le, Bool, true, false, if◌then◌else◌, Option, Some, None, is_some, unwrap_or, List, [], ◌∷◌, ◌++◌, length, map, filter}
 use Rattle.std.specs.List.{list_any, sum_by}
 use Rattle.std.specs.Map.{lookup, set_value, values_of}
 use Rattle.std.specs.Ordering.{nat_cmp}
@@ -46,6 +46,15 @@ forget ids es = filter (λ e. not (is_named ids e.0)) es
 abbrev pub bytes_held : {S : Type 0} → (S → List Held) → Entries S → ℕ
 bytes_held held es = sum_by (λ s. bytes_of (held s)) (values_of es)
 
+-- how many fragments they hold
+abbrev pub fragments_held : {S : Type 0} → (S → List Held) → Entries S → ℕ
+fragments_held held es = sum_by (λ s. length (held s)) (values_of es)
+
+-- how a map of streams counts what they hold
+pub record AreCounted {S : Type 0} (held : S → List Held) (bytes fragments : ℕ) (es : Entries S) : Type 0 where
+  pub bytes_are : bytes ≡ bytes_held held es
+  pub fragments_are : fragments ≡ fragments_held held es
+
 abbrev pub is_any_held : {S : Type 0} → (S → List Held) → Entries S → Bool
 is_any_held held es = list_any (λ s. nat_lt 0 (length (held s))) (values_of es)
 
@@ -72,6 +81,20 @@ unordered_bytes es = bytes_held (λ s. s.held) es
 
 abbrev pub held_bytes : Streams → ℕ
 held_bytes ss = ordered_bytes ss.ordered + unordered_bytes ss.unordered
+
+abbrev pub ordered_fragments : Entries OrderedStream → ℕ
+ordered_fragments es = fragments_held (λ s. s.held) es
+
+abbrev pub unordered_fragments : Entries UnorderedStream → ℕ
+unordered_fragments es = fragments_held (λ s. s.held) es
+
+abbrev pub fragments_of : Streams → ℕ
+fragments_of ss = ordered_fragments ss.ordered + unordered_fragments ss.unordered
+
+-- each sum has 64 bits
+pub record AreWithin (ss : Streams) : Type 0 where
+  pub bytes : held_bytes ss < 2 ^ 64
+  pub fragments : fragments_of ss < 2 ^ 64
 
 -- ---- a fragment comes
 

@@ -31,20 +31,20 @@ pub struct InterleavedReassemblyStreams {
 }
 
 impl Model for InterleavedReassemblyStreams {
-    ghost use Rattle.std.specs.Prelude.{true, ◌+◌, ◌<◌, ◌^◌};
-    ghost use Rattle.sctp_reassembly.specs.ReassemblyStreams.{Streams, ordered_bytes, unordered_bytes};
+    ghost use Rattle.std.specs.Prelude.{true};
+    ghost use Rattle.sctp_reassembly.specs.ReassemblyStreams.{Streams, AreWithin};
 
     ghost Value = { Streams };
 
     ghost view = { λ s. record { is_interleaved = true; ordered = s.ordered; unordered = s.unordered } };
 
-    ghost invariant = { λ s. ordered_bytes s.ordered + unordered_bytes s.unordered < 2 ^ 64 };
+    ghost invariant = { λ s. AreWithin (record { is_interleaved = true; ordered = s.ordered; unordered = s.unordered }) };
 }
 
 impl InterleavedReassemblyStreams {
     ghost use Rattle.std.specs.Prelude.{true, ℕ, ◌+◌, ◌<◌, ◌≤◌, ◌^◌, ◌++◌, OnOk, OnErr};
     ghost use Rattle.sctp_reassembly.specs.Delivery.{ready_bytes, Extends};
-    ghost use Rattle.sctp_reassembly.specs.ReassemblyStreams.{no_streams, held_bytes, skip};
+    ghost use Rattle.sctp_reassembly.specs.ReassemblyStreams.{no_streams, held_bytes, fragments_of, skip};
     ghost use Rattle.sctp_reassembly.specs.InterruptedStreams.{Stands, skip_in_part};
 
     /// No streams. Takes no memory.
@@ -72,6 +72,7 @@ impl InterleavedReassemblyStreams {
         ensures err { OnErr result ((steps : ℕ) × Stands (skip_in_part steps (SkippedStream.IForwardTsn key mid) self.old) ready.old self.new ready.new) }
         ensures kept { Extends ready.old ready.new }
         ensures bytes { held_bytes self.new + ready_bytes ready.new ≤ held_bytes self.old + ready_bytes ready.old }
+        ensures fragments { fragments_of self.new ≤ fragments_of self.old }
     {
         // (what a stream keeps is known once a field is read)
         let _fields = &self.ordered;
@@ -151,6 +152,10 @@ impl ReassemblyStreams for InterleavedReassemblyStreams {
 
     fn queued_bytes(&self) -> usize {
         self.ordered.total_bytes() + self.unordered.total_bytes()
+    }
+
+    fn held_fragments(&self) -> usize {
+        self.ordered.held_fragments() + self.unordered.held_fragments()
     }
 
     fn get_handover_readiness(&self) -> HandoverReadiness {

@@ -1,12 +1,14 @@
 //! Messages put together of their fragments (RFC 9260 section 6.9, RFC 8260 section 2.2).
 #![tactic(auto)]
 
+mod counted;
 pub mod interleaved_reassembly_streams;
 pub mod interval_laws;
 pub mod interval_list;
 mod near;
 mod ordered_stream;
 mod ordered_streams;
+mod places;
 pub mod ready_laws;
 pub mod ready_messages;
 pub mod reassembly_queue;

@@ -59,6 +59,7 @@ fn deliver<K: ReassemblyKey>(
     ensures err { OnErr result ((count : ℕ) × ((record { next = next.new; held = list.new } ≡ (deliver_in_part count next.old list.old).stream) × (ready.new ≡ ready.old ++ (deliver_in_part count next.old list.old).messages))) }
     ensures kept { Extends ready.old ready.new }
     ensures bytes { bytes_of list.new + ready_bytes ready.new ≤ bytes_of list.old + ready_bytes ready.old }
+    ensures fragments { length list.new ≤ length list.old }
 {
     while let Some(interval) = list.pop_front_if_complete_and(*next) {
         let number = interval.first().key.number();
@@ -76,17 +77,18 @@ fn add_in<K: ReassemblyKey>(
     fragment: Data,
     next: u128,
 ) -> Result<bool, AllocError>
-    requires { bytes_of list.old + length fragment.payload.items < 2 ^ 64 }
+    requires room { bytes_of list.old + length fragment.payload.items < 2 ^ 64 }
+    requires fragments { length list.old + 1 < 2 ^ 64 }
     ensures value { OnOk result (list.new ≡ with_item rank_of (as_held (K.number key) (K.index key) fragment) list.old) }
     ensures none { IfOk result (λ turn. turn ≡ false → NoneInTurn next (intervals_of list.old) → NoneInTurn next (intervals_of list.new)) }
     ensures bytes { bytes_of list.new ≤ bytes_of list.old + length fragment.payload.items }
+    ensures fragments { length list.new ≤ length list.old + 1 }
     ensures err { OnErr result (list.new ≡ list.old) }
 {
-    let added = list.add(key, fragment)?;
-    match added {
-        Some(place) => Ok(list.is_in_turn_at(place, next)),
-        None => Ok(false),
+    if !list.add(key, fragment)? {
+        return Ok(false);
     }
+    Ok(list.is_in_turn_at(key, next))
 }
 
 /// Whether the fragment is all of the message with the number.
@@ -156,6 +158,7 @@ impl<K: ReassemblyKey> OrderedStream<K> {
         ensures err { OnErr result ((steps : ℕ) × ((self.new ≡ (ordered_arrival_in_part steps (as_held (K.number key) (K.index key) fragment) self.old).stream) × (ready.new ≡ ready.old ++ (ordered_arrival_in_part steps (as_held (K.number key) (K.index key) fragment) self.old).messages))) }
         ensures kept { Extends ready.old ready.new }
         ensures bytes { bytes_of self.new.held + ready_bytes ready.new ≤ bytes_of self.old.held + ready_bytes ready.old + length fragment.payload.items }
+        ensures fragments { length self.new.held ≤ length self.old.held + 1 }
     {
         let number = key.number();
         hand_on(fragment, ready)?;
@@ -167,12 +170,14 @@ impl<K: ReassemblyKey> OrderedStream<K> {
     /// Adds a fragment to those that are held, and makes ready what is then in turn.
     #[tactic(auto, using(crate::proofs::ExtendsLemmas::extends_none))]
     fn keep(&mut self, key: K, fragment: Data, ready: &mut ReadyMessages) -> Result<(), AllocError>
-        requires { bytes_of self.old.held + ready_bytes ready.old + length fragment.payload.items < 2 ^ 64 }
+        requires room { bytes_of self.old.held + ready_bytes ready.old + length fragment.payload.items < 2 ^ 64 }
+        requires fragments { length self.old.held + 1 < 2 ^ 64 }
         ensures ok { OnOk result (self.new ≡ (ordered_arrival (as_held (K.number key) (K.index key) fragment) self.old).stream) }
         ensures ready { OnOk result (ready.new ≡ ready.old ++ (ordered_arrival (as_held (K.number key) (K.index key) fragment) self.old).messages) }
         ensures err { OnErr result ((steps : ℕ) × ((self.new ≡ (ordered_arrival_in_part steps (as_held (K.number key) (K.index key) fragment) self.old).stream) × (ready.new ≡ ready.old ++ (ordered_arrival_in_part steps (as_held (K.number key) (K.index key) fragment) self.old).messages))) }
         ensures kept { Extends ready.old ready.new }
         ensures bytes { bytes_of self.new.held + ready_bytes ready.new ≤ bytes_of self.old.held + ready_bytes ready.old + length fragment.payload.items }
+        ensures fragments { length self.new.held ≤ length self.old.held + 1 }
     {
         if (key.number() as u128) < self.next {
             return Ok(());
@@ -245,6 +250,11 @@ impl<K: ReassemblyKey> ReassemblyStream for OrderedStream<K> {
     /// How many bytes of payload are held.
     fn queued_bytes(&self) -> usize {
         self.list.total_bytes()
+    }
+
+    /// How many fragments are held.
+    fn held_fragments(&self) -> usize {
+        self.list.held_fragments()
     }
 
     /// Adds a fragment, unless its message is below the next one; what is in turn then becomes ready. Takes a search by

@@ -31,6 +31,7 @@ impl<K: ReassemblyKey> StreamMap<OrderedStream<K>> {
             alloc,
             streams: read(alloc, records)?,
             bytes: 0,
+            fragments: 0,
         })
     }
 

@@ -38,6 +38,7 @@ const LIMIT: u64 = FIRST + (1 << 62);
 pub struct ReassemblyQueue {
     alloc: Global,
     max_size: usize,
+    max_fragments: usize,
     first: Option<Tsn>,
     near: u64,
     streams: ReassemblyMode,
@@ -53,13 +54,13 @@ impl Model for ReassemblyQueue {
 
     ghost Value = { Reassembly };
 
-    ghost view = { λ q. record { max_size = q.max_size; first = option_map (λ t. t.0) q.first; near = q.near; streams = streams_of q.streams; deferred = q.deferred; ready = q.ready; ready_count = q.ready_count } };
+    ghost view = { λ q. record { max_size = q.max_size; max_fragments = q.max_fragments; first = option_map (λ t. t.0) q.first; near = q.near; streams = streams_of q.streams; deferred = q.deferred; ready = q.ready; ready_count = q.ready_count } };
 
-    ghost invariant = { λ q. IsQueue (record { max_size = q.max_size; first = option_map (λ t. t.0) q.first; near = q.near; streams = streams_of q.streams; deferred = q.deferred; ready = q.ready; ready_count = q.ready_count }) };
+    ghost invariant = { λ q. IsQueue (record { max_size = q.max_size; max_fragments = q.max_fragments; first = option_map (λ t. t.0) q.first; near = q.near; streams = streams_of q.streams; deferred = q.deferred; ready = q.ready; ready_count = q.ready_count }) };
 }
 
 impl ReassemblyQueue {
-    ghost use Rattle.sctp_reassembly.specs.ReassemblyQueue.{reassembly, queued_bytes, watermark, number_of, came, add_now, forward_now, is_kept_back, point_waits, keep_back, wait_with, resetting, waiting_bytes, waiting_number, saturating_sum, IsCounted, AreSmall, admits_point, add, forward, defer, apply, apply_each, reset};
+    ghost use Rattle.sctp_reassembly.specs.ReassemblyQueue.{reassembly, queued_bytes, held_fragments, watermark, number_of, came, add_now, forward_now, is_kept_back, point_waits, keep_back, wait_with, resetting, waiting_bytes, waiting_fragments, waiting_number, saturating_sum, IsCounted, AreSmall, admits_point, add, forward, defer, apply, apply_each, reset};
     ghost use Rattle.sctp_reassembly.specs.ReassemblyStreams.{entries_in};
     ghost use Rattle.sctp_reassembly.specs.InterruptedQueue.{add_now_in_part, forward_now_in_part, add_in_part, forward_in_part, apply_in_part, apply_each_in_part, reset_in_part};
     ghost use Rattle.sctp_reassembly.specs.Waiting.{waiting_of};
@@ -72,6 +73,7 @@ impl ReassemblyQueue {
         ReassemblyQueue {
             alloc,
             max_size,
+            max_fragments: usize::MAX,
             first: None,
             near: FIRST,
             streams: ReassemblyMode::new(alloc, use_message_interleaving),
@@ -79,6 +81,16 @@ impl ReassemblyQueue {
             ready: ReadyMessages::new(alloc),
             ready_count: 0,
         }
+    }
+
+    /// The queue with this as the number of fragments at which it holds most of them: its owner lets none in then. At 0 it
+    /// always does, so that none is let in. A new queue has the greatest number of the type, which is no bound.
+    pub fn with_max_fragments(self, max_fragments: usize) -> ReassemblyQueue
+        ensures { result ≡ record self { max_fragments = max_fragments } }
+    {
+        let mut queue = self;
+        queue.max_fragments = max_fragments;
+        queue
     }
 
     /// How many messages are ready.
@@ -104,6 +116,25 @@ impl ReassemblyQueue {
             None => 0,
         };
         self.streams.queued_bytes() + (waiting + self.ready.total_bytes())
+    }
+
+    /// How many fragments are held or wait for a reset.
+    pub fn held_fragments(&self) -> usize
+        ensures { result ≡ held_fragments self.now }
+    {
+        let waiting = match &self.deferred {
+            Some(deferred) => deferred.held_fragments(),
+            None => 0,
+        };
+        self.streams.held_fragments() + waiting
+    }
+
+    /// Whether as many fragments as may be are held or wait, or more.
+    pub fn holds_most_fragments(&self) -> bool
+        ensures test { result ≡ nat_le self.now.max_fragments (held_fragments self.now) }
+        ensures small { result ≡ false → held_fragments self.now < 2 ^ 64 - 1 }
+    {
+        self.max_fragments <= self.held_fragments()
     }
 
     /// Whether the bytes are the greatest number that is let in, or more.
@@ -171,12 +202,14 @@ impl ReassemblyQueue {
     /// Adds a fragment to its stream.
     fn add_now(&mut self, number: u64, fragment: Data) -> Result<(), AllocError>
         requires room { queued_bytes self.old + length fragment.payload.items < 2 ^ 64 }
+        requires fragments { held_fragments self.old + 1 < 2 ^ 64 }
         requires small { number < 2 ^ 63 }
         ensures ok { OnOk result (self.new ≡ add_now number (fragment_tree fragment) self.old) }
         ensures err { OnErr result ((steps : ℕ) × (self.new ≡ add_now_in_part steps number (fragment_tree fragment) self.old)) }
         ensures kept { Extends self.old.ready self.new.ready }
         ensures counted { IsCounted self.old self.new }
         ensures bytes { queued_bytes self.new ≤ queued_bytes self.old + length fragment.payload.items }
+        ensures fragments { held_fragments self.new ≤ held_fragments self.old + 1 }
     {
         let before = self.ready.len();
         let added = self.streams.add(number, fragment, &mut self.ready);
@@ -192,6 +225,7 @@ impl ReassemblyQueue {
         ensures kept { Extends self.old.ready self.new.ready }
         ensures counted { IsCounted self.old self.new }
         ensures bytes { queued_bytes self.new ≤ queued_bytes self.old }
+        ensures fragments { held_fragments self.new ≤ held_fragments self.old }
     {
         let before = self.ready.len();
         let passed = self
@@ -238,12 +272,14 @@ impl ReassemblyQueue {
     #[tactic(auto, using(crate::proofs::ExtendsLemmas::extends_none))]
     fn wait(&mut self, waiting: Waiting) -> Result<(), AllocError>
         requires room { queued_bytes self.old + waiting_bytes (waiting_of waiting) < 2 ^ 64 }
+        requires fragments { held_fragments self.old + waiting_fragments (waiting_of waiting) < 2 ^ 64 }
         requires small { waiting_number (waiting_of waiting) < 2 ^ 63 }
         ensures ok { OnOk result (self.new ≡ keep_back (waiting_of waiting) self.old) }
         ensures err { OnErr result (self.new ≡ self.old) }
         ensures kept { Extends self.old.ready self.new.ready }
         ensures counted { IsCounted self.old self.new }
         ensures bytes { queued_bytes self.new ≤ queued_bytes self.old + waiting_bytes (waiting_of waiting) }
+        ensures fragments { held_fragments self.new ≤ held_fragments self.old + waiting_fragments (waiting_of waiting) }
     {
         match &mut self.deferred {
             Some(deferred) => deferred.push(waiting),
@@ -260,6 +296,7 @@ impl ReassemblyQueue {
         ensures kept { Extends self.old.ready self.new.ready }
         ensures counted { IsCounted self.old self.new }
         ensures bytes { queued_bytes self.new ≤ queued_bytes self.old }
+        ensures fragments { held_fragments self.new ≤ held_fragments self.old }
     {
         if entries.is_empty() && none_waits(&self.deferred) {
             return Ok(());
@@ -277,6 +314,7 @@ impl ReassemblyQueue {
         ensures kept { Extends self.old.ready self.new.ready }
         ensures counted { IsCounted self.old self.new }
         ensures bytes { queued_bytes self.new ≤ queued_bytes self.old }
+        ensures fragments { held_fragments self.new ≤ held_fragments self.old }
     {
         let Some(deferred) = &self.deferred else {
             return Ok(());
@@ -293,12 +331,14 @@ impl ReassemblyQueue {
     /// Without memory the fragment, or a message that was in turn, may be lost. All else stays, and what was ready stays ready.
     #[tactic(auto, using(crate::proofs::ExtendsLemmas::extends_none))]
     pub fn add(&mut self, tsn: Tsn, fragment: Data) -> Result<(), AllocError>
-        requires { queued_bytes self.old + length fragment.payload.items < 2 ^ 64 }
+        requires room { queued_bytes self.old + length fragment.payload.items < 2 ^ 64 }
+        requires fragments { held_fragments self.old + 1 < 2 ^ 64 }
         ensures ok { OnOk result (self.new ≡ add tsn.0 (fragment_tree fragment) self.old) }
         ensures err { OnErr result ((steps : ℕ) × (self.new ≡ add_in_part steps tsn.0 (fragment_tree fragment) self.old)) }
         ensures kept { Extends self.old.ready self.new.ready }
         ensures counted { IsCounted self.old self.new }
         ensures bytes { queued_bytes self.new ≤ queued_bytes self.old + length fragment.payload.items }
+        ensures fragments { held_fragments self.new ≤ held_fragments self.old + 1 }
     {
         // (what a queue keeps is known once a field is read)
         let _fields = &self.ready_count;
@@ -329,6 +369,7 @@ impl ReassemblyQueue {
         ensures kept { Extends self.old.ready self.new.ready }
         ensures counted { IsCounted self.old self.new }
         ensures bytes { queued_bytes self.new ≤ queued_bytes self.old }
+        ensures fragments { held_fragments self.new ≤ held_fragments self.old }
     {
         // (what a queue keeps is known once a field is read)
         let _fields = &self.ready_count;
@@ -366,12 +407,14 @@ impl ReassemblyQueue {
     /// Takes what waited for a reset.
     fn apply(&mut self, waiting: Waiting) -> Result<(), AllocError>
         requires room { queued_bytes self.old + waiting_bytes (waiting_of waiting) < 2 ^ 64 }
+        requires fragments { held_fragments self.old + waiting_fragments (waiting_of waiting) < 2 ^ 64 }
         requires small { waiting_number (waiting_of waiting) < 2 ^ 63 }
         ensures ok { OnOk result (self.new ≡ apply (waiting_of waiting) self.old) }
         ensures err { OnErr result ((taken steps : ℕ) × (self.new ≡ apply_in_part taken steps (waiting_of waiting) self.old)) }
         ensures kept { Extends self.old.ready self.new.ready }
         ensures counted { IsCounted self.old self.new }
         ensures bytes { queued_bytes self.new ≤ queued_bytes self.old + waiting_bytes (waiting_of waiting) }
+        ensures fragments { held_fragments self.new ≤ held_fragments self.old + waiting_fragments (waiting_of waiting) }
     {
         match waiting {
             Waiting::Fragment(number, fragment) => self.add_now(number, fragment),
@@ -383,12 +426,14 @@ impl ReassemblyQueue {
     #[tactic(auto, using(crate::proofs::ExtendsLemmas::extends_none, crate::proofs::ExtendsLemmas::extends_both, crate::proofs::ExtendsLemmas::saturating_sum_none, crate::proofs::ExtendsLemmas::counted_both, crate::proofs::StandsLemmas::applies_begin))]
     fn apply_each(&mut self, mut waiting: VecDeque<Waiting>) -> Result<(), AllocError>
         requires room { queued_bytes self.old + sum_by waiting_bytes (map waiting_of waiting.items) < 2 ^ 64 }
+        requires fragments { held_fragments self.old + sum_by waiting_fragments (map waiting_of waiting.items) < 2 ^ 64 }
         requires small { AreSmall (map waiting_of waiting.items) }
         ensures ok { OnOk result (self.new ≡ apply_each (map waiting_of waiting.items) self.old) }
         ensures err { OnErr result ((applied taken steps : ℕ) × (self.new ≡ apply_each_in_part applied taken steps (map waiting_of waiting.items) self.old)) }
         ensures kept { Extends self.old.ready self.new.ready }
         ensures counted { IsCounted self.old self.new }
         ensures bytes { queued_bytes self.new ≤ queued_bytes self.old + sum_by waiting_bytes (map waiting_of waiting.items) }
+        ensures fragments { held_fragments self.new ≤ held_fragments self.old + sum_by waiting_fragments (map waiting_of waiting.items) }
     {
         // (what a queue keeps is known once a field is read)
         let _fields = &self.ready_count;
@@ -412,6 +457,7 @@ impl ReassemblyQueue {
         ensures kept { Extends self.old.ready self.new.ready }
         ensures counted { IsCounted self.old self.new }
         ensures bytes { queued_bytes self.new ≤ queued_bytes self.old }
+        ensures fragments { held_fragments self.new ≤ held_fragments self.old }
     {
         self.streams.reset_streams(streams);
         match self.deferred.take() {

@@ -54,6 +54,10 @@ pub trait ReassemblyStream: Drop {
     fn queued_bytes(&self) -> usize
         ensures { result ≡ bytes_of (held self.now) };
 
+    /// How many fragments are held.
+    fn held_fragments(&self) -> usize
+        ensures { result ≡ length (held self.now) };
+
     /// Adds a fragment, unless its message is late; what is then in turn, or complete, becomes ready.
     fn add(
         &mut self,
@@ -62,12 +66,14 @@ pub trait ReassemblyStream: Drop {
         ready: &mut ReadyMessages,
     ) -> Result<(), AllocError>
         requires room { bytes_of (held self.old) + ready_bytes ready.old + length fragment.payload.items < 2 ^ 64 }
+        requires fragments { length (held self.old) + 1 < 2 ^ 64 }
         requires small { Self.Key.number key < 2 ^ 63 }
         ensures ok { OnOk result (self.new ≡ after_arrival (as_held (Self.Key.number key) (Self.Key.index key) fragment) self.old) }
         ensures ready { OnOk result (ready.new ≡ ready.old ++ made_ready (as_held (Self.Key.number key) (Self.Key.index key) fragment) self.old) }
         ensures err { OnErr result ((steps : ℕ) × ((self.new ≡ arrival_in_part steps (as_held (Self.Key.number key) (Self.Key.index key) fragment) self.old) × (ready.new ≡ ready.old ++ ready_in_part steps (as_held (Self.Key.number key) (Self.Key.index key) fragment) self.old))) }
         ensures kept { Extends ready.old ready.new }
-        ensures bytes { bytes_of (held self.new) + ready_bytes ready.new ≤ bytes_of (held self.old) + ready_bytes ready.old + length fragment.payload.items };
+        ensures bytes { bytes_of (held self.new) + ready_bytes ready.new ≤ bytes_of (held self.old) + ready_bytes ready.old + length fragment.payload.items }
+        ensures fragments { length (held self.new) ≤ length (held self.old) + 1 };
 
     /// Drops the messages before that of the key; what is then in turn becomes ready.
     fn forward(&mut self, first: Self::Key, ready: &mut ReadyMessages) -> Result<(), AllocError>
@@ -78,7 +84,8 @@ pub trait ReassemblyStream: Drop {
         ensures ready { (n : ℕ) → Self.Key.number first ≡ suc n → Self.Key.index first ≡ 0 → OnOk result (ready.new ≡ ready.old ++ forwarded n self.old) }
         ensures err { (n : ℕ) → Self.Key.number first ≡ suc n → Self.Key.index first ≡ 0 → OnErr result ((steps : ℕ) × ((self.new ≡ forward_in_part steps n self.old) × (ready.new ≡ ready.old ++ forwarded_in_part steps n self.old))) }
         ensures kept { Extends ready.old ready.new }
-        ensures bytes { bytes_of (held self.new) + ready_bytes ready.new ≤ bytes_of (held self.old) + ready_bytes ready.old };
+        ensures bytes { bytes_of (held self.new) + ready_bytes ready.new ≤ bytes_of (held self.old) + ready_bytes ready.old }
+        ensures fragments { length (held self.new) ≤ length (held self.old) };
 
     ghost is_blank: { held fresh ≡ [] };
 }

@@ -7,7 +7,7 @@ ghost use Rattle.std.specs.Ordering.{nat_cmp};
 ghost use Rattle.std.specs.BTreeMap.{is_at};
 ghost use Rattle.sctp_fragments.specs.Interval.{as_held};
 ghost use Rattle.sctp_reassembly.specs.Delivery.{ready_bytes, Extends};
-ghost use Rattle.sctp_reassembly.specs.ReassemblyStreams.{bytes_held, is_any_held, stream_at, with_stream, put_stream, set_stream, forget};
+ghost use Rattle.sctp_reassembly.specs.ReassemblyStreams.{bytes_held, fragments_held, AreCounted, is_any_held, stream_at, with_stream, put_stream, set_stream, forget};
 
 use crate::ready_messages::ReadyMessages;
 use crate::reassembly_stream::ReassemblyStream;
@@ -17,23 +17,23 @@ use std::alloc::{AllocError, Global};
 use std::collections::BTreeMap;
 use std::marker::Model;
 
-/// The streams that were named, and how many bytes of payload they hold.
+/// The streams that were named, and how many bytes of payload and how many fragments they hold.
 #[derive(Drop)]
 pub struct StreamMap<S: ReassemblyStream> {
     pub(crate) alloc: Global,
     pub(crate) streams: BTreeMap<u16, S>,
     pub(crate) bytes: usize,
+    pub(crate) fragments: usize,
 }
 
 impl<S: ReassemblyStream> Model for StreamMap<S> {
-    ghost use Rattle.std.specs.Prelude.{◌≡◌};
-    ghost use Rattle.sctp_reassembly.specs.ReassemblyStreams.{Entries, bytes_held};
+    ghost use Rattle.sctp_reassembly.specs.ReassemblyStreams.{Entries, AreCounted};
 
     ghost Value = { Entries S };
 
     ghost view = { λ s. s.streams.entries };
 
-    ghost invariant = { λ s. s.bytes ≡ bytes_held S.held s.streams.entries };
+    ghost invariant = { λ s. AreCounted S.held s.bytes s.fragments s.streams.entries };
 }
 
 impl<S: ReassemblyStream> StreamMap<S> {
@@ -45,6 +45,7 @@ impl<S: ReassemblyStream> StreamMap<S> {
             alloc,
             streams: BTreeMap::new(alloc),
             bytes: 0,
+            fragments: 0,
         }
     }
 
@@ -62,12 +63,20 @@ impl<S: ReassemblyStream> StreamMap<S> {
         self.bytes
     }
 
+    /// How many fragments are held.
+    pub fn held_fragments(&self) -> usize
+        ensures { result ≡ fragments_held S.held self.now }
+    {
+        self.fragments
+    }
+
     /// Makes the stream where there is none. Without memory nothing changes.
     fn open(&mut self, id: StreamId) -> Result<(), AllocError>
         ensures ok { OnOk result (self.new ≡ with_stream S.fresh id.0 self.old) }
         ensures there { OnOk result (IsSome (lookup (is_at (nat_cmp id.0)) self.new)) }
         ensures stream { OnOk result (stream_at S.fresh id.0 self.new ≡ stream_at S.fresh id.0 self.old) }
         ensures bytes { bytes_held S.held self.new ≡ bytes_held S.held self.old }
+        ensures fragments { fragments_held S.held self.new ≡ fragments_held S.held self.old }
         ensures err { OnErr result (self.new ≡ self.old) }
     {
         if self.streams.contains_key(&id.0) {
@@ -89,19 +98,23 @@ impl<S: ReassemblyStream> StreamMap<S> {
     ) -> Result<(), AllocError>
         requires there { IsSome (lookup (is_at (nat_cmp id.0)) self.old) }
         requires room { bytes_held S.held self.old + ready_bytes ready.old + length fragment.payload.items < 2 ^ 64 }
+        requires fragments { fragments_held S.held self.old + 1 < 2 ^ 64 }
         requires small { S.Key.number key < 2 ^ 63 }
         ensures ok { OnOk result (self.new ≡ put_stream id.0 (S.after_arrival (as_held (S.Key.number key) (S.Key.index key) fragment) (stream_at S.fresh id.0 self.old)) self.old) }
         ensures ready { OnOk result (ready.new ≡ ready.old ++ S.made_ready (as_held (S.Key.number key) (S.Key.index key) fragment) (stream_at S.fresh id.0 self.old)) }
         ensures err { OnErr result ((steps : ℕ) × ((self.new ≡ put_stream id.0 (S.arrival_in_part steps (as_held (S.Key.number key) (S.Key.index key) fragment) (stream_at S.fresh id.0 self.old)) self.old) × (ready.new ≡ ready.old ++ S.ready_in_part steps (as_held (S.Key.number key) (S.Key.index key) fragment) (stream_at S.fresh id.0 self.old)))) }
         ensures kept { Extends ready.old ready.new }
         ensures bytes { bytes_held S.held self.new + ready_bytes ready.new ≤ bytes_held S.held self.old + ready_bytes ready.old + length fragment.payload.items }
+        ensures fragments { fragments_held S.held self.new ≤ fragments_held S.held self.old + 1 }
     {
         let Some(stream) = self.streams.get_mut(&id.0) else {
             return Err(AllocError);
         };
         let before = stream.queued_bytes();
+        let fragments_before = stream.held_fragments();
         let added = stream.add(key, fragment, ready);
         self.bytes = self.bytes - before + stream.queued_bytes();
+        self.fragments = self.fragments - fragments_before + stream.held_fragments();
         added
     }
 
@@ -115,12 +128,14 @@ impl<S: ReassemblyStream> StreamMap<S> {
         ready: &mut ReadyMessages,
     ) -> Result<(), AllocError>
         requires room { bytes_held S.held self.old + ready_bytes ready.old + length fragment.payload.items < 2 ^ 64 }
+        requires fragments { fragments_held S.held self.old + 1 < 2 ^ 64 }
         requires small { S.Key.number key < 2 ^ 63 }
         ensures ok { OnOk result (self.new ≡ set_stream S.fresh id.0 (S.after_arrival (as_held (S.Key.number key) (S.Key.index key) fragment) (stream_at S.fresh id.0 self.old)) self.old) }
         ensures ready { OnOk result (ready.new ≡ ready.old ++ S.made_ready (as_held (S.Key.number key) (S.Key.index key) fragment) (stream_at S.fresh id.0 self.old)) }
         ensures err { OnErr result (((self.new ≡ self.old) × (ready.new ≡ ready.old)) ⊎ ((steps : ℕ) × ((self.new ≡ set_stream S.fresh id.0 (S.arrival_in_part steps (as_held (S.Key.number key) (S.Key.index key) fragment) (stream_at S.fresh id.0 self.old)) self.old) × (ready.new ≡ ready.old ++ S.ready_in_part steps (as_held (S.Key.number key) (S.Key.index key) fragment) (stream_at S.fresh id.0 self.old))))) }
         ensures kept { Extends ready.old ready.new }
         ensures bytes { bytes_held S.held self.new + ready_bytes ready.new ≤ bytes_held S.held self.old + ready_bytes ready.old + length fragment.payload.items }
+        ensures fragments { fragments_held S.held self.new ≤ fragments_held S.held self.old + 1 }
     {
         self.open(id)?;
         self.add_to(id, key, fragment, ready)
@@ -143,13 +158,16 @@ impl<S: ReassemblyStream> StreamMap<S> {
         ensures err { (n : ℕ) → S.Key.number first ≡ suc n → S.Key.index first ≡ 0 → OnErr result ((steps : ℕ) × ((self.new ≡ put_stream id.0 (S.forward_in_part steps n (stream_at S.fresh id.0 self.old)) self.old) × (ready.new ≡ ready.old ++ S.forwarded_in_part steps n (stream_at S.fresh id.0 self.old)))) }
         ensures kept { Extends ready.old ready.new }
         ensures bytes { bytes_held S.held self.new + ready_bytes ready.new ≤ bytes_held S.held self.old + ready_bytes ready.old }
+        ensures fragments { fragments_held S.held self.new ≤ fragments_held S.held self.old }
     {
         let Some(stream) = self.streams.get_mut(&id.0) else {
             return Err(AllocError);
         };
         let before = stream.queued_bytes();
+        let fragments_before = stream.held_fragments();
         let forwarded = stream.forward(first, ready);
         self.bytes = self.bytes - before + stream.queued_bytes();
+        self.fragments = self.fragments - fragments_before + stream.held_fragments();
         forwarded
     }
 
@@ -169,6 +187,7 @@ impl<S: ReassemblyStream> StreamMap<S> {
         ensures err { (n : ℕ) → S.Key.number first ≡ suc n → S.Key.index first ≡ 0 → OnErr result (((self.new ≡ self.old) × (ready.new ≡ ready.old)) ⊎ ((steps : ℕ) × ((self.new ≡ set_stream S.fresh id.0 (S.forward_in_part steps n (stream_at S.fresh id.0 self.old)) self.old) × (ready.new ≡ ready.old ++ S.forwarded_in_part steps n (stream_at S.fresh id.0 self.old))))) }
         ensures kept { Extends ready.old ready.new }
         ensures bytes { bytes_held S.held self.new + ready_bytes ready.new ≤ bytes_held S.held self.old + ready_bytes ready.old }
+        ensures fragments { fragments_held S.held self.new ≤ fragments_held S.held self.old }
     {
         self.open(id)?;
         self.forward_in(id, first, ready)
@@ -178,31 +197,35 @@ impl<S: ReassemblyStream> StreamMap<S> {
     pub fn forget(&mut self, ids: &[StreamId])
         ensures value { self.new ≡ forget ids.now self.old }
         ensures bytes { bytes_held S.held self.new ≤ bytes_held S.held self.old }
+        ensures fragments { fragments_held S.held self.new ≤ fragments_held S.held self.old }
     {
         if ids.is_empty() {
             self.streams.clear();
             self.bytes = 0;
+            self.fragments = 0;
             return;
         }
-        remove_each(&mut self.streams, &mut self.bytes, ids);
+        remove_each(&mut self.streams, &mut self.bytes, &mut self.fragments, ids);
     }
 }
 
-/// Takes out the streams that are named, each by a look-up, and what they held off the bytes.
+/// Takes out the streams that are named, each by a look-up, and what they held off the bytes and the count of fragments.
 fn remove_each<S: ReassemblyStream>(
     streams: &mut BTreeMap<u16, S>,
     bytes: &mut usize,
+    fragments: &mut usize,
     ids: &[StreamId],
 )
-    requires { bytes.old ≡ bytes_held S.held streams.old.entries }
+    requires { AreCounted S.held bytes.old fragments.old streams.old.entries }
     ensures streams { streams.new.entries ≡ filter (λ e. not (list_any (λ i. i.0 == e.0) ids.now)) streams.old.entries }
-    ensures bytes { bytes.new ≡ bytes_held S.held streams.new.entries }
+    ensures counted { AreCounted S.held bytes.new fragments.new streams.new.entries }
 {
     // (what a map keeps is known once it is read)
     let _count = streams.len();
     for id in ids {
         if let Some(stream) = streams.remove(&id.0) {
             *bytes -= stream.queued_bytes();
+            *fragments -= stream.held_fragments();
         }
     }
 }

@@ -31,14 +31,14 @@ pub struct TraditionalReassemblyStreams {
 }
 
 impl Model for TraditionalReassemblyStreams {
-    ghost use Rattle.std.specs.Prelude.{false, ◌+◌, ◌<◌, ◌^◌};
-    ghost use Rattle.sctp_reassembly.specs.ReassemblyStreams.{Streams, ordered_bytes, unordered_bytes};
+    ghost use Rattle.std.specs.Prelude.{false};
+    ghost use Rattle.sctp_reassembly.specs.ReassemblyStreams.{Streams, AreWithin};
 
     ghost Value = { Streams };
 
     ghost view = { λ s. record { is_interleaved = false; ordered = s.ordered; unordered = s.unordered } };
 
-    ghost invariant = { λ s. ordered_bytes s.ordered + unordered_bytes s.unordered < 2 ^ 64 };
+    ghost invariant = { λ s. AreWithin (record { is_interleaved = false; ordered = s.ordered; unordered = s.unordered }) };
 }
 
 impl TraditionalReassemblyStreams {
@@ -117,6 +117,10 @@ impl ReassemblyStreams for TraditionalReassemblyStreams {
 
     fn queued_bytes(&self) -> usize {
         self.ordered.total_bytes() + self.unordered.total_bytes()
+    }
+
+    fn held_fragments(&self) -> usize {
+        self.ordered.held_fragments() + self.unordered.held_fragments()
     }
 
     fn get_handover_readiness(&self) -> HandoverReadiness {

@@ -5,7 +5,7 @@ ghost use Rattle.sctp_fragments.specs.ReassemblyKey.{pair_rank};
 ghost use Rattle.sctp_reassembly.specs.Delivery.{fresh_unordered, held_from};
 ghost use Rattle.sctp_reassembly.specs.UnorderedByTsn.{is_noted, HasNote, AreNoted, OthersAreNoted, KeepsOthers, NoneBelow, drop_below};
 ghost use Rattle.sctp_reassembly.specs.ReassemblyHandover.{unordered_is_held, unordered_records, unordered_entries};
-ghost use Rattle.sctp_reassembly.specs.ReassemblyStreams.{unordered_bytes, is_named, stream_at};
+ghost use Rattle.sctp_reassembly.specs.ReassemblyStreams.{unordered_bytes, unordered_fragments, is_named, stream_at};
 ghost use Rattle.sctp_state.specs.Validity.{rises_from, unordered_ids};
 
 use crate::ready_messages::ReadyMessages;
@@ -134,6 +134,7 @@ fn forward_noted(
 ) -> bool
     ensures same { drop_below (pair_rank first.number first.index) streams.new ≡ drop_below (pair_rank first.number first.index) streams.old }
     ensures bytes { unordered_bytes streams.new ≤ unordered_bytes streams.old }
+    ensures fragments { unordered_fragments streams.new ≤ unordered_fragments streams.old }
     ensures before { result ≡ true → is_noted ≡ true }
     ensures noted { AreNoted notes.old.keys streams.old → result ≡ true → AreNoted notes.new.keys streams.new }
     ensures done { AreNoted notes.old.keys streams.old → result ≡ true → streams.new ≡ drop_below (pair_rank first.number first.index) streams.old }
@@ -228,6 +229,13 @@ impl UnorderedByTsn {
         self.streams.total_bytes()
     }
 
+    /// How many fragments are held.
+    pub fn held_fragments(&self) -> usize
+        ensures { result ≡ unordered_fragments self.now }
+    {
+        self.streams.held_fragments()
+    }
+
     /// Adds a fragment to its stream.
     #[tactic(auto, using(crate::proofs::ExtendsLemmas::extends_none))]
     pub fn add(
@@ -238,12 +246,14 @@ impl UnorderedByTsn {
         ready: &mut ReadyMessages,
     ) -> Result<(), AllocError>
         requires room { unordered_bytes self.old + ready_bytes ready.old + length fragment.payload.items < 2 ^ 64 }
+        requires fragments { unordered_fragments self.old + 1 < 2 ^ 64 }
         requires small { key.number < 2 ^ 63 }
         ensures ok { OnOk result (self.new ≡ set_stream fresh_unordered id.0 (unordered_arrival (as_held key.number key.index fragment) (stream_at fresh_unordered id.0 self.old)).stream self.old) }
         ensures ready { OnOk result (ready.new ≡ ready.old ++ (unordered_arrival (as_held key.number key.index fragment) (stream_at fresh_unordered id.0 self.old)).messages) }
         ensures err { OnErr result (((self.new ≡ self.old) × (ready.new ≡ ready.old)) ⊎ ((steps : ℕ) × ((self.new ≡ set_stream fresh_unordered id.0 (unordered_arrival_in_part steps (as_held key.number key.index fragment) (stream_at fresh_unordered id.0 self.old)).stream self.old) × (ready.new ≡ ready.old ++ (unordered_arrival_in_part steps (as_held key.number key.index fragment) (stream_at fresh_unordered id.0 self.old)).messages)))) }
         ensures kept { Extends ready.old ready.new }
         ensures bytes { unordered_bytes self.new + ready_bytes ready.new ≤ unordered_bytes self.old + ready_bytes ready.old + length fragment.payload.items }
+        ensures fragments { unordered_fragments self.new ≤ unordered_fragments self.old + 1 }
     {
         let is_noted = self.is_noted;
         let first = self.streams.first(id);
@@ -257,6 +267,7 @@ impl UnorderedByTsn {
     pub fn forget(&mut self, ids: &[StreamId])
         ensures value { self.new ≡ forget ids.now self.old }
         ensures bytes { unordered_bytes self.new ≤ unordered_bytes self.old }
+        ensures fragments { unordered_fragments self.new ≤ unordered_fragments self.old }
     {
         take_notes(&self.streams, &mut self.notes, ids);
         self.streams.forget(ids);
@@ -267,6 +278,7 @@ impl UnorderedByTsn {
     pub fn forward_all(&mut self, first: TraditionalKey)
         ensures value { self.new ≡ map (λ e. (e.0, held_from (pair_rank first.number first.index) e.1)) self.old }
         ensures bytes { unordered_bytes self.new ≤ unordered_bytes self.old }
+        ensures fragments { unordered_fragments self.new ≤ unordered_fragments self.old }
     {
         if forward_noted(self.is_noted, &mut self.streams, &mut self.notes, first) {
             return;

@@ -46,6 +46,7 @@ fn take_in<K: ReassemblyKey>(
     ready: &mut ReadyMessages,
 ) -> Result<(), AllocError>
     requires room { bytes_of list.old + ready_bytes ready.old + length fragment.payload.items < 2 ^ 64 }
+    requires fragments { length list.old + 1 < 2 ^ 64 }
     requires settled { NoneComplete (intervals_of list.old) }
     ensures held { OnOk result (list.new ≡ left_by is_complete (with_item rank_of (as_held (K.number key) (K.index key) fragment) list.old)) }
     ensures ready { OnOk result (ready.new ≡ ready.old ++ first_complete (with_item rank_of (as_held (K.number key) (K.index key) fragment) list.old)) }
@@ -54,12 +55,12 @@ fn take_in<K: ReassemblyKey>(
     ensures unready { OnErr result (ready.new ≡ ready.old) }
     ensures kept { Extends ready.old ready.new }
     ensures bytes { bytes_of list.new + ready_bytes ready.new ≤ bytes_of list.old + ready_bytes ready.old + length fragment.payload.items }
+    ensures fragments { length list.new ≤ length list.old + 1 }
 {
-    let added = list.add(key, fragment)?;
-    let Some(place) = added else {
+    if !list.add(key, fragment)? {
         return Ok(());
-    };
-    let Some(interval) = list.pop_if_complete(place) else {
+    }
+    let Some(interval) = list.pop_if_complete(key) else {
         return Ok(());
     };
     let message = message_of(alloc, interval)?;
@@ -92,6 +93,7 @@ impl<K: ReassemblyKey> UnorderedStream<K> {
     pub fn forward_to(&mut self, first: K)
         ensures value { self.new ≡ held_from (rank_at K.number K.index first) self.old }
         ensures bytes { bytes_of self.new.held ≤ bytes_of self.old.held }
+        ensures fragments { length self.new.held ≤ length self.old.held }
     {
         self.list.retain(first);
     }
@@ -142,6 +144,11 @@ impl<K: ReassemblyKey> ReassemblyStream for UnorderedStream<K> {
     /// How many bytes of payload are held.
     fn queued_bytes(&self) -> usize {
         self.list.total_bytes()
+    }
+
+    /// How many fragments are held.
+    fn held_fragments(&self) -> usize {
+        self.list.held_fragments()
     }
 
     /// Adds a fragment, unless a forward point passed its message; a message that it completes becomes ready. Takes a search

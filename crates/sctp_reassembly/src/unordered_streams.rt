@@ -10,7 +10,7 @@ ghost use Rattle.sctp_fragments.specs.ReassemblyKey.{rank_at};
 ghost use Rattle.sctp_reassembly.specs.Delivery.{fresh_unordered, held_from};
 ghost use Rattle.sctp_reassembly.specs.UnorderedByTsn.{BeginsFrom};
 ghost use Rattle.sctp_reassembly.specs.ReassemblyHandover.{unordered_records, unordered_entries};
-ghost use Rattle.sctp_reassembly.specs.ReassemblyStreams.{unordered_bytes, stream_at, put_stream};
+ghost use Rattle.sctp_reassembly.specs.ReassemblyStreams.{unordered_bytes, unordered_fragments, stream_at, put_stream};
 
 use crate::ordered_stream::FIRST;
 use crate::reassembly_stream::ReassemblyStream;
@@ -38,6 +38,7 @@ impl<K: ReassemblyKey> StreamMap<UnorderedStream<K>> {
             alloc,
             streams: read(alloc, records)?,
             bytes: 0,
+            fragments: 0,
         })
     }
 
@@ -84,25 +85,30 @@ impl<K: ReassemblyKey> StreamMap<UnorderedStream<K>> {
     pub fn forward_to(&mut self, id: StreamId, first: K)
         ensures value { self.new ≡ put_stream id.0 (held_from (rank_at K.number K.index first) (stream_at fresh_unordered id.0 self.old)) self.old }
         ensures bytes { unordered_bytes self.new ≤ unordered_bytes self.old }
+        ensures fragments { unordered_fragments self.new ≤ unordered_fragments self.old }
     {
         let Some(stream) = self.streams.get_mut(&id.0) else {
             return;
         };
         let before = stream.queued_bytes();
+        let fragments_before = stream.held_fragments();
         stream.forward_to(first);
         self.bytes = self.bytes - before + stream.queued_bytes();
+        self.fragments = self.fragments - fragments_before + stream.held_fragments();
     }
 
     /// Drops the fragments of all streams before the key.
     pub fn forward_all(&mut self, first: K)
         ensures value { self.new ≡ map (λ e. (e.0, held_from (rank_at K.number K.index first) e.1)) self.old }
         ensures bytes { unordered_bytes self.new ≤ unordered_bytes self.old }
+        ensures fragments { unordered_fragments self.new ≤ unordered_fragments self.old }
     {
         self.streams.retain(|_, stream| {
             stream.forward_to(first);
             true
         });
         self.bytes = bytes_in(&self.streams);
+        self.fragments = fragments_in(&self.streams);
     }
 }
 
@@ -111,6 +117,13 @@ fn bytes_in<K: ReassemblyKey>(streams: &BTreeMap<u16, UnorderedStream<K>>) -> us
     ensures { result ≡ unordered_bytes streams.now.entries }
 {
     streams.values().map(|stream| stream.queued_bytes()).sum()
+}
+
+fn fragments_in<K: ReassemblyKey>(streams: &BTreeMap<u16, UnorderedStream<K>>) -> usize
+    requires { unordered_fragments streams.now.entries < 2 ^ 64 }
+    ensures { result ≡ unordered_fragments streams.now.entries }
+{
+    streams.values().map(|stream| stream.held_fragments()).sum()
 }
 
 /// The streams in a handover record.

@@ -19,6 +19,7 @@ pub(crate) struct Deferred {
     streams: StreamIdSet,
     waiting: VecDeque<Waiting>,
     bytes: usize,
+    fragments: usize,
     // of forward points, with each point itself
     entries: usize,
 }
@@ -35,11 +36,11 @@ impl Model for Deferred {
 
     ghost view = { λ d. record { last = d.last; streams = d.streams; waiting = map waiting_of d.waiting.items } };
 
-    ghost invariant = { λ d. IsDeferred d.bytes d.entries (map waiting_of d.waiting.items) };
+    ghost invariant = { λ d. IsDeferred d.bytes d.fragments d.entries (map waiting_of d.waiting.items) };
 }
 
 impl Deferred {
-    ghost use Rattle.sctp_reassembly.specs.ReassemblyQueue.{waiting_bytes, waiting_number, waiting_entries, most_waiting_entries, AreSmall};
+    ghost use Rattle.sctp_reassembly.specs.ReassemblyQueue.{waiting_bytes, waiting_fragments, waiting_number, waiting_entries, most_waiting_entries, AreSmall};
 
     /// A reset for which nothing waits.
     pub fn new(alloc: Global, last: u64, ids: &[StreamId]) -> Result<Deferred, AllocError>
@@ -50,6 +51,7 @@ impl Deferred {
             streams: StreamIdSet::new(alloc, ids)?,
             waiting: VecDeque::new(alloc),
             bytes: 0,
+            fragments: 0,
             entries: 0,
         })
     }
@@ -89,17 +91,27 @@ impl Deferred {
         self.bytes
     }
 
+    /// How many fragments wait.
+    pub fn held_fragments(&self) -> usize
+        ensures { result ≡ sum_by waiting_fragments self.now.waiting }
+    {
+        self.fragments
+    }
+
     /// Has it wait behind the others. Without memory nothing changes.
     pub fn push(&mut self, waiting: Waiting) -> Result<(), AllocError>
         requires room { sum_by waiting_bytes self.old.waiting + waiting_bytes (waiting_of waiting) < 2 ^ 64 }
+        requires fragments { sum_by waiting_fragments self.old.waiting + waiting_fragments (waiting_of waiting) < 2 ^ 64 }
         requires small { waiting_number (waiting_of waiting) < 2 ^ 63 }
         ensures ok { OnOk result (self.new ≡ record self.old { waiting = self.old.waiting ++ waiting_of waiting ∷ [] }) }
         ensures err { OnErr result (self.new ≡ self.old) }
     {
         let bytes = bytes_of(&waiting);
+        let fragments = fragments_of(&waiting);
         let entries = entries_of(&waiting);
         self.waiting.push_back(waiting)?;
         self.bytes += bytes;
+        self.fragments += fragments;
         self.entries = self.entries.saturating_add(entries);
         Ok(())
     }
@@ -120,7 +132,7 @@ impl Deferred {
     }
 }
 
-ghost use Rattle.sctp_reassembly.specs.ReassemblyQueue.{waiting_in, waiting_bytes, waiting_entries};
+ghost use Rattle.sctp_reassembly.specs.ReassemblyQueue.{waiting_in, waiting_bytes, waiting_fragments, waiting_entries};
 
 /// Whether nothing waits for a reset.
 pub(crate) fn none_waits(deferred: &Option<Deferred>) -> bool
@@ -138,6 +150,15 @@ fn entries_of(waiting: &Waiting) -> usize
     match waiting {
         Waiting::Fragment(_, _) => 0,
         Waiting::Point(_, entries) => entries.len() + 1,
+    }
+}
+
+fn fragments_of(waiting: &Waiting) -> usize
+    ensures { result ≡ waiting_fragments (waiting_of waiting.now) }
+{
+    match waiting {
+        Waiting::Fragment(_, _) => 1,
+        Waiting::Point(_, _) => 0,
     }
 }
 

@@ -74,6 +74,13 @@ impl ReassemblyStreams for ReassemblyMode {
         }
     }
 
+    fn held_fragments(&self) -> usize {
+        match self {
+            ReassemblyMode::Traditional(streams) => streams.held_fragments(),
+            ReassemblyMode::Interleaved(streams) => streams.held_fragments(),
+        }
+    }
+
     fn get_handover_readiness(&self) -> HandoverReadiness {
         match self {
             ReassemblyMode::Traditional(streams) => streams.get_handover_readiness(),

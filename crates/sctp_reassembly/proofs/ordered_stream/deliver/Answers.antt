@@ -18,6 +18,7 @@ loop-interval-init g c = record {
   part = turns_begin c.args.next.now c.args.list.now c.args.ready.now;
   kept = extends_none c.args.ready.now;
   bytes = omega arith;
+  fragments = omega arith;
 }
 
 pub loop-interval-smaller : goal.loop-interval-smaller
@@ -42,6 +43,7 @@ loop-interval-preserved g c =
           (sym c.in-Some.ensures.taken) c.in-Some.ensures.value up c.in_ok-push.ensures.ok c.in_ok-message.ensures.value c.loop-interval.invariant.part;
       kept = extends_both _ _ _ c.loop-interval.invariant.kept c.push.ensures.kept;
       bytes = omega (arith, c.in-Some.ensures.bytes, c.in_ok-message.ensures.bytes, ready_pushed c.loop-interval.ready c.push.new.self (message_of c.in_ok-message.message) c.in_ok-push.ensures.ok, c.loop-interval.invariant.bytes);
+      fragments = omega (arith, c.in-Some.ensures.fragments, c.loop-interval.invariant.fragments);
     }
 
 pub returns-clause-held : goal.returns-clause-held
@@ -55,6 +57,12 @@ returns-clause-bytes g c =
     let none = sym c.in_default.ensures.taken in
     let same = ap bytes_of (c.in_default.ensures.value ∙ left_unfound (is_in_turn c.loop-interval.next) c.loop-interval.list none) in
     omega (arith, same, c.loop-interval.invariant.bytes)
+
+pub returns-clause-fragments : goal.returns-clause-fragments
+returns-clause-fragments g c =
+    let none = sym c.in_default.ensures.taken in
+    let same = ap length (c.in_default.ensures.value ∙ left_unfound (is_in_turn c.loop-interval.next) c.loop-interval.list none) in
+    omega (arith, same, c.loop-interval.invariant.fragments)
 
 pub returns-clause-settled : goal.returns-clause-settled
 returns-clause-settled g c =

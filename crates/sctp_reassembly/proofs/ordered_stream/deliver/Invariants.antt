@@ -12,6 +12,7 @@ invariant-loop-interval g l = record {
   part : TurnsGoOn l.next l.list l.ready l.fn.next l.fn.list l.fn.ready;
   kept : Extends l.fn.ready l.ready;
   bytes : bytes_of l.list + ready_bytes l.ready ≤ bytes_of l.fn.list + ready_bytes l.fn.ready;
+  fragments : length l.list ≤ length l.fn.list;
 }
 
 abbrev pub decreases-loop-interval : goal.decreases-loop-interval

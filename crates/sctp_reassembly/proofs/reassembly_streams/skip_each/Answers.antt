@@ -18,6 +18,7 @@ loop-entry-preserved g c =
       part = skips_step es i _ c.loop-entry-test.true ss c.loop-entry.ready new c.skip.new.ready made more _ c.args.ready.now c.loop-entry.invariant.part;
       kept = extends_both _ _ _ c.loop-entry.invariant.kept c.skip.ensures.kept;
       bytes = omega (arith, c.skip.ensures.bytes, c.loop-entry.invariant.bytes);
+      fragments = omega (arith, c.skip.ensures.fragments, c.loop-entry.invariant.fragments);
     }
 
 pub returns-in_err-skip-clause-err : goal.returns-in_err-skip-clause-err

@@ -11,6 +11,7 @@ loop-preserved c =
     record {
       same = forwarded_one n c.in-Some.note.1 c.loop.streams c.forward_to.new.self c.forward_to.ensures.value ∙ c.loop.invariant.same;
       fewer = omega (arith, c.forward_to.ensures.bytes, c.loop.invariant.fewer);
+      fewer_fragments = omega (arith, c.forward_to.ensures.fragments, c.loop.invariant.fewer_fragments);
       noted = λ all. renewed c.in-Some.note.1 c.loop.notes.keys c.take_below.new.notes.keys c.make_note.new.notes.keys c.forward_to.new.self c.in-Some.ensures.some c.make_note.ensures.kept (c.make_note.ensures.made made)
           (written_others c.in-Some.note.1 _ c.loop.notes.keys c.loop.streams c.forward_to.new.self c.forward_to.ensures.value (c.loop.invariant.noted all));
     }
@@ -20,6 +21,9 @@ returns-in_default-clause-same c = c.loop.invariant.same
 
 pub returns-in_default-clause-bytes : goal.returns-in_default-clause-bytes
 returns-in_default-clause-bytes c = c.loop.invariant.fewer
+
+pub returns-in_default-clause-fragments : goal.returns-in_default-clause-fragments
+returns-in_default-clause-fragments c = c.loop.invariant.fewer_fragments
 
 pub returns-in_default-clause-noted : goal.returns-in_default-clause-noted
 returns-in_default-clause-noted c all t = subst (λ ks. AreNoted ks c.loop.streams) (sym c.in_default.ensures.kept) (c.loop.invariant.noted all)

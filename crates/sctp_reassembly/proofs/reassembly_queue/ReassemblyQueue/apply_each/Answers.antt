@@ -1,7 +1,7 @@
 use Rattle.std.proofs.Common.{ap, sym, subst, ◌∙◌, arith, map}
 use Rattle.std.specs.List.{sum_by}
 use Rattle.std.proofs.lemmas.List.Sums.{sum_by-cons}
-use Rattle.sctp_reassembly.specs.ReassemblyQueue.{AreSmall, apply_each, waiting_bytes}
+use Rattle.sctp_reassembly.specs.ReassemblyQueue.{AreSmall, apply_each, waiting_bytes, waiting_fragments}
 use Rattle.sctp_reassembly.specs.Waiting.{waiting_of}
 use Rattle.sctp_reassembly.proofs.ExtendsLemmas.{extends_both, counted_both}
 use Rattle.sctp_reassembly.proofs.InterruptedLemmas.{on_err}
@@ -14,6 +14,7 @@ loop-next-preserved c =
     let rest = map waiting_of c.pop_front.new.self.items in
     let is = ap (map waiting_of) c.in-Some.ensures.items in
     let sums = ap (sum_by waiting_bytes) is ∙ sum_by-cons waiting_bytes w rest in
+    let counts = ap (sum_by waiting_fragments) is ∙ sum_by-cons waiting_fragments w rest in
     let before = c.loop-next.invariant in
     record {
       rest = ap (apply_each rest) c.in_ok-apply.ensures.ok ∙ (ap (λ ws. apply_each ws c.loop-next.self) (sym is) ∙ before.rest);
@@ -23,9 +24,17 @@ loop-next-preserved c =
       counted = counted_both c.args.self.now c.loop-next.self c.apply.new.self before.kept c.apply.ensures.kept before.counted c.apply.ensures.counted;
       room = omega (arith, sums, c.apply.ensures.bytes, before.room);
       bytes = omega (arith, sums, c.apply.ensures.bytes, before.bytes);
+      room_fragments = omega (arith, counts, c.apply.ensures.fragments, before.room_fragments);
+      fragments = omega (arith, counts, c.apply.ensures.fragments, before.fragments);
     }
 
 pub returns-in_err-apply-clause-err : goal.returns-in_err-apply-clause-err
 returns-in_err-apply-clause-err c =
     on_err c.from_residual.result
     (applies_end (waiting_of c.in-Some.next) _ (map waiting_of c.pop_front.new.self.items) c.loop-next.self c.apply.new.self _ _ (ap (map waiting_of) c.in-Some.ensures.items) c.loop-next.invariant.part c.in_err-apply.ensures.err)
+
+pub returns-in_err-apply-clause-fragments : goal.returns-in_err-apply-clause-fragments
+returns-in_err-apply-clause-fragments c =
+    let rest = map waiting_of c.pop_front.new.self.items in
+    let counts = ap (sum_by waiting_fragments) (ap (map waiting_of) c.in-Some.ensures.items) ∙ sum_by-cons waiting_fragments (waiting_of c.in-Some.next) rest in
+    omega (arith, counts, c.apply.ensures.fragments, c.loop-next.invariant.fragments)

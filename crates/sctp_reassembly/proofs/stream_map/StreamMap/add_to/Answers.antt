@@ -1,8 +1,8 @@
-use Rattle.std.proofs.Common.{ap, arith}
+use Rattle.std.proofs.Common.{ap, arith, length}
 use Rattle.std.proofs.lemmas.Result.{on_err_weaker}
 use Rattle.sctp_fragments.specs.Held.{bytes_of}
 use Rattle.sctp_fragments.specs.Interval.{as_held}
-use Rattle.sctp_reassembly.specs.ReassemblyStreams.{bytes_held}
+use Rattle.sctp_reassembly.specs.ReassemblyStreams.{bytes_held, fragments_held}
 use Rattle.sctp_reassembly.proofs.EntriesLemmas.{sum_written}
 use Rattle.sctp_reassembly.proofs.ForgetLemmas.{sum_removed}
 use Rattle.sctp_reassembly.proofs.InterruptedLemmas.{written_in_part}
@@ -11,10 +11,15 @@ use Rattle.sctp_reassembly.proofs.stream_map.StreamMap.add_to.Goals as goal
 pub invariant_of-self-2 : goal.invariant_of-self-2
 invariant_of-self-2 g c =
     let entries = c.self.inside.streams.entries in
-    let written = ap (λ m. bytes_held g.S.ReassemblyStream.held m) (c.get_mut.follows.holds c.add-added.new.self).0 in
-    let sums = sum_written (λ s. bytes_of (g.S.ReassemblyStream.held s)) c.args.id.0 entries c.in-Some.stream.now c.add-added.new.self c.in-Some.ensures.value in
-    let least = sum_removed (λ s. bytes_of (g.S.ReassemblyStream.held s)) c.args.id.0 entries c.in-Some.stream.now c.in-Some.ensures.value in
-    omega (arith, written, sums, least, c.queued_bytes-before.ensures, c.queued_bytes.ensures, c.self.invariant)
+    let written = (c.get_mut.follows.holds c.add-added.new.self).0 in
+    let bytes = sum_written (λ s. bytes_of (g.S.ReassemblyStream.held s)) c.args.id.0 entries c.in-Some.stream.now c.add-added.new.self c.in-Some.ensures.value in
+    let least_bytes = sum_removed (λ s. bytes_of (g.S.ReassemblyStream.held s)) c.args.id.0 entries c.in-Some.stream.now c.in-Some.ensures.value in
+    let fragments = sum_written (λ s. length (g.S.ReassemblyStream.held s)) c.args.id.0 entries c.in-Some.stream.now c.add-added.new.self c.in-Some.ensures.value in
+    let least = sum_removed (λ s. length (g.S.ReassemblyStream.held s)) c.args.id.0 entries c.in-Some.stream.now c.in-Some.ensures.value in
+    record {
+      bytes_are = omega (arith, ap (λ m. bytes_held g.S.ReassemblyStream.held m) written, bytes, least_bytes, c.queued_bytes-before.ensures, c.queued_bytes.ensures, c.self.invariant.bytes_are);
+      fragments_are = omega (arith, ap (λ m. fragments_held g.S.ReassemblyStream.held m) written, fragments, least, c.held_fragments-fragments_before.ensures, c.held_fragments.ensures, c.self.invariant.fragments_are);
+    }
 
 pub returns-clause-bytes : goal.returns-clause-bytes
 returns-clause-bytes g c =
@@ -23,6 +28,14 @@ returns-clause-bytes g c =
     let sums = sum_written (λ s. bytes_of (g.S.ReassemblyStream.held s)) c.args.id.0 entries c.in-Some.stream.now c.add-added.new.self c.in-Some.ensures.value in
     let least = sum_removed (λ s. bytes_of (g.S.ReassemblyStream.held s)) c.args.id.0 entries c.in-Some.stream.now c.in-Some.ensures.value in
     omega (arith, written, sums, least, c.add-added.ensures.bytes, ap (bytes_held g.S.ReassemblyStream.held) c.self.view_is)
+
+pub returns-clause-fragments : goal.returns-clause-fragments
+returns-clause-fragments g c =
+    let entries = c.self.inside.streams.entries in
+    let written = ap (λ m. fragments_held g.S.ReassemblyStream.held m) (c.get_mut.follows.holds c.add-added.new.self).0 in
+    let sums = sum_written (λ s. length (g.S.ReassemblyStream.held s)) c.args.id.0 entries c.in-Some.stream.now c.add-added.new.self c.in-Some.ensures.value in
+    let least = sum_removed (λ s. length (g.S.ReassemblyStream.held s)) c.args.id.0 entries c.in-Some.stream.now c.in-Some.ensures.value in
+    omega (arith, written, sums, least, c.add-added.ensures.fragments, ap (fragments_held g.S.ReassemblyStream.held) c.self.view_is)
 
 pub returns-clause-err : goal.returns-clause-err
 returns-clause-err g c =

@@ -1,0 +1,19 @@
+use Rattle.std.proofs.Common.{◌≡◌, true, None, ap, sym, subst}
+use Rattle.sctp_fragments.specs.Runs.{flat, is_held, AreRuns}
+use Rattle.sctp_fragments.specs.Held.{rank_of, goes_on}
+use Rattle.sctp_fragments.specs.Interval.{held_of, run_of, lists_of}
+use Rattle.sctp_reassembly.specs.Places.{all_of, runs_at}
+use Rattle.sctp_reassembly.proofs.AddedLemmas.{first_added, held_first}
+use Rattle.sctp_reassembly.proofs.places.add_to.Goals as goal
+
+pub returns-in_default-clause-ok : goal.returns-in_default-clause-ok
+returns-in_default-clause-ok g c = first_added g.K.ReassemblyKey.is_key g.K.ReassemblyKey.number g.K.ReassemblyKey.index c.args.first.now c.args.later.now.entries c.in_ok-alone.field-0 (held_of g.K.ReassemblyKey.number g.K.ReassemblyKey.index c.args.entry) c.in_default.is c.requires.led c.in_ok-alone.ensures
+
+pub returns-then-not-is_before-clause-ok : goal.returns-then-not-is_before-clause-ok
+returns-then-not-is_before-clause-ok g c =
+    let n = rank_of (held_of g.K.ReassemblyKey.number g.K.ReassemblyKey.index c.args.entry) in
+    let all = subst (λ o. AreRuns rank_of goes_on None (lists_of (held_of g.K.ReassemblyKey.number g.K.ReassemblyKey.index) (all_of o c.args.later.now.entries))) c.in-Some.is c.requires.runs in
+    let held = held_first g.K.ReassemblyKey.is_key g.K.ReassemblyKey.number g.K.ReassemblyKey.index n (run_of (held_of g.K.ReassemblyKey.number g.K.ReassemblyKey.index) c.in-Some.interval) (runs_at g.K.ReassemblyKey.number g.K.ReassemblyKey.index c.args.later.now.entries) (held_of g.K.ReassemblyKey.number g.K.ReassemblyKey.index c.first.result.now) (held_of g.K.ReassemblyKey.number g.K.ReassemblyKey.index c.last.result.now) c.is_before.result c.is_before-2.result all c.first.ensures c.last.ensures c.is_before.ensures c.if-is_before.false c.is_before-2.ensures c.if-not-is_before.true in (
+      subst (λ o. is_held rank_of n (flat (lists_of (held_of g.K.ReassemblyKey.number g.K.ReassemblyKey.index) (all_of o c.args.later.now.entries))) ≡ true) (sym c.in-Some.is) held,
+      (sym (ap (λ o. lists_of (held_of g.K.ReassemblyKey.number g.K.ReassemblyKey.index) (all_of o c.args.later.now.entries)) c.in-Some.is), c.requires.named),
+    )
