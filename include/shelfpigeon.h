@@ -79,7 +79,7 @@ size_t pigeon_answer_text(uint32_t answer, uint8_t *buffer, size_t length);
 
 /* ---- Options */
 
-#define PIGEON_UNLIMITED UINT32_MAX /* of max_retransmissions and max_init_retransmits */
+#define PIGEON_UNLIMITED UINT32_MAX /* of max_retransmissions, max_init_retransmits and max_held_fragments */
 #define PIGEON_UNSET UINT64_MAX     /* of max_timer_backoff_duration */
 
 enum { PIGEON_CHECKSUM_CRC32C = 0, PIGEON_CHECKSUM_ZERO = 1 };
@@ -108,6 +108,9 @@ typedef struct pigeon_options {
     /* How much of what is received is held. With nine tenths of it held each further fragment is dropped, so that a longer message may never be
      * whole: take at least twice the longest that the peer may send. At 0 and 1 nothing is taken. */
     uint32_t max_receiver_window_buffer_size;
+    /* How many fragments are held of messages that aren't ready, by default PIGEON_UNLIMITED. With so many held each further one is dropped, so
+     * that a message of more may never be whole: take at least twice as many as the longest that the peer may send has. At 0 nothing is taken. */
+    uint32_t max_held_fragments;
     uint32_t max_send_buffer_size;
     uint32_t per_stream_send_queue_limit;
     uint32_t total_buffered_amount_low_threshold;

@@ -130,8 +130,8 @@ module _ (message : ℕ → Message) (lifecycle : ℕ → Option ℕ) (is_interl
       none_handed = h.none_handed;
       no_sacks = leaves.sacks ∙ h.no_sacks;
       none_done = done ∙ h.none_done;
-      refines = λ o size. leaves.refines 0 [] _ _ (h.refines o size);
-      near = λ first size. leaves.near first 0 _ (h.near first size);
+      refines = λ o size most. leaves.refines 0 [] _ _ (h.refines o size most);
+      near = λ first size most. leaves.near first 0 _ (h.near first size most);
     }
 
     receives_still : (s : State) (handed : List messages.Message) → ReceivesIn message is_interleaved s handed x → ReceivesIn message is_interleaved s handed y

@@ -231,8 +231,8 @@ module _ (message : ℕ → Message) (is_interleaved : Bool) where
     pub none_handed : handed ≡ []
     pub no_sacks : (transfer_of x).sacks ≡ []
     pub none_done : x.done ≡ 0
-    pub refines : (o : Options) (size : ℕ) → ReceiverRefines message is_interleaved (base_now x.rules) 0 (transfer_of x) [] (tracker o origin) (reassembly size is_interleaved)
-    pub near : (first size : ℕ) → ReadsNear message is_interleaved (base_now x.rules) first 0 (transfer_of x) (reassembly size is_interleaved)
+    pub refines : (o : Options) (size most : ℕ) → ReceiverRefines message is_interleaved (base_now x.rules) 0 (transfer_of x) [] (tracker o origin) (record (reassembly size is_interleaved) { max_fragments = most })
+    pub near : (first size most : ℕ) → ReadsNear message is_interleaved (base_now x.rules) first 0 (transfer_of x) (record (reassembly size is_interleaved) { max_fragments = most })
 
   -- with it, its numbers count from the epochs that it performed, and the next ask is deferred or none is
   pub record IsReceiving (handed : List messages.Message) (t : Tcb) (x : Direction) : Type 0 where

@@ -81,13 +81,13 @@ ready_is message is_interleaved Closed handed x h = fresh_ready handed h
   where
     fresh_ready : (handed : List messages.Message) → IsFresh message is_interleaved handed x → (transfer_of x).receiver.ready ≡ map ready_of (handed ++ [])
     fresh_ready handed h =
-        let r = h.refines defaults 0 in
+        let r = h.refines defaults 0 0 in
         subst (λ (ms : List messages.Message). (transfer_of x).receiver.ready ≡ map ready_of (ms ++ [])) (sym h.none_handed) (sym r.refines.ready_is ∙ r.seen_as.ready)
 ready_is message is_interleaved (CookieWait tag first t1) handed x h = fresh_ready handed h
   where
     fresh_ready : (handed : List messages.Message) → IsFresh message is_interleaved handed x → (transfer_of x).receiver.ready ≡ map ready_of (handed ++ [])
     fresh_ready handed h =
-        let r = h.refines defaults 0 in
+        let r = h.refines defaults 0 0 in
         subst (λ (ms : List messages.Message). (transfer_of x).receiver.ready ≡ map ready_of (ms ++ [])) (sym h.none_handed) (sym r.refines.ready_is ∙ r.seen_as.ready)
 ready_is message is_interleaved (Open phase t) handed x h = sym h.refines.refines.ready_is ∙ h.refines.seen_as.ready
 

@@ -77,8 +77,8 @@ first_flows message lifecycle is_interleaved of short o q draws others = record 
     none_handed = refl;
     no_sacks = refl;
     none_done = refl;
-    refines = λ options size. first_receives message is_interleaved 0 options size;
-    near = λ first size. record { tsns = new_is_near is_interleaved first 0 size; mids = λ m. new_mids message is_interleaved size; start = λ e. refl };
+    refines = λ options size most. first_receives message is_interleaved 0 options size most;
+    near = λ first size most. record { tsns = new_is_near is_interleaved first 0 size most; mids = λ m. new_mids message is_interleaved size most; start = λ e. refl };
   };
   accepted_is = refl;
   out = tt;

@@ -19,7 +19,7 @@ use Rattle.proof_protocol.specs.Based.{EpochWindows}
 use Rattle.proof_rx_refines.specs.Refinement.{ReceiverRefines}
 use Rattle.proof_rx_refines.specs.Near.{AreFew}
 use Rattle.proof_rx_refines.specs.Resets.{base_now}
-use Rattle.spec_endpoint.specs.Association.{Identity, Tcb, tcb, Phase, CookieEchoed, ShutdownPending, State, Closed, CookieWait, Open}
+use Rattle.spec_endpoint.specs.Association.{Identity, Tcb, most_fragments, tcb, Phase, CookieEchoed, ShutdownPending, State, Closed, CookieWait, Open}
 use Rattle.spec_endpoint.specs.Data.{is_full, accepts_tsn, take_fragment, handle_forward_tsn}
 use Rattle.spec_endpoint.specs.Sending.{selective_ack, without_duplicates}
 use Rattle.spec_endpoint.specs.Laws.{Call}
@@ -54,16 +54,18 @@ module _ (message : ℕ → Message) (is_interleaved : Bool) (handed : List mess
       → IsReceiving message is_interleaved handed (tcb o i a_rwnd k) x
   fresh_receives o i a_rwnd k mode h =
       let size : ℕ = o.max_receiver_window_buffer_size in
-      let made : IsReceiving message is_interleaved handed (record (tcb o i a_rwnd k) { reassembly = reassembly size is_interleaved }) x = record {
+      let most : ℕ = most_fragments o in
+      let with_mode : Bool → Tcb = λ b. record (tcb o i a_rwnd k) { reassembly = record (reassembly size b) { max_fragments = most } } in
+      let made : IsReceiving message is_interleaved handed (with_mode is_interleaved) x = record {
         shift = 0;
-        refines = subst (λ (ms : List messages.Message). ReceiverRefines message is_interleaved (base_now x.rules) 0 (transfer_of x) ms (tracker.tracker o origin) (reassembly size is_interleaved)) (sym h.none_handed) (h.refines o size);
-        near = h.near i.peer_first size;
+        refines = subst (λ (ms : List messages.Message). ReceiverRefines message is_interleaved (base_now x.rules) 0 (transfer_of x) ms (tracker.tracker o origin) (record (reassembly size is_interleaved) { max_fragments = most })) (sym h.none_handed) (h.refines o size most);
+        near = h.near i.peer_first size most;
         is_tracker = tracker_new o;
         waiting = tt;
         first = refl;
         answers = let none = h.none_done in inl (record { last = omega (arith, none); result = inr (refl, h.none_done); none = refl });
       } in
-      subst (λ (b : Bool). IsReceiving message is_interleaved handed (record (tcb o i a_rwnd k) { reassembly = reassembly size b }) x) mode made
+      subst (λ (b : Bool). IsReceiving message is_interleaved handed (with_mode b) x) mode made
 
 module _ (message : ℕ → Message) (lifecycle : ℕ → Option ℕ) (is_interleaved : Bool) (g : Setting) (call : Call) (from : Direction)
     (p : ReceiverPremises message lifecycle is_interleaved g call from) (handed : List messages.Message) where

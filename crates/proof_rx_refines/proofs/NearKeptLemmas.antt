@@ -344,8 +344,8 @@ module _ (message : ℕ → Message) (is_interleaved : Bool) (x : Transfer) (kep
 
 -- ---- the rest
 
-pub new_mids : (message : ℕ → Message) (is_interleaved : Bool) (max_size : ℕ) → AreNearStreams message no_base start (reassembly max_size is_interleaved)
-new_mids message is_interleaved max_size = record {
+pub new_mids : (message : ℕ → Message) (is_interleaved : Bool) (max_size max_fragments : ℕ) → AreNearStreams message no_base start (record (reassembly max_size is_interleaved) { max_fragments = max_fragments })
+new_mids message is_interleaved max_size max_fragments = record {
   streams = λ s. record { number = 0; near_is = refl; met = inl refl; seen = λ t h on. absurd (false≢true h) };
   points = λ f a. absurd a;
 }

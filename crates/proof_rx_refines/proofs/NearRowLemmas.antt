@@ -76,8 +76,8 @@ module _ (message : ℕ → Message) (is_interleaved : Bool) (base : Bool → �
 
 -- ---- the rest
 
-pub new_is_near : (is_interleaved : Bool) (first shift max_size : ℕ) → IsNearQueue first shift start (reassembly max_size is_interleaved)
-new_is_near is_interleaved first shift max_size w e = cc
+pub new_is_near : (is_interleaved : Bool) (first shift max_size max_fragments : ℕ) → IsNearQueue first shift start (record (reassembly max_size is_interleaved) { max_fragments = max_fragments })
+new_is_near is_interleaved first shift max_size max_fragments w e = cc
 
 pub sender_keeps : (message : ℕ → Message) (is_interleaved : Bool) (first shift : ℕ) (x : Transfer) (e : TransferEvent) (r : Reassembly) → Invariant message is_interleaved x → IsAllowed message is_interleaved x e → (after message is_interleaved x e).receiver ≡ x.receiver
     → IsNearQueue first shift x r → IsNearQueue first shift (after message is_interleaved x e) r

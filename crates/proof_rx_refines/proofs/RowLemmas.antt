@@ -48,8 +48,8 @@ module _ (message : ℕ → Message) (is_interleaved : Bool) (shift : ℕ) where
   }
 
   -- at first no stream was reset
-  pub first_receives : (options : Options) (max_size : ℕ) → ReceiverRefines message is_interleaved no_base shift start [] (tracker options origin) (reassembly max_size is_interleaved)
-  first_receives options max_size = record {
+  pub first_receives : (options : Options) (max_size max_fragments : ℕ) → ReceiverRefines message is_interleaved no_base shift start [] (tracker options origin) (record (reassembly max_size is_interleaved) { max_fragments = max_fragments })
+  first_receives options max_size max_fragments = record {
     queue = first_queue;
     refines = record {
       holds = λ t h. cc;

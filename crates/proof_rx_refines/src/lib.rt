@@ -32,10 +32,10 @@ pub mod near;
 pub mod resets;
 pub mod runs;
 
-/// A new tracker and a new queue are the receiver at the start, with nothing handed out.
+/// A new tracker and a new queue are the receiver at the start, with nothing handed out, whatever the queue's limits are.
 pub fn new_values_are_the_start()
-    ensures receives { (message : ℕ → Message) (is_interleaved : Bool) (shift : ℕ) (options : Options) (max_size : ℕ) →
-        ReceiverRefines message is_interleaved no_base shift start [] (tracker options origin) (reassembly max_size is_interleaved) }
+    ensures receives { (message : ℕ → Message) (is_interleaved : Bool) (shift : ℕ) (options : Options) (max_size max_fragments : ℕ) →
+        ReceiverRefines message is_interleaved no_base shift start [] (tracker options origin) (record (reassembly max_size is_interleaved) { max_fragments = max_fragments }) }
 {}
 
 /// A fragment comes that was not seen. It is held, and then message after message becomes ready (`held`); or its message

@@ -54,7 +54,7 @@ pub fn points_are_read()
 /// A new queue is near, and it stays so: when a fragment comes, or a forward point that moves the tracker's front, when a
 /// message is taken, and while the sender goes on, with no premise of its windows.
 pub fn nearness_is_kept()
-    ensures new_queue { (message : ℕ → Message) (is_interleaved : Bool) (first shift max_size : ℕ) → ReadsNear message is_interleaved no_base first shift start (reassembly max_size is_interleaved) }
+    ensures new_queue { (message : ℕ → Message) (is_interleaved : Bool) (first shift max_size max_fragments : ℕ) → ReadsNear message is_interleaved no_base first shift start (record (reassembly max_size is_interleaved) { max_fragments = max_fragments }) }
     ensures fragment { (message : ℕ → Message) (is_interleaved : Bool) (base : Bool → ℕ → ℕ) (first shift : ℕ) (x : Transfer) (handed : List messages.Message) (t : Tracker) (r : Reassembly) (k tsn : ℕ) (f : FragmentTree) (now : Bool) (es : List TransferEvent) →
         Invariant message is_interleaved x → IsInWindow x → ReceiverRefines message is_interleaved base shift x handed t r → ReadsNear message is_interleaved base first shift x r → IsTracker t → r.deferred ≡ None →
         tsn ≡ wire u32_space first (origin + k) → Carries message is_interleaved x.sender k f → IsRead message is_interleaved (shift_after r.first shift k) x.sender r k tsn f → was_seen t k ≡ false → IsOfCurrentEpoch base message x.sender k →

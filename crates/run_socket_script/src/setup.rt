@@ -22,8 +22,8 @@ impl EndSetup {
         }
     }
 
-    /// `words FIRST STRIDE`, `mtu BYTES`, `window BYTES`, `burst PACKETS`, `interleaves`, `is-reliable`, `hands-over-data`. Answers
-    /// whether it is one of these.
+    /// `words FIRST STRIDE`, `mtu BYTES`, `window BYTES`, `holds FRAGMENTS`, `burst PACKETS`, `interleaves`, `is-reliable`,
+    /// `hands-over-data`. Answers whether it is one of these.
     fn sets(&mut self, verb: &str, rest: &[&str]) -> bool {
         match verb {
             "words" => {
@@ -34,6 +34,7 @@ impl EndSetup {
             "window" => {
                 self.options.max_receiver_window_buffer_size = number_at(rest, 0) as usize
             }
+            "holds" => self.options.max_held_fragments = Some(number_at(rest, 0) as usize),
             "burst" => self.options.max_burst = i32::from(half_at(rest, 0)),
             "interleaves" => self.options.enable_message_interleaving = true,
             "is-reliable" => self.options.enable_partial_reliability = false,

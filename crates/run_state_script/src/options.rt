@@ -23,6 +23,7 @@ impl Subject for Options {
             "timeouts" => timeouts(self, output),
             "intervals" => intervals(self, output),
             "switches" => switches(self, output),
+            "fragments" => fragments(self, output),
             "send" => send_options(line.numbers[0], output),
             "copy" => copy(self),
             name => set_option(self, name, line.numbers[0]),
@@ -122,6 +123,10 @@ fn switches(o: &Options, output: &mut Output) -> Answer {
     output.show_all(&values)
 }
 
+fn fragments(o: &Options, output: &mut Output) -> Answer {
+    done(write!(output.text, ": {:?}", o.max_held_fragments))
+}
+
 fn send_options(id: u64, output: &mut Output) -> Answer {
     let mut options = laws::plain_send_options();
     options.lifecycle_id = LifecycleId::new(id);
@@ -134,6 +139,7 @@ pub fn set_option(options: &mut Options, name: &str, value: u64) -> Answer {
     match name {
         "mtu" => options.mtu = value as usize,
         "message" => options.max_message_size = value as usize,
+        "held" => options.max_held_fragments = Some(value as usize),
         "immediate-sack" => options.immediate_sack_under_cwnd_mtus = value as usize,
         "least-window" => options.cwnd_mtus_min = value as usize,
         "initial" => options.rto_initial = time,

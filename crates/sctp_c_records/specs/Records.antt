@@ -35,6 +35,7 @@ given_options r = record {
   max_message_size = r.max_message_size;
   default_stream_priority = r.default_stream_priority;
   max_receiver_window_buffer_size = r.max_receiver_window_buffer_size;
+  max_held_fragments = limit_at r.max_held_fragments;
   max_send_buffer_size = r.max_send_buffer_size;
   per_stream_send_queue_limit = r.per_stream_send_queue_limit;
   total_buffered_amount_low_threshold = r.total_buffered_amount_low_threshold;

@@ -23,6 +23,7 @@ pub struct OptionsRecord {
     pub mtu: u32,
     pub max_message_size: u32,
     pub max_receiver_window_buffer_size: u32,
+    pub max_held_fragments: u32,
     pub max_send_buffer_size: u32,
     pub per_stream_send_queue_limit: u32,
     pub total_buffered_amount_low_threshold: u32,
@@ -60,6 +61,17 @@ fn limit_of(number: u32) -> Option<u32>
     }
 }
 
+/// As `limit_of`, of a count.
+fn count_of(number: u32) -> Option<usize>
+    ensures { result ≡ limit_at number }
+{
+    if number == u32::MAX {
+        None
+    } else {
+        Some(number as usize)
+    }
+}
+
 /// The greatest number stands for "not set".
 fn span_of(nanos: u64) -> Option<Duration>
     ensures { option_map as_nanos result ≡ span_at nanos }
@@ -94,6 +106,7 @@ impl OptionsRecord {
             mtu: 1191,
             max_message_size: 262_144,
             max_receiver_window_buffer_size: 5_242_880,
+            max_held_fragments: u32::MAX,
             max_send_buffer_size: 2_000_000,
             per_stream_send_queue_limit: 2_000_000,
             total_buffered_amount_low_threshold: 1_800_000,
@@ -152,6 +165,7 @@ impl OptionsRecord {
             max_message_size: self.max_message_size as usize,
             default_stream_priority: self.default_stream_priority,
             max_receiver_window_buffer_size: self.max_receiver_window_buffer_size as usize,
+            max_held_fragments: count_of(self.max_held_fragments),
             max_send_buffer_size: self.max_send_buffer_size as usize,
             per_stream_send_queue_limit: self.per_stream_send_queue_limit as usize,
             total_buffered_amount_low_threshold: self.total_buffered_amount_low_threshold as usize,

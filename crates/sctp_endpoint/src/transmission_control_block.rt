@@ -98,7 +98,8 @@ impl TransmissionControlBlock {
                 alloc,
                 options.max_receiver_window_buffer_size,
                 capabilities.message_interleaving,
-            ),
+            )
+            .with_max_fragments(options.max_held_fragments.unwrap_or(usize::MAX)),
             retransmission_queue: RetransmissionQueue::new(
                 alloc,
                 identity.my_initial_tsn,

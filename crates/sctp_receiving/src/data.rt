@@ -10,7 +10,8 @@ use sctp_packet::{DataView, SkippedStream};
 use sctp_serial::{SocketTime, Tsn};
 use std::alloc::{AllocError, Global};
 
-/// A fragment is observed, and copied and kept where its TSN is new; unless there is no room, or the TSN lies too far away.
+/// A fragment is observed, and copied and kept where its TSN is new; unless there is no room, for its bytes or
+/// for one fragment more, or the TSN lies too far away.
 pub fn take_data(
     tcb: &mut TransmissionControlBlock,
     alloc: Global,
@@ -20,7 +21,10 @@ pub fn take_data(
     ensures { OnOk result (tcb_of tcb.new
         ≡ fragment_if (accepts_tsn fragment.entry.tsn.0 (tcb_of tcb.old)) fragment.entry.tsn.0 fragment.entry.immediate_ack (viewed_fragment fragment.entry) (tcb_of tcb.old)) }
 {
-    if tcb.reassembly_queue.is_full() || tcb.reassembly_queue.is_above_watermark() {
+    if tcb.reassembly_queue.is_full()
+        || tcb.reassembly_queue.is_above_watermark()
+        || tcb.reassembly_queue.holds_most_fragments()
+    {
         return Ok(());
     }
     let tsn = fragment.tsn;

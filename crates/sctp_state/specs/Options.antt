@@ -14,6 +14,7 @@ pub record Options : Type 0 where
   pub max_message_size : ℕ
   pub default_stream_priority : ℕ
   pub max_receiver_window_buffer_size : ℕ
+  pub max_held_fragments : Option ℕ
   pub max_send_buffer_size : ℕ
   pub per_stream_send_queue_limit : ℕ
   pub total_buffered_amount_low_threshold : ℕ
@@ -58,6 +59,7 @@ options_of o = record {
   max_message_size = o.max_message_size;
   default_stream_priority = o.default_stream_priority;
   max_receiver_window_buffer_size = o.max_receiver_window_buffer_size;
+  max_held_fragments = o.max_held_fragments;
   max_send_buffer_size = o.max_send_buffer_size;
   per_stream_send_queue_limit = o.per_stream_send_queue_limit;
   total_buffered_amount_low_threshold = o.total_buffered_amount_low_threshold;
@@ -98,6 +100,7 @@ defaults = record {
   max_message_size = 262144;
   default_stream_priority = 256;
   max_receiver_window_buffer_size = 5242880;
+  max_held_fragments = None;
   max_send_buffer_size = 2000000;
   per_stream_send_queue_limit = 2000000;
   total_buffered_amount_low_threshold = 1800000;

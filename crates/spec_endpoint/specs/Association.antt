@@ -1,5 +1,5 @@
 -- The value of an end of an association. Packets are of a type P: bytes to the user, lists of chunks to the laws.
-use Rattle.std.specs.Prelude.{ℕ, Bool, Option, Some, None, List}
+use Rattle.std.specs.Prelude.{ℕ, ◌-◌, ◌^◌, Bool, Option, Some, None, unwrap_or, List}
 use Rattle.rand_core.specs.Stream.{Stream}
 use Rattle.sctp_serial.specs.Unwrapped.{origin}
 use Rattle.sctp_packet.specs.Chunk.{ChunkTree}
@@ -39,13 +39,17 @@ pub record Tcb : Type 0 where
   pub rtt : Rtt
   pub requests : Requests
 
+-- how many fragments it may hold: with no limit set, as many as can be counted
+abbrev pub most_fragments : Options → ℕ
+most_fragments o = unwrap_or o.max_held_fragments (2 ^ 64 - 1)
+
 -- a new one, for a peer with this window
 abbrev pub tcb : Options → Identity → (a_rwnd : ℕ) → Capabilities → Tcb
 tcb o i a_rwnd k = record {
   identity = i;
   capabilities = k;
   tracker = record { first = i.peer_first; tracker = tracker o origin };
-  reassembly = reassembly o.max_receiver_window_buffer_size k.message_interleaving;
+  reassembly = record (reassembly o.max_receiver_window_buffer_size k.message_interleaving) { max_fragments = most_fragments o };
   sender = sender o i.my_first a_rwnd k.partial_reliability k.message_interleaving;
   rtt = unsampled o;
   requests = requests o i.my_first i.peer_first;

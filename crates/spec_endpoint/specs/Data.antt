@@ -6,7 +6,7 @@ use Rattle.sctp_chunk.specs.declared.forward_tsn.SkippedStream.{SkippedStream}
 use Rattle.sctp_state.specs.declared.api.ErrorKind.TheVariants.{NotConnected, ProtocolViolation}
 use Rattle.sctp_rx.specs.DataTracker.{DataTracker, number_of, is_valid, has_seen, moves_on, observe}
 use Rattle.sctp_rx.specs.DataTracker as tracker
-use Rattle.sctp_rx.specs.ReassemblyQueue.{Reassembly, watermark, queued_bytes}
+use Rattle.sctp_rx.specs.ReassemblyQueue.{Reassembly, watermark, queued_bytes, held_fragments}
 use Rattle.sctp_rx.specs.ReassemblyQueue as reassembly
 use Rattle.spec_endpoint.specs.Association.{Tcb, State, Closed, CookieWait, Open, Context, EndpointState, open_as, with_context}
 use Rattle.spec_endpoint.specs.Packets.{emit_error, emit_chunk}
@@ -24,9 +24,9 @@ on_no_data tsn (Open phase t) c = emit_chunk (error_chunk (no_user_data (record 
 abbrev pub not_connected : {P : Type 0} → Context P → Context P
 not_connected c = emit_error NotConnected (codes "Received unexpected commands on socket that is not connected") c
 
--- no more may come
+-- no more may come: there are as many bytes, or as many fragments, as may be
 abbrev pub is_full : Reassembly → Bool
-is_full r = nat_le r.max_size (queued_bytes r) || nat_le (watermark r) (queued_bytes r)
+is_full r = nat_le r.max_size (queued_bytes r) || (nat_le (watermark r) (queued_bytes r) || nat_le r.max_fragments (held_fragments r))
 
 abbrev pub accepts_tsn : (tsn : ℕ) → Tcb → Bool
 accepts_tsn tsn t = not (is_full t.reassembly) && is_valid t.tracker.tracker (number_of t.tracker tsn)

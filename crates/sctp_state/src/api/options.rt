@@ -46,6 +46,10 @@ pub struct Options {
     /// fragment is dropped, so a longer message may never be whole: it is at least twice the longest that the peer may send. With
     /// 0 or 1 nothing is taken. Below 2^32.
     pub max_receiver_window_buffer_size: usize,
+    /// How many fragments are held of messages that aren't ready, those that wait for a reset too; any number, where not set. With
+    /// so many held each further fragment is dropped, as with nine tenths of the window held, which counts bytes alone: so a message
+    /// of more may never be whole. It is at least twice as many as the longest that the peer may send has. With 0 nothing is taken.
+    pub max_held_fragments: Option<usize>,
     /// A queue that holds as much takes no further message. Below 2^32.
     pub max_send_buffer_size: usize,
     /// A stream that holds as much takes no further message. Below 2^32.
@@ -118,6 +122,7 @@ impl Default for Options {
             max_message_size: 262_144,
             default_stream_priority: 256,
             max_receiver_window_buffer_size: 5_242_880,
+            max_held_fragments: None,
             max_send_buffer_size: 2_000_000,
             per_stream_send_queue_limit: 2_000_000,
             total_buffered_amount_low_threshold: 1_800_000,

@@ -6,7 +6,7 @@ use Rattle.proof_rx_refines.proofs.NearComesLemmas.{near_then, called, point_nea
 use Rattle.proof_rx_refines.proofs.near.nearness_is_kept.Goals as goal
 
 pub returns-clause-new_queue : goal.returns-clause-new_queue
-returns-clause-new_queue c message is_interleaved first shift max_size = record { tsns = new_is_near is_interleaved first shift max_size; mids = λ m. new_mids message is_interleaved max_size; start = λ e. refl }
+returns-clause-new_queue c message is_interleaved first shift max_size max_fragments = record { tsns = new_is_near is_interleaved first shift max_size max_fragments; mids = λ m. new_mids message is_interleaved max_size max_fragments; start = λ e. refl }
 
 pub returns-clause-fragment : goal.returns-clause-fragment
 returns-clause-fragment c message is_interleaved base first shift x handed t r k tsn f now es kept windows shown near is_tracker none tsn_is carries read unseen is_now goes =

@@ -6,8 +6,11 @@ use Rattle.sctp_endpoint.specs.Views.{tcb_of}
 use Rattle.sctp_receiving.proofs.DataLemmas.{taken_new}
 use Rattle.sctp_receiving.proofs.data.take_data.Goals as goal
 
-pub add-requires : goal.add-requires
-add-requires c = omega (arith, c.is_full.ensures.small c.if-is_full.false, c.in_ok-data.data.payload.small)
+pub add-requires-clause-room : goal.add-requires-clause-room
+add-requires-clause-room c = omega (arith, c.is_full.ensures.small c.if-is_full.false, c.in_ok-data.data.payload.small)
+
+pub add-requires-clause-fragments : goal.add-requires-clause-fragments
+add-requires-clause-fragments c = omega (arith, c.holds_most_fragments.ensures.small c.if-holds_most_fragments.false)
 
 pub returns-in_ok-add : goal.returns-in_ok-add
 returns-in_ok-add c =
