@@ -1,4 +1,6 @@
 pub mod Checksum
+pub mod Layout
 pub mod Metrics
 pub mod Records
 pub mod Event
+pub mod Texts

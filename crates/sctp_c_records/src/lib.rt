@@ -4,10 +4,14 @@
 pub mod answers;
 mod checksum;
 mod event;
+mod layout;
 mod message;
 mod metrics;
 mod options;
 mod parts;
+mod streams;
+mod texts;
+mod words;
 
 pub use checksum::PacketChecksum;
 pub use event::{EventRecord, hand_out, put_bytes};
@@ -15,3 +19,5 @@ pub use message::{MessageRecord, OutgoingRecord, SendRecord};
 pub use metrics::MetricsRecord;
 pub use options::OptionsRecord;
 pub use parts::{EventParts, parts_of};
+pub use texts::{place_of_text, text_of};
+pub use words::SeededWords;
