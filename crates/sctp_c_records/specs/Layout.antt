@@ -24,8 +24,11 @@ u64_or at other bytes = if nat_le (at + 8) (length bytes) then u64_in at bytes e
 
 -- ---- written, as far as there is a place
 
+abbrev pub put_u8 : (at number : ℕ) → List ℕ → List ℕ
+put_u8 at number bytes = set bytes at number
+
 abbrev pub put_u16 : (at number : ℕ) → List ℕ → List ℕ
-put_u16 at number bytes = set (set bytes at (number % 256)) (at + 1) (number / 256)
+put_u16 at number bytes = put_u8 (at + 1) (number / 256) (put_u8 at (number % 256) bytes)
 
 abbrev pub put_u32 : (at number : ℕ) → List ℕ → List ℕ
 put_u32 at number bytes = put_u16 (at + 2) (number / 2 ^ 16) (put_u16 at (number % 2 ^ 16) bytes)

@@ -4,3 +4,5 @@ pub mod Metrics
 pub mod Records
 pub mod Event
 pub mod Texts
+pub mod GivenUp
+pub mod OptionsStruct

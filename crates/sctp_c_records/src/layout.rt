@@ -1,7 +1,7 @@
 //! A struct of C as its bytes: each number at its place, low byte first.
 
-ghost use Rattle.std.specs.Prelude.{◌≡◌, ◌+◌, ◌<◌, ◌≤◌, ◌^◌, length, set};
-ghost use Rattle.sctp_c_records.specs.Layout.{put_u16, put_u32, put_u64, u16_in, u16_or, u32_in, u32_or, u64_in, u64_or};
+ghost use Rattle.std.specs.Prelude.{◌≡◌, ◌+◌, ◌<◌, ◌≤◌, ◌^◌, length};
+ghost use Rattle.sctp_c_records.specs.Layout.{put_u8, put_u16, put_u32, put_u64, u16_in, u16_or, u32_in, u32_or, u64_in, u64_or};
 ghost use Rattle.sctp_c_records.specs.Texts.{IsEnded};
 
 fn u16_in(bytes: &[u8], at: usize) -> u16
@@ -61,11 +61,12 @@ pub(crate) fn u64_or(bytes: &[u8], at: usize, other: u64) -> u64
     }
 }
 
-fn put_byte(bytes: &mut [u8], at: usize, byte: u8)
-    ensures { bytes.new ≡ set bytes.old at byte }
+/// Writes a number, where there is a place.
+pub(crate) fn put_u8(bytes: &mut [u8], at: usize, number: u8)
+    ensures { bytes.new ≡ put_u8 at number bytes.old }
 {
     if at < bytes.len() {
-        bytes[at] = byte;
+        bytes[at] = number;
     }
 }
 
@@ -74,8 +75,8 @@ pub(crate) fn put_u16(bytes: &mut [u8], at: usize, number: u16)
     requires { at < 1024 }
     ensures { bytes.new ≡ put_u16 at number bytes.old }
 {
-    put_byte(bytes, at, (number % 256) as u8);
-    put_byte(bytes, at + 1, (number / 256) as u8);
+    put_u8(bytes, at, (number % 256) as u8);
+    put_u8(bytes, at + 1, (number / 256) as u8);
 }
 
 /// Writes a number, as far as there is a place.

@@ -4,16 +4,19 @@
 pub mod answers;
 mod checksum;
 mod event;
+mod given_up;
 mod layout;
 mod message;
 mod metrics;
 mod options;
+mod options_struct;
 mod parts;
 mod streams;
 mod texts;
 mod words;
 
 pub use checksum::PacketChecksum;
+pub use given_up::GivenUpRecord;
 pub use event::{EventRecord, hand_out, put_bytes};
 pub use message::{MessageRecord, OutgoingRecord, SendRecord};
 pub use metrics::MetricsRecord;
