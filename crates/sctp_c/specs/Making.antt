@@ -1,6 +1,6 @@
--- What `sctp_new` makes.
+-- What `pigeon_new_sized` makes.
 use Rattle.std.specs.Prelude.{◌≡◌, ◌<◌, Option, Some, None, false}
-use Rattle.rand_pcg.specs.Lcg.{Lcg}
+use Rattle.rand_chacha.specs.ChaCha.{ChaCha}
 use Rattle.sctp_state.specs.Options.{Options}
 use Rattle.spec_endpoint.specs.Association.{fresh}
 use Rattle.spec_endpoint.specs.Wire.{writing}
@@ -12,13 +12,13 @@ use Rattle.sctp_c.specs.Calls.{end_of, stream}
 use Rattle.sctp_c.specs.declared.endpoint.Endpoint.{Endpoint}
 
 -- a closed socket at moment zero, which has emitted nothing
-pub record IsFresh (options : Options) (checksum : PacketChecksum) (rng : Lcg) (e : Endpoint) : Type 0 where
+pub record IsFresh (options : Options) (checksum : PacketChecksum) (rng : ChaCha) (e : Endpoint) : Type 0 where
   pub start : end_of e.socket ≡ fresh options (writing (word_by checksum)) (stream rng)
   pub working : e.socket.has_failed ≡ false
   pub event : e.event ≡ None
   pub handed_over : e.handed_over ≡ None
 
-abbrev pub Made : OptionsRecord → Lcg → Option Endpoint → Type 0
+abbrev pub Made : OptionsRecord → ChaCha → Option Endpoint → Type 0
 Made o rng None = ⊥
 Made o rng (Some e) = IsFresh (given_options o) (given_checksum o) rng e
 

@@ -152,6 +152,9 @@ flags_value o = flag_value o.enable_partial_reliability 1 + flag_value o.enable_
 abbrev pub webrtc_options : Options
 webrtc_options = record defaults { max_receiver_window_buffer_size = 2 * 262144; zero_checksum_method = 1 }
 
+abbrev pub webrtc_record : OptionsRecord
+webrtc_record = record default_record { max_receiver_window_buffer_size = 2 * 262144; zero_checksum_method = 1 }
+
 -- ---- what is wrong
 
 -- the place of the first field that is out of its bounds, 0 where none is

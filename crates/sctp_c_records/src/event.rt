@@ -11,6 +11,9 @@ use sctp_serial::StreamId;
 use sctp_state::{ErrorKind, SocketEvent};
 use std::alloc::{AllocError, Global};
 
+/// The bytes of `pigeon_event`.
+pub const EVENT_SIZE: usize = 40;
+
 /// What an event is beside its bytes; in C `pigeon_event`.
 #[derive(Clone, Copy)]
 pub struct EventRecord {
@@ -70,11 +73,6 @@ pub(crate) fn cause_of(kind: ErrorKind, text: &[u8]) -> u32
 }
 
 impl EventRecord {
-    /// Nothing was handed out.
-    pub fn none() -> EventRecord {
-        EventRecord::of(0, 0, 0, 0, 0)
-    }
-
     pub(crate) fn of(
         kind: u32,
         error: u32,
@@ -175,13 +173,13 @@ pub fn put_bytes(bytes: &[u8], buffer: &mut [u8]) -> bool
     true
 }
 
-/// Writes the record of an event that has these bytes and, where they fit, the bytes.
-fn put(event: &SocketEvent, bytes: &[u8], head: &mut EventRecord, buffer: &mut [u8]) -> bool
+/// Writes the struct of an event that has these bytes and, where they fit, the bytes.
+fn put(event: &SocketEvent, bytes: &[u8], head: &mut [u8], buffer: &mut [u8]) -> bool
     requires { bytes.now ≡ bytes_of (event_of event.now) }
-    ensures head { head.new ≡ record_of (event_of event.now) }
+    ensures head { head.new ≡ event_bytes (record_of (event_of event.now)) head.old }
     ensures bytes { Copied result (bytes_of (event_of event.now)) buffer.old buffer.new }
 {
-    *head = record_of(event, bytes.len());
+    record_of(event, bytes.len()).write(head);
     put_bytes(bytes, buffer)
 }
 
@@ -189,11 +187,11 @@ fn put_streams(
     alloc: Global,
     event: &SocketEvent,
     ids: &[StreamId],
-    head: &mut EventRecord,
+    head: &mut [u8],
     buffer: &mut [u8],
 ) -> Result<bool, AllocError>
     requires { flat_map low_first (numbers_of ids.now) ≡ bytes_of (event_of event.now) }
-    ensures head { IfOk result (λ fits. head.new ≡ record_of (event_of event.now)) }
+    ensures head { IfOk result (λ fits. head.new ≡ event_bytes (record_of (event_of event.now)) head.old) }
     ensures bytes { IfOk result (λ fits. Copied fits (bytes_of (event_of event.now)) buffer.old buffer.new) }
 {
     let bytes = spelled(alloc, ids)?;
@@ -204,10 +202,10 @@ fn put_streams(
 pub fn hand_out(
     alloc: Global,
     event: &SocketEvent,
-    head: &mut EventRecord,
+    head: &mut [u8],
     buffer: &mut [u8],
 ) -> Result<bool, AllocError>
-    ensures head { IfOk result (λ fits. head.new ≡ record_of (event_of event.now)) }
+    ensures head { IfOk result (λ fits. head.new ≡ event_bytes (record_of (event_of event.now)) head.old) }
     ensures bytes { IfOk result (λ fits. Copied fits (bytes_of (event_of event.now)) buffer.old buffer.new) }
 {
     match event {

@@ -17,10 +17,11 @@ mod words;
 
 pub use checksum::PacketChecksum;
 pub use given_up::GivenUpRecord;
-pub use event::{EventRecord, hand_out, put_bytes};
-pub use message::{MessageRecord, OutgoingRecord, SendRecord};
-pub use metrics::MetricsRecord;
+pub use event::{EVENT_SIZE, EventRecord, hand_out, put_bytes};
+pub use message::{MessageRecord, OutgoingRecord, SEND_SIZE, SendRecord};
+pub use metrics::{METRICS_SIZE, MetricsRecord};
 pub use options::OptionsRecord;
+pub use options_struct::OPTIONS_SIZE;
 pub use parts::{EventParts, parts_of};
 pub use texts::{place_of_text, text_of};
 pub use words::SeededWords;

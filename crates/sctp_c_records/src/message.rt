@@ -10,6 +10,9 @@ use sctp_serial::LifecycleId;
 use sctp_state::SendOptions;
 use std::time::Duration;
 
+/// The bytes of `pigeon_send_options`.
+pub const SEND_SIZE: usize = 32;
+
 /// What a message is beside its bytes; in C `pigeon_message`.
 #[repr(C)]
 #[derive(Clone, Copy)]

@@ -8,6 +8,9 @@ use crate::layout::{put_u8, put_u16, put_u32, put_u64};
 use sctp_state::{Metrics, SctpImplementation};
 use std::time::Duration;
 
+/// The bytes of `pigeon_metrics`.
+pub const METRICS_SIZE: usize = 96;
+
 /// What a socket counts; in C `pigeon_metrics`. The round trip time is in nanoseconds.
 #[derive(Clone, Copy)]
 pub struct MetricsRecord {

@@ -3,7 +3,7 @@
 ghost use Rattle.std.specs.Prelude.{◌≡◌, ◌<◌, ◌≤◌, ◌-◌, ◌^◌, option_map};
 ghost use Rattle.std.specs.Duration.{as_nanos};
 ghost use Rattle.sctp_state.specs.Options.{IsValid, options_of};
-ghost use Rattle.sctp_c_records.specs.OptionsStruct.{flag_value, flags_value, held_limit, held_options, held_size, held_span, invalid_place, options_bytes, options_in, webrtc_options};
+ghost use Rattle.sctp_c_records.specs.OptionsStruct.{flag_value, flags_value, held_limit, held_options, held_size, held_span, invalid_place, options_bytes, options_in, webrtc_options, webrtc_record};
 ghost use Rattle.sctp_c_records.specs.Records.{given_checksum, given_options, limit_at, span_at};
 ghost use Rattle.sctp_c_records.specs.declared.checksum.PacketChecksum.TheVariants.{Crc32c};
 
@@ -13,6 +13,9 @@ use crate::metrics::nanos_of;
 use crate::options::OptionsRecord;
 use sctp_state::Options;
 use std::time::Duration;
+
+/// The bytes of `pigeon_options`.
+pub const OPTIONS_SIZE: usize = 176;
 
 /// A size as 32 bits hold it.
 fn size_number(size: usize) -> u32
@@ -146,6 +149,7 @@ impl OptionsRecord {
 
     /// The options of data channels (RFC 8831), over DTLS (RFC 9653).
     pub fn for_webrtc() -> OptionsRecord
+        ensures record { result ≡ webrtc_record }
         ensures options { given_options result ≡ webrtc_options }
         ensures checksum { given_checksum result ≡ Crc32c }
     {

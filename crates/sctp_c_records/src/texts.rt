@@ -91,7 +91,30 @@ fn state_text(number: u32) -> &'static str
     }
 }
 
-/// The text of a number: of an answer (0), the kind of an event (1), the kind of an error (2), or a state (3).
+/// The option that is out of its bounds, by its place.
+fn option_text(place: u32) -> &'static str
+    ensures { IsEnded result.now }
+{
+    match place {
+        18 => "checksum\0",
+        20 => "mtu\0",
+        48 => "cwnd_mtus_initial\0",
+        52 => "cwnd_mtus_min\0",
+        56 => "avoid_fragmentation_cwnd_mtus\0",
+        60 => "immediate_sack_under_cwnd_mtus\0",
+        80 => "flags\0",
+        96 => "rto_initial\0",
+        104 => "rto_max\0",
+        112 => "rto_min\0",
+        120 => "t1_init_timeout\0",
+        128 => "t1_cookie_timeout\0",
+        160 => "delayed_ack_max_timeout\0",
+        _ => "no option\0",
+    }
+}
+
+/// The text of a number: of an answer (0), the kind of an event (1), the kind of an error (2), a state (3), or the place of an
+/// option that is out of its bounds (4).
 pub fn text_of(what: u32, number: u32) -> &'static str
     ensures { IsEnded result.now }
 {
@@ -100,6 +123,7 @@ pub fn text_of(what: u32, number: u32) -> &'static str
         1 => event_text(number),
         2 => error_text(number),
         3 => state_text(number),
+        4 => option_text(number),
         _ => "unknown\0",
     }
 }
