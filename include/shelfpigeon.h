@@ -83,7 +83,8 @@ enum {
     PIGEON_SOME_REFUSED = 18,  /* some messages of a batch weren't accepted; the others were */
     PIGEON_NOT_CLOSED = 19,    /* only a closed socket takes up a record */
     PIGEON_INVALID_STATE = 20, /* the bytes are no record, or one that no socket could have written */
-    PIGEON_INVALID_SIZE = 21   /* the size of a struct is beyond what this library knows */
+    PIGEON_INVALID_SIZE = 21,  /* the size of a struct is beyond what this library knows */
+    PIGEON_NO_PACKET = 22      /* the bytes are no packet */
 };
 
 enum { PIGEON_TEXT_ANSWER = 0, PIGEON_TEXT_EVENT = 1, PIGEON_TEXT_ERROR = 2, PIGEON_TEXT_STATE = 3, PIGEON_TEXT_OPTION = 4 };
@@ -481,6 +482,12 @@ uint32_t pigeon_borrow_event_sized(pigeon_socket *socket, void *event, size_t si
 static inline uint32_t pigeon_borrow_event(pigeon_socket *socket, pigeon_event *event, const uint8_t **bytes) {
     return pigeon_borrow_event_sized(socket, event, event->size, bytes);
 }
+
+/* ---- To look at */
+
+/* Writes what the chunks of a packet say, one line each, and a zero byte; `needed` is how many bytes that takes. The checksum isn't looked
+ * at. PIGEON_SHORT_BUFFER: nothing is written but `needed`. PIGEON_NO_PACKET, PIGEON_NO_ROOM: nothing is. */
+uint32_t pigeon_describe_packet(const uint8_t *bytes, size_t length, size_t *needed, char *buffer, size_t room);
 
 #ifdef __cplusplus
 }

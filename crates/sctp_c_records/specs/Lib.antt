@@ -6,3 +6,4 @@ pub mod Event
 pub mod Texts
 pub mod GivenUp
 pub mod OptionsStruct
+pub mod Describe

@@ -44,3 +44,5 @@ pub const NOT_CLOSED: u32 = 19;
 pub const INVALID_STATE: u32 = 20;
 /// The size of a struct is beyond those that there are.
 pub const INVALID_SIZE: u32 = 21;
+/// The bytes are no packet.
+pub const NO_PACKET: u32 = 22;

@@ -3,6 +3,7 @@
 
 pub mod answers;
 mod checksum;
+mod describe;
 mod event;
 mod given_up;
 mod layout;
@@ -17,6 +18,7 @@ mod words;
 
 pub use checksum::PacketChecksum;
 pub use given_up::GivenUpRecord;
+pub use describe::describe_packet;
 pub use event::{EVENT_SIZE, EventRecord, hand_out, put_bytes};
 pub use message::{MessageRecord, OutgoingRecord, SEND_SIZE, SendRecord};
 pub use metrics::{METRICS_SIZE, MetricsRecord};

@@ -31,6 +31,7 @@ fn answer_text(number: u32) -> &'static str
         19 => "socket is not closed\0",
         20 => "handover state is not valid\0",
         21 => "size of a struct is not known\0",
+        22 => "bytes are no packet\0",
         _ => "unknown answer\0",
     }
 }
