@@ -2,8 +2,9 @@
 use Rattle.std.specs.Prelude.{◌≡◌, ◌<◌, ◌++◌, ℕ, Bool, true, List, [], ◌∷◌, length, take}
 use Rattle.sctp_chunk.specs.ChunkText.{chunk_text}
 use Rattle.sctp_packet.specs.Chunk.{ChunkTree}
-use Rattle.sctp_packet.specs.Packet.{PacketTree, Accepts, IsFault, Refuses}
+use Rattle.sctp_packet.specs.Packet.{PacketTree, Accepts, Refuses}
 use Rattle.sctp_packet.specs.declared.packet.PacketParseError.{PacketParseError}
+use Rattle.sctp_packet.specs.declared.packet.PacketParseError.TheVariants as faults
 use Rattle.sctp_wire.specs.declared.checksum.Policy.{Policy}
 
 abbrev pub any_checksum : Policy
@@ -20,9 +21,12 @@ pub record IsDescribed (bytes text : List ℕ) : Type 0 where
   pub accepted : Accepts any_checksum 0 bytes packet
   pub lines : text ≡ chunk_lines packet.chunks ++ 0 ∷ []
 
--- 0: the text stands in the buffer; 9: the buffer is too short; 22: the bytes are no packet; 17: there was no memory
+abbrev pub refusal_answer : PacketParseError → ℕ
+refusal_answer faults.Memory = 17
+refusal_answer fault = 22
+
+-- the text stands in the buffer, or is too long for it; or the bytes are refused
 pub data Shows (bytes old new : List ℕ) (needed answer : ℕ) : Type 0 where
   written : (text : List ℕ) → IsDescribed bytes text → take (length text) new ≡ text → needed ≡ length text → answer ≡ 0 → Shows bytes old new needed answer
   short : (text : List ℕ) → IsDescribed bytes text → length old < length text → needed ≡ length text → answer ≡ 9 → Shows bytes old new needed answer
-  refused : (fault : PacketParseError) → IsFault fault → Refuses any_checksum 0 bytes fault → answer ≡ 22 → Shows bytes old new needed answer
-  no_room : answer ≡ 17 → Shows bytes old new needed answer
+  refused : (fault : PacketParseError) → Refuses any_checksum 0 bytes fault → answer ≡ refusal_answer fault → Shows bytes old new needed answer

@@ -158,11 +158,15 @@ webrtc_record = record default_record { max_receiver_window_buffer_size = 2 * 26
 -- ---- what is wrong
 
 -- the place of the first field that is out of its bounds, 0 where none is
+abbrev pub invalid_time : OptionsRecord → ℕ
+invalid_time r =
+    if nat_lt r.rto_initial 1000000 then 96 else if nat_lt r.rto_max r.rto_min then 104 else if nat_lt r.rto_min 1000000 then 112
+    else if nat_lt r.t1_init_timeout 1000000 then 120 else if nat_lt r.t1_cookie_timeout 1000000 then 128
+    else if nat_lt r.delayed_ack_max_timeout 1000000 then 160 else 0
+
 abbrev pub invalid_place : OptionsRecord → ℕ
 invalid_place r =
     if nat_lt 1 r.checksum then 18 else if nat_lt r.mtu 256 || nat_lt 65535 r.mtu then 20
     else if nat_lt r.cwnd_mtus_initial 1 || nat_lt 65535 r.cwnd_mtus_initial then 48 else if nat_lt r.cwnd_mtus_min 1 || nat_lt 65535 r.cwnd_mtus_min then 52
     else if nat_lt r.avoid_fragmentation_cwnd_mtus 1 || nat_lt 65535 r.avoid_fragmentation_cwnd_mtus then 56
-    else if nat_lt 65535 r.immediate_sack_under_cwnd_mtus then 60 else if nat_lt 31 r.flags then 80 else if nat_lt r.rto_initial 1000000 then 96
-    else if nat_lt r.rto_max r.rto_min then 104 else if nat_lt r.rto_min 1000000 then 112 else if nat_lt r.t1_init_timeout 1000000 then 120
-    else if nat_lt r.t1_cookie_timeout 1000000 then 128 else if nat_lt r.delayed_ack_max_timeout 1000000 then 160 else 0
+    else if nat_lt 65535 r.immediate_sack_under_cwnd_mtus then 60 else if nat_lt 31 r.flags then 80 else invalid_time r

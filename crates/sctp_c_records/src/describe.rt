@@ -3,7 +3,7 @@
 ghost use Rattle.std.specs.Prelude.{◌≡◌, ◌++◌, [], ◌∷◌, map, IfErr, IfOk, string_bytes};
 ghost use Rattle.sctp_packet.specs.ChunkView.{chunk_tree};
 ghost use Rattle.sctp_packet.specs.Packet.{Refuses};
-ghost use Rattle.sctp_c_records.specs.Describe.{IsDescribed, Shows, any_checksum, chunk_lines};
+ghost use Rattle.sctp_c_records.specs.Describe.{IsDescribed, Shows, any_checksum, chunk_lines, refusal_answer};
 
 use crate::answers::{NO_PACKET, NO_ROOM, OK, SHORT_BUFFER};
 use crate::event::put_bytes;
@@ -51,14 +51,22 @@ fn described(alloc: Global, bytes: &[u8]) -> Result<String, PacketParseError>
     }
 }
 
+fn refusal_answer(fault: PacketParseError) -> u32
+    ensures { result ≡ refusal_answer fault }
+{
+    match fault {
+        PacketParseError::Memory => NO_ROOM,
+        _ => NO_PACKET,
+    }
+}
+
 /// Writes what the chunks of a packet say where it fits, a line each, and a zero byte; and how many bytes that takes.
 pub fn describe_packet(alloc: Global, bytes: &[u8], needed: &mut usize, buffer: &mut [u8]) -> u32
-    ensures shown { Shows bytes.now buffer.old buffer.new needed.new result }
+    ensures { Shows bytes.now buffer.old buffer.new needed.new result }
 {
     let text = match described(alloc, bytes) {
         Ok(text) => text,
-        Err(PacketParseError::Memory) => return NO_ROOM,
-        Err(_fault) => return NO_PACKET,
+        Err(fault) => return refusal_answer(fault),
     };
     *needed = text.len();
     if put_bytes(text.as_bytes(), buffer) {

@@ -2,8 +2,8 @@
 
 ghost use Rattle.std.specs.Prelude.{◌≡◌, ◌<◌, ◌≤◌, ◌-◌, ◌^◌, option_map};
 ghost use Rattle.std.specs.Duration.{as_nanos};
-ghost use Rattle.sctp_state.specs.Options.{IsValid, options_of};
-ghost use Rattle.sctp_c_records.specs.OptionsStruct.{flag_value, flags_value, held_limit, held_options, held_size, held_span, invalid_place, options_bytes, options_in, webrtc_options, webrtc_record};
+ghost use Rattle.sctp_state.specs.Options.{HasValidTimes, IsValid, options_of};
+ghost use Rattle.sctp_c_records.specs.OptionsStruct.{flag_value, flags_value, held_limit, held_options, held_size, held_span, invalid_place, invalid_time, options_bytes, options_in, webrtc_options, webrtc_record};
 ghost use Rattle.sctp_c_records.specs.Records.{given_checksum, given_options, limit_at, span_at};
 ghost use Rattle.sctp_c_records.specs.declared.checksum.PacketChecksum.TheVariants.{Crc32c};
 
@@ -190,6 +190,15 @@ impl OptionsRecord {
         if 31 < self.flags {
             return 80;
         }
+        self.invalid_time()
+    }
+
+    /// The place of the first span that is out of its bounds, 0 where none is.
+    fn invalid_time(&self) -> u32
+        ensures place { result ≡ invalid_time self.now }
+        ensures none { result ≡ 0 → HasValidTimes (given_options self.now) }
+        ensures some { 0 < result → HasValidTimes (given_options self.now) → ⊥ }
+    {
         if self.rto_initial < 1_000_000 {
             return 96;
         }
