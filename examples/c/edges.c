@@ -1,5 +1,6 @@
 /* SPDX-License-Identifier: Apache-2.0 */
 /* What calls answer that can't be made, and that nothing is lost by them. Prints nothing where all is as `shelfpigeon.h` says. */
+#include "places.h"
 #include "shelfpigeon.h"
 #include <stdio.h>
 #include <string.h>
