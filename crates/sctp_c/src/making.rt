@@ -89,11 +89,7 @@ pub extern "C" fn pigeon_check_options_sized(options: &[u8], place: &mut u32) ->
         return INVALID_SIZE;
     }
     *place = OptionsRecord::in_bytes(options).invalid_place();
-    if *place == 0 {
-        OK
-    } else {
-        INVALID_OPTIONS
-    }
+    if *place == 0 { OK } else { INVALID_OPTIONS }
 }
 
 /// Makes a closed socket at moment zero, whose words are those of ChaCha20 with this seed of 32 bytes.
@@ -132,7 +128,12 @@ pub extern "C" fn pigeon_new_sized(
     }
     let mut key = [0; 32];
     key.copy_from_slice(seed);
-    match boxed(alloc, &given, record.packet_checksum(), SeededWords::new(key)) {
+    match boxed(
+        alloc,
+        &given,
+        record.packet_checksum(),
+        SeededWords::new(key),
+    ) {
         Ok(end) => {
             socket.put(end);
             OK

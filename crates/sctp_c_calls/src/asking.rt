@@ -134,11 +134,7 @@ pub fn rest_number<R: Rng, C: Checksum>(socket: &Socket<R, C>) -> u32
 }
 
 /// Whether bytes would be refused, 1 or 0.
-pub fn refuses<R: Rng, C: Checksum>(
-    socket: &Socket<R, C>,
-    bytes: &[u8],
-    refused: &mut u32,
-) -> u32
+pub fn refuses<R: Rng, C: Checksum>(socket: &Socket<R, C>, bytes: &[u8], refused: &mut u32) -> u32
     ensures answers { IsAmong (0 ∷ 2 ∷ []) result }
     ensures judged { OnAnswer 0 result (Judges (C.word_of socket.now.context.checksum) bytes.now socket.now.context.options socket.now.state (refused.new == 1)) }
     ensures failed { result ≡ 2 ↔ socket.now.has_failed ≡ true }

@@ -17,9 +17,9 @@ mod texts;
 mod words;
 
 pub use checksum::PacketChecksum;
-pub use given_up::GivenUpRecord;
 pub use describe::describe_packet;
 pub use event::{EVENT_SIZE, EventRecord, hand_out, put_bytes};
+pub use given_up::GivenUpRecord;
 pub use message::{MessageRecord, OutgoingRecord, SEND_SIZE, SendRecord};
 pub use metrics::{METRICS_SIZE, MetricsRecord};
 pub use options::OptionsRecord;

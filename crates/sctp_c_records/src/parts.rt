@@ -58,12 +58,8 @@ pub fn parts_of(alloc: Global, event: SocketEvent) -> Result<EventParts, SocketE
         SocketEvent::OnConnected() => EventParts::alone(alloc, 1, 0, 0),
         SocketEvent::OnClosed() => EventParts::alone(alloc, 2, 0, 0),
         SocketEvent::OnConnectionRestarted() => EventParts::alone(alloc, 3, 0, 0),
-        SocketEvent::OnAborted(kind, text) => {
-            EventParts::of_fault(4, kind, text.into_bytes())
-        }
-        SocketEvent::OnError(kind, text) => {
-            EventParts::of_fault(5, kind, text.into_bytes())
-        }
+        SocketEvent::OnAborted(kind, text) => { EventParts::of_fault(4, kind, text.into_bytes()) }
+        SocketEvent::OnError(kind, text) => { EventParts::of_fault(5, kind, text.into_bytes()) }
         SocketEvent::OnBufferedAmountLow(id) => EventParts::alone(alloc, 6, id.0 as u32, 0),
         SocketEvent::OnTotalBufferedAmountLow() => EventParts::alone(alloc, 7, 0, 0),
         SocketEvent::OnStreamsResetFailed(ids) => match spelled(alloc, &ids) {
