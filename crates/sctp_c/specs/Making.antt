@@ -5,7 +5,6 @@ use Rattle.sctp_state.specs.Options.{Options}
 use Rattle.spec_endpoint.specs.Association.{fresh}
 use Rattle.spec_endpoint.specs.Wire.{writing}
 use Rattle.sctp_c_records.specs.Checksum.{word_by}
-use Rattle.sctp_c_records.specs.Records.{given_checksum, given_options}
 use Rattle.sctp_c_records.specs.declared.checksum.PacketChecksum.{PacketChecksum}
 use Rattle.sctp_c_records.specs.declared.options.OptionsRecord.{OptionsRecord}
 use Rattle.sctp_c.specs.Calls.{end_of, stream}
@@ -18,9 +17,9 @@ pub record IsFresh (options : Options) (checksum : PacketChecksum) (rng : ChaCha
   pub event : e.event ≡ None
   pub handed_over : e.handed_over ≡ None
 
-abbrev pub Made : OptionsRecord → ChaCha → Option Endpoint → Type 0
-Made o rng None = ⊥
-Made o rng (Some e) = IsFresh (given_options o) (given_checksum o) rng e
+abbrev pub Made : Options → PacketChecksum → ChaCha → Option Endpoint → Type 0
+Made options checksum rng None = ⊥
+Made options checksum rng (Some e) = IsFresh options checksum rng e
 
 -- flags and a checksum that there are
 abbrev pub NamesKnown : OptionsRecord → Type 0

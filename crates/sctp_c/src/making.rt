@@ -48,6 +48,29 @@ fn boxed(
     }
 }
 
+/// Puts a closed socket into a handle that holds none, where there is memory.
+fn put_new(
+    alloc: Global,
+    socket: &mut Handle,
+    options: &Options,
+    checksum: PacketChecksum,
+    rng: SeededWords,
+) -> u32
+    requires valid { IsValid (options_of options.now) }
+    requires empty { socket.old.held ≡ None }
+    ensures answers { IsAmong (0 ∷ 17 ∷ []) result }
+    ensures made { OnAnswer 0 result (Made (options_of options.now) checksum rng socket.new.held) }
+    ensures failed { OnOthers 0 result (socket.new.held ≡ None) }
+{
+    match boxed(alloc, options, checksum, rng) {
+        Ok(end) => {
+            socket.put(end);
+            OK
+        }
+        Err(_error) => NO_ROOM,
+    }
+}
+
 /// Writes the options that a socket has where nothing else is said.
 #[unsafe(no_mangle)]
 pub extern "C" fn pigeon_default_options_sized(options: &mut [u8]) -> u32
@@ -107,7 +130,7 @@ pub extern "C" fn pigeon_new_sized(
     ensures invalid { OnAnswer 5 result (IsValid (given_options (options_in options.now)) → ⊥) }
     ensures used { is_some socket.old.held ≡ true → (result ≡ 4) × (socket.new.held ≡ socket.old.held) }
     ensures failed { is_some socket.old.held ≡ false → OnOthers 0 result (socket.new.held ≡ None) }
-    ensures made { OnAnswer 0 result (Made (options_in options.now) (of_seed seed.now) socket.new.held) }
+    ensures made { OnAnswer 0 result (Made (given_options (options_in options.now)) (given_checksum (options_in options.now)) (of_seed seed.now) socket.new.held) }
     ensures fits { OnAnswer 0 result ((length options.now ≤ 176) × (length seed.now ≡ 32)) }
     ensures known { OnAnswer 0 result (NamesKnown (options_in options.now)) }
     ensures valid { OnAnswer 0 result (IsValid (given_options (options_in options.now))) }
@@ -126,20 +149,8 @@ pub extern "C" fn pigeon_new_sized(
     if !given.is_valid() {
         return INVALID_OPTIONS;
     }
-    let mut key = [0; 32];
-    key.copy_from_slice(seed);
-    match boxed(
-        alloc,
-        &given,
-        record.packet_checksum(),
-        SeededWords::new(key),
-    ) {
-        Ok(end) => {
-            socket.put(end);
-            OK
-        }
-        Err(_error) => NO_ROOM,
-    }
+    let checksum = record.packet_checksum();
+    put_new(alloc, socket, &given, checksum, SeededWords::of(seed))
 }
 
 /// Lets the socket go. Afterwards the handle holds none.

@@ -1,6 +1,6 @@
 //! The words that a socket draws: those of ChaCha20 (RFC 8439) with a seed of 32 bytes as its key.
 
-ghost use Rattle.std.specs.Prelude.{◌≡◌, ◌<◌, ◌^◌};
+ghost use Rattle.std.specs.Prelude.{◌≡◌, ◌<◌, ◌^◌, length};
 ghost use Rattle.rand_chacha.specs.ChaCha.{ChaCha, next_word, of_seed};
 ghost use Rattle.rand_core.specs.Steps.{steps_u32, stream_of};
 
@@ -25,11 +25,17 @@ impl Model for SeededWords {
 }
 
 impl SeededWords {
-    /// The words of a seed, from the first one on.
-    pub fn new(seed: [u8; 32]) -> SeededWords
-        ensures { result ≡ of_seed seed }
+    /// The words of a seed of 32 bytes, from the first one on.
+    pub fn of(seed: &[u8]) -> SeededWords
+        requires { length seed.now ≡ 32 }
+        ensures { result ≡ of_seed seed.now }
     {
-        SeededWords { seed, place: 0 }
+        let mut key = [0; 32];
+        key.copy_from_slice(seed);
+        SeededWords {
+            seed: key,
+            place: 0,
+        }
     }
 }
 
