@@ -1,5 +1,5 @@
 -- A packet as people read it.
-use Rattle.std.specs.Prelude.{◌≡◌, ◌<◌, ◌++◌, ℕ, Bool, true, List, [], ◌∷◌, length, take}
+use Rattle.std.specs.Prelude.{◌≡◌, ◌<◌, ◌++◌, ℕ, true, List, [], ◌∷◌, length, take}
 use Rattle.sctp_chunk.specs.ChunkText.{chunk_text}
 use Rattle.sctp_packet.specs.Chunk.{ChunkTree}
 use Rattle.sctp_packet.specs.Packet.{PacketTree, Accepts, Refuses}
