@@ -38,7 +38,6 @@ pub extern "C" fn pigeon_version() -> u32
 /// The moment by which the time is to be advanced next, in nanoseconds; the greatest number where no timer runs.
 #[unsafe(no_mangle)]
 pub extern "C" fn pigeon_poll_timeout(socket: &mut Handle, nanos: &mut u64) -> u32
-    ensures handle { socket.new ≡ socket.old }
     ensures due { Tells (λ s. time.poll_timeout (end_of s).endpoint_state < 2 ^ 64 → nanos.new ≡ time.poll_timeout (end_of s).endpoint_state) socket.old.held result socket.new.held }
     ensures never { Tells (λ s. 2 ^ 64 ≤ time.poll_timeout (end_of s).endpoint_state → nanos.new ≡ 2 ^ 64 - 1) socket.old.held result socket.new.held }
 {
@@ -54,8 +53,7 @@ pub extern "C" fn pigeon_poll_timeout(socket: &mut Handle, nanos: &mut u64) -> u
 /// The state: 0 closed, 1 connecting, 2 connected, 3 shutting down.
 #[unsafe(no_mangle)]
 pub extern "C" fn pigeon_state(socket: &mut Handle, state: &mut u32) -> u32
-    ensures handle { socket.new ≡ socket.old }
-    ensures state { Tells (λ s. state.new ≡ state_number (table.shown_state s.state)) socket.old.held result socket.new.held }
+    ensures { Tells (λ s. state.new ≡ state_number (table.shown_state s.state)) socket.old.held result socket.new.held }
 {
     match socket.as_mut() {
         None => NO_SOCKET,
@@ -69,7 +67,6 @@ pub extern "C" fn pigeon_state(socket: &mut Handle, state: &mut u32) -> u32
 /// The bytes of a stream that wait to be sent.
 #[unsafe(no_mangle)]
 pub extern "C" fn pigeon_buffered_amount(socket: &mut Handle, stream: u32, bytes: &mut usize) -> u32
-    ensures handle { socket.new ≡ socket.old }
     ensures stream { 65535 < stream → (result ≡ 6) × (socket.new.held ≡ socket.old.held) }
     ensures call { stream ≤ 65535 → Tells (λ s. bytes.new ≡ queue.amount_of (queue.stream stream s.context.queue.streams)) socket.old.held result socket.new.held }
 {
@@ -88,7 +85,6 @@ pub extern "C" fn pigeon_buffered_amount(socket: &mut Handle, stream: u32, bytes
 /// Writes what is counted of the association and the socket, while there is an association.
 #[unsafe(no_mangle)]
 pub extern "C" fn pigeon_get_metrics_sized(socket: &mut Handle, metrics: &mut [u8]) -> u32
-    ensures handle { socket.new ≡ socket.old }
     ensures size { 96 < length metrics.old → (result ≡ 21) × (socket.new.held ≡ socket.old.held) }
     ensures answers { length metrics.old ≤ 96 → Answers (λ e n f. IsAmong (0 ∷ 8 ∷ []) n) socket.old.held result socket.new.held }
     ensures stays { length metrics.old ≤ 96 → Answers (λ e n f. f ≡ e) socket.old.held result socket.new.held }
@@ -107,8 +103,7 @@ pub extern "C" fn pigeon_get_metrics_sized(socket: &mut Handle, metrics: &mut [u
 /// What stands in the way of a handover, a bit each.
 #[unsafe(no_mangle)]
 pub extern "C" fn pigeon_handover_readiness(socket: &mut Handle, readiness: &mut u32) -> u32
-    ensures handle { socket.new ≡ socket.old }
-    ensures readiness { Tells (λ s. readiness.new ≡ handover.readiness (end_of s).endpoint_state) socket.old.held result socket.new.held }
+    ensures { Tells (λ s. readiness.new ≡ handover.readiness (end_of s).endpoint_state) socket.old.held result socket.new.held }
 {
     match socket.as_mut() {
         None => NO_SOCKET,
@@ -122,7 +117,6 @@ pub extern "C" fn pigeon_handover_readiness(socket: &mut Handle, readiness: &mut
 /// The moment to which the time was advanced last, in nanoseconds since the socket was made.
 #[unsafe(no_mangle)]
 pub extern "C" fn pigeon_clock(socket: &mut Handle, nanos: &mut u64) -> u32
-    ensures handle { socket.new ≡ socket.old }
     ensures clock { Tells (λ s. nanos.new ≡ min s.context.clock (2 ^ 64 - 1)) socket.old.held result socket.new.held }
 {
     match socket.as_mut() {
@@ -137,7 +131,6 @@ pub extern "C" fn pigeon_clock(socket: &mut Handle, nanos: &mut u64) -> u32
 /// How many messages are ready.
 #[unsafe(no_mangle)]
 pub extern "C" fn pigeon_messages_ready_count(socket: &mut Handle, count: &mut usize) -> u32
-    ensures handle { socket.new ≡ socket.old }
     ensures count { Tells (λ s. count.new ≡ length (table.ready_in s.state)) socket.old.held result socket.new.held }
 {
     match socket.as_mut() {
@@ -156,7 +149,6 @@ pub extern "C" fn pigeon_stream_priority(
     stream: u32,
     priority: &mut u16,
 ) -> u32
-    ensures handle { socket.new ≡ socket.old }
     ensures stream { 65535 < stream → result ≡ 6 }
     ensures call { stream ≤ 65535 → Tells (λ s. priority.new ≡ (queue.stream stream s.context.queue.streams).priority) socket.old.held result socket.new.held }
 {
@@ -179,7 +171,6 @@ pub extern "C" fn pigeon_buffered_amount_low_threshold(
     stream: u32,
     bytes: &mut usize,
 ) -> u32
-    ensures handle { socket.new ≡ socket.old }
     ensures stream { 65535 < stream → result ≡ 6 }
     ensures call { stream ≤ 65535 → Tells (λ s. bytes.new ≡ (queue.stream stream s.context.queue.streams).threshold) socket.old.held result socket.new.held }
 {
@@ -198,7 +189,6 @@ pub extern "C" fn pigeon_buffered_amount_low_threshold(
 /// How many bytes more the send queue takes, of all streams.
 #[unsafe(no_mangle)]
 pub extern "C" fn pigeon_send_queue_room(socket: &mut Handle, bytes: &mut usize) -> u32
-    ensures handle { socket.new ≡ socket.old }
     ensures room { Tells (λ s. bytes.new ≡ s.context.options.max_send_buffer_size - queue.total_of s.context.queue.streams.entries) socket.old.held result socket.new.held }
 {
     match socket.as_mut() {
@@ -213,7 +203,6 @@ pub extern "C" fn pigeon_send_queue_room(socket: &mut Handle, bytes: &mut usize)
 /// Whether nothing is queued, and all that was sent is acknowledged: 1 or 0.
 #[unsafe(no_mangle)]
 pub extern "C" fn pigeon_is_at_rest(socket: &mut Handle, rest: &mut u32) -> u32
-    ensures handle { socket.new ≡ socket.old }
     ensures rest { Tells (λ s. rest.new ≡ one_if (is_at_rest s.state s.context.queue)) socket.old.held result socket.new.held }
 {
     match socket.as_mut() {
@@ -228,7 +217,6 @@ pub extern "C" fn pigeon_is_at_rest(socket: &mut Handle, rest: &mut u32) -> u32
 /// Whether these bytes would be refused, 1 or 0: they are no packet, or not one for this association.
 #[unsafe(no_mangle)]
 pub extern "C" fn pigeon_refuses(socket: &mut Handle, bytes: &[u8], refused: &mut u32) -> u32
-    ensures handle { socket.new ≡ socket.old }
     ensures answers { Answers (λ e n f. IsAmong (0 ∷ 2 ∷ []) n) socket.old.held result socket.new.held }
     ensures stays { Answers (λ e n f. f ≡ e) socket.old.held result socket.new.held }
     ensures judged { Answers (OnSocket (λ s n t. OnAnswer 0 n (Judges (word_by s.context.checksum) bytes.now s.context.options s.state (refused.new == 1)))) socket.old.held result socket.new.held }
@@ -243,7 +231,6 @@ pub extern "C" fn pigeon_refuses(socket: &mut Handle, bytes: &[u8], refused: &mu
 /// Writes the options, with the size of messages last set.
 #[unsafe(no_mangle)]
 pub extern "C" fn pigeon_get_options_sized(socket: &mut Handle, options: &mut [u8]) -> u32
-    ensures handle { socket.new ≡ socket.old }
     ensures size { 176 < length options.old → result ≡ 21 }
     ensures call { length options.old ≤ 176 → Tells (λ s. ShowsOptions s.context options.old options.new) socket.old.held result socket.new.held }
 {
