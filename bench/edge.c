@@ -15,7 +15,7 @@ static void hand_on(pigeon_socket *to, const pigeon_event *event, const uint8_t 
 
 static int copied(pigeon_socket *from, pigeon_socket *to) {
     static uint8_t buffer[SIZE + 500];
-    pigeon_event event;
+    pigeon_event event = PIGEON_EVENT;
     pigeon_message message;
     unsigned long before = events;
     while (pigeon_poll_event(from, &event, buffer, sizeof buffer) == PIGEON_OK)
@@ -27,7 +27,7 @@ static int copied(pigeon_socket *from, pigeon_socket *to) {
 
 static int lent(pigeon_socket *from, pigeon_socket *to) {
     const uint8_t *bytes;
-    pigeon_event event;
+    pigeon_event event = PIGEON_EVENT;
     pigeon_message message;
     unsigned long before = events;
     while (pigeon_borrow_event(from, &event, &bytes) == PIGEON_OK)
@@ -40,14 +40,15 @@ static int lent(pigeon_socket *from, pigeon_socket *to) {
 int main(int count, char **arguments) {
     static uint8_t payload[SIZE];
     pigeon_socket a = PIGEON_NO_HANDLE, b = PIGEON_NO_HANDLE;
-    pigeon_send_options plainly = {0, 0, 0, 0};
-    pigeon_options options;
+    pigeon_send_options plainly = PIGEON_SEND_OPTIONS;
+    pigeon_options options = PIGEON_OPTIONS;
+    uint8_t seed[PIGEON_SEED_SIZE] = {1}, other[PIGEON_SEED_SIZE] = {2};
     int (*pass)(pigeon_socket *, pigeon_socket *) = count > 1 ? copied : lent;
     (void)arguments;
     pigeon_default_options(&options);
     options.checksum = PIGEON_CHECKSUM_ZERO;
-    pigeon_new(&a, &options, 1, 1);
-    pigeon_new(&b, &options, 2, 2);
+    pigeon_new(&a, &options, seed);
+    pigeon_new(&b, &options, other);
     pigeon_connect(&a);
     for (int round = 0; round <= ROUNDS; round++) {
         while (pass(&a, &b) + pass(&b, &a) > 0) {}

@@ -1,5 +1,5 @@
 /* SPDX-License-Identifier: Apache-2.0 */
-/* SCTP (RFC 9260) without system calls: the socket of the crate sctp_association for C.
+/* SCTP (RFC 9260) without system calls.
  *
  * Packets, moments and messages are handed in; events, among them packets to send, are taken out. No function calls back, reads a
  * clock or draws a random number, and there is no global state.
@@ -7,18 +7,22 @@
  * All calls go by the moment to which pigeon_advance_time advanced the socket last: it comes first in a turn, and before pigeon_connect, pigeon_send
  * and the other calls; pigeon_poll_timeout comes last.
  *
- * What C owes at each call:
- *   - a pointer to a handle, a record or a number is not NULL, and points to one;
+ * What the caller owes at each call:
+ *   - a pointer to a handle, a struct or a number is not NULL, and points to one;
+ *   - the first field of pigeon_options, pigeon_metrics, pigeon_event and pigeon_send_options is the struct's size, and it has as many bytes.
+ *     PIGEON_OPTIONS, PIGEON_METRICS, PIGEON_EVENT and PIGEON_SEND_OPTIONS initialize one. A later header may append fields: with an earlier,
+ *     shorter size the fields that it lacks have their defaults, or aren't written; one that is longer than the library's is answered by
+ *     PIGEON_INVALID_SIZE, and nothing else happens;
  *   - a buffer has as many bytes as its length says; one of length 0 may be anywhere but NULL (PIGEON_EMPTY serves);
- *   - a handle is in one call at a time, and only these functions change it. Different handles may be in calls of different threads at
+ *   - a handle is in one call at a time, and only these functions change it: those that take it as const leave it as it is. Different handles may be in calls of different threads at
  *     once, and a handle may move to another thread: the calls of the one come before those of the other, by a lock or a join. It
  *     begins as PIGEON_NO_HANDLE, and is not copied: of two copies only one may be freed;
  *   - bytes that a socket lends (pigeon_borrow_event, pigeon_borrow_message) are only read, and not after the next call with this socket has
  *     begun, so that they aren't handed to that call either;
  *   - malloc aligns as C demands. No call is made in a signal handler, or in a forked child of a process with threads.
- * A handle that holds no socket (PIGEON_NO_HANDLE, or one that was freed) answers PIGEON_NO_SOCKET at each call whose numbers are right: a stream
- * above 65,535, unknown flags and too few places for answers are looked at first.
- * Packets aren't signed: on a network that strangers reach they go through DTLS.
+ * A handle that holds no socket (PIGEON_NO_HANDLE, or one that was freed) answers PIGEON_NO_SOCKET at each call whose numbers are right: sizes
+ * of structs, a stream above 65,535, unknown flags and too few places for answers are looked at first.
+ * Packets and cookies aren't signed: on a network that strangers reach they go through DTLS. Without it whoever sees a packet can forge others.
  * The archive that scripts/c-library writes is for processors of the level x86-64-v2 or above, and doesn't ask for it.
  */
 #ifndef SHELFPIGEON_H
@@ -27,6 +31,7 @@
 #include <stdbool.h>
 #include <stddef.h>
 #include <stdint.h>
+#include <string.h>
 
 #ifdef __cplusplus
 extern "C" {
@@ -44,7 +49,13 @@ typedef struct pigeon_socket {
     void *at;
 } pigeon_socket;
 
-#define PIGEON_NO_HANDLE {0}
+/* A handle that holds no socket, to begin with and to be assigned. In an initializer of static storage C takes PIGEON_NO_HANDLE_INIT. */
+#define PIGEON_NO_HANDLE_INIT {0}
+#ifdef __cplusplus
+#define PIGEON_NO_HANDLE (pigeon_socket{0})
+#else
+#define PIGEON_NO_HANDLE ((pigeon_socket){0})
+#endif
 
 /* What stands for a buffer of length 0. */
 #define PIGEON_EMPTY ((uint8_t *)(uintptr_t)1)
@@ -56,7 +67,7 @@ enum {
     PIGEON_FAILED = 2,           /* an earlier call found too little memory */
     PIGEON_NO_SOCKET = 3,        /* the handle holds no socket */
     PIGEON_IN_USE = 4,           /* the handle holds a socket already */
-    PIGEON_INVALID_OPTIONS = 5,  /* a field of the options is out of its bounds, which stand at each field */
+    PIGEON_INVALID_OPTIONS = 5,  /* a field of the options is out of its bounds, which stand at each field: pigeon_check_options says which */
     PIGEON_INVALID_STREAM = 6,   /* the stream's number is above 65,535 */
     PIGEON_INVALID_ARGUMENT = 7, /* flags that there aren't, or a number beyond what it can be */
     PIGEON_NOTHING = 8,          /* no event waits, or no message is ready */
@@ -64,18 +75,48 @@ enum {
     PIGEON_EMPTY_PAYLOAD = 10,
     PIGEON_MESSAGE_TOO_LARGE = 11,
     PIGEON_SHUTTING_DOWN = 12, /* a closed socket queues the message, and answers PIGEON_OK */
-    PIGEON_RESOURCE_EXHAUSTION = 13, /* the send queue is full */
-    PIGEON_NOT_CONNECTED = 14,
+    PIGEON_QUEUE_FULL = 13,
+    PIGEON_NO_ASSOCIATION = 14,
     PIGEON_NOT_SUPPORTED = 15, /* the peer can't reset streams */
     PIGEON_NOT_READY = 16,     /* something stands in the way of a handover */
     PIGEON_NO_ROOM = 17,       /* too little memory to begin with: but by pigeon_handover nothing changed, and the call may be made again */
     PIGEON_SOME_REFUSED = 18,  /* some messages of a batch weren't accepted; the others were */
     PIGEON_NOT_CLOSED = 19,    /* only a closed socket takes up a record */
-    PIGEON_INVALID_STATE = 20  /* the bytes are no record, or one that no socket could have written */
+    PIGEON_INVALID_STATE = 20, /* the bytes are no record, or one that no socket could have written */
+    PIGEON_INVALID_SIZE = 21,  /* the size of a struct is beyond what this library knows */
+    PIGEON_NO_PACKET = 22      /* the bytes are no packet */
 };
 
-/* Writes the text of an answer, without a zero byte behind it, where it fits: 64 bytes do. Answers the length of the text. */
-size_t pigeon_answer_text(uint32_t answer, uint8_t *buffer, size_t length);
+enum { PIGEON_TEXT_ANSWER = 0, PIGEON_TEXT_EVENT = 1, PIGEON_TEXT_ERROR = 2, PIGEON_TEXT_STATE = 3, PIGEON_TEXT_OPTION = 4 };
+/* Hands out the text of a number of this kind: it ends by a zero byte, and stays for ever. */
+void pigeon_find_text(uint32_t kind, uint32_t number, const char **text);
+
+static inline const char *pigeon_answer_text(uint32_t answer) {
+    const char *text;
+    pigeon_find_text(PIGEON_TEXT_ANSWER, answer, &text);
+    return text;
+}
+static inline const char *pigeon_event_text(uint32_t kind) {
+    const char *text;
+    pigeon_find_text(PIGEON_TEXT_EVENT, kind, &text);
+    return text;
+}
+static inline const char *pigeon_error_text(uint32_t error) {
+    const char *text;
+    pigeon_find_text(PIGEON_TEXT_ERROR, error, &text);
+    return text;
+}
+static inline const char *pigeon_state_text(uint32_t state) {
+    const char *text;
+    pigeon_find_text(PIGEON_TEXT_STATE, state, &text);
+    return text;
+}
+/* The name of the option whose place pigeon_check_options hands out. */
+static inline const char *pigeon_option_text(uint32_t place) {
+    const char *text;
+    pigeon_find_text(PIGEON_TEXT_OPTION, place, &text);
+    return text;
+}
 
 /* ---- Options */
 
@@ -88,13 +129,14 @@ enum {
     PIGEON_PARTIAL_RELIABILITY = 1,            /* RFC 3758 */
     PIGEON_MESSAGE_INTERLEAVING = 2,           /* RFC 8260 */
     PIGEON_NO_CHECKSUM_VERIFICATION = 4,       /* for tests */
-    SHELFPIGEON_HANDOVER_WITH_OUTSTANDING_DATA = 8,
-    SHELFPIGEON_HEARTBEAT_INTERVAL_INCLUDE_RTT = 16 /* not read */
+    PIGEON_HANDOVER_WITH_OUTSTANDING_DATA = 8,
+    PIGEON_HEARTBEAT_INTERVAL_INCLUDE_RTT = 16 /* NOT READ */
 };
 
 /* What a socket is made with. Spans are in nanoseconds, sizes in bytes, windows in packets of the largest size. A field without bounds takes
  * each number of its type. */
 typedef struct pigeon_options {
+    size_t size; /* sizeof(pigeon_options) */
     uint16_t local_port; /* ports are written into packets, and not compared in those that come */
     uint16_t remote_port;
     uint16_t announced_maximum_incoming_streams;
@@ -132,22 +174,50 @@ typedef struct pigeon_options {
     uint64_t rto_min;             /* at least a millisecond */
     uint64_t t1_init_timeout;     /* at least a millisecond */
     uint64_t t1_cookie_timeout;   /* at least a millisecond */
-    uint64_t t2_shutdown_timeout; /* not read: a shutdown waits for the retransmission timeout */
+    uint64_t t2_shutdown_timeout; /* NOT READ: a shutdown waits for the retransmission timeout */
     uint64_t max_timer_backoff_duration; /* the longest wait of the retransmission timer; with PIGEON_UNSET its waits double up to a day */
     uint64_t heartbeat_interval;         /* none are sent at 0 */
     uint64_t delayed_ack_max_timeout;    /* at least a millisecond */
     uint64_t min_rtt_variance;
 } pigeon_options;
 
-/* Writes the options that a socket has where nothing else is said. */
-void pigeon_default_options(pigeon_options *options);
+/* An initializer: with the size alone. All else is written by pigeon_default_options or pigeon_options_for_webrtc. */
+#define PIGEON_OPTIONS                                                                                                                       \
+    {sizeof(pigeon_options), 0, 0, 0, 0, 0, 0, 0, 0, 0, 0, 0, 0, 0, 0, 0, 0, 0, 0, 0, 0, 0, 0, 0, 0, 0, 0, 0, 0, 0, 0, 0, 0, 0}
+
+/* Calls that end in _sized take the size of a struct behind its pointer, and don't read its first field: they are for other languages. Those
+ * without take it from there. */
+
+/* Writes the options that a socket has where nothing else is said. PIGEON_INVALID_SIZE. */
+uint32_t pigeon_default_options_sized(void *options, size_t size);
+static inline uint32_t pigeon_default_options(pigeon_options *options) { return pigeon_default_options_sized(options, options->size); }
+
+/* Writes the options of data channels (RFC 8831), which differ from the defaults in two: DTLS finds damage, where the peer says so too
+ * (RFC 9653); and the window is twice the largest message of 262,144 bytes. The mtu of 1,191 leaves room for DTLS and UDP, there are 65,535
+ * streams each way. With another largest message set max_message_size, and the window to twice what the peer may send. PIGEON_INVALID_SIZE. */
+uint32_t pigeon_options_for_webrtc_sized(void *options, size_t size);
+static inline uint32_t pigeon_options_for_webrtc(pigeon_options *options) { return pigeon_options_for_webrtc_sized(options, options->size); }
+
+/* PIGEON_INVALID_OPTIONS: no socket can be made, and `place` is where in the struct the first field stands that is out of its bounds, as
+ * offsetof has it; pigeon_option_text has its name. PIGEON_OK: `place` is 0. PIGEON_INVALID_SIZE: it isn't written. */
+uint32_t pigeon_check_options_sized(const void *options, size_t size, uint32_t *place);
+static inline uint32_t pigeon_check_options(const pigeon_options *options, uint32_t *place) {
+    return pigeon_check_options_sized(options, options->size, place);
+}
 
 /* ---- A socket is made, and let go */
 
-/* Makes a closed socket at moment zero. Tags, first TSNs and ties are drawn from PCG32 of this seed and stream: on a network that
- * strangers reach, take both from the system's random source. PIGEON_IN_USE, PIGEON_INVALID_ARGUMENT (a flag or checksum
- * that there isn't), PIGEON_INVALID_OPTIONS, PIGEON_NO_ROOM: the handle stays as it was. */
-uint32_t pigeon_new(pigeon_socket *socket, const pigeon_options *options, uint64_t seed, uint64_t stream);
+/* The bytes of a seed. */
+#define PIGEON_SEED_SIZE 32
+
+/* Makes a closed socket at moment zero. Tags, first TSNs and ties are the words of ChaCha20 (RFC 8439) whose key is the seed. Take the seed
+ * from the system's random source (getrandom, getentropy), a new one for each socket, and keep it to yourself: who knows it can end or forge
+ * the association. PIGEON_IN_USE, PIGEON_INVALID_SIZE, PIGEON_INVALID_ARGUMENT (a flag or checksum that there isn't, or a seed of another
+ * length), PIGEON_INVALID_OPTIONS, PIGEON_NO_ROOM: the handle stays as it was. */
+uint32_t pigeon_new_sized(pigeon_socket *socket, const void *options, size_t size, const uint8_t *seed, size_t seed_size);
+static inline uint32_t pigeon_new(pigeon_socket *socket, const pigeon_options *options, const uint8_t seed[PIGEON_SEED_SIZE]) {
+    return pigeon_new_sized(socket, options, options->size, seed, PIGEON_SEED_SIZE);
+}
 
 /* Lets the socket go, with what it holds; the peer gets nothing. Afterwards the handle holds none, so that it may be freed again. A copy
  * of the handle then names freed memory. */
@@ -158,8 +228,7 @@ void pigeon_free(pigeon_socket *socket);
 /* Opens an association, where the socket is closed. Advance the time first. */
 uint32_t pigeon_connect(pigeon_socket *socket);
 /* No more messages are accepted, and the association ends once nothing is in flight (RFC 9260 section 9.2). What waits to be sent, or to be
- * sent again, isn't waited for and may be lost: wait until pigeon_handover_readiness of a connected socket has neither
- * PIGEON_SEND_QUEUE_NOT_EMPTY nor PIGEON_RETRANSMISSION_QUEUE_OUTSTANDING_DATA. A closed socket stays as it is. Advance the time first. */
+ * sent again, isn't waited for and may be lost: wait until pigeon_is_at_rest says 1. A closed socket stays as it is. Advance the time first. */
 uint32_t pigeon_shutdown(pigeon_socket *socket);
 /* Ends the association at once, with an ABORT to the peer (RFC 9260 section 9.1). The send queue stays, here and where the peer aborts: what it
  * holds goes to the peer of the next association, a partly sent message from its start. */
@@ -172,18 +241,36 @@ uint32_t pigeon_handle_input(pigeon_socket *socket, const uint8_t *bytes, size_t
 uint32_t pigeon_advance_time(pigeon_socket *socket, uint64_t nanos);
 /* By which moment the time is to be advanced next: UINT64_MAX where no timer runs. Ask last in a turn, and not a socket that answered
  * PIGEON_MEMORY: no call moves its timers any more. */
-uint32_t pigeon_poll_timeout(pigeon_socket *socket, uint64_t *nanos);
+uint32_t pigeon_poll_timeout(const pigeon_socket *socket, uint64_t *nanos);
 
 enum { PIGEON_CLOSED = 0, PIGEON_CONNECTING = 1, PIGEON_CONNECTED = 2, PIGEON_CLOSING = 3 };
-uint32_t pigeon_state(pigeon_socket *socket, uint32_t *state);
+uint32_t pigeon_state(const pigeon_socket *socket, uint32_t *state);
+/* The moment to which the time was advanced last. */
+uint32_t pigeon_clock(const pigeon_socket *socket, uint64_t *nanos);
+/* 1 where nothing is queued and all that was sent is acknowledged, else 0: then pigeon_shutdown loses nothing. */
+uint32_t pigeon_is_at_rest(const pigeon_socket *socket, uint32_t *rest);
+/* Whether pigeon_handle_input would refuse these bytes, 1 or 0: they are no packet, or not one for this association. It takes no memory.
+ * PIGEON_FAILED: the socket has failed, and takes none. */
+uint32_t pigeon_refuses(const pigeon_socket *socket, const uint8_t *bytes, size_t length, uint32_t *refused);
+/* Sets the most bytes of a message that is sent, as the peer's a=max-message-size says (RFC 8841). */
+uint32_t pigeon_set_max_message_size(pigeon_socket *socket, uint32_t bytes);
+/* Writes the options that the socket was made with, and the size of messages last set. PIGEON_INVALID_SIZE. */
+uint32_t pigeon_get_options_sized(const pigeon_socket *socket, void *options, size_t size);
+static inline uint32_t pigeon_get_options(const pigeon_socket *socket, pigeon_options *options) {
+    return pigeon_get_options_sized(socket, options, options->size);
+}
 /* The bytes of a stream that wait to be sent. */
-uint32_t pigeon_buffered_amount(pigeon_socket *socket, uint32_t stream, size_t *bytes);
+uint32_t pigeon_buffered_amount(const pigeon_socket *socket, uint32_t stream, size_t *bytes);
+/* How many bytes more the send queue takes, of all streams: max_send_buffer_size less what waits. At 0 each message is refused; a message is
+ * taken whole where the room is above 0. */
+uint32_t pigeon_send_queue_room(const pigeon_socket *socket, size_t *bytes);
 
 /* ---- What is counted */
 
 enum { PIGEON_PEER_UNKNOWN = 0, PIGEON_PEER_DCSCTP_RS = 1, PIGEON_PEER_DCSCTP_CC = 2, PIGEON_PEER_USRSCTP = 3, PIGEON_PEER_OTHER = 4 };
 
 typedef struct pigeon_metrics {
+    size_t size;              /* sizeof(pigeon_metrics) */
     size_t tx_packets_count;  /* over the socket's life */
     size_t tx_messages_count; /* accepted, over the socket's life */
     size_t rtx_packets_count; /* packets of the association in which a fragment was sent again */
@@ -201,12 +288,17 @@ typedef struct pigeon_metrics {
     bool uses_zero_checksum;        /* RFC 9653 */
 } pigeon_metrics;
 
-/* PIGEON_NOTHING: there is no association, or it is not so far that anything is counted. */
-uint32_t pigeon_get_metrics(pigeon_socket *socket, pigeon_metrics *metrics);
+#define PIGEON_METRICS {sizeof(pigeon_metrics), 0, 0, 0, 0, 0, 0, 0, 0, 0, 0, 0, 0, 0, 0, 0}
+
+/* PIGEON_NOTHING: there is no association, or it is not so far that anything is counted. PIGEON_INVALID_SIZE. */
+uint32_t pigeon_get_metrics_sized(const pigeon_socket *socket, void *metrics, size_t size);
+static inline uint32_t pigeon_get_metrics(const pigeon_socket *socket, pigeon_metrics *metrics) {
+    return pigeon_get_metrics_sized(socket, metrics, metrics->size);
+}
 
 /* ---- A socket is handed over */
 
-/* What stands in the way of a handover: the sum of these. A closed socket is ready. With SHELFPIGEON_HANDOVER_WITH_OUTSTANDING_DATA the bits 2, 512
+/* What stands in the way of a handover: the sum of these. A closed socket is ready. With PIGEON_HANDOVER_WITH_OUTSTANDING_DATA the bits 2, 512
  * and 2048 are never set. */
 enum {
     PIGEON_READY = 0,
@@ -221,7 +313,7 @@ enum {
     PIGEON_RETRANSMISSION_QUEUE_FAST_RECOVERY = 1024,
     PIGEON_RETRANSMISSION_QUEUE_NOT_EMPTY = 2048
 };
-uint32_t pigeon_handover_readiness(pigeon_socket *socket, uint32_t *readiness);
+uint32_t pigeon_handover_readiness(const pigeon_socket *socket, uint32_t *readiness);
 
 /* Hands out the socket's record, by which another socket goes on in its place; this one closes, as PIGEON_ON_CLOSED says, and the peer gets
  * nothing. `needed` becomes the record's length. PIGEON_NOT_READY: nothing changes. PIGEON_SHORT_BUFFER (and `needed` is handed out), PIGEON_NO_ROOM: the
@@ -240,10 +332,12 @@ uint32_t pigeon_restore(pigeon_socket *socket, const uint8_t *bytes, size_t leng
 
 /* Sets the priority of a stream, by which it is weighed where messages are interleaved (RFC 8260). */
 uint32_t pigeon_set_stream_priority(pigeon_socket *socket, uint32_t stream, uint16_t priority);
+uint32_t pigeon_stream_priority(const pigeon_socket *socket, uint32_t stream, uint16_t *priority);
 /* Sets the amount in bytes at which PIGEON_BUFFERED_AMOUNT_LOW is emitted. */
 uint32_t pigeon_set_buffered_amount_low_threshold(pigeon_socket *socket, uint32_t stream, size_t bytes);
+uint32_t pigeon_buffered_amount_low_threshold(const pigeon_socket *socket, uint32_t stream, size_t *bytes);
 /* Resets a stream, whose numbers then begin anew (RFC 6525): its messages of which nothing is sent are dropped, and no other one is sent
- * until the peer has answered. PIGEON_NOT_CONNECTED, PIGEON_NOT_SUPPORTED: nothing changes. Advance the time first. */
+ * until the peer has answered. PIGEON_NO_ASSOCIATION, PIGEON_NOT_SUPPORTED: nothing changes. Advance the time first. */
 uint32_t pigeon_reset_stream(pigeon_socket *socket, uint32_t stream);
 /* Resets several streams by one request, where they fit. PIGEON_NO_ROOM: there is no memory for a copy of the list. An empty list only sends
  * what may be sent. */
@@ -253,20 +347,27 @@ uint32_t pigeon_reset_streams(pigeon_socket *socket, const uint16_t *streams, si
 
 enum { PIGEON_UNORDERED = 1, PIGEON_LIFETIME = 2, PIGEON_MAX_RETRANSMISSIONS = 4 };
 
-/* How a message is sent. All zero is an ordered, reliable message. */
+/* How a message is sent. All zero behind the size is an ordered, reliable message. */
 typedef struct pigeon_send_options {
+    size_t size; /* sizeof(pigeon_send_options) */
     uint32_t flags;
     uint32_t max_retransmissions; /* with PIGEON_MAX_RETRANSMISSIONS, at most 65,535 (RFC 7496 section 3.2) */
     uint64_t lifetime;            /* with PIGEON_LIFETIME, in nanoseconds (RFC 3758 section 4.1) */
     uint64_t lifecycle;           /* by which lifecycle events name the message; none at 0 */
 } pigeon_send_options;
 
+#define PIGEON_SEND_OPTIONS {sizeof(pigeon_send_options), 0, 0, 0, 0}
+
 /* Queues a message, which is copied, and sends as much as may be sent. Advance the time first: lifetime, round trip and retransmission count
  * from the clock's moment. A full queue emits an error at each call: offer no more until PIGEON_BUFFERED_AMOUNT_LOW of the stream, or
  * PIGEON_TOTAL_BUFFERED_AMOUNT_LOW. A message that is refused isn't queued. PIGEON_INVALID_ARGUMENT: flags that there aren't, or a
- * max_retransmissions above 65,535. PIGEON_NO_ROOM: there is no memory for the copy. */
-uint32_t pigeon_send(pigeon_socket *socket, uint32_t stream, uint32_t ppid, const uint8_t *payload, size_t length,
-                   const pigeon_send_options *options);
+ * max_retransmissions above 65,535. PIGEON_INVALID_SIZE. PIGEON_NO_ROOM: there is no memory for the copy. */
+uint32_t pigeon_send_sized(pigeon_socket *socket, uint32_t stream, uint32_t ppid, const uint8_t *payload, size_t length, const void *options,
+                           size_t size);
+static inline uint32_t pigeon_send(pigeon_socket *socket, uint32_t stream, uint32_t ppid, const uint8_t *payload, size_t length,
+                                   const pigeon_send_options *options) {
+    return pigeon_send_sized(socket, stream, ppid, payload, length, options, options->size);
+}
 
 /* A message to be sent. The payload stays C's: it is copied within the call. */
 typedef struct pigeon_outgoing {
@@ -278,10 +379,14 @@ typedef struct pigeon_outgoing {
 
 /* Queues copies of several messages, all by the same options, and sends then; advance the time first. The first `count` of the numbers at
  * `answers` become what pigeon_send would answer for each; PIGEON_SOME_REFUSED where not all are PIGEON_OK, and the others are queued all the same.
- * PIGEON_INVALID_ARGUMENT as of pigeon_send; PIGEON_SHORT_BUFFER: `answered` is less than `count`; PIGEON_INVALID_STREAM: a stream is above 65,535;
- * PIGEON_NO_ROOM: no memory for the copies. After one of these four nothing is queued. */
-uint32_t pigeon_send_many(pigeon_socket *socket, const pigeon_outgoing *messages, size_t count, const pigeon_send_options *options,
-                        uint32_t *answers, size_t answered);
+ * PIGEON_INVALID_SIZE and PIGEON_INVALID_ARGUMENT as of pigeon_send; PIGEON_SHORT_BUFFER: `answered` is less than `count`; PIGEON_INVALID_STREAM: a stream is above 65,535;
+ * PIGEON_NO_ROOM: no memory for the copies. After one of these five nothing is queued. */
+uint32_t pigeon_send_many_sized(pigeon_socket *socket, const pigeon_outgoing *messages, size_t count, const void *options, size_t size,
+                                uint32_t *answers, size_t answered);
+static inline uint32_t pigeon_send_many(pigeon_socket *socket, const pigeon_outgoing *messages, size_t count,
+                                        const pigeon_send_options *options, uint32_t *answers, size_t answered) {
+    return pigeon_send_many_sized(socket, messages, count, options, options->size, answers, answered);
+}
 
 typedef struct pigeon_message {
     uint32_t stream;
@@ -297,6 +402,21 @@ uint32_t pigeon_next_message(pigeon_socket *socket, pigeon_message *message, uin
  * the socket lends others, when it has none to lend (PIGEON_NOTHING), or when it is freed. */
 uint32_t pigeon_borrow_message(pigeon_socket *socket, pigeon_message *message, const uint8_t **payload);
 
+/* How many messages are ready. */
+uint32_t pigeon_messages_ready_count(const pigeon_socket *socket, size_t *count);
+
+enum { PIGEON_CAUSE_LIFETIME = 0, PIGEON_CAUSE_RETRANSMISSIONS = 1, PIGEON_CAUSE_RESET = 2 };
+
+/* A message that was given up (RFC 3758 section 3.5). */
+typedef struct pigeon_given_up {
+    uint32_t number;          /* its place in the order in which messages were accepted, from 0, modulo 2^32 */
+    uint32_t cause;           /* its lifetime passed, a fragment was sent again as often as allowed, or its stream was reset */
+    uint32_t retransmissions; /* of PIGEON_CAUSE_RETRANSMISSIONS: how often */
+} pigeon_given_up;
+
+/* Takes the record of the message that was given up first. PIGEON_NOTHING: there is none. */
+uint32_t pigeon_next_given_up(pigeon_socket *socket, pigeon_given_up *record);
+
 /* ---- Events */
 
 enum {
@@ -308,7 +428,7 @@ enum {
     PIGEON_ON_ERROR = 5,                /* `error` closes nothing; the buffer has its text */
     PIGEON_BUFFERED_AMOUNT_LOW = 6,     /* of `stream` */
     PIGEON_TOTAL_BUFFERED_AMOUNT_LOW = 7,
-    PIGEON_STREAMS_RESET_FAILED = 8, /* of these three the buffer has the streams, two bytes each, the high one first */
+    PIGEON_STREAMS_RESET_FAILED = 8, /* of these three the buffer has the streams, each a uint16_t of this processor: pigeon_stream_at */
     PIGEON_STREAMS_RESET_PERFORMED = 9,
     PIGEON_INCOMING_STREAM_RESET = 10, /* all, where none is named */
     PIGEON_LIFECYCLE_FULLY_SENT = 11,  /* of the message with the number `lifecycle` */
@@ -318,34 +438,59 @@ enum {
     PIGEON_LIFECYCLE_END = 15
 };
 
+/* Kinds of errors. */
 enum {
-    PIGEON_TOO_MANY_RETRIES = 1,
+    PIGEON_ERROR_TOO_MANY_RETRIES = 1,
     PIGEON_ERROR_NOT_CONNECTED = 2,
-    PIGEON_PARSE_FAILED = 3,
-    PIGEON_WRONG_SEQUENCE = 4,
-    PIGEON_PEER_REPORTED = 5,
-    PIGEON_PROTOCOL_VIOLATION = 6,
+    PIGEON_ERROR_PARSE_FAILED = 3,
+    PIGEON_ERROR_WRONG_SEQUENCE = 4,
+    PIGEON_ERROR_PEER_REPORTED = 5,
+    PIGEON_ERROR_PROTOCOL_VIOLATION = 6,
     PIGEON_ERROR_RESOURCE_EXHAUSTION = 7,
-    PIGEON_UNSUPPORTED_OPERATION = 8
+    PIGEON_ERROR_UNSUPPORTED_OPERATION = 8
 };
 
 typedef struct pigeon_event {
+    size_t size; /* sizeof(pigeon_event) */
     uint32_t kind;
     uint32_t error;
     uint32_t stream;
-    uint32_t unused;
+    /* Of PIGEON_ERROR_PEER_REPORTED: the code of the first error cause of the peer's ABORT or ERROR (RFC 9260 section 3.3.10), where it is 2, 6,
+     * 9, 10, 12 or 13; else 0. 12 is a close by the peer's user. */
+    uint32_t cause;
     uint64_t lifecycle;
     size_t length; /* how many bytes it has, or needs */
 } pigeon_event;
 
+#define PIGEON_EVENT {sizeof(pigeon_event), 0, 0, 0, 0, 0, 0}
+
+/* The stream at this place, from 0, of the bytes of an event of streams, which has event.length / 2. */
+static inline uint16_t pigeon_stream_at(const uint8_t *bytes, size_t place) {
+    uint16_t stream;
+    memcpy(&stream, bytes + 2 * place, sizeof stream);
+    return stream;
+}
+
 /* Hands out the event that was emitted first. Take all of them each turn: those that wait are kept, however many there are.
- * PIGEON_SHORT_BUFFER: it stays, and `length` says what it needs; so does PIGEON_NO_ROOM, which events of streams alone answer. Packets need
- * at most the options' mtu. */
-uint32_t pigeon_poll_event(pigeon_socket *socket, pigeon_event *event, uint8_t *buffer, size_t length);
+ * PIGEON_SHORT_BUFFER: it stays, and `length` says what it needs. PIGEON_NO_ROOM, which events of streams alone answer: it stays.
+ * PIGEON_INVALID_SIZE. Packets need at most the options' mtu. */
+uint32_t pigeon_poll_event_sized(pigeon_socket *socket, void *event, size_t size, uint8_t *buffer, size_t length);
+static inline uint32_t pigeon_poll_event(pigeon_socket *socket, pigeon_event *event, uint8_t *buffer, size_t length) {
+    return pigeon_poll_event_sized(socket, event, event->size, buffer, length);
+}
 
 /* The same without a copy: the `length` bytes at `bytes` are the socket's, and are lent until the next call with it, as those of
- * pigeon_borrow_message. PIGEON_NO_ROOM, which events of streams alone answer: the event stays. */
-uint32_t pigeon_borrow_event(pigeon_socket *socket, pigeon_event *event, const uint8_t **bytes);
+ * pigeon_borrow_message. PIGEON_NO_ROOM, which events of streams alone answer: the event stays. PIGEON_INVALID_SIZE. */
+uint32_t pigeon_borrow_event_sized(pigeon_socket *socket, void *event, size_t size, const uint8_t **bytes);
+static inline uint32_t pigeon_borrow_event(pigeon_socket *socket, pigeon_event *event, const uint8_t **bytes) {
+    return pigeon_borrow_event_sized(socket, event, event->size, bytes);
+}
+
+/* ---- To look at */
+
+/* Writes what the chunks of a packet say, one line each, and a zero byte; `needed` is how many bytes that takes. The checksum isn't looked
+ * at. PIGEON_SHORT_BUFFER: nothing is written but `needed`. PIGEON_NO_PACKET, PIGEON_NO_ROOM: nothing is. */
+uint32_t pigeon_describe_packet(const uint8_t *bytes, size_t length, size_t *needed, char *buffer, size_t room);
 
 #ifdef __cplusplus
 }

@@ -4,17 +4,19 @@
 #include <stdio.h>
 #include <stdlib.h>
 
-static pigeon_socket ours = PIGEON_NO_HANDLE;
+static pigeon_socket ours = PIGEON_NO_HANDLE_INIT;
 
 void open_ours(uint64_t seed) {
-    pigeon_options options;
+    pigeon_options options = PIGEON_OPTIONS;
     pigeon_default_options(&options);
     options.mtu = 1188;
     options.checksum = world->setup.crosses ? PIGEON_CHECKSUM_ZERO : PIGEON_CHECKSUM_CRC32C;
     options.zero_checksum_method = world->setup.crosses ? PIGEON_ZERO_CHECKSUM_DTLS : PIGEON_ZERO_CHECKSUM_NONE;
     if (world->setup.interleaves)
         options.flags |= PIGEON_MESSAGE_INTERLEAVING;
-    uint32_t answer = pigeon_new(&ours, &options, seed, 1);
+    uint8_t key[PIGEON_SEED_SIZE] = {0};
+    memcpy(key, &seed, sizeof seed);
+    uint32_t answer = pigeon_new(&ours, &options, key);
     if (answer != PIGEON_OK)
         wrong("new answers %u", answer);
     tell_ours_time();
@@ -54,19 +56,20 @@ uint64_t next_of_ours(void) {
 }
 
 bool is_quiet(void) {
-    pigeon_metrics metrics;
+    pigeon_metrics metrics = PIGEON_METRICS;
     return pigeon_get_metrics(&ours, &metrics) != PIGEON_OK || metrics.unack_data_count == 0;
 }
 
 bool interleaves_ours(void) {
-    pigeon_metrics metrics;
+    pigeon_metrics metrics = PIGEON_METRICS;
     return pigeon_get_metrics(&ours, &metrics) == PIGEON_OK && metrics.uses_message_interleaving;
 }
 
 bool send_ours(size_t place) {
     struct message *m = &world->messages[place];
     uint8_t *bytes = payload_of(place);
-    pigeon_send_options options = {0, 0, 0, place + 1};
+    pigeon_send_options options = PIGEON_SEND_OPTIONS;
+    options.lifecycle = place + 1;
     if (m->unordered)
         options.flags |= PIGEON_UNORDERED;
     if (m->retransmissions != UINT32_MAX) {
@@ -79,7 +82,7 @@ bool send_ours(size_t place) {
     }
     uint32_t answer = pigeon_send(&ours, m->stream, (uint32_t)place, bytes, m->length, &options);
     free(bytes);
-    if (answer != PIGEON_RESOURCE_EXHAUSTION)
+    if (answer != PIGEON_QUEUE_FULL)
         made("send", answer);
     return answer == PIGEON_OK;
 }
@@ -136,7 +139,7 @@ static void take_event(const pigeon_event *event, const uint8_t *bytes) {
 /* Takes the messages that are ready, and what ours emits. */
 void take_from_ours(void) {
     static uint8_t buffer[1 << 19];
-    pigeon_event event;
+    pigeon_event event = PIGEON_EVENT;
     pigeon_message message;
     uint32_t answer;
     while (pigeon_next_message(&ours, &message, buffer, sizeof buffer) == PIGEON_OK)

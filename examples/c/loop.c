@@ -5,17 +5,23 @@
 #include <stdlib.h>
 
 static void must(const char *what, uint32_t answer) {
-    uint8_t text[64];
     if (answer != PIGEON_OK) {
-        printf("%s: %.*s\n", what, (int)pigeon_answer_text(answer, text, sizeof text), (const char *)text);
+        printf("%s: %s\n", what, pigeon_answer_text(answer));
         exit(1);
     }
+}
+
+/* A seed that anyone can foresee, for an example alone: a product takes it from the system's random source. */
+static const uint8_t *seed_of(uint8_t number) {
+    static uint8_t seed[PIGEON_SEED_SIZE];
+    seed[0] = number;
+    return seed;
 }
 
 /* Takes all that a socket emits, and hands its packets to the other end. Answers how many there were. */
 static int take_events(const char *name, pigeon_socket *from, pigeon_socket *to) {
     const uint8_t *bytes;
-    pigeon_event event;
+    pigeon_event event = PIGEON_EVENT;
     int packets = 0;
     while (pigeon_borrow_event(from, &event, &bytes) == PIGEON_OK)
         if (event.kind == PIGEON_SEND_PACKET) {
@@ -51,14 +57,14 @@ static void take_messages(const char *name, pigeon_socket *socket) {
 
 int main(void) {
     pigeon_socket a = PIGEON_NO_HANDLE, b = PIGEON_NO_HANDLE, c = PIGEON_NO_HANDLE;
-    pigeon_options options;
-    pigeon_send_options plainly = {0, 0, 0, 0};
+    pigeon_options options = PIGEON_OPTIONS;
+    pigeon_send_options plainly = PIGEON_SEND_OPTIONS;
     uint8_t record[4096];
     size_t length;
     uint64_t now = 0;
-    pigeon_default_options(&options);
-    must("new", pigeon_new(&a, &options, 1, 1));
-    must("new", pigeon_new(&b, &options, 2, 2));
+    must("options", pigeon_options_for_webrtc(&options));
+    must("new", pigeon_new(&a, &options, seed_of(1)));
+    must("new", pigeon_new(&b, &options, seed_of(2)));
     must("connect", pigeon_connect(&a));
     settle(&a, &b, &now);
     must("send", pigeon_send(&a, 1, 51, (const uint8_t *)"hello", 5, &plainly));
@@ -66,7 +72,7 @@ int main(void) {
     settle(&a, &b, &now);
     take_messages("b", &b);
     must("handover", pigeon_handover(&b, &length, record, sizeof record)); /* a new socket goes on in b's place */
-    must("new", pigeon_new(&c, &options, 3, 3));
+    must("new", pigeon_new(&c, &options, seed_of(3)));
     must("advance_time", pigeon_advance_time(&c, now)); /* first: a restored socket goes by its clock too */
     must("restore", pigeon_restore(&c, record, length));
     printf("a record of %zu bytes\n", length);

@@ -20,10 +20,17 @@ static void must(const char *what, uint32_t answer) {
     }
 }
 
+/* A seed that anyone can foresee, for an example alone: a product takes it from the system's random source. */
+static const uint8_t *seed_of(uint8_t number) {
+    static uint8_t seed[PIGEON_SEED_SIZE];
+    seed[0] = number;
+    return seed;
+}
+
 /* Takes all that a socket emits, and hands its packets to the other end. Answers how many there were. */
 static int take_packets(pigeon_socket *from, pigeon_socket *to) {
     const uint8_t *bytes;
-    pigeon_event event;
+    pigeon_event event = PIGEON_EVENT;
     int packets = 0;
     while (pigeon_borrow_event(from, &event, &bytes) == PIGEON_OK)
         if (event.kind == PIGEON_SEND_PACKET) {
@@ -35,7 +42,7 @@ static int take_packets(pigeon_socket *from, pigeon_socket *to) {
 
 static void *lead(void *given) {
     pair *ends = given;
-    pigeon_send_options plainly = {0, 0, 0, 0};
+    pigeon_send_options plainly = PIGEON_SEND_OPTIONS;
     pigeon_message message;
     const uint8_t *payload;
     must("connect", pigeon_connect(&ends->a));
@@ -53,11 +60,11 @@ static void *lead(void *given) {
 int main(void) {
     static pair pairs[THREADS];
     pthread_t threads[THREADS];
-    pigeon_options options;
+    pigeon_options options = PIGEON_OPTIONS;
     pigeon_default_options(&options);
-    for (uint64_t i = 0; i < THREADS; i++) {
-        must("new", pigeon_new(&pairs[i].a, &options, 2 * i, 1));
-        must("new", pigeon_new(&pairs[i].b, &options, 2 * i + 1, 1));
+    for (uint8_t i = 0; i < THREADS; i++) {
+        must("new", pigeon_new(&pairs[i].a, &options, seed_of((uint8_t)(2 * i))));
+        must("new", pigeon_new(&pairs[i].b, &options, seed_of((uint8_t)(2 * i + 1))));
         if (pthread_create(&threads[i], NULL, lead, &pairs[i]) != 0)
             return 1;
     }

@@ -31,7 +31,7 @@ static struct sockaddr_in loopback(uint16_t port) {
 /* Sends the packets that wait, and prints the other events and the messages. Answers whether the association goes on. */
 static int take_all(pigeon_socket *end, int wire, const struct sockaddr_in *peer) {
     uint8_t buffer[65536];
-    pigeon_event event;
+    pigeon_event event = PIGEON_EVENT;
     pigeon_message message;
     int goes_on = 1;
     while (pigeon_poll_event(end, &event, buffer, sizeof buffer) == PIGEON_OK) {
@@ -41,7 +41,7 @@ static int take_all(pigeon_socket *end, int wire, const struct sockaddr_in *peer
         } else if (event.kind == PIGEON_ON_CONNECTED) {
             fprintf(stderr, "connected\n");
         } else if (event.kind == PIGEON_ON_CLOSED || event.kind == PIGEON_ON_ABORTED) {
-            fprintf(stderr, "closed\n");
+            fprintf(stderr, "%s\n", pigeon_event_text(event.kind));
             goes_on = 0;
         }
     }
@@ -62,9 +62,8 @@ static int milliseconds_until(uint64_t due, uint64_t now) {
 /* Shuts the association down where nothing is queued and all has arrived, since a shutdown waits for what is in flight alone. Answers
  * whether the association goes on. */
 static int shut_down(pigeon_socket *end) {
-    const uint32_t waits = PIGEON_WRONG_CONNECTION_STATE | PIGEON_SEND_QUEUE_NOT_EMPTY | PIGEON_RETRANSMISSION_QUEUE_OUTSTANDING_DATA;
-    uint32_t readiness, state;
-    if (pigeon_handover_readiness(end, &readiness) == PIGEON_OK && !(readiness & waits))
+    uint32_t rest, state = PIGEON_CLOSED;
+    if (pigeon_state(end, &state) == PIGEON_OK && state == PIGEON_CONNECTED && pigeon_is_at_rest(end, &rest) == PIGEON_OK && rest)
         pigeon_shutdown(end);
     return pigeon_state(end, &state) == PIGEON_OK && state != PIGEON_CLOSED;
 }
@@ -82,15 +81,16 @@ int main(int count, char **words) {
         return 1;
     }
     pigeon_socket end = PIGEON_NO_HANDLE;
-    pigeon_options options;
-    pigeon_send_options plainly = {0, 0, 0, 0};
-    uint64_t seeds[2], start = nanos();
+    pigeon_options options = PIGEON_OPTIONS;
+    pigeon_send_options plainly = PIGEON_SEND_OPTIONS;
+    uint8_t seed[PIGEON_SEED_SIZE];
+    uint64_t start = nanos();
     FILE *random = fopen("/dev/urandom", "rb");
-    if (random == NULL || fread(seeds, sizeof seeds, 1, random) != 1)
+    if (random == NULL || fread(seed, sizeof seed, 1, random) != 1)
         return 1;
     fclose(random);
     pigeon_default_options(&options);
-    if (pigeon_new(&end, &options, seeds[0], seeds[1]) != PIGEON_OK)
+    if (pigeon_new(&end, &options, seed) != PIGEON_OK)
         return 1;
     pigeon_advance_time(&end, nanos() - start);
     if (connects)

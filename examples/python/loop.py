@@ -11,7 +11,7 @@ class Socket(c.Structure):
 
 
 class SendOptions(c.Structure):
-    _fields_ = [("flags", c.c_uint32), ("max_retransmissions", c.c_uint32), ("lifetime", c.c_uint64), ("lifecycle", c.c_uint64)]
+    _fields_ = [("size", c.c_size_t), ("flags", c.c_uint32), ("max_retransmissions", c.c_uint32), ("lifetime", c.c_uint64), ("lifecycle", c.c_uint64)]
 
 
 class Message(c.Structure):
@@ -19,10 +19,15 @@ class Message(c.Structure):
 
 
 class Event(c.Structure):
-    _fields_ = [(name, c.c_uint32) for name in ("kind", "error", "stream", "unused")] + [("lifecycle", c.c_uint64), ("length", c.c_size_t)]
+    _fields_ = (
+        [("size", c.c_size_t)]
+        + [(name, c.c_uint32) for name in ("kind", "error", "stream", "cause")]
+        + [("lifecycle", c.c_uint64), ("length", c.c_size_t)]
+    )
 
 
 OK, NOTHING, SEND_PACKET = 0, 8, 0
+OPTIONS_SIZE, SEED_SIZE = 176, 32
 sctp = c.CDLL(sys.argv[1])
 buffer = c.create_string_buffer(65536)
 
@@ -34,9 +39,11 @@ def call(name, *arguments):
 
 
 def new(seed):
-    end, options = Socket(), c.create_string_buffer(256)
-    sctp.pigeon_default_options(options)
-    call("pigeon_new", c.byref(end), options, c.c_uint64(seed), c.c_uint64(seed))
+    """A socket; a product takes the seed from os.urandom."""
+    end, options = Socket(), c.create_string_buffer(OPTIONS_SIZE)
+    size = c.c_size_t(OPTIONS_SIZE)
+    call("pigeon_options_for_webrtc_sized", options, size)
+    call("pigeon_new_sized", c.byref(end), options, size, bytes([seed] * SEED_SIZE), c.c_size_t(SEED_SIZE))
     return end
 
 
@@ -54,7 +61,8 @@ def settle(ends):
         goes_on = False
         for i, end in enumerate(ends):
             event = Event()
-            while call("pigeon_poll_event", c.byref(end), c.byref(event), buffer, c.c_size_t(65536)) == OK:
+            size = c.c_size_t(c.sizeof(event))
+            while call("pigeon_poll_event_sized", c.byref(end), c.byref(event), size, buffer, c.c_size_t(65536)) == OK:
                 if event.kind == SEND_PACKET:
                     packet = buffer.raw[: event.length]
                     call("pigeon_handle_input", c.byref(ends[1 - i]), packet, c.c_size_t(len(packet)))
@@ -69,7 +77,8 @@ call("pigeon_connect", c.byref(a))
 settle(ends)
 text = b"hello from python"
 advance(ends)
-call("pigeon_send", c.byref(a), 1, 51, text, c.c_size_t(len(text)), c.byref(SendOptions()))
+options = SendOptions()
+call("pigeon_send_sized", c.byref(a), 1, 51, text, c.c_size_t(len(text)), c.byref(options), c.c_size_t(c.sizeof(options)))
 settle(ends)
 message = Message()
 call("pigeon_next_message", c.byref(b), c.byref(message), buffer, c.c_size_t(65536))

@@ -2,7 +2,7 @@
 
 ghost use Rattle.std.specs.Prelude.{◌≡◌, ◌<◌, ◌^◌, ◌↔◌, false, true, Err, length, map, option_map, drop, slice_get, IfOk, IfErr, OnOk};
 ghost use Rattle.sctp_serial.specs.Messages.{message_of};
-ghost use Rattle.sctp_tx_queue.specs.SendQueue.{amount_of, stream};
+ghost use Rattle.sctp_tx_queue.specs.SendQueue.{amount_of, stream, total_of};
 ghost use Rattle.sctp_state.specs.Events.{event_of, first_of, given_up_of, numbers_of};
 ghost use Rattle.sctp_state.specs.Handover.{handover_state_of};
 ghost use Rattle.sctp_state.specs.Options.{IsValid, options_of, send_options_of};
@@ -109,6 +109,20 @@ impl<R: Rng, C: Checksum> Socket<R, C> {
         ensures { result ≡ self.now.context.clock }
     {
         self.context.clock
+    }
+
+    /// The bytes of all streams that wait to be sent.
+    pub fn total_buffered_amount(&self) -> usize
+        ensures { result ≡ total_of self.now.context.queue.streams.entries }
+    {
+        self.context.send_queue.total_buffered_amount()
+    }
+
+    /// What makes the checksums of packets.
+    pub fn checksum(&self) -> &C
+        ensures { result.now ≡ self.now.context.checksum }
+    {
+        &self.context.checksum
     }
 
     /// Takes the record of the message that was given up first.

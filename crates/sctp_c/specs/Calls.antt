@@ -2,8 +2,7 @@
 use Rattle.std.specs.Prelude.{◌≡◌, ℕ, Option, Some, None, List, [], ◌∷◌}
 use Rattle.rand_core.specs.Steps.{stream_of, steps_u32}
 use Rattle.rand_core.specs.Stream.{Stream}
-use Rattle.rand_pcg.specs.Lcg.{Lcg}
-use Rattle.rand_pcg.specs.Pcg.{pcg32}
+use Rattle.rand_chacha.specs.ChaCha.{ChaCha, next_word}
 use Rattle.sctp_association.specs.Socket.{SocketValue, Ends, endpoint}
 use Rattle.sctp_c_events.specs.Answers.{IsAmong, OnAnswer, ending_at}
 use Rattle.sctp_c_calls.specs.Handover.{record_of, record_or}
@@ -14,10 +13,10 @@ use Rattle.spec_endpoint.specs.Association.{Endpoint as End}
 use Rattle.sctp_c.specs.declared.endpoint.Endpoint.{Endpoint}
 
 abbrev pub CSocket : Type 0
-CSocket = SocketValue Lcg PacketChecksum
+CSocket = SocketValue ChaCha PacketChecksum
 
-abbrev pub stream : Lcg → Stream
-stream = stream_of (steps_u32 pcg32)
+abbrev pub stream : ChaCha → Stream
+stream = stream_of (steps_u32 (next_word 10))
 
 -- the end that the socket is
 abbrev pub end_of : CSocket → End (List ℕ)

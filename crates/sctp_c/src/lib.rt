@@ -4,6 +4,7 @@
 mod asking;
 mod batch;
 mod calls;
+mod describing;
 mod endpoint;
 mod events;
 mod handle;

@@ -12,7 +12,7 @@ ghost use Rattle.spec_endpoint.specs.StreamReset as resets;
 use crate::handle::Handle;
 use crate::stream::stream_of;
 use sctp_c_calls as calls;
-use sctp_c_records::answers::{INVALID_STREAM, NO_SOCKET};
+use sctp_c_records::answers::{INVALID_STREAM, NO_SOCKET, OK};
 use std::alloc::Global;
 
 /// Sets the priority of a stream.
@@ -46,6 +46,22 @@ pub extern "C" fn pigeon_set_buffered_amount_low_threshold(
     match socket.as_mut() {
         None => NO_SOCKET,
         Some(end) => calls::set_buffered_amount_low_threshold(&mut end.socket, stream, bytes),
+    }
+}
+
+/// Sets the most bytes of an own message.
+#[unsafe(no_mangle)]
+pub extern "C" fn pigeon_set_max_message_size(socket: &mut Handle, bytes: u32) -> u32
+    ensures answers { Answers (λ e n f. n ≡ 0) socket.old.held result socket.new.held }
+    ensures failure { Answers (OnSocket (λ s n t. t.has_failed ≡ s.has_failed)) socket.old.held result socket.new.held }
+    ensures set { Answers (OnSocket (λ s n t. end_of t ≡ in_endpoint_state (in_context (table.set_max_message_size bytes)) (end_of s))) socket.old.held result socket.new.held }
+{
+    match socket.as_mut() {
+        None => NO_SOCKET,
+        Some(end) => {
+            calls::set_max_message_size(&mut end.socket, bytes);
+            OK
+        }
     }
 }
 

@@ -1,7 +1,12 @@
--- What C sees of what a socket counts.
-use Rattle.std.specs.Prelude.{◌-◌, ◌^◌, min}
+-- What C sees of what a socket counts, and of its options.
+use Rattle.std.specs.Prelude.{◌≡◌, ℕ, Option, Some, None, List, ◌-◌, ◌^◌, min}
 use Rattle.sctp_calls.specs.Metrics.{Metrics}
-use Rattle.sctp_c_records.specs.Metrics.{implementation_number}
+use Rattle.sctp_c_records.specs.Metrics.{implementation_number, metrics_bytes}
+use Rattle.sctp_c_records.specs.OptionsStruct.{held_options, options_bytes}
+use Rattle.sctp_c_records.specs.Records.{given_checksum, given_options}
+use Rattle.sctp_c_records.specs.declared.checksum.PacketChecksum.{PacketChecksum}
+use Rattle.sctp_c_records.specs.declared.options.OptionsRecord.{OptionsRecord}
+use Rattle.sctp_endpoint.specs.Views.{ContextValue}
 use Rattle.sctp_c_records.specs.declared.metrics.MetricsRecord.{MetricsRecord}
 
 abbrev pub shown_metrics : Metrics → MetricsRecord
@@ -22,3 +27,15 @@ shown_metrics m = record {
   uses_message_interleaving = m.is_interleaved;
   uses_zero_checksum = m.is_unsummed;
 }
+
+-- the struct was written of these counts
+abbrev pub ShowsMetrics : (old new : List ℕ) → Option MetricsRecord → Type 0
+ShowsMetrics old new None = ⊥
+ShowsMetrics old new (Some m) = new ≡ metrics_bytes m old
+
+-- the struct was written of a record that stands for these options and this checksum
+pub record ShowsOptions (c : ContextValue PacketChecksum) (old new : List ℕ) : Type 0 where
+  pub shown : OptionsRecord
+  pub options : given_options shown ≡ held_options c.options
+  pub checksum : given_checksum shown ≡ c.checksum
+  pub written : new ≡ options_bytes shown old

@@ -7,13 +7,18 @@ mod handover;
 mod messages;
 mod settings;
 
-pub use asking::{buffered_amount, handover_readiness, metrics, nanos_until, state_number};
+pub use asking::{
+    buffered_amount, clock, handover_readiness, low_threshold, messages_ready, nanos_until,
+    refuses, rest_number, send_queue_room, state_number, stream_priority, write_metrics,
+    write_options,
+};
 pub use batch::{have_streams, send_many};
 pub use handover::{hand_over, restore};
-pub use messages::{borrow_message, next_message, send};
+pub use messages::{borrow_message, next_given_up, next_message, send};
 pub use sctp_c_events::{
     advance_time, borrow_event, close, connect, handle_input, poll_event, shutdown,
 };
 pub use settings::{
-    reset_stream, reset_streams, set_buffered_amount_low_threshold, set_stream_priority,
+    reset_stream, reset_streams, set_buffered_amount_low_threshold, set_max_message_size,
+    set_stream_priority,
 };

@@ -1,10 +1,12 @@
 //! Messages, in and out.
 
-ghost use Rattle.std.specs.Prelude.{◌≡◌, ◌<◌, ◌^◌, [], ◌∷◌, length, Some};
+ghost use Rattle.std.specs.Prelude.{◌≡◌, ◌<◌, ◌^◌, [], ◌∷◌, length, None, Some, drop, option_map};
 ghost use Rattle.sctp_association.specs.Socket.{endpoint};
 ghost use Rattle.sctp_c_events.specs.Answers.{Ended, IsAmong, OnAnswer, OnOthers, OnSettled, refusal_number};
-ghost use Rattle.sctp_c_events.specs.Events.{HasAll, HasMessage, NeedsMore, message_record};
+ghost use Rattle.sctp_c_events.specs.Events.{HasAll, HasMessage, NeedsMore, message_record, with_given_up};
 ghost use Rattle.sctp_c_records.specs.Event.{Copied};
+ghost use Rattle.sctp_c_records.specs.GivenUp.{given_up_record};
+ghost use Rattle.sctp_state.specs.Events.{first_of};
 ghost use Rattle.sctp_serial.specs.Messages.{message_of};
 ghost use Rattle.sctp_c_records.specs.Records.{given_send_options};
 ghost use Rattle.spec_endpoint.specs.Calls as calls;
@@ -13,10 +15,10 @@ ghost use Rattle.spec_endpoint.specs.Input.{in_endpoint_state};
 use rand_core::Rng;
 use sctp_association::{Checksum, DcSctpSocket, Message, PpId, SendError, Socket, StreamId};
 use sctp_c_records::answers::{
-    EMPTY_PAYLOAD, FAILED, MEMORY, MESSAGE_TOO_LARGE, NO_ROOM, NOTHING, OK, RESOURCE_EXHAUSTION,
+    EMPTY_PAYLOAD, FAILED, MEMORY, MESSAGE_TOO_LARGE, NO_ROOM, NOTHING, OK, QUEUE_FULL,
     SHORT_BUFFER, SHUTTING_DOWN,
 };
-use sctp_c_records::{MessageRecord, SendRecord, put_bytes};
+use sctp_c_records::{GivenUpRecord, MessageRecord, SendRecord, put_bytes};
 use std::alloc::Global;
 
 /// The record of a message.
@@ -91,6 +93,25 @@ pub fn borrow_message<R: Rng, C: Checksum>(
     }
 }
 
+/// Takes the record of the message that was given up first.
+pub fn next_given_up<R: Rng, C: Checksum>(
+    socket: &mut Socket<R, C>,
+    record: &mut GivenUpRecord,
+) -> u32
+    ensures answers { IsAmong (0 ∷ 8 ∷ []) result }
+    ensures first { OnAnswer 0 result (Some record.new ≡ option_map given_up_record (first_of socket.old.context.emitted.given_up)) }
+    ensures nothing { OnAnswer 8 result (first_of socket.old.context.emitted.given_up ≡ None) }
+    ensures rest { socket.new ≡ with_given_up socket.old (drop 1 socket.old.context.emitted.given_up) }
+{
+    match socket.next_given_up() {
+        None => NOTHING,
+        Some(given_up) => {
+            *record = GivenUpRecord::of(&given_up);
+            OK
+        }
+    }
+}
+
 /// Why a message isn't accepted.
 pub(crate) fn refusal_number(refusal: &SendError) -> u32
     ensures { result ≡ refusal_number (Some refusal.now) }
@@ -99,7 +120,7 @@ pub(crate) fn refusal_number(refusal: &SendError) -> u32
         SendError::EmptyPayload => EMPTY_PAYLOAD,
         SendError::MessageTooLarge { len: _, limit: _ } => MESSAGE_TOO_LARGE,
         SendError::ShuttingDown => SHUTTING_DOWN,
-        SendError::ResourceExhaustion => RESOURCE_EXHAUSTION,
+        SendError::ResourceExhaustion => QUEUE_FULL,
         SendError::Memory => MEMORY,
         SendError::Failed => FAILED,
     }

@@ -12,7 +12,7 @@ ghost use Rattle.spec_endpoint.specs.StreamReset as resets;
 use rand_core::Rng;
 use sctp_association::{Checksum, DcSctpSocket, ResetStreamsError, Socket, StreamId};
 use sctp_c_events::call_number;
-use sctp_c_records::answers::{FAILED, MEMORY, NO_ROOM, NOT_CONNECTED, NOT_SUPPORTED, OK};
+use sctp_c_records::answers::{FAILED, MEMORY, NO_ASSOCIATION, NO_ROOM, NOT_SUPPORTED, OK};
 use std::alloc::{AllocError, Global};
 
 /// Sets the priority of a stream.
@@ -41,6 +41,14 @@ pub fn set_buffered_amount_low_threshold<R: Rng, C: Checksum>(
     call_number(socket.set_buffered_amount_low_threshold(StreamId(id), bytes))
 }
 
+/// Sets the most bytes of an own message.
+pub fn set_max_message_size<R: Rng, C: Checksum>(socket: &mut Socket<R, C>, bytes: u32)
+    ensures set { endpoint R.stream C.word_of socket.new ≡ in_endpoint_state (in_context (calls.set_max_message_size bytes)) (endpoint R.stream C.word_of socket.old) }
+    ensures failure { socket.new.has_failed ≡ socket.old.has_failed }
+{
+    socket.set_max_message_size(bytes as usize);
+}
+
 /// Resets streams.
 fn reset<R: Rng, C: Checksum>(socket: &mut Socket<R, C>, ids: &[StreamId]) -> u32
     ensures answers { IsAmong (0 ∷ 1 ∷ 2 ∷ 14 ∷ 15 ∷ []) result }
@@ -50,7 +58,7 @@ fn reset<R: Rng, C: Checksum>(socket: &mut Socket<R, C>, ids: &[StreamId]) -> u3
 {
     match socket.reset_streams(ids) {
         Ok(()) => OK,
-        Err(ResetStreamsError::NotConnected) => NOT_CONNECTED,
+        Err(ResetStreamsError::NotConnected) => NO_ASSOCIATION,
         Err(ResetStreamsError::NotSupported) => NOT_SUPPORTED,
         Err(ResetStreamsError::Memory) => MEMORY,
         Err(ResetStreamsError::Failed) => FAILED,

@@ -2,11 +2,10 @@
 use Rattle.std.specs.Prelude.{◌≡◌, ◌<◌, ℕ, Option, Some, None, List, [], ◌∷◌, option_map, length, take}
 use Rattle.sctp_serial.specs.Messages.{Message}
 use Rattle.sctp_state.specs.declared.api.SocketEvent.{SocketEvent}
-use Rattle.sctp_state.specs.Events.{Event, event_of}
+use Rattle.sctp_state.specs.Events.{Event, GivenUp, event_of}
 use Rattle.sctp_association.specs.Socket.{SocketValue}
-use Rattle.sctp_c_records.specs.declared.event.EventRecord.{EventRecord}
 use Rattle.sctp_c_records.specs.declared.message.MessageRecord.{MessageRecord}
-use Rattle.sctp_c_records.specs.Event.{bytes_of, record_of}
+use Rattle.sctp_c_records.specs.Event.{bytes_of, event_bytes, record_of}
 
 abbrev pub waiting_first : Option (Event (List ℕ)) → List (Event (List ℕ)) → List (Event (List ℕ))
 waiting_first None events = events
@@ -19,20 +18,23 @@ waiting kept s = waiting_first (option_map event_of kept) s.context.emitted.even
 abbrev pub with_events : {R C : Type 0} → SocketValue R C → List (Event (List ℕ)) → SocketValue R C
 with_events s events = let c = s.context in record s { context = record c { emitted = record c.emitted { events = events } } }
 
--- the first event was handed out: its record, and its bytes at the front of the buffer
-abbrev pub Shows : EventRecord → (buffer : List ℕ) → List (Event (List ℕ)) → Type 0
-Shows head buffer [] = ⊥
-Shows head buffer (e ∷ es) = (head ≡ record_of e) × (take (length (bytes_of e)) buffer ≡ bytes_of e)
+abbrev pub with_given_up : {R C : Type 0} → SocketValue R C → List GivenUp → SocketValue R C
+with_given_up s records = let c = s.context in record s { context = record c { emitted = record c.emitted { given_up = records } } }
 
--- the first event was handed out: its record, and all its bytes
-abbrev pub ShowsAll : EventRecord → (bytes : List ℕ) → List (Event (List ℕ)) → Type 0
-ShowsAll head bytes [] = ⊥
-ShowsAll head bytes (e ∷ es) = (head ≡ record_of e) × (bytes ≡ bytes_of e)
+-- the first event was handed out: its struct was written, and its bytes stand at the front of the buffer
+abbrev pub Shows : (old new : List ℕ) → (buffer : List ℕ) → List (Event (List ℕ)) → Type 0
+Shows old new buffer [] = ⊥
+Shows old new buffer (e ∷ es) = (new ≡ event_bytes (record_of e) old) × (take (length (bytes_of e)) buffer ≡ bytes_of e)
 
--- the first event needs a longer buffer than one of this length, and its record says how long
-abbrev pub Needs : EventRecord → (room : ℕ) → List (Event (List ℕ)) → Type 0
-Needs head room [] = ⊥
-Needs head room (e ∷ es) = (head ≡ record_of e) × (room < length (bytes_of e))
+-- the first event was handed out: its struct was written, and these are its bytes
+abbrev pub ShowsAll : (old new : List ℕ) → (bytes : List ℕ) → List (Event (List ℕ)) → Type 0
+ShowsAll old new bytes [] = ⊥
+ShowsAll old new bytes (e ∷ es) = (new ≡ event_bytes (record_of e) old) × (bytes ≡ bytes_of e)
+
+-- the first event needs a longer buffer than one of this length, and its struct says how long
+abbrev pub Needs : (old new : List ℕ) → (room : ℕ) → List (Event (List ℕ)) → Type 0
+Needs old new room [] = ⊥
+Needs old new room (e ∷ es) = (new ≡ event_bytes (record_of e) old) × (room < length (bytes_of e))
 
 abbrev pub message_record : Message → MessageRecord
 message_record m = record { stream = m.stream; ppid = m.ppid; length = length m.payload }

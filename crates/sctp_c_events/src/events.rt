@@ -31,17 +31,17 @@ fn take_first<R: Rng, C: Checksum>(
 fn hand_out_packet(
     packet: Vec<u8>,
     kept: &mut Option<SocketEvent>,
-    head: &mut EventRecord,
+    head: &mut [u8],
     buffer: &mut [u8],
 ) -> u32
     requires none { kept.old ≡ None }
     ensures answers { IsAmong (0 ∷ 9 ∷ []) result }
     ensures taken { OnAnswer 0 result (kept.new ≡ None) }
-    ensures shown { OnAnswer 0 result (Shows head.new buffer.new (SendPacket packet.items ∷ [])) }
+    ensures shown { OnAnswer 0 result (Shows head.old head.new buffer.new (SendPacket packet.items ∷ [])) }
     ensures stays { OnAnswer 9 result (option_map event_of kept.new ≡ Some (SendPacket packet.items)) }
-    ensures needed { OnAnswer 9 result (Needs head.new (length buffer.old) (SendPacket packet.items ∷ [])) }
+    ensures needed { OnAnswer 9 result (Needs head.old head.new (length buffer.old) (SendPacket packet.items ∷ [])) }
 {
-    *head = EventRecord::of_packet(packet.len());
+    EventRecord::of_packet(packet.len()).write(head);
     if put_bytes(&packet, buffer) {
         drop(packet);
         return OK;
@@ -55,15 +55,15 @@ pub fn poll_event<R: Rng, C: Checksum>(
     alloc: Global,
     socket: &mut Socket<R, C>,
     kept: &mut Option<SocketEvent>,
-    head: &mut EventRecord,
+    head: &mut [u8],
     buffer: &mut [u8],
 ) -> u32
     ensures answers { IsAmong (0 ∷ 8 ∷ 9 ∷ 17 ∷ []) result }
     ensures taken { OnAnswer 0 result (waiting kept.new socket.new ≡ drop 1 (waiting kept.old socket.old)) }
-    ensures shown { OnAnswer 0 result (Shows head.new buffer.new (waiting kept.old socket.old)) }
+    ensures shown { OnAnswer 0 result (Shows head.old head.new buffer.new (waiting kept.old socket.old)) }
     ensures stays { OnOthers 0 result (waiting kept.new socket.new ≡ waiting kept.old socket.old) }
     ensures nothing { OnAnswer 8 result (waiting kept.old socket.old ≡ []) }
-    ensures needed { OnAnswer 9 result (Needs head.new (length buffer.old) (waiting kept.old socket.old)) }
+    ensures needed { OnAnswer 9 result (Needs head.old head.new (length buffer.old) (waiting kept.old socket.old)) }
     ensures rest { socket.new ≡ with_events socket.old socket.new.context.emitted.events }
 {
     match take_first(socket, kept) {
@@ -92,12 +92,12 @@ pub fn borrow_event<R: Rng, C: Checksum>(
     alloc: Global,
     socket: &mut Socket<R, C>,
     kept: &mut Option<SocketEvent>,
-    head: &mut EventRecord,
+    head: &mut [u8],
     lent: &mut Vec<u8>,
 ) -> u32
     ensures answers { IsAmong (0 ∷ 8 ∷ 17 ∷ []) result }
     ensures taken { OnAnswer 0 result (waiting kept.new socket.new ≡ drop 1 (waiting kept.old socket.old)) }
-    ensures shown { OnAnswer 0 result (ShowsAll head.new lent.new.items (waiting kept.old socket.old)) }
+    ensures shown { OnAnswer 0 result (ShowsAll head.old head.new lent.new.items (waiting kept.old socket.old)) }
     ensures stays { OnOthers 0 result (waiting kept.new socket.new ≡ waiting kept.old socket.old) }
     ensures nothing { OnAnswer 8 result (waiting kept.old socket.old ≡ []) }
     ensures let_go { OnAnswer 8 result (lent.new.items ≡ []) }
@@ -115,7 +115,7 @@ pub fn borrow_event<R: Rng, C: Checksum>(
                     bytes,
                 },
             ) => {
-                *head = record;
+                record.write(head);
                 drop(std::mem::replace(lent, bytes));
                 OK
             }

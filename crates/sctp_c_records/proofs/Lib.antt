@@ -1,1 +1,1 @@
-pub mod StreamLemmas
+pub mod FlagLemmas

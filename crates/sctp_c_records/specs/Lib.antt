@@ -1,4 +1,9 @@
 pub mod Checksum
+pub mod Layout
 pub mod Metrics
 pub mod Records
 pub mod Event
+pub mod Texts
+pub mod GivenUp
+pub mod OptionsStruct
+pub mod Describe

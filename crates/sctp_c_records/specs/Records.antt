@@ -1,6 +1,7 @@
 -- The records of C, as the socket's values: spans in nanoseconds, flags by their values.
-use Rattle.std.specs.Prelude.{ℕ, ◌-◌, ◌<◌, ◌/◌, ◌%◌, ◌^◌, ◌==◌, Bool, true, false, Option, Some, None}
+use Rattle.std.specs.Prelude.{ℕ, ◌-◌, ◌<◌, ◌/◌, ◌%◌, ◌^◌, ◌==◌, Bool, true, false, Option, Some, None, List}
 use Rattle.sctp_state.specs.Options.{Options, SendOptions, at_least_zero}
+use Rattle.sctp_c_records.specs.Layout.{u32_or, u64_or}
 use Rattle.sctp_c_records.specs.declared.checksum.PacketChecksum.{PacketChecksum}
 use Rattle.sctp_c_records.specs.declared.checksum.PacketChecksum.TheVariants.{Crc32c, Zero}
 use Rattle.sctp_c_records.specs.declared.options.OptionsRecord.{OptionsRecord}
@@ -85,3 +86,7 @@ given_send_options r = record {
   max_retransmissions = if_set (has_flag r.flags 4) r.max_retransmissions;
   lifecycle_id = unless (r.lifecycle == 0) r.lifecycle;
 }
+
+-- the struct's numbers, each at its place; 0 where the struct ends before
+abbrev pub send_in : List ℕ → SendRecord
+send_in bytes = record { flags = u32_or 8 0 bytes; max_retransmissions = u32_or 12 0 bytes; lifetime = u64_or 16 0 bytes; lifecycle = u64_or 24 0 bytes }

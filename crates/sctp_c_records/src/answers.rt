@@ -1,4 +1,4 @@
-//! The numbers that calls answer, and their texts.
+//! The numbers that calls answer.
 
 /// The call was done.
 pub const OK: u32 = 0;
@@ -27,9 +27,9 @@ pub const MESSAGE_TOO_LARGE: u32 = 11;
 /// The socket is shutting down, or closed.
 pub const SHUTTING_DOWN: u32 = 12;
 /// The send queue is full.
-pub const RESOURCE_EXHAUSTION: u32 = 13;
+pub const QUEUE_FULL: u32 = 13;
 /// There is no association.
-pub const NOT_CONNECTED: u32 = 14;
+pub const NO_ASSOCIATION: u32 = 14;
 /// The peer can't reset streams.
 pub const NOT_SUPPORTED: u32 = 15;
 /// Something stands in the way of a handover.
@@ -42,35 +42,7 @@ pub const SOME_REFUSED: u32 = 18;
 pub const NOT_CLOSED: u32 = 19;
 /// The bytes are no record of a socket, or of none that there could be.
 pub const INVALID_STATE: u32 = 20;
-
-const TEXTS: [&str; 21] = [
-    "done",
-    "out of memory",
-    "socket has failed",
-    "no socket",
-    "the handle holds a socket",
-    "options are not valid",
-    "no such stream",
-    "argument is not valid",
-    "nothing there",
-    "buffer is too short",
-    "message payload cannot be empty",
-    "message exceeds the configured size",
-    "socket is shutting down or closed",
-    "send queue is full",
-    "socket is not connected",
-    "peer does not support stream resetting",
-    "socket is not in a ready state for handover",
-    "out of memory, nothing changed",
-    "some messages were not accepted",
-    "socket is not closed",
-    "handover state is not valid",
-];
-
-/// The text of an answer.
-pub fn text_of(answer: u32) -> &'static str {
-    match TEXTS.get(answer as usize) {
-        Some(text) => text,
-        None => "unknown answer",
-    }
-}
+/// The size of a struct is beyond those that there are.
+pub const INVALID_SIZE: u32 = 21;
+/// The bytes are no packet.
+pub const NO_PACKET: u32 = 22;

@@ -1,5 +1,8 @@
 //! The checksum of packets.
 
+ghost use Rattle.std.specs.Prelude.{◌≡◌, ◌==◌};
+ghost use Rattle.sctp_c_records.specs.Records.{checksum_by};
+
 use sctp_crc32c::Crc32c;
 use sctp_wire::Checksum;
 
@@ -21,6 +24,18 @@ impl Checksum for PacketChecksum {
         match self {
             PacketChecksum::Crc32c => Crc32c.word(before, after),
             PacketChecksum::Zero => 0,
+        }
+    }
+}
+
+impl PacketChecksum {
+    /// Its number in the options.
+    pub(crate) fn number(self) -> u16
+        ensures { checksum_by (result == 0) ≡ self }
+    {
+        match self {
+            PacketChecksum::Crc32c => 0,
+            PacketChecksum::Zero => 1,
         }
     }
 }

@@ -2,23 +2,25 @@
 
 ghost use Rattle.std.specs.Prelude.{◌≡◌, IfOk};
 ghost use Rattle.std.specs.List.{flat_map};
-ghost use Rattle.sctp_wire.specs.Field.{be16};
 ghost use Rattle.sctp_state.specs.Events.{event_of, numbers_of};
-ghost use Rattle.sctp_c_records.specs.Event.{Copied, bytes_of, error_number, record_of, shown, with_length};
+ghost use Rattle.sctp_c_records.specs.Event.{Copied, bytes_of, cause_in, cause_of, error_number, event_bytes, faulty, low_first, record_of, shown, with_length};
 
+use crate::layout::{put_u32, put_u64};
+use crate::streams::spelled;
 use sctp_serial::StreamId;
 use sctp_state::{ErrorKind, SocketEvent};
-use sctp_wire::push_entries;
 use std::alloc::{AllocError, Global};
 
+/// The bytes of `pigeon_event`.
+pub const EVENT_SIZE: usize = 40;
+
 /// What an event is beside its bytes; in C `pigeon_event`.
-#[repr(C)]
 #[derive(Clone, Copy)]
 pub struct EventRecord {
     pub kind: u32,
     pub error: u32,
     pub stream: u32,
-    pub unused: u32,
+    pub cause: u32,
     pub lifecycle: u64,
     pub length: usize,
 }
@@ -39,6 +41,37 @@ pub(crate) fn error_number(kind: ErrorKind) -> u32
     }
 }
 
+/// The code of the error cause that a text begins with, 0 where none is known.
+fn cause_in(text: &[u8]) -> u32
+    ensures { result ≡ cause_in text.now }
+{
+    if text.starts_with(b"MISSING MANDATORY PARAMETER") {
+        2
+    } else if text.starts_with(b"UNRECOGNIZED CHUNK") {
+        6
+    } else if text.starts_with(b"NO USER DATA") {
+        9
+    } else if text.starts_with(b"COOKIE RECEIVED WHILE SHUTTING DOWN") {
+        10
+    } else if text.starts_with(b"USER INITIATED ABORT") {
+        12
+    } else if text.starts_with(b"PROTOCOL VIOLATION") {
+        13
+    } else {
+        0
+    }
+}
+
+/// The code of the first cause that the peer named (RFC 9260 section 3.3.10).
+pub(crate) fn cause_of(kind: ErrorKind, text: &[u8]) -> u32
+    ensures { result ≡ cause_of kind text.now }
+{
+    match kind {
+        ErrorKind::PeerReported => cause_in(text),
+        _ => 0,
+    }
+}
+
 impl EventRecord {
     pub(crate) fn of(
         kind: u32,
@@ -53,10 +86,35 @@ impl EventRecord {
             kind,
             error,
             stream,
-            unused: 0,
+            cause: 0,
             lifecycle,
             length,
         }
+    }
+
+    pub(crate) fn of_fault(kind: u32, error: ErrorKind, text: &[u8], length: usize) -> EventRecord
+        ensures { result ≡ faulty kind error text.now length }
+    {
+        EventRecord {
+            kind,
+            error: error_number(error),
+            stream: 0,
+            cause: cause_of(error, text),
+            lifecycle: 0,
+            length,
+        }
+    }
+
+    /// Writes the struct of C, as far as there is a place behind its size.
+    pub fn write(&self, bytes: &mut [u8])
+        ensures { bytes.new ≡ event_bytes self.now bytes.old }
+    {
+        put_u32(bytes, 8, self.kind);
+        put_u32(bytes, 12, self.error);
+        put_u32(bytes, 16, self.stream);
+        put_u32(bytes, 20, self.cause);
+        put_u64(bytes, 24, self.lifecycle);
+        put_u64(bytes, 32, self.length as u64);
     }
 
     /// The record of a packet of so many bytes.
@@ -76,8 +134,12 @@ fn record_of(event: &SocketEvent, length: usize) -> EventRecord
         SocketEvent::OnConnected() => EventRecord::of(1, 0, 0, 0, length),
         SocketEvent::OnClosed() => EventRecord::of(2, 0, 0, 0, length),
         SocketEvent::OnConnectionRestarted() => EventRecord::of(3, 0, 0, 0, length),
-        SocketEvent::OnAborted(kind, _) => EventRecord::of(4, error_number(*kind), 0, 0, length),
-        SocketEvent::OnError(kind, _) => EventRecord::of(5, error_number(*kind), 0, 0, length),
+        SocketEvent::OnAborted(kind, text) => {
+            EventRecord::of_fault(4, *kind, text.as_bytes(), length)
+        }
+        SocketEvent::OnError(kind, text) => {
+            EventRecord::of_fault(5, *kind, text.as_bytes(), length)
+        }
         SocketEvent::OnBufferedAmountLow(id) => EventRecord::of(6, 0, id.0 as u32, 0, length),
         SocketEvent::OnTotalBufferedAmountLow() => EventRecord::of(7, 0, 0, 0, length),
         SocketEvent::OnStreamsResetFailed(_) => EventRecord::of(8, 0, 0, 0, length),
@@ -111,13 +173,13 @@ pub fn put_bytes(bytes: &[u8], buffer: &mut [u8]) -> bool
     true
 }
 
-/// Writes the record of an event that has these bytes and, where they fit, the bytes.
-fn put(event: &SocketEvent, bytes: &[u8], head: &mut EventRecord, buffer: &mut [u8]) -> bool
+/// Writes the struct of an event that has these bytes and, where they fit, the bytes.
+fn put(event: &SocketEvent, bytes: &[u8], head: &mut [u8], buffer: &mut [u8]) -> bool
     requires { bytes.now ≡ bytes_of (event_of event.now) }
-    ensures head { head.new ≡ record_of (event_of event.now) }
+    ensures head { head.new ≡ event_bytes (record_of (event_of event.now)) head.old }
     ensures bytes { Copied result (bytes_of (event_of event.now)) buffer.old buffer.new }
 {
-    *head = record_of(event, bytes.len());
+    record_of(event, bytes.len()).write(head);
     put_bytes(bytes, buffer)
 }
 
@@ -125,15 +187,14 @@ fn put_streams(
     alloc: Global,
     event: &SocketEvent,
     ids: &[StreamId],
-    head: &mut EventRecord,
+    head: &mut [u8],
     buffer: &mut [u8],
 ) -> Result<bool, AllocError>
-    requires { flat_map be16 (numbers_of ids.now) ≡ bytes_of (event_of event.now) }
-    ensures head { IfOk result (λ fits. head.new ≡ record_of (event_of event.now)) }
+    requires { flat_map low_first (numbers_of ids.now) ≡ bytes_of (event_of event.now) }
+    ensures head { IfOk result (λ fits. head.new ≡ event_bytes (record_of (event_of event.now)) head.old) }
     ensures bytes { IfOk result (λ fits. Copied fits (bytes_of (event_of event.now)) buffer.old buffer.new) }
 {
-    let mut bytes = Vec::new(alloc);
-    push_entries(&mut bytes, ids)?;
+    let bytes = spelled(alloc, ids)?;
     Ok(put(event, &bytes, head, buffer))
 }
 
@@ -141,10 +202,10 @@ fn put_streams(
 pub fn hand_out(
     alloc: Global,
     event: &SocketEvent,
-    head: &mut EventRecord,
+    head: &mut [u8],
     buffer: &mut [u8],
 ) -> Result<bool, AllocError>
-    ensures head { IfOk result (λ fits. head.new ≡ record_of (event_of event.now)) }
+    ensures head { IfOk result (λ fits. head.new ≡ event_bytes (record_of (event_of event.now)) head.old) }
     ensures bytes { IfOk result (λ fits. Copied fits (bytes_of (event_of event.now)) buffer.old buffer.new) }
 {
     match event {

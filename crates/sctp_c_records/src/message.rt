@@ -2,12 +2,16 @@
 
 ghost use Rattle.std.specs.Prelude.{◌≡◌, ◌<◌, ◌↔◌, ◌^◌, IsTrue};
 ghost use Rattle.sctp_state.specs.Options.{send_options_of};
-ghost use Rattle.sctp_c_records.specs.Records.{IsKnown, given_send_options};
+ghost use Rattle.sctp_c_records.specs.Records.{IsKnown, given_send_options, send_in};
 
+use crate::layout::{u32_or, u64_or};
 use crate::options::has_flag;
 use sctp_serial::LifecycleId;
 use sctp_state::SendOptions;
 use std::time::Duration;
+
+/// The bytes of `pigeon_send_options`.
+pub const SEND_SIZE: usize = 32;
 
 /// What a message is beside its bytes; in C `pigeon_message`.
 #[repr(C)]
@@ -28,7 +32,6 @@ pub struct OutgoingRecord<'a> {
 }
 
 /// How a message is sent; in C `pigeon_send_options`. All zero is an ordered, reliable message.
-#[repr(C)]
 #[derive(Clone, Copy)]
 pub struct SendRecord {
     pub flags: u32,
@@ -38,6 +41,18 @@ pub struct SendRecord {
 }
 
 impl SendRecord {
+    /// The struct of C: a field that stands behind its end is zero.
+    pub fn in_bytes(bytes: &[u8]) -> SendRecord
+        ensures { result ≡ send_in bytes.now }
+    {
+        SendRecord {
+            flags: u32_or(bytes, 8, 0),
+            max_retransmissions: u32_or(bytes, 12, 0),
+            lifetime: u64_or(bytes, 16, 0),
+            lifecycle: u64_or(bytes, 24, 0),
+        }
+    }
+
     /// Whether the flags are ones that there are, and the count is one of 16 bits.
     pub fn is_known(&self) -> bool
         ensures { IsTrue result ↔ IsKnown self.now }

@@ -2,13 +2,16 @@
 
 ghost use Rattle.std.specs.Prelude.{◌≡◌, ◌-◌, ◌^◌, min};
 ghost use Rattle.std.specs.Duration.{as_nanos};
-ghost use Rattle.sctp_c_records.specs.Metrics.{implementation_number, metrics_record};
+ghost use Rattle.sctp_c_records.specs.Metrics.{implementation_number, metrics_bytes, metrics_record, one_if};
 
+use crate::layout::{put_u8, put_u16, put_u32, put_u64};
 use sctp_state::{Metrics, SctpImplementation};
 use std::time::Duration;
 
+/// The bytes of `pigeon_metrics`.
+pub const METRICS_SIZE: usize = 96;
+
 /// What a socket counts; in C `pigeon_metrics`. The round trip time is in nanoseconds.
-#[repr(C)]
 #[derive(Clone, Copy)]
 pub struct MetricsRecord {
     pub tx_packets_count: usize,
@@ -29,7 +32,7 @@ pub struct MetricsRecord {
 }
 
 /// A span in nanoseconds; the greatest number where it is longer.
-fn nanos_of(span: Duration) -> u64
+pub(crate) fn nanos_of(span: Duration) -> u64
     ensures { result ≡ min (as_nanos span) (2 ^ 64 - 1) }
 {
     span.as_nanos().min(u64::MAX as u128) as u64
@@ -45,6 +48,12 @@ fn implementation_number(peer: SctpImplementation) -> u32
         SctpImplementation::UsrSctp => 3,
         SctpImplementation::Other => 4,
     }
+}
+
+fn one_if(holds: bool) -> u8
+    ensures { result ≡ one_if holds }
+{
+    if holds { 1 } else { 0 }
 }
 
 impl MetricsRecord {
@@ -69,5 +78,26 @@ impl MetricsRecord {
             uses_message_interleaving: metrics.uses_message_interleaving,
             uses_zero_checksum: metrics.uses_zero_checksum,
         }
+    }
+
+    /// Writes the struct of C, as far as there is a place behind its size.
+    pub fn write(&self, bytes: &mut [u8])
+        ensures { bytes.new ≡ metrics_bytes self.now bytes.old }
+    {
+        put_u64(bytes, 8, self.tx_packets_count as u64);
+        put_u64(bytes, 16, self.tx_messages_count as u64);
+        put_u64(bytes, 24, self.rtx_packets_count as u64);
+        put_u64(bytes, 32, self.rtx_bytes_count);
+        put_u64(bytes, 40, self.cwnd_bytes as u64);
+        put_u64(bytes, 48, self.srtt);
+        put_u64(bytes, 56, self.unack_data_count as u64);
+        put_u64(bytes, 64, self.rx_packets_count as u64);
+        put_u64(bytes, 72, self.rx_messages_count as u64);
+        put_u32(bytes, 80, self.peer_rwnd_bytes);
+        put_u32(bytes, 84, self.peer_implementation);
+        put_u16(bytes, 88, self.negotiated_maximum_incoming_streams);
+        put_u16(bytes, 90, self.negotiated_maximum_outgoing_streams);
+        put_u8(bytes, 92, one_if(self.uses_message_interleaving));
+        put_u8(bytes, 93, one_if(self.uses_zero_checksum));
     }
 }

@@ -3,6 +3,7 @@
 ghost use Rattle.std.specs.Prelude.{◌≡◌, ◌<◌, ◌↔◌, IsTrue, option_map};
 ghost use Rattle.std.specs.Duration.{as_nanos};
 ghost use Rattle.sctp_state.specs.Options.{defaults, options_of};
+ghost use Rattle.sctp_c_records.specs.OptionsStruct.{default_record};
 ghost use Rattle.sctp_c_records.specs.Records.{given_checksum, given_options, has_flag, limit_at, span_at};
 
 use crate::checksum::PacketChecksum;
@@ -11,7 +12,6 @@ use sctp_state::Options;
 use std::time::Duration;
 
 /// The options of a socket; in C `pigeon_options`. Spans are in nanoseconds, sizes in bytes.
-#[repr(C)]
 #[derive(Clone, Copy)]
 pub struct OptionsRecord {
     pub local_port: u16,
@@ -94,7 +94,8 @@ pub(crate) fn has_flag(flags: u32, value: u32) -> bool
 impl OptionsRecord {
     /// The options that a socket has where nothing else is said.
     pub fn defaults() -> OptionsRecord
-        ensures { given_options result ≡ defaults }
+        ensures options { given_options result ≡ defaults }
+        ensures record { result ≡ default_record }
     {
         OptionsRecord {
             local_port: 5000,

@@ -1,16 +1,13 @@
 //! An event taken apart, for who lends its bytes.
 
 ghost use Rattle.std.specs.Prelude.{◌≡◌, [], length, IfErr, IfOk};
-ghost use Rattle.std.specs.List.{flat_map};
-ghost use Rattle.sctp_wire.specs.Field.{be16};
-ghost use Rattle.sctp_state.specs.Events.{event_of, numbers_of};
-ghost use Rattle.sctp_c_records.specs.Event.{bytes_of, error_number, record_of, shown};
+ghost use Rattle.sctp_state.specs.Events.{event_of};
+ghost use Rattle.sctp_c_records.specs.Event.{bytes_of, faulty, record_of, shown};
 
-use crate::event::{EventRecord, error_number};
-use sctp_serial::StreamId;
-use sctp_state::SocketEvent;
-use sctp_wire::push_entries;
-use std::alloc::{AllocError, Global};
+use crate::event::EventRecord;
+use crate::streams::spelled;
+use sctp_state::{ErrorKind, SocketEvent};
+use std::alloc::Global;
 
 /// What an event is, and its bytes.
 pub struct EventParts {
@@ -19,12 +16,22 @@ pub struct EventParts {
 }
 
 impl EventParts {
-    fn with_bytes(kind: u32, error: u32, bytes: Vec<u8>) -> EventParts
-        ensures head { result.head ≡ shown kind error 0 0 (length bytes.items) }
+    fn with_bytes(kind: u32, bytes: Vec<u8>) -> EventParts
+        ensures head { result.head ≡ shown kind 0 0 0 (length bytes.items) }
         ensures bytes { result.bytes ≡ bytes }
     {
         EventParts {
-            head: EventRecord::of(kind, error, 0, 0, bytes.len()),
+            head: EventRecord::of(kind, 0, 0, 0, bytes.len()),
+            bytes,
+        }
+    }
+
+    fn of_fault(kind: u32, error: ErrorKind, bytes: Vec<u8>) -> EventParts
+        ensures head { result.head ≡ faulty kind error bytes.items (length bytes.items) }
+        ensures bytes { result.bytes ≡ bytes }
+    {
+        EventParts {
+            head: EventRecord::of_fault(kind, error, &bytes, bytes.len()),
             bytes,
         }
     }
@@ -40,15 +47,6 @@ impl EventParts {
     }
 }
 
-/// The bytes of streams, two each.
-fn spelled(alloc: Global, ids: &[StreamId]) -> Result<Vec<u8>, AllocError>
-    ensures { IfOk result (λ bytes. bytes.items ≡ flat_map be16 (numbers_of ids.now)) }
-{
-    let mut bytes = Vec::new(alloc);
-    push_entries(&mut bytes, ids)?;
-    Ok(bytes)
-}
-
 /// Takes an event apart. Where there is no memory for the bytes of streams, it comes back.
 pub fn parts_of(alloc: Global, event: SocketEvent) -> Result<EventParts, SocketEvent>
     ensures head { IfOk result (λ parts. parts.head ≡ record_of (event_of event)) }
@@ -56,28 +54,24 @@ pub fn parts_of(alloc: Global, event: SocketEvent) -> Result<EventParts, SocketE
     ensures same { IfErr result (λ back. back ≡ event) }
 {
     let parts = match event {
-        SocketEvent::SendPacket(bytes) => EventParts::with_bytes(0, 0, bytes),
+        SocketEvent::SendPacket(bytes) => EventParts::with_bytes(0, bytes),
         SocketEvent::OnConnected() => EventParts::alone(alloc, 1, 0, 0),
         SocketEvent::OnClosed() => EventParts::alone(alloc, 2, 0, 0),
         SocketEvent::OnConnectionRestarted() => EventParts::alone(alloc, 3, 0, 0),
-        SocketEvent::OnAborted(kind, text) => {
-            EventParts::with_bytes(4, error_number(kind), text.into_bytes())
-        }
-        SocketEvent::OnError(kind, text) => {
-            EventParts::with_bytes(5, error_number(kind), text.into_bytes())
-        }
+        SocketEvent::OnAborted(kind, text) => { EventParts::of_fault(4, kind, text.into_bytes()) }
+        SocketEvent::OnError(kind, text) => { EventParts::of_fault(5, kind, text.into_bytes()) }
         SocketEvent::OnBufferedAmountLow(id) => EventParts::alone(alloc, 6, id.0 as u32, 0),
         SocketEvent::OnTotalBufferedAmountLow() => EventParts::alone(alloc, 7, 0, 0),
         SocketEvent::OnStreamsResetFailed(ids) => match spelled(alloc, &ids) {
-            Ok(bytes) => EventParts::with_bytes(8, 0, bytes),
+            Ok(bytes) => EventParts::with_bytes(8, bytes),
             Err(_error) => return Err(SocketEvent::OnStreamsResetFailed(ids)),
         },
         SocketEvent::OnStreamsResetPerformed(ids) => match spelled(alloc, &ids) {
-            Ok(bytes) => EventParts::with_bytes(9, 0, bytes),
+            Ok(bytes) => EventParts::with_bytes(9, bytes),
             Err(_error) => return Err(SocketEvent::OnStreamsResetPerformed(ids)),
         },
         SocketEvent::OnIncomingStreamReset(ids) => match spelled(alloc, &ids) {
-            Ok(bytes) => EventParts::with_bytes(10, 0, bytes),
+            Ok(bytes) => EventParts::with_bytes(10, bytes),
             Err(_error) => return Err(SocketEvent::OnIncomingStreamReset(ids)),
         },
         SocketEvent::OnLifecycleMessageFullySent(id) => EventParts::alone(alloc, 11, 0, id.value()),
