@@ -150,9 +150,6 @@ typedef struct pigeon_options {
     /* How much of what is received is held. With nine tenths of it held each further fragment is dropped, so that a longer message may never be
      * whole: take at least twice the longest that the peer may send. At 0 and 1 nothing is taken. */
     uint32_t max_receiver_window_buffer_size;
-    /* How many fragments are held of messages that aren't ready, by default PIGEON_UNLIMITED. With so many held each further one is dropped, so
-     * that a message of more may never be whole: take at least twice as many as the longest that the peer may send has. At 0 nothing is taken. */
-    uint32_t max_held_fragments;
     uint32_t max_send_buffer_size;
     uint32_t per_stream_send_queue_limit;
     uint32_t total_buffered_amount_low_threshold;
@@ -168,6 +165,9 @@ typedef struct pigeon_options {
      * own ones do once the peer has announced the same number. */
     uint32_t zero_checksum_method;
     uint32_t flags; /* a sum of the flags above, of no others */
+    /* How many fragments are held of messages that aren't ready, by default PIGEON_UNLIMITED. With so many held each further one is dropped, so
+     * that a message of more may never be whole: take at least twice as many as the longest that the peer may send has. At 0 nothing is taken. */
+    uint32_t max_held_fragments;
     uint64_t rtt_max;
     uint64_t rto_initial;         /* at least a millisecond */
     uint64_t rto_max;             /* at least rto_min; timers back off beyond it */
@@ -183,7 +183,7 @@ typedef struct pigeon_options {
 
 /* An initializer: with the size alone. All else is written by pigeon_default_options or pigeon_options_for_webrtc. */
 #define PIGEON_OPTIONS                                                                                                                       \
-    {sizeof(pigeon_options), 0, 0, 0, 0, 0, 0, 0, 0, 0, 0, 0, 0, 0, 0, 0, 0, 0, 0, 0, 0, 0, 0, 0, 0, 0, 0, 0, 0, 0, 0, 0, 0, 0}
+    {sizeof(pigeon_options), 0, 0, 0, 0, 0, 0, 0, 0, 0, 0, 0, 0, 0, 0, 0, 0, 0, 0, 0, 0, 0, 0, 0, 0, 0, 0, 0, 0, 0, 0, 0, 0, 0, 0}
 
 /* Calls that end in _sized take the size of a struct behind its pointer, and don't read its first field: they are for other languages. Those
  * without take it from there. */

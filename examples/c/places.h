@@ -28,6 +28,7 @@ AT(pigeon_options, max_retransmissions, 68);
 AT(pigeon_options, max_init_retransmits, 72);
 AT(pigeon_options, zero_checksum_method, 76);
 AT(pigeon_options, flags, 80);
+AT(pigeon_options, max_held_fragments, 84);
 AT(pigeon_options, rtt_max, 88);
 AT(pigeon_options, rto_initial, 96);
 AT(pigeon_options, rto_max, 104);

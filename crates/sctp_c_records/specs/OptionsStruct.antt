@@ -17,6 +17,7 @@ default_record = record {
   mtu = 1191;
   max_message_size = 262144;
   max_receiver_window_buffer_size = 5242880;
+  max_held_fragments = 2 ^ 32 - 1;
   max_send_buffer_size = 2000000;
   per_stream_send_queue_limit = 2000000;
   total_buffered_amount_low_threshold = 1800000;
@@ -68,6 +69,7 @@ options_in bytes = record {
   max_init_retransmits = u32_or 72 default_record.max_init_retransmits bytes;
   zero_checksum_method = u32_or 76 default_record.zero_checksum_method bytes;
   flags = u32_or 80 default_record.flags bytes;
+  max_held_fragments = u32_or 84 default_record.max_held_fragments bytes;
   rtt_max = u64_or 88 default_record.rtt_max bytes;
   rto_initial = u64_or 96 default_record.rto_initial bytes;
   rto_max = u64_or 104 default_record.rto_max bytes;
@@ -91,6 +93,7 @@ options_bytes r = in_turn (
     put_u32 44 r.default_stream_buffered_amount_low_threshold ∷ put_u32 48 r.cwnd_mtus_initial ∷ put_u32 52 r.cwnd_mtus_min ∷
     put_u32 56 r.avoid_fragmentation_cwnd_mtus ∷ put_u32 60 r.immediate_sack_under_cwnd_mtus ∷ put_u32 64 (cast_unsigned w32 r.max_burst) ∷
     put_u32 68 r.max_retransmissions ∷ put_u32 72 r.max_init_retransmits ∷ put_u32 76 r.zero_checksum_method ∷ put_u32 80 r.flags ∷
+    put_u32 84 r.max_held_fragments ∷
     put_u64 88 r.rtt_max ∷ put_u64 96 r.rto_initial ∷ put_u64 104 r.rto_max ∷ put_u64 112 r.rto_min ∷ put_u64 120 r.t1_init_timeout ∷
     put_u64 128 r.t1_cookie_timeout ∷ put_u64 136 r.t2_shutdown_timeout ∷ put_u64 144 r.max_timer_backoff_duration ∷
     put_u64 152 r.heartbeat_interval ∷ put_u64 160 r.delayed_ack_max_timeout ∷ put_u64 168 r.min_rtt_variance ∷ [])
@@ -107,6 +110,10 @@ abbrev pub held_limit : Option ℕ → Option ℕ
 held_limit None = None
 held_limit (Some n) = limit_at n
 
+abbrev pub held_count : Option ℕ → Option ℕ
+held_count None = None
+held_count (Some n) = limit_at (held_size n)
+
 abbrev pub held_span : Option ℕ → Option ℕ
 held_span None = None
 held_span (Some n) = span_at (held_nanos n)
@@ -116,6 +123,7 @@ held_options o = record o {
   mtu = held_size o.mtu;
   max_message_size = held_size o.max_message_size;
   max_receiver_window_buffer_size = held_size o.max_receiver_window_buffer_size;
+  max_held_fragments = held_count o.max_held_fragments;
   max_send_buffer_size = held_size o.max_send_buffer_size;
   per_stream_send_queue_limit = held_size o.per_stream_send_queue_limit;
   total_buffered_amount_low_threshold = held_size o.total_buffered_amount_low_threshold;

@@ -3,7 +3,7 @@
 ghost use Rattle.std.specs.Prelude.{◌≡◌, ◌<◌, ◌≤◌, ◌-◌, ◌^◌, option_map};
 ghost use Rattle.std.specs.Duration.{as_nanos};
 ghost use Rattle.sctp_state.specs.Options.{HasValidTimes, IsValid, options_of};
-ghost use Rattle.sctp_c_records.specs.OptionsStruct.{flag_value, flags_value, held_limit, held_options, held_size, held_span, invalid_place, invalid_time, options_bytes, options_in, webrtc_options, webrtc_record};
+ghost use Rattle.sctp_c_records.specs.OptionsStruct.{flag_value, flags_value, held_count, held_limit, held_options, held_size, held_span, invalid_place, invalid_time, options_bytes, options_in, webrtc_options, webrtc_record};
 ghost use Rattle.sctp_c_records.specs.Records.{given_checksum, given_options, limit_at, span_at};
 ghost use Rattle.sctp_c_records.specs.declared.checksum.PacketChecksum.TheVariants.{Crc32c};
 
@@ -30,6 +30,15 @@ fn limit_number(limit: Option<u32>) -> u32
     match limit {
         None => u32::MAX,
         Some(number) => number,
+    }
+}
+
+fn count_number(count: Option<usize>) -> u32
+    ensures { limit_at result ≡ held_count count }
+{
+    match count {
+        None => u32::MAX,
+        Some(number) => size_number(number),
     }
 }
 
@@ -93,6 +102,7 @@ impl OptionsRecord {
             max_init_retransmits: u32_or(bytes, 72, 8),
             zero_checksum_method: u32_or(bytes, 76, 0),
             flags: u32_or(bytes, 80, 17),
+            max_held_fragments: u32_or(bytes, 84, u32::MAX),
             rtt_max: u64_or(bytes, 88, 60_000_000_000),
             rto_initial: u64_or(bytes, 96, 500_000_000),
             rto_max: u64_or(bytes, 104, 60_000_000_000),
@@ -133,6 +143,7 @@ impl OptionsRecord {
         put_u32(bytes, 72, self.max_init_retransmits);
         put_u32(bytes, 76, self.zero_checksum_method);
         put_u32(bytes, 80, self.flags);
+        put_u32(bytes, 84, self.max_held_fragments);
         put_u64(bytes, 88, self.rtt_max);
         put_u64(bytes, 96, self.rto_initial);
         put_u64(bytes, 104, self.rto_max);
@@ -251,6 +262,7 @@ impl OptionsRecord {
             max_init_retransmits: limit_number(options.max_init_retransmits),
             zero_checksum_method: options.zero_checksum_alternate_error_detection_method.0,
             flags: flags_of(options),
+            max_held_fragments: count_number(options.max_held_fragments),
             rtt_max: nanos_of(options.rtt_max),
             rto_initial: nanos_of(options.rto_initial),
             rto_max: nanos_of(options.rto_max),
