@@ -64,6 +64,7 @@ fn handle_no_data<C: Checksum>(
 }
 
 /// An ERROR that a DATA chunk had no payload (RFC 9260 section 3.3.10.9).
+#[tactic(auto, unfolding(sctp_wire::specs::Cause::cause_value, sctp_chunk::specs::Written::chunk_value))]
 fn send_no_user_data<C: Checksum>(
     context: &mut Context<C>,
     tcb: &TransmissionControlBlock,
