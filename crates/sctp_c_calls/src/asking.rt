@@ -133,6 +133,12 @@ pub fn rest_number<R: Rng, C: Checksum>(socket: &Socket<R, C>) -> u32
     if socket.is_at_rest() { 1 } else { 0 }
 }
 
+fn one_if(holds: bool) -> u32
+    ensures { (result == 1) ≡ holds }
+{
+    if holds { 1 } else { 0 }
+}
+
 /// Whether bytes would be refused, 1 or 0.
 pub fn refuses<R: Rng, C: Checksum>(socket: &Socket<R, C>, bytes: &[u8], refused: &mut u32) -> u32
     ensures answers { IsAmong (0 ∷ 2 ∷ []) result }
@@ -140,12 +146,8 @@ pub fn refuses<R: Rng, C: Checksum>(socket: &Socket<R, C>, bytes: &[u8], refused
     ensures failed { result ≡ 2 ↔ socket.now.has_failed ≡ true }
 {
     match socket.refuses(bytes) {
-        Ok(true) => {
-            *refused = 1;
-            OK
-        }
-        Ok(false) => {
-            *refused = 0;
+        Ok(is_refused) => {
+            *refused = one_if(is_refused);
             OK
         }
         Err(_) => FAILED,

@@ -1,7 +1,8 @@
+use Rattle.std.proofs.Common.{Bool, sym, subst}
+use Rattle.spec_endpoint.specs.Receiving.{Judges}
 use Rattle.sctp_c_calls.proofs.asking.refuses.Goals as goal
 
-pub returns-in-Ok-true-clause-judged : goal.returns-in-Ok-true-clause-judged
-returns-in-Ok-true-clause-judged g c = c.in-Ok-true.ensures.judged
-
-pub returns-in-Ok-false-clause-judged : goal.returns-in-Ok-false-clause-judged
-returns-in-Ok-false-clause-judged g c = c.in-Ok-false.ensures.judged
+pub returns-in-Ok-clause-judged : goal.returns-in-Ok-clause-judged
+returns-in-Ok-clause-judged g c = subst
+    (λ (b : Bool). Judges (g.C.Checksum.word_of c.args.socket.now.context.checksum) c.args.bytes.now c.args.socket.now.context.options c.args.socket.now.state b)
+    (sym c.one_if.ensures) c.in-Ok.ensures.judged
