@@ -66,15 +66,15 @@ pub extern "C" fn pigeon_borrow_message(
 
 /// Takes the record of the message that was given up first.
 #[unsafe(no_mangle)]
-pub extern "C" fn pigeon_next_given_up(socket: &mut Handle, record: &mut GivenUpRecord) -> u32
+pub extern "C" fn pigeon_next_given_up(socket: &mut Handle, head: &mut GivenUpRecord) -> u32
     ensures answers { Answers (λ e n f. IsAmong (0 ∷ 8 ∷ []) n) socket.old.held result socket.new.held }
-    ensures first { Answers (OnSocket (λ s n t. OnAnswer 0 n (Some record.new ≡ option_map given_up_record (first_of s.context.emitted.given_up)))) socket.old.held result socket.new.held }
+    ensures first { Answers (OnSocket (λ s n t. OnAnswer 0 n (Some head.new ≡ option_map given_up_record (first_of s.context.emitted.given_up)))) socket.old.held result socket.new.held }
     ensures nothing { Answers (OnSocket (λ s n t. OnAnswer 8 n (first_of s.context.emitted.given_up ≡ None))) socket.old.held result socket.new.held }
     ensures rest { Answers (OnSocket (λ s n t. t ≡ with_given_up s (drop 1 s.context.emitted.given_up))) socket.old.held result socket.new.held }
 {
     match socket.as_mut() {
         None => NO_SOCKET,
-        Some(end) => calls::next_given_up(&mut end.socket, record),
+        Some(end) => calls::next_given_up(&mut end.socket, head),
     }
 }
 

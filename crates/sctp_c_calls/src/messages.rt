@@ -96,17 +96,17 @@ pub fn borrow_message<R: Rng, C: Checksum>(
 /// Takes the record of the message that was given up first.
 pub fn next_given_up<R: Rng, C: Checksum>(
     socket: &mut Socket<R, C>,
-    record: &mut GivenUpRecord,
+    head: &mut GivenUpRecord,
 ) -> u32
     ensures answers { IsAmong (0 ∷ 8 ∷ []) result }
-    ensures first { OnAnswer 0 result (Some record.new ≡ option_map given_up_record (first_of socket.old.context.emitted.given_up)) }
+    ensures first { OnAnswer 0 result (Some head.new ≡ option_map given_up_record (first_of socket.old.context.emitted.given_up)) }
     ensures nothing { OnAnswer 8 result (first_of socket.old.context.emitted.given_up ≡ None) }
     ensures rest { socket.new ≡ with_given_up socket.old (drop 1 socket.old.context.emitted.given_up) }
 {
     match socket.next_given_up() {
         None => NOTHING,
         Some(given_up) => {
-            *record = GivenUpRecord::of(&given_up);
+            *head = GivenUpRecord::of(&given_up);
             OK
         }
     }
