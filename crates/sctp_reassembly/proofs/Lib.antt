@@ -11,6 +11,8 @@ mod HolderLemmas
 mod InTurnLemmas
 mod KeyAtLemmas
 mod AtEndLemmas
+mod DroppedLemmas
+mod BoxedLemmas
 mod AddedLemmas
 pub mod StandsLemmas
 pub mod InterruptedQueueLemmas
