@@ -12,6 +12,7 @@ mod InTurnLemmas
 mod KeyAtLemmas
 mod AtEndLemmas
 mod DroppedLemmas
+mod LowLemmas
 mod BoxedLemmas
 mod AddedLemmas
 pub mod StandsLemmas

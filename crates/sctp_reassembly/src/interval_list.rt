@@ -230,6 +230,7 @@ impl<K: ReassemblyKey> IntervalList<K> {
             self.held = None;
             return;
         }
+        intervals.drop_low(key);
         intervals.retain(key);
         give_back(&mut self.held);
     }

@@ -3,7 +3,7 @@
 ghost use Rattle.std.specs.Prelude.{◌≡◌, ◌==◌, ◌+◌, ◌<◌, ◌≤◌, ◌^◌, ◌++◌, ◌∷◌, [], not, List, true, false, length, option_map, IfOk, OnOk, OnErr, IfSome, IfNone};
 
 use crate::counted::key_at;
-use crate::dropped::ends_below;
+use crate::dropped::{all_sums_of, ends_below, take_low};
 use crate::places::{
     add_to, begins_below, drop_first, first_key, interval_with, take_if_complete, take_in_turn,
 };
@@ -185,6 +185,21 @@ impl<K: ReassemblyKey> Intervals<K> {
         ensures { result ≡ true → from_rank rank_of (rank_at K.number K.index key) self.now ≡ [] }
     {
         ends_below(&self.first, &self.later, key)
+    }
+
+    /// Drops intervals that are before the key, by one cut: of those that begin before it at most two stay.
+    pub fn drop_low(&mut self, key: K)
+        ensures same { from_rank rank_of (rank_at K.number K.index key) self.new ≡ from_rank rank_of (rank_at K.number K.index key) self.old }
+        ensures others { NoneComplete (intervals_of self.old) → NoneComplete (intervals_of self.new) }
+        ensures bytes { bytes_of self.new ≤ bytes_of self.old }
+        ensures fragments { length self.new ≤ length self.old }
+    {
+        let Some(low) = take_low(&mut self.first, &mut self.later, key) else {
+            return;
+        };
+        let (bytes, fragments) = all_sums_of(&low);
+        self.bytes -= bytes;
+        self.fragments -= fragments;
     }
 
     /// Keeps the fragments from the key on, and drops those before it.
