@@ -1,5 +1,5 @@
 -- Fragments that take memory only where there are some.
-use Rattle.std.proofs.Common.{◌≡◌, suc, ◌<◌, Bool, true, false, cond, Result, Ok, Err, List, [], ◌∷◌, ◌++◌, length, OnOk, OnErr, ap, sym, ◌∙◌, arith}
+use Rattle.std.proofs.Common.{◌≡◌, ◌<◌, Bool, true, false, cond, Result, Ok, Err, List, [], ◌∷◌, ◌++◌, length, OnOk, OnErr, ap, arith}
 use Rattle.sctp_fragments.specs.Runs.{is_held, put_in, with_item}
 use Rattle.sctp_fragments.specs.Held.{Held, rank_of, intervals_of}
 use Rattle.sctp_reassembly.proofs.CountLemmas.{put_length}

@@ -1,5 +1,5 @@
 -- Fragments that take memory only where there are some.
-use Rattle.std.specs.Prelude.{ℕ, ◌<◌, Option, Some, None, List, [], length}
+use Rattle.std.specs.Prelude.{◌<◌, Option, Some, None, List, [], length}
 use Rattle.std.specs.Global.{Global}
 use Rattle.std.specs.declared.boxed.Box.{Box}
 use Rattle.sctp_fragments.specs.Held.{Held}

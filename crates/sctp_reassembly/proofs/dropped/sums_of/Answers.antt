@@ -1,7 +1,7 @@
-use Rattle.std.proofs.Common.{◌++◌, ◌∷◌, [], refl, ap, sym, ◌∙◌, arith, length, append-nil, append_assoc}
+use Rattle.std.proofs.Common.{◌++◌, ◌∷◌, [], refl, ap, sym, ◌∙◌, arith, length, append-nil}
 use Rattle.std.specs.Map.{values_of}
 use Rattle.sctp_fragments.specs.Held.{bytes_of}
-use Rattle.sctp_fragments.specs.Interval.{held_of, run_of, entries_of}
+use Rattle.sctp_fragments.specs.Interval.{held_of, entries_of}
 use Rattle.sctp_reassembly.proofs.CountLemmas.{run_length}
 use Rattle.sctp_reassembly.proofs.LowLemmas.{summed}
 use Rattle.sctp_reassembly.proofs.dropped.sums_of.Goals as goal

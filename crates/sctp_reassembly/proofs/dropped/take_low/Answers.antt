@@ -4,7 +4,7 @@ use Rattle.std.specs.Ordering.{is_gt}
 use Rattle.std.specs.List.{All}
 use Rattle.sctp_fragments.specs.ReassemblyKey.{rank_at}
 use Rattle.sctp_fragments.specs.Interval.{held_of, lists_of, first_below}
-use Rattle.sctp_reassembly.specs.Places.{all_of, AreNamed}
+use Rattle.sctp_reassembly.specs.Places.{all_of}
 use Rattle.sctp_reassembly.proofs.LowLemmas.{low_cut}
 use Rattle.sctp_reassembly.proofs.dropped.take_low.Goals as goal
 
