@@ -5,11 +5,16 @@ ghost use Rattle.sctp_wire.specs.Serialize.{IsEncodable};
 ghost use Rattle.sctp_packet.specs.ChunkView.{chunk_tree};
 ghost use Rattle.sctp_packet.specs.Written.{chunk_bytes, chunk_is_whole, chunk_item, chunks_bytes};
 ghost use Rattle.sctp_packet.specs.Builder.{Holds};
+ghost use Rattle.sctp_chunk.specs.Views.{fragment_tree};
+ghost use Rattle.spec_endpoint.specs.Sending.{data_chunk_of};
 ghost use Rattle.spec_endpoint.specs.Packets.{add, added_if, clear_chunks, fits, has_chunks, packet_to, room};
 ghost use Rattle.sctp_endpoint.specs.PacketView.{IsWritable};
 ghost use Rattle.spec_endpoint.specs.Wire.{word_at, written_bytes};
 
-use sctp_packet::{COMMON_HEADER_SIZE, Chunk, SctpPacketBuilder};
+use sctp_packet::{COMMON_HEADER_SIZE, Chunk, Data, DataChunk, IDataChunk, SctpPacketBuilder};
+use sctp_serial::Tsn;
+use sctp_tx::{ChunkForm, TakesFragments};
+use sctp_tx_outstanding::item::copy_of;
 use sctp_wire::{Checksum, SerializableTlv};
 use std::alloc::{AllocError, Global};
 use std::marker::Model;
@@ -163,6 +168,38 @@ impl OutgoingPacket {
         self.body_size = 0;
         let word = word_of(checksum, builder.unsummed());
         Ok(builder.build(word))
+    }
+}
+
+impl TakesFragments for OutgoingPacket {
+    ghost use Rattle.sctp_tx.specs.declared.fragments.ChunkForm.{ChunkForm};
+    ghost use Rattle.spec_endpoint.specs.Packets.{add};
+    ghost use Rattle.spec_endpoint.specs.Sending.{data_chunk_of};
+
+    ghost taken = { λ form c p. add (data_chunk_of form.is_interleaved form.is_immediate c) p };
+
+    fn take(&mut self, form: ChunkForm, tsn: Tsn, fragment: &Data) -> Result<(), AllocError> {
+        let chunk = data_chunk(form, tsn, copy_of(self.alloc, fragment)?);
+        self.add(chunk)
+    }
+}
+
+/// The chunk that carries the fragment in this form.
+pub fn data_chunk(form: ChunkForm, tsn: Tsn, fragment: Data) -> Chunk
+    ensures { chunk_tree result ≡ data_chunk_of form.is_interleaved form.is_immediate (tsn.0, fragment_tree fragment) }
+{
+    if form.is_interleaved {
+        Chunk::IData(IDataChunk {
+            tsn,
+            immediate_ack: form.is_immediate,
+            data: fragment,
+        })
+    } else {
+        Chunk::Data(DataChunk {
+            tsn,
+            immediate_ack: form.is_immediate,
+            data: fragment,
+        })
     }
 }
 
