@@ -1,21 +1,18 @@
-use Rattle.std.proofs.Common.{◌≡◌, ℕ, Bool, true, false, List, length, map, rules, ap, sym, ◌∙◌}
-use Rattle.std.specs.Prelude.{◌==◌, not, nat_lt}
-use Rattle.sctp_tx.specs.RetransmissionQueue.{Sender}
-use Rattle.sctp_endpoint.proofs.DataLemmas.{some_or_none, taken_are_added}
+use Rattle.std.proofs.Common.{◌≡◌, rules, sym, ◌∙◌}
+use Rattle.sctp_endpoint.specs.Views.{context_of, filling_of, tcb_of}
+use Rattle.sctp_endpoint.proofs.DataLemmas.{data_added, some_or_none}
 use Rattle.sctp_endpoint.proofs.context.Context.add_data.Goals as goal
 
 pub returns-then-not-is_sent : goal.returns-then-not-is_sent
 returns-then-not-is_sent g c =
     let said = c.in_ok-is_sent.ensures in
-    let packet = said.packet ∙ taken_are_added _ _ _ _ in
-    let cwnd = sym (ap (λ (t : Sender). t.windows.cwnd) said.sender) ∙ said.flight.cwnd in
-    let none = sym (some_or_none _) ∙ sym said.sent in
-    search (rules, packet, cwnd, none)
+    let x = filling_of g.C.Checksum.word_of c.args.packet.now c.args.tcb.now c.args.self.now in
+    let packet = data_added x c.send_into.new.packet c.send_into.new.self _ (search (rules, said.packet)) (search rules) (search rules) said.flight.cwnd in
+    search (rules, packet)
 
 pub returns : goal.returns
 returns g c =
     let said = c.in_ok-is_sent.ensures in
-    let packet = said.packet ∙ taken_are_added _ _ _ _ in
-    let cwnd = sym (ap (λ (t : Sender). t.windows.cwnd) said.sender) ∙ said.flight.cwnd in
-    let some = sym (some_or_none _) ∙ sym said.sent in
-    search (rules, packet, cwnd, some)
+    let x = filling_of g.C.Checksum.word_of c.args.packet.now c.args.tcb.now c.args.self.now in
+    let packet = data_added x c.send_into.new.packet c.send_into.new.self _ (search (rules, said.packet)) (search rules) (search rules) said.flight.cwnd in
+    search (rules, packet)
