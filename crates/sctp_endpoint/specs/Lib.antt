@@ -1,4 +1,6 @@
 pub mod RequestViews
+pub mod WrittenChunks
+pub mod WrittenView
 pub mod PacketView
 pub mod Views
 pub mod Lending
