@@ -15,7 +15,7 @@ add_written-requires-clause-some g c =
 pub add_written-requires-clause-fits : goal.add_written-requires-clause-fits
 add_written-requires-clause-fits g c =
     let before = c.write_checksum.ensures ∙ ap (λ (b : BuilderTree). record b { writes_checksum = c.self.inside.write_checksum }) c.new-builder.ensures in
-    omega (arith, ap (λ (b : BuilderTree). b.limit) before, ap (λ (b : BuilderTree). length b.body) before, ap length c.bytes.ensures, c.size.ensures)
+    omega (arith, ap (λ (b : BuilderTree). b.limit) before, ap (λ (b : BuilderTree). length b.body) before, ap length c.bytes.ensures, c.size-size.ensures)
 
 pub returns-clause-packet : goal.returns-clause-packet
 returns-clause-packet g c =
@@ -25,7 +25,7 @@ returns-clause-packet g c =
     let before = c.write_checksum.ensures ∙ ap (λ (b : BuilderTree). record b { writes_checksum = inside.write_checksum }) c.new-builder.ensures in
     let wrote = c.in_ok-add_written.ensures.ok in
     rw (← c.self.view_is)
-    (made_written word_of _ (12 + c.size.result) inside.write_checksum inside.chunks c.add_written.new.self c.word_of-word.result c.build.result.items
+    (made_written word_of _ (12 + c.size-size.result) inside.write_checksum inside.chunks c.add_written.new.self c.word_of-word.result c.build.result.items
     some (ap (λ (b : BuilderTree). b.body) wrote ∙ (ap (λ (b : BuilderTree). b.body ++ c.bytes.result.now) before ∙ c.bytes.ensures))
     (ap (λ (b : BuilderTree). record b { body = [] }) wrote ∙ ap (λ (b : BuilderTree). record b { body = [] }) before)
     (c.word_of-word.ensures ∙ ap (word_at word_of) c.unsummed.ensures) c.build.ensures.packet)
@@ -37,4 +37,4 @@ returns-clause-short g c =
     let fits = some_short inside.chunks inside.limit some c.self.invariant.short in
     let before = c.write_checksum.ensures ∙ ap (λ (b : BuilderTree). record b { writes_checksum = inside.write_checksum }) c.new-builder.ensures in
     let made = ap (λ (b : BuilderTree). b.limit) (c.in_ok-add_written.ensures.ok) ∙ ap (λ (b : BuilderTree). b.limit) before in
-    rw (← c.self.view_is) (omega (arith, c.build.ensures.short, made, fits, c.size.ensures))
+    rw (← c.self.view_is) (omega (arith, c.build.ensures.short, made, fits, c.size-size.ensures))
