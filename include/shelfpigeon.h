@@ -14,9 +14,9 @@
  *     shorter size the fields that it lacks have their defaults, or aren't written; one that is longer than the library's is answered by
  *     PIGEON_INVALID_SIZE, and nothing else happens;
  *   - a buffer has as many bytes as its length says; one of length 0 may be anywhere but NULL (PIGEON_EMPTY serves);
- *   - a handle is in one call at a time, and only these functions change it: those that take it as const leave it as it is. Different handles may be in calls of different threads at
- *     once, and a handle may move to another thread: the calls of the one come before those of the other, by a lock or a join. It
- *     begins as PIGEON_NO_HANDLE, and is not copied: of two copies only one may be freed;
+ *   - a handle is in one call at a time, and only these functions change it: those that take it as const leave it as it is. Different handles
+ *     may be in calls of different threads at once, and a handle may move to another thread: the calls of the one come before those of the
+ *     other, by a lock or a join. It begins as PIGEON_NO_HANDLE, and is not copied: of two copies only one may be freed;
  *   - bytes that a socket lends (pigeon_borrow_event, pigeon_borrow_message) are only read, and not after the next call with this socket has
  *     begun, so that they aren't handed to that call either;
  *   - malloc aligns as C demands. No call is made in a signal handler, or in a forked child of a process with threads.
@@ -91,32 +91,17 @@ enum { PIGEON_TEXT_ANSWER = 0, PIGEON_TEXT_EVENT = 1, PIGEON_TEXT_ERROR = 2, PIG
 /* Hands out the text of a number of this kind: it ends by a zero byte, and stays for ever. */
 void pigeon_find_text(uint32_t kind, uint32_t number, const char **text);
 
-static inline const char *pigeon_answer_text(uint32_t answer) {
+static inline const char *pigeon_text(uint32_t kind, uint32_t number) {
     const char *text;
-    pigeon_find_text(PIGEON_TEXT_ANSWER, answer, &text);
+    pigeon_find_text(kind, number, &text);
     return text;
 }
-static inline const char *pigeon_event_text(uint32_t kind) {
-    const char *text;
-    pigeon_find_text(PIGEON_TEXT_EVENT, kind, &text);
-    return text;
-}
-static inline const char *pigeon_error_text(uint32_t error) {
-    const char *text;
-    pigeon_find_text(PIGEON_TEXT_ERROR, error, &text);
-    return text;
-}
-static inline const char *pigeon_state_text(uint32_t state) {
-    const char *text;
-    pigeon_find_text(PIGEON_TEXT_STATE, state, &text);
-    return text;
-}
+static inline const char *pigeon_answer_text(uint32_t answer) { return pigeon_text(PIGEON_TEXT_ANSWER, answer); }
+static inline const char *pigeon_event_text(uint32_t kind) { return pigeon_text(PIGEON_TEXT_EVENT, kind); }
+static inline const char *pigeon_error_text(uint32_t error) { return pigeon_text(PIGEON_TEXT_ERROR, error); }
+static inline const char *pigeon_state_text(uint32_t state) { return pigeon_text(PIGEON_TEXT_STATE, state); }
 /* The name of the option whose place pigeon_check_options hands out. */
-static inline const char *pigeon_option_text(uint32_t place) {
-    const char *text;
-    pigeon_find_text(PIGEON_TEXT_OPTION, place, &text);
-    return text;
-}
+static inline const char *pigeon_option_text(uint32_t place) { return pigeon_text(PIGEON_TEXT_OPTION, place); }
 
 /* ---- Options */
 
@@ -316,9 +301,9 @@ enum {
 uint32_t pigeon_handover_readiness(const pigeon_socket *socket, uint32_t *readiness);
 
 /* Hands out the socket's record, by which another socket goes on in its place; this one closes, as PIGEON_ON_CLOSED says, and the peer gets
- * nothing. `needed` becomes the record's length. PIGEON_NOT_READY: nothing changes. PIGEON_SHORT_BUFFER (and `needed` is handed out), PIGEON_NO_ROOM: the
- * socket has closed, and its record stays for the next call, before any other. A packet of the association that is handed in meanwhile is
- * refused with an error, and lost. */
+ * nothing. `needed` becomes the record's length. PIGEON_NOT_READY: nothing changes. PIGEON_SHORT_BUFFER (and `needed` is handed out),
+ * PIGEON_NO_ROOM: the socket has closed, and its record stays for the next call, before any other. A packet of the association that is handed
+ * in meanwhile is refused with an error, and lost. */
 uint32_t pigeon_handover(pigeon_socket *socket, size_t *needed, uint8_t *buffer, size_t length);
 
 /* Takes up a record in a closed socket that was made with the same options, and sends what may be sent; PIGEON_ON_CONNECTED is emitted. Advance
@@ -379,8 +364,8 @@ typedef struct pigeon_outgoing {
 
 /* Queues copies of several messages, all by the same options, and sends then; advance the time first. The first `count` of the numbers at
  * `answers` become what pigeon_send would answer for each; PIGEON_SOME_REFUSED where not all are PIGEON_OK, and the others are queued all the same.
- * PIGEON_INVALID_SIZE and PIGEON_INVALID_ARGUMENT as of pigeon_send; PIGEON_SHORT_BUFFER: `answered` is less than `count`; PIGEON_INVALID_STREAM: a stream is above 65,535;
- * PIGEON_NO_ROOM: no memory for the copies. After one of these five nothing is queued. */
+ * PIGEON_INVALID_SIZE and PIGEON_INVALID_ARGUMENT as of pigeon_send; PIGEON_SHORT_BUFFER: `answered` is less than `count`;
+ * PIGEON_INVALID_STREAM: a stream is above 65,535; PIGEON_NO_ROOM: no memory for the copies. After one of these five nothing is queued. */
 uint32_t pigeon_send_many_sized(pigeon_socket *socket, const pigeon_outgoing *messages, size_t count, const void *options, size_t size,
                                 uint32_t *answers, size_t answered);
 static inline uint32_t pigeon_send_many(pigeon_socket *socket, const pigeon_outgoing *messages, size_t count,
