@@ -113,13 +113,13 @@ pub fn run_ordered(alloc: Global, line: &str, script: &str, output: &mut Output)
         ),
         ("tsn", _) => run_on(
             alloc,
-            traditional::OrderedStream::restored(alloc, next as u128),
+            traditional::OrderedStream::restored(alloc, next),
             script,
             output,
         ),
         _ => run_on(
             alloc,
-            interleaved::OrderedStream::restored(alloc, next as u128),
+            interleaved::OrderedStream::restored(alloc, next),
             script,
             output,
         ),

@@ -8,7 +8,7 @@ use Rattle.sctp_fragments.specs.Interval.{run_of, first_below, without_first}
 use Rattle.sctp_fragments.specs.Runs.{flat, is_held, put_in, with_item, from_rank, AreRuns}
 use Rattle.sctp_fragments.specs.Held.{Held, rank_of, goes_on, IsTaken}
 
-put_length : (x : Held) (hs : List Held) → length (put_in rank_of x hs) ≡ suc (length hs)
+pub put_length : (x : Held) (hs : List Held) → length (put_in rank_of x hs) ≡ suc (length hs)
 put_length x [] = refl
 put_length x (e ∷ es) = go (nat_lt (rank_of x) (rank_of e)) (put_length x es)
   where

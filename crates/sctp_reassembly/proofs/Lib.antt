@@ -11,6 +11,9 @@ mod HolderLemmas
 mod InTurnLemmas
 mod KeyAtLemmas
 mod AtEndLemmas
+mod DroppedLemmas
+mod LowLemmas
+mod BoxedLemmas
 mod AddedLemmas
 pub mod StandsLemmas
 pub mod InterruptedQueueLemmas

@@ -27,13 +27,13 @@ nat_cmp_more : (k a : ℕ) → a < k → nat_cmp k a ≡ Greater
 nat_cmp_more k a h = rw (le-ltb k a (omega (arith, h)), ne_eqb k a (omega (arith, h))) refl
 
 module _ {K : Type 0} (cmp : K → K → Ordering) (is_key : K → Type 0) (rank : K → ℕ) (by_rank : (x y : K) → is_key x → is_key y → cmp x y ≡ nat_cmp (rank x) (rank y)) where
-  cmp_less : (k a : K) → is_key k → is_key a → rank k < rank a → cmp k a ≡ Less
+  pub cmp_less : (k a : K) → is_key k → is_key a → rank k < rank a → cmp k a ≡ Less
   cmp_less k a p q h = by_rank k a p q ∙ nat_cmp_less (rank k) (rank a) h
 
   cmp_more : (k a : K) → is_key k → is_key a → rank a < rank k → cmp k a ≡ Greater
   cmp_more k a p q h = by_rank k a p q ∙ nat_cmp_more (rank k) (rank a) h
 
-  cmp_same : (k a : K) → is_key k → is_key a → rank k ≡ rank a → cmp k a ≡ Equal
+  pub cmp_same : (k a : K) → is_key k → is_key a → rank k ≡ rank a → cmp k a ≡ Equal
   cmp_same k a p q h = by_rank k a p q ∙ nat_cmp_same (rank k) (rank a) h
 
   module _ {X : Type 0} (k : K) (p : is_key k) where

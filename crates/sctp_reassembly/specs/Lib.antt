@@ -8,6 +8,7 @@ pub mod ReassemblyMode
 pub mod Waiting
 pub mod Places
 pub mod Listed
+pub mod Boxed
 pub mod Turns
 pub mod ReassemblyHandover
 pub mod SettledLaws

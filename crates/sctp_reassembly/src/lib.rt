@@ -2,9 +2,11 @@
 #![tactic(auto)]
 
 mod counted;
+mod dropped;
 pub mod interleaved_reassembly_streams;
 pub mod interval_laws;
 pub mod interval_list;
+mod intervals;
 mod near;
 mod ordered_stream;
 mod ordered_streams;

@@ -25,47 +25,50 @@ pub const FIRST: u64 = 1 << 32;
 #[derive(Drop)]
 pub struct OrderedStream<K: ReassemblyKey> {
     alloc: Global,
-    // wide enough for the number behind that of any key
-    next: u128,
+    // the number before that of the next message: so it is one that a key may have
+    last: u64,
     list: IntervalList<K>,
     // whether nothing in the list is known to be in turn: not after want of memory, nor where a message was handed on
     is_settled: bool,
 }
 
 impl<K: ReassemblyKey> Model for OrderedStream<K> {
+    ghost use Rattle.std.specs.Prelude.{◌+◌};
     ghost use Rattle.sctp_reassembly.specs.Delivery.{OrderedStream, IsOrdered};
 
     ghost Value = { OrderedStream };
 
-    ghost view = { λ s. record { next = s.next; held = s.list } };
+    ghost view = { λ s. record { next = s.last + 1; held = s.list } };
 
-    ghost invariant = { λ s. IsOrdered (record { next = s.next; held = s.list }) s.is_settled };
+    ghost invariant = { λ s. IsOrdered (record { next = s.last + 1; held = s.list }) s.is_settled };
 }
 
-/// Makes the complete messages ready that are in turn, one after the other.
+/// Makes the complete messages ready that are in turn, one after the other, behind the last one.
 #[tactic(auto, using(crate::proofs::ExtendsLemmas::extends_none, crate::proofs::ExtendsLemmas::extends_both))]
 fn deliver<K: ReassemblyKey>(
     alloc: Global,
-    next: &mut u128,
+    last: &mut u64,
     list: &mut IntervalList<K>,
     ready: &mut ReadyMessages,
 ) -> Result<(), AllocError>
     requires { bytes_of list.old + ready_bytes ready.old < 2 ^ 64 }
-    ensures next { OnOk result (next.new ≡ (deliver next.old list.old).stream.next) }
-    ensures held { OnOk result (list.new ≡ (deliver next.old list.old).stream.held) }
-    ensures ready { OnOk result (ready.new ≡ ready.old ++ (deliver next.old list.old).messages) }
-    ensures settled { OnOk result (NoneInTurn next.new (intervals_of list.new)) }
-    ensures onward { next.old ≤ next.new }
-    ensures err { OnErr result ((count : ℕ) × ((record { next = next.new; held = list.new } ≡ (deliver_in_part count next.old list.old).stream) × (ready.new ≡ ready.old ++ (deliver_in_part count next.old list.old).messages))) }
+    ensures next { OnOk result (last.new + 1 ≡ (deliver (last.old + 1) list.old).stream.next) }
+    ensures held { OnOk result (list.new ≡ (deliver (last.old + 1) list.old).stream.held) }
+    ensures ready { OnOk result (ready.new ≡ ready.old ++ (deliver (last.old + 1) list.old).messages) }
+    ensures settled { OnOk result (NoneInTurn (last.new + 1) (intervals_of list.new)) }
+    ensures onward { last.old ≤ last.new }
+    ensures err { OnErr result ((count : ℕ) × ((record { next = last.new + 1; held = list.new } ≡ (deliver_in_part count (last.old + 1) list.old).stream) × (ready.new ≡ ready.old ++ (deliver_in_part count (last.old + 1) list.old).messages))) }
     ensures kept { Extends ready.old ready.new }
     ensures bytes { bytes_of list.new + ready_bytes ready.new ≤ bytes_of list.old + ready_bytes ready.old }
     ensures fragments { length list.new ≤ length list.old }
 {
-    while let Some(interval) = list.pop_front_if_complete_and(*next) {
+    // (that a number fits is known once it is read)
+    let _last = *last;
+    while let Some(interval) = list.pop_front_if_complete_and(*last as u128 + 1) {
         let number = interval.first().key.number();
         let message = message_of(alloc, interval)?;
         ready.push(message)?;
-        *next = number as u128 + 1;
+        *last = number;
     }
     Ok(())
 }
@@ -122,13 +125,13 @@ fn stays_settled(is_settled: bool, is_turn: bool) -> bool
 
 impl<K: ReassemblyKey> OrderedStream<K> {
     /// A stream of which nothing is held, and whose next message has this number.
-    pub fn restored(alloc: Global, next: u128) -> OrderedStream<K>
+    pub fn restored(alloc: Global, next: u64) -> OrderedStream<K>
         requires { origin ≤ next }
         ensures { result ≡ record { next = next; held = [] } }
     {
         OrderedStream {
             alloc,
-            next,
+            last: next - 1,
             list: IntervalList::new(alloc),
             is_settled: true,
         }
@@ -139,7 +142,7 @@ impl<K: ReassemblyKey> OrderedStream<K> {
         ensures value { result ≡ self.now.next }
         ensures range { origin ≤ result }
     {
-        self.next
+        self.last as u128 + 1
     }
 
     /// Makes the next message ready, which is one fragment, where none is held.
@@ -163,7 +166,7 @@ impl<K: ReassemblyKey> OrderedStream<K> {
         let number = key.number();
         hand_on(fragment, ready)?;
         self.is_settled = false;
-        self.next = number as u128 + 1;
+        self.last = number;
         Ok(())
     }
 
@@ -179,15 +182,16 @@ impl<K: ReassemblyKey> OrderedStream<K> {
         ensures bytes { bytes_of self.new.held + ready_bytes ready.new ≤ bytes_of self.old.held + ready_bytes ready.old + length fragment.payload.items }
         ensures fragments { length self.new.held ≤ length self.old.held + 1 }
     {
-        if (key.number() as u128) < self.next {
+        let next = self.last as u128 + 1;
+        if (key.number() as u128) < next {
             return Ok(());
         }
-        let is_turn = add_in(&mut self.list, key, fragment, self.next)?;
+        let is_turn = add_in(&mut self.list, key, fragment, next)?;
         self.is_settled = stays_settled(self.is_settled, is_turn);
         if self.is_settled {
             return Ok(());
         }
-        deliver(self.alloc, &mut self.next, &mut self.list, ready)?;
+        deliver(self.alloc, &mut self.last, &mut self.list, ready)?;
         self.is_settled = true;
         Ok(())
     }
@@ -201,7 +205,7 @@ impl<K: ReassemblyKey> OrderedStream<K> {
         if !self.is_settled {
             return false;
         }
-        first.number() as u128 <= self.next && !self.list.begins_below(first)
+        first.number() as u128 <= self.last as u128 + 1 && !self.list.begins_below(first)
     }
 }
 
@@ -236,7 +240,7 @@ impl<K: ReassemblyKey> ReassemblyStream for OrderedStream<K> {
     fn new(alloc: Global) -> OrderedStream<K> {
         OrderedStream {
             alloc,
-            next: FIRST as u128,
+            last: FIRST - 1,
             list: IntervalList::new(alloc),
             is_settled: true,
         }
@@ -263,7 +267,7 @@ impl<K: ReassemblyKey> ReassemblyStream for OrderedStream<K> {
     /// Without memory the fragment, or a message that was in turn, may be lost; what was ready stays ready.
     #[tactic(auto, using(crate::proofs::ExtendsLemmas::extends_none))]
     fn add(&mut self, key: K, fragment: Data, ready: &mut ReadyMessages) -> Result<(), AllocError> {
-        if self.list.is_empty() && is_whole_at(key, &fragment, self.next) {
+        if self.list.is_empty() && is_whole_at(key, &fragment, self.last as u128 + 1) {
             return self.pass_on(key, fragment, ready);
         }
         self.keep(key, fragment, ready)
@@ -280,8 +284,8 @@ impl<K: ReassemblyKey> ReassemblyStream for OrderedStream<K> {
         }
         self.is_settled = false;
         self.list.retain(first);
-        self.next = self.next.max(first.number() as u128);
-        deliver(self.alloc, &mut self.next, &mut self.list, ready)?;
+        self.last = self.last.max(first.number() - 1);
+        deliver(self.alloc, &mut self.last, &mut self.list, ready)?;
         self.is_settled = true;
         Ok(())
     }

@@ -102,7 +102,7 @@ fn read<K: ReassemblyKey>(
 {
     let mut streams = BTreeMap::new(alloc);
     for record in records {
-        let next = FIRST as u128 + record.next_ssn as u128;
+        let next = FIRST + record.next_ssn as u64;
         streams.insert(record.id, OrderedStream::restored(alloc, next))?;
     }
     Ok(streams)

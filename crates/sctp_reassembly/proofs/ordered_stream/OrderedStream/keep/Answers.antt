@@ -1,4 +1,4 @@
-use Rattle.std.proofs.Common.{◌≡◌, false, ap, sym, ◌∙◌, rules}
+use Rattle.std.proofs.Common.{◌≡◌, ◌+◌, false, ap, sym, ◌∙◌, rules}
 use Rattle.std.specs.Prelude.{nat_lt}
 use Rattle.sctp_fragments.specs.Interval.{as_held}
 use Rattle.sctp_reassembly.specs.Delivery.{OrderedStream, ordered_arrival}
@@ -9,7 +9,7 @@ use Rattle.sctp_reassembly.proofs.ordered_stream.OrderedStream.keep.Goals as goa
 pub returns-then-self-clause-ok : goal.returns-then-self-clause-ok
 returns-then-self-clause-ok g c =
     let x = as_held (g.K.ReassemblyKey.number c.args.key) (g.K.ReassemblyKey.index c.args.key) c.args.fragment in
-    let s : OrderedStream = record { next = c.self.inside.next; held = c.self.inside.list } in
+    let s : OrderedStream = record { next = c.self.inside.last + 1; held = c.self.inside.list } in
     let late : nat_lt x.number s.next ≡ false = search rules in
     let still_settled = c.stays_settled-self-inside.ensures in
     let none = c.in_ok-is_turn.ensures.none (still_settled.turn c.if-self.true) (c.self.invariant.settled (still_settled.settled c.if-self.true)) in
@@ -19,7 +19,7 @@ returns-then-self-clause-ok g c =
 pub returns-then-self-clause-ready : goal.returns-then-self-clause-ready
 returns-then-self-clause-ready g c =
     let x = as_held (g.K.ReassemblyKey.number c.args.key) (g.K.ReassemblyKey.index c.args.key) c.args.fragment in
-    let s : OrderedStream = record { next = c.self.inside.next; held = c.self.inside.list } in
+    let s : OrderedStream = record { next = c.self.inside.last + 1; held = c.self.inside.list } in
     let late : nat_lt x.number s.next ≡ false = search rules in
     let still_settled = c.stays_settled-self-inside.ensures in
     let none = c.in_ok-is_turn.ensures.none (still_settled.turn c.if-self.true) (c.self.invariant.settled (still_settled.settled c.if-self.true)) in

@@ -6,7 +6,7 @@ use Rattle.sctp_reassembly.specs.Places.{all_of}
 use Rattle.sctp_reassembly.specs.KeyAt.{IsKeyAt}
 use Rattle.sctp_reassembly.proofs.ListLemmas.{intervals_flat}
 use Rattle.sctp_reassembly.proofs.HolderLemmas.{some_then, none_then}
-use Rattle.sctp_reassembly.proofs.interval_list.IntervalList.key_at.Goals as goal
+use Rattle.sctp_reassembly.proofs.intervals.Intervals.key_at.Goals as goal
 
 pub returns-clause-some : goal.returns-clause-some
 returns-clause-some g c =

@@ -2,7 +2,7 @@ use Rattle.std.proofs.Common.{◌≡◌, ◌==◌, length, ap, ◌∙◌, rules}
 use Rattle.std.specs.Prelude.{is_none}
 use Rattle.sctp_reassembly.proofs.ListLemmas.{no_entries}
 use Rattle.sctp_fragments.specs.Interval.{held_of}
-use Rattle.sctp_reassembly.proofs.interval_list.IntervalList.is_empty.Goals as goal
+use Rattle.sctp_reassembly.proofs.intervals.Intervals.is_empty.Goals as goal
 
 pub returns : goal.returns
 returns g c =
