@@ -1,6 +1,6 @@
 -- Chunks: RFC 9260 section 3.3, RFC 8260 section 2 (interleaving), RFC 3758 section 3.2 (forward TSN), RFC 6525 section
 -- 3.1 (RE-CONFIG). What each says, without where it lies in memory.
-use Rattle.std.specs.Prelude.{ℕ, Bool, List}
+use Rattle.std.specs.Prelude.{ℕ, Bool, true, false, List}
 use Rattle.sctp_wire.specs.Parameter.{ParameterTree}
 use Rattle.sctp_wire.specs.Cause.{CauseTree}
 use Rattle.sctp_serial.specs.declared.types.tsn.Tsn.{Tsn}
@@ -53,3 +53,8 @@ pub data ChunkTree : Type 0 where
   forward_tsn_chunk : (new_cumulative_tsn : ℕ) (skipped_streams : List SkippedStream) → ChunkTree
   i_forward_tsn_chunk : (new_cumulative_tsn : ℕ) (skipped_streams : List SkippedStream) → ChunkTree
   unknown_chunk : (typ flags : ℕ) (value : List ℕ) → ChunkTree
+
+-- the chunk that carries a fragment under a TSN: I-DATA where messages are interleaved, else DATA
+abbrev pub fragment_chunk : (is_interleaved is_immediate : Bool) → ℕ × FragmentTree → ChunkTree
+fragment_chunk true is_immediate c = idata_chunk c.0 is_immediate c.1
+fragment_chunk false is_immediate c = data_chunk c.0 is_immediate c.1

@@ -8,10 +8,11 @@ use Rattle.sctp_chunk.specs.declared.data.Data.{Data}
 use Rattle.sctp_chunk.specs.declared.data.DataView.{DataView}
 use Rattle.sctp_chunk.specs.declared.data.DataChunk.{DataChunk}
 use Rattle.sctp_chunk.specs.declared.data.IDataChunk.{IDataChunk}
+use Rattle.sctp_chunk.specs.declared.fragment_chunk.FragmentChunk.{FragmentChunk}
 use Rattle.sctp_chunk.specs.declared.sack.SackChunk.{SackChunk}
 use Rattle.sctp_chunk.specs.declared.forward_tsn.ForwardTsnChunk.{ForwardTsnChunk}
 use Rattle.sctp_chunk.specs.declared.forward_tsn.IForwardTsnChunk.{IForwardTsnChunk}
-use Rattle.sctp_chunk.specs.Chunk.{ChunkTree, FragmentTree, data_chunk, idata_chunk, sack_chunk, forward_tsn_chunk, i_forward_tsn_chunk}
+use Rattle.sctp_chunk.specs.Chunk.{ChunkTree, FragmentTree, data_chunk, idata_chunk, fragment_chunk, sack_chunk, forward_tsn_chunk, i_forward_tsn_chunk}
 use Rattle.sctp_chunk.specs.Written.{key_stream}
 
 abbrev pub raw_chunk : RawChunk → Item
@@ -60,6 +61,9 @@ data_chunk_tree c = data_chunk c.tsn.0 c.immediate_ack (fragment_tree c.data)
 
 abbrev pub idata_chunk_tree : IDataChunk → ChunkTree
 idata_chunk_tree c = idata_chunk c.tsn.0 c.immediate_ack (fragment_tree c.data)
+
+abbrev pub fragment_chunk_tree : FragmentChunk → ChunkTree
+fragment_chunk_tree c = fragment_chunk c.is_interleaved c.immediate_ack (c.tsn.0, fragment_tree c.fragment.now)
 
 abbrev pub sack_chunk_tree : SackChunk → ChunkTree
 sack_chunk_tree c = sack_chunk (record { cumulative_tsn_ack = c.cumulative_tsn_ack.0; a_rwnd = c.a_rwnd; gap_ack_blocks = c.gap_ack_blocks.items; duplicate_tsns = c.duplicate_tsns.items })

@@ -1,6 +1,7 @@
 //! DATA (RFC 9260 section 3.3.1) and I-DATA (RFC 8260 section 2.1): fragments of messages.
 
-ghost use Rattle.std.specs.Prelude.{◌≡◌, ◌≢◌, ◌⊎◌, ◌<◌, length, OnErr, ◌+◌, true, false, [], IfOk, IfErr};
+ghost use Rattle.std.specs.Prelude.{◌≡◌, ◌≢◌, ◌⊎◌, ◌<◌, length, OnOk, OnErr, ◌+◌, ◌++◌, true, false, [], IfOk, IfErr};
+ghost use Rattle.sctp_wire.specs.Room.{Fills};
 ghost use Rattle.sctp_chunk.specs.Written.{chunk_item, chunk_value, data_value, idata_value, fragment_flags, ppid_or_fsn, flag, key_stream};
 ghost use Rattle.sctp_chunk.specs.Grammar.{IsChunk, RefusesChunkAs};
 ghost use Rattle.sctp_chunk.specs.Views.{raw_chunk, fragment_tree, viewed_fragment, viewed_data, viewed_idata, data_chunk_tree, idata_chunk_tree, is_unordered_key};
@@ -68,7 +69,7 @@ impl Data {
     }
 
     /// The flags of a chunk that carries the fragment.
-    fn flags(&self, immediate_ack: bool) -> u8
+    pub(crate) fn flags(&self, immediate_ack: bool) -> u8
         ensures { result ≡ fragment_flags immediate_ack (fragment_tree self.now).is_unordered self.now.is_beginning self.now.is_end }
     {
         let is_unordered = is_unordered(self.stream_key);
@@ -270,13 +271,8 @@ impl SerializableTlv for DataChunk {
         true
     }
 
-    #[tactic(auto, using(crate::proofs::ValueLemmas::length_data_fields), unfolding(crate::specs::Written::chunk_value, crate::specs::Written::data_value))]
     fn push_value(&self, output: &mut Vec<u8>) -> Result<(), AllocError> {
-        push_u32(output, self.tsn.0)?;
-        push_u16(output, self.data.stream_key.id().0)?;
-        push_u16(output, self.data.ssn.0)?;
-        push_u32(output, self.data.ppid.0)?;
-        output.extend_from_slice(&self.data.payload)
+        push_data(self.tsn, &self.data, output)
     }
 }
 
@@ -326,15 +322,36 @@ impl SerializableTlv for IDataChunk {
         true
     }
 
-    #[tactic(auto, using(crate::proofs::ValueLemmas::length_idata_fields), unfolding(crate::specs::Written::chunk_value, crate::specs::Written::idata_value))]
     fn push_value(&self, output: &mut Vec<u8>) -> Result<(), AllocError> {
-        push_u32(output, self.tsn.0)?;
-        push_u16(output, self.data.stream_key.id().0)?;
-        push_u16(output, 0)?;
-        push_u32(output, self.data.mid.0)?;
-        push_u32(output, self.data.ppid_or_fsn())?;
-        output.extend_from_slice(&self.data.payload)
+        push_idata(self.tsn, &self.data, output)
     }
+}
+
+/// Appends the value of the DATA that carries the fragment.
+#[tactic(auto, using(crate::proofs::ValueLemmas::length_data_fields), unfolding(crate::specs::Written::data_value))]
+pub(crate) fn push_data(tsn: Tsn, fragment: &Data, output: &mut Vec<u8>) -> Result<(), AllocError>
+    ensures wrote { OnOk result (output.new.items ≡ output.old.items ++ data_value tsn.0 (fragment_tree fragment.now)) }
+    ensures room { Fills output.old output.new (length (data_value tsn.0 (fragment_tree fragment.now))) result }
+{
+    push_u32(output, tsn.0)?;
+    push_u16(output, fragment.stream_key.id().0)?;
+    push_u16(output, fragment.ssn.0)?;
+    push_u32(output, fragment.ppid.0)?;
+    output.extend_from_slice(&fragment.payload)
+}
+
+/// Appends the value of the I-DATA that carries the fragment.
+#[tactic(auto, using(crate::proofs::ValueLemmas::length_idata_fields), unfolding(crate::specs::Written::idata_value))]
+pub(crate) fn push_idata(tsn: Tsn, fragment: &Data, output: &mut Vec<u8>) -> Result<(), AllocError>
+    ensures wrote { OnOk result (output.new.items ≡ output.old.items ++ idata_value 0 tsn.0 (fragment_tree fragment.now)) }
+    ensures room { Fills output.old output.new (length (idata_value 0 tsn.0 (fragment_tree fragment.now))) result }
+{
+    push_u32(output, tsn.0)?;
+    push_u16(output, fragment.stream_key.id().0)?;
+    push_u16(output, 0)?;
+    push_u32(output, fragment.mid.0)?;
+    push_u32(output, fragment.ppid_or_fsn())?;
+    output.extend_from_slice(&fragment.payload)
 }
 
 #[tactic(auto, unfolding(crate::specs::ChunkText::chunk_text))]

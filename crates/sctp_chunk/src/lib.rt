@@ -5,12 +5,14 @@
 mod data;
 mod flags;
 mod forward_tsn;
+mod fragment_chunk;
 mod raw;
 mod runs;
 mod sack;
 
 pub use data::{Data, DataChunk, DataView, IDataChunk};
 pub use forward_tsn::{ForwardTsnChunk, IForwardTsnChunk, SkippedStream};
+pub use fragment_chunk::FragmentChunk;
 pub use raw::{RawChunk, write_chunk_header};
 pub use runs::are_runs;
 pub use sack::{GapAckBlock, SackChunk};

@@ -1,3 +1,4 @@
 pub mod BurstLemmas
+pub mod DataLemmas
 pub mod OutgoingLemmas
 pub mod RequestLemmas

@@ -1,23 +1,19 @@
 -- Packets that are put together: their sizes, and the builder that writes them.
-use Rattle.std.proofs.Common.{◌≡◌, ℕ, zero, suc, ◌+◌, ◌-◌, ◌%◌, ◌^◌, min, max, ◌<◌, ◌≤◌, Bool, true, false, cond, leb, get_or, List, [], ◌∷◌, ◌++◌, length, map, take, drop, refl, sym, ap, ◌∙◌, append_assoc, inl, inr, arith}
+use Rattle.std.proofs.Common.{◌≡◌, ℕ, zero, suc, ◌+◌, ◌-◌, ◌%◌, ◌^◌, ◌&&◌, min, max, ◌<◌, ◌≤◌, Bool, true, false, cond, leb, get_or, List, [], ◌∷◌, ◌++◌, length, map, take, drop, refl, sym, ap, ◌∙◌, append_assoc, inl, inr, Result, Ok, Err, OnOk, OnErr, arith}
 use Rattle.std.proofs.lemmas.Bool.{cases_lt, le-leb, lt-leb}
-use Rattle.std.specs.List.{All}
 use Rattle.std.proofs.lemmas.List.{append-nil, length-append}
 use Rattle.std.proofs.lemmas.List.Concat.{flat_map-cons}
-use Rattle.std.proofs.lemmas.List.Elements.{All-nil, All-cons, All-append}
 use Rattle.sctp_packet.specs.Chunk.{ChunkTree}
-use Rattle.sctp_packet.specs.Written.{chunk_bytes, chunks_bytes}
-use Rattle.std.proofs.lemmas.List.{at_drop_all}
+use Rattle.sctp_packet.specs.Written.{chunk_item, chunk_is_whole, chunk_bytes, chunks_bytes}
 use Rattle.sctp_wire.specs.Checksum.{with_zero_field}
 use Rattle.sctp_wire.specs.Field.{be16, be32}
-use Rattle.sctp_control_chunk.specs.declared.chunk.Chunk.{Chunk}
-use Rattle.sctp_packet.specs.ChunkView.{chunk_tree}
+use Rattle.sctp_wire.specs.Item.{Item}
+use Rattle.sctp_wire.specs.Serialize.{is_encodable, padded_item}
 use Rattle.sctp_packet.specs.Packet.{HeaderTree, header_bytes, unsummed_bytes, packet_bytes}
 use Rattle.sctp_packet.specs.Builder.{BuilderTree, Holds, so_far, build}
 use Rattle.sctp_packet.proofs.BuilderLemmas.{built_is_packet, chunks_bytes_push, chunk_is_some}
-use Rattle.spec_endpoint.specs.Packets.{is_some_chunk}
+use Rattle.spec_endpoint.specs.Packets.{PacketDraft, is_some_chunk, room, fits, add}
 use Rattle.spec_endpoint.specs.Wire.{word_at, word_in, written_bytes}
-use Rattle.sctp_endpoint.specs.PacketView.{IsWritable}
 
 false_not_true : false ≡ true → ⊥
 false_not_true e = cc
@@ -40,57 +36,38 @@ within size capped room e small = elim (cases_lt room size) [
   | inr fits ↦ rw (le-leb capped room (omega (arith, e, fits)), le-leb size room fits) refl
 ]
 
-pub All_last : (cs : List ChunkTree) (c : ChunkTree) → All IsWritable cs → IsWritable c → All IsWritable (cs ++ c ∷ [])
-All_last cs c all w = All-append IsWritable cs (c ∷ []) all (All-cons IsWritable c [] w (All-nil IsWritable))
+-- ---- none, and one more
 
--- ---- writing the first of those that are left
+pub none_short : (chunks : List ChunkTree) (limit : ℕ) → chunks ≡ [] → 12 + length (chunks_bytes chunks) ≤ max 12 limit
+none_short chunks limit none = omega (arith, ap (λ (cs : List ChunkTree). length (chunks_bytes cs)) none, ap length no_chunks)
 
-pub fits_next : (body : List ℕ) (c : ChunkTree) (cs : List ChunkTree) (limit : ℕ) → 12 + (length body + length (chunks_bytes (c ∷ cs))) ≤ max 12 limit
-    → length (chunk_bytes c) ≤ limit - (12 + length body)
-fits_next body c cs limit short = omega (arith, short, ap length (first_chunk c cs), length-append (chunk_bytes c) (chunks_bytes cs), chunk_is_some c)
+pub more_short : (old : List ChunkTree) (t : ChunkTree) (limit : ℕ) → 12 + length (chunks_bytes old) ≤ max 12 limit
+    → length (chunk_bytes t) ≤ limit - (12 + length (chunks_bytes old)) → 12 + length (chunks_bytes (old ++ t ∷ [])) ≤ max 12 limit
+more_short old t limit short fits = omega (arith, short, fits, length_last old t, chunk_is_some t)
 
-pub short_next : (body : List ℕ) (c : ChunkTree) (cs : List ChunkTree) (limit : ℕ) → 12 + (length body + length (chunks_bytes (c ∷ cs))) ≤ max 12 limit
-    → 12 + (length (body ++ chunk_bytes c) + length (chunks_bytes cs)) ≤ max 12 limit
-short_next body c cs limit short = omega (arith, short, ap length (first_chunk c cs), length-append (chunk_bytes c) (chunks_bytes cs), length-append body (chunk_bytes c))
+-- one more, or none without memory
+pub more_short_if : {T E : Type 0} (r : Result T E) (old new : List ChunkTree) (t : ChunkTree) (limit : ℕ) → OnOk r (new ≡ old ++ t ∷ []) → OnErr r (new ≡ old)
+    → 12 + length (chunks_bytes old) ≤ max 12 limit → length (chunk_bytes t) ≤ limit - (12 + length (chunks_bytes old)) → 12 + length (chunks_bytes new) ≤ max 12 limit
+more_short_if (Ok done) old new t limit ok err short fits = rw ok (more_short old t limit short fits)
+more_short_if (Err fault) old new t limit ok err short fits = rw err short
 
-pub joined_next : (body : List ℕ) (c : ChunkTree) (cs : List ChunkTree) (all : List ℕ) → body ++ chunks_bytes (c ∷ cs) ≡ all → (body ++ chunk_bytes c) ++ chunks_bytes cs ≡ all
-joined_next body c cs all e = append_assoc body (chunk_bytes c) (chunks_bytes cs) ∙ (ap (λ (x : List ℕ). body ++ x) (sym (first_chunk c cs)) ∙ e)
+-- what is written as the chunk is fits as it does
+pub fits_as : (i : Item) (whole : Bool) (t : ChunkTree) (p : PacketDraft) → i ≡ chunk_item t → whole ≡ chunk_is_whole t
+    → (is_encodable i whole && leb (length (padded_item i)) (room p)) ≡ fits p t
+unfolding chunk_bytes
+fits_as i whole t p e f = rw (e, f) refl
 
-next_of : {X : Type 0} (xs : List X) (i : ℕ) (d : X) → i < length xs → drop i xs ≡ get_or xs i d ∷ drop (i + 1) xs
-next_of [] i d lt = absurd (omega (arith, lt))
-next_of (x ∷ xs) zero d lt = refl
-next_of (x ∷ xs) (suc i) d lt =
-    let more : suc i + 1 ≡ suc (i + 1) = omega arith in
-    rw more (next_of xs i d (omega (arith, lt)))
+pub length_as : (i : Item) (t : ChunkTree) → i ≡ chunk_item t → length (padded_item i) ≡ length (chunk_bytes t)
+unfolding chunk_bytes
+length_as i t e = rw e refl
 
-pub next_chunk : (chunks : List Chunk) (i : ℕ) (item : Chunk) → i < length chunks → item ≡ get_or chunks i item
-    → map chunk_tree (drop i chunks) ≡ chunk_tree item ∷ map chunk_tree (drop (i + 1) chunks)
-next_chunk chunks i item lt is =
-    ap (map chunk_tree) (next_of chunks i item lt) ∙ ap (λ (c : Chunk). chunk_tree c ∷ map chunk_tree (drop (i + 1) chunks)) (sym is)
+pub left_out : (p : PacketDraft) (t : ChunkTree) → fits p t ≡ false → p ≡ add t p
+left_out p t e = rw e refl
 
-pub all_written : (body : List ℕ) (chunks : List Chunk) (i : ℕ) (all : List ℕ) → length chunks ≤ i
-    → body ++ chunks_bytes (map chunk_tree (drop i chunks)) ≡ all → body ≡ all
-all_written body chunks i all le e =
-    sym (append-nil body) ∙ (ap (λ (x : List ℕ). body ++ x) (sym no_chunks)
-    ∙ (sym (at_drop_all (λ (xs : List Chunk). body ++ chunks_bytes (map chunk_tree xs)) chunks i le) ∙ e))
-
--- ---- one more chunk
-
-pub sum_fits : (body size len old limit : ℕ) → body ≡ old → size ≡ min len (2 ^ 64 - 1) → len ≤ limit - (12 + old) → limit < 2 ^ 32
-    → 12 + body ≤ max 12 limit → body + size < 2 ^ 64
-sum_fits body size len old limit counted e fits small short = omega (arith, counted, e, fits, small, short)
-
-pub counted_after : (body size len old new limit : ℕ) → body ≡ old → size ≡ min len (2 ^ 64 - 1) → len ≤ limit - (12 + old) → limit < 2 ^ 32
-    → new ≡ old + len → body + size ≡ new
-counted_after body size len old new limit counted e fits small more = omega (arith, counted, e, fits, small, more)
-
-pub short_after : (body size len old limit : ℕ) → body ≡ old → size ≡ min len (2 ^ 64 - 1) → len ≤ limit - (12 + old) → limit < 2 ^ 32
-    → 12 + body ≤ max 12 limit → 12 + (body + size) ≤ max 12 limit
-short_after body size len old limit counted e fits small short = omega (arith, counted, e, fits, small, short)
-
-pub trees_last : (chunks : List Chunk) (c : Chunk) → map chunk_tree (chunks ++ c ∷ []) ≡ map chunk_tree chunks ++ chunk_tree c ∷ []
-trees_last [] c = refl
-trees_last (d ∷ chunks) c = ap (λ (x : List ChunkTree). chunk_tree d ∷ x) (trees_last chunks c)
+pub put_in : {T E : Type 0} (r : Result T E) (p : PacketDraft) (t : ChunkTree) (chunks : List ChunkTree) → fits p t ≡ true → OnOk r (chunks ≡ p.chunks ++ t ∷ [])
+    → OnOk r (record p { chunks = chunks } ≡ add t p)
+put_in (Ok done) p t chunks e more = rw (e, more) refl
+put_in (Err fault) p t chunks e more = tt
 
 -- ---- the bytes
 
@@ -106,10 +83,13 @@ so_far_some h (b ∷ body) some = refl
 some_bytes : (c : ChunkTree) (cs : List ChunkTree) → 0 < length (chunks_bytes (c ∷ cs))
 some_bytes c cs = omega (arith, ap length (first_chunk c cs), length-append (chunk_bytes c) (chunks_bytes cs), chunk_is_some c)
 
+pub bytes_of_some : (chunks : List ChunkTree) → is_some_chunk chunks ≡ true → 0 < length (chunks_bytes chunks)
+bytes_of_some [] some = absurd (false_not_true some)
+bytes_of_some (c ∷ cs) some = some_bytes c cs
+
 -- a packet with chunks is within its limit
-pub some_short : (chunks : List ChunkTree) (body limit : ℕ) → is_some_chunk chunks ≡ true → body ≡ length (chunks_bytes chunks) → 12 + body ≤ max 12 limit → 12 + body ≤ limit
-some_short [] body limit some counted short = absurd (false_not_true some)
-some_short (c ∷ cs) body limit some counted short = omega (arith, counted, short, some_bytes c cs)
+pub some_short : (chunks : List ChunkTree) (limit : ℕ) → is_some_chunk chunks ≡ true → 12 + length (chunks_bytes chunks) ≤ max 12 limit → 12 + length (chunks_bytes chunks) ≤ limit
+some_short chunks limit some short = omega (arith, short, bytes_of_some chunks some)
 
 word_is : (word_of : List ℕ → ℕ) (h : HeaderTree) (c : ChunkTree) (cs : List ChunkTree) → word_at word_of (so_far h (chunks_bytes (c ∷ cs))) ≡ word_in word_of h (c ∷ cs)
 word_is word_of h c cs =

@@ -1,3 +1,5 @@
 pub mod RequestViews
+pub mod WrittenChunks
+pub mod WrittenView
 pub mod PacketView
 pub mod Views

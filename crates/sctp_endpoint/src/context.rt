@@ -13,6 +13,7 @@ ghost use Rattle.spec_endpoint.specs.Heartbeats as heartbeats;
 
 use crate::outgoing_packet::OutgoingPacket;
 use crate::transmission_control_block::TransmissionControlBlock;
+use crate::written_chunks::WrittenChunks;
 use sctp_packet::Chunk;
 use sctp_serial::SocketTime;
 use sctp_state::{
@@ -46,8 +47,8 @@ pub struct Context<C: Checksum> {
     pub peer_implementation: SctpImplementation,
     pub events: Events,
     pub checksum: C,
-    /// The memory of the last packet's list of chunks, for the next packet.
-    pub spare_chunks: Vec<Chunk>,
+    /// The memory of the last packet's chunks, for the next packet.
+    pub spare_chunks: WrittenChunks,
 }
 
 impl<C: Checksum> Model for Context<C> {
@@ -111,7 +112,7 @@ impl<C: Checksum> Context<C> {
             peer_implementation: SctpImplementation::Unknown,
             events: Events::new(alloc),
             checksum,
-            spare_chunks: Vec::new(alloc),
+            spare_chunks: WrittenChunks::new(alloc),
         }
     }
 

@@ -9,6 +9,7 @@ pub mod reset_requests;
 pub mod sending;
 pub mod state;
 pub mod transmission_control_block;
+pub mod written_chunks;
 
 pub use context::Context;
 pub use outgoing_packet::OutgoingPacket;

@@ -1,19 +1,25 @@
-//! Packets that are put together, chunk by chunk, and written when they go out.
+//! Packets that are put together, chunk by chunk, as they go out.
 
-ghost use Rattle.std.specs.Prelude.{◌≡◌, ◌≤◌, ◌<◌, ◌+◌, ◌^◌, [], length, map, max, nat_le, not, true, All, IfOk, IsTrue, OnOk, OnErr};
-ghost use Rattle.sctp_wire.specs.Serialize.{IsEncodable};
+ghost use Rattle.std.specs.Prelude.{◌≡◌, ◌≤◌, ◌<◌, ◌^◌, ◌&&◌, length, nat_le, not, true, IfOk, IsTrue, OnOk, OnErr};
+ghost use Rattle.sctp_wire.specs.Serialize.{IsEncodable, is_encodable, padded_item};
 ghost use Rattle.sctp_packet.specs.ChunkView.{chunk_tree};
-ghost use Rattle.sctp_packet.specs.Written.{chunk_bytes, chunk_is_whole, chunk_item, chunks_bytes};
-ghost use Rattle.sctp_packet.specs.Builder.{Holds};
+ghost use Rattle.sctp_packet.specs.Written.{chunk_bytes, chunk_is_whole, chunk_item};
+ghost use Rattle.sctp_chunk.specs.Views.{fragment_tree};
+ghost use Rattle.spec_endpoint.specs.Sending.{data_chunk_of};
 ghost use Rattle.spec_endpoint.specs.Packets.{add, added_if, clear_chunks, fits, has_chunks, packet_to, room};
-ghost use Rattle.sctp_endpoint.specs.PacketView.{IsWritable};
+ghost use Rattle.sctp_endpoint.specs.WrittenChunks.{written_tree};
 ghost use Rattle.spec_endpoint.specs.Wire.{word_at, written_bytes};
 
-use sctp_packet::{COMMON_HEADER_SIZE, Chunk, SctpPacketBuilder};
+use crate::written_chunks::{WrittenChunk, WrittenChunks};
+use sctp_chunk::FragmentChunk;
+use sctp_packet::{COMMON_HEADER_SIZE, Chunk, Data, DataChunk, IDataChunk, SctpPacketBuilder};
+use sctp_serial::Tsn;
+use sctp_tx::{ChunkForm, TakesFragments};
 use sctp_wire::{Checksum, SerializableTlv};
 use std::alloc::{AllocError, Global};
 use std::marker::Model;
 use std::mem;
+use std::snapshot::Snapshot;
 
 /// A packet that is put together.
 #[derive(Drop)]
@@ -23,9 +29,7 @@ pub struct OutgoingPacket {
     write_checksum: bool,
     /// The most bytes of the packet.
     limit: usize,
-    /// The bytes of the chunks, with their padding.
-    body_size: usize,
-    chunks: Vec<Chunk>,
+    chunks: WrittenChunks,
 }
 
 impl Model for OutgoingPacket {
@@ -50,8 +54,7 @@ impl OutgoingPacket {
             verification_tag,
             write_checksum: true,
             limit,
-            body_size: 0,
-            chunks: Vec::new(alloc),
+            chunks: WrittenChunks::new(alloc),
         }
     }
 
@@ -62,13 +65,12 @@ impl OutgoingPacket {
         self.write_checksum = write_checksum;
     }
 
-    /// Gives the memory of the list of chunks and takes that of this one. The packet is empty then, with the same tag and limit.
-    pub fn swap_memory(&mut self, list: &mut Vec<Chunk>)
+    /// Gives the memory of its chunks and takes that of these. The packet is empty then, with the same tag and limit.
+    pub fn swap_memory(&mut self, spare: &mut WrittenChunks)
         ensures { self.new ≡ clear_chunks self.old }
     {
-        list.clear();
-        self.body_size = 0;
-        mem::swap(&mut self.chunks, list);
+        spare.clear();
+        mem::swap(&mut self.chunks, spare);
     }
 
     /// Whether nothing was added.
@@ -85,15 +87,26 @@ impl OutgoingPacket {
     {
         self.limit
             .saturating_sub(COMMON_HEADER_SIZE)
-            .saturating_sub(self.body_size)
+            .saturating_sub(self.chunks.size())
     }
 
     /// Whether the chunk can be written and fits.
+    #[tactic(auto, unfolding(sctp_chunk::specs::Written::chunk_bytes))]
     pub fn fits(&self, chunk: &Chunk) -> bool
         ensures encodable { IsTrue result → IsEncodable (chunk_item (chunk_tree chunk.now)) }
         ensures whole { IsTrue result → chunk_is_whole (chunk_tree chunk.now) ≡ true }
         ensures room { IsTrue result → length (chunk_bytes (chunk_tree chunk.now)) ≤ room self.now }
         ensures test { result ≡ fits self.now (chunk_tree chunk.now) }
+    {
+        self.has_room_for(chunk)
+    }
+
+    /// The same of anything that is written as chunks are.
+    fn has_room_for<T: SerializableTlv>(&self, chunk: &T) -> bool
+        ensures encodable { IsTrue result → IsEncodable (T.item_of chunk.now) }
+        ensures whole { IsTrue result → T.parts_agree chunk.now ≡ true }
+        ensures room { IsTrue result → length (padded_item (T.item_of chunk.now)) ≤ room self.now }
+        ensures test { result ≡ (is_encodable (T.item_of chunk.now) (T.parts_agree chunk.now) && nat_le (length (padded_item (T.item_of chunk.now))) (room self.now)) }
     {
         chunk.encodable() && is_within(chunk, self.bytes_remaining())
     }
@@ -103,14 +116,27 @@ impl OutgoingPacket {
         ensures ok { OnOk result (self.new ≡ add (chunk_tree chunk) self.old) }
         ensures err { OnErr result (self.new ≡ self.old) }
     {
-        if self.fits(&chunk) {
-            let size = chunk.serialized_size();
-            self.chunks.push(chunk)?;
-            self.body_size += size;
-        } else {
-            drop(chunk);
+        let written = WrittenChunk::Whole(Snapshot::of(&chunk));
+        let outcome = self.write(&chunk, written);
+        drop(chunk);
+        outcome
+    }
+
+    /// Writes what contracts see as `written`, or leaves it out where it doesn't fit.
+    fn write<T: SerializableTlv>(
+        &mut self,
+        chunk: &T,
+        written: WrittenChunk,
+    ) -> Result<(), AllocError>
+        requires same { T.item_of chunk.now ≡ chunk_item (written_tree written) }
+        requires whole { T.parts_agree chunk.now ≡ chunk_is_whole (written_tree written) }
+        ensures ok { OnOk result (self.new ≡ add (written_tree written) self.old) }
+        ensures err { OnErr result (self.new ≡ self.old) }
+    {
+        if !self.has_room_for(chunk) {
+            return Ok(());
         }
-        Ok(())
+        self.chunks.write(chunk, written)
     }
 
     /// The packet with this chunk, or without it where it doesn't fit.
@@ -149,7 +175,7 @@ impl OutgoingPacket {
         ensures ok { OnOk result (self.new ≡ clear_chunks self.old) }
         ensures err { OnErr result (self.new ≡ self.old) }
     {
-        let size = COMMON_HEADER_SIZE + self.body_size;
+        let size = COMMON_HEADER_SIZE + self.chunks.size();
         let mut builder = SctpPacketBuilder::new(
             self.alloc,
             self.verification_tag,
@@ -158,34 +184,57 @@ impl OutgoingPacket {
             size,
         );
         builder.write_checksum(self.write_checksum);
-        add_all(&mut builder, &self.chunks)?;
+        builder.add_written(self.chunks.bytes())?;
         self.chunks.clear();
-        self.body_size = 0;
         let word = word_of(checksum, builder.unsummed());
         Ok(builder.build(word))
     }
 }
 
-/// Whether the chunk's bytes are at most so many.
-fn is_within(chunk: &Chunk, room: usize) -> bool
-    requires { room < 2 ^ 32 }
-    ensures { result ≡ nat_le (length (chunk_bytes (chunk_tree chunk.now))) room }
-{
-    chunk.serialized_size() <= room
+impl TakesFragments for OutgoingPacket {
+    ghost use Rattle.sctp_tx.specs.declared.fragments.ChunkForm.{ChunkForm};
+    ghost use Rattle.spec_endpoint.specs.Packets.{add};
+    ghost use Rattle.spec_endpoint.specs.Sending.{data_chunk_of};
+
+    ghost taken = { λ form c p. add (data_chunk_of form.is_interleaved form.is_immediate c) p };
+
+    fn take(&mut self, form: ChunkForm, tsn: Tsn, fragment: &Data) -> Result<(), AllocError> {
+        let chunk = FragmentChunk {
+            tsn,
+            fragment,
+            immediate_ack: form.is_immediate,
+            is_interleaved: form.is_interleaved,
+        };
+        let written = WrittenChunk::Fragment(form, tsn, Snapshot::of(fragment));
+        self.write(&chunk, written)
+    }
 }
 
-/// Adds the chunks to an empty builder.
-fn add_all(builder: &mut SctpPacketBuilder, chunks: &[Chunk]) -> Result<(), AllocError>
-    requires empty { builder.old.body ≡ [] }
-    requires writable { All IsWritable (map chunk_tree chunks.now) }
-    requires short { 12 + length (chunks_bytes (map chunk_tree chunks.now)) ≤ max 12 builder.old.limit }
-    ensures chunks { OnOk result (Holds builder.new (map chunk_tree chunks.now)) }
-    ensures same { OnOk result (record builder.new { body = [] } ≡ builder.old) }
+/// The chunk that carries the fragment in this form.
+pub fn data_chunk(form: ChunkForm, tsn: Tsn, fragment: Data) -> Chunk
+    ensures { chunk_tree result ≡ data_chunk_of form.is_interleaved form.is_immediate (tsn.0, fragment_tree fragment) }
 {
-    for chunk in chunks {
-        builder.add(chunk)?;
+    if form.is_interleaved {
+        Chunk::IData(IDataChunk {
+            tsn,
+            immediate_ack: form.is_immediate,
+            data: fragment,
+        })
+    } else {
+        Chunk::Data(DataChunk {
+            tsn,
+            immediate_ack: form.is_immediate,
+            data: fragment,
+        })
     }
-    Ok(())
+}
+
+/// Whether the chunk's bytes are at most so many.
+fn is_within<T: SerializableTlv>(chunk: &T, room: usize) -> bool
+    requires { room < 2 ^ 32 }
+    ensures { result ≡ nat_le (length (padded_item (T.item_of chunk.now))) room }
+{
+    chunk.serialized_size() <= room
 }
 
 /// The word of a packet's bytes, with the checksum's field as zeros.

@@ -14,6 +14,7 @@ use crate::state::State;
 use crate::transmission_control_block::TransmissionControlBlock;
 use sctp_packet::{COMMON_HEADER_SIZE, Chunk, CookieEchoChunk, Data};
 use sctp_serial::{StreamId, Tsn};
+use sctp_tx::ChunkForm;
 use sctp_wire::Checksum;
 use std::alloc::AllocError;
 use std::time::Duration;
@@ -131,18 +132,24 @@ impl<C: Checksum> Context<C> {
     ) -> Result<(), AllocError>
         ensures { OnOk result (filling_of C.word_of packet.new tcb.new self.new ≡ with_data (filling_of C.word_of packet.old tcb.old self.old)) }
     {
-        let fragments = tcb.retransmission_queue.get_chunks_to_send(
+        let form = ChunkForm {
+            is_interleaved: tcb.capabilities.message_interleaving,
+            is_immediate: tcb.retransmission_queue.cwnd() < self.immediate_sack_cwnd(),
+        };
+        let room = packet.bytes_remaining();
+        let is_sent = tcb.retransmission_queue.send_into(
             self.clock,
-            packet.bytes_remaining(),
+            room,
             &mut self.send_queue,
+            form,
+            packet,
             &mut self.events,
         )?;
-        if fragments.is_empty() {
+        if !is_sent {
             return Ok(());
         }
         self.restart_heartbeat_interval();
-        let is_immediate = tcb.retransmission_queue.cwnd() < self.immediate_sack_cwnd();
-        add_fragments(packet, tcb, is_immediate, fragments)
+        Ok(())
     }
 
     /// Below this window the peer is asked to acknowledge at once (RFC 7053).

@@ -14,15 +14,15 @@ ghost use Rattle.sctp_state.specs.Handover.{handover_state_of};
 ghost use Rattle.sctp_state.specs.Validity.{is_valid_state};
 ghost use Rattle.spec_endpoint.specs.Handover as handover;
 
-use crate::outgoing_packet::OutgoingPacket;
+use crate::outgoing_packet::{OutgoingPacket, data_chunk};
 use crate::reset_requests::ResetRequests;
 use sctp_capabilities::Capabilities;
-use sctp_packet::{Chunk, Data, DataChunk, IDataChunk};
+use sctp_packet::{Chunk, Data};
 use sctp_rx::{DataTracker, ReassemblyQueue};
 use sctp_serial::{SocketTime, StreamId, Tsn};
 use sctp_state::api::handover::{HandoverCapabilities, HandoverSocketState};
 use sctp_state::{HandoverReadiness, Options, RetransmissionTimeout, SocketHandoverState};
-use sctp_tx::RetransmissionQueue;
+use sctp_tx::{ChunkForm, RetransmissionQueue};
 use std::alloc::{AllocError, Global};
 
 /// Tags and first TSNs of both ends, and the tag that tells this association from a later one.
@@ -122,19 +122,11 @@ impl TransmissionControlBlock {
     pub fn make_data_chunk(&self, tsn: Tsn, fragment: Data, immediate_ack: bool) -> Chunk
         ensures { chunk_tree result ≡ data_chunk_of self.now.capabilities.message_interleaving immediate_ack (tsn.0, fragment_tree fragment) }
     {
-        if self.capabilities.message_interleaving {
-            Chunk::IData(IDataChunk {
-                tsn,
-                immediate_ack,
-                data: fragment,
-            })
-        } else {
-            Chunk::Data(DataChunk {
-                tsn,
-                immediate_ack,
-                data: fragment,
-            })
-        }
+        let form = ChunkForm {
+            is_interleaved: self.capabilities.message_interleaving,
+            is_immediate: immediate_ack,
+        };
+        data_chunk(form, tsn, fragment)
     }
 
     /// An empty packet to the peer, of at most the largest multiple of 4 bytes that is no more than the `mtu`.

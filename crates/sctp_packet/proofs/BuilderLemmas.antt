@@ -1,5 +1,5 @@
 -- Packets that are being built.
-use Rattle.std.proofs.Common.{◌≡◌, ℕ, ◌+◌, ◌-◌, ◌^◌, min, ◌<◌, ◌≤◌, ◌==◌, Bool, true, false, cond, List, [], ◌∷◌, ◌++◌, length, take, drop, refl, sym, ap, subst, ◌∙◌, append_assoc, arith}
+use Rattle.std.proofs.Common.{◌≡◌, ℕ, ◌+◌, ◌-◌, ◌^◌, min, ◌<◌, ◌≤◌, ◌==◌, Bool, true, false, cond, List, [], ◌∷◌, ◌++◌, length, take, drop, refl, sym, ap, subst, ◌∙◌, append_assoc, Result, Ok, Err, OnOk, is_ok, arith}
 use Rattle.std.specs.List.{flat_map}
 use Rattle.std.proofs.lemmas.List.{append-nil, length-append, length-take, length-drop, take_at}
 use Rattle.std.proofs.lemmas.List.Concat.{flat_map-cons}
@@ -22,6 +22,11 @@ pub chunk_behind_header : (h : HeaderTree) (o w chunk : List ℕ) → o ≡ [] �
 unfolding unsummed_bytes header_bytes be16 be32
 chunk_behind_header h o w chunk none e = rw (e, none) refl
 
+-- what a call leaves that appends or fails
+pub appended : {T E : Type 0} (r : Result T E) (new more old whole : List ℕ) → new ≡ cond (is_ok r) more old → more ≡ whole → OnOk r (new ≡ whole)
+appended (Ok done) new more old whole e f = e ∙ f
+appended (Err fault) new more old whole e f = tt
+
 drop_front : (h : HeaderTree) (body : List ℕ) → drop 12 (unsummed_bytes h body) ≡ body
 unfolding unsummed_bytes header_bytes be16 be32
 drop_front h body = refl
@@ -38,25 +43,28 @@ pub chunk_is_some : (t : ChunkTree) → 0 < length (chunk_bytes t)
 unfolding chunk_bytes
 chunk_is_some t = omega (arith, length_padded_item (chunk_item t))
 
--- the bytes after a chunk was added
-pub added : (h : HeaderTree) (limit : ℕ) (old new : List ℕ) (t : ChunkTree) → HasPacket h limit old → (old ≡ [] → new ≡ unsummed_bytes h (chunk_bytes t)) → (0 < length old → new ≡ old ++ chunk_bytes t)
-    → new ≡ unsummed_bytes h (drop 12 old ++ chunk_bytes t)
-added h limit [] new t has first more = first refl
-added h limit (b ∷ old) new t has first more =
-    more (omega arith) ∙ ap (λ (x : List ℕ). x ++ chunk_bytes t) (has.packet (omega arith)) ∙ unsummed_behind h (drop 12 (b ∷ old)) (chunk_bytes t)
+module _ (h : HeaderTree) (limit : ℕ) (new chunks : List ℕ) where
+  added_to : (old : List ℕ) → HasPacket h limit old → (old ≡ [] → new ≡ unsummed_bytes h chunks) → (0 < length old → new ≡ old ++ chunks)
+      → new ≡ unsummed_bytes h (drop 12 old ++ chunks)
+  added_to [] has first more = first refl
+  added_to (b ∷ old) has first more =
+      more (omega arith) ∙ ap (λ (x : List ℕ). x ++ chunks) (has.packet (omega arith)) ∙ unsummed_behind h (drop 12 (b ∷ old)) chunks
 
-pub added_body : (h : HeaderTree) (limit : ℕ) (old new : List ℕ) (t : ChunkTree) → HasPacket h limit old → (old ≡ [] → new ≡ unsummed_bytes h (chunk_bytes t)) → (0 < length old → new ≡ old ++ chunk_bytes t)
-    → drop 12 new ≡ drop 12 old ++ chunk_bytes t
-added_body h limit old new t has first more = ap (drop 12) (added h limit old new t has first more) ∙ drop_front h (drop 12 old ++ chunk_bytes t)
+-- the bytes after chunks were added
+module _ (h : HeaderTree) (limit : ℕ) (old new chunks : List ℕ) (has : HasPacket h limit old) (first : old ≡ [] → new ≡ unsummed_bytes h chunks)
+    (more : 0 < length old → new ≡ old ++ chunks) where
+  added : new ≡ unsummed_bytes h (drop 12 old ++ chunks)
+  added = added_to h limit new chunks old has first more
 
-pub still_packet : (h : HeaderTree) (limit : ℕ) (old new : List ℕ) (t : ChunkTree) → HasPacket h limit old → length (chunk_bytes t) ≤ limit - (12 + length (drop 12 old)) → (old ≡ [] → new ≡ unsummed_bytes h (chunk_bytes t)) → (0 < length old → new ≡ old ++ chunk_bytes t) → HasPacket h limit new
-still_packet h limit old new t has room first more =
-    let whole = added h limit old new t has first more in
-    record {
-      more_than_header = λ some. omega (arith, ap length whole, length_unsummed h (drop 12 old ++ chunk_bytes t), length-append (drop 12 old) (chunk_bytes t), chunk_is_some t);
-      packet = λ some. whole ∙ ap (unsummed_bytes h) (sym (added_body h limit old new t has first more));
-      fits = λ some. omega (arith, room, ap length whole, length_unsummed h (drop 12 old ++ chunk_bytes t), length-append (drop 12 old) (chunk_bytes t), chunk_is_some t);
-    }
+  pub added_body : drop 12 new ≡ drop 12 old ++ chunks
+  added_body = ap (drop 12) added ∙ drop_front h (drop 12 old ++ chunks)
+
+  pub still_packet : 0 < length chunks → length chunks ≤ limit - (12 + length (drop 12 old)) → HasPacket h limit new
+  still_packet some room = record {
+    more_than_header = λ _. omega (arith, some, ap length added, length_unsummed h (drop 12 old ++ chunks), length-append (drop 12 old) chunks);
+    packet = λ _. added ∙ ap (unsummed_bytes h) (sym added_body);
+    fits = λ _. omega (arith, some, room, ap length added, length_unsummed h (drop 12 old ++ chunks), length-append (drop 12 old) chunks);
+  }
 
 -- the room that was reserved stays
 pub still_reserved : (old : List ℕ) (limit before after : ℕ) → (0 < length old → limit ≤ before) → (old ≡ [] → limit ≤ after) → (0 < length old → before ≤ after) → limit ≤ after

@@ -144,6 +144,26 @@ impl SctpPacketBuilder {
         Ok(())
     }
 
+    /// Adds chunks that were written before, with their padding, as `add` adds one. There are some, and they fit.
+    pub fn add_written(&mut self, chunks: &[u8]) -> Result<(), AllocError>
+        requires some { 0 < length chunks.now }
+        requires fits { length chunks.now ≤ remaining self.old }
+        ensures ok { OnOk result (self.new ≡ record self.old { body = self.old.body ++ chunks.now }) }
+        ensures err { OnErr result (self.new ≡ self.old) }
+    {
+        let header = CommonHeader {
+            source_port: self.source_port,
+            destination_port: self.destination_port,
+            verification_tag: self.verification_tag,
+            checksum: 0,
+        };
+        if let Err(e) = push_written(&mut self.bytes, header, self.limit, chunks) {
+            self.bytes.clear();
+            return Err(e);
+        }
+        Ok(())
+    }
+
     /// The packet, with `word` in the checksum's field where the checksum is on; no bytes where nothing was added.
     /// The builder is empty again.
     pub fn build(&mut self, word: u32) -> Vec<u8>
@@ -188,6 +208,25 @@ fn push_chunk(
         push_header(bytes, header)?;
     }
     chunk.serialize_to(bytes)
+}
+
+/// Appends chunks that were written before, behind a header where there are no bytes yet.
+fn push_written(
+    bytes: &mut Vec<u8>,
+    header: CommonHeader,
+    limit: usize,
+    chunks: &[u8],
+) -> Result<(), AllocError>
+    ensures reserved { bytes.old.items ≡ [] → OnOk result (limit ≤ vec_capacity bytes.new) }
+    ensures room { 0 < length bytes.old.items → Fills bytes.old bytes.new (length chunks.now) result }
+    ensures first { bytes.old.items ≡ [] → OnOk result (bytes.new.items ≡ unsummed_bytes (header_tree header) chunks.now) }
+    ensures more { 0 < length bytes.old.items → OnOk result (bytes.new.items ≡ bytes.old.items ++ chunks.now) }
+{
+    if bytes.is_empty() {
+        reserve_packet(bytes, limit)?;
+        push_header(bytes, header)?;
+    }
+    bytes.extend_from_slice(chunks)
 }
 
 /// Reserves what the longest packet takes, and no more.

@@ -3,4 +3,5 @@ pub mod FlightLemmas
 pub mod IdleLemmas
 pub mod PartlyLemmas
 pub mod SendingLemmas
+pub mod TakenLemmas
 pub mod UnfinishedLemmas

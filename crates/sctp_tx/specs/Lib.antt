@@ -5,5 +5,6 @@ pub mod Interrupted
 pub mod RetransmissionQueue
 pub mod Resent
 pub mod Sending
+pub mod Taken
 pub mod Unfinished
 pub mod Windows

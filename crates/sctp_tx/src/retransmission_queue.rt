@@ -1,6 +1,6 @@
 //! What is sent again, and when (RFC 9260 sections 6.3 and 7.2).
 
-ghost use Rattle.std.specs.Prelude.{◌≡◌, ◌-◌, ◌==◌, min, ◌^◌, ◌<◌, ◌≤◌, ◌++◌, ◌∷◌, [], suc, nat_lt, length, map, is_some, true, false, IsTrue, OnOk, OnErr, IfOk, IfSome, Ok};
+ghost use Rattle.std.specs.Prelude.{◌≡◌, ◌-◌, ◌==◌, min, ◌^◌, ◌<◌, ◌≤◌, ◌++◌, ◌∷◌, ◌||◌, [], suc, nat_lt, length, map, is_some, true, false, IsTrue, OnOk, OnErr, IfOk, IfSome, Ok};
 ghost use Rattle.std.specs.Duration.{as_nanos};
 ghost use Rattle.sctp_state.specs.Options.{options_of, IsValid};
 ghost use Rattle.sctp_state.specs.Timer.{is_due, next_expiry, set_duration};
@@ -16,18 +16,20 @@ ghost use Rattle.sctp_tx.specs.Flight.{StaysWithin, AddsAtMost, FitWithin};
 ghost use Rattle.sctp_tx.specs.Windows.{saturate_u64};
 ghost use Rattle.sctp_tx_queue.specs.Views.{produced_of};
 ghost use Rattle.sctp_tx_outstanding.specs.Item.{size_of};
-ghost use Rattle.sctp_tx.specs.Resent.{sizes, is_interleaved, count_retransmission_of, resent, resent_by, resent_fast, send_fast, start_t3_if_sent, may_send_new};
+ghost use Rattle.sctp_tx.specs.Resent.{sizes, is_interleaved, count_retransmission_of, resent, resent_by, resent_fast, send_fast, start_t3_if, start_t3_if_sent, may_send_new};
 ghost use Rattle.sctp_tx.specs.Sending.{send, fill, filling, next_turn, offered_payload, sent_new, discard_all, is_idle};
+ghost use Rattle.sctp_tx.specs.Taken.{taken_all};
 ghost use Rattle.sctp_tx_outstanding.specs.Views.{chunk_of};
 ghost use Rattle.sctp_chunk.specs.Views.{fragment_tree};
 
 mod handover;
 mod windows;
 
+use crate::fragments::{ChunkForm, FragmentList, TakesFragments};
 use sctp_packet::{COMMON_HEADER_SIZE, Chunk, Data, SackChunk};
 use sctp_serial::{SocketTime, Tsn};
 use sctp_state::{BackoffAlgorithm, Events, Options, Timer};
-use sctp_tx_outstanding::item::{chunk_size, copy_of, header_size};
+use sctp_tx_outstanding::item::{chunk_size, header_size};
 use sctp_tx_outstanding::{AckInfo, OutstandingData};
 use sctp_tx_queue::{DataToSend, SendQueue};
 use std::alloc::{AllocError, Global};
@@ -410,18 +412,49 @@ impl RetransmissionQueue {
         ensures flight { OnOk result (StaysWithin self.old self.new) }
         ensures err { OnErr result (PartlySent now max_bytes self.old queue.old events.old self.new queue.new events.new) }
     {
+        let mut list = FragmentList::new(self.alloc);
+        let form = ChunkForm {
+            is_interleaved: self.outstanding.is_interleaved(),
+            is_immediate: false,
+        };
+        self.send_into(now, max_bytes, queue, form, &mut list, events)?;
+        Ok(list.into_chunks())
+    }
+
+    /// The same, into a packet: each fragment is handed to it by reference, in order, to be carried in this form. The answer is whether there was one.
+    /// Without memory the packet may have taken the first of them.
+    pub fn send_into<P: TakesFragments>(
+        &mut self,
+        now: SocketTime,
+        max_bytes: usize,
+        queue: &mut SendQueue,
+        form: ChunkForm,
+        packet: &mut P,
+        events: &mut Events,
+    ) -> Result<bool, AllocError>
+        requires small { max_bytes < 2 ^ 32 }
+        ensures sender { OnOk result (self.new ≡ (send now max_bytes self.old queue.old events.old).sender) }
+        ensures queue { OnOk result (queue.new ≡ (send now max_bytes self.old queue.old events.old).queue) }
+        ensures emitted { OnOk result (events.new ≡ (send now max_bytes self.old queue.old events.old).emitted) }
+        ensures packet { OnOk result (packet.new ≡ taken_all (P.taken form) (send now max_bytes self.old queue.old events.old).chunks packet.old) }
+        ensures sent { IfOk result (λ sent. sent ≡ nat_lt 0 (length (send now max_bytes self.old queue.old events.old).chunks)) }
+        ensures fits { OnOk result (FitWithin max_bytes self.old (send now max_bytes self.old queue.old events.old).chunks) }
+        ensures flight { OnOk result (StaysWithin self.old self.new) }
+        ensures err { OnErr result (PartlySent now max_bytes self.old queue.old events.old self.new queue.new events.new) }
+    {
         // (read for their bounds: neither a sum that nothing is added to nor what the window lets go is capped)
         let _count = self.rtx_bytes_count();
         let _cwnd = self.cwnd();
         if self.is_idle(queue) {
-            return Ok(Vec::new(self.alloc));
+            return Ok(false);
         }
         discard_all(&mut self.outstanding, queue, events)?;
-        let (mut chunks, bytes) = self.resend(max_bytes)?;
+        let (is_again, bytes) = self.resend(max_bytes, form, packet)?;
         let left = max_bytes.saturating_sub(bytes);
-        self.fill(now, left, queue, &mut chunks, events)?;
-        self.run_for(now, &chunks);
-        Ok(chunks)
+        let is_new = self.fill(now, left, queue, form, packet, events)?;
+        let is_sent = either(is_again, is_new);
+        self.run_if(now, is_sent);
+        Ok(is_sent)
     }
 
     /// Whether nothing is left of messages that were given up, no item waits to be sent again, and the queue has nothing to send.
@@ -437,68 +470,80 @@ impl RetransmissionQueue {
         !queue.has_next_stream()
     }
 
-    /// What is sent again, in so much of a packet, and the bytes of the chunks. Without memory some of the first items count as
-    /// sent again, and nothing else changes.
-    fn resend(&mut self, max_bytes: usize) -> Result<(Vec<(Tsn, Data)>, usize), AllocError>
+    /// What is sent again, in so much of a packet: whether something is, and the bytes of the chunks. Without memory some of the
+    /// first items count as sent again, and nothing else changes.
+    fn resend<P: TakesFragments>(
+        &mut self,
+        max_bytes: usize,
+        form: ChunkForm,
+        packet: &mut P,
+    ) -> Result<(bool, usize), AllocError>
         ensures sender { OnOk result (self.new ≡ resent_by self.old (resent max_bytes self.old)) }
-        ensures chunks { IfOk result (λ r. map chunk_of r.0.items ≡ (resent max_bytes self.old).chunks) }
+        ensures packet { OnOk result (packet.new ≡ taken_all (P.taken form) (resent max_bytes self.old).chunks packet.old) }
+        ensures sent { IfOk result (λ r. r.0 ≡ nat_lt 0 (length (resent max_bytes self.old).chunks)) }
         ensures bytes { IfOk result (λ r. r.1 ≡ saturate_u64 (sizes (is_interleaved self.new) (resent max_bytes self.old).chunks)) }
         ensures err { OnErr result (PartlyResent max_bytes self.old self.new) }
     {
         // (read for its bound: a sum that nothing is added to isn't capped)
         let _count = self.rtx_bytes_count();
         if !self.outstanding.has_data_to_be_retransmitted() {
-            return Ok((Vec::new(self.alloc), 0));
+            return Ok((false, 0));
         }
         let flight = self.outstanding.unacked_packet_bytes();
         let room = max_bytes.min(self.windows.cwnd.saturating_sub(flight));
         let rwnd = self.windows.rwnd;
         let chunks = self.outstanding.get_chunks_to_be_retransmitted(room, rwnd)?;
+        take_each(&chunks, form, packet)?;
         let bytes = self.count_resent(&chunks);
-        Ok((chunks, bytes))
+        Ok((!chunks.is_empty(), bytes))
     }
 
-    /// New fragments, one after the other.
-    fn fill(
+    /// New fragments, one after the other. The answer is whether there was one.
+    fn fill<P: TakesFragments>(
         &mut self,
         now: SocketTime,
         left: usize,
         queue: &mut SendQueue,
-        chunks: &mut Vec<(Tsn, Data)>,
+        form: ChunkForm,
+        packet: &mut P,
         events: &mut Events,
-    ) -> Result<(), AllocError>
+    ) -> Result<bool, AllocError>
         requires small { left < 2 ^ 32 }
-        ensures sender { OnOk result (self.new ≡ (fill (suc left) now (filling self.old queue.old events.old (map chunk_of chunks.old.items) left)).sender) }
-        ensures queue { OnOk result (queue.new ≡ (fill (suc left) now (filling self.old queue.old events.old (map chunk_of chunks.old.items) left)).queue) }
-        ensures emitted { OnOk result (events.new ≡ (fill (suc left) now (filling self.old queue.old events.old (map chunk_of chunks.old.items) left)).emitted) }
-        ensures chunks { OnOk result (map chunk_of chunks.new.items ≡ (fill (suc left) now (filling self.old queue.old events.old (map chunk_of chunks.old.items) left)).chunks) }
-        ensures err { OnErr result (PartlyFilled now (filling self.old queue.old events.old (map chunk_of chunks.old.items) left) self.new queue.new events.new) }
+        ensures sender { OnOk result (self.new ≡ (fill (suc left) now (filling self.old queue.old events.old [] left)).sender) }
+        ensures queue { OnOk result (queue.new ≡ (fill (suc left) now (filling self.old queue.old events.old [] left)).queue) }
+        ensures emitted { OnOk result (events.new ≡ (fill (suc left) now (filling self.old queue.old events.old [] left)).emitted) }
+        ensures packet { OnOk result (packet.new ≡ taken_all (P.taken form) (fill (suc left) now (filling self.old queue.old events.old [] left)).chunks packet.old) }
+        ensures sent { IfOk result (λ sent. sent ≡ nat_lt 0 (length (fill (suc left) now (filling self.old queue.old events.old [] left)).chunks)) }
+        ensures err { OnErr result (PartlyFilled now (filling self.old queue.old events.old [] left) self.new queue.new events.new) }
     {
         let mut left = left;
-        while let Some(rest) = self.add_new(now, left, queue, chunks, events)? {
+        let mut is_sent = false;
+        while let Some(rest) = self.add_new(now, left, queue, form, packet, events)? {
             left = rest;
+            is_sent = true;
         }
-        Ok(())
+        Ok(is_sent)
     }
 
     /// One more fragment, where the windows let it go and the queue has one. The answer is what the packet has left then.
-    fn add_new(
+    fn add_new<P: TakesFragments>(
         &mut self,
         now: SocketTime,
         left: usize,
         queue: &mut SendQueue,
-        chunks: &mut Vec<(Tsn, Data)>,
+        form: ChunkForm,
+        packet: &mut P,
         events: &mut Events,
     ) -> Result<Option<usize>, AllocError>
         requires small { left < 2 ^ 32 }
-        ensures sender { OnOk result (self.new ≡ (next_turn now (filling self.old queue.old events.old (map chunk_of chunks.old.items) left)).filling.sender) }
-        ensures queue { OnOk result (queue.new ≡ (next_turn now (filling self.old queue.old events.old (map chunk_of chunks.old.items) left)).filling.queue) }
-        ensures emitted { OnOk result (events.new ≡ (next_turn now (filling self.old queue.old events.old (map chunk_of chunks.old.items) left)).filling.emitted) }
-        ensures chunks { OnOk result (map chunk_of chunks.new.items ≡ (next_turn now (filling self.old queue.old events.old (map chunk_of chunks.old.items) left)).filling.chunks) }
-        ensures left { IfOk result (λ more. IfSome more (λ rest. rest ≡ (next_turn now (filling self.old queue.old events.old (map chunk_of chunks.old.items) left)).filling.left)) }
-        ensures more { IfOk result (λ more. is_some more ≡ (next_turn now (filling self.old queue.old events.old (map chunk_of chunks.old.items) left)).is_more) }
+        ensures sender { OnOk result (self.new ≡ (next_turn now (filling self.old queue.old events.old [] left)).filling.sender) }
+        ensures queue { OnOk result (queue.new ≡ (next_turn now (filling self.old queue.old events.old [] left)).filling.queue) }
+        ensures emitted { OnOk result (events.new ≡ (next_turn now (filling self.old queue.old events.old [] left)).filling.emitted) }
+        ensures packet { OnOk result (packet.new ≡ taken_all (P.taken form) (next_turn now (filling self.old queue.old events.old [] left)).filling.chunks packet.old) }
+        ensures left { IfOk result (λ more. IfSome more (λ rest. rest ≡ (next_turn now (filling self.old queue.old events.old [] left)).filling.left)) }
+        ensures more { IfOk result (λ more. is_some more ≡ (next_turn now (filling self.old queue.old events.old [] left)).is_more) }
         ensures less { IfOk result (λ more. IfSome more (λ rest. rest < left)) }
-        ensures err { OnErr result (TurnStopped now (filling self.old queue.old events.old (map chunk_of chunks.old.items) left) self.new queue.new events.new) }
+        ensures err { OnErr result (TurnStopped now (filling self.old queue.old events.old [] left) self.new queue.new events.new) }
     {
         if !queue.has_next_stream() {
             return Ok(None);
@@ -510,7 +555,7 @@ impl RetransmissionQueue {
         let Some(fragment) = queue.produce(now, max_payload, events)? else {
             return Ok(None);
         };
-        let size = self.append(now, fragment, chunks)?;
+        let size = self.append(now, fragment, form, packet)?;
         Ok(Some(left.saturating_sub(size)))
     }
 
@@ -525,24 +570,23 @@ impl RetransmissionQueue {
         room.saturating_sub(header_size(self.outstanding.is_interleaved()))
     }
 
-    /// The fragment takes the next TSN. The answer is the size of its chunk. Without memory it is lost, or has its TSN and
-    /// takes nothing of the peer's window.
-    fn append(
+    /// The fragment takes the next TSN. The answer is the size of its chunk. Without memory it is lost.
+    fn append<P: TakesFragments>(
         &mut self,
         now: SocketTime,
         fragment: DataToSend,
-        chunks: &mut Vec<(Tsn, Data)>,
+        form: ChunkForm,
+        packet: &mut P,
     ) -> Result<usize, AllocError>
         requires small { length fragment.data.payload.items < 2 ^ 32 }
         ensures sender { OnOk result (self.new ≡ sent_new now (produced_of fragment) self.old) }
-        ensures chunks { OnOk result (map chunk_of chunks.new.items ≡ map chunk_of chunks.old.items
-            ++ (wire_tsn self.old.outstanding (next_number self.old.outstanding.items), fragment_tree fragment.data) ∷ []) }
+        ensures packet { OnOk result (packet.new ≡ P.taken form (wire_tsn self.old.outstanding (next_number self.old.outstanding.items), fragment_tree fragment.data) packet.old) }
         ensures size { IfOk result (λ size. size ≡ size_of (is_interleaved self.old) (fragment_tree fragment.data)) }
         ensures err { OnErr result (LostOrKept now (produced_of fragment) self.old self.new) }
     {
         let size = chunk_size(&fragment.data, self.outstanding.is_interleaved());
-        let copy = copy_of(self.alloc, &fragment.data)?;
-        let tsn = self.outstanding.insert(
+        packet.take(form, self.outstanding.next_tsn(), &fragment.data)?;
+        self.outstanding.insert(
             fragment.message_id,
             fragment.data,
             now,
@@ -550,7 +594,6 @@ impl RetransmissionQueue {
             fragment.expires_at,
             fragment.lifecycle_id,
         )?;
-        chunks.push((tsn, copy))?;
         self.windows.take(size);
         Ok(size)
     }
@@ -559,7 +602,14 @@ impl RetransmissionQueue {
     fn run_for(&mut self, now: SocketTime, chunks: &[(Tsn, Data)])
         ensures { self.new ≡ start_t3_if_sent now (map chunk_of chunks.now) self.old }
     {
-        if !chunks.is_empty() {
+        self.run_if(now, !chunks.is_empty());
+    }
+
+    /// The same, of what is known to be handed out or not.
+    fn run_if(&mut self, now: SocketTime, is_sent: bool)
+        ensures { self.new ≡ start_t3_if is_sent now self.old }
+    {
+        if is_sent {
             self.keep_running(now);
         }
     }
@@ -594,6 +644,26 @@ fn discard_all(
     while let Some(next) = outstanding.unsent_message_to_discard() {
         queue.discard(next.stream_id, next.message_id, events)?;
         outstanding.get_unsent_message_to_discard();
+    }
+    Ok(())
+}
+
+fn either(one: bool, other: bool) -> bool
+    ensures { result ≡ one || other }
+{
+    one || other
+}
+
+/// Hands these out, one after the other.
+fn take_each<P: TakesFragments>(
+    chunks: &[(Tsn, Data)],
+    form: ChunkForm,
+    packet: &mut P,
+) -> Result<(), AllocError>
+    ensures { OnOk result (packet.new ≡ taken_all (P.taken form) (map chunk_of chunks.now) packet.old) }
+{
+    for chunk in chunks {
+        packet.take(form, chunk.0, &chunk.1)?;
     }
     Ok(())
 }

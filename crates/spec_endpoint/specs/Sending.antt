@@ -2,7 +2,7 @@
 -- they are due, and in each as much data as the windows let go (RFC 9260 section 6.1).
 use Rattle.std.specs.Prelude.{ℕ, zero, suc, ◌-◌, ◌*◌, ◌/◌, ◌||◌, not, nat_lt, nat_le, ◌==◌, min, Bool, true, false, Option, Some, None, is_some, List, [], ◌∷◌, length, map}
 use Rattle.sctp_serial.specs.Time.{later}
-use Rattle.sctp_packet.specs.Chunk.{ChunkTree, FragmentTree, data_chunk, idata_chunk, sack_chunk, cookie_echo_chunk}
+use Rattle.sctp_packet.specs.Chunk.{ChunkTree, FragmentTree, fragment_chunk, sack_chunk, cookie_echo_chunk}
 use Rattle.sctp_state.specs.Numbers.{ms}
 use Rattle.sctp_state.specs.Options.{Options}
 use Rattle.sctp_state.specs.RetransmissionTimeout.{rto, srtt}
@@ -138,8 +138,7 @@ with_request x = request_if (is_some x.tcb.requests.current) x
 -- ---- data
 
 abbrev pub data_chunk_of : (is_interleaved is_immediate : Bool) → ℕ × FragmentTree → ChunkTree
-data_chunk_of true is_immediate c = idata_chunk c.0 is_immediate c.1
-data_chunk_of false is_immediate c = data_chunk c.0 is_immediate c.1
+data_chunk_of = fragment_chunk
 
 abbrev pub data_chunks : Tcb → (is_immediate : Bool) → List (ℕ × FragmentTree) → List ChunkTree
 data_chunks t is_immediate chunks = map (data_chunk_of t.capabilities.message_interleaving is_immediate) chunks

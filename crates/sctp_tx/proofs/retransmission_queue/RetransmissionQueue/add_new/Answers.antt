@@ -1,5 +1,4 @@
-use Rattle.std.proofs.Common.{◌≡◌, ℕ, ◌<◌, true, Some, List, map, rules, refl, inl, inr, arith}
-use Rattle.sctp_tx_outstanding.specs.Views.{chunk_of}
+use Rattle.std.proofs.Common.{◌≡◌, ℕ, ◌<◌, true, Some, List, [], rules, refl, inl, inr, arith}
 use Rattle.sctp_tx_queue.specs.Views.{produced_of}
 use Rattle.sctp_tx.specs.Resent.{may_send_new}
 use Rattle.sctp_tx.specs.Sending.{Filling, filling, offered_payload}
@@ -10,20 +9,20 @@ use Rattle.sctp_tx.proofs.retransmission_queue.RetransmissionQueue.add_new.Goals
 
 -- no fragment is larger than what was offered
 pub append-requires : goal.append-requires
-append-requires c =
+append-requires g c =
     let fits = made_fits c.args.now c.offered-max_payload.result c.args.queue.now c.args.events.now (Some (produced_of c.in-Some.fragment)) (rw c.in-Some.is at c.in_ok-fragment.ensures.made) in
     record { small = omega (arith, fits, c.offered-max_payload.ensures.small, c.requires.small) }
 
 pub returns-in_err-fragment-clause-err : goal.returns-in_err-fragment-clause-err
-returns-in_err-fragment-clause-err c =
-    let x : Filling (List ℕ) = filling c.args.self.now c.args.queue.now c.args.events.now (map chunk_of c.args.chunks.now.items) c.args.left in
+returns-in_err-fragment-clause-err g c =
+    let x : Filling (List ℕ) = filling c.args.self.now c.args.queue.now c.args.events.now [] c.args.left in
     let may : may_send_new c.args.self.now ≡ true = search rules in
     let some : 0 < offered_payload c.args.left c.args.self.now = omega (arith, c.if-max_payload-eq0.false, c.offered-max_payload.ensures.size) in
     on_err _ (TurnStopped c.args.now x c.args.self.now c.produce.new.self c.produce.new.events) (record { may_send = may; room = some; stopped = inl (record { sender = refl; queue = search rules }) })
 
 pub returns-in_err-size-clause-err : goal.returns-in_err-size-clause-err
-returns-in_err-size-clause-err c =
-    let x : Filling (List ℕ) = filling c.args.self.now c.args.queue.now c.args.events.now (map chunk_of c.args.chunks.now.items) c.args.left in
+returns-in_err-size-clause-err g c =
+    let x : Filling (List ℕ) = filling c.args.self.now c.args.queue.now c.args.events.now [] c.args.left in
     let may : may_send_new c.args.self.now ≡ true = search rules in
     let some : 0 < offered_payload c.args.left c.args.self.now = omega (arith, c.if-max_payload-eq0.false, c.offered-max_payload.ensures.size) in
     let not_appended : NotAppended c.args.now x c.append.new.self c.produce.new.self c.produce.new.events =

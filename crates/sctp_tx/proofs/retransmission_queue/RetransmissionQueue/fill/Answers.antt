@@ -1,55 +1,81 @@
-use Rattle.std.proofs.Common.{ℕ, List, suc, map, refl, sym, ap, ◌∙◌, arith}
-use Rattle.sctp_tx_outstanding.specs.Views.{chunk_of}
-use Rattle.sctp_tx.specs.Sending.{Filling, filling}
+use Rattle.std.proofs.Common.{◌++◌, ℕ, List, [], suc, length, refl, sym, ap, ◌∙◌, arith}
+use Rattle.std.specs.Prelude.{nat_lt}
+use Rattle.sctp_chunk.specs.Chunk.{FragmentTree}
+use Rattle.sctp_tx.specs.Sending.{Filling, filling, next_turn}
+use Rattle.sctp_tx.specs.Taken.{taken_all}
 use Rattle.sctp_tx.proofs.PartlyLemmas.{on_err, turned_none, turned_on, turned_stops}
-use Rattle.sctp_tx.proofs.SendingLemmas.{ended, goes_on, on_by}
+use Rattle.sctp_tx.proofs.TakenLemmas.{ended_with, goes_with, none_more, on_with, some_joined, some_more, stopped_with, taken_append, with_none}
 use Rattle.sctp_tx.proofs.retransmission_queue.RetransmissionQueue.fill.Goals as goal
 
 pub loop-rest-init : goal.loop-rest-init
-loop-rest-init c = (suc c.args.left, omega arith, c.requires.small, refl, turned_none c.args.now (filling c.args.self.now c.args.queue.now c.args.events.now (map chunk_of c.args.chunks.now.items) c.args.left))
+loop-rest-init g c = ([], suc c.args.left, omega arith, c.requires.small, refl, turned_none c.args.now (filling c.args.self.now c.args.queue.now c.args.events.now [] c.args.left), refl, refl)
 
 pub loop-rest-preserved : goal.loop-rest-preserved
-loop-rest-preserved c =
+loop-rest-preserved g c =
     let here = c.loop-rest in
     let new = c.add_new.new in
     let said = c.in_ok-rest.ensures in
+    let cs : List (ℕ × FragmentTree) = here.invariant.0 in
+    let ds : List (ℕ × FragmentTree) = (next_turn c.args.now (filling here.self here.queue here.events [] here.left)).filling.chunks in
     let left = rw c.in-Some.is at said.left in
-    let on = goes_on c.args.now here.invariant.0 here.left here.self here.queue here.events (map chunk_of here.chunks.items) _
-    new.self new.queue new.events (map chunk_of new.chunks.items) c.in-Some.rest here.invariant.1 here.invariant.3
-    (sym (rw c.in-Some.is at said.more)) said.sender said.queue said.emitted said.chunks left (rw c.in-Some.is at said.less) in
-    let is = on_by c.args.now here.left here.self here.queue here.events (map chunk_of here.chunks.items) new.self new.queue new.events (map chunk_of new.chunks.items) c.in-Some.rest said.sender said.queue said.emitted said.chunks left in
-    (on.0, on.1, omega (arith, here.invariant.2, rw c.in-Some.is at said.less), on.2, turned_on c.args.now _ (filling here.self here.queue here.events (map chunk_of here.chunks.items) here.left) here.invariant.4 (filling new.self new.queue new.events (map chunk_of new.chunks.items) c.in-Some.rest) is)
+    let more = sym (rw c.in-Some.is at said.more) in
+    let less = rw c.in-Some.is at said.less in
+    let on = goes_with c.args.now here.left here.self here.queue here.events cs new.self new.queue new.events c.in-Some.rest said.sender said.queue said.emitted left
+    here.invariant.1 _ here.invariant.2 here.invariant.4 more less in
+    let is = on_with c.args.now here.left here.self here.queue here.events cs new.self new.queue new.events c.in-Some.rest said.sender said.queue said.emitted left in (
+      cs ++ ds,
+      on.0,
+      on.1,
+      omega (arith, here.invariant.3, less),
+      on.2,
+      turned_on c.args.now _ (filling here.self here.queue here.events cs here.left) here.invariant.5 (filling new.self new.queue new.events (cs ++ ds) c.in-Some.rest) is,
+      said.packet ∙ ap (taken_all (g.P.TakesFragments.taken c.args.form) ds) here.invariant.6 ∙ sym (taken_append (g.P.TakesFragments.taken c.args.form) cs ds _),
+      some_joined cs ds (some_more c.args.now here.left here.self here.queue here.events more),
+    )
 
 pub returns-clause-sender : goal.returns-clause-sender
-returns-clause-sender c =
+returns-clause-sender g c =
     let here = c.loop-rest in
     c.in_ok-rest.ensures.sender ∙ ap (λ (f : Filling (List ℕ)). f.sender)
-    (ended c.args.now here.invariant.0 here.left here.self here.queue here.events (map chunk_of here.chunks.items) _ here.invariant.1 here.invariant.3
+    (ended_with c.args.now here.left here.self here.queue here.events here.invariant.0 here.invariant.1 _ here.invariant.2 here.invariant.4
     (sym (rw c.in_default.is at c.in_ok-rest.ensures.more)))
 
 pub returns-clause-queue : goal.returns-clause-queue
-returns-clause-queue c =
+returns-clause-queue g c =
     let here = c.loop-rest in
     c.in_ok-rest.ensures.queue ∙ ap (λ (f : Filling (List ℕ)). f.queue)
-    (ended c.args.now here.invariant.0 here.left here.self here.queue here.events (map chunk_of here.chunks.items) _ here.invariant.1 here.invariant.3
+    (ended_with c.args.now here.left here.self here.queue here.events here.invariant.0 here.invariant.1 _ here.invariant.2 here.invariant.4
     (sym (rw c.in_default.is at c.in_ok-rest.ensures.more)))
 
 pub returns-clause-emitted : goal.returns-clause-emitted
-returns-clause-emitted c =
+returns-clause-emitted g c =
     let here = c.loop-rest in
     c.in_ok-rest.ensures.emitted ∙ ap (λ (f : Filling (List ℕ)). f.emitted)
-    (ended c.args.now here.invariant.0 here.left here.self here.queue here.events (map chunk_of here.chunks.items) _ here.invariant.1 here.invariant.3
+    (ended_with c.args.now here.left here.self here.queue here.events here.invariant.0 here.invariant.1 _ here.invariant.2 here.invariant.4
     (sym (rw c.in_default.is at c.in_ok-rest.ensures.more)))
 
-pub returns-clause-chunks : goal.returns-clause-chunks
-returns-clause-chunks c =
+pub returns-clause-packet : goal.returns-clause-packet
+returns-clause-packet g c =
     let here = c.loop-rest in
-    c.in_ok-rest.ensures.chunks ∙ ap (λ (f : Filling (List ℕ)). f.chunks)
-    (ended c.args.now here.invariant.0 here.left here.self here.queue here.events (map chunk_of here.chunks.items) _ here.invariant.1 here.invariant.3
-    (sym (rw c.in_default.is at c.in_ok-rest.ensures.more)))
+    let cs : List (ℕ × FragmentTree) = here.invariant.0 in
+    let ds : List (ℕ × FragmentTree) = (next_turn c.args.now (filling here.self here.queue here.events [] here.left)).filling.chunks in
+    let end = ended_with c.args.now here.left here.self here.queue here.events cs here.invariant.1 _ here.invariant.2 here.invariant.4 (sym (rw c.in_default.is at c.in_ok-rest.ensures.more)) in
+    c.in_ok-rest.ensures.packet ∙ (ap (taken_all (g.P.TakesFragments.taken c.args.form) ds) here.invariant.6
+    ∙ (sym (taken_append (g.P.TakesFragments.taken c.args.form) cs ds _) ∙ ap (λ (f : Filling (List ℕ)). taken_all (g.P.TakesFragments.taken c.args.form) f.chunks c.args.packet.now) end))
+
+pub returns-clause-sent : goal.returns-clause-sent
+returns-clause-sent g c =
+    let here = c.loop-rest in
+    let cs : List (ℕ × FragmentTree) = here.invariant.0 in
+    let stop = sym (rw c.in_default.is at c.in_ok-rest.ensures.more) in
+    let none = none_more c.args.now here.left here.self here.queue here.events stop in
+    let end = ended_with c.args.now here.left here.self here.queue here.events cs here.invariant.1 _ here.invariant.2 here.invariant.4 stop in
+    here.invariant.7 ∙ (ap (λ (l : List (ℕ × FragmentTree)). nat_lt 0 (length l)) (sym (ap (λ (l : List (ℕ × FragmentTree)). cs ++ l) none ∙ with_none cs))
+    ∙ ap (λ (f : Filling (List ℕ)). nat_lt 0 (length f.chunks)) end)
 
 pub returns-in_err-rest-clause-err : goal.returns-in_err-rest-clause-err
-returns-in_err-rest-clause-err c =
+returns-in_err-rest-clause-err g c =
     let here = c.loop-rest in
     let new = c.add_new.new in
-    on_err _ _ (turned_stops c.args.now _ (filling here.self here.queue here.events (map chunk_of here.chunks.items) here.left) here.invariant.4 new.self new.queue new.events c.in_err-rest.ensures.err)
+    let stopped = stopped_with c.args.now here.left here.self here.queue here.events [] here.invariant.0 new.self new.queue new.events c.in_err-rest.ensures.err in
+    on_err _ _ (turned_stops c.args.now _ (filling here.self here.queue here.events here.invariant.0 here.left) here.invariant.5 new.self new.queue new.events stopped)
