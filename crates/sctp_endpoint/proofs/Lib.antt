@@ -2,3 +2,4 @@ pub mod BurstLemmas
 pub mod DataLemmas
 pub mod OutgoingLemmas
 pub mod RequestLemmas
+pub mod WrittenLemmas

@@ -1,7 +1,7 @@
 -- Packets that are put together: their sizes, and the builder that writes them.
-use Rattle.std.proofs.Common.{◌≡◌, ℕ, zero, suc, ◌+◌, ◌-◌, ◌%◌, ◌^◌, ◌&&◌, min, max, ◌<◌, ◌≤◌, Bool, true, false, cond, leb, get_or, List, [], ◌∷◌, ◌++◌, length, map, take, drop, refl, sym, ap, ◌∙◌, append_assoc, inl, inr, Result, Ok, Err, OnOk, OnErr, arith}
+use Rattle.std.proofs.Common.{◌≡◌, ℕ, ◌+◌, ◌-◌, ◌%◌, ◌^◌, ◌&&◌, min, max, ◌<◌, ◌≤◌, Bool, true, false, cond, leb, List, [], ◌∷◌, ◌++◌, length, take, drop, refl, ap, ◌∙◌, inl, inr, Result, Ok, Err, OnOk, OnErr, arith}
 use Rattle.std.proofs.lemmas.Bool.{cases_lt, le-leb, lt-leb}
-use Rattle.std.proofs.lemmas.List.{append-nil, length-append}
+use Rattle.std.proofs.lemmas.List.{length-append}
 use Rattle.std.proofs.lemmas.List.Concat.{flat_map-cons}
 use Rattle.sctp_packet.specs.Chunk.{ChunkTree}
 use Rattle.sctp_packet.specs.Written.{chunk_item, chunk_is_whole, chunk_bytes, chunks_bytes}
@@ -12,7 +12,7 @@ use Rattle.sctp_wire.specs.Serialize.{is_encodable, padded_item}
 use Rattle.sctp_packet.specs.Packet.{HeaderTree, header_bytes, unsummed_bytes, packet_bytes}
 use Rattle.sctp_packet.specs.Builder.{BuilderTree, Holds, so_far, build}
 use Rattle.sctp_packet.proofs.BuilderLemmas.{built_is_packet, chunks_bytes_push, chunk_is_some}
-use Rattle.spec_endpoint.specs.Packets.{PacketDraft, is_some_chunk, room, fits, add}
+use Rattle.spec_endpoint.specs.Packets.{PacketDraft, is_some_chunk, room, fits}
 use Rattle.spec_endpoint.specs.Wire.{word_at, word_in, written_bytes}
 
 false_not_true : false ≡ true → ⊥
@@ -60,14 +60,6 @@ fits_as i whole t p e f = rw (e, f) refl
 pub length_as : (i : Item) (t : ChunkTree) → i ≡ chunk_item t → length (padded_item i) ≡ length (chunk_bytes t)
 unfolding chunk_bytes
 length_as i t e = rw e refl
-
-pub left_out : (p : PacketDraft) (t : ChunkTree) → fits p t ≡ false → p ≡ add t p
-left_out p t e = rw e refl
-
-pub put_in : {T E : Type 0} (r : Result T E) (p : PacketDraft) (t : ChunkTree) (chunks : List ChunkTree) → fits p t ≡ true → OnOk r (chunks ≡ p.chunks ++ t ∷ [])
-    → OnOk r (record p { chunks = chunks } ≡ add t p)
-put_in (Ok done) p t chunks e more = rw (e, more) refl
-put_in (Err fault) p t chunks e more = tt
 
 -- ---- the bytes
 

@@ -8,4 +8,4 @@ use Rattle.spec_endpoint.specs.Sending.{data_chunk_of}
 
 abbrev pub written_tree : WrittenChunk → ChunkTree
 written_tree (Whole chunk) = chunk_tree chunk.value
-written_tree (Fragment form tsn fragment) = data_chunk_of form.is_interleaved form.is_immediate (tsn.0, fragment_tree fragment.value)
+written_tree (Fragment tsn fragment form) = data_chunk_of form.value.is_interleaved form.value.is_immediate (tsn.value.0, fragment_tree fragment.value)

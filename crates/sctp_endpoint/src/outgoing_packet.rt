@@ -19,7 +19,6 @@ use sctp_wire::{Checksum, SerializableTlv};
 use std::alloc::{AllocError, Global};
 use std::marker::Model;
 use std::mem;
-use std::snapshot::Snapshot;
 
 /// A packet that is put together.
 #[derive(Drop)]
@@ -116,27 +115,39 @@ impl OutgoingPacket {
         ensures ok { OnOk result (self.new ≡ add (chunk_tree chunk) self.old) }
         ensures err { OnErr result (self.new ≡ self.old) }
     {
-        let written = WrittenChunk::Whole(Snapshot::of(&chunk));
+        self.add_if_it_fits(chunk)?;
+        Ok(())
+    }
+
+    /// The same. The answer is whether it did fit.
+    pub fn add_if_it_fits(&mut self, chunk: Chunk) -> Result<bool, AllocError>
+        ensures test { IfOk result (λ has_fit. has_fit ≡ fits self.old (chunk_tree chunk)) }
+        ensures added { IfOk result (λ has_fit. self.new ≡ added_if has_fit (chunk_tree chunk) self.old) }
+        ensures err { OnErr result (self.new ≡ self.old) }
+    {
+        let written = WrittenChunk::whole(&chunk);
         let outcome = self.write(&chunk, written);
         drop(chunk);
         outcome
     }
 
-    /// Writes what contracts see as `written`, or leaves it out where it doesn't fit.
+    /// Writes what contracts see as `written` where it fits. The answer is whether it did.
     fn write<T: SerializableTlv>(
         &mut self,
         chunk: &T,
         written: WrittenChunk,
-    ) -> Result<(), AllocError>
+    ) -> Result<bool, AllocError>
         requires same { T.item_of chunk.now ≡ chunk_item (written_tree written) }
         requires whole { T.parts_agree chunk.now ≡ chunk_is_whole (written_tree written) }
-        ensures ok { OnOk result (self.new ≡ add (written_tree written) self.old) }
+        ensures test { IfOk result (λ has_fit. has_fit ≡ fits self.old (written_tree written)) }
+        ensures added { IfOk result (λ has_fit. self.new ≡ added_if has_fit (written_tree written) self.old) }
         ensures err { OnErr result (self.new ≡ self.old) }
     {
         if !self.has_room_for(chunk) {
-            return Ok(());
+            return Ok(false);
         }
-        self.chunks.write(chunk, written)
+        self.chunks.write(chunk, written)?;
+        Ok(true)
     }
 
     /// The packet with this chunk, or without it where it doesn't fit.
@@ -145,16 +156,6 @@ impl OutgoingPacket {
     {
         self.add(chunk)?;
         Ok(self)
-    }
-
-    /// Adds a chunk where it fits. The answer is whether it did.
-    pub fn add_if_it_fits(&mut self, chunk: Chunk) -> Result<bool, AllocError>
-        ensures test { IfOk result (λ has_fit. has_fit ≡ fits self.old (chunk_tree chunk)) }
-        ensures added { IfOk result (λ has_fit. self.new ≡ added_if has_fit (chunk_tree chunk) self.old) }
-    {
-        let has_fit = self.fits(&chunk);
-        self.add(chunk)?;
-        Ok(has_fit)
     }
 
     /// The packet's bytes, at most the limit, in a buffer of their size; the packet is empty again, with the same tag and limit.
@@ -205,8 +206,9 @@ impl TakesFragments for OutgoingPacket {
             immediate_ack: form.is_immediate,
             is_interleaved: form.is_interleaved,
         };
-        let written = WrittenChunk::Fragment(form, tsn, Snapshot::of(fragment));
-        self.write(&chunk, written)
+        let written = WrittenChunk::fragment(&chunk);
+        self.write(&chunk, written)?;
+        Ok(())
     }
 }
 

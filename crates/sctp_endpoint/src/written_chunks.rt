@@ -2,9 +2,10 @@
 
 ghost use Rattle.std.specs.Prelude.{◌≡◌, ◌++◌, ◌∷◌, [], length, not, true, OnOk, OnErr};
 ghost use Rattle.sctp_wire.specs.Serialize.{IsEncodable};
-ghost use Rattle.sctp_packet.specs.Written.{chunk_is_whole, chunk_item, chunks_bytes};
+ghost use Rattle.sctp_packet.specs.Written.{chunk_item, chunks_bytes};
 ghost use Rattle.spec_endpoint.specs.Packets.{is_some_chunk};
 
+use sctp_chunk::FragmentChunk;
 use sctp_packet::{Chunk, Data};
 use sctp_serial::Tsn;
 use sctp_tx::ChunkForm;
@@ -13,11 +14,39 @@ use std::alloc::{AllocError, Global};
 use std::marker::Model;
 use std::snapshot::Snapshot;
 
-/// What was written, as contracts see it: of a chunk, or of a fragment, nothing is here at run time.
+/// What was written, as contracts see it: nothing of it is here at run time but which of the two it was.
 #[derive(Drop)]
 pub enum WrittenChunk {
     Whole(Snapshot<Chunk>),
-    Fragment(ChunkForm, Tsn, Snapshot<Data>),
+    Fragment(Snapshot<Tsn>, Snapshot<Data>, Snapshot<ChunkForm>),
+}
+
+impl WrittenChunk {
+    ghost use Rattle.sctp_packet.specs.ChunkView.{chunk_tree};
+    ghost use Rattle.sctp_chunk.specs.Views.{fragment_chunk_tree};
+    ghost use Rattle.sctp_endpoint.specs.WrittenChunks.{written_tree};
+
+    /// A chunk that was written.
+    pub fn whole(chunk: &Chunk) -> WrittenChunk
+        ensures { written_tree result ≡ chunk_tree chunk.now }
+    {
+        WrittenChunk::Whole(Snapshot::of(chunk))
+    }
+
+    /// A fragment that was written from where it is kept.
+    pub fn fragment(chunk: &FragmentChunk<'_>) -> WrittenChunk
+        ensures { written_tree result ≡ fragment_chunk_tree chunk.now }
+    {
+        let form = ChunkForm {
+            is_interleaved: chunk.is_interleaved,
+            is_immediate: chunk.immediate_ack,
+        };
+        WrittenChunk::Fragment(
+            Snapshot::of(&chunk.tsn),
+            Snapshot::of(chunk.fragment),
+            Snapshot::of(&form),
+        )
+    }
 }
 
 /// The bytes of chunks. Its value is the list of these.
